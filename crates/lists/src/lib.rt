@@ -308,11 +308,11 @@ mod tests {
         assert!(rt; short == copy);
         let long = List::from_slice(alloc, &[1u16, 2, 0])?;
         assert!(rt; short < long);
-        let mut sum = 0u32;
-        for item in &long {
-            sum += u32::from(*item);
+        let mut reversed = List::new(alloc);
+        for item in long.iter().rev() {
+            reversed.push(*item)?;
         }
-        assert_eq!(rt; sum, 3);
+        assert_eq!(rt; reversed.as_slice(), [0, 2, 1].as_slice());
         Ok(())
     }
 }
