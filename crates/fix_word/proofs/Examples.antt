@@ -1,0 +1,42 @@
+-- The functions compute on numbers that are given.
+use Rattle.std.proofs.Common.{◌≡◌, refl, pos, negsuc}
+use Rattle.fix_word.specs.Values.{wrap_of, form_of, apply_of}
+use Rattle.fix_word.specs.declared.types.Mode.TheVariants.{Trunc, Round}
+use Rattle.fix_word.specs.declared.operation.Op.TheVariants.{And, Mul, Sel, Load}
+
+-- 128 in 8 bits
+wrap_of-128 : wrap_of (pos 128) 8 ≡ negsuc 127
+unfolding wrap_of
+wrap_of-128 = refl
+
+-- half of the last place, above and below 0
+form_of-half : form_of (pos 8) (record { shift = pos 4; mode = Round; width = 8 }) ≡ pos 1
+unfolding wrap_of
+form_of-half = refl
+
+form_of-minus_half : form_of (negsuc 7) (record { shift = pos 4; mode = Round; width = 8 }) ≡ pos 0
+unfolding wrap_of
+form_of-minus_half = refl
+
+form_of-cut : form_of (negsuc 7) (record { shift = pos 4; mode = Trunc; width = 8 }) ≡ negsuc 0
+unfolding wrap_of
+form_of-cut = refl
+
+-- 5 times 2 ^ 32 in 32 bits
+form_of-up : form_of (pos 5) (record { shift = negsuc 31; mode = Trunc; width = 32 }) ≡ pos 0
+unfolding wrap_of
+form_of-up = refl
+
+-- 127 times 127 with 4 places
+apply_of-product : apply_of Mul (record { shift = pos 4; mode = Trunc; width = 8 }) (pos 127) (pos 127) (pos 0) ≡ negsuc 15
+unfolding wrap_of
+apply_of-product = refl
+
+apply_of-both : apply_of And (record { shift = pos 0; mode = Trunc; width = 0 }) (pos 1) (negsuc 1) (pos 0) ≡ pos 1
+apply_of-both = refl
+
+apply_of-choice : apply_of Sel (record { shift = pos 0; mode = Trunc; width = 0 }) (negsuc 0) (pos 5) (pos 6) ≡ pos 5
+apply_of-choice = refl
+
+apply_of-no_result : apply_of Load (record { shift = pos 0; mode = Trunc; width = 0 }) (pos 3) (pos 4) (pos 5) ≡ pos 0
+apply_of-no_result = refl

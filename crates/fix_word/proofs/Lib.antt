@@ -1,0 +1,6 @@
+pub mod Floors
+pub mod Wraps
+pub mod Forms
+pub mod Examples
+pub mod Operations
+mod Bodies
