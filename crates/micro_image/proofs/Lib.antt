@@ -1,0 +1,14 @@
+pub mod Lists
+pub mod Each
+pub mod LogLaws
+pub mod Newest
+pub mod LogWrites
+pub mod Prefix
+pub mod Outcomes
+pub mod Streams
+pub mod Increment
+pub mod IncrementFile
+pub mod IncrementRun
+pub mod Echo
+pub mod EchoConflicts
+pub mod IncrementValid

@@ -1,0 +1,36 @@
+-- What a cycle writes to a place is what the place holds in the next.
+use Rattle.std.proofs.Common.{◌≡◌, ◌≤◌, ⊎_elim, refl, arith, ℕ, suc, Bool, true, false, ◌&&◌, nat_lt, List, ◌++◌, Option, ℤ}
+use Rattle.micro_image.specs.declared.image.Image.{Image}
+use Rattle.micro_image.specs.Log.{Place, Entry, Rows, same_place, stamp_le, initial, value_or, Log, Content, entries_by}
+use Rattle.micro_image.proofs.Each.{In, In-append_left, In-append_cases, Each, Each-at}
+use Rattle.micro_image.proofs.LogLaws.{IsBefore, entries-of_cycle, Log-before}
+use Rattle.micro_image.proofs.Newest.{IsNewest, unwritten, greatest, newest-greatest}
+
+-- if the write is to the place, it writes v
+abbrev pub WritesAt : Place → ℤ → Entry → Type 0
+WritesAt place v e = same_place e.place place ≡ true → e.value ≡ v
+
+at_place : (same : Bool) (c t : ℕ) → same ≡ true → c ≡ t → same && nat_lt c (suc t) ≡ true
+at_place same c t p q = rw (p, q) (grind arith)
+
+place_of : (same below : Bool) → same && below ≡ true → same ≡ true
+place_of true below h = refl
+place_of false below h = h
+
+none_at : {A : Type 0} (b : Bool) → b ≡ false → b ≡ true → A
+none_at b p q = absurd (cc)
+
+cycle_le : (e f : Entry) → stamp_le e f ≡ true → e.cycle ≤ f.cycle
+cycle_le e f h = grind arith
+
+value_written : (place : Place) (v start : ℤ) (t : ℕ) (new log : List Entry) (e : Entry) {r : Option Entry} → Each (IsBefore t) log → In e new → same_place e.place place ≡ true → e.cycle ≡ t → Each (WritesAt place v) new → IsNewest place (suc t) (new ++ log) r → value_or r start ≡ v
+value_written place v start t new log e before in' same is each (unwritten no_write) = none_at _ (Each-at no_write e (In-append_left log in')) (at_place _ _ t same is)
+value_written place v start t new log e before in' same is each (greatest {e = f} in_all of most) =
+    let le : e.cycle ≤ f.cycle = cycle_le e f (Each-at most e (In-append_left log in') (at_place _ _ t same is))
+    in ⊎_elim (λ k. Each-at each f k (place_of _ _ of)) (λ k. absurd (omega (arith, Each-at before f k, le, is))) (In-append_cases new in_all)
+
+-- if cycle t writes the place, and each of its writes there is v, then the place holds v at t + 1
+pub content-written : (image : Image) (z : Rows) (place : Place) (v : ℤ) (t : ℕ) (e : Entry) → In e (entries_by image z (Log image z t) t) → same_place e.place place ≡ true → Each (WritesAt place v) (entries_by image z (Log image z t) t) → Content image z place (suc t) ≡ v
+content-written image z place v t e in' same each =
+    let new = entries_by image z (Log image z t) t
+    in value_written place v (initial image place) t new (Log image z t) e (Log-before image z t) in' same (Each-at (entries-of_cycle image z (Log image z t) t) e in') each (newest-greatest place (suc t) (new ++ Log image z t))

@@ -1,0 +1,6 @@
+pub mod Valid
+pub mod Fields
+pub mod Log
+pub mod Conflict
+pub mod Run
+pub mod Spells

@@ -1,0 +1,196 @@
+-- A valid image: each field is allowed, one fact for each row of the microcode file's table.
+use Rattle.std.specs.Prelude.{Bool, true, false, ◌≡◌, ◌≢◌, ℕ, ◌*◌, ◌<◌, ◌≤◌, ◌⊎◌, List, [], length, ℤ, pos, negsuc, map, slice_get, IsSomeAnd}
+use Rattle.std.specs.List.{All, AllAdjacentBelow}
+use Rattle.std.specs.List.Sorted.{IsStrictlyIncreasing}
+use Rattle.fix_word.specs.Words.{IsWord, IsFormat}
+use Rattle.fix_word.specs.declared.types.Format.{Format}
+use Rattle.fix_word.specs.declared.types.Mode.TheVariants.{Trunc}
+use Rattle.fix_word.specs.declared.operation.Op.{Op}
+use Rattle.fix_word.specs.declared.operation.Op.TheVariants as op
+use Rattle.micro_image.specs.declared.image.Enable.{Enable}
+use Rattle.micro_image.specs.declared.image.Image.{Image}
+use Rattle.micro_image.specs.declared.image.Issue.{Issue}
+use Rattle.micro_image.specs.declared.image.Kind.{Kind}
+use Rattle.micro_image.specs.declared.image.Kind.TheVariants as kind
+use Rattle.micro_image.specs.declared.image.PortRef.{PortRef}
+use Rattle.micro_image.specs.declared.image.Take.{Take}
+use Rattle.micro_image.specs.declared.image.UnitDesc.{UnitDesc}
+use Rattle.micro_image.specs.declared.image.Word.{Word}
+use Rattle.micro_image.specs.Fields.{nth}
+
+-- low ≤ n ≤ high
+abbrev pub IsWithin : ℕ → ℕ → ℕ → Type 0
+IsWithin low high n = (low ≤ n) × (n ≤ high)
+
+-- 0 ≤ z < n
+abbrev pub IsBelow : ℕ → ℤ → Type 0
+IsBelow n (pos k) = k < n
+IsBelow n (negsuc k) = ⊥
+
+-- how many ports a unit of the kind has
+abbrev pub ports : Kind → ℕ
+ports kind.Input = 0
+ports kind.Output = 1
+ports kind.Rom = 0
+ports kind.Alu = 2
+ports kind.Mul = 2
+ports kind.Sel = 3
+ports kind.Ram = 2
+ports kind.Acu = 0
+
+-- the kind of the units that do an operation
+abbrev pub kind_of : Op → Kind
+kind_of op.Input = kind.Input
+kind_of op.Output = kind.Output
+kind_of op.Const = kind.Rom
+kind_of op.Add = kind.Alu
+kind_of op.Sub = kind.Alu
+kind_of op.Neg = kind.Alu
+kind_of op.Pass = kind.Alu
+kind_of op.Lt = kind.Alu
+kind_of op.Le = kind.Alu
+kind_of op.Eq = kind.Alu
+kind_of op.Ne = kind.Alu
+kind_of op.And = kind.Alu
+kind_of op.Or = kind.Alu
+kind_of op.Not = kind.Alu
+kind_of op.Mul = kind.Mul
+kind_of op.Sel = kind.Sel
+kind_of op.Load = kind.Ram
+kind_of op.Store = kind.Ram
+kind_of op.Addr = kind.Acu
+
+-- how many ports an operation reads, from port 0 on
+abbrev pub reads : Op → ℕ
+reads op.Input = 0
+reads op.Const = 0
+reads op.Addr = 0
+reads op.Output = 1
+reads op.Neg = 1
+reads op.Pass = 1
+reads op.Not = 1
+reads op.Load = 1
+reads op.Add = 2
+reads op.Sub = 2
+reads op.Lt = 2
+reads op.Le = 2
+reads op.Eq = 2
+reads op.Ne = 2
+reads op.And = 2
+reads op.Or = 2
+reads op.Mul = 2
+reads op.Store = 2
+reads op.Sel = 3
+
+-- shift 0, trunc and width 0
+abbrev pub IsNoFormat : Format → Type 0
+IsNoFormat fmt = fmt ≡ record { shift = pos 0; mode = Trunc; width = 0 }
+
+-- the operations that bring an exact result to a word by their format
+abbrev pub is_formatted : Op → Bool
+is_formatted op.Add = true
+is_formatted op.Sub = true
+is_formatted op.Neg = true
+is_formatted op.Pass = true
+is_formatted op.Mul = true
+is_formatted _ = false
+
+-- a format where there is to be one, and else none
+abbrev pub IsFormatWhere : Bool → Format → Type 0
+IsFormatWhere true = IsFormat
+IsFormatWhere false = IsNoFormat
+
+-- the format of an issue: the formatted operations have one
+abbrev pub IsFormatFor : Op → Format → Type 0
+IsFormatFor op = IsFormatWhere (is_formatted op)
+
+-- the argument of an operation, where there are so many input and output words
+abbrev pub IsArgument : Op → ℕ → ℕ → ℤ → Type 0
+IsArgument op.Input inputs outs argument = IsBelow inputs argument
+IsArgument op.Output inputs outs argument = IsBelow outs argument
+IsArgument op.Const inputs outs argument = IsWord 32 argument
+IsArgument op.Addr inputs outs argument = IsBelow 65536 argument
+IsArgument _ inputs outs argument = argument ≡ pos 0
+
+-- a register file: 1 to 256 raw words
+pub record IsFile (file : List ℤ) : Type 0 where
+  pub size : IsWithin 1 256 (length file)
+  pub words : All (IsWord 32) file
+
+-- a unit among the units: a result comes after 1 to 8 cycles, an issue fits no later than that, each port has its
+-- register file, a ram alone has cells, and an acu alone names a ram
+pub record IsUnit (units : List UnitDesc) (unit : UnitDesc) : Type 0 where
+  pub latency : IsWithin 1 8 unit.latency
+  pub gap : IsWithin 1 unit.latency unit.gap
+  pub file_count : length unit.files ≡ ports unit.kind
+  pub files : All IsFile unit.files
+  pub cells : All (IsWord 32) unit.cells
+  pub cell_count : unit.kind ≡ kind.Ram → IsWithin 1 65536 (length unit.cells)
+  pub no_cells : unit.kind ≢ kind.Ram → unit.cells ≡ []
+  pub ram : unit.kind ≡ kind.Acu → IsSomeAnd (slice_get units unit.ram) (λ other. other.kind ≡ kind.Ram)
+  pub no_ram : unit.kind ≢ kind.Acu → unit.ram ≡ 0
+
+-- a register for each port of the unit: one of its file, and 0 where the operation doesn't read the port
+pub record AreRegisters (files : List (List ℤ)) (read : ℕ) (regs : List ℕ) : Type 0 where
+  pub count : length regs ≡ length files
+  pub there : (port : ℕ) → port < length files → nth regs port 0 < length (nth files port [])
+  pub unread : (port : ℕ) → read ≤ port → port < length files → nth regs port 0 ≡ 0
+
+-- an issue that the unit can do, where there are so many input and output words
+pub record IsIssueOn (inputs outs : ℕ) (issue : Issue) (unit : UnitDesc) : Type 0 where
+  pub does : kind_of issue.op ≡ unit.kind
+  pub fmt : IsFormatFor issue.op issue.fmt
+  pub arg : IsArgument issue.op inputs outs issue.arg
+  pub regs : AreRegisters unit.files (reads issue.op) issue.regs
+
+-- the issue's unit is there and can do it
+abbrev pub IsIssue : Image → Issue → Type 0
+IsIssue image issue = IsSomeAnd (slice_get image.units issue.unit) (IsIssueOn (length image.inputs) image.outs issue)
+
+-- the unit and the bus are there
+pub record IsEnable (image : Image) (enable : Enable) : Type 0 where
+  pub unit : enable.unit < length image.units
+  pub bus : enable.bus < image.buses
+
+-- the unit is there, its port, and the register
+abbrev pub IsRegister : Image → PortRef → ℕ → Type 0
+IsRegister image port reg =
+    IsSomeAnd (slice_get image.units port.unit) (λ unit. IsSomeAnd (slice_get unit.files port.port) (λ file. reg < length file))
+
+-- the register and the bus are there
+pub record IsTake (image : Image) (take : Take) : Type 0 where
+  pub register : IsRegister image take.port take.reg
+  pub bus : take.bus < image.buses
+
+-- by unit, then bus
+abbrev pub EnableBefore : Enable → Enable → Type 0
+EnableBefore a b = (a.unit < b.unit) ⊎ ((a.unit ≡ b.unit) × (a.bus < b.bus))
+
+-- by unit, port, bus, then register
+abbrev pub TakeBefore : Take → Take → Type 0
+TakeBefore a b =
+    (a.port.unit < b.port.unit) ⊎ ((a.port.unit ≡ b.port.unit) × ((a.port.port < b.port.port) ⊎ ((a.port.port ≡ b.port.port) × ((a.bus < b.bus) ⊎ ((a.bus ≡ b.bus) × (a.reg < b.reg))))))
+
+-- a microword: its lists rise, so that a unit has one issue and nothing stands twice
+pub record IsWordOf (image : Image) (word : Word) : Type 0 where
+  pub issues : All (IsIssue image) word.issues
+  pub issues_rise : IsStrictlyIncreasing (map (λ issue. issue.unit) word.issues)
+  pub enable_count : length word.enables ≤ 1024
+  pub enables : All (IsEnable image) word.enables
+  pub enables_rise : AllAdjacentBelow EnableBefore word.enables (length word.enables)
+  pub take_count : length word.takes ≤ 1024
+  pub takes : All (IsTake image) word.takes
+  pub takes_rise : AllAdjacentBelow TakeBefore word.takes (length word.takes)
+
+-- an image that a microcode file can hold
+pub record IsValid (image : Image) : Type 0 where
+  pub period : IsWithin 1 4096 image.period
+  pub unroll : (image.unroll ≡ 1) ⊎ (image.unroll ≡ 2) ⊎ (image.unroll ≡ 4)
+  pub input_count : IsWithin 1 16 (length image.inputs)
+  pub inputs : All (λ width. width ≤ 32) image.inputs
+  pub outs : IsWithin 1 16 image.outs
+  pub unit_count : IsWithin 1 32 (length image.units)
+  pub units : All (IsUnit image.units) image.units
+  pub buses : IsWithin 1 32 image.buses
+  pub word_count : length image.words ≡ image.period * image.unroll
+  pub words : All (IsWordOf image) image.words

@@ -1,0 +1,200 @@
+ghost use Rattle.std.specs.Prelude.{◌≡◌};
+ghost use Rattle.micro_image.specs.Fields.{word_at};
+ghost use Rattle.micro_image.specs.Valid.{IsValid, kind_of, ports};
+
+use fix_word::{Format, Op};
+use lists::List;
+
+/// The kinds of execution units.
+#[derive(Clone, Copy, Debug, PartialEq, Eq)]
+pub enum Kind {
+    Input,
+    Output,
+    Rom,
+    Alu,
+    Mul,
+    Sel,
+    Ram,
+    Acu,
+}
+
+impl Kind {
+    /// The kind of the units that do an operation.
+    pub fn of(op: Op) -> Kind
+        ensures { result ≡ kind_of op }
+    {
+        match op {
+            Op::Input => Kind::Input,
+            Op::Output => Kind::Output,
+            Op::Const => Kind::Rom,
+            Op::Add | Op::Sub | Op::Neg | Op::Pass => Kind::Alu,
+            Op::Lt | Op::Le | Op::Eq | Op::Ne => Kind::Alu,
+            Op::And | Op::Or | Op::Not => Kind::Alu,
+            Op::Mul => Kind::Mul,
+            Op::Sel => Kind::Sel,
+            Op::Load | Op::Store => Kind::Ram,
+            Op::Addr => Kind::Acu,
+        }
+    }
+
+    /// How many ports a unit of the kind has.
+    pub fn ports(self) -> usize
+        ensures { result ≡ ports self }
+    {
+        match self {
+            Kind::Input | Kind::Rom | Kind::Acu => 0,
+            Kind::Output => 1,
+            Kind::Alu | Kind::Mul | Kind::Ram => 2,
+            Kind::Sel => 3,
+        }
+    }
+}
+
+/// A port of a unit, which has a register file of its own.
+#[derive(Clone, Copy, Debug, PartialEq, Eq)]
+pub struct PortRef {
+    pub unit: u8,
+    pub port: u8,
+}
+
+/// A unit of the hardware, and the state in which it starts.
+#[derive(Clone, Debug, PartialEq, Drop)]
+pub struct UnitDesc {
+    pub kind: Kind,
+    /// Cycles from an issue to its result: the result of an issue at cycle T is there in cycle T + latency - 1.
+    pub latency: u8,
+    /// Cycles from an issue to the next that the unit can take.
+    pub gap: u8,
+    /// The registers of each port, as raw words.
+    pub files: List<List<i64>>,
+    /// The cells of a ram, as raw words; empty for the other kinds.
+    pub cells: List<i64>,
+    /// The unit number of the ram that an acu addresses; 0 for the other kinds.
+    pub ram: u8,
+}
+
+/// An operation that a unit begins in a cycle.
+#[derive(Clone, Debug, PartialEq, Drop)]
+pub struct Issue {
+    pub unit: u8,
+    pub op: Op,
+    /// How a formatted operation brings its exact result to a word; shift 0, trunc and width 0 for the others.
+    pub fmt: Format,
+    /// The input or output word's number, the constant's raw word or the address's offset; 0 for the others.
+    pub arg: i64,
+    /// The register that is read at each port of the unit.
+    pub regs: List<u8>,
+}
+
+/// A unit that drives a bus in a cycle.
+#[derive(Clone, Copy, Debug, PartialEq, Eq)]
+pub struct Enable {
+    pub unit: u8,
+    pub bus: u8,
+}
+
+/// A register that takes what stands on a bus at the end of a cycle.
+#[derive(Clone, Copy, Debug, PartialEq, Eq)]
+pub struct Take {
+    pub port: PortRef,
+    pub bus: u8,
+    pub reg: u8,
+}
+
+/// A microword: all that the hardware does in one cycle.
+#[derive(Clone, Debug, PartialEq, Drop)]
+pub struct Word {
+    pub issues: List<Issue>,
+    pub enables: List<Enable>,
+    pub takes: List<Take>,
+}
+
+/// A microprogram with the hardware that it is for.
+#[derive(Clone, Debug, PartialEq, Drop)]
+pub struct Image {
+    /// Cycles in a sample.
+    pub period: u16,
+    /// Samples until the words repeat.
+    pub unroll: u8,
+    /// The width of each input word in bits, 0 for a truth value.
+    pub inputs: List<u8>,
+    /// How many output words there are.
+    pub outs: u8,
+    pub units: List<UnitDesc>,
+    /// How many buses there are.
+    pub buses: u8,
+    /// The words of `unroll` samples, `period` for each.
+    pub words: List<Word>,
+}
+
+impl Image {
+    /// The word that the hardware obeys at a cycle, counted from the start of the run.
+    pub fn word_at(&self, cycle: u64) -> &Word
+        requires { IsValid self.now }
+        ensures { result.now ≡ word_at self.now cycle }
+    {
+        let count = u64::from(self.unroll) * u64::from(self.period);
+        &self.words[(cycle % count) as usize]
+    }
+}
+
+#[cfg(test)]
+mod tests {
+    use super::*;
+    use fix_word::Mode;
+    use std::alloc::{AllocError, Global};
+    use std::test::Fail;
+
+    /// One ram that loads in its only cycle, with a value in each field.
+    fn loading(alloc: Global) -> Result<Image, AllocError> {
+        let addresses = List::from_slice(alloc, &[0, 1])?;
+        let values = List::from_slice(alloc, &[-3])?;
+        let unit = UnitDesc {
+            kind: Kind::Ram,
+            latency: 2,
+            gap: 1,
+            files: List::from_vec(Vec::from_array(alloc, [addresses, values])?),
+            cells: List::from_slice(alloc, &[50, 60])?,
+            ram: 0,
+        };
+        let issue = Issue {
+            unit: 0,
+            op: Op::Load,
+            fmt: Format {
+                shift: 0,
+                mode: Mode::Trunc,
+                width: 0,
+            },
+            arg: 0,
+            regs: List::from_slice(alloc, &[1, 0])?,
+        };
+        let word = Word {
+            issues: List::from_vec(Vec::from_array(alloc, [issue])?),
+            enables: List::from_slice(alloc, &[Enable { unit: 0, bus: 0 }])?,
+            takes: List::from_slice(
+                alloc,
+                &[Take {
+                    port: PortRef { unit: 0, port: 1 },
+                    bus: 0,
+                    reg: 0,
+                }],
+            )?,
+        };
+        Ok(Image {
+            period: 1,
+            unroll: 1,
+            inputs: List::from_slice(alloc, &[8])?,
+            outs: 1,
+            units: List::from_vec(Vec::from_array(alloc, [unit])?),
+            buses: 1,
+            words: List::from_vec(Vec::from_array(alloc, [word])?),
+        })
+    }
+
+    #[test]
+    fn a_clone_is_the_same_image(rt: HostRuntime) -> Result<(), Fail> {
+        let image = loading(rt.alloc())?;
+        assert_eq!(rt; image.clone()?, image);
+        Ok(())
+    }
+}

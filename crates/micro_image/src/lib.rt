@@ -1,0 +1,14 @@
+//! The image of a microprogram: what a valid one is, what the hardware does with it cycle by cycle, and which bytes
+//! spell it.
+//!
+//! The code is types and a few tables. The meaning stands in `specs/`: `Valid`, `Fields`, `Log`, `Conflict`, `Run` and
+//! `Spells`.
+#![tactic(auto)]
+
+mod conflict;
+mod image;
+mod operation;
+
+pub use conflict::{Conflict, ConflictKind};
+pub use image::{Enable, Image, Issue, Kind, PortRef, Take, UnitDesc, Word};
+pub use operation::{is_formatted, reads};
