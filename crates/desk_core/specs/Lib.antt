@@ -1,0 +1,5 @@
+pub mod View
+pub mod Desk
+pub mod Whole
+pub mod Stored
+pub mod MemDesk
