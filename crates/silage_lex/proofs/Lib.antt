@@ -1,0 +1,9 @@
+pub mod Pieces
+pub mod Values
+pub mod Reading
+pub mod TextLemmas
+pub mod Longest
+pub mod Numbers
+pub mod OneKind
+pub mod OneReading
+pub mod Answering
