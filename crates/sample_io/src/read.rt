@@ -1,0 +1,312 @@
+//! Sample files, read byte by byte.
+
+ghost use Rattle.std.specs.Prelude.{◌≡◌, ◌<◌, ◌≤◌, ◌+◌, ◌*◌, ◌^◌, ◌↔◌, ℕ, ℤ, List as Listed, [], ◌∷◌, ◌++◌, length, IfOk, OnOk, IfErr, IfSome, IfNone, IsOkAnd, MatchOption, ◌⊎◌};
+ghost use Rattle.std.specs.Char.{digit_value};
+ghost use Rattle.std.specs.Option.{option_to_list};
+ghost use Rattle.sample_io.specs.Channels.{AreChannels};
+ghost use Rattle.sample_io.specs.Samples.{signed, RowText, RowsOf, IsFirstBadPlace, HoldsRows};
+ghost use Rattle.sample_io.specs.Reading.{HasDigit, IsLineState, LineSoFar, TakesByte, IsReader, ReadSoFar, ReadsByte, ReadsEnd, word_of};
+
+use crate::{Channel, RowFault, RowList, RowsReadFault};
+use lists::List;
+use std::alloc::{AllocError, Global};
+
+/// What a line has of its last word.
+#[derive(Clone, Copy)]
+enum Part {
+    /// Nothing, at the start of the line or behind a comma.
+    Empty,
+    /// A minus.
+    Minus,
+    /// One or more digits, which may have a minus in front.
+    Digits { negative: bool, magnitude: u64 },
+    /// The row's last word, and a CR behind it.
+    Return { word: i64 },
+}
+
+/// What the byte did that a line has taken.
+#[derive(Clone, Copy)]
+enum Progress {
+    /// It made nothing whole.
+    Within,
+    /// It ended a word, and the line goes on.
+    Word(i64),
+    /// It ended the line, a row with this last word.
+    Row(i64),
+}
+
+impl Progress {
+    /// The word that is whole now.
+    fn word(self) -> Option<i64>
+        ensures { result ≡ word_of self }
+    {
+        match self {
+            Progress::Within => None,
+            Progress::Word(word) | Progress::Row(word) => Some(word),
+        }
+    }
+}
+
+/// Where a line stands: the place of its last word in the row, and what there is of it.
+#[derive(Clone, Copy)]
+struct LineState {
+    column: usize,
+    part: Part,
+}
+
+impl LineState {
+    /// A line with no byte yet.
+    fn new() -> LineState
+        ensures { result ≡ record { column = 0; part = Part.Empty } }
+    {
+        LineState {
+            column: 0,
+            part: Part::Empty,
+        }
+    }
+
+    /// Takes the line's next byte. `None`: with it the line begins no row.
+    fn take(&mut self, channels: &[Channel], byte: u8) -> Option<Progress>
+        requires channels { AreChannels channels.now }
+        requires state { IsLineState channels.now self.old }
+        ensures { (line : Listed ℕ) (words : Listed ℤ) → LineSoFar channels.now line words self.old → TakesByte channels.now line words byte result self.new }
+    {
+        let channel = channels[self.column];
+        match self.part {
+            Part::Empty => {
+                if byte == b'-' {
+                    self.part = Part::Minus;
+                    return Some(Progress::Within);
+                }
+                self.digit(channel, false, 0, byte)
+            }
+            Part::Minus => self.digit(channel, true, 0, byte),
+            Part::Digits {
+                negative,
+                magnitude,
+            } => {
+                let word = signed_word(negative, magnitude);
+                if byte == b',' {
+                    return self.next_word(channels, word);
+                }
+                if byte == b'\r' {
+                    return self.line_end(channels, word);
+                }
+                if byte == b'\n' {
+                    return self.next_line(channels, word);
+                }
+                self.digit(channel, negative, magnitude, byte)
+            }
+            Part::Return { word } => {
+                if byte == b'\n' {
+                    return self.next_line(channels, word);
+                }
+                None
+            }
+        }
+    }
+
+    /// A byte within a word has to be a digit that leaves the word in its channel.
+    fn digit(
+        &mut self,
+        channel: Channel,
+        negative: bool,
+        magnitude: u64,
+        byte: u8,
+    ) -> Option<Progress>
+        requires { magnitude < 2 ^ 40 }
+        ensures taken { IfSome result (λ progress. (progress ≡ Progress.Within) × HasDigit channel negative magnitude byte
+            × (self.new ≡ record self.old { part = Part.Digits negative (magnitude * 10 + digit_value byte) })) }
+        ensures refused { IfNone result (HasDigit channel negative magnitude byte → ⊥) }
+    {
+        if !byte.is_ascii_digit() {
+            return None;
+        }
+        let magnitude = magnitude * 10 + u64::from(byte - b'0');
+        if !channel.contains(signed_word(negative, magnitude)) {
+            return None;
+        }
+        self.part = Part::Digits {
+            negative,
+            magnitude,
+        };
+        Some(Progress::Within)
+    }
+
+    /// A comma ends a word that is not the row's last.
+    fn next_word(&mut self, channels: &[Channel], word: i64) -> Option<Progress>
+        requires { self.old.column < length channels.now }
+        ensures taken { IfSome result (λ progress. (progress ≡ Progress.Word word) × (self.old.column + 1 < length channels.now)
+            × (self.new ≡ record { column = self.old.column + 1; part = Part.Empty })) }
+        ensures refused { IfNone result (self.old.column + 1 ≡ length channels.now) }
+    {
+        if self.column + 1 == channels.len() {
+            return None;
+        }
+        self.column += 1;
+        self.part = Part::Empty;
+        Some(Progress::Word(word))
+    }
+
+    /// A CR stands behind the row's last word.
+    fn line_end(&mut self, channels: &[Channel], word: i64) -> Option<Progress>
+        requires { self.old.column < length channels.now }
+        ensures taken { IfSome result (λ progress. (progress ≡ Progress.Within) × (self.old.column + 1 ≡ length channels.now)
+            × (self.new ≡ record self.old { part = Part.Return word })) }
+        ensures refused { IfNone result (self.old.column + 1 < length channels.now) }
+    {
+        if self.column + 1 < channels.len() {
+            return None;
+        }
+        self.part = Part::Return { word };
+        Some(Progress::Within)
+    }
+
+    /// An LF ends the row's last word, and with it the line.
+    fn next_line(&mut self, channels: &[Channel], word: i64) -> Option<Progress>
+        requires { self.old.column < length channels.now }
+        ensures taken { IfSome result (λ progress. (progress ≡ Progress.Row word) × (self.old.column + 1 ≡ length channels.now)
+            × (self.new ≡ record { column = 0; part = Part.Empty })) }
+        ensures refused { IfNone result (self.old.column + 1 < length channels.now) }
+    {
+        if self.column + 1 < channels.len() {
+            return None;
+        }
+        *self = LineState::new();
+        Some(Progress::Row(word))
+    }
+
+    /// The row's last word, where the line's bytes are a row's text.
+    fn last_word(&self, channels: &[Channel]) -> Option<i64>
+        requires channels { AreChannels channels.now }
+        requires state { IsLineState channels.now self.now }
+        ensures { (line : Listed ℕ) (words : Listed ℤ) → LineSoFar channels.now line words self.now
+            → MatchOption result ((row : Listed ℤ) → RowText channels.now line row → ⊥) (λ word. RowText channels.now line (words ++ word ∷ [])) }
+    {
+        let Part::Digits {
+            negative,
+            magnitude,
+        } = self.part
+        else {
+            return None;
+        };
+        if self.column + 1 < channels.len() {
+            return None;
+        }
+        Some(signed_word(negative, magnitude))
+    }
+}
+
+/// The number of this size, below zero or not.
+fn signed_word(negative: bool, magnitude: u64) -> i64
+    requires { magnitude < 2 ^ 63 }
+    ensures { result ≡ signed negative magnitude }
+{
+    let word = magnitude as i64;
+    if negative { -word } else { word }
+}
+
+/// The place in a sample file, and the line that stands there.
+#[derive(Clone, Copy)]
+struct Reader {
+    line: u64,
+    at: u64,
+    state: LineState,
+}
+
+impl Reader {
+    /// A reader at the start of a sample file.
+    fn new() -> Reader
+        ensures { result ≡ record { line = 1; at = 0; state = record { column = 0; part = Part.Empty } } }
+    {
+        Reader {
+            line: 1,
+            at: 0,
+            state: LineState::new(),
+        }
+    }
+
+    /// Takes the next byte, unless its place is the first bad one.
+    fn step(&mut self, channels: &[Channel], byte: u8) -> Result<Progress, RowFault>
+        requires channels { AreChannels channels.now }
+        requires reader { IsReader channels.now self.old }
+        ensures { (bytes : Listed ℕ) (words : Listed ℤ) → ReadSoFar channels.now bytes words self.old → ReadsByte channels.now bytes words byte result self.new }
+    {
+        let Some(progress) = self.state.take(channels, byte) else {
+            return Err(self.fault());
+        };
+        if let Progress::Row(_) = progress {
+            self.line += 1;
+            self.at = 0;
+        } else {
+            self.at += 1;
+        }
+        Ok(progress)
+    }
+
+    /// The end of input. Gives the last word of a row that lacks its end of line.
+    fn finish(&self, channels: &[Channel]) -> Result<Option<i64>, RowFault>
+        requires channels { AreChannels channels.now }
+        requires reader { IsReader channels.now self.now }
+        ensures { (bytes : Listed ℕ) (words : Listed ℤ) → ReadSoFar channels.now bytes words self.now → ReadsEnd channels.now bytes words result }
+    {
+        if self.at == 0 {
+            return Ok(None);
+        }
+        match self.state.last_word(channels) {
+            Some(word) => Ok(Some(word)),
+            None => Err(self.fault()),
+        }
+    }
+
+    /// The place as a fault.
+    fn fault(&self) -> RowFault
+        ensures { result ≡ record { line = self.now.line; at = self.now.at } }
+    {
+        RowFault {
+            line: self.line,
+            at: self.at,
+        }
+    }
+}
+
+/// Reads a whole sample file: one row of the channels a line, its words in decimal with a comma
+/// between two of them. The fault is the first bad place of the bytes, or want of memory for the
+/// rows.
+pub fn read_rows(
+    alloc: Global,
+    bytes: &[u8],
+    channels: &[Channel],
+) -> Result<RowList, RowsReadFault>
+    requires { AreChannels channels.now }
+    ensures rows { IfOk result (λ list. (rows : Listed (Listed ℤ)) × RowsOf bytes.now channels.now rows × HoldsRows list rows × (list.width ≡ length channels.now)) }
+    ensures fault { (fault : _) → result ≡ Err (RowsReadFault.Row fault) → IsFirstBadPlace bytes.now channels.now fault }
+    // Bytes with rows are read and a bad place is told, where there is memory.
+    ensures all_rows { (rows : Listed (Listed ℤ)) → RowsOf bytes.now channels.now rows
+        → (result ≡ Err RowsReadFault.Memory) ⊎ IsOkAnd result (λ list. HoldsRows list rows) }
+    ensures all_faults { (fault : _) → IsFirstBadPlace bytes.now channels.now fault
+        → (result ≡ Err RowsReadFault.Memory) ⊎ (result ≡ Err (RowsReadFault.Row fault)) }
+{
+    let mut words = List::new(alloc);
+    let mut reader = Reader::new();
+    for byte in bytes {
+        let progress = reader.step(channels, *byte)?;
+        push_word(&mut words, progress.word())?;
+    }
+    let last = reader.finish(channels)?;
+    push_word(&mut words, last)?;
+    Ok(RowList {
+        width: channels.len() as u8,
+        words,
+    })
+}
+
+/// Adds the word, if there is one.
+fn push_word(words: &mut List<i64>, word: Option<i64>) -> Result<(), AllocError>
+    ensures { OnOk result (words.new ≡ words.old ++ option_to_list word) }
+{
+    if let Some(word) = word {
+        words.push(word)?;
+    }
+    Ok(())
+}
