@@ -1,0 +1,293 @@
+-- The readers of single fields.
+use Rattle.std.proofs.Common.{◌≡◌, ℕ, suc, ◌+◌, ◌^◌, ◌<◌, ◌≤◌, Bool, true, false, cond, ltb, leb, List, [], ◌∷◌, ◌++◌, length, get_or, take, drop, map, Some, None, ℤ, pos, negsuc, refl, sym, ap, subst, arith}
+use Rattle.std.proofs.Math.Facts.{sfits_to_z}
+use Rattle.std.proofs.lemmas.List.FromFn.{get_or-range_with_len, length-range_with_len}
+use Rattle.std.proofs.lemmas.Option.{slice_get_within, get_or_from_slice_get}
+use Rattle.std.specs.List.{range_with_len}
+use Rattle.std.specs.Prelude.{slice_get}
+use Rattle.std.specs.Int.{Width, w16, w32, w64, byte_len, from_be_bytes, to_be_bytes, cast_signed, cast_unsigned, is_in_range}
+use Rattle.std.specs.Int.RustNames.{FitsSigned}
+use Rattle.std.proofs.lemmas.Bool.{ltb-false, le-ltb}
+use Rattle.std.proofs.lemmas.Bool.Decides.{nat_tests}
+use Rattle.std.proofs.lemmas.Int.{ints, to_z-of_z, of_z-to_z}
+use Rattle.std.proofs.lemmas.List.{take_at, drop_at, take-append-drop, length-append, length-take, length-map, get_or-map}
+use Rattle.std.proofs.lemmas.Nat.{be_bytes_2, be_bytes_4, be_bytes_8, from_be_bytes-to_be_bytes_2, from_be_bytes-to_be_bytes_4, from_be_bytes-to_be_bytes_8}
+use Rattle.fix_word.specs.Words.{IsWord}
+use Rattle.fix_word.specs.declared.types.Mode.{Mode}
+use Rattle.fix_word.specs.declared.types.Mode.TheVariants.{Trunc, Round}
+use Rattle.fix_word.specs.declared.operation.Op.{Op}
+use Rattle.fix_word.specs.declared.operation.Op.TheVariants as op
+use Rattle.micro_image.specs.declared.image.Kind.{Kind}
+use Rattle.micro_image.specs.declared.image.Kind.TheVariants as kind
+use Rattle.micro_image.specs.Spells.{two_bytes, four_bytes, eight_bytes, kind_byte, operation_byte, mode_byte}
+use Rattle.micro_image.specs.Valid.{IsWithin}
+use Rattle.micro_file.specs.declared.fields.TheConstants.{KINDS, OPERATIONS, MODES}
+use Rattle.micro_file.specs.Reading.{◌>>=◌, byte_at, byte_within, byte_below, byte_upto, number_at, number_within, signed_at, is_raw_word, raw_word_at, entry_at}
+use Rattle.micro_file.proofs.Reader.{IsBytes, IsBytes-take, IsBytes-drop, Took, IsReader, IsTestOf, tested, such_reader, bound, some_is, joined}
+
+-- a field of one byte
+abbrev pub one_byte : ℕ → List ℕ
+one_byte b = b ∷ []
+
+took_byte : (bytes : List ℕ) → IsBytes bytes → (x : ℕ × List ℕ) → byte_at bytes ≡ Some x → Took (λ _. Unit {0}) one_byte bytes x
+took_byte [] fits x e = absurd cc
+took_byte (b ∷ bytes) fits x e =
+    subst (λ (p : ℕ × List ℕ). Took (λ (_ : ℕ). Unit {0}) one_byte (b ∷ bytes) p) (some_is (b, bytes) x e) (record { allowed = tt; text = record { parts = refl; rest_fits = record { byte = λ i. fits.byte (suc i) } } })
+
+pub byte_reader : IsReader (λ _. Unit {0}) one_byte byte_at
+byte_reader = record {
+  took = took_byte;
+  again = λ b rest ok. refl;
+}
+
+-- ---- tests
+
+in_range : (low high n : ℕ) → is_in_range low high n ≡ true → IsWithin low high n
+in_range low high n e = grind (arith, nat_tests)
+
+to_range : (low high n : ℕ) → IsWithin low high n → is_in_range low high n ≡ true
+to_range low high n h = grind (arith, nat_tests)
+
+below_limit : (limit n : ℕ) → ltb n limit ≡ true → n < limit
+below_limit limit n e = grind (arith, nat_tests)
+
+to_limit : (limit n : ℕ) → n < limit → ltb n limit ≡ true
+to_limit limit n h = grind (arith, nat_tests)
+
+upto_limit : (limit n : ℕ) → leb n limit ≡ true → n ≤ limit
+upto_limit limit n e = grind (arith, nat_tests)
+
+to_upto : (limit n : ℕ) → n ≤ limit → leb n limit ≡ true
+to_upto limit n h = grind (arith, nat_tests)
+
+pub range_test : (low high : ℕ) → IsTestOf (is_in_range low high) (IsWithin low high)
+range_test low high = record {
+  sound = λ n e. in_range low high n e;
+  whole = λ n h. to_range low high n h;
+}
+
+pub below_test : (limit : ℕ) → IsTestOf (λ n. ltb n limit) (λ n. n < limit)
+below_test limit = record {
+  sound = λ n e. below_limit limit n e;
+  whole = λ n h. to_limit limit n h;
+}
+
+pub within_reader : (low high : ℕ) → IsReader (IsWithin low high) one_byte (byte_within low high)
+within_reader low high = such_reader (λ n h. h.1) (λ n h. (tt, h)) (tested byte_reader (range_test low high))
+
+pub below_reader : (limit : ℕ) → IsReader (λ n. n < limit) one_byte (byte_below limit)
+below_reader limit = such_reader (λ n h. h.1) (λ n h. (tt, h)) (tested byte_reader (below_test limit))
+
+upto_test : (limit : ℕ) → IsTestOf (λ n. leb n limit) (λ n. n ≤ limit)
+upto_test limit = record {
+  sound = λ n e. upto_limit limit n e;
+  whole = λ n h. to_upto limit n h;
+}
+
+pub upto_reader : (limit : ℕ) → IsReader (λ n. n ≤ limit) one_byte (byte_upto limit)
+upto_reader limit = such_reader (λ n h. h.1) (λ n h. (tt, h)) (tested byte_reader (upto_test limit))
+
+-- ---- numbers of several bytes
+
+-- the numbers below the limit have the bytes of the width
+record IsWide (w : Width) (limit : ℕ) : Type 0 where
+  len : (n : ℕ) → length (to_be_bytes w n) ≡ byte_len w
+  back : (bytes : List ℕ) → length bytes ≡ byte_len w → IsBytes bytes → to_be_bytes w (from_be_bytes w bytes) ≡ bytes
+  again : (n : ℕ) → n < limit → from_be_bytes w (to_be_bytes w n) ≡ n
+  below : (bytes : List ℕ) → IsBytes bytes → from_be_bytes w bytes < limit
+
+wide16 : IsWide w16 (2 ^ 16)
+wide16 = record {
+  len = λ n. refl;
+  back = λ bytes len fits. be_bytes_2 bytes _ len fits.byte refl;
+  again = λ n lt. from_be_bytes-to_be_bytes_2 n lt;
+  below = λ bytes fits. omega (arith, fits.byte 0, fits.byte 1);
+}
+
+wide32 : IsWide w32 (2 ^ 32)
+wide32 = record {
+  len = λ n. refl;
+  back = λ bytes len fits. be_bytes_4 bytes _ len fits.byte refl;
+  again = λ n lt. from_be_bytes-to_be_bytes_4 n lt;
+  below = λ bytes fits. omega (arith, fits.byte 0, fits.byte 1, fits.byte 2, fits.byte 3);
+}
+
+wide64 : IsWide w64 (2 ^ 64)
+wide64 = record {
+  len = λ n. refl;
+  back = λ bytes len fits. be_bytes_8 bytes _ len fits.byte refl;
+  again = λ n lt. from_be_bytes-to_be_bytes_8 n lt;
+  below = λ bytes fits. omega (arith, fits.byte 0, fits.byte 1, fits.byte 2, fits.byte 3, fits.byte 4, fits.byte 5, fits.byte 6, fits.byte 7);
+}
+
+guarded : {A : Type 0} (b : Bool) (x y : A) → cond b None (Some x) ≡ Some y → (b ≡ false) × (x ≡ y)
+guarded true x y e = absurd cc
+guarded false x y e = (refl, cc)
+
+number_took : (w : Width) (limit : ℕ) → IsWide w limit → (bytes : List ℕ) → IsBytes bytes → (x : ℕ × List ℕ) → number_at w bytes ≡ Some x → Took (λ n. n < limit) (to_be_bytes w) bytes x
+number_took w limit wide bytes fits x e =
+    let g = guarded (ltb (length bytes) (byte_len w)) (from_be_bytes w (take (byte_len w) bytes), drop (byte_len w) bytes) x e in
+    let long : byte_len w ≤ length bytes = ltb-false _ _ g.0 in
+    let front : to_be_bytes w (from_be_bytes w (take (byte_len w) bytes)) ≡ take (byte_len w) bytes = wide.back (take (byte_len w) bytes) (omega (arith, length-take (byte_len w) bytes)) (IsBytes-take (byte_len w) bytes fits) in
+    subst (λ (p : ℕ × List ℕ). Took (λ (n : ℕ). n < limit) (to_be_bytes w) bytes p) g.1 (record {
+      allowed = wide.below (take (byte_len w) bytes) (IsBytes-take (byte_len w) bytes fits);
+      text = record { parts = rw front (sym (take-append-drop (byte_len w) bytes)); rest_fits = IsBytes-drop (byte_len w) bytes fits };
+    })
+
+number_again : (w : Width) (limit : ℕ) → IsWide w limit → (n : ℕ) (rest : List ℕ) → n < limit → number_at w (to_be_bytes w n ++ rest) ≡ Some (n, rest)
+number_again w limit wide n rest lt =
+    let len = wide.len n in
+    let long : ltb (length (to_be_bytes w n ++ rest)) (byte_len w) ≡ false = le-ltb _ _ (omega (arith, length-append (to_be_bytes w n) rest)) in
+    rw (long, take_at (to_be_bytes w n) rest (byte_len w) len, drop_at (to_be_bytes w n) rest (byte_len w) len, wide.again n lt) refl
+
+number_reader : (w : Width) (limit : ℕ) → IsWide w limit → IsReader (λ n. n < limit) (to_be_bytes w) (number_at w)
+number_reader w limit wide = record { took = number_took w limit wide; again = number_again w limit wide }
+
+pub two_reader : (low high : ℕ) → high < 2 ^ 16 → IsReader (IsWithin low high) two_bytes (number_within w16 low high)
+unfolding two_bytes
+two_reader low high lt = such_reader (λ n h. h.1) (λ n h. (omega arith, h)) (tested (number_reader w16 (2 ^ 16) wide16) (range_test low high))
+
+pub four_reader : (low high : ℕ) → high < 2 ^ 32 → IsReader (IsWithin low high) four_bytes (number_within w32 low high)
+unfolding four_bytes
+four_reader low high lt = such_reader (λ n h. h.1) (λ n h. (omega arith, h)) (tested (number_reader w32 (2 ^ 32) wide32) (range_test low high))
+
+-- ---- numbers with a sign
+
+bits_below : (z : ℤ) → FitsSigned w64 z → cast_unsigned w64 z < 2 ^ 64
+bits_below (pos n) fits = omega (arith, fits.sfits)
+bits_below (negsuc n) fits = omega (arith, fits.sfits)
+
+bits_fit : (n : ℕ) → n < 2 ^ 64 → FitsSigned w64 (cast_signed w64 n)
+bits_fit n lt = sfits_to_z (record { fits = lt })
+
+signed_again : (z : ℤ) (rest : List ℕ) → FitsSigned w64 z → signed_at (eight_bytes z ++ rest) ≡ Some (z, rest)
+unfolding eight_bytes
+signed_again z rest fits =
+    joined (number_at w64 (to_be_bytes w64 (cast_unsigned w64 z) ++ rest)) (λ (n : ℕ × List ℕ). Some (cast_signed w64 n.0, n.1)) (cast_unsigned w64 z, rest) (Some (z, rest))
+    (number_again w64 (2 ^ 64) wide64 (cast_unsigned w64 z) rest (bits_below z fits)) (rw (to_z-of_z w64 z fits) refl)
+
+signed_took : (bytes : List ℕ) → IsBytes bytes → (x : ℤ × List ℕ) → signed_at bytes ≡ Some x → Took (FitsSigned w64) eight_bytes bytes x
+unfolding eight_bytes
+signed_took bytes fits x e =
+    let s = bound (number_at w64 bytes) (λ (n : ℕ × List ℕ). Some (cast_signed w64 n.0, n.1)) x e in
+    let t = number_took w64 (2 ^ 64) wide64 bytes fits s.0 s.1 in
+    subst (λ (p : ℤ × List ℕ). Took (FitsSigned w64) eight_bytes bytes p) (some_is (cast_signed w64 s.0.0, s.0.1) x s.2) (record {
+      allowed = bits_fit s.0.0 t.allowed;
+      text = rw (of_z-to_z w64 s.0.0 t.allowed) t.text;
+    })
+
+pub signed_reader : IsReader (FitsSigned w64) eight_bytes signed_at
+signed_reader = record { took = signed_took; again = signed_again }
+
+raw_sound : (z : ℤ) → is_raw_word z ≡ true → IsWord 32 z
+raw_sound z e = record { low = grind (arith, ints); high = grind (arith, ints) }
+
+raw_whole : (z : ℤ) → IsWord 32 z → is_raw_word z ≡ true
+raw_whole z h = grind (arith, ints, h.low, h.high)
+
+pub word_fits : (z : ℤ) → IsWord 32 z → FitsSigned w64 z
+word_fits (pos n) h = record { sfits = omega (arith, ints, h.high) }
+word_fits (negsuc n) h = record { sfits = omega (arith, ints, h.low) }
+
+pub raw_word_test : IsTestOf is_raw_word (IsWord 32)
+raw_word_test = record {
+  sound = λ z e. raw_sound z e;
+  whole = λ z h. raw_whole z h;
+}
+
+pub raw_word_reader : IsReader (IsWord 32) eight_bytes raw_word_at
+unfolding raw_word_at
+raw_word_reader = such_reader (λ z h. h.1) (λ z h. (word_fits z h, h)) (tested signed_reader raw_word_test)
+
+-- ---- entries of a table
+
+-- the byte of an entry is its place
+record IsTable {A : Type 0} (table : List A) (byte : A → ℕ) : Type 0 where
+  there : (x : A) → slice_get table (byte x) ≡ Some x
+  only : (b : ℕ) (x : A) → slice_get table b ≡ Some x → byte x ≡ b
+
+entry_reader : {A : Type 0} (table : List A) (byte : A → ℕ) → IsTable table byte → IsReader (λ _. Unit {0}) (λ x. one_byte (byte x)) (entry_at table)
+entry_reader {A} table byte is = record {
+  took = λ bytes fits x e.
+      let s = bound (byte_at bytes) (λ (b : ℕ × List ℕ). slice_get table b.0 >>= λ x. Some (x, b.1)) x e in
+      let t = byte_reader.took bytes fits s.0 s.1 in
+      let u = bound (slice_get table s.0.0) (λ (y : A). Some (y, s.0.1)) x s.2 in
+      subst (λ (p : A × List ℕ). Took (λ (_ : A). Unit {0}) (λ (y : A). one_byte (byte y)) bytes p) (some_is (u.0, s.0.1) x u.2) (record { allowed = tt; text = rw (is.only s.0.0 u.0 u.1) t.text });
+  again = λ x rest ok. rw (is.there x) refl;
+}
+
+-- an entry's byte is its place, where the bytes of the table count up
+place : {A : Type 0} (table : List A) (byte : A → ℕ) (count : ℕ) → map byte table ≡ range_with_len 0 count → (b : ℕ) (x : A) → slice_get table b ≡ Some x → byte x ≡ b
+place table byte count e b x h =
+    let lt = slice_get_within table b x h in
+    let counted : length table ≡ count = omega (arith, length-map table byte, ap length e, length-range_with_len 0 count) in
+    let found : byte (get_or table b x) ≡ byte x = ap byte (get_or_from_slice_get table b x x h) in
+    let mapped : get_or (map byte table) b 0 ≡ byte (get_or table b x) = get_or-map byte table b x 0 lt in
+    let counts : get_or (map byte table) b 0 ≡ get_or (range_with_len 0 count) b 0 = ap (λ (xs : List ℕ). get_or xs b 0) e in
+    let there : get_or (range_with_len 0 count) b 0 ≡ 0 + b = get_or-range_with_len 0 count b 0 (omega arith) in
+    omega arith
+
+pub kind_there : (x : Kind) → slice_get KINDS (kind_byte x) ≡ Some x
+kind_there kind.Input = refl
+kind_there kind.Output = refl
+kind_there kind.Rom = refl
+kind_there kind.Alu = refl
+kind_there kind.Mul = refl
+kind_there kind.Sel = refl
+kind_there kind.Ram = refl
+kind_there kind.Acu = refl
+
+-- the places of the table, one after the other
+kind_places : map kind_byte KINDS ≡ range_with_len 0 8
+kind_places = refl
+
+kind_only : (b : ℕ) (x : Kind) → slice_get KINDS b ≡ Some x → kind_byte x ≡ b
+kind_only b x e = place KINDS kind_byte 8 kind_places b x e
+
+operation_there : (x : Op) → slice_get OPERATIONS (operation_byte x) ≡ Some x
+operation_there op.Input = refl
+operation_there op.Output = refl
+operation_there op.Const = refl
+operation_there op.Add = refl
+operation_there op.Sub = refl
+operation_there op.Neg = refl
+operation_there op.Pass = refl
+operation_there op.Lt = refl
+operation_there op.Le = refl
+operation_there op.Eq = refl
+operation_there op.Ne = refl
+operation_there op.And = refl
+operation_there op.Or = refl
+operation_there op.Not = refl
+operation_there op.Mul = refl
+operation_there op.Sel = refl
+operation_there op.Load = refl
+operation_there op.Store = refl
+operation_there op.Addr = refl
+
+-- the places of the table, one after the other
+operation_places : map operation_byte OPERATIONS ≡ range_with_len 0 19
+operation_places = refl
+
+operation_only : (b : ℕ) (x : Op) → slice_get OPERATIONS b ≡ Some x → operation_byte x ≡ b
+operation_only b x e = place OPERATIONS operation_byte 19 operation_places b x e
+
+mode_there : (x : Mode) → slice_get MODES (mode_byte x) ≡ Some x
+mode_there Trunc = refl
+mode_there Round = refl
+
+-- the places of the table, one after the other
+mode_places : map mode_byte MODES ≡ range_with_len 0 2
+mode_places = refl
+
+mode_only : (b : ℕ) (x : Mode) → slice_get MODES b ≡ Some x → mode_byte x ≡ b
+mode_only b x e = place MODES mode_byte 2 mode_places b x e
+
+pub kind_reader : IsReader (λ _. Unit {0}) (λ k. one_byte (kind_byte k)) (entry_at KINDS)
+kind_reader = entry_reader KINDS kind_byte (record { there = kind_there; only = kind_only })
+
+pub operation_reader : IsReader (λ _. Unit {0}) (λ o. one_byte (operation_byte o)) (entry_at OPERATIONS)
+operation_reader = entry_reader OPERATIONS operation_byte (record { there = operation_there; only = operation_only })
+
+pub mode_reader : IsReader (λ _. Unit {0}) (λ m. one_byte (mode_byte m)) (entry_at MODES)
+mode_reader = entry_reader MODES mode_byte (record { there = mode_there; only = mode_only })

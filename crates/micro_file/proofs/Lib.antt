@@ -1,0 +1,13 @@
+pub mod Counts
+pub mod Many
+pub mod Reader
+pub mod Several
+pub mod Leaves
+pub mod Steps
+pub mod UnitReader
+pub mod IssueParts
+pub mod IssueReader
+pub mod TransferReader
+pub mod WordReader
+pub mod ImageReader
+pub mod Unique
