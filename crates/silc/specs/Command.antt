@@ -1,0 +1,54 @@
+-- The words of a command, and what each status says of the desk.
+use Rattle.std.specs.Prelude.{◌≡◌, ◌≢◌, ◌⊎◌, List, [], ◌∷◌, Some, String, string_bytes, codes}
+use Rattle.std.specs.declared.alloc.Global.{Global}
+use Rattle.desk_core.specs.View.{Name, Content, Files, View}
+use Rattle.desk_core.specs.Desk.{Told, ReadFaultsRose, WriteFaultsRose, IsPut, content_of}
+use Rattle.desk_core.specs.Whole.{IsUnchangedButInput}
+use Rattle.silc.specs.Compile.{Accepts}
+use Rattle.silc.specs.Headline.{IsCompiled}
+use Rattle.silc.specs.declared.status.Status.{Status}
+use Rattle.silc.specs.declared.status.Status.TheVariants.{Done, Memory, Words, Desk, NotBuilt}
+
+-- the words are `compile SRC DP OUT`, and OUT is no input
+pub record IsCompile (words : List (String Global)) (src path out : Name) : Type 0 where
+  pub verb : String Global
+  pub source : String Global
+  pub datapath : String Global
+  pub output : String Global
+  pub all : words ≡ verb ∷ source ∷ datapath ∷ output ∷ []
+  pub verb_is : string_bytes verb ≡ codes "compile"
+  pub source_is : string_bytes source ≡ src
+  pub datapath_is : string_bytes datapath ≡ path
+  pub output_is : string_bytes output ≡ out
+  pub not_source : out ≢ src
+  pub not_datapath : out ≢ path
+
+-- the words are one of the commands
+abbrev pub IsCommand : List (String Global) → Type 0
+IsCommand words = (src : Name) × (path : Name) × (out : Name) × IsCompile words src path out
+
+-- OUT has microcode compiled from the source and the datapath, and every other file is as it was
+pub record IsDone (src path out : Name) (before after : Files) : Type 0 where
+  pub microcode : Content
+  pub compiled : IsCompiled (content_of (before src)) (content_of (before path)) microcode
+  pub put : IsPut out microcode before after
+
+-- Reading one of the inputs failed, and no file was made; or writing OUT failed, and the source and the datapath are accepted.
+abbrev pub IsFileFault : Name → Name → Name → View → View → Type 0
+IsFileFault src path out old new =
+    ((ReadFaultsRose src old new ⊎ ReadFaultsRose path old new) × IsUnchangedButInput old new)
+    ⊎ (WriteFaultsRose out old new × ((files : Files) → old.files ≡ Some files → Accepts src path files))
+
+-- When each status comes of `compile SRC DP OUT`, and what it leaves. Where it refuses before it creates OUT, at most the
+-- input and the faults changed.
+abbrev pub IsAnswer : Name → Name → Name → View → View → Status → Type 0
+IsAnswer src path out old new Done = Told (IsDone src path out) old.files new.files
+IsAnswer src path out old new Memory = IsUnchangedButInput old new
+IsAnswer src path out old new Words = ⊥
+IsAnswer src path out old new Desk = IsFileFault src path out old new
+IsAnswer src path out old new NotBuilt = IsUnchangedButInput old new × ((files : Files) → old.files ≡ Some files → Accepts src path files → ⊥)
+
+-- no file but OUT changed, and nothing was printed
+pub record ChangesOnly (out : Name) (old new : View) : Type 0 where
+  pub files : Told (λ before after. (name : Name) → name ≢ out → after name ≡ before name) old.files new.files
+  pub printed : new.printed ≡ old.printed

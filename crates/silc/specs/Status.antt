@@ -1,0 +1,11 @@
+-- The exit code of each status.
+use Rattle.std.specs.Prelude.{ℕ}
+use Rattle.silc.specs.declared.status.Status.{Status}
+use Rattle.silc.specs.declared.status.Status.TheVariants.{Done, Memory, Words, Desk, NotBuilt}
+
+abbrev pub code_of : Status → ℕ
+code_of Done = 0
+code_of Memory = 1
+code_of Words = 2
+code_of Desk = 3
+code_of NotBuilt = 13

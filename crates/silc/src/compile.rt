@@ -1,0 +1,95 @@
+//! `compile SRC DP OUT`: from the bytes of a source and a datapath to the bytes of the microcode.
+ghost use Rattle.std.specs.Prelude.{◌≡◌, ◌≢◌, IfOk, IfErr, Some};
+ghost use Rattle.desk_core.specs.View.{Files};
+ghost use Rattle.desk_core.specs.Desk.{FaultsNeverFall, content_of};
+ghost use Rattle.desk_core.specs.Whole.{IsUnchangedButInput};
+ghost use Rattle.silc.specs.Command.{IsAnswer, ChangesOnly};
+ghost use Rattle.silc.specs.Compile.{IsInput, IsInputFault, IsMicrocode, IsMade};
+
+use crate::first::one_line;
+use crate::plain::PLAIN;
+use crate::serial::serial_image;
+use crate::status::Status;
+use desk_core::{Desk, ReadFault, read_whole, write_whole};
+use lists::Bytes;
+use micro_file::encode;
+use std::alloc::Global;
+
+/// The most bytes of a source, and of a datapath.
+const TEXT_LIMIT: u64 = 1 << 20;
+
+/// A source or a datapath, as it was read.
+#[derive(Drop)]
+pub enum Input {
+    Whole(Bytes),
+    TooLong,
+}
+
+/// Reads a source or a datapath whole. One that is too long is refused later, when its own check comes.
+fn read_input<D: Desk>(alloc: Global, desk: &mut D, name: &str) -> Result<Input, Status>
+    ensures faults { FaultsNeverFall (D.view desk.old) (D.view desk.new) }
+    ensures unchanged { IsUnchangedButInput (D.view desk.old) (D.view desk.new) }
+    ensures ok { IfOk result (λ found. (files : Files) → (D.view desk.old).files ≡ Some files → IsInput (content_of (files name.now)) found) }
+    ensures err { IfErr result (λ status. IsInputFault name.now (D.view desk.old) (D.view desk.new) status) }
+{
+    match read_whole(alloc, desk, name, TEXT_LIMIT) {
+        Ok(bytes) => Ok(Input::Whole(bytes)),
+        Err(ReadFault::TooLong) => Ok(Input::TooLong),
+        Err(ReadFault::Desk) => Err(Status::Desk),
+        Err(ReadFault::Memory) => Err(Status::Memory),
+    }
+}
+
+/// The microcode of a source over a datapath.
+fn microcode(alloc: Global, source: Input, datapath: Input) -> Result<Bytes, Status>
+    ensures { IsMicrocode source datapath result }
+{
+    let source = match source {
+        Input::Whole(bytes) => bytes,
+        Input::TooLong => return Err(Status::NotBuilt),
+    };
+    let datapath = match datapath {
+        Input::Whole(bytes) => bytes,
+        Input::TooLong => return Err(Status::NotBuilt),
+    };
+    if datapath.as_slice() != PLAIN {
+        return Err(Status::NotBuilt);
+    }
+    let Some(program) = one_line(&source) else {
+        return Err(Status::NotBuilt);
+    };
+    let image = serial_image(alloc, &program)?;
+    Ok(encode(alloc, &image)?)
+}
+
+/// Reads the source and the datapath, and makes the microcode.
+fn make<D: Desk>(alloc: Global, desk: &mut D, source: &str, datapath: &str) -> Result<Bytes, Status>
+    ensures faults { FaultsNeverFall (D.view desk.old) (D.view desk.new) }
+    ensures unchanged { IsUnchangedButInput (D.view desk.old) (D.view desk.new) }
+    ensures made { IsMade source.now datapath.now (D.view desk.old) (D.view desk.new) result }
+{
+    let source = read_input(alloc, desk, source)?;
+    let datapath = read_input(alloc, desk, datapath)?;
+    microcode(alloc, source, datapath)
+}
+
+/// Carries out `compile`.
+pub fn compile<D: Desk>(
+    alloc: Global,
+    desk: &mut D,
+    source: &str,
+    datapath: &str,
+    output: &str,
+) -> Status
+    ensures faults { FaultsNeverFall (D.view desk.old) (D.view desk.new) }
+    ensures answer { IsAnswer source.now datapath.now output.now (D.view desk.old) (D.view desk.new) result }
+    ensures only_output { ChangesOnly output.now (D.view desk.old) (D.view desk.new) }
+{
+    match make(alloc, desk, source, datapath) {
+        Ok(microcode) => match write_whole(desk, output, &microcode) {
+            Ok(()) => Status::Done,
+            Err(failed) => Status::from(failed),
+        },
+        Err(status) => status,
+    }
+}

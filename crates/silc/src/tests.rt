@@ -1,0 +1,242 @@
+//! What the clauses don't say: the bytes and texts of worked cases, and that memory is found.
+ghost use Rattle.silc.specs.Deaf.{deaf_view, never_tells};
+
+use crate::{Status, code, silc};
+use desk_core::{Desk, Failed, MemDesk};
+use lists::Bytes;
+use std::alloc::{AllocError, Global};
+use std::test::Fail;
+
+const INCREMENT: &[u8] = b"func main(x : fix<8,0>) y : fix<8,0> = begin y = x + 1; end;";
+
+fn list(alloc: Global, words: &[&str]) -> Result<Vec<String>, Fail> {
+    let mut list = Vec::new(alloc);
+    for word in words {
+        list.push(String::from_str(alloc, word)?)?;
+    }
+    Ok(list)
+}
+
+/// A desk with a source, the datapath PLAIN and nothing else.
+fn desk_with(alloc: Global, piece: usize, source: &[u8], datapath: &[u8]) -> Result<MemDesk, Fail> {
+    let mut desk = MemDesk::new(alloc, piece.max(1));
+    desk.put("SRC", source)?;
+    desk.put("DP", datapath)?;
+    Ok(desk)
+}
+
+fn compile_on(alloc: Global, desk: &mut MemDesk) -> Result<Status, Fail> {
+    let words = list(alloc, &["compile", "SRC", "DP", "OUT"])?;
+    Ok(silc(alloc, &words, desk))
+}
+
+/// The microcode of `y = x + 1` over 8 bits and PLAIN, put together from the fields of the file.
+fn increment_microcode(alloc: Global) -> Result<Bytes, Fail> {
+    let mut bytes = Bytes::new(alloc);
+    bytes.extend_from_slice(b"SILM\x01\x00\x10\x01\x01\x08\x01\x04")?;
+    bytes.extend_from_slice(b"\x00\x01\x01\x02\x01\x01\x03\x01\x01")?;
+    bytes.extend_from_slice(b"\x00\x08")?;
+    bytes.extend_from_slice(&[0; 64])?;
+    bytes.extend_from_slice(b"\x00\x08")?;
+    bytes.extend_from_slice(&[0; 64])?;
+    bytes.extend_from_slice(b"\x01\x01\x01\x00\x02")?;
+    bytes.extend_from_slice(&[0; 16])?;
+    bytes.extend_from_slice(b"\x01")?;
+    bytes.extend_from_slice(
+        b"\x01\x00\x00\x00\x00\x00\0\0\0\0\0\0\0\0\x00\x01\x00\x00\x00\x01\x02\x00\x00\x00",
+    )?;
+    bytes.extend_from_slice(
+        b"\x01\x01\x02\x00\x00\x00\0\0\0\0\0\0\0\x01\x00\x01\x01\x00\x00\x01\x02\x01\x00\x00",
+    )?;
+    bytes.extend_from_slice(
+        b"\x01\x02\x03\x00\x00\x08\0\0\0\0\0\0\0\0\x00\x00\x00\x01\x02\x00\x00\x01\x03\x00\x00\x00",
+    )?;
+    bytes.extend_from_slice(b"\x01\x03\x01\x00\x00\x00\0\0\0\0\0\0\0\0\x00\x00\x00\x00\x00")?;
+    bytes.extend_from_slice(&[0; 60])?;
+    Ok(bytes)
+}
+
+#[test]
+fn increment_compiles_to_its_328_bytes(rt: HostRuntime) -> Result<(), Fail> {
+    let alloc = rt.alloc();
+    let want = increment_microcode(alloc)?;
+    assert_eq!(rt; want.len(), 328);
+    for piece in [1usize, 7, 4096] {
+        let mut desk = desk_with(alloc, piece, INCREMENT, crate::PLAIN)?;
+        assert_eq!(rt; compile_on(alloc, &mut desk)?, Status::Done);
+        assert_eq!(rt; desk.get("OUT").ok_or("no file")?, want.as_slice());
+        assert_eq!(rt; desk.faults(), 0);
+        assert!(rt; desk.printed().is_empty());
+    }
+    Ok(())
+}
+
+/// Words that are no command.
+const NO_COMMAND: [&[&str]; 7] = [
+    &["compile", "a.sil", "d.toml", "a.sil"],
+    &["compile", "a.sil", "d.toml", "d.toml"],
+    &["compile", "a.sil"],
+    &["compile", "a.sil", "d.toml", "b.mic", "b.mic"],
+    &["Compile", "a.sil", "d.toml", "b.mic"],
+    &["demo", "0", "5"],
+    &[],
+];
+
+#[test]
+fn words_that_are_no_command_touch_nothing(rt: HostRuntime) -> Result<(), Fail> {
+    let alloc = rt.alloc();
+    for case in NO_COMMAND {
+        let words = list(alloc, case)?;
+        let mut desk = MemDesk::new(alloc, 1);
+        desk.fail_at(0)?;
+        assert_eq!(rt; silc(alloc, &words, &mut desk), Status::Words);
+        assert_eq!(rt; desk.faults(), 0);
+    }
+    Ok(())
+}
+
+#[test]
+fn a_failing_third_write_leaves_the_first_200_bytes(rt: HostRuntime) -> Result<(), Fail> {
+    let alloc = rt.alloc();
+    let want = increment_microcode(alloc)?;
+    let mut desk = desk_with(alloc, 100, INCREMENT, crate::PLAIN)?;
+    // One opening and two reads of SRC, one opening and four reads of DP, the creation, two writes.
+    desk.fail_at(11)?;
+    assert_eq!(rt; compile_on(alloc, &mut desk)?, Status::Desk);
+    assert_eq!(rt; desk.faults(), 1);
+    let found = desk.get("OUT").ok_or("no file")?;
+    assert_eq!(rt; found.len(), 200);
+    assert!(rt; want.as_slice().starts_with(found));
+    Ok(())
+}
+
+#[test]
+fn a_missing_file_is_a_file_fault_and_makes_none(rt: HostRuntime) -> Result<(), Fail> {
+    let alloc = rt.alloc();
+    for missing in ["SRC", "DP"] {
+        let mut desk = MemDesk::new(alloc, 10);
+        if missing != "SRC" {
+            desk.put("SRC", INCREMENT)?;
+        }
+        assert_eq!(rt; compile_on(alloc, &mut desk)?, Status::Desk, "{missing}");
+        assert!(rt; desk.get("OUT").is_none(), "{missing}");
+    }
+    Ok(())
+}
+
+#[test]
+fn other_sources_and_datapaths_are_not_built_yet(rt: HostRuntime) -> Result<(), Fail> {
+    let alloc = rt.alloc();
+    let cases = [
+        (b"".as_slice(), crate::PLAIN),
+        (
+            b"func main(x : fix<8,0>) y : fix<8,0> = begin y = x * 1; end;".as_slice(),
+            crate::PLAIN,
+        ),
+        (
+            b"func main(x : fix<8,0>) y : fix<8,0> = begin y = x + 128; end;".as_slice(),
+            crate::PLAIN,
+        ),
+        (INCREMENT, b"".as_slice()),
+        (INCREMENT, b"period = 16\nword = 16\nhold = 0\n".as_slice()),
+    ];
+    for (source, datapath) in cases {
+        let mut desk = desk_with(alloc, 50, source, datapath)?;
+        assert_eq!(rt;
+            compile_on(alloc, &mut desk)?,
+            Status::NotBuilt,
+            "{source:?}"
+        );
+        assert!(rt; desk.get("OUT").is_none());
+        assert_eq!(rt; desk.faults(), 0);
+    }
+    Ok(())
+}
+
+/// A desk that fails at everything and keeps what it is told.
+#[derive(Drop)]
+struct Deaf {
+    said: Bytes,
+    refused: Option<AllocError>,
+}
+
+impl Desk for Deaf {
+    ghost view = { λ _. deaf_view };
+
+    ghost output_told = { λ _. never_tells };
+
+    fn open_input(&mut self, _name: &str) -> Result<(), Failed> {
+        Err(Failed)
+    }
+
+    fn read(&mut self, _buf: &mut [u8]) -> Result<usize, Failed> {
+        Err(Failed)
+    }
+
+    fn create(&mut self, _name: &str) -> Result<(), Failed> {
+        Err(Failed)
+    }
+
+    fn write(&mut self, _piece: &[u8]) -> Result<usize, Failed> {
+        Err(Failed)
+    }
+
+    fn close(&mut self) -> Result<(), Failed> {
+        Err(Failed)
+    }
+
+    fn print(&mut self, _piece: &[u8]) -> Result<usize, Failed> {
+        Err(Failed)
+    }
+
+    fn complain(&mut self, piece: &[u8]) {
+        self.refused = self.said.extend_from_slice(piece).err();
+    }
+}
+
+#[test]
+fn a_refusal_is_told_in_one_line(rt: HostRuntime) -> Result<(), Fail> {
+    let alloc = rt.alloc();
+    let cases = [
+        (
+            [].as_slice(),
+            Status::Words,
+            b"silc: bad command words\n".as_slice(),
+        ),
+        (
+            ["compile", "SRC", "DP", "OUT"].as_slice(),
+            Status::Desk,
+            b"silc: file fault\n".as_slice(),
+        ),
+    ];
+    for (words, status, line) in cases {
+        let mut desk = Deaf {
+            said: Bytes::new(alloc),
+            refused: None,
+        };
+        let words = list(alloc, words)?;
+        assert_eq!(rt; silc(alloc, &words, &mut desk), status);
+        assert_eq!(rt; desk.said.as_slice(), line);
+        assert!(rt; desk.refused.is_none());
+    }
+    assert_eq!(rt; Status::Memory.line(), b"silc: no memory\n".as_slice());
+    assert_eq!(rt;
+        Status::NotBuilt.line(),
+        b"silc: not built yet\n".as_slice()
+    );
+    Ok(())
+}
+
+#[test]
+fn each_status_has_its_code(rt: HostRuntime) {
+    let cases = [
+        (Status::Done, 0),
+        (Status::Memory, 1),
+        (Status::Words, 2),
+        (Status::Desk, 3),
+        (Status::NotBuilt, 13),
+    ];
+    for (status, want) in cases {
+        assert_eq!(rt; code(&status), want, "{status:?}");
+    }
+}

@@ -1,0 +1,69 @@
+//! The program `silc` over the host's files and standard streams.
+#![tactic(auto)]
+
+mod host;
+
+use host::HostDesk;
+use silc::{Status, code, silc};
+use std::env;
+use std::io::{self, ErrorKind, Write};
+use std::process::ExitCode;
+
+const HELP: &str = "silc compiles equations between sampled signals to microcode, and simulates it.
+
+usage: silc compile SRC DP OUT    plans SRC for the datapath DP, and writes the microcode to OUT
+       silc --help | --version
+
+The exit status is 0 where all was done, 1 without memory, 2 at words that are no command,
+3 at a file that can't be read or written, and 13 at a source or a datapath that this version
+doesn't take. A refusal is told in one line on standard error.";
+
+const VERSION: &str = "silc 0.1.0";
+
+/// The words of the command, behind the program's name.
+fn words<R: std::rt::Env + AllocGlobal>(rt: &R) -> io::Result<Vec<String>> {
+    let mut words = Vec::new(rt.alloc());
+    for word in env::args(rt)?.skip(1) {
+        words.push(word)?;
+    }
+    Ok(words)
+}
+
+/// What the program says of itself, where that is all that it is asked.
+fn about(words: &[String]) -> Option<&'static str> {
+    match words {
+        [word] if word.as_str() == "--help" => Some(HELP),
+        [word] if word.as_str() == "--version" => Some(VERSION),
+        _ => None,
+    }
+}
+
+/// A fault of getting the words: one that is not UTF-8 is no word of a command.
+fn unread(error: &io::Error) -> Status {
+    if error.kind() == ErrorKind::OutOfMemory {
+        Status::Memory
+    } else {
+        Status::Words
+    }
+}
+
+fn main(rt: HostRuntime) -> ExitCode {
+    let alloc = rt.alloc();
+    let status = match words(&rt) {
+        Ok(words) => {
+            if let Some(text) = about(&words) {
+                return match println!(rt; "{text}") {
+                    Ok(()) => ExitCode::SUCCESS,
+                    Err(_) => ExitCode::from(code(&Status::Desk)),
+                };
+            }
+            silc(alloc, &words, &mut HostDesk::new(rt))
+        }
+        Err(error) => {
+            let status = unread(&error);
+            let _ = rt.stderr().write_all(status.line());
+            status
+        }
+    };
+    ExitCode::from(code(&status))
+}
