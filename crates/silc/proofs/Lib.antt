@@ -10,3 +10,5 @@ pub mod Compiled
 mod Examples
 pub mod Short
 pub mod Making
+pub mod Samples
+pub mod Simulating

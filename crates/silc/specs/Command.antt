@@ -1,5 +1,5 @@
 -- The words of a command, and what each status says of the desk.
-use Rattle.std.specs.Prelude.{◌≡◌, ◌≢◌, ◌⊎◌, List, [], ◌∷◌, Some, String, string_bytes, codes}
+use Rattle.std.specs.Prelude.{◌≡◌, ◌≢◌, ◌⊎◌, ℕ, List, [], ◌∷◌, Some, String, string_bytes, codes}
 use Rattle.std.specs.declared.alloc.Global.{Global}
 use Rattle.desk_core.specs.View.{Name, Content, Files, View}
 use Rattle.desk_core.specs.Desk.{Told, ReadFaultsRose, WriteFaultsRose, IsPut, content_of}
@@ -7,25 +7,33 @@ use Rattle.desk_core.specs.Whole.{IsUnchangedButInput}
 use Rattle.silc.specs.Compile.{Accepts}
 use Rattle.silc.specs.Headline.{IsCompiled}
 use Rattle.silc.specs.declared.status.Status.{Status}
-use Rattle.silc.specs.declared.status.Status.TheVariants.{Done, Memory, Words, Desk, NotBuilt}
+use Rattle.silc.specs.declared.status.Status.TheVariants.{Done, Memory, Words, Desk, Image, Samples, Conflict, NotBuilt}
 
--- the words are `compile SRC DP OUT`, and OUT is no input
-pub record IsCompile (words : List (String Global)) (src path out : Name) : Type 0 where
-  pub verb : String Global
-  pub source : String Global
-  pub datapath : String Global
-  pub output : String Global
-  pub all : words ≡ verb ∷ source ∷ datapath ∷ output ∷ []
-  pub verb_is : string_bytes verb ≡ codes "compile"
-  pub source_is : string_bytes source ≡ src
-  pub datapath_is : string_bytes datapath ≡ path
-  pub output_is : string_bytes output ≡ out
-  pub not_source : out ≢ src
-  pub not_datapath : out ≢ path
+-- the words are a verb, two inputs and OUT, and OUT is no input
+pub record IsForm (verb : List ℕ) (words : List (String Global)) (first second out : Name) : Type 0 where
+  pub verb_word : String Global
+  pub first_word : String Global
+  pub second_word : String Global
+  pub out_word : String Global
+  pub all : words ≡ verb_word ∷ first_word ∷ second_word ∷ out_word ∷ []
+  pub verb_is : string_bytes verb_word ≡ verb
+  pub first_is : string_bytes first_word ≡ first
+  pub second_is : string_bytes second_word ≡ second
+  pub out_is : string_bytes out_word ≡ out
+  pub not_first : out ≢ first
+  pub not_second : out ≢ second
+
+-- the words are `compile SRC DP OUT`
+abbrev pub IsCompile : List (String Global) → Name → Name → Name → Type 0
+IsCompile = IsForm (codes "compile")
+
+-- the words are `sim MIC SAMPLES OUT`
+abbrev pub IsSim : List (String Global) → Name → Name → Name → Type 0
+IsSim = IsForm (codes "sim")
 
 -- the words are one of the commands
 abbrev pub IsCommand : List (String Global) → Type 0
-IsCommand words = (src : Name) × (path : Name) × (out : Name) × IsCompile words src path out
+IsCommand words = (first : Name) × (second : Name) × (out : Name) × (IsCompile words first second out ⊎ IsSim words first second out)
 
 -- OUT has microcode compiled from the source and the datapath, and every other file is as it was
 pub record IsDone (src path out : Name) (before after : Files) : Type 0 where
@@ -46,6 +54,9 @@ IsAnswer src path out old new Done = Told (IsDone src path out) old.files new.fi
 IsAnswer src path out old new Memory = IsUnchangedButInput old new
 IsAnswer src path out old new Words = ⊥
 IsAnswer src path out old new Desk = IsFileFault src path out old new
+IsAnswer src path out old new (Image fault) = ⊥
+IsAnswer src path out old new (Samples fault) = ⊥
+IsAnswer src path out old new (Conflict conflict) = ⊥
 IsAnswer src path out old new NotBuilt = IsUnchangedButInput old new × ((files : Files) → old.files ≡ Some files → Accepts src path files → ⊥)
 
 -- no file but OUT changed, and nothing was printed

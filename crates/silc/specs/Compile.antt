@@ -7,7 +7,7 @@ use Rattle.silc.specs.declared.compile.Input.{Input}
 use Rattle.silc.specs.declared.compile.Input.TheVariants.{Whole, TooLong}
 use Rattle.silc.specs.declared.first.OneLine.{OneLine}
 use Rattle.silc.specs.declared.status.Status.{Status}
-use Rattle.silc.specs.declared.status.Status.TheVariants.{Done, Memory, Words, Desk, NotBuilt}
+use Rattle.silc.specs.declared.status.Status.TheVariants.{Done, Memory, Words, Desk, Image, Samples, Conflict, NotBuilt}
 
 -- the input is all of the content, which has at most 2^20 bytes, or it is too long
 abbrev pub IsInput : Content → Input → Type 0
@@ -20,6 +20,9 @@ IsInputFault name old new Done = ⊥
 IsInputFault name old new Memory = Unit {0}
 IsInputFault name old new Words = ⊥
 IsInputFault name old new Desk = ReadFaultsRose name old new
+IsInputFault name old new (Image fault) = ⊥
+IsInputFault name old new (Samples fault) = ⊥
+IsInputFault name old new (Conflict conflict) = ⊥
 IsInputFault name old new NotBuilt = ⊥
 
 -- the source and the datapath have an accepted program
@@ -33,6 +36,9 @@ IsMicrocode source datapath (Err Done) = ⊥
 IsMicrocode source datapath (Err Memory) = Unit {0}
 IsMicrocode source datapath (Err Words) = ⊥
 IsMicrocode source datapath (Err Desk) = ⊥
+IsMicrocode source datapath (Err (Image fault)) = ⊥
+IsMicrocode source datapath (Err (Samples fault)) = ⊥
+IsMicrocode source datapath (Err (Conflict conflict)) = ⊥
 IsMicrocode source datapath (Err NotBuilt) = (s d : Content) → IsInput s source → IsInput d datapath → IsTaken s d → ⊥
 
 -- the files hold a source and a datapath with an accepted program
@@ -46,4 +52,7 @@ IsMade src path old new (Err Done) = ⊥
 IsMade src path old new (Err Memory) = Unit {0}
 IsMade src path old new (Err Words) = ⊥
 IsMade src path old new (Err Desk) = ReadFaultsRose src old new ⊎ ReadFaultsRose path old new
+IsMade src path old new (Err (Image fault)) = ⊥
+IsMade src path old new (Err (Samples fault)) = ⊥
+IsMade src path old new (Err (Conflict conflict)) = ⊥
 IsMade src path old new (Err NotBuilt) = (files : Files) → old.files ≡ Some files → Accepts src path files → ⊥

@@ -4,5 +4,7 @@ pub mod Reading
 pub mod Serial
 pub mod Headline
 pub mod Compile
+pub mod Sim
+pub mod Running
 pub mod Command
 pub mod Deaf

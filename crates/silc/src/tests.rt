@@ -1,10 +1,11 @@
 //! What the clauses don't say: the bytes and texts of worked cases, and that memory is found.
 ghost use Rattle.silc.specs.Deaf.{deaf_view, never_tells};
 
-use crate::{Status, code, silc};
+use crate::{Conflict, ConflictKind, FormFault, ImageFault, Kept, SampleFault, Status, code, silc};
 use desk_core::{Desk, Failed, MemDesk};
 use lists::Bytes;
 use std::alloc::{AllocError, Global};
+use std::process::Abort;
 use std::test::Fail;
 
 const INCREMENT: &[u8] = b"func main(x : fix<8,0>) y : fix<8,0> = begin y = x + 1; end;";
@@ -25,9 +26,33 @@ fn desk_with(alloc: Global, piece: usize, source: &[u8], datapath: &[u8]) -> Res
     Ok(desk)
 }
 
+/// `sim` over these two files is answered like this, and OUT has these rows then.
+fn check_sim(
+    rt: &impl Abort,
+    alloc: Global,
+    microcode: &[u8],
+    samples: &[u8],
+    want: Result<&[u8], Status>,
+) -> Result<(), Fail> {
+    let mut desk = MemDesk::new(alloc, 100);
+    desk.put("MIC", microcode)?;
+    desk.put("SAMPLES", samples)?;
+    let words = list(alloc, &["sim", "MIC", "SAMPLES", "OUT"])?;
+    let mut kept = Kept::Nothing;
+    let status = silc(alloc, &words, &mut desk, &mut kept);
+    let got = match desk.get("OUT") {
+        Some(rows) if status == Status::Done => Ok(rows),
+        _ => Err(status),
+    };
+    assert!(rt; got == want, "{samples:?}: {status:?}");
+    assert!(rt; want.is_ok() || desk.get("OUT").is_none(), "{samples:?}");
+    assert!(rt; want.is_ok() == matches!(kept, Kept::One(_)), "{samples:?}");
+    Ok(())
+}
+
 fn compile_on(alloc: Global, desk: &mut MemDesk) -> Result<Status, Fail> {
     let words = list(alloc, &["compile", "SRC", "DP", "OUT"])?;
-    Ok(silc(alloc, &words, desk))
+    Ok(silc(alloc, &words, desk, &mut Kept::Nothing))
 }
 
 /// The microcode of `y = x + 1` over 8 bits and PLAIN, put together from the fields of the file.
@@ -71,13 +96,93 @@ fn increment_compiles_to_its_328_bytes(rt: HostRuntime) -> Result<(), Fail> {
     Ok(())
 }
 
+const BAD_MICROCODE: Status = Status::Image(ImageFault::File(FormFault::NotSpelled));
+
+const TWO_DRIVERS: Status = Status::Conflict(Conflict {
+    cycle: 2,
+    kind: ConflictKind::TwoDrivers,
+    place: 0,
+});
+
+fn bad_row(line: u64, at: u64) -> Status {
+    Status::Samples(SampleFault::Row { line, at })
+}
+
+#[test]
+fn increment_is_compiled_and_simulated(rt: HostRuntime) -> Result<(), Fail> {
+    let alloc = rt.alloc();
+    let mut desk = desk_with(alloc, 100, INCREMENT, crate::PLAIN)?;
+    desk.put("SAMPLES", b"0\n127\n-128\n")?;
+    assert_eq!(rt; compile_on(alloc, &mut desk)?, Status::Done);
+    let words = list(alloc, &["sim", "OUT", "SAMPLES", "ROWS"])?;
+    let mut kept = Kept::Nothing;
+    let status = silc(alloc, &words, &mut desk, &mut kept);
+    assert_eq!(rt; status, Status::Done);
+    assert!(rt; desk.get("ROWS") == Some(b"1\n-128\n-127\n".as_slice()));
+    let samples = match &kept {
+        Kept::One(machine) => Some(machine.samples()),
+        Kept::Nothing => None,
+    };
+    assert_eq!(rt; samples, Some(3));
+    Ok(())
+}
+
+#[test]
+fn samples_are_run_or_have_a_first_bad_place(rt: HostRuntime) -> Result<(), Fail> {
+    let alloc = rt.alloc();
+    let microcode = increment_microcode(alloc)?;
+    let cases = [
+        (b"".as_slice(), Ok(b"".as_slice())),
+        (b"0\r\n5", Ok(b"1\n6\n")),
+        (b"0\n1\n128", Err(bad_row(3, 2))),
+        (b"0\n1,2", Err(bad_row(2, 1))),
+        (b"0\n\n", Err(bad_row(2, 0))),
+        (b"-", Err(bad_row(1, 1))),
+    ];
+    for (samples, want) in cases {
+        check_sim(&rt, alloc, microcode.as_slice(), samples, want)?;
+    }
+    Ok(())
+}
+
+/// The microcode with the bytes from `at` to `end` replaced.
+fn damaged(alloc: Global, at: usize, end: usize, by: &[u8]) -> Result<Bytes, Fail> {
+    let microcode = increment_microcode(alloc)?;
+    let mut bytes = Bytes::new(alloc);
+    bytes.extend_from_slice(microcode.as_slice().get(..at).ok_or("short")?)?;
+    bytes.extend_from_slice(by)?;
+    bytes.extend_from_slice(microcode.as_slice().get(end..).ok_or("short")?)?;
+    Ok(bytes)
+}
+
+#[test]
+fn damaged_microcode_is_refused_or_runs_into_a_conflict(rt: HostRuntime) -> Result<(), Fail> {
+    let alloc = rt.alloc();
+    let cases = [
+        (327, 328, b"".as_slice(), BAD_MICROCODE),
+        (328, 328, b"\x00", BAD_MICROCODE),
+        (4, 5, b"\x09", BAD_MICROCODE),
+        (7, 8, b"\x03", BAD_MICROCODE),
+        (0, 328, b"", BAD_MICROCODE),
+        (239, 243, b"\x00\x02\x01\x00\x02\x00", TWO_DRIVERS),
+    ];
+    for (at, end, by, want) in cases {
+        let microcode = damaged(alloc, at, end, by)?;
+        check_sim(&rt, alloc, microcode.as_slice(), b"0", Err(want))?;
+    }
+    Ok(())
+}
+
 /// Words that are no command.
-const NO_COMMAND: [&[&str]; 7] = [
+const NO_COMMAND: [&[&str]; 10] = [
     &["compile", "a.sil", "d.toml", "a.sil"],
     &["compile", "a.sil", "d.toml", "d.toml"],
     &["compile", "a.sil"],
     &["compile", "a.sil", "d.toml", "b.mic", "b.mic"],
     &["Compile", "a.sil", "d.toml", "b.mic"],
+    &["sim", "a.mic", "a.txt", "a.mic"],
+    &["sim", "a.mic", "a.txt", "a.txt"],
+    &["sim", "a.mic", "a.txt"],
     &["demo", "0", "5"],
     &[],
 ];
@@ -89,7 +194,10 @@ fn words_that_are_no_command_touch_nothing(rt: HostRuntime) -> Result<(), Fail> 
         let words = list(alloc, case)?;
         let mut desk = MemDesk::new(alloc, 1);
         desk.fail_at(0)?;
-        assert_eq!(rt; silc(alloc, &words, &mut desk), Status::Words);
+        assert_eq!(rt;
+            silc(alloc, &words, &mut desk, &mut Kept::Nothing),
+            Status::Words
+        );
         assert_eq!(rt; desk.faults(), 0);
     }
     Ok(())
@@ -215,15 +323,51 @@ fn a_refusal_is_told_in_one_line(rt: HostRuntime) -> Result<(), Fail> {
             refused: None,
         };
         let words = list(alloc, words)?;
-        assert_eq!(rt; silc(alloc, &words, &mut desk), status);
+        assert_eq!(rt; silc(alloc, &words, &mut desk, &mut Kept::Nothing), status);
         assert_eq!(rt; desk.said.as_slice(), line);
         assert!(rt; desk.refused.is_none());
     }
-    assert_eq!(rt; Status::Memory.line(), b"silc: no memory\n".as_slice());
-    assert_eq!(rt;
-        Status::NotBuilt.line(),
-        b"silc: not built yet\n".as_slice()
-    );
+    Ok(())
+}
+
+#[test]
+fn each_refusal_has_its_text(rt: HostRuntime) -> Result<(), Fail> {
+    let conflict = |kind| {
+        Status::Conflict(Conflict {
+            cycle: 20,
+            kind,
+            place: 8,
+        })
+    };
+    let cases = [
+        (Status::Memory, "no memory"),
+        (Status::Image(ImageFault::TooLong), "microcode too long"),
+        (BAD_MICROCODE, "bad microcode"),
+        (bad_row(3, 2), "samples line 3 byte 2"),
+        (Status::Samples(SampleFault::TooLong), "samples too long"),
+        (conflict(ConflictKind::Busy), "conflict at cycle 20: busy 8"),
+        (TWO_DRIVERS, "conflict at cycle 2: two drivers 0"),
+        (
+            conflict(ConflictKind::FileTwice),
+            "conflict at cycle 20: file twice 8",
+        ),
+        (
+            conflict(ConflictKind::NoDriver),
+            "conflict at cycle 20: no driver 8",
+        ),
+        (
+            conflict(ConflictKind::NoResult),
+            "conflict at cycle 20: no result 8",
+        ),
+        (
+            conflict(ConflictKind::Address),
+            "conflict at cycle 20: address 8",
+        ),
+        (Status::NotBuilt, "not built yet"),
+    ];
+    for (status, text) in cases {
+        assert_eq!(rt; format!(in rt.alloc(); "{status}")?.as_str(), text);
+    }
     Ok(())
 }
 
@@ -234,6 +378,9 @@ fn each_status_has_its_code(rt: HostRuntime) {
         (Status::Memory, 1),
         (Status::Words, 2),
         (Status::Desk, 3),
+        (BAD_MICROCODE, 10),
+        (bad_row(3, 2), 11),
+        (TWO_DRIVERS, 12),
         (Status::NotBuilt, 13),
     ];
     for (status, want) in cases {

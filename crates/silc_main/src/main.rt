@@ -4,19 +4,21 @@
 mod host;
 
 use host::HostDesk;
-use silc::{Status, code, silc};
+use silc::{Kept, Status, code, silc};
 use std::env;
-use std::io::{self, ErrorKind, Write};
+use std::io::{self, ErrorKind};
 use std::process::ExitCode;
 
 const HELP: &str = "silc compiles equations between sampled signals to microcode, and simulates it.
 
 usage: silc compile SRC DP OUT    plans SRC for the datapath DP, and writes the microcode to OUT
+       silc sim MIC SAMPLES OUT  runs the microcode MIC over SAMPLES, and writes its rows to OUT
        silc --help | --version
 
 The exit status is 0 where all was done, 1 without memory, 2 at words that are no command,
-3 at a file that can't be read or written, and 13 at a source or a datapath that this version
-doesn't take. A refusal is told in one line on standard error.";
+3 at a file that can't be read or written, 10 at a file that is no microcode, 11 at a line that is
+no row of samples, 12 at microcode that asks for what the hardware can't do, and 13 at a source or
+a datapath that this version doesn't take. A refusal is told in one line on standard error.";
 
 const VERSION: &str = "silc 0.1.0";
 
@@ -57,11 +59,11 @@ fn main(rt: HostRuntime) -> ExitCode {
                     Err(_) => ExitCode::from(code(&Status::Desk)),
                 };
             }
-            silc(alloc, &words, &mut HostDesk::new(rt))
+            silc(alloc, &words, &mut HostDesk::new(rt), &mut Kept::Nothing)
         }
         Err(error) => {
             let status = unread(&error);
-            let _ = rt.stderr().write_all(status.line());
+            let _ = eprintln!(rt; "silc: {status}");
             status
         }
     };

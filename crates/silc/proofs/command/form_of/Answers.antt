@@ -1,5 +1,5 @@
 use Rattle.std.proofs.Common.{arith, rules, ◌≡◌, ◌<◌, ◌≤◌, length, List, [], ◌∷◌, get_or}
-use Rattle.silc.proofs.command.compile_words.Goals as goal
+use Rattle.silc.proofs.command.form_of.Goals as goal
 
 -- a list of four is its items
 four : {A : Type 0} (xs : List A) (a b c d : A) → 4 ≤ length xs → length xs < 5 → a ≡ get_or xs 0 a → b ≡ get_or xs 1 b → c ≡ get_or xs 2 c → d ≡ get_or xs 3 d → xs ≡ a ∷ b ∷ c ∷ d ∷ []
@@ -12,15 +12,15 @@ four (x ∷ y ∷ z ∷ w ∷ v ∷ more) a b c d low high ea eb ec ed = absurd 
 
 pub returns-in-len4 : goal.returns-in-len4
 returns-in-len4 c = record {
-  verb = c.verb-item.result;
-  source = c.source-item.result;
-  datapath = c.datapath-item.result;
-  output = c.output-item.result;
-  all = four c.args.words.now _ _ _ _ c.in-len4.len_at_least c.in-len4.len_below c.verb-item.is c.source-item.is c.datapath-item.is c.output-item.is;
+  verb_word = c.word-item.result;
+  first_word = c.first-item.result;
+  second_word = c.second-item.result;
+  out_word = c.output-item.result;
+  all = four c.args.words.now _ _ _ _ c.in-len4.len_at_least c.in-len4.len_below c.word-item.is c.first-item.is c.second-item.is c.output-item.is;
   verb_is = search rules;
-  source_is = search rules;
-  datapath_is = search rules;
-  output_is = search rules;
-  not_source = search rules;
-  not_datapath = search rules;
+  first_is = search rules;
+  second_is = search rules;
+  out_is = search rules;
+  not_first = search rules;
+  not_second = search rules;
 }

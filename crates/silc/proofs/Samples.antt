@@ -1,0 +1,132 @@
+-- The rows of a list as a stream, and what their channels say of them.
+use Rattle.std.proofs.Common.{◌≡◌, refl, sym, ap, ap₂, subst, ◌∙◌, arith, ⊎_elim, inl, inr, ℕ, zero, suc, ◌+◌, ◌-◌, ◌*◌, ◌/◌, ◌<◌, ◌≤◌, ◌^◌, List, [], ◌∷◌, ◌++◌, length, map, get_or, take, drop, ℤ, pos, negsuc, neg_ℤ, mul-le-mul_right, length-append, length-drop, take-append-drop}
+use Rattle.std.specs.List.{All, range_with_len}
+use Rattle.std.proofs.Math.Nat.{div-mul-le_self, mul-div_left}
+use Rattle.std.proofs.lemmas.Int.{ints}
+use Rattle.std.proofs.lemmas.List.{ext_get_or, length-map}
+use Rattle.std.proofs.lemmas.List.Elements.{All-head, All-tail, All-cons, All-nil, All-weaker}
+use Rattle.std.proofs.lemmas.List.FromFn.{length-map-range_with_len, get_or-map-range_with_len, take-map-range_with_len, map-range_with_len_more}
+use Rattle.cycle_sim.specs.Issues.{IsOperand}
+use Rattle.desk_core.specs.View.{Name, Content, View}
+use Rattle.desk_core.specs.Desk.{content_of}
+use Rattle.micro_image.specs.Log.{Rows}
+use Rattle.micro_image.specs.Valid.{IsValid, IsWithin}
+use Rattle.micro_image.specs.declared.image.Image.{Image}
+use Rattle.sample_io.specs.declared.channel.Channel.{Channel}
+use Rattle.sample_io.specs.declared.RowList.{RowList}
+use Rattle.sample_io.specs.Channels.{IsInChannel, IsChannel, IsRow, IsStream}
+use Rattle.sample_io.specs.Samples.{IsLine, Lines, RowsOf, HoldsRows}
+use Rattle.sample_io.proofs.Streams.{RowsOf-stream}
+use Rattle.silc.specs.Sim.{channel_of, channels_of, row_of, stream_of, WhereTold}
+use Rattle.silc.specs.Running.{IsInputRow, IsStreamRead}
+
+-- what a width's channel is
+pub channel_is : (width : ℕ) (channel : Channel) → (width ≡ 0 → channel ≡ record { low = pos 0; high = pos 1 })
+    → (0 < width → channel ≡ record { low = neg_ℤ (pos (2 ^ (width - 1))); high = pos (2 ^ (width - 1) - 1) }) → channel ≡ channel_of width
+channel_is zero channel bool signed = bool refl
+channel_is (suc n) channel bool signed =
+    let made : ℕ → Channel = λ m. record { low = neg_ℤ (pos (2 ^ m)); high = pos (2 ^ m - 1) } in
+    signed (omega arith) ∙ ap made (let e : suc n - 1 ≡ n = omega arith in e)
+
+-- the first n rows of a list
+abbrev pub first_rows : RowList → ℕ → Rows
+first_rows list n = map (row_of list) (range_with_len 0 n)
+
+pub rows_count : (list : RowList) → length (stream_of list) ≡ length list.words / list.width
+rows_count list = length-map-range_with_len (row_of list) 0 (length list.words / list.width)
+
+-- a number below the count of rows is a row's
+pub is_below : (list : RowList) (n words width : ℕ) → words ≡ length list.words → width ≡ list.width → n < words / width → n < length (stream_of list)
+is_below list n words width e f h = omega (arith, h, (let end : words / width ≡ length (stream_of list) = ap₂ ◌/◌ e f ∙ sym (rows_count list) in end))
+
+-- a row of the list lies within its words
+pub row_within : (list : RowList) (n : ℕ) → n < length (stream_of list) → (n + 1) * list.width ≤ length list.words
+row_within list n h =
+    let below : n + 1 ≤ length list.words / list.width = omega (arith, h, rows_count list) in
+    omega (arith, mul-le-mul_right list.width below, div-mul-le_self (length list.words) list.width)
+
+pub row_is : (list : RowList) (n : ℕ) → n < length (stream_of list) → get_or (stream_of list) n [] ≡ row_of list n
+row_is list n h = get_or-map-range_with_len (row_of list) 0 (length list.words / list.width) n n [] (omega (arith, h, rows_count list)) (omega arith)
+
+-- the words of a row, as they are split off
+pub row_split : (list : RowList) (n : ℕ) → n < length (stream_of list) → take list.width (drop (n * list.width) list.words) ≡ get_or (stream_of list) n []
+row_split list n h =
+    let size : list.width ≡ (n + 1) * list.width - n * list.width = omega arith in
+    ap (λ k. take k (drop (n * list.width) list.words)) size ∙ sym (row_is list n h)
+
+-- and there are as many
+pub row_room : (list : RowList) (n : ℕ) → n < length (stream_of list) → list.width ≤ length (drop (n * list.width) list.words)
+row_room list n h = omega (arith, row_within list n h, length-drop (n * list.width) list.words)
+
+-- with the next row there is one more
+pub first_more : (list : RowList) (n : ℕ) → n < length (stream_of list) → first_rows list (n + 1) ≡ first_rows list n ++ get_or (stream_of list) n [] ∷ []
+first_more list n h = map-range_with_len_more (row_of list) 0 n n (omega arith) ∙ ap (λ row. first_rows list n ++ row ∷ []) (sym (row_is list n h))
+
+-- other rows follow the first
+pub stream_parts : (list : RowList) (n : ℕ) → n ≤ length (stream_of list) → first_rows list n ++ drop n (stream_of list) ≡ stream_of list
+stream_parts list n h =
+    ap (λ front. front ++ drop n (stream_of list)) (sym (take-map-range_with_len (row_of list) 0 (length list.words / list.width) n (omega (arith, h, rows_count list))))
+    ∙ take-append-drop n (stream_of list)
+
+-- the rows that a list holds are its stream
+pub held_rows : (list : RowList) (rows : Rows) → 0 < list.width → HoldsRows list rows → rows ≡ stream_of list
+held_rows list rows some holds =
+    let count : length rows ≡ length (stream_of list) = sym (rows_count list ∙ ap (λ n. n / list.width) holds.count ∙ mul-div_left (length rows) some) in
+    ext_get_or [] rows (stream_of list) count (λ i within. sym (row_is list i (omega (arith, within, count)) ∙ holds.row i [] within))
+
+-- a line has a byte
+line_some : (channels : List Channel) (line : List ℕ) (row : List ℤ) → IsLine channels line row → 1 ≤ length line
+line_some channels line row is =
+    let size : length line ≡ length is.text + length is.end = ap length is.line_is ∙ length-append is.text is.end in
+    ⊎_elim (λ lf. omega (arith, size, ap length lf)) (λ crlf. omega (arith, size, ap length crlf)) is.line_end
+
+lines_few : (bytes : List ℕ) (channels : List Channel) (rows : Rows) → Lines bytes channels rows → length rows ≤ length bytes
+lines_few bytes channels [] lines = omega arith
+lines_few bytes channels (row ∷ rows) lines =
+    omega (arith, ap length lines.2, length-append lines.0 lines.1, line_some channels lines.0 row lines.3, lines_few lines.1 channels rows lines.4)
+
+-- there are no more rows than bytes, but for one
+pub rows_few : (bytes : List ℕ) (channels : List Channel) (rows : Rows) → RowsOf bytes channels rows → length rows ≤ length bytes + 1
+rows_few bytes channels rows (inl lines) = omega (arith, lines_few bytes channels rows lines)
+rows_few bytes channels rows (inr lacks) =
+    omega (arith, ap length lacks.rows_are, length-append lacks.before (lacks.last ∷ []), ap length lacks.bytes_are, length-append lacks.front lacks.text, lines_few lacks.front channels lacks.before lacks.lines)
+
+-- a word of a channel has at most 40 bits
+in_channel : (channel : Channel) (word : ℤ) → IsChannel channel → IsInChannel channel word → IsOperand word
+in_channel channel (pos n) is h = omega (arith, ints, is.high, h.1)
+in_channel channel (negsuc n) is h = omega (arith, ints, is.low, h.0)
+
+row_words : (channels : List Channel) (row : List ℤ) → All IsChannel channels → IsRow channels row → All IsOperand row
+row_words [] [] all h = All-nil IsOperand
+row_words [] (word ∷ row) all h = absurd h
+row_words (channel ∷ channels) [] all h = All-nil IsOperand
+row_words (channel ∷ channels) (word ∷ row) all h =
+    All-cons IsOperand word row (in_channel channel word (All-head IsChannel channel channels all) h.0) (row_words channels row (All-tail IsChannel channel channels all) h.1)
+
+row_count : (channels : List Channel) (row : List ℤ) → IsRow channels row → length row ≡ length channels
+row_count [] [] h = refl
+row_count [] (word ∷ row) h = absurd h
+row_count (channel ∷ channels) [] h = absurd h
+row_count (channel ∷ channels) (word ∷ row) h = let same = row_count channels row h.1 in omega (arith, same)
+
+-- the rows of the image's channels are rows that it can run
+pub input_rows : (image : Image) (rows : Rows) → All IsChannel (channels_of image) → IsStream (channels_of image) rows → All (IsInputRow image) rows
+input_rows image rows all stream =
+    All-weaker (IsRow (channels_of image)) (IsInputRow image) (λ row is. record { count = row_count (channels_of image) row is ∙ length-map image.inputs channel_of; words = row_words (channels_of image) row all is }) rows stream
+
+-- the stream of a sample file that was read
+pub stream_read : (samples : Name) (image : Image) (desk : View) (bytes : Content) (channels : List Channel) (list : RowList) → IsValid image → channels ≡ channels_of image → All IsChannel channels
+    → length bytes ≤ 2 ^ 20 → WhereTold desk (λ files. bytes ≡ content_of (files samples)) → (rows : Rows) × RowsOf bytes channels rows × HoldsRows list rows × (list.width ≡ length channels)
+    → IsStreamRead samples image desk list
+stream_read samples image desk bytes channels list valid are each within told read =
+    let count : list.width ≡ length image.inputs = read.3 ∙ ap length are ∙ length-map image.inputs channel_of in
+    let width : IsWithin 1 16 list.width = (omega (arith, count, valid.input_count.0), omega (arith, count, valid.input_count.1)) in
+    let rows : RowsOf bytes (channels_of image) (stream_of list) = subst (λ cs. RowsOf bytes cs (stream_of list)) are (subst (RowsOf bytes channels) (held_rows list read.0 width.0 read.2) read.1) in
+    record {
+      input = record {
+        width = width;
+        rows = input_rows image (stream_of list) (subst (All IsChannel) are each) (RowsOf-stream bytes (channels_of image) (stream_of list) rows);
+        few = omega (arith, within, rows_few bytes (channels_of image) (stream_of list) rows);
+      };
+      told = λ files is. record { within = subst (λ b. length b ≤ 2 ^ 20) (told files is) within; rows = subst (λ b. RowsOf b (channels_of image) (stream_of list)) (told files is) rows };
+    }

@@ -1,0 +1,215 @@
+//! `sim MIC SAMPLES OUT`: from the bytes of microcode and samples to the rows that the microcode puts.
+ghost use Rattle.std.specs.Prelude.{◌≡◌, ◌<◌, ◌≤◌, ◌^◌, [], ◌∷◌, ◌++◌, length, map, slice_index_or, Err, IfOk, IfErr, OnOk};
+ghost use Rattle.std.specs.List.{All};
+ghost use Rattle.cycle_sim.specs.Issues.{IsOperand};
+ghost use Rattle.desk_core.specs.Desk.{FaultsNeverFall, ReadFaultsRose, content_of};
+ghost use Rattle.desk_core.specs.Whole.{IsUnchangedButInput};
+ghost use Rattle.micro_image.specs.Log.{Rows};
+ghost use Rattle.micro_image.specs.Valid.{IsValid};
+ghost use Rattle.sample_io.specs.Channels.{IsChannel};
+ghost use Rattle.silc.specs.Command.{ChangesOnly};
+ghost use Rattle.silc.specs.Sim.{channel_of, stream_of, HasRun, WhereTold, IsSimAnswer, IsRefusal};
+ghost use Rattle.silc.specs.Running.{IsReadRefusal, IsMachineOf, IsNoMachine, IsLoaded, IsLoadRefusal, IsStreamRead, IsStreamRefusal, IsFresh, IsInput, IsRunRefusal, IsMadeRun};
+ghost use Rattle.silc.specs.declared.sim.Kept.TheVariants.{Nothing};
+
+use crate::status::{ImageFault, SampleFault, Status};
+use cycle_sim::Machine;
+use desk_core::{Desk, ReadFault, read_whole, write_whole};
+use lists::{Bytes, List};
+use micro_file::decode;
+use sample_io::{Channel, RowList, put_row, read_rows};
+use std::alloc::{AllocError, Global};
+
+/// The most bytes of microcode.
+const MICROCODE_LIMIT: u64 = 1 << 26;
+
+/// The most bytes of samples.
+const SAMPLES_LIMIT: u64 = 1 << 20;
+
+/// The most output words of a machine.
+const OUTS: usize = 16;
+
+/// The most bytes of a printed row.
+const LINE: usize = 21 * OUTS + 1;
+
+/// What a command keeps for its caller.
+#[derive(Drop)]
+pub enum Kept {
+    Nothing,
+    /// The machine after the last sample.
+    One(Machine),
+}
+
+/// A machine after the samples that it ran, and the rows that it put, as text.
+#[derive(Drop)]
+struct Run {
+    machine: Machine,
+    text: Bytes,
+}
+
+/// Reads a file whole. `too_long` is the answer where it has more bytes than the limit.
+fn read_file<D: Desk>(
+    alloc: Global,
+    desk: &mut D,
+    name: &str,
+    limit: u64,
+    too_long: Status,
+) -> Result<Bytes, Status>
+    requires { limit < 2 ^ 60 }
+    ensures faults { FaultsNeverFall (D.view desk.old) (D.view desk.new) }
+    ensures unchanged { IsUnchangedButInput (D.view desk.old) (D.view desk.new) }
+    ensures within { IfOk result (λ bytes. length bytes ≤ limit) }
+    ensures content { IfOk result (λ bytes. WhereTold (D.view desk.old) (λ files. bytes ≡ content_of (files name.now))) }
+    ensures err { IfErr result (IsReadRefusal name.now limit too_long (D.view desk.old) (D.view desk.new)) }
+{
+    match read_whole(alloc, desk, name, limit) {
+        Ok(bytes) => Ok(bytes),
+        Err(ReadFault::TooLong) => Err(too_long),
+        Err(ReadFault::Desk) => Err(Status::Desk),
+        Err(ReadFault::Memory) => Err(Status::Memory),
+    }
+}
+
+/// The machine of the image that the bytes spell.
+fn machine_of(alloc: Global, microcode: &Bytes) -> Result<Machine, Status>
+    requires { length microcode.now ≤ 2 ^ 26 }
+    ensures ok { IfOk result (IsMachineOf microcode.now) }
+    ensures err { IfErr result (IsNoMachine microcode.now) }
+{
+    let image = decode(alloc, microcode)?;
+    Ok(Machine::load(alloc, image)?)
+}
+
+/// Reads MIC, and makes the machine of its image.
+fn read_machine<D: Desk>(alloc: Global, desk: &mut D, name: &str) -> Result<Machine, Status>
+    ensures faults { FaultsNeverFall (D.view desk.old) (D.view desk.new) }
+    ensures unchanged { IsUnchangedButInput (D.view desk.old) (D.view desk.new) }
+    ensures ok { IfOk result (IsLoaded name.now (D.view desk.old)) }
+    ensures err { IfErr result (IsLoadRefusal name.now (D.view desk.old) (D.view desk.new)) }
+{
+    let too_long = Status::Image(ImageFault::TooLong);
+    let microcode = read_file(alloc, desk, name, MICROCODE_LIMIT, too_long)?;
+    machine_of(alloc, &microcode)
+}
+
+/// The channel of each input word.
+fn input_channels(alloc: Global, widths: &[u8]) -> Result<List<Channel>, AllocError>
+    requires { All (λ width. width ≤ 32) widths.now }
+    ensures channels { IfOk result (λ channels. channels ≡ map channel_of widths.now) }
+    ensures each { IfOk result (λ channels. All IsChannel channels) }
+{
+    let mut channels = List::new(alloc);
+    for width in widths {
+        channels.push(Channel::of(*width))?;
+    }
+    Ok(channels)
+}
+
+/// Reads SAMPLES, which has a row for each sample of the machine.
+fn read_stream<D: Desk>(
+    alloc: Global,
+    desk: &mut D,
+    name: &str,
+    machine: &Machine,
+) -> Result<RowList, Status>
+    requires { IsValid machine.now.image }
+    ensures faults { FaultsNeverFall (D.view desk.old) (D.view desk.new) }
+    ensures unchanged { IsUnchangedButInput (D.view desk.old) (D.view desk.new) }
+    ensures ok { IfOk result (IsStreamRead name.now machine.now.image (D.view desk.old)) }
+    ensures err { IfErr result (IsStreamRefusal name.now machine.now.image (D.view desk.old) (D.view desk.new)) }
+{
+    let too_long = Status::Samples(SampleFault::TooLong);
+    let samples = read_file(alloc, desk, name, SAMPLES_LIMIT, too_long)?;
+    let channels = input_channels(alloc, machine.inputs())?;
+    Ok(read_rows(alloc, &samples, &channels)?)
+}
+
+/// Runs a sample, and adds the row that it puts to the text.
+fn run_row(machine: &mut Machine, row: &[i64], text: &mut Bytes) -> Result<(), Status>
+    requires valid { IsValid machine.old.image }
+    requires width { length row.now ≡ length machine.old.image.inputs }
+    requires words { All IsOperand row.now }
+    requires stands { (stream : Rows) × (length stream < 2 ^ 48) × HasRun machine.old.image stream machine.old text.old }
+    ensures ok { (stream : Rows) → HasRun machine.old.image stream machine.old text.old
+        → OnOk result (HasRun machine.old.image (stream ++ row.now ∷ []) machine.new text.new) }
+    ensures err { (stream : Rows) → HasRun machine.old.image stream machine.old text.old
+        → IfErr result (IsRunRefusal machine.old.image (stream ++ row.now ∷ [])) }
+{
+    let mut words = [0i64; OUTS];
+    let put = &mut words[..machine.outs()];
+    machine.sample(row, put)?;
+    let mut line = [0u8; LINE];
+    let size = put_row(put, &mut line);
+    text.extend_from_slice(&line[..size])?;
+    Ok(())
+}
+
+/// Row n of the list.
+fn row(list: &RowList, n: usize) -> &[i64]
+    requires width { list.now.width ≤ 16 }
+    requires few { length (stream_of list.now) < 2 ^ 48 }
+    requires there { n < length (stream_of list.now) }
+    ensures { result.now ≡ slice_index_or (stream_of list.now) n [] }
+{
+    let width = usize::from(list.width);
+    let (_, rows) = list.words.split_at(n * width);
+    let (row, _) = rows.split_at(width);
+    row
+}
+
+/// Runs the rows of the list, one a sample.
+fn run_rows(alloc: Global, mut machine: Machine, list: &RowList) -> Result<Run, Status>
+    requires fresh { IsFresh machine }
+    requires input { IsInput machine.image list.now }
+    ensures ok { IfOk result (λ run. HasRun machine.image (stream_of list.now) run.machine run.text) }
+    ensures err { IfErr result (IsRunRefusal machine.image (stream_of list.now)) }
+{
+    let mut text = Bytes::new(alloc);
+    for n in 0..list.words.len() / usize::from(list.width) {
+        run_row(&mut machine, row(list, n), &mut text)?;
+    }
+    Ok(Run { machine, text })
+}
+
+/// Reads MIC and SAMPLES, and runs the one over the other.
+fn simulate<D: Desk>(
+    alloc: Global,
+    desk: &mut D,
+    microcode: &str,
+    samples: &str,
+) -> Result<Run, Status>
+    ensures faults { FaultsNeverFall (D.view desk.old) (D.view desk.new) }
+    ensures unchanged { IsUnchangedButInput (D.view desk.old) (D.view desk.new) }
+    ensures ok { IfOk result (λ run. IsMadeRun microcode.now samples.now (D.view desk.old) run.machine run.text) }
+    ensures err { IfErr result (IsRefusal microcode.now samples.now (D.view desk.old) (D.view desk.new)) }
+{
+    let machine = read_machine(alloc, desk, microcode)?;
+    let stream = read_stream(alloc, desk, samples, &machine)?;
+    run_rows(alloc, machine, &stream)
+}
+
+/// Carries out `sim`.
+pub fn sim<D: Desk>(
+    alloc: Global,
+    desk: &mut D,
+    microcode: &str,
+    samples: &str,
+    output: &str,
+    kept: &mut Kept,
+) -> Status
+    requires { kept.old ≡ Nothing }
+    ensures faults { FaultsNeverFall (D.view desk.old) (D.view desk.new) }
+    ensures answer { IsSimAnswer microcode.now samples.now output.now (D.view desk.old) (D.view desk.new) kept.new result }
+    ensures only_output { ChangesOnly output.now (D.view desk.old) (D.view desk.new) }
+{
+    match simulate(alloc, desk, microcode, samples) {
+        Ok(run) => match write_whole(desk, output, &run.text) {
+            Ok(()) => {
+                *kept = Kept::One(run.machine);
+                Status::Done
+            }
+            Err(failed) => Status::from(failed),
+        },
+        Err(status) => status,
+    }
+}

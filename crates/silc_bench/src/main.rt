@@ -1,0 +1,115 @@
+//! Repeats one call on one file, for the scripts under `bench/` to measure.
+#![tactic(auto)]
+
+ghost use Rattle.std.specs.Prelude.{◌≡◌, length, All, IfOk};
+ghost use Rattle.cycle_sim.specs.Issues.{IsOperand};
+ghost use Rattle.micro_image.specs.Valid.{IsValid};
+
+use anyhow::{Context, Result, bail};
+use cycle_sim::Machine;
+use micro_file::{decode, encode};
+use micro_image::Image;
+use silage_lex::lex;
+use std::alloc::Global;
+use std::rt::{Env, Files};
+use std::{env, fs};
+
+const USAGE: &str = "usage: silc_bench decode|encode|clock|lex TURNS FILE";
+
+/// A microcode file is at most this long, and so is a source.
+const MICROCODE_LIMIT: usize = 1 << 26;
+
+const SOURCE_LIMIT: usize = 1 << 20;
+
+fn image_of(alloc: Global, bytes: &[u8]) -> Result<Image>
+    ensures { IfOk result (λ image. IsValid image) }
+{
+    if bytes.len() > MICROCODE_LIMIT {
+        bail!("the file is too long");
+    }
+    match decode(alloc, bytes) {
+        Ok(image) => Ok(image),
+        Err(_) => bail!("the file is no microcode"),
+    }
+}
+
+/// How many words the decoded images have.
+fn decode_again(alloc: Global, turns: u32, bytes: &[u8]) -> Result<u64> {
+    let mut words = 0u64;
+    for _ in 0..turns {
+        words = words.wrapping_add(image_of(alloc, bytes)?.words.len() as u64);
+    }
+    Ok(words)
+}
+
+/// How many bytes the encoded images have.
+fn encode_again(alloc: Global, turns: u32, bytes: &[u8]) -> Result<u64> {
+    let image = image_of(alloc, bytes)?;
+    let mut written = 0u64;
+    for _ in 0..turns {
+        match encode(alloc, &image) {
+            Ok(again) => written = written.wrapping_add(again.len() as u64),
+            Err(_) => bail!("no memory"),
+        }
+    }
+    Ok(written)
+}
+
+/// A row of input words.
+fn row(alloc: Global, machine: &Machine) -> Result<Vec<i64>>
+    ensures { IfOk result (λ row. (length row.items ≡ length machine.now.image.inputs) × All IsOperand row.items) }
+{
+    Ok(vec![in alloc; 1i64; machine.inputs().len()]?)
+}
+
+/// How many samples ran in so many cycles.
+fn clock_again(alloc: Global, cycles: u32, bytes: &[u8]) -> Result<u64> {
+    let Ok(mut machine) = Machine::load(alloc, image_of(alloc, bytes)?) else {
+        bail!("no memory");
+    };
+    let row = row(alloc, &machine)?;
+    for _turn in 0..cycles {
+        if machine.clock(&row).is_err() {
+            bail!("the program has a conflict");
+        }
+    }
+    Ok(machine.samples())
+}
+
+/// How many tokens the sources have.
+fn lex_again(alloc: Global, turns: u32, bytes: &[u8]) -> Result<u64> {
+    if bytes.len() > SOURCE_LIMIT {
+        bail!("the file is too long");
+    }
+    let mut tokens = 0u64;
+    for _ in 0..turns {
+        match lex(alloc, bytes) {
+            Ok(found) => tokens = tokens.wrapping_add(found.len() as u64),
+            Err(_) => bail!("the file is no source"),
+        }
+    }
+    Ok(tokens)
+}
+
+fn measure<R: Env + Files + AllocGlobal>(rt: &R) -> Result<u64> {
+    let words = env::args(rt)?.collect(rt.alloc())?;
+    let words: Vec<String> = words;
+    let [_, call, turns, file] = words.as_slice() else {
+        bail!("{USAGE}");
+    };
+    let turns = turns.parse::<u32>().context("TURNS is no number")?;
+    let bytes = fs::read(rt, file.as_str()).context("FILE can't be read")?;
+    match call.as_str() {
+        "decode" => decode_again(rt.alloc(), turns, &bytes),
+        "encode" => encode_again(rt.alloc(), turns, &bytes),
+        "clock" => clock_again(rt.alloc(), turns, &bytes),
+        "lex" => lex_again(rt.alloc(), turns, &bytes),
+        _ => bail!("{USAGE}"),
+    }
+}
+
+fn main(rt: HostRuntime) -> Result<()> {
+    let count = measure(&rt)?;
+    println!(rt; "{count}")?;
+    Ok(())
+}
