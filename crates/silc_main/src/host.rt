@@ -1,5 +1,5 @@
 //! The desk over real files and standard streams.
-ghost use Rattle.std.specs.Prelude.{◌≤◌};
+ghost use Rattle.std.specs.Prelude.{◌≡◌, ◌≤◌};
 ghost use Rattle.desk_core.specs.Desk.{Rose};
 
 use desk_core::{Desk, Failed};
@@ -18,7 +18,11 @@ pub struct HostDesk {
 }
 
 impl HostDesk {
-    pub fn new(rt: HostRuntime) -> HostDesk {
+    /// A desk with no input and no output, on which nothing has failed.
+    pub fn new(rt: HostRuntime) -> HostDesk
+        ensures place { result.place ≡ 0 }
+        ensures faults { result.faults ≡ 0 }
+    {
         HostDesk {
             rt,
             input: None,

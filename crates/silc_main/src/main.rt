@@ -12,7 +12,7 @@ use std::process::ExitCode;
 const HELP: &str = "silc compiles equations between sampled signals to microcode, and simulates it.
 
 usage: silc compile SRC DP OUT    plans SRC for the datapath DP, and writes the microcode to OUT
-       silc sim MIC SAMPLES OUT  runs the microcode MIC over SAMPLES, and writes its rows to OUT
+       silc sim MIC SAMPLES OUT   runs the microcode MIC over SAMPLES, and writes its rows to OUT
        silc --help | --version
 
 The exit status is 0 where all was done, 1 without memory, 2 at words that are no command,
