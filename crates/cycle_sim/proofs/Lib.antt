@@ -6,6 +6,7 @@ pub mod Steps
 pub mod Least
 pub mod Firsts
 pub mod Buses
+pub mod Driven
 pub mod Ready
 pub mod Once
 pub mod Flow

@@ -1,4 +1,5 @@
 pub mod Places
+pub mod Files
 pub mod Effects
 pub mod Rings
 pub mod Cycle

@@ -13,6 +13,7 @@ mod machine;
 mod operand;
 mod ring;
 mod standing;
+mod step;
 mod store;
 mod time;
 

@@ -1,38 +1,36 @@
-ghost use Rattle.std.specs.Prelude.{◌≡◌, ◌<◌, [], length, pos, slice_index_or};
+ghost use Rattle.std.specs.Prelude.{◌≡◌, ◌<◌, length, slice_index_or, if◌then◌else◌};
 ghost use Rattle.micro_image.specs.Fields.{nth};
-ghost use Rattle.micro_image.specs.Log.{Register, Cell, Latch};
-ghost use Rattle.cycle_sim.specs.Places.{file_in, cells_in, held, Puts};
+ghost use Rattle.micro_image.specs.Log.{Place, Cell, Latch};
+ghost use Rattle.cycle_sim.specs.Cycle.{is_at};
+ghost use Rattle.cycle_sim.specs.Effects.{read_in};
+ghost use Rattle.cycle_sim.specs.Places.{cells_in, held, IsSameSize, Puts};
 
 use crate::operand::Operand;
 use lists::List;
-use micro_image::PortRef;
 
-/// What the registers, by unit and port, the cells, by unit, and the output latches hold.
+/// What the registers, by their numbers, the cells, by unit, and the output latches hold.
 #[derive(Drop)]
 pub struct Store {
-    pub files: List<List<List<Operand>>>,
+    pub registers: List<Operand>,
     pub cells: List<List<Operand>>,
     pub latches: List<Operand>,
 }
 
 /// What a register holds.
-pub fn register(store: &Store, unit: usize, port: usize, reg: usize) -> Operand
-    requires unit { unit < length store.now.files }
-    requires port { port < length (nth store.now.files unit []) }
-    requires reg { reg < length (file_in store.now unit port) }
-    ensures { result ≡ held store.now (Register unit port reg) }
+pub fn register(store: &Store, register: u16) -> Operand
+    requires { register < length store.now.registers }
+    ensures { result ≡ read_in store.now register }
 {
-    store.files[unit][port][reg]
+    store.registers[register as usize]
 }
 
 /// Writes a register.
-pub fn put_register(store: &mut Store, port: PortRef, reg: u8, value: Operand)
-    requires unit { port.unit < length store.old.files }
-    requires port { port.port < length (nth store.old.files port.unit []) }
-    requires reg { reg < length (file_in store.old port.unit port.port) }
-    ensures { Puts (Register port.unit port.port reg) value store.old store.new }
+pub fn put_register(store: &mut Store, register: u16, value: Operand)
+    requires { register < length store.old.registers }
+    ensures sizes { IsSameSize store.old store.new }
+    ensures now { (place : Place) → held store.new place ≡ (if is_at register place then value else held store.old place) }
 {
-    store.files[port.unit as usize][port.port as usize][reg as usize] = value;
+    store.registers[register as usize] = value;
 }
 
 /// Writes a cell of a ram.

@@ -1,8 +1,8 @@
 -- What the bodies compute, by the functions of the specs.
-use Rattle.std.proofs.Common.{arith, ◌≡◌, refl, sym, subst, ℕ, zero, suc, ◌^◌, ◌<◌, ◌≤◌, ◌-◌, ℤ, pos, negsuc, ◌+ℤ◌, ◌-ℤ◌, ◌*ℤ◌, ◌<ℤ◌, unsigned_abs}
+use Rattle.std.proofs.Common.{arith, ◌≡◌, ◌∙◌, refl, sym, ap, subst, ℕ, zero, suc, ◌^◌, ◌*◌, ◌+◌, ◌%◌, ◌<◌, ◌≤◌, ◌-◌, ℤ, pos, negsuc, ◌+ℤ◌, ◌-ℤ◌, ◌*ℤ◌, ◌<ℤ◌, unsigned_abs}
 use Rattle.std.specs.Int.{int_rem_euclid, int_shr}
-use Rattle.std.proofs.lemmas.Int.{ints}
-use Rattle.std.proofs.lemmas.Nat.{pow_pos}
+use Rattle.std.proofs.lemmas.Int.{ints, int_rem_euclid_is}
+use Rattle.std.proofs.lemmas.Nat.{pow_pos, pow-add}
 use Rattle.fix_word.specs.Words.{IsWrap, IsForm}
 use Rattle.fix_word.specs.Operations.{IsApply}
 use Rattle.fix_word.specs.Values.{floor_of, wrap_of, scaled_of, form_of}
@@ -17,11 +17,19 @@ rem_is : (q : ℤ) (n : ℕ) → 0 < n → int_rem_euclid q (pos n) ≡ q -ℤ f
 rem_is (pos a) n h = omega (arith, ints)
 rem_is (negsuc a) n h = omega (arith, ints)
 
-pub residue_is : (q : ℤ) (w : ℕ) (moved d r m : ℤ) → moved ≡ q +ℤ pos (2 ^ (w - 1)) → d ≡ pos (2 ^ w) → r ≡ int_rem_euclid moved d → m ≡ r -ℤ pos (2 ^ (w - 1)) → m ≡ wrap_of q w
+whole_turns : (w : ℕ) → w ≤ 120 → 2 ^ (120 - w) * 2 ^ w ≡ 2 ^ 120
+whole_turns w few =
+    let e : 120 - w + w ≡ 120 = omega (arith, few) in
+    sym (pow-add 2 (120 - w) w) ∙ ap (λ (k : ℕ). 2 ^ k) e
+
+-- the word by the remainder of a number that is lifted by whole turns
+pub lifted_is : (q : ℤ) (w lifted turn : ℕ) (m : ℤ) → w ≤ 120 → q +ℤ pos (2 ^ (w - 1)) +ℤ pos (2 ^ 120) ≡ pos lifted → turn ≡ 2 ^ w → m ≡ pos (lifted % turn) -ℤ pos (2 ^ (w - 1)) → m ≡ wrap_of q w
 unfolding wrap_of
-residue_is q w moved d r m e1 e2 e3 e4 =
-    let e : r ≡ int_rem_euclid (q +ℤ pos (2 ^ (w - 1))) (pos (2 ^ w)) = cc in
-    omega (arith, ints, rem_is (q +ℤ pos (2 ^ (w - 1))) (2 ^ w) (pow_pos w))
+lifted_is q w lifted turn m few e1 e2 e3 =
+    let rem : int_rem_euclid (q +ℤ pos (2 ^ (w - 1))) (pos (2 ^ w)) ≡ pos (lifted % 2 ^ w) =
+    int_rem_euclid_is (q +ℤ pos (2 ^ (w - 1))) (pos (2 ^ w)) (2 ^ w) (2 ^ (120 - w)) lifted (pow_pos w) refl (ap (λ n. q +ℤ pos (2 ^ (w - 1)) +ℤ pos n) (whole_turns w few) ∙ e1) in
+    let same : lifted % turn ≡ lifted % 2 ^ w = ap (λ n. lifted % n) e2 in
+    omega (arith, ints, e3, rem, same, rem_is (q +ℤ pos (2 ^ (w - 1))) (2 ^ w) (pow_pos w))
 
 pub wrap_as : (q q' : ℤ) (w : ℕ) (m m' : ℤ) → 1 ≤ w → q' ≡ q → m' ≡ m → m ≡ wrap_of q' w → IsWrap q w m'
 wrap_as q q' w m m' h e1 e2 e3 =

@@ -30,6 +30,7 @@ pub enum Op {
 }
 
 /// The result of an operation from `Add` to `Sel` at the operands, which are raw words or truth values. Operands that the operation does not read are ignored, and so is the format by operations that do not round.
+#[inline(always)]
 pub fn apply(op: Op, fmt: &Format, a: i64, b: i64, c: i64) -> i64
     requires ready { IsReady op fmt.now }
     requires a { unsigned_abs a ≤ 2 ^ 39 }
@@ -41,9 +42,9 @@ pub fn apply(op: Op, fmt: &Format, a: i64, b: i64, c: i64) -> i64
     ensures bound { unsigned_abs result ≤ 2 ^ 39 }
 {
     match op {
-        Op::Add => form(a as i128 + b as i128, fmt),
-        Op::Sub => form(a as i128 - b as i128, fmt),
-        Op::Neg => form(-(a as i128), fmt),
+        Op::Add => form((a + b) as i128, fmt),
+        Op::Sub => form((a - b) as i128, fmt),
+        Op::Neg => form(-a as i128, fmt),
         Op::Pass => form(a as i128, fmt),
         Op::Mul => form(a as i128 * b as i128, fmt),
         Op::Lt => i64::from(a < b),

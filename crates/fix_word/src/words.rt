@@ -4,21 +4,27 @@ ghost use Rattle.fix_word.specs.Values.{wrap_of, scaled_of, form_of};
 
 use crate::types::{Format, Mode};
 
+/// Whole turns of every width, so many that no number that is wrapped is as far below 0.
+const LIFT: i128 = 1 << 120;
+
 fn power_of_two(k: u8) -> i128
-    requires { k ≤ 64 }
+    requires { k ≤ 63 }
     ensures { result ≡ pos (2 ^ k) }
 {
-    1 << k
+    i128::from(1u64 << k)
 }
 
-/// `wrap`, also for numbers that a format has shifted up.
+/// `wrap`, also for numbers that a format has shifted up. The number is lifted above 0, since a remainder without signs
+/// by a power of two is a mask.
+#[inline(always)]
 fn wrap_wide(q: i128, w: u8) -> i64
     requires number { unsigned_abs q ≤ 2 ^ 112 }
     requires width { (1 ≤ w) × (w ≤ 32) }
     ensures { result ≡ wrap_of q w }
 {
     let half = power_of_two(w - 1);
-    ((q + half).rem_euclid(power_of_two(w)) - half) as i64
+    let lifted = (q + half + LIFT) as u128;
+    ((lifted % power_of_two(w) as u128) as i128 - half) as i64
 }
 
 /// The raw word of `w` bits that is congruent to `q` modulo 2^w.
@@ -32,17 +38,19 @@ pub fn wrap(q: i128, w: u8) -> i64
 }
 
 /// `q` divided by 2^shift and brought to a whole number.
+#[inline(always)]
 fn scale(q: i128, fmt: &Format) -> i128
     requires number { unsigned_abs q ≤ 2 ^ 80 }
     requires format { IsFormat fmt.now }
     ensures value { result ≡ scaled_of q fmt.now.shift fmt.now.mode }
     ensures bound { unsigned_abs result ≤ 2 ^ 112 }
 {
+    if fmt.shift == 0 {
+        return q;
+    }
     let steps = fmt.shift.unsigned_abs();
     if fmt.shift < 0 {
         q * power_of_two(steps)
-    } else if fmt.shift == 0 {
-        q
     } else {
         match fmt.mode {
             Mode::Trunc => q >> steps,
@@ -52,6 +60,7 @@ fn scale(q: i128, fmt: &Format) -> i128
 }
 
 /// The raw word of the exact number `q` in a format.
+#[inline(always)]
 pub fn form(q: i128, fmt: &Format) -> i64
     requires number { unsigned_abs q ≤ 2 ^ 80 }
     requires format { IsFormat fmt.now }
