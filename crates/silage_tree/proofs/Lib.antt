@@ -1,0 +1,25 @@
+pub mod Values
+pub mod Sources
+pub mod Instances
+pub mod Outputs
+pub mod Rows
+pub mod InputRows
+pub mod Elements
+pub mod Local
+pub mod Unique
+pub mod Rising
+pub mod Apart
+pub mod OneLine
+pub mod OneLineOnce
+mod Examples
+pub mod Needed
+pub mod Numbers
+pub mod ReadExprs
+pub mod ReadItems
+pub mod ReadLists
+pub mod ReadManifests
+pub mod ReadParts
+pub mod ReadPrograms
+pub mod Spelled
+pub mod Stands
+pub mod Tokens

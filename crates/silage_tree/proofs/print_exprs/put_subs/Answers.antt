@@ -1,0 +1,12 @@
+-- One behind another.
+use Rattle.silage_tree.specs.Tree.{view_manifest}
+use Rattle.silage_tree.specs.Text.{bracketed, manifest_text}
+use Rattle.silage_tree.proofs.Spelled.{nothing, behind, more}
+use Rattle.silage_tree.proofs.print_exprs.put_subs.Goals as goal
+
+pub loop-sub-init : goal.loop-sub-init
+loop-sub-init c = nothing
+
+pub loop-sub-preserved : goal.loop-sub-preserved
+loop-sub-preserved c =
+    more (λ m. bracketed (manifest_text (view_manifest m))) _ _ _ _ _ _ _ c.loop-sub-test.true c.sub-item.is c.loop-sub.invariant (behind (behind c.in_ok-put_symbol.ensures c.in_ok-put_manifest.ensures) c.in_ok-put_symbol-2.ensures)

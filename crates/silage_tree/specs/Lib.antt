@@ -1,0 +1,15 @@
+pub mod Tree
+pub mod Grammar
+pub mod Limits
+pub mod Manifests
+pub mod Names
+pub mod Instances
+pub mod Types
+pub mod Value
+pub mod Solves
+pub mod Rules
+pub mod OneLine
+pub mod Text
+pub mod Places
+pub mod ReadAgain
+pub mod Parentheses

@@ -1,0 +1,41 @@
+-- The limits of a source: the weight of an outermost expression, and how deep loops stand in loops.
+use Rattle.std.specs.Prelude.{◌≡◌, ℕ, ◌+◌, ◌-◌, ◌≤◌, ◌<◌, List, take, fold, slice_get, Some, length}
+use Rattle.silage_lex.specs.declared.Token.{Token}
+use Rattle.silage_tree.specs.Tree.{Program}
+use Rattle.silage_tree.specs.Grammar.{Role, Starts, Weighs, Enters, Leaves, HasRoles}
+
+-- the weight of the outermost expression that began last
+abbrev pub weigh : ℕ → Role → ℕ
+weigh w Starts = 0
+weigh w Weighs = w + 1
+weigh w _ = w
+
+-- how many loops are open
+abbrev pub enter : ℕ → Role → ℕ
+enter d Enters = d + 1
+enter d Leaves = d - 1
+enter d _ = d
+
+-- token k is the 257th that counts in its outermost expression, or the `begin` of a loop inside 16 loops
+pub data Passes (roles : List Role) (k : ℕ) : Type 0 where
+  too_heavy : slice_get roles k ≡ Some Weighs → fold weigh 0 (take k roles) ≡ 256 → Passes roles k
+  too_deep : slice_get roles k ≡ Some Enters → fold enter 0 (take k roles) ≡ 16 → Passes roles k
+
+-- two lists of tokens have the same first tokens
+abbrev pub AgreeBelow : List Token → List Token → ℕ → Type 0
+AgreeBelow ts us k = (m : ℕ) → m < k → slice_get ts m ≡ slice_get us m
+
+-- some program begins with the first k tokens
+pub record Begins (ts : List Token) (k : ℕ) : Type 0 where
+  pub all : List Token
+  pub program : Program
+  pub roles : List Role
+  pub long : k ≤ length all
+  pub agrees : AgreeBelow ts all k
+  pub derives : HasRoles all program roles
+
+-- token k passes a limit, as the tokens up to it tell
+pub record IsDeep (ts : List Token) (k : ℕ) : Type 0 where
+  pub within : k < length ts
+  pub begins : Begins ts (k + 1)
+  pub passes : Passes begins.roles k

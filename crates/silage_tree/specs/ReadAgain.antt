@@ -1,0 +1,21 @@
+-- The canonical text is read as the program that it is a text of, up to places.
+use Rattle.std.specs.Prelude.{◌≡◌, ℕ, List}
+use Rattle.silage_lex.specs.Tokens.{HasTokens, TokenList}
+use Rattle.silage_tree.specs.Tree.{Program}
+use Rattle.silage_tree.specs.Grammar.{Derives}
+use Rattle.silage_tree.specs.Places.{unplaced}
+use Rattle.silage_tree.specs.Text.{canonical}
+
+abbrev pub ByteList : Type 0
+ByteList = List ℕ
+
+abbrev pub ProgramTree : Type 0
+ProgramTree = Program
+
+-- the canonical text has tokens, and they derive the program up to places
+pub record IsReadAgain (program : Program) : Type 0 where
+  pub tokens : TokenList
+  pub has_tokens : HasTokens (canonical program) tokens
+  pub read : Program
+  pub derives : Derives tokens read
+  pub same : unplaced read ≡ unplaced program

@@ -1,0 +1,153 @@
+//! Literals, types and declarations as text.
+
+ghost use Rattle.std.specs.Prelude.{◌≡◌, ◌<◌, ◌++◌, ◌∷◌, [], length, OnOk};
+ghost use Rattle.silage_lex.specs.Texts.{reserved_words};
+ghost use Rattle.silage_tree.specs.Text.{Puts, truth_word, sign_text, lit_text, dims_text, mode_word, fix_text, type_text, decl_text, behind_comma, listed};
+ghost use Rattle.std.specs.List.{flat_map};
+
+use crate::marks::{
+    ABOVE, BELOW, BOOL, CLOSE_BRACKET, COLON, COMMA, FALSE, FIX, MINUS, OPEN_BRACKET, ROUND, TRUE,
+    TRUNC,
+};
+use crate::print_tokens::{put_name, put_number, put_symbol, put_whole, put_word};
+use crate::{Decl, Lit};
+use fix_word::{FixType, Mode, SigType};
+use lists::{Bytes, List};
+use std::alloc::AllocError;
+
+fn truth_word_of(value: bool) -> u8
+    ensures word { result ≡ truth_word value }
+    ensures reserved { result < length reserved_words }
+{
+    if value { TRUE } else { FALSE }
+}
+
+fn mode_word_of(mode: Mode) -> u8
+    ensures word { result ≡ mode_word mode }
+    ensures reserved { result < length reserved_words }
+{
+    match mode {
+        Mode::Trunc => TRUNC,
+        Mode::Round => ROUND,
+    }
+}
+
+/// Adds `-` if it is wanted.
+#[tactic(auto, using(crate::proofs::Spelled::no_sign))]
+fn put_sign(out: &mut Bytes, wanted: bool) -> Result<(), AllocError>
+    ensures { OnOk result (Puts out.old (sign_text wanted) out.new) }
+{
+    if wanted {
+        put_symbol(out, MINUS)
+    } else {
+        Ok(())
+    }
+}
+
+pub(crate) fn put_lit(out: &mut Bytes, lit: Lit) -> Result<(), AllocError>
+    ensures { OnOk result (Puts out.old (lit_text lit) out.new) }
+{
+    match lit {
+        Lit::Number {
+            neg,
+            digits,
+            places,
+            at: _,
+        } => {
+            put_sign(out, neg)?;
+            put_number(out, digits, places)
+        }
+        Lit::Truth { value, at: _ } => put_word(out, truth_word_of(value)),
+    }
+}
+
+/// Adds each dim in brackets.
+pub(crate) fn put_dims(out: &mut Bytes, dims: &List<u32>) -> Result<(), AllocError>
+    ensures { OnOk result (Puts out.old (dims_text dims.now) out.new) }
+{
+    for dim in dims.iter() {
+        put_symbol(out, OPEN_BRACKET)?;
+        put_whole(out, u64::from(*dim))?;
+        put_symbol(out, CLOSE_BRACKET)?;
+    }
+    Ok(())
+}
+
+pub(crate) fn put_fix(out: &mut Bytes, ty: &FixType) -> Result<(), AllocError>
+    ensures { OnOk result (Puts out.old (fix_text ty.now) out.new) }
+{
+    put_word(out, FIX)?;
+    put_symbol(out, BELOW)?;
+    put_whole(out, u64::from(ty.shape.w))?;
+    put_symbol(out, COMMA)?;
+    put_whole(out, u64::from(ty.shape.f))?;
+    put_symbol(out, COMMA)?;
+    put_word(out, mode_word_of(ty.mode))?;
+    put_symbol(out, ABOVE)
+}
+
+fn put_type(out: &mut Bytes, ty: &SigType) -> Result<(), AllocError>
+    ensures { OnOk result (Puts out.old (type_text ty.now) out.new) }
+{
+    match ty {
+        SigType::Fix(fix) => put_fix(out, fix),
+        SigType::Bool => put_word(out, BOOL),
+    }
+}
+
+pub(crate) fn put_decl(out: &mut Bytes, decl: &Decl) -> Result<(), AllocError>
+    ensures { OnOk result (Puts out.old (decl_text decl.now) out.new) }
+{
+    put_name(out, &decl.name)?;
+    put_dims(out, &decl.dims)?;
+    put_symbol(out, COLON)?;
+    put_type(out, &decl.ty)
+}
+
+/// Adds the declarations with a comma in front of each.
+fn put_other_decls(out: &mut Bytes, decls: &[Decl]) -> Result<(), AllocError>
+    ensures { OnOk result (Puts out.old (flat_map (behind_comma decl_text) decls.now) out.new) }
+{
+    for decl in decls {
+        put_symbol(out, COMMA)?;
+        put_decl(out, decl)?;
+    }
+    Ok(())
+}
+
+/// Adds the declarations with commas between.
+pub(crate) fn put_decls(out: &mut Bytes, decls: &[Decl]) -> Result<(), AllocError>
+    ensures { OnOk result (Puts out.old (listed decl_text decls.now) out.new) }
+{
+    match decls {
+        [] => Ok(()),
+        [first, rest @ ..] => {
+            put_decl(out, first)?;
+            put_other_decls(out, rest)
+        }
+    }
+}
+
+/// Adds the literals with a comma in front of each.
+fn put_other_lits(out: &mut Bytes, lits: &[Lit]) -> Result<(), AllocError>
+    ensures { OnOk result (Puts out.old (flat_map (behind_comma lit_text) lits.now) out.new) }
+{
+    for lit in lits {
+        put_symbol(out, COMMA)?;
+        put_lit(out, *lit)?;
+    }
+    Ok(())
+}
+
+/// Adds the literals with commas between.
+pub(crate) fn put_lits(out: &mut Bytes, lits: &[Lit]) -> Result<(), AllocError>
+    ensures { OnOk result (Puts out.old (listed lit_text lits.now) out.new) }
+{
+    match lits {
+        [] => Ok(()),
+        [first, rest @ ..] => {
+            put_lit(out, *first)?;
+            put_other_lits(out, rest)
+        }
+    }
+}

@@ -1,0 +1,150 @@
+//! The canonical text of a program.
+
+ghost use Rattle.std.specs.Prelude.{◌≡◌, ◌||◌, nat_lt, OnOk, IfOk};
+ghost use Rattle.std.specs.List.{flat_map};
+ghost use Rattle.silage_tree.specs.Tree.{view_items, view_func, view_top, view};
+ghost use Rattle.silage_lex.specs.Tokens.{HasTokens, TokenList};
+ghost use Rattle.silage_tree.specs.Grammar.{Derives};
+ghost use Rattle.silage_tree.specs.Parentheses.{ExprsNeedThem, ManifestsNeedThem};
+ghost use Rattle.silage_tree.specs.ReadAgain.{ByteList, ProgramTree, IsReadAgain};
+ghost use Rattle.silage_tree.specs.Text.{Puts, enclosed, listed, decl_text, words_text, table_text, local_text, head_text, body_text, func_text, top_text, canonical};
+
+use crate::marks::{BEGIN, COLON, CONST, DEFINES, END, FUNC, SEMICOLON, VAR};
+use crate::print_items::put_items;
+use crate::print_tokens::{is_several, put_close, put_name, put_open, put_symbol, put_word};
+use crate::print_types::{put_decl, put_decls, put_dims, put_fix, put_lits};
+use crate::{ConstDef, Decl, Func, Item, Lit, Program, Top};
+use lists::{Bytes, List};
+use std::alloc::{AllocError, Global};
+
+/// Why a program was not printed.
+#[derive(Clone, Copy, Debug, PartialEq, Eq)]
+pub enum TreeFault {
+    /// No memory was left.
+    Memory,
+}
+
+impl From<AllocError> for TreeFault {
+    fn from(_: AllocError) -> TreeFault {
+        TreeFault::Memory
+    }
+}
+
+/// Whether the words of a table stand in parentheses.
+fn are_words_enclosed(dims: usize, words: usize) -> bool
+    ensures { result ≡ (nat_lt 0 dims || nat_lt 1 words) }
+{
+    dims > 0 || words > 1
+}
+
+/// Adds the numbers of a table.
+fn put_words(out: &mut Bytes, dims: &List<u32>, words: &List<Lit>) -> Result<(), AllocError>
+    ensures { OnOk result (Puts out.old (words_text dims.now words.now) out.new) }
+{
+    let are_enclosed = are_words_enclosed(dims.len(), words.len());
+    put_open(out, are_enclosed)?;
+    put_lits(out, words)?;
+    put_close(out, are_enclosed)
+}
+
+fn put_table(out: &mut Bytes, table: &ConstDef) -> Result<(), AllocError>
+    ensures { OnOk result (Puts out.old (table_text table.now) out.new) }
+{
+    put_word(out, CONST)?;
+    put_name(out, &table.name)?;
+    put_dims(out, &table.dims)?;
+    put_symbol(out, COLON)?;
+    put_fix(out, &table.ty)?;
+    put_symbol(out, DEFINES)?;
+    put_words(out, &table.dims, &table.words)?;
+    put_symbol(out, SEMICOLON)
+}
+
+/// Adds the declarations, in parentheses if they are said to be enclosed.
+fn put_decls_in(out: &mut Bytes, decls: &List<Decl>, are_enclosed: bool) -> Result<(), AllocError>
+    ensures { OnOk result (Puts out.old (enclosed are_enclosed (listed decl_text decls.now)) out.new) }
+{
+    put_open(out, are_enclosed)?;
+    put_decls(out, decls)?;
+    put_close(out, are_enclosed)
+}
+
+fn put_head(out: &mut Bytes, func: &Func) -> Result<(), AllocError>
+    ensures { OnOk result (Puts out.old (head_text (view_func func.now)) out.new) }
+{
+    put_word(out, FUNC)?;
+    put_name(out, &func.name)?;
+    put_decls_in(out, &func.params, true)?;
+    put_decls_in(out, &func.results, is_several(func.results.len()))
+}
+
+/// Adds a `var` for each local.
+fn put_locals(out: &mut Bytes, locals: &[Decl]) -> Result<(), AllocError>
+    ensures { OnOk result (Puts out.old (flat_map local_text locals.now) out.new) }
+{
+    for local in locals {
+        put_word(out, VAR)?;
+        put_decl(out, local)?;
+        put_symbol(out, SEMICOLON)?;
+    }
+    Ok(())
+}
+
+fn put_body(out: &mut Bytes, locals: &[Decl], items: &[Item]) -> Result<(), AllocError>
+    ensures { OnOk result (Puts out.old (body_text locals.now (view_items items.now)) out.new) }
+{
+    put_word(out, BEGIN)?;
+    put_locals(out, locals)?;
+    put_items(out, items)?;
+    put_word(out, END)?;
+    put_symbol(out, SEMICOLON)
+}
+
+fn put_func(out: &mut Bytes, func: &Func) -> Result<(), AllocError>
+    ensures { OnOk result (Puts out.old (func_text (view_func func.now)) out.new) }
+{
+    put_head(out, func)?;
+    put_symbol(out, DEFINES)?;
+    put_body(out, &func.locals, &func.items)
+}
+
+fn put_top(out: &mut Bytes, top: &Top) -> Result<(), AllocError>
+    ensures { OnOk result (Puts out.old (top_text (view_top top.now)) out.new) }
+{
+    match top {
+        Top::Const(table) => put_table(out, table),
+        Top::Func(func) => put_func(out, func),
+    }
+}
+
+fn put_tops(out: &mut Bytes, tops: &[Top]) -> Result<(), AllocError>
+    ensures { OnOk result (Puts out.old (flat_map (λ top. top_text (view_top top)) tops.now) out.new) }
+{
+    for top in tops {
+        put_top(out, top)?;
+    }
+    Ok(())
+}
+
+/// The canonical text of a program. An error says that no memory was left.
+pub fn print(alloc: Global, program: &Program) -> Result<Bytes, TreeFault>
+    ensures { IfOk result (λ bytes. bytes ≡ canonical (view program.now)) }
+{
+    let mut out = Bytes::new(alloc);
+    put_tops(&mut out, &program.tops)?;
+    Ok(out)
+}
+
+/// The canonical text of a program that some source has is read as that program, up to places.
+pub fn print_is_read()
+    ensures { (bytes : ByteList) → (tokens : TokenList) → (program : ProgramTree) → HasTokens bytes tokens → Derives tokens program → IsReadAgain program }
+{}
+
+/// Parentheses are needed where the canonical text has them for a part that is looser than its place asks.
+pub fn parentheses_are_needed()
+    ensures exprs { ExprsNeedThem }
+    ensures manifests { ManifestsNeedThem }
+{}
+
+#[cfg(test)]
+mod tests;
