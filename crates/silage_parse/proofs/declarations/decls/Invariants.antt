@@ -1,0 +1,11 @@
+use Rattle.silage_parse.proofs.Parts.{Reached}
+use Rattle.std.proofs.Common.{[], ◌∷◌, ◌-◌, length}
+use Rattle.silage_parse.specs.Leads.{decl_list}
+use Rattle.silage_parse.specs.Table as the
+use Rattle.silage_parse.proofs.declarations.decls.Given as goal
+
+abbrev pub invariant-more : goal.invariant-more
+invariant-more l = Reached l.tokens decl_list l.fn.from [] (the.Go the.MoreDecls ∷ []) l.to (the.decls l.list ∷ [])
+
+abbrev pub decreases-more : goal.decreases-more
+decreases-more l = length l.tokens - l.to.at
