@@ -9,9 +9,7 @@ use Rattle.micro_image.specs.declared.conflict.ConflictKind.TheVariants.{Busy, T
 use Rattle.micro_image.specs.declared.image.Issue.{Issue}
 use Rattle.micro_image.specs.declared.image.Word.{Word}
 use Rattle.silc.specs.Serial.{input_issue, number_issue, term_issue, output_issue, moving_word, serial_words, serial_image, operation}
-use Rattle.silc.specs.declared.first.OneLine.{OneLine}
-use Rattle.silc.specs.declared.first.Term.{Term}
-use Rattle.silc.specs.declared.first.Term.TheVariants.{Plus, Minus}
+use Rattle.silc.specs.declared.one_line.OneLine.{OneLine}
 use Rattle.silc.proofs.Cycles.{not_busy, result-there}
 use Rattle.silc.proofs.Writes.{nth-replicate}
 
@@ -41,13 +39,13 @@ found_is only u issue e = on (only.unit == u) refl e
 only-no_memory : (only : Issue) → (IsMemory only.op → ⊥) → HasNoMemory (only ∷ [])
 only-no_memory only not_memory u issue e memory = not_memory (subst (λ issue. IsMemory issue.op) (sym (found_is only u issue e)) memory)
 
-term-gives : (term : Term) → gives (operation term) ≡ true
-term-gives Plus = refl
-term-gives Minus = refl
+term-gives : (plus : Bool) → gives (operation plus) ≡ true
+term-gives true = refl
+term-gives false = refl
 
-term-no_memory : (term : Term) → IsMemory (operation term) → ⊥
-term-no_memory Plus memory = memory
-term-no_memory Minus memory = memory
+term-no_memory : (plus : Bool) → IsMemory (operation plus) → ⊥
+term-no_memory true memory = memory
+term-no_memory false memory = memory
 
 module _ (program : OneLine) where
   -- what holds of the words of the nodes and of the empty word holds of each word
@@ -73,12 +71,12 @@ module _ (program : OneLine) where
 
   results : (k : ℕ) → AreResults (nth (serial_words program) k no_word)
   results k =
-      each_word AreResults (moving-results input_issue 2 0 refl) (moving-results (number_issue program) 2 1 refl) (moving-results (term_issue program) 3 0 (term-gives program.term))
+      each_word AreResults (moving-results input_issue 2 0 refl) (moving-results (number_issue program) 2 1 refl) (moving-results (term_issue program) 3 0 (term-gives program.plus))
       (none_driven (output_issue ∷ [])) (none_driven []) k
 
   no_memory : (k : ℕ) → HasNoMemory (nth (serial_words program) k no_word).issues
   no_memory k =
-      each_word (λ word. HasNoMemory word.issues) (only-no_memory input_issue (λ h. h)) (only-no_memory (number_issue program) (λ h. h)) (only-no_memory (term_issue program) (term-no_memory program.term))
+      each_word (λ word. HasNoMemory word.issues) (only-no_memory input_issue (λ h. h)) (only-no_memory (number_issue program) (λ h. h)) (only-no_memory (term_issue program) (term-no_memory program.plus))
       (only-no_memory output_issue (λ h. h)) (λ u issue e memory. cc) k
 
   gap_one : (u : ℕ) → (unit_of (serial_image program) u).gap ≡ 1

@@ -1,19 +1,12 @@
--- The program y = x + 1 on 8 bits: its text, and its image, whose file is known byte by byte.
-use Rattle.std.proofs.Common.{◌≡◌, refl, codes, [], ◌∷◌, pos, neg_ℤ}
-use Rattle.std.specs.Fmt.{digits}
+-- The program y = x + 1 on 8 bits: its image, whose file is known byte by byte.
+use Rattle.std.proofs.Common.{◌≡◌, refl, true, [], ◌∷◌, pos, neg_ℤ}
 use Rattle.micro_image.proofs.Increment.{increment}
-use Rattle.silc.specs.First.{text_of}
 use Rattle.silc.specs.Serial.{serial_image}
 use Rattle.silc.specs.Sim.{channels_of, stream_of}
-use Rattle.silc.specs.declared.first.OneLine.{OneLine}
-use Rattle.silc.specs.declared.first.Term.TheVariants.{Plus}
+use Rattle.silc.specs.declared.one_line.OneLine.{OneLine}
 
 abbrev program : OneLine
-program = record { width = 8; term = Plus; number = 1 }
-
-its_text : text_of program ≡ codes "func main(x : fix<8,0>) y : fix<8,0> = begin y = x + 1; end;"
-unfolding digits
-its_text = refl
+program = record { width = 8; plus = true; number = 1 }
 
 its_image : serial_image program ≡ increment
 its_image = refl

@@ -9,7 +9,7 @@ use Rattle.silc.specs.Compile.{IsInput, IsMicrocode, IsMade}
 use Rattle.silc.specs.Headline.{IsCompiled}
 use Rattle.silc.specs.declared.compile.Input.{Input}
 use Rattle.silc.specs.declared.status.Status.{Status}
-use Rattle.silc.specs.declared.status.Status.TheVariants.{Done, Memory, Words, Desk, Image, Samples, Conflict, NotBuilt}
+use Rattle.silc.specs.declared.status.Status.TheVariants.{Done, Memory, Words, Desk, FrontEnd, Image, Samples, Conflict, NotBuilt}
 
 -- what is made of the inputs is made of the files that they were read from
 pub made : (src path : Name) (old mid new : View) (a b : Input) (r : Result Content Status)
@@ -22,10 +22,11 @@ made src path old mid new a b (Err Done) source same datapath h = h
 made src path old mid new a b (Err Memory) source same datapath h = h
 made src path old mid new a b (Err Words) source same datapath h = h
 made src path old mid new a b (Err Desk) source same datapath h = absurd h
+made src path old mid new a b (Err (FrontEnd fault)) source same datapath h = λ files is. h _ (source files is)
 made src path old mid new a b (Err (Image fault)) source same datapath h = absurd h
 made src path old mid new a b (Err (Samples fault)) source same datapath h = absurd h
 made src path old mid new a b (Err (Conflict conflict)) source same datapath h = absurd h
-made src path old mid new a b (Err NotBuilt) source same datapath h = λ files is taken. h _ _ (source files is) (datapath files (same ∙ is)) taken
+made src path old mid new a b (Err NotBuilt) source same datapath h = λ files is. h _ _ (source files is) (datapath files (same ∙ is))
 
 -- a fault of writing, after the microcode was made
 pub not_written : (src path out : Name) (microcode : Content) (old mid new : View) (status : Status)
@@ -35,7 +36,7 @@ pub not_written : (src path out : Name) (microcode : Content) (old mid new : Vie
     → IsAnswer src path out old new status
 not_written src path out microcode old mid new status desk made le rose =
     subst (λ (s : Status). IsAnswer src path out old new s) (sym desk)
-    (inr (rose_later _ _ _ le rose, λ files is. let compiled = made files is in (compiled.program, compiled.accepted)))
+    (inr (rose_later _ _ _ le rose, λ files is. let compiled = made files is in (compiled.program, compiled.form, compiled.accepted)))
 
 pub quiet : (old mid new : View) → IsUnchangedButInput old mid → IsUnchanged mid new → IsUnchangedButInput old new
 quiet old mid new h same = record { files = same.files ∙ h.files; output = same.output ∙ h.output; printed = same.printed ∙ h.printed; writes = same.writes ∙ h.writes }
@@ -52,6 +53,7 @@ complained src path out old mid new Desk same later (inl h) before = inl (earlie
     earlier (inl r) = inl (rose_earlier _ _ _ (before.reading src) r (later.reading src))
     earlier (inr r) = inr (rose_earlier _ _ _ (before.reading path) r (later.reading path))
 complained src path out old mid new Desk same later (inr h) before = inr (rose_earlier _ _ _ (before.writing out) h.0 (later.writing out), h.1)
+complained src path out old mid new (FrontEnd fault) same later h before = (quiet old mid new h.0 same, h.1)
 complained src path out old mid new (Image fault) same later h before = h
 complained src path out old mid new (Samples fault) same later h before = h
 complained src path out old mid new (Conflict conflict) same later h before = h

@@ -20,7 +20,7 @@ use Rattle.sample_io.specs.Samples.{printed, printed_row}
 use Rattle.silc.specs.declared.sim.Kept.{Kept}
 use Rattle.silc.specs.declared.sim.Kept.TheVariants.{Nothing}
 use Rattle.silc.specs.declared.status.Status.{Status}
-use Rattle.silc.specs.declared.status.Status.TheVariants.{Done, Memory, Words, Desk, Image as bad_image, Samples as bad_samples, Conflict as in_conflict, NotBuilt}
+use Rattle.silc.specs.declared.status.Status.TheVariants.{Done, Memory, Words, Desk, FrontEnd, Image as bad_image, Samples as bad_samples, Conflict as in_conflict, NotBuilt}
 use Rattle.silc.specs.Running.{IsLoaded, IsStreamRead, IsRunRefusal, IsMadeRun}
 use Rattle.silc.specs.Sim.{stream_of, HasRun, IsFirstConflict, IsRefusal, IsSimulated, IsNotWritten, IsSimAnswer}
 use Rattle.silc.proofs.Making.{quiet}
@@ -93,6 +93,7 @@ refusal_before image stream later all Desk e h = absurd h
 refusal_before image stream later all (bad_image fault) e h = absurd h
 refusal_before image stream later all (bad_samples fault) e h = absurd h
 refusal_before image stream later all (in_conflict conflict) e h = subst (λ rows. IsFirstConflict image rows conflict) e (conflict_before image stream later conflict h)
+refusal_before image stream later all (FrontEnd fault) e h = absurd h
 refusal_before image stream later all NotBuilt e h = absurd h
 
 -- the machine's own image ran
@@ -133,6 +134,7 @@ run_refused mic samples old mid new machine list Desk loaded same read h = absur
 run_refused mic samples old mid new machine list (bad_image fault) loaded same read h = absurd h
 run_refused mic samples old mid new machine list (bad_samples fault) loaded same read h = absurd h
 run_refused mic samples old mid new machine list (in_conflict conflict) loaded same read h = λ files is. (machine.image, stream_of list, record { microcode = loaded.told files is; samples_are = read.told files (same ∙ is) }, h)
+run_refused mic samples old mid new machine list (FrontEnd fault) loaded same read h = absurd h
 run_refused mic samples old mid new machine list NotBuilt loaded same read h = absurd h
 
 -- OUT was written
@@ -197,6 +199,7 @@ sim_complained mic samples out old mid new kept Desk same later before h = (
 sim_complained mic samples out old mid new kept (bad_image fault) same later before h = (h.0, quiet old mid new h.1 same, h.2)
 sim_complained mic samples out old mid new kept (bad_samples fault) same later before h = (h.0, quiet old mid new h.1 same, h.2)
 sim_complained mic samples out old mid new kept (in_conflict conflict) same later before h = (h.0, quiet old mid new h.1 same, h.2)
+sim_complained mic samples out old mid new kept (FrontEnd fault) same later before h = absurd h.2
 sim_complained mic samples out old mid new kept NotBuilt same later before h = absurd h.2
 
 pub if_ok : {T E : Type 0} (r : Result T E) (P Q : T → Type 0) → ((x : T) → P x → Q x) → IfOk r P → IfOk r Q

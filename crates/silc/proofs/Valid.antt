@@ -1,5 +1,5 @@
 -- The image of a serial plan is valid.
-use Rattle.std.proofs.Common.{◌≡◌, ◌≢◌, refl, arith, ℕ, zero, suc, ◌<◌, ◌≤◌, List, [], ◌∷◌, length, map, replicate, ℤ, pos, inl}
+use Rattle.std.proofs.Common.{◌≡◌, ◌≢◌, refl, arith, ℕ, Bool, true, false, zero, suc, ◌-◌, ◌^◌, ◌<◌, ◌≤◌, pow_mono, List, [], ◌∷◌, length, map, replicate, ℤ, pos, inl}
 use Rattle.std.proofs.lemmas.Int.{ints}
 use Rattle.std.proofs.lemmas.List.{length-replicate, length-map}
 use Rattle.std.proofs.lemmas.List.Elements.{All-nil, All-append, All-replicate, All-from_recursion}
@@ -15,12 +15,10 @@ use Rattle.micro_image.specs.declared.image.Kind.{Kind}
 use Rattle.micro_image.specs.declared.image.Kind.TheVariants as kind
 use Rattle.micro_image.specs.declared.image.Take.{Take}
 use Rattle.micro_image.specs.declared.image.UnitDesc.{UnitDesc}
-use Rattle.silc.specs.First.{IsAllowed}
+use Rattle.silage_tree.specs.Tree.{Program}
+use Rattle.silc.specs.Form.{HasForm}
 use Rattle.silc.specs.Serial.{zeros, plain_unit, plain_units, operation, input_issue, number_issue, term_issue, output_issue, moving_word, node_words, serial_words, serial_image}
-use Rattle.silc.specs.declared.first.OneLine.{OneLine}
-use Rattle.silc.specs.declared.first.Term.{Term}
-use Rattle.silc.specs.declared.first.Term.TheVariants.{Plus, Minus}
-use Rattle.silc.proofs.Reading.{number_small}
+use Rattle.silc.specs.declared.one_line.OneLine.{OneLine}
 
 -- a list of one element or none has no neighbours
 adjacent : {A : Type 0} (R : A → A → Type 0) (xs : List A) → length xs ≤ 1 → AllAdjacentBelow R xs (length xs)
@@ -82,15 +80,18 @@ one_there : (port : ℕ) → port < 1 → nth (0 ∷ []) port 0 < length (nth (z
 one_there zero below = omega arith
 one_there (suc port) below = absurd (omega (arith, below))
 
-module _ (program : OneLine) (allowed : IsAllowed program) where
+module _ (tree : Program) (program : OneLine) (allowed : HasForm tree program) where
   input-is : IsIssue (serial_image program) input_issue
   input-is = record { does = refl; fmt = refl; arg = omega arith; regs = no_registers }
+
+  small : program.number < 2 ^ 15
+  small = let most : 2 ^ (program.width - 1) ≤ 2 ^ 15 = pow_mono {j = 15} (omega (arith, allowed.widest)) in omega (arith, allowed.number)
 
   number-is : IsIssue (serial_image program) (number_issue program)
   number-is = record {
     does = refl;
     fmt = refl;
-    arg = record { low = omega (arith, ints, number_small program allowed); high = omega (arith, ints, number_small program allowed) };
+    arg = record { low = omega (arith, ints, small); high = omega (arith, ints, small) };
     regs = no_registers;
   }
 
@@ -102,28 +103,28 @@ module _ (program : OneLine) (allowed : IsAllowed program) where
     widest = omega (arith, allowed.widest);
   }
 
-  term-does : (term : Term) → kind_of (operation term) ≡ kind.Alu
-  term-does Plus = refl
-  term-does Minus = refl
+  term-does : (plus : Bool) → kind_of (operation plus) ≡ kind.Alu
+  term-does true = refl
+  term-does false = refl
 
-  term-format : (term : Term) (fmt : Format) → IsFormat fmt → IsFormatFor (operation term) fmt
-  term-format Plus fmt is = is
-  term-format Minus fmt is = is
+  term-format : (plus : Bool) (fmt : Format) → IsFormat fmt → IsFormatFor (operation plus) fmt
+  term-format true fmt is = is
+  term-format false fmt is = is
 
-  term-argument : (term : Term) → IsArgument (operation term) 1 1 (pos 0)
-  term-argument Plus = refl
-  term-argument Minus = refl
+  term-argument : (plus : Bool) → IsArgument (operation plus) 1 1 (pos 0)
+  term-argument true = refl
+  term-argument false = refl
 
-  term-reads : (term : Term) → AreRegisters (zeros 8 ∷ zeros 8 ∷ []) (reads (operation term)) (0 ∷ 0 ∷ [])
-  term-reads Plus = record { count = refl; there = both_there; unread = λ port read below. absurd (omega (arith, read, below)) }
-  term-reads Minus = record { count = refl; there = both_there; unread = λ port read below. absurd (omega (arith, read, below)) }
+  term-reads : (plus : Bool) → AreRegisters (zeros 8 ∷ zeros 8 ∷ []) (reads (operation plus)) (0 ∷ 0 ∷ [])
+  term-reads true = record { count = refl; there = both_there; unread = λ port read below. absurd (omega (arith, read, below)) }
+  term-reads false = record { count = refl; there = both_there; unread = λ port read below. absurd (omega (arith, read, below)) }
 
   term-is : IsIssue (serial_image program) (term_issue program)
   term-is = record {
-    does = term-does program.term;
-    fmt = term-format program.term _ format-is;
-    arg = term-argument program.term;
-    regs = term-reads program.term;
+    does = term-does program.plus;
+    fmt = term-format program.plus _ format-is;
+    arg = term-argument program.plus;
+    regs = term-reads program.plus;
   }
 
   output-is : IsIssue (serial_image program) output_issue

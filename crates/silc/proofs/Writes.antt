@@ -1,16 +1,17 @@
 -- What the image of a serial plan writes in each cycle.
-use Rattle.std.proofs.Common.{◌≡◌, refl, arith, ℕ, zero, suc, ◌%◌, ◌≤◌, List, [], ◌∷◌, replicate, pos}
+use Rattle.std.proofs.Common.{◌≡◌, refl, arith, ℕ, ℤ, Bool, true, false, zero, suc, ◌%◌, ◌≤◌, List, [], ◌∷◌, replicate, pos}
 use Rattle.std.proofs.Math.Dec.{leb-zero}
 use Rattle.std.proofs.Math.Nat.{sub-zero}
 use Rattle.fix_word.specs.Values.{wrap_of}
 use Rattle.micro_image.specs.Fields.{nth, no_word}
 use Rattle.micro_image.specs.Log.{Rows, Register, Latch, Entry, content, entries_by, value}
-use Rattle.silc.specs.First.{exact}
+use Rattle.silage_tree.specs.OneLine.{exact}
 use Rattle.silc.specs.Serial.{serial_image, serial_words}
-use Rattle.silc.specs.declared.first.OneLine.{OneLine}
-use Rattle.silc.specs.declared.first.Term.{Term}
-use Rattle.silc.specs.declared.first.Term.TheVariants.{Plus, Minus}
-use Rattle.silc.proofs.Solution.{word_in}
+use Rattle.silc.specs.declared.one_line.OneLine.{OneLine}
+
+-- the first word of a row
+abbrev pub word_in : List ℤ → ℤ
+word_in row = nth row 0 (pos 0)
 
 pub nth-replicate : {A : Type 0} (n : ℕ) (x : A) (k : ℕ) → nth (replicate n x) k x ≡ x
 nth-replicate zero x k = refl
@@ -26,10 +27,10 @@ idle program (suc (suc (suc zero))) h = absurd (omega (arith, h))
 idle program (suc (suc (suc (suc k)))) h = nth-replicate 12 no_word k
 
 module _ (z : Rows) (log : List Entry) (t : ℕ) where
-  term-write : (width number : ℕ) (term : Term) → t % 16 ≡ 2 → entries_by (serial_image (record { width = width; term = term; number = number })) z log t ≡ record { place = Register 3 0 0; cycle = t; unit = 2; value = wrap_of (exact term (content (serial_image (record { width = width; term = term; number = number })) log (Register 2 0 0) t) (content (serial_image (record { width = width; term = term; number = number })) log (Register 2 1 0) t)) width } ∷ []
+  term-write : (width number : ℕ) (plus : Bool) → t % 16 ≡ 2 → entries_by (serial_image (record { width = width; plus = plus; number = number })) z log t ≡ record { place = Register 3 0 0; cycle = t; unit = 2; value = wrap_of (exact plus (content (serial_image (record { width = width; plus = plus; number = number })) log (Register 2 0 0) t) (content (serial_image (record { width = width; plus = plus; number = number })) log (Register 2 1 0) t)) width } ∷ []
   unfolding entries_by value
-  term-write width number Plus e = simp (sub-zero t, leb-zero t, e)
-  term-write width number Minus e = simp (sub-zero t, leb-zero t, e)
+  term-write width number true e = simp (sub-zero t, leb-zero t, e)
+  term-write width number false e = simp (sub-zero t, leb-zero t, e)
 
   module _ (program : OneLine) where
     pub input-write : t % 16 ≡ 0 → entries_by (serial_image program) z log t ≡ record { place = Register 2 0 0; cycle = t; unit = 0; value = word_in (nth z t []) } ∷ []
@@ -40,8 +41,8 @@ module _ (z : Rows) (log : List Entry) (t : ℕ) where
     unfolding entries_by value
     number-write e = simp (sub-zero t, leb-zero t, e)
 
-    pub sum-write : t % 16 ≡ 2 → entries_by (serial_image program) z log t ≡ record { place = Register 3 0 0; cycle = t; unit = 2; value = wrap_of (exact program.term (content (serial_image program) log (Register 2 0 0) t) (content (serial_image program) log (Register 2 1 0) t)) program.width } ∷ []
-    sum-write e = term-write program.width program.number program.term e
+    pub sum-write : t % 16 ≡ 2 → entries_by (serial_image program) z log t ≡ record { place = Register 3 0 0; cycle = t; unit = 2; value = wrap_of (exact program.plus (content (serial_image program) log (Register 2 0 0) t) (content (serial_image program) log (Register 2 1 0) t)) program.width } ∷ []
+    sum-write e = term-write program.width program.number program.plus e
 
     pub output-write : t % 16 ≡ 3 → entries_by (serial_image program) z log t ≡ record { place = Latch 0; cycle = t; unit = 3; value = content (serial_image program) log (Register 3 0 0) t } ∷ []
     unfolding entries_by value

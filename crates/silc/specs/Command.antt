@@ -4,10 +4,11 @@ use Rattle.std.specs.declared.alloc.Global.{Global}
 use Rattle.desk_core.specs.View.{Name, Content, Files, View}
 use Rattle.desk_core.specs.Desk.{Told, ReadFaultsRose, WriteFaultsRose, IsPut, content_of}
 use Rattle.desk_core.specs.Whole.{IsUnchangedButInput}
-use Rattle.silc.specs.Compile.{Accepts}
+use Rattle.silc.specs.Compile.{Accepts, IsNotTaken}
+use Rattle.silc.specs.Front.{IsFrontFault}
 use Rattle.silc.specs.Headline.{IsCompiled}
 use Rattle.silc.specs.declared.status.Status.{Status}
-use Rattle.silc.specs.declared.status.Status.TheVariants.{Done, Memory, Words, Desk, Image, Samples, Conflict, NotBuilt}
+use Rattle.silc.specs.declared.status.Status.TheVariants.{Done, Memory, Desk, FrontEnd, NotBuilt}
 
 -- the words are a verb, two inputs and OUT, and OUT is no input
 pub record IsForm (verb : List ℕ) (words : List (String Global)) (first second out : Name) : Type 0 where
@@ -52,12 +53,10 @@ IsFileFault src path out old new =
 abbrev pub IsAnswer : Name → Name → Name → View → View → Status → Type 0
 IsAnswer src path out old new Done = Told (IsDone src path out) old.files new.files
 IsAnswer src path out old new Memory = IsUnchangedButInput old new
-IsAnswer src path out old new Words = ⊥
 IsAnswer src path out old new Desk = IsFileFault src path out old new
-IsAnswer src path out old new (Image fault) = ⊥
-IsAnswer src path out old new (Samples fault) = ⊥
-IsAnswer src path out old new (Conflict conflict) = ⊥
-IsAnswer src path out old new NotBuilt = IsUnchangedButInput old new × ((files : Files) → old.files ≡ Some files → Accepts src path files → ⊥)
+IsAnswer src path out old new (FrontEnd fault) = IsUnchangedButInput old new × ((files : Files) → old.files ≡ Some files → IsFrontFault (content_of (files src)) fault)
+IsAnswer src path out old new NotBuilt = IsUnchangedButInput old new × ((files : Files) → old.files ≡ Some files → IsNotTaken (content_of (files src)) (content_of (files path)))
+IsAnswer src path out old new _ = ⊥
 
 -- no file but OUT changed, and nothing was printed
 pub record ChangesOnly (out : Name) (old new : View) : Type 0 where

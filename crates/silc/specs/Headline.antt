@@ -4,15 +4,20 @@ use Rattle.micro_image.specs.declared.image.Image.{Image}
 use Rattle.micro_image.specs.Log.{Rows}
 use Rattle.micro_image.specs.Run.{IsRunOut}
 use Rattle.micro_image.specs.Spells.{Spells}
-use Rattle.silc.specs.First.{IsOneLine, IsStream, HasOneSolution, Words, out}
+use Rattle.silage_tree.specs.Tree.{Program}
+use Rattle.silage_tree.specs.Value.{Words}
+use Rattle.silage_tree.specs.Solves.{IsStream, IsOneSolution, out}
+use Rattle.silc.specs.Form.{HasForm}
+use Rattle.silc.specs.Front.{HasProgram}
 use Rattle.silc.specs.Serial.{serial_image}
-use Rattle.silc.specs.declared.first.OneLine.{OneLine}
+use Rattle.silc.specs.declared.one_line.OneLine.{OneLine}
 use Rattle.silc.specs.declared.plain.TheConstants.{PLAIN}
 
--- the source is the program in the one-line form, and no other, and the datapath is PLAIN
-pub record IsAccepted (source path : List ℕ) (program : OneLine) : Type 0 where
-  pub form : IsOneLine source program
-  pub unique : (other : OneLine) → IsOneLine source other → other ≡ program
+-- the source has this program and no other, which is in the one-line form, and the datapath is PLAIN
+pub record IsAccepted (source path : List ℕ) (program : Program) (form : OneLine) : Type 0 where
+  pub read : HasProgram source program
+  pub unique : (other : Program) → HasProgram source other → other ≡ program
+  pub one_line : HasForm program form
   pub plain : path ≡ PLAIN.now
 
 -- the bytes spell the image, and no other
@@ -22,18 +27,19 @@ pub record SpellsOnly (bytes : List ℕ) (image : Image) : Type 0 where
 
 -- Over each stream of valid rows the program has exactly one solution, and the image, run without a conflict, puts
 -- exactly its output words, each sample in the image's period of cycles.
-abbrev pub RunsTheSolution : OneLine → Image → Type 0
+abbrev pub RunsTheSolution : Program → Image → Type 0
 RunsTheSolution program image =
     (stream : Rows) → IsStream program stream
-    → (words : Words) × HasOneSolution program stream words × IsRunOut image stream (out words (length stream))
+    → (words : Words) × IsOneSolution program stream words × IsRunOut image stream (out program words (length stream))
 
 -- The source is accepted, the microcode spells the image of its serial plan and nothing else, and that image runs the
 -- source's one solution in the datapath's period.
 pub record IsCompiled (source path microcode : List ℕ) : Type 0 where
-  pub program : OneLine
-  pub accepted : IsAccepted source path program
+  pub program : Program
+  pub form : OneLine
+  pub accepted : IsAccepted source path program form
   pub image : Image
   pub spelled : SpellsOnly microcode image
-  pub planned : image ≡ serial_image program
+  pub planned : image ≡ serial_image form
   pub runs : RunsTheSolution program image
   pub period : image.period ≡ 16

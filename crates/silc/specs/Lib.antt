@@ -1,6 +1,6 @@
 pub mod Status
-pub mod First
-pub mod Reading
+pub mod Form
+pub mod Front
 pub mod Serial
 pub mod Headline
 pub mod Compile

@@ -1,6 +1,6 @@
 -- The serial plan of a one-line program over the datapath PLAIN: node v of the graph stands at cycle v, and each value
 -- goes over bus 0 to register 0.
-use Rattle.std.specs.Prelude.{ℕ, ◌++◌, List, [], ◌∷◌, ℤ, pos, replicate}
+use Rattle.std.specs.Prelude.{ℕ, Bool, true, false, ◌++◌, List, [], ◌∷◌, ℤ, pos, replicate}
 use Rattle.fix_word.specs.declared.types.Format.{Format}
 use Rattle.fix_word.specs.declared.types.Mode.TheVariants.{Trunc}
 use Rattle.fix_word.specs.declared.operation.Op.{Op}
@@ -12,9 +12,7 @@ use Rattle.micro_image.specs.declared.image.Kind.TheVariants as kind
 use Rattle.micro_image.specs.declared.image.UnitDesc.{UnitDesc}
 use Rattle.micro_image.specs.declared.image.Word.{Word}
 use Rattle.micro_image.specs.Fields.{no_word}
-use Rattle.silc.specs.declared.first.OneLine.{OneLine}
-use Rattle.silc.specs.declared.first.Term.{Term}
-use Rattle.silc.specs.declared.first.Term.TheVariants.{Plus, Minus}
+use Rattle.silc.specs.declared.one_line.OneLine.{OneLine}
 
 -- registers that all start at 0
 abbrev pub zeros : ℕ → List ℤ
@@ -36,9 +34,9 @@ plain_units =
 abbrev pub no_format : Format
 no_format = record { shift = pos 0; mode = Trunc; width = 0 }
 
-abbrev pub operation : Term → Op
-operation Plus = op.Add
-operation Minus = op.Sub
+abbrev pub operation : (plus : Bool) → Op
+operation true = op.Add
+operation false = op.Sub
 
 -- The four nodes: the input, the number, the sum or difference, the output.
 abbrev pub input_issue : Issue
@@ -49,7 +47,7 @@ number_issue program = record { unit = 1; op = op.Const; fmt = no_format; arg = 
 
 abbrev pub term_issue : OneLine → Issue
 term_issue program =
-    record { unit = 2; op = operation program.term; fmt = record { shift = pos 0; mode = Trunc; width = program.width }; arg = pos 0; regs = 0 ∷ 0 ∷ [] }
+    record { unit = 2; op = operation program.plus; fmt = record { shift = pos 0; mode = Trunc; width = program.width }; arg = pos 0; regs = 0 ∷ 0 ∷ [] }
 
 abbrev pub output_issue : Issue
 output_issue = record { unit = 3; op = op.Output; fmt = no_format; arg = pos 0; regs = 0 ∷ [] }

@@ -98,6 +98,7 @@ IsRefusal mic samples old new status.Desk = ReadFaultsRose mic old new ⊎ (Read
 IsRefusal mic samples old new (status.Image fault) = (fault ≢ image_fault.File form.Memory) × WhereTold old (λ files. IsImageFault (content_of (files mic)) fault)
 IsRefusal mic samples old new (status.Samples fault) = WhereTold old (λ files. (image : Image) × HasImage mic files image × IsSampleFault image (content_of (files samples)) fault)
 IsRefusal mic samples old new (status.Conflict conflict) = WhereTold old (λ files. (image : Image) × (stream : Rows) × HasStream mic samples files image stream × IsFirstConflict image stream conflict)
+IsRefusal mic samples old new (status.FrontEnd fault) = ⊥
 IsRefusal mic samples old new status.NotBuilt = ⊥
 
 -- MIC's image ran the stream of SAMPLES to its end; OUT has the rows of the run, and every other file is as it was

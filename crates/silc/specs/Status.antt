@@ -7,13 +7,14 @@ use Rattle.sample_io.specs.declared.RowsReadFault.TheVariants as rows
 use Rattle.silc.specs.declared.status.ImageFault.TheVariants.{File}
 use Rattle.silc.specs.declared.status.SampleFault.TheVariants as sample
 use Rattle.silc.specs.declared.status.Status.{Status}
-use Rattle.silc.specs.declared.status.Status.TheVariants.{Done, Memory, Words, Desk, Image, Samples, Conflict, NotBuilt}
+use Rattle.silc.specs.declared.status.Status.TheVariants.{Done, Memory, Words, Desk, FrontEnd, Image, Samples, Conflict, NotBuilt}
 
 abbrev pub code_of : Status → ℕ
 code_of Done = 0
 code_of Memory = 1
 code_of Words = 2
 code_of Desk = 3
+code_of (FrontEnd fault) = 4
 code_of (Image fault) = 10
 code_of (Samples fault) = 11
 code_of (Conflict conflict) = 12

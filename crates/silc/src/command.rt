@@ -8,7 +8,7 @@ ghost use Rattle.silc.specs.declared.sim.Kept.TheVariants.{Nothing};
 
 use crate::compile::compile;
 use crate::sim::{Kept, sim};
-use crate::status::Status;
+use crate::status::{Ending, Status};
 use arrayvec::ArrayString;
 use desk_core::Desk;
 use std::alloc::Global;
@@ -43,35 +43,35 @@ fn form_of<'a>(verb: &str, words: &'a [String]) -> Option<Form<'a>>
 }
 
 /// Carries out the command that the words are.
-fn run<D: Desk>(alloc: Global, words: &[String], desk: &mut D, kept: &mut Kept) -> Status
+fn run<D: Desk>(alloc: Global, words: &[String], desk: &mut D, kept: &mut Kept) -> Ending
     requires { kept.old ≡ Nothing }
     ensures faults { FaultsNeverFall (D.view desk.old) (D.view desk.new) }
-    ensures words { result ≢ Status.Words → IsCommand words.now }
-    ensures answer { (src path out : Name) → IsCompile words.now src path out → IsAnswer src path out (D.view desk.old) (D.view desk.new) result }
-    ensures sim_answer { (mic samples out : Name) → IsSim words.now mic samples out → IsSimAnswer mic samples out (D.view desk.old) (D.view desk.new) kept.new result }
+    ensures words { result.status ≢ Status.Words → IsCommand words.now }
+    ensures answer { (src path out : Name) → IsCompile words.now src path out → IsAnswer src path out (D.view desk.old) (D.view desk.new) result.status }
+    ensures sim_answer { (mic samples out : Name) → IsSim words.now mic samples out → IsSimAnswer mic samples out (D.view desk.old) (D.view desk.new) kept.new result.status }
     ensures only_output { (src path out : Name) → IsCompile words.now src path out → ChangesOnly out (D.view desk.old) (D.view desk.new) }
     ensures sim_only_output { (mic samples out : Name) → IsSim words.now mic samples out → ChangesOnly out (D.view desk.old) (D.view desk.new) }
-    ensures nothing { result ≡ Status.Words → IsUnchanged (D.view desk.old) (D.view desk.new) }
+    ensures nothing { result.status ≡ Status.Words → IsUnchanged (D.view desk.old) (D.view desk.new) }
     ensures compile_keeps_nothing { (src path out : Name) → IsCompile words.now src path out → kept.new ≡ Nothing }
-    ensures nothing_kept { result ≢ Status.Done → kept.new ≡ Nothing }
+    ensures nothing_kept { result.status ≢ Status.Done → kept.new ≡ Nothing }
 {
     if let Some(found) = form_of("compile", words) {
         return compile(alloc, desk, found.first, found.second, found.output);
     }
     if let Some(found) = form_of("sim", words) {
-        return sim(alloc, desk, found.first, found.second, found.output, kept);
+        return Ending::from(sim(alloc, desk, found.first, found.second, found.output, kept));
     }
-    Status::Words
+    Ending::from(Status::Words)
 }
 
 /// Tells a person of the refusal in one line, which takes no memory.
-fn complain<D: Desk>(desk: &mut D, status: Status)
+fn complain<D: Desk>(desk: &mut D, ending: Ending)
     ensures faults { FaultsNeverFall (D.view desk.old) (D.view desk.new) }
     ensures unchanged { IsUnchanged (D.view desk.old) (D.view desk.new) }
 {
     // The longest line, of a bad row, has 66 bytes.
     let mut line = ArrayString::<80>::new();
-    let _ = writeln!(line, "silc: {status}");
+    let _ = writeln!(line, "silc: {ending}");
     desk.complain(line.as_bytes());
 }
 
@@ -104,9 +104,9 @@ pub fn silc<D: Desk>(alloc: Global, words: &[String], desk: &mut D, kept: &mut K
     ensures nothing_kept { result ≢ Status.Done → kept.new ≡ Nothing }
     ensures compile_keeps_nothing { (src path out : Name) → IsCompile words.now src path out → kept.new ≡ Nothing }
 {
-    let status = run(alloc, words, desk, kept);
-    if status != Status::Done {
-        complain(desk, status);
+    let ending = run(alloc, words, desk, kept);
+    if ending.status != Status::Done {
+        complain(desk, ending);
     }
-    status
+    ending.status
 }

@@ -1,15 +1,16 @@
 //! `compile SRC DP OUT`: from the bytes of a source and a datapath to the bytes of the microcode.
-ghost use Rattle.std.specs.Prelude.{◌≡◌, ◌≢◌, IfOk, IfErr, Some};
+ghost use Rattle.std.specs.Prelude.{◌≡◌, ◌↔◌, IsTrue, IfOk, IfErr, Some};
 ghost use Rattle.desk_core.specs.View.{Files};
 ghost use Rattle.desk_core.specs.Desk.{FaultsNeverFall, content_of};
 ghost use Rattle.desk_core.specs.Whole.{IsUnchangedButInput};
 ghost use Rattle.silc.specs.Command.{IsAnswer, ChangesOnly};
-ghost use Rattle.silc.specs.Compile.{IsInput, IsInputFault, IsMicrocode, IsMade};
+ghost use Rattle.silc.specs.Compile.{IsInput, IsInputFault, IsMicrocode, IsMade, IsPlain, IsShort, status_of};
 
-use crate::first::one_line;
+use crate::front::program_of;
+use crate::one_line::one_line;
 use crate::plain::PLAIN;
 use crate::serial::serial_image;
-use crate::status::Status;
+use crate::status::{Ending, FrontFault, Status};
 use desk_core::{Desk, ReadFault, read_whole, write_whole};
 use lists::Bytes;
 use micro_file::encode;
@@ -29,6 +30,7 @@ pub enum Input {
 fn read_input<D: Desk>(alloc: Global, desk: &mut D, name: &str) -> Result<Input, Status>
     ensures faults { FaultsNeverFall (D.view desk.old) (D.view desk.new) }
     ensures unchanged { IsUnchangedButInput (D.view desk.old) (D.view desk.new) }
+    ensures short { IfOk result IsShort }
     ensures ok { IfOk result (λ found. (files : Files) → (D.view desk.old).files ≡ Some files → IsInput (content_of (files name.now)) found) }
     ensures err { IfErr result (λ status. IsInputFault name.now (D.view desk.old) (D.view desk.new) status) }
 {
@@ -40,37 +42,44 @@ fn read_input<D: Desk>(alloc: Global, desk: &mut D, name: &str) -> Result<Input,
     }
 }
 
-/// The microcode of a source over a datapath.
-fn microcode(alloc: Global, source: Input, datapath: Input) -> Result<Bytes, Status>
-    ensures { IsMicrocode source datapath result }
+/// Whether the datapath is PLAIN.
+fn is_plain(datapath: &Input) -> bool
+    ensures { IsTrue result ↔ IsPlain datapath.now }
 {
-    let source = match source {
-        Input::Whole(bytes) => bytes,
-        Input::TooLong => return Err(Status::NotBuilt),
-    };
-    let datapath = match datapath {
-        Input::Whole(bytes) => bytes,
-        Input::TooLong => return Err(Status::NotBuilt),
-    };
-    if datapath.as_slice() != PLAIN {
-        return Err(Status::NotBuilt);
+    match datapath {
+        Input::Whole(bytes) => bytes.as_slice() == PLAIN,
+        Input::TooLong => false,
     }
-    let Some(program) = one_line(&source) else {
-        return Err(Status::NotBuilt);
+}
+
+/// The microcode of a source over a datapath.
+fn microcode(alloc: Global, source: &Input, datapath: &Input) -> Result<Bytes, Ending>
+    requires { IsShort source.now }
+    ensures { IsMicrocode source.now datapath.now (status_of result) }
+{
+    let Input::Whole(source) = source else {
+        return Err(Ending::from(Status::FrontEnd(FrontFault::TooLong)));
     };
-    let image = serial_image(alloc, &program)?;
+    let program = program_of(alloc, source.as_slice())?;
+    let Some(form) = one_line(&program) else {
+        return Err(Ending::from(Status::NotBuilt));
+    };
+    if !is_plain(datapath) {
+        return Err(Ending::from(Status::NotBuilt));
+    }
+    let image = serial_image(alloc, &form)?;
     Ok(encode(alloc, &image)?)
 }
 
 /// Reads the source and the datapath, and makes the microcode.
-fn make<D: Desk>(alloc: Global, desk: &mut D, source: &str, datapath: &str) -> Result<Bytes, Status>
+fn make<D: Desk>(alloc: Global, desk: &mut D, source: &str, datapath: &str) -> Result<Bytes, Ending>
     ensures faults { FaultsNeverFall (D.view desk.old) (D.view desk.new) }
     ensures unchanged { IsUnchangedButInput (D.view desk.old) (D.view desk.new) }
-    ensures made { IsMade source.now datapath.now (D.view desk.old) (D.view desk.new) result }
+    ensures made { IsMade source.now datapath.now (D.view desk.old) (D.view desk.new) (status_of result) }
 {
     let source = read_input(alloc, desk, source)?;
     let datapath = read_input(alloc, desk, datapath)?;
-    microcode(alloc, source, datapath)
+    microcode(alloc, &source, &datapath)
 }
 
 /// Carries out `compile`.
@@ -80,16 +89,16 @@ pub fn compile<D: Desk>(
     source: &str,
     datapath: &str,
     output: &str,
-) -> Status
+) -> Ending
     ensures faults { FaultsNeverFall (D.view desk.old) (D.view desk.new) }
-    ensures answer { IsAnswer source.now datapath.now output.now (D.view desk.old) (D.view desk.new) result }
+    ensures answer { IsAnswer source.now datapath.now output.now (D.view desk.old) (D.view desk.new) result.status }
     ensures only_output { ChangesOnly output.now (D.view desk.old) (D.view desk.new) }
 {
     match make(alloc, desk, source, datapath) {
         Ok(microcode) => match write_whole(desk, output, &microcode) {
-            Ok(()) => Status::Done,
-            Err(failed) => Status::from(failed),
+            Ok(()) => Ending::from(Status::Done),
+            Err(failed) => Ending::from(failed),
         },
-        Err(status) => status,
+        Err(ending) => ending,
     }
 }

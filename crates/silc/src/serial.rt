@@ -3,7 +3,7 @@ ghost use Rattle.std.specs.Prelude.{◌≡◌, [], ◌∷◌, map, IfOk};
 ghost use Rattle.silc.specs.Serial.{serial_image, serial_words, node_words, no_format, plain_units, plain_unit, zeros, moving_word, operation};
 ghost use Rattle.micro_image.specs.Fields.{no_word};
 
-use crate::first::{OneLine, Term};
+use crate::one_line::OneLine;
 use fix_word::{Format, Mode, Op};
 use lists::List;
 use micro_image::{Enable, Image, Issue, Kind, PortRef, Take, UnitDesc, Word};
@@ -85,7 +85,7 @@ fn node_words(alloc: Global, program: &OneLine) -> Result<List<Word>, AllocError
     let input = plain_issue(INPUT, Op::Input, 0, List::new(alloc));
     let number = plain_issue(ROM, Op::Const, i64::from(program.number), List::new(alloc));
     let both = List::from_slice(alloc, &[0, 0])?;
-    let mut sum = plain_issue(ALU, operation(program.term), 0, both);
+    let mut sum = plain_issue(ALU, operation(program.plus), 0, both);
     sum.fmt.width = program.width;
     let output = plain_issue(OUTPUT, Op::Output, 0, List::from_slice(alloc, &[0])?);
 
@@ -113,13 +113,10 @@ fn plain_issue(unit: u8, op: Op, arg: i64, regs: List<u8>) -> Issue
     }
 }
 
-fn operation(term: Term) -> Op
-    ensures { result ≡ operation term }
+fn operation(plus: bool) -> Op
+    ensures { result ≡ operation plus }
 {
-    match term {
-        Term::Plus => Op::Add,
-        Term::Minus => Op::Sub,
-    }
+    if plus { Op::Add } else { Op::Sub }
 }
 
 /// The word of a node whose result goes over bus 0 to register 0 of a unit's port.
@@ -170,7 +167,7 @@ mod tests {
         let alloc = rt.alloc();
         let program = OneLine {
             width: 8,
-            term: Term::Plus,
+            plus: true,
             number: 1,
         };
         let image = serial_image(alloc, &program)?;

@@ -1,4 +1,4 @@
-ghost use Rattle.std.specs.Prelude.{◌≡◌};
+ghost use Rattle.std.specs.Prelude.{◌≡◌, None};
 ghost use Rattle.silc.specs.Status.{code_of, of_form, of_rows};
 ghost use Rattle.silc.specs.declared.status.Status.TheVariants.{Memory, Desk, Conflict as in_conflict};
 
@@ -7,8 +7,21 @@ use desk_core::Failed;
 use micro_file::{CodeFault, FormFault};
 use micro_image::{Conflict, ConflictKind};
 use sample_io::RowsReadFault;
+use silage_lex::LexFault;
+use silage_parse::ParseFault;
 use std::alloc::AllocError;
 use std::fmt;
+
+/// Why a source has no program. Want of memory is a status of its own and never stands in here.
+#[derive(Clone, Copy, Debug, PartialEq, Eq)]
+pub enum FrontFault {
+    /// There are more than 2^20 bytes.
+    TooLong,
+    /// The bytes are no tokens.
+    Lex(LexFault),
+    /// The tokens are no program.
+    Parse(ParseFault),
+}
 
 /// Why bytes are no microcode.
 #[derive(Clone, Copy, Debug, PartialEq, Eq)]
@@ -45,6 +58,8 @@ pub enum Status {
     Words,
     /// A file could not be read or written.
     Desk,
+    /// The source has no program.
+    FrontEnd(FrontFault),
     /// The microcode is too long or spells no image.
     Image(ImageFault),
     /// The samples are too many or have a line that is no row.
@@ -120,6 +135,57 @@ impl From<Conflict> for Status {
     }
 }
 
+/// How a command ended, and the line of the source at which it was refused.
+#[derive(Clone, Copy, Debug, PartialEq, Eq)]
+pub(crate) struct Ending {
+    pub status: Status,
+    /// From 1.
+    pub line: Option<u64>,
+}
+
+impl From<Status> for Ending {
+    ghost from_gives = { λ status ending. ending ≡ record { status = status; line = None } };
+
+    fn from(status: Status) -> Self {
+        Ending { status, line: None }
+    }
+}
+
+impl From<AllocError> for Ending {
+    ghost from_gives = { λ _ ending. ending ≡ record { status = Memory; line = None } };
+
+    fn from(error: AllocError) -> Self {
+        Ending::from(Status::from(error))
+    }
+}
+
+impl From<CodeFault> for Ending {
+    ghost from_gives = { λ _ ending. ending ≡ record { status = Memory; line = None } };
+
+    fn from(fault: CodeFault) -> Self {
+        Ending::from(Status::from(fault))
+    }
+}
+
+impl From<Failed> for Ending {
+    ghost from_gives = { λ _ ending. ending ≡ record { status = Desk; line = None } };
+
+    fn from(failed: Failed) -> Self {
+        Ending::from(Status::from(failed))
+    }
+}
+
+/// What a person is told of the ending.
+impl fmt::Display for Ending {
+    fn fmt<W: fmt::Write>(&self, f: &mut fmt::Formatter<W>) -> fmt::Result {
+        let status = self.status;
+        match self.line {
+            Some(line) => write!(f, "line {line}: {status}"),
+            None => write!(f, "{status}"),
+        }
+    }
+}
+
 /// The exit code of the program.
 pub fn code(status: &Status) -> u8
     ensures { result ≡ code_of status.now }
@@ -129,6 +195,7 @@ pub fn code(status: &Status) -> u8
         Status::Memory => 1,
         Status::Words => 2,
         Status::Desk => 3,
+        Status::FrontEnd(_) => 4,
         Status::Image(_) => 10,
         Status::Samples(_) => 11,
         Status::Conflict(_) => 12,
@@ -144,6 +211,7 @@ impl fmt::Display for Status {
             Status::Memory => f.write_str("no memory"),
             Status::Words => f.write_str("bad command words"),
             Status::Desk => f.write_str("file fault"),
+            Status::FrontEnd(fault) => write!(f, "{fault}"),
             Status::Image(fault) => write!(f, "{fault}"),
             Status::Samples(fault) => write!(f, "{fault}"),
             Status::Conflict(conflict) => {
@@ -154,6 +222,16 @@ impl fmt::Display for Status {
             }
             Status::NotBuilt => f.write_str("not built yet"),
         }
+    }
+}
+
+impl fmt::Display for FrontFault {
+    fn fmt<W: fmt::Write>(&self, f: &mut fmt::Formatter<W>) -> fmt::Result {
+        f.write_str(match self {
+            FrontFault::TooLong => "source too long",
+            FrontFault::Lex(fault) => lex_text(*fault),
+            FrontFault::Parse(fault) => parse_text(*fault),
+        })
     }
 }
 
@@ -172,6 +250,23 @@ impl fmt::Display for SampleFault {
             SampleFault::Row { line, at } => write!(f, "samples line {line} byte {at}"),
             SampleFault::TooLong => f.write_str("samples too long"),
         }
+    }
+}
+
+fn lex_text(fault: LexFault) -> &'static str {
+    match fault {
+        LexFault::BadByte(_) => "bad byte",
+        LexFault::BadNumber(_) => "bad number",
+        LexFault::OpenComment(_) => "open comment",
+        LexFault::Memory => "no memory",
+    }
+}
+
+fn parse_text(fault: ParseFault) -> &'static str {
+    match fault {
+        ParseFault::Syntax(_) => "syntax",
+        ParseFault::Deep(_) => "too deep",
+        ParseFault::Memory => "no memory",
     }
 }
 

@@ -1,7 +1,10 @@
 //! What the clauses don't say: the bytes and texts of worked cases, and that memory is found.
 ghost use Rattle.silc.specs.Deaf.{deaf_view, never_tells};
 
-use crate::{Conflict, ConflictKind, FormFault, ImageFault, Kept, SampleFault, Status, code, silc};
+use crate::{
+    Conflict, ConflictKind, FormFault, FrontFault, ImageFault, Kept, LexFault, ParseFault,
+    SampleFault, Status, code, silc,
+};
 use desk_core::{Desk, Failed, MemDesk};
 use lists::Bytes;
 use std::alloc::{AllocError, Global};
@@ -92,6 +95,50 @@ fn increment_compiles_to_its_328_bytes(rt: HostRuntime) -> Result<(), Fail> {
         assert_eq!(rt; desk.get("OUT").ok_or("no file")?, want.as_slice());
         assert_eq!(rt; desk.faults(), 0);
         assert!(rt; desk.printed().is_empty());
+    }
+    Ok(())
+}
+
+/// The same program with other blanks, and a comment.
+const INCREMENT_SPREAD: &[u8] =
+    b"func  main(x : fix<8,0>)\ty : fix<8,0> = begin /* one more */ y = x + 1; end;\r\n";
+
+/// The same program with other names.
+const INCREMENT_RENAMED: &[u8] =
+    b"func main(ins : fix<8,0>) (outs : fix<8,0,trunc>) = begin outs = (ins + 01); end;";
+
+#[test]
+fn blanks_comments_and_names_change_no_byte(rt: HostRuntime) -> Result<(), Fail> {
+    let alloc = rt.alloc();
+    let want = increment_microcode(alloc)?;
+    for source in [INCREMENT_SPREAD, INCREMENT_RENAMED] {
+        let mut desk = desk_with(alloc, 4096, source, crate::PLAIN)?;
+        assert_eq!(rt; compile_on(alloc, &mut desk)?, Status::Done);
+        assert_eq!(rt; desk.get("OUT").ok_or("no file")?, want.as_slice());
+    }
+    Ok(())
+}
+
+#[test]
+fn a_source_without_a_program_is_refused(rt: HostRuntime) -> Result<(), Fail> {
+    let alloc = rt.alloc();
+    let cases = [
+        (
+            b"func main(x : fix<8,0>) y : fix<8,0> = begin y = x + ; end;".as_slice(),
+            FrontFault::Parse(ParseFault::Syntax(26)),
+        ),
+        (b"/* x", FrontFault::Lex(LexFault::OpenComment(0))),
+        (
+            b"func main(x : fix<8,0>) y : fix<8,0> = begin y = x + 1a; end;",
+            FrontFault::Lex(LexFault::BadNumber(53)),
+        ),
+        (b"func #", FrontFault::Lex(LexFault::BadByte(5))),
+    ];
+    for (source, fault) in cases {
+        // The source is judged before the datapath.
+        let mut desk = desk_with(alloc, 100, source, b"")?;
+        assert_eq!(rt; compile_on(alloc, &mut desk)?, Status::FrontEnd(fault));
+        assert!(rt; desk.get("OUT").is_none());
     }
     Ok(())
 }
@@ -242,7 +289,19 @@ fn other_sources_and_datapaths_are_not_built_yet(rt: HostRuntime) -> Result<(), 
             crate::PLAIN,
         ),
         (
-            b"func main(x : fix<8,0>) y : fix<8,0> = begin y = x + 128; end;".as_slice(),
+            b"func main(x : fix<8,0>) y : fix<8,0> = begin y = x + 128; end;",
+            crate::PLAIN,
+        ),
+        (
+            b"func main(x : fix<17,0>) y : fix<17,0> = begin y = x + 1; end;",
+            crate::PLAIN,
+        ),
+        (
+            b"func main(x : fix<8,0>) y : fix<8,0,round> = begin y = x + 1; end;",
+            crate::PLAIN,
+        ),
+        (
+            b"func main(y : fix<8,0>) y : fix<8,0> = begin y = y + 1; end;",
             crate::PLAIN,
         ),
         (INCREMENT, b"".as_slice()),
@@ -341,6 +400,7 @@ fn each_refusal_has_its_text(rt: HostRuntime) -> Result<(), Fail> {
     };
     let cases = [
         (Status::Memory, "no memory"),
+        (Status::FrontEnd(FrontFault::TooLong), "source too long"),
         (Status::Image(ImageFault::TooLong), "microcode too long"),
         (BAD_MICROCODE, "bad microcode"),
         (bad_row(3, 2), "samples line 3 byte 2"),
@@ -378,6 +438,7 @@ fn each_status_has_its_code(rt: HostRuntime) {
         (Status::Memory, 1),
         (Status::Words, 2),
         (Status::Desk, 3),
+        (Status::FrontEnd(FrontFault::TooLong), 4),
         (BAD_MICROCODE, 10),
         (bad_row(3, 2), 11),
         (TWO_DRIVERS, 12),
