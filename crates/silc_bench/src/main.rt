@@ -9,12 +9,13 @@ use anyhow::{Context, Result, bail};
 use cycle_sim::Machine;
 use micro_file::{decode, encode};
 use micro_image::Image;
-use silage_lex::lex;
+use silage_lex::{Tokens, lex};
+use silage_parse::parse;
 use std::alloc::Global;
 use std::rt::{Env, Files};
 use std::{env, fs};
 
-const USAGE: &str = "usage: silc_bench decode|encode|clock|lex TURNS FILE";
+const USAGE: &str = "usage: silc_bench decode|encode|clock|lex|parse TURNS FILE";
 
 /// A microcode file is at most this long, and so is a source.
 const MICROCODE_LIMIT: usize = 1 << 26;
@@ -76,19 +77,40 @@ fn clock_again(alloc: Global, cycles: u32, bytes: &[u8]) -> Result<u64> {
     Ok(machine.samples())
 }
 
-/// How many tokens the sources have.
-fn lex_again(alloc: Global, turns: u32, bytes: &[u8]) -> Result<u64> {
+/// The tokens of a source.
+fn tokens_of(alloc: Global, bytes: &[u8]) -> Result<Tokens> {
     if bytes.len() > SOURCE_LIMIT {
         bail!("the file is too long");
     }
+    match lex(alloc, bytes) {
+        Ok(tokens) => Ok(tokens),
+        Err(_) => bail!("the file is no source"),
+    }
+}
+
+/// How many tokens the sources have.
+fn lex_again(alloc: Global, turns: u32, bytes: &[u8]) -> Result<u64> {
     let mut tokens = 0u64;
     for _ in 0..turns {
-        match lex(alloc, bytes) {
-            Ok(found) => tokens = tokens.wrapping_add(found.len() as u64),
-            Err(_) => bail!("the file is no source"),
-        }
+        tokens = tokens.wrapping_add(tokens_of(alloc, bytes)?.len() as u64);
     }
     Ok(tokens)
+}
+
+/// How many tables and functions the programs have.
+fn parse_again(alloc: Global, turns: u32, bytes: &[u8]) -> Result<u64> {
+    let tokens = tokens_of(alloc, bytes)?;
+    if tokens.len() > SOURCE_LIMIT {
+        bail!("there are too many tokens");
+    }
+    let mut tops = 0u64;
+    for _ in 0..turns {
+        match parse(alloc, &tokens) {
+            Ok(program) => tops = tops.wrapping_add(program.tops.len() as u64),
+            Err(_) => bail!("the file is no program"),
+        }
+    }
+    Ok(tops)
 }
 
 fn measure<R: Env + Files + AllocGlobal>(rt: &R) -> Result<u64> {
@@ -104,6 +126,7 @@ fn measure<R: Env + Files + AllocGlobal>(rt: &R) -> Result<u64> {
         "encode" => encode_again(rt.alloc(), turns, &bytes),
         "clock" => clock_again(rt.alloc(), turns, &bytes),
         "lex" => lex_again(rt.alloc(), turns, &bytes),
+        "parse" => parse_again(rt.alloc(), turns, &bytes),
         _ => bail!("{USAGE}"),
     }
 }
