@@ -12,6 +12,8 @@ pub mod Apart
 pub mod OneLine
 pub mod OneLineOnce
 mod Examples
+pub mod LightItems
+pub mod Lighter
 pub mod Needed
 pub mod Numbers
 pub mod ReadExprs
@@ -23,3 +25,4 @@ pub mod ReadPrograms
 pub mod Spelled
 pub mod Stands
 pub mod Tokens
+pub mod Weights

@@ -35,7 +35,7 @@ marked_rows P xs all (Some (kind.Whole n)) y e = cc
 marked_rows P xs all (Some (kind.Point d p)) y e = cc
 
 -- the level of the chain of each rule
-abbrev chain_level : Level → ℕ
+abbrev pub chain_level : Level → ℕ
 chain_level Or = 0
 chain_level And = 1
 chain_level Sum = 3
@@ -52,7 +52,7 @@ comparison_is k o e =
     marked_rows (λ p. operator_level p ≡ 2) ((mark.BELOW, op.Lt) ∷ (mark.AT_MOST, op.Le) ∷ (mark.EQUAL, op.Eq) ∷ (mark.UNEQUAL, op.Ne) ∷ (mark.ABOVE, op.Gt) ∷ (mark.AT_LEAST, op.Ge) ∷ [])
     (refl, (refl, (refl, (refl, (refl, (refl, tt)))))) k o e
 
-abbrev rule_level : ExprRule → ℕ
+abbrev pub rule_level : ExprRule → ℕ
 rule_level (Chain l) = chain_level l
 rule_level Comparison = 2
 rule_level Shift = 5

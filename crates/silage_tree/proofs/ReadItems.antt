@@ -1,5 +1,5 @@
 -- The text of items is read as those items, up to places.
-use Rattle.std.proofs.Common.{◌≡◌, ℕ, ◌+◌, Bool, List, [], ◌∷◌, ◌++◌, Some, map, refl, sym, ap, ◌∙◌, subst, arith, lit≤}
+use Rattle.std.proofs.Common.{◌≡◌, ℕ, ◌+◌, ◌≤◌, length, Bool, List, [], ◌∷◌, ◌++◌, Some, map, refl, sym, ap, ◌∙◌, subst, arith, lit≤}
 use Rattle.silage_lex.specs.declared.Token.{Token}
 use Rattle.silage_lex.specs.declared.TokenKind.TheVariants as kind
 use Rattle.silage_tree.specs.declared.marks.TheConstants as mark
@@ -8,12 +8,13 @@ use Rattle.silage_tree.specs.declared.tree.Lit.{Lit}
 use Rattle.silage_tree.specs.declared.tree.Lit.TheVariants.{Truth}
 use Rattle.silage_tree.specs.Tree.{Manifest, Place, Expr, Item, equation, call, loop, initial, Items, no_item, item}
 use Rattle.silage_tree.specs.Places.{unplaced_lit, unplaced_manifest, unplaced_place, unplaced_expr, unplaced_item, unplaced_items}
-use Rattle.silage_tree.specs.Grammar.{from_at, IsMark, IsName, IsManifest, Manifest_, IsExpr, Chain, Or, Role, IsTargetSubs, no_target_sub, one_target_sub, two_target_subs, IsTarget, target, IsTargets, last_target, more_targets, IsArgs, last_arg, more_args, IsInitialValue, signed, truth_value, IsItem, is_equation, is_call, is_calls, is_loop, is_initial, IsItems, no_items, one_item}
+use Rattle.silage_tree.specs.Grammar.{from_at, IsMark, IsName, IsManifest, Manifest_, IsExpr, Chain, Or, Role, weights, IsTargetSubs, no_target_sub, one_target_sub, two_target_subs, IsTarget, target, IsTargets, last_target, more_targets, IsArgs, last_arg, more_args, IsInitialValue, signed, truth_value, IsItem, is_equation, is_call, is_calls, is_loop, is_initial, IsItems, no_items, one_item}
 use Rattle.silage_tree.specs.Text.{symbol, word, enclosed, listed, several, lit_text, manifest_text, amount_text, place_text, expr_text, call_text, turns_text, clause_text, items_text}
 use Rattle.silage_tree.proofs.Stands.{Stands, split, moved, IsWritten, AreWritten, no_kind, one_kind, joined, enclosed_written, TokensWritten}
 use Rattle.silage_tree.proofs.ReadManifests.{GoodManifest, ReadsManifest, placed, as_manifest, good_manifest, good_amount}
 use Rattle.silage_tree.proofs.ReadParts.{truth_read, truth_written, GoodSigned, good_signed, GoodSubs, scalar, vector, matrix, subs_written, subs_text, read_one, read_two}
 use Rattle.silage_tree.proofs.ReadExprs.{GoodExpr, as_whole, good_expr}
+use Rattle.silage_tree.proofs.LightItems.{Has, LightExpr, light_expr, light_manifest, light_amount, light_no_sub, light_sub, light_subs, light_target, light_last, light_more, light_last_arg, light_more_args, light_equation, light_call, light_calls, light_loop, light_initial, light_no_items, light_items}
 use Rattle.silage_tree.proofs.ReadLists.{ReadsBy, by_end, Goods, only, also, listed_written, listed_read, Grouped, bare, inside, grouped_read, one_of_several}
 
 -- Places on the left.
@@ -24,36 +25,40 @@ pub record GoodPlace (p : Place) : Type 0 where
 place_written : (p : Place) → GoodPlace p → AreWritten (place_text p)
 place_written p good = one_kind good.name (subs_written good.subs)
 
-abbrev HasSubs : List Token → ℕ → List Manifest → ℕ → Type 0
-HasSubs us i ms j = (roles : List Role) × IsTargetSubs us i ms roles j
-
-abbrev HasTarget : List Token → ℕ → Place → ℕ → Type 0
-HasTarget us i p j = (roles : List Role) × IsTarget us i p roles j
-
-target_subs_read : (us : List Token) (ms : List Manifest) → GoodSubs ms → (i j : ℕ) → Stands us i (subs_text ms) j → ReadsBy (List Manifest) (map unplaced_manifest) (HasSubs us) ms i j
-target_subs_read us ms scalar i j s = by_end s (record { tree = []; same = refl; reads = (_, no_target_sub) })
+target_subs_read : (us : List Token) (ms : List Manifest) → GoodSubs ms → (i j : ℕ) → Stands us i (subs_text ms) j → ReadsBy (List Manifest) (map unplaced_manifest) (Has IsTargetSubs us ms) ms i j
+target_subs_read us ms scalar i j s = by_end s (record { tree = []; same = refl; reads = record { roles = _; is = no_target_sub; light = light_no_sub } })
 target_subs_read us ms (vector {m = m} g) i j s =
     let x = read_one us m g i j s in
-    by_end x.ends (record { tree = x.inside.tree ∷ []; same = ap (λ t. t ∷ []) x.inside.same; reads = (_, one_target_sub x.opens x.inside.reads x.closes) })
+    by_end x.ends (record {
+      tree = x.inside.tree ∷ [];
+      same = ap (λ t. t ∷ []) x.inside.same;
+      reads = record { roles = _; is = one_target_sub x.opens x.inside.reads x.closes; light = light_sub (light_manifest us m (i + 1) x.end x.stands) };
+    })
 target_subs_read us ms (matrix {m = m} {n = n} g h) i j s =
     let r = read_two us m n g h i j s in
     let x = r.first in
     let y = r.second in
     let P : ℕ → Type 0 = λ l. IsManifest us Manifest_ l y.inside.tree y.end in
     let second : IsManifest us Manifest_ (x.end + 2) y.inside.tree y.end = subst P (omega arith) y.inside.reads in
+    let Q : ℕ → Type 0 = λ l. Stands us l (manifest_text n) y.end in
+    let stands : Stands us (x.end + 2) (manifest_text n) y.end = subst Q (omega arith) y.stands in
     by_end y.ends (record {
       tree = x.inside.tree ∷ y.inside.tree ∷ [];
       same = ap (λ t. t ∷ unplaced_manifest y.inside.tree ∷ []) x.inside.same ∙ ap (λ t. unplaced_manifest m ∷ t ∷ []) y.inside.same;
-      reads = (_, two_target_subs x.opens x.inside.reads x.closes y.opens second y.closes);
+      reads = record {
+        roles = _;
+        is = two_target_subs x.opens x.inside.reads x.closes y.opens second y.closes;
+        light = light_subs (light_manifest us m (i + 1) x.end x.stands) (light_manifest us n (x.end + 2) y.end stands);
+      };
     })
 
-target_read : (us : List Token) (p : Place) → GoodPlace p → (i j : ℕ) → Stands us i (place_text p) j → ReadsBy Place unplaced_place (HasTarget us) p i j
+target_read : (us : List Token) (p : Place) → GoodPlace p → (i j : ℕ) → Stands us i (place_text p) j → ReadsBy Place unplaced_place (Has IsTarget us p) p i j
 target_read us p good i j s =
     let x = target_subs_read us p.subs good.subs (i + 1) j s.1 in
     record {
       tree = record { name = p.name; at = from_at us i; subs = x.tree };
       same = ap (λ ms. record { name = p.name; at = 0; subs = ms }) x.same;
-      reads = (_, target s.0 x.reads.1);
+      reads = record { roles = _; is = target s.0 x.reads.is; light = light_target p x.reads.light };
     }
 
 good_target_subs : (ts : List Token) → TokensWritten ts → {i j : ℕ} {ms : List Manifest} {rs : List Role} → IsTargetSubs ts i ms rs j → GoodSubs ms
@@ -69,18 +74,17 @@ good_targets ts w (last_target d) = only (good_target ts w d)
 good_targets ts w (more_targets d c rest) = also (good_target ts w d) (good_targets ts w rest)
 
 -- Arguments.
-abbrev HasTargets : List Token → ℕ → List Place → ℕ → Type 0
-HasTargets us i ps j = (roles : List Role) × IsTargets us i ps roles j
+record HasArg (us : List Token) (e : Expr) (i : ℕ) (x : Expr) (j : ℕ) : Type 0 where
+  is : IsExpr us (Chain Or) i x j
+  light : LightExpr e (weights us i j)
 
-abbrev HasArgs : List Token → ℕ → List Expr → ℕ → Type 0
-HasArgs us i es j = (roles : List Role) × IsArgs us i es roles j
+arg_read : (us : List Token) (e : Expr) → GoodExpr e → (i j : ℕ) → Stands us i (expr_text e) j → ReadsBy Expr unplaced_expr (HasArg us e) e i j
+arg_read us e good i j s = let x = as_whole e good us i j s in record { tree = x.tree; same = x.same; reads = record { is = x.reads; light = light_expr us e i j s } }
 
-arg_read : (us : List Token) (e : Expr) → GoodExpr e → (i j : ℕ) → Stands us i (expr_text e) j → ReadsBy Expr unplaced_expr (IsExpr us (Chain Or)) e i j
-arg_read us e good i j s = let x = as_whole e good us i j s in record { tree = x.tree; same = x.same; reads = x.reads }
-
-args_read : (us : List Token) {es : List Expr} → Goods Expr GoodExpr es → (i j : ℕ) → Stands us i (listed expr_text es) j → ReadsBy (List Expr) (map unplaced_expr) (HasArgs us) es i j
+args_read : (us : List Token) {es : List Expr} → Goods Expr GoodExpr es → (i j : ℕ) → Stands us i (listed expr_text es) j → ReadsBy (List Expr) (map unplaced_expr) (Has IsArgs us es) es i j
 args_read us gs i j s =
-    listed_read Expr GoodExpr expr_text unplaced_expr us (IsExpr us (Chain Or)) (HasArgs us) (λ i j x d. (_, last_arg d)) (λ i j k x xs d c rest. (_, more_args d c rest.1)) (arg_read us) gs i j s
+    listed_read Expr GoodExpr expr_text unplaced_expr us (HasArg us) (Has IsArgs us) (λ i j x y d. record { roles = _; is = last_arg d.is; light = light_last_arg d.light })
+    (λ i j k x y xs ys long d c rest. record { roles = _; is = more_args d.is c rest.is; light = light_more_args long d.light rest.light }) (arg_read us) gs i j s
 
 good_args : (ts : List Token) → TokensWritten ts → {i j : ℕ} {es : List Expr} {rs : List Role} → IsArgs ts i es rs j → Goods Expr GoodExpr es
 good_args ts w (last_arg d) = only (good_expr ts w d)
@@ -104,19 +108,13 @@ good_value ts w (signed d) = number_value (good_signed ts w d)
 good_value ts w (truth_value e) = truth_good
 
 -- Items.
-abbrev HasItem : List Token → ℕ → Item → ℕ → Type 0
-HasItem us i x j = (roles : List Role) × IsItem us i x roles j
-
-abbrev HasItems : List Token → ℕ → Items → ℕ → Type 0
-HasItems us i xs j = (roles : List Role) × IsItems us i xs roles j
-
 pub record GoodItem (x : Item) : Type 0 where
   pub written : AreWritten (clause_text x)
-  pub reads : (us : List Token) (i j : ℕ) → Stands us i (clause_text x) j → IsMark us j mark.SEMICOLON → ReadsBy Item unplaced_item (HasItem us) x i (j + 1)
+  pub reads : (us : List Token) (i j : ℕ) → Stands us i (clause_text x) j → IsMark us j mark.SEMICOLON → ReadsBy Item unplaced_item (Has IsItem us x) x i (j + 1)
 
 pub record GoodItems (xs : Items) : Type 0 where
   pub written : AreWritten (items_text xs)
-  pub reads : (us : List Token) (i j : ℕ) → Stands us i (items_text xs) j → ReadsBy Items unplaced_items (HasItems us) xs i j
+  pub reads : (us : List Token) (i j : ℕ) → Stands us i (items_text xs) j → ReadsBy Items unplaced_items (Has IsItems us xs) xs i j
 
 good_equation : (p : Place) (e : Expr) → GoodPlace p → GoodExpr e → GoodItem (equation p e)
 good_equation p e g h = record {
@@ -128,7 +126,7 @@ good_equation p e g h = record {
       record {
         tree = equation x.tree y.tree;
         same = ap (λ z. equation z (unplaced_expr y.tree)) x.same ∙ ap (λ z. equation (unplaced_place p) z) y.same;
-        reads = (_, is_equation x.reads.1 r.2.0 y.reads end);
+        reads = record { roles = _; is = is_equation x.reads.is r.2.0 y.reads end; light = light_equation x.reads.light (light_expr us e (r.0 + 1) j r.2.1) };
       };
 }
 
@@ -144,7 +142,11 @@ good_initial p k l g h v = record {
       record {
         tree = initial x.tree y.tree z.tree;
         same = ap (λ t. initial t (unplaced_manifest y.tree) (unplaced_lit z.tree)) x.same ∙ ap (λ t. initial (unplaced_place p) t (unplaced_lit z.tree)) y.same ∙ ap (λ t. initial (unplaced_place p) (unplaced_manifest k) t) z.same;
-        reads = (_, is_initial x.reads.1 q.2.0 y.reads r.2.0 z.reads end);
+        reads = record {
+          roles = _;
+          is = is_initial x.reads.is q.2.0 y.reads r.2.0 z.reads end;
+          light = light_initial r.0 (j + 1) x.reads.light (light_amount us k (q.0 + 1) r.0 q.2.1);
+        };
       };
 }
 
@@ -153,10 +155,9 @@ record ReadsCall (us : List Token) (f : List ℕ) (es : List Expr) (i j : ℕ) :
   args : List Expr
   same : map unplaced_expr args ≡ map unplaced_expr es
   close : ℕ
-  roles : List Role
   name : IsName us i f
   opens : IsMark us (i + 1) mark.OPEN
-  reads : IsArgs us (i + 2) args roles close
+  reads : Has IsArgs us es (i + 2) args close
   closes : IsMark us close mark.CLOSE
   ends : close + 1 ≡ j
 
@@ -165,44 +166,51 @@ call_read us f es gs i j s =
     let r = split us (listed expr_text es) (symbol mark.CLOSE ∷ []) (i + 1 + 1) j s.1.1 in
     let P : ℕ → Type 0 = λ l. Stands us l (listed expr_text es) r.0 in
     let x = args_read us gs (i + 2) r.0 (subst P (omega arith) r.1) in
-    record { args = x.tree; same = x.same; close = r.0; roles = x.reads.0; name = s.0; opens = s.1.0; reads = x.reads.1; closes = r.2.0; ends = r.2.1 }
+    record { args = x.tree; same = x.same; close = r.0; name = s.0; opens = s.1.0; reads = x.reads; closes = r.2.0; ends = r.2.1 }
 
 call_written : (f : List ℕ) {es : List Expr} → IsWritten (kind.Name f) → Goods Expr GoodExpr es → AreWritten (call_text f es)
 call_written f n gs = one_kind n (one_kind refl (joined (listed_written Expr GoodExpr expr_text (λ x g. g.written) gs) (one_kind refl no_kind)))
 
+one_target : (us : List Token) (i j : ℕ) (p q : Place) → Has IsTarget us p i q j → Has IsTargets us (p ∷ []) i (q ∷ []) j
+one_target us i j p q d = record { roles = _; is = last_target d.is; light = light_last d.light }
+
+another_target : (us : List Token) (i j k : ℕ) (p q : Place) (ps qs : List Place) → 1 ≤ length ps → Has IsTarget us p i q j → IsMark us j mark.COMMA → Has IsTargets us ps (j + 1) qs k
+    → Has IsTargets us (p ∷ ps) i (q ∷ qs) k
+another_target us i j k p q ps qs long d c rest = record { roles = _; is = more_targets d.is c rest.is; light = light_more long d.light rest.light }
+
 abbrev TargetGroup : List Token → List Place → ℕ → ℕ → Type 0
 TargetGroup us ps i j =
-    Grouped Place GoodPlace place_text unplaced_place us (HasTarget us) (HasTargets us) (λ i j x d. (_, last_target d.1)) (λ i j k x xs d c rest. (_, more_targets d.1 c rest.1)) (target_read us) ps i j
+    Grouped Place GoodPlace place_text unplaced_place us (Has IsTarget us) (Has IsTargets us) (one_target us) (another_target us) (target_read us) ps i j
 
-item_end : {us : List Token} {x : Item} {i j k : ℕ} → j ≡ k → ReadsBy Item unplaced_item (HasItem us) x i j → ReadsBy Item unplaced_item (HasItem us) x i k
+item_end : {us : List Token} {x : Item} {i j k : ℕ} → j ≡ k → ReadsBy Item unplaced_item (Has IsItem us x) x i j → ReadsBy Item unplaced_item (Has IsItem us x) x i k
 item_end {us} {x} {i} {j} {k} e h = by_end e h
 
 call_of : (us : List Token) (ps : List Place) (f : List ℕ) (es : List Expr) (at i k j : ℕ) → TargetGroup us ps i k → IsMark us k mark.DEFINES → ReadsCall us f es (k + 1) j → IsMark us j mark.SEMICOLON
-    → ReadsBy Item unplaced_item (HasItem us) (call ps f es at) i (j + 1)
+    → ReadsBy Item unplaced_item (Has IsItem us (call ps f es at)) (call ps f es at) i (j + 1)
 call_of us ps f es at i k j (bare t) defines c end =
     let close = c.ends in
     let opens = moved us (k + 1 + 1) (k + 2) (Some (symbol mark.OPEN)) (omega arith) c.opens in
-    let P : ℕ → Type 0 = λ l. IsArgs us l c.args c.roles c.close in
-    let args : IsArgs us (k + 3) c.args c.roles c.close = subst P (omega arith) c.reads in
+    let P : ℕ → Type 0 = λ l. IsArgs us l c.args c.reads.roles c.close in
+    let args : IsArgs us (k + 3) c.args c.reads.roles c.close = subst P (omega arith) c.reads.is in
     let semicolon = moved us j (c.close + 1) (Some (symbol mark.SEMICOLON)) (sym close) end in
     let last : c.close + 2 ≡ j + 1 = omega arith in
     item_end last (record {
       tree = call (t.tree ∷ []) f c.args (from_at us (k + 1));
       same = ap (λ z. call (z ∷ []) f (map unplaced_expr c.args) 0) t.same ∙ ap (λ z. call (map unplaced_place ps) f z 0) c.same;
-      reads = (_, is_call t.reads.1 defines c.name opens args c.closes semicolon);
+      reads = record { roles = _; is = is_call t.reads.is defines c.name opens args c.closes semicolon; light = light_call t.reads.light c.reads.light };
     })
 call_of us ps f es at i k j (inside {j = m} opening t shut) defines c end =
     let close = c.ends in
     let name = moved us (m + 1 + 1) (m + 2) (Some (kind.Name f)) (omega arith) c.name in
     let opens = moved us (m + 1 + 1 + 1) (m + 3) (Some (symbol mark.OPEN)) (omega arith) c.opens in
-    let P : ℕ → Type 0 = λ l. IsArgs us l c.args c.roles c.close in
-    let args : IsArgs us (m + 4) c.args c.roles c.close = subst P (omega arith) c.reads in
+    let P : ℕ → Type 0 = λ l. IsArgs us l c.args c.reads.roles c.close in
+    let args : IsArgs us (m + 4) c.args c.reads.roles c.close = subst P (omega arith) c.reads.is in
     let semicolon = moved us j (c.close + 1) (Some (symbol mark.SEMICOLON)) (sym close) end in
     let last : c.close + 2 ≡ j + 1 = omega arith in
     item_end last (record {
       tree = call t.tree f c.args (from_at us (m + 2));
       same = ap (λ z. call z f (map unplaced_expr c.args) 0) t.same ∙ ap (λ z. call (map unplaced_place ps) f z 0) c.same;
-      reads = (_, is_calls opening t.reads.1 shut defines name opens args c.closes semicolon);
+      reads = record { roles = _; is = is_calls opening t.reads.is shut defines name opens args c.closes semicolon; light = light_calls t.reads.light c.reads.light };
     })
 
 good_call : (ps : List Place) (f : List ℕ) (es : List Expr) (at : ℕ) → Goods Place GoodPlace ps → IsWritten (kind.Name f) → Goods Expr GoodExpr es → GoodItem (call ps f es at)
@@ -210,7 +218,7 @@ good_call ps f es at gs n hs = record {
   written = joined (enclosed_written _ (listed_written Place GoodPlace place_text place_written gs)) (one_kind refl (call_written f n hs));
   reads = λ us i j s end.
       let r = split us (enclosed (several ps) (listed place_text ps)) (symbol mark.DEFINES ∷ call_text f es) i j s in
-      let g = grouped_read Place GoodPlace place_text unplaced_place us (HasTarget us) (HasTargets us) (λ i j x d. (_, last_target d.1)) (λ i j k x xs d c rest. (_, more_targets d.1 c rest.1)) (target_read us)
+      let g = grouped_read Place GoodPlace place_text unplaced_place us (Has IsTarget us) (Has IsTargets us) (one_target us) (another_target us) (target_read us)
       gs (several ps) (one_of_several ps) i r.0 r.1 in
       call_of us ps f es at i r.0 j g r.2.0 (call_read us f es hs (r.0 + 1) j r.2.1) end;
 }
@@ -223,8 +231,10 @@ record ReadsTurns (us : List Token) (index : List ℕ) (lo hi : Manifest) (i j :
   name : IsName us (i + 1) index
   colon : IsMark us (i + 2) mark.COLON
   low : ReadsManifest us Manifest_ lo (i + 3) to
+  low_stands : Stands us (i + 3) (manifest_text lo) to
   upto : IsMark us to mark.TO
   high : ReadsManifest us Manifest_ hi (to + 1) close
+  high_stands : Stands us (to + 1) (manifest_text hi) close
   closes : IsMark us close mark.CLOSE
   ends : close + 1 ≡ j
 
@@ -233,15 +243,18 @@ turns_read us index lo hi g h i j s =
     let r = split us (manifest_text lo ++ symbol mark.TO ∷ manifest_text hi) (symbol mark.CLOSE ∷ []) (i + 1 + 1 + 1) j s.1.1.1 in
     let q = split us (manifest_text lo) (symbol mark.TO ∷ manifest_text hi) (i + 1 + 1 + 1) r.0 r.1 in
     let P : ℕ → Type 0 = λ l. Stands us l (manifest_text lo) q.0 in
+    let low : Stands us (i + 3) (manifest_text lo) q.0 = subst P (omega arith) q.1 in
     record {
       to = q.0;
       close = r.0;
       opens = s.0;
       name = s.1.0;
       colon = moved us (i + 1 + 1) (i + 2) (Some (symbol mark.COLON)) (omega arith) s.1.1.0;
-      low = as_manifest lo g us (i + 3) q.0 (subst P (omega arith) q.1);
+      low = as_manifest lo g us (i + 3) q.0 low;
+      low_stands = low;
       upto = q.2.0;
       high = as_manifest hi h us (q.0 + 1) r.0 q.2.1;
+      high_stands = q.2.1;
       closes = r.2.0;
       ends = r.2.1;
     }
@@ -265,12 +278,16 @@ good_loop index lo hi xs at n g h k = record {
         tree = loop index t.low.tree t.high.tree body.tree (from_at us i);
         same = ap (λ z. loop index z (unplaced_manifest t.high.tree) (unplaced_items body.tree) 0) t.low.same
             ∙ ap (λ z. loop index (unplaced_manifest lo) z (unplaced_items body.tree) 0) t.high.same ∙ ap (λ z. loop index (unplaced_manifest lo) (unplaced_manifest hi) z 0) body.same;
-        reads = (_, is_loop t.opens t.name t.colon t.low.reads t.upto t.high.reads t.closes each begin body.reads.1 e.2.0 semicolon);
+        reads = record {
+          roles = _;
+          is = is_loop t.opens t.name t.colon t.low.reads t.upto t.high.reads t.closes each begin body.reads.is e.2.0 semicolon;
+          light = light_loop (light_manifest us lo (i + 3) t.to t.low_stands) (light_manifest us hi (t.to + 1) t.close t.high_stands) body.reads.light;
+        };
       });
 }
 
 no_good_items : GoodItems no_item
-no_good_items = record { written = no_kind; reads = λ us i j s. by_end s (record { tree = no_item; same = refl; reads = (_, no_items) }) }
+no_good_items = record { written = no_kind; reads = λ us i j s. by_end s (record { tree = no_item; same = refl; reads = record { roles = _; is = no_items; light = light_no_items } }) }
 
 more_good_items : (x : Item) (xs : Items) → GoodItem x → GoodItems xs → GoodItems (item x xs)
 more_good_items x xs g h = record {
@@ -279,7 +296,7 @@ more_good_items x xs g h = record {
       let r = split us (clause_text x) (symbol mark.SEMICOLON ∷ items_text xs) i j s in
       let y = g.reads us i r.0 r.1 r.2.0 in
       let ys = h.reads us (r.0 + 1) j r.2.1 in
-      record { tree = item y.tree ys.tree; same = ap (λ z. item z (unplaced_items ys.tree)) y.same ∙ ap (λ z. item (unplaced_item x) z) ys.same; reads = (_, one_item y.reads.1 ys.reads.1) };
+      record { tree = item y.tree ys.tree; same = ap (λ z. item z (unplaced_items ys.tree)) y.same ∙ ap (λ z. item (unplaced_item x) z) ys.same; reads = record { roles = _; is = one_item y.reads.is ys.reads.is; light = light_items y.reads.light ys.reads.light } };
 }
 
 mutual

@@ -36,30 +36,30 @@ module _ (A : Type 0) (Good : A → Type 0) (text : A → List TokenKind) (writt
   listed_written (only {x = x} g) = joined (written x g) no_kind
   listed_written (also {x = x} g gs) = joined (written x g) (others_written gs)
 
-module _ (A : Type 0) (Good : A → Type 0) (text : A → List TokenKind) (up_to : A → A) (us : List Token) (One : ℕ → A → ℕ → Type 0) (Many : ℕ → List A → ℕ → Type 0)
-    (last : (i j : ℕ) (x : A) → One i x j → Many i (x ∷ []) j)
-    (more : (i j k : ℕ) (x : A) (xs : List A) → One i x j → IsMark us j mark.COMMA → Many (j + 1) xs k → Many i (x ∷ xs) k)
-    (reads : (x : A) → Good x → (i j : ℕ) → Stands us i (text x) j → ReadsBy A up_to One x i j) where
+module _ (A : Type 0) (Good : A → Type 0) (text : A → List TokenKind) (up_to : A → A) (us : List Token) (One : A → ℕ → A → ℕ → Type 0) (Many : List A → ℕ → List A → ℕ → Type 0)
+    (last : (i j : ℕ) (x y : A) → One x i y j → Many (x ∷ []) i (y ∷ []) j)
+    (more : (i j k : ℕ) (x y : A) (xs ys : List A) → 1 ≤ length xs → One x i y j → IsMark us j mark.COMMA → Many xs (j + 1) ys k → Many (x ∷ xs) i (y ∷ ys) k)
+    (reads : (x : A) → Good x → (i j : ℕ) → Stands us i (text x) j → ReadsBy A up_to (One x) x i j) where
   comma_first : {xs : List A} → Goods A Good xs → (i j : ℕ) → Stands us i (flat_map (behind_comma text) xs) j → IsMark us i mark.COMMA × Stands us (i + 1) (listed text xs) j
   comma_first (only g) i j s = (s.0, s.1)
   comma_first (also g gs) i j s = (s.0, s.1)
 
-  pub listed_read : {xs : List A} → Goods A Good xs → (i j : ℕ) → Stands us i (listed text xs) j → ReadsBy (List A) (map up_to) Many xs i j
+  pub listed_read : {xs : List A} → Goods A Good xs → (i j : ℕ) → Stands us i (listed text xs) j → ReadsBy (List A) (map up_to) (Many xs) xs i j
   listed_read (only {x = x} g) i j s =
       let r = split us (text x) [] i j s in
       let y = reads x g i r.0 r.1 in
-      by_end r.2 (record { tree = y.tree ∷ []; same = ap (λ t. t ∷ []) y.same; reads = last i r.0 y.tree y.reads })
+      by_end r.2 (record { tree = y.tree ∷ []; same = ap (λ t. t ∷ []) y.same; reads = last i r.0 x y.tree y.reads })
   listed_read (also {x = x} {xs = xs} g gs) i j s =
       let r = split us (text x) (flat_map (behind_comma text) xs) i j s in
       let y = reads x g i r.0 r.1 in
       let c = comma_first gs r.0 j r.2 in
       let ys = listed_read gs (r.0 + 1) j c.1 in
-      record { tree = y.tree ∷ ys.tree; same = ap (λ t. t ∷ map up_to ys.tree) y.same ∙ ap (λ ts. up_to x ∷ ts) ys.same; reads = more i r.0 j y.tree ys.tree y.reads c.0 ys.reads }
+      record { tree = y.tree ∷ ys.tree; same = ap (λ t. t ∷ map up_to ys.tree) y.same ∙ ap (λ ts. up_to x ∷ ts) ys.same; reads = more i r.0 j x y.tree xs ys.tree (goods_long gs) y.reads c.0 ys.reads }
 
   -- one part by itself, or parts in parentheses
   pub data Grouped : List A → ℕ → ℕ → Type 0 where
-    bare : {x : A} {i j : ℕ} → ReadsBy A up_to One x i j → Grouped (x ∷ []) i j
-    inside : {xs : List A} {i j : ℕ} → IsMark us i mark.OPEN → ReadsBy (List A) (map up_to) Many xs (i + 1) j → IsMark us j mark.CLOSE → Grouped xs i (j + 1)
+    bare : {x : A} {i j : ℕ} → ReadsBy A up_to (One x) x i j → Grouped (x ∷ []) i j
+    inside : {xs : List A} {i j : ℕ} → IsMark us i mark.OPEN → ReadsBy (List A) (map up_to) (Many xs) xs (i + 1) j → IsMark us j mark.CLOSE → Grouped xs i (j + 1)
 
   group_end : {xs : List A} {i j k : ℕ} → j ≡ k → Grouped xs i j → Grouped xs i k
   group_end {xs} {i} {j} {k} e h = let P : ℕ → Type 0 = λ l. Grouped xs i l in subst P e h

@@ -144,6 +144,7 @@ subs_written (matrix g h) = joined (bracketed_written g) (joined (bracketed_writ
 pub record ReadsBracketed (us : List Token) (m : Manifest) (i j : ℕ) : Type 0 where
   pub end : ℕ
   pub opens : IsMark us i mark.OPEN_BRACKET
+  pub stands : Stands us (i + 1) (manifest_text m) end
   pub inside : ReadsManifest us Manifest_ m (i + 1) end
   pub closes : IsMark us end mark.CLOSE_BRACKET
   pub ends : end + 1 ≡ j
@@ -151,7 +152,7 @@ pub record ReadsBracketed (us : List Token) (m : Manifest) (i j : ℕ) : Type 0 
 pub read_bracketed : (us : List Token) (m : Manifest) → GoodManifest m → (i j : ℕ) → Stands us i (bracketed (manifest_text m)) j → ReadsBracketed us m i j
 read_bracketed us m good i j s =
     let r = split us (manifest_text m) (symbol mark.CLOSE_BRACKET ∷ []) (i + 1) j s.1 in
-    record { end = r.0; opens = s.0; inside = as_manifest m good us (i + 1) r.0 r.1; closes = r.2.0; ends = r.2.1 }
+    record { end = r.0; opens = s.0; stands = r.1; inside = as_manifest m good us (i + 1) r.0 r.1; closes = r.2.0; ends = r.2.1 }
 
 -- the second of two numbers in brackets begins where the first ends
 pub record ReadsTwo (us : List Token) (m n : Manifest) (i j : ℕ) : Type 0 where

@@ -13,11 +13,14 @@ use Rattle.silage_tree.specs.declared.tree.ConstDef.{ConstDef}
 use Rattle.silage_tree.specs.declared.tree.Decl.{Decl}
 use Rattle.silage_tree.specs.Tree.{Items, Func, Top, table, function, Program}
 use Rattle.silage_tree.specs.Places.{unplaced_lit, unplaced_items, unplaced_decl, unplaced_top, unplaced}
-use Rattle.silage_tree.specs.Grammar.{from_at, IsMark, IsWord, IsName, IsSigned, IsList, last, more, dim, IsDims, scalar, vector, matrix, IsType, fix, bool, Declared, typed, IsDeclared, declared, IsDecl, decl, Role, IsLocals, no_locals, some_locals, IsResults, one_result, results, IsWords, one_word, words, IsTop, is_table, is_function, IsTops, no_tops, one_top, Derives}
+use Rattle.silage_tree.specs.Grammar.{from_at, IsMark, IsWord, IsName, IsSigned, IsList, last, more, dim, IsDims, scalar, vector, matrix, IsType, fix, bool, Declared, typed, IsDeclared, declared, IsDecl, decl, Role, IsLocals, no_locals, some_locals, IsResults, one_result, results, IsWords, one_word, words, IsTop, is_table, is_function, IsTops, no_tops, one_top, HasRoles, Derives}
+use Rattle.silage_tree.specs.Limits.{AreWithin}
 use Rattle.silage_tree.specs.Text.{symbol, word, enclosed, listed, several, lit_text, dims_text, fix_text, type_text, decl_text, words_text, local_text, head_text, body_text, items_text, top_text, program_text}
 use Rattle.silage_tree.proofs.Numbers.{whole_written}
 use Rattle.silage_tree.proofs.Stands.{Stands, split, moved, IsWritten, AreWritten, no_kind, one_kind, joined, enclosed_written, TokensWritten}
 use Rattle.silage_tree.proofs.ReadParts.{GoodSigned, good_signed, GoodFix, good_fix, fix_written, fix_read}
+use Rattle.silage_tree.proofs.Lighter.{lighter_within}
+use Rattle.silage_tree.proofs.LightItems.{Has, light_table, light_function, light_no_tops, light_tops}
 use Rattle.silage_tree.proofs.ReadItems.{GoodItems, good_items}
 use Rattle.silage_tree.proofs.ReadLists.{ReadsBy, by_end, Goods, only, also, listed_written, listed_read, Grouped, bare, inside, grouped_read, one_of_several, goods_long}
 
@@ -125,7 +128,7 @@ good_decls ts w (last d) = only (good_decl ts w d)
 good_decls ts w (more d c rest) = also (good_decl ts w d) (good_decls ts w rest)
 
 decls_read : (us : List Token) {ds : List Decl} → Goods Decl GoodDecl ds → (i j : ℕ) → Stands us i (listed decl_text ds) j → ReadsBy (List Decl) (map unplaced_decl) (IsList us Decl (IsDecl us)) ds i j
-decls_read us gs i j s = listed_read Decl GoodDecl decl_text unplaced_decl us (IsDecl us) (IsList us Decl (IsDecl us)) (λ i j x d. last d) (λ i j k x xs d c rest. more d c rest) (decl_read us) gs i j s
+decls_read us gs i j s = listed_read Decl GoodDecl decl_text unplaced_decl us (λ d. IsDecl us) (λ ds. IsList us Decl (IsDecl us)) (λ i j x y d. last d) (λ i j k x y xs ys long d c rest. more d c rest) (decl_read us) gs i j s
 
 decls_written : {ds : List Decl} → Goods Decl GoodDecl ds → AreWritten (listed decl_text ds)
 decls_written gs = listed_written Decl GoodDecl decl_text decl_written gs
@@ -166,14 +169,14 @@ good_results : (ts : List Token) → TokensWritten ts → {i j : ℕ} {ds : List
 good_results ts w (one_result d) = only (good_decl ts w d)
 good_results ts w (results o ds c) = good_decls ts w ds
 
-results_of : (us : List Token) {ds : List Decl} {i j : ℕ} → Grouped Decl GoodDecl decl_text unplaced_decl us (IsDecl us) (IsList us Decl (IsDecl us)) (λ i j x d. last d) (λ i j k x xs d c rest. more d c rest) (decl_read us) ds i j
+results_of : (us : List Token) {ds : List Decl} {i j : ℕ} → Grouped Decl GoodDecl decl_text unplaced_decl us (λ d. IsDecl us) (λ ds. IsList us Decl (IsDecl us)) (λ i j x y d. last d) (λ i j k x y xs ys long d c rest. more d c rest) (decl_read us) ds i j
     → ReadsBy (List Decl) (map unplaced_decl) (IsResults us) ds i j
 results_of us (bare d) = record { tree = d.tree ∷ []; same = ap (λ z. z ∷ []) d.same; reads = one_result d.reads }
 results_of us (inside o ds c) = record { tree = ds.tree; same = ds.same; reads = results o ds.reads c }
 
 results_read : (us : List Token) {ds : List Decl} → Goods Decl GoodDecl ds → (i j : ℕ) → Stands us i (enclosed (several ds) (listed decl_text ds)) j → ReadsBy (List Decl) (map unplaced_decl) (IsResults us) ds i j
 results_read us {ds} gs i j s =
-    results_of us (grouped_read Decl GoodDecl decl_text unplaced_decl us (IsDecl us) (IsList us Decl (IsDecl us)) (λ i j x d. last d) (λ i j k x xs d c rest. more d c rest) (decl_read us)
+    results_of us (grouped_read Decl GoodDecl decl_text unplaced_decl us (λ d. IsDecl us) (λ ds. IsList us Decl (IsDecl us)) (λ i j x y d. last d) (λ i j k x y xs ys long d c rest. more d c rest) (decl_read us)
     gs (several ds) (one_of_several ds) i j s)
 
 -- Words.
@@ -188,7 +191,7 @@ good_words : (ts : List Token) → TokensWritten ts → {i j : ℕ} {ls : List L
 good_words ts w (one_word d) = only (good_signed ts w d)
 good_words ts w (words o ls c) = good_list ts w ls
 
-words_of : (us : List Token) {ls : List Lit} {i j : ℕ} → Grouped Lit GoodSigned lit_text unplaced_lit us (IsSigned us) (IsList us Lit (IsSigned us)) (λ i j x d. last d) (λ i j k x xs d c rest. more d c rest) (word_read us) ls i j
+words_of : (us : List Token) {ls : List Lit} {i j : ℕ} → Grouped Lit GoodSigned lit_text unplaced_lit us (λ l. IsSigned us) (λ ls. IsList us Lit (IsSigned us)) (λ i j x y d. last d) (λ i j k x y xs ys long d c rest. more d c rest) (word_read us) ls i j
     → ReadsBy (List Lit) (map unplaced_lit) (IsWords us) ls i j
 words_of us (bare d) = record { tree = d.tree ∷ []; same = ap (λ z. z ∷ []) d.same; reads = one_word d.reads }
 words_of us (inside o ls c) = record { tree = ls.tree; same = ls.same; reads = words o ls.reads c }
@@ -198,16 +201,13 @@ alone dims ls some h = grind (arith, nat_tests)
 
 words_read : (us : List Token) (dims : List ℕ) {ls : List Lit} → Goods Lit GoodSigned ls → (i j : ℕ) → Stands us i (words_text dims ls) j → ReadsBy (List Lit) (map unplaced_lit) (IsWords us) ls i j
 words_read us dims {ls} gs i j s =
-    words_of us (grouped_read Lit GoodSigned lit_text unplaced_lit us (IsSigned us) (IsList us Lit (IsSigned us)) (λ i j x d. last d) (λ i j k x xs d c rest. more d c rest) (word_read us)
+    words_of us (grouped_read Lit GoodSigned lit_text unplaced_lit us (λ l. IsSigned us) (λ ls. IsList us Lit (IsSigned us)) (λ i j x y d. last d) (λ i j k x y xs ys long d c rest. more d c rest) (word_read us)
     gs (nat_lt 0 (length dims) || nat_lt 1 (length ls)) (alone dims ls (goods_long gs)) i j s)
 
 -- Tables and functions.
-abbrev HasTop : List Token → ℕ → Top → ℕ → Type 0
-HasTop us i t j = (roles : List Role) × IsTop us i t roles j
-
 record GoodTop (t : Top) : Type 0 where
   written : AreWritten (top_text t)
-  reads : (us : List Token) (i j : ℕ) → Stands us i (top_text t) j → ReadsBy Top unplaced_top (HasTop us) t i j
+  reads : (us : List Token) (i j : ℕ) → Stands us i (top_text t) j → ReadsBy Top unplaced_top (Has IsTop us t) t i j
 
 record GoodTable (c : ConstDef) : Type 0 where
   name : IsWritten (kind.Name c.name)
@@ -229,7 +229,7 @@ good_table c g = record {
       by_end e.2.1 (record {
         tree = table (record { name = c.name; at = from_at us (i + 1); dims = c.dims; ty = c.ty; words = ls.tree });
         same = ap (λ z. table (record { name = c.name; at = 0; dims = c.dims; ty = c.ty; words = z })) ls.same;
-        reads = (_, is_table q.1.0 named q.2.0 type r.2.0 ls.reads e.2.0);
+        reads = record { roles = _; is = is_table q.1.0 named q.2.0 type r.2.0 ls.reads e.2.0; light = light_table i (e.0 + 1) };
       });
 }
 
@@ -299,7 +299,11 @@ good_function f g = record {
             ∙ ap (λ z. func_with f.name (map unplaced_decl f.params) z (map unplaced_decl ls.tree) (unplaced_items xs.tree)) h.same_results
             ∙ ap (λ z. func_with f.name (map unplaced_decl f.params) (map unplaced_decl f.results) z (unplaced_items xs.tree)) ls.same
             ∙ ap (λ z. func_with f.name (map unplaced_decl f.params) (map unplaced_decl f.results) (map unplaced_decl f.locals) z) xs.same;
-        reads = (_, is_function h.func h.name h.opens h.reads_params h.closes h.reads_results r.2.0 q.1.0 ls.reads xs.reads.1 e.2.0 e.2.1.0);
+        reads = record {
+          roles = _;
+          is = is_function h.func h.name h.opens h.reads_params h.closes h.reads_results r.2.0 q.1.0 ls.reads xs.reads.is e.2.0 e.2.1.0;
+          light = light_function i q.0 xs.reads.light;
+        };
       });
 }
 
@@ -309,12 +313,9 @@ good_top ts w (is_function {i = i} {name = name} a n o ps c rs d b ls xs e s) =
     good_function _ (record { name = w (i + 1) (kind.Name name) n; params = good_decls ts w ps; results = good_results ts w rs; locals = good_locals ts w ls; items = good_items ts w xs })
 
 -- Programs.
-abbrev HasTops : List Token → ℕ → List Top → ℕ → Type 0
-HasTops us i ts j = (roles : List Role) × IsTops us i ts roles j
-
 record GoodTops (tops : List Top) : Type 0 where
   written : AreWritten (flat_map top_text tops)
-  reads : (us : List Token) (i j : ℕ) → Stands us i (flat_map top_text tops) j → ReadsBy (List Top) (map unplaced_top) (HasTops us) tops i j
+  reads : (us : List Token) (i j : ℕ) → Stands us i (flat_map top_text tops) j → ReadsBy (List Top) (map unplaced_top) (Has IsTops us tops) tops i j
 
 more_tops : (t : Top) (rest : List Top) → GoodTop t → GoodTops rest → GoodTops (t ∷ rest)
 more_tops t rest g h = record {
@@ -323,17 +324,29 @@ more_tops t rest g h = record {
       let r = split us (top_text t) (flat_map top_text rest) i j s in
       let x = g.reads us i r.0 r.1 in
       let xs = h.reads us r.0 j r.2 in
-      record { tree = x.tree ∷ xs.tree; same = ap (λ z. z ∷ map unplaced_top xs.tree) x.same ∙ ap (λ z. unplaced_top t ∷ z) xs.same; reads = (_, one_top x.reads.1 xs.reads.1) };
+      record {
+        tree = x.tree ∷ xs.tree;
+        same = ap (λ z. z ∷ map unplaced_top xs.tree) x.same ∙ ap (λ z. unplaced_top t ∷ z) xs.same;
+        reads = record { roles = _; is = one_top x.reads.is xs.reads.is; light = light_tops x.reads.light xs.reads.light };
+      };
 }
 
 good_tops : (ts : List Token) → TokensWritten ts → {i j : ℕ} {tops : List Top} {rs : List Role} → IsTops ts i tops rs j → GoodTops tops
-good_tops ts w no_tops = record { written = no_kind; reads = λ us i j s. by_end s (record { tree = []; same = refl; reads = (_, no_tops) }) }
+good_tops ts w no_tops = record { written = no_kind; reads = λ us i j s. by_end s (record { tree = []; same = refl; reads = record { roles = _; is = no_tops; light = light_no_tops } }) }
 good_tops ts w (one_top t rest) = more_tops _ _ (good_top ts w t) (good_tops ts w rest)
+
+-- a program that is this one up to places, and no token of which passes a limit where those of this one pass none
+pub record ReadsProgram (us : List Token) (p : Program) : Type 0 where
+  pub tree : Program
+  pub same : unplaced tree ≡ unplaced p
+  pub roles : List Role
+  pub is : HasRoles us tree roles
+  pub within : (ts : List Token) (old : List Role) → HasRoles ts p old → AreWithin old → AreWithin roles
 
 -- the program's text is written, and tokens of its kinds are read as the program
 pub record GoodProgram (p : Program) : Type 0 where
   pub written : AreWritten (program_text p)
-  pub reads : (us : List Token) → Stands us 0 (program_text p) (length us) → (q : Program) × Derives us q × (unplaced q ≡ unplaced p)
+  pub reads : (us : List Token) → Stands us 0 (program_text p) (length us) → ReadsProgram us p
 
 pub good_program : (ts : List Token) → TokensWritten ts → (p : Program) → Derives ts p → GoodProgram p
 good_program ts w p d =
@@ -342,5 +355,11 @@ good_program ts w p d =
       written = g.written;
       reads = λ us s.
           let x = g.reads us 0 (length us) s in
-          (record { tops = x.tree }, x.reads, ap (λ z. record { tops = z }) x.same);
+          record {
+            tree = record { tops = x.tree };
+            same = ap (λ z. record { tops = z }) x.same;
+            roles = x.reads.roles;
+            is = x.reads.is;
+            within = λ ts old d. lighter_within x.reads.roles old (x.reads.light ts 0 (length ts) old d);
+          };
     }

@@ -21,6 +21,10 @@ pub data Passes (roles : List Role) (k : ℕ) : Type 0 where
   too_heavy : slice_get roles k ≡ Some Weighs → fold weigh 0 (take k roles) ≡ 256 → Passes roles k
   too_deep : slice_get roles k ≡ Some Enters → fold enter 0 (take k roles) ≡ 16 → Passes roles k
 
+-- no token passes a limit
+abbrev pub AreWithin : List Role → Type 0
+AreWithin roles = (k : ℕ) → ¬ Passes roles k
+
 -- two lists of tokens have the same first tokens
 abbrev pub AgreeBelow : List Token → List Token → ℕ → Type 0
 AgreeBelow ts us k = (m : ℕ) → m < k → slice_get ts m ≡ slice_get us m

@@ -4,9 +4,10 @@ ghost use Rattle.std.specs.Prelude.{◌≡◌, ◌||◌, nat_lt, OnOk, IfOk};
 ghost use Rattle.std.specs.List.{flat_map};
 ghost use Rattle.silage_tree.specs.Tree.{view_items, view_func, view_top, view};
 ghost use Rattle.silage_lex.specs.Tokens.{HasTokens, TokenList};
-ghost use Rattle.silage_tree.specs.Grammar.{Derives};
+ghost use Rattle.silage_tree.specs.Grammar.{HasRoles, Derives};
+ghost use Rattle.silage_tree.specs.Limits.{AreWithin};
 ghost use Rattle.silage_tree.specs.Parentheses.{ExprsNeedThem, ManifestsNeedThem};
-ghost use Rattle.silage_tree.specs.ReadAgain.{ByteList, ProgramTree, IsReadAgain};
+ghost use Rattle.silage_tree.specs.ReadAgain.{ByteList, ProgramTree, RoleList, IsReadAgain, IsReadWithin};
 ghost use Rattle.silage_tree.specs.Text.{Puts, enclosed, listed, decl_text, words_text, table_text, local_text, head_text, body_text, func_text, top_text, canonical};
 
 use crate::marks::{BEGIN, COLON, CONST, DEFINES, END, FUNC, SEMICOLON, VAR};
@@ -135,9 +136,11 @@ pub fn print(alloc: Global, program: &Program) -> Result<Bytes, TreeFault>
     Ok(out)
 }
 
-/// The canonical text of a program that some source has is read as that program, up to places.
+/// The canonical text of a program that some source has is read as that program, up to places, and no token of the text passes
+/// a limit where none of the source does.
 pub fn print_is_read()
-    ensures { (bytes : ByteList) → (tokens : TokenList) → (program : ProgramTree) → HasTokens bytes tokens → Derives tokens program → IsReadAgain program }
+    ensures again { (bytes : ByteList) → (tokens : TokenList) → (program : ProgramTree) → HasTokens bytes tokens → Derives tokens program → IsReadAgain program }
+    ensures within { (bytes : ByteList) → (tokens : TokenList) → (program : ProgramTree) → (roles : RoleList) → HasTokens bytes tokens → HasRoles tokens program roles → AreWithin roles → IsReadWithin program }
 {}
 
 /// Parentheses are needed where the canonical text has them for a part that is looser than its place asks.

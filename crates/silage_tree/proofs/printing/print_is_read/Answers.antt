@@ -1,12 +1,31 @@
--- The text has tokens of the program's kinds, and those are read as the program.
-use Rattle.silage_tree.specs.Text.{program_text}
-use Rattle.silage_tree.proofs.ReadPrograms.{good_program}
+-- The text has tokens of the program's kinds, and those are read as the program, with roles that are lighter than the source's.
+use Rattle.silage_lex.specs.Tokens.{HasTokens, TokenList}
+use Rattle.silage_tree.specs.Tree.{Program}
+use Rattle.silage_tree.specs.Grammar.{Derives}
+use Rattle.silage_tree.specs.Text.{program_text, canonical}
+use Rattle.silage_tree.specs.ReadAgain.{ByteList, IsReadAgain}
+use Rattle.silage_tree.proofs.ReadPrograms.{good_program, ReadsProgram}
 use Rattle.silage_tree.proofs.Tokens.{tokens_written, spelled_tokens}
 use Rattle.silage_tree.proofs.printing.print_is_read.Goals as goal
 
-pub returns : goal.returns
-returns c = λ bytes tokens program has derives.
+record Again (program : Program) : Type 0 where
+  tokens : TokenList
+  has_tokens : HasTokens (canonical program) tokens
+  reads : ReadsProgram tokens program
+
+read_again : (bytes : ByteList) (tokens : TokenList) (program : Program) → HasTokens bytes tokens → Derives tokens program → Again program
+read_again bytes tokens program has derives =
     let good = good_program tokens (tokens_written bytes tokens has) program derives in
     let spelled = spelled_tokens (program_text program) good.written in
-    let read = good.reads spelled.tokens spelled.stands in
-    record { tokens = spelled.tokens; has_tokens = spelled.has; read = read.0; derives = read.1; same = read.2 }
+    record { tokens = spelled.tokens; has_tokens = spelled.has; reads = good.reads spelled.tokens spelled.stands }
+
+abbrev is_read : {program : Program} → Again program → IsReadAgain program
+is_read a = record { tokens = a.tokens; has_tokens = a.has_tokens; read = a.reads.tree; derives = (a.reads.roles, a.reads.is); same = a.reads.same }
+
+pub returns-clause-again : goal.returns-clause-again
+returns-clause-again c = λ bytes tokens program has derives. is_read (read_again bytes tokens program has derives)
+
+pub returns-clause-within : goal.returns-clause-within
+returns-clause-within c = λ bytes tokens program roles has derives within.
+    let a = read_again bytes tokens program has (roles, derives) in
+    record { again = is_read a; roles = a.reads.roles; has_roles = a.reads.is; within = a.reads.within tokens roles derives within }
