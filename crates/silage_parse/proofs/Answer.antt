@@ -38,7 +38,7 @@ valid_start = (refl, λ f t h. h, (inr (refl, refl), tt))
 run_on : {ts : List Token} {o : Outcome} → RunsTo ts o → Runs ts start 0 no_count [] o
 run_on (goes r) = r
 
-read_on : {us : List Token} {rs : List Role} {j : ℕ} {ws : List Value} → Reads us (Go Source ∷ []) 0 [] rs j ws → Reads us start 0 [] rs j ws
+pub read_on : {us : List Token} {rs : List Role} {j : ℕ} {ws : List Value} → Reads us (Go Source ∷ []) 0 [] rs j ws → Reads us start 0 [] rs j ws
 read_on {us} {j = j} {ws = ws} (r_go {rs = rs} {qs = qs} way a b) =
     subst (λ ps. Reads us (ps ++ []) 0 [] (rs ++ qs) j ws) (sym (only_one way)) (append a b)
 

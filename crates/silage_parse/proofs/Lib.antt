@@ -33,3 +33,4 @@ pub mod Factored
 pub mod Loops
 pub mod Answers
 pub mod Sources
+pub mod Within
