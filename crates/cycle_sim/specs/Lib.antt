@@ -1,7 +1,9 @@
 pub mod Places
 pub mod Files
 pub mod Effects
-pub mod Rings
+pub mod UnderWay
+pub mod Window
+pub mod Jobs
 pub mod Cycle
 pub mod Issues
 pub mod Clashes

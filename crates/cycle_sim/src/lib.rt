@@ -2,20 +2,22 @@
 #![tactic(auto)]
 
 mod actions;
-mod checks;
+mod astray;
 mod clash;
 mod cycle;
-mod effect;
+mod foreseen;
 mod hardware;
 mod issue;
+mod known;
 mod load;
 mod machine;
 mod operand;
-mod ring;
 mod standing;
 mod step;
 mod store;
 mod time;
+mod under_way;
+mod window;
 
 pub use machine::{LoadFault, Machine};
 pub use micro_image::{Conflict, ConflictKind};
