@@ -48,6 +48,17 @@ def wide(size):
     return image(count // 4, 4, [16], 1, units, 32, [full] * count)
 
 
+def crowded(size):
+    """A valid image of at most so many bytes: words full of issues, with no enables or takes. It is for reading, not for running."""
+    operations = [("in", "input"), ("rom", "const"), ("alu", "add"), ("mul", "mul"), ("sel", "sel"), ("alu", "lt"),
+                  ("ram", "store"), ("out", "output")] * 4
+    units = [unit(kind, cells=16) for kind, _ in operations]
+    full = word([issue(number, operation, [number % 16] * PORTS[kind])
+                 for number, (kind, operation) in enumerate(operations)])
+    count = min((size - 20000) // len(full) // 4 * 4, 4 * 4096)
+    return image(count // 4, 4, [16], 1, units, 1, [full] * count)
+
+
 def busy(period=256):
     """An image that runs without a conflict: eight units, of which seven drive a bus each cycle."""
     units = [unit("in"), unit("rom"), unit("alu"), unit("alu"), unit("alu"), unit("mul", latency=2),

@@ -3,6 +3,7 @@ use fix_word::{Format, Mode, Op};
 use lists::{Bytes, List};
 use micro_image::{Enable, Image, Issue, Kind, PortRef, Take, UnitDesc, Word};
 use std::alloc::{AllocError, Global};
+use std::process::Abort;
 use std::test::Fail;
 
 /// The file of y = x + 1, for words of 8 bits on four units and one bus.
@@ -216,8 +217,21 @@ fn is_spelled(alloc: Global, bytes: &[u8], edit: &Edit) -> Result<bool, Fail> {
     }
 }
 
+/// Each edit of the file spells nothing.
+fn refuse_all(rt: &impl Abort, alloc: Global, bytes: &[u8], edits: &[Edit]) -> Result<(), Fail> {
+    for edit in edits.iter() {
+        assert!(rt;
+            !is_spelled(alloc, bytes, edit)?,
+            "{}: {:?}",
+            edit.at,
+            edit.put
+        );
+    }
+    Ok(())
+}
+
 #[test]
-fn a_field_that_is_not_allowed_spells_nothing(rt: HostRuntime) -> Result<(), Fail> {
+fn a_head_that_is_not_allowed_spells_nothing(rt: HostRuntime) -> Result<(), Fail> {
     let edits = [
         // The head.
         splice(0, 1, &[82]),
@@ -242,6 +256,13 @@ fn a_field_that_is_not_allowed_spells_nothing(rt: HostRuntime) -> Result<(), Fai
         splice(9, 1, &[33]),
         splice(10, 1, &[0]),
         splice(10, 1, &[17]),
+    ];
+    refuse_all(&rt, rt.alloc(), &INCREMENT, &edits)
+}
+
+#[test]
+fn units_or_buses_that_are_not_allowed_spell_nothing(rt: HostRuntime) -> Result<(), Fail> {
+    let edits = [
         // Units: their number, a kind, a latency, a gap, a file's size, a register.
         splice(11, 1, &[0]),
         splice(11, 1, &[33]),
@@ -257,6 +278,13 @@ fn a_field_that_is_not_allowed_spells_nothing(rt: HostRuntime) -> Result<(), Fai
         // Buses.
         splice(174, 1, &[0]),
         splice(174, 1, &[33]),
+    ];
+    refuse_all(&rt, rt.alloc(), &INCREMENT, &edits)
+}
+
+#[test]
+fn an_issue_that_is_not_allowed_spells_nothing(rt: HostRuntime) -> Result<(), Fail> {
+    let edits = [
         // Issues: their number, a unit, an operation, one of another kind, no format, an input's number.
         splice(175, 1, &[5]),
         splice(176, 1, &[4]),
@@ -268,33 +296,6 @@ fn a_field_that_is_not_allowed_spells_nothing(rt: HostRuntime) -> Result<(), Fai
         splice(180, 1, &[1]),
         splice(181, 8, &[255, 255, 255, 255, 255, 255, 255, 255]),
         splice(181, 8, &[0, 0, 0, 0, 0, 0, 0, 1]),
-        // A constant, a format, an argument that is not read, a register, an output's number.
-        splice(205, 8, &[255, 255, 255, 255, 127, 255, 255, 255]),
-        splice(205, 8, &[0, 0, 0, 0, 128, 0, 0, 0]),
-        splice(226, 1, &[223]),
-        splice(226, 1, &[65]),
-        splice(227, 1, &[2]),
-        splice(228, 1, &[0]),
-        splice(228, 1, &[33]),
-        splice(229, 8, &[255, 255, 255, 255, 255, 255, 255, 255]),
-        splice(229, 8, &[0, 0, 0, 0, 0, 0, 0, 1]),
-        splice(237, 1, &[8]),
-        splice(238, 1, &[8]),
-        splice(255, 8, &[255, 255, 255, 255, 255, 255, 255, 255]),
-        splice(255, 8, &[0, 0, 0, 0, 0, 0, 0, 1]),
-        splice(263, 1, &[2]),
-        // Enables: their number, a unit, a bus.
-        splice(189, 2, &[4, 1]),
-        splice(191, 1, &[4]),
-        splice(192, 1, &[1]),
-        // Takes: their number, a unit, a port, a bus, a register.
-        splice(193, 2, &[4, 1]),
-        splice(195, 1, &[4]),
-        splice(196, 1, &[2]),
-        splice(197, 1, &[1]),
-        splice(198, 1, &[8]),
-        // A register at a port that is not read.
-        splice(225, 14, &[5, 0, 0, 8, 0, 0, 0, 0, 0, 0, 0, 0, 0, 1]),
         // Two issues on one unit, and on units that fall.
         splice(
             175,
@@ -310,6 +311,47 @@ fn a_field_that_is_not_allowed_spells_nothing(rt: HostRuntime) -> Result<(), Fai
                 2, 1, 2, 0, 0, 0, 0, 0, 0, 0, 0, 0, 0, 1, 0, 0, 0, 0, 0, 0, 0, 0, 0, 0, 0, 0, 0,
             ],
         ),
+    ];
+    refuse_all(&rt, rt.alloc(), &INCREMENT, &edits)
+}
+
+#[test]
+fn an_operand_that_is_not_allowed_spells_nothing(rt: HostRuntime) -> Result<(), Fail> {
+    let edits = [
+        // A constant, a format, an argument that is not read, a register, an output's number.
+        splice(205, 8, &[255, 255, 255, 255, 127, 255, 255, 255]),
+        splice(205, 8, &[0, 0, 0, 0, 128, 0, 0, 0]),
+        splice(226, 1, &[223]),
+        splice(226, 1, &[65]),
+        splice(227, 1, &[2]),
+        splice(228, 1, &[0]),
+        splice(228, 1, &[33]),
+        splice(229, 8, &[255, 255, 255, 255, 255, 255, 255, 255]),
+        splice(229, 8, &[0, 0, 0, 0, 0, 0, 0, 1]),
+        splice(237, 1, &[8]),
+        splice(238, 1, &[8]),
+        splice(255, 8, &[255, 255, 255, 255, 255, 255, 255, 255]),
+        splice(255, 8, &[0, 0, 0, 0, 0, 0, 0, 1]),
+        splice(263, 1, &[2]),
+        // A register at a port that is not read.
+        splice(225, 14, &[5, 0, 0, 8, 0, 0, 0, 0, 0, 0, 0, 0, 0, 1]),
+    ];
+    refuse_all(&rt, rt.alloc(), &INCREMENT, &edits)
+}
+
+#[test]
+fn an_enable_or_take_that_is_not_allowed_spells_nothing(rt: HostRuntime) -> Result<(), Fail> {
+    let edits = [
+        // Enables: their number, a unit, a bus.
+        splice(189, 2, &[4, 1]),
+        splice(191, 1, &[4]),
+        splice(192, 1, &[1]),
+        // Takes: their number, a unit, a port, a bus, a register.
+        splice(193, 2, &[4, 1]),
+        splice(195, 1, &[4]),
+        splice(196, 1, &[2]),
+        splice(197, 1, &[1]),
+        splice(198, 1, &[8]),
         // Enables and takes that stay or fall.
         splice(239, 4, &[0, 2, 2, 0, 2, 0]),
         splice(239, 4, &[0, 2, 2, 0, 1, 0]),
@@ -317,19 +359,18 @@ fn a_field_that_is_not_allowed_spells_nothing(rt: HostRuntime) -> Result<(), Fai
         splice(243, 6, &[0, 2, 3, 0, 0, 1, 3, 0, 0, 0]),
         splice(243, 6, &[0, 2, 3, 0, 0, 0, 2, 1, 0, 0]),
         splice(243, 6, &[0, 2, 2, 1, 0, 0, 2, 0, 0, 1]),
+    ];
+    refuse_all(&rt, rt.alloc(), &INCREMENT, &edits)
+}
+
+#[test]
+fn a_byte_less_or_more_spells_nothing(rt: HostRuntime) -> Result<(), Fail> {
+    let edits = [
         // A byte less, a byte more.
         splice(327, 1, &[]),
         splice(328, 0, &[0]),
     ];
-    for edit in edits.iter() {
-        assert!(rt;
-            !is_spelled(rt.alloc(), &INCREMENT, edit)?,
-            "{}: {:?}",
-            edit.at,
-            edit.put
-        );
-    }
-    Ok(())
+    refuse_all(&rt, rt.alloc(), &INCREMENT, &edits)
 }
 
 #[test]
@@ -349,15 +390,7 @@ fn the_fields_of_a_memory_are_judged_too(rt: HostRuntime) -> Result<(), Fail> {
         splice(87, 1, &[1]),
         splice(88, 1, &[1]),
     ];
-    for edit in edits.iter() {
-        assert!(rt;
-            !is_spelled(rt.alloc(), &MEMORY, edit)?,
-            "{}: {:?}",
-            edit.at,
-            edit.put
-        );
-    }
-    Ok(())
+    refuse_all(&rt, rt.alloc(), &MEMORY, &edits)
 }
 
 #[test]
