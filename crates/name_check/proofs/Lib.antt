@@ -1,0 +1,14 @@
+pub mod FirstMet
+pub mod FirstPlaces
+pub mod Callees
+pub mod Reached
+pub mod Backward
+pub mod CallGraph
+pub mod FoundNames
+pub mod ApartNames
+pub mod TreeRows
+pub mod AllDecls
+pub mod NameAnswers
+pub mod MainFound
+pub mod FewTops
+pub mod Examples

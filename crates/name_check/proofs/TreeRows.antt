@@ -1,0 +1,79 @@
+-- The branches of a conditional and the items of a loop are the lists that they were made of.
+use Rattle.std.proofs.Common.{◌≡◌, ℕ, List, ◌∷◌, Vec, Box, Result, Ok, Err, IsErrAnd, refl, sym, ap, ◌∙◌, map}
+use Rattle.std.specs.Global.{Global}
+use mathlib.Core.Former.{Count}
+use Rattle.silage_tree.specs.declared.tree.Expr.{Expr as RustExpr, Choose, Choose', Row_of-Expr-Choose-1-2, end_of-Expr-Choose-1-2, more_of-Expr-Choose-1-2, items-the_row-Expr-Choose-1-2, items_hidden-the_row-Expr-Choose-1-2-0}
+use Rattle.silage_tree.specs.declared.tree.Manifest.{Manifest as RustManifest}
+use Rattle.silage_tree.specs.declared.tree.Item.{Item as RustItem, Loop, Loop', Row_of-Item, end_of-Item, more_of-Item, items-the_row-Item, items_hidden-the_row-Item-0}
+use Rattle.silage_tree.specs.Tree.{Program, Func, branch, choose, loop, item, items_of, view_expr, view_branches, view_manifest, view_item, view_row, view_items}
+use Rattle.ranked_faults.specs.Rules.{first, parts, ◌>>◌}
+use Rattle.ranked_faults.proofs.TableFaults.{then_ok, err_is}
+use Rattle.name_check.specs.Scopes.{view_arms}
+use Rattle.name_check.specs.NameRules.{expr_rules, branch_rules, turns_rules, item_rules, items_rules}
+use Rattle.name_check.specs.declared.fault.NameFault.{NameFault}
+
+row_arms : (m : _) (k : Row_of-Expr-Choose-1-2 m) → view_branches k ≡ view_arms (items-the_row-Expr-Choose-1-2 m k)
+row_arms _ end_of-Expr-Choose-1-2 = refl
+row_arms _ (more_of-Expr-Choose-1-2 {n = n} a b rest) = ap (λ x. branch (view_expr a) (view_expr b) x) (row_arms n rest)
+
+abbrev row_of : RustExpr → (n : Count) × Row_of-Expr-Choose-1-2 n
+row_of (Choose' at shape row p e) = (_, row)
+row_of _ = (_, end_of-Expr-Choose-1-2)
+
+pub view_Choose : (at : ℕ) (v : Vec (RustExpr × RustExpr) Global) (b : Box RustExpr Global) → view_expr (Choose at v b) ≡ choose at (view_arms v.items) (view_expr b.value)
+view_Choose at v b =
+    let row = row_of (Choose at v b) in
+    let same = items_hidden-the_row-Expr-Choose-1-2-0 v in
+    ap (λ bs. choose at bs (view_expr b.value)) (row_arms row.0 row.1 ∙ ap view_arms same)
+
+row_items : (m : _) (k : Row_of-Item m) → view_row k ≡ items_of (map view_item (items-the_row-Item m k))
+row_items _ end_of-Item = refl
+row_items _ (more_of-Item {n = n} x rest) = ap (λ xs. item (view_item x) xs) (row_items n rest)
+
+abbrev row_of_loop : RustItem → (n : Count) × Row_of-Item n
+row_of_loop (Loop' index lo hi shape row at) = (_, row)
+row_of_loop _ = (_, end_of-Item)
+
+pub view_Loop : (index : List ℕ) (lo hi : RustManifest) (v : Vec RustItem Global) (at : ℕ) → view_item (Loop index lo hi v at) ≡ loop index (view_manifest lo) (view_manifest hi) (view_items v.items) at
+view_Loop index lo hi v at =
+    let row = row_of_loop (Loop index lo hi v at) in
+    let same = items_hidden-the_row-Item-0 v in
+    ap (λ xs. loop index (view_manifest lo) (view_manifest hi) xs at) (row_items row.0 row.1 ∙ ap view_items same)
+
+-- a conditional is met by its branches and then its last value
+module _ (p : Program) (f : Func) (indices : List (List ℕ)) (e : RustExpr) (at : ℕ) (v : Vec (RustExpr × RustExpr) Global) (b : Box RustExpr Global) (is : e ≡ Choose at v b) where
+  abbrev first_arms : List (RustExpr × RustExpr) → Result (Unit {0}) NameFault
+  first_arms arms = first (parts (branch_rules p f indices (view_arms arms)))
+
+  whole_choice : first (expr_rules p f indices (view_expr e)) ≡ first_arms v.items >> (first (expr_rules p f indices (view_expr b.value)) >> Ok tt)
+  whole_choice = ap (λ x. first (expr_rules p f indices x)) (ap view_expr is ∙ view_Choose at v b)
+
+  pub arms_fail : (arms : List (RustExpr × RustExpr)) (r : Result (Unit {0}) NameFault) (err : NameFault) → arms ≡ v.items → Err err ≡ first_arms arms → IsErrAnd r (λ x. x ≡ err)
+      → r ≡ first (expr_rules p f indices (view_expr e))
+  arms_fail arms r err a h fails =
+      let met : first_arms v.items ≡ Err err = sym (h ∙ ap first_arms a) in
+      err_is r err fails ∙ sym (whole_choice ∙ ap (λ x. x >> (first (expr_rules p f indices (view_expr b.value)) >> Ok tt)) met)
+
+  pub arms_pass : (arms : List (RustExpr × RustExpr)) (last : RustExpr) (r : Result (Unit {0}) NameFault) → arms ≡ v.items → last ≡ b.value → Ok tt ≡ first_arms arms → r ≡ first (expr_rules p f indices (view_expr last))
+      → r ≡ first (expr_rules p f indices (view_expr e))
+  arms_pass arms last r a l h g =
+      let met : first_arms v.items ≡ Ok tt = sym (h ∙ ap first_arms a) in
+      let rest : first (expr_rules p f indices (view_expr b.value)) ≡ r = sym (g ∙ ap (λ x. first (expr_rules p f indices (view_expr x))) l) in
+      sym (whole_choice ∙ ap (λ x. x >> (first (expr_rules p f indices (view_expr b.value)) >> Ok tt)) met ∙ then_ok _ ∙ rest)
+
+-- a loop is met by its index and bounds and then its items
+module _ (p : Program) (f : Func) (indices : List (List ℕ)) (x : RustItem) (index : List ℕ) (lo hi : RustManifest) (v : Vec RustItem Global) (at : ℕ) (is : x ≡ Loop index lo hi v at) where
+  abbrev turns : Result (Unit {0}) NameFault
+  turns = first (turns_rules p f indices index (view_manifest lo) (view_manifest hi) at)
+
+  abbrev first_items : List RustItem → Result (Unit {0}) NameFault
+  first_items xs = first (parts (items_rules p f (index ∷ indices) (view_items xs)))
+
+  whole_loop : first (item_rules p f indices (view_item x)) ≡ turns >> (first_items v.items >> Ok tt)
+  whole_loop = ap (λ y. first (item_rules p f indices y)) (ap view_item is ∙ view_Loop index lo hi v at)
+
+  pub turns_fail : (r : Result (Unit {0}) NameFault) (err : NameFault) → Err err ≡ turns → IsErrAnd r (λ e. e ≡ err) → r ≡ first (item_rules p f indices (view_item x))
+  turns_fail r err h fails = err_is r err fails ∙ ap (λ s. s >> (first_items v.items >> Ok tt)) h ∙ sym whole_loop
+
+  pub turns_pass : (xs : List RustItem) (r : Result (Unit {0}) NameFault) → xs ≡ v.items → Ok tt ≡ turns → r ≡ first_items xs → r ≡ first (item_rules p f indices (view_item x))
+  turns_pass xs r a h g = g ∙ ap first_items a ∙ sym (then_ok (first_items v.items)) ∙ ap (λ s. s >> (first_items v.items >> Ok tt)) h ∙ sym whole_loop

@@ -1,0 +1,48 @@
+//! Sizes of arrays and of words.
+
+ghost use Rattle.std.specs.Prelude.{◌≡◌, length, if◌then◌else◌, Some, None};
+ghost use Rattle.silage_tree.specs.Names as name;
+ghost use Rattle.name_check.specs.Meanings as meaning;
+
+use fix_word::{FixType, SigType};
+
+/// The most elements of an array, and the greatest of its dims.
+const MOST: u32 = 8192;
+
+/// How many elements an array with these dims has, if they are allowed.
+pub(crate) fn element_count(dims: &[u32]) -> Option<u32>
+    ensures { result ≡ (if meaning.are_dims dims.now then Some (name.element_count dims.now) else None) }
+{
+    match dims {
+        [] => Some(1),
+        [dim, rest @ ..] => {
+            let count = element_count(rest)?;
+            if *dim < 1 || *dim > MOST || *dim * count > MOST {
+                return None;
+            }
+            Some(*dim * count)
+        }
+    }
+}
+
+pub(crate) fn are_dims(dims: &[u32]) -> bool
+    ensures { result ≡ meaning.are_dims dims.now }
+{
+    element_count(dims).is_some()
+}
+
+/// Whether a word has 1 to 32 bits, and no more of them behind the point.
+pub(crate) fn is_fix_type(ty: &FixType) -> bool
+    ensures { result ≡ meaning.is_fix_type ty.now }
+{
+    1 <= ty.shape.w && ty.shape.w <= 32 && ty.shape.f <= ty.shape.w
+}
+
+pub(crate) fn is_signal_type(ty: &SigType) -> bool
+    ensures { result ≡ meaning.is_signal_type ty.now }
+{
+    match ty {
+        SigType::Fix(ty) => is_fix_type(ty),
+        SigType::Bool => true,
+    }
+}

@@ -1,0 +1,2 @@
+//! Faults with ranks.
+#![tactic(auto)]
