@@ -30,11 +30,17 @@ def run(call, turns, file):
     return time.monotonic() - started
 
 
-def seconds_a_turn(call, file, turns, tries=3):
-    """The time of one turn: that of so many turns and one, less that of one, by the best of some tries."""
-    one = min(run(call, 1, file) for _ in range(tries))
-    many = min(run(call, turns + 1, file) for _ in range(tries))
-    return max(many - one, 1e-9) / turns
+def best(call, turns, file):
+    """The shortest of at least three runs, and of as many as take half a second: a short run says little by itself."""
+    times = []
+    while len(times) < 3 or sum(times) < 0.5:
+        times.append(run(call, turns, file))
+    return min(times)
+
+
+def seconds_a_turn(call, file, turns):
+    """The time of one turn: that of so many turns and one, less that of one."""
+    return max(best(call, turns + 1, file) - best(call, 1, file), 1e-9) / turns
 
 
 def peak_of_children():

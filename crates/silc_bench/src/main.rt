@@ -9,13 +9,15 @@ use anyhow::{Context, Result, bail};
 use cycle_sim::Machine;
 use micro_file::{decode, encode};
 use micro_image::Image;
+use name_check::check_names;
 use silage_lex::{Tokens, lex};
 use silage_parse::parse;
+use silage_tree::Program;
 use std::alloc::Global;
 use std::rt::{Env, Files};
 use std::{env, fs};
 
-const USAGE: &str = "usage: silc_bench decode|encode|clock|lex|parse TURNS FILE";
+const USAGE: &str = "usage: silc_bench decode|encode|clock|lex|parse|names TURNS FILE";
 
 /// A microcode file is at most this long, and so is a source.
 const MICROCODE_LIMIT: usize = 1 << 26;
@@ -113,6 +115,34 @@ fn parse_again(alloc: Global, turns: u32, bytes: &[u8]) -> Result<u64> {
     Ok(tops)
 }
 
+/// The program of a source.
+fn program_of(alloc: Global, bytes: &[u8]) -> Result<Program> {
+    let tokens = tokens_of(alloc, bytes)?;
+    if tokens.len() > SOURCE_LIMIT {
+        bail!("there are too many tokens");
+    }
+    match parse(alloc, &tokens) {
+        Ok(program) => Ok(program),
+        Err(_) => bail!("the file is no program"),
+    }
+}
+
+/// How many tables and functions stand before those called main.
+fn names_again(alloc: Global, turns: u32, bytes: &[u8]) -> Result<u64> {
+    let program = program_of(alloc, bytes)?;
+    if program.tops.len() > SOURCE_LIMIT {
+        bail!("there are too many tables and functions");
+    }
+    let mut before = 0u64;
+    for _ in 0..turns {
+        match check_names(alloc, &program) {
+            Ok(names) => before = before.wrapping_add(u64::from(names.main)),
+            Err(_) => bail!("the names break a rule"),
+        }
+    }
+    Ok(before)
+}
+
 fn measure<R: Env + Files + AllocGlobal>(rt: &R) -> Result<u64> {
     let words = env::args(rt)?.collect(rt.alloc())?;
     let words: Vec<String> = words;
@@ -127,6 +157,7 @@ fn measure<R: Env + Files + AllocGlobal>(rt: &R) -> Result<u64> {
         "clock" => clock_again(rt.alloc(), turns, &bytes),
         "lex" => lex_again(rt.alloc(), turns, &bytes),
         "parse" => parse_again(rt.alloc(), turns, &bytes),
+        "names" => names_again(rt.alloc(), turns, &bytes),
         _ => bail!("{USAGE}"),
     }
 }
