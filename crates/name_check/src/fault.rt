@@ -3,32 +3,43 @@
 ghost use Rattle.std.specs.Prelude.{◌≡◌};
 
 use std::alloc::{AllocError, AllocFailed};
+use thiserror::Error;
 
-/// Why the names of a program are refused, each with the byte at which the fault stands.
-#[derive(Debug, Clone, Copy, PartialEq, Eq, Drop)]
+/// Why the names of a program are refused, each with its source position, a byte offset.
+#[derive(Debug, Clone, Copy, PartialEq, Eq, Drop, Error)]
 pub enum NameFault {
-    /// Nothing that may stand there has the name.
+    /// An undefined name: nothing that may be used there has it.
+    #[error("unknown name")]
     Unknown(u32),
-    /// A name that is taken already.
+    /// A duplicate definition: the name is taken already.
+    #[error("declared twice")]
     Twice(u32),
     /// The first function that can reach itself by calls.
+    #[error("recursive function")]
     Recursive(u32),
     /// No function is called `main`.
+    #[error("no main")]
     NoMain,
-    /// A number of words, subscripts, arguments or results that is not the declared one, or an array that is not handed on whole.
+    /// An arity mismatch: another number of words, subscripts, arguments or results than is declared, or an array that
+    /// is not passed whole.
+    #[error("wrong count")]
     Arity(u32),
     /// A size that is out of range.
+    #[error("bad size")]
     Size(u32),
-    /// Want of memory.
+    /// Out of memory.
+    #[error("no memory")]
     Memory,
 }
 
-/// Why a manifest number has no value.
-#[derive(Debug, Clone, Copy, PartialEq, Eq, Drop)]
+/// Why a manifest constant has no value.
+#[derive(Debug, Clone, Copy, PartialEq, Eq, Drop, Error)]
 pub enum ManifestFault {
-    /// A number on the way is below -2^31 or above 2^31-1.
+    /// An intermediate value is below -2^31 or above 2^31-1.
+    #[error("manifest number out of range")]
     Overflow,
-    /// No loop round the place has the index.
+    /// No loop around the place has the index.
+    #[error("unknown index")]
     Unbound,
 }
 

@@ -13,6 +13,7 @@ pub use channel::Channel;
 use lists::List;
 pub use read::read_rows;
 use std::alloc::AllocError;
+use thiserror::Error;
 pub use write::put_row;
 
 /// The rows of a sample file. Row `n` holds the raw words at the places `n * width` to
@@ -24,7 +25,8 @@ pub struct RowList {
 }
 
 /// The first place of a sample file that is no row.
-#[derive(Clone, Copy, PartialEq, Debug)]
+#[derive(Debug, Clone, Copy, PartialEq, Eq, Drop, Error)]
+#[error("samples line {line} byte {at}")]
 pub struct RowFault {
     /// The line, from 1.
     pub line: u64,
@@ -34,11 +36,13 @@ pub struct RowFault {
 }
 
 /// Why a sample file was not read.
-#[derive(Clone, Copy, PartialEq, Debug)]
+#[derive(Debug, Clone, Copy, PartialEq, Eq, Drop, Error)]
 pub enum RowsReadFault {
     /// A line is no row.
+    #[error(transparent)]
     Row(RowFault),
     /// There was no memory for the rows.
+    #[error("no memory")]
     Memory,
 }
 
