@@ -1,7 +1,7 @@
 -- How the calls of a desk follow one another. What is said here of any views holds over any desk.
-use Rattle.std.proofs.Common.{arith, ◌≡◌, ◌≢◌, refl, sym, ◌∙◌, ap, subst, inl, inr, ℕ, zero, suc, ◌+◌, ◌-◌, ◌≤◌, List, ◌++◌, take, Option, Some, Bool}
-use Rattle.desk_core.specs.View.{Name, Content, Files, View}
-use Rattle.desk_core.specs.Desk.{Rose, FaultsNeverFall, Told, IsPut, content_of, IsSameInput, HasNoInput, IsReading, IsTaken, IsRead, IsWriting, IsWritten}
+use Rattle.std.proofs.Common.{arith, ◌≡◌, refl, sym, ◌∙◌, ap, subst, inl, inr, ℕ, zero, suc, ◌+◌, ◌-◌, ◌≤◌, List, ◌++◌, take, Option, Some, Bool}
+use Rattle.desk_core.specs.View.{Name, Content, View}
+use Rattle.desk_core.specs.Desk.{Rose, FaultsNeverFall, IfSpecified, WhereSpecified, IsPut, content_of, IsSameInput, HasInput, HasNoInput, IsReading, IsTaken, IsRead, IsWriting, IsWritten}
 
 -- what rose from a later count on rose from the earlier one
 pub rose_later : (a b c : ℕ) → a ≤ b → Rose b c → Rose a c
@@ -24,15 +24,9 @@ never_fall_trans a b c h k = record {
   printing = let x : a.print_faults ≤ b.print_faults = h.printing in let y : b.print_faults ≤ c.print_faults = k.printing in omega arith;
 }
 
--- facts on told values go on from one another
-pub told_trans : {A : Type 0} (P Q R : A → A → Type 0) (a b c : Option A) → ((x y z : A) → P x y → Q y z → R x z) → Told P a b → Told Q b c → Told R a c
-told_trans P Q R a b c both h k = λ after told.
-    let later = k after told in
-    let earlier = h later.0 later.1 in (earlier.0, earlier.1, both _ _ _ earlier.2 later.2)
-
--- what was told as it was before is told from there
-pub told_from : {A : Type 0} (R : A → A → Type 0) (a b c : Option A) → b ≡ a → Told R b c → Told R a c
-told_from R a b c e h = λ after told. let before = h after told in (before.0, sym e ∙ before.1, before.2)
+-- what is specified later is so from the start on, where the value was the same
+pub specified_from : {A : Type 0} (R : A → A → Type 0) (a b c : Option A) → b ≡ a → IfSpecified R b c → IfSpecified R a c
+specified_from R a b c e h = λ after is. let before = h after is in (before.0, sym e ∙ before.1, before.2)
 
 pub same_input_trans : (a b c : View) → IsSameInput a b → IsSameInput b c → IsSameInput a c
 same_input_trans a b c h k = record { named = k.named ∙ h.named; bytes = k.bytes ∙ h.bytes }
@@ -40,15 +34,33 @@ same_input_trans a b c h k = record { named = k.named ∙ h.named; bytes = k.byt
 pub no_input_same : (a b : View) → HasNoInput a → IsSameInput a b → HasNoInput b
 no_input_same a b h k = record { named = k.named ∙ h.named; bytes = k.bytes ∙ h.bytes }
 
+-- the input stays
+pub input_stays : (name : Name) (old mid new : View) → HasInput name old mid → IsSameInput mid new
+    → new.reads name ≡ mid.reads name → HasInput name old new
+input_stays name old mid new h same reads = record {
+  only = λ known is. h.only known (sym same.named ∙ is);
+  named = λ files is there. same.named ∙ h.named files is there;
+  bytes = λ files is. same.bytes ∙ h.bytes files is;
+  opened = λ is. h.opened (sym same.bytes ∙ is);
+  reads = reads ∙ h.reads;
+}
+
+-- the file was the same before
+pub input_from : (name : Name) (old mid new : View) → mid.files ≡ old.files → HasInput name mid new → HasInput name old new
+input_from name old mid new same h = record {
+  only = h.only;
+  named = λ files is there. h.named files (same ∙ is) there;
+  bytes = λ files is. h.bytes files (same ∙ is);
+  opened = h.opened;
+  reads = h.reads;
+}
+
 -- reading goes on
-pub reading_read : (name : Name) (place n : ℕ) (old_buf new_buf : List ℕ) (old mid new : View) → IsReading name place old mid → IsRead n old_buf new_buf mid new → IsReading name (place + n) old new
+pub reading_read : (name : Name) (place n : ℕ) (old_buf new_buf : List ℕ) (old mid new : View) → IsReading name place old mid
+    → IsRead n old_buf new_buf mid new → IsReading name (place + n) old new
 reading_read name place n old_buf new_buf old mid new h k = record {
   place = k.place ∙ ap (λ (p : ℕ). p + n) h.place;
-  only = λ told is. h.only told (sym k.input.named ∙ is);
-  named = λ files is there. k.input.named ∙ h.named files is there;
-  bytes = λ files is. k.input.bytes ∙ h.bytes files is;
-  opened = λ is. h.opened (sym k.input.bytes ∙ is);
-  reads = ap (λ (f : Name → Bool). f name) k.reads ∙ h.reads;
+  input = input_stays name old mid new h.input k.input (ap (λ (f : Name → Bool). f name) k.reads);
   no_other = λ s ne t. h.no_other s ne (ap (λ (f : Name → Bool). f s) (sym k.reads) ∙ t);
   files = k.files ∙ h.files;
   output = k.output ∙ h.output;
@@ -56,26 +68,26 @@ reading_read name place n old_buf new_buf old mid new h k = record {
   writes = k.writes ∙ h.writes;
 }
 
--- what a read takes of a file that was told where it was opened
-pub read_told : (name : Name) (place n : ℕ) (old_buf new_buf : List ℕ) (old mid new : View) → IsReading name place old mid → IsRead n old_buf new_buf mid new
-    → (files : Files) → old.files ≡ Some files → IsTaken (content_of (files name)) place n old_buf new_buf
-read_told name place n old_buf new_buf old mid new h k files is =
-    subst (λ (p : ℕ). IsTaken (content_of (files name)) p n old_buf new_buf) h.place (k.taken _ (h.bytes files is))
+-- what a read takes of the bytes of the input, and of a file that was specified where it was opened
+pub read_input : (name : Name) (place n : ℕ) (old_buf new_buf : List ℕ) (old mid new : View) → IsReading name place old mid
+    → IsRead n old_buf new_buf mid new
+    → (bytes : Content) → mid.input_bytes ≡ Some (Some bytes) → IsTaken bytes place n old_buf new_buf
+read_input name place n old_buf new_buf old mid new h k bytes is =
+    subst (λ (p : ℕ). IsTaken bytes p n old_buf new_buf) h.place (k.taken _ is)
 
--- an input that was opened under another name outlives a file that is made
-pub reading_writing : (input output : Name) (place : ℕ) (bytes : Content) (old mid new : View) → input ≢ output → IsReading input place old mid → IsWriting output bytes mid new → IsSameInput mid new
-reading_writing input output place bytes old mid new ne h k = k.other_input (λ is. ne (some_is _ _ (h.only _ is)))
-  where
-    some_is : (a b : Name) → Some a ≡ Some b → b ≡ a
-    some_is a b e = cc
+pub read_specified : (name : Name) (place n : ℕ) (old_buf new_buf : List ℕ) (old mid new : View) → IsReading name place old mid
+    → IsRead n old_buf new_buf mid new
+    → WhereSpecified old (λ files. IsTaken (content_of (files name)) place n old_buf new_buf)
+read_specified name place n old_buf new_buf old mid new h k files is =
+    read_input name place n old_buf new_buf old mid new h k _ (h.input.bytes files is)
 
 -- one more piece
 pub writing_written : (name : Name) (sofar piece all : Content) (n : ℕ) (old mid new : View) → sofar ++ take n piece ≡ all → IsWriting name sofar old mid → IsWritten n piece mid new → IsWriting name all old new
 writing_written name sofar piece all n old mid new e h k = record {
-  files = λ after told.
-      let step = k.files after told in
+  files = λ after is.
+      let step = k.files after is in
       let start = h.files step.0 step.1 in
-      let put : IsPut name (content_of (step.0 name) ++ take n piece) step.0 after = step.2 name (h.output.told step.0 step.1) in (
+      let put : IsPut name (content_of (step.0 name) ++ take n piece) step.0 after = step.2 name (h.output.specified step.0 step.1) in (
         start.0,
         start.1,
         record {
@@ -84,8 +96,8 @@ writing_written name sofar piece all n old mid new e h k = record {
         },
       );
   output = record {
-    only = λ told is. h.output.only told (sym k.output ∙ is);
-    told = λ after told. let step = k.files after told in k.output ∙ h.output.told step.0 step.1;
+    only = λ known is. h.output.only known (sym k.output ∙ is);
+    specified = λ after is. let step = k.files after is in k.output ∙ h.output.specified step.0 step.1;
   };
   input_ends = λ its. no_input_same _ _ (h.input_ends its) k.input;
   other_input = λ other. same_input_trans _ _ _ (h.other_input other) k.input;

@@ -1,29 +1,30 @@
 -- Files that are read or written whole: the steps of the two loops, and how several such calls follow one another.
 use Rattle.std.proofs.Common.{arith, ◌≡◌, sym, ◌∙◌, ap, inr, ℕ, zero, suc, ◌+◌, ◌≤◌, List, ◌++◌, length, take, drop, Some, Bool, Result, Ok, Err, OnOk, OnErr, length-drop, length-append}
 use Rattle.std.proofs.Math.Seq.{take-add}
-use Rattle.std.proofs.lemmas.List.{length-take-le, take_all}
-use Rattle.desk_core.specs.View.{Name, Content, Files, View}
-use Rattle.desk_core.specs.Desk.{FaultsNeverFall, content_of, IsUnchanged, IsUnchangedButOutput, IsReading, IsTaken, IsWriting, IsClosed}
-use Rattle.desk_core.specs.Whole.{IsUnchangedButInput, IsReadWhole, IsWrittenWhole, IsWrittenInPart}
+use Rattle.std.proofs.lemmas.List.{length-take-le}
+use Rattle.desk_core.specs.View.{Name, Content, View}
+use Rattle.desk_core.specs.Desk.{FaultsNeverFall, WhereSpecified, content_of, IsUnchanged, IsUnchangedButOutput, IsReading, IsTaken, IsWriting, IsClosed}
+use Rattle.desk_core.specs.Whole.{IsWrittenWhole, IsWrittenInPart}
 use Rattle.desk_core.proofs.DeskLemmas.{same_input_trans, no_input_same}
 
--- so many bytes of the piece stand in the new file
+-- this many of the bytes are in the new file
 pub record IsWrittenSoFar (name : Name) (bytes : Content) (done : ℕ) (old new : View) : Type 0 where
   pub never_fall : FaultsNeverFall old new
   pub within : done ≤ length bytes
   pub writing : IsWriting name (take done bytes) old new
 
--- these bytes are a prefix of the file
+-- these bytes are a prefix of the file, which the input has
 pub record IsReadSoFar (name : Name) (limit : ℕ) (bytes : Content) (old new : View) : Type 0 where
   pub never_fall : FaultsNeverFall old new
   pub within : length bytes ≤ limit
   pub reading : IsReading name (length bytes) old new
-  pub content : (files : Files) → old.files ≡ Some files → bytes ≡ take (length bytes) (content_of (files name))
+  pub held : (all : Content) → new.input_bytes ≡ Some (Some all) → length bytes ≤ length all
+  pub content : WhereSpecified old (λ files. bytes ≡ take (length bytes) (content_of (files name)))
 
 -- the close after the last piece
 pub writing_closed : (name : Name) (bytes : Content) (old mid new : View) → IsWriting name bytes old mid → IsClosed mid new → IsWrittenWhole name bytes old new
 writing_closed name bytes old mid new h k = record {
-  files = λ after told. h.files after (sym k.files ∙ told);
+  files = λ after is. h.files after (sym k.files ∙ is);
   output = k.output;
   input_ends = λ its. no_input_same _ _ (h.input_ends its) k.input;
   other_input = λ other. same_input_trans _ _ _ (h.other_input other) k.input;
@@ -40,7 +41,7 @@ unchanged_but_output old new k = record {
   files = k.files;
   input = k.input;
   place = k.place;
-  output = λ told is. inr (sym k.output ∙ is);
+  output = λ known is. inr (sym k.output ∙ is);
   printed = k.printed;
   reads = k.reads;
   no_new_output = λ s t. ap (λ (f : Name → Bool). f s) (sym k.writes) ∙ t;
@@ -49,7 +50,7 @@ unchanged_but_output old new k = record {
 -- a piece or the close failed
 pub writing_failed : (name : Name) (bytes : Content) (n : ℕ) (old mid new : View) → n ≤ length bytes → IsWriting name (take n bytes) old mid → IsUnchangedButOutput mid new → IsWrittenInPart name bytes old new
 writing_failed name bytes n old mid new le h k = record {
-  files = λ after told. let step = h.files after (sym k.files ∙ told) in (step.0, step.1, inr (n, le, step.2));
+  files = λ after is. let step = h.files after (sym k.files ∙ is) in (step.0, step.1, inr (n, le, step.2));
   other_input = λ other. same_input_trans _ _ _ (h.other_input other) k.input;
   place = k.place ∙ h.place;
   printed = k.printed ∙ h.printed;
@@ -70,10 +71,6 @@ pub any_err : {T E : Type 0} (r : Result T E) (A : Type 0) → A → OnErr r A
 any_err (Ok x) A h = tt
 any_err (Err e) A h = h
 
--- what came before the end is all
-pub ended : (bytes content : List ℕ) → bytes ≡ take (length bytes) content → length content ≤ length bytes → bytes ≡ content
-ended bytes content e le = e ∙ take_all (length bytes) content le
-
 taken_within : (bytes : Content) (place n : ℕ) (old_buf new_buf : List ℕ) → IsTaken bytes place n old_buf new_buf → n ≤ length (drop place bytes)
 taken_within bytes place zero old_buf new_buf t = omega arith
 taken_within bytes place (suc n) old_buf new_buf t =
@@ -89,11 +86,3 @@ prefix_read content bytes n old_buf new_buf more e t m =
     let size : length more ≡ length bytes + n = ap length m ∙ length-append bytes (take n new_buf) ∙ ap (λ (k : ℕ). length bytes + k) (length_taken content (length bytes) n old_buf new_buf t) in
     m ∙ ap (λ (xs : List ℕ). xs ++ take n new_buf) e ∙ ap (λ (xs : List ℕ). take (length bytes) content ++ xs) t.front
     ∙ sym (take-add (length bytes) n content) ∙ ap (λ (k : ℕ). take k content) (sym size)
-
--- a command that reads files whole: these facts go on from one call to the next
-pub unchanged_but_input_trans : (a b c : View) → IsUnchangedButInput a b → IsUnchangedButInput b c → IsUnchangedButInput a c
-unchanged_but_input_trans a b c h k = record { files = k.files ∙ h.files; output = k.output ∙ h.output; printed = k.printed ∙ h.printed; writes = k.writes ∙ h.writes }
-
--- a file read after others has the bytes that were told before them
-pub read_whole_later : (name : Name) (limit : ℕ) (bytes : Content) (old mid new : View) → IsUnchangedButInput old mid → IsReadWhole name limit bytes mid new → (files : Files) → old.files ≡ Some files → bytes ≡ content_of (files name)
-read_whole_later name limit bytes old mid new h k files is = k.content files (h.files ∙ is)

@@ -30,10 +30,14 @@ ReadFailed old new = (s : Name) → old.reads s ≡ true → ReadFaultsRose s ol
 abbrev pub WriteFailed : View → View → Type 0
 WriteFailed old new = (s : Name) → old.writes s ≡ true → WriteFaultsRose s old new
 
--- where the new value is told, so was the old one, and they are related like this
-abbrev pub Told : {A : Type 0} → (A → A → Type 0) → Option A → Option A → Type 0
-Told {A} R old new =
+-- where the new value is specified, so was the old one, and they are related like this
+abbrev pub IfSpecified : {A : Type 0} → (A → A → Type 0) → Option A → Option A → Type 0
+IfSpecified {A} R old new =
     (after : A) → new ≡ Some after → (before : A) × (old ≡ Some before) × R before after
+
+-- where the desk specifies its files, they are so
+abbrev pub WhereSpecified : View → (Files → Type 0) → Type 0
+WhereSpecified desk P = (files : Files) → desk.files ≡ Some files → P files
 
 -- the file has these bytes, and every other file is as it was
 pub record IsPut (name : Name) (bytes : Content) (old new : Files) : Type 0 where
@@ -45,14 +49,14 @@ abbrev pub content_of : Option Content → Content
 content_of None = []
 content_of (Some bytes) = bytes
 
--- the output is told where the files are told
-abbrev pub IsOutputTold : View → Type 0
-IsOutputTold desk = (files : Files) → desk.files ≡ Some files → desk.output ≢ None
+-- the output is specified where the files are
+abbrev pub IsOutputSpecified : View → Type 0
+IsOutputSpecified desk = WhereSpecified desk (λ files. desk.output ≢ None)
 
--- the output may be this one only: it is told where the files are told, and then it is this one
+-- the output is this one: it is specified where the files are, and may be no other
 pub record HasOutput (output : Option Name) (desk : View) : Type 0 where
-  pub only : (told : Option Name) → desk.output ≡ Some told → told ≡ output
-  pub told : (files : Files) → desk.files ≡ Some files → desk.output ≡ Some output
+  pub only : (known : Option Name) → desk.output ≡ Some known → known ≡ output
+  pub specified : WhereSpecified desk (λ files. desk.output ≡ Some output)
 
 -- the input is the same
 pub record IsSameInput (old new : View) : Type 0 where
@@ -87,23 +91,24 @@ pub record IsUnchangedButOutput (old new : View) : Type 0 where
   pub files : new.files ≡ old.files
   pub input : IsSameInput old new
   pub place : new.place ≡ old.place
-  pub output : (told : Option Name) → new.output ≡ Some told
-      → (told ≡ None) ⊎ (old.output ≡ Some told)
+  pub output : (known : Option Name) → new.output ≡ Some known → (known ≡ None) ⊎ (old.output ≡ Some known)
   pub printed : new.printed ≡ old.printed
   pub reads : new.reads ≡ old.reads
   pub no_new_output : NoneBegins old.writes new.writes
 
--- the named file is the input, which stands at this place; all else but the faults is as it was
-pub record IsReading (name : Name) (at : ℕ) (old new : View) : Type 0 where
-  pub place : new.place ≡ at
-  -- the name may be untold where there is no such file
-  pub only : (told : Option Name) → new.input_name ≡ Some told → told ≡ Some name
-  pub named : (files : Files) → old.files ≡ Some files → files name ≢ None
-      → new.input_name ≡ Some (Some name)
-  pub bytes : (files : Files) → old.files ≡ Some files
-      → new.input_bytes ≡ Some (Some (content_of (files name)))
+-- the input is the named file, with the bytes that the file had
+pub record HasInput (name : Name) (old new : View) : Type 0 where
+  -- the name may be unspecified where there was no such file
+  pub only : (known : Option Name) → new.input_name ≡ Some known → known ≡ Some name
+  pub named : WhereSpecified old (λ files. files name ≢ None → new.input_name ≡ Some (Some name))
+  pub bytes : WhereSpecified old (λ files. new.input_bytes ≡ Some (Some (content_of (files name))))
   pub opened : new.input_bytes ≢ Some None
   pub reads : new.reads name ≡ true
+
+-- the named file is the input, at this place; all else but the faults is as it was
+pub record IsReading (name : Name) (at : ℕ) (old new : View) : Type 0 where
+  pub place : new.place ≡ at
+  pub input : HasInput name old new
   pub no_other : NoOtherBegins name old.reads new.reads
   pub files : new.files ≡ old.files
   pub output : new.output ≡ old.output
@@ -135,7 +140,7 @@ pub record IsRead (n : ℕ) (old_buf new_buf : List ℕ) (old new : View) : Type
 -- The named file was made anew, is the output and has these bytes so far. All else but the faults is as it
 -- was, and the file is no input any more.
 pub record IsWriting (name : Name) (bytes : Content) (old new : View) : Type 0 where
-  pub files : Told (IsPut name bytes) old.files new.files
+  pub files : IfSpecified (IsPut name bytes) old.files new.files
   pub output : HasOutput (Some name) new
   pub input_ends : old.input_name ≡ Some (Some name) → HasNoInput new
   pub other_input : old.input_name ≢ Some (Some name) → IsSameInput old new
@@ -156,7 +161,7 @@ AddsTo output bytes old new =
 pub record IsWritten (n : ℕ) (piece : List ℕ) (old new : View) : Type 0 where
   pub room : n ≤ length piece
   pub some : 0 < length piece → 0 < n
-  pub files : Told (AddsTo old.output (take n piece)) old.files new.files
+  pub files : IfSpecified (AddsTo old.output (take n piece)) old.files new.files
   pub dropped : old.output ≡ Some None → new.files ≡ old.files
   pub output : new.output ≡ old.output
   pub input : IsSameInput old new
@@ -179,7 +184,7 @@ pub record IsClosed (old new : View) : Type 0 where
 pub record IsPrinted (n : ℕ) (piece : List ℕ) (old new : View) : Type 0 where
   pub room : n ≤ length piece
   pub some : 0 < length piece → 0 < n
-  pub printed : Told (λ before after. after ≡ before ++ take n piece) old.printed new.printed
+  pub printed : IfSpecified (λ before after. after ≡ before ++ take n piece) old.printed new.printed
   pub files : new.files ≡ old.files
   pub input : IsSameInput old new
   pub place : new.place ≡ old.place

@@ -1,7 +1,7 @@
 -- What a desk in memory holds, and what its calls do besides what they do to any desk.
 use Rattle.std.specs.Prelude.{◌≡◌, ◌≢◌, ◌⊎◌, ◌↔◌, ℕ, ◌+◌, ◌-◌, ◌<◌, ◌^◌, min, List, [], ◌∷◌, ◌++◌, Option, Some, None, Bool, false, bytes_eq, Contains, Result, IsErr, OnOk, OnErr}
 use Rattle.desk_core.specs.View.{Name, Content, Files, View}
-use Rattle.desk_core.specs.Desk.{IsPut, IsOutputTold}
+use Rattle.desk_core.specs.Desk.{IsPut, IsOutputSpecified}
 use Rattle.desk_core.specs.Stored.{lookup, input_name, input_bytes, output_name}
 use Rattle.desk_core.specs.declared.desk.Failed.{Failed}
 use Rattle.desk_core.specs.declared.memory.MemDesk.{MemDesk}
@@ -21,7 +21,7 @@ pub record MemState : Type 0 where
   -- the numbers of those calls that are to fail
   pub fails : List ℕ
   pub faults : ℕ
-  -- how many growths were refused
+  -- how many allocations failed
   pub wants : ℕ
 
 abbrev pub state : MemDesk → MemState
@@ -44,9 +44,9 @@ abbrev pub is_named : Option Name → Name → Bool
 is_named None s = false
 is_named (Some name) s = bytes_eq name s
 
--- All is told. The desk reads its input's name and writes its output's. One counter is all counts of faults.
-abbrev pub told : MemState → View
-told desk = record {
+-- All is specified. The desk reads its input's name and writes its output's. One counter is all counts of faults.
+abbrev pub view_of_state : MemState → View
+view_of_state desk = record {
   files = Some desk.files;
   place = desk.place;
   input_name = Some desk.input_name;
@@ -61,7 +61,7 @@ told desk = record {
 }
 
 abbrev pub view_of : MemDesk → View
-view_of desk = told (state desk)
+view_of desk = view_of_state (state desk)
 
 -- the bytes of a file
 abbrev pub file_of : MemDesk → Name → Option Content
@@ -119,7 +119,7 @@ IsDue desk = Contains desk.fails desk.calls
 abbrev pub FailsExactly : {T : Type 0} → MemState → Result T Failed → Type 0 → Type 0
 FailsExactly old result reason = old.calls < 2 ^ 64 - 1 → (IsErr result ↔ (IsDue old ⊎ reason))
 
--- a growth was refused
+-- an allocation failed
 abbrev pub WantsRose : MemState → MemState → Type 0
 WantsRose old new = old.wants < new.wants
 
@@ -127,7 +127,7 @@ WantsRose old new = old.wants < new.wants
 abbrev pub counted : ℕ → ℕ
 counted n = min (n + 1) (2 ^ 64 - 1)
 
--- One more trait call was made. Where it failed there is one more fault. No growth was refused.
+-- One more trait call was made. Where it failed there is one more fault. No allocation failed.
 pub record IsCounted {T : Type 0} (result : Result T Failed) (old new : MemState) : Type 0 where
   pub calls : new.calls ≡ counted old.calls
   pub fails : new.fails ≡ old.fails
@@ -136,7 +136,7 @@ pub record IsCounted {T : Type 0} (result : Result T Failed) (old new : MemState
   pub fault : OnErr result (new.faults ≡ counted old.faults)
   pub wants : new.wants ≡ old.wants
 
--- One more trait call was made. Where it failed there is one more fault, and perhaps one refused growth.
+-- One more trait call was made. Where it failed there is one more fault, and perhaps one more failed allocation.
 pub record IsGrowthCounted {T : Type 0} (result : Result T Failed) (old new : MemState) : Type 0 where
   pub calls : new.calls ≡ counted old.calls
   pub fails : new.fails ≡ old.fails
@@ -146,5 +146,5 @@ pub record IsGrowthCounted {T : Type 0} (result : Result T Failed) (old new : Me
   pub no_want : OnOk result (new.wants ≡ old.wants)
   pub want : OnErr result ((new.wants ≡ old.wants) ⊎ (new.wants ≡ counted old.wants))
 
-pub output_always_told : (desk : MemDesk) → IsOutputTold (view_of desk)
-output_always_told desk files is untold = cc
+pub output_always_specified : (desk : MemDesk) → IsOutputSpecified (view_of desk)
+output_always_specified desk files is unspecified = cc

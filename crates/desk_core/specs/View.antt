@@ -11,10 +11,10 @@ Content = List ℕ
 abbrev pub Files : Type 0
 Files = Name → Option Content
 
--- A desk may leave parts untold: these are an `Option`, which is `None` where the part is untold.
+-- A desk may leave parts unspecified: these are an `Option`, which is `None` where the part is unspecified.
 pub record View : Type 0 where
   pub files : Option Files
-  -- where the current input stands, or where the last one stood
+  -- how far the current input was read, or the last one where there is none
   pub place : ℕ
   -- the current input, or `Some None` where there is none
   pub input_name : Option (Option Name)

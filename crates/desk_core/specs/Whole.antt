@@ -1,7 +1,7 @@
 -- What reading or writing a file whole does.
-use Rattle.std.specs.Prelude.{◌≡◌, ◌≢◌, ◌⊎◌, ℕ, ◌<◌, ◌≤◌, length, take, Some, None}
+use Rattle.std.specs.Prelude.{◌≡◌, ◌≢◌, ◌⊎◌, ℕ, ◌+◌, ◌<◌, ◌≤◌, min, length, take, Some, None}
 use Rattle.desk_core.specs.View.{Name, Content, Files, View}
-use Rattle.desk_core.specs.Desk.{Told, IsPut, content_of, HasOutput, HasNoInput, IsSameInput, NoneBegins, NoOtherBegins, IsReading}
+use Rattle.desk_core.specs.Desk.{IfSpecified, WhereSpecified, IsPut, content_of, HasInput, HasOutput, HasNoInput, IsSameInput, NoneBegins, NoOtherBegins, IsReading}
 
 -- at most the input and the faults changed
 pub record IsUnchangedButInput (old new : View) : Type 0 where
@@ -10,20 +10,24 @@ pub record IsUnchangedButInput (old new : View) : Type 0 where
   pub printed : new.printed ≡ old.printed
   pub writes : new.writes ≡ old.writes
 
--- these are all bytes of the file, and not more than the limit; the input stands at their end
+-- these are all bytes of the file, and not more than the limit; the input is at their end
 pub record IsReadWhole (name : Name) (limit : ℕ) (bytes : Content) (old new : View) : Type 0 where
   pub within : length bytes ≤ limit
   pub reading : IsReading name (length bytes) old new
-  pub content : (files : Files) → old.files ≡ Some files → bytes ≡ content_of (files name)
+  pub content : WhereSpecified old (λ files. bytes ≡ content_of (files name))
 
 -- the file has more bytes than the limit
 abbrev pub IsAbove : ℕ → Name → View → Type 0
-IsAbove limit name desk =
-    (files : Files) → desk.files ≡ Some files → limit < length (content_of (files name))
+IsAbove limit name desk = WhereSpecified desk (λ files. limit < length (content_of (files name)))
+
+-- the input is the named file, which was read to its end, or to one byte beyond the limit where it is longer
+pub record IsReadThrough (name : Name) (limit : ℕ) (old new : View) : Type 0 where
+  pub input : HasInput name old new
+  pub end : (bytes : Content) → new.input_bytes ≡ Some (Some bytes) → new.place ≡ min (length bytes) (limit + 1)
 
 -- the file was made, got these bytes and was closed; all else but the faults is as it was
 pub record IsWrittenWhole (name : Name) (bytes : Content) (old new : View) : Type 0 where
-  pub files : Told (IsPut name bytes) old.files new.files
+  pub files : IfSpecified (IsPut name bytes) old.files new.files
   pub output : HasOutput None new
   pub input_ends : old.input_name ≡ Some (Some name) → HasNoInput new
   pub other_input : old.input_name ≢ Some (Some name) → IsSameInput old new
@@ -33,15 +37,18 @@ pub record IsWrittenWhole (name : Name) (bytes : Content) (old new : View) : Typ
   pub other_reads : (s : Name) → s ≢ name → new.reads s ≡ old.reads s
   pub no_new_input : NoneBegins old.reads new.reads
 
--- the file got a prefix of the bytes and nothing else
+-- the file has a prefix of the bytes, and every other file is as it was
 abbrev pub IsPrefixPut : Name → Content → Files → Files → Type 0
 IsPrefixPut name bytes old new = (k : ℕ) × (k ≤ length bytes) × IsPut name (take k bytes) old new
 
--- The file was not made, or has a prefix of these bytes. All else but the output and the faults is as it
--- was, and the file may be no input any more.
+-- the file was not made, or has a prefix of the bytes, and every other file is as it was
+abbrev pub IsPutInPart : Name → Content → Files → Files → Type 0
+IsPutInPart name bytes old new = (new ≡ old) ⊎ IsPrefixPut name bytes old new
+
+-- The file was not made, or has a prefix of these bytes. All else but the output and the faults is as it was, and the
+-- file may be no input any more.
 pub record IsWrittenInPart (name : Name) (bytes : Content) (old new : View) : Type 0 where
-  pub files : Told (λ before after. (after ≡ before) ⊎ IsPrefixPut name bytes before after)
-      old.files new.files
+  pub files : IfSpecified (IsPutInPart name bytes) old.files new.files
   pub other_input : old.input_name ≢ Some (Some name) → IsSameInput old new
   pub place : new.place ≡ old.place
   pub printed : new.printed ≡ old.printed

@@ -1,20 +1,23 @@
 ghost use Rattle.std.specs.Prelude.{◌<◌, ◌^◌, [], IfOk, OnOk, OnErr, IsErr};
 ghost use Rattle.desk_core.specs.View.{View};
-ghost use Rattle.desk_core.specs.Desk.{FaultsNeverFall, ReadFaultsRose, WriteFaultsRose, PrintFaultsRose, ReadFailed, WriteFailed, IsUnchanged, IsUnchangedButOutput, IsOutputTold, IsReading, IsRead, IsWriting, IsWritten, IsClosed, IsPrinted};
+ghost use Rattle.desk_core.specs.Desk.{FaultsNeverFall, ReadFaultsRose, WriteFaultsRose, PrintFaultsRose, ReadFailed, WriteFailed, IsUnchanged, IsUnchangedButOutput, IsOutputSpecified, IsReading, IsRead, IsWriting, IsWritten, IsClosed, IsPrinted};
+
+use thiserror::Error;
 
 /// A call of a desk failed, and one of its counts of faults rose.
-#[derive(Clone, Copy, Debug, PartialEq, Eq)]
+#[derive(Clone, Copy, Debug, PartialEq, Eq, Error)]
+#[error("file fault")]
 pub struct Failed;
 
-/// The outside: files by name, of which one is read and one written at a time, what is printed, and
-/// what is told to a person.
+/// The environment: files by name, of which one is read and one written at a time, what is printed, and
+/// the errors that are reported.
 ///
 /// A desk counts its faults, for each name those of reading and those of writing it, and those of
 /// printing. The counts never fall, and a call answers `Failed` only where the count of its own object
-/// rose. One counter may stand for all of them.
+/// rose. One counter may be all of them.
 ///
-/// A desk may leave untold what its files, its input and output or its printed bytes are. Each fact
-/// about them holds where they are told.
+/// A desk may leave unspecified what its files, its input and output or its printed bytes are. Each fact
+/// about them holds where they are specified.
 pub trait Desk {
     /// What the desk means.
     ghost view: { Self → View };
@@ -29,6 +32,9 @@ pub trait Desk {
 
     /// Puts the next bytes of the current input at the front of the buffer, and gives their number. 0
     /// for a buffer that is not empty means the end. Without a current input the call fails or gives 0.
+    ///
+    /// After a failure the buffer may hold anything: a host may write to it before it fails, and `File`
+    /// of std promises nothing of it then.
     fn read(&mut self, buf: &mut [u8]) -> Result<usize, Failed>
         requires { (view self.old).place < 2 ^ 60 }
         ensures never_fall { FaultsNeverFall (view self.old) (view self.new) }
@@ -66,11 +72,11 @@ pub trait Desk {
         ensures ok { IfOk result (λ n. IsPrinted n piece.now (view self.old) (view self.new)) }
         ensures err { OnErr result (IsUnchanged (view self.old) (view self.new)) };
 
-    /// Tells a person what went wrong, as far as that is possible.
+    /// Reports an error, as far as that is possible.
     fn complain(&mut self, piece: &[u8])
         ensures never_fall { FaultsNeverFall (view self.old) (view self.new) }
         ensures unchanged { IsUnchanged (view self.old) (view self.new) };
 
-    /// The current output is told where the files are told.
-    ghost output_told: { (desk : Self) → IsOutputTold (view desk) };
+    /// The current output is specified where the files are.
+    ghost output_specified: { (desk : Self) → IsOutputSpecified (view desk) };
 }

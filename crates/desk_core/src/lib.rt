@@ -1,5 +1,5 @@
-//! The outside of the program as one value: files that are read and written, what is printed, and the
-//! counts of faults.
+//! The environment of the program as one value: files that are read and written, what is printed, and
+//! the counts of faults.
 #![tactic(auto)]
 
 mod desk;

@@ -7,9 +7,10 @@ use crate::desk::{Desk, Failed};
 use crate::stored::{OpenInput, Stored, append, copy_piece, find, other_than, put};
 use lists::{Bytes, List};
 use std::alloc::{AllocError, AllocFailed, Global};
+use thiserror::Error;
 
-/// A desk in memory, which tells all. It moves at most so many bytes per call, and fails at the
-/// calls at which it was told to fail.
+/// A desk in memory, which specifies all. It moves at most `piece` bytes per call, and fails at the
+/// calls at which it is to fail.
 #[derive(Drop)]
 pub struct MemDesk {
     alloc: Global,
@@ -29,9 +30,10 @@ pub struct MemDesk {
     ghost wants_within: { wants ≤ calls },
 }
 
-/// Why a desk could not be prepared: no memory is left.
-#[derive(Clone, Copy, Debug, PartialEq, Eq)]
+/// Why a desk could not be prepared.
+#[derive(Clone, Copy, Debug, PartialEq, Eq, Error)]
 pub enum DeskFault {
+    #[error("no memory")]
     Memory,
 }
 
@@ -99,7 +101,8 @@ impl MemDesk {
 
     /// The bytes of the named file, or `None` where there is none.
     pub fn get(&self, name: &str) -> Option<&[u8]>
-        ensures { MatchOption result (file_of self.now name.now ≡ None) (λ bytes. file_of self.now name.now ≡ Some bytes.now) }
+        ensures { MatchOption result (file_of self.now name.now ≡ None)
+            (λ bytes. file_of self.now name.now ≡ Some bytes.now) }
     {
         let at = find(self.files.as_slice(), name)?;
         Some(self.files[at].bytes.as_slice())
@@ -118,7 +121,7 @@ impl MemDesk {
         self.faults
     }
 
-    /// How many of the faults were a refused growth.
+    /// How many of the faults were failed allocations.
     pub fn wants(&self) -> u64
         ensures { result ≡ (state self.now).wants }
     {
@@ -137,7 +140,7 @@ impl MemDesk {
 impl Desk for MemDesk {
     ghost use Rattle.std.specs.Prelude.{◌≡◌, ◌↔◌, ◌⊎◌, ◌<◌, ◌≤◌, ◌^◌, None, IsErr, IfOk, OnOk, OnErr, [], length};
     ghost use Rattle.desk_core.specs.Desk.{FaultsNeverFall, ReadFaultsRose, WriteFaultsRose, PrintFaultsRose, ReadFailed, WriteFailed, IsUnchanged, IsUnchangedButOutput, IsReading, IsRead, IsWriting, IsWritten, IsClosed, IsPrinted};
-    ghost use Rattle.desk_core.specs.MemDesk.{state, view_of, output_always_told, FailsExactly, WantsRose, IsCounted, IsGrowthCounted};
+    ghost use Rattle.desk_core.specs.MemDesk.{state, view_of, output_always_specified, FailsExactly, WantsRose, IsCounted, IsGrowthCounted};
 
     ghost view = { λ desk. view_of desk };
 
@@ -172,6 +175,7 @@ impl Desk for MemDesk {
         ensures exact { FailsExactly (state self.old) result ((state self.old).input_name ≡ None) }
         ensures counted { IsCounted result (state self.old) (state self.new) }
         ensures piece { IfOk result (λ n. n ≤ (state self.old).piece) }
+        ensures buffer { OnErr result (buf.new ≡ buf.old) }
     {
         let due = self.is_due();
         self.calls = self.calls.saturating_add(1);
@@ -284,38 +288,5 @@ impl Desk for MemDesk {
         ensures same { state self.new ≡ state self.old }
     {}
 
-    ghost output_told = { λ desk. output_always_told desk };
-}
-
-#[cfg(test)]
-mod tests {
-    use super::*;
-    use std::test::Fail;
-
-    #[test]
-    fn a_file_is_put_created_and_written(rt: HostRuntime) -> Result<(), Fail> {
-        let mut desk = MemDesk::new(rt.alloc(), 3);
-        assert_eq!(rt; desk.get("out"), None);
-        desk.put("out", b"before")?;
-        assert_eq!(rt; desk.get("out"), Some(b"before".as_slice()));
-        desk.create("out")?;
-        assert_eq!(rt; desk.write(b"abcde"), Ok(3));
-        desk.close()?;
-        assert_eq!(rt; desk.write(b"late"), Err(Failed));
-        assert_eq!(rt; desk.get("out"), Some(b"abc".as_slice()));
-        Ok(())
-    }
-
-    #[test]
-    fn a_print_fails_at_its_number(rt: HostRuntime) -> Result<(), Fail> {
-        let mut desk = MemDesk::new(rt.alloc(), 3);
-        desk.fail_at(1)?;
-        assert_eq!(rt; desk.print(b"line"), Ok(3));
-        desk.complain(b"not counted");
-        assert_eq!(rt; desk.print(b"e"), Err(Failed));
-        assert_eq!(rt; desk.print(b"s"), Ok(1));
-        assert_eq!(rt; desk.printed(), b"lins".as_slice());
-        assert_eq!(rt; (desk.faults(), desk.wants()), (1, 0));
-        Ok(())
-    }
+    ghost output_specified = { λ desk. output_always_specified desk };
 }

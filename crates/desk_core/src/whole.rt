@@ -1,11 +1,12 @@
 ghost use Rattle.std.specs.Prelude.{◌≡◌, ◌≢◌, ◌↔◌, ◌+◌, ◌<◌, ◌≤◌, ◌^◌, Err, IfOk, OnOk, OnErr, IsErr};
-ghost use Rattle.desk_core.specs.Desk.{FaultsNeverFall, ReadFaultsRose, WriteFaultsRose};
-ghost use Rattle.desk_core.specs.Whole.{IsUnchangedButInput, IsReadWhole, IsAbove, IsWrittenWhole, IsWrittenInPart};
+ghost use Rattle.desk_core.specs.Desk.{FaultsNeverFall, ReadFaultsRose, WriteFaultsRose, NoOtherBegins};
+ghost use Rattle.desk_core.specs.Whole.{IsUnchangedButInput, IsReadWhole, IsReadThrough, IsAbove, IsWrittenWhole, IsWrittenInPart};
 ghost use Rattle.desk_core.specs.declared.whole.ReadFault.TheVariants.{Desk as desk_fault, Memory as memory_fault};
 
 use crate::desk::{Desk, Failed};
 use lists::Bytes;
 use std::alloc::{AllocError, Global};
+use thiserror::Error;
 
 /// Creates the file, writes all the bytes and closes it. After `Failed` the file has a prefix of the
 /// bytes, or was not created.
@@ -23,12 +24,17 @@ pub fn write_whole<D: Desk>(desk: &mut D, name: &str, bytes: &[u8]) -> Result<()
     desk.close()
 }
 
-/// Why a file was not read whole: the desk failed, the file has more bytes than the limit, or no memory
-/// is left.
-#[derive(Clone, Copy, Debug, PartialEq, Eq)]
+/// Why a file was not read whole.
+#[derive(Clone, Copy, Debug, PartialEq, Eq, Error)]
 pub enum ReadFault {
+    /// A call of the desk failed.
+    #[error("file fault")]
     Desk,
+    /// The file has more bytes than the limit.
+    #[error("file too long")]
     TooLong,
+    /// No memory is left.
+    #[error("no memory")]
     Memory,
 }
 
@@ -51,7 +57,7 @@ impl From<AllocError> for ReadFault {
 /// How many bytes one read asks for at most.
 const CHUNK: usize = 4096;
 
-/// How many bytes to ask for where so many are left: one more, which shows a file that is too long.
+/// How many bytes to ask for where this many are left: one more, which shows a file that is too long.
 fn room_for(left: u64) -> usize
     ensures some { 0 < result }
     ensures within_chunk { result ≤ 4096 }
@@ -65,7 +71,8 @@ fn room_for(left: u64) -> usize
 }
 
 /// Opens the file and reads to its end. `Desk` comes where a call of the desk failed, and `TooLong`
-/// where one byte beyond the limit was read.
+/// where one byte beyond the limit was read. Both `Ok` and `TooLong` come only where the file was read
+/// through.
 pub fn read_whole<D: Desk>(
     alloc: Global,
     desk: &mut D,
@@ -75,7 +82,10 @@ pub fn read_whole<D: Desk>(
     requires { limit < 2 ^ 60 }
     ensures never_fall { FaultsNeverFall (D.view desk.old) (D.view desk.new) }
     ensures unchanged { IsUnchangedButInput (D.view desk.old) (D.view desk.new) }
+    ensures no_other { NoOtherBegins name.now (D.view desk.old).reads (D.view desk.new).reads }
     ensures ok { IfOk result (λ bytes. IsReadWhole name.now limit bytes (D.view desk.old) (D.view desk.new)) }
+    ensures through { result ≢ Err ReadFault.Desk → result ≢ Err ReadFault.Memory
+        → IsReadThrough name.now limit (D.view desk.old) (D.view desk.new) }
 
     ensures desk { result ≡ Err ReadFault.Desk → ReadFaultsRose name.now (D.view desk.old) (D.view desk.new) }
     ensures too_long { result ≢ Err ReadFault.Desk
@@ -96,90 +106,5 @@ pub fn read_whole<D: Desk>(
             return Err(ReadFault::TooLong);
         }
         bytes.extend_from_slice(&chunk[..n])?;
-    }
-}
-
-#[cfg(test)]
-mod tests {
-    use super::*;
-    use crate::memory::MemDesk;
-    use std::test::Fail;
-
-    const TEXT: &[u8] = b"some words";
-
-    #[test]
-    fn files_are_read_and_written_whole_in_pieces_of_any_size(rt: HostRuntime) -> Result<(), Fail> {
-        let alloc = rt.alloc();
-        for piece in [1, 3, 100] {
-            assert!(rt; piece > 0);
-            let mut desk = MemDesk::new(alloc, piece);
-            desk.put("in", TEXT)?;
-            desk.put("out", b"the bytes of before")?;
-            let bytes = read_whole(alloc, &mut desk, "in", 10)?;
-            assert_eq!(rt; bytes.as_slice(), TEXT, "piece {piece}");
-            write_whole(&mut desk, "out", bytes.as_slice())?;
-            assert_eq!(rt; desk.get("out"), Some(TEXT), "piece {piece}");
-            assert_eq!(rt; desk.get("in"), Some(TEXT), "piece {piece}");
-            assert!(rt;
-                desk.printed().is_empty() && desk.faults() == 0,
-                "piece {piece}"
-            );
-        }
-        Ok(())
-    }
-
-    #[test]
-    fn a_file_is_read_up_to_the_limit(rt: HostRuntime) -> Result<(), Fail> {
-        let alloc = rt.alloc();
-        let mut desk = MemDesk::new(alloc, 10000);
-        desk.put("empty", b"")?;
-        desk.put("text", TEXT)?;
-        desk.put("long", &[7; 5000])?;
-        for (name, limit, want) in [
-            ("empty", 0, Ok(0)),
-            ("text", 11, Ok(10)),
-            ("text", 10, Ok(10)),
-            ("text", 9, Err(ReadFault::TooLong)),
-            ("text", 0, Err(ReadFault::TooLong)),
-            ("long", 5000, Ok(5000)),
-            ("long", 4999, Err(ReadFault::TooLong)),
-            ("missing", 9, Err(ReadFault::Desk)),
-        ] {
-            assert!(rt; limit < 10000);
-            let answer = read_whole(alloc, &mut desk, name, limit);
-            assert_eq!(rt; answer.map(|bytes| bytes.len()), want, "{name}, {limit}");
-        }
-        assert_eq!(rt; desk.faults(), 1);
-        assert_eq!(rt; desk.get("missing"), None);
-        Ok(())
-    }
-
-    #[test]
-    fn a_call_that_fails_ends_the_reading_or_the_writing(rt: HostRuntime) -> Result<(), Fail> {
-        let alloc = rt.alloc();
-        // The calls are: open and five reads; create, four writes and close.
-        for (call, read, written) in [
-            (0, false, None),
-            (1, false, None),
-            (5, false, None),
-            (6, true, None),
-            (7, true, Some(&TEXT[..0])),
-            (8, true, Some(&TEXT[..3])),
-            (10, true, Some(&TEXT[..9])),
-            (11, true, Some(TEXT)),
-        ] {
-            let mut desk = MemDesk::new(alloc, 3);
-            desk.put("in", TEXT)?;
-            desk.fail_at(call)?;
-            let answer = read_whole(alloc, &mut desk, "in", 10);
-            assert_eq!(rt; answer.is_ok(), read, "call {call}");
-            if let Ok(bytes) = answer {
-                let answer = write_whole(&mut desk, "out", bytes.as_slice());
-                assert_eq!(rt; answer, Err(Failed), "call {call}");
-            }
-            assert_eq!(rt; desk.get("out"), written, "call {call}");
-            assert_eq!(rt; desk.faults(), 1, "call {call}");
-        }
-        Ok(())
     }
 }

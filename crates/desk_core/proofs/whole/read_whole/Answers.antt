@@ -1,7 +1,7 @@
-use Rattle.std.proofs.Common.{arith, ◌≡◌, sym, ap, subst, ◌∙◌, ◌+◌, ◌-◌, ◌≤◌, ℕ, List, ◌++◌, length, take, drop, length-append}
+use Rattle.std.proofs.Common.{arith, ◌<◌, ◌≡◌, sym, ap, subst, ◌∙◌, ◌+◌, ◌-◌, ◌≤◌, ℕ, List, ◌++◌, length, take, drop, length-append}
 use Rattle.std.proofs.lemmas.List.{take-append-le, length-take-le}
 use Rattle.desk_core.specs.Desk.{IsReading}
-use Rattle.desk_core.proofs.DeskLemmas.{never_fall_trans, reading_read, read_told}
+use Rattle.desk_core.proofs.DeskLemmas.{never_fall_trans, reading_read, read_input, read_specified}
 use Rattle.desk_core.proofs.WholeLemmas.{prefix_read}
 use Rattle.desk_core.proofs.whole.read_whole.Goals as goal
 
@@ -22,5 +22,10 @@ pieces-preserved g c =
       never_fall = never_fall_trans _ _ _ sofar.never_fall c.in_ok-n.ensures.never_fall;
       within = (let count = c.len.ensures in let left : c.in_ok-n.n ≤ c.args.limit - c.len.result = c.if-n-left.false in let within : length c.pieces.bytes ≤ c.args.limit = sofar.within in omega arith);
       reading = subst (λ (p : ℕ). IsReading c.args.name.now p (g.D.Desk.view c.args.desk.now) (g.D.Desk.view c.read.new.self)) (sym size) (reading_read _ _ _ _ _ _ _ _ sofar.reading step);
-      content = λ files is. prefix_read _ c.pieces.bytes c.in_ok-n.n _ _ _ (sofar.content files is) (read_told _ _ _ _ _ _ _ _ sofar.reading step files is) more.0;
+      held = λ all is.
+          let taken = read_input _ _ _ _ _ _ _ _ sofar.reading step all (sym step.input.bytes ∙ is) in
+          let some : 0 < c.in_ok-n.n = omega arith in
+          let within : length c.pieces.bytes + c.in_ok-n.n ≤ length all = taken.within some in
+          omega arith;
+      content = λ files is. prefix_read _ c.pieces.bytes c.in_ok-n.n _ _ _ (sofar.content files is) (read_specified _ _ _ _ _ _ _ _ sofar.reading step files is) more.0;
     }

@@ -23,11 +23,14 @@ returns-clause-ok c =
     let bytes : c.index.result.now.bytes ≡ bytes_at c.args.self.now.files c.in-Some.file = stored_at c.args.self.now.files c.in-Some.file c.index.result.now found.inside c.index.ensures in
     record {
       place = refl;
-      only = λ told is. let named : name_at c.args.self.now.files c.in-Some.file ≡ c.args.name.now = found.named in cc;
-      named = λ files is there. ap (λ (n : Name). Some (Some n)) found.named;
-      bytes = λ files is. ap (λ (b : Content). Some (Some b)) (opened_bytes _ _ _ _ files found (c.len-len.ensures ∙ ap (length {A = ℕ}) bytes) is);
-      opened = λ is. cc;
-      reads = same_name _ _ found.named;
+      input = record {
+        only = λ known is. let named : name_at c.args.self.now.files c.in-Some.file ≡ c.args.name.now = found.named in cc;
+        named = λ files is there. ap (λ (n : Name). Some (Some n)) found.named;
+        bytes = λ files is.
+            ap (λ (b : Content). Some (Some b)) (opened_bytes _ _ _ _ files found (c.len-len.ensures ∙ ap (length {A = ℕ}) bytes) is);
+        opened = λ is. cc;
+        reads = same_name _ _ found.named;
+      };
       no_other = λ s ne t. absurd (ne (sym ((bytes_eq-Decides _ _).0 t) ∙ found.named));
       files = refl;
       output = refl;
