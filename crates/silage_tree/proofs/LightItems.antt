@@ -8,7 +8,7 @@ use Rattle.silage_tree.specs.Grammar.{IsManifest, Manifest_, Primary_, IsExpr, C
 use Rattle.silage_tree.specs.Text.{manifest_text, amount_text, expr_text}
 use Rattle.silage_tree.proofs.Stands.{Stands}
 use Rattle.silage_tree.proofs.Weights.{manifest_total, amount_total, expr_total}
-use Rattle.silage_tree.proofs.Lighter.{Lighter, joined, none_lighter, same_role, start_for_plain, plain_more, plain_less, start_late, text_lighter, plain_lighter}
+use Rattle.silage_tree.proofs.Lighter.{weight, weight_free, Lighter, joined, none_lighter, same_role, start_for_plain, plain_more, plain_less, start_late, text_lighter, plain_lighter}
 
 -- the roles are lighter than those of any tokens that are this part by the rule
 abbrev pub Light : {A : Type 0} → (List Token → ℕ → A → List Role → ℕ → Type 0) → A → List Role → Type 0
@@ -31,13 +31,13 @@ abbrev pub LightAmount : Manifest → List Role → Type 0
 LightAmount m rs = (ts : List Token) (i j : ℕ) → IsManifest ts Primary_ i m j → Lighter rs (weights ts i j)
 
 pub light_expr : (us : List Token) (e : Expr) (i j : ℕ) → Stands us i (expr_text e) j → LightExpr e (weights us i j)
-light_expr us e i j s ts a b d = text_lighter us ts (expr_text e) i j a b s (expr_total d)
+light_expr us e i j s ts a b d = text_lighter us ts (expr_text e) i j a b s (expr_total weight weight_free d)
 
 pub light_manifest : (us : List Token) (m : Manifest) (i j : ℕ) → Stands us i (manifest_text m) j → LightManifest m (weights us i j)
-light_manifest us m i j s ts a b d = text_lighter us ts (manifest_text m) i j a b s (manifest_total d)
+light_manifest us m i j s ts a b d = text_lighter us ts (manifest_text m) i j a b s (manifest_total weight weight_free d)
 
 pub light_amount : (us : List Token) (m : Manifest) (i j : ℕ) → Stands us i (amount_text m) j → LightAmount m (weights us i j)
-light_amount us m i j s ts a b d = text_lighter us ts (amount_text m) i j a b s (amount_total d)
+light_amount us m i j s ts a b d = text_lighter us ts (amount_text m) i j a b s (amount_total weight weight_free d)
 
 -- Places on the left.
 pub light_no_sub : Light IsTargetSubs [] []

@@ -6,10 +6,35 @@ use Rattle.std.proofs.lemmas.Bool.{cases_lt}
 use Rattle.std.proofs.lemmas.List.Sums.{fold-append}
 use Rattle.silage_lex.specs.declared.Token.{Token}
 use Rattle.silage_lex.specs.declared.TokenKind.{TokenKind}
+use Rattle.fix_word.specs.declared.types.Mode.{Mode}
+use Rattle.fix_word.specs.declared.types.Mode.TheVariants.{Trunc, Round}
 use Rattle.silage_tree.specs.Grammar.{weighs, weight_role, weights, plain, Role, Plain, Starts, Weighs, Enters, Leaves}
 use Rattle.silage_tree.specs.Limits.{weigh, enter, Passes, too_heavy, too_deep, AreWithin}
+use Rattle.silage_tree.specs.Text.{word, truth_word, mode_word}
 use Rattle.silage_tree.proofs.Stands.{Stands}
-use Rattle.silage_tree.proofs.Weights.{weight, total, before, counts, weight_small}
+use Rattle.silage_tree.proofs.Weights.{IsFree, total, before, counts}
+
+-- what a token weighs
+abbrev pub weight : TokenKind → ℕ
+weight k = if weighs k then 1 else 0
+
+at_most_one : (b : Bool) → (if b then 1 else 0) ≤ 1
+at_most_one true = omega arith
+at_most_one false = omega arith
+
+weight_small : (k : TokenKind) → weight k ≤ 1
+weight_small k = at_most_one (weighs k)
+
+mode_free : (m : Mode) → weight (word (mode_word m)) ≡ 0
+mode_free Trunc = refl
+mode_free Round = refl
+
+truth_free : (b : Bool) → weight (word (truth_word b)) ≡ 0
+truth_free true = refl
+truth_free false = refl
+
+pub weight_free : IsFree weight
+weight_free = record { whole = λ n. refl; point = λ d p. refl; truth = truth_free; mode = mode_free; comma = refl }
 
 -- a token with this role may stand behind tokens with this weight and these open loops
 abbrev pub Allows : ℕ → ℕ → Role → Type 0
@@ -155,12 +180,12 @@ take_none zero = refl
 take_none (suc n) = refl
 
 -- what stands from i to j counts what is between them
-front_heft : (ts : List Token) (n : ℕ) → before ts n ≡ heft (take n ts)
+front_heft : (ts : List Token) (n : ℕ) → before weight ts n ≡ heft (take n ts)
 front_heft ts zero = refl
 front_heft [] (suc n) = refl
 front_heft (t ∷ ts) (suc n) = let x = front_heft ts n in omega (arith, x)
 
-range_heft : (ts : List Token) (i j : ℕ) → before ts j ≤ before ts i + heft (take (j - i) (drop i ts))
+range_heft : (ts : List Token) (i j : ℕ) → before weight ts j ≤ before weight ts i + heft (take (j - i) (drop i ts))
 range_heft ts zero j = let e : j - 0 ≡ j = omega arith in let x = front_heft ts j in let y = ap (λ n. heft (take n ts)) e in omega (arith, x, y)
 range_heft ts (suc i) zero = omega arith
 range_heft [] (suc i) (suc j) = omega arith
@@ -170,7 +195,7 @@ range_heft (t ∷ ts) (suc i) (suc j) =
     let y = ap (λ n. heft (take n (drop i ts))) e in
     omega (arith, x, y)
 
-heft_range : (ts : List Token) (i j : ℕ) → i ≤ j → before ts i + heft (take (j - i) (drop i ts)) ≡ before ts j
+heft_range : (ts : List Token) (i j : ℕ) → i ≤ j → before weight ts i + heft (take (j - i) (drop i ts)) ≡ before weight ts j
 heft_range ts zero j le = let e : j - 0 ≡ j = omega arith in let x = front_heft ts j in let y = ap (λ n. heft (take n ts)) e in omega (arith, x, y)
 heft_range ts (suc i) zero le = absurd (omega arith)
 heft_range [] (suc i) (suc j) le = let e = ap heft (take_none (suc j - suc i)) in omega (arith, e)
@@ -180,17 +205,17 @@ heft_range (t ∷ ts) (suc i) (suc j) le =
     let y = ap (λ n. heft (take n (drop i ts))) e in
     omega (arith, x, y)
 
-stands_size : (us : List Token) (ks : List TokenKind) (i j : ℕ) → Stands us i ks j → (i ≤ j) × (before us j ≡ before us i + total ks)
-stands_size us [] i j s = let e = ap (before us) s in (omega (arith, s), omega (arith, e))
+stands_size : (us : List Token) (ks : List TokenKind) (i j : ℕ) → Stands us i ks j → (i ≤ j) × (before weight us j ≡ before weight us i + total weight ks)
+stands_size us [] i j s = let e = ap (before weight us) s in (omega (arith, s), omega (arith, e))
 stands_size us (k ∷ ks) i j s =
     let x = stands_size us ks (i + 1) j s.1 in
-    let y = counts us i s.0 in
+    let y = counts weight us i s.0 in
     let le = x.0 in
     let same = x.1 in
     (omega (arith, le), omega (arith, same, y))
 
 -- a text that counts no more than the tokens from a to b
-pub text_lighter : (us ts : List Token) (ks : List TokenKind) (i j a b : ℕ) → Stands us i ks j → total ks + before ts a ≤ before ts b → Lighter (weights us i j) (weights ts a b)
+pub text_lighter : (us ts : List Token) (ks : List TokenKind) (i j a b : ℕ) → Stands us i ks j → total weight ks + before weight ts a ≤ before weight ts b → Lighter (weights us i j) (weights ts a b)
 text_lighter us ts ks i j a b s less =
     let x = stands_size us ks i j s in
     let le = x.0 in
