@@ -1,11 +1,11 @@
--- Words of fixed-point numbers, over all whole numbers: by range, congruence and floor.
+-- Raw words of fixed-point numbers, over all whole numbers: by range, congruence and floor.
 use Rattle.std.specs.Prelude.{◌≡◌, ℕ, zero, suc, ◌-◌, ◌*◌, ◌^◌, ◌≤◌, ℤ, pos, negsuc, ◌+ℤ◌, ◌-ℤ◌, ◌*ℤ◌, neg_ℤ, ◌≤ℤ◌, ◌<ℤ◌, Bool, true, false}
 use Rattle.fix_word.specs.declared.types.Shape.{Shape}
 use Rattle.fix_word.specs.declared.types.Format.{Format}
 use Rattle.fix_word.specs.declared.types.Mode.{Mode}
 use Rattle.fix_word.specs.declared.types.Mode.TheVariants.{Trunc, Round}
 
--- z lies in the range of w bits with a sign
+-- z lies in the range of w bits in two's complement
 pub record IsWord (w : ℕ) (z : ℤ) : Type 0 where
   pub low : neg_ℤ (pos (2 ^ (w - 1))) ≤ℤ z
   pub high : z <ℤ pos (2 ^ (w - 1))
@@ -14,7 +14,7 @@ pub record IsWord (w : ℕ) (z : ℤ) : Type 0 where
 abbrev pub IsCongruent : ℕ → ℤ → ℤ → Type 0
 IsCongruent n a b = (k : ℤ) × (a ≡ b +ℤ k *ℤ pos n)
 
--- m is the word of w bits that is congruent to q modulo 2 ^ w
+-- m is the word of w bits that is congruent to q modulo 2 ^ w: two's-complement wraparound
 pub record IsWrap (q : ℤ) (w : ℕ) (m : ℤ) : Type 0 where
   pub word : IsWord w m
   pub congruent : IsCongruent (2 ^ w) q m
@@ -24,14 +24,15 @@ pub record IsFloor (q : ℤ) (d : ℕ) (r : ℤ) : Type 0 where
   pub below : (r *ℤ pos d) ≤ℤ q
   pub above : q <ℤ ((r *ℤ pos d) +ℤ pos d)
 
--- r is q / 2 ^ shift as a whole number: exact where the shift is at most 0, else the floor, which Round takes after adding a half
+-- r is q / 2 ^ shift as a whole number: exact where the shift is at most 0, else the floor, which Round takes after
+-- adding a half
 abbrev pub IsScaled : ℤ → ℤ → Mode → ℤ → Type 0
 IsScaled q (negsuc s) mode r = r ≡ q *ℤ pos (2 ^ suc s)
 IsScaled q (pos zero) mode r = r ≡ q
 IsScaled q (pos (suc s)) Trunc r = IsFloor q (2 ^ suc s) r
 IsScaled q (pos (suc s)) Round r = IsFloor (q +ℤ pos (2 ^ s)) (2 ^ suc s) r
 
--- m is the exact number q in the format: scaled by the shift, then wrapped to the width
+-- m is the exact number q quantised to the format: scaled by the shift, then wrapped to the width
 pub record IsForm (q : ℤ) (fmt : Format) (m : ℤ) : Type 0 where
   pub whole : ℤ
   pub scaled : IsScaled q fmt.shift fmt.mode whole
@@ -44,13 +45,13 @@ pub record IsFormat (fmt : Format) : Type 0 where
   pub narrowest : 1 ≤ fmt.width
   pub widest : fmt.width ≤ 32
 
--- a shape of 1 to 32 bits, of which any number stands behind the binary point
+-- a shape of 1 to 32 bits, of which any number are fraction bits
 pub record IsShape (shape : Shape) : Type 0 where
   pub narrowest : 1 ≤ shape.w
   pub widest : shape.w ≤ 32
   pub places : shape.f ≤ shape.w
 
--- the raw word m with `places` places behind the binary point is r as a word of the shape and mode
+-- the raw word m with `places` fraction bits, requantised to the shape by the mode, is r
 abbrev pub IsConv : ℤ → ℤ → Shape → Mode → ℤ → Type 0
 IsConv m places shape mode r = IsForm m (record { shift = places -ℤ pos shape.f; mode = mode; width = shape.w }) r
 

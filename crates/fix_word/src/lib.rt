@@ -1,4 +1,5 @@
-//! Words of fixed-point numbers: raw words wrapped to a width, formats with their rounding, and the operations of a processor.
+//! Words of fixed-point numbers: raw words wrapped to a width, formats with their rounding, and the operations of a
+//! processor.
 #![tactic(auto)]
 
 mod operation;

@@ -29,7 +29,8 @@ pub enum Op {
     Addr,
 }
 
-/// The result of an operation from `Add` to `Sel` at the operands, which are raw words or truth values. Operands that the operation does not read are ignored, and so is the format by operations that do not round.
+/// The result of an operation from `Add` to `Sel` at the operands, which are raw words or truth values. Operands that
+/// the operation does not read are ignored, and so is the format by operations that do not round.
 #[inline(always)]
 pub fn apply(op: Op, fmt: &Format, a: i64, b: i64, c: i64) -> i64
     requires ready { IsReady op fmt.now }
@@ -56,84 +57,5 @@ pub fn apply(op: Op, fmt: &Format, a: i64, b: i64, c: i64) -> i64
         Op::Not => i64::from(a == 0),
         Op::Sel => if a != 0 { b } else { c },
         Op::Input | Op::Output | Op::Const | Op::Load | Op::Store | Op::Addr => unreachable!(),
-    }
-}
-
-#[cfg(test)]
-mod tests {
-    use super::*;
-    use crate::types::Mode;
-
-    /// The sum, the difference, the negation and the copy in 8 bits, and the product of two words of 8 bits with 4 places, rounded.
-    fn arithmetic(a: i8, b: i8) -> [i64; 5] {
-        let (a, b) = (i64::from(a), i64::from(b));
-        let words = Format {
-            shift: 0,
-            mode: Mode::Trunc,
-            width: 8,
-        };
-        let products = Format {
-            shift: 4,
-            mode: Mode::Round,
-            width: 8,
-        };
-        [
-            apply(Op::Add, &words, a, b, 0),
-            apply(Op::Sub, &words, a, b, 0),
-            apply(Op::Neg, &words, a, b, 0),
-            apply(Op::Pass, &words, a, b, 0),
-            apply(Op::Mul, &products, a, b, 0),
-        ]
-    }
-
-    /// Less, at most, equal, unequal, and, or, not, and the choice between 5 and -6.
-    fn logic(a: i8, b: i8) -> [i64; 8] {
-        let (a, b) = (i64::from(a), i64::from(b));
-        let unused = Format {
-            shift: 0,
-            mode: Mode::Trunc,
-            width: 0,
-        };
-        [
-            apply(Op::Lt, &unused, a, b, 0),
-            apply(Op::Le, &unused, a, b, 0),
-            apply(Op::Eq, &unused, a, b, 0),
-            apply(Op::Ne, &unused, a, b, 0),
-            apply(Op::And, &unused, a, b, 0),
-            apply(Op::Or, &unused, a, b, 0),
-            apply(Op::Not, &unused, a, b, 0),
-            apply(Op::Sel, &unused, a, 5, -6),
-        ]
-    }
-
-    #[test]
-    fn arithmetic_goes_through_the_format(rt: HostRuntime) {
-        let cases = [
-            (100, 27, [127, 73, -100, 100, -87]),
-            (100, 28, [-128, 72, -100, 100, -81]),
-            (-128, 1, [-127, 127, -128, -128, -8]),
-            (-1, 8, [7, -9, 1, -1, 0]),
-            (1, 8, [9, -7, -1, 1, 1]),
-            (127, 127, [-2, 0, -127, 127, -16]),
-            (-128, -128, [0, 0, -128, -128, 0]),
-        ];
-        for (a, b, want) in cases {
-            assert_eq!(rt; arithmetic(a, b), want, "at {a} and {b}");
-        }
-    }
-
-    #[test]
-    fn comparisons_logic_and_choice_need_no_format(rt: HostRuntime) {
-        let cases = [
-            (0, 0, [0, 1, 1, 0, 0, 0, 1, -6]),
-            (0, 2, [1, 1, 0, 1, 0, 1, 1, -6]),
-            (1, 2, [1, 1, 0, 1, 1, 1, 0, 5]),
-            (-1, 0, [1, 1, 0, 1, 0, 1, 0, 5]),
-            (2, -2, [0, 0, 0, 1, 1, 1, 0, 5]),
-            (-2, -2, [0, 1, 1, 0, 1, 1, 0, 5]),
-        ];
-        for (a, b, want) in cases {
-            assert_eq!(rt; logic(a, b), want, "at {a} and {b}");
-        }
     }
 }

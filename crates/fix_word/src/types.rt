@@ -1,20 +1,22 @@
-/// The size of a fixed-point number: `w` bits with the sign, of which `f` stand behind the binary point. A raw word m stands for m / 2^f.
+/// The size of a fixed-point number, Q(w-f).f in two's complement: `w` bits with the sign, of which `f` are fraction
+/// bits. A raw word, its raw integer, is m for the value m / 2^f.
 #[derive(Clone, Copy, Debug, PartialEq, Eq)]
 pub struct Shape {
     pub w: u8,
     pub f: u8,
 }
 
-/// Where bits behind the last place go.
+/// How a number is rounded to a whole one.
 #[derive(Clone, Copy, Debug, PartialEq, Eq)]
 pub enum Mode {
-    /// Down, toward minus infinity.
+    /// Toward minus infinity: the floor.
     Trunc,
-    /// To the nearest number, a half going up.
+    /// To the nearest, ties up.
     Round,
 }
 
-/// How an exact number becomes a word: divided by 2^shift, which multiplies where the shift is negative, brought to a whole number by the mode, and wrapped to `width` bits.
+/// How an exact number is quantised to a word: divided by 2^shift, which multiplies where the shift is negative, rounded
+/// to a whole number by the mode, and wrapped to `width` bits.
 #[derive(Clone, Copy, Debug, PartialEq, Eq)]
 pub struct Format {
     pub shift: i8,
