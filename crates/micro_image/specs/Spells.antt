@@ -1,4 +1,5 @@
--- The microcode file, version 1: the bytes that spell an image. Numbers are big-endian, and signed ones in two's complement.
+-- The microcode file, version 1: the bytes that spell an image. Numbers are big-endian, and signed ones in two's
+-- complement.
 use Rattle.std.specs.Prelude.{◌≡◌, ℕ, List, [], ◌∷◌, ◌++◌, length, ℤ, codes}
 use Rattle.std.specs.List.{flat_map}
 use Rattle.std.specs.Int.{w8, w16, w32, w64, to_be_bytes, cast_unsigned}
@@ -67,11 +68,11 @@ abbrev pub mode_byte : Mode → ℕ
 mode_byte Trunc = 0
 mode_byte Round = 1
 
--- a register file: its size, and the words that its registers start with
+-- a register file: its size, and the initial words of its registers
 unfoldable pub spelled_file : List ℤ → List ℕ
 spelled_file file = two_bytes (length file) ++ flat_map eight_bytes file
 
--- what a ram alone, or an acu alone, has: the ram its cells, the acu the number of its ram
+-- the cells of a ram, the number of an acu's ram, and nothing of the other kinds
 unfoldable pub spelled_memory : Kind → UnitDesc → List ℕ
 spelled_memory kind.Ram unit = four_bytes (length unit.cells) ++ flat_map eight_bytes unit.cells
 spelled_memory kind.Acu unit = unit.ram ∷ []
@@ -79,7 +80,9 @@ spelled_memory _ unit = []
 
 -- kind, latency, gap, a register file for each port, the memory
 unfoldable pub spelled_unit : UnitDesc → List ℕ
-spelled_unit unit = kind_byte unit.kind ∷ unit.latency ∷ unit.gap ∷ [] ++ flat_map spelled_file unit.files ++ spelled_memory unit.kind unit
+spelled_unit unit =
+    kind_byte unit.kind ∷ unit.latency ∷ unit.gap ∷ []
+    ++ flat_map spelled_file unit.files ++ spelled_memory unit.kind unit
 
 -- the shift, the mode, the width
 unfoldable pub spelled_format : Format → List ℕ
@@ -87,7 +90,9 @@ spelled_format fmt = cast_unsigned w8 fmt.shift ∷ mode_byte fmt.mode ∷ fmt.w
 
 -- unit, operation, format, argument, a register for each port
 unfoldable pub spelled_issue : Issue → List ℕ
-spelled_issue issue = issue.unit ∷ operation_byte issue.op ∷ [] ++ spelled_format issue.fmt ++ eight_bytes issue.arg ++ issue.regs
+spelled_issue issue =
+    issue.unit ∷ operation_byte issue.op ∷ []
+    ++ spelled_format issue.fmt ++ eight_bytes issue.arg ++ issue.regs
 
 -- unit, bus
 unfoldable pub spelled_enable : Enable → List ℕ
@@ -97,7 +102,7 @@ spelled_enable enable = enable.unit ∷ enable.bus ∷ []
 unfoldable pub spelled_take : Take → List ℕ
 spelled_take take = take.port.unit ∷ take.port.port ∷ take.bus ∷ take.reg ∷ []
 
--- the issues, the enables, the takes, each list behind its length
+-- the issues, the enables, the takes, each list after its length
 unfoldable pub spelled_word : Word → List ℕ
 spelled_word word =
     length word.issues ∷ [] ++ flat_map spelled_issue word.issues
@@ -115,7 +120,7 @@ spelling image =
     ++ image.buses ∷ []
     ++ flat_map spelled_word image.words
 
--- the bytes are those of the image, whose fields are all allowed, and nothing stands behind them
+-- the bytes are those of the image, whose fields are all allowed, and nothing follows them
 pub record Spells (bytes : List ℕ) (image : Image) : Type 0 where
   pub valid : IsValid image
   pub spelled : bytes ≡ spelling image

@@ -117,8 +117,8 @@ pub record IsFile (file : List ℤ) : Type 0 where
   pub size : IsWithin 1 256 (length file)
   pub words : All (IsWord 32) file
 
--- a unit among the units: a result comes after 1 to 8 cycles, an issue fits no later than that, each port has its
--- register file, a ram alone has cells, and an acu alone names a ram
+-- a unit among the units: an operation takes 1 to 8 cycles, the next may begin after 1 to as many, each port has its
+-- register file, only a ram has cells, and only an acu names a ram
 pub record IsUnit (units : List UnitDesc) (unit : UnitDesc) : Type 0 where
   pub latency : IsWithin 1 8 unit.latency
   pub gap : IsWithin 1 unit.latency unit.gap
@@ -152,26 +152,33 @@ pub record IsEnable (image : Image) (enable : Enable) : Type 0 where
   pub unit : enable.unit < length image.units
   pub bus : enable.bus < image.buses
 
+-- the unit has the port, and the port's file the register
+abbrev pub HasRegister : UnitDesc → ℕ → ℕ → Type 0
+HasRegister unit port reg = IsSomeAnd (slice_get unit.files port) (λ file. reg < length file)
+
 -- the unit is there, its port, and the register
 abbrev pub IsRegister : Image → PortRef → ℕ → Type 0
-IsRegister image port reg =
-    IsSomeAnd (slice_get image.units port.unit) (λ unit. IsSomeAnd (slice_get unit.files port.port) (λ file. reg < length file))
+IsRegister image port reg = IsSomeAnd (slice_get image.units port.unit) (λ unit. HasRegister unit port.port reg)
 
 -- the register and the bus are there
 pub record IsTake (image : Image) (take : Take) : Type 0 where
   pub register : IsRegister image take.port take.reg
   pub bus : take.bus < image.buses
 
+-- in lexicographic order: m is below n, or they are equal and the rest decides
+abbrev pub LexBelow : ℕ → ℕ → Type 0 → Type 0
+LexBelow m n Rest = (m < n) ⊎ ((m ≡ n) × Rest)
+
 -- by unit, then bus
 abbrev pub EnableBefore : Enable → Enable → Type 0
-EnableBefore a b = (a.unit < b.unit) ⊎ ((a.unit ≡ b.unit) × (a.bus < b.bus))
+EnableBefore a b = LexBelow a.unit b.unit (a.bus < b.bus)
 
 -- by unit, port, bus, then register
 abbrev pub TakeBefore : Take → Take → Type 0
 TakeBefore a b =
-    (a.port.unit < b.port.unit) ⊎ ((a.port.unit ≡ b.port.unit) × ((a.port.port < b.port.port) ⊎ ((a.port.port ≡ b.port.port) × ((a.bus < b.bus) ⊎ ((a.bus ≡ b.bus) × (a.reg < b.reg))))))
+    LexBelow a.port.unit b.port.unit (LexBelow a.port.port b.port.port (LexBelow a.bus b.bus (a.reg < b.reg)))
 
--- a microword: its lists rise, so that a unit has one issue and nothing stands twice
+-- a microword: its lists rise strictly, so that a unit has one issue and nothing occurs twice
 pub record IsWordOf (image : Image) (word : Word) : Type 0 where
   pub issues : All (IsIssue image) word.issues
   pub issues_rise : IsStrictlyIncreasing (map (λ issue. issue.unit) word.issues)

@@ -5,7 +5,7 @@ ghost use Rattle.micro_image.specs.Valid.{IsValid, kind_of, ports};
 use fix_word::{Format, Op};
 use lists::List;
 
-/// The kinds of execution units.
+/// The kinds of functional units.
 #[derive(Clone, Copy, Debug, PartialEq, Eq)]
 pub enum Kind {
     Input,
@@ -61,9 +61,9 @@ pub struct PortRef {
 #[derive(Clone, Debug, PartialEq, Drop)]
 pub struct UnitDesc {
     pub kind: Kind,
-    /// Cycles from an issue to its result: the result of an issue at cycle T is there in cycle T + latency - 1.
+    /// How many cycles an operation takes: the result of an issue at cycle T is on its buses in cycle T + latency - 1.
     pub latency: u8,
-    /// Cycles from an issue to the next that the unit can take.
+    /// How many cycles after an issue the unit can have the next one: its initiation interval.
     pub gap: u8,
     /// The registers of each port, as raw words.
     pub files: List<List<i64>>,
@@ -73,7 +73,7 @@ pub struct UnitDesc {
     pub ram: u8,
 }
 
-/// An operation that a unit begins in a cycle.
+/// An issue: an operation that a unit begins in a cycle.
 #[derive(Clone, Debug, PartialEq, Drop)]
 pub struct Issue {
     pub unit: u8,
@@ -86,14 +86,14 @@ pub struct Issue {
     pub regs: List<u8>,
 }
 
-/// A unit that drives a bus in a cycle.
+/// A bus drive: a unit that drives a bus in a cycle.
 #[derive(Clone, Copy, Debug, PartialEq, Eq)]
 pub struct Enable {
     pub unit: u8,
     pub bus: u8,
 }
 
-/// A register that takes what stands on a bus at the end of a cycle.
+/// A register-file write: a register that takes what its bus carries at the end of a cycle.
 #[derive(Clone, Copy, Debug, PartialEq, Eq)]
 pub struct Take {
     pub port: PortRef,
@@ -135,66 +135,5 @@ impl Image {
     {
         let count = u64::from(self.unroll) * u64::from(self.period);
         &self.words[(cycle % count) as usize]
-    }
-}
-
-#[cfg(test)]
-mod tests {
-    use super::*;
-    use fix_word::Mode;
-    use std::alloc::{AllocError, Global};
-    use std::test::Fail;
-
-    /// One ram that loads in its only cycle, with a value in each field.
-    fn loading(alloc: Global) -> Result<Image, AllocError> {
-        let addresses = List::from_slice(alloc, &[0, 1])?;
-        let values = List::from_slice(alloc, &[-3])?;
-        let unit = UnitDesc {
-            kind: Kind::Ram,
-            latency: 2,
-            gap: 1,
-            files: List::from_vec(Vec::from_array(alloc, [addresses, values])?),
-            cells: List::from_slice(alloc, &[50, 60])?,
-            ram: 0,
-        };
-        let issue = Issue {
-            unit: 0,
-            op: Op::Load,
-            fmt: Format {
-                shift: 0,
-                mode: Mode::Trunc,
-                width: 0,
-            },
-            arg: 0,
-            regs: List::from_slice(alloc, &[1, 0])?,
-        };
-        let word = Word {
-            issues: List::from_vec(Vec::from_array(alloc, [issue])?),
-            enables: List::from_slice(alloc, &[Enable { unit: 0, bus: 0 }])?,
-            takes: List::from_slice(
-                alloc,
-                &[Take {
-                    port: PortRef { unit: 0, port: 1 },
-                    bus: 0,
-                    reg: 0,
-                }],
-            )?,
-        };
-        Ok(Image {
-            period: 1,
-            unroll: 1,
-            inputs: List::from_slice(alloc, &[8])?,
-            outs: 1,
-            units: List::from_vec(Vec::from_array(alloc, [unit])?),
-            buses: 1,
-            words: List::from_vec(Vec::from_array(alloc, [word])?),
-        })
-    }
-
-    #[test]
-    fn a_clone_is_the_same_image(rt: HostRuntime) -> Result<(), Fail> {
-        let image = loading(rt.alloc())?;
-        assert_eq!(rt; image.clone()?, image);
-        Ok(())
     }
 }
