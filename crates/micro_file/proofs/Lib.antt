@@ -1,4 +1,5 @@
 pub mod Counts
+pub mod Length
 pub mod Many
 pub mod Reader
 pub mod Several

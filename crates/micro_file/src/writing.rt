@@ -1,7 +1,7 @@
 ghost use Rattle.std.specs.Prelude.{◌≡◌, ◌<◌, ◌≤◌, ◌^◌, ◌++◌, length, IfOk, OnOk};
 ghost use Rattle.std.specs.List.{All, flat_map};
 ghost use Rattle.micro_image.specs.Valid.{IsValid};
-ghost use Rattle.micro_image.specs.Spells.{Spells, eight_bytes, kind_byte, operation_byte, mode_byte, spelled_file, spelled_memory, spelled_unit, spelled_format, spelled_issue, spelled_enable, spelled_take, spelled_word};
+ghost use Rattle.micro_image.specs.Spells.{Spells, eight_bytes, kind_byte, operation_byte, mode_byte, spelled_file, spelled_memory, spelled_unit, spelled_format, spelled_issue, spelled_enable, spelled_take, spelled_word, spelling};
 ghost use Rattle.micro_file.specs.Sizes.{IsShortFile, IsSmallUnit, IsSmallWord};
 
 use crate::fault::CodeFault;
@@ -153,11 +153,10 @@ fn put_words(out: &mut Bytes, words: &List<Word>) -> Result<(), AllocError>
     Ok(())
 }
 
-/// The bytes that spell the image. An error says that no memory was left.
 #[tactic(auto, using(crate::proofs::Counts::small_words), unfolding(micro_image::specs::Spells::spelling, micro_image::specs::Spells::two_bytes))]
-pub fn encode(alloc: Global, image: &Image) -> Result<Bytes, CodeFault>
+fn spelling_of(alloc: Global, image: &Image) -> Result<Bytes, AllocError>
     requires { IsValid image.now }
-    ensures { IfOk result (λ bytes. Spells bytes image.now) }
+    ensures { IfOk result (λ bytes. bytes ≡ spelling image.now) }
 {
     let mut out = Bytes::new(alloc);
     out.extend_from_slice(b"SILM\x01")?;
@@ -169,4 +168,15 @@ pub fn encode(alloc: Global, image: &Image) -> Result<Bytes, CodeFault>
     out.extend_from_slice(&[image.buses])?;
     put_words(&mut out, &image.words)?;
     Ok(out)
+}
+
+/// The bytes that spell the image. An error says that no memory was left.
+#[tactic(auto, using(crate::proofs::Length::spelling_within))]
+pub fn encode(alloc: Global, image: &Image) -> Result<Bytes, CodeFault>
+    requires { IsValid image.now }
+    ensures spelled { IfOk result (λ bytes. Spells bytes image.now) }
+    // So `decode` takes the bytes.
+    ensures short { IfOk result (λ bytes. length bytes < 2 ^ 32) }
+{
+    Ok(spelling_of(alloc, image)?)
 }
