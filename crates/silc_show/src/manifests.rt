@@ -1,0 +1,64 @@
+//! A table of manifest constants, one a line, each with its value: `2 * i + 1 with i=3 k=-2`.
+
+use crate::source::program_of;
+use anyhow::{Context, Result};
+use lists::List;
+use name_check::{Env, manifest};
+use silage_tree::{Item, Manifest, Program, Top};
+use std::alloc::{AllocError, Global};
+use std::str;
+
+/// The amount of the initial value that is all of a program.
+fn only_amount(program: &Program) -> Option<&Manifest> {
+    match program.tops.as_slice() {
+        [Top::Func(func)] => match func.items.as_slice() {
+            [Item::Initial { k, .. }] => Some(k),
+            _ => None,
+        },
+        _ => None,
+    }
+}
+
+/// The loop indices, each with its value.
+fn indices(alloc: Global, text: &str) -> Result<Option<Env>, AllocError> {
+    let mut env = List::new(alloc);
+    for entry in text.split(' ') {
+        let Some((name, value)) = entry.split_once('=') else {
+            return Ok(None);
+        };
+        let Ok(value) = value.parse::<i32>() else {
+            return Ok(None);
+        };
+        env.push((List::from_slice(alloc, name.as_bytes())?, value))?;
+    }
+    Ok(Some(env))
+}
+
+/// Prints the value of a manifest constant, which is read as an amount in a source made round it.
+fn show_row(rt: &(impl Print + AllocGlobal), row: &str) -> Result<()> {
+    let alloc = rt.alloc();
+    let (text, env) = match row.split_once(" with ") {
+        Some((text, values)) => (text, indices(alloc, values)?),
+        None => (row, Some(List::new(alloc))),
+    };
+    let source = format!(in alloc; "func f(x : bool) y : bool = begin y@@({text}) = false; end;")?;
+    let (Ok(program), Some(env)) = (program_of(alloc, source.as_bytes()), env) else {
+        return Ok(println!(rt; "{row} refused: row")?);
+    };
+    let Some(number) = only_amount(&program) else {
+        return Ok(println!(rt; "{row} refused: row")?);
+    };
+    match manifest(number, &env) {
+        Ok(value) => println!(rt; "{row} = {value}")?,
+        Err(fault) => println!(rt; "{row} fault {fault:?}")?,
+    }
+    Ok(())
+}
+
+pub fn show(rt: &(impl Print + AllocGlobal), table: &[u8]) -> Result<()> {
+    let table = str::from_utf8(table).context("the table is no text")?;
+    for row in table.lines() {
+        show_row(rt, row)?;
+    }
+    Ok(())
+}

@@ -1,0 +1,59 @@
+//! The rows of a sample file, each printed again, or the line and byte of its first bad place.
+
+ghost use Rattle.std.specs.Prelude.{IfOk, IfSome, ◌≤◌, ◌<◌, length};
+ghost use Rattle.std.specs.List.{All};
+ghost use Rattle.sample_io.specs.Channels.{AreChannels, IsChannel};
+
+use anyhow::{Result, bail};
+use lists::List;
+use sample_io::{Channel, RowFault, RowList, RowsReadFault, put_row, read_rows};
+use std::alloc::{AllocError, Global};
+
+/// The most words of a row.
+const MAX_CHANNELS: usize = 16;
+
+/// The most bits of a word.
+const MAX_WIDTH: u8 = 40;
+
+/// The most bytes of a printed row.
+const LINE: usize = 21 * MAX_CHANNELS + 1;
+
+/// The channels of words of these widths, which have commas between them.
+pub fn channels(alloc: Global, widths: &str) -> Result<Option<List<Channel>>, AllocError>
+    ensures { IfOk result (λ found. IfSome found AreChannels) }
+{
+    let mut channels = List::new(alloc);
+    for word in widths.split(',') {
+        match word.parse::<u8>() {
+            Ok(width) if width <= MAX_WIDTH => channels.push(Channel::of(width))?,
+            _ => return Ok(None),
+        }
+    }
+    if channels.is_empty() || channels.len() > MAX_CHANNELS {
+        return Ok(None);
+    }
+    Ok(Some(channels))
+}
+
+fn put_rows(rt: &impl Print, list: &RowList) -> Result<()> {
+    for row in list.words.as_slice().chunks(usize::from(list.width.max(1))) {
+        let mut line = [0u8; LINE];
+        if row.len() <= MAX_CHANNELS && !row.is_empty() {
+            let size = put_row(row, &mut line);
+            rt.write_all(&line[..size])?;
+        }
+    }
+    Ok(())
+}
+
+pub fn show(rt: &(impl Print + AllocGlobal), channels: &List<Channel>, samples: &[u8]) -> Result<()>
+    requires { AreChannels channels.now }
+{
+    match read_rows(rt.alloc(), samples, channels) {
+        Ok(list) => put_rows(rt, &list),
+        Err(RowsReadFault::Row(RowFault { line, at })) => Ok(println!(rt;
+            "fault line {line} byte {at}"
+        )?),
+        Err(RowsReadFault::Memory) => bail!("no memory"),
+    }
+}
