@@ -7,12 +7,17 @@ OPERATIONS = ("input output const add sub neg pass lt le eq ne and or not mul se
 FORMATTED = {"add", "sub", "neg", "pass", "mul"}
 
 
-def unit(kind, latency=1, gap=1, size=16, cells=0, ram=0):
-    """A unit whose registers and cells start at 0, with register files of one size."""
+def numbers(values):
+    return b"".join(struct.pack(">q", value) for value in values)
+
+
+def unit(kind, latency=1, gap=1, files=None, cells=(), ram=0):
+    """A unit by what the registers of each port and the cells start with. Without files it has 16 registers a port, all 0."""
     fields = bytes([KINDS[kind], latency, gap])
-    fields += (struct.pack(">H", size) + bytes(8 * size)) * PORTS[kind]
+    for file in files or [[0] * 16] * PORTS[kind]:
+        fields += struct.pack(">H", len(file)) + numbers(file)
     if kind == "ram":
-        fields += struct.pack(">I", cells) + bytes(8 * cells)
+        fields += struct.pack(">I", len(cells)) + numbers(cells)
     if kind == "acu":
         fields += bytes([ram])
     return fields
@@ -40,7 +45,7 @@ def image(period, unroll, inputs, outs, units, buses, words):
 
 def wide(size):
     """A valid image of about so many bytes: words full of enables and takes. It is for reading, not for running."""
-    units = [unit("alu", size=8) for _ in range(32)]
+    units = [unit("alu", files=[[0] * 8] * 2) for _ in range(32)]
     enables = [(number, bus) for number in range(32) for bus in range(32)]
     takes = [(number, port, bus, 0) for number in range(32) for port in range(2) for bus in range(8)]
     full = word(enables=enables, takes=takes)
@@ -52,7 +57,7 @@ def crowded(size):
     """A valid image of at most so many bytes: words full of issues, with no enables or takes. It is for reading, not for running."""
     operations = [("in", "input"), ("rom", "const"), ("alu", "add"), ("mul", "mul"), ("sel", "sel"), ("alu", "lt"),
                   ("ram", "store"), ("out", "output")] * 4
-    units = [unit(kind, cells=16) for kind, _ in operations]
+    units = [unit(kind, cells=[0] * 16) for kind, _ in operations]
     full = word([issue(number, operation, [number % 16] * PORTS[kind])
                  for number, (kind, operation) in enumerate(operations)])
     count = min((size - 20000) // len(full) // 4 * 4, 4 * 4096)
