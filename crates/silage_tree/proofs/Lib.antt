@@ -1,5 +1,7 @@
 pub mod Values
+pub mod SameTexts
 pub mod Sources
+pub mod Heads
 pub mod Instances
 pub mod Outputs
 pub mod Rows
@@ -14,6 +16,7 @@ pub mod OneLineOnce
 mod Examples
 pub mod LightItems
 pub mod Lighter
+pub mod Levels
 pub mod Needed
 pub mod Numbers
 pub mod ReadExprs
@@ -25,4 +28,5 @@ pub mod ReadPrograms
 pub mod Spelled
 pub mod Stands
 pub mod Tokens
+pub mod TopWeights
 pub mod Weights

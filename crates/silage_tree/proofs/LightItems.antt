@@ -117,7 +117,7 @@ pub light_table : {c : ConstDef} (i j : ℕ) → Light IsTop (table c) (plain i 
 light_table i j ts k m qs (is_table {m = n} w d c f e ls s) = plain_lighter i j k (n + 1)
 
 function_lighter : (ts : List Token) (k : ℕ) (f : Func) (m : ℕ) (qs ws : List Role) (i j : ℕ) → Light IsItems f.items qs → IsTop ts k (function f) ws m → Lighter (plain i j ++ qs ++ Plain ∷ Plain ∷ []) ws
-function_lighter ts k f m qs ws i j g (is_function {m = l} {n = n} {qs = rs} w a o ps c results d b ls xs e s) = joined (joined (plain_lighter i j k l) (g ts l n rs xs)) two_plain
+function_lighter ts k f m qs ws i j g (is_function {m = l} {n = n} {qs = rs} w a o ps c r d b ls xs e s) = joined (joined (plain_lighter i j k l) (g ts l n rs xs)) two_plain
 
 pub light_function : {f : Func} {qs : List Role} (i j : ℕ) → Light IsItems f.items qs → Light IsTop (function f) (plain i j ++ qs ++ Plain ∷ Plain ∷ [])
 light_function {f = f} {qs = qs} i j g ts k m ws d = function_lighter ts k f m qs ws i j g d

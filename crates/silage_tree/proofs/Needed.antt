@@ -1,185 +1,251 @@
--- Parentheses are needed where the canonical text has them.
-use Rattle.std.proofs.Common.{[], ◌∷◌, inl, inr, ◌⊎◌, ◌≡◌, ℕ, zero, suc, ◌≤◌, ◌<◌, Bool, true, false, List, Option, Some, None, refl, ap, ◌∙◌, subst, arith}
-use Rattle.std.specs.Prelude.{nat_eq, if◌then◌else◌}
+-- Each pair of parentheses of the canonical text is needed: tokens that derive a definition have as many `(` as its text, and a list
+-- of tokens without one of them has too few. Which tokens are a definition's own is told by the `func` or `const` in front.
+use Rattle.std.proofs.Common.{◌≡◌, ℕ, zero, suc, ◌+◌, ◌≤◌, Bool, true, false, inl, inr, List, [], ◌∷◌, ◌++◌, Some, length, map, nat_eq, refl, sym, ap, ◌∙◌, arith}
+use Rattle.std.specs.Prelude.{if◌then◌else◌}
+use Rattle.std.specs.List.{flat_map}
+use Rattle.std.proofs.lemmas.Bool.{cases_lt}
+use Rattle.std.proofs.lemmas.List.{length-map}
+use mathlib.Core.List.{append_assoc}
+use Rattle.fix_word.specs.declared.types.Mode.{Mode}
+use Rattle.fix_word.specs.declared.types.Mode.TheVariants.{Trunc, Round}
 use Rattle.silage_lex.specs.declared.Token.{Token}
 use Rattle.silage_lex.specs.declared.TokenKind.{TokenKind}
 use Rattle.silage_lex.specs.declared.TokenKind.TheVariants as kind
 use Rattle.silage_lex.specs.declared.punctuation.TheConstants as punctuation
-use Rattle.silage_tree.specs.declared.tree.BinOp.{BinOp}
-use Rattle.silage_tree.specs.declared.tree.BinOp.TheVariants as op
-use Rattle.silage_tree.specs.declared.tree.MOp.TheVariants as mop
-use Rattle.silage_tree.specs.Tree.{Manifest, whole, counter, minus, both, Expr}
-use Rattle.silage_tree.specs.Grammar.{kind_at, row, marked, Level, Or, And, Sum, Product, ExprRule, Chain, Rest, Comparison, Shift, Shifts, Unary, Primary, part, operator, comparison, IsExpr, chain, no_more, one_more, no_comparison, comparison_of, shifts, no_shift, one_shift, negative_number, negated, denied, primary, number, truth, place, cast_of, paren, choice, one_arm, last_arm, ManifestRule, Term, Factors, Factor, Primary_, IsManifest, terms, no_term, one_term, factors, no_factor, one_factor, minus_factor, primary_factor, whole_primary, name_primary, paren_primary}
-use Rattle.silage_tree.specs.Text.{expr_level, operator_level, manifest_level}
-use Rattle.silage_tree.specs.Parentheses.{expr_rule, IsEnclosed, ExprsNeedThem, ManifestsNeedThem}
+use Rattle.silage_tree.specs.Tree.{Top, table, function, Program}
+use Rattle.silage_tree.specs.Places.{unplaced_top}
+use Rattle.silage_tree.specs.Grammar.{kind_at, Role, IsTop, is_table, is_function, IsTops, no_tops, one_top}
+use Rattle.silage_tree.specs.Text.{symbol, word, truth_word, mode_word, top_text}
+use Rattle.silage_tree.specs.Parentheses.{Pair, text_without, HasOneWord, EachPairIsNeeded}
+use Rattle.silage_tree.proofs.Weights.{extra, total, total_join, before, counts}
+use Rattle.silage_tree.proofs.TopWeights.{IsQuiet, forth, top_total}
+use Rattle.silage_tree.proofs.SameTexts.{top_same}
+use Rattle.silage_tree.proofs.Heads.{heads, heads_quiet, top_headed}
 
--- what a table has at a number passes each test that the whole table passes
-abbrev Each : {A : Type 0} → (A → Type 0) → List (ℕ × A) → Type 0
-Each P [] = Unit {0}
-Each P (x ∷ xs) = P x.1 × Each P xs
+-- `(` counts one, other tokens nothing
+abbrev parens : TokenKind → ℕ
+parens (kind.Symbol n) = if nat_eq n punctuation.LEFT_PAREN then 1 else 0
+parens _ = 0
 
-test_row : {A : Type 0} (P : A → Type 0) (b : Bool) (v y : A) (rest : Option A) → (if b then Some v else rest) ≡ Some y → P v → (rest ≡ Some y → P y) → P y
-test_row P true v y rest e p others = let same : v ≡ y = cc in subst P same p
-test_row P false v y rest e p others = others e
+mode_quiet : (m : Mode) → parens (word (mode_word m)) ≡ 0
+mode_quiet Trunc = refl
+mode_quiet Round = refl
 
-rows : {A : Type 0} (P : A → Type 0) (xs : List (ℕ × A)) → Each P xs → (n : ℕ) (y : A) → row xs n ≡ Some y → P y
-rows P [] all n y e = cc
-rows P (x ∷ xs) all n y e = test_row P (nat_eq x.0 n) x.1 y (row xs n) e all.0 (rows P xs all.1 n y)
+truth_quiet : (b : Bool) → parens (word (truth_word b)) ≡ 0
+truth_quiet true = refl
+truth_quiet false = refl
 
-marked_rows : {A : Type 0} (P : A → Type 0) (xs : List (ℕ × A)) → Each P xs → (k : Option TokenKind) (y : A) → marked xs k ≡ Some y → P y
-marked_rows P xs all None y e = cc
-marked_rows P xs all (Some (kind.Symbol n)) y e = rows P xs all n y e
-marked_rows P xs all (Some (kind.Reserved n)) y e = cc
-marked_rows P xs all (Some (kind.Name n)) y e = cc
-marked_rows P xs all (Some (kind.Whole n)) y e = cc
-marked_rows P xs all (Some (kind.Point d p)) y e = cc
+parens_quiet : IsQuiet parens
+parens_quiet = record {
+  free = record { whole = λ n. refl; point = λ d p. refl; truth = truth_quiet; mode = mode_quiet; comma = refl };
+  name = λ n. refl;
+  opens = refl;
+  closes = refl;
+  colon = refl;
+  less = refl;
+  greater = refl;
+  semicolon = refl;
+  fixed = refl;
+  truths = refl;
+  var = refl;
+}
 
--- the level of the chain of each rule
-abbrev pub chain_level : Level → ℕ
-chain_level Or = 0
-chain_level And = 1
-chain_level Sum = 3
-chain_level Product = 4
+-- Tokens and their kinds.
+abbrev kinds : List Token → List TokenKind
+kinds ts = map (λ (t : Token). t.kind) ts
 
-operator_is : (l : Level) (k : Option TokenKind) (o : BinOp) → operator l k ≡ Some o → operator_level o ≡ chain_level l
-operator_is Or k o e = marked_rows (λ p. operator_level p ≡ 0) ((punctuation.PIPE, op.Or) ∷ []) (refl, tt) k o e
-operator_is And k o e = marked_rows (λ p. operator_level p ≡ 1) ((punctuation.AMPERSAND, op.And) ∷ []) (refl, tt) k o e
-operator_is Sum k o e = marked_rows (λ p. operator_level p ≡ 3) ((punctuation.PLUS, op.Add) ∷ (punctuation.MINUS, op.Sub) ∷ []) (refl, (refl, tt)) k o e
-operator_is Product k o e = marked_rows (λ p. operator_level p ≡ 4) ((punctuation.STAR, op.Mul) ∷ []) (refl, tt) k o e
+front : (count : TokenKind → ℕ) (ts : List Token) (xs ys : List TokenKind) → kinds ts ≡ xs ++ ys → before count ts (length xs) ≡ total count xs
+front count ts [] ys e = refl
+front count [] (x ∷ xs) ys e = cc
+front count (t ∷ ts) (x ∷ xs) ys e =
+    let same : t.kind ≡ x = cc in
+    let others : kinds ts ≡ xs ++ ys = cc in
+    let a = ap count same in
+    let b = front count ts xs ys others in
+    omega (arith, a, b)
 
-comparison_is : (k : Option TokenKind) (o : BinOp) → comparison k ≡ Some o → operator_level o ≡ 2
-comparison_is k o e =
-    marked_rows (λ p. operator_level p ≡ 2) ((punctuation.LESS, op.Lt) ∷ (punctuation.LESS_EQUAL, op.Le) ∷ (punctuation.EQUAL_EQUAL, op.Eq) ∷ (punctuation.BANG_EQUAL, op.Ne) ∷ (punctuation.GREATER, op.Gt) ∷ (punctuation.GREATER_EQUAL, op.Ge) ∷ [])
-    (refl, (refl, (refl, (refl, (refl, (refl, tt)))))) k o e
+all : (count : TokenKind → ℕ) (ts : List Token) → before count ts (length ts) ≡ total count (kinds ts)
+all count [] = refl
+all count (t ∷ ts) = let a = all count ts in omega (arith, a)
 
-abbrev pub rule_level : ExprRule → ℕ
-rule_level (Chain l) = chain_level l
-rule_level Comparison = 2
-rule_level Shift = 5
-rule_level Unary = 6
-rule_level Primary = 7
-rule_level _ = 0
+at_most_all : (count : TokenKind → ℕ) (ts : List Token) (i : ℕ) → before count ts i ≤ before count ts (length ts)
+at_most_all count ts zero = omega arith
+at_most_all count [] (suc i) = omega arith
+at_most_all count (t ∷ ts) (suc i) = let a = at_most_all count ts i in omega (arith, a)
 
-rest_level : {ts : List Token} {l : Level} {a e : Expr} {i j : ℕ} → IsExpr ts (Rest l a) i e j → ((e ≡ a) × (i ≡ j)) ⊎ (expr_level e ≡ chain_level l)
-rest_level no_more = inl (refl, refl)
-rest_level {ts} {l = l} (one_more {i = i} {o = o} h d rest) =
-    elim (rest_level rest) [
-      | inl same ↦ inr (ap expr_level same.0 ∙ operator_is l (kind_at ts i) o h)
-      | inr level ↦ inr level
-    ]
+behind : (ts : List Token) (xs ys : List TokenKind) (k : TokenKind) → kinds ts ≡ xs ++ k ∷ ys → kind_at ts (length xs) ≡ Some k
+behind [] [] ys k e = cc
+behind [] (x ∷ xs) ys k e = cc
+behind (t ∷ ts) [] ys k e = let same : t.kind ≡ k = cc in ap Some same
+behind (t ∷ ts) (x ∷ xs) ys k e = let others : kinds ts ≡ xs ++ k ∷ ys = cc in behind ts xs ys k others
 
-shifts_level : {ts : List Token} {a e : Expr} {i j : ℕ} → IsExpr ts (Shifts a) i e j → ((e ≡ a) × (i ≡ j)) ⊎ (expr_level e ≡ 5)
-shifts_level no_shift = inl (refl, refl)
-shifts_level (one_shift h d rest) =
-    elim (shifts_level rest) [
-      | inl same ↦ inr (ap expr_level same.0)
-      | inr level ↦ inr level
-    ]
+-- Definitions and their heads.
+head_first : {ts : List Token} {i j : ℕ} {t : Top} {rs : List Role} → IsTop ts i t rs j → before heads ts (i + 1) ≡ before heads ts i + 1
+head_first {ts} (is_table {i = i} c n o ty e w s) = counts heads ts i c
+head_first {ts} (is_function {i = i} a n o ps c rs d b lo xs e s) = counts heads ts i a
 
-part_tighter : (l : Level) (n : ℕ) → n < chain_level l → n < rule_level (part l)
-part_tighter Or n h = omega arith
-part_tighter And n h = omega arith
-part_tighter Sum n h = omega arith
-part_tighter Product n h = omega arith
+heads_of : (tops : List Top) → total heads (flat_map top_text tops) ≡ length tops
+heads_of [] = refl
+heads_of (t ∷ ts) =
+    let a = total_join heads (top_text t) (flat_map top_text ts) in
+    let b = (top_headed t).one in
+    let c = heads_of ts in
+    omega (arith, a, b, c)
 
-needed_by : {ts : List Token} {rule : ExprRule} {i j : ℕ} {e : Expr} → IsExpr ts rule i e j → expr_level e < rule_level rule → IsEnclosed ts i j
-needed_by {ts} {i = i} {j = j} {e = e} (chain {l = l} {a = a} d rest) h =
-    elim (rest_level rest) [
-      | inl same ↦
-          let P : ℕ → Type 0 = λ k. IsEnclosed ts i k in
-          let level : expr_level e ≡ expr_level a = ap expr_level same.0 in
-          subst P same.1 (needed_by d (part_tighter l (expr_level a) (omega arith)))
-      | inr level ↦ absurd (omega arith)
-    ]
-needed_by no_more h = absurd (omega arith)
-needed_by (one_more e d rest) h = absurd (omega arith)
-needed_by (no_comparison d) h = needed_by d (omega arith)
-needed_by {ts} (comparison_of {j = j} {o = o} d e f) h = let level = comparison_is (kind_at ts j) o e in absurd (omega arith)
-needed_by {ts} {i = i} {j = j} {e = e} (shifts {a = a} d rest) h =
-    elim (shifts_level rest) [
-      | inl same ↦
-          let P : ℕ → Type 0 = λ k. IsEnclosed ts i k in
-          let level : expr_level e ≡ expr_level a = ap expr_level same.0 in
-          subst P same.1 (needed_by d (omega arith))
-      | inr level ↦ absurd (omega arith)
-    ]
-needed_by no_shift h = absurd (omega arith)
-needed_by (one_shift e d rest) h = absurd (omega arith)
-needed_by (negative_number m n) h = absurd (omega arith)
-needed_by (negated m n d) h = absurd (omega arith)
-needed_by (denied m d) h = absurd (omega arith)
-needed_by (primary d) h = needed_by d (omega arith)
-needed_by (number n) h = absurd (omega arith)
-needed_by (truth n) h = absurd (omega arith)
-needed_by (place n s d) h = absurd (omega arith)
-needed_by (cast_of f o d c) h = absurd (omega arith)
-needed_by (paren {j = j} o d c) h = record { opens = o; close = j; closes = c; ends = refl }
-needed_by (choice f c a v rest) h = absurd (omega arith)
-needed_by (one_arm f c a v rest) h = absurd (omega arith)
-needed_by (last_arm f d e) h = absurd (omega arith)
+one_head : {ts : List Token} {i j : ℕ} {t : Top} {rs : List Role} → IsTop ts i t rs j → before heads ts i + 1 ≤ before heads ts j
+one_head {t = t} d = let a = top_total heads heads_quiet d (λ h. refl) in let b = (top_headed t).one in omega (arith, a, b)
 
-level_rule : (n : ℕ) → n ≤ 7 → rule_level (expr_rule n) ≡ n
-level_rule zero h = refl
-level_rule (suc zero) h = refl
-level_rule (suc (suc zero)) h = refl
-level_rule (suc (suc (suc zero))) h = refl
-level_rule (suc (suc (suc (suc zero)))) h = refl
-level_rule (suc (suc (suc (suc (suc zero))))) h = refl
-level_rule (suc (suc (suc (suc (suc (suc zero)))))) h = refl
-level_rule (suc (suc (suc (suc (suc (suc (suc n))))))) h = omega arith
+head_each : {ts : List Token} {i j : ℕ} {tops : List Top} {rs : List Role} → IsTops ts i tops rs j → before heads ts i + length tops ≤ before heads ts j
+head_each no_tops = omega arith
+head_each (one_top d rest) = let a = one_head d in let b = head_each rest in omega (arith, a, b)
 
--- Manifest numbers.
-abbrev manifest_rule_level : ManifestRule → ℕ
-manifest_rule_level Term = 4
-manifest_rule_level Factor = 6
-manifest_rule_level Primary_ = 7
-manifest_rule_level _ = 0
+-- what was read for a definition with so many others before and behind it
+record Read (ts : List Token) (t : Top) (earlier later i k : ℕ) : Type 0 where
+  from : ℕ
+  to : ℕ
+  tree : Top
+  roles : List Role
+  is : IsTop ts from tree roles to
+  same : unplaced_top tree ≡ unplaced_top t
+  heads_before : before heads ts i + earlier ≤ before heads ts from
+  heads_behind : before heads ts to + later ≤ before heads ts k
 
-factors_level : {ts : List Token} {a m : Manifest} {i j : ℕ} → IsManifest ts (Factors a) i m j → ((m ≡ a) × (i ≡ j)) ⊎ (manifest_level m ≡ 4)
-factors_level no_factor = inl (refl, refl)
-factors_level (one_factor h d rest) =
-    elim (factors_level rest) [
-      | inl same ↦ inr (ap manifest_level same.0)
-      | inr level ↦ inr level
-    ]
+read_at : {ts : List Token} {i k : ℕ} {tops : List Top} {rs : List Role} (earlier : List Top) (t : Top) (later : List Top) → IsTops ts i tops rs k → map unplaced_top tops ≡ map unplaced_top (earlier ++ t ∷ later)
+    → Read ts t (length earlier) (length later) i k
+read_at [] t later no_tops e = cc
+read_at (x ∷ xs) t later no_tops e = cc
+read_at [] t later (one_top {t = read} {rest = rest} d ds) e =
+    let same : unplaced_top read ≡ unplaced_top t = cc in
+    let others : map unplaced_top rest ≡ map unplaced_top later = cc in
+    let a = ap length others in
+    let b = length-map rest unplaced_top in
+    let c = length-map later unplaced_top in
+    let h = head_each ds in
+    record { from = _; to = _; tree = read; roles = _; is = d; same = same; heads_before = omega arith; heads_behind = omega (arith, a, b, c, h) }
+read_at (x ∷ xs) t later (one_top {rest = rest} d ds) e =
+    let others : map unplaced_top rest ≡ map unplaced_top (xs ++ t ∷ later) = cc in
+    let r = read_at xs t later ds others in
+    let a = one_head d in
+    let b = r.heads_before in
+    record { from = r.from; to = r.to; tree = r.tree; roles = r.roles; is = r.is; same = r.same; heads_before = omega (arith, a, b); heads_behind = r.heads_behind }
 
-manifest_needed_by : {ts : List Token} {rule : ManifestRule} {i j : ℕ} {m : Manifest} → IsManifest ts rule i m j → manifest_level m < manifest_rule_level rule → IsEnclosed ts i j
-manifest_needed_by (terms d rest) h = absurd (omega arith)
-manifest_needed_by no_term h = absurd (omega arith)
-manifest_needed_by (one_term e d rest) h = absurd (omega arith)
-manifest_needed_by {ts} {i = i} {j = j} {m = m} (factors {a = a} d rest) h =
-    elim (factors_level rest) [
-      | inl same ↦
-          let P : ℕ → Type 0 = λ k. IsEnclosed ts i k in
-          let level : manifest_level m ≡ manifest_level a = ap manifest_level same.0 in
-          subst P same.1 (manifest_needed_by d (omega arith))
-      | inr level ↦ absurd (omega arith)
-    ]
-manifest_needed_by no_factor h = absurd (omega arith)
-manifest_needed_by (one_factor e d rest) h = absurd (omega arith)
-manifest_needed_by (minus_factor m d) h = absurd (omega arith)
-manifest_needed_by (primary_factor d) h = manifest_needed_by d (omega arith)
-manifest_needed_by (whole_primary e) h = absurd (omega arith)
-manifest_needed_by (name_primary e) h = absurd (omega arith)
-manifest_needed_by (paren_primary {j = j} o d c) h = record { opens = o; close = j; closes = c; ends = refl }
+-- Trees that are the same up to places.
+abbrev word_count : Top → ℕ
+word_count (table c) = length c.words
+word_count (function f) = 0
 
-at_least_sum : (m : Manifest) → 3 ≤ manifest_level m
-at_least_sum (whole n at) = omega arith
-at_least_sum (counter name at) = omega arith
-at_least_sum (minus at m) = omega arith
-at_least_sum (both at mop.Add a b) = omega arith
-at_least_sum (both at mop.Sub a b) = omega arith
-at_least_sum (both at mop.Mul a b) = omega arith
+word_count_same : (t : Top) → word_count (unplaced_top t) ≡ word_count t
+word_count_same (table c) = length-map c.words _
+word_count_same (function f) = refl
 
-pub exprs_need_them : ExprsNeedThem
-exprs_need_them ts asked i j e small d h = let level = level_rule asked small in needed_by d (omega arith)
+one_word_too : (t s : Top) → unplaced_top t ≡ unplaced_top s → HasOneWord t → HasOneWord s
+one_word_too (table c) (table d) e h = sym (word_count_same (table d)) ∙ sym (ap word_count e) ∙ word_count_same (table c) ∙ h
+one_word_too (table c) (function f) e h = cc
+one_word_too (function f) s e h = absurd h
 
-pub manifests_need_them : ManifestsNeedThem
-manifests_need_them ts zero i j m small d h = absurd (omega arith)
-manifests_need_them ts (suc zero) i j m small d h = let low = at_least_sum m in absurd (omega arith)
-manifests_need_them ts (suc (suc zero)) i j m small d h = let low = at_least_sum m in absurd (omega arith)
-manifests_need_them ts (suc (suc (suc zero))) i j m small d h = let low = at_least_sum m in absurd (omega arith)
-manifests_need_them ts (suc (suc (suc (suc zero)))) i j m small d h = manifest_needed_by d (omega arith)
-manifests_need_them ts (suc (suc (suc (suc (suc zero))))) i j m small d h = manifest_needed_by d (omega arith)
-manifests_need_them ts (suc (suc (suc (suc (suc (suc zero)))))) i j m small d h = manifest_needed_by d (omega arith)
-manifests_need_them ts (suc (suc (suc (suc (suc (suc (suc n))))))) i j m small d h = let level : n ≡ 0 = omega arith in manifest_needed_by d (omega arith)
+text_too : (t s : Top) → unplaced_top t ≡ unplaced_top s → top_text t ≡ top_text s
+text_too t s e = sym (top_same t) ∙ ap top_text e ∙ top_same s
+
+-- The tokens of a text without a pair.
+module _ (program : Program) (pair : Pair program) where
+  abbrev front_text : List TokenKind
+  front_text = flat_map top_text pair.earlier
+
+  abbrev own_text : List TokenKind
+  own_text = pair.before ++ pair.between ++ pair.behind
+
+  abbrev end_text : List TokenKind
+  end_text = flat_map top_text pair.later
+
+  own_total : (count : TokenKind → ℕ) → total count (top_text pair.top) ≡ total count own_text + extra count true
+  own_total count =
+      let a = ap (total count) pair.text in
+      let b = total_join count (pair.before ++ symbol punctuation.LEFT_PAREN ∷ pair.between) (symbol punctuation.RIGHT_PAREN ∷ pair.behind) in
+      let c = total_join count pair.before (symbol punctuation.LEFT_PAREN ∷ pair.between) in
+      let d = total_join count (pair.before ++ pair.between) pair.behind in
+      let e = total_join count pair.before pair.between in
+      omega (arith, a, b, c, d, e)
+
+  module _ (ts : List Token) (is : kinds ts ≡ text_without program pair) where
+    abbrev begin : ℕ
+    begin = length front_text
+
+    abbrev end : ℕ
+    end = length (front_text ++ own_text)
+
+    at_begin : (count : TokenKind → ℕ) → before count ts begin ≡ total count front_text
+    at_begin count = front count ts front_text (own_text ++ end_text) (is ∙ append_assoc front_text own_text end_text)
+
+    at_end : (count : TokenKind → ℕ) → before count ts end ≡ total count front_text + total count own_text
+    at_end count = front count ts (front_text ++ own_text) end_text is ∙ total_join count front_text own_text
+
+    at_length : (count : TokenKind → ℕ) → before count ts (length ts) ≡ total count front_text + (total count own_text + total count end_text)
+    at_length count =
+        let a = all count ts in
+        let b = ap (total count) is in
+        let c = total_join count (front_text ++ own_text) end_text in
+        let d = total_join count front_text own_text in
+        omega (arith, a, b, c, d)
+
+    -- what was read for the definition begins no earlier than its text without the pair, and counts no further
+    begins : {from to : ℕ} {t : Top} {rs : List Role} → IsTop ts from t rs to → before heads ts from ≡ length pair.earlier → begin ≤ from
+    begins {from} d h =
+        elim (cases_lt from begin) [
+          | inl early ↦
+              let a = head_first d in
+              let b = forth heads heads_quiet ts (from + 1) begin (omega (arith, early)) in
+              let c = at_begin heads in
+              let e = heads_of pair.earlier in
+              absurd (omega (arith, a, b, c, e, h))
+          | inr late ↦ late
+        ]
+
+    ends_by : (later : List Top) → later ≡ pair.later → (to : ℕ) → before heads ts to ≤ length pair.earlier + 1 → before parens ts to ≤ before parens ts end
+    ends_by [] e to h =
+        let none : total parens end_text ≡ 0 = ap (λ tops. total parens (flat_map top_text tops)) (sym e) in
+        let a = at_most_all parens ts to in
+        let b = at_length parens in
+        let c = at_end parens in
+        omega (arith, none, a, b, c)
+    ends_by (t ∷ rest) e to h =
+        elim (cases_lt end to) [
+          | inl long ↦
+              let first = top_headed t in
+              let texts : end_text ≡ first.first ∷ (first.rest ++ flat_map top_text rest) = ap (flat_map top_text) (sym e) ∙ ap (λ ks. ks ++ flat_map top_text rest) first.is in
+              let next = behind ts (front_text ++ own_text) (first.rest ++ flat_map top_text rest) first.first (is ∙ ap (λ ks. front_text ++ own_text ++ ks) texts) in
+              let a = counts heads ts end next in
+              let b = forth heads heads_quiet ts (end + 1) to (omega (arith, long)) in
+              let c = at_end heads in
+              let d = heads_of pair.earlier in
+              let f = own_total heads in
+              let g = (top_headed pair.top).one in
+              let k = first.head in
+              absurd (omega (arith, a, b, c, d, f, g, k, h))
+          | inr short ↦ forth parens parens_quiet ts to end short
+        ]
+
+    too_few : Read ts pair.top (length pair.earlier) (length pair.later) 0 (length ts) → ¬ HasOneWord pair.top → ⊥
+    too_few r several =
+        let a = r.heads_before in
+        let b = r.heads_behind in
+        let c = one_head r.is in
+        let d = at_length heads in
+        let e = heads_of pair.earlier in
+        let f = own_total heads in
+        let g = (top_headed pair.top).one in
+        let h = heads_of pair.later in
+        let from_heads : before heads ts r.from ≡ length pair.earlier = omega (arith, a, b, c, d, e, f, g, h) in
+        let k = begins r.is from_heads in
+        let l = ends_by pair.later refl r.to (omega (arith, a, b, c, d, e, f, g, h)) in
+        let m = top_total parens parens_quiet r.is (λ one. absurd (several (one_word_too r.tree pair.top r.same one))) in
+        let n = ap (total parens) (text_too r.tree pair.top r.same) in
+        let o = own_total parens in
+        let p = at_begin parens in
+        let q = at_end parens in
+        let s = forth parens parens_quiet ts begin r.from k in
+        omega (arith, l, m, n, o, p, q, s)
+
+pub each_needed : EachPairIsNeeded
+each_needed program pair several given =
+    let trees : map unplaced_top given.read.tops ≡ map unplaced_top (pair.earlier ++ pair.top ∷ pair.later) = ap (λ (p : Program). p.tops) given.same ∙ ap (map unplaced_top) pair.tops in
+    too_few program pair given.tokens given.are (read_at pair.earlier pair.top pair.later given.derives.1 trees) several

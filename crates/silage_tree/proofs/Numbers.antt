@@ -119,8 +119,8 @@ point_of digits places ds all more some few same =
 pub point_written : (digits places : ℕ) → digits < 10 ^ 18 → 1 ≤ places → places < 18 → IsWritten (kind.Point digits places)
 point_written digits places small some few =
     let h = decimal_digits digits small in
-    let zeros = replicate (places + 1 - length (decimal digits)) 48 in
+    let zeros : List ℕ = replicate (places + 1 - length (decimal digits)) 48 in
     let all : list_all is_digit (zeros ++ decimal digits) ≡ true = list_all-append is_digit zeros (decimal digits) ∙ and_from _ _ (zeros_digits (places + 1 - length (decimal digits))) h.all in
     let size : length (zeros ++ decimal digits) ≡ places + 1 - length (decimal digits) + length (decimal digits) = length-append zeros (decimal digits) ∙ ap (λ n. n + length (decimal digits)) (length-replicate (places + 1 - length (decimal digits)) 48) in
-    let short = length-decimal-le 18 digits (omega arith) small (small_number digits small) in
+    let short : length (decimal digits) ≤ 18 = length-decimal-le 18 digits (omega arith) small (small_number digits small) in
     point_of digits places (zeros ++ decimal digits) all (omega arith) some (omega arith) (zeros_before (places + 1 - length (decimal digits)) (decimal digits) ∙ h.same)

@@ -16,7 +16,7 @@ use Rattle.silage_tree.specs.Tree.{Manifest, Place, Expr, literal, read, negate,
 use Rattle.silage_tree.specs.Places.{unplaced_manifest, unplaced_place, unplaced_delay, unplaced_expr, unplaced_branches}
 use Rattle.silage_tree.specs.Grammar.{kind_at, from_at, number_of, IsPunctuation, IsKeyword, Level, Or, And, Sum, Product, ExprRule, Chain, Rest, Shift, Shifts, Arms, part, operator, comparison, shift_operator, IsManifest, Primary_, IsExpr, chain, no_more, one_more, no_comparison, comparison_of, shifts, no_shift, one_shift, negative_number, negated, denied, primary, number as number_, truth, place, cast_of, paren, choice, one_arm, last_arm}
 use Rattle.silage_tree.specs.Text.{symbol, word, enclosed, amount_text, fix_text, delay_text, operator_mark, operator_level, left_level, right_level, expr_level, is_loose_operand, shift_mark, expr_text, branches_text}
-use Rattle.silage_tree.specs.Parentheses.{expr_rule}
+use Rattle.silage_tree.proofs.Levels.{expr_rule}
 use Rattle.silage_tree.proofs.Stands.{Stands, split, IsWritten, AreWritten, no_kind, one_kind, joined, enclosed_written, TokensWritten}
 use Rattle.silage_tree.proofs.ReadManifests.{GoodManifest, placed, good_amount}
 use Rattle.silage_tree.proofs.ReadParts.{number_written, number_read, truth_read, truth_written, GoodFix, good_fix, fix_written, fix_read, GoodSubs, good_subs, subs_written, subs_text, subs_read, GoodDelay, good_delay, delay_read, delay_written}

@@ -12,7 +12,7 @@ use Rattle.silage_tree.specs.Tree.{Manifest, whole, counter, minus, both}
 use Rattle.silage_tree.specs.Places.{unplaced_manifest}
 use Rattle.silage_tree.specs.Grammar.{kind_at, from_at, ManifestRule, Manifest_, Terms, Term, Factors, Factor, Primary_, term_operator, IsPunctuation, IsManifest, terms, no_term, one_term, factors, no_factor, one_factor, minus_factor, primary_factor, whole_primary, name_primary, paren_primary}
 use Rattle.silage_tree.specs.Text.{symbol, enclosed, manifest_level, manifest_text}
-use Rattle.silage_tree.specs.Parentheses.{manifest_rule}
+use Rattle.silage_tree.proofs.Levels.{manifest_rule}
 use Rattle.silage_tree.proofs.Stands.{Stands, split, AreWritten, no_kind, one_kind, joined, enclosed_written, TokensWritten}
 
 loosen : {us : List Token} {i j : ℕ} {m : Manifest} (n : ℕ) → IsManifest us (manifest_rule (suc n)) i m j → IsManifest us (manifest_rule n) i m j

@@ -23,15 +23,19 @@ moved us i j x e h = let P : ℕ → Type 0 = λ k. kind_at us k ≡ x in subst 
 abbrev pub IsWritten : TokenKind → Type 0
 IsWritten k = IsText k (token_text k)
 
-pub data AreWritten : List TokenKind → Type 0 where
-  no_kind : AreWritten []
-  one_kind : {k : TokenKind} {ks : List TokenKind} → IsWritten k → AreWritten ks → AreWritten (k ∷ ks)
+-- each of the kinds passes
+pub data Each (P : TokenKind → Type 0) : List TokenKind → Type 0 where
+  no_kind : Each P []
+  one_kind : {k : TokenKind} {ks : List TokenKind} → P k → Each P ks → Each P (k ∷ ks)
 
-pub joined : {xs ys : List TokenKind} → AreWritten xs → AreWritten ys → AreWritten (xs ++ ys)
+pub joined : {P : TokenKind → Type 0} {xs ys : List TokenKind} → Each P xs → Each P ys → Each P (xs ++ ys)
 joined no_kind k = k
 joined (one_kind h hs) k = one_kind h (joined hs k)
 
-pub enclosed_written : (b : Bool) {xs : List TokenKind} → AreWritten xs → AreWritten (enclosed b xs)
+abbrev pub AreWritten : List TokenKind → Type 0
+AreWritten ks = Each IsWritten ks
+
+pub enclosed_written : (b : Bool) {xs : List TokenKind} → Each IsWritten xs → Each IsWritten (enclosed b xs)
 enclosed_written true h = one_kind refl (joined h (one_kind refl no_kind))
 enclosed_written false h = joined h no_kind
 

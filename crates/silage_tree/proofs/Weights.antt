@@ -1,6 +1,6 @@
 -- The text of an expression counts no more than the tokens that it was read from, whatever each kind of token counts, as long
 -- as literals, and what a fix type may leave out, count nothing.
-use Rattle.std.proofs.Common.{◌≡◌, ℕ, zero, suc, ◌+◌, ◌≤◌, Bool, true, false, ◌||◌, List, [], ◌∷◌, ◌++◌, Option, Some, None, nat_lt, refl, sym, ap, ◌∙◌, subst, arith}
+use Rattle.std.proofs.Common.{◌≡◌, ℕ, zero, suc, ◌+◌, ◌≤◌, Bool, true, false, ◌||◌, List, [], ◌∷◌, ◌++◌, Option, Some, None, nat_lt, refl, ap, ◌∙◌, subst, arith}
 use Rattle.std.specs.Prelude.{nat_eq, if◌then◌else◌}
 use Rattle.std.proofs.lemmas.Bool.Decides.{nat_tests}
 use Rattle.fix_word.specs.declared.types.FixType.{FixType}
@@ -20,7 +20,7 @@ use Rattle.silage_tree.specs.Tree.{Manifest, both, Expr, literal, read, negate, 
 use Rattle.silage_tree.specs.Grammar.{kind_at, from_at, number_of, row, marked, size, IsFix, no_mode, with_mode, Or, And, Sum, Product, ExprRule, Chain, Rest, Shifts, Unary, Arms, operator, comparison, shift_operator, IsExpr, chain, no_more, one_more, no_comparison, comparison_of, shifts, no_shift, one_shift, negative_number, negated, denied, primary, number as number_, truth, place, cast_of, paren, choice, one_arm, last_arm, ManifestRule, Manifest_, Terms, Term, Factors, Factor, Primary_, term_operator, IsManifest, terms, no_term, one_term, factors, no_factor, one_factor, minus_factor, primary_factor, whole_primary, name_primary, paren_primary, IsSubs, no_sub, one_sub, two_subs, IsDelay, no_delay, delay}
 use Rattle.silage_tree.specs.Text.{symbol, word, number, truth_word, enclosed, bracketed, manifest_level, term_mark, manifest_text, amount_text, delay_text, fix_text, mode_word, operator_mark, operator_level, left_level, right_level, expr_level, is_unsigned, is_loose_operand, shift_mark, expr_text, branches_text}
 use Rattle.silage_tree.proofs.ReadParts.{subs_text}
-use Rattle.silage_tree.proofs.Needed.{chain_level, rule_level}
+use Rattle.silage_tree.proofs.Levels.{chain_level, rule_level}
 
 -- Tables of symbols.
 -- each row of a table
@@ -171,7 +171,7 @@ module _ (count : TokenKind → ℕ) where
   no_extra n = let e : nat_lt n n ≡ false = grind (arith, nat_tests) in ap extra e
 
   -- a pair counts at most what its two tokens do
-  extra_most : (b : Bool) → extra b ≤ extra true
+  pub extra_most : (b : Bool) → extra b ≤ extra true
   extra_most b = extra_less b true (λ h. refl)
 
   -- Manifest numbers: what a number's text counts at a place of this level.

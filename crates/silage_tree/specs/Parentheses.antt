@@ -1,44 +1,44 @@
--- What is read at a place that asks for more than the part's own level stands in parentheses.
-use Rattle.std.specs.Prelude.{◌≡◌, ℕ, suc, zero, ◌+◌, ◌≤◌, ◌<◌}
-use Rattle.silage_lex.specs.Tokens.{TokenList}
+-- Parentheses of the canonical text: without any one pair the text gives another tree, or none. Only the pair around the one
+-- word of a table, which is written where the table has dims, can be left out.
+use Rattle.std.specs.Prelude.{◌≡◌, List, ◌∷◌, ◌++◌, map, length}
+use Rattle.std.specs.List.{flat_map}
+use Rattle.silage_lex.specs.declared.Token.{Token}
+use Rattle.silage_lex.specs.declared.TokenKind.{TokenKind}
 use Rattle.silage_lex.specs.declared.punctuation.TheConstants as punctuation
-use Rattle.silage_tree.specs.Precedence as precedence
-use Rattle.silage_tree.specs.Tree.{Manifest, Expr}
-use Rattle.silage_tree.specs.Grammar.{IsPunctuation, Or, And, Sum, Product, ExprRule, Chain, Comparison, Shift, Unary, Primary, IsExpr, ManifestRule, Manifest_, Term, Factor, Primary_, IsManifest}
-use Rattle.silage_tree.specs.Text.{expr_level, manifest_level}
+use Rattle.silage_tree.specs.Tree.{Top, table, function, Program}
+use Rattle.silage_tree.specs.Grammar.{Derives}
+use Rattle.silage_tree.specs.Places.{unplaced}
+use Rattle.silage_tree.specs.Text.{symbol, top_text}
 
--- the rule of each level: what is read where this level is asked
-abbrev pub expr_rule : ℕ → ExprRule
-expr_rule zero = Chain Or
-expr_rule (suc zero) = Chain And
-expr_rule (suc (suc zero)) = Comparison
-expr_rule (suc (suc (suc zero))) = Chain Sum
-expr_rule (suc (suc (suc (suc zero)))) = Chain Product
-expr_rule (suc (suc (suc (suc (suc zero))))) = Shift
-expr_rule (suc (suc (suc (suc (suc (suc zero)))))) = Unary
-expr_rule (suc (suc (suc (suc (suc (suc (suc n))))))) = Primary
+-- a `(` and a later `)` in the text of a program, which need not match: the definition that they are part of, the definitions
+-- around it, and the tokens of the definition before, between and behind the two
+pub record Pair (program : Program) : Type 0 where
+  pub earlier : List Top
+  pub top : Top
+  pub later : List Top
+  pub tops : program.tops ≡ earlier ++ top ∷ later
+  pub before : List TokenKind
+  pub between : List TokenKind
+  pub behind : List TokenKind
+  pub text : top_text top ≡ before ++ symbol punctuation.LEFT_PAREN ∷ between ++ symbol punctuation.RIGHT_PAREN ∷ behind
 
-abbrev pub manifest_rule : ℕ → ManifestRule
-manifest_rule zero = Manifest_
-manifest_rule (suc zero) = Manifest_
-manifest_rule (suc (suc zero)) = Manifest_
-manifest_rule (suc (suc (suc zero))) = Manifest_
-manifest_rule (suc (suc (suc (suc zero)))) = Term
-manifest_rule (suc (suc (suc (suc (suc zero))))) = Factor
-manifest_rule (suc (suc (suc (suc (suc (suc zero)))))) = Factor
-manifest_rule (suc (suc (suc (suc (suc (suc (suc n))))))) = Primary_
+-- the text of the program without the pair
+abbrev pub text_without : (program : Program) → Pair program → List TokenKind
+text_without program pair = flat_map top_text pair.earlier ++ (pair.before ++ pair.between ++ pair.behind) ++ flat_map top_text pair.later
 
--- the tokens from i to j are a pair of parentheses with something between
-pub record IsEnclosed (ts : TokenList) (i j : ℕ) : Type 0 where
-  pub opens : IsPunctuation ts i punctuation.LEFT_PAREN
-  pub close : ℕ
-  pub closes : IsPunctuation ts close punctuation.RIGHT_PAREN
-  pub ends : close + 1 ≡ j
+-- a table of one word
+abbrev pub HasOneWord : Top → Type 0
+HasOneWord (table c) = length c.words ≡ 1
+HasOneWord (function f) = ⊥
 
--- an expression that is looser than what is asked is read in parentheses alone
-abbrev pub ExprsNeedThem : Type 0
-ExprsNeedThem = (ts : TokenList) (asked i j : ℕ) (e : Expr) → asked ≤ precedence.primary → IsExpr ts (expr_rule asked) i e j → expr_level e < asked → IsEnclosed ts i j
+-- tokens of these kinds derive the program, up to places
+pub record Gives (kinds : List TokenKind) (program : Program) : Type 0 where
+  pub tokens : List Token
+  pub are : map (λ (t : Token). t.kind) tokens ≡ kinds
+  pub read : Program
+  pub derives : Derives tokens read
+  pub same : unplaced read ≡ unplaced program
 
--- and so is a manifest number
-abbrev pub ManifestsNeedThem : Type 0
-ManifestsNeedThem = (ts : TokenList) (asked i j : ℕ) (m : Manifest) → asked ≤ precedence.primary → IsManifest ts (manifest_rule asked) i m j → manifest_level m < asked → IsEnclosed ts i j
+-- each pair is needed, but that around the one word of a table
+abbrev pub EachPairIsNeeded : Type 0
+EachPairIsNeeded = (program : Program) (pair : Pair program) → ¬ HasOneWord pair.top → ¬ Gives (text_without program pair) program

@@ -6,7 +6,7 @@ ghost use Rattle.silage_tree.specs.Tree.{view_items, view_func, view_top, view};
 ghost use Rattle.silage_lex.specs.Tokens.{HasTokens, TokenList};
 ghost use Rattle.silage_tree.specs.Grammar.{HasRoles, Derives};
 ghost use Rattle.silage_tree.specs.Limits.{AreWithin};
-ghost use Rattle.silage_tree.specs.Parentheses.{ExprsNeedThem, ManifestsNeedThem};
+ghost use Rattle.silage_tree.specs.Parentheses.{EachPairIsNeeded};
 ghost use Rattle.silage_tree.specs.ReadAgain.{ByteList, ProgramTree, RoleList, IsReadAgain, IsReadWithin};
 ghost use Rattle.silage_tree.specs.Text.{Puts, enclosed, listed, decl_text, words_text, table_text, local_text, head_text, body_text, func_text, top_text, canonical};
 
@@ -144,10 +144,10 @@ pub fn print_is_read()
     ensures within { (bytes : ByteList) → (tokens : TokenList) → (program : ProgramTree) → (roles : RoleList) → HasTokens bytes tokens → HasRoles tokens program roles → AreWithin roles → IsReadWithin program }
 {}
 
-/// Parentheses are needed where the canonical text has them for a part that is looser than its place asks.
+/// Without any one of its pairs of parentheses the canonical text gives another tree, or none; only the pair around the one word
+/// of a table can be left out.
 pub fn parentheses_are_needed()
-    ensures exprs { ExprsNeedThem }
-    ensures manifests { ManifestsNeedThem }
+    ensures { EachPairIsNeeded }
 {}
 
 #[cfg(test)]
