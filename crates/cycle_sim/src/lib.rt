@@ -21,6 +21,3 @@ mod window;
 
 pub use machine::{LoadFault, Machine};
 pub use micro_image::{Conflict, ConflictKind};
-
-#[cfg(test)]
-mod tests;

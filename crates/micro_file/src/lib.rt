@@ -13,6 +13,3 @@ mod writing;
 pub use decoding::decode;
 pub use fault::{CodeFault, FormFault};
 pub use writing::encode;
-
-#[cfg(test)]
-mod tests;
