@@ -1,0 +1,56 @@
+#!/usr/bin/env python3
+"""Compares the results of the tables of word operations with those of exact arithmetic, as docs/MACHINE.md has them.
+
+usage: tests/words/compute.py
+"""
+import sys
+from pathlib import Path
+
+HERE = Path(__file__).resolve().parent
+
+
+def wrapped(number, width):
+    half = 1 << (width - 1)
+    return (number + half) % (1 << width) - half
+
+
+def formed(number, shift, mode, width):
+    if shift <= 0:
+        return wrapped(number << -shift, width)
+    half = 1 << (shift - 1) if mode == "round" else 0
+    return wrapped((number + half) >> shift, width)
+
+
+EXACT = {"add": lambda a, b: a + b, "sub": lambda a, b: a - b, "neg": lambda a, b: -a, "pass": lambda a, b: a,
+         "mul": lambda a, b: a * b}
+TRUTH = {"lt": lambda a, b: a < b, "le": lambda a, b: a <= b, "eq": lambda a, b: a == b, "ne": lambda a, b: a != b,
+         "and": lambda a, b: a != 0 and b != 0, "or": lambda a, b: a != 0 or b != 0, "not": lambda a, b: a == 0}
+
+
+def applied(name, shift, mode, width, a, b, c):
+    if name in EXACT:
+        return formed(EXACT[name](a, b), shift, mode, width)
+    if name in TRUTH:
+        return int(TRUTH[name](a, b))
+    return b if a else c
+
+
+def value(row):
+    verb, *words = row.split()
+    words = [word if word.isalpha() else int(word) for word in words]
+    return {"wrap": wrapped, "form": formed, "apply": applied}[verb](*words)
+
+
+def main():
+    wrong = 0
+    for table in ("wrap", "form", "apply"):
+        rows = (HERE / f"{table}.txt").read_text().splitlines()
+        results = "".join(f"{row} = {value(row)}\n" for row in rows)
+        if (HERE / f"{table}.out").read_text() != results:
+            wrong += 1
+            print(f"{table}.out has other results")
+    return 1 if wrong else 0
+
+
+if __name__ == "__main__":
+    sys.exit(main())
