@@ -18,15 +18,21 @@ use lists::{Bytes, List};
 use silage_lex::keywords::{BEGIN, CONST, END, FUNC, VAR};
 use silage_lex::punctuation::{COLON, EQUAL, SEMICOLON};
 use std::alloc::{AllocError, Global};
+use thiserror::Error;
 
 /// Why a program was not printed.
-#[derive(Clone, Copy, Debug, PartialEq, Eq)]
+#[derive(Debug, Clone, Copy, PartialEq, Eq, Drop, Error)]
 pub enum TreeFault {
     /// No memory was left.
+    #[error("no memory")]
     Memory,
 }
 
 impl From<AllocError> for TreeFault {
+    ghost use Rattle.silage_tree.specs.declared.printing.TreeFault.TheVariants.{Memory};
+
+    ghost from_gives = { λ _ fault. fault ≡ Memory };
+
     fn from(_: AllocError) -> TreeFault {
         TreeFault::Memory
     }
@@ -149,6 +155,3 @@ pub fn print_is_read()
 pub fn parentheses_are_needed()
     ensures { EachPairIsNeeded }
 {}
-
-#[cfg(test)]
-mod tests;
