@@ -5,7 +5,7 @@ use Rattle.silage_lex.specs.declared.TokenKind.{TokenKind}
 use Rattle.silage_lex.specs.declared.TokenKind.TheVariants as kind
 use Rattle.silage_tree.specs.declared.tree.Lit.TheVariants.{Number, Truth}
 use Rattle.silage_tree.specs.Tree.{Manifest, Expr, read, choose, Branches, no_branch, branch}
-use Rattle.silage_tree.specs.Grammar.{kind_at, from_at, number_of, IsName, IsSubs, IsDelay, Level, Or, And, Sum, Product, ExprRule, Chain, Rest, Comparison, Shift, Shifts, Unary, Primary, Arms, part, IsExpr, chain, no_more, one_more, no_comparison, comparison_of, shifts, no_shift, one_shift, negative_number, negated, denied, primary, number, truth, place, cast_of, paren, choice, one_arm, last_arm}
+use Rattle.silage_tree.specs.Grammar.{kind_at, from_at, number_of, IsName, IsSubscripts, IsDelay, Level, Or, And, Sum, Product, ExprRule, Chain, Rest, Comparison, Shift, Shifts, Unary, Primary, Arms, part, IsExpr, chain, no_more, one_more, no_comparison, comparison_of, shifts, no_shift, one_shift, negative_number, negated, denied, primary, number, truth, place, cast_of, paren, choice, one_arm, last_arm}
 use Rattle.silage_parse.specs.Table as the
 use Rattle.silage_parse.specs.Table.{Phrase, Value, Symbol, Take, Make, Go, Action, is_one, rests}
 use Rattle.silage_parse.specs.Machine.{Among, ways, here, there, branches_of}
@@ -42,7 +42,7 @@ behind xs e = e
 
 -- a unary, or a primary, is a place or else read by the phrase that has no place
 pub data First (us : List Token) (p : Phrase) : ℕ → Expr → ℕ → Type 0 where
-  named : {i j k : ℕ} {name : List ℕ} {ms : List Manifest} {d : Option Manifest} → IsName us i name → IsSubs us (i + 1) ms j → IsDelay us j d k → First us p i (read (record { name = name; at = from_at us i; subs = ms }) d) k
+  named : {i j k : ℕ} {name : List ℕ} {ms : List Manifest} {d : Option Manifest} → IsName us i name → IsSubscripts us (i + 1) ms j → IsDelay us j d k → First us p i (read (record { name = name; at = from_at us i; subs = ms }) d) k
   other : {i j : ℕ} {e : Expr} → ((vs : List Value) → Does us p i vs j (the.expr e ∷ vs)) → First us p i e j
 
 -- what is to be shown of each rule
@@ -63,7 +63,7 @@ part_read Sum i e j r vs = r vs
 part_read Product i e j r vs = r vs
 
 -- a place
-named_does : {us : List Token} {i j k : ℕ} {name : List ℕ} {ms : List Manifest} {d : Option Manifest} → IsName us i name → IsSubs us (i + 1) ms j → IsDelay us j d k → (vs : List Value) → Does us the.Primary i vs k (the.expr (read (record { name = name; at = from_at us i; subs = ms }) d) ∷ vs)
+named_does : {us : List Token} {i j k : ℕ} {name : List ℕ} {ms : List Manifest} {d : Option Manifest} → IsName us i name → IsSubscripts us (i + 1) ms j → IsDelay us j d k → (vs : List Value) → Does us the.Primary i vs k (the.expr (read (record { name = name; at = from_at us i; subs = ms }) d) ∷ vs)
 named_does {us} {i} {name = name} {ms = ms} n s d vs =
     let k = name_there us i name n in
     does here (g_take k.there k.fits (g_go (subs_do s (the.token k.tok ∷ vs)) (makes_to (rw (k.tells, ← k.from) refl) (g_go (delay_does d (the.place (record { name = name; at = from_at us i; subs = ms }) ∷ vs)) (g_make g_end)))))

@@ -3,7 +3,7 @@ use Rattle.std.proofs.Common.{◌≡◌, ℕ, ◌+◌, List, [], ◌∷◌, ◌+
 use Rattle.silage_lex.specs.declared.Token.{Token}
 use Rattle.silage_lex.specs.declared.punctuation.TheConstants as punctuation
 use Rattle.silage_tree.specs.Tree.{Manifest, Place, Expr, Item, equation, Items, no_item, item, items_of}
-use Rattle.silage_tree.specs.Grammar.{kind_at, from_at, IsPunctuation, IsManifest, Manifest_, Primary_, IsExpr, Chain, Or, Role, Plain, Starts, weights, IsTargetSubs, no_target_sub, one_target_sub, two_target_subs, IsTarget, target, IsTargets, last_target, more_targets, IsArgs, last_arg, more_args, IsItem, is_equation, is_call, is_calls, is_loop, is_initial, IsItems, no_items, one_item}
+use Rattle.silage_tree.specs.Grammar.{kind_at, from_at, IsPunctuation, IsManifest, Manifest_, Primary_, IsExpr, Chain, Or, Role, Plain, Starts, weights, IsTargetSubscripts, no_target_sub, one_target_sub, two_target_subs, IsTarget, target, IsTargets, last_target, more_targets, IsArguments, last_arg, more_args, IsItem, is_equation, is_call, is_calls, is_loop, is_initial, IsItems, no_items, one_item}
 use Rattle.silage_parse.specs.Table as the
 use Rattle.silage_parse.specs.Table.{Terminal, Effect, Outside, Begins, Inside, Phrase, Value, Symbol, Take, Make, Go, Action, choices, rests, AName, mark_of, word_of}
 use Rattle.silage_parse.specs.Machine.{made, Among, ways, here, there, roles_of, Reads, r_end, r_take, r_go, r_make}
@@ -66,7 +66,7 @@ amount_did d vs = spanned (does_spans Inside (manifest_does d vs) refl)
 pub expr_did : {us : List Token} {i j : ℕ} {e : Expr} → IsExpr us (Chain Or) i e j → (vs : List Value) → Did us (the.Chain Or) i vs (weights us i j) j (the.expr e ∷ vs)
 expr_did d vs = spanned (does_spans Inside (expr_does d vs) refl)
 
-pub target_subs_did : {us : List Token} {i j : ℕ} {ms : List Manifest} {rs : List Role} → IsTargetSubs us i ms rs j → (vs : List Value) → Did us the.TargetSubs i vs rs j (the.subs ms ∷ vs)
+pub target_subs_did : {us : List Token} {i j : ℕ} {ms : List Manifest} {rs : List Role} → IsTargetSubscripts us i ms rs j → (vs : List Value) → Did us the.TargetSubs i vs rs j (the.subs ms ∷ vs)
 target_subs_did no_target_sub vs = did (there here) (r_make r_end)
 target_subs_did {us} (one_target_sub {i = i} {j = j} o m c) vs =
     let k = mark_there us i _ o in
@@ -109,7 +109,7 @@ open_targets {us} {qs = qs} {vs = vs} (more_targets {j = j} {ps = ps} {qs = ts} 
     (take_reads Outside k.there k.fits (alone (did (there here) (go (target_subs_did s (the.token k.tok ∷ vs)) (makes {xs = the.place p ∷ vs} (rw (k.tells, ← k.from) refl) (r_make (go (targets_after j l c refl (p ∷ []) vs) r)))))))
 
 -- arguments behind a comma
-args_after : {us : List Token} (a : ℕ) {i j : ℕ} {es : List Expr} {rs : List Role} → IsArgs us i es rs j → IsPunctuation us a punctuation.COMMA → i ≡ a + 1 → (ys : List Expr) (vs : List Value) → Did us the.MoreArgs a (the.exprs ys ∷ vs) (Starts ∷ rs) j (the.exprs (ys ++ es) ∷ vs)
+args_after : {us : List Token} (a : ℕ) {i j : ℕ} {es : List Expr} {rs : List Role} → IsArguments us i es rs j → IsPunctuation us a punctuation.COMMA → i ≡ a + 1 → (ys : List Expr) (vs : List Value) → Did us the.MoreArgs a (the.exprs ys ∷ vs) (Starts ∷ rs) j (the.exprs (ys ++ es) ∷ vs)
 args_after {us} a (last_arg d) c q ys vs =
     let k = mark_there us a _ c in
     did here (take_reads Begins k.there k.fits (went (did_from (expr_did d (the.token k.tok ∷ the.exprs ys ∷ vs)) q) (r_make (alone (did (there here) r_end)))))
@@ -118,7 +118,7 @@ args_after {us} a (more_args {j = j} {e = e} {es = es} d c2 l) c q ys vs =
     let r = args_after j l c2 refl (ys ++ e ∷ []) vs in
     did here (take_reads Begins k.there k.fits (go (did_from (expr_did d (the.token k.tok ∷ the.exprs ys ∷ vs)) q) (r_make (alone (did_to (ap (λ zs. the.exprs zs ∷ vs) (append_assoc ys (e ∷ []) es)) r)))))
 
-pub args_did : {us : List Token} {i j : ℕ} {es : List Expr} {rs : List Role} → IsArgs us i es rs j → (vs : List Value) → Did us the.Args i vs rs j (the.exprs es ∷ vs)
+pub args_did : {us : List Token} {i j : ℕ} {es : List Expr} {rs : List Role} → IsArguments us i es rs j → (vs : List Value) → Did us the.Args i vs rs j (the.exprs es ∷ vs)
 args_did (last_arg d) vs = did here (went (expr_did d vs) (r_make (alone (did (there here) r_end))))
 args_did (more_args {j = j} {e = e} d c l) vs = did here (go (expr_did d vs) (r_make (alone (args_after j l c refl (e ∷ []) vs))))
 

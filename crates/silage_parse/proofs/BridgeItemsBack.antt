@@ -5,7 +5,7 @@ use Rattle.silage_lex.specs.declared.punctuation.TheConstants as punctuation
 use Rattle.silage_lex.specs.declared.keywords.TheConstants as keyword
 use Rattle.silage_tree.specs.Tree.{Manifest, Place, Expr, read, Item, equation, call, loop, initial, Items, items_of}
 use Rattle.silage_tree.specs.Grammar as g
-use Rattle.silage_tree.specs.Grammar.{kind_at, from_of, from_at, IsPunctuation, IsKeyword, IsName, IsManifest, IsExpr, Or, Sum, chain, shifts, primary, place, Role, Plain, Starts, weight_role, weights, plain, IsTargetSubs, no_target_sub, one_target_sub, two_target_subs, IsTarget, target, IsTargets, last_target, more_targets, IsArgs, last_arg, more_args, IsItem, is_equation, is_call, is_calls, is_loop, is_initial, IsItems, no_items, one_item}
+use Rattle.silage_tree.specs.Grammar.{kind_at, from_of, from_at, IsPunctuation, IsKeyword, IsName, IsManifest, IsExpr, Or, Sum, chain, shifts, primary, place, Role, Plain, Starts, weight_role, weights, plain, IsTargetSubscripts, no_target_sub, one_target_sub, two_target_subs, IsTarget, target, IsTargets, last_target, more_targets, IsArguments, last_arg, more_args, IsItem, is_equation, is_call, is_calls, is_loop, is_initial, IsItems, no_items, one_item}
 use Rattle.silage_parse.specs.Table as the
 use Rattle.silage_parse.specs.Table.{Effect, Outside, Inside, Phrase, Value, Symbol, Take, Make, Go, Action, choices, rests, mark_of}
 use Rattle.silage_parse.specs.Machine.{made, Among, alternatives, here, there, name_text}
@@ -14,8 +14,8 @@ use Rattle.silage_parse.proofs.BridgeTokens.{mark_seen, word_seen, name_seen, fr
 use Rattle.silage_parse.proofs.BridgeMeaning.{Means, All, a_end, a_take, a_go, a_make, settled}
 
 -- facts with equal roles, at an equal end
-subs_to : {us : List Token} {i j : ℕ} {ms : List Manifest} {rs qs : List Role} → IsTargetSubs us i ms rs j → rs ≡ qs → IsTargetSubs us i ms qs j
-subs_to {us} {i} {j} {ms} d q = let P : List Role → Type 0 = λ x. IsTargetSubs us i ms x j in subst P q d
+subs_to : {us : List Token} {i j : ℕ} {ms : List Manifest} {rs qs : List Role} → IsTargetSubscripts us i ms rs j → rs ≡ qs → IsTargetSubscripts us i ms qs j
+subs_to {us} {i} {j} {ms} d q = let P : List Role → Type 0 = λ x. IsTargetSubscripts us i ms x j in subst P q d
 
 target_to : {us : List Token} {i j : ℕ} {p : Place} {rs qs : List Role} → IsTarget us i p rs j → rs ≡ qs → IsTarget us i p qs j
 target_to {us} {i} {j} {p} d q = let P : List Role → Type 0 = λ x. IsTarget us i p x j in subst P q d
@@ -23,8 +23,8 @@ target_to {us} {i} {j} {p} d q = let P : List Role → Type 0 = λ x. IsTarget u
 targets_to : {us : List Token} {i j : ℕ} {ps : List Place} {rs qs : List Role} → IsTargets us i ps rs j → rs ≡ qs → IsTargets us i ps qs j
 targets_to {us} {i} {j} {ps} d q = let P : List Role → Type 0 = λ x. IsTargets us i ps x j in subst P q d
 
-args_to : {us : List Token} {i j : ℕ} {es : List Expr} {rs qs : List Role} → IsArgs us i es rs j → rs ≡ qs → IsArgs us i es qs j
-args_to {us} {i} {j} {es} d q = let P : List Role → Type 0 = λ x. IsArgs us i es x j in subst P q d
+args_to : {us : List Token} {i j : ℕ} {es : List Expr} {rs qs : List Role} → IsArguments us i es rs j → rs ≡ qs → IsArguments us i es qs j
+args_to {us} {i} {j} {es} d q = let P : List Role → Type 0 = λ x. IsArguments us i es x j in subst P q d
 
 item_to : {us : List Token} {i j : ℕ} {x : Item} {rs qs : List Role} → IsItem us i x rs j → rs ≡ qs → IsItem us i x qs j
 item_to {us} {i} {j} {x} d q = let P : List Role → Type 0 = λ z. IsItem us i x z j in subst P q d
@@ -181,7 +181,7 @@ equation_item us a k i m j p e os {rs} x y z u s q r =
     item_ends (item_to (is_equation x y v s) (rw f (simp append_assoc))) q
 
 -- a call of one place, from its function
-call_item : (us : List Token) (a k m i j : ℕ) (p : Place) (n : Token) (es : List Expr) (os qs : List Role) → IsTarget us a p os k → IsPunctuation us k punctuation.EQUAL → m ≡ k + 1 → slice_get us m ≡ Some n → IsName us m (name_text n) → i ≡ m + 1 → IsPunctuation us i punctuation.LEFT_PAREN → IsArgs us (i + 1) es qs j → IsPunctuation us j punctuation.RIGHT_PAREN → IsPunctuation us (j + 1) punctuation.SEMICOLON → IsItem us a (call (p ∷ []) (name_text n) es (from_at us m)) (os ++ Starts ∷ weight_role n ∷ Starts ∷ (qs ++ Plain ∷ Plain ∷ [])) (j + 1 + 1)
+call_item : (us : List Token) (a k m i j : ℕ) (p : Place) (n : Token) (es : List Expr) (os qs : List Role) → IsTarget us a p os k → IsPunctuation us k punctuation.EQUAL → m ≡ k + 1 → slice_get us m ≡ Some n → IsName us m (name_text n) → i ≡ m + 1 → IsPunctuation us i punctuation.LEFT_PAREN → IsArguments us (i + 1) es qs j → IsPunctuation us j punctuation.RIGHT_PAREN → IsPunctuation us (j + 1) punctuation.SEMICOLON → IsItem us a (call (p ∷ []) (name_text n) es (from_at us m)) (os ++ Starts ∷ weight_role n ∷ Starts ∷ (qs ++ Plain ∷ Plain ∷ [])) (j + 1 + 1)
 call_item us a k m i j p n es os qs x y z sn nm v o ar c s =
     let kind_is = sym (kind_seen us m sn) ∙ nm in
     let weight = name_weight n (name_text n) (cc) in
@@ -196,7 +196,7 @@ call_item us a k m i j p n es os qs x y z sn nm v o ar c s =
 read_made : (n : Token) (p : Place) (late : Option Manifest) (low : List Value) {vs xs ys : List Value} → xs ≡ the.subs p.subs ∷ vs → ys ≡ the.delay late ∷ made the.a_place xs → vs ≡ the.token n ∷ low → p.at ≡ n.from → made the.read_expr ys ≡ the.expr (read (record { name = name_text n; at = p.at; subs = p.subs }) late) ∷ low
 read_made n p late low a b e f = rw (b, a, e, f) refl
 
-subs_from : (us : List Token) (m : ℕ) {i j : ℕ} {ms : List Manifest} → i ≡ m + 1 → g.IsSubs us i ms j → g.IsSubs us (m + 1) ms j
+subs_from : (us : List Token) (m : ℕ) {i j : ℕ} {ms : List Manifest} → i ≡ m + 1 → g.IsSubscripts us i ms j → g.IsSubscripts us (m + 1) ms j
 subs_from us m q d = rw q at d
 
 -- the role of a name in front of an expression's
@@ -261,7 +261,7 @@ place_made n p low a b c d = rw (a, b) (ap (λ x. the.places (x ∷ []) ∷ low)
 calls_made : (s c2 o2 f d c o : Token) (ps : List Place) (es : List Expr) (at : ℕ) (bs : List Value) {x3 x2 : List Value} → x3 ≡ the.exprs es ∷ the.token o2 ∷ the.token f ∷ the.token d ∷ the.token c ∷ x2 → x2 ≡ the.places ps ∷ the.token o ∷ bs → at ≡ f.from → made the.is_calls (the.token s ∷ the.token c2 ∷ x3) ≡ the.an_item (call ps (name_text f) es at) ∷ bs
 calls_made s c2 o2 f d c o ps es at bs a b e = rw (a, b, e) refl
 
-calls_item : (us : List Token) (a k l : ℕ) (ps : List Place) (f : List ℕ) (es : List Expr) (q1 q2 q3 : List Role) → IsPunctuation us a punctuation.LEFT_PAREN → IsTargets us (a + 1) ps ((Plain ∷ q1) ++ q2) k → IsPunctuation us k punctuation.RIGHT_PAREN → IsPunctuation us (k + 1) punctuation.EQUAL → IsName us (k + 1 + 1) f → IsPunctuation us (k + 1 + 1 + 1) punctuation.LEFT_PAREN → IsArgs us (k + 1 + 1 + 1 + 1) es q3 l → IsPunctuation us l punctuation.RIGHT_PAREN → IsPunctuation us (l + 1) punctuation.SEMICOLON → IsItem us a (call ps f es (from_at us (k + 2))) (Plain ∷ Plain ∷ (q1 ++ (q2 ++ Plain ∷ Plain ∷ Plain ∷ Starts ∷ (q3 ++ Plain ∷ Plain ∷ [])))) (l + 1 + 1)
+calls_item : (us : List Token) (a k l : ℕ) (ps : List Place) (f : List ℕ) (es : List Expr) (q1 q2 q3 : List Role) → IsPunctuation us a punctuation.LEFT_PAREN → IsTargets us (a + 1) ps ((Plain ∷ q1) ++ q2) k → IsPunctuation us k punctuation.RIGHT_PAREN → IsPunctuation us (k + 1) punctuation.EQUAL → IsName us (k + 1 + 1) f → IsPunctuation us (k + 1 + 1 + 1) punctuation.LEFT_PAREN → IsArguments us (k + 1 + 1 + 1 + 1) es q3 l → IsPunctuation us l punctuation.RIGHT_PAREN → IsPunctuation us (l + 1) punctuation.SEMICOLON → IsItem us a (call ps f es (from_at us (k + 2))) (Plain ∷ Plain ∷ (q1 ++ (q2 ++ Plain ∷ Plain ∷ Plain ∷ Starts ∷ (q3 ++ Plain ∷ Plain ∷ [])))) (l + 1 + 1)
 calls_item us a k l ps f es q1 q2 q3 o ts c d n o2 ar c2 s =
     let p1 : k + 1 + 1 + 1 + 1 ≡ k + 4 = omega arith in
     let p2 : l + 2 ≡ l + 1 + 1 = omega arith in
@@ -280,7 +280,7 @@ open_name_means us i vs rs (there here) (a_go {j = k0} {rs = q1} b1 (a_make (a_m
     let m2 = b2.means (p ∷ []) (the.token o ∷ bs) (place_made n p (the.token o ∷ bs) m1.1 e refl f2) in
     let m3 = b3.means in
     let y : i ≡ a + 1 + 1 = omega arith in
-    let u : IsTargetSubs us i m1.0 q1 k0 = m1.2 in
+    let u : IsTargetSubscripts us i m1.0 q1 k0 = m1.2 in
     let ts = m2.2 (a + 1) p (Plain ∷ q1) (target nm (rw y at u)) in
     let two : k + 2 ≡ k + 1 + 1 = omega arith in
     let fs : from_at us (k + 2) ≡ f.from = ap (from_at us) two ∙ from_seen us (k + 1 + 1) s2 in

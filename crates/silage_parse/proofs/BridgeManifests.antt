@@ -2,7 +2,7 @@
 use Rattle.std.proofs.Common.{◌≡◌, ℕ, ◌+◌, List, [], ◌∷◌, Option, refl, sym, subst, arith}
 use Rattle.silage_lex.specs.declared.Token.{Token}
 use Rattle.silage_tree.specs.Tree.{Manifest}
-use Rattle.silage_tree.specs.Grammar.{ManifestRule, Manifest_, Terms, Term, Factors, Factor, Primary_, IsManifest, terms, no_term, one_term, factors, no_factor, one_factor, minus_factor, primary_factor, whole_primary, name_primary, paren_primary, IsSubs, no_sub, one_sub, two_subs, IsDelay, no_delay, delay}
+use Rattle.silage_tree.specs.Grammar.{ManifestRule, Manifest_, Terms, Term, Factors, Factor, Primary_, IsManifest, terms, no_term, one_term, factors, no_factor, one_factor, minus_factor, primary_factor, whole_primary, name_primary, paren_primary, IsSubscripts, no_sub, one_sub, two_subs, IsDelay, no_delay, delay}
 use Rattle.silage_parse.specs.Table as the
 use Rattle.silage_parse.specs.Table.{Phrase, Value, Symbol, Make, Go, Action}
 use Rattle.silage_parse.specs.Machine.{made, here, there}
@@ -68,7 +68,7 @@ manifest_does {us} (paren_primary {i = i} {j = j} h d c) vs =
     let e = mark_there us j _ c in
     does (there (there here)) (g_take k.there k.fits (g_go (manifest_does d (the.token k.tok ∷ vs)) (g_take e.there e.fits (g_make g_end))))
 
-pub subs_do : {us : List Token} {i j : ℕ} {ms : List Manifest} → IsSubs us i ms j → (vs : List Value) → Does us the.Subs i vs j (the.subs ms ∷ vs)
+pub subs_do : {us : List Token} {i j : ℕ} {ms : List Manifest} → IsSubscripts us i ms j → (vs : List Value) → Does us the.Subs i vs j (the.subs ms ∷ vs)
 subs_do no_sub vs = does (there here) (g_make g_end)
 subs_do {us} (one_sub {i = i} {j = j} h d c) vs =
     let k = mark_there us i _ h in

@@ -9,7 +9,7 @@ use Rattle.silage_tree.specs.declared.tree.Lit.{Lit}
 use Rattle.silage_tree.specs.declared.tree.Decl.{Decl}
 use Rattle.silage_tree.specs.Tree.{Manifest, Place, Expr, choose, Item, items_of, Top}
 use Rattle.silage_tree.specs.Grammar as g
-use Rattle.silage_tree.specs.Grammar.{from_at, IsPunctuation, IsKeyword, IsName, IsWhole, IsSigned, IsList, IsDims, IsFix, IsType, Declared, IsDeclared, IsDecl, IsManifest, IsSubs, IsDelay, IsExpr, Level, Or, Sum, Role, Plain, Starts, weight_role, weights, IsTargetSubs, IsTarget, IsTargets, IsArgs, IsInitialValue, IsItem, IsItems, IsLocals, IsResults, IsWords, IsTop, IsTops}
+use Rattle.silage_tree.specs.Grammar.{from_at, IsPunctuation, IsKeyword, IsName, IsWhole, IsSigned, IsList, IsDims, IsFix, IsType, Declared, IsDeclared, IsDecl, IsManifest, IsSubscripts, IsDelay, IsExpr, Level, Or, Sum, Role, Plain, Starts, weight_role, weights, IsTargetSubscripts, IsTarget, IsTargets, IsArguments, IsInitialValue, IsItem, IsItems, IsLocals, IsResults, IsWords, IsTop, IsTops}
 use Rattle.silage_parse.specs.Table.{Terminal, is_one, Effect, Phrase, Value, Symbol, Take, Go, Make, Action}
 use Rattle.silage_parse.specs.Table as the
 use Rattle.silage_parse.specs.Machine.{made, name_text, whole_value, branches_of, role_of}
@@ -38,8 +38,8 @@ Means ts the.Term i vs rs j ws = (m : Manifest) × (ws ≡ the.manifest m ∷ vs
 Means ts the.Factors i vs rs j ws = (a : Manifest) (bs : List Value) → vs ≡ the.manifest a ∷ bs → (m : Manifest) × (ws ≡ the.manifest m ∷ bs) × IsManifest ts (g.Factors a) i m j
 Means ts the.Factor i vs rs j ws = (m : Manifest) × (ws ≡ the.manifest m ∷ vs) × IsManifest ts g.Factor i m j
 Means ts the.ManifestPrimary i vs rs j ws = (m : Manifest) × (ws ≡ the.manifest m ∷ vs) × IsManifest ts g.Primary_ i m j
-Means ts the.Subs i vs rs j ws = (ms : List Manifest) × (ws ≡ the.subs ms ∷ vs) × IsSubs ts i ms j
-Means ts the.SecondSub i vs rs j ws = (a k : ℕ) (m : Manifest) (c o : Token) (bs : List Value) → vs ≡ the.token c ∷ the.manifest m ∷ the.token o ∷ bs → IsPunctuation ts a punctuation.LEFT_BRACKET → IsManifest ts g.Manifest_ (a + 1) m k → IsPunctuation ts k punctuation.RIGHT_BRACKET → i ≡ k + 1 → (ms : List Manifest) × (ws ≡ the.subs ms ∷ bs) × IsSubs ts a ms j
+Means ts the.Subs i vs rs j ws = (ms : List Manifest) × (ws ≡ the.subs ms ∷ vs) × IsSubscripts ts i ms j
+Means ts the.SecondSub i vs rs j ws = (a k : ℕ) (m : Manifest) (c o : Token) (bs : List Value) → vs ≡ the.token c ∷ the.manifest m ∷ the.token o ∷ bs → IsPunctuation ts a punctuation.LEFT_BRACKET → IsManifest ts g.Manifest_ (a + 1) m k → IsPunctuation ts k punctuation.RIGHT_BRACKET → i ≡ k + 1 → (ms : List Manifest) × (ws ≡ the.subs ms ∷ bs) × IsSubscripts ts a ms j
 Means ts the.Delay i vs rs j ws = (d : Option Manifest) × (ws ≡ the.delay d ∷ vs) × IsDelay ts i d j
 Means ts (the.Chain l) i vs rs j ws = (e : Expr) × (ws ≡ the.expr e ∷ vs) × IsExpr ts (g.Chain l) i e j
 Means ts (the.Rest l) i vs rs j ws = (a : Expr) (bs : List Value) → vs ≡ the.expr a ∷ bs → (e : Expr) × (ws ≡ the.expr e ∷ bs) × IsExpr ts (g.Rest l a) i e j
@@ -54,12 +54,12 @@ Means ts the.Primary i vs rs j ws = (e : Expr) × (ws ≡ the.expr e ∷ vs) × 
 Means ts the.OtherPrimary i vs rs j ws = (e : Expr) × (ws ≡ the.expr e ∷ vs) × IsExpr ts g.Primary i e j
 Means ts the.Arms i vs rs j ws = (at : ℕ) (xs : List (Expr × Expr)) (bs : List Value) → vs ≡ the.arms at xs ∷ bs → (ys : List (Expr × Expr)) × (e : Expr) × (ws ≡ the.expr (choose at (branches_of (xs ++ ys)) e) ∷ bs) × IsExpr ts (g.Arms at) i (choose at (branches_of ys) e) j
 Means ts the.ArmEnd i vs rs j ws = (at : ℕ) (xs : List (Expr × Expr)) (c : Expr) (b : Token) (a : ℕ) (bs : List Value) → vs ≡ the.expr c ∷ the.token b ∷ the.arms at xs ∷ bs → IsPunctuation ts a punctuation.PIPE_PIPE → IsExpr ts (g.Chain Or) (a + 1) c i → (ys : List (Expr × Expr)) × (e : Expr) × (ws ≡ the.expr (choose at (branches_of (xs ++ ys)) e) ∷ bs) × IsExpr ts (g.Arms at) a (choose at (branches_of ys) e) j
-Means ts the.TargetSubs i vs rs j ws = (ms : List Manifest) × (ws ≡ the.subs ms ∷ vs) × IsTargetSubs ts i ms rs j
-Means ts the.SecondTargetSub i vs rs j ws = (a k : ℕ) (m : Manifest) (c o : Token) (bs : List Value) → vs ≡ the.token c ∷ the.manifest m ∷ the.token o ∷ bs → IsPunctuation ts a punctuation.LEFT_BRACKET → IsManifest ts g.Manifest_ (a + 1) m k → IsPunctuation ts k punctuation.RIGHT_BRACKET → i ≡ k + 1 → (ms : List Manifest) × (ws ≡ the.subs ms ∷ bs) × IsTargetSubs ts a ms (Starts ∷ weights ts (a + 1) k ++ Plain ∷ rs) j
+Means ts the.TargetSubs i vs rs j ws = (ms : List Manifest) × (ws ≡ the.subs ms ∷ vs) × IsTargetSubscripts ts i ms rs j
+Means ts the.SecondTargetSub i vs rs j ws = (a k : ℕ) (m : Manifest) (c o : Token) (bs : List Value) → vs ≡ the.token c ∷ the.manifest m ∷ the.token o ∷ bs → IsPunctuation ts a punctuation.LEFT_BRACKET → IsManifest ts g.Manifest_ (a + 1) m k → IsPunctuation ts k punctuation.RIGHT_BRACKET → i ≡ k + 1 → (ms : List Manifest) × (ws ≡ the.subs ms ∷ bs) × IsTargetSubscripts ts a ms (Starts ∷ weights ts (a + 1) k ++ Plain ∷ rs) j
 Means ts the.Target i vs rs j ws = (p : Place) × (ws ≡ the.place p ∷ vs) × IsTarget ts i p rs j
 Means ts the.MoreTargets i vs rs j ws = (xs : List Place) (bs : List Value) → vs ≡ the.places xs ∷ bs → (ys : List Place) × (ws ≡ the.places (xs ++ ys) ∷ bs) × ((a : ℕ) (p : Place) (qs : List Role) → IsTarget ts a p qs i → IsTargets ts a (p ∷ ys) (qs ++ rs) j)
-Means ts the.Args i vs rs j ws = (es : List Expr) × (ws ≡ the.exprs es ∷ vs) × IsArgs ts i es rs j
-Means ts the.MoreArgs i vs rs j ws = (xs : List Expr) (bs : List Value) → vs ≡ the.exprs xs ∷ bs → (ys : List Expr) × (ws ≡ the.exprs (xs ++ ys) ∷ bs) × ((a : ℕ) (e : Expr) → IsExpr ts (g.Chain Or) a e i → IsArgs ts a (e ∷ ys) (weights ts a i ++ rs) j)
+Means ts the.Args i vs rs j ws = (es : List Expr) × (ws ≡ the.exprs es ∷ vs) × IsArguments ts i es rs j
+Means ts the.MoreArgs i vs rs j ws = (xs : List Expr) (bs : List Value) → vs ≡ the.exprs xs ∷ bs → (ys : List Expr) × (ws ≡ the.exprs (xs ++ ys) ∷ bs) × ((a : ℕ) (e : Expr) → IsExpr ts (g.Chain Or) a e i → IsArguments ts a (e ∷ ys) (weights ts a i ++ rs) j)
 Means ts the.Items_ i vs rs j ws = (xs : List Item) (bs : List Value) → vs ≡ the.items xs ∷ bs → (ys : List Item) × (ws ≡ the.items (xs ++ ys) ∷ bs) × IsItems ts i (items_of ys) rs j
 Means ts the.Item_ i vs rs j ws = (x : Item) × (ws ≡ the.an_item x ∷ vs) × IsItem ts i x rs j
 Means ts the.AfterTarget i vs rs j ws = (p : Place) (bs : List Value) → vs ≡ the.place p ∷ bs → (x : Item) × (ws ≡ the.an_item x ∷ bs) × ((a : ℕ) (qs : List Role) → IsTarget ts a p qs i → IsItem ts a x (qs ++ rs) j)

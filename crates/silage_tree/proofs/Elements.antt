@@ -6,7 +6,7 @@ use Rattle.std.proofs.lemmas.Nat.{row_fits}
 use Rattle.silage_tree.specs.declared.tree.Decl.{Decl}
 use Rattle.silage_tree.specs.Tree.{Manifest, Place, Expr, literal, read, negate, not, binary, shift, cast, choose, Branches, no_branch, branch, Func, Program}
 use Rattle.silage_tree.specs.Manifests.{Indices, LooksBack, no_delay, delay}
-use Rattle.silage_tree.specs.Names.{decls, declared, element_count, IsPlace}
+use Rattle.silage_tree.specs.Names.{decls, declared, element_count, IsOffset}
 use Rattle.silage_tree.specs.Instances.{Element, element, IsInstance, inside_is, IsElement, Site, IsSignal, IsArray, Call, made, result_of}
 use Rattle.silage_tree.specs.Solves.{Source, IsDefined, input, equated, argument, array, table, result, array_result}
 use Rattle.silage_tree.specs.Rules.{ReadsAt, reads_at, Reads, BranchesRead, SourceReads}
@@ -47,7 +47,7 @@ declared_at f name d decl e =
     subst (λ (z : ℕ). slice_get (decls f) z ≡ Some decl) (sym same) at
 
 -- subscripts pick an element of the array
-pub place_below : (indices : Indices) (dims : List ℕ) (subs : List Manifest) (k : ℕ) → IsPlace indices dims subs k → k < element_count dims
+pub place_below : (indices : Indices) (dims : List ℕ) (subs : List Manifest) (k : ℕ) → IsOffset indices dims subs k → k < element_count dims
 place_below indices [] [] k e = omega (arith, e)
 place_below indices [] (s ∷ subs) k e = absurd e
 place_below indices (d ∷ dims) [] k e = absurd e
@@ -62,11 +62,11 @@ looks_back_most indices (Some m) ago (delay x most) = most
 module _ (p : Program) where
   pub signal_is : (s : Site) (place : Place) (d k : ℕ) (decl : Decl) → IsInstance p s.instance s.function → IsSignal s place d decl k → IsElement p (element s.instance d k)
   signal_is s place d k decl instance is =
-      record { function = s.function; decl = decl; instance = instance; declared = declared_at s.function place.name d decl is.named; place = place_below s.indices decl.dims place.subs k is.placed }
+      record { function = s.function; decl = decl; instance = instance; declared = declared_at s.function place.name d decl is.named; offset = place_below s.indices decl.dims place.subs k is.placed }
 
   pub array_is : (s : Site) (place : Place) (dims : List ℕ) (d k : ℕ) (decl : Decl) → IsInstance p s.instance s.function → IsArray s place dims d decl → k < element_count dims → IsElement p (element s.instance d k)
   array_is s place dims d k decl instance is below =
-      record { function = s.function; decl = decl; instance = instance; declared = declared_at s.function place.name d decl is.named; place = subst (λ (z : List ℕ). k < element_count z) (sym is.same_dims) below }
+      record { function = s.function; decl = decl; instance = instance; declared = declared_at s.function place.name d decl is.named; offset = subst (λ (z : List ℕ). k < element_count z) (sym is.same_dims) below }
 
   pub made_is : (s : Site) (c : Call p s) → IsInstance p (made c) c.callee
   made_is s c = inside_is c.stands.instance (record { places = c.places; name = c.name; args = c.args; indices = s.indices; occurs = c.stands.occurs; turns = refl; named = c.named })
@@ -78,7 +78,7 @@ module _ (p : Program) where
         decl = decl;
         instance = made_is s c;
         declared = behind c.callee.params (c.callee.results ++ c.callee.locals) r ∙ within c.callee.results c.callee.locals r decl at;
-        place = below;
+        offset = below;
       }
 
   -- an element, some samples ago

@@ -13,7 +13,7 @@ use Rattle.silage_tree.specs.declared.tree.Decl.{Decl}
 use Rattle.silage_tree.specs.declared.tree.Lit.TheVariants.{Number}
 use Rattle.silage_tree.specs.Tree.{Manifest, whole, counter, minus, both, Place, Expr, literal, read, binary, cast, choose, no_branch, branch, equation, call, loop, initial, Items, no_item, item, Func, function, Program}
 use Rattle.silage_tree.specs.Manifests.{manifest_value, LooksBack, no_delay, delay}
-use Rattle.silage_tree.specs.Names.{IsPlace}
+use Rattle.silage_tree.specs.Names.{IsOffset}
 use Rattle.silage_tree.specs.Instances.{Instance, main, inside, element, IsTurn, IsInstance, main_is, inside_is, Site, Call}
 use Rattle.silage_tree.specs.Value.{Words, IsRead, signal, IsValue, IsChosen}
 use Rattle.silage_tree.specs.Solves.{value, same, IsDefined, equated, argument, result, IsPreset}
@@ -37,13 +37,13 @@ unbound : manifest_value ((codes "i", pos 3) ∷ []) (counter (codes "j") 0) ≡
 unbound = refl
 
 -- m[1][2] of m[2][3] is at place 5, and there is no m[1][3]
-row_major : IsPlace [] (2 ∷ 3 ∷ []) (whole 1 0 ∷ whole 2 0 ∷ []) 5
+row_major : IsOffset [] (2 ∷ 3 ∷ []) (whole 1 0 ∷ whole 2 0 ∷ []) 5
 row_major = (1, 2, refl, omega arith, (2, 0, refl, omega arith, refl, refl), refl)
 
 number_once : (i j : ℕ) → Some (pos i) ≡ Some (pos j) → i ≡ j
 number_once i j e = cc
 
-outside : (k : ℕ) → IsPlace [] (2 ∷ 3 ∷ []) (whole 1 0 ∷ whole 3 0 ∷ []) k → ⊥
+outside : (k : ℕ) → IsOffset [] (2 ∷ 3 ∷ []) (whole 1 0 ∷ whole 3 0 ∷ []) k → ⊥
 outside k (i, rest, is, below, (j, none, js, under, last, e), f) =
     let three : 3 ≡ j = number_once 3 j js in
     omega (arith, three, under)
@@ -266,7 +266,7 @@ p_preset =
       amount = whole 1 0;
       declaration = 2;
       decl = typed (codes "p") [] byte;
-      at = 0;
+      offset = 0;
       stands = record { instance = main_is refl; occurs = inr (inr (inl (refl, refl))) };
       signal = record { named = refl; placed = refl };
       is = refl;

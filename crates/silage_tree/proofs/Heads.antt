@@ -14,7 +14,7 @@ use Rattle.silage_tree.specs.declared.tree.Lit.{Lit}
 use Rattle.silage_tree.specs.declared.tree.Lit.TheVariants.{Number, Truth}
 use Rattle.silage_tree.specs.declared.tree.Decl.{Decl}
 use Rattle.silage_tree.specs.Tree.{Manifest, whole, counter, minus, both, Place, Expr, literal, read, negate, not, binary, shift, cast, choose, Branches, no_branch, branch, Item, equation, call, loop, initial, Items, no_item, item, Top, table, function}
-use Rattle.silage_tree.specs.Text.{word, enclosed, listed, behind_comma, bracketed, truth_word, lit_text, mode_word, fix_text, type_text, dims_text, decl_text, manifest_text, place_text, delay_text, expr_text, branches_text, clause_text, call_text, turns_text, items_text, local_text, top_text}
+use Rattle.silage_tree.specs.Text.{word, enclosed, listed, behind_comma, bracketed, subscript_text, truth_word, lit_text, mode_word, fix_text, type_text, dims_text, decl_text, manifest_text, place_text, delay_text, expr_text, branches_text, clause_text, call_text, turns_text, items_text, local_text, top_text}
 use Rattle.silage_tree.proofs.Stands.{Each, no_kind, one_kind, joined}
 use Rattle.silage_tree.proofs.Weights.{total}
 use Rattle.silage_tree.proofs.TopWeights.{IsQuiet}
@@ -110,7 +110,7 @@ in_manifest (minus at m) = one_kind refl (around _ (in_manifest m))
 in_manifest (both at o a b) = joined (around _ (in_manifest a)) (one_kind refl (around _ (in_manifest b)))
 
 in_place : (p : Place) → Each IsInner (place_text p)
-in_place p = one_kind refl (in_all (λ m. bracketed (manifest_text m)) (λ m. in_bracketed (in_manifest m)) p.subs)
+in_place p = one_kind refl (in_all subscript_text (λ m. in_bracketed (in_manifest m)) p.subs)
 
 in_delay : (d : Option Manifest) → Each IsInner (delay_text d)
 in_delay None = no_kind

@@ -4,7 +4,7 @@ use Rattle.silage_lex.specs.declared.Token.{Token}
 use Rattle.silage_tree.specs.declared.tree.Lit.{Lit}
 use Rattle.silage_tree.specs.declared.tree.ConstDef.{ConstDef}
 use Rattle.silage_tree.specs.Tree.{Manifest, Place, Expr, Item, equation, call, loop, initial, Items, no_item, item, Func, Top, table, function}
-use Rattle.silage_tree.specs.Grammar.{IsManifest, Manifest_, Primary_, IsExpr, Chain, Or, Role, Plain, Starts, Enters, Leaves, weights, plain, IsTargetSubs, no_target_sub, one_target_sub, two_target_subs, IsTarget, target, IsTargets, last_target, more_targets, IsArgs, last_arg, more_args, IsItem, is_equation, is_call, is_calls, is_loop, is_initial, IsItems, no_items, one_item, IsTop, is_table, is_function, IsTops, no_tops, one_top}
+use Rattle.silage_tree.specs.Grammar.{IsManifest, Manifest_, Primary_, IsExpr, Chain, Or, Role, Plain, Starts, Enters, Leaves, weights, plain, IsTargetSubscripts, no_target_sub, one_target_sub, two_target_subs, IsTarget, target, IsTargets, last_target, more_targets, IsArguments, last_arg, more_args, IsItem, is_equation, is_call, is_calls, is_loop, is_initial, IsItems, no_items, one_item, IsTop, is_table, is_function, IsTops, no_tops, one_top}
 use Rattle.silage_tree.specs.Text.{manifest_text, amount_text, expr_text}
 use Rattle.silage_tree.proofs.Stands.{Stands}
 use Rattle.silage_tree.proofs.Weights.{manifest_total, amount_total, expr_total}
@@ -40,17 +40,17 @@ pub light_amount : (us : List Token) (m : Manifest) (i j : ℕ) → Stands us i 
 light_amount us m i j s ts a b d = text_lighter us ts (amount_text m) i j a b s (amount_total weight weight_free d)
 
 -- Places on the left.
-pub light_no_sub : Light IsTargetSubs [] []
+pub light_no_sub : Light IsTargetSubscripts [] []
 light_no_sub ts i j qs no_target_sub = none_lighter
 
-pub light_sub : {m : Manifest} {ws : List Role} → LightManifest m ws → Light IsTargetSubs (m ∷ []) (Starts ∷ ws ++ Plain ∷ [])
+pub light_sub : {m : Manifest} {ws : List Role} → LightManifest m ws → Light IsTargetSubscripts (m ∷ []) (Starts ∷ ws ++ Plain ∷ [])
 light_sub f ts i j qs (one_target_sub {j = k} a d b) = same_role Starts (joined (f ts (i + 1) k d) (same_role Plain none_lighter))
 
-pub light_subs : {m n : Manifest} {ws vs : List Role} → LightManifest m ws → LightManifest n vs → Light IsTargetSubs (m ∷ n ∷ []) (Starts ∷ ws ++ Plain ∷ Starts ∷ vs ++ Plain ∷ [])
+pub light_subs : {m n : Manifest} {ws vs : List Role} → LightManifest m ws → LightManifest n vs → Light IsTargetSubscripts (m ∷ n ∷ []) (Starts ∷ ws ++ Plain ∷ Starts ∷ vs ++ Plain ∷ [])
 light_subs f g ts i j qs (two_target_subs {j = k} {k = l} a d b c e h) =
     joined (joined (same_role Starts (f ts (i + 1) k d)) (same_role Plain (same_role Starts (g ts (k + 2) l e)))) (same_role Plain none_lighter)
 
-pub light_target : (p : Place) {rs : List Role} → Light IsTargetSubs p.subs rs → Light IsTarget p (Plain ∷ rs)
+pub light_target : (p : Place) {rs : List Role} → Light IsTargetSubscripts p.subs rs → Light IsTarget p (Plain ∷ rs)
 light_target p f ts i j qs (target {rs = rs} n s) = same_role Plain (f ts (i + 1) j rs s)
 
 some_targets : {ts : List Token} {i j : ℕ} {ps : List Place} {rs : List Role} → IsTargets ts i ps rs j → 1 ≤ length ps
@@ -66,15 +66,15 @@ light_more long f g ts i j ws (last_target d) = absurd (omega arith)
 light_more long f g ts i j ws (more_targets {j = k} {rs = rs} {qs = qs} d c rest) = joined (f ts i k rs d) (same_role Plain (g ts (k + 1) j qs rest))
 
 -- Arguments.
-some_args : {ts : List Token} {i j : ℕ} {es : List Expr} {rs : List Role} → IsArgs ts i es rs j → 1 ≤ length es
+some_args : {ts : List Token} {i j : ℕ} {es : List Expr} {rs : List Role} → IsArguments ts i es rs j → 1 ≤ length es
 some_args (last_arg d) = omega arith
 some_args (more_args d c rest) = omega arith
 
-pub light_last_arg : {e : Expr} {ws : List Role} → LightExpr e ws → Light IsArgs (e ∷ []) ws
+pub light_last_arg : {e : Expr} {ws : List Role} → LightExpr e ws → Light IsArguments (e ∷ []) ws
 light_last_arg f ts i j qs (last_arg d) = f ts i j d
 light_last_arg f ts i j qs (more_args d c rest) = let some = some_args rest in absurd (omega arith)
 
-pub light_more_args : {e : Expr} {es : List Expr} {ws qs : List Role} → 1 ≤ length es → LightExpr e ws → Light IsArgs es qs → Light IsArgs (e ∷ es) (ws ++ Starts ∷ qs)
+pub light_more_args : {e : Expr} {es : List Expr} {ws qs : List Role} → 1 ≤ length es → LightExpr e ws → Light IsArguments es qs → Light IsArguments (e ∷ es) (ws ++ Starts ∷ qs)
 light_more_args long f g ts i j rs (last_arg d) = absurd (omega arith)
 light_more_args long f g ts i j rs (more_args {j = k} {rs = qs} d c rest) = joined (f ts i k d) (same_role Starts (g ts (k + 1) j qs rest))
 
@@ -85,13 +85,13 @@ two_plain = same_role Plain (same_role Plain none_lighter)
 pub light_equation : {p : Place} {e : Expr} {rs ws : List Role} → Light IsTarget p rs → LightExpr e ws → Light IsItem (equation p e) (rs ++ Starts ∷ ws ++ Plain ∷ [])
 light_equation f g ts i j qs (is_equation {j = k} {k = l} {rs = rs} p d e s) = joined (joined (f ts i k rs p) (same_role Starts (g ts (k + 1) l e))) (same_role Plain none_lighter)
 
-pub light_call : {p : Place} {f : List ℕ} {es : List Expr} {at : ℕ} {rs qs : List Role} → Light IsTarget p rs → Light IsArgs es qs → Light IsItem (call (p ∷ []) f es at) (rs ++ Starts ∷ Plain ∷ Starts ∷ qs ++ Plain ∷ Plain ∷ [])
+pub light_call : {p : Place} {f : List ℕ} {es : List Expr} {at : ℕ} {rs qs : List Role} → Light IsTarget p rs → Light IsArguments es qs → Light IsItem (call (p ∷ []) f es at) (rs ++ Starts ∷ Plain ∷ Starts ∷ qs ++ Plain ∷ Plain ∷ [])
 light_call f g ts i j ws (is_call {j = k} {k = l} {rs = rs} {qs = qs} p d n o es c s) =
     joined (joined (f ts i k rs p) (same_role Starts (same_role Plain (same_role Starts (g ts (k + 3) l qs es))))) two_plain
 light_call f g ts i j ws (is_calls {j = k} {k = l} {rs = rs} {qs = qs} q ps c d n o es e s) =
     joined (plain_less (joined (light_last f ts (i + 1) k rs ps) (start_for_plain (same_role Plain (plain_less (same_role Starts (g ts (k + 4) l qs es))))))) two_plain
 
-pub light_calls : {ps : List Place} {f : List ℕ} {es : List Expr} {at : ℕ} {rs qs : List Role} → Light IsTargets ps rs → Light IsArgs es qs → Light IsItem (call ps f es at) (Plain ∷ rs ++ Plain ∷ Plain ∷ Plain ∷ Starts ∷ qs ++ Plain ∷ Plain ∷ [])
+pub light_calls : {ps : List Place} {f : List ℕ} {es : List Expr} {at : ℕ} {rs qs : List Role} → Light IsTargets ps rs → Light IsArguments es qs → Light IsItem (call ps f es at) (Plain ∷ rs ++ Plain ∷ Plain ∷ Plain ∷ Starts ∷ qs ++ Plain ∷ Plain ∷ [])
 light_calls f g ts i j ws (is_call {j = k} {k = l} {rs = rs} {qs = qs} p d n o es c s) =
     joined (plain_more (joined (f ts i k rs (last_target p)) (plain_more (plain_more (plain_more (start_late (plain_less (same_role Starts (g ts (k + 3) l qs es))))))))) two_plain
 light_calls f g ts i j ws (is_calls {j = k} {k = l} {rs = rs} {qs = qs} q ps c d n o es e s) =

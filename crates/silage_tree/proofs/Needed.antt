@@ -2,7 +2,6 @@
 -- of tokens without one of them has too few. Which tokens are a definition's own is told by the `func` or `const` in front.
 use Rattle.std.proofs.Common.{◌≡◌, ℕ, zero, suc, ◌+◌, ◌≤◌, Bool, true, false, inl, inr, List, [], ◌∷◌, ◌++◌, Some, length, map, nat_eq, refl, sym, ap, ◌∙◌, arith}
 use Rattle.std.specs.Prelude.{if◌then◌else◌}
-use Rattle.std.specs.List.{flat_map}
 use Rattle.std.proofs.lemmas.Bool.{cases_lt}
 use Rattle.std.proofs.lemmas.List.{length-map}
 use mathlib.Core.List.{append_assoc}
@@ -13,9 +12,9 @@ use Rattle.silage_lex.specs.declared.TokenKind.{TokenKind}
 use Rattle.silage_lex.specs.declared.TokenKind.TheVariants as kind
 use Rattle.silage_lex.specs.declared.punctuation.TheConstants as punctuation
 use Rattle.silage_tree.specs.Tree.{Top, table, function, Program}
-use Rattle.silage_tree.specs.Places.{unplaced_top}
+use Rattle.silage_tree.specs.Positions.{unpositioned_top}
 use Rattle.silage_tree.specs.Grammar.{kind_at, Role, IsTop, is_table, is_function, IsTops, no_tops, one_top}
-use Rattle.silage_tree.specs.Text.{symbol, word, truth_word, mode_word, top_text}
+use Rattle.silage_tree.specs.Text.{symbol, word, truth_word, mode_word, top_text, tops_text}
 use Rattle.silage_tree.specs.Parentheses.{Pair, text_without, HasOneWord, EachPairIsNeeded}
 use Rattle.silage_tree.proofs.Weights.{extra, total, total_join, before, counts}
 use Rattle.silage_tree.proofs.TopWeights.{IsQuiet, forth, top_total}
@@ -84,10 +83,10 @@ head_first : {ts : List Token} {i j : ℕ} {t : Top} {rs : List Role} → IsTop 
 head_first {ts} (is_table {i = i} c n o ty e w s) = counts heads ts i c
 head_first {ts} (is_function {i = i} a n o ps c rs d b lo xs e s) = counts heads ts i a
 
-heads_of : (tops : List Top) → total heads (flat_map top_text tops) ≡ length tops
+heads_of : (tops : List Top) → total heads (tops_text tops) ≡ length tops
 heads_of [] = refl
 heads_of (t ∷ ts) =
-    let a = total_join heads (top_text t) (flat_map top_text ts) in
+    let a = total_join heads (top_text t) (tops_text ts) in
     let b = (top_headed t).one in
     let c = heads_of ts in
     omega (arith, a, b, c)
@@ -106,24 +105,24 @@ record Read (ts : List Token) (t : Top) (earlier later i k : ℕ) : Type 0 where
   tree : Top
   roles : List Role
   is : IsTop ts from tree roles to
-  same : unplaced_top tree ≡ unplaced_top t
+  same : unpositioned_top tree ≡ unpositioned_top t
   heads_before : before heads ts i + earlier ≤ before heads ts from
   heads_behind : before heads ts to + later ≤ before heads ts k
 
-read_at : {ts : List Token} {i k : ℕ} {tops : List Top} {rs : List Role} (earlier : List Top) (t : Top) (later : List Top) → IsTops ts i tops rs k → map unplaced_top tops ≡ map unplaced_top (earlier ++ t ∷ later)
+read_at : {ts : List Token} {i k : ℕ} {tops : List Top} {rs : List Role} (earlier : List Top) (t : Top) (later : List Top) → IsTops ts i tops rs k → map unpositioned_top tops ≡ map unpositioned_top (earlier ++ t ∷ later)
     → Read ts t (length earlier) (length later) i k
 read_at [] t later no_tops e = cc
 read_at (x ∷ xs) t later no_tops e = cc
 read_at [] t later (one_top {t = read} {rest = rest} d ds) e =
-    let same : unplaced_top read ≡ unplaced_top t = cc in
-    let others : map unplaced_top rest ≡ map unplaced_top later = cc in
+    let same : unpositioned_top read ≡ unpositioned_top t = cc in
+    let others : map unpositioned_top rest ≡ map unpositioned_top later = cc in
     let a = ap length others in
-    let b = length-map rest unplaced_top in
-    let c = length-map later unplaced_top in
+    let b = length-map rest unpositioned_top in
+    let c = length-map later unpositioned_top in
     let h = head_each ds in
     record { from = _; to = _; tree = read; roles = _; is = d; same = same; heads_before = omega arith; heads_behind = omega (arith, a, b, c, h) }
 read_at (x ∷ xs) t later (one_top {rest = rest} d ds) e =
-    let others : map unplaced_top rest ≡ map unplaced_top (xs ++ t ∷ later) = cc in
+    let others : map unpositioned_top rest ≡ map unpositioned_top (xs ++ t ∷ later) = cc in
     let r = read_at xs t later ds others in
     let a = one_head d in
     let b = r.heads_before in
@@ -134,35 +133,35 @@ abbrev word_count : Top → ℕ
 word_count (table c) = length c.words
 word_count (function f) = 0
 
-word_count_same : (t : Top) → word_count (unplaced_top t) ≡ word_count t
+word_count_same : (t : Top) → word_count (unpositioned_top t) ≡ word_count t
 word_count_same (table c) = length-map c.words _
 word_count_same (function f) = refl
 
-one_word_too : (t s : Top) → unplaced_top t ≡ unplaced_top s → HasOneWord t → HasOneWord s
+one_word_too : (t s : Top) → unpositioned_top t ≡ unpositioned_top s → HasOneWord t → HasOneWord s
 one_word_too (table c) (table d) e h = sym (word_count_same (table d)) ∙ sym (ap word_count e) ∙ word_count_same (table c) ∙ h
 one_word_too (table c) (function f) e h = cc
 one_word_too (function f) s e h = absurd h
 
-text_too : (t s : Top) → unplaced_top t ≡ unplaced_top s → top_text t ≡ top_text s
+text_too : (t s : Top) → unpositioned_top t ≡ unpositioned_top s → top_text t ≡ top_text s
 text_too t s e = sym (top_same t) ∙ ap top_text e ∙ top_same s
 
 -- The tokens of a text without a pair.
 module _ (program : Program) (pair : Pair program) where
   abbrev front_text : List TokenKind
-  front_text = flat_map top_text pair.earlier
+  front_text = tops_text pair.earlier
 
   abbrev own_text : List TokenKind
-  own_text = pair.before ++ pair.between ++ pair.behind
+  own_text = pair.before ++ pair.between ++ pair.after
 
   abbrev end_text : List TokenKind
-  end_text = flat_map top_text pair.later
+  end_text = tops_text pair.later
 
   own_total : (count : TokenKind → ℕ) → total count (top_text pair.top) ≡ total count own_text + extra count true
   own_total count =
       let a = ap (total count) pair.text in
-      let b = total_join count (pair.before ++ symbol punctuation.LEFT_PAREN ∷ pair.between) (symbol punctuation.RIGHT_PAREN ∷ pair.behind) in
+      let b = total_join count (pair.before ++ symbol punctuation.LEFT_PAREN ∷ pair.between) (symbol punctuation.RIGHT_PAREN ∷ pair.after) in
       let c = total_join count pair.before (symbol punctuation.LEFT_PAREN ∷ pair.between) in
-      let d = total_join count (pair.before ++ pair.between) pair.behind in
+      let d = total_join count (pair.before ++ pair.between) pair.after in
       let e = total_join count pair.before pair.between in
       omega (arith, a, b, c, d, e)
 
@@ -202,7 +201,7 @@ module _ (program : Program) (pair : Pair program) where
 
     ends_by : (later : List Top) → later ≡ pair.later → (to : ℕ) → before heads ts to ≤ length pair.earlier + 1 → before parens ts to ≤ before parens ts end
     ends_by [] e to h =
-        let none : total parens end_text ≡ 0 = ap (λ tops. total parens (flat_map top_text tops)) (sym e) in
+        let none : total parens end_text ≡ 0 = ap (λ tops. total parens (tops_text tops)) (sym e) in
         let a = at_most_all parens ts to in
         let b = at_length parens in
         let c = at_end parens in
@@ -211,8 +210,8 @@ module _ (program : Program) (pair : Pair program) where
         elim (cases_lt end to) [
           | inl long ↦
               let first = top_headed t in
-              let texts : end_text ≡ first.first ∷ (first.rest ++ flat_map top_text rest) = ap (flat_map top_text) (sym e) ∙ ap (λ ks. ks ++ flat_map top_text rest) first.is in
-              let next = behind ts (front_text ++ own_text) (first.rest ++ flat_map top_text rest) first.first (is ∙ ap (λ ks. front_text ++ own_text ++ ks) texts) in
+              let texts : end_text ≡ first.first ∷ (first.rest ++ tops_text rest) = ap (tops_text) (sym e) ∙ ap (λ ks. ks ++ tops_text rest) first.is in
+              let next = behind ts (front_text ++ own_text) (first.rest ++ tops_text rest) first.first (is ∙ ap (λ ks. front_text ++ own_text ++ ks) texts) in
               let a = counts heads ts end next in
               let b = forth heads heads_quiet ts (end + 1) to (omega (arith, long)) in
               let c = at_end heads in
@@ -247,5 +246,5 @@ module _ (program : Program) (pair : Pair program) where
 
 pub each_needed : EachPairIsNeeded
 each_needed program pair several given =
-    let trees : map unplaced_top given.read.tops ≡ map unplaced_top (pair.earlier ++ pair.top ∷ pair.later) = ap (λ (p : Program). p.tops) given.same ∙ ap (map unplaced_top) pair.tops in
+    let trees : map unpositioned_top given.read.tops ≡ map unpositioned_top (pair.earlier ++ pair.top ∷ pair.later) = ap (λ (p : Program). p.tops) given.same ∙ ap (map unpositioned_top) pair.tops in
     too_few program pair given.tokens given.are (read_at pair.earlier pair.top pair.later given.derives.1 trees) several

@@ -12,7 +12,7 @@ use Rattle.silage_tree.specs.declared.tree.Lit.{Lit}
 use Rattle.fix_word.specs.declared.types.SigType.{SigType}
 use Rattle.silage_tree.specs.Tree.{Place, Expr, Item, equation, call, initial, Func, Program}
 use Rattle.silage_tree.specs.Manifests.{Indices, no_delay}
-use Rattle.silage_tree.specs.Names.{decls, element_count, IsPlace}
+use Rattle.silage_tree.specs.Names.{decls, element_count, IsOffset}
 use Rattle.silage_tree.specs.Instances.{Instance, main, inside, Element, element, Occurs, IsInstance, main_is, inside_is, IsElement, Site, Stands, IsSignal, Call}
 use Rattle.silage_tree.specs.Value.{Words, IsRead, signal as is_signal, IsValue}
 use Rattle.silage_tree.specs.Solves.{Rows, Source, word, value, IsDefined, input, equated, argument, array, table, result, array_result, Gives, IsPreset, Solves, AreSame, IsOneSolution, out, IsRow, IsStream}
@@ -145,10 +145,10 @@ module _ (at : Spots) (names : Signals) (distinct : AreDistinct names) (w : ℕ)
   no_calls s c = no_call _ _ _ _ _ _ (stands_where s _ c.stands).0
 
   x_is : IsElement tree x_element
-  x_is = record { function = f; decl = signal names.input at.parameter w; instance = main_is refl; declared = refl; place = omega arith }
+  x_is = record { function = f; decl = signal names.input at.parameter w; instance = main_is refl; declared = refl; offset = omega arith }
 
   y_is : IsElement tree y_element
-  y_is = record { function = f; decl = signal names.output at.result w; instance = main_is refl; declared = refl; place = omega arith }
+  y_is = record { function = f; decl = signal names.output at.result w; instance = main_is refl; declared = refl; offset = omega arith }
 
   declaration_is : (d : ℕ) (decl : Decl) → slice_get (decls f) d ≡ Some decl → ((d ≡ 0) ⊎ (d ≡ 1)) × (decl.dims ≡ [])
   declaration_is zero decl e = (inl refl, ap (λ (x : Decl). x.dims) (sym (some_once e)))
@@ -161,9 +161,9 @@ module _ (at : Spots) (names : Signals) (distinct : AreDistinct names) (w : ℕ)
       let (instance, function) = only_main e.instance is.function is.instance in
       let declared : slice_get (decls f) e.declaration ≡ Some is.decl = subst (λ (h : Func). slice_get (decls h) e.declaration ≡ Some is.decl) function is.declared in
       let known : ((e.declaration ≡ 0) ⊎ (e.declaration ≡ 1)) × (is.decl.dims ≡ []) = declaration_is e.declaration is.decl declared in
-      let below : e.place < 1 = subst (λ (dims : List ℕ). e.place < element_count dims) known.1 is.place in
-      let place : e.place ≡ 0 = omega (arith, below) in
-      ⊎_elim (λ zero. inl (same_element e.instance main e.declaration 0 e.place 0 instance zero place)) (λ one. inr (same_element e.instance main e.declaration 1 e.place 0 instance one place)) known.0
+      let below : e.offset < 1 = subst (λ (dims : List ℕ). e.offset < element_count dims) known.1 is.offset in
+      let place : e.offset ≡ 0 = omega (arith, below) in
+      ⊎_elim (λ zero. inl (same_element e.instance main e.declaration 0 e.offset 0 instance zero place)) (λ one. inr (same_element e.instance main e.declaration 1 e.offset 0 instance one place)) known.0
 
   -- the words: those of the rows, what the equation makes of them, and 0 before
   abbrev solution_word : ℕ → ℤ → ℤ
@@ -185,7 +185,7 @@ module _ (at : Spots) (names : Signals) (distinct : AreDistinct names) (w : ℕ)
   signal_named d k decl is =
       let same : (1, signal names.output at.result w) ≡ (d, decl) = some_once (sym (found_second names (signal names.input at.parameter w) (signal names.output at.result w) refl refl distinct.signals) ∙ is.named) in
       let same_decl : signal names.output at.result w ≡ decl = ap (λ (x : ℕ × Decl). x.1) same in
-      let placed : IsPlace [] [] [] k = subst (λ (x : Decl). IsPlace [] x.dims [] k) (sym same_decl) is.placed in
+      let placed : IsOffset [] [] [] k = subst (λ (x : Decl). IsOffset [] x.dims [] k) (sym same_decl) is.placed in
       (sym (ap (λ (x : ℕ × Decl). x.0) same), sym same_decl, placed)
 
   same_equation : (l k : Place) (x y : Expr) → equation l x ≡ equation k y → (l ≡ k) × (x ≡ y)

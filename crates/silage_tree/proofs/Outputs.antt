@@ -40,7 +40,7 @@ module _ (p : Program) (f : Func) (is : main_of p ≡ Some f) (g h : Element →
   place_same : (d : ℕ) (x : Decl) → slice_get (decls f) d ≡ Some x → map g (map (element main d) (range_with_len 0 (element_count x.dims))) ≡ map h (map (element main d) (range_with_len 0 (element_count x.dims)))
   place_same d x at =
       map_twice g main d _
-      ∙ map_same (λ k. g (element main d k)) (λ k. h (element main d k)) 0 (element_count x.dims) (λ k _ below. same (element main d k) (record { function = f; decl = x; instance = main_is is; declared = at; place = omega (arith, below) }))
+      ∙ map_same (λ k. g (element main d k)) (λ k. h (element main d k)) 0 (element_count x.dims) (λ k _ below. same (element main d k) (record { function = f; decl = x; instance = main_is is; declared = at; offset = omega (arith, below) }))
       ∙ sym (map_twice h main d _)
 
   elements_same : (ds : List Decl) (d : ℕ) → ((k : ℕ) (x : Decl) → slice_get ds k ≡ Some x → slice_get (decls f) (d + k) ≡ Some x) → map g (elements_from main d ds) ≡ map h (elements_from main d ds)

@@ -13,13 +13,13 @@ use Rattle.silage_tree.specs.declared.tree.BinOp.{BinOp}
 use Rattle.silage_tree.specs.declared.tree.BinOp.TheVariants as op
 use Rattle.silage_tree.specs.declared.tree.Lit.TheVariants.{Number, Truth}
 use Rattle.silage_tree.specs.Tree.{Manifest, Place, Expr, literal, read, negate, not, binary, shift, cast, choose, Branches, no_branch, branch}
-use Rattle.silage_tree.specs.Places.{unplaced_manifest, unplaced_place, unplaced_delay, unplaced_expr, unplaced_branches}
+use Rattle.silage_tree.specs.Positions.{unpositioned_manifest, unpositioned_place, unpositioned_delay, unpositioned_expr, unpositioned_branches}
 use Rattle.silage_tree.specs.Grammar.{kind_at, from_at, number_of, IsPunctuation, IsKeyword, Level, Or, And, Sum, Product, ExprRule, Chain, Rest, Shift, Shifts, Arms, part, operator, comparison, shift_operator, IsManifest, Primary_, IsExpr, chain, no_more, one_more, no_comparison, comparison_of, shifts, no_shift, one_shift, negative_number, negated, denied, primary, number as number_, truth, place, cast_of, paren, choice, one_arm, last_arm}
-use Rattle.silage_tree.specs.Text.{symbol, word, enclosed, amount_text, fix_text, delay_text, operator_mark, operator_level, left_level, right_level, expr_level, is_loose_operand, shift_mark, expr_text, branches_text}
+use Rattle.silage_tree.specs.Text.{symbol, word, subscripts_text, enclosed, amount_text, fix_text, delay_text, operator_mark, operator_precedence, left_precedence, right_precedence, expr_precedence, is_loose_operand, shift_mark, expr_text, branches_text}
 use Rattle.silage_tree.proofs.Levels.{expr_rule}
 use Rattle.silage_tree.proofs.Stands.{Stands, split, IsWritten, AreWritten, no_kind, one_kind, joined, enclosed_written, TokensWritten}
 use Rattle.silage_tree.proofs.ReadManifests.{GoodManifest, placed, good_amount}
-use Rattle.silage_tree.proofs.ReadParts.{number_written, number_read, truth_read, truth_written, GoodFix, good_fix, fix_written, fix_read, GoodSubs, good_subs, subs_written, subs_text, subs_read, GoodDelay, good_delay, delay_read, delay_written}
+use Rattle.silage_tree.proofs.ReadParts.{number_written, number_read, truth_read, truth_written, GoodFix, good_fix, fix_written, fix_read, GoodSubs, good_subs, subs_written, subs_read, GoodDelay, good_delay, delay_read, delay_written}
 
 loosen : {us : List Token} {i j : ℕ} {e : Expr} (n : ℕ) → IsExpr us (expr_rule (suc n)) i e j → IsExpr us (expr_rule n) i e j
 loosen zero d = chain d no_more
@@ -43,23 +43,23 @@ loosened {us} {i} {j} {e} (suc n) k h d =
 -- an expression that is this one up to places, read by the rule
 pub record ReadsExpr (us : List Token) (rule : ExprRule) (e : Expr) (i j : ℕ) : Type 0 where
   pub tree : Expr
-  pub same : unplaced_expr tree ≡ unplaced_expr e
+  pub same : unpositioned_expr tree ≡ unpositioned_expr e
   pub reads : IsExpr us rule i tree j
 
 -- the expression's text is written, and wherever it stands it is read as the expression
 pub record GoodExpr (e : Expr) : Type 0 where
   pub written : AreWritten (expr_text e)
-  pub reads : (us : List Token) (i j : ℕ) → Stands us i (expr_text e) j → ReadsExpr us (expr_rule (expr_level e)) e i j
+  pub reads : (us : List Token) (i j : ℕ) → Stands us i (expr_text e) j → ReadsExpr us (expr_rule (expr_precedence e)) e i j
 
 at_end : {us : List Token} {rule : ExprRule} {e : Expr} {i j k : ℕ} → ReadsExpr us rule e i j → j ≡ k → ReadsExpr us rule e i k
 at_end {us} {rule} {e} {i} {j} {k} d q = let P : ℕ → Type 0 = λ l. ReadsExpr us rule e i l in subst P q d
 
 -- as an outermost expression
 pub as_whole : (e : Expr) → GoodExpr e → (us : List Token) (i j : ℕ) → Stands us i (expr_text e) j → ReadsExpr us (Chain Or) e i j
-as_whole e good us i j s = let d = good.reads us i j s in record { tree = d.tree; same = d.same; reads = loosened (expr_level e) 0 (omega arith) d.reads }
+as_whole e good us i j s = let d = good.reads us i j s in record { tree = d.tree; same = d.same; reads = loosened (expr_precedence e) 0 (omega arith) d.reads }
 
 -- in parentheses, or not, by a test that finds each looser expression
-placed_by : (e : Expr) → GoodExpr e → (k : ℕ) → k ≤ 7 → (b : Bool) → (b ≡ false → k ≤ expr_level e) → (us : List Token) (i j : ℕ)
+placed_by : (e : Expr) → GoodExpr e → (k : ℕ) → k ≤ 7 → (b : Bool) → (b ≡ false → k ≤ expr_precedence e) → (us : List Token) (i j : ℕ)
     → Stands us i (enclosed b (expr_text e)) j → ReadsExpr us (expr_rule k) e i j
 placed_by e good k small true tight us i j s =
     let r = split us (expr_text e) (symbol punctuation.RIGHT_PAREN ∷ []) (i + 1) j s.1 in
@@ -68,10 +68,10 @@ placed_by e good k small true tight us i j s =
 placed_by e good k small false tight us i j s =
     let r = split us (expr_text e) [] i j s in
     let d = good.reads us i r.0 r.1 in
-    at_end (record { tree = d.tree; same = d.same; reads = loosened (expr_level e) k (tight refl) d.reads }) r.2
+    at_end (record { tree = d.tree; same = d.same; reads = loosened (expr_precedence e) k (tight refl) d.reads }) r.2
 
-pub placed_expr : (e : Expr) → GoodExpr e → (k : ℕ) → k ≤ 7 → (us : List Token) (i j : ℕ) → Stands us i (enclosed (nat_lt (expr_level e) k) (expr_text e)) j → ReadsExpr us (expr_rule k) e i j
-placed_expr e good k small us i j s = placed_by e good k small (nat_lt (expr_level e) k) (λ q. grind (arith, nat_tests)) us i j s
+pub placed_expr : (e : Expr) → GoodExpr e → (k : ℕ) → k ≤ 7 → (us : List Token) (i j : ℕ) → Stands us i (enclosed (nat_lt (expr_precedence e) k) (expr_text e)) j → ReadsExpr us (expr_rule k) e i j
+placed_expr e good k small us i j s = placed_by e good k small (nat_lt (expr_precedence e) k) (λ q. grind (arith, nat_tests)) us i j s
 
 -- Chains go on.
 more_rest : {us : List Token} {l : Level} {i j k : ℕ} {c a b : Expr} {o : BinOp} → IsExpr us (Rest l c) i a j → operator l (kind_at us j) ≡ Some o → IsExpr us (part l) (j + 1) b k
@@ -93,8 +93,8 @@ shifted : {us : List Token} {i j k : ℕ} {a : Expr} {m : Manifest} {left : Bool
 shifted (shifts f rest) e d = shifts f (more_shifts rest e d)
 
 -- two sides of an operator
-joins : {us : List Token} {i j k : ℕ} {a b : Expr} (o : BinOp) → IsExpr us (expr_rule (left_level o)) i a j → kind_at us j ≡ Some (symbol (operator_mark o)) → IsExpr us (expr_rule (right_level o)) (j + 1) b k
-    → IsExpr us (expr_rule (operator_level o)) i (binary (from_at us j) o a b) k
+joins : {us : List Token} {i j k : ℕ} {a b : Expr} (o : BinOp) → IsExpr us (expr_rule (left_precedence o)) i a j → kind_at us j ≡ Some (symbol (operator_mark o)) → IsExpr us (expr_rule (right_precedence o)) (j + 1) b k
+    → IsExpr us (expr_rule (operator_precedence o)) i (binary (from_at us j) o a b) k
 joins op.Or a h b = chained a (ap (operator Or) h) b
 joins op.And a h b = chained a (ap (operator And) h) b
 joins op.Add a h b = chained a (ap (operator Sum) h) b
@@ -109,9 +109,9 @@ joins op.Ge a h b = comparison_of a (ap comparison h) b
 
 -- what holds of each operator
 record OperatorFacts (o : BinOp) : Type 0 where
-  left : left_level o ≤ 7
-  right : right_level o ≤ 7
-  loose : nat_lt (operator_level o) precedence.unary ≡ true
+  left : left_precedence o ≤ 7
+  right : right_precedence o ≤ 7
+  loose : nat_lt (operator_precedence o) precedence.unary ≡ true
   written : IsWritten (symbol (operator_mark o))
 
 operator_facts : (o : BinOp) → OperatorFacts o
@@ -133,10 +133,10 @@ good_binary at o a b g h =
     record {
       written = joined (enclosed_written _ g.written) (one_kind facts.written (enclosed_written _ h.written));
       reads = λ us i j s.
-          let r = split us (enclosed (nat_lt (expr_level a) (left_level o)) (expr_text a)) (symbol (operator_mark o) ∷ enclosed (nat_lt (expr_level b) (right_level o)) (expr_text b)) i j s in
-          let x = placed_expr a g (left_level o) facts.left us i r.0 r.1 in
-          let y = placed_expr b h (right_level o) facts.right us (r.0 + 1) j r.2.1 in
-          record { tree = binary (from_at us r.0) o x.tree y.tree; same = ap (λ z. binary 0 o z (unplaced_expr y.tree)) x.same ∙ ap (λ z. binary 0 o (unplaced_expr a) z) y.same; reads = joins o x.reads r.2.0 y.reads };
+          let r = split us (enclosed (nat_lt (expr_precedence a) (left_precedence o)) (expr_text a)) (symbol (operator_mark o) ∷ enclosed (nat_lt (expr_precedence b) (right_precedence o)) (expr_text b)) i j s in
+          let x = placed_expr a g (left_precedence o) facts.left us i r.0 r.1 in
+          let y = placed_expr b h (right_precedence o) facts.right us (r.0 + 1) j r.2.1 in
+          record { tree = binary (from_at us r.0) o x.tree y.tree; same = ap (λ z. binary 0 o z (unpositioned_expr y.tree)) x.same ∙ ap (λ z. binary 0 o (unpositioned_expr a) z) y.same; reads = joins o x.reads r.2.0 y.reads };
     }
 
 shift_read : {x : Option TokenKind} (left : Bool) → x ≡ Some (symbol (shift_mark left)) → shift_operator x ≡ Some left
@@ -151,12 +151,12 @@ good_shift : (at : ℕ) (left : Bool) (e : Expr) (m : Manifest) → GoodExpr e �
 good_shift at left e m g h = record {
   written = joined (enclosed_written _ g.written) (one_kind (shift_written left) (enclosed_written _ h.written));
   reads = λ us i j s.
-      let r = split us (enclosed (nat_lt (expr_level e) precedence.shift) (expr_text e)) (symbol (shift_mark left) ∷ amount_text m) i j s in
+      let r = split us (enclosed (nat_lt (expr_precedence e) precedence.shift) (expr_text e)) (symbol (shift_mark left) ∷ amount_text m) i j s in
       let x = placed_expr e g precedence.shift (lit≤ tt) us i r.0 r.1 in
       let y = placed m h precedence.primary (lit≤ tt) us (r.0 + 1) j r.2.1 in
       record {
         tree = shift (from_at us r.0) left x.tree y.tree;
-        same = ap (λ z. shift 0 left z (unplaced_manifest y.tree)) x.same ∙ ap (λ z. shift 0 left (unplaced_expr e) z) y.same;
+        same = ap (λ z. shift 0 left z (unpositioned_manifest y.tree)) x.same ∙ ap (λ z. shift 0 left (unpositioned_expr e) z) y.same;
         reads = shifted x.reads (shift_read left r.2.0) y.reads;
       };
 }
@@ -175,7 +175,7 @@ no_number us (shift at left e m) false h i j s = cc
 no_number us (cast at ty e) false h i j s = ap number_of s.0
 no_number us (choose at bs last) false h i j s = ap number_of s.0
 
-tight_operand : (e : Expr) → is_loose_operand e ≡ false → precedence.unary ≤ expr_level e
+tight_operand : (e : Expr) → is_loose_operand e ≡ false → precedence.unary ≤ expr_precedence e
 tight_operand e h = grind (arith, nat_tests)
 
 good_negate : (at : ℕ) (e : Expr) → GoodExpr e → GoodExpr (negate at e)
@@ -208,12 +208,12 @@ good_read : (p : Place) (d : Option Manifest) → IsWritten (kind.Name p.name) �
 good_read p d n g h = record {
   written = one_kind n (joined (subs_written g) (delay_written h));
   reads = λ us i j s.
-      let r = split us (subs_text p.subs) (delay_text d) (i + 1) j s.1 in
+      let r = split us (subscripts_text p.subs) (delay_text d) (i + 1) j s.1 in
       let x = subs_read us p.subs g (i + 1) r.0 r.1 in
       let y = delay_read us d h r.0 j r.2 in
       record {
         tree = read (record { name = p.name; at = from_at us i; subs = x.trees }) y.tree;
-        same = ap (λ ms. read (record { name = p.name; at = 0; subs = ms }) (unplaced_delay y.tree)) x.same ∙ ap (λ z. read (unplaced_place p) z) y.same;
+        same = ap (λ ms. read (record { name = p.name; at = 0; subs = ms }) (unpositioned_delay y.tree)) x.same ∙ ap (λ z. read (unpositioned_place p) z) y.same;
         reads = place s.0 x.reads y.reads;
       };
 }
@@ -231,8 +231,8 @@ branches_written (good g h k) = joined (joined g.written (one_kind refl h.writte
 record ReadsArms (us : List Token) (at : ℕ) (bs : Branches) (last : Expr) (i j : ℕ) : Type 0 where
   branches : Branches
   value : Expr
-  same_branches : unplaced_branches branches ≡ unplaced_branches bs
-  same_value : unplaced_expr value ≡ unplaced_expr last
+  same_branches : unpositioned_branches branches ≡ unpositioned_branches bs
+  same_value : unpositioned_expr value ≡ unpositioned_expr last
   reads : IsExpr us (Arms at) i (choose at branches value) j
 
 -- behind a `||`
@@ -251,8 +251,8 @@ read_arms us at bs last (good {c = c} {v = v} {bs = rest} g h k) l i m n bar s t
     record {
       branches = branch x.tree y.tree z.branches;
       value = z.value;
-      same_branches = ap (λ e. branch e (unplaced_expr y.tree) (unplaced_branches z.branches)) x.same ∙ ap (λ e. branch (unplaced_expr c) e (unplaced_branches z.branches)) y.same
-          ∙ ap (λ e. branch (unplaced_expr c) (unplaced_expr v) e) z.same_branches;
+      same_branches = ap (λ e. branch e (unpositioned_expr y.tree) (unpositioned_branches z.branches)) x.same ∙ ap (λ e. branch (unpositioned_expr c) e (unpositioned_branches z.branches)) y.same
+          ∙ ap (λ e. branch (unpositioned_expr c) (unpositioned_expr v) e) z.same_branches;
       same_value = z.same_value;
       reads = one_arm bar x.reads q.2.0 y.reads z.reads;
     }
@@ -270,10 +270,10 @@ good_choice at c v last bs g h k l = record {
       let z = read_arms us (from_at us i) bs last k l r.0 e.0 fi.0 r.2.0 r.2.1 e.2 fi.2.0 in
       at_end (record {
         tree = choose (from_at us i) (branch x.tree y.tree z.branches) z.value;
-        same = ap (λ a. choose 0 (branch a (unplaced_expr y.tree) (unplaced_branches z.branches)) (unplaced_expr z.value)) x.same
-            ∙ ap (λ a. choose 0 (branch (unplaced_expr c) a (unplaced_branches z.branches)) (unplaced_expr z.value)) y.same
-            ∙ ap (λ a. choose 0 (branch (unplaced_expr c) (unplaced_expr v) a) (unplaced_expr z.value)) z.same_branches
-            ∙ ap (λ a. choose 0 (branch (unplaced_expr c) (unplaced_expr v) (unplaced_branches bs)) a) z.same_value;
+        same = ap (λ a. choose 0 (branch a (unpositioned_expr y.tree) (unpositioned_branches z.branches)) (unpositioned_expr z.value)) x.same
+            ∙ ap (λ a. choose 0 (branch (unpositioned_expr c) a (unpositioned_branches z.branches)) (unpositioned_expr z.value)) y.same
+            ∙ ap (λ a. choose 0 (branch (unpositioned_expr c) (unpositioned_expr v) a) (unpositioned_expr z.value)) z.same_branches
+            ∙ ap (λ a. choose 0 (branch (unpositioned_expr c) (unpositioned_expr v) (unpositioned_branches bs)) a) z.same_value;
         reads = choice s.0 x.reads q.2.0 y.reads z.reads;
       }) fi.2.1;
 }

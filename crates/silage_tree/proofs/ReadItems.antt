@@ -8,12 +8,12 @@ use Rattle.silage_tree.specs.Precedence as precedence
 use Rattle.silage_tree.specs.declared.tree.Lit.{Lit}
 use Rattle.silage_tree.specs.declared.tree.Lit.TheVariants.{Truth}
 use Rattle.silage_tree.specs.Tree.{Manifest, Place, Expr, Item, equation, call, loop, initial, Items, no_item, item}
-use Rattle.silage_tree.specs.Places.{unplaced_lit, unplaced_manifest, unplaced_place, unplaced_expr, unplaced_item, unplaced_items}
-use Rattle.silage_tree.specs.Grammar.{from_at, IsPunctuation, IsName, IsManifest, Manifest_, IsExpr, Chain, Or, Role, weights, IsTargetSubs, no_target_sub, one_target_sub, two_target_subs, IsTarget, target, IsTargets, last_target, more_targets, IsArgs, last_arg, more_args, IsInitialValue, signed, truth_value, IsItem, is_equation, is_call, is_calls, is_loop, is_initial, IsItems, no_items, one_item}
-use Rattle.silage_tree.specs.Text.{symbol, word, enclosed, listed, several, lit_text, manifest_text, amount_text, place_text, expr_text, call_text, turns_text, clause_text, items_text}
+use Rattle.silage_tree.specs.Positions.{unpositioned_lit, unpositioned_manifest, unpositioned_place, unpositioned_expr, unpositioned_item, unpositioned_items}
+use Rattle.silage_tree.specs.Grammar.{from_at, IsPunctuation, IsName, IsManifest, Manifest_, IsExpr, Chain, Or, Role, weights, IsTargetSubscripts, no_target_sub, one_target_sub, two_target_subs, IsTarget, target, IsTargets, last_target, more_targets, IsArguments, last_arg, more_args, IsInitialValue, signed, truth_value, IsItem, is_equation, is_call, is_calls, is_loop, is_initial, IsItems, no_items, one_item}
+use Rattle.silage_tree.specs.Text.{symbol, word, subscripts_text, enclosed, listed, several, lit_text, manifest_text, amount_text, place_text, expr_text, call_text, turns_text, clause_text, items_text}
 use Rattle.silage_tree.proofs.Stands.{Stands, split, moved, IsWritten, AreWritten, no_kind, one_kind, joined, enclosed_written, TokensWritten}
 use Rattle.silage_tree.proofs.ReadManifests.{GoodManifest, ReadsManifest, placed, as_manifest, good_manifest, good_amount}
-use Rattle.silage_tree.proofs.ReadParts.{truth_read, truth_written, GoodSigned, good_signed, GoodSubs, scalar, vector, matrix, subs_written, subs_text, read_one, read_two}
+use Rattle.silage_tree.proofs.ReadParts.{truth_read, truth_written, GoodSigned, good_signed, GoodSubs, scalar, vector, matrix, subs_written, read_one, read_two}
 use Rattle.silage_tree.proofs.ReadExprs.{GoodExpr, as_whole, good_expr}
 use Rattle.silage_tree.proofs.LightItems.{Has, LightExpr, light_expr, light_manifest, light_amount, light_no_sub, light_sub, light_subs, light_target, light_last, light_more, light_last_arg, light_more_args, light_equation, light_call, light_calls, light_loop, light_initial, light_no_items, light_items}
 use Rattle.silage_tree.proofs.ReadLists.{ReadsBy, by_end, Goods, only, also, listed_written, listed_read, Grouped, bare, inside, grouped_read, one_of_several}
@@ -26,7 +26,7 @@ pub record GoodPlace (p : Place) : Type 0 where
 place_written : (p : Place) → GoodPlace p → AreWritten (place_text p)
 place_written p good = one_kind good.name (subs_written good.subs)
 
-target_subs_read : (us : List Token) (ms : List Manifest) → GoodSubs ms → (i j : ℕ) → Stands us i (subs_text ms) j → ReadsBy (List Manifest) (map unplaced_manifest) (Has IsTargetSubs us ms) ms i j
+target_subs_read : (us : List Token) (ms : List Manifest) → GoodSubs ms → (i j : ℕ) → Stands us i (subscripts_text ms) j → ReadsBy (List Manifest) (map unpositioned_manifest) (Has IsTargetSubscripts us ms) ms i j
 target_subs_read us ms scalar i j s = by_end s (record { tree = []; same = refl; reads = record { roles = _; is = no_target_sub; light = light_no_sub } })
 target_subs_read us ms (vector {m = m} g) i j s =
     let x = read_one us m g i j s in
@@ -45,7 +45,7 @@ target_subs_read us ms (matrix {m = m} {n = n} g h) i j s =
     let stands : Stands us (x.end + 2) (manifest_text n) y.end = subst Q (omega arith) y.stands in
     by_end y.ends (record {
       tree = x.inside.tree ∷ y.inside.tree ∷ [];
-      same = ap (λ t. t ∷ unplaced_manifest y.inside.tree ∷ []) x.inside.same ∙ ap (λ t. unplaced_manifest m ∷ t ∷ []) y.inside.same;
+      same = ap (λ t. t ∷ unpositioned_manifest y.inside.tree ∷ []) x.inside.same ∙ ap (λ t. unpositioned_manifest m ∷ t ∷ []) y.inside.same;
       reads = record {
         roles = _;
         is = two_target_subs x.opens x.inside.reads x.closes y.opens second y.closes;
@@ -53,7 +53,7 @@ target_subs_read us ms (matrix {m = m} {n = n} g h) i j s =
       };
     })
 
-target_read : (us : List Token) (p : Place) → GoodPlace p → (i j : ℕ) → Stands us i (place_text p) j → ReadsBy Place unplaced_place (Has IsTarget us p) p i j
+target_read : (us : List Token) (p : Place) → GoodPlace p → (i j : ℕ) → Stands us i (place_text p) j → ReadsBy Place unpositioned_place (Has IsTarget us p) p i j
 target_read us p good i j s =
     let x = target_subs_read us p.subs good.subs (i + 1) j s.1 in
     record {
@@ -62,7 +62,7 @@ target_read us p good i j s =
       reads = record { roles = _; is = target s.0 x.reads.is; light = light_target p x.reads.light };
     }
 
-good_target_subs : (ts : List Token) → TokensWritten ts → {i j : ℕ} {ms : List Manifest} {rs : List Role} → IsTargetSubs ts i ms rs j → GoodSubs ms
+good_target_subs : (ts : List Token) → TokensWritten ts → {i j : ℕ} {ms : List Manifest} {rs : List Role} → IsTargetSubscripts ts i ms rs j → GoodSubs ms
 good_target_subs ts w no_target_sub = scalar
 good_target_subs ts w (one_target_sub a d b) = vector (good_manifest ts w d)
 good_target_subs ts w (two_target_subs a d b c e f) = matrix (good_manifest ts w d) (good_manifest ts w e)
@@ -79,15 +79,15 @@ record HasArg (us : List Token) (e : Expr) (i : ℕ) (x : Expr) (j : ℕ) : Type
   is : IsExpr us (Chain Or) i x j
   light : LightExpr e (weights us i j)
 
-arg_read : (us : List Token) (e : Expr) → GoodExpr e → (i j : ℕ) → Stands us i (expr_text e) j → ReadsBy Expr unplaced_expr (HasArg us e) e i j
+arg_read : (us : List Token) (e : Expr) → GoodExpr e → (i j : ℕ) → Stands us i (expr_text e) j → ReadsBy Expr unpositioned_expr (HasArg us e) e i j
 arg_read us e good i j s = let x = as_whole e good us i j s in record { tree = x.tree; same = x.same; reads = record { is = x.reads; light = light_expr us e i j s } }
 
-args_read : (us : List Token) {es : List Expr} → Goods Expr GoodExpr es → (i j : ℕ) → Stands us i (listed expr_text es) j → ReadsBy (List Expr) (map unplaced_expr) (Has IsArgs us es) es i j
+args_read : (us : List Token) {es : List Expr} → Goods Expr GoodExpr es → (i j : ℕ) → Stands us i (listed expr_text es) j → ReadsBy (List Expr) (map unpositioned_expr) (Has IsArguments us es) es i j
 args_read us gs i j s =
-    listed_read Expr GoodExpr expr_text unplaced_expr us (HasArg us) (Has IsArgs us) (λ i j x y d. record { roles = _; is = last_arg d.is; light = light_last_arg d.light })
+    listed_read Expr GoodExpr expr_text unpositioned_expr us (HasArg us) (Has IsArguments us) (λ i j x y d. record { roles = _; is = last_arg d.is; light = light_last_arg d.light })
     (λ i j k x y xs ys long d c rest. record { roles = _; is = more_args d.is c rest.is; light = light_more_args long d.light rest.light }) (arg_read us) gs i j s
 
-good_args : (ts : List Token) → TokensWritten ts → {i j : ℕ} {es : List Expr} {rs : List Role} → IsArgs ts i es rs j → Goods Expr GoodExpr es
+good_args : (ts : List Token) → TokensWritten ts → {i j : ℕ} {es : List Expr} {rs : List Role} → IsArguments ts i es rs j → Goods Expr GoodExpr es
 good_args ts w (last_arg d) = only (good_expr ts w d)
 good_args ts w (more_args d c rest) = also (good_expr ts w d) (good_args ts w rest)
 
@@ -100,7 +100,7 @@ value_written : {l : Lit} → GoodValue l → AreWritten (lit_text l)
 value_written (number_value g) = g.written
 value_written (truth_good {b = b}) = one_kind (truth_written b) no_kind
 
-value_read : (us : List Token) {l : Lit} → GoodValue l → (i j : ℕ) → Stands us i (lit_text l) j → ReadsBy Lit unplaced_lit (IsInitialValue us) l i j
+value_read : (us : List Token) {l : Lit} → GoodValue l → (i j : ℕ) → Stands us i (lit_text l) j → ReadsBy Lit unpositioned_lit (IsInitialValue us) l i j
 value_read us (number_value g) i j s = let x = g.reads us i j s in record { tree = x.0; same = x.1; reads = signed x.2 }
 value_read us (truth_good {b = b}) i j s = by_end s.1 (record { tree = Truth b (from_at us i); same = refl; reads = truth_value (truth_read b s.0) })
 
@@ -111,11 +111,11 @@ good_value ts w (truth_value e) = truth_good
 -- Items.
 pub record GoodItem (x : Item) : Type 0 where
   pub written : AreWritten (clause_text x)
-  pub reads : (us : List Token) (i j : ℕ) → Stands us i (clause_text x) j → IsPunctuation us j punctuation.SEMICOLON → ReadsBy Item unplaced_item (Has IsItem us x) x i (j + 1)
+  pub reads : (us : List Token) (i j : ℕ) → Stands us i (clause_text x) j → IsPunctuation us j punctuation.SEMICOLON → ReadsBy Item unpositioned_item (Has IsItem us x) x i (j + 1)
 
 pub record GoodItems (xs : Items) : Type 0 where
   pub written : AreWritten (items_text xs)
-  pub reads : (us : List Token) (i j : ℕ) → Stands us i (items_text xs) j → ReadsBy Items unplaced_items (Has IsItems us xs) xs i j
+  pub reads : (us : List Token) (i j : ℕ) → Stands us i (items_text xs) j → ReadsBy Items unpositioned_items (Has IsItems us xs) xs i j
 
 good_equation : (p : Place) (e : Expr) → GoodPlace p → GoodExpr e → GoodItem (equation p e)
 good_equation p e g h = record {
@@ -126,7 +126,7 @@ good_equation p e g h = record {
       let y = as_whole e h us (r.0 + 1) j r.2.1 in
       record {
         tree = equation x.tree y.tree;
-        same = ap (λ z. equation z (unplaced_expr y.tree)) x.same ∙ ap (λ z. equation (unplaced_place p) z) y.same;
+        same = ap (λ z. equation z (unpositioned_expr y.tree)) x.same ∙ ap (λ z. equation (unpositioned_place p) z) y.same;
         reads = record { roles = _; is = is_equation x.reads.is r.2.0 y.reads end; light = light_equation x.reads.light (light_expr us e (r.0 + 1) j r.2.1) };
       };
 }
@@ -142,7 +142,7 @@ good_initial p k l g h v = record {
       let z = value_read us v (r.0 + 1) j r.2.1 in
       record {
         tree = initial x.tree y.tree z.tree;
-        same = ap (λ t. initial t (unplaced_manifest y.tree) (unplaced_lit z.tree)) x.same ∙ ap (λ t. initial (unplaced_place p) t (unplaced_lit z.tree)) y.same ∙ ap (λ t. initial (unplaced_place p) (unplaced_manifest k) t) z.same;
+        same = ap (λ t. initial t (unpositioned_manifest y.tree) (unpositioned_lit z.tree)) x.same ∙ ap (λ t. initial (unpositioned_place p) t (unpositioned_lit z.tree)) y.same ∙ ap (λ t. initial (unpositioned_place p) (unpositioned_manifest k) t) z.same;
         reads = record {
           roles = _;
           is = is_initial x.reads.is q.2.0 y.reads r.2.0 z.reads end;
@@ -154,11 +154,11 @@ good_initial p k l g h v = record {
 -- a function's name with its arguments
 record ReadsCall (us : List Token) (f : List ℕ) (es : List Expr) (i j : ℕ) : Type 0 where
   args : List Expr
-  same : map unplaced_expr args ≡ map unplaced_expr es
+  same : map unpositioned_expr args ≡ map unpositioned_expr es
   close : ℕ
   name : IsName us i f
   opens : IsPunctuation us (i + 1) punctuation.LEFT_PAREN
-  reads : Has IsArgs us es (i + 2) args close
+  reads : Has IsArguments us es (i + 2) args close
   closes : IsPunctuation us close punctuation.RIGHT_PAREN
   ends : close + 1 ≡ j
 
@@ -181,36 +181,36 @@ another_target us i j k p q ps qs long d c rest = record { roles = _; is = more_
 
 abbrev TargetGroup : List Token → List Place → ℕ → ℕ → Type 0
 TargetGroup us ps i j =
-    Grouped Place GoodPlace place_text unplaced_place us (Has IsTarget us) (Has IsTargets us) (one_target us) (another_target us) (target_read us) ps i j
+    Grouped Place GoodPlace place_text unpositioned_place us (Has IsTarget us) (Has IsTargets us) (one_target us) (another_target us) (target_read us) ps i j
 
-item_end : {us : List Token} {x : Item} {i j k : ℕ} → j ≡ k → ReadsBy Item unplaced_item (Has IsItem us x) x i j → ReadsBy Item unplaced_item (Has IsItem us x) x i k
+item_end : {us : List Token} {x : Item} {i j k : ℕ} → j ≡ k → ReadsBy Item unpositioned_item (Has IsItem us x) x i j → ReadsBy Item unpositioned_item (Has IsItem us x) x i k
 item_end {us} {x} {i} {j} {k} e h = by_end e h
 
 call_of : (us : List Token) (ps : List Place) (f : List ℕ) (es : List Expr) (at i k j : ℕ) → TargetGroup us ps i k → IsPunctuation us k punctuation.EQUAL → ReadsCall us f es (k + 1) j → IsPunctuation us j punctuation.SEMICOLON
-    → ReadsBy Item unplaced_item (Has IsItem us (call ps f es at)) (call ps f es at) i (j + 1)
+    → ReadsBy Item unpositioned_item (Has IsItem us (call ps f es at)) (call ps f es at) i (j + 1)
 call_of us ps f es at i k j (bare t) defines c end =
     let close = c.ends in
     let opens = moved us (k + 1 + 1) (k + 2) (Some (symbol punctuation.LEFT_PAREN)) (omega arith) c.opens in
-    let P : ℕ → Type 0 = λ l. IsArgs us l c.args c.reads.roles c.close in
-    let args : IsArgs us (k + 3) c.args c.reads.roles c.close = subst P (omega arith) c.reads.is in
+    let P : ℕ → Type 0 = λ l. IsArguments us l c.args c.reads.roles c.close in
+    let args : IsArguments us (k + 3) c.args c.reads.roles c.close = subst P (omega arith) c.reads.is in
     let semicolon = moved us j (c.close + 1) (Some (symbol punctuation.SEMICOLON)) (sym close) end in
     let last : c.close + 2 ≡ j + 1 = omega arith in
     item_end last (record {
       tree = call (t.tree ∷ []) f c.args (from_at us (k + 1));
-      same = ap (λ z. call (z ∷ []) f (map unplaced_expr c.args) 0) t.same ∙ ap (λ z. call (map unplaced_place ps) f z 0) c.same;
+      same = ap (λ z. call (z ∷ []) f (map unpositioned_expr c.args) 0) t.same ∙ ap (λ z. call (map unpositioned_place ps) f z 0) c.same;
       reads = record { roles = _; is = is_call t.reads.is defines c.name opens args c.closes semicolon; light = light_call t.reads.light c.reads.light };
     })
 call_of us ps f es at i k j (inside {j = m} opening t shut) defines c end =
     let close = c.ends in
     let name = moved us (m + 1 + 1) (m + 2) (Some (kind.Name f)) (omega arith) c.name in
     let opens = moved us (m + 1 + 1 + 1) (m + 3) (Some (symbol punctuation.LEFT_PAREN)) (omega arith) c.opens in
-    let P : ℕ → Type 0 = λ l. IsArgs us l c.args c.reads.roles c.close in
-    let args : IsArgs us (m + 4) c.args c.reads.roles c.close = subst P (omega arith) c.reads.is in
+    let P : ℕ → Type 0 = λ l. IsArguments us l c.args c.reads.roles c.close in
+    let args : IsArguments us (m + 4) c.args c.reads.roles c.close = subst P (omega arith) c.reads.is in
     let semicolon = moved us j (c.close + 1) (Some (symbol punctuation.SEMICOLON)) (sym close) end in
     let last : c.close + 2 ≡ j + 1 = omega arith in
     item_end last (record {
       tree = call t.tree f c.args (from_at us (m + 2));
-      same = ap (λ z. call z f (map unplaced_expr c.args) 0) t.same ∙ ap (λ z. call (map unplaced_place ps) f z 0) c.same;
+      same = ap (λ z. call z f (map unpositioned_expr c.args) 0) t.same ∙ ap (λ z. call (map unpositioned_place ps) f z 0) c.same;
       reads = record { roles = _; is = is_calls opening t.reads.is shut defines name opens args c.closes semicolon; light = light_calls t.reads.light c.reads.light };
     })
 
@@ -219,7 +219,7 @@ good_call ps f es at gs n hs = record {
   written = joined (enclosed_written _ (listed_written Place GoodPlace place_text place_written gs)) (one_kind refl (call_written f n hs));
   reads = λ us i j s end.
       let r = split us (enclosed (several ps) (listed place_text ps)) (symbol punctuation.EQUAL ∷ call_text f es) i j s in
-      let g = grouped_read Place GoodPlace place_text unplaced_place us (Has IsTarget us) (Has IsTargets us) (one_target us) (another_target us) (target_read us)
+      let g = grouped_read Place GoodPlace place_text unpositioned_place us (Has IsTarget us) (Has IsTargets us) (one_target us) (another_target us) (target_read us)
       gs (several ps) (one_of_several ps) i r.0 r.1 in
       call_of us ps f es at i r.0 j g r.2.0 (call_read us f es hs (r.0 + 1) j r.2.1) end;
 }
@@ -277,8 +277,8 @@ good_loop index lo hi xs at n g h k = record {
       let last : e.0 + 2 ≡ j + 1 = omega arith in
       item_end last (record {
         tree = loop index t.low.tree t.high.tree body.tree (from_at us i);
-        same = ap (λ z. loop index z (unplaced_manifest t.high.tree) (unplaced_items body.tree) 0) t.low.same
-            ∙ ap (λ z. loop index (unplaced_manifest lo) z (unplaced_items body.tree) 0) t.high.same ∙ ap (λ z. loop index (unplaced_manifest lo) (unplaced_manifest hi) z 0) body.same;
+        same = ap (λ z. loop index z (unpositioned_manifest t.high.tree) (unpositioned_items body.tree) 0) t.low.same
+            ∙ ap (λ z. loop index (unpositioned_manifest lo) z (unpositioned_items body.tree) 0) t.high.same ∙ ap (λ z. loop index (unpositioned_manifest lo) (unpositioned_manifest hi) z 0) body.same;
         reads = record {
           roles = _;
           is = is_loop t.opens t.name t.colon t.low.reads t.upto t.high.reads t.closes each begin body.reads.is e.2.0 semicolon;
@@ -297,7 +297,7 @@ more_good_items x xs g h = record {
       let r = split us (clause_text x) (symbol punctuation.SEMICOLON ∷ items_text xs) i j s in
       let y = g.reads us i r.0 r.1 r.2.0 in
       let ys = h.reads us (r.0 + 1) j r.2.1 in
-      record { tree = item y.tree ys.tree; same = ap (λ z. item z (unplaced_items ys.tree)) y.same ∙ ap (λ z. item (unplaced_item x) z) ys.same; reads = record { roles = _; is = one_item y.reads.is ys.reads.is; light = light_items y.reads.light ys.reads.light } };
+      record { tree = item y.tree ys.tree; same = ap (λ z. item z (unpositioned_items ys.tree)) y.same ∙ ap (λ z. item (unpositioned_item x) z) ys.same; reads = record { roles = _; is = one_item y.reads.is ys.reads.is; light = light_items y.reads.light ys.reads.light } };
 }
 
 mutual

@@ -9,9 +9,9 @@ use Rattle.silage_tree.specs.Precedence as precedence
 use Rattle.silage_tree.specs.declared.tree.MOp.{MOp}
 use Rattle.silage_tree.specs.declared.tree.MOp.TheVariants as mop
 use Rattle.silage_tree.specs.Tree.{Manifest, whole, counter, minus, both}
-use Rattle.silage_tree.specs.Places.{unplaced_manifest}
+use Rattle.silage_tree.specs.Positions.{unpositioned_manifest}
 use Rattle.silage_tree.specs.Grammar.{kind_at, from_at, ManifestRule, Manifest_, Terms, Term, Factors, Factor, Primary_, term_operator, IsPunctuation, IsManifest, terms, no_term, one_term, factors, no_factor, one_factor, minus_factor, primary_factor, whole_primary, name_primary, paren_primary}
-use Rattle.silage_tree.specs.Text.{symbol, enclosed, manifest_level, manifest_text}
+use Rattle.silage_tree.specs.Text.{symbol, enclosed, manifest_precedence, manifest_text}
 use Rattle.silage_tree.proofs.Levels.{manifest_rule}
 use Rattle.silage_tree.proofs.Stands.{Stands, split, AreWritten, no_kind, one_kind, joined, enclosed_written, TokensWritten}
 
@@ -37,37 +37,37 @@ loosened {us} {i} {j} {m} (suc n) k h d =
 -- a number that is this one up to places, read by the rule
 pub record ReadsManifest (us : List Token) (rule : ManifestRule) (m : Manifest) (i j : ℕ) : Type 0 where
   pub tree : Manifest
-  pub same : unplaced_manifest tree ≡ unplaced_manifest m
+  pub same : unpositioned_manifest tree ≡ unpositioned_manifest m
   pub reads : IsManifest us rule i tree j
 
 -- the number's text is written, and wherever it stands it is read as the number
 pub record GoodManifest (m : Manifest) : Type 0 where
   pub written : AreWritten (manifest_text m)
-  pub reads : (us : List Token) (i j : ℕ) → Stands us i (manifest_text m) j → ReadsManifest us (manifest_rule (manifest_level m)) m i j
+  pub reads : (us : List Token) (i j : ℕ) → Stands us i (manifest_text m) j → ReadsManifest us (manifest_rule (manifest_precedence m)) m i j
 
 at_end : {us : List Token} {rule : ManifestRule} {m : Manifest} {i j k : ℕ} → ReadsManifest us rule m i j → j ≡ k → ReadsManifest us rule m i k
 at_end {us} {rule} {m} {i} {j} {k} d q = let P : ℕ → Type 0 = λ l. ReadsManifest us rule m i l in subst P q d
 
-placed_by : (m : Manifest) → GoodManifest m → (k : ℕ) → k ≤ 7 → (b : Bool) → nat_lt (manifest_level m) k ≡ b → (us : List Token) (i j : ℕ)
+placed_by : (m : Manifest) → GoodManifest m → (k : ℕ) → k ≤ 7 → (b : Bool) → nat_lt (manifest_precedence m) k ≡ b → (us : List Token) (i j : ℕ)
     → Stands us i (enclosed b (manifest_text m)) j → ReadsManifest us (manifest_rule k) m i j
 placed_by m good k small true e us i j s =
     let r = split us (manifest_text m) (symbol punctuation.RIGHT_PAREN ∷ []) (i + 1) j s.1 in
     let d = good.reads us (i + 1) r.0 r.1 in
-    let whole : IsManifest us Manifest_ (i + 1) d.tree r.0 = loosened (manifest_level m) 0 (omega arith) d.reads in
+    let whole : IsManifest us Manifest_ (i + 1) d.tree r.0 = loosened (manifest_precedence m) 0 (omega arith) d.reads in
     at_end (record { tree = d.tree; same = d.same; reads = loosened 7 k small (paren_primary s.0 whole r.2.0) }) r.2.1
 placed_by m good k small false e us i j s =
     let r = split us (manifest_text m) [] i j s in
     let d = good.reads us i r.0 r.1 in
-    let low : k ≤ manifest_level m = grind (arith, nat_tests) in
-    at_end (record { tree = d.tree; same = d.same; reads = loosened (manifest_level m) k low d.reads }) r.2
+    let low : k ≤ manifest_precedence m = grind (arith, nat_tests) in
+    at_end (record { tree = d.tree; same = d.same; reads = loosened (manifest_precedence m) k low d.reads }) r.2
 
 -- in its place, in parentheses where it is looser than its place asks
-pub placed : (m : Manifest) → GoodManifest m → (k : ℕ) → k ≤ 7 → (us : List Token) (i j : ℕ) → Stands us i (enclosed (nat_lt (manifest_level m) k) (manifest_text m)) j → ReadsManifest us (manifest_rule k) m i j
-placed m good k small us i j s = placed_by m good k small (nat_lt (manifest_level m) k) refl us i j s
+pub placed : (m : Manifest) → GoodManifest m → (k : ℕ) → k ≤ 7 → (us : List Token) (i j : ℕ) → Stands us i (enclosed (nat_lt (manifest_precedence m) k) (manifest_text m)) j → ReadsManifest us (manifest_rule k) m i j
+placed m good k small us i j s = placed_by m good k small (nat_lt (manifest_precedence m) k) refl us i j s
 
 -- as a whole manifest
 pub as_manifest : (m : Manifest) → GoodManifest m → (us : List Token) (i j : ℕ) → Stands us i (manifest_text m) j → ReadsManifest us Manifest_ m i j
-as_manifest m good us i j s = let d = good.reads us i j s in record { tree = d.tree; same = d.same; reads = loosened (manifest_level m) 0 (omega arith) d.reads }
+as_manifest m good us i j s = let d = good.reads us i j s in record { tree = d.tree; same = d.same; reads = loosened (manifest_precedence m) 0 (omega arith) d.reads }
 
 -- a chain goes on
 more_terms : {us : List Token} {i j k : ℕ} {c a b : Manifest} {o : MOp} → IsManifest us (Terms c) i a j → term_operator (kind_at us j) ≡ Some o → IsManifest us Term (j + 1) b k
@@ -93,26 +93,26 @@ good_both : (at : ℕ) (o : MOp) (a b : Manifest) → GoodManifest a → GoodMan
 good_both at mop.Add a b g h = record {
   written = joined (enclosed_written _ g.written) (one_kind refl (enclosed_written _ h.written));
   reads = λ us i j s.
-      let r = split us (enclosed (nat_lt (manifest_level a) precedence.sum) (manifest_text a)) (symbol punctuation.PLUS ∷ enclosed (nat_lt (manifest_level b) precedence.product) (manifest_text b)) i j s in
+      let r = split us (enclosed (nat_lt (manifest_precedence a) precedence.sum) (manifest_text a)) (symbol punctuation.PLUS ∷ enclosed (nat_lt (manifest_precedence b) precedence.product) (manifest_text b)) i j s in
       let x = placed a g precedence.sum (lit≤ tt) us i r.0 r.1 in
       let y = placed b h precedence.product (lit≤ tt) us (r.0 + 1) j r.2.1 in
-      record { tree = both (from_at us r.0) mop.Add x.tree y.tree; same = ap (λ z. both 0 mop.Add z (unplaced_manifest y.tree)) x.same ∙ ap (λ z. both 0 mop.Add (unplaced_manifest a) z) y.same; reads = sum_of x.reads (ap term_operator r.2.0) y.reads };
+      record { tree = both (from_at us r.0) mop.Add x.tree y.tree; same = ap (λ z. both 0 mop.Add z (unpositioned_manifest y.tree)) x.same ∙ ap (λ z. both 0 mop.Add (unpositioned_manifest a) z) y.same; reads = sum_of x.reads (ap term_operator r.2.0) y.reads };
 }
 good_both at mop.Sub a b g h = record {
   written = joined (enclosed_written _ g.written) (one_kind refl (enclosed_written _ h.written));
   reads = λ us i j s.
-      let r = split us (enclosed (nat_lt (manifest_level a) precedence.sum) (manifest_text a)) (symbol punctuation.MINUS ∷ enclosed (nat_lt (manifest_level b) precedence.product) (manifest_text b)) i j s in
+      let r = split us (enclosed (nat_lt (manifest_precedence a) precedence.sum) (manifest_text a)) (symbol punctuation.MINUS ∷ enclosed (nat_lt (manifest_precedence b) precedence.product) (manifest_text b)) i j s in
       let x = placed a g precedence.sum (lit≤ tt) us i r.0 r.1 in
       let y = placed b h precedence.product (lit≤ tt) us (r.0 + 1) j r.2.1 in
-      record { tree = both (from_at us r.0) mop.Sub x.tree y.tree; same = ap (λ z. both 0 mop.Sub z (unplaced_manifest y.tree)) x.same ∙ ap (λ z. both 0 mop.Sub (unplaced_manifest a) z) y.same; reads = sum_of x.reads (ap term_operator r.2.0) y.reads };
+      record { tree = both (from_at us r.0) mop.Sub x.tree y.tree; same = ap (λ z. both 0 mop.Sub z (unpositioned_manifest y.tree)) x.same ∙ ap (λ z. both 0 mop.Sub (unpositioned_manifest a) z) y.same; reads = sum_of x.reads (ap term_operator r.2.0) y.reads };
 }
 good_both at mop.Mul a b g h = record {
   written = joined (enclosed_written _ g.written) (one_kind refl (enclosed_written _ h.written));
   reads = λ us i j s.
-      let r = split us (enclosed (nat_lt (manifest_level a) precedence.product) (manifest_text a)) (symbol punctuation.STAR ∷ enclosed (nat_lt (manifest_level b) precedence.unary) (manifest_text b)) i j s in
+      let r = split us (enclosed (nat_lt (manifest_precedence a) precedence.product) (manifest_text a)) (symbol punctuation.STAR ∷ enclosed (nat_lt (manifest_precedence b) precedence.unary) (manifest_text b)) i j s in
       let x = placed a g precedence.product (lit≤ tt) us i r.0 r.1 in
       let y = placed b h precedence.unary (lit≤ tt) us (r.0 + 1) j r.2.1 in
-      record { tree = both (from_at us r.0) mop.Mul x.tree y.tree; same = ap (λ z. both 0 mop.Mul z (unplaced_manifest y.tree)) x.same ∙ ap (λ z. both 0 mop.Mul (unplaced_manifest a) z) y.same; reads = product_of x.reads r.2.0 y.reads };
+      record { tree = both (from_at us r.0) mop.Mul x.tree y.tree; same = ap (λ z. both 0 mop.Mul z (unpositioned_manifest y.tree)) x.same ∙ ap (λ z. both 0 mop.Mul (unpositioned_manifest a) z) y.same; reads = product_of x.reads r.2.0 y.reads };
 }
 
 good_minus : (at : ℕ) (m : Manifest) → GoodManifest m → GoodManifest (minus at m)

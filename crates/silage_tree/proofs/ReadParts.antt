@@ -1,7 +1,6 @@
 -- The texts of numbers, types and places are read as what they are texts of, up to places.
 use Rattle.std.proofs.Common.{◌≡◌, ℕ, zero, suc, ◌+◌, ◌≤◌, Bool, true, false, List, [], ◌∷◌, Option, Some, None, map, refl, sym, ap, ◌∙◌, subst, arith, lit≤}
 use Rattle.std.specs.Prelude.{nat_eq, if◌then◌else◌}
-use Rattle.std.specs.List.{flat_map}
 use Rattle.std.proofs.lemmas.Bool.Decides.{nat_tests}
 use Rattle.fix_word.specs.declared.types.FixType.{FixType}
 use Rattle.fix_word.specs.declared.types.Mode.{Mode}
@@ -13,9 +12,9 @@ use Rattle.silage_lex.specs.declared.punctuation.TheConstants as punctuation
 use Rattle.silage_tree.specs.declared.tree.Lit.{Lit}
 use Rattle.silage_tree.specs.declared.tree.Lit.TheVariants.{Number}
 use Rattle.silage_tree.specs.Tree.{Manifest}
-use Rattle.silage_tree.specs.Places.{unplaced_lit, unplaced_manifest, unplaced_delay}
-use Rattle.silage_tree.specs.Grammar.{kind_at, from_at, number_of, IsPunctuation, IsNumber, IsSigned, positive, negative, size, mode_of, fix_type, IsFix, no_mode, with_mode, truth_of, IsManifest, Manifest_, IsSubs, no_sub, one_sub, two_subs, IsDelay, no_delay, delay}
-use Rattle.silage_tree.specs.Text.{symbol, word, number, bracketed, lit_text, truth_word, mode_word, fix_text, manifest_text, delay_text}
+use Rattle.silage_tree.specs.Positions.{unpositioned_lit, unpositioned_manifest, unpositioned_delay}
+use Rattle.silage_tree.specs.Grammar.{kind_at, from_at, number_of, IsPunctuation, IsNumber, IsSigned, positive, negative, size, mode_of, fix_type, IsFix, no_mode, with_mode, truth_of, IsManifest, Manifest_, IsSubscripts, no_sub, one_sub, two_subs, IsDelay, no_delay, delay}
+use Rattle.silage_tree.specs.Text.{symbol, word, number, bracketed, lit_text, truth_word, mode_word, fix_text, manifest_text, subscripts_text, delay_text}
 use Rattle.silage_tree.proofs.Numbers.{whole_written, point_has_places}
 use Rattle.silage_tree.proofs.Stands.{Stands, split, moved, IsWritten, AreWritten, no_kind, one_kind, joined, enclosed_written, TokensWritten}
 use Rattle.silage_tree.proofs.ReadManifests.{ReadsManifest, GoodManifest, placed, as_manifest, good_manifest, good_amount}
@@ -57,10 +56,10 @@ truth_written false = refl
 -- a literal with a sign, that its tokens are read as
 pub record GoodSigned (l : Lit) : Type 0 where
   pub written : AreWritten (lit_text l)
-  pub reads : (us : List Token) (i j : ℕ) → Stands us i (lit_text l) j → (m : Lit) × (unplaced_lit m ≡ unplaced_lit l) × IsSigned us i m j
+  pub reads : (us : List Token) (i j : ℕ) → Stands us i (lit_text l) j → (m : Lit) × (unpositioned_lit m ≡ unpositioned_lit l) × IsSigned us i m j
 
-signed_end : (us : List Token) (l : Lit) (i j k : ℕ) → j ≡ k → (m : Lit) × (unplaced_lit m ≡ unplaced_lit l) × IsSigned us i m j → (m : Lit) × (unplaced_lit m ≡ unplaced_lit l) × IsSigned us i m k
-signed_end us l i j k e h = let P : ℕ → Type 0 = λ n. (m : Lit) × (unplaced_lit m ≡ unplaced_lit l) × IsSigned us i m n in subst P e h
+signed_end : (us : List Token) (l : Lit) (i j k : ℕ) → j ≡ k → (m : Lit) × (unpositioned_lit m ≡ unpositioned_lit l) × IsSigned us i m j → (m : Lit) × (unpositioned_lit m ≡ unpositioned_lit l) × IsSigned us i m k
+signed_end us l i j k e h = let P : ℕ → Type 0 = λ n. (m : Lit) × (unpositioned_lit m ≡ unpositioned_lit l) × IsSigned us i m n in subst P e h
 
 pub good_signed : (ts : List Token) → TokensWritten ts → {i j : ℕ} {l : Lit} → IsSigned ts i l j → GoodSigned l
 good_signed ts w (positive {i = i} {d = d} {p = p} e) = record {
@@ -129,13 +128,10 @@ pub data GoodSubs : List Manifest → Type 0 where
   vector : {m : Manifest} → GoodManifest m → GoodSubs (m ∷ [])
   matrix : {m n : Manifest} → GoodManifest m → GoodManifest n → GoodSubs (m ∷ n ∷ [])
 
-abbrev pub subs_text : List Manifest → List TokenKind
-subs_text ms = flat_map (λ m. bracketed (manifest_text m)) ms
-
 bracketed_written : {m : Manifest} → GoodManifest m → AreWritten (bracketed (manifest_text m))
 bracketed_written g = one_kind refl (joined g.written (one_kind refl no_kind))
 
-pub subs_written : {ms : List Manifest} → GoodSubs ms → AreWritten (subs_text ms)
+pub subs_written : {ms : List Manifest} → GoodSubs ms → AreWritten (subscripts_text ms)
 subs_written scalar = no_kind
 subs_written (vector g) = joined (bracketed_written g) no_kind
 subs_written (matrix g h) = joined (bracketed_written g) (joined (bracketed_written h) no_kind)
@@ -160,16 +156,16 @@ pub record ReadsTwo (us : List Token) (m n : Manifest) (i j : ℕ) : Type 0 wher
   pub first : ReadsBracketed us m i middle
   pub second : ReadsBracketed us n (first.end + 1) j
 
-pub read_two : (us : List Token) (m n : Manifest) → GoodManifest m → GoodManifest n → (i j : ℕ) → Stands us i (subs_text (m ∷ n ∷ [])) j → ReadsTwo us m n i j
+pub read_two : (us : List Token) (m n : Manifest) → GoodManifest m → GoodManifest n → (i j : ℕ) → Stands us i (subscripts_text (m ∷ n ∷ [])) j → ReadsTwo us m n i j
 read_two us m n g h i j s =
-    let r = split us (bracketed (manifest_text m)) (subs_text (n ∷ [])) i j s in
+    let r = split us (bracketed (manifest_text m)) (subscripts_text (n ∷ [])) i j s in
     let x = read_bracketed us m g i r.0 r.1 in
-    let P : ℕ → Type 0 = λ l. Stands us l (subs_text (n ∷ [])) j in
+    let P : ℕ → Type 0 = λ l. Stands us l (subscripts_text (n ∷ [])) j in
     let q = split us (bracketed (manifest_text n)) [] (x.end + 1) j (subst P (sym x.ends) r.2) in
     let Q : ℕ → Type 0 = λ l. ReadsBracketed us n (x.end + 1) l in
     record { middle = r.0; first = x; second = subst Q q.2 (read_bracketed us n h (x.end + 1) q.0 q.1) }
 
-pub read_one : (us : List Token) (m : Manifest) → GoodManifest m → (i j : ℕ) → Stands us i (subs_text (m ∷ [])) j → ReadsBracketed us m i j
+pub read_one : (us : List Token) (m : Manifest) → GoodManifest m → (i j : ℕ) → Stands us i (subscripts_text (m ∷ [])) j → ReadsBracketed us m i j
 read_one us m g i j s =
     let r = split us (bracketed (manifest_text m)) [] i j s in
     let Q : ℕ → Type 0 = λ l. ReadsBracketed us m i l in
@@ -177,13 +173,13 @@ read_one us m g i j s =
 
 pub record ReadsSubs (us : List Token) (ms : List Manifest) (i j : ℕ) : Type 0 where
   pub trees : List Manifest
-  pub same : map unplaced_manifest trees ≡ map unplaced_manifest ms
-  pub reads : IsSubs us i trees j
+  pub same : map unpositioned_manifest trees ≡ map unpositioned_manifest ms
+  pub reads : IsSubscripts us i trees j
 
 subs_end : {us : List Token} {ms : List Manifest} {i j k : ℕ} → j ≡ k → ReadsSubs us ms i j → ReadsSubs us ms i k
 subs_end {us} {ms} {i} {j} {k} e h = let P : ℕ → Type 0 = λ l. ReadsSubs us ms i l in subst P e h
 
-pub subs_read : (us : List Token) (ms : List Manifest) → GoodSubs ms → (i j : ℕ) → Stands us i (subs_text ms) j → ReadsSubs us ms i j
+pub subs_read : (us : List Token) (ms : List Manifest) → GoodSubs ms → (i j : ℕ) → Stands us i (subscripts_text ms) j → ReadsSubs us ms i j
 subs_read us ms scalar i j s = subs_end s (record { trees = []; same = refl; reads = no_sub })
 subs_read us ms (vector {m = m} g) i j s =
     let x = read_one us m g i j s in
@@ -196,11 +192,11 @@ subs_read us ms (matrix {m = m} {n = n} g h) i j s =
     let second : IsManifest us Manifest_ (x.end + 2) y.inside.tree y.end = subst P (omega arith) y.inside.reads in
     subs_end y.ends (record {
       trees = x.inside.tree ∷ y.inside.tree ∷ [];
-      same = ap (λ t. t ∷ unplaced_manifest y.inside.tree ∷ []) x.inside.same ∙ ap (λ t. unplaced_manifest m ∷ t ∷ []) y.inside.same;
+      same = ap (λ t. t ∷ unpositioned_manifest y.inside.tree ∷ []) x.inside.same ∙ ap (λ t. unpositioned_manifest m ∷ t ∷ []) y.inside.same;
       reads = two_subs x.opens x.inside.reads x.closes y.opens second y.closes;
     })
 
-pub good_subs : (ts : List Token) → TokensWritten ts → {i j : ℕ} {ms : List Manifest} → IsSubs ts i ms j → GoodSubs ms
+pub good_subs : (ts : List Token) → TokensWritten ts → {i j : ℕ} {ms : List Manifest} → IsSubscripts ts i ms j → GoodSubs ms
 good_subs ts w no_sub = scalar
 good_subs ts w (one_sub a d b) = vector (good_manifest ts w d)
 good_subs ts w (two_subs a d b c e f) = matrix (good_manifest ts w d) (good_manifest ts w e)
@@ -219,7 +215,7 @@ delay_written (earlier g) = one_kind refl (enclosed_written _ g.written)
 
 pub record ReadsDelay (us : List Token) (d : Option Manifest) (i j : ℕ) : Type 0 where
   pub tree : Option Manifest
-  pub same : unplaced_delay tree ≡ unplaced_delay d
+  pub same : unpositioned_delay tree ≡ unpositioned_delay d
   pub reads : IsDelay us i tree j
 
 pub delay_read : (us : List Token) (d : Option Manifest) → GoodDelay d → (i j : ℕ) → Stands us i (delay_text d) j → ReadsDelay us d i j

@@ -13,7 +13,7 @@ use Rattle.silage_tree.specs.declared.tree.Lit.{Lit}
 use Rattle.silage_tree.specs.declared.tree.ConstDef.{ConstDef}
 use Rattle.silage_tree.specs.declared.tree.Decl.{Decl}
 use Rattle.silage_tree.specs.Tree.{Items, Func, Top, table, function, Program}
-use Rattle.silage_tree.specs.Places.{unplaced_lit, unplaced_items, unplaced_decl, unplaced_top, unplaced}
+use Rattle.silage_tree.specs.Positions.{unpositioned_lit, unpositioned_items, unpositioned_decl, unpositioned_top, unpositioned}
 use Rattle.silage_tree.specs.Grammar.{from_at, IsPunctuation, IsKeyword, IsName, IsSigned, IsList, last, more, dim, IsDims, scalar, vector, matrix, IsType, fix, bool, Declared, typed, IsDeclared, declared, IsDecl, decl, Role, IsLocals, no_locals, some_locals, IsResults, one_result, results, IsWords, one_word, words, IsTop, is_table, is_function, IsTops, no_tops, one_top, HasRoles, Derives}
 use Rattle.silage_tree.specs.Limits.{AreWithin}
 use Rattle.silage_tree.specs.Text.{symbol, word, enclosed, listed, several, lit_text, dims_text, fix_text, type_text, decl_text, words_text, local_text, head_text, body_text, items_text, top_text, program_text}
@@ -119,7 +119,7 @@ decl_parts us d g i j s =
     let r = split us (dims_text d.dims) (symbol punctuation.COLON ∷ type_text d.ty) (i + 1) j s.1 in
     record { middle = r.0; named = declared s.0 (dims_read us g.dims (i + 1) r.0 r.1); colon = r.2.0; type = type_read us g.type (r.0 + 1) j r.2.1 }
 
-decl_read : (us : List Token) (d : Decl) → GoodDecl d → (i j : ℕ) → Stands us i (decl_text d) j → ReadsBy Decl unplaced_decl (IsDecl us) d i j
+decl_read : (us : List Token) (d : Decl) → GoodDecl d → (i j : ℕ) → Stands us i (decl_text d) j → ReadsBy Decl unpositioned_decl (IsDecl us) d i j
 decl_read us d g i j s =
     let x = decl_parts us d g i j s in
     record { tree = record { name = d.name; at = from_at us i; dims = d.dims; ty = d.ty }; same = refl; reads = decl x.named x.colon x.type }
@@ -128,8 +128,8 @@ good_decls : (ts : List Token) → TokensWritten ts → {i j : ℕ} {ds : List D
 good_decls ts w (last d) = only (good_decl ts w d)
 good_decls ts w (more d c rest) = also (good_decl ts w d) (good_decls ts w rest)
 
-decls_read : (us : List Token) {ds : List Decl} → Goods Decl GoodDecl ds → (i j : ℕ) → Stands us i (listed decl_text ds) j → ReadsBy (List Decl) (map unplaced_decl) (IsList us Decl (IsDecl us)) ds i j
-decls_read us gs i j s = listed_read Decl GoodDecl decl_text unplaced_decl us (λ d. IsDecl us) (λ ds. IsList us Decl (IsDecl us)) (λ i j x y d. last d) (λ i j k x y xs ys long d c rest. more d c rest) (decl_read us) gs i j s
+decls_read : (us : List Token) {ds : List Decl} → Goods Decl GoodDecl ds → (i j : ℕ) → Stands us i (listed decl_text ds) j → ReadsBy (List Decl) (map unpositioned_decl) (IsList us Decl (IsDecl us)) ds i j
+decls_read us gs i j s = listed_read Decl GoodDecl decl_text unpositioned_decl us (λ d. IsDecl us) (λ ds. IsList us Decl (IsDecl us)) (λ i j x y d. last d) (λ i j k x y xs ys long d c rest. more d c rest) (decl_read us) gs i j s
 
 decls_written : {ds : List Decl} → Goods Decl GoodDecl ds → AreWritten (listed decl_text ds)
 decls_written gs = listed_written Decl GoodDecl decl_text decl_written gs
@@ -151,7 +151,7 @@ locals_written : {ds : List Decl} → GoodLocals ds → AreWritten (flat_map loc
 locals_written no_local = no_kind
 locals_written (one_local {d = d} g gs) = joined (joined (one_kind refl (decl_written d g)) (one_kind refl no_kind)) (locals_written gs)
 
-locals_read : (us : List Token) {ds : List Decl} → GoodLocals ds → (i j : ℕ) → Stands us i (flat_map local_text ds) j → ReadsBy (List Decl) (map unplaced_decl) (IsLocals us) ds i j
+locals_read : (us : List Token) {ds : List Decl} → GoodLocals ds → (i j : ℕ) → Stands us i (flat_map local_text ds) j → ReadsBy (List Decl) (map unpositioned_decl) (IsLocals us) ds i j
 locals_read us no_local i j s = by_end s (record { tree = []; same = refl; reads = no_locals })
 locals_read us (one_local {d = d} {ds = ds} g gs) i j s =
     let r = split us (local_text d) (flat_map local_text ds) i j s in
@@ -161,7 +161,7 @@ locals_read us (one_local {d = d} {ds = ds} g gs) i j s =
     let rest = locals_read us gs (q.0 + 1) j (subst P (sym q.2.1) r.2) in
     record {
       tree = record { name = d.name; at = from_at us (i + 1); dims = d.dims; ty = d.ty } ∷ rest.tree;
-      same = ap (λ z. unplaced_decl d ∷ z) rest.same;
+      same = ap (λ z. unpositioned_decl d ∷ z) rest.same;
       reads = some_locals r.1.0 (last x.named) x.colon x.type q.2.0 rest.reads;
     }
 
@@ -170,18 +170,18 @@ good_results : (ts : List Token) → TokensWritten ts → {i j : ℕ} {ds : List
 good_results ts w (one_result d) = only (good_decl ts w d)
 good_results ts w (results o ds c) = good_decls ts w ds
 
-results_of : (us : List Token) {ds : List Decl} {i j : ℕ} → Grouped Decl GoodDecl decl_text unplaced_decl us (λ d. IsDecl us) (λ ds. IsList us Decl (IsDecl us)) (λ i j x y d. last d) (λ i j k x y xs ys long d c rest. more d c rest) (decl_read us) ds i j
-    → ReadsBy (List Decl) (map unplaced_decl) (IsResults us) ds i j
+results_of : (us : List Token) {ds : List Decl} {i j : ℕ} → Grouped Decl GoodDecl decl_text unpositioned_decl us (λ d. IsDecl us) (λ ds. IsList us Decl (IsDecl us)) (λ i j x y d. last d) (λ i j k x y xs ys long d c rest. more d c rest) (decl_read us) ds i j
+    → ReadsBy (List Decl) (map unpositioned_decl) (IsResults us) ds i j
 results_of us (bare d) = record { tree = d.tree ∷ []; same = ap (λ z. z ∷ []) d.same; reads = one_result d.reads }
 results_of us (inside o ds c) = record { tree = ds.tree; same = ds.same; reads = results o ds.reads c }
 
-results_read : (us : List Token) {ds : List Decl} → Goods Decl GoodDecl ds → (i j : ℕ) → Stands us i (enclosed (several ds) (listed decl_text ds)) j → ReadsBy (List Decl) (map unplaced_decl) (IsResults us) ds i j
+results_read : (us : List Token) {ds : List Decl} → Goods Decl GoodDecl ds → (i j : ℕ) → Stands us i (enclosed (several ds) (listed decl_text ds)) j → ReadsBy (List Decl) (map unpositioned_decl) (IsResults us) ds i j
 results_read us {ds} gs i j s =
-    results_of us (grouped_read Decl GoodDecl decl_text unplaced_decl us (λ d. IsDecl us) (λ ds. IsList us Decl (IsDecl us)) (λ i j x y d. last d) (λ i j k x y xs ys long d c rest. more d c rest) (decl_read us)
+    results_of us (grouped_read Decl GoodDecl decl_text unpositioned_decl us (λ d. IsDecl us) (λ ds. IsList us Decl (IsDecl us)) (λ i j x y d. last d) (λ i j k x y xs ys long d c rest. more d c rest) (decl_read us)
     gs (several ds) (one_of_several ds) i j s)
 
 -- Words.
-word_read : (us : List Token) (l : Lit) → GoodSigned l → (i j : ℕ) → Stands us i (lit_text l) j → ReadsBy Lit unplaced_lit (IsSigned us) l i j
+word_read : (us : List Token) (l : Lit) → GoodSigned l → (i j : ℕ) → Stands us i (lit_text l) j → ReadsBy Lit unpositioned_lit (IsSigned us) l i j
 word_read us l g i j s = let x = g.reads us i j s in record { tree = x.0; same = x.1; reads = x.2 }
 
 good_list : (ts : List Token) → TokensWritten ts → {i j : ℕ} {ls : List Lit} → IsList ts Lit (IsSigned ts) i ls j → Goods Lit GoodSigned ls
@@ -192,23 +192,23 @@ good_words : (ts : List Token) → TokensWritten ts → {i j : ℕ} {ls : List L
 good_words ts w (one_word d) = only (good_signed ts w d)
 good_words ts w (words o ls c) = good_list ts w ls
 
-words_of : (us : List Token) {ls : List Lit} {i j : ℕ} → Grouped Lit GoodSigned lit_text unplaced_lit us (λ l. IsSigned us) (λ ls. IsList us Lit (IsSigned us)) (λ i j x y d. last d) (λ i j k x y xs ys long d c rest. more d c rest) (word_read us) ls i j
-    → ReadsBy (List Lit) (map unplaced_lit) (IsWords us) ls i j
+words_of : (us : List Token) {ls : List Lit} {i j : ℕ} → Grouped Lit GoodSigned lit_text unpositioned_lit us (λ l. IsSigned us) (λ ls. IsList us Lit (IsSigned us)) (λ i j x y d. last d) (λ i j k x y xs ys long d c rest. more d c rest) (word_read us) ls i j
+    → ReadsBy (List Lit) (map unpositioned_lit) (IsWords us) ls i j
 words_of us (bare d) = record { tree = d.tree ∷ []; same = ap (λ z. z ∷ []) d.same; reads = one_word d.reads }
 words_of us (inside o ls c) = record { tree = ls.tree; same = ls.same; reads = words o ls.reads c }
 
 alone : (dims : List ℕ) (ls : List Lit) → 1 ≤ length ls → (nat_lt 0 (length dims) || nat_lt 1 (length ls)) ≡ false → length ls ≡ 1
 alone dims ls some h = grind (arith, nat_tests)
 
-words_read : (us : List Token) (dims : List ℕ) {ls : List Lit} → Goods Lit GoodSigned ls → (i j : ℕ) → Stands us i (words_text dims ls) j → ReadsBy (List Lit) (map unplaced_lit) (IsWords us) ls i j
+words_read : (us : List Token) (dims : List ℕ) {ls : List Lit} → Goods Lit GoodSigned ls → (i j : ℕ) → Stands us i (words_text dims ls) j → ReadsBy (List Lit) (map unpositioned_lit) (IsWords us) ls i j
 words_read us dims {ls} gs i j s =
-    words_of us (grouped_read Lit GoodSigned lit_text unplaced_lit us (λ l. IsSigned us) (λ ls. IsList us Lit (IsSigned us)) (λ i j x y d. last d) (λ i j k x y xs ys long d c rest. more d c rest) (word_read us)
+    words_of us (grouped_read Lit GoodSigned lit_text unpositioned_lit us (λ l. IsSigned us) (λ ls. IsList us Lit (IsSigned us)) (λ i j x y d. last d) (λ i j k x y xs ys long d c rest. more d c rest) (word_read us)
     gs (nat_lt 0 (length dims) || nat_lt 1 (length ls)) (alone dims ls (goods_long gs)) i j s)
 
 -- Tables and functions.
 record GoodTop (t : Top) : Type 0 where
   written : AreWritten (top_text t)
-  reads : (us : List Token) (i j : ℕ) → Stands us i (top_text t) j → ReadsBy Top unplaced_top (Has IsTop us t) t i j
+  reads : (us : List Token) (i j : ℕ) → Stands us i (top_text t) j → ReadsBy Top unpositioned_top (Has IsTop us t) t i j
 
 record GoodTable (c : ConstDef) : Type 0 where
   name : IsWritten (kind.Name c.name)
@@ -244,9 +244,9 @@ record GoodFunc (f : Func) : Type 0 where
 -- what stands in front of a function's body
 record ReadsHead (us : List Token) (f : Func) (i j : ℕ) : Type 0 where
   params : List Decl
-  same_params : map unplaced_decl params ≡ map unplaced_decl f.params
+  same_params : map unpositioned_decl params ≡ map unpositioned_decl f.params
   results : List Decl
-  same_results : map unplaced_decl results ≡ map unplaced_decl f.results
+  same_results : map unpositioned_decl results ≡ map unpositioned_decl f.results
   close : ℕ
   func : IsKeyword us i keyword.FUNC
   name : IsName us (i + 1) f.name
@@ -296,10 +296,10 @@ good_function f g = record {
       let finish : e.0 + 2 ≡ j = omega arith in
       by_end finish (record {
         tree = function (record { name = f.name; at = from_at us (i + 1); params = h.params; results = h.results; locals = ls.tree; items = xs.tree });
-        same = ap (λ z. func_with f.name z (map unplaced_decl h.results) (map unplaced_decl ls.tree) (unplaced_items xs.tree)) h.same_params
-            ∙ ap (λ z. func_with f.name (map unplaced_decl f.params) z (map unplaced_decl ls.tree) (unplaced_items xs.tree)) h.same_results
-            ∙ ap (λ z. func_with f.name (map unplaced_decl f.params) (map unplaced_decl f.results) z (unplaced_items xs.tree)) ls.same
-            ∙ ap (λ z. func_with f.name (map unplaced_decl f.params) (map unplaced_decl f.results) (map unplaced_decl f.locals) z) xs.same;
+        same = ap (λ z. func_with f.name z (map unpositioned_decl h.results) (map unpositioned_decl ls.tree) (unpositioned_items xs.tree)) h.same_params
+            ∙ ap (λ z. func_with f.name (map unpositioned_decl f.params) z (map unpositioned_decl ls.tree) (unpositioned_items xs.tree)) h.same_results
+            ∙ ap (λ z. func_with f.name (map unpositioned_decl f.params) (map unpositioned_decl f.results) z (unpositioned_items xs.tree)) ls.same
+            ∙ ap (λ z. func_with f.name (map unpositioned_decl f.params) (map unpositioned_decl f.results) (map unpositioned_decl f.locals) z) xs.same;
         reads = record {
           roles = _;
           is = is_function h.func h.name h.opens h.reads_params h.closes h.reads_results r.2.0 q.1.0 ls.reads xs.reads.is e.2.0 e.2.1.0;
@@ -316,7 +316,7 @@ good_top ts w (is_function {i = i} {name = name} a n o ps c rs d b ls xs e s) =
 -- Programs.
 record GoodTops (tops : List Top) : Type 0 where
   written : AreWritten (flat_map top_text tops)
-  reads : (us : List Token) (i j : ℕ) → Stands us i (flat_map top_text tops) j → ReadsBy (List Top) (map unplaced_top) (Has IsTops us tops) tops i j
+  reads : (us : List Token) (i j : ℕ) → Stands us i (flat_map top_text tops) j → ReadsBy (List Top) (map unpositioned_top) (Has IsTops us tops) tops i j
 
 more_tops : (t : Top) (rest : List Top) → GoodTop t → GoodTops rest → GoodTops (t ∷ rest)
 more_tops t rest g h = record {
@@ -327,7 +327,7 @@ more_tops t rest g h = record {
       let xs = h.reads us r.0 j r.2 in
       record {
         tree = x.tree ∷ xs.tree;
-        same = ap (λ z. z ∷ map unplaced_top xs.tree) x.same ∙ ap (λ z. unplaced_top t ∷ z) xs.same;
+        same = ap (λ z. z ∷ map unpositioned_top xs.tree) x.same ∙ ap (λ z. unpositioned_top t ∷ z) xs.same;
         reads = record { roles = _; is = one_top x.reads.is xs.reads.is; light = light_tops x.reads.light xs.reads.light };
       };
 }
@@ -339,7 +339,7 @@ good_tops ts w (one_top t rest) = more_tops _ _ (good_top ts w t) (good_tops ts 
 -- a program that is this one up to places, and no token of which passes a limit where those of this one pass none
 pub record ReadsProgram (us : List Token) (p : Program) : Type 0 where
   pub tree : Program
-  pub same : unplaced tree ≡ unplaced p
+  pub same : unpositioned tree ≡ unpositioned p
   pub roles : List Role
   pub is : HasRoles us tree roles
   pub within : (ts : List Token) (old : List Role) → HasRoles ts p old → AreWithin old → AreWithin roles

@@ -5,7 +5,7 @@ use Rattle.silage_tree.specs.declared.tree.Lit.{Lit}
 use Rattle.fix_word.specs.declared.types.FixType.{FixType}
 use Rattle.silage_tree.specs.Tree.{Manifest, Place, Expr, Item, Items}
 use Rattle.silage_tree.specs.Grammar as g
-use Rattle.silage_tree.specs.Grammar.{IsSigned, IsManifest, IsFix, IsSubs, IsDelay, IsExpr, IsTargetSubs, IsTarget, IsTargets, IsArgs, IsInitialValue, IsItem, IsItems, Role, ManifestRule, ExprRule}
+use Rattle.silage_tree.specs.Grammar.{IsSigned, IsManifest, IsFix, IsSubscripts, IsDelay, IsExpr, IsTargetSubscripts, IsTarget, IsTargets, IsArguments, IsInitialValue, IsItem, IsItems, Role, ManifestRule, ExprRule}
 
 module _ (ts : List Token) where
   pub manifest_rises : (r : ManifestRule) (i : ℕ) (m : Manifest) (j : ℕ) → IsManifest ts r i m j → i ≤ j
@@ -25,7 +25,7 @@ module _ (ts : List Token) where
   fix_rises i f j (g.no_mode a b c d e h) = omega arith
   fix_rises i f j (g.with_mode a b c d e h k l) = omega arith
 
-  subs_rise : (i : ℕ) (ms : List Manifest) (j : ℕ) → IsSubs ts i ms j → i ≤ j
+  subs_rise : (i : ℕ) (ms : List Manifest) (j : ℕ) → IsSubscripts ts i ms j → i ≤ j
   subs_rise i ms j g.no_sub = omega arith
   subs_rise i ms j (g.one_sub a b c) = omega (arith, manifest_rises _ _ _ _ b)
   subs_rise i ms j (g.two_subs a b c d e h) = omega (arith, manifest_rises _ _ _ _ b, manifest_rises _ _ _ _ e)
@@ -56,7 +56,7 @@ module _ (ts : List Token) where
   expr_rises r i e j (g.one_arm o a b c d) = omega (arith, expr_rises _ _ _ _ a, expr_rises _ _ _ _ c, expr_rises _ _ _ _ d)
   expr_rises r i e j (g.last_arm o a c) = omega (arith, expr_rises _ _ _ _ a)
 
-  target_subs_rise : (i : ℕ) (ms : List Manifest) (rs : List Role) (j : ℕ) → IsTargetSubs ts i ms rs j → i ≤ j
+  target_subs_rise : (i : ℕ) (ms : List Manifest) (rs : List Role) (j : ℕ) → IsTargetSubscripts ts i ms rs j → i ≤ j
   target_subs_rise i ms rs j g.no_target_sub = omega arith
   target_subs_rise i ms rs j (g.one_target_sub a b c) = omega (arith, manifest_rises _ _ _ _ b)
   target_subs_rise i ms rs j (g.two_target_subs a b c d e h) = omega (arith, manifest_rises _ _ _ _ b, manifest_rises _ _ _ _ e)
@@ -68,7 +68,7 @@ module _ (ts : List Token) where
   targets_rise i ps rs j (g.last_target a) = target_rises _ _ _ _ a
   targets_rise i ps rs j (g.more_targets a c b) = omega (arith, target_rises _ _ _ _ a, targets_rise _ _ _ _ b)
 
-  pub args_rise : (i : ℕ) (es : List Expr) (rs : List Role) (j : ℕ) → IsArgs ts i es rs j → i ≤ j
+  pub args_rise : (i : ℕ) (es : List Expr) (rs : List Role) (j : ℕ) → IsArguments ts i es rs j → i ≤ j
   args_rise i es rs j (g.last_arg a) = expr_rises _ _ _ _ a
   args_rise i es rs j (g.more_args a c b) = omega (arith, expr_rises _ _ _ _ a, args_rise _ _ _ _ b)
 

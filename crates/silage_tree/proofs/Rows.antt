@@ -10,7 +10,8 @@ use Rattle.silage_tree.specs.declared.tree.Expr.{Expr as RustExpr, Choose, Choos
 use Rattle.silage_tree.specs.declared.tree.Manifest.{Manifest as RustManifest}
 use Rattle.silage_tree.specs.declared.tree.Item.{Item as RustItem, Loop, Loop', Row_of-Item, end_of-Item, more_of-Item, items-the_row-Item, items_hidden-the_row-Item-0}
 use Rattle.silage_tree.specs.Tree.{Branches, no_branch, branch, choose, loop, item, items_of, view_expr, view_branches, view_manifest, view_item, view_row, view_items}
-use Rattle.silage_tree.specs.Text.{symbol, word, expr_text, branches_text, arm_text, clause_text, items_text, turns_text}
+use Rattle.silage_tree.specs.Text.{symbol, word, expr_text, branches_text, clause_text, items_text, turns_text}
+use Rattle.silage_tree.specs.Private.Puts.{arm_text}
 
 abbrev pub arms_of : List (RustExpr × RustExpr) → Branches
 arms_of [] = no_branch
@@ -30,14 +31,14 @@ view_Choose at v b =
     let same = items_hidden-the_row-Expr-Choose-1-2-0 v in
     ap (λ bs. choose at bs (view_expr b.value)) (row_arms row.0 row.1 ∙ ap arms_of same)
 
-arms_spelled : (xs : List (RustExpr × RustExpr)) → branches_text (arms_of xs) ≡ flat_map (λ arm. arm_text (view_expr arm.0) (view_expr arm.1)) xs
+arms_spelled : (xs : List (RustExpr × RustExpr)) → branches_text (arms_of xs) ≡ flat_map arm_text xs
 arms_spelled [] = refl
 arms_spelled (x ∷ xs) =
     let front = expr_text (view_expr x.0) ++ symbol punctuation.ARROW ∷ expr_text (view_expr x.1) in
-    ap (λ ks. front ++ symbol punctuation.PIPE_PIPE ∷ ks) (arms_spelled xs) ∙ sym (append_assoc front (symbol punctuation.PIPE_PIPE ∷ []) (flat_map (λ arm. arm_text (view_expr arm.0) (view_expr arm.1)) xs))
+    ap (λ ks. front ++ symbol punctuation.PIPE_PIPE ∷ ks) (arms_spelled xs) ∙ sym (append_assoc front (symbol punctuation.PIPE_PIPE ∷ []) (flat_map arm_text xs))
 
 pub choice_spelled : (at : ℕ) (v : Vec (RustExpr × RustExpr) Global) (b : Box RustExpr Global)
-    → expr_text (view_expr (Choose at v b)) ≡ word keyword.IF ∷ flat_map (λ arm. arm_text (view_expr arm.0) (view_expr arm.1)) v.items ++ expr_text (view_expr b.value) ++ word keyword.FI ∷ []
+    → expr_text (view_expr (Choose at v b)) ≡ word keyword.IF ∷ flat_map arm_text v.items ++ expr_text (view_expr b.value) ++ word keyword.FI ∷ []
 choice_spelled at v b =
     ap expr_text (view_Choose at v b) ∙ ap (λ ks. word keyword.IF ∷ ks ++ expr_text (view_expr b.value) ++ word keyword.FI ∷ []) (arms_spelled v.items)
 

@@ -8,7 +8,8 @@ use mathlib.Core.List.{append_assoc}
 use Rattle.silage_lex.specs.Texts.{symbols}
 use Rattle.silage_lex.specs.declared.TokenKind.{TokenKind}
 use Rattle.silage_lex.specs.declared.TokenKind.TheVariants as kind
-use Rattle.silage_tree.specs.Text.{spaced, spelled, Puts, opened, closed, sign_text, number, listed, behind_comma, filled, pointed}
+use Rattle.silage_tree.specs.Text.{spaced, spelled, opened, closed, sign_text, number, listed, behind_comma, filled, pointed}
+use Rattle.silage_tree.specs.Private.Puts.{Puts}
 
 pub text_at : {A : Type 0} (xs : List A) (n : ℕ) (x d : A) → slice_get xs n ≡ Some x → get_or xs n d ≡ x
 text_at [] n x d e = cc

@@ -13,10 +13,9 @@ use Rattle.silage_lex.specs.declared.keywords.TheConstants as keyword
 use Rattle.silage_tree.specs.declared.tree.Lit.{Lit}
 use Rattle.silage_tree.specs.declared.tree.Decl.{Decl}
 use Rattle.silage_tree.specs.Tree.{Manifest, Place, Expr, Item, Items, Top}
-use Rattle.silage_tree.specs.Grammar.{IsSigned, positive, negative, IsList, last, more, IsDims, scalar, vector, matrix, IsFix, no_mode, with_mode, IsType, fix, bool, Declared, IsDeclared, declared, IsDecl, decl, Role, IsTargetSubs, no_target_sub, one_target_sub, two_target_subs, IsTarget, target, IsTargets, last_target, more_targets, IsArgs, last_arg, more_args, IsInitialValue, signed, truth_value, IsItem, is_equation, is_call, is_calls, is_loop, is_initial, IsItems, no_items, one_item, one_sub, two_subs, kind_at, IsLocals, no_locals, some_locals, IsResults, one_result, results, IsWords, one_word, words, IsTop, is_table, is_function}
-use Rattle.silage_tree.specs.Text.{symbol, word, enclosed, listed, behind_comma, lit_text, dims_text, fix_text, type_text, decl_text, manifest_text, amount_text, place_text, expr_text, several, call_text, turns_text, clause_text, items_text, words_text, local_text, body_text, top_text}
+use Rattle.silage_tree.specs.Grammar.{IsSigned, positive, negative, IsList, last, more, IsDims, scalar, vector, matrix, IsFix, no_mode, with_mode, IsType, fix, bool, Declared, IsDeclared, declared, IsDecl, decl, Role, IsTargetSubscripts, no_target_sub, one_target_sub, two_target_subs, IsTarget, target, IsTargets, last_target, more_targets, IsArguments, last_arg, more_args, IsInitialValue, signed, truth_value, IsItem, is_equation, is_call, is_calls, is_loop, is_initial, IsItems, no_items, one_item, one_sub, two_subs, kind_at, IsLocals, no_locals, some_locals, IsResults, one_result, results, IsWords, one_word, words, IsTop, is_table, is_function}
+use Rattle.silage_tree.specs.Text.{symbol, word, subscripts_text, enclosed, listed, behind_comma, lit_text, dims_text, fix_text, type_text, decl_text, manifest_text, amount_text, place_text, expr_text, several, call_text, turns_text, clause_text, items_text, words_text, local_text, body_text, top_text}
 use Rattle.silage_tree.specs.Parentheses.{HasOneWord}
-use Rattle.silage_tree.proofs.ReadParts.{subs_text}
 use Rattle.silage_tree.proofs.Weights as of
 use Rattle.silage_tree.proofs.Weights.{IsFree}
 
@@ -183,7 +182,7 @@ module _ (count : TokenKind → ℕ) (quiet : IsQuiet count) where
       omega (arith, a, b, e, f)
 
   -- Places on the left, arguments.
-  target_subs_total : {ts : List Token} {i j : ℕ} {ms : List Manifest} {rs : List Role} → IsTargetSubs ts i ms rs j → total (subs_text ms) + before ts i ≤ before ts j
+  target_subs_total : {ts : List Token} {i j : ℕ} {ms : List Manifest} {rs : List Role} → IsTargetSubscripts ts i ms rs j → total (subscripts_text ms) + before ts i ≤ before ts j
   target_subs_total no_target_sub = omega arith
   target_subs_total (one_target_sub a d b) = of.subs_total count quiet.free (one_sub a d b)
   target_subs_total (two_target_subs a d b c e f) = of.subs_total count quiet.free (two_subs a d b c e f)
@@ -206,7 +205,7 @@ module _ (count : TokenKind → ℕ) (quiet : IsQuiet count) where
       let f = targets_total rest in
       omega (arith, a, b, e, f)
 
-  args_total : {ts : List Token} {i j : ℕ} {es : List Expr} {rs : List Role} → IsArgs ts i es rs j → total (listed expr_text es) + before ts i ≤ before ts j
+  args_total : {ts : List Token} {i j : ℕ} {es : List Expr} {rs : List Role} → IsArguments ts i es rs j → total (listed expr_text es) + before ts i ≤ before ts j
   args_total (last_arg {e = e} d) =
       let a = listed_more expr_text e [] in
       let b = of.expr_total count quiet.free d in

@@ -14,7 +14,7 @@ use Rattle.silage_tree.specs.declared.tree.Lit.{Lit}
 use Rattle.silage_tree.specs.declared.tree.Lit.TheVariants.{Number, Truth}
 use Rattle.silage_tree.specs.Tree.{Manifest, Place, Expr, literal, read, negate, not, binary, shift, cast, choose, Branches, no_branch, branch, Program}
 use Rattle.silage_tree.specs.Manifests.{Indices, HasValue, LooksBack, no_delay, delay}
-use Rattle.silage_tree.specs.Names.{IsPlace}
+use Rattle.silage_tree.specs.Names.{IsOffset}
 use Rattle.silage_tree.specs.Instances.{Instance, element, Site}
 use Rattle.silage_tree.specs.Types.{IsRawWord, own_type}
 use Rattle.silage_tree.specs.Value.{Words, Part, IsWrapped, IsShifted, IsConverted, IsEntry, IsProduct, IsComparison, IsCast, IsRead, signal, number, IsValue, IsChosen}
@@ -37,7 +37,7 @@ manifest_once indices m a b x y =
     let e : pos a ≡ pos b = some_once (sym x ∙ y) in
     cc
 
-pub place_once : (indices : Indices) (dims : List ℕ) (subs : List Manifest) (k l : ℕ) → IsPlace indices dims subs k → IsPlace indices dims subs l → k ≡ l
+pub place_once : (indices : Indices) (dims : List ℕ) (subs : List Manifest) (k l : ℕ) → IsOffset indices dims subs k → IsOffset indices dims subs l → k ≡ l
 place_once indices [] [] k l x y = x ∙ sym y
 place_once indices [] (s ∷ subs) k l x y = absurd x
 place_once indices (d ∷ dims) [] k l x y = absurd x
@@ -108,14 +108,14 @@ module _ (p : Program) (s : Site) (words : Words) (n : ℕ) where
       let same : (i, decl) ≡ (j, decl') = some_once (sym is.named ∙ is'.named) in
       let same_number : i ≡ j = ap (λ (x : ℕ × Decl). x.0) same in
       let same_decl : decl ≡ decl' = ap (λ (x : ℕ × Decl). x.1) same in
-      let same_place : k ≡ l = place_once s.indices decl'.dims place.subs k l (subst (λ (x : Decl). IsPlace s.indices x.dims place.subs k) same_decl is.placed) is'.placed in
+      let same_place : k ≡ l = place_once s.indices decl'.dims place.subs k l (subst (λ (x : Decl). IsOffset s.indices x.dims place.subs k) same_decl is.placed) is'.placed in
       let same_ago : ago ≡ ago' = looks_back_once s.indices d ago ago' back back' in
       e ∙ same_read words s.instance i j k l n ago ago' same_number same_place same_ago ∙ sym e'
   read_once place d ty v w (signal i k ago decl is _ _ e) (number l c none _ _ _ _) = absurd (neither none is.named)
   read_once place d ty v w (number l c none _ _ _ _) (signal i k ago decl is _ _ e) = absurd (neither none is.named)
   read_once place d ty v w (number k c _ named placed _ entry) (number l c' _ named' placed' _ entry') =
       let same : c ≡ c' = some_once (sym named ∙ named') in
-      let same_place : k ≡ l = place_once s.indices c'.dims place.subs k l (subst (λ (x : ConstDef). IsPlace s.indices x.dims place.subs k) same placed) placed' in
+      let same_place : k ≡ l = place_once s.indices c'.dims place.subs k l (subst (λ (x : ConstDef). IsOffset s.indices x.dims place.subs k) same placed) placed' in
       entry_once c' l ty v w (subst (λ z. IsEntry c' z ty v) same_place (subst (λ (x : ConstDef). IsEntry x k ty v) same entry)) entry'
 
   mutual

@@ -17,9 +17,8 @@ use Rattle.silage_tree.specs.declared.tree.MOp.{MOp}
 use Rattle.silage_tree.specs.declared.tree.MOp.TheVariants as mop
 use Rattle.silage_tree.specs.declared.tree.Lit.TheVariants.{Number, Truth}
 use Rattle.silage_tree.specs.Tree.{Manifest, both, Expr, literal, read, negate, not, binary, shift, cast, choose, Branches, branch}
-use Rattle.silage_tree.specs.Grammar.{kind_at, from_at, number_of, row, marked, size, IsFix, no_mode, with_mode, Or, And, Sum, Product, ExprRule, Chain, Rest, Shifts, Unary, Arms, operator, comparison, shift_operator, IsExpr, chain, no_more, one_more, no_comparison, comparison_of, shifts, no_shift, one_shift, negative_number, negated, denied, primary, number as number_, truth, place, cast_of, paren, choice, one_arm, last_arm, ManifestRule, Manifest_, Terms, Term, Factors, Factor, Primary_, term_operator, IsManifest, terms, no_term, one_term, factors, no_factor, one_factor, minus_factor, primary_factor, whole_primary, name_primary, paren_primary, IsSubs, no_sub, one_sub, two_subs, IsDelay, no_delay, delay}
-use Rattle.silage_tree.specs.Text.{symbol, word, number, truth_word, enclosed, bracketed, manifest_level, term_mark, manifest_text, amount_text, delay_text, fix_text, mode_word, operator_mark, operator_level, left_level, right_level, expr_level, is_unsigned, is_loose_operand, shift_mark, expr_text, branches_text}
-use Rattle.silage_tree.proofs.ReadParts.{subs_text}
+use Rattle.silage_tree.specs.Grammar.{kind_at, from_at, number_of, row, marked, size, IsFix, no_mode, with_mode, Or, And, Sum, Product, ExprRule, Chain, Rest, Shifts, Unary, Arms, operator, comparison, shift_operator, IsExpr, chain, no_more, one_more, no_comparison, comparison_of, shifts, no_shift, one_shift, negative_number, negated, denied, primary, number as number_, truth, place, cast_of, paren, choice, one_arm, last_arm, ManifestRule, Manifest_, Terms, Term, Factors, Factor, Primary_, term_operator, IsManifest, terms, no_term, one_term, factors, no_factor, one_factor, minus_factor, primary_factor, whole_primary, name_primary, paren_primary, IsSubscripts, no_sub, one_sub, two_subs, IsDelay, no_delay, delay}
+use Rattle.silage_tree.specs.Text.{symbol, word, subscripts_text, number, truth_word, enclosed, bracketed, manifest_precedence, term_mark, manifest_text, amount_text, delay_text, fix_text, mode_word, operator_mark, operator_precedence, left_precedence, right_precedence, expr_precedence, is_unsigned, is_loose_operand, shift_mark, expr_text, branches_text}
 use Rattle.silage_tree.proofs.Levels.{chain_level, rule_level}
 
 -- Tables of symbols.
@@ -61,9 +60,9 @@ term_marked k o e = marked_has term_mark IsTermOp ((punctuation.PLUS, mop.Add) �
 
 -- an operator with the levels of its own text and of its sides
 record HasLevels (n l r : ℕ) (o : BinOp) : Type 0 where
-  own : operator_level o ≡ n
-  left : left_level o ≡ l
-  right : right_level o ≡ r
+  own : operator_precedence o ≡ n
+  left : left_precedence o ≡ l
+  right : right_precedence o ≡ r
 
 abbrev MarkedOp : ℕ → ℕ → ℕ → Option TokenKind → BinOp → Type 0
 MarkedOp n l r k o = Marked operator_mark (HasLevels n l r) k o
@@ -82,7 +81,7 @@ sum_marked k o e =
 product_marked : (k : Option TokenKind) (o : BinOp) → operator Product k ≡ Some o → MarkedOp 4 4 5 k o
 product_marked k o e = marked_has operator_mark (HasLevels 4 4 5) ((punctuation.STAR, op.Mul) ∷ []) ((refl, record { own = refl; left = refl; right = refl }), tt) k o e
 
-compared : (o : BinOp) → operator_level o ≡ 2 → left_level o ≡ 3 → right_level o ≡ 3 → HasLevels 2 3 3 o
+compared : (o : BinOp) → operator_precedence o ≡ 2 → left_precedence o ≡ 3 → right_precedence o ≡ 3 → HasLevels 2 3 3 o
 compared o a b c = record { own = a; left = b; right = c }
 
 comparison_marked : (k : Option TokenKind) (o : BinOp) → comparison k ≡ Some o → MarkedOp 2 3 3 k o
@@ -176,18 +175,18 @@ module _ (count : TokenKind → ℕ) where
 
   -- Manifest numbers: what a number's text counts at a place of this level.
   abbrev placed_manifest : ℕ → Manifest → ℕ
-  placed_manifest n m = extra (nat_lt (manifest_level m) n) + total (manifest_text m)
+  placed_manifest n m = extra (nat_lt (manifest_precedence m) n) + total (manifest_text m)
 
   manifest_rises : (m : Manifest) (k n : ℕ) → k ≤ n → placed_manifest k m ≤ placed_manifest n m
-  manifest_rises m k n le = let e = extra_rises (manifest_level m) k n le in omega arith
+  manifest_rises m k n le = let e = extra_rises (manifest_precedence m) k n le in omega arith
 
   both_total : (at : ℕ) (a b : Manifest) (o : MOp) (l r : ℕ) (k : TokenKind)
-      → manifest_text (both at o a b) ≡ enclosed (nat_lt (manifest_level a) l) (manifest_text a) ++ k ∷ enclosed (nat_lt (manifest_level b) r) (manifest_text b)
+      → manifest_text (both at o a b) ≡ enclosed (nat_lt (manifest_precedence a) l) (manifest_text a) ++ k ∷ enclosed (nat_lt (manifest_precedence b) r) (manifest_text b)
       → total (manifest_text (both at o a b)) ≡ placed_manifest l a + (count k + placed_manifest r b)
   both_total at a b o l r k e =
-      let x = total_enclosed (nat_lt (manifest_level a) l) (manifest_text a) in
-      let y = total_enclosed (nat_lt (manifest_level b) r) (manifest_text b) in
-      let z = total_join (enclosed (nat_lt (manifest_level a) l) (manifest_text a)) (k ∷ enclosed (nat_lt (manifest_level b) r) (manifest_text b)) in
+      let x = total_enclosed (nat_lt (manifest_precedence a) l) (manifest_text a) in
+      let y = total_enclosed (nat_lt (manifest_precedence b) r) (manifest_text b) in
+      let z = total_join (enclosed (nat_lt (manifest_precedence a) l) (manifest_text a)) (k ∷ enclosed (nat_lt (manifest_precedence b) r) (manifest_text b)) in
       let f = ap total e in
       omega (arith, x, y, z, f)
 
@@ -197,19 +196,19 @@ module _ (count : TokenKind → ℕ) where
 
   -- Expressions: what an expression's text counts at a place of this level.
   abbrev placed : ℕ → Expr → ℕ
-  placed n e = extra (nat_lt (expr_level e) n) + total (expr_text e)
+  placed n e = extra (nat_lt (expr_precedence e) n) + total (expr_text e)
 
   placed_rises : (e : Expr) (k n : ℕ) → k ≤ n → placed k e ≤ placed n e
-  placed_rises e k n le = let x = extra_rises (expr_level e) k n le in omega (arith, x)
+  placed_rises e k n le = let x = extra_rises (expr_precedence e) k n le in omega (arith, x)
 
   binary_placed : {n l r : ℕ} {o : BinOp} (at : ℕ) (a b : Expr) → HasLevels n l r o → placed n (binary at o a b) ≡ placed l a + (count (symbol (operator_mark o)) + placed r b)
   binary_placed {n} {l} {r} {o} at a b h =
-      let x = total_enclosed (nat_lt (expr_level a) (left_level o)) (expr_text a) in
-      let y = total_enclosed (nat_lt (expr_level b) (right_level o)) (expr_text b) in
-      let z = total_join (enclosed (nat_lt (expr_level a) (left_level o)) (expr_text a)) (symbol (operator_mark o) ∷ enclosed (nat_lt (expr_level b) (right_level o)) (expr_text b)) in
-      let own : extra (nat_lt (operator_level o) n) ≡ 0 = ap (λ k. extra (nat_lt k n)) h.own ∙ no_extra n in
-      let left = ap (λ k. extra (nat_lt (expr_level a) k)) h.left in
-      let right = ap (λ k. extra (nat_lt (expr_level b) k)) h.right in
+      let x = total_enclosed (nat_lt (expr_precedence a) (left_precedence o)) (expr_text a) in
+      let y = total_enclosed (nat_lt (expr_precedence b) (right_precedence o)) (expr_text b) in
+      let z = total_join (enclosed (nat_lt (expr_precedence a) (left_precedence o)) (expr_text a)) (symbol (operator_mark o) ∷ enclosed (nat_lt (expr_precedence b) (right_precedence o)) (expr_text b)) in
+      let own : extra (nat_lt (operator_precedence o) n) ≡ 0 = ap (λ k. extra (nat_lt k n)) h.own ∙ no_extra n in
+      let left = ap (λ k. extra (nat_lt (expr_precedence a) k)) h.left in
+      let right = ap (λ k. extra (nat_lt (expr_precedence b) k)) h.right in
       omega (arith, x, y, z, own, left, right)
 
   -- one more operator with its right side
@@ -294,7 +293,7 @@ module _ (count : TokenKind → ℕ) where
     manifest_bound {ts} (minus_factor {i = i} {m = m} e d) =
         let c = counts ts i e in
         let x = manifest_bound d in
-        let t = total_enclosed (nat_lt (manifest_level m) 6) (manifest_text m) in
+        let t = total_enclosed (nat_lt (manifest_precedence m) 6) (manifest_text m) in
         omega (arith, c, x, t)
     manifest_bound (primary_factor {m = m} d) =
         let x = manifest_bound d in
@@ -306,7 +305,7 @@ module _ (count : TokenKind → ℕ) where
         let c = counts ts i o in
         let e = counts ts j f in
         let x = manifest_bound d in
-        let s = extra_most (nat_lt (manifest_level m) 7) in
+        let s = extra_most (nat_lt (manifest_precedence m) 7) in
         omega (arith, c, e, x, s)
 
     pub manifest_total : {ts : List Token} {i j : ℕ} {m : Manifest} → IsManifest ts Manifest_ i m j → total (manifest_text m) + before ts i ≤ before ts j
@@ -315,11 +314,11 @@ module _ (count : TokenKind → ℕ) where
     pub amount_total : {ts : List Token} {i j : ℕ} {m : Manifest} → IsManifest ts Primary_ i m j → total (amount_text m) + before ts i ≤ before ts j
     amount_total {m = m} d =
         let x = manifest_bound d in
-        let t = total_enclosed (nat_lt (manifest_level m) 7) (manifest_text m) in
+        let t = total_enclosed (nat_lt (manifest_precedence m) 7) (manifest_text m) in
         omega (arith, x, t)
 
     -- Subscripts, delays, types.
-    pub subs_total : {ts : List Token} {i j : ℕ} {ms : List Manifest} → IsSubs ts i ms j → total (subs_text ms) + before ts i ≤ before ts j
+    pub subs_total : {ts : List Token} {i j : ℕ} {ms : List Manifest} → IsSubscripts ts i ms j → total (subscripts_text ms) + before ts i ≤ before ts j
     subs_total no_sub = omega arith
     subs_total {ts} (one_sub {i = i} {j = j} {m = m} a d b) =
         let x = counts ts i a in
@@ -334,7 +333,7 @@ module _ (count : TokenKind → ℕ) where
         let u = counts_at ts (j + 1) (j + 2) (omega arith) c in
         let v = manifest_total e in
         let w = counts ts k f in
-        let s = bracketed_total m (subs_text (n ∷ [])) in
+        let s = bracketed_total m (subscripts_text (n ∷ [])) in
         let t = bracketed_total n [] in
         omega (arith, x, y, z, u, v, w, s, t)
 
@@ -397,7 +396,7 @@ module _ (count : TokenKind → ℕ) where
         let s = extra_most (is_loose_operand e) in
         omega (arith, f, o, s)
     operand_by ts false e i j u x alone =
-        let same : extra (is_loose_operand e) ≡ extra (nat_lt (expr_level e) 6) = ap (λ t. extra (nat_lt (expr_level e) 6 || t)) u ∙ ap extra (or_false (nat_lt (expr_level e) 6)) in
+        let same : extra (is_loose_operand e) ≡ extra (nat_lt (expr_precedence e) 6) = ap (λ t. extra (nat_lt (expr_precedence e) 6 || t)) u ∙ ap extra (or_false (nat_lt (expr_precedence e) 6)) in
         omega (arith, same, x)
 
     mutual
@@ -442,8 +441,8 @@ module _ (count : TokenKind → ℕ) where
           let c = counts ts i k.is in
           let x = amount_total d in
           let y = expr_bound rest in
-          let s = total_join (enclosed (nat_lt (expr_level a) 5) (expr_text a)) (symbol (shift_mark left) ∷ amount_text m) in
-          let t = total_enclosed (nat_lt (expr_level a) 5) (expr_text a) in
+          let s = total_join (enclosed (nat_lt (expr_precedence a) 5) (expr_text a)) (symbol (shift_mark left) ∷ amount_text m) in
+          let t = total_enclosed (nat_lt (expr_precedence a) 5) (expr_text a) in
           omega (arith, c, x, y, s, t)
       expr_bound {ts} (negative_number {i = i} {d = d} {p = p} m n) =
           let c = counts ts i m in
@@ -458,7 +457,7 @@ module _ (count : TokenKind → ℕ) where
       expr_bound {ts} (denied {i = i} {e = e} m d) =
           let c = counts ts i m in
           let x = expr_bound d in
-          let t = total_enclosed (nat_lt (expr_level e) 6) (expr_text e) in
+          let t = total_enclosed (nat_lt (expr_precedence e) 6) (expr_text e) in
           omega (arith, c, x, t)
       expr_bound (primary {e = e} d) = let x = expr_bound d in let r = placed_rises e 6 7 (omega arith) in omega (arith, x, r)
       expr_bound {ts} (number_ {i = i} {d = d} {p = p} n) = let r = rises ts i (i + 1) refl in let w = number_free d p in omega (arith, r, w)
@@ -467,7 +466,7 @@ module _ (count : TokenKind → ℕ) where
           let c = counts ts i n in
           let y = subs_total s in
           let z = delay_total x in
-          let t = total_join (subs_text subs) (delay_text d) in
+          let t = total_join (subscripts_text subs) (delay_text d) in
           omega (arith, c, y, z, t)
       expr_bound {ts} (cast_of {j = j} {k = k} {f = f} {e = e} ty o d c) =
           let w = fix_total ty in
@@ -481,7 +480,7 @@ module _ (count : TokenKind → ℕ) where
           let x = counts ts i o in
           let y = expr_bound d in
           let z = counts ts j c in
-          let s = extra_most (nat_lt (expr_level e) 7) in
+          let s = extra_most (nat_lt (expr_precedence e) 7) in
           omega (arith, x, y, z, s)
       expr_bound {ts} (choice {i = i} {j = j} {c = c} {v = v} {e = last} {bs = bs} f d a g rest) =
           let w = counts ts i f in

@@ -5,9 +5,9 @@ use Rattle.silage_tree.specs.declared.tree.ConstDef.{ConstDef}
 use Rattle.silage_tree.specs.declared.tree.Decl.{Decl}
 use Rattle.silage_tree.specs.Tree.{Manifest, Place, Expr, Item, call, loop, Items, no_item, item, Func, Program}
 use Rattle.silage_tree.specs.Manifests.{Indices, manifest_value}
-use Rattle.silage_tree.specs.Names.{decls, declared, function_named, table_named, element_count, IsPlace}
+use Rattle.silage_tree.specs.Names.{decls, declared, function_named, table_named, element_count, IsOffset}
 
--- a call, by its `at`, in a turn of each loop round it, outermost first
+-- a call, by its position, in a turn of each loop around it, outermost first
 pub record Step : Type 0 where
   pub at : ℕ
   pub turns : List ℤ
@@ -17,14 +17,14 @@ pub data Instance : Type 0 where
   main : Instance
   inside : Instance → Step → Instance
 
--- one signal of an instance: its declaration's position among the parameters, results and locals, and its row-major place
+-- one signal of an instance: its declaration's index among the parameters, results and locals, and its row-major offset
 pub record Element : Type 0 where
   pub instance : Instance
   pub declaration : ℕ
-  pub place : ℕ
+  pub offset : ℕ
 
 abbrev pub element : Instance → ℕ → ℕ → Element
-element i d k = record { instance = i; declaration = d; place = k }
+element i d k = record { instance = i; declaration = d; offset = k }
 
 -- a loop from lo to hi has this turn, both included
 pub record IsTurn (indices : Indices) (lo hi : Manifest) (turn : ℤ) : Type 0 where
@@ -35,15 +35,16 @@ pub record IsTurn (indices : Indices) (lo hi : Manifest) (turn : ℤ) : Type 0 w
   pub begun : first ≤ℤ turn
   pub ended : turn ≤ℤ last
 
--- Equation, call or initial value x stands among the items, or in a turn of a loop there; `indices` are those of the
--- loops round it, and `outer` those of the loops round the items.
+-- Equation, call or initial value x is one of the items, or is in a turn of a loop there; `indices` are those of the
+-- loops around it, and `outer` those of the loops around the items.
 abbrev mutual
   pub Occurs : Items → (outer : Indices) → Item → Indices → Type 0
   Occurs no_item outer x indices = ⊥
   Occurs (item y rest) outer x indices = OccursIn y outer x indices ⊎ Occurs rest outer x indices
 
   pub OccursIn : Item → (outer : Indices) → Item → Indices → Type 0
-  OccursIn (loop index lo hi items at) outer x indices = (turn : ℤ) × IsTurn outer lo hi turn × Occurs items (outer ++ (index, turn) ∷ []) x indices
+  OccursIn (loop index lo hi items at) outer x indices =
+      (turn : ℤ) × IsTurn outer lo hi turn × Occurs items (outer ++ (index, turn) ∷ []) x indices
   OccursIn y outer x indices = (x ≡ y) × (indices ≡ outer)
 
 abbrev pub turns_of : Indices → List ℤ
@@ -64,32 +65,42 @@ pub record Calls (p : Program) (g : Func) (step : Step) (f : Func) : Type 0 wher
 
 -- the steps lead from main to this function, each by a call in the function that the steps before it lead to
 pub data IsInstance (p : Program) : Instance → Func → Type 0 where
-  main_is : {f : Func} → main_of p ≡ Some f → IsInstance p main f
-  inside_is : {i : Instance} {g f : Func} {step : Step} → IsInstance p i g → Calls p g step f → IsInstance p (inside i step) f
+  main_is : {f : Func}
+      → main_of p ≡ Some f
+      → IsInstance p main f
+  inside_is : {i : Instance} {g f : Func} {step : Step}
+      → IsInstance p i g
+      → Calls p g step f
+      → IsInstance p (inside i step) f
 
--- the element is there
+-- the element is one of the program's
 pub record IsElement (p : Program) (e : Element) : Type 0 where
   pub function : Func
   pub decl : Decl
   pub instance : IsInstance p e.instance function
   pub declared : slice_get (decls function) e.declaration ≡ Some decl
-  pub place : e.place < element_count decl.dims
+  pub offset : e.offset < element_count decl.dims
 
--- in the function one `at` in the same turns of the loops round it is one call
+-- in the function one position, in the same turns of the loops around it, is one call
 abbrev pub AreCallsApart : Func → Type 0
-AreCallsApart g = (ps qs : List Place) (f h : List ℕ) (xs ys : List Expr) (at : ℕ) (i j : Indices) → Occurs g.items [] (call ps f xs at) i → Occurs g.items [] (call qs h ys at) j → turns_of i ≡ turns_of j → (call ps f xs at ≡ call qs h ys at) × (i ≡ j)
+AreCallsApart g =
+    (ps qs : List Place) (f h : List ℕ) (xs ys : List Expr) (at : ℕ) (i j : Indices)
+    → Occurs g.items [] (call ps f xs at) i
+    → Occurs g.items [] (call qs h ys at) j
+    → turns_of i ≡ turns_of j
+    → (call ps f xs at ≡ call qs h ys at) × (i ≡ j)
 
--- so it is in each function that main reaches
+-- the same in each function that main reaches
 abbrev pub HasCallsApart : Program → Type 0
 HasCallsApart p = (i : Instance) (g : Func) → IsInstance p i g → AreCallsApart g
 
--- where an item stands: an instance, its function, and the indices of the loops round the item
+-- the site of an item: an instance, its function, and the indices of the loops around the item
 pub record Site : Type 0 where
   pub instance : Instance
   pub function : Func
   pub indices : Indices
 
--- the item stands in the program at this site
+-- the item is in the program at this site
 pub record Stands (p : Program) (s : Site) (x : Item) : Type 0 where
   pub instance : IsInstance p s.instance s.function
   pub occurs : Occurs s.function.items [] x s.indices
@@ -97,9 +108,9 @@ pub record Stands (p : Program) (s : Site) (x : Item) : Type 0 where
 -- at the site the name with its subscripts is the element k of declaration d
 pub record IsSignal (s : Site) (place : Place) (d : ℕ) (decl : Decl) (k : ℕ) : Type 0 where
   pub named : declared s.function place.name ≡ Some (d, decl)
-  pub placed : IsPlace s.indices decl.dims place.subs k
+  pub placed : IsOffset s.indices decl.dims place.subs k
 
--- at the site the bare name is an array of these dims, with the position of its declaration
+-- at the site the bare name is an array of these dims, with the index of its declaration
 pub record IsArray (s : Site) (place : Place) (dims : List ℕ) (d : ℕ) (decl : Decl) : Type 0 where
   pub some : dims ≢ []
   pub bare : place.subs ≡ []
@@ -114,7 +125,7 @@ pub record IsTable (p : Program) (s : Site) (place : Place) (dims : List ℕ) (c
   pub named : table_named p place.name ≡ Some c
   pub same_dims : c.dims ≡ dims
 
--- a call that stands at the site, with the function that it calls
+-- a call at the site, with the function that it calls
 pub record Call (p : Program) (s : Site) : Type 0 where
   pub places : List Place
   pub name : List ℕ
@@ -133,7 +144,7 @@ pub record IsArgument {p : Program} {s : Site} (c : Call p s) (d : ℕ) (decl : 
   pub parameter : slice_get c.callee.params d ≡ Some decl
   pub argument : slice_get c.args d ≡ Some x
 
--- result r of the called function is declared so, and the place takes it
+-- result r of the called function is declared so, and the place is its target
 pub record IsResult {p : Program} {s : Site} (c : Call p s) (r : ℕ) (decl : Decl) (place : Place) : Type 0 where
   pub result : slice_get c.callee.results r ≡ Some decl
   pub taken : slice_get c.places r ≡ Some place
@@ -145,7 +156,7 @@ parameter_of c d k = element (made c) d k
 abbrev pub result_of : {p : Program} {s : Site} → Call p s → ℕ → ℕ → Element
 result_of c r k = element (made c) (length c.callee.params + r) k
 
--- the elements of declarations, of which the first has position d, in order and row-major
+-- the elements of declarations, of which the first has index d, in order and row-major
 abbrev pub elements_from : Instance → ℕ → List Decl → List Element
 elements_from i d [] = []
 elements_from i d (x ∷ xs) = map (element i d) (range_with_len 0 (element_count x.dims)) ++ elements_from i (d + 1) xs

@@ -11,6 +11,7 @@ pub mod Rules
 pub mod OneLine
 pub mod Precedence
 pub mod Text
-pub mod Places
+pub mod Positions
 pub mod ReadAgain
 pub mod Parentheses
+pub mod Private

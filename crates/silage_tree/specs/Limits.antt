@@ -1,4 +1,4 @@
--- The limits of a source: the weight of an outermost expression, and how deep loops stand in loops.
+-- The nesting limits of a source: the weight of an outermost expression, and how deep loops are nested.
 use Rattle.std.specs.Prelude.{◌≡◌, ℕ, ◌+◌, ◌-◌, ◌≤◌, ◌<◌, List, take, fold, slice_get, Some, length}
 use Rattle.silage_lex.specs.declared.Token.{Token}
 use Rattle.silage_tree.specs.Tree.{Program}
@@ -16,10 +16,17 @@ enter d Enters = d + 1
 enter d Leaves = d - 1
 enter d _ = d
 
+-- how many tokens may count in an outermost expression, and how many loops may be nested
+abbrev pub max_weight : ℕ
+max_weight = 256
+
+abbrev pub max_loops : ℕ
+max_loops = 16
+
 -- token k is the 257th that counts in its outermost expression, or the `begin` of a loop inside 16 loops
 pub data Passes (roles : List Role) (k : ℕ) : Type 0 where
-  too_heavy : slice_get roles k ≡ Some Weighs → fold weigh 0 (take k roles) ≡ 256 → Passes roles k
-  too_deep : slice_get roles k ≡ Some Enters → fold enter 0 (take k roles) ≡ 16 → Passes roles k
+  too_heavy : slice_get roles k ≡ Some Weighs → fold weigh 0 (take k roles) ≡ max_weight → Passes roles k
+  too_deep : slice_get roles k ≡ Some Enters → fold enter 0 (take k roles) ≡ max_loops → Passes roles k
 
 -- no token passes a limit
 abbrev pub AreWithin : List Role → Type 0
@@ -29,7 +36,7 @@ AreWithin roles = (k : ℕ) → ¬ Passes roles k
 abbrev pub AgreeBelow : List Token → List Token → ℕ → Type 0
 AgreeBelow ts us k = (m : ℕ) → m < k → slice_get ts m ≡ slice_get us m
 
--- some program begins with the first k tokens
+-- the first k tokens are a viable prefix: some program begins with them
 pub record Begins (ts : List Token) (k : ℕ) : Type 0 where
   pub all : List Token
   pub program : Program

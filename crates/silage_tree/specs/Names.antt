@@ -1,4 +1,4 @@
--- What names mean, and which element of an array its subscripts pick.
+-- What names mean, and which element of an array its subscripts select.
 use Rattle.std.specs.Prelude.{◌≡◌, ℕ, ◌+◌, ◌*◌, ◌<◌, List, [], ◌∷◌, ◌++◌, find, filter_map, Option, Some, None, bytes_eq}
 use Rattle.std.specs.List.{enumerate_from}
 use Rattle.silage_tree.specs.declared.tree.ConstDef.{ConstDef}
@@ -10,7 +10,7 @@ use Rattle.silage_tree.specs.Manifests.{Indices, HasValue}
 abbrev pub decls : Func → List Decl
 decls f = f.params ++ (f.results ++ f.locals)
 
--- the declaration of a name in a function, with its position among all of them
+-- the declaration of a name in a function, with its index among all of them
 abbrev pub declared : Func → List ℕ → Option (ℕ × Decl)
 declared f name = find (λ (d : ℕ × Decl). bytes_eq d.1.name name) (enumerate_from 0 (decls f))
 
@@ -34,8 +34,10 @@ abbrev pub element_count : List ℕ → ℕ
 element_count [] = 1
 element_count (dim ∷ dims) = dim * element_count dims
 
--- the row-major place that the subscripts pick in an array of these dims, each of them below its dim
-abbrev pub IsPlace : Indices → List ℕ → List Manifest → ℕ → Type 0
-IsPlace indices [] [] k = k ≡ 0
-IsPlace indices (dim ∷ dims) (sub ∷ subs) k = (i rest : ℕ) × HasValue indices sub i × (i < dim) × IsPlace indices dims subs rest × (k ≡ i * element_count dims + rest)
-IsPlace indices _ _ k = ⊥
+-- the row-major offset that the subscripts select in an array of these dims, each of them below its dim
+abbrev pub IsOffset : Indices → List ℕ → List Manifest → ℕ → Type 0
+IsOffset indices [] [] k = k ≡ 0
+IsOffset indices (dim ∷ dims) (sub ∷ subs) k =
+    (i rest : ℕ) × HasValue indices sub i × (i < dim) × IsOffset indices dims subs rest
+    × (k ≡ i * element_count dims + rest)
+IsOffset indices _ _ k = ⊥

@@ -10,7 +10,7 @@ use Rattle.silage_tree.specs.declared.tree.Decl.{Decl}
 use Rattle.silage_tree.specs.declared.tree.Lit.TheVariants.{Number}
 use Rattle.silage_tree.specs.Tree.{Place, Expr, literal, read, binary, equation, no_item, item, Func, function, Program}
 
--- where the parts of the program stand in its source
+-- the positions of the parts of the program in its source
 pub record Spots : Type 0 where
   pub main : ℕ
   pub parameter : ℕ
@@ -41,9 +41,10 @@ operator false = op.Sub
 
 -- the right side
 abbrev pub term : Spots → Signals → Bool → ℕ → Expr
-term at names plus n = binary at.operator (operator plus) (read (bare names.input at.right) None) (literal (Number false n 0 at.number))
+term at names plus n =
+    binary at.operator (operator plus) (read (bare names.input at.right) None) (literal (Number false n 0 at.number))
 
--- `func main(x : fix<width,0>) y : fix<width,0> = begin y = x + n; end;`, with any two names in the place of x and y
+-- `func main(x : fix<width,0>) y : fix<width,0> = begin y = x + n; end;`, with any two names for x and y
 abbrev pub main_function : Spots → Signals → ℕ → Bool → ℕ → Func
 main_function at names width plus n =
     record {

@@ -15,9 +15,13 @@ pub record IsDefinedOnce (p : Program) (e : Element) : Type 0 where
 abbrev pub HasSingleDefinitions : Program → Type 0
 HasSingleDefinitions p = (e : Element) → IsElement p e → IsDefinedOnce p e
 
--- a read at the site reads this element, so many samples ago
+-- a read at the site reads this element, this many samples ago
 pub data ReadsAt (s : Site) (place : Place) (delay : Option Manifest) (e : Element) (ago : ℕ) : Type 0 where
-  reads_at : (d k : ℕ) (decl : Decl) → IsSignal s place d decl k → LooksBack s.indices delay ago → e ≡ element s.instance d k → ReadsAt s place delay e ago
+  reads_at : (d k : ℕ) (decl : Decl)
+      → IsSignal s place d decl k
+      → LooksBack s.indices delay ago
+      → e ≡ element s.instance d k
+      → ReadsAt s place delay e ago
 
 -- what an expression at the site reads, in all conditions, branches and factors
 abbrev mutual
@@ -33,7 +37,8 @@ abbrev mutual
 
   pub BranchesRead : Site → Branches → Element → (ago : ℕ) → Type 0
   BranchesRead s no_branch e ago = ⊥
-  BranchesRead s (branch condition x rest) e ago = Reads s condition e ago ⊎ (Reads s x e ago ⊎ BranchesRead s rest e ago)
+  BranchesRead s (branch condition x rest) e ago =
+      Reads s condition e ago ⊎ (Reads s x e ago ⊎ BranchesRead s rest e ago)
 
 abbrev pub SourceReads : Source → Element → (ago : ℕ) → Type 0
 SourceReads (word j) e ago = ⊥

@@ -6,7 +6,7 @@ use Rattle.silage_tree.specs.declared.tree.ConstDef.{ConstDef}
 use Rattle.silage_tree.specs.declared.tree.Decl.{Decl}
 use Rattle.silage_tree.specs.declared.tree.Lit.{Lit}
 use Rattle.silage_tree.specs.Tree.{Manifest, Place, Expr, read, equation, initial, Func, Program}
-use Rattle.silage_tree.specs.Manifests.{HasValue}
+use Rattle.silage_tree.specs.Manifests.{HasValue, max_delay}
 use Rattle.silage_tree.specs.Names.{element_count}
 use Rattle.silage_tree.specs.Instances.{Element, element, IsElement, Site, Stands, IsSignal, IsArray, IsTable, Call, IsArgument, IsResult, parameter_of, result_of, main_of, inputs, outputs}
 use Rattle.silage_tree.specs.Types.{IsInType, HasShapeOf, IsRawWord, word_types}
@@ -16,7 +16,7 @@ use Rattle.silage_tree.specs.Value.{Words, IsEntry, IsValue}
 abbrev pub Rows : Type 0
 Rows = List (List ℤ)
 
--- Where the words of an element come from.
+-- where the words of an element come from
 pub data Source : Type 0 where
   -- this word of the row
   word : (j : ℕ) → Source
@@ -30,18 +30,49 @@ pub data Source : Type 0 where
 -- each way in which a program defines an element
 pub data IsDefined (p : Program) (e : Element) : Source → Type 0 where
   -- a parameter of main
-  input : {j : ℕ} → slice_get (inputs p) j ≡ Some e → IsDefined p e (word j)
-  -- the place of an equation
-  equated : {s : Site} {x : Expr} (place : Place) (d k : ℕ) (decl : Decl) → Stands p s (equation place x) → IsSignal s place d decl k → e ≡ element s.instance d k → IsDefined p e (value s x decl.ty)
+  input : {j : ℕ}
+      → slice_get (inputs p) j ≡ Some e
+      → IsDefined p e (word j)
+  -- the target of an equation
+  equated : {s : Site} {x : Expr} (place : Place) (d k : ℕ) (decl : Decl)
+      → Stands p s (equation place x)
+      → IsSignal s place d decl k
+      → e ≡ element s.instance d k
+      → IsDefined p e (value s x decl.ty)
   -- a parameter without dims, by a call's argument
-  argument : {s : Site} {x : Expr} (c : Call p s) (d : ℕ) (decl : Decl) → IsArgument c d decl x → decl.dims ≡ [] → e ≡ parameter_of c d 0 → IsDefined p e (value s x decl.ty)
-  -- an element of an array parameter, by an argument that is the name of an array, or of a table
-  array : (s : Site) (c : Call p s) (d m k : ℕ) (decl theirs : Decl) (place : Place) → IsArgument c d decl (read place None) → IsArray s place decl.dims m theirs → k < element_count decl.dims → e ≡ parameter_of c d k → IsDefined p e (same (element s.instance m k) theirs.ty decl.ty)
-  table : {t : ConstDef} {k : ℕ} (s : Site) (c : Call p s) (d : ℕ) (decl : Decl) (place : Place) → IsArgument c d decl (read place None) → IsTable p s place decl.dims t → k < element_count decl.dims → e ≡ parameter_of c d k → IsDefined p e (number t k decl.ty)
-  -- the place of a call's result without dims
-  result : (s : Site) (c : Call p s) (r d k : ℕ) (theirs decl : Decl) (place : Place) → IsResult c r theirs place → theirs.dims ≡ [] → IsSignal s place d decl k → e ≡ element s.instance d k → IsDefined p e (same (result_of c r 0) theirs.ty decl.ty)
-  -- an element of the array that is the place of a call's array result
-  array_result : (s : Site) (c : Call p s) (r d k : ℕ) (theirs decl : Decl) (place : Place) → IsResult c r theirs place → IsArray s place theirs.dims d decl → k < element_count decl.dims → e ≡ element s.instance d k → IsDefined p e (same (result_of c r k) theirs.ty decl.ty)
+  argument : {s : Site} {x : Expr} (c : Call p s) (d : ℕ) (decl : Decl)
+      → IsArgument c d decl x
+      → decl.dims ≡ []
+      → e ≡ parameter_of c d 0
+      → IsDefined p e (value s x decl.ty)
+  -- an element of an array parameter, by an argument that is the name of an array
+  array : (s : Site) (c : Call p s) (d m k : ℕ) (decl theirs : Decl) (place : Place)
+      → IsArgument c d decl (read place None)
+      → IsArray s place decl.dims m theirs
+      → k < element_count decl.dims
+      → e ≡ parameter_of c d k
+      → IsDefined p e (same (element s.instance m k) theirs.ty decl.ty)
+  -- the same, by an argument that is the name of a table
+  table : {t : ConstDef} {k : ℕ} (s : Site) (c : Call p s) (d : ℕ) (decl : Decl) (place : Place)
+      → IsArgument c d decl (read place None)
+      → IsTable p s place decl.dims t
+      → k < element_count decl.dims
+      → e ≡ parameter_of c d k
+      → IsDefined p e (number t k decl.ty)
+  -- the target of a call's result without dims
+  result : (s : Site) (c : Call p s) (r d k : ℕ) (theirs decl : Decl) (place : Place)
+      → IsResult c r theirs place
+      → theirs.dims ≡ []
+      → IsSignal s place d decl k
+      → e ≡ element s.instance d k
+      → IsDefined p e (same (result_of c r 0) theirs.ty decl.ty)
+  -- an element of the array that is the target of a call's array result
+  array_result : (s : Site) (c : Call p s) (r d k : ℕ) (theirs decl : Decl) (place : Place)
+      → IsResult c r theirs place
+      → IsArray s place theirs.dims d decl
+      → k < element_count decl.dims
+      → e ≡ element s.instance d k
+      → IsDefined p e (same (result_of c r k) theirs.ty decl.ty)
 
 -- what a source gives at sample n
 abbrev pub Gives : Program → Rows → Words → ℕ → Source → ℤ → Type 0
@@ -57,10 +88,10 @@ pub record IsPreset (p : Program) (e : Element) (j : ℕ) (l : Lit) (ty : SigTyp
   pub amount : Manifest
   pub declaration : ℕ
   pub decl : Decl
-  pub at : ℕ
+  pub offset : ℕ
   pub stands : Stands p site (initial place amount l)
-  pub signal : IsSignal site place declaration decl at
-  pub is : e ≡ element site.instance declaration at
+  pub signal : IsSignal site place declaration decl offset
+  pub is : e ≡ element site.instance declaration offset
   pub sample : HasValue site.indices amount j
   pub typed : ty ≡ decl.ty
 
@@ -69,15 +100,22 @@ pub record IsInitial (p : Program) (e : Element) (j : ℕ) (v : ℤ) : Type 0 wh
   pub given : (l : Lit) (ty : SigType) → IsPreset p e j l ty → IsRawWord l ty v
   pub absent : ((l : Lit) (ty : SigType) → IsPreset p e j l ty → ⊥) → v ≡ pos 0
 
--- The words solve the program over the stream: each element has its initial words at the 1023 samples before sample 0,
--- of which negsuc j is sample -(j + 1), and at each sample of the stream the word that each of its definitions gives.
+-- The words solve the program over the stream: each element has its initial words at the samples before sample 0, as far
+-- as delays reach, and at each sample of the stream the word that each of its definitions gives. negsuc j is -(j + 1).
 pub record Solves (p : Program) (stream : Rows) (words : Words) : Type 0 where
-  pub past : (e : Element) (j : ℕ) → IsElement p e → j < 1023 → IsInitial p e (j + 1) (words e (negsuc j))
-  pub present : (e : Element) (n : ℕ) (source : Source) → IsElement p e → n < length stream → IsDefined p e source → Gives p stream words n source (words e (pos n))
+  pub past : (e : Element) (j : ℕ)
+      → IsElement p e
+      → j < max_delay
+      → IsInitial p e (j + 1) (words e (negsuc j))
+  pub present : (e : Element) (n : ℕ) (source : Source)
+      → IsElement p e
+      → n < length stream
+      → IsDefined p e source
+      → Gives p stream words n source (words e (pos n))
 
--- the samples that have words, in a stream of so many rows
+-- the samples that have words, in a stream of this many rows
 pub record IsSample (rows : ℕ) (n : ℤ) : Type 0 where
-  pub first : neg_ℤ (pos 1023) ≤ℤ n
+  pub first : neg_ℤ (pos max_delay) ≤ℤ n
   pub last : n <ℤ pos rows
 
 -- words are the same where they agree at each element and sample

@@ -1,4 +1,4 @@
--- The tree of a source as a value, wherever its parts lie in memory. Each `at` is a byte offset in the source.
+-- The tree of a source as a value, without addresses. Each `at` is a source position, a byte offset.
 use Rattle.std.specs.Prelude.{ℕ, Bool, List, [], ◌∷◌, map, Option, Some, None}
 use Rattle.fix_word.specs.declared.types.FixType.{FixType}
 use Rattle.silage_tree.specs.declared.tree.BinOp.{BinOp}
@@ -17,7 +17,7 @@ use Rattle.silage_tree.specs.declared.tree.Top.{Top as RustTop}
 use Rattle.silage_tree.specs.declared.tree.Top.TheVariants as t
 use Rattle.silage_tree.specs.declared.tree.Program.{Program as RustProgram}
 
--- a whole number that is known before the program runs
+-- a manifest constant: a compile-time integer
 pub data Manifest : Type 0 where
   whole : (value at : ℕ) → Manifest
   counter : (name : List ℕ) (at : ℕ) → Manifest
@@ -119,7 +119,15 @@ abbrev pub view_items : List RustItem → Items
 view_items xs = items_of (map view_item xs)
 
 abbrev pub view_func : RustFunc → Func
-view_func f = record { name = f.name; at = f.at; params = f.params; results = f.results; locals = f.locals; items = view_items f.items }
+view_func f =
+    record {
+      name = f.name;
+      at = f.at;
+      params = f.params;
+      results = f.results;
+      locals = f.locals;
+      items = view_items f.items;
+    }
 
 abbrev pub view_top : RustTop → Top
 view_top (t.Const c) = table c

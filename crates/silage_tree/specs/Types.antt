@@ -14,7 +14,7 @@ use Rattle.silage_tree.specs.declared.tree.Lit.TheVariants.{Number, Truth}
 use Rattle.silage_tree.specs.Tree.{Expr, literal, read, negate, not, binary, shift, cast, choose, Branches, no_branch, branch, Func, Program}
 use Rattle.silage_tree.specs.Names.{declared, table_named, element_count}
 
--- the word lies in the type's range
+-- the word is in the type's range
 abbrev pub IsInType : SigType → ℤ → Type 0
 IsInType (sig.Fix t) word = IsWord t.shape.w word
 IsInType sig.Bool word = (pos 0 ≤ℤ word) × (word ≤ℤ pos 1)
@@ -37,7 +37,8 @@ table_type (Some c) = Some (sig.Fix c.ty)
 
 -- the type that a name is declared with, in a function or as a table
 abbrev pub name_type : Program → Func → List ℕ → Option SigType
-name_type p f name = option_or (option_map (λ (d : ℕ × Decl). d.1.ty) (declared f name)) (table_type (table_named p name))
+name_type p f name =
+    option_or (option_map (λ (d : ℕ × Decl). d.1.ty) (declared f name)) (table_type (table_named p name))
 
 -- the type of a sum or difference, of a product, of a comparison or of a truth, by its parts' types
 abbrev pub binary_type : BinOp → Option SigType → Option SigType → Option SigType
@@ -46,7 +47,7 @@ binary_type op.Sub a b = option_or a b
 binary_type op.Mul a b = None
 binary_type _ a b = Some sig.Bool
 
--- the type that an expression has of its own, if it has one
+-- the type that is synthesised for an expression, if it has one of its own
 abbrev mutual
   pub own_type : Program → Func → Expr → Option SigType
   own_type p f (literal (Number negative digits places at)) = None
@@ -63,12 +64,12 @@ abbrev mutual
   branches_type p f no_branch = None
   branches_type p f (branch condition value rest) = option_or (own_type p f value) (branches_type p f rest)
 
--- the type against which a factor stands: its own, or for a number that of the other factor
+-- the type against which a factor is checked: its own, or for a number that of the other factor
 abbrev pub factor_type : Program → Func → Expr → (other : Expr) → Option SigType
 factor_type p f (literal (Number negative digits places at)) other = own_type p f other
 factor_type p f x other = own_type p f x
 
--- the type against which both sides of a comparison stand: the left's own, else the right's
+-- the type against which both sides of a comparison are checked: the left's own, else the right's
 abbrev pub common_type : Program → Func → Expr → Expr → Option SigType
 common_type p f x y = option_or (own_type p f x) (own_type p f y)
 

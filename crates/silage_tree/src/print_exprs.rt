@@ -1,11 +1,12 @@
-//! Manifest numbers, places and expressions as text.
+//! Manifest constants, places and expressions as text.
 
 ghost use Rattle.std.specs.Prelude.{◌≡◌, ◌<◌, ◌||◌, ◌++◌, ◌∷◌, [], length, map, nat_lt, Option, OnOk};
 ghost use Rattle.std.specs.List.{flat_map};
 ghost use Rattle.silage_lex.specs.Texts.{symbols};
 ghost use Rattle.silage_tree.specs.Tree.{view_manifest, view_place, view_delay, view_expr};
 ghost use Rattle.silage_tree.specs.Text as text;
-ghost use Rattle.silage_tree.specs.Text.{Puts, enclosed, bracketed, manifest_text, amount_text, place_text, delay_text, expr_text, arm_text, listed, behind_comma};
+ghost use Rattle.silage_tree.specs.Text.{enclosed, subscript_text, manifest_text, amount_text, place_text, delay_text, expr_text, listed, behind_comma};
+ghost use Rattle.silage_tree.specs.Private.Puts.{Puts, arm_text};
 
 use crate::precedence::{AND, COMPARISON, OR, PRIMARY, PRODUCT, SHIFT, SUM, UNARY};
 use crate::print_tokens::{put_close, put_name, put_open, put_symbol, put_whole, put_word};
@@ -15,8 +16,8 @@ use lists::Bytes;
 use silage_lex::{keywords, punctuation};
 use std::alloc::AllocError;
 
-fn manifest_level(m: &Manifest) -> u8
-    ensures { result ≡ text.manifest_level (view_manifest m.now) }
+fn manifest_precedence(m: &Manifest) -> u8
+    ensures { result ≡ text.manifest_precedence (view_manifest m.now) }
 {
     match m {
         Manifest::Whole(_, _) => PRIMARY,
@@ -77,12 +78,12 @@ pub(crate) fn put_manifest(out: &mut Bytes, m: &Manifest) -> Result<(), AllocErr
     }
 }
 
-/// Adds the number in parentheses where it is looser than what its place asks.
+/// Adds the manifest constant, in parentheses where it is looser than what its context asks for.
 #[cycle(manifests)]
 fn put_term(out: &mut Bytes, m: &Manifest, asked: u8) -> Result<(), AllocError>
-    ensures { OnOk result (Puts out.old (enclosed (nat_lt (text.manifest_level (view_manifest m.now)) asked) (manifest_text (view_manifest m.now))) out.new) }
+    ensures { OnOk result (Puts out.old (text.manifest_in asked (view_manifest m.now)) out.new) }
 {
-    let is_loose = manifest_level(m) < asked;
+    let is_loose = manifest_precedence(m) < asked;
     put_open(out, is_loose)?;
     put_manifest(out, m)?;
     put_close(out, is_loose)
@@ -96,7 +97,7 @@ pub(crate) fn put_amount(out: &mut Bytes, m: &Manifest) -> Result<(), AllocError
 
 /// Adds each subscript in brackets.
 fn put_subs(out: &mut Bytes, subs: &[Manifest]) -> Result<(), AllocError>
-    ensures { OnOk result (Puts out.old (flat_map (λ m. bracketed (manifest_text (view_manifest m))) subs.now) out.new) }
+    ensures { OnOk result (Puts out.old (flat_map (λ m. subscript_text (view_manifest m)) subs.now) out.new) }
 {
     for sub in subs {
         put_symbol(out, punctuation::LEFT_BRACKET)?;
@@ -144,8 +145,8 @@ fn operator_mark(op: BinOp) -> u8
     }
 }
 
-fn operator_level(op: BinOp) -> u8
-    ensures { result ≡ text.operator_level op }
+fn operator_precedence(op: BinOp) -> u8
+    ensures { result ≡ text.operator_precedence op }
 {
     match op {
         BinOp::Or => OR,
@@ -157,9 +158,9 @@ fn operator_level(op: BinOp) -> u8
     }
 }
 
-/// What the left side of an operator asks.
-fn left_level(op: BinOp) -> u8
-    ensures { result ≡ text.left_level op }
+/// The precedence that the left side of an operator asks for.
+fn left_precedence(op: BinOp) -> u8
+    ensures { result ≡ text.left_precedence op }
 {
     match op {
         BinOp::Or => OR,
@@ -169,9 +170,9 @@ fn left_level(op: BinOp) -> u8
     }
 }
 
-/// What the right side of an operator asks.
-fn right_level(op: BinOp) -> u8
-    ensures { result ≡ text.right_level op }
+/// The precedence that the right side of an operator asks for.
+fn right_precedence(op: BinOp) -> u8
+    ensures { result ≡ text.right_precedence op }
 {
     match op {
         BinOp::Or => AND,
@@ -183,8 +184,8 @@ fn right_level(op: BinOp) -> u8
     }
 }
 
-fn expr_level(e: &Expr) -> u8
-    ensures { result ≡ text.expr_level (view_expr e.now) }
+fn expr_precedence(e: &Expr) -> u8
+    ensures { result ≡ text.expr_precedence (view_expr e.now) }
 {
     match e {
         Expr::Lit(
@@ -197,7 +198,7 @@ fn expr_level(e: &Expr) -> u8
         ) => UNARY,
         Expr::Negate(_, _) => UNARY,
         Expr::Not(_, _) => UNARY,
-        Expr::Binary(_, op, _, _) => operator_level(*op),
+        Expr::Binary(_, op, _, _) => operator_precedence(*op),
         Expr::Shift(_, _, _, _) => SHIFT,
         _ => PRIMARY,
     }
@@ -224,7 +225,7 @@ fn is_unsigned(e: &Expr) -> bool
 fn is_loose_operand(e: &Expr) -> bool
     ensures { result ≡ text.is_loose_operand (view_expr e.now) }
 {
-    expr_level(e) < UNARY || is_unsigned(e)
+    expr_precedence(e) < UNARY || is_unsigned(e)
 }
 
 fn shift_mark(left: bool) -> u8
@@ -254,15 +255,15 @@ pub(crate) fn put_expr(out: &mut Bytes, e: &Expr) -> Result<(), AllocError>
         }
         Expr::Not(_, part) => {
             put_symbol(out, punctuation::BANG)?;
-            put_part(out, part, expr_level(part) < UNARY)
+            put_part(out, part, expr_precedence(part) < UNARY)
         }
         Expr::Binary(_, op, left, right) => {
-            put_part(out, left, expr_level(left) < left_level(*op))?;
+            put_part(out, left, expr_precedence(left) < left_precedence(*op))?;
             put_symbol(out, operator_mark(*op))?;
-            put_part(out, right, expr_level(right) < right_level(*op))
+            put_part(out, right, expr_precedence(right) < right_precedence(*op))
         }
         Expr::Shift(_, left, part, amount) => {
-            put_part(out, part, expr_level(part) < SHIFT)?;
+            put_part(out, part, expr_precedence(part) < SHIFT)?;
             put_symbol(out, shift_mark(*left))?;
             put_amount(out, amount)
         }
@@ -292,7 +293,7 @@ fn put_part(out: &mut Bytes, e: &Expr, is_loose: bool) -> Result<(), AllocError>
 /// Adds each condition with its value.
 #[cycle(exprs)]
 fn put_arms(out: &mut Bytes, arms: &[(Expr, Expr)]) -> Result<(), AllocError>
-    ensures { OnOk result (Puts out.old (flat_map (λ arm. arm_text (view_expr arm.0) (view_expr arm.1)) arms.now) out.new) }
+    ensures { OnOk result (Puts out.old (flat_map arm_text arms.now) out.new) }
 {
     for arm in arms {
         put_expr(out, &arm.0)?;

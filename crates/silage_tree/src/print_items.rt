@@ -2,8 +2,8 @@
 
 ghost use Rattle.std.specs.Prelude.{◌≡◌, ◌++◌, ◌∷◌, [], length, map, OnOk};
 ghost use Rattle.silage_tree.specs.Tree.{view_manifest, view_place, view_expr, view_item, view_items};
-ghost use Rattle.silage_tree.specs.Text as text;
-ghost use Rattle.silage_tree.specs.Text.{Puts, enclosed, call_text, turns_text, place_text, listed, clause_text, items_text};
+ghost use Rattle.silage_tree.specs.Text.{grouped, call_text, turns_text, place_text, listed, clause_text, items_text};
+ghost use Rattle.silage_tree.specs.Private.Puts.{Puts};
 
 use crate::print_exprs::{put_amount, put_expr, put_exprs, put_manifest, put_place, put_places};
 use crate::print_tokens::{is_several, put_close, put_name, put_open, put_symbol, put_word};
@@ -16,9 +16,9 @@ use silage_lex::punctuation::{
 };
 use std::alloc::AllocError;
 
-/// Adds the places on the left of a call.
+/// Adds the targets of a call.
 fn put_targets(out: &mut Bytes, places: &[Place]) -> Result<(), AllocError>
-    ensures { OnOk result (Puts out.old (enclosed (text.several (map view_place places.now)) (listed place_text (map view_place places.now))) out.new) }
+    ensures { OnOk result (Puts out.old (grouped place_text (map view_place places.now)) out.new) }
 {
     let are_several = is_several(places.len());
     put_open(out, are_several)?;
@@ -49,7 +49,7 @@ fn put_turns(out: &mut Bytes, index: &Name, lo: &Manifest, hi: &Manifest) -> Res
     put_symbol(out, RIGHT_PAREN)
 }
 
-/// Adds an item but for the `;` behind it.
+/// Adds an item without the `;` after it.
 #[cycle(items)]
 fn put_clause(out: &mut Bytes, item: &Item) -> Result<(), AllocError>
     ensures { OnOk result (Puts out.old (clause_text (view_item item.now)) out.new) }

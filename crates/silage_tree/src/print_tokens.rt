@@ -1,9 +1,10 @@
-//! Tokens as text, each with a blank behind it.
+//! Tokens as text, each with a blank after it.
 
 ghost use Rattle.std.specs.Prelude.{◌≡◌, ◌<◌, ◌≤◌, ◌^◌, ◌++◌, ◌∷◌, [], length, decimal, replicate, nat_eq, not as negation, OnOk};
 ghost use Rattle.silage_lex.specs.Texts.{reserved_words, symbols};
 ghost use Rattle.silage_lex.specs.declared.TokenKind.TheVariants as kind;
-ghost use Rattle.silage_tree.specs.Text.{Puts, opened, closed, filled, pointed, number};
+ghost use Rattle.silage_tree.specs.Text.{opened, closed, filled, pointed, number};
+ghost use Rattle.silage_tree.specs.Private.Puts.{Puts};
 
 use itoa::Buffer;
 use lists::{Bytes, Name};
@@ -17,7 +18,7 @@ fn put_blank(out: &mut Bytes) -> Result<(), AllocError>
     Ok(out.push(b' ')?)
 }
 
-/// Adds a token's text and the blank behind it.
+/// Adds a token's text and the blank after it.
 fn put_text(out: &mut Bytes, text: &[u8]) -> Result<(), AllocError>
     ensures { OnOk result (out.new ≡ out.old ++ (text.now ++ 32 ∷ [])) }
 {
@@ -56,7 +57,7 @@ pub(crate) fn put_whole(out: &mut Bytes, value: u64) -> Result<(), AllocError>
     put_text(out, buffer.format(value).as_bytes())
 }
 
-/// Whether so many parts stand in parentheses.
+/// Whether this many parts are in parentheses.
 pub(crate) fn is_several(count: usize) -> bool
     ensures { result ≡ negation (nat_eq count 1) }
 {
@@ -87,7 +88,7 @@ pub(crate) fn put_close(out: &mut Bytes, wanted: bool) -> Result<(), AllocError>
     }
 }
 
-/// Adds so many zeros.
+/// Adds this many zeros.
 fn put_zeros(out: &mut Bytes, count: usize) -> Result<(), AllocError>
     ensures { OnOk result (out.new ≡ out.old ++ replicate count 48) }
 {
@@ -97,7 +98,7 @@ fn put_zeros(out: &mut Bytes, count: usize) -> Result<(), AllocError>
     Ok(())
 }
 
-/// Adds digits with a point in front of the last `places` of them.
+/// Adds digits with a point before the last `places` of them.
 fn put_pointed(out: &mut Bytes, digits: &[u8], places: usize) -> Result<(), AllocError>
     requires { places ≤ length digits.now }
     ensures { OnOk result (out.new ≡ out.old ++ pointed digits.now places) }
@@ -108,7 +109,7 @@ fn put_pointed(out: &mut Bytes, digits: &[u8], places: usize) -> Result<(), Allo
     out.extend_from_slice(fraction)
 }
 
-/// Adds the digits, `places` of them behind a point and one at least in front of it.
+/// Adds the digits, `places` of them after a point and at least one before it.
 fn put_filled(out: &mut Bytes, digits: &[u8], places: usize) -> Result<(), AllocError>
     ensures { OnOk result (out.new ≡ out.old ++ pointed (filled digits.now places) places) }
 {

@@ -2,7 +2,8 @@
 
 ghost use Rattle.std.specs.Prelude.{◌≡◌, ◌<◌, ◌++◌, ◌∷◌, [], length, OnOk};
 ghost use Rattle.silage_lex.specs.Texts.{reserved_words};
-ghost use Rattle.silage_tree.specs.Text.{Puts, truth_word, sign_text, lit_text, dims_text, mode_word, fix_text, type_text, decl_text, behind_comma, listed};
+ghost use Rattle.silage_tree.specs.Text.{truth_word, sign_text, lit_text, dims_text, mode_word, fix_text, type_text, decl_text, behind_comma, listed};
+ghost use Rattle.silage_tree.specs.Private.Puts.{Puts};
 ghost use Rattle.std.specs.List.{flat_map};
 
 use crate::print_tokens::{put_name, put_number, put_symbol, put_whole, put_word};

@@ -3,12 +3,10 @@
 ghost use Rattle.std.specs.Prelude.{◌≡◌, ◌||◌, nat_lt, OnOk, IfOk};
 ghost use Rattle.std.specs.List.{flat_map};
 ghost use Rattle.silage_tree.specs.Tree.{view_items, view_func, view_top, view};
-ghost use Rattle.silage_lex.specs.Tokens.{HasTokens, TokenList};
-ghost use Rattle.silage_tree.specs.Grammar.{HasRoles, Derives};
-ghost use Rattle.silage_tree.specs.Limits.{AreWithin};
 ghost use Rattle.silage_tree.specs.Parentheses.{EachPairIsNeeded};
-ghost use Rattle.silage_tree.specs.ReadAgain.{ByteList, ProgramTree, RoleList, IsReadAgain, IsReadWithin};
-ghost use Rattle.silage_tree.specs.Text.{Puts, enclosed, listed, decl_text, words_text, table_text, local_text, head_text, body_text, func_text, top_text, canonical};
+ghost use Rattle.silage_tree.specs.ReadAgain.{ProgramTree, HasSource, HasSourceWithin, IsReadAgain, IsReadWithin};
+ghost use Rattle.silage_tree.specs.Text.{enclosed, listed, decl_text, words_text, table_text, local_text, head_text, body_text, func_text, top_text, canonical};
+ghost use Rattle.silage_tree.specs.Private.Puts.{Puts};
 
 use crate::print_items::put_items;
 use crate::print_tokens::{is_several, put_close, put_name, put_open, put_symbol, put_word};
@@ -38,7 +36,7 @@ impl From<AllocError> for TreeFault {
     }
 }
 
-/// Whether the words of a table stand in parentheses.
+/// Whether the words of a table are in parentheses.
 fn are_words_enclosed(dims: usize, words: usize) -> bool
     ensures { result ≡ (nat_lt 0 dims || nat_lt 1 words) }
 {
@@ -143,15 +141,15 @@ pub fn print(alloc: Global, program: &Program) -> Result<Bytes, TreeFault>
     Ok(out)
 }
 
-/// The canonical text of a program that some source has is read as that program, up to places, and no token of the text passes
-/// a limit where none of the source does.
+/// The canonical text of a program that some source has is read as that program, up to positions, and no token of the
+/// text passes a nesting limit where none of the source does.
 pub fn print_is_read()
-    ensures again { (bytes : ByteList) → (tokens : TokenList) → (program : ProgramTree) → HasTokens bytes tokens → Derives tokens program → IsReadAgain program }
-    ensures within { (bytes : ByteList) → (tokens : TokenList) → (program : ProgramTree) → (roles : RoleList) → HasTokens bytes tokens → HasRoles tokens program roles → AreWithin roles → IsReadWithin program }
+    ensures again { (program : ProgramTree) → HasSource program → IsReadAgain program }
+    ensures within { (program : ProgramTree) → HasSourceWithin program → IsReadWithin program }
 {}
 
-/// Without any one of its pairs of parentheses the canonical text gives another tree, or none; only the pair around the one word
-/// of a table can be left out.
+/// Without any one of its pairs of parentheses the canonical text gives another tree, or none; only the pair around the
+/// one word of a table can be left out.
 pub fn parentheses_are_needed()
     ensures { EachPairIsNeeded }
 {}

@@ -2,7 +2,8 @@
 use Rattle.std.proofs.Common.{ap, sym, ◌∙◌}
 use Rattle.std.specs.List.{flat_map}
 use Rattle.silage_tree.specs.Tree.{view_expr}
-use Rattle.silage_tree.specs.Text.{expr_text, arm_text}
+use Rattle.silage_tree.specs.Text.{expr_text}
+use Rattle.silage_tree.specs.Private.Puts.{arm_text}
 use Rattle.silage_tree.proofs.Rows.{choice_spelled}
 use Rattle.silage_tree.proofs.Spelled.{nothing, behind, more, ends, alike}
 use Rattle.silage_tree.proofs.print_exprs.+exprs.Goals as goal
@@ -54,7 +55,7 @@ put_expr-returns-in_ok-put_expr-in-Choose t c =
     let whole = ap (λ e. expr_text (view_expr e)) c.in-Choose.is ∙ choice_spelled c.in-Choose.field-0 c.in-Choose.arms c.in-Choose.last in
     let arms = c.deref-in-Choose.ensures.value in
     let last = c.deref-in-Choose-2.ensures in
-    let arms_are = ap (flat_map (λ arm. arm_text (view_expr arm.0) (view_expr arm.1))) arms in
+    let arms_are = ap (flat_map arm_text) arms in
     let last_is = ap (λ e. expr_text (view_expr e)) last in
     ends _ _ c.put_word-in-Choose.result
     (λ h. alike (sym whole) (behind (behind (behind c.in_ok-put_word-in-Choose.ensures (alike arms_are c.in_ok-put_arms-in-Choose.ensures)) (alike last_is c.in_ok-put_expr-in-Choose.ensures)) h))

@@ -1,7 +1,8 @@
 use Rattle.std.proofs.Common.{take}
 use Rattle.std.specs.List.{flat_map}
 use Rattle.silage_tree.specs.Tree.{view_place}
-use Rattle.silage_tree.specs.Text.{Puts, behind_comma, place_text}
+use Rattle.silage_tree.specs.Text.{behind_comma, place_text}
+use Rattle.silage_tree.specs.Private.Puts.{Puts}
 use Rattle.silage_tree.proofs.print_exprs.put_other_places.Given as goal
 
 abbrev pub invariant-loop-place : goal.invariant-loop-place

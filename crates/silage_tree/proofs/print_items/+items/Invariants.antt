@@ -2,7 +2,8 @@ use Rattle.std.proofs.Common.{take, ◌++◌, ◌∷◌, []}
 use Rattle.std.specs.List.{flat_map}
 use Rattle.silage_lex.specs.declared.punctuation.TheConstants as punctuation
 use Rattle.silage_tree.specs.Tree.{view_item}
-use Rattle.silage_tree.specs.Text.{Puts, symbol, clause_text}
+use Rattle.silage_tree.specs.Text.{symbol, clause_text}
+use Rattle.silage_tree.specs.Private.Puts.{Puts}
 use Rattle.silage_tree.proofs.print_items.+items.Given as goal
 
 abbrev pub invariant-put_items-loop-item : goal.invariant-put_items-loop-item

@@ -1,5 +1,6 @@
 use Rattle.std.proofs.Common.{take}
-use Rattle.silage_tree.specs.Text.{Puts, dims_text}
+use Rattle.silage_tree.specs.Text.{dims_text}
+use Rattle.silage_tree.specs.Private.Puts.{Puts}
 use Rattle.silage_tree.proofs.print_types.put_dims.Given as goal
 
 abbrev pub invariant-loop-dim : goal.invariant-loop-dim

@@ -1,6 +1,7 @@
 use Rattle.std.proofs.Common.{take}
 use Rattle.std.specs.List.{flat_map}
-use Rattle.silage_tree.specs.Text.{Puts, behind_comma, lit_text}
+use Rattle.silage_tree.specs.Text.{behind_comma, lit_text}
+use Rattle.silage_tree.specs.Private.Puts.{Puts}
 use Rattle.silage_tree.proofs.print_types.put_other_lits.Given as goal
 
 abbrev pub invariant-loop-lit : goal.invariant-loop-lit

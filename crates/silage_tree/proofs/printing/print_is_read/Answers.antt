@@ -23,9 +23,9 @@ abbrev is_read : {program : Program} → Again program → IsReadAgain program
 is_read a = record { tokens = a.tokens; has_tokens = a.has_tokens; read = a.reads.tree; derives = (a.reads.roles, a.reads.is); same = a.reads.same }
 
 pub returns-clause-again : goal.returns-clause-again
-returns-clause-again c = λ bytes tokens program has derives. is_read (read_again bytes tokens program has derives)
+returns-clause-again c = λ program source. is_read (read_again source.bytes source.tokens program source.has_tokens source.derives)
 
 pub returns-clause-within : goal.returns-clause-within
-returns-clause-within c = λ bytes tokens program roles has derives within.
-    let a = read_again bytes tokens program has (roles, derives) in
-    record { again = is_read a; roles = a.reads.roles; has_roles = a.reads.is; within = a.reads.within tokens roles derives within }
+returns-clause-within c = λ program source.
+    let a = read_again source.bytes source.tokens program source.has_tokens (source.roles, source.has_roles) in
+    record { again = is_read a; roles = a.reads.roles; has_roles = a.reads.is; within = a.reads.within source.tokens source.roles source.has_roles source.within }

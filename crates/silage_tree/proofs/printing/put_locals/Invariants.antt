@@ -1,6 +1,7 @@
 use Rattle.std.proofs.Common.{take}
 use Rattle.std.specs.List.{flat_map}
-use Rattle.silage_tree.specs.Text.{Puts, local_text}
+use Rattle.silage_tree.specs.Text.{local_text}
+use Rattle.silage_tree.specs.Private.Puts.{Puts}
 use Rattle.silage_tree.proofs.printing.put_locals.Given as goal
 
 abbrev pub invariant-loop-local : goal.invariant-loop-local

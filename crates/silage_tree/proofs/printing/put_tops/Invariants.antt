@@ -1,7 +1,8 @@
 use Rattle.std.proofs.Common.{take}
 use Rattle.std.specs.List.{flat_map}
 use Rattle.silage_tree.specs.Tree.{view_top}
-use Rattle.silage_tree.specs.Text.{Puts, top_text}
+use Rattle.silage_tree.specs.Text.{top_text}
+use Rattle.silage_tree.specs.Private.Puts.{Puts}
 use Rattle.silage_tree.proofs.printing.put_tops.Given as goal
 
 abbrev pub invariant-loop-top : goal.invariant-loop-top
