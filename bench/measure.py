@@ -1,5 +1,4 @@
 """Runs crates/silc_bench on files, and tells how long one turn takes."""
-import os
 import resource
 import subprocess
 import sys
@@ -12,16 +11,10 @@ PROGRAM = CRATE / "out" / "silc_bench"
 
 
 def build():
-    """Builds the program where it is not there or older than its sources."""
-    sources = [path for folder in ("src", "specs", "proofs") for path in (ROOT / "crates").glob(f"*/{folder}/**/*")]
-    if PROGRAM.exists() and all(path.stat().st_mtime <= PROGRAM.stat().st_mtime for path in sources if path.is_file()):
-        return
-    print("building silc_bench, which proves it and the crates below: some minutes the first time", flush=True)
-    # Without words the program ends with its usage; it is built all the same.
-    subprocess.run(["rt", "run"], cwd=CRATE, stdout=subprocess.DEVNULL, stderr=subprocess.DEVNULL)
-    if not PROGRAM.exists():
-        sys.exit("silc_bench was not built: run `rt run` in crates/silc_bench")
-    os.utime(PROGRAM)
+    """Builds the program where it is not there or older than its sources, and ends where that fails."""
+    status = subprocess.run([ROOT / "tools" / "build", "silc_bench"]).returncode
+    if status:
+        sys.exit(status)
 
 
 def run(call, turns, file):
