@@ -49,7 +49,7 @@ pub lookup_none : (fs : List Stored) (s : Name) → ((k : ℕ) → k < length fs
 lookup_none [] s h = refl
 lookup_none (f ∷ fs) s h = ap (λ (b : Bool). if b then Some f.bytes else lookup fs s) (other_name _ _ (h 0 (omega arith))) ∙ lookup_none fs s (λ k lt. h (suc k) (omega arith))
 
--- a name that finds nothing stands nowhere
+-- a name that finds nothing is nowhere
 pub none_named : (fs : List Stored) (s : Name) → lookup fs s ≡ None → (k : ℕ) → k < length fs → name_at fs k ≢ s
 none_named [] s none k lt e = omega arith
 none_named (f ∷ fs) s none zero lt e =
@@ -132,7 +132,7 @@ appended_set fs i f piece h e same = record {
   prefixes = prefixes_set fs i f piece h.inside same;
 }
 
--- a file behind the others
+-- a file after the others
 name_at_push : (fs : List Stored) (f : Stored) (k : ℕ) → k < length fs → name_at (fs ++ f ∷ []) k ≡ name_at fs k
 name_at_push [] f k h = absurd (omega arith)
 name_at_push (g ∷ fs) f zero h = refl
@@ -183,8 +183,8 @@ pub found_open : (fs : List Stored) (s : Name) (i len : ℕ) → IsFound fs s i 
 found_open fs s i len h size = record { first = found_first fs s i h; within = omega arith }
 
 pub opened_bytes : (fs : List Stored) (s : Name) (i len : ℕ) (files : Files) → IsFound fs s i → len ≡ length (bytes_at fs i) → ◌≡◌ {A = Option Files} (Some (lookup fs)) (Some files) → take len (bytes_at fs i) ≡ content_of (files s)
-opened_bytes fs s i len files h size told =
-    take_all len (bytes_at fs i) (omega arith) ∙ sym (ap content_of (lookup_found fs s i h)) ∙ ap (λ (o : Option Files). content_of (unwrap_or o (lookup fs) s)) told
+opened_bytes fs s i len files h size is =
+    take_all len (bytes_at fs i) (omega arith) ∙ sym (ap content_of (lookup_found fs s i h)) ∙ ap (λ (o : Option Files). content_of (unwrap_or o (lookup fs) s)) is
 
 pub for_this : {A : Type 0} (P : A → Type 0) (a : A) → P a → ForSome (Some a) (λ x. P x)
 for_this P a h = λ x e. subst P (cc) h

@@ -1,11 +1,11 @@
 -- Files that are read or written whole: the steps of the two loops, and how several such calls follow one another.
-use Rattle.std.proofs.Common.{arith, ◌≡◌, sym, ◌∙◌, ap, inr, ℕ, zero, suc, ◌+◌, ◌≤◌, List, ◌++◌, length, take, drop, Some, Bool, Result, Ok, Err, OnOk, OnErr, length-drop, length-append}
+use Rattle.std.proofs.Common.{arith, ◌≡◌, ◌≢◌, sym, ◌∙◌, ap, inr, ℕ, zero, suc, ◌+◌, ◌≤◌, List, ◌++◌, length, take, drop, Some, Bool, Result, Ok, Err, OnOk, OnErr, length-drop, length-append}
 use Rattle.std.proofs.Math.Seq.{take-add}
 use Rattle.std.proofs.lemmas.List.{length-take-le}
 use Rattle.desk_core.specs.View.{Name, Content, View}
-use Rattle.desk_core.specs.Desk.{FaultsNeverFall, WhereSpecified, content_of, IsUnchanged, IsUnchangedButOutput, IsReading, IsTaken, IsWriting, IsClosed}
-use Rattle.desk_core.specs.Whole.{IsWrittenWhole, IsWrittenInPart}
-use Rattle.desk_core.proofs.DeskLemmas.{same_input_trans, no_input_same}
+use Rattle.desk_core.specs.Desk.{FaultsNeverFall, WhereSpecified, content_of, IsSameInput, IsUnchanged, IsUnchangedButOutput, IsReading, IsTaken, IsWriting, IsClosed}
+use Rattle.desk_core.specs.Whole.{IsReadThrough, IsWrittenWhole, IsWrittenInPart}
+use Rattle.desk_core.proofs.DeskLemmas.{same_input_trans, no_input_same, input_stays, input_from}
 
 -- this many of the bytes are in the new file
 pub record IsWrittenSoFar (name : Name) (bytes : Content) (done : ℕ) (old new : View) : Type 0 where
@@ -86,3 +86,22 @@ prefix_read content bytes n old_buf new_buf more e t m =
     let size : length more ≡ length bytes + n = ap length m ∙ length-append bytes (take n new_buf) ∙ ap (λ (k : ℕ). length bytes + k) (length_taken content (length bytes) n old_buf new_buf t) in
     m ∙ ap (λ (xs : List ℕ). xs ++ take n new_buf) e ∙ ap (λ (xs : List ℕ). take (length bytes) content ++ xs) t.front
     ∙ sym (take-add (length bytes) n content) ∙ ap (λ (k : ℕ). take k content) (sym size)
+
+-- a file that was read through stays so where the input stays, where it was the same before, and where another is written
+pub through_stays : (name : Name) (limit : ℕ) (old mid new : View) → IsReadThrough name limit old mid → IsSameInput mid new
+    → new.place ≡ mid.place → new.reads name ≡ mid.reads name → IsReadThrough name limit old new
+through_stays name limit old mid new h same place reads =
+    record { input = input_stays name old mid new h.input same reads; end = λ bytes is. place ∙ h.end bytes (sym same.bytes ∙ is) }
+
+pub through_from : (name : Name) (limit : ℕ) (old mid new : View) → mid.files ≡ old.files → IsReadThrough name limit mid new
+    → IsReadThrough name limit old new
+through_from name limit old mid new same h = record { input = input_from name old mid new same h.input; end = h.end }
+
+pub through_beside : (name out : Name) (limit : ℕ) (old mid new : View) → out ≢ name → IsReadThrough name limit old mid
+    → (mid.input_name ≢ Some (Some out) → IsSameInput mid new) → new.place ≡ mid.place
+    → ((s : Name) → s ≢ out → new.reads s ≡ mid.reads s) → IsReadThrough name limit old new
+through_beside name out limit old mid new apart h other place reads =
+    through_stays name limit old mid new h (other (λ is. apart (once out name (h.input.only _ is)))) place (reads name (λ e. apart (sym e)))
+  where
+    once : (a b : Name) → Some a ≡ Some b → a ≡ b
+    once a b e = cc

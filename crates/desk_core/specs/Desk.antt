@@ -2,7 +2,7 @@
 use Rattle.std.specs.Prelude.{◌≡◌, ◌≢◌, ◌⊎◌, ℕ, ◌+◌, ◌-◌, ◌<◌, ◌≤◌, ◌^◌, List, [], ◌++◌, length, take, drop, Option, Some, None, Bool, true}
 use Rattle.desk_core.specs.View.{Name, Content, Files, View}
 
--- the faults rose: there are more, or the count stands at the last value of a u64
+-- the faults rose: there are more, or the count is the last value of a u64
 abbrev pub Rose : ℕ → ℕ → Type 0
 Rose before after = (before < after) ⊎ (after ≡ 2 ^ 64 - 1)
 

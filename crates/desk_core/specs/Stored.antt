@@ -56,7 +56,7 @@ abbrev pub output_name : List Stored → Option ℕ → Option Name
 output_name files None = None
 output_name files (Some output) = Some (name_at files output)
 
--- each file stands at its position, with its name; of another name it has its bytes too
+-- each file is at its position, with its name; of another name it has its bytes too
 pub record KeepsPositions (name : Name) (old new : List Stored) : Type 0 where
   pub longer : length old ≤ length new
   pub names : (k : ℕ) → k < length old → name_at new k ≡ name_at old k

@@ -7,7 +7,8 @@ use Rattle.silage_tree.specs.Tree.{Place, Expr, read, binary, Item, item, no_ite
 use Rattle.fix_word.specs.declared.types.SigType.{SigType}
 use Rattle.silage_tree.specs.declared.tree.Decl.{Decl}
 use Rattle.silage_tree.specs.OneLine.{bare, signal, term, main_function, Spots, Signals}
-use Rattle.silc.specs.Form.{HasForm, IsWhole, IsBare, IsInputRead, IsPlainNumber, IsTerm, IsAllowed, IsDistinct}
+use Rattle.silc.specs.Form.{HasForm}
+use Rattle.silc.specs.Private.Parts.{IsWhole, IsBare, IsInputRead, IsPlainNumber, IsTerm, IsAllowed, IsDistinct}
 use Rattle.silc.specs.declared.one_line.OneLine.{OneLine}
 
 pub single_of_map : {A B : Type 0} (g : A → B) (xs : List A) (y : B) → map g xs ≡ y ∷ [] → (x : A) × (xs ≡ x ∷ [])

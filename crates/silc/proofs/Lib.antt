@@ -7,6 +7,7 @@ pub mod Clear
 pub mod Run
 pub mod Compiled
 mod Examples
+pub mod Endings
 pub mod Making
 pub mod Samples
 pub mod Simulating

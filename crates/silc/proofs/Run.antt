@@ -31,7 +31,7 @@ module _ (program : OneLine) (stream : Rows) where
   held place t = Content (serial_image program) rows place t
 
   module _ (n : ℕ) (below : n < length stream) where
-    -- the first cycle of sample n, and the first behind its nodes
+    -- the first cycle of sample n, and the first after its nodes
     abbrev start : ℕ
     start = n * 16
 

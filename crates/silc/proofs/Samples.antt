@@ -8,7 +8,8 @@ use Rattle.std.proofs.lemmas.List.Elements.{All-head, All-tail, All-cons, All-ni
 use Rattle.std.proofs.lemmas.List.FromFn.{length-map-range_with_len, get_or-map-range_with_len, take-map-range_with_len, map-range_with_len_more}
 use Rattle.cycle_sim.specs.Issues.{IsOperand}
 use Rattle.desk_core.specs.View.{Name, Content, View}
-use Rattle.desk_core.specs.Desk.{content_of}
+use Rattle.desk_core.specs.Desk.{WhereSpecified, content_of}
+use Rattle.desk_core.specs.Whole.{IsReadThrough}
 use Rattle.micro_image.specs.Log.{Rows}
 use Rattle.micro_image.specs.Valid.{IsValid, IsWithin}
 use Rattle.micro_image.specs.declared.image.Image.{Image}
@@ -17,8 +18,9 @@ use Rattle.sample_io.specs.declared.RowList.{RowList}
 use Rattle.sample_io.specs.Channels.{IsInChannel, IsChannel, IsRow, IsStream}
 use Rattle.sample_io.specs.Samples.{IsLine, Lines, RowsOf, HoldsRows}
 use Rattle.sample_io.proofs.Streams.{RowsOf-stream}
-use Rattle.silc.specs.Sim.{channel_of, channels_of, row_of, stream_of, WhereTold}
-use Rattle.silc.specs.Running.{IsInputRow, IsStreamRead}
+use Rattle.silc.specs.Limits.{samples_limit}
+use Rattle.silc.specs.Sim.{channel_of, channels_of, row_of, stream_of}
+use Rattle.silc.specs.Private.Running.{IsInputRow, IsStreamRead}
 
 -- what a width's channel is
 pub channel_is : (width : ℕ) (channel : Channel) → (width ≡ 0 → channel ≡ record { low = pos 0; high = pos 1 })
@@ -115,18 +117,25 @@ input_rows image rows all stream =
     All-weaker (IsRow (channels_of image)) (IsInputRow image) (λ row is. record { count = row_count (channels_of image) row is ∙ length-map image.inputs channel_of; words = row_words (channels_of image) row all is }) rows stream
 
 -- the stream of a sample file that was read
-pub stream_read : (samples : Name) (image : Image) (desk : View) (bytes : Content) (channels : List Channel) (list : RowList) → IsValid image → channels ≡ channels_of image → All IsChannel channels
-    → length bytes ≤ 2 ^ 20 → WhereTold desk (λ files. bytes ≡ content_of (files samples)) → (rows : Rows) × RowsOf bytes channels rows × HoldsRows list rows × (list.width ≡ length channels)
-    → IsStreamRead samples image desk list
-stream_read samples image desk bytes channels list valid are each within told read =
+pub stream_read : (samples : Name) (image : Image) (old new : View) (bytes : Content) (channels : List Channel) (list : RowList)
+    → IsValid image → channels ≡ channels_of image → All IsChannel channels
+    → length bytes ≤ samples_limit → IsReadThrough samples samples_limit old new
+    → WhereSpecified old (λ files. bytes ≡ content_of (files samples))
+    → (rows : Rows) × RowsOf bytes channels rows × HoldsRows list rows × (list.width ≡ length channels)
+    → IsStreamRead samples image old new list
+stream_read samples image old new bytes channels list valid are each within through specified read =
     let count : list.width ≡ length image.inputs = read.3 ∙ ap length are ∙ length-map image.inputs channel_of in
     let width : IsWithin 1 16 list.width = (omega (arith, count, valid.input_count.0), omega (arith, count, valid.input_count.1)) in
     let rows : RowsOf bytes (channels_of image) (stream_of list) = subst (λ cs. RowsOf bytes cs (stream_of list)) are (subst (RowsOf bytes channels) (held_rows list read.0 width.0 read.2) read.1) in
     record {
+      read = through;
       input = record {
         width = width;
         rows = input_rows image (stream_of list) (subst (All IsChannel) are each) (RowsOf-stream bytes (channels_of image) (stream_of list) rows);
         few = omega (arith, within, rows_few bytes (channels_of image) (stream_of list) rows);
       };
-      told = λ files is. record { within = subst (λ b. length b ≤ 2 ^ 20) (told files is) within; rows = subst (λ b. RowsOf b (channels_of image) (stream_of list)) (told files is) rows };
+      specified = λ files is. record {
+        within = subst (λ b. length b ≤ samples_limit) (specified files is) within;
+        rows = subst (λ b. RowsOf b (channels_of image) (stream_of list)) (specified files is) rows;
+      };
     }

@@ -1,13 +1,16 @@
 -- How a machine runs a stream sample by sample, and how the parts of `sim` make up its answer.
-use Rattle.std.proofs.Common.{◌≡◌, sym, ap, ap₂, subst, ◌∙◌, arith, inl, inr, ◌⊎◌, ⊎_elim, ℕ, ◌+◌, ◌*◌, ◌%◌, ◌<◌, ◌≤◌, ◌^◌, List, [], ◌∷◌, ◌++◌, length, replicate, drop, ℤ, length-append, Result, Ok, Err, get_or, IfOk, IfErr}
+use Rattle.std.specs.declared.alloc.Global.{Global}
+use Rattle.std.proofs.Common.{None, ◌≡◌, sym, ap, ap₂, subst, ◌∙◌, arith, inl, inr, ⊎_elim, ℕ, ◌+◌, ◌*◌, ◌%◌, ◌<◌, ◌≤◌, ◌^◌, List, [], ◌∷◌, ◌++◌, length, replicate, drop, ℤ, length-append, Result, Ok, Err, get_or, IfOk, IfErr}
+use Rattle.std.specs.Prelude.{String}
 use Rattle.std.proofs.Math.Nat.{mul-mod_left, mul-lt-mul_of_pos_right}
 use Rattle.std.proofs.lemmas.Grind.{flat_map-append}
 use Rattle.std.proofs.lemmas.List.{append-nil}
 use Rattle.cycle_sim.specs.Machine.{Snapshot, state_of, IsAtSample, IsFirstOfSample}
 use Rattle.desk_core.specs.View.{Name, Content, View}
-use Rattle.desk_core.specs.Desk.{Told, IsPut, WriteFaultsRose, FaultsNeverFall, IsUnchanged}
-use Rattle.desk_core.specs.Whole.{IsPrefixPut}
-use Rattle.desk_core.proofs.DeskLemmas.{rose_later, rose_earlier, told_from}
+use Rattle.desk_core.specs.Desk.{HasOutput, IfSpecified, WhereSpecified, IsPut, FaultsNeverFall, IsUnchanged}
+use Rattle.desk_core.specs.Whole.{IsReadThrough}
+use Rattle.desk_core.proofs.DeskLemmas.{rose_earlier}
+use Rattle.desk_core.proofs.WholeLemmas.{through_from}
 use Rattle.micro_image.specs.declared.conflict.Conflict.{Conflict}
 use Rattle.micro_image.specs.declared.image.Image.{Image}
 use Rattle.micro_image.specs.Conflict.{IsConflict, IsClearBelow}
@@ -18,12 +21,16 @@ use Rattle.micro_image.proofs.Streams.{length-spread, spread-append, IsRunOut-mo
 use Rattle.sample_io.specs.declared.RowList.{RowList}
 use Rattle.sample_io.specs.Samples.{printed, printed_row}
 use Rattle.silc.specs.declared.sim.Kept.{Kept}
-use Rattle.silc.specs.declared.sim.Kept.TheVariants.{Nothing}
 use Rattle.silc.specs.declared.status.Status.{Status}
 use Rattle.silc.specs.declared.status.Status.TheVariants.{Done, Memory, Words, Desk, FrontEnd, Image as bad_image, Samples as bad_samples, Conflict as in_conflict, NotBuilt}
-use Rattle.silc.specs.Running.{IsLoaded, IsStreamRead, IsRunRefusal, IsMadeRun}
-use Rattle.silc.specs.Sim.{stream_of, HasRun, IsFirstConflict, IsRefusal, IsSimulated, IsNotWritten, IsSimAnswer}
-use Rattle.silc.proofs.Making.{quiet}
+use Rattle.silc.specs.Command.{IsCommand, IsCompile, IsSim}
+use Rattle.silc.specs.Compile.{IsAnswer}
+use Rattle.silc.specs.Endings.{IsNotWritten, IsFinished}
+use Rattle.silc.specs.Limits.{microcode_limit, samples_limit}
+use Rattle.silc.specs.Private.Reading.{OnlyReads}
+use Rattle.silc.specs.Private.Running.{IsLoaded, IsStreamRead, IsRunError, IsMadeRun}
+use Rattle.silc.specs.Sim.{stream_of, HasRun, IsFirstConflict, HasStream, IsSimUnread, IsSimError, IsSimulated, IsSimCutShort, IsSimAnswer}
+use Rattle.silc.proofs.Endings.{reads_both, unchanged_still, specified_still, rejected_still, finished_still, not_written_still}
 use Rattle.silc.proofs.Samples.{first_rows, first_more, stream_parts}
 
 -- one more row, for a whole period
@@ -85,16 +92,16 @@ conflict_before image stream later conflict first =
       within = omega (arith, below, length-spread image.period stream, length-spread image.period later, ap length cycles, length-append (spread image.period stream) (spread image.period later), length-spread image.period (stream ++ later));
     }
 
-pub refusal_before : (image : Image) (stream later all : Rows) (status : Status) → stream ++ later ≡ all → IsRunRefusal image stream status → IsRunRefusal image all status
-refusal_before image stream later all Done e h = absurd h
-refusal_before image stream later all Memory e h = tt
-refusal_before image stream later all Words e h = absurd h
-refusal_before image stream later all Desk e h = absurd h
-refusal_before image stream later all (bad_image fault) e h = absurd h
-refusal_before image stream later all (bad_samples fault) e h = absurd h
-refusal_before image stream later all (in_conflict conflict) e h = subst (λ rows. IsFirstConflict image rows conflict) e (conflict_before image stream later conflict h)
-refusal_before image stream later all (FrontEnd fault) e h = absurd h
-refusal_before image stream later all NotBuilt e h = absurd h
+pub error_before : (image : Image) (stream later all : Rows) (status : Status) → stream ++ later ≡ all → IsRunError image stream status → IsRunError image all status
+error_before image stream later all Done e h = absurd h
+error_before image stream later all Memory e h = tt
+error_before image stream later all Words e h = absurd h
+error_before image stream later all Desk e h = absurd h
+error_before image stream later all (bad_image fault) e h = absurd h
+error_before image stream later all (bad_samples fault) e h = absurd h
+error_before image stream later all (in_conflict conflict) e h = subst (λ rows. IsFirstConflict image rows conflict) e (conflict_before image stream later conflict h)
+error_before image stream later all (FrontEnd fault) e h = absurd h
+error_before image stream later all NotBuilt e h = absurd h
 
 -- the machine's own image ran
 pub own_image : (image : Image) (stream : Rows) (machine : Snapshot) (text : Content) → HasRun image stream machine text → HasRun machine.image stream machine text
@@ -108,99 +115,122 @@ module _ (image : Image) (list : RowList) (n : ℕ) (row : List ℤ) (machine : 
   pub next_ran : (new : Snapshot) (more : Content) → HasRun machine.image (first_rows list n ++ row ∷ []) new more → HasRun image (first_rows list (n + 1)) new more
   next_ran new more next = subst (λ i. HasRun i (first_rows list (n + 1)) new more) ran.image_is (subst (λ rows. HasRun machine.image rows new more) next_rows next)
 
-  -- it was refused
-  pub next_refused : (status : Status) → IsRunRefusal machine.image (first_rows list n ++ row ∷ []) status → IsRunRefusal image (stream_of list) status
-  next_refused status refused =
-      refusal_before image (first_rows list (n + 1)) (drop (n + 1) (stream_of list)) (stream_of list) status (stream_parts list (n + 1) (omega (arith, h)))
-      (subst (λ rows. IsRunRefusal image rows status) next_rows (subst (λ i. IsRunRefusal i (first_rows list n ++ row ∷ []) status) ran.image_is refused))
+  -- it was not run
+  pub next_error : (status : Status) → IsRunError machine.image (first_rows list n ++ row ∷ []) status → IsRunError image (stream_of list) status
+  next_error status error =
+      error_before image (first_rows list (n + 1)) (drop (n + 1) (stream_of list)) (stream_of list) status (stream_parts list (n + 1) (omega (arith, h)))
+      (subst (λ rows. IsRunError image rows status) next_rows (subst (λ i. IsRunError i (first_rows list n ++ row ∷ []) status) ran.image_is error))
 
--- the run of what was read
-pub made_run : (mic samples : Name) (old mid : View) (machine after : Snapshot) (list : RowList) (text : Content) → IsLoaded mic old machine → mid.files ≡ old.files
-    → IsStreamRead samples machine.image mid list → HasRun machine.image (stream_of list) after text → IsMadeRun mic samples old after text
-made_run mic samples old mid machine after list text loaded same read ran = record {
-  image = machine.image;
-  stream = stream_of list;
-  ran = ran;
-  told = λ files is. record { microcode = loaded.told files is; samples_are = read.told files (same ∙ is) };
-}
+module _ (mic samples : Name) (old mid new : View) (machine : Snapshot) (first : OnlyReads mic mic old mid) (second : OnlyReads samples samples mid new)
+    (loaded : IsLoaded mic old machine) where
+  both : OnlyReads mic samples old new
+  both = reads_both mic samples old mid new first second
 
--- a refusal of the run is one of the command
-pub run_refused : (mic samples : Name) (old mid new : View) (machine : Snapshot) (list : RowList) (status : Status) → IsLoaded mic old machine → mid.files ≡ old.files
-    → IsStreamRead samples machine.image mid list → IsRunRefusal machine.image (stream_of list) status → IsRefusal mic samples old new status
-run_refused mic samples old mid new machine list Done loaded same read h = absurd h
-run_refused mic samples old mid new machine list Memory loaded same read h = tt
-run_refused mic samples old mid new machine list Words loaded same read h = absurd h
-run_refused mic samples old mid new machine list Desk loaded same read h = absurd h
-run_refused mic samples old mid new machine list (bad_image fault) loaded same read h = absurd h
-run_refused mic samples old mid new machine list (bad_samples fault) loaded same read h = absurd h
-run_refused mic samples old mid new machine list (in_conflict conflict) loaded same read h = λ files is. (machine.image, stream_of list, record { microcode = loaded.told files is; samples_are = read.told files (same ∙ is) }, h)
-run_refused mic samples old mid new machine list (FrontEnd fault) loaded same read h = absurd h
-run_refused mic samples old mid new machine list NotBuilt loaded same read h = absurd h
+  module _ (list : RowList) (stream : IsStreamRead samples machine.image mid new list) where
+    has_stream : WhereSpecified old (HasStream mic samples machine.image (stream_of list))
+    has_stream files is =
+        record { microcode = loaded.specified files is; samples_are = stream.specified files (first.unchanged.files ∙ is) }
+
+    through : IsReadThrough samples samples_limit old new
+    through = through_from samples samples_limit old mid new first.unchanged.files stream.read
+
+    -- the run of what was read
+    pub made_run : (after : Snapshot) (text : Content) → HasRun machine.image (stream_of list) after text → IsMadeRun mic samples old new after text
+    made_run after text ran = record { read = through; image = machine.image; stream = stream_of list; ran = ran; specified = has_stream }
+
+    -- an error of the run is one of the command
+    pub run_error : (status : Status) → IsRunError machine.image (stream_of list) status → IsSimError mic samples old new status
+    run_error Memory h = both.unchanged
+    run_error (in_conflict conflict) h = record {
+      unchanged = both.unchanged;
+      read = through;
+      why = λ files is. (machine.image, stream_of list, has_stream files is, h);
+    }
+    run_error Done h = absurd h
+    run_error Words h = absurd h
+    run_error Desk h = absurd h
+    run_error (bad_image fault) h = absurd h
+    run_error (bad_samples fault) h = absurd h
+    run_error (FrontEnd fault) h = absurd h
+    run_error NotBuilt h = absurd h
 
 -- OUT was written
-pub simulated : (mic samples out : Name) (old mid new : View) (machine : Snapshot) (text : Content) → IsMadeRun mic samples old machine text → mid.files ≡ old.files
-    → Told (IsPut out text) mid.files new.files → IsSimulated mic samples out machine old new
-simulated mic samples out old mid new machine text made same written = record {
+pub simulated : (mic samples out : Name) (old mid new : View) (machine : Snapshot) (text : Content) → IsMadeRun mic samples old mid machine text
+    → mid.files ≡ old.files → IsFinished samples samples_limit old new → IfSpecified (IsPut out text) mid.files new.files
+    → IsSimulated mic samples out machine old new
+simulated mic samples out old mid new machine text made same finished written = record {
+  finished = finished;
   image = made.image;
   stream = made.stream;
   text = text;
   ran = made.ran;
-  files = λ after told. let put = written after told in (put.0, sym same ∙ put.1, (made.told put.0 (sym same ∙ put.1), put.2));
+  files = λ after is. let put = written after is in (put.0, sym same ∙ put.1, (made.specified put.0 (sym same ∙ put.1), put.2));
 }
 
 -- writing it failed
-pub not_simulated : (mic samples out : Name) (old mid new : View) (machine : Snapshot) (text : Content) (kept : Kept) (status : Status) → status ≡ Desk → kept ≡ Nothing
-    → IsMadeRun mic samples old machine text → mid.files ≡ old.files → FaultsNeverFall old mid → WriteFaultsRose out mid new
-    → Told (λ before after. (after ≡ before) ⊎ IsPrefixPut out text before after) mid.files new.files → IsSimAnswer mic samples out old new kept status
-not_simulated mic samples out old mid new machine text kept status desk nothing made same le rose put =
-    subst (IsSimAnswer mic samples out old new kept) (sym desk) (
-      nothing,
-      inr (record {
-        rose = rose_later _ _ _ (le.writing out) rose;
-        image = made.image;
-        stream = made.stream;
-        rows = made.ran.rows;
-        run = made.ran.run;
-        told = made.told;
-        files = subst (λ bytes. Told (λ before after. (after ≡ before) ⊎ IsPrefixPut out bytes before after) old.files new.files) made.ran.text_is (told_from _ old.files mid.files new.files same put);
-      }),
-    )
+pub not_simulated : (mic samples out : Name) (old mid new : View) (machine : Snapshot) (text : Content) (kept : Kept) (status : Status)
+    → status ≡ Desk → IsMadeRun mic samples old mid machine text → IsNotWritten samples samples_limit out text old new
+    → IsSimAnswer mic samples out old new kept status
+not_simulated mic samples out old mid new machine text kept status desk made written =
+    subst (IsSimAnswer mic samples out old new kept) (sym desk)
+    (inr (record {
+      image = made.image;
+      stream = made.stream;
+      rows = made.ran.rows;
+      run = made.ran.run;
+      specified = made.specified;
+      written = subst (λ bytes. IsNotWritten samples samples_limit out bytes old new) made.ran.text_is written;
+    }))
 
--- the faults that a refusal speaks of stay risen
-faults_stay : (mic samples : Name) (old mid new : View) → FaultsNeverFall old mid → FaultsNeverFall mid new → IsRefusal mic samples old mid Desk → IsRefusal mic samples old new Desk
-faults_stay mic samples old mid new before later (inl rose) = inl (rose_earlier _ _ _ (before.reading mic) rose (later.reading mic))
-faults_stay mic samples old mid new before later (inr h) = inr (rose_earlier _ _ _ (before.reading samples) h.0 (later.reading samples), h.1)
+-- a report of the error leaves the answer of `sim` as it is
+module _ (mic samples out : Name) (old mid new : View) (same : IsUnchanged mid new) (later : FaultsNeverFall mid new) (before : FaultsNeverFall old mid) where
+  sim_unread_still : IsSimUnread mic samples old mid → IsSimUnread mic samples old new
+  sim_unread_still h = record {
+    unchanged = unchanged_still old mid new same h.unchanged;
+    rose = ⊎_elim (λ r. inl (rose_earlier _ _ _ (before.reading mic) r (later.reading mic))) (λ r. inr (rose_earlier _ _ _ (before.reading samples) r.0 (later.reading samples), r.1)) h.rose;
+  }
 
-not_written_either : (mic samples out : Name) (old mid new : View) → IsUnchanged mid new → FaultsNeverFall old mid → FaultsNeverFall mid new → IsNotWritten mic samples out old mid → IsNotWritten mic samples out old new
-not_written_either mic samples out old mid new same before later h = record {
-  rose = rose_earlier _ _ _ (before.writing out) h.rose (later.writing out);
-  image = h.image;
-  stream = h.stream;
-  rows = h.rows;
-  run = h.run;
-  told = h.told;
-  files = λ after told. h.files after (sym same.files ∙ told);
-}
+  sim_cut_short_still : IsSimCutShort mic samples out old mid → IsSimCutShort mic samples out old new
+  sim_cut_short_still h = record {
+    image = h.image;
+    stream = h.stream;
+    rows = h.rows;
+    run = h.run;
+    specified = h.specified;
+    written = not_written_still old mid new same samples out samples_limit (printed h.rows) before later h.written;
+  }
 
--- a complaint leaves the answer of `sim` as it is
-pub sim_complained : (mic samples out : Name) (old mid new : View) (kept : Kept) (status : Status) → IsUnchanged mid new → FaultsNeverFall mid new → FaultsNeverFall old mid
-    → IsSimAnswer mic samples out old mid kept status → IsSimAnswer mic samples out old new kept status
-sim_complained mic samples out old mid new kept Done same later before h = (
-  h.0,
-  h.1,
-  record { image = h.2.image; stream = h.2.stream; text = h.2.text; ran = h.2.ran; files = λ after told. h.2.files after (sym same.files ∙ told) },
-)
-sim_complained mic samples out old mid new kept Memory same later before h = (h.0, quiet old mid new h.1 same, h.2)
-sim_complained mic samples out old mid new kept Words same later before h = absurd h.2
-sim_complained mic samples out old mid new kept Desk same later before h = (
-  h.0,
-  ⊎_elim (λ early. inl (quiet old mid new early.0 same, faults_stay mic samples old mid new before later early.1)) (λ late. inr (not_written_either mic samples out old mid new same before later late)) h.1,
-)
-sim_complained mic samples out old mid new kept (bad_image fault) same later before h = (h.0, quiet old mid new h.1 same, h.2)
-sim_complained mic samples out old mid new kept (bad_samples fault) same later before h = (h.0, quiet old mid new h.1 same, h.2)
-sim_complained mic samples out old mid new kept (in_conflict conflict) same later before h = (h.0, quiet old mid new h.1 same, h.2)
-sim_complained mic samples out old mid new kept (FrontEnd fault) same later before h = absurd h.2
-sim_complained mic samples out old mid new kept NotBuilt same later before h = absurd h.2
+  pub sim_reported : (kept : Kept) (status : Status) → IsSimAnswer mic samples out old mid kept status
+      → IsSimAnswer mic samples out old new kept status
+  sim_reported kept Done h = (
+    h.0,
+    h.1,
+    record {
+      finished = finished_still old mid new same samples samples_limit h.2.finished;
+      image = h.2.image;
+      stream = h.2.stream;
+      text = h.2.text;
+      ran = h.2.ran;
+      files = specified_still old mid new same _ h.2.files;
+    },
+  )
+  sim_reported kept Memory h = unchanged_still old mid new same h
+  sim_reported kept Words h = h
+  sim_reported kept Desk h = ⊎_elim (λ early. inl (sim_unread_still early)) (λ late. inr (sim_cut_short_still late)) h
+  sim_reported kept (bad_image fault) h = (h.0, rejected_still old mid new same mic microcode_limit _ h.1)
+  sim_reported kept (bad_samples fault) h = rejected_still old mid new same samples samples_limit _ h
+  sim_reported kept (in_conflict conflict) h = rejected_still old mid new same samples samples_limit _ h
+  sim_reported kept (FrontEnd fault) h = h
+  sim_reported kept NotBuilt h = h
+
+-- a command that is done has closed OUT
+pub done_closed : (words : List (String Global)) (old new : View) (kept : Kept) (status : Status) → status ≡ Done → IsCommand words
+    → ((src datapath out : Name) → IsCompile words src datapath out → IsAnswer src datapath out old new status)
+    → ((mic samples out : Name) → IsSim words mic samples out → IsSimAnswer mic samples out old new kept status) → HasOutput None new
+done_closed words old new kept status done (first, second, out, inl form) compile sim =
+    (subst (λ (s : Status). IsAnswer first second out old new s) done (compile first second out form)).0.closed
+done_closed words old new kept status done (first, second, out, inr form) compile sim =
+    (subst (λ (s : Status). IsSimAnswer first second out old new kept s) done (sim first second out form)).2.finished.closed
 
 pub if_ok : {T E : Type 0} (r : Result T E) (P Q : T → Type 0) → ((x : T) → P x → Q x) → IfOk r P → IfOk r Q
 if_ok (Ok x) P Q f h = f x h

@@ -18,7 +18,7 @@ nth-replicate zero x k = refl
 nth-replicate (suc n) x zero = refl
 nth-replicate (suc n) x (suc k) = nth-replicate n x k
 
--- no node stands at the cycles from 4 on
+-- there is no node at the cycles from 4 on
 pub idle : (program : OneLine) (k : ℕ) → 4 ≤ k → nth (serial_words program) k no_word ≡ no_word
 idle program zero h = absurd (omega (arith, h))
 idle program (suc zero) h = absurd (omega (arith, h))

@@ -9,16 +9,26 @@ use Rattle.silage_tree.specs.Value.{Words}
 use Rattle.silage_tree.specs.Solves.{IsStream, IsOneSolution, out}
 use Rattle.silc.specs.Form.{HasForm}
 use Rattle.silc.specs.Front.{HasProgram}
+use Rattle.silc.specs.Plain.{plain_period, plain_text}
 use Rattle.silc.specs.Serial.{serial_image}
 use Rattle.silc.specs.declared.one_line.OneLine.{OneLine}
-use Rattle.silc.specs.declared.plain.TheConstants.{PLAIN}
 
 -- the source has this program and no other, which is in the one-line form, and the datapath is PLAIN
-pub record IsAccepted (source path : List ℕ) (program : Program) (form : OneLine) : Type 0 where
+pub record IsAccepted (source datapath : List ℕ) (program : Program) (form : OneLine) : Type 0 where
   pub read : HasProgram source program
   pub unique : (other : Program) → HasProgram source other → other ≡ program
   pub one_line : HasForm program form
-  pub plain : path ≡ PLAIN.now
+  pub plain : datapath ≡ plain_text
+
+-- the source and the datapath have an accepted program
+abbrev pub IsTaken : List ℕ → List ℕ → Type 0
+IsTaken source datapath = (program : Program) × (form : OneLine) × IsAccepted source datapath program form
+
+-- the source has a program, which is not one that is taken over the datapath
+pub record IsNotTaken (source datapath : List ℕ) : Type 0 where
+  pub program : Program
+  pub read : HasProgram source program
+  pub rejected : ¬ IsTaken source datapath
 
 -- the bytes spell the image, and no other
 pub record SpellsOnly (bytes : List ℕ) (image : Image) : Type 0 where
@@ -34,12 +44,12 @@ RunsTheSolution program image =
 
 -- The source is accepted, the microcode spells the image of its serial plan and nothing else, and that image runs the
 -- source's one solution in the datapath's period.
-pub record IsCompiled (source path microcode : List ℕ) : Type 0 where
+pub record IsCompiled (source datapath microcode : List ℕ) : Type 0 where
   pub program : Program
   pub form : OneLine
-  pub accepted : IsAccepted source path program form
+  pub accepted : IsAccepted source datapath program form
   pub image : Image
   pub spelled : SpellsOnly microcode image
   pub planned : image ≡ serial_image form
   pub runs : RunsTheSolution program image
-  pub period : image.period ≡ 16
+  pub period : image.period ≡ plain_period

@@ -1,10 +1,12 @@
+pub mod Limits
 pub mod Status
+pub mod Plain
 pub mod Form
 pub mod Front
 pub mod Serial
 pub mod Headline
+pub mod Command
+pub mod Endings
 pub mod Compile
 pub mod Sim
-pub mod Running
-pub mod Command
-pub mod Deaf
+pub mod Private

@@ -1,4 +1,4 @@
--- The serial plan of a one-line program over the datapath PLAIN: node v of the graph stands at cycle v, and each value
+-- The serial plan of a one-line program over the datapath PLAIN: node v of the graph is at cycle v, and each value
 -- goes over bus 0 to register 0.
 use Rattle.std.specs.Prelude.{ℕ, Bool, true, false, ◌++◌, List, [], ◌∷◌, ℤ, pos, replicate}
 use Rattle.fix_word.specs.declared.types.Format.{Format}
@@ -12,6 +12,7 @@ use Rattle.micro_image.specs.declared.image.Kind.TheVariants as kind
 use Rattle.micro_image.specs.declared.image.UnitDesc.{UnitDesc}
 use Rattle.micro_image.specs.declared.image.Word.{Word}
 use Rattle.micro_image.specs.Fields.{no_word}
+use Rattle.silc.specs.Plain.{plain_period}
 use Rattle.silc.specs.declared.one_line.OneLine.{OneLine}
 
 -- registers that all start at 0
@@ -47,7 +48,13 @@ number_issue program = record { unit = 1; op = op.Const; fmt = no_format; arg = 
 
 abbrev pub term_issue : OneLine → Issue
 term_issue program =
-    record { unit = 2; op = operation program.plus; fmt = record { shift = pos 0; mode = Trunc; width = program.width }; arg = pos 0; regs = 0 ∷ 0 ∷ [] }
+    record {
+      unit = 2;
+      op = operation program.plus;
+      fmt = record { shift = pos 0; mode = Trunc; width = program.width };
+      arg = pos 0;
+      regs = 0 ∷ 0 ∷ [];
+    }
 
 abbrev pub output_issue : Issue
 output_issue = record { unit = 3; op = op.Output; fmt = no_format; arg = pos 0; regs = 0 ∷ [] }
@@ -61,7 +68,7 @@ moving_word issue unit port =
       takes = record { port = record { unit = unit; port = port }; bus = 0; reg = 0 } ∷ [];
     }
 
--- the words of the nodes, which stand at cycles 0 to 3
+-- the words of the nodes, which are at cycles 0 to 3
 abbrev pub node_words : OneLine → List Word
 node_words program =
     moving_word input_issue 2 0
@@ -70,7 +77,7 @@ node_words program =
     ∷ record { issues = output_issue ∷ []; enables = []; takes = [] }
     ∷ []
 
--- the words of one sample: nothing is done at the cycles behind the nodes
+-- the words of one sample: nothing is done at the cycles after the nodes
 abbrev pub serial_words : OneLine → List Word
 serial_words program = node_words program ++ replicate 12 no_word
 
@@ -78,7 +85,7 @@ serial_words program = node_words program ++ replicate 12 no_word
 abbrev pub serial_image : OneLine → Image
 serial_image program =
     record {
-      period = 16;
+      period = plain_period;
       unroll = 1;
       inputs = program.width ∷ [];
       outs = 1;

@@ -1,10 +1,10 @@
--- What `sim` reads, what it runs, and what each of its statuses says.
-use Rattle.std.specs.Prelude.{◌≡◌, ◌≢◌, ◌⊎◌, ℕ, zero, suc, ◌+◌, ◌-◌, ◌*◌, ◌/◌, ◌<◌, ◌≤◌, ◌^◌, List, length, map, slice_range, Some, ℤ, pos, neg_ℤ}
+-- What `sim MIC SAMPLES OUT` reads and runs, when each of its statuses comes, and what it leaves.
+use Rattle.std.specs.Prelude.{◌≡◌, ◌⊎◌, ℕ, zero, suc, ◌+◌, ◌-◌, ◌*◌, ◌/◌, ◌<◌, ◌≤◌, ◌^◌, List, length, map, slice_range, ℤ, pos, neg_ℤ}
 use Rattle.std.specs.List.{range_with_len}
 use Rattle.cycle_sim.specs.Machine.{Snapshot, state_of}
 use Rattle.desk_core.specs.View.{Name, Content, Files, View}
-use Rattle.desk_core.specs.Desk.{Told, ReadFaultsRose, WriteFaultsRose, IsPut, content_of}
-use Rattle.desk_core.specs.Whole.{IsUnchangedButInput, IsPrefixPut}
+use Rattle.desk_core.specs.Desk.{IfSpecified, WhereSpecified, ReadFaultsRose, IsPut, content_of}
+use Rattle.desk_core.specs.Whole.{IsUnchangedButInput}
 use Rattle.micro_file.specs.declared.fault.FormFault.TheVariants as form
 use Rattle.micro_image.specs.declared.conflict.Conflict.{Conflict}
 use Rattle.micro_image.specs.declared.image.Image.{Image}
@@ -15,8 +15,10 @@ use Rattle.micro_image.specs.Spells.{Spells}
 use Rattle.sample_io.specs.declared.channel.Channel.{Channel}
 use Rattle.sample_io.specs.declared.RowList.{RowList}
 use Rattle.sample_io.specs.Samples.{RowsOf, IsFirstBadPlace, printed}
+use Rattle.silc.specs.Endings.{IsRejected, IsNotWritten, IsFinished}
+use Rattle.silc.specs.Limits.{microcode_limit, samples_limit}
 use Rattle.silc.specs.declared.sim.Kept.{Kept}
-use Rattle.silc.specs.declared.sim.Kept.TheVariants.{Nothing, One}
+use Rattle.silc.specs.declared.sim.Kept.TheVariants.{One}
 use Rattle.silc.specs.declared.status.ImageFault.{ImageFault}
 use Rattle.silc.specs.declared.status.ImageFault.TheVariants as image_fault
 use Rattle.silc.specs.declared.status.SampleFault.{SampleFault}
@@ -24,7 +26,7 @@ use Rattle.silc.specs.declared.status.SampleFault.TheVariants as sample_fault
 use Rattle.silc.specs.declared.status.Status.{Status}
 use Rattle.silc.specs.declared.status.Status.TheVariants as status
 
--- the channel of an input word of so many bits; 0 is the width of a truth value
+-- the channel of an input word of this many bits; 0 is the width of a truth value
 abbrev pub channel_of : ℕ → Channel
 channel_of zero = record { low = pos 0; high = pos 1 }
 channel_of (suc n) = record { low = neg_ℤ (pos (2 ^ n)); high = pos (2 ^ n - 1) }
@@ -33,24 +35,24 @@ channel_of (suc n) = record { low = neg_ℤ (pos (2 ^ n)); high = pos (2 ^ n - 1
 abbrev pub channels_of : Image → List Channel
 channels_of image = map channel_of image.inputs
 
--- the rows that a list holds one behind the other
+-- the rows that a list holds one after the other
 abbrev pub row_of : RowList → ℕ → List ℤ
 row_of list n = slice_range list.words (n * list.width) ((n + 1) * list.width)
 
 abbrev pub stream_of : RowList → Rows
 stream_of list = map (row_of list) (range_with_len 0 (length list.words / list.width))
 
--- at most 2^26 bytes, which spell the image
+-- the bytes are within the limit and spell the image
 pub record IsMicrocodeOf (content : Content) (image : Image) : Type 0 where
-  pub within : length content ≤ 2 ^ 26
+  pub within : length content ≤ microcode_limit
   pub spells : Spells content image
 
--- at most 2^20 bytes, which are the rows of a stream for the image
+-- the bytes are within the limit, and are the rows of a stream for the image
 pub record AreSamplesFor (image : Image) (content : Content) (stream : Rows) : Type 0 where
-  pub within : length content ≤ 2 ^ 20
+  pub within : length content ≤ samples_limit
   pub rows : RowsOf content (channels_of image) stream
 
--- The image ran the stream without a conflict; the machine stands where the image is after it, with each row for a whole
+-- The image ran the stream without a conflict; the machine is in the image's state after it, with each row for a whole
 -- period, and the text is the rows that the run put.
 pub record HasRun (image : Image) (stream : Rows) (machine : Snapshot) (text : Content) : Type 0 where
   pub image_is : machine.image ≡ image
@@ -65,69 +67,99 @@ pub record IsFirstConflict (image : Image) (stream : Rows) (conflict : Conflict)
   pub clear : IsClearBelow image (spread image.period stream) conflict.cycle
   pub within : conflict.cycle < length stream * image.period
 
+-- the bytes spell no image
+abbrev pub SpellsNone : Content → Type 0
+SpellsNone content = (image : Image) → Spells content image → ⊥
+
 -- why the bytes are no microcode
 abbrev pub IsImageFault : Content → ImageFault → Type 0
-IsImageFault content image_fault.TooLong = 2 ^ 26 < length content
-IsImageFault content (image_fault.File form.NotSpelled) = (length content ≤ 2 ^ 26) × ((image : Image) → Spells content image → ⊥)
+IsImageFault content image_fault.TooLong = microcode_limit < length content
+IsImageFault content (image_fault.File form.NotSpelled) = (length content ≤ microcode_limit) × SpellsNone content
 IsImageFault content (image_fault.File form.Memory) = ⊥
+
+-- the fault is one of microcode; want of memory is a status of its own
+abbrev pub IsOfMicrocode : ImageFault → Type 0
+IsOfMicrocode (image_fault.File form.Memory) = ⊥
+IsOfMicrocode fault = Unit {0}
 
 -- why the bytes are no samples for the image
 abbrev pub IsSampleFault : Image → Content → SampleFault → Type 0
-IsSampleFault image content sample_fault.TooLong = 2 ^ 20 < length content
-IsSampleFault image content (sample_fault.Row line at) = (length content ≤ 2 ^ 20) × IsFirstBadPlace content (channels_of image) (record { line = line; at = at })
-
--- where the desk tells its files, they are so
-abbrev pub WhereTold : View → (Files → Type 0) → Type 0
-WhereTold desk P = (files : Files) → desk.files ≡ Some files → P files
+IsSampleFault image content sample_fault.TooLong = samples_limit < length content
+IsSampleFault image content (sample_fault.Row line at) =
+    (length content ≤ samples_limit) × IsFirstBadPlace content (channels_of image) (record { line = line; at = at })
 
 -- MIC has the image
 abbrev pub HasImage : Name → Files → Image → Type 0
 HasImage mic files image = IsMicrocodeOf (content_of (files mic)) image
 
+-- MIC has an image
+abbrev pub HasSomeImage : Name → Files → Type 0
+HasSomeImage mic files = (image : Image) × HasImage mic files image
+
 -- MIC has the image, and SAMPLES the stream for it
-pub record HasStream (mic samples : Name) (files : Files) (image : Image) (stream : Rows) : Type 0 where
+pub record HasStream (mic samples : Name) (image : Image) (stream : Rows) (files : Files) : Type 0 where
   pub microcode : HasImage mic files image
   pub samples_are : AreSamplesFor image (content_of (files samples)) stream
 
--- Why `sim` refuses before it creates OUT. A refusal of one input stands only where none of an earlier input is due.
-abbrev pub IsRefusal : Name → Name → View → View → Status → Type 0
-IsRefusal mic samples old new status.Done = ⊥
-IsRefusal mic samples old new status.Memory = Unit {0}
-IsRefusal mic samples old new status.Words = ⊥
-IsRefusal mic samples old new status.Desk = ReadFaultsRose mic old new ⊎ (ReadFaultsRose samples old new × WhereTold old (λ files. (image : Image) × HasImage mic files image))
-IsRefusal mic samples old new (status.Image fault) = (fault ≢ image_fault.File form.Memory) × WhereTold old (λ files. IsImageFault (content_of (files mic)) fault)
-IsRefusal mic samples old new (status.Samples fault) = WhereTold old (λ files. (image : Image) × HasImage mic files image × IsSampleFault image (content_of (files samples)) fault)
-IsRefusal mic samples old new (status.Conflict conflict) = WhereTold old (λ files. (image : Image) × (stream : Rows) × HasStream mic samples files image stream × IsFirstConflict image stream conflict)
-IsRefusal mic samples old new (status.FrontEnd fault) = ⊥
-IsRefusal mic samples old new status.NotBuilt = ⊥
+-- MIC is no microcode
+abbrev pub HasImageFault : Name → ImageFault → Files → Type 0
+HasImageFault mic fault files = IsImageFault (content_of (files mic)) fault
+
+-- MIC has an image, and SAMPLES has no stream for it
+abbrev pub HasSampleFault : Name → Name → SampleFault → Files → Type 0
+HasSampleFault mic samples fault files =
+    (image : Image) × HasImage mic files image × IsSampleFault image (content_of (files samples)) fault
+
+-- MIC's image has a conflict in its run over the stream of SAMPLES
+abbrev pub HasConflict : Name → Name → Conflict → Files → Type 0
+HasConflict mic samples conflict files =
+    (image : Image) × (stream : Rows) × HasStream mic samples image stream files × IsFirstConflict image stream conflict
+
+-- MIC could not be read, or it has an image and SAMPLES could not be read; at most the input and the faults changed
+pub record IsSimUnread (mic samples : Name) (old new : View) : Type 0 where
+  pub unchanged : IsUnchangedButInput old new
+  pub rose : ReadFaultsRose mic old new ⊎ (ReadFaultsRose samples old new × WhereSpecified old (HasSomeImage mic))
+
+-- Why `sim` ends before it creates OUT. Each input is read through before it is judged, and an error of SAMPLES comes
+-- only where MIC has an image.
+abbrev pub IsSimError : Name → Name → View → View → Status → Type 0
+IsSimError mic samples old new status.Memory = IsUnchangedButInput old new
+IsSimError mic samples old new status.Desk = IsSimUnread mic samples old new
+IsSimError mic samples old new (status.Image fault) =
+    IsOfMicrocode fault × IsRejected mic microcode_limit (HasImageFault mic fault) old new
+IsSimError mic samples old new (status.Samples fault) =
+    IsRejected samples samples_limit (HasSampleFault mic samples fault) old new
+IsSimError mic samples old new (status.Conflict conflict) =
+    IsRejected samples samples_limit (HasConflict mic samples conflict) old new
+IsSimError mic samples old new _ = ⊥
 
 -- MIC's image ran the stream of SAMPLES to its end; OUT has the rows of the run, and every other file is as it was
 pub record IsSimulated (mic samples out : Name) (machine : Snapshot) (old new : View) : Type 0 where
+  pub finished : IsFinished samples samples_limit old new
   pub image : Image
   pub stream : Rows
   pub text : Content
   pub ran : HasRun image stream machine text
-  pub files : Told (λ before after. HasStream mic samples before image stream × IsPut out text before after) old.files new.files
+  pub files : IfSpecified (λ before after. HasStream mic samples image stream before × IsPut out text before after)
+      old.files new.files
 
--- Writing OUT failed, after MIC's image ran the stream of SAMPLES to its end. OUT was not created, or has a prefix of the
--- rows of the run, and every other file is as it was.
-pub record IsNotWritten (mic samples out : Name) (old new : View) : Type 0 where
-  pub rose : WriteFaultsRose out old new
+-- writing OUT failed, after MIC's image ran the stream of SAMPLES to its end
+pub record IsSimCutShort (mic samples out : Name) (old new : View) : Type 0 where
   pub image : Image
   pub stream : Rows
   pub rows : Rows
   pub run : IsRunOut image stream rows
-  pub told : WhereTold old (λ files. HasStream mic samples files image stream)
-  pub files : Told (λ before after. (after ≡ before) ⊎ IsPrefixPut out (printed rows) before after) old.files new.files
+  pub specified : WhereSpecified old (HasStream mic samples image stream)
+  pub written : IsNotWritten samples samples_limit out (printed rows) old new
 
 -- `sim` is done: it wrote the rows of the run, and keeps the machine that ran
 abbrev pub IsSimDone : Name → Name → Name → View → View → Kept → Type 0
-IsSimDone mic samples out old new kept = (machine : Snapshot) × (kept ≡ One machine) × IsSimulated mic samples out machine old new
+IsSimDone mic samples out old new kept =
+    (machine : Snapshot) × (kept ≡ One machine) × IsSimulated mic samples out machine old new
 
--- When each status comes of `sim MIC SAMPLES OUT`, and what it leaves. Where it refuses before it creates OUT, at most the
--- input and the faults changed. It keeps a machine where it is done, and nothing else.
+-- when each status comes
 abbrev pub IsSimAnswer : Name → Name → Name → View → View → Kept → Status → Type 0
 IsSimAnswer mic samples out old new kept status.Done = IsSimDone mic samples out old new kept
 IsSimAnswer mic samples out old new kept status.Desk =
-    (kept ≡ Nothing) × ((IsUnchangedButInput old new × IsRefusal mic samples old new status.Desk) ⊎ IsNotWritten mic samples out old new)
-IsSimAnswer mic samples out old new kept status = (kept ≡ Nothing) × IsUnchangedButInput old new × IsRefusal mic samples old new status
+    IsSimUnread mic samples old new ⊎ IsSimCutShort mic samples out old new
+IsSimAnswer mic samples out old new kept status = IsSimError mic samples old new status

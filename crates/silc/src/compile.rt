@@ -1,14 +1,16 @@
 //! `compile SRC DP OUT`: from the bytes of a source and a datapath to the bytes of the microcode.
-ghost use Rattle.std.specs.Prelude.{◌≡◌, ◌↔◌, IsTrue, IfOk, IfErr, Some};
-ghost use Rattle.desk_core.specs.View.{Files};
-ghost use Rattle.desk_core.specs.Desk.{FaultsNeverFall, content_of};
-ghost use Rattle.desk_core.specs.Whole.{IsUnchangedButInput};
-ghost use Rattle.silc.specs.Command.{IsAnswer, ChangesOnly};
-ghost use Rattle.silc.specs.Compile.{IsInput, IsInputFault, IsMicrocode, IsMade, IsPlain, IsShort, status_of};
+ghost use Rattle.std.specs.Prelude.{◌≢◌, ◌↔◌, IsTrue, OnOk, IfOk, IfErr};
+ghost use Rattle.desk_core.specs.Desk.{FaultsNeverFall, WhereSpecified, content_of};
+ghost use Rattle.desk_core.specs.Whole.{IsReadThrough};
+ghost use Rattle.silc.specs.Compile.{IsCompileError, IsAnswer};
+ghost use Rattle.silc.specs.Endings.{UsesOnly};
+ghost use Rattle.silc.specs.Limits.{text_limit};
+ghost use Rattle.silc.specs.Private.Compiling.{IsInput, IsShort, IsPlain, IsInputError, IsMicrocode, IsNoMicrocode, IsMade};
+ghost use Rattle.silc.specs.Private.Reading.{OnlyReads};
 
 use crate::front::program_of;
 use crate::one_line::one_line;
-use crate::plain::PLAIN;
+use crate::plain::plain_datapath;
 use crate::serial::serial_image;
 use crate::status::{Ending, FrontFault, Status};
 use desk_core::{Desk, ReadFault, read_whole, write_whole};
@@ -26,13 +28,14 @@ pub enum Input {
     TooLong,
 }
 
-/// Reads a source or a datapath whole. One that is too long is refused later, when its own check comes.
+/// Reads a source or a datapath whole. One that is too long is rejected later, when its own check comes.
 fn read_input<D: Desk>(alloc: Global, desk: &mut D, name: &str) -> Result<Input, Status>
-    ensures faults { FaultsNeverFall (D.view desk.old) (D.view desk.new) }
-    ensures unchanged { IsUnchangedButInput (D.view desk.old) (D.view desk.new) }
+    ensures reads { OnlyReads name.now name.now (D.view desk.old) (D.view desk.new) }
+    ensures through { OnOk result (IsReadThrough name.now text_limit (D.view desk.old) (D.view desk.new)) }
     ensures short { IfOk result IsShort }
-    ensures ok { IfOk result (λ found. (files : Files) → (D.view desk.old).files ≡ Some files → IsInput (content_of (files name.now)) found) }
-    ensures err { IfErr result (λ status. IsInputFault name.now (D.view desk.old) (D.view desk.new) status) }
+    ensures ok { IfOk result (λ found.
+        WhereSpecified (D.view desk.old) (λ files. IsInput (content_of (files name.now)) found)) }
+    ensures err { IfErr result (IsInputError name.now (D.view desk.old) (D.view desk.new)) }
 {
     match read_whole(alloc, desk, name, TEXT_LIMIT) {
         Ok(bytes) => Ok(Input::Whole(bytes)),
@@ -47,7 +50,7 @@ fn is_plain(datapath: &Input) -> bool
     ensures { IsTrue result ↔ IsPlain datapath.now }
 {
     match datapath {
-        Input::Whole(bytes) => bytes.as_slice() == PLAIN,
+        Input::Whole(bytes) => bytes.as_slice() == plain_datapath(),
         Input::TooLong => false,
     }
 }
@@ -55,7 +58,8 @@ fn is_plain(datapath: &Input) -> bool
 /// The microcode of a source over a datapath.
 fn microcode(alloc: Global, source: &Input, datapath: &Input) -> Result<Bytes, Ending>
     requires { IsShort source.now }
-    ensures { IsMicrocode source.now datapath.now (status_of result) }
+    ensures ok { IfOk result (IsMicrocode source.now datapath.now) }
+    ensures err { IfErr result (λ ending. IsNoMicrocode source.now datapath.now ending.status) }
 {
     let Input::Whole(source) = source else {
         return Err(Ending::from(Status::FrontEnd(FrontFault::TooLong)));
@@ -71,11 +75,12 @@ fn microcode(alloc: Global, source: &Input, datapath: &Input) -> Result<Bytes, E
     Ok(encode(alloc, &image)?)
 }
 
-/// Reads the source and the datapath, and makes the microcode.
+/// Reads the source and the datapath, and then makes the microcode.
 fn make<D: Desk>(alloc: Global, desk: &mut D, source: &str, datapath: &str) -> Result<Bytes, Ending>
-    ensures faults { FaultsNeverFall (D.view desk.old) (D.view desk.new) }
-    ensures unchanged { IsUnchangedButInput (D.view desk.old) (D.view desk.new) }
-    ensures made { IsMade source.now datapath.now (D.view desk.old) (D.view desk.new) (status_of result) }
+    ensures reads { OnlyReads source.now datapath.now (D.view desk.old) (D.view desk.new) }
+    ensures ok { IfOk result (IsMade source.now datapath.now (D.view desk.old) (D.view desk.new)) }
+    ensures err { IfErr result (λ ending.
+        IsCompileError source.now datapath.now (D.view desk.old) (D.view desk.new) ending.status) }
 {
     let source = read_input(alloc, desk, source)?;
     let datapath = read_input(alloc, desk, datapath)?;
@@ -90,9 +95,10 @@ pub fn compile<D: Desk>(
     datapath: &str,
     output: &str,
 ) -> Ending
+    requires { output.now ≢ datapath.now }
     ensures faults { FaultsNeverFall (D.view desk.old) (D.view desk.new) }
     ensures answer { IsAnswer source.now datapath.now output.now (D.view desk.old) (D.view desk.new) result.status }
-    ensures only_output { ChangesOnly output.now (D.view desk.old) (D.view desk.new) }
+    ensures only { UsesOnly source.now datapath.now output.now (D.view desk.old) (D.view desk.new) }
 {
     match make(alloc, desk, source, datapath) {
         Ok(microcode) => match write_whole(desk, output, &microcode) {

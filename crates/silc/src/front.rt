@@ -1,7 +1,9 @@
 //! The front end: from the bytes of a source to its program, or to its first fault and the line of it.
-ghost use Rattle.std.specs.Prelude.{◌≡◌, ◌≤◌, ◌^◌, length, IfOk, IfErr};
+ghost use Rattle.std.specs.Prelude.{◌≡◌, ◌≤◌, length, IfOk, IfErr};
 ghost use Rattle.silage_tree.specs.Tree.{view};
-ghost use Rattle.silc.specs.Front.{HasProgram, IsFrontEnding, of_lex, of_parse};
+ghost use Rattle.silc.specs.Front.{HasProgram};
+ghost use Rattle.silc.specs.Limits.{text_limit};
+ghost use Rattle.silc.specs.Private.Statuses.{of_lex, of_parse, IsFrontError};
 
 use crate::status::{Ending, FrontFault, Status};
 use silage_lex::{LexFault, Tokens, lex};
@@ -10,7 +12,7 @@ use silage_tree::Program;
 use std::alloc::Global;
 
 /// The line of a place: one more than the ends of lines before it.
-fn line_behind(before: &[u8]) -> u64 {
+fn line_after(before: &[u8]) -> u64 {
     let breaks = before.iter().filter(|byte| **byte == b'\n').count();
     breaks as u64 + 1
 }
@@ -24,7 +26,7 @@ fn lex_ending(source: &[u8], fault: LexFault) -> Ending
     };
     Ending {
         status: Status::FrontEnd(FrontFault::Lex(fault)),
-        line: source.get(..place as usize).map(line_behind),
+        line: source.get(..place as usize).map(line_after),
     }
 }
 
@@ -32,7 +34,7 @@ fn lex_ending(source: &[u8], fault: LexFault) -> Ending
 fn line_at(source: &[u8], tokens: &Tokens, token: u32) -> u64 {
     match tokens.get(token as usize) {
         Some(token) => u64::from(token.line),
-        None => line_behind(source),
+        None => line_after(source),
     }
 }
 
@@ -51,9 +53,9 @@ fn parse_ending(source: &[u8], tokens: &Tokens, fault: ParseFault) -> Ending
 
 /// The program of a source.
 pub(crate) fn program_of(alloc: Global, source: &[u8]) -> Result<Program, Ending>
-    requires { length source.now ≤ 2 ^ 20 }
+    requires { length source.now ≤ text_limit }
     ensures ok { IfOk result (λ program. HasProgram source.now (view program)) }
-    ensures err { IfErr result (λ ending. IsFrontEnding source.now ending.status) }
+    ensures err { IfErr result (λ ending. IsFrontError source.now ending.status) }
 {
     let tokens = match lex(alloc, source) {
         Ok(tokens) => tokens,
@@ -62,28 +64,5 @@ pub(crate) fn program_of(alloc: Global, source: &[u8]) -> Result<Program, Ending
     match parse(alloc, &tokens) {
         Ok(program) => Ok(program),
         Err(fault) => Err(parse_ending(source, &tokens, fault)),
-    }
-}
-
-#[cfg(test)]
-mod tests {
-    use super::*;
-    use std::test::Fail;
-
-    #[test]
-    fn a_fault_is_told_with_its_line(rt: HostRuntime) -> Result<(), Fail> {
-        let alloc = rt.alloc();
-        let cases = [
-            (b"func\nmain #".as_slice(), "line 2: bad byte"),
-            (b"\n\n1a", "line 3: bad number"),
-            (b"/* x\n", "line 1: open comment"),
-            (b"func main\n(x)", "line 2: syntax"),
-            (b"func main\n(x\n\n", "line 4: syntax"),
-        ];
-        for (source, text) in cases {
-            let ending = program_of(alloc, source).err().ok_or("a program")?;
-            assert_eq!(rt; format!(in alloc; "{ending}")?.as_str(), text);
-        }
-        Ok(())
     }
 }

@@ -1,8 +1,9 @@
 //! The program `silc`: its commands, over any desk.
 //!
-//! `silc` is the top call; its clauses carry what the whole program promises. In `specs/` stand
-//! `Front`, which program a source has, `Form`, the form of programs that is compiled, `Serial`, its plan, `Headline`, what compiled
-//! microcode is, `Sim`, what is simulated, and `Command` and `Sim`, when each status comes.
+//! `silc` is the top call; its clauses carry what the whole program promises. In `specs/`, `Front` says which program a
+//! source has, `Form` which programs are compiled, `Plain` over which datapath, `Serial` to which plan, and `Headline`
+//! what compiled microcode is. `Command` says which words are a command, `Compile` and `Sim` when each status comes.
+//! What only proofs and private contracts use is in `specs/Private`.
 #![tactic(auto)]
 
 mod command;
@@ -13,13 +14,11 @@ mod plain;
 mod serial;
 mod sim;
 mod status;
-#[cfg(test)]
-mod tests;
 
 pub use command::silc;
 pub use micro_file::FormFault;
 pub use micro_image::{Conflict, ConflictKind};
-pub use plain::PLAIN;
+pub use plain::plain_datapath;
 pub use silage_lex::LexFault;
 pub use silage_parse::ParseFault;
 pub use sim::Kept;

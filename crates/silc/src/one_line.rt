@@ -1,7 +1,8 @@
 //! The one-line form: programs of one equation, `y = x + n` or `y = x - n`, the ones that are compiled today.
 ghost use Rattle.std.specs.Prelude.{◌≡◌, ◌↔◌, ℕ, Bool, List, [], ◌∷◌, MatchOption, IsTrue};
 ghost use Rattle.silage_tree.specs.Tree.{Place as PlaceTree, Expr as ExprTree, Func as FuncTree, equation, item, no_item, function, view, view_func, view_items, view_place, view_expr};
-ghost use Rattle.silc.specs.Form.{HasForm, IsWhole, IsTerm, IsBare, IsInputRead, IsPlainNumber, IsAllowed, IsDistinct};
+ghost use Rattle.silc.specs.Form.{HasForm};
+ghost use Rattle.silc.specs.Private.Parts.{IsWhole, IsTerm, IsBare, IsInputRead, IsPlainNumber, IsAllowed, IsDistinct};
 ghost use Rattle.silc.specs.declared.one_line.OneLine.{OneLine};
 
 use fix_word::{FixType, Mode, Shape, SigType};
@@ -20,7 +21,8 @@ pub struct OneLine {
 
 /// The one-line form of a program, where it has one.
 pub(crate) fn one_line(program: &Program) -> Option<OneLine>
-    ensures { MatchOption result ((form : OneLine) → HasForm (view program.now) form → ⊥) (λ form. HasForm (view program.now) form) }
+    ensures { MatchOption result ((form : OneLine) → HasForm (view program.now) form → ⊥)
+        (λ form. HasForm (view program.now) form) }
 {
     let main = only_function(program)?;
     let parameter = only(main.params.as_slice())?;
@@ -57,7 +59,8 @@ fn only<T>(list: &[T]) -> Option<&T>
 
 /// The function of a program that has nothing else.
 fn only_function(program: &Program) -> Option<&Func>
-    ensures { MatchOption result ((f : FuncTree) → (view program.now).tops ≡ function f ∷ [] → ⊥) (λ f. (view program.now).tops ≡ function (view_func f.now) ∷ []) }
+    ensures { MatchOption result ((f : FuncTree) → (view program.now).tops ≡ function f ∷ [] → ⊥)
+        (λ f. (view program.now).tops ≡ function (view_func f.now) ∷ []) }
 {
     match only(program.tops.as_slice())? {
         Top::Func(main) => Some(main),
@@ -132,7 +135,8 @@ fn is_input(value: &Expr, input: &[u8]) -> bool
 
 /// The number that the expression is, without a sign or a point.
 fn number(value: &Expr) -> Option<u64>
-    ensures { MatchOption result ((n : ℕ) → IsPlainNumber (view_expr value.now) n → ⊥) (λ n. IsPlainNumber (view_expr value.now) n) }
+    ensures { MatchOption result ((n : ℕ) → IsPlainNumber (view_expr value.now) n → ⊥)
+        (λ n. IsPlainNumber (view_expr value.now) n) }
 {
     match value {
         Expr::Lit(

@@ -21,7 +21,7 @@ const OUTPUT: u8 = 3;
 /// Cycles in a sample.
 const PERIOD: u16 = 16;
 
-/// Cycles of a sample in which no node stands.
+/// Cycles of a sample that have no node.
 const IDLE: u16 = PERIOD - 4;
 
 /// The image of the program's serial plan over PLAIN.
@@ -154,47 +154,5 @@ fn no_word(alloc: Global) -> Word
         issues: List::new(alloc),
         enables: List::new(alloc),
         takes: List::new(alloc),
-    }
-}
-
-#[cfg(test)]
-mod tests {
-    use super::*;
-    use std::test::Fail;
-
-    #[test]
-    fn the_sum_stands_at_cycle_2(rt: HostRuntime) -> Result<(), Fail> {
-        let alloc = rt.alloc();
-        let program = OneLine {
-            width: 8,
-            plus: true,
-            number: 1,
-        };
-        let image = serial_image(alloc, &program)?;
-        assert_eq!(rt; image.inputs.as_slice(), [8].as_slice());
-        assert_eq!(rt; image.words.len(), 16);
-        let sum = Issue {
-            unit: 2,
-            op: Op::Add,
-            fmt: Format {
-                shift: 0,
-                mode: Mode::Trunc,
-                width: 8,
-            },
-            arg: 0,
-            regs: List::from_slice(alloc, &[0, 0])?,
-        };
-        let take = Take {
-            port: PortRef { unit: 3, port: 0 },
-            bus: 0,
-            reg: 0,
-        };
-        let word = Word {
-            issues: List::from_vec(vec![in alloc; sum]?),
-            enables: List::from_slice(alloc, &[Enable { unit: 2, bus: 0 }])?,
-            takes: List::from_slice(alloc, &[take])?,
-        };
-        assert!(rt; image.words.get(2).is_some_and(|at| *at == word));
-        Ok(())
     }
 }

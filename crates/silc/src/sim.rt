@@ -1,15 +1,17 @@
 //! `sim MIC SAMPLES OUT`: from the bytes of microcode and samples to the rows that the microcode puts.
-ghost use Rattle.std.specs.Prelude.{◌≡◌, ◌<◌, ◌≤◌, ◌^◌, [], ◌∷◌, ◌++◌, length, map, slice_index_or, Err, IfOk, IfErr, OnOk};
+ghost use Rattle.std.specs.Prelude.{◌≡◌, ◌≢◌, ◌<◌, ◌≤◌, ◌^◌, [], ◌∷◌, ◌++◌, length, map, slice_index_or, Err, IfOk, IfErr, OnOk};
 ghost use Rattle.std.specs.List.{All};
 ghost use Rattle.cycle_sim.specs.Issues.{IsOperand};
-ghost use Rattle.desk_core.specs.Desk.{FaultsNeverFall, ReadFaultsRose, content_of};
-ghost use Rattle.desk_core.specs.Whole.{IsUnchangedButInput};
+ghost use Rattle.desk_core.specs.Desk.{FaultsNeverFall, WhereSpecified, content_of};
+ghost use Rattle.desk_core.specs.Whole.{IsReadThrough};
 ghost use Rattle.micro_image.specs.Log.{Rows};
 ghost use Rattle.micro_image.specs.Valid.{IsValid};
 ghost use Rattle.sample_io.specs.Channels.{IsChannel};
-ghost use Rattle.silc.specs.Command.{ChangesOnly};
-ghost use Rattle.silc.specs.Sim.{channel_of, stream_of, HasRun, WhereTold, IsSimAnswer, IsRefusal};
-ghost use Rattle.silc.specs.Running.{IsReadRefusal, IsMachineOf, IsNoMachine, IsLoaded, IsLoadRefusal, IsStreamRead, IsStreamRefusal, IsFresh, IsInput, IsRunRefusal, IsMadeRun};
+ghost use Rattle.silc.specs.Endings.{UsesOnly};
+ghost use Rattle.silc.specs.Limits.{microcode_limit};
+ghost use Rattle.silc.specs.Sim.{channel_of, stream_of, HasRun, IsSimError, IsSimAnswer};
+ghost use Rattle.silc.specs.Private.Reading.{OnlyReads};
+ghost use Rattle.silc.specs.Private.Running.{IsReadError, IsMachineOf, IsNoMachine, IsLoaded, IsLoadError, IsStreamRead, IsStreamError, IsFresh, IsInput, IsRunError, IsMadeRun};
 ghost use Rattle.silc.specs.declared.sim.Kept.TheVariants.{Nothing};
 
 use crate::status::{ImageFault, SampleFault, Status};
@@ -47,7 +49,7 @@ struct Run {
     text: Bytes,
 }
 
-/// Reads a file whole. `too_long` is the answer where it has more bytes than the limit.
+/// Reads a file whole. `too_long` is the status where it has more bytes than the limit.
 fn read_file<D: Desk>(
     alloc: Global,
     desk: &mut D,
@@ -56,11 +58,12 @@ fn read_file<D: Desk>(
     too_long: Status,
 ) -> Result<Bytes, Status>
     requires { limit < 2 ^ 60 }
-    ensures faults { FaultsNeverFall (D.view desk.old) (D.view desk.new) }
-    ensures unchanged { IsUnchangedButInput (D.view desk.old) (D.view desk.new) }
+    ensures reads { OnlyReads name.now name.now (D.view desk.old) (D.view desk.new) }
+    ensures through { OnOk result (IsReadThrough name.now limit (D.view desk.old) (D.view desk.new)) }
     ensures within { IfOk result (λ bytes. length bytes ≤ limit) }
-    ensures content { IfOk result (λ bytes. WhereTold (D.view desk.old) (λ files. bytes ≡ content_of (files name.now))) }
-    ensures err { IfErr result (IsReadRefusal name.now limit too_long (D.view desk.old) (D.view desk.new)) }
+    ensures content { IfOk result (λ bytes.
+        WhereSpecified (D.view desk.old) (λ files. bytes ≡ content_of (files name.now))) }
+    ensures err { IfErr result (IsReadError name.now limit too_long (D.view desk.old) (D.view desk.new)) }
 {
     match read_whole(alloc, desk, name, limit) {
         Ok(bytes) => Ok(bytes),
@@ -72,7 +75,7 @@ fn read_file<D: Desk>(
 
 /// The machine of the image that the bytes spell.
 fn machine_of(alloc: Global, microcode: &Bytes) -> Result<Machine, Status>
-    requires { length microcode.now ≤ 2 ^ 26 }
+    requires { length microcode.now ≤ microcode_limit }
     ensures ok { IfOk result (IsMachineOf microcode.now) }
     ensures err { IfErr result (IsNoMachine microcode.now) }
 {
@@ -82,10 +85,9 @@ fn machine_of(alloc: Global, microcode: &Bytes) -> Result<Machine, Status>
 
 /// Reads MIC, and makes the machine of its image.
 fn read_machine<D: Desk>(alloc: Global, desk: &mut D, name: &str) -> Result<Machine, Status>
-    ensures faults { FaultsNeverFall (D.view desk.old) (D.view desk.new) }
-    ensures unchanged { IsUnchangedButInput (D.view desk.old) (D.view desk.new) }
+    ensures reads { OnlyReads name.now name.now (D.view desk.old) (D.view desk.new) }
     ensures ok { IfOk result (IsLoaded name.now (D.view desk.old)) }
-    ensures err { IfErr result (IsLoadRefusal name.now (D.view desk.old) (D.view desk.new)) }
+    ensures err { IfErr result (IsLoadError name.now (D.view desk.old) (D.view desk.new)) }
 {
     let too_long = Status::Image(ImageFault::TooLong);
     let microcode = read_file(alloc, desk, name, MICROCODE_LIMIT, too_long)?;
@@ -113,10 +115,9 @@ fn read_stream<D: Desk>(
     machine: &Machine,
 ) -> Result<RowList, Status>
     requires { IsValid machine.now.image }
-    ensures faults { FaultsNeverFall (D.view desk.old) (D.view desk.new) }
-    ensures unchanged { IsUnchangedButInput (D.view desk.old) (D.view desk.new) }
-    ensures ok { IfOk result (IsStreamRead name.now machine.now.image (D.view desk.old)) }
-    ensures err { IfErr result (IsStreamRefusal name.now machine.now.image (D.view desk.old) (D.view desk.new)) }
+    ensures reads { OnlyReads name.now name.now (D.view desk.old) (D.view desk.new) }
+    ensures ok { IfOk result (IsStreamRead name.now machine.now.image (D.view desk.old) (D.view desk.new)) }
+    ensures err { IfErr result (IsStreamError name.now machine.now.image (D.view desk.old) (D.view desk.new)) }
 {
     let too_long = Status::Samples(SampleFault::TooLong);
     let samples = read_file(alloc, desk, name, SAMPLES_LIMIT, too_long)?;
@@ -129,11 +130,12 @@ fn run_row(machine: &mut Machine, row: &[i64], text: &mut Bytes) -> Result<(), S
     requires valid { IsValid machine.old.image }
     requires width { length row.now ≡ length machine.old.image.inputs }
     requires words { All IsOperand row.now }
-    requires stands { (stream : Rows) × (length stream < 2 ^ 48) × HasRun machine.old.image stream machine.old text.old }
+    requires stands { (stream : Rows) × (length stream < 2 ^ 48)
+        × HasRun machine.old.image stream machine.old text.old }
     ensures ok { (stream : Rows) → HasRun machine.old.image stream machine.old text.old
         → OnOk result (HasRun machine.old.image (stream ++ row.now ∷ []) machine.new text.new) }
     ensures err { (stream : Rows) → HasRun machine.old.image stream machine.old text.old
-        → IfErr result (IsRunRefusal machine.old.image (stream ++ row.now ∷ [])) }
+        → IfErr result (IsRunError machine.old.image (stream ++ row.now ∷ [])) }
 {
     let mut words = [0i64; OUTS];
     let put = &mut words[..machine.outs()];
@@ -162,7 +164,7 @@ fn run_rows(alloc: Global, mut machine: Machine, list: &RowList) -> Result<Run, 
     requires fresh { IsFresh machine }
     requires input { IsInput machine.image list.now }
     ensures ok { IfOk result (λ run. HasRun machine.image (stream_of list.now) run.machine run.text) }
-    ensures err { IfErr result (IsRunRefusal machine.image (stream_of list.now)) }
+    ensures err { IfErr result (IsRunError machine.image (stream_of list.now)) }
 {
     let mut text = Bytes::new(alloc);
     for n in 0..list.words.len() / usize::from(list.width) {
@@ -178,10 +180,10 @@ fn simulate<D: Desk>(
     microcode: &str,
     samples: &str,
 ) -> Result<Run, Status>
-    ensures faults { FaultsNeverFall (D.view desk.old) (D.view desk.new) }
-    ensures unchanged { IsUnchangedButInput (D.view desk.old) (D.view desk.new) }
-    ensures ok { IfOk result (λ run. IsMadeRun microcode.now samples.now (D.view desk.old) run.machine run.text) }
-    ensures err { IfErr result (IsRefusal microcode.now samples.now (D.view desk.old) (D.view desk.new)) }
+    ensures reads { OnlyReads microcode.now samples.now (D.view desk.old) (D.view desk.new) }
+    ensures ok { IfOk result (λ run.
+        IsMadeRun microcode.now samples.now (D.view desk.old) (D.view desk.new) run.machine run.text) }
+    ensures err { IfErr result (IsSimError microcode.now samples.now (D.view desk.old) (D.view desk.new)) }
 {
     let machine = read_machine(alloc, desk, microcode)?;
     let stream = read_stream(alloc, desk, samples, &machine)?;
@@ -197,10 +199,13 @@ pub fn sim<D: Desk>(
     output: &str,
     kept: &mut Kept,
 ) -> Status
-    requires { kept.old ≡ Nothing }
+    requires empty { kept.old ≡ Nothing }
+    requires apart { output.now ≢ samples.now }
     ensures faults { FaultsNeverFall (D.view desk.old) (D.view desk.new) }
-    ensures answer { IsSimAnswer microcode.now samples.now output.now (D.view desk.old) (D.view desk.new) kept.new result }
-    ensures only_output { ChangesOnly output.now (D.view desk.old) (D.view desk.new) }
+    ensures answer { IsSimAnswer microcode.now samples.now output.now (D.view desk.old) (D.view desk.new)
+        kept.new result }
+    ensures nothing_kept { result ≢ Status.Done → kept.new ≡ Nothing }
+    ensures only { UsesOnly microcode.now samples.now output.now (D.view desk.old) (D.view desk.new) }
 {
     match simulate(alloc, desk, microcode, samples) {
         Ok(run) => match write_whole(desk, output, &run.text) {

@@ -1,7 +1,7 @@
--- What the desk of the host means. It tells no content, counts as reading and writing every name, and has one counter
+-- What the desk of the host means. It specifies no content, counts as reading and writing every name, and has one counter
 -- for all of its faults.
 use Rattle.std.specs.Prelude.{ℕ, None, true}
-use Rattle.desk_core.specs.Desk.{IsOutputTold}
+use Rattle.desk_core.specs.Desk.{IsOutputSpecified}
 use Rattle.desk_core.specs.View.{View}
 
 abbrev pub host_view : ℕ → ℕ → View
@@ -19,6 +19,5 @@ host_view place faults = record {
   print_faults = faults;
 }
 
--- it never tells its files
-pub never_tells_files : (place faults : ℕ) → IsOutputTold (host_view place faults)
-never_tells_files place faults files told = absurd (cc)
+pub never_specifies_files : (place faults : ℕ) → IsOutputSpecified (host_view place faults)
+never_specifies_files place faults files specified = absurd (cc)

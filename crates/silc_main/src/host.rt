@@ -4,13 +4,20 @@ ghost use Rattle.desk_core.specs.Desk.{Rose};
 
 use desk_core::{Desk, Failed};
 use std::fs::{self, File};
-use std::io::{Read, Write};
+use std::io::{self, ErrorKind, Read, Write};
 
-/// The outside of the process. What a file holds is not told, and each `Err` of the host is a fault.
+/// A file that is read, and its name.
+#[derive(Drop)]
+struct Input {
+    name: String,
+    file: File,
+}
+
+/// The environment of the process. What a file holds is not specified, and each `Err` of the host is a fault.
 #[derive(Drop)]
 pub struct HostDesk {
     rt: HostRuntime,
-    input: Option<File>,
+    input: Option<Input>,
     /// Bytes read since the input was opened.
     place: u64,
     output: Option<File>,
@@ -41,17 +48,33 @@ fn raised(faults: u64) -> u64
     faults.saturating_add(1)
 }
 
+/// Opens a file to be read. Its name takes memory.
+fn opened(rt: &HostRuntime, name: &str) -> io::Result<Input> {
+    Ok(Input {
+        name: String::from_str(rt.alloc(), name)?,
+        file: fs::open(rt, name)?,
+    })
+}
+
+/// Whether a file that can't be synced, as a pipe or a terminal, said so. It has nothing to report late.
+fn is_unsynced(error: &io::Error) -> bool {
+    matches!(
+        error.kind(),
+        ErrorKind::InvalidInput | ErrorKind::Unsupported
+    )
+}
+
 impl Desk for HostDesk {
-    ghost use Rattle.silc_main.specs.HostDesk.{host_view, never_tells_files};
+    ghost use Rattle.silc_main.specs.HostDesk.{host_view, never_specifies_files};
 
     ghost view = { λ desk. host_view desk.place desk.faults };
 
-    ghost output_told = { λ desk. never_tells_files desk.place desk.faults };
+    ghost output_specified = { λ desk. never_specifies_files desk.place desk.faults };
 
     fn open_input(&mut self, name: &str) -> Result<(), Failed> {
-        match fs::open(&self.rt, name) {
-            Ok(file) => {
-                self.input = Some(file);
+        match opened(&self.rt, name) {
+            Ok(input) => {
+                self.input = Some(input);
                 self.place = 0;
                 Ok(())
             }
@@ -63,8 +86,8 @@ impl Desk for HostDesk {
     }
 
     fn read(&mut self, buf: &mut [u8]) -> Result<usize, Failed> {
-        if let Some(file) = &mut self.input
-            && let Ok(count) = file.read(buf)
+        if let Some(input) = &mut self.input
+            && let Ok(count) = input.file.read(buf)
         {
             self.place += count as u64;
             return Ok(count);
@@ -73,10 +96,18 @@ impl Desk for HostDesk {
         Err(Failed)
     }
 
+    /// The input of that name ends.
     fn create(&mut self, name: &str) -> Result<(), Failed> {
         match fs::create(&self.rt, name) {
             Ok(file) => {
                 self.output = Some(file);
+                if self
+                    .input
+                    .as_ref()
+                    .is_some_and(|input| input.name.as_str() == name)
+                {
+                    self.input = None;
+                }
                 Ok(())
             }
             Err(_) => {
@@ -98,8 +129,16 @@ impl Desk for HostDesk {
         Err(Failed)
     }
 
+    /// Waits until the host has stored the output, and fails where it could not, as it may find out after the last
+    /// write.
     fn close(&mut self) -> Result<(), Failed> {
-        self.output = None;
+        if let Some(file) = self.output.take()
+            && let Err(error) = file.sync_all()
+            && !is_unsynced(&error)
+        {
+            self.faults = raised(self.faults);
+            return Err(Failed);
+        }
         Ok(())
     }
 
@@ -113,36 +152,8 @@ impl Desk for HostDesk {
         Err(Failed)
     }
 
-    /// What can't be said on standard error is left unsaid.
+    /// Writes to standard error. What can't be written there is lost.
     fn complain(&mut self, piece: &[u8]) {
         let _ = self.rt.stderr().write_all(piece);
-    }
-}
-
-#[cfg(test)]
-mod tests {
-    use super::*;
-    use desk_core::{read_whole, write_whole};
-    use std::test::Fail;
-
-    #[test]
-    fn files_of_the_host_are_written_and_read_back(rt: HostRuntime) -> Result<(), Fail> {
-        let alloc = rt.alloc();
-        let name = std::env::temp_dir(&rt)?.join(alloc, "silc_host_desk.mic")?;
-        let name = name.as_str();
-        let mut desk = HostDesk::new(rt.clone()?);
-        let bytes = [7u8; 5000];
-        assert!(rt; write_whole(&mut desk, name, &bytes).is_ok());
-        let found = fs::read(&rt, name)?;
-        assert_eq!(rt; found.as_slice(), bytes.as_slice());
-        let read = read_whole(alloc, &mut desk, name, 5000);
-        assert!(rt; read.is_ok_and(|found| found.as_slice() == bytes.as_slice()));
-        let short = read_whole(alloc, &mut desk, name, 4999);
-        assert!(rt; short.is_err_and(|fault| fault == desk_core::ReadFault::TooLong));
-        assert_eq!(rt; desk.faults, 0);
-        fs::remove_file(&rt, name)?;
-        assert!(rt; desk.open_input(name).is_err());
-        assert_eq!(rt; desk.faults, 1);
-        Ok(())
     }
 }

@@ -11,18 +11,22 @@ use std::process::ExitCode;
 
 const HELP: &str = "silc compiles equations between sampled signals to microcode, and simulates it.
 
-usage: silc compile SRC DP OUT    plans SRC for the datapath DP, and writes the microcode to OUT
+usage: silc compile SRC DP OUT    compiles SRC for the datapath DP, and writes the microcode to OUT
        silc sim MIC SAMPLES OUT   runs the microcode MIC over SAMPLES, and writes its rows to OUT
        silc --help | --version
 
-The exit status is 0 where all was done, 1 without memory, 2 at words that are no command,
-3 at a file that can't be read or written, 10 at a file that is no microcode, 11 at a line that is
-no row of samples, 12 at microcode that asks for what the hardware can't do, and 13 at a source or
-a datapath that this version doesn't take. A refusal is told in one line on standard error.";
+example: silc compile increment.sil plain.toml increment.mic
+         silc sim increment.mic samples.txt rows.txt
+
+The exit code is 0 where all was done, 1 without memory, 2 at words that are no command, 3 at a file
+that can't be read or written, 4 at a source that is no program, 10 at a file that is no microcode,
+11 at a line that is no row of samples, 12 at microcode that asks for what the hardware can't do, and
+13 at a program or a datapath that this version doesn't compile. An error is reported in one line on
+standard error, and only a fault of writing OUT itself can leave a part of OUT.";
 
 const VERSION: &str = "silc 0.1.0";
 
-/// The words of the command, behind the program's name.
+/// The words of the command, after the program's name.
 fn words<R: std::rt::Env + AllocGlobal>(rt: &R) -> io::Result<Vec<String>> {
     let mut words = Vec::new(rt.alloc());
     for word in env::args(rt)?.skip(1) {
@@ -40,7 +44,7 @@ fn about(words: &[String]) -> Option<&'static str> {
     }
 }
 
-/// A fault of getting the words: one that is not UTF-8 is no word of a command.
+/// The status where the words could not be had: one that is not UTF-8 is no word of a command.
 fn unread(error: &io::Error) -> Status {
     if error.kind() == ErrorKind::OutOfMemory {
         Status::Memory

@@ -2,10 +2,10 @@ use Rattle.std.proofs.Common.{arith, ◌≡◌, sym, ap, ap₂, subst, ◌∙◌
 use Rattle.std.proofs.lemmas.List.Elements.{All-get_or}
 use Rattle.std.proofs.lemmas.List.FromFn.{length-map-range_with_len}
 use Rattle.std.proofs.lemmas.Result.{err_from_is_err_and}
-use Rattle.silc.specs.Running.{IsInputRow}
+use Rattle.silc.specs.Private.Running.{IsInputRow}
 use Rattle.silc.specs.Sim.{row_of, stream_of, HasRun}
 use Rattle.silc.proofs.Samples.{first_rows, is_below}
-use Rattle.silc.proofs.Simulating.{own_image, next_ran, next_refused}
+use Rattle.silc.proofs.Simulating.{own_image, next_ran, next_error}
 use Rattle.silc.proofs.sim.run_rows.Goals as goal
 
 pub row-requires-clause-there : goal.row-requires-clause-there
@@ -27,7 +27,7 @@ pub returns-in_err-run_row-clause-err : goal.returns-in_err-run_row-clause-err
 returns-in_err-run_row-clause-err c =
     let p = err_from_is_err_and c.from_residual.result c.from_residual.ensures.1 in
     rw (p.1, p.2)
-    (next_refused c.args.machine.image c.args.list.now c.loop-n.n c.row.result.now c.loop-n.machine c.loop-n.text c.loop-n.invariant (is_below c.args.list.now c.loop-n.n c.len.result c.from.result c.len.ensures c.from.ensures c.loop-n-test.true) c.row.ensures c.in_err-run_row.field-0.0
+    (next_error c.args.machine.image c.args.list.now c.loop-n.n c.row.result.now c.loop-n.machine c.loop-n.text c.loop-n.invariant (is_below c.args.list.now c.loop-n.n c.len.result c.from.result c.len.ensures c.from.ensures c.loop-n-test.true) c.row.ensures c.in_err-run_row.field-0.0
     (c.in_err-run_row.ensures.err _ (own_image c.args.machine.image (first_rows c.args.list.now c.loop-n.n) c.loop-n.machine c.loop-n.text c.loop-n.invariant)))
 
 pub loop-n-preserved : goal.loop-n-preserved

@@ -1,0 +1,114 @@
+-- What the steps of `sim` give: a machine, a stream, and the run of the one over the other.
+use Rattle.std.specs.Prelude.{◌≡◌, ◌⊎◌, ℕ, ◌<◌, ◌^◌, List, [], length, ℤ}
+use Rattle.std.specs.List.{All}
+use Rattle.cycle_sim.specs.Issues.{IsOperand}
+use Rattle.cycle_sim.specs.Machine.{Snapshot, state_of}
+use Rattle.desk_core.specs.View.{Name, Content, View}
+use Rattle.desk_core.specs.Desk.{WhereSpecified, ReadFaultsRose, content_of}
+use Rattle.desk_core.specs.Whole.{IsAbove, IsReadThrough}
+use Rattle.micro_file.specs.declared.fault.FormFault.TheVariants as form
+use Rattle.micro_image.specs.declared.image.Image.{Image}
+use Rattle.micro_image.specs.Log.{Rows}
+use Rattle.micro_image.specs.Run.{Stands}
+use Rattle.micro_image.specs.Spells.{Spells}
+use Rattle.micro_image.specs.Valid.{IsValid, IsWithin}
+use Rattle.sample_io.specs.declared.RowList.{RowList}
+use Rattle.silc.specs.Limits.{microcode_limit, samples_limit}
+use Rattle.silc.specs.Sim.{stream_of, AreSamplesFor, HasRun, IsFirstConflict, SpellsNone, IsSampleFault, HasImage, HasImageFault, HasStream}
+use Rattle.silc.specs.declared.status.ImageFault.{ImageFault}
+use Rattle.silc.specs.declared.status.ImageFault.TheVariants as image_fault
+use Rattle.silc.specs.declared.status.SampleFault.{SampleFault}
+use Rattle.silc.specs.declared.status.Status.{Status}
+use Rattle.silc.specs.declared.status.Status.TheVariants as status
+
+-- the file was read through, and has more bytes than the limit
+pub record IsTooLong (name : Name) (limit : ℕ) (old new : View) : Type 0 where
+  pub read : IsReadThrough name limit old new
+  pub above : IsAbove limit name old
+
+-- why a file was not read whole; `too_long` is the status where it has more bytes than the limit
+abbrev pub IsReadError : Name → ℕ → Status → View → View → Status → Type 0
+IsReadError name limit too_long old new error =
+    (error ≡ status.Memory)
+    ⊎ ((error ≡ status.Desk) × ReadFaultsRose name old new)
+    ⊎ ((error ≡ too_long) × IsTooLong name limit old new)
+
+-- a machine before the first cycle of a valid image
+pub record IsFresh (machine : Snapshot) : Type 0 where
+  pub valid : IsValid machine.image
+  pub stands : Stands (state_of machine) machine.image []
+
+-- the machine of the image that the bytes spell
+pub record IsMachineOf (content : Content) (machine : Snapshot) : Type 0 where
+  pub fresh : IsFresh machine
+  pub spells : Spells content machine.image
+
+-- there was no memory for the machine, or the bytes spell no image
+abbrev pub IsNoMachine : Content → Status → Type 0
+IsNoMachine content error =
+    (error ≡ status.Memory) ⊎ ((error ≡ status.Image (image_fault.File form.NotSpelled)) × SpellsNone content)
+
+-- the machine of MIC's image
+pub record IsLoaded (mic : Name) (desk : View) (machine : Snapshot) : Type 0 where
+  pub fresh : IsFresh machine
+  pub specified : WhereSpecified desk (λ files. HasImage mic files machine.image)
+
+-- MIC was read through, and is no microcode
+pub record IsBadMicrocode (mic : Name) (fault : ImageFault) (old new : View) : Type 0 where
+  pub read : IsReadThrough mic microcode_limit old new
+  pub why : WhereSpecified old (HasImageFault mic fault)
+
+-- the fault of bytes that spell no image
+abbrev pub not_spelled : ImageFault
+not_spelled = image_fault.File form.NotSpelled
+
+-- why no machine was made of MIC
+abbrev pub IsLoadError : Name → View → View → Status → Type 0
+IsLoadError mic old new error =
+    (error ≡ status.Memory)
+    ⊎ ((error ≡ status.Desk) × ReadFaultsRose mic old new)
+    ⊎ ((error ≡ status.Image image_fault.TooLong) × IsBadMicrocode mic image_fault.TooLong old new)
+    ⊎ ((error ≡ status.Image not_spelled) × IsBadMicrocode mic not_spelled old new)
+
+-- a raw word of at most 40 bits for each input word
+pub record IsInputRow (image : Image) (row : List ℤ) : Type 0 where
+  pub count : length row ≡ length image.inputs
+  pub words : All IsOperand row
+
+-- the list holds a stream that the image can run
+pub record IsInput (image : Image) (list : RowList) : Type 0 where
+  pub width : IsWithin 1 16 list.width
+  pub rows : All (IsInputRow image) (stream_of list)
+  pub few : length (stream_of list) < 2 ^ 48
+
+-- the stream for the image that SAMPLES has, which was read through
+pub record IsStreamRead (samples : Name) (image : Image) (old new : View) (list : RowList) : Type 0 where
+  pub read : IsReadThrough samples samples_limit old new
+  pub input : IsInput image list
+  pub specified : WhereSpecified old (λ files. AreSamplesFor image (content_of (files samples)) (stream_of list))
+
+-- SAMPLES was read through, and has no stream for the image
+pub record IsBadSamples (samples : Name) (image : Image) (fault : SampleFault) (old new : View) : Type 0 where
+  pub read : IsReadThrough samples samples_limit old new
+  pub why : WhereSpecified old (λ files. IsSampleFault image (content_of (files samples)) fault)
+
+-- why no stream for the image was read
+abbrev pub IsStreamError : Name → Image → View → View → Status → Type 0
+IsStreamError samples image old new (status.Memory) = Unit {0}
+IsStreamError samples image old new (status.Desk) = ReadFaultsRose samples old new
+IsStreamError samples image old new (status.Samples fault) = IsBadSamples samples image fault old new
+IsStreamError samples image old new _ = ⊥
+
+-- why an image did not run the stream to its end
+abbrev pub IsRunError : Image → Rows → Status → Type 0
+IsRunError image stream (status.Memory) = Unit {0}
+IsRunError image stream (status.Conflict conflict) = IsFirstConflict image stream conflict
+IsRunError image stream _ = ⊥
+
+-- the machine and the text of the run of MIC's image over SAMPLES, which was read through
+pub record IsMadeRun (mic samples : Name) (old new : View) (machine : Snapshot) (text : Content) : Type 0 where
+  pub read : IsReadThrough samples samples_limit old new
+  pub image : Image
+  pub stream : Rows
+  pub ran : HasRun image stream machine text
+  pub specified : WhereSpecified old (HasStream mic samples image stream)

@@ -1,0 +1,41 @@
+-- The statuses that faults of other crates come to.
+use Rattle.std.specs.Prelude.{List, ℕ}
+use Rattle.micro_file.specs.declared.fault.FormFault.{FormFault}
+use Rattle.micro_file.specs.declared.fault.FormFault.TheVariants as form
+use Rattle.sample_io.specs.declared.RowsReadFault.{RowsReadFault}
+use Rattle.sample_io.specs.declared.RowsReadFault.TheVariants as rows
+use Rattle.silage_lex.specs.declared.LexFault.{LexFault}
+use Rattle.silage_lex.specs.declared.LexFault.TheVariants as lex
+use Rattle.silage_parse.specs.declared.ParseFault.{ParseFault}
+use Rattle.silage_parse.specs.declared.ParseFault.TheVariants as parse
+use Rattle.silc.specs.Front.{IsFrontFault, IsOfSource}
+use Rattle.silc.specs.declared.status.FrontFault.TheVariants.{Lex, Parse}
+use Rattle.silc.specs.declared.status.ImageFault.TheVariants.{File}
+use Rattle.silc.specs.declared.status.SampleFault.TheVariants as sample
+use Rattle.silc.specs.declared.status.Status.{Status}
+use Rattle.silc.specs.declared.status.Status.TheVariants.{Memory, FrontEnd, Image, Samples}
+
+-- the status where a source has no tokens, and where its tokens are no program
+abbrev pub of_lex : LexFault → Status
+of_lex lex.Memory = Memory
+of_lex fault = FrontEnd (Lex fault)
+
+abbrev pub of_parse : ParseFault → Status
+of_parse parse.Memory = Memory
+of_parse fault = FrontEnd (Parse fault)
+
+-- the status where microcode is not decoded
+abbrev pub of_form : FormFault → Status
+of_form form.NotSpelled = Image (File form.NotSpelled)
+of_form form.Memory = Memory
+
+-- the status where samples are not read
+abbrev pub of_rows : RowsReadFault → Status
+of_rows (rows.Row fault) = Samples (sample.Row fault.line fault.at)
+of_rows rows.Memory = Memory
+
+-- the source has the fault of the status, or there was no memory
+abbrev pub IsFrontError : List ℕ → Status → Type 0
+IsFrontError source Memory = Unit {0}
+IsFrontError source (FrontEnd fault) = IsOfSource fault × IsFrontFault source fault
+IsFrontError source _ = ⊥

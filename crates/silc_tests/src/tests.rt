@@ -1,0 +1,211 @@
+use desk_core::{Desk, Failed, MemDesk};
+use lists::Bytes;
+use silc::{FrontFault, Kept, LexFault, Status, plain_datapath, silc};
+use std::alloc::Global;
+use std::test::Fail;
+
+const SOURCE: &[u8] = b"func main(x : fix<8,0>) y : fix<8,0> = begin y = x + 1; end;";
+
+/// How many bytes its microcode has.
+const SIZE: usize = 328;
+
+const COMPILE: [&str; 4] = ["compile", "SRC", "DP", "OUT"];
+
+fn list(alloc: Global, words: &[&str]) -> Result<Vec<String>, Fail> {
+    let mut list = Vec::new(alloc);
+    for word in words {
+        list.push(String::from_str(alloc, word)?)?;
+    }
+    Ok(list)
+}
+
+/// A desk with a source, and the datapath PLAIN.
+fn desk_with(alloc: Global, piece: usize, source: &[u8]) -> Result<MemDesk, Fail> {
+    let mut desk = MemDesk::new(alloc, piece.max(1));
+    desk.put("SRC", source)?;
+    desk.put("DP", plain_datapath())?;
+    Ok(desk)
+}
+
+fn carry_out<D: Desk>(alloc: Global, words: &[&str], desk: &mut D) -> Result<Status, Fail> {
+    let words = list(alloc, words)?;
+    Ok(silc(alloc, &words, desk, &mut Kept::Nothing))
+}
+
+/// What OUT holds after the call of each number failed, with pieces of 100 bytes. SRC is opened and read twice, DP is
+/// opened and read four times, and then OUT is created, written four times and closed.
+const WRITTEN: [Option<usize>; 14] = [
+    None,
+    None,
+    None,
+    None,
+    None,
+    None,
+    None,
+    None,
+    None,
+    Some(0),
+    Some(100),
+    Some(200),
+    Some(300),
+    Some(SIZE),
+];
+
+#[test]
+fn a_call_that_fails_is_a_file_fault_and_leaves_a_prefix(rt: HostRuntime) -> Result<(), Fail> {
+    let alloc = rt.alloc();
+    let mut whole = desk_with(alloc, 100, SOURCE)?;
+    assert_eq!(rt; carry_out(alloc, &COMPILE, &mut whole)?, Status::Done);
+    let microcode = whole.get("OUT").ok_or("no file")?;
+    for (call, written) in WRITTEN.iter().enumerate() {
+        let mut desk = desk_with(alloc, 100, SOURCE)?;
+        desk.fail_at(call as u64)?;
+        let status = carry_out(alloc, &COMPILE, &mut desk)?;
+        assert_eq!(rt; status, Status::Desk, "call {call}");
+        assert_eq!(rt; desk.faults(), 1, "call {call}");
+        let found = desk.get("OUT");
+        assert_eq!(rt; found.map(|bytes| bytes.len()), *written, "call {call}");
+        assert!(rt;
+            found.is_none_or(|bytes| microcode.starts_with(bytes)),
+            "call {call}"
+        );
+    }
+    Ok(())
+}
+
+#[test]
+fn pieces_of_any_size_make_the_same_file(rt: HostRuntime) -> Result<(), Fail> {
+    let alloc = rt.alloc();
+    let mut whole = desk_with(alloc, 4096, SOURCE)?;
+    assert_eq!(rt; carry_out(alloc, &COMPILE, &mut whole)?, Status::Done);
+    for piece in [1, 7] {
+        let mut desk = desk_with(alloc, piece, SOURCE)?;
+        assert_eq!(rt; carry_out(alloc, &COMPILE, &mut desk)?, Status::Done);
+        assert_eq!(rt; desk.get("OUT"), whole.get("OUT"), "piece {piece}");
+        assert_eq!(rt; (desk.faults(), desk.wants()), (0, 0), "piece {piece}");
+        assert!(rt; desk.printed().is_empty(), "piece {piece}");
+    }
+    Ok(())
+}
+
+#[test]
+fn a_missing_datapath_comes_before_a_fault_of_the_source(rt: HostRuntime) -> Result<(), Fail> {
+    let alloc = rt.alloc();
+    let mut desk = MemDesk::new(alloc, 10);
+    desk.put("SRC", b"func #")?;
+    assert_eq!(rt; carry_out(alloc, &COMPILE, &mut desk)?, Status::Desk);
+    desk.put("DP", b"")?;
+    let fault = Status::FrontEnd(FrontFault::Lex(LexFault::BadByte(5)));
+    assert_eq!(rt; carry_out(alloc, &COMPILE, &mut desk)?, fault);
+    Ok(())
+}
+
+#[test]
+fn sim_keeps_the_machine_after_the_last_sample(rt: HostRuntime) -> Result<(), Fail> {
+    let alloc = rt.alloc();
+    let mut desk = desk_with(alloc, 100, SOURCE)?;
+    desk.put("SAMPLES", b"0\n127\n-128\n")?;
+    assert_eq!(rt; carry_out(alloc, &COMPILE, &mut desk)?, Status::Done);
+    let words = list(alloc, &["sim", "OUT", "SAMPLES", "ROWS"])?;
+    let mut kept = Kept::Nothing;
+    let status = silc(alloc, &words, &mut desk, &mut kept);
+    assert_eq!(rt; status, Status::Done);
+    assert_eq!(rt; desk.get("ROWS"), Some(b"1\n-128\n-127\n".as_slice()));
+    let samples = match &kept {
+        Kept::One(machine) => Some(machine.samples()),
+        Kept::Nothing => None,
+    };
+    assert_eq!(rt; samples, Some(3));
+    Ok(())
+}
+
+/// A desk in memory that keeps what is reported.
+#[derive(Drop)]
+struct Listener {
+    desk: MemDesk,
+    reported: Bytes,
+    pieces: u64,
+}
+
+impl Desk for Listener {
+    ghost use Rattle.desk_core.specs.MemDesk.{view_of, output_always_specified};
+
+    ghost view = { λ listener. view_of listener.desk };
+
+    ghost output_specified = { λ listener. output_always_specified listener.desk };
+
+    fn open_input(&mut self, name: &str) -> Result<(), Failed> {
+        self.desk.open_input(name)
+    }
+
+    fn read(&mut self, buf: &mut [u8]) -> Result<usize, Failed> {
+        self.desk.read(buf)
+    }
+
+    fn create(&mut self, name: &str) -> Result<(), Failed> {
+        self.desk.create(name)
+    }
+
+    fn write(&mut self, piece: &[u8]) -> Result<usize, Failed> {
+        self.desk.write(piece)
+    }
+
+    fn close(&mut self) -> Result<(), Failed> {
+        self.desk.close()
+    }
+
+    fn print(&mut self, piece: &[u8]) -> Result<usize, Failed> {
+        self.desk.print(piece)
+    }
+
+    fn complain(&mut self, piece: &[u8]) {
+        self.pieces = self.pieces.saturating_add(1);
+        let _ = self.reported.extend_from_slice(piece);
+    }
+}
+
+#[test]
+fn an_error_is_reported_in_one_piece_which_is_its_line(rt: HostRuntime) -> Result<(), Fail> {
+    let alloc = rt.alloc();
+    let cases = [
+        (
+            COMPILE.as_slice(),
+            b"func\nmain #".as_slice(),
+            b"silc: line 2: bad byte\n".as_slice(),
+        ),
+        (&COMPILE, b"func main\n(x\n\n", b"silc: line 4: syntax\n"),
+        (&["sim", "SRC", "DP", "OUT"], b"", b"silc: bad microcode\n"),
+        (&["compile"], b"", b"silc: bad command words\n"),
+    ];
+    for (words, source, line) in cases {
+        let mut listener = Listener {
+            desk: desk_with(alloc, 100, source)?,
+            reported: Bytes::new(alloc),
+            pieces: 0,
+        };
+        carry_out(alloc, words, &mut listener)?;
+        assert_eq!(rt; listener.reported.as_slice(), line);
+        assert_eq!(rt; listener.pieces, 1);
+    }
+    Ok(())
+}
+
+#[test]
+fn want_of_memory_has_its_text(rt: HostRuntime) -> Result<(), Fail> {
+    let text = format!(in rt.alloc(); "{}", Status::Memory)?;
+    assert_eq!(rt; text.as_str(), "no memory");
+    Ok(())
+}
+
+#[test]
+fn a_print_fails_at_its_number(rt: HostRuntime) -> Result<(), Fail> {
+    let mut desk = MemDesk::new(rt.alloc(), 3);
+    desk.fail_at(1)?;
+    assert_eq!(rt; desk.print(b"line"), Ok(3));
+    desk.complain(b"not counted");
+    assert_eq!(rt; desk.print(b"e"), Err(Failed));
+    assert_eq!(rt; desk.print(b"s"), Ok(1));
+    assert_eq!(rt; desk.printed(), b"lins".as_slice());
+    assert_eq!(rt; (desk.faults(), desk.wants()), (1, 0));
+    Ok(())
+}
