@@ -1,4 +1,4 @@
--- Kinds that stand in a list of tokens, and kinds that are written as texts of their own.
+-- The kinds of the tokens in a list, and kinds that are written as texts of their own.
 use Rattle.std.proofs.Common.{◌≡◌, ℕ, ◌+◌, Bool, true, false, List, [], ◌∷◌, ◌++◌, Option, Some, refl, subst}
 use Rattle.silage_lex.specs.declared.Token.{Token}
 use Rattle.silage_lex.specs.declared.TokenKind.{TokenKind}
@@ -6,16 +6,16 @@ use Rattle.silage_lex.specs.Texts.{IsText}
 use Rattle.silage_tree.specs.Grammar.{kind_at}
 use Rattle.silage_tree.specs.Text.{token_text, enclosed}
 
--- the kinds stand in the list from i to j
-abbrev pub Stands : List Token → ℕ → List TokenKind → ℕ → Type 0
-Stands us i [] j = i ≡ j
-Stands us i (k ∷ ks) j = (kind_at us i ≡ Some k) × Stands us (i + 1) ks j
+-- the tokens from i to j have these kinds
+abbrev pub AreAt : List Token → ℕ → List TokenKind → ℕ → Type 0
+AreAt us i [] j = i ≡ j
+AreAt us i (k ∷ ks) j = (kind_at us i ≡ Some k) × AreAt us (i + 1) ks j
 
-pub split : (us : List Token) (xs ys : List TokenKind) (i j : ℕ) → Stands us i (xs ++ ys) j → (m : ℕ) × Stands us i xs m × Stands us m ys j
+pub split : (us : List Token) (xs ys : List TokenKind) (i j : ℕ) → AreAt us i (xs ++ ys) j → (m : ℕ) × AreAt us i xs m × AreAt us m ys j
 split us [] ys i j s = (i, refl, s)
 split us (x ∷ xs) ys i j s = let r = split us xs ys (i + 1) j s.1 in (r.0, (s.0, r.1), r.2)
 
--- a kind at a place, with the place said otherwise
+-- a kind at an index, with the index said in another way
 pub moved : (us : List Token) (i j : ℕ) (x : Option TokenKind) → i ≡ j → kind_at us i ≡ x → kind_at us j ≡ x
 moved us i j x e h = let P : ℕ → Type 0 = λ k. kind_at us k ≡ x in subst P e h
 
