@@ -1,8 +1,7 @@
 -- What the steps of `sim` give: a machine, a stream, and the run of the one over the other.
 use Rattle.std.specs.Prelude.{◌≡◌, ◌⊎◌, ℕ, ◌<◌, ◌^◌, List, [], length, ℤ}
 use Rattle.std.specs.List.{All}
-use Rattle.cycle_sim.specs.Machine.{IsOperand}
-use Rattle.cycle_sim.specs.Machine.{Snapshot, state_of}
+use Rattle.cycle_sim.specs.Machine.{IsOperand, Snapshot, state_of}
 use Rattle.desk_core.specs.View.{Name, Content, View}
 use Rattle.desk_core.specs.Desk.{WhereSpecified, ReadFaultsRose, content_of}
 use Rattle.desk_core.specs.Whole.{IsAbove, IsReadThrough}
