@@ -7,7 +7,7 @@ use Rattle.sample_io.specs.declared.channel.Channel.{Channel}
 abbrev pub IsInChannel : Channel → ℤ → Type 0
 IsInChannel channel word = (channel.low ≤ℤ word) × (word ≤ℤ channel.high)
 
--- the channel's range holds zero, and its raw words have at most 40 bits
+-- the channel's range holds zero, and its raw words lie from -2^39 up to 2^39 - 1
 pub record IsChannel (channel : Channel) : Type 0 where
   pub low : neg_ℤ (pos (2 ^ 39)) ≤ℤ channel.low
   pub low_zero : channel.low ≤ℤ pos 0

@@ -5,8 +5,6 @@ ghost use Rattle.std.specs.Prelude.{◌≡◌};
 
 mod channel;
 mod read;
-#[cfg(test)]
-mod tests;
 mod write;
 
 pub use channel::Channel;

@@ -69,7 +69,7 @@ IsLoadError mic old new error =
     ⊎ ((error ≡ status.Image image_fault.TooLong) × IsBadMicrocode mic image_fault.TooLong old new)
     ⊎ ((error ≡ status.Image not_spelled) × IsBadMicrocode mic not_spelled old new)
 
--- a raw word of at most 40 bits for each input word
+-- a raw word of magnitude at most 2^39 for each input word
 pub record IsInputRow (image : Image) (row : List ℤ) : Type 0 where
   pub count : length row ≡ length image.inputs
   pub words : All IsOperand row
