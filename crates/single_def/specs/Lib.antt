@@ -1,0 +1,5 @@
+pub mod Tables
+pub mod ElementRules
+pub mod ElementFaults
+pub mod Expansion
+pub mod Private
