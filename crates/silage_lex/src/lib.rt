@@ -3,7 +3,9 @@
 
 mod bytes;
 mod gaps;
+pub mod keywords;
 mod kinds;
+pub mod punctuation;
 mod texts;
 
 ghost use Rattle.std.specs.Prelude.{◌≡◌, ◌≤◌, ◌^◌, ◌≢◌, length, count_by, nat_eq, Ok, Err, IfOk, IfErr};

@@ -1,9 +1,9 @@
 -- Places on the left, arguments and items: what the grammar has, the table reads, with the same roles.
 use Rattle.std.proofs.Common.{◌≡◌, ℕ, ◌+◌, List, [], ◌∷◌, ◌++◌, slice_get, refl, sym, ap, ◌∙◌, subst, arith, append_assoc, append-nil}
 use Rattle.silage_lex.specs.declared.Token.{Token}
-use Rattle.silage_tree.specs.declared.marks.TheConstants as mark
+use Rattle.silage_lex.specs.declared.punctuation.TheConstants as punctuation
 use Rattle.silage_tree.specs.Tree.{Manifest, Place, Expr, Item, equation, Items, no_item, item, items_of}
-use Rattle.silage_tree.specs.Grammar.{kind_at, from_at, IsMark, IsManifest, Manifest_, Primary_, IsExpr, Chain, Or, Role, Plain, Starts, weights, IsTargetSubs, no_target_sub, one_target_sub, two_target_subs, IsTarget, target, IsTargets, last_target, more_targets, IsArgs, last_arg, more_args, IsItem, is_equation, is_call, is_calls, is_loop, is_initial, IsItems, no_items, one_item}
+use Rattle.silage_tree.specs.Grammar.{kind_at, from_at, IsPunctuation, IsManifest, Manifest_, Primary_, IsExpr, Chain, Or, Role, Plain, Starts, weights, IsTargetSubs, no_target_sub, one_target_sub, two_target_subs, IsTarget, target, IsTargets, last_target, more_targets, IsArgs, last_arg, more_args, IsItem, is_equation, is_call, is_calls, is_loop, is_initial, IsItems, no_items, one_item}
 use Rattle.silage_parse.specs.Table as the
 use Rattle.silage_parse.specs.Table.{Terminal, Effect, Outside, Begins, Inside, Phrase, Value, Symbol, Take, Make, Go, Action, choices, rests, AName, mark_of, word_of}
 use Rattle.silage_parse.specs.Machine.{made, Among, ways, here, there, roles_of, Reads, r_end, r_take, r_go, r_make}
@@ -85,7 +85,7 @@ target_did {us} (target {i = i} {name = name} n s) vs =
     did here (take_reads Outside k.there k.fits (went (target_subs_did s (the.token k.tok ∷ vs)) (makes (rw (k.tells, ← k.from) refl) r_end)))
 
 -- places behind a comma
-targets_after : {us : List Token} (a : ℕ) {i j : ℕ} {ps : List Place} {rs : List Role} → IsTargets us i ps rs j → IsMark us a mark.COMMA → i ≡ a + 1 → (ys : List Place) (vs : List Value) → Did us the.MoreTargets a (the.places ys ∷ vs) (Plain ∷ rs) j (the.places (ys ++ ps) ∷ vs)
+targets_after : {us : List Token} (a : ℕ) {i j : ℕ} {ps : List Place} {rs : List Role} → IsTargets us i ps rs j → IsPunctuation us a punctuation.COMMA → i ≡ a + 1 → (ys : List Place) (vs : List Value) → Did us the.MoreTargets a (the.places ys ∷ vs) (Plain ∷ rs) j (the.places (ys ++ ps) ∷ vs)
 targets_after {us} a (last_target {p = p} t) c q ys vs =
     let k = mark_there us a _ c in
     did here (take_reads Outside k.there k.fits (went (did_from (target_did t (the.token k.tok ∷ the.places ys ∷ vs)) q) (r_make (alone (did (there here) r_end)))))
@@ -96,7 +96,7 @@ targets_after {us} a (more_targets {j = j} {p = p} {ps = ps} t d l) c q ys vs =
 
 -- what stands behind the places of a call
 abbrev pub of_calls : List Symbol
-of_calls = mark_of mark.CLOSE Outside ∷ mark_of mark.DEFINES Outside ∷ Take (AName ∷ []) Outside ∷ mark_of mark.OPEN Begins ∷ Go the.Args ∷ mark_of mark.CLOSE Outside ∷ mark_of mark.SEMICOLON Outside ∷ Make the.is_calls ∷ []
+of_calls = mark_of punctuation.RIGHT_PAREN Outside ∷ mark_of punctuation.EQUAL Outside ∷ Take (AName ∷ []) Outside ∷ mark_of punctuation.LEFT_PAREN Begins ∷ Go the.Args ∷ mark_of punctuation.RIGHT_PAREN Outside ∷ mark_of punctuation.SEMICOLON Outside ∷ Make the.is_calls ∷ []
 
 open_targets : {us : List Token} {i j k : ℕ} {ps : List Place} {rs qs : List Role} {vs ws : List Value} → IsTargets us i ps rs j → Reads us of_calls j (the.places ps ∷ vs) qs k ws → Reads us (Take (AName ∷ []) Outside ∷ Go the.AfterOpenName ∷ []) i vs (rs ++ qs) k ws
 open_targets {us} {vs = vs} (last_target (target {i = i} {name = name} {subs = ms} n s)) r =
@@ -109,7 +109,7 @@ open_targets {us} {qs = qs} {vs = vs} (more_targets {j = j} {ps = ps} {qs = ts} 
     (take_reads Outside k.there k.fits (alone (did (there here) (go (target_subs_did s (the.token k.tok ∷ vs)) (makes {xs = the.place p ∷ vs} (rw (k.tells, ← k.from) refl) (r_make (go (targets_after j l c refl (p ∷ []) vs) r)))))))
 
 -- arguments behind a comma
-args_after : {us : List Token} (a : ℕ) {i j : ℕ} {es : List Expr} {rs : List Role} → IsArgs us i es rs j → IsMark us a mark.COMMA → i ≡ a + 1 → (ys : List Expr) (vs : List Value) → Did us the.MoreArgs a (the.exprs ys ∷ vs) (Starts ∷ rs) j (the.exprs (ys ++ es) ∷ vs)
+args_after : {us : List Token} (a : ℕ) {i j : ℕ} {es : List Expr} {rs : List Role} → IsArgs us i es rs j → IsPunctuation us a punctuation.COMMA → i ≡ a + 1 → (ys : List Expr) (vs : List Value) → Did us the.MoreArgs a (the.exprs ys ∷ vs) (Starts ∷ rs) j (the.exprs (ys ++ es) ∷ vs)
 args_after {us} a (last_arg d) c q ys vs =
     let k = mark_there us a _ c in
     did here (take_reads Begins k.there k.fits (went (did_from (expr_did d (the.token k.tok ∷ the.exprs ys ∷ vs)) q) (r_make (alone (did (there here) r_end)))))
@@ -124,13 +124,13 @@ args_did (more_args {j = j} {e = e} d c l) vs = did here (go (expr_did d vs) (r_
 
 -- what stands behind an equation's right side
 abbrev equation_end : List Symbol
-equation_end = mark_of mark.SEMICOLON Outside ∷ Make the.is_equation ∷ []
+equation_end = mark_of punctuation.SEMICOLON Outside ∷ Make the.is_equation ∷ []
 
-ended : {us : List Token} {j : ℕ} {e : Expr} {p : Place} (d : Token) (vs : List Value) → IsMark us j mark.SEMICOLON → Reads us equation_end j (the.expr e ∷ the.token d ∷ the.place p ∷ vs) (Plain ∷ []) (j + 1) (the.an_item (equation p e) ∷ vs)
+ended : {us : List Token} {j : ℕ} {e : Expr} {p : Place} (d : Token) (vs : List Value) → IsPunctuation us j punctuation.SEMICOLON → Reads us equation_end j (the.expr e ∷ the.token d ∷ the.place p ∷ vs) (Plain ∷ []) (j + 1) (the.an_item (equation p e) ∷ vs)
 ended {us} {j} d vs s = let k = mark_there us j _ s in take_reads Outside k.there k.fits (r_make r_end)
 
 -- the right side of an equation, to its end, by its first unary
-from_first : {us : List Token} {i k j : ℕ} {h e : Expr} (p : Place) (d : Token) (vs : List Value) → First us the.OtherUnary i h k → Goes us rests k (the.expr h ∷ the.token d ∷ the.place p ∷ vs) j (the.expr e ∷ the.token d ∷ the.place p ∷ vs) → IsMark us j mark.SEMICOLON → Did us the.RightSide i (the.token d ∷ the.place p ∷ vs) (weights us i j ++ Plain ∷ []) (j + 1) (the.an_item (equation p e) ∷ vs)
+from_first : {us : List Token} {i k j : ℕ} {h e : Expr} (p : Place) (d : Token) (vs : List Value) → First us the.OtherUnary i h k → Goes us rests k (the.expr h ∷ the.token d ∷ the.place p ∷ vs) j (the.expr e ∷ the.token d ∷ the.place p ∷ vs) → IsPunctuation us j punctuation.SEMICOLON → Did us the.RightSide i (the.token d ∷ the.place p ∷ vs) (weights us i j ++ Plain ∷ []) (j + 1) (the.an_item (equation p e) ∷ vs)
 from_first {us} {i} {j = j} p d vs (named {name = name} {ms = ms} {d = late} n s l) g m =
     let k = name_there us i name n in
     let low : List Value = the.token d ∷ the.place p ∷ vs in
@@ -143,7 +143,7 @@ from_first {us} p d vs (other f) g m =
     let r = goes_spans Inside (g_go (f low) g) refl in
     did (there here) (append r.reads (ended d vs m))
 
-pub right_side : {us : List Token} {i j : ℕ} {e : Expr} (p : Place) (d : Token) (vs : List Value) → IsExpr us (Chain Or) i e j → IsMark us j mark.SEMICOLON → Did us the.RightSide i (the.token d ∷ the.place p ∷ vs) (weights us i j ++ Plain ∷ []) (j + 1) (the.an_item (equation p e) ∷ vs)
+pub right_side : {us : List Token} {i j : ℕ} {e : Expr} (p : Place) (d : Token) (vs : List Value) → IsExpr us (Chain Or) i e j → IsPunctuation us j punctuation.SEMICOLON → Did us the.RightSide i (the.token d ∷ the.place p ∷ vs) (weights us i j ++ Plain ∷ []) (j + 1) (the.an_item (equation p e) ∷ vs)
 right_side p d vs x m = let q = in_parts x in from_first p d vs q.first (q.goes (the.token d ∷ the.place p ∷ vs)) m
 
 -- the items as a list
@@ -192,7 +192,7 @@ mutual
       let k0 = mark_there us j _ b in
       let k1 = mark_there us m _ d in
       let k2 = mark_there us h _ s in
-      let g = goes_spans Outside (g_take {ks = the.Mark mark.DEFINES ∷ []} {e = Outside} k1.there k1.fits (g_go (initial_does v _) (g_take {ks = the.Mark mark.SEMICOLON ∷ []} {e = Outside} k2.there k2.fits (g_make {a = the.is_initial} g_end)))) refl in
+      let g = goes_spans Outside (g_take {ks = the.Mark punctuation.EQUAL ∷ []} {e = Outside} k1.there k1.fits (g_go (initial_does v _) (g_take {ks = the.Mark punctuation.SEMICOLON ∷ []} {e = Outside} k2.there k2.fits (g_make {a = the.is_initial} g_end)))) refl in
       did_roles (did here (go (target_did t vs) (alone (did here (take_reads Begins k0.there k0.fits (go (amount_did a _) g.reads)))))) (simp append_assoc)
 
   pub items_did : {us : List Token} {i j : ℕ} {xs : Items} {rs : List Role} → IsItems us i xs rs j → (ys : List Item) (vs : List Value) → Did us the.Items_ i (the.items ys ∷ vs) rs j (the.items (ys ++ list_of xs) ∷ vs)

@@ -1,10 +1,11 @@
 -- Places on the left, arguments and items: what is read by the table, the grammar has, with the same roles.
 use Rattle.std.proofs.Common.{◌≡◌, ℕ, ◌+◌, ◌≤◌, List, [], ◌∷◌, ◌++◌, Option, Some, slice_get, refl, sym, ap, ◌∙◌, subst, ap₂, arith, append_assoc, append-nil, le_trans}
 use Rattle.silage_lex.specs.declared.Token.{Token}
-use Rattle.silage_tree.specs.declared.marks.TheConstants as mark
+use Rattle.silage_lex.specs.declared.punctuation.TheConstants as punctuation
+use Rattle.silage_lex.specs.declared.keywords.TheConstants as keyword
 use Rattle.silage_tree.specs.Tree.{Manifest, Place, Expr, read, Item, equation, call, loop, initial, Items, items_of}
 use Rattle.silage_tree.specs.Grammar as g
-use Rattle.silage_tree.specs.Grammar.{kind_at, from_of, from_at, IsMark, IsWord, IsName, IsManifest, IsExpr, Or, Sum, chain, shifts, primary, place, Role, Plain, Starts, weight_role, weights, plain, IsTargetSubs, no_target_sub, one_target_sub, two_target_subs, IsTarget, target, IsTargets, last_target, more_targets, IsArgs, last_arg, more_args, IsItem, is_equation, is_call, is_calls, is_loop, is_initial, IsItems, no_items, one_item}
+use Rattle.silage_tree.specs.Grammar.{kind_at, from_of, from_at, IsPunctuation, IsKeyword, IsName, IsManifest, IsExpr, Or, Sum, chain, shifts, primary, place, Role, Plain, Starts, weight_role, weights, plain, IsTargetSubs, no_target_sub, one_target_sub, two_target_subs, IsTarget, target, IsTargets, last_target, more_targets, IsArgs, last_arg, more_args, IsItem, is_equation, is_call, is_calls, is_loop, is_initial, IsItems, no_items, one_item}
 use Rattle.silage_parse.specs.Table as the
 use Rattle.silage_parse.specs.Table.{Effect, Outside, Inside, Phrase, Value, Symbol, Take, Make, Go, Action, choices, rests, mark_of}
 use Rattle.silage_parse.specs.Machine.{made, Among, alternatives, here, there, name_text}
@@ -143,10 +144,10 @@ record Equation (us : List Token) (i : ℕ) (a : Expr) (p : Place) (bs : List Va
   roles : rs ≡ weights us i k ++ Plain ∷ []
   within : i ≤ k
   ends : k + 1 ≡ j
-  semicolon : IsMark us k mark.SEMICOLON
+  semicolon : IsPunctuation us k punctuation.SEMICOLON
   whole : (h : ℕ) → IsExpr us g.Unary h a i → IsExpr us (g.Chain Or) h value k
 
-equation_rest : {us : List Token} {i j : ℕ} {vs ws : List Value} {rs : List Role} → All us (rests ++ mark_of mark.SEMICOLON Outside ∷ Make the.is_equation ∷ []) i vs rs j ws → (a : Expr) (d : Token) (p : Place) (bs : List Value) → vs ≡ the.expr a ∷ the.token d ∷ the.place p ∷ bs → Equation us i a p bs rs j ws
+equation_rest : {us : List Token} {i j : ℕ} {vs ws : List Value} {rs : List Role} → All us (rests ++ mark_of punctuation.SEMICOLON Outside ∷ Make the.is_equation ∷ []) i vs rs j ws → (a : Expr) (d : Token) (p : Place) (bs : List Value) → vs ≡ the.expr a ∷ the.token d ∷ the.place p ∷ bs → Equation us i a p bs rs j ws
 equation_rest {us} (a_go b1 (a_go b2 (a_go b3 (a_go b4 (a_go b5 (a_go {j = k} {rs = r6} b6 (a_take {t = t} s h (a_make (a_end q w))))))))) a d p bs e =
     let low : List Value = the.token d ∷ the.place p ∷ bs in
     let m1 = b1.means a low e in
@@ -173,14 +174,14 @@ equation_rest {us} (a_go b1 (a_go b2 (a_go b3 (a_go b4 (a_go b5 (a_go {j = k} {r
     }
 
 -- an equation, from its right side
-equation_item : (us : List Token) (a k i m j : ℕ) (p : Place) (e : Expr) (os : List Role) {rs : List Role} → IsTarget us a p os k → IsMark us k mark.DEFINES → i ≡ k + 1 → IsExpr us (g.Chain Or) i e m → IsMark us m mark.SEMICOLON → m + 1 ≡ j → rs ≡ weights us i m ++ Plain ∷ [] → IsItem us a (equation p e) (os ++ Starts ∷ rs) j
+equation_item : (us : List Token) (a k i m j : ℕ) (p : Place) (e : Expr) (os : List Role) {rs : List Role} → IsTarget us a p os k → IsPunctuation us k punctuation.EQUAL → i ≡ k + 1 → IsExpr us (g.Chain Or) i e m → IsPunctuation us m punctuation.SEMICOLON → m + 1 ≡ j → rs ≡ weights us i m ++ Plain ∷ [] → IsItem us a (equation p e) (os ++ Starts ∷ rs) j
 equation_item us a k i m j p e os {rs} x y z u s q r =
     let v = rw z at u in
     let f : rs ≡ weights us (k + 1) m ++ Plain ∷ [] = r ∙ ap (λ (n : ℕ). weights us n m ++ Plain ∷ []) z in
     item_ends (item_to (is_equation x y v s) (rw f (simp append_assoc))) q
 
 -- a call of one place, from its function
-call_item : (us : List Token) (a k m i j : ℕ) (p : Place) (n : Token) (es : List Expr) (os qs : List Role) → IsTarget us a p os k → IsMark us k mark.DEFINES → m ≡ k + 1 → slice_get us m ≡ Some n → IsName us m (name_text n) → i ≡ m + 1 → IsMark us i mark.OPEN → IsArgs us (i + 1) es qs j → IsMark us j mark.CLOSE → IsMark us (j + 1) mark.SEMICOLON → IsItem us a (call (p ∷ []) (name_text n) es (from_at us m)) (os ++ Starts ∷ weight_role n ∷ Starts ∷ (qs ++ Plain ∷ Plain ∷ [])) (j + 1 + 1)
+call_item : (us : List Token) (a k m i j : ℕ) (p : Place) (n : Token) (es : List Expr) (os qs : List Role) → IsTarget us a p os k → IsPunctuation us k punctuation.EQUAL → m ≡ k + 1 → slice_get us m ≡ Some n → IsName us m (name_text n) → i ≡ m + 1 → IsPunctuation us i punctuation.LEFT_PAREN → IsArgs us (i + 1) es qs j → IsPunctuation us j punctuation.RIGHT_PAREN → IsPunctuation us (j + 1) punctuation.SEMICOLON → IsItem us a (call (p ∷ []) (name_text n) es (from_at us m)) (os ++ Starts ∷ weight_role n ∷ Starts ∷ (qs ++ Plain ∷ Plain ∷ [])) (j + 1 + 1)
 call_item us a k m i j p n es os qs x y z sn nm v o ar c s =
     let kind_is = sym (kind_seen us m sn) ∙ nm in
     let weight = name_weight n (name_text n) (cc) in
@@ -240,7 +241,7 @@ right_name_means us i vs rs (there (there x)) h = elim x [ ]
 loop_made : (s e b ea c to co n o : Token) (lo hi : Manifest) (ys : List Item) (at : ℕ) (bs : List Value) {x3 x2 x1 vs : List Value} → x3 ≡ the.items ys ∷ the.token b ∷ the.token ea ∷ the.token c ∷ x2 → x2 ≡ the.manifest hi ∷ the.token to ∷ x1 → x1 ≡ the.manifest lo ∷ the.token co ∷ vs → vs ≡ the.token n ∷ the.token o ∷ bs → at ≡ o.from → made the.is_loop (the.token s ∷ the.token e ∷ x3) ≡ the.an_item (loop (name_text n) lo hi (items_of ys) at) ∷ bs
 loop_made s e b ea c to co n o lo hi ys at bs p3 p2 p1 p0 f = rw (p3, p2, p1, p0, f) refl
 
-loop_item : (us : List Token) (a i j k m : ℕ) (name : List ℕ) (lo hi : Manifest) (xs : Items) (q1 q2 q3 : List Role) → IsMark us a mark.OPEN → IsName us (a + 1) name → i ≡ a + 2 → IsMark us i mark.COLON → IsManifest us g.Manifest_ (i + 1) lo j → IsMark us j mark.TO → IsManifest us g.Manifest_ (j + 1) hi k → IsMark us k mark.CLOSE → IsMark us (k + 1) mark.EACH → IsWord us (k + 1 + 1) mark.BEGIN → IsItems us (k + 1 + 1 + 1) xs q3 m → IsWord us m mark.END → IsMark us (m + 1) mark.SEMICOLON → q1 ≡ weights us (i + 1) j → q2 ≡ weights us (j + 1) k → IsItem us a (loop name lo hi xs (from_at us a)) (Plain ∷ Plain ∷ Starts ∷ (q1 ++ Starts ∷ (q2 ++ Plain ∷ Plain ∷ g.Enters ∷ (q3 ++ g.Leaves ∷ Plain ∷ [])))) (m + 1 + 1)
+loop_item : (us : List Token) (a i j k m : ℕ) (name : List ℕ) (lo hi : Manifest) (xs : Items) (q1 q2 q3 : List Role) → IsPunctuation us a punctuation.LEFT_PAREN → IsName us (a + 1) name → i ≡ a + 2 → IsPunctuation us i punctuation.COLON → IsManifest us g.Manifest_ (i + 1) lo j → IsPunctuation us j punctuation.DOT_DOT → IsManifest us g.Manifest_ (j + 1) hi k → IsPunctuation us k punctuation.RIGHT_PAREN → IsPunctuation us (k + 1) punctuation.COLON_COLON → IsKeyword us (k + 1 + 1) keyword.BEGIN → IsItems us (k + 1 + 1 + 1) xs q3 m → IsKeyword us m keyword.END → IsPunctuation us (m + 1) punctuation.SEMICOLON → q1 ≡ weights us (i + 1) j → q2 ≡ weights us (j + 1) k → IsItem us a (loop name lo hi xs (from_at us a)) (Plain ∷ Plain ∷ Starts ∷ (q1 ++ Starts ∷ (q2 ++ Plain ∷ Plain ∷ g.Enters ∷ (q3 ++ g.Leaves ∷ Plain ∷ [])))) (m + 1 + 1)
 loop_item us a i j k m name lo hi xs q1 q2 q3 o n v c l to h cl ea b body en s e1 e2 =
     let p1 : i + 1 ≡ a + 3 = omega arith in
     let p2 : k + 1 + 1 + 1 ≡ k + 3 = omega arith in
@@ -260,7 +261,7 @@ place_made n p low a b c d = rw (a, b) (ap (λ x. the.places (x ∷ []) ∷ low)
 calls_made : (s c2 o2 f d c o : Token) (ps : List Place) (es : List Expr) (at : ℕ) (bs : List Value) {x3 x2 : List Value} → x3 ≡ the.exprs es ∷ the.token o2 ∷ the.token f ∷ the.token d ∷ the.token c ∷ x2 → x2 ≡ the.places ps ∷ the.token o ∷ bs → at ≡ f.from → made the.is_calls (the.token s ∷ the.token c2 ∷ x3) ≡ the.an_item (call ps (name_text f) es at) ∷ bs
 calls_made s c2 o2 f d c o ps es at bs a b e = rw (a, b, e) refl
 
-calls_item : (us : List Token) (a k l : ℕ) (ps : List Place) (f : List ℕ) (es : List Expr) (q1 q2 q3 : List Role) → IsMark us a mark.OPEN → IsTargets us (a + 1) ps ((Plain ∷ q1) ++ q2) k → IsMark us k mark.CLOSE → IsMark us (k + 1) mark.DEFINES → IsName us (k + 1 + 1) f → IsMark us (k + 1 + 1 + 1) mark.OPEN → IsArgs us (k + 1 + 1 + 1 + 1) es q3 l → IsMark us l mark.CLOSE → IsMark us (l + 1) mark.SEMICOLON → IsItem us a (call ps f es (from_at us (k + 2))) (Plain ∷ Plain ∷ (q1 ++ (q2 ++ Plain ∷ Plain ∷ Plain ∷ Starts ∷ (q3 ++ Plain ∷ Plain ∷ [])))) (l + 1 + 1)
+calls_item : (us : List Token) (a k l : ℕ) (ps : List Place) (f : List ℕ) (es : List Expr) (q1 q2 q3 : List Role) → IsPunctuation us a punctuation.LEFT_PAREN → IsTargets us (a + 1) ps ((Plain ∷ q1) ++ q2) k → IsPunctuation us k punctuation.RIGHT_PAREN → IsPunctuation us (k + 1) punctuation.EQUAL → IsName us (k + 1 + 1) f → IsPunctuation us (k + 1 + 1 + 1) punctuation.LEFT_PAREN → IsArgs us (k + 1 + 1 + 1 + 1) es q3 l → IsPunctuation us l punctuation.RIGHT_PAREN → IsPunctuation us (l + 1) punctuation.SEMICOLON → IsItem us a (call ps f es (from_at us (k + 2))) (Plain ∷ Plain ∷ (q1 ++ (q2 ++ Plain ∷ Plain ∷ Plain ∷ Starts ∷ (q3 ++ Plain ∷ Plain ∷ [])))) (l + 1 + 1)
 calls_item us a k l ps f es q1 q2 q3 o ts c d n o2 ar c2 s =
     let p1 : k + 1 + 1 + 1 + 1 ≡ k + 4 = omega arith in
     let p2 : l + 2 ≡ l + 1 + 1 = omega arith in

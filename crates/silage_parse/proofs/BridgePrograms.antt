@@ -1,7 +1,8 @@
 -- Functions, tables and programs: what the grammar has, the table reads, with the same roles.
 use Rattle.std.proofs.Common.{◌≡◌, ℕ, ◌+◌, true, List, [], ◌∷◌, ◌++◌, length, None, slice_get, refl, sym, ap, ◌∙◌, arith, append_assoc, append-nil}
 use Rattle.silage_lex.specs.declared.Token.{Token}
-use Rattle.silage_tree.specs.declared.marks.TheConstants as mark
+use Rattle.silage_lex.specs.declared.punctuation.TheConstants as punctuation
+use Rattle.silage_lex.specs.declared.keywords.TheConstants as keyword
 use Rattle.silage_tree.specs.Tree.{Top, table, Program}
 use Rattle.silage_tree.specs.Grammar.{kind_at, from_at, Role, IsTop, is_table, is_function, IsTops, no_tops, one_top, HasRoles}
 use Rattle.silage_parse.specs.Table as the
@@ -15,11 +16,11 @@ use Rattle.silage_parse.proofs.BridgeItems.{Did, did, go, alone, makes, did_from
 
 -- a table, in front of the tops behind it
 abbrev of_table : List Symbol
-of_table = word_of mark.CONST Outside ∷ Go the.Name_ ∷ mark_of mark.COLON Outside ∷ Go (the.FixIn Outside) ∷ mark_of mark.DEFINES Outside ∷ Go the.Words ∷ mark_of mark.SEMICOLON Outside ∷ Make the.add_table ∷ []
+of_table = word_of keyword.CONST Outside ∷ Go the.Name_ ∷ mark_of punctuation.COLON Outside ∷ Go (the.FixIn Outside) ∷ mark_of punctuation.EQUAL Outside ∷ Go the.Words ∷ mark_of punctuation.SEMICOLON Outside ∷ Make the.add_table ∷ []
 
 -- a function, up to its items
 abbrev of_function : List Symbol
-of_function = word_of mark.FUNC Outside ∷ Take (AName ∷ []) Outside ∷ mark_of mark.OPEN Outside ∷ Go the.Decl_ ∷ Make the.first_decl ∷ Go the.MoreDecls ∷ mark_of mark.CLOSE Outside ∷ Go the.Results ∷ mark_of mark.DEFINES Outside ∷ word_of mark.BEGIN Outside ∷ Make the.no_locals ∷ Go the.Locals ∷ Make the.no_items ∷ []
+of_function = word_of keyword.FUNC Outside ∷ Take (AName ∷ []) Outside ∷ mark_of punctuation.LEFT_PAREN Outside ∷ Go the.Decl_ ∷ Make the.first_decl ∷ Go the.MoreDecls ∷ mark_of punctuation.RIGHT_PAREN Outside ∷ Go the.Results ∷ mark_of punctuation.EQUAL Outside ∷ word_of keyword.BEGIN Outside ∷ Make the.no_locals ∷ Go the.Locals ∷ Make the.no_items ∷ []
 
 top_reads : {us : List Token} {i j m : ℕ} {t : Top} (ts : List Top) {rs qs : List Role} (vs : List Value) {ws : List Value} → IsTop us i t rs j → Did us the.Tops j (the.tops (ts ++ t ∷ []) ∷ vs) qs m ws → Did us the.Tops i (the.tops ts ∷ vs) (rs ++ qs) m ws
 top_reads {us} ts vs (is_table {i = i} {j = j} {k = h} {m = m} {d = d} {f = f} {ls = ls} w n c x e l s) r =
@@ -41,7 +42,7 @@ top_reads {us} ts vs (is_function {i = i} {j = j} {k = h} {m = m} {n = n} {name 
     let low : List Value = the.token k0.tok ∷ the.tops ts ∷ vs in
     let names : List Value = the.token k3.tok ∷ the.decls ps ∷ the.token k2.tok ∷ the.token k1.tok ∷ low in
     let heads : List Value = the.token k5.tok ∷ the.token k4.tok ∷ the.decls rs ∷ names in
-    let after : Goes us (mark_of mark.CLOSE Outside ∷ Go the.Results ∷ mark_of mark.DEFINES Outside ∷ word_of mark.BEGIN Outside ∷ Make the.no_locals ∷ Go the.Locals ∷ Make the.no_items ∷ []) j (the.decls ps ∷ the.token k2.tok ∷ the.token k1.tok ∷ low) m (the.items [] ∷ the.decls ls ∷ heads) = g_take k3.there k3.fits (g_go (results_do q names) (g_take k4.there k4.fits (g_take k5.there k5.fits (g_make (goes_from (g_go (locals_do l [] heads) (g_make g_end)) (omega arith)))))) in
+    let after : Goes us (mark_of punctuation.RIGHT_PAREN Outside ∷ Go the.Results ∷ mark_of punctuation.EQUAL Outside ∷ word_of keyword.BEGIN Outside ∷ Make the.no_locals ∷ Go the.Locals ∷ Make the.no_items ∷ []) j (the.decls ps ∷ the.token k2.tok ∷ the.token k1.tok ∷ low) m (the.items [] ∷ the.decls ls ∷ heads) = g_take k3.there k3.fits (g_go (results_do q names) (g_take k4.there k4.fits (g_take k5.there k5.fits (g_make (goes_from (g_go (locals_do l [] heads) (g_make g_end)) (omega arith)))))) in
     let g : Goes us of_function i (the.tops ts ∷ vs) m (the.items [] ∷ the.decls ls ∷ heads) = g_take k0.there k0.fits (g_take k1.there k1.fits (g_take k2.there k2.fits (goes_from (decls_then p after) (omega arith)))) in
     did_roles (did (there here) (append (goes_spans Outside g refl).reads (go (items_did x [] _) (take_reads Outside k6.there k6.fits (take_reads Outside k7.there k7.fits (makes (rw (k1.tells, of_list xs) (let f : k1.tok.from ≡ from_at us (i + 1) = sym k1.from in rw f refl)) (alone (did_from r (omega arith))))))))) (simp append_assoc)
 

@@ -5,12 +5,13 @@ use Rattle.fix_word.specs.declared.types.Mode.TheVariants.{Trunc, Round}
 use Rattle.silage_lex.specs.declared.Token.{Token}
 use Rattle.silage_lex.specs.declared.TokenKind.{TokenKind}
 use Rattle.silage_lex.specs.declared.TokenKind.TheVariants as kind
-use Rattle.silage_tree.specs.declared.marks.TheConstants as mark
+use Rattle.silage_lex.specs.declared.punctuation.TheConstants as punctuation
+use Rattle.silage_lex.specs.declared.keywords.TheConstants as keyword
 use Rattle.silage_tree.specs.declared.tree.BinOp.{BinOp}
 use Rattle.silage_tree.specs.declared.tree.BinOp.TheVariants as op
 use Rattle.silage_tree.specs.declared.tree.MOp.{MOp}
 use Rattle.silage_tree.specs.declared.tree.MOp.TheVariants as mop
-use Rattle.silage_tree.specs.Grammar.{kind_of, kind_at, from_of, from_at, IsMark, IsWord, IsName, IsWhole, IsNumber, number_of, row, marked, worded, mode_of, term_operator, Level, Or, And, Sum, Product, operator, comparison, shift_operator, truth_of, weight_role, Plain}
+use Rattle.silage_tree.specs.Grammar.{kind_of, kind_at, from_of, from_at, IsPunctuation, IsKeyword, IsName, IsWhole, IsNumber, number_of, row, marked, worded, mode_of, term_operator, Level, Or, And, Sum, Product, operator, comparison, shift_operator, truth_of, weight_role, Plain}
 use Rattle.silage_parse.specs.Table.{Terminal, Mark, Word, AName, AWhole, is_one, number, operators, comparisons}
 use Rattle.silage_parse.specs.Machine.{name_text, whole_value, or_else}
 
@@ -39,10 +40,10 @@ one_mark n k h = let e = eq-eqb n n refl in rw (h, e) refl
 one_word : (n : ℕ) (k : Option TokenKind) → k ≡ Some (kind.Reserved n) → is_one (Word n ∷ []) k ≡ true
 one_word n k h = let e = eq-eqb n n refl in rw (h, e) refl
 
-pub mark_there : (us : List Token) (i n : ℕ) → IsMark us i n → IsOf us (Mark n ∷ []) i (kind.Symbol n)
+pub mark_there : (us : List Token) (i n : ℕ) → IsPunctuation us i n → IsOf us (Mark n ∷ []) i (kind.Symbol n)
 mark_there us i n h = known us (Mark n ∷ []) i (λ x. x) (Some (kind.Symbol n)) refl (one_mark n _ h) h
 
-pub word_there : (us : List Token) (i n : ℕ) → IsWord us i n → IsOf us (Word n ∷ []) i (kind.Reserved n)
+pub word_there : (us : List Token) (i n : ℕ) → IsKeyword us i n → IsOf us (Word n ∷ []) i (kind.Reserved n)
 word_there us i n h = known us (Word n ∷ []) i (λ x. x) (Some (kind.Reserved n)) refl (one_word n _ h) h
 
 text_known : (t : Token) (name : List ℕ) → Some t.kind ≡ Some (kind.Name name) → name_text t ≡ name
@@ -90,31 +91,31 @@ pub number_there : (us : List Token) (i d p : ℕ) → IsNumber us i d p → Kno
 number_there us i d p h = known us number i number_of (Some (d, p)) refl (one_number _ h) h
 
 abbrev or_row : List (ℕ × BinOp)
-or_row = (mark.OR, op.Or) ∷ []
+or_row = (punctuation.PIPE, op.Or) ∷ []
 
 abbrev and_row : List (ℕ × BinOp)
-and_row = (mark.AND, op.And) ∷ []
+and_row = (punctuation.AMPERSAND, op.And) ∷ []
 
 abbrev sum_rows : List (ℕ × BinOp)
-sum_rows = (mark.PLUS, op.Add) ∷ (mark.MINUS, op.Sub) ∷ []
+sum_rows = (punctuation.PLUS, op.Add) ∷ (punctuation.MINUS, op.Sub) ∷ []
 
 abbrev product_row : List (ℕ × BinOp)
-product_row = (mark.STAR, op.Mul) ∷ []
+product_row = (punctuation.STAR, op.Mul) ∷ []
 
 abbrev term_rows : List (ℕ × MOp)
-term_rows = (mark.PLUS, mop.Add) ∷ (mark.MINUS, mop.Sub) ∷ []
+term_rows = (punctuation.PLUS, mop.Add) ∷ (punctuation.MINUS, mop.Sub) ∷ []
 
 abbrev comparison_rows : List (ℕ × BinOp)
-comparison_rows = (mark.BELOW, op.Lt) ∷ (mark.AT_MOST, op.Le) ∷ (mark.EQUAL, op.Eq) ∷ (mark.UNEQUAL, op.Ne) ∷ (mark.ABOVE, op.Gt) ∷ (mark.AT_LEAST, op.Ge) ∷ []
+comparison_rows = (punctuation.LESS, op.Lt) ∷ (punctuation.LESS_EQUAL, op.Le) ∷ (punctuation.EQUAL_EQUAL, op.Eq) ∷ (punctuation.BANG_EQUAL, op.Ne) ∷ (punctuation.GREATER, op.Gt) ∷ (punctuation.GREATER_EQUAL, op.Ge) ∷ []
 
 abbrev shift_rows : List (ℕ × Bool)
-shift_rows = (mark.LEFT, true) ∷ (mark.RIGHT, false) ∷ []
+shift_rows = (punctuation.LESS_LESS, true) ∷ (punctuation.GREATER_GREATER, false) ∷ []
 
 abbrev truth_rows : List (ℕ × Bool)
-truth_rows = (mark.TRUE, true) ∷ (mark.FALSE, false) ∷ []
+truth_rows = (keyword.TRUE, true) ∷ (keyword.FALSE, false) ∷ []
 
 abbrev mode_rows : List (ℕ × Mode)
-mode_rows = (mark.TRUNC, Trunc) ∷ (mark.ROUND, Round) ∷ []
+mode_rows = (keyword.TRUNC, Trunc) ∷ (keyword.ROUND, Round) ∷ []
 
 -- the rows of a table of symbols or words are the terminals
 marks_of : {A : Type 0} → List (ℕ × A) → List Terminal
@@ -158,17 +159,17 @@ pub comparison_there : (us : List Token) (i : ℕ) (o : BinOp) → comparison (k
 unfolding marks_of
 comparison_there us i o h = known us comparisons i comparison (Some o) refl (one_marked comparison_rows (kind_at us i) h) h
 
-pub shift_there : (us : List Token) (i : ℕ) (b : Bool) → shift_operator (kind_at us i) ≡ Some b → Known us (Mark mark.LEFT ∷ Mark mark.RIGHT ∷ []) i shift_operator (Some b)
+pub shift_there : (us : List Token) (i : ℕ) (b : Bool) → shift_operator (kind_at us i) ≡ Some b → Known us (Mark punctuation.LESS_LESS ∷ Mark punctuation.GREATER_GREATER ∷ []) i shift_operator (Some b)
 unfolding marks_of
-shift_there us i b h = known us (Mark mark.LEFT ∷ Mark mark.RIGHT ∷ []) i shift_operator (Some b) refl (one_marked shift_rows (kind_at us i) h) h
+shift_there us i b h = known us (Mark punctuation.LESS_LESS ∷ Mark punctuation.GREATER_GREATER ∷ []) i shift_operator (Some b) refl (one_marked shift_rows (kind_at us i) h) h
 
-pub truth_there : (us : List Token) (i : ℕ) (b : Bool) → truth_of (kind_at us i) ≡ Some b → Known us (Word mark.TRUE ∷ Word mark.FALSE ∷ []) i truth_of (Some b)
+pub truth_there : (us : List Token) (i : ℕ) (b : Bool) → truth_of (kind_at us i) ≡ Some b → Known us (Word keyword.TRUE ∷ Word keyword.FALSE ∷ []) i truth_of (Some b)
 unfolding words_of
-truth_there us i b h = known us (Word mark.TRUE ∷ Word mark.FALSE ∷ []) i truth_of (Some b) refl (one_worded truth_rows (kind_at us i) h) h
+truth_there us i b h = known us (Word keyword.TRUE ∷ Word keyword.FALSE ∷ []) i truth_of (Some b) refl (one_worded truth_rows (kind_at us i) h) h
 
-pub mode_there : (us : List Token) (i : ℕ) (m : Mode) → mode_of (kind_at us i) ≡ Some m → Known us (Word mark.TRUNC ∷ Word mark.ROUND ∷ []) i mode_of (Some m)
+pub mode_there : (us : List Token) (i : ℕ) (m : Mode) → mode_of (kind_at us i) ≡ Some m → Known us (Word keyword.TRUNC ∷ Word keyword.ROUND ∷ []) i mode_of (Some m)
 unfolding words_of
-mode_there us i m h = known us (Word mark.TRUNC ∷ Word mark.ROUND ∷ []) i mode_of (Some m) refl (one_worded mode_rows (kind_at us i) h) h
+mode_there us i m h = known us (Word keyword.TRUNC ∷ Word keyword.ROUND ∷ []) i mode_of (Some m) refl (one_worded mode_rows (kind_at us i) h) h
 
 -- Back: what a token that was taken is.
 pub kind_seen : (us : List Token) (i : ℕ) {t : Token} → slice_get us i ≡ Some t → kind_at us i ≡ Some t.kind
@@ -188,10 +189,10 @@ is_word : (n : ℕ) (k : TokenKind) → is_one (Word n ∷ []) (Some k) ≡ true
 is_word n (kind.Reserved m) h = ap (λ (x : ℕ). kind.Reserved x) (sym (by_test n m h))
 is_word n _ h = cc
 
-pub mark_seen : (us : List Token) (i n : ℕ) {t : Token} → slice_get us i ≡ Some t → is_one (Mark n ∷ []) (Some t.kind) ≡ true → IsMark us i n
+pub mark_seen : (us : List Token) (i n : ℕ) {t : Token} → slice_get us i ≡ Some t → is_one (Mark n ∷ []) (Some t.kind) ≡ true → IsPunctuation us i n
 mark_seen us i n {t} e h = kind_seen us i e ∙ ap Some (is_mark n t.kind h)
 
-pub word_seen : (us : List Token) (i n : ℕ) {t : Token} → slice_get us i ≡ Some t → is_one (Word n ∷ []) (Some t.kind) ≡ true → IsWord us i n
+pub word_seen : (us : List Token) (i n : ℕ) {t : Token} → slice_get us i ≡ Some t → is_one (Word n ∷ []) (Some t.kind) ≡ true → IsKeyword us i n
 word_seen us i n {t} e h = kind_seen us i e ∙ ap Some (is_word n t.kind h)
 
 is_name : (t : Token) (k : TokenKind) → t.kind ≡ k → is_one (AName ∷ []) (Some k) ≡ true → t.kind ≡ kind.Name (name_text t)
@@ -283,15 +284,15 @@ pub comparison_seen : (us : List Token) (i : ℕ) {t : Token} → slice_get us i
 unfolding marks_of
 comparison_seen us i {t} e h = ap comparison (kind_seen us i e) ∙ marked_seen op.Eq comparison_rows t.kind h
 
-pub shift_seen : (us : List Token) (i : ℕ) {t : Token} → slice_get us i ≡ Some t → is_one (Mark mark.LEFT ∷ Mark mark.RIGHT ∷ []) (Some t.kind) ≡ true → shift_operator (kind_at us i) ≡ Some (or_else false (shift_operator (Some t.kind)))
+pub shift_seen : (us : List Token) (i : ℕ) {t : Token} → slice_get us i ≡ Some t → is_one (Mark punctuation.LESS_LESS ∷ Mark punctuation.GREATER_GREATER ∷ []) (Some t.kind) ≡ true → shift_operator (kind_at us i) ≡ Some (or_else false (shift_operator (Some t.kind)))
 unfolding marks_of
 shift_seen us i {t} e h = ap shift_operator (kind_seen us i e) ∙ marked_seen false shift_rows t.kind h
 
-pub truth_seen : (us : List Token) (i : ℕ) {t : Token} → slice_get us i ≡ Some t → is_one (Word mark.TRUE ∷ Word mark.FALSE ∷ []) (Some t.kind) ≡ true → truth_of (kind_at us i) ≡ Some (or_else false (truth_of (Some t.kind)))
+pub truth_seen : (us : List Token) (i : ℕ) {t : Token} → slice_get us i ≡ Some t → is_one (Word keyword.TRUE ∷ Word keyword.FALSE ∷ []) (Some t.kind) ≡ true → truth_of (kind_at us i) ≡ Some (or_else false (truth_of (Some t.kind)))
 unfolding words_of
 truth_seen us i {t} e h = ap truth_of (kind_seen us i e) ∙ worded_seen false truth_rows t.kind h
 
-pub mode_seen : (us : List Token) (i : ℕ) {t : Token} → slice_get us i ≡ Some t → is_one (Word mark.TRUNC ∷ Word mark.ROUND ∷ []) (Some t.kind) ≡ true → mode_of (kind_at us i) ≡ Some (or_else Trunc (mode_of (Some t.kind)))
+pub mode_seen : (us : List Token) (i : ℕ) {t : Token} → slice_get us i ≡ Some t → is_one (Word keyword.TRUNC ∷ Word keyword.ROUND ∷ []) (Some t.kind) ≡ true → mode_of (kind_at us i) ≡ Some (or_else Trunc (mode_of (Some t.kind)))
 unfolding words_of
 mode_seen us i {t} e h = ap mode_of (kind_seen us i e) ∙ worded_seen Trunc mode_rows t.kind h
 

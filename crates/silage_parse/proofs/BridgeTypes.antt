@@ -4,10 +4,10 @@ use Rattle.fix_word.specs.declared.types.FixType.{FixType}
 use Rattle.fix_word.specs.declared.types.SigType.{SigType}
 use Rattle.silage_lex.specs.declared.Token.{Token}
 use Rattle.silage_lex.specs.declared.TokenKind.{TokenKind}
-use Rattle.silage_tree.specs.declared.marks.TheConstants as mark
+use Rattle.silage_lex.specs.declared.punctuation.TheConstants as punctuation
 use Rattle.silage_tree.specs.declared.tree.Lit.{Lit}
 use Rattle.silage_tree.specs.declared.tree.Decl.{Decl}
-use Rattle.silage_tree.specs.Grammar.{from_at, IsMark, IsSigned, positive, negative, IsList, last, more, IsDims, scalar, vector, matrix, IsFix, no_mode, with_mode, IsType, fix, bool, Declared, typed, IsDeclared, declared, IsDecl, decl, IsLocals, no_locals, some_locals, IsResults, one_result, results, IsWords, one_word, words, IsInitialValue, signed, truth_value}
+use Rattle.silage_tree.specs.Grammar.{from_at, IsPunctuation, IsSigned, positive, negative, IsList, last, more, IsDims, scalar, vector, matrix, IsFix, no_mode, with_mode, IsType, fix, bool, Declared, typed, IsDeclared, declared, IsDecl, decl, IsLocals, no_locals, some_locals, IsResults, one_result, results, IsWords, one_word, words, IsInitialValue, signed, truth_value}
 use Rattle.silage_parse.specs.Table as the
 use Rattle.silage_parse.specs.Table.{Effect, Phrase, Value, Symbol, Take, Make, Go, Action, choices, mark_of}
 use Rattle.silage_parse.specs.Machine.{made, Among, ways, here, there}
@@ -82,7 +82,7 @@ decl_does {us} (decl {j = j} {d = d} n c t) vs =
     does here (g_go (declared_does n vs) (g_take k.there k.fits (g_go (type_does t (the.token k.tok ∷ the.name d ∷ vs)) (g_make g_end))))
 
 -- What a list goes on with behind a comma, from the ones so far: for each phrase that reads a list.
-list_after : {us : List Token} {A : Type 0} {One : ℕ → A → ℕ → Type 0} (p q : Phrase) (add : Action) (one : A → Value) (all : List A → Value) → ((i j : ℕ) (x : A) → One i x j → (vs : List Value) → Does us p i vs j (one x ∷ vs)) → ((k : Option TokenKind) → Among (ways q k) (mark_of mark.COMMA the.Outside ∷ Go p ∷ Make add ∷ Go q ∷ [])) → ((k : Option TokenKind) → Among (ways q k) []) → ((x : A) (ys : List A) (t : Token) (vs : List Value) → made add (one x ∷ the.token t ∷ all ys ∷ vs) ≡ all (ys ++ x ∷ []) ∷ vs) → (a : ℕ) {i j : ℕ} {xs : List A} (ys : List A) (vs : List Value) → IsMark us a mark.COMMA → IsList us A One i xs j → i ≡ a + 1 → Does us q a (all ys ∷ vs) j (all (ys ++ xs) ∷ vs)
+list_after : {us : List Token} {A : Type 0} {One : ℕ → A → ℕ → Type 0} (p q : Phrase) (add : Action) (one : A → Value) (all : List A → Value) → ((i j : ℕ) (x : A) → One i x j → (vs : List Value) → Does us p i vs j (one x ∷ vs)) → ((k : Option TokenKind) → Among (ways q k) (mark_of punctuation.COMMA the.Outside ∷ Go p ∷ Make add ∷ Go q ∷ [])) → ((k : Option TokenKind) → Among (ways q k) []) → ((x : A) (ys : List A) (t : Token) (vs : List Value) → made add (one x ∷ the.token t ∷ all ys ∷ vs) ≡ all (ys ++ x ∷ []) ∷ vs) → (a : ℕ) {i j : ℕ} {xs : List A} (ys : List A) (vs : List Value) → IsPunctuation us a punctuation.COMMA → IsList us A One i xs j → i ≡ a + 1 → Does us q a (all ys ∷ vs) j (all (ys ++ xs) ∷ vs)
 list_after {us} p q add one all each more_ stop adds a ys vs c (last {x = x} d) e =
     let k = mark_there us a _ c in
     does (more_ _) (g_take k.there k.fits (goes_from (g_go (each _ _ _ d (the.token k.tok ∷ all ys ∷ vs)) (makes_to (adds x ys k.tok vs) (phrase (does (stop _) g_end)))) e))
@@ -92,7 +92,7 @@ list_after {us} p q add one all each more_ stop adds a ys vs c (more {j = m} {x 
     does (more_ _) (g_take k.there k.fits (goes_from (g_go (each _ _ _ d (the.token k.tok ∷ all ys ∷ vs)) (makes_to (adds x ys k.tok vs) (phrase (does_to (ap (λ zs. all zs ∷ vs) (append_assoc ys (x ∷ []) xs)) r)))) e))
 
 -- a list with what follows it
-list_then : {us : List Token} {A : Type 0} {One : ℕ → A → ℕ → Type 0} (p q : Phrase) (first add : Action) (one : A → Value) (all : List A → Value) → ((i j : ℕ) (x : A) → One i x j → (vs : List Value) → Does us p i vs j (one x ∷ vs)) → ((k : Option TokenKind) → Among (ways q k) (mark_of mark.COMMA the.Outside ∷ Go p ∷ Make add ∷ Go q ∷ [])) → ((k : Option TokenKind) → Among (ways q k) []) → ((x : A) (vs : List Value) → made first (one x ∷ vs) ≡ all (x ∷ []) ∷ vs) → ((x : A) (ys : List A) (t : Token) (vs : List Value) → made add (one x ∷ the.token t ∷ all ys ∷ vs) ≡ all (ys ++ x ∷ []) ∷ vs) → {i j m : ℕ} {xs : List A} {ss : List Symbol} {vs ws : List Value} → IsList us A One i xs j → Goes us ss j (all xs ∷ vs) m ws → Goes us (Go p ∷ Make first ∷ Go q ∷ ss) i vs m ws
+list_then : {us : List Token} {A : Type 0} {One : ℕ → A → ℕ → Type 0} (p q : Phrase) (first add : Action) (one : A → Value) (all : List A → Value) → ((i j : ℕ) (x : A) → One i x j → (vs : List Value) → Does us p i vs j (one x ∷ vs)) → ((k : Option TokenKind) → Among (ways q k) (mark_of punctuation.COMMA the.Outside ∷ Go p ∷ Make add ∷ Go q ∷ [])) → ((k : Option TokenKind) → Among (ways q k) []) → ((x : A) (vs : List Value) → made first (one x ∷ vs) ≡ all (x ∷ []) ∷ vs) → ((x : A) (ys : List A) (t : Token) (vs : List Value) → made add (one x ∷ the.token t ∷ all ys ∷ vs) ≡ all (ys ++ x ∷ []) ∷ vs) → {i j m : ℕ} {xs : List A} {ss : List Symbol} {vs ws : List Value} → IsList us A One i xs j → Goes us ss j (all xs ∷ vs) m ws → Goes us (Go p ∷ Make first ∷ Go q ∷ ss) i vs m ws
 list_then p q first add one all each more_ stop firsts adds {vs = vs} (last {x = x} d) g = g_go (each _ _ _ d vs) (makes_to (firsts x vs) (g_go (does (stop _) g_end) g))
 list_then p q first add one all each more_ stop firsts adds {vs = vs} (more {j = m} {x = x} d c l) g = g_go (each _ _ _ d vs) (makes_to (firsts x vs) (g_go (list_after p q add one all each more_ stop adds m (x ∷ []) vs c l refl) g))
 

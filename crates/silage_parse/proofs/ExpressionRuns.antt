@@ -7,7 +7,8 @@ use Rattle.fix_word.specs.declared.types.FixType.{FixType}
 use Rattle.silage_lex.specs.declared.Token.{Token}
 use Rattle.silage_lex.specs.declared.TokenKind.{TokenKind}
 use Rattle.silage_lex.specs.declared.TokenKind.TheVariants as kind
-use Rattle.silage_tree.specs.declared.marks.TheConstants as mark
+use Rattle.silage_lex.specs.declared.punctuation.TheConstants as punctuation
+use Rattle.silage_lex.specs.declared.keywords.TheConstants as keyword
 use Rattle.silage_tree.specs.declared.tree.Manifest.{Manifest as RustManifest}
 use Rattle.silage_tree.specs.declared.tree.Expr.{Expr as RustExpr, Row_of-Expr-Choose-1-2, end_of-Expr-Choose-1-2, more_of-Expr-Choose-1-2, items-the_row-Expr-Choose-1-2, items_hidden-the_row-Expr-Choose-1-2-0, Choose, Choose'}
 use Rattle.silage_tree.specs.declared.tree.BinOp.{BinOp}
@@ -28,16 +29,16 @@ pub levels : (l : Level) → IsChain (Chain l) (Rest l) (part l) (part l) (opera
 levels l = record { begin = refl; more = refl }
 
 pub is_operator : (l : Level) (k : Option TokenKind) {o : BinOp} → operator l k ≡ Some o → is_one (operators l) k ≡ true
-is_operator Or k h = is_marked ((mark.OR, op.Or) ∷ []) k h
-is_operator And k h = is_marked ((mark.AND, op.And) ∷ []) k h
-is_operator Sum k h = is_marked ((mark.PLUS, op.Add) ∷ (mark.MINUS, op.Sub) ∷ []) k h
-is_operator Product k h = is_marked ((mark.STAR, op.Mul) ∷ []) k h
+is_operator Or k h = is_marked ((punctuation.PIPE, op.Or) ∷ []) k h
+is_operator And k h = is_marked ((punctuation.AMPERSAND, op.And) ∷ []) k h
+is_operator Sum k h = is_marked ((punctuation.PLUS, op.Add) ∷ (punctuation.MINUS, op.Sub) ∷ []) k h
+is_operator Product k h = is_marked ((punctuation.STAR, op.Mul) ∷ []) k h
 
 pub no_operator : (l : Level) (k : Option TokenKind) → operator l k ≡ None → is_one (operators l) k ≡ false
-no_operator Or k h = not_marked ((mark.OR, op.Or) ∷ []) k h
-no_operator And k h = not_marked ((mark.AND, op.And) ∷ []) k h
-no_operator Sum k h = not_marked ((mark.PLUS, op.Add) ∷ (mark.MINUS, op.Sub) ∷ []) k h
-no_operator Product k h = not_marked ((mark.STAR, op.Mul) ∷ []) k h
+no_operator Or k h = not_marked ((punctuation.PIPE, op.Or) ∷ []) k h
+no_operator And k h = not_marked ((punctuation.AMPERSAND, op.And) ∷ []) k h
+no_operator Sum k h = not_marked ((punctuation.PLUS, op.Add) ∷ (punctuation.MINUS, op.Sub) ∷ []) k h
+no_operator Product k h = not_marked ((punctuation.STAR, op.Mul) ∷ []) k h
 
 pub part_made : {ts : List Token} {ks : List Terminal} {from to : Cursor} {o : BinOp} {at : ℕ} (l : Level) (a b : Expr) (t : Takes ts ks Inside from to) → operator l (kind_at ts from.at) ≡ Some o → at ≡ from_at ts from.at → (vs : List Value) → made (add_part l) (the.expr b ∷ the.token t.token ∷ the.expr a ∷ vs) ≡ the.expr (binary at o a b) ∷ vs
 part_made {at = at} l a b t h same vs =
@@ -46,10 +47,10 @@ part_made {at = at} l a b t h same vs =
 
 -- Comparisons.
 pub is_comparison : (k : Option TokenKind) {o : BinOp} → comparison k ≡ Some o → is_one comparisons k ≡ true
-is_comparison k h = is_marked ((mark.BELOW, op.Lt) ∷ (mark.AT_MOST, op.Le) ∷ (mark.EQUAL, op.Eq) ∷ (mark.UNEQUAL, op.Ne) ∷ (mark.ABOVE, op.Gt) ∷ (mark.AT_LEAST, op.Ge) ∷ []) k h
+is_comparison k h = is_marked ((punctuation.LESS, op.Lt) ∷ (punctuation.LESS_EQUAL, op.Le) ∷ (punctuation.EQUAL_EQUAL, op.Eq) ∷ (punctuation.BANG_EQUAL, op.Ne) ∷ (punctuation.GREATER, op.Gt) ∷ (punctuation.GREATER_EQUAL, op.Ge) ∷ []) k h
 
 pub no_comparison : (k : Option TokenKind) → comparison k ≡ None → is_one comparisons k ≡ false
-no_comparison k h = not_marked ((mark.BELOW, op.Lt) ∷ (mark.AT_MOST, op.Le) ∷ (mark.EQUAL, op.Eq) ∷ (mark.UNEQUAL, op.Ne) ∷ (mark.ABOVE, op.Gt) ∷ (mark.AT_LEAST, op.Ge) ∷ []) k h
+no_comparison k h = not_marked ((punctuation.LESS, op.Lt) ∷ (punctuation.LESS_EQUAL, op.Le) ∷ (punctuation.EQUAL_EQUAL, op.Eq) ∷ (punctuation.BANG_EQUAL, op.Ne) ∷ (punctuation.GREATER, op.Gt) ∷ (punctuation.GREATER_EQUAL, op.Ge) ∷ []) k h
 
 pub to_compare : {ts : List Token} {ss : List Symbol} {i : ℕ} {c : Count} {vs : List Value} {o : Outcome} → is_one comparisons (kind_at ts i) ≡ true → Runs ts (Take comparisons Inside ∷ Go (Chain Sum) ∷ Make compare ∷ ss) i c vs o → Runs ts (Go CompareRest ∷ ss) i c vs o
 to_compare h r = goes (rw h r)
@@ -69,16 +70,16 @@ compared {ts} {end = end} {a = a} {b = b} {o = o} g t h k same =
 
 -- Shifts.
 abbrev pub shift_marks : List Terminal
-shift_marks = Mark mark.LEFT ∷ Mark mark.RIGHT ∷ []
+shift_marks = Mark punctuation.LESS_LESS ∷ Mark punctuation.GREATER_GREATER ∷ []
 
 pub shifts : IsChain Shift Shifts Unary ManifestPrimary shift_marks add_shift
 shifts = record { begin = refl; more = refl }
 
 pub is_shift : (k : Option TokenKind) {left : Bool} → shift_operator k ≡ Some left → is_one shift_marks k ≡ true
-is_shift k h = is_marked ((mark.LEFT, true) ∷ (mark.RIGHT, false) ∷ []) k h
+is_shift k h = is_marked ((punctuation.LESS_LESS, true) ∷ (punctuation.GREATER_GREATER, false) ∷ []) k h
 
 pub no_shift : (k : Option TokenKind) → shift_operator k ≡ None → is_one shift_marks k ≡ false
-no_shift k h = not_marked ((mark.LEFT, true) ∷ (mark.RIGHT, false) ∷ []) k h
+no_shift k h = not_marked ((punctuation.LESS_LESS, true) ∷ (punctuation.GREATER_GREATER, false) ∷ []) k h
 
 pub shift_made : {ts : List Token} {ks : List Terminal} {from to : Cursor} {left : Bool} {at : ℕ} (a : Expr) (m : Manifest) (t : Takes ts ks Inside from to) → shift_operator (kind_at ts from.at) ≡ Some left → at ≡ from_at ts from.at → (vs : List Value) → made add_shift (the.manifest m ∷ the.token t.token ∷ the.expr a ∷ vs) ≡ the.expr (shift at left a m) ∷ vs
 shift_made a m t h same vs =
@@ -86,13 +87,13 @@ shift_made a m t h same vs =
     ap (λ x. the.expr (shift t.token.from (or_else false x) a m) ∷ vs) (sym k ∙ h) ∙ ap (λ x. the.expr (shift x _ a m) ∷ vs) (sym (taken_from t) ∙ sym same)
 
 -- Unary operators.
-pub to_minus : {ts : List Token} {ss : List Symbol} {i : ℕ} {c : Count} {vs : List Value} {o : Outcome} → is_one (Mark mark.MINUS ∷ []) (kind_at ts i) ≡ true → Runs ts (mark_of mark.MINUS Inside ∷ Go AfterMinus ∷ ss) i c vs o → Runs ts (Go Unary ∷ ss) i c vs o
+pub to_minus : {ts : List Token} {ss : List Symbol} {i : ℕ} {c : Count} {vs : List Value} {o : Outcome} → is_one (Mark punctuation.MINUS ∷ []) (kind_at ts i) ≡ true → Runs ts (mark_of punctuation.MINUS Inside ∷ Go AfterMinus ∷ ss) i c vs o → Runs ts (Go Unary ∷ ss) i c vs o
 to_minus h r = goes (rw h r)
 
-pub to_not : {ts : List Token} {ss : List Symbol} {i : ℕ} {c : Count} {vs : List Value} {o : Outcome} → is_one (Mark mark.MINUS ∷ []) (kind_at ts i) ≡ false → is_one (Mark mark.NOT ∷ []) (kind_at ts i) ≡ true → Runs ts (mark_of mark.NOT Inside ∷ Go Unary ∷ Make not_expr ∷ ss) i c vs o → Runs ts (Go Unary ∷ ss) i c vs o
+pub to_not : {ts : List Token} {ss : List Symbol} {i : ℕ} {c : Count} {vs : List Value} {o : Outcome} → is_one (Mark punctuation.MINUS ∷ []) (kind_at ts i) ≡ false → is_one (Mark punctuation.BANG ∷ []) (kind_at ts i) ≡ true → Runs ts (mark_of punctuation.BANG Inside ∷ Go Unary ∷ Make not_expr ∷ ss) i c vs o → Runs ts (Go Unary ∷ ss) i c vs o
 to_not g h r = goes (rw (g, h) r)
 
-pub to_primary : {ts : List Token} {ss : List Symbol} {i : ℕ} {c : Count} {vs : List Value} {o : Outcome} → is_one (Mark mark.MINUS ∷ []) (kind_at ts i) ≡ false → is_one (Mark mark.NOT ∷ []) (kind_at ts i) ≡ false → Runs ts (Go Primary ∷ ss) i c vs o → Runs ts (Go Unary ∷ ss) i c vs o
+pub to_primary : {ts : List Token} {ss : List Symbol} {i : ℕ} {c : Count} {vs : List Value} {o : Outcome} → is_one (Mark punctuation.MINUS ∷ []) (kind_at ts i) ≡ false → is_one (Mark punctuation.BANG ∷ []) (kind_at ts i) ≡ false → Runs ts (Go Primary ∷ ss) i c vs o → Runs ts (Go Unary ∷ ss) i c vs o
 to_primary g h r = goes (rw (g, h) r)
 
 pub to_negative : {ts : List Token} {ss : List Symbol} {i : ℕ} {c : Count} {vs : List Value} {o : Outcome} → is_one number (kind_at ts i) ≡ true → Runs ts (Take number Inside ∷ Make negative ∷ Make literal_expr ∷ ss) i c vs o → Runs ts (Go AfterMinus ∷ ss) i c vs o
@@ -101,13 +102,13 @@ to_negative h r = goes (rw h r)
 pub to_negate : {ts : List Token} {ss : List Symbol} {i : ℕ} {c : Count} {vs : List Value} {o : Outcome} → is_one number (kind_at ts i) ≡ false → Runs ts (Go Unary ∷ Make negate_expr ∷ ss) i c vs o → Runs ts (Go AfterMinus ∷ ss) i c vs o
 to_negate h r = goes (rw h r)
 
-pub not_read : {ts : List Token} {from mid to : Cursor} {e : Expr} {at : ℕ} → is_one (Mark mark.MINUS ∷ []) (kind_at ts from.at) ≡ false → Takes ts (Mark mark.NOT ∷ []) Inside from mid → Goes ts (Go Unary) mid (the.expr e) to → at ≡ from_at ts from.at → Goes ts (Go Unary) from (the.expr (not at e)) to
+pub not_read : {ts : List Token} {from mid to : Cursor} {e : Expr} {at : ℕ} → is_one (Mark punctuation.MINUS ∷ []) (kind_at ts from.at) ≡ false → Takes ts (Mark punctuation.BANG ∷ []) Inside from mid → Goes ts (Go Unary) mid (the.expr e) to → at ≡ from_at ts from.at → Goes ts (Go Unary) from (the.expr (not at e)) to
 not_read {ts} {to = to} {e = e} other t g same = record { run = λ ss vs o r. to_not other t.is_of (t.goes.run _ _ _ (g.run _ _ _ (makes (subst (λ x. Runs ts ss to.at (count to) (the.expr (not x e) ∷ vs) o) (same ∙ taken_from t) r)))) }
 
-pub negate_read : {ts : List Token} {from mid to : Cursor} {e : Expr} {at : ℕ} → Takes ts (Mark mark.MINUS ∷ []) Inside from mid → is_one number (kind_at ts mid.at) ≡ false → Goes ts (Go Unary) mid (the.expr e) to → at ≡ from_at ts from.at → Goes ts (Go Unary) from (the.expr (negate at e)) to
+pub negate_read : {ts : List Token} {from mid to : Cursor} {e : Expr} {at : ℕ} → Takes ts (Mark punctuation.MINUS ∷ []) Inside from mid → is_one number (kind_at ts mid.at) ≡ false → Goes ts (Go Unary) mid (the.expr e) to → at ≡ from_at ts from.at → Goes ts (Go Unary) from (the.expr (negate at e)) to
 negate_read {ts} {to = to} {e = e} t other g same = record { run = λ ss vs o r. to_minus t.is_of (t.goes.run _ _ _ (to_negate other (g.run _ _ _ (makes (subst (λ x. Runs ts ss to.at (count to) (the.expr (negate x e) ∷ vs) o) (same ∙ taken_from t) r))))) }
 
-pub negative_read : {ts : List Token} {from mid to : Cursor} {n : ℕ × ℕ} {at : ℕ} → Takes ts (Mark mark.MINUS ∷ []) Inside from mid → Takes ts number Inside mid to × (number_of (kind_at ts mid.at) ≡ Some n) → at ≡ from_at ts from.at → Goes ts (Go Unary) from (the.expr (literal (Number true n.0 n.1 at))) to
+pub negative_read : {ts : List Token} {from mid to : Cursor} {n : ℕ × ℕ} {at : ℕ} → Takes ts (Mark punctuation.MINUS ∷ []) Inside from mid → Takes ts number Inside mid to × (number_of (kind_at ts mid.at) ≡ Some n) → at ≡ from_at ts from.at → Goes ts (Go Unary) from (the.expr (literal (Number true n.0 n.1 at))) to
 negative_read {ts} {to = to} {n = n} t h same =
     let d = h.0 in
     let is = sym h.1 ∙ ap number_of (ap kind_of d.there) in
@@ -120,13 +121,13 @@ negative_read {ts} {to = to} {n = n} t h same =
 
 -- Primaries.
 abbrev pub truths : List Terminal
-truths = Word mark.TRUE ∷ Word mark.FALSE ∷ []
+truths = Word keyword.TRUE ∷ Word keyword.FALSE ∷ []
 
 pub is_a_truth : (k : Option TokenKind) {b : Bool} → truth_of k ≡ Some b → is_one truths k ≡ true
-is_a_truth k h = is_worded ((mark.TRUE, true) ∷ (mark.FALSE, false) ∷ []) k h
+is_a_truth k h = is_worded ((keyword.TRUE, true) ∷ (keyword.FALSE, false) ∷ []) k h
 
 pub no_truth : (k : Option TokenKind) → truth_of k ≡ None → is_one truths k ≡ false
-no_truth k h = not_worded ((mark.TRUE, true) ∷ (mark.FALSE, false) ∷ []) k h
+no_truth k h = not_worded ((keyword.TRUE, true) ∷ (keyword.FALSE, false) ∷ []) k h
 
 pub to_place : {ts : List Token} {ss : List Symbol} {i : ℕ} {c : Count} {vs : List Value} {o : Outcome} → is_one (AName ∷ []) (kind_at ts i) ≡ true → Runs ts (Take (AName ∷ []) Inside ∷ Go Subs ∷ Make a_place ∷ Go Delay ∷ Make read_expr ∷ ss) i c vs o → Runs ts (Go Primary ∷ ss) i c vs o
 to_place h r = goes (rw h r)
@@ -140,13 +141,13 @@ to_number h r = goes (rw h r)
 pub to_truth : {ts : List Token} {ss : List Symbol} {i : ℕ} {c : Count} {vs : List Value} {o : Outcome} → is_one number (kind_at ts i) ≡ false → is_one truths (kind_at ts i) ≡ true → Runs ts (Take truths Inside ∷ Make truth ∷ Make literal_expr ∷ ss) i c vs o → Runs ts (Go OtherPrimary ∷ ss) i c vs o
 to_truth g h r = goes (rw (g, h) r)
 
-pub to_cast : {ts : List Token} {ss : List Symbol} {i : ℕ} {c : Count} {vs : List Value} {o : Outcome} → is_one (Word mark.FIX ∷ []) (kind_at ts i) ≡ true → Runs ts (Go (FixIn Inside) ∷ mark_of mark.OPEN Inside ∷ Go (Chain Or) ∷ mark_of mark.CLOSE Inside ∷ Make cast_expr ∷ ss) i c vs o → Runs ts (Go OtherPrimary ∷ ss) i c vs o
-to_cast {ts} {i = i} h r = goes (rw (word_known mark.FIX (kind_at ts i) h) r)
+pub to_cast : {ts : List Token} {ss : List Symbol} {i : ℕ} {c : Count} {vs : List Value} {o : Outcome} → is_one (Word keyword.FIX ∷ []) (kind_at ts i) ≡ true → Runs ts (Go (FixIn Inside) ∷ mark_of punctuation.LEFT_PAREN Inside ∷ Go (Chain Or) ∷ mark_of punctuation.RIGHT_PAREN Inside ∷ Make cast_expr ∷ ss) i c vs o → Runs ts (Go OtherPrimary ∷ ss) i c vs o
+to_cast {ts} {i = i} h r = goes (rw (word_known keyword.FIX (kind_at ts i) h) r)
 
-pub to_choice : {ts : List Token} {ss : List Symbol} {i : ℕ} {c : Count} {vs : List Value} {o : Outcome} → is_one (Word mark.IF ∷ []) (kind_at ts i) ≡ true → Runs ts (word_of mark.IF Inside ∷ Go (Chain Or) ∷ mark_of mark.ARROW Inside ∷ Go (Chain Or) ∷ Make first_arm ∷ Go Arms ∷ ss) i c vs o → Runs ts (Go OtherPrimary ∷ ss) i c vs o
-to_choice {ts} {i = i} h r = goes (rw (word_known mark.IF (kind_at ts i) h) r)
+pub to_choice : {ts : List Token} {ss : List Symbol} {i : ℕ} {c : Count} {vs : List Value} {o : Outcome} → is_one (Word keyword.IF ∷ []) (kind_at ts i) ≡ true → Runs ts (word_of keyword.IF Inside ∷ Go (Chain Or) ∷ mark_of punctuation.ARROW Inside ∷ Go (Chain Or) ∷ Make first_arm ∷ Go Arms ∷ ss) i c vs o → Runs ts (Go OtherPrimary ∷ ss) i c vs o
+to_choice {ts} {i = i} h r = goes (rw (word_known keyword.IF (kind_at ts i) h) r)
 
-pub to_paren : {ts : List Token} {ss : List Symbol} {i : ℕ} {c : Count} {vs : List Value} {o : Outcome} → is_one number (kind_at ts i) ≡ false → is_one truths (kind_at ts i) ≡ false → is_one (Word mark.FIX ∷ []) (kind_at ts i) ≡ false → is_one (Word mark.IF ∷ []) (kind_at ts i) ≡ false → Runs ts (mark_of mark.OPEN Inside ∷ Go (Chain Or) ∷ mark_of mark.CLOSE Inside ∷ Make close_expr ∷ ss) i c vs o → Runs ts (Go OtherPrimary ∷ ss) i c vs o
+pub to_paren : {ts : List Token} {ss : List Symbol} {i : ℕ} {c : Count} {vs : List Value} {o : Outcome} → is_one number (kind_at ts i) ≡ false → is_one truths (kind_at ts i) ≡ false → is_one (Word keyword.FIX ∷ []) (kind_at ts i) ≡ false → is_one (Word keyword.IF ∷ []) (kind_at ts i) ≡ false → Runs ts (mark_of punctuation.LEFT_PAREN Inside ∷ Go (Chain Or) ∷ mark_of punctuation.RIGHT_PAREN Inside ∷ Make close_expr ∷ ss) i c vs o → Runs ts (Go OtherPrimary ∷ ss) i c vs o
 to_paren a b d e r = goes (rw (a, b, d, e) r)
 
 pub place_read : {ts : List Token} {from mid end to : Cursor} {name : List ℕ} {at : ℕ} (ms : List RustManifest) (d : Option RustManifest) → Takes ts (AName ∷ []) Inside from mid × (kind_at ts from.at ≡ Some (kind.Name name)) → Goes ts (Go Subs) mid (subs_value ms) end → Goes ts (Go Delay) end (delay_value d) to → at ≡ from_at ts from.at → Goes ts (Go Primary) from (the.expr (read (record { name = name; at = at; subs = map view_manifest ms }) (view_delay d))) to
@@ -173,10 +174,10 @@ truth_read {ts} {to = to} {b = b} other unlike d h same =
           to_other other (to_truth unlike d.is_of (d.goes.run _ _ _ (makes (makes (subst P is (subst Q (same ∙ taken_from d) r))))));
     }
 
-pub paren_read : {ts : List Token} {from open_ close to : Cursor} {e : Expr} → is_one (AName ∷ []) (kind_at ts from.at) ≡ false → is_one number (kind_at ts from.at) ≡ false → is_one truths (kind_at ts from.at) ≡ false → is_one (Word mark.FIX ∷ []) (kind_at ts from.at) ≡ false → is_one (Word mark.IF ∷ []) (kind_at ts from.at) ≡ false → Takes ts (Mark mark.OPEN ∷ []) Inside from open_ → Goes ts (Go (Chain Or)) open_ (the.expr e) close → Takes ts (Mark mark.CLOSE ∷ []) Inside close to → Goes ts (Go Primary) from (the.expr e) to
+pub paren_read : {ts : List Token} {from open_ close to : Cursor} {e : Expr} → is_one (AName ∷ []) (kind_at ts from.at) ≡ false → is_one number (kind_at ts from.at) ≡ false → is_one truths (kind_at ts from.at) ≡ false → is_one (Word keyword.FIX ∷ []) (kind_at ts from.at) ≡ false → is_one (Word keyword.IF ∷ []) (kind_at ts from.at) ≡ false → Takes ts (Mark punctuation.LEFT_PAREN ∷ []) Inside from open_ → Goes ts (Go (Chain Or)) open_ (the.expr e) close → Takes ts (Mark punctuation.RIGHT_PAREN ∷ []) Inside close to → Goes ts (Go Primary) from (the.expr e) to
 paren_read n a b d e x g y = record { run = λ ss vs o r. to_other n (to_paren a b d e (x.goes.run _ _ _ (g.run _ _ _ (y.goes.run _ _ _ (makes r))))) }
 
-pub cast_read : {ts : List Token} {from open_ mid close to : Cursor} {f : FixType} {e : Expr} {at : ℕ} → is_one (Word mark.FIX ∷ []) (kind_at ts from.at) ≡ true → Goes ts (Go (FixIn Inside)) from (the.fix (from_at ts from.at) f) open_ → Takes ts (Mark mark.OPEN ∷ []) Inside open_ mid → Goes ts (Go (Chain Or)) mid (the.expr e) close → Takes ts (Mark mark.CLOSE ∷ []) Inside close to → at ≡ from_at ts from.at → Goes ts (Go OtherPrimary) from (the.expr (cast at f e)) to
+pub cast_read : {ts : List Token} {from open_ mid close to : Cursor} {f : FixType} {e : Expr} {at : ℕ} → is_one (Word keyword.FIX ∷ []) (kind_at ts from.at) ≡ true → Goes ts (Go (FixIn Inside)) from (the.fix (from_at ts from.at) f) open_ → Takes ts (Mark punctuation.LEFT_PAREN ∷ []) Inside open_ mid → Goes ts (Go (Chain Or)) mid (the.expr e) close → Takes ts (Mark punctuation.RIGHT_PAREN ∷ []) Inside close to → at ≡ from_at ts from.at → Goes ts (Go OtherPrimary) from (the.expr (cast at f e)) to
 cast_read {ts} {to = to} {f = f} {e = e} is z x g y same = record { run = λ ss vs o r. to_cast is (z.run _ _ _ (x.goes.run _ _ _ (g.run _ _ _ (y.goes.run _ _ _ (makes (subst (λ n. Runs ts ss to.at (count to) (the.expr (cast n f e) ∷ vs) o) same r)))))) }
 
 -- Choices.
@@ -186,23 +187,23 @@ view_arm x = (view_expr x.0, view_expr x.1)
 abbrev pub arms_value : ℕ → List (RustExpr × RustExpr) → Value
 arms_value at xs = the.arms at (map view_arm xs)
 
-pub arms_begin : {ts : List Token} {from a b d to : Cursor} {at : ℕ} (c v : RustExpr) → Takes ts (Word mark.IF ∷ []) Inside from a → Goes ts (Go (Chain Or)) a (expr_value c) b → Takes ts (Mark mark.ARROW ∷ []) Inside b d → Goes ts (Go (Chain Or)) d (expr_value v) to → at ≡ from_at ts from.at → from.at < to.at → to.at ≤ length ts → SoFar ts OtherPrimary from Arms (arms_value at ((c, v) ∷ [])) to
+pub arms_begin : {ts : List Token} {from a b d to : Cursor} {at : ℕ} (c v : RustExpr) → Takes ts (Word keyword.IF ∷ []) Inside from a → Goes ts (Go (Chain Or)) a (expr_value c) b → Takes ts (Mark punctuation.ARROW ∷ []) Inside b d → Goes ts (Go (Chain Or)) d (expr_value v) to → at ≡ from_at ts from.at → from.at < to.at → to.at ≤ length ts → SoFar ts OtherPrimary from Arms (arms_value at ((c, v) ∷ [])) to
 arms_begin {ts} {to = to} c v t g x h same less inside = record {
   begins = less;
   within = inside;
   run = λ ss vs o r. to_choice t.is_of (t.goes.run _ _ _ (g.run _ _ _ (x.goes.run _ _ _ (h.run _ _ _ (makes (subst (λ n. Runs ts (Go Arms ∷ ss) to.at (count to) (arms_value n ((c, v) ∷ []) ∷ vs) o) (same ∙ taken_from t) r))))));
 }
 
-pub arms_go_on : {ts : List Token} {from to : Cursor} {u : Value} {ss : List Symbol} {vs : List Value} {o : Outcome} → SoFar ts OtherPrimary from Arms u to → Runs ts (mark_of mark.ELSE Inside ∷ Go (Chain Or) ∷ Go ArmEnd ∷ ss) to.at (count to) (u ∷ vs) o → Runs ts (Go OtherPrimary ∷ ss) from.at (count from) vs o
+pub arms_go_on : {ts : List Token} {from to : Cursor} {u : Value} {ss : List Symbol} {vs : List Value} {o : Outcome} → SoFar ts OtherPrimary from Arms u to → Runs ts (mark_of punctuation.PIPE_PIPE Inside ∷ Go (Chain Or) ∷ Go ArmEnd ∷ ss) to.at (count to) (u ∷ vs) o → Runs ts (Go OtherPrimary ∷ ss) from.at (count from) vs o
 arms_go_on s r = s.run _ _ _ (goes r)
 
-pub to_value : {ts : List Token} {ss : List Symbol} {i : ℕ} {c : Count} {vs : List Value} {o : Outcome} → is_one (Mark mark.ARROW ∷ []) (kind_at ts i) ≡ true → Runs ts (mark_of mark.ARROW Inside ∷ Go (Chain Or) ∷ Make add_arm ∷ Go Arms ∷ ss) i c vs o → Runs ts (Go ArmEnd ∷ ss) i c vs o
+pub to_value : {ts : List Token} {ss : List Symbol} {i : ℕ} {c : Count} {vs : List Value} {o : Outcome} → is_one (Mark punctuation.ARROW ∷ []) (kind_at ts i) ≡ true → Runs ts (mark_of punctuation.ARROW Inside ∷ Go (Chain Or) ∷ Make add_arm ∷ Go Arms ∷ ss) i c vs o → Runs ts (Go ArmEnd ∷ ss) i c vs o
 to_value h r = goes (rw h r)
 
-pub to_fi : {ts : List Token} {ss : List Symbol} {i : ℕ} {c : Count} {vs : List Value} {o : Outcome} → is_one (Mark mark.ARROW ∷ []) (kind_at ts i) ≡ false → Runs ts (word_of mark.FI Inside ∷ Make choose_expr ∷ ss) i c vs o → Runs ts (Go ArmEnd ∷ ss) i c vs o
+pub to_fi : {ts : List Token} {ss : List Symbol} {i : ℕ} {c : Count} {vs : List Value} {o : Outcome} → is_one (Mark punctuation.ARROW ∷ []) (kind_at ts i) ≡ false → Runs ts (word_of keyword.FI Inside ∷ Make choose_expr ∷ ss) i c vs o → Runs ts (Go ArmEnd ∷ ss) i c vs o
 to_fi h r = goes (rw h r)
 
-pub arms_longer : {ts : List Token} {from to a b d end : Cursor} {at : ℕ} (xs : List (RustExpr × RustExpr)) (c v : RustExpr) → SoFar ts OtherPrimary from Arms (arms_value at xs) to → Takes ts (Mark mark.ELSE ∷ []) Inside to a → Goes ts (Go (Chain Or)) a (expr_value c) b → Takes ts (Mark mark.ARROW ∷ []) Inside b d → Goes ts (Go (Chain Or)) d (expr_value v) end → from.at < end.at → end.at ≤ length ts → SoFar ts OtherPrimary from Arms (arms_value at (xs ++ (c, v) ∷ [])) end
+pub arms_longer : {ts : List Token} {from to a b d end : Cursor} {at : ℕ} (xs : List (RustExpr × RustExpr)) (c v : RustExpr) → SoFar ts OtherPrimary from Arms (arms_value at xs) to → Takes ts (Mark punctuation.PIPE_PIPE ∷ []) Inside to a → Goes ts (Go (Chain Or)) a (expr_value c) b → Takes ts (Mark punctuation.ARROW ∷ []) Inside b d → Goes ts (Go (Chain Or)) d (expr_value v) end → from.at < end.at → end.at ≤ length ts → SoFar ts OtherPrimary from Arms (arms_value at (xs ++ (c, v) ∷ [])) end
 arms_longer {ts} {end = end} {at = at} xs c v s t g x h less inside = record {
   begins = less;
   within = inside;
@@ -223,7 +224,7 @@ view_Choose at v b =
     let same = items_hidden-the_row-Expr-Choose-1-2-0 v in
     ap (λ bs. choose at bs (view_expr b.value)) (rows_are row.0 row.1 ∙ ap (λ xs. branches_of (map view_arm xs)) same)
 
-pub arms_end : {ts : List Token} {from to a b end : Cursor} (at : ℕ) (v : Vec (RustExpr × RustExpr) Global) (box : Box RustExpr Global) (e : RustExpr) → box.value ≡ e → SoFar ts OtherPrimary from Arms (arms_value at v.items) to → Takes ts (Mark mark.ELSE ∷ []) Inside to a → Goes ts (Go (Chain Or)) a (expr_value e) b → is_one (Mark mark.ARROW ∷ []) (kind_at ts b.at) ≡ false → Takes ts (Word mark.FI ∷ []) Inside b end → Goes ts (Go OtherPrimary) from (expr_value (Choose at v box)) end
+pub arms_end : {ts : List Token} {from to a b end : Cursor} (at : ℕ) (v : Vec (RustExpr × RustExpr) Global) (box : Box RustExpr Global) (e : RustExpr) → box.value ≡ e → SoFar ts OtherPrimary from Arms (arms_value at v.items) to → Takes ts (Mark punctuation.PIPE_PIPE ∷ []) Inside to a → Goes ts (Go (Chain Or)) a (expr_value e) b → is_one (Mark punctuation.ARROW ∷ []) (kind_at ts b.at) ≡ false → Takes ts (Word keyword.FI ∷ []) Inside b end → Goes ts (Go OtherPrimary) from (expr_value (Choose at v box)) end
 arms_end {ts} {end = end} at v box e same s t g other x = record {
   run = λ ss vs o r.
       let is : view_expr (Choose at v box) ≡ choose at (branches_of (map view_arm v.items)) (view_expr e) = view_Choose at v box ∙ ap (λ y. choose at (branches_of (map view_arm v.items)) (view_expr y)) same in

@@ -1,6 +1,7 @@
 -- Which tokens a phrase may begin with and which may stand behind it, and that one token decides its way on.
 use Rattle.std.proofs.Common.{◌≡◌, ℕ, ◌+◌, Bool, true, false, not, ◌&&◌, ◌||◌, if◌then◌else◌, nat_lt, List, [], ◌∷◌, ◌++◌, refl}
-use Rattle.silage_tree.specs.declared.marks.TheConstants as mark
+use Rattle.silage_lex.specs.declared.punctuation.TheConstants as punctuation
+use Rattle.silage_lex.specs.declared.keywords.TheConstants as keyword
 use Rattle.silage_tree.specs.Grammar.{Level, Or, And, Sum, Product}
 use Rattle.silage_parse.specs.Table as the
 use Rattle.silage_parse.specs.Table.{Terminal, Mark, Word, AName, AWhole, APoint, End, Effect, Phrase, Source, Tops, Signed, Words, MoreWords, Dims, SecondDim, FixIn, Mode, Type_, Name_, MoreNames, Decl_, MoreDecls, Results, Locals, Manifest_, Terms, Term, Factors, Factor, ManifestPrimary, Subs, SecondSub, Delay, Chain, Rest, Comparison, CompareRest, Shift, Shifts, Unary, OtherUnary, AfterMinus, Primary, OtherPrimary, Arms, ArmEnd, TargetSubs, SecondTargetSub, Target, MoreTargets, Args, MoreArgs, Items_, Item_, AfterTarget, RightSide, AfterRightName, AfterOpenName, InitialValue, Symbol, Take, Go, Make, choices, number, operators, comparisons}
@@ -9,72 +10,72 @@ use Rattle.silage_parse.proofs.Terminals.{has, within, apart}
 
 -- what an expression may begin with that is no sign and no name
 abbrev others : List Terminal
-others = AWhole ∷ APoint ∷ Word mark.TRUE ∷ Word mark.FALSE ∷ Word mark.FIX ∷ Word mark.IF ∷ Mark mark.OPEN ∷ []
+others = AWhole ∷ APoint ∷ Word keyword.TRUE ∷ Word keyword.FALSE ∷ Word keyword.FIX ∷ Word keyword.IF ∷ Mark punctuation.LEFT_PAREN ∷ []
 
 abbrev signed : List Terminal
-signed = Mark mark.MINUS ∷ Mark mark.NOT ∷ others
+signed = Mark punctuation.MINUS ∷ Mark punctuation.BANG ∷ others
 
 abbrev expressions : List Terminal
 expressions = AName ∷ signed
 
 abbrev manifests : List Terminal
-manifests = AWhole ∷ AName ∷ Mark mark.OPEN ∷ []
+manifests = AWhole ∷ AName ∷ Mark punctuation.LEFT_PAREN ∷ []
 
 abbrev shifts : List Terminal
-shifts = Mark mark.LEFT ∷ Mark mark.RIGHT ∷ []
+shifts = Mark punctuation.LESS_LESS ∷ Mark punctuation.GREATER_GREATER ∷ []
 
 -- what may stand behind a whole expression, behind a part of a chain, and so on inwards
 abbrev ends : List Terminal
-ends = Mark mark.ARROW ∷ Mark mark.CLOSE ∷ Mark mark.COMMA ∷ Mark mark.ELSE ∷ Word mark.FI ∷ Mark mark.SEMICOLON ∷ []
+ends = Mark punctuation.ARROW ∷ Mark punctuation.RIGHT_PAREN ∷ Mark punctuation.COMMA ∷ Mark punctuation.PIPE_PIPE ∷ Word keyword.FI ∷ Mark punctuation.SEMICOLON ∷ []
 
 abbrev behind_comparison : List Terminal
-behind_comparison = Mark mark.AND ∷ Mark mark.OR ∷ ends
+behind_comparison = Mark punctuation.AMPERSAND ∷ Mark punctuation.PIPE ∷ ends
 
 abbrev behind_product : List Terminal
-behind_product = Mark mark.PLUS ∷ Mark mark.MINUS ∷ comparisons ++ behind_comparison
+behind_product = Mark punctuation.PLUS ∷ Mark punctuation.MINUS ∷ comparisons ++ behind_comparison
 
 abbrev behind_shift : List Terminal
-behind_shift = Mark mark.STAR ∷ behind_product
+behind_shift = Mark punctuation.STAR ∷ behind_product
 
 abbrev behind_unary : List Terminal
 behind_unary = shifts ++ behind_shift
 
 abbrev behind : Level → List Terminal
 behind Or = ends
-behind And = Mark mark.OR ∷ ends
+behind And = Mark punctuation.PIPE ∷ ends
 behind Sum = comparisons ++ behind_comparison
 behind Product = behind_product
 
 abbrev behind_manifest : List Terminal
-behind_manifest = Mark mark.CLOSE ∷ Mark mark.CLOSE_BRACKET ∷ Mark mark.TO ∷ []
+behind_manifest = Mark punctuation.RIGHT_PAREN ∷ Mark punctuation.RIGHT_BRACKET ∷ Mark punctuation.DOT_DOT ∷ []
 
 -- the terminals with which a phrase may begin
 abbrev pub firsts : Phrase → List Terminal
-firsts Source = Word mark.CONST ∷ Word mark.FUNC ∷ End ∷ []
-firsts Tops = Word mark.CONST ∷ Word mark.FUNC ∷ []
-firsts Signed = Mark mark.MINUS ∷ number
-firsts Words = Mark mark.OPEN ∷ Mark mark.MINUS ∷ number
-firsts MoreWords = Mark mark.COMMA ∷ []
-firsts Dims = Mark mark.OPEN_BRACKET ∷ []
-firsts SecondDim = Mark mark.OPEN_BRACKET ∷ []
-firsts (FixIn e) = Word mark.FIX ∷ []
-firsts (Mode e) = Mark mark.COMMA ∷ Mark mark.ABOVE ∷ []
-firsts Type_ = Word mark.BOOL ∷ Word mark.FIX ∷ []
+firsts Source = Word keyword.CONST ∷ Word keyword.FUNC ∷ End ∷ []
+firsts Tops = Word keyword.CONST ∷ Word keyword.FUNC ∷ []
+firsts Signed = Mark punctuation.MINUS ∷ number
+firsts Words = Mark punctuation.LEFT_PAREN ∷ Mark punctuation.MINUS ∷ number
+firsts MoreWords = Mark punctuation.COMMA ∷ []
+firsts Dims = Mark punctuation.LEFT_BRACKET ∷ []
+firsts SecondDim = Mark punctuation.LEFT_BRACKET ∷ []
+firsts (FixIn e) = Word keyword.FIX ∷ []
+firsts (Mode e) = Mark punctuation.COMMA ∷ Mark punctuation.GREATER ∷ []
+firsts Type_ = Word keyword.BOOL ∷ Word keyword.FIX ∷ []
 firsts Name_ = AName ∷ []
-firsts MoreNames = Mark mark.COMMA ∷ []
+firsts MoreNames = Mark punctuation.COMMA ∷ []
 firsts Decl_ = AName ∷ []
-firsts MoreDecls = Mark mark.COMMA ∷ []
-firsts Results = AName ∷ Mark mark.OPEN ∷ []
-firsts Locals = Word mark.VAR ∷ []
-firsts Manifest_ = Mark mark.MINUS ∷ manifests
+firsts MoreDecls = Mark punctuation.COMMA ∷ []
+firsts Results = AName ∷ Mark punctuation.LEFT_PAREN ∷ []
+firsts Locals = Word keyword.VAR ∷ []
+firsts Manifest_ = Mark punctuation.MINUS ∷ manifests
 firsts Terms = operators Sum
-firsts Term = Mark mark.MINUS ∷ manifests
+firsts Term = Mark punctuation.MINUS ∷ manifests
 firsts Factors = operators Product
-firsts Factor = Mark mark.MINUS ∷ manifests
+firsts Factor = Mark punctuation.MINUS ∷ manifests
 firsts ManifestPrimary = manifests
-firsts Subs = Mark mark.OPEN_BRACKET ∷ []
-firsts SecondSub = Mark mark.OPEN_BRACKET ∷ []
-firsts Delay = Mark mark.DELAY ∷ []
+firsts Subs = Mark punctuation.LEFT_BRACKET ∷ []
+firsts SecondSub = Mark punctuation.LEFT_BRACKET ∷ []
+firsts Delay = Mark punctuation.AT ∷ []
 firsts (Chain l) = expressions
 firsts (Rest l) = operators l
 firsts Comparison = expressions
@@ -86,21 +87,21 @@ firsts OtherUnary = signed
 firsts AfterMinus = expressions
 firsts Primary = AName ∷ others
 firsts OtherPrimary = others
-firsts Arms = Mark mark.ELSE ∷ []
-firsts ArmEnd = Mark mark.ARROW ∷ Word mark.FI ∷ []
-firsts TargetSubs = Mark mark.OPEN_BRACKET ∷ []
-firsts SecondTargetSub = Mark mark.OPEN_BRACKET ∷ []
+firsts Arms = Mark punctuation.PIPE_PIPE ∷ []
+firsts ArmEnd = Mark punctuation.ARROW ∷ Word keyword.FI ∷ []
+firsts TargetSubs = Mark punctuation.LEFT_BRACKET ∷ []
+firsts SecondTargetSub = Mark punctuation.LEFT_BRACKET ∷ []
 firsts Target = AName ∷ []
-firsts MoreTargets = Mark mark.COMMA ∷ []
+firsts MoreTargets = Mark punctuation.COMMA ∷ []
 firsts Args = expressions
-firsts MoreArgs = Mark mark.COMMA ∷ []
-firsts Items_ = AName ∷ Mark mark.OPEN ∷ []
-firsts Item_ = AName ∷ Mark mark.OPEN ∷ []
-firsts AfterTarget = Mark mark.INITIAL ∷ Mark mark.DEFINES ∷ []
+firsts MoreArgs = Mark punctuation.COMMA ∷ []
+firsts Items_ = AName ∷ Mark punctuation.LEFT_PAREN ∷ []
+firsts Item_ = AName ∷ Mark punctuation.LEFT_PAREN ∷ []
+firsts AfterTarget = Mark punctuation.AT_AT ∷ Mark punctuation.EQUAL ∷ []
 firsts RightSide = expressions
-firsts AfterRightName = Mark mark.OPEN ∷ Mark mark.OPEN_BRACKET ∷ Mark mark.DELAY ∷ behind_unary
-firsts AfterOpenName = Mark mark.COLON ∷ Mark mark.OPEN_BRACKET ∷ Mark mark.COMMA ∷ Mark mark.CLOSE ∷ []
-firsts InitialValue = Word mark.TRUE ∷ Word mark.FALSE ∷ Mark mark.MINUS ∷ number
+firsts AfterRightName = Mark punctuation.LEFT_PAREN ∷ Mark punctuation.LEFT_BRACKET ∷ Mark punctuation.AT ∷ behind_unary
+firsts AfterOpenName = Mark punctuation.COLON ∷ Mark punctuation.LEFT_BRACKET ∷ Mark punctuation.COMMA ∷ Mark punctuation.RIGHT_PAREN ∷ []
+firsts InitialValue = Word keyword.TRUE ∷ Word keyword.FALSE ∷ Mark punctuation.MINUS ∷ number
 
 -- whether a phrase may have no token
 abbrev pub may_be_empty : Phrase → Bool
@@ -130,28 +131,28 @@ may_be_empty _ = false
 abbrev pub follows : Phrase → List Terminal
 follows Source = []
 follows Tops = End ∷ []
-follows Signed = Mark mark.CLOSE ∷ Mark mark.COMMA ∷ Mark mark.SEMICOLON ∷ []
-follows Words = Mark mark.SEMICOLON ∷ []
-follows MoreWords = Mark mark.CLOSE ∷ []
-follows Dims = Mark mark.COLON ∷ Mark mark.COMMA ∷ []
-follows SecondDim = Mark mark.COLON ∷ Mark mark.COMMA ∷ []
-follows (FixIn e) = Mark mark.CLOSE ∷ Mark mark.COMMA ∷ Mark mark.DEFINES ∷ Mark mark.OPEN ∷ Mark mark.SEMICOLON ∷ []
-follows (Mode e) = Mark mark.CLOSE ∷ Mark mark.COMMA ∷ Mark mark.DEFINES ∷ Mark mark.OPEN ∷ Mark mark.SEMICOLON ∷ []
-follows Type_ = Mark mark.CLOSE ∷ Mark mark.COMMA ∷ Mark mark.DEFINES ∷ Mark mark.SEMICOLON ∷ []
-follows Name_ = Mark mark.COLON ∷ Mark mark.COMMA ∷ []
-follows MoreNames = Mark mark.COLON ∷ []
-follows Decl_ = Mark mark.CLOSE ∷ Mark mark.COMMA ∷ Mark mark.DEFINES ∷ []
-follows MoreDecls = Mark mark.CLOSE ∷ []
-follows Results = Mark mark.DEFINES ∷ []
-follows Locals = AName ∷ Word mark.END ∷ Mark mark.OPEN ∷ []
+follows Signed = Mark punctuation.RIGHT_PAREN ∷ Mark punctuation.COMMA ∷ Mark punctuation.SEMICOLON ∷ []
+follows Words = Mark punctuation.SEMICOLON ∷ []
+follows MoreWords = Mark punctuation.RIGHT_PAREN ∷ []
+follows Dims = Mark punctuation.COLON ∷ Mark punctuation.COMMA ∷ []
+follows SecondDim = Mark punctuation.COLON ∷ Mark punctuation.COMMA ∷ []
+follows (FixIn e) = Mark punctuation.RIGHT_PAREN ∷ Mark punctuation.COMMA ∷ Mark punctuation.EQUAL ∷ Mark punctuation.LEFT_PAREN ∷ Mark punctuation.SEMICOLON ∷ []
+follows (Mode e) = Mark punctuation.RIGHT_PAREN ∷ Mark punctuation.COMMA ∷ Mark punctuation.EQUAL ∷ Mark punctuation.LEFT_PAREN ∷ Mark punctuation.SEMICOLON ∷ []
+follows Type_ = Mark punctuation.RIGHT_PAREN ∷ Mark punctuation.COMMA ∷ Mark punctuation.EQUAL ∷ Mark punctuation.SEMICOLON ∷ []
+follows Name_ = Mark punctuation.COLON ∷ Mark punctuation.COMMA ∷ []
+follows MoreNames = Mark punctuation.COLON ∷ []
+follows Decl_ = Mark punctuation.RIGHT_PAREN ∷ Mark punctuation.COMMA ∷ Mark punctuation.EQUAL ∷ []
+follows MoreDecls = Mark punctuation.RIGHT_PAREN ∷ []
+follows Results = Mark punctuation.EQUAL ∷ []
+follows Locals = AName ∷ Word keyword.END ∷ Mark punctuation.LEFT_PAREN ∷ []
 follows Manifest_ = behind_manifest
 follows Terms = behind_manifest
 follows Term = operators Sum ++ behind_manifest
 follows Factors = operators Sum ++ behind_manifest
-follows Factor = Mark mark.STAR ∷ operators Sum ++ behind_manifest
-follows ManifestPrimary = Mark mark.CLOSE_BRACKET ∷ Mark mark.TO ∷ Mark mark.DEFINES ∷ behind_unary
-follows Subs = Mark mark.DELAY ∷ behind_unary
-follows SecondSub = Mark mark.DELAY ∷ behind_unary
+follows Factor = Mark punctuation.STAR ∷ operators Sum ++ behind_manifest
+follows ManifestPrimary = Mark punctuation.RIGHT_BRACKET ∷ Mark punctuation.DOT_DOT ∷ Mark punctuation.EQUAL ∷ behind_unary
+follows Subs = Mark punctuation.AT ∷ behind_unary
+follows SecondSub = Mark punctuation.AT ∷ behind_unary
 follows Delay = behind_unary
 follows (Chain l) = behind l
 follows (Rest l) = behind l
@@ -166,19 +167,19 @@ follows Primary = behind_unary
 follows OtherPrimary = behind_unary
 follows Arms = behind_unary
 follows ArmEnd = behind_unary
-follows TargetSubs = Mark mark.CLOSE ∷ Mark mark.COMMA ∷ Mark mark.DEFINES ∷ Mark mark.INITIAL ∷ []
-follows SecondTargetSub = Mark mark.CLOSE ∷ Mark mark.COMMA ∷ Mark mark.DEFINES ∷ Mark mark.INITIAL ∷ []
-follows Target = Mark mark.CLOSE ∷ Mark mark.COMMA ∷ Mark mark.DEFINES ∷ Mark mark.INITIAL ∷ []
-follows MoreTargets = Mark mark.CLOSE ∷ []
-follows Args = Mark mark.CLOSE ∷ []
-follows MoreArgs = Mark mark.CLOSE ∷ []
-follows Items_ = Word mark.END ∷ []
-follows Item_ = AName ∷ Word mark.END ∷ Mark mark.OPEN ∷ []
-follows AfterTarget = AName ∷ Word mark.END ∷ Mark mark.OPEN ∷ []
-follows RightSide = AName ∷ Word mark.END ∷ Mark mark.OPEN ∷ []
-follows AfterRightName = AName ∷ Word mark.END ∷ Mark mark.OPEN ∷ []
-follows AfterOpenName = AName ∷ Word mark.END ∷ Mark mark.OPEN ∷ []
-follows InitialValue = Mark mark.SEMICOLON ∷ []
+follows TargetSubs = Mark punctuation.RIGHT_PAREN ∷ Mark punctuation.COMMA ∷ Mark punctuation.EQUAL ∷ Mark punctuation.AT_AT ∷ []
+follows SecondTargetSub = Mark punctuation.RIGHT_PAREN ∷ Mark punctuation.COMMA ∷ Mark punctuation.EQUAL ∷ Mark punctuation.AT_AT ∷ []
+follows Target = Mark punctuation.RIGHT_PAREN ∷ Mark punctuation.COMMA ∷ Mark punctuation.EQUAL ∷ Mark punctuation.AT_AT ∷ []
+follows MoreTargets = Mark punctuation.RIGHT_PAREN ∷ []
+follows Args = Mark punctuation.RIGHT_PAREN ∷ []
+follows MoreArgs = Mark punctuation.RIGHT_PAREN ∷ []
+follows Items_ = Word keyword.END ∷ []
+follows Item_ = AName ∷ Word keyword.END ∷ Mark punctuation.LEFT_PAREN ∷ []
+follows AfterTarget = AName ∷ Word keyword.END ∷ Mark punctuation.LEFT_PAREN ∷ []
+follows RightSide = AName ∷ Word keyword.END ∷ Mark punctuation.LEFT_PAREN ∷ []
+follows AfterRightName = AName ∷ Word keyword.END ∷ Mark punctuation.LEFT_PAREN ∷ []
+follows AfterOpenName = AName ∷ Word keyword.END ∷ Mark punctuation.LEFT_PAREN ∷ []
+follows InitialValue = Mark punctuation.SEMICOLON ∷ []
 
 -- the terminals with which symbols may begin, in front of these
 abbrev pub look : List Symbol → List Terminal → List Terminal

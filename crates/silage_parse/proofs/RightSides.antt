@@ -3,7 +3,7 @@ use Rattle.std.proofs.Common.{◌≡◌, ℕ, ◌+◌, List, [], ◌∷◌, ◌+
 use Rattle.silage_lex.specs.declared.Token.{Token}
 use Rattle.silage_lex.specs.declared.TokenKind.{TokenKind}
 use Rattle.silage_lex.specs.declared.TokenKind.TheVariants as kind
-use Rattle.silage_tree.specs.declared.marks.TheConstants as mark
+use Rattle.silage_lex.specs.declared.punctuation.TheConstants as punctuation
 use Rattle.silage_tree.specs.Grammar.{kind_at, Or}
 use Rattle.silage_parse.specs.Table.{Terminal, Mark, AName, Effect, Outside, Value, Symbol, Take, Go, Make, Phrase, Chain, Unary, OtherUnary, RightSide, is_equation, rests, choices, mark_of, is_one}
 use Rattle.silage_parse.specs.Machine.{Count, Outcome, Runs, goes, takes, wrong, limit, chosen}
@@ -30,22 +30,22 @@ bool_cases true = inl refl
 bool_cases false = inr refl
 
 -- a name, and no call behind it
-pub equation_at_name : {ts : List Token} {ss : List Symbol} {i : ℕ} {c : Count} {vs : List Value} {o : Outcome} → is_one (AName ∷ []) (kind_at ts i) ≡ true → is_one (Mark mark.OPEN ∷ []) (kind_at ts (i + 1)) ≡ false → Runs ts (Go (Chain Or) ∷ mark_of mark.SEMICOLON Outside ∷ Make is_equation ∷ ss) i c vs o → Runs ts (Go RightSide ∷ ss) i c vs o
+pub equation_at_name : {ts : List Token} {ss : List Symbol} {i : ℕ} {c : Count} {vs : List Value} {o : Outcome} → is_one (AName ∷ []) (kind_at ts i) ≡ true → is_one (Mark punctuation.LEFT_PAREN ∷ []) (kind_at ts (i + 1)) ≡ false → Runs ts (Go (Chain Or) ∷ mark_of punctuation.SEMICOLON Outside ∷ Make is_equation ∷ ss) i c vs o → Runs ts (Go RightSide ∷ ss) i c vs o
 equation_at_name {ts} {i = i} name open_ r =
-    let primary = rw (not_both mark.MINUS (kind_at ts i) name, not_both mark.NOT (kind_at ts i) name) at (gone (first_unary r)) in
+    let primary = rw (not_both punctuation.MINUS (kind_at ts i) name, not_both punctuation.BANG (kind_at ts i) name) at (gone (first_unary r)) in
     let place = rw name at (gone primary) in
     goes (rw name (taken_then (λ d ws s. goes (rw open_ s)) place))
 
 unary_other : {ts : List Token} {ss : List Symbol} {i : ℕ} {c : Count} {vs : List Value} {o : Outcome} → is_one (AName ∷ []) (kind_at ts i) ≡ false → Runs ts (Go Unary ∷ ss) i c vs o → Runs ts (Go OtherUnary ∷ ss) i c vs o
 unary_other {ts} {i = i} other r =
-    elim (bool_cases (is_one (Mark mark.MINUS ∷ []) (kind_at ts i))) [
+    elim (bool_cases (is_one (Mark punctuation.MINUS ∷ []) (kind_at ts i))) [
       | inl h ↦ goes (rw h (rw h at (gone r)))
-      | inr h ↦ elim (bool_cases (is_one (Mark mark.NOT ∷ []) (kind_at ts i))) [
+      | inr h ↦ elim (bool_cases (is_one (Mark punctuation.BANG ∷ []) (kind_at ts i))) [
         | inl g ↦ goes (rw (h, g) (rw (h, g) at (gone r)))
         | inr g ↦ goes (rw (h, g) (rw other at (gone (rw (h, g) at (gone r)))))
       ]
     ]
 
 -- no name
-pub equation_at_other : {ts : List Token} {ss : List Symbol} {i : ℕ} {c : Count} {vs : List Value} {o : Outcome} → is_one (AName ∷ []) (kind_at ts i) ≡ false → Runs ts (Go (Chain Or) ∷ mark_of mark.SEMICOLON Outside ∷ Make is_equation ∷ ss) i c vs o → Runs ts (Go RightSide ∷ ss) i c vs o
+pub equation_at_other : {ts : List Token} {ss : List Symbol} {i : ℕ} {c : Count} {vs : List Value} {o : Outcome} → is_one (AName ∷ []) (kind_at ts i) ≡ false → Runs ts (Go (Chain Or) ∷ mark_of punctuation.SEMICOLON Outside ∷ Make is_equation ∷ ss) i c vs o → Runs ts (Go RightSide ∷ ss) i c vs o
 equation_at_other other r = goes (rw other (unary_other other (first_unary r)))

@@ -3,7 +3,7 @@ use Rattle.std.proofs.Common.{◌≡◌, ℕ, ◌≤◌, ◌<◌, length, List, 
 use Rattle.std.specs.Prelude.{slice_get}
 use Rattle.std.proofs.lemmas.Option.{slice_get_past, slice_get_cases}
 use Rattle.silage_lex.specs.declared.Token.{Token}
-use Rattle.silage_tree.specs.declared.marks.TheConstants as mark
+use Rattle.silage_lex.specs.declared.keywords.TheConstants as keyword
 use Rattle.silage_tree.specs.Tree.{Top}
 use Rattle.silage_tree.specs.Grammar.{kind_at}
 use Rattle.silage_parse.specs.declared.ParseFault.{ParseFault}
@@ -24,7 +24,7 @@ pub no_end : (ts : List Token) (i : ℕ) → i < length ts → is_one (End ∷ [
 no_end ts i h = elim (slice_get_cases ts i).1 [ inl s ↦ rw s.2 refl | inr s ↦ absurd (omega (arith, s.0)) ]
 
 -- no table and no function begins, and it is not the end
-pub no_top : {ts : List Token} {from : Cursor} (tops : List Top) → from.at < length ts → is_one (Word mark.CONST ∷ []) (kind_at ts from.at) ≡ false → is_one (Word mark.FUNC ∷ []) (kind_at ts from.at) ≡ false → Halts ts source_rest from (the.tops tops ∷ []) (Syntax from.at)
+pub no_top : {ts : List Token} {from : Cursor} (tops : List Top) → from.at < length ts → is_one (Word keyword.CONST ∷ []) (kind_at ts from.at) ≡ false → is_one (Word keyword.FUNC ∷ []) (kind_at ts from.at) ≡ false → Halts ts source_rest from (the.tops tops ∷ []) (Syntax from.at)
 no_top {ts} {from} tops inside no_table no_function = λ behind under. third_row refl no_table no_function (wrong (no_end ts from.at inside))
 
 -- behind the last token the source is over

@@ -5,7 +5,8 @@ use Rattle.silage_tree.specs.declared.tree.Place.{Place}
 use Rattle.silage_tree.specs.declared.tree.Expr.{Expr}
 use Rattle.silage_tree.specs.declared.tree.Item.{Item}
 use Rattle.silage_tree.specs.declared.tree.Manifest.{Manifest}
-use Rattle.silage_tree.specs.declared.marks.TheConstants as mark
+use Rattle.silage_lex.specs.declared.punctuation.TheConstants as punctuation
+use Rattle.silage_lex.specs.declared.keywords.TheConstants as keyword
 use Rattle.silage_tree.specs.declared.tree.ConstDef.{ConstDef}
 use Rattle.silage_tree.specs.declared.tree.Func.{Func}
 use Rattle.silage_tree.specs.declared.tree.Top.{Top as RustTop}
@@ -83,20 +84,20 @@ item_list = Make no_items ∷ Go Items_ ∷ []
 -- The symbols of parts of items: the arguments of a call with its end, an initial value behind its place, the numbers of a
 -- loop behind its name, what stands behind `(`.
 abbrev pub call_end : List Symbol
-call_end = mark_of mark.OPEN Begins ∷ Go Args ∷ mark_of mark.CLOSE Outside ∷ mark_of mark.SEMICOLON Outside ∷ []
+call_end = mark_of punctuation.LEFT_PAREN Begins ∷ Go Args ∷ mark_of punctuation.RIGHT_PAREN Outside ∷ mark_of punctuation.SEMICOLON Outside ∷ []
 
 abbrev pub initial_end : List Symbol
-initial_end = mark_of mark.INITIAL Begins ∷ Go ManifestPrimary ∷ mark_of mark.DEFINES Outside ∷ Go InitialValue ∷ mark_of mark.SEMICOLON Outside ∷ Make is_initial ∷ []
+initial_end = mark_of punctuation.AT_AT Begins ∷ Go ManifestPrimary ∷ mark_of punctuation.EQUAL Outside ∷ Go InitialValue ∷ mark_of punctuation.SEMICOLON Outside ∷ Make is_initial ∷ []
 
 abbrev pub loop_bounds : List Symbol
-loop_bounds = mark_of mark.COLON Begins ∷ Go Manifest_ ∷ mark_of mark.TO Begins ∷ Go Manifest_ ∷ mark_of mark.CLOSE Outside ∷ mark_of mark.EACH Outside ∷ []
+loop_bounds = mark_of punctuation.COLON Begins ∷ Go Manifest_ ∷ mark_of punctuation.DOT_DOT Begins ∷ Go Manifest_ ∷ mark_of punctuation.RIGHT_PAREN Outside ∷ mark_of punctuation.COLON_COLON Outside ∷ []
 
 abbrev pub behind_open : List Symbol
 behind_open = Take (AName ∷ []) Outside ∷ Go AfterOpenName ∷ []
 
 -- token i is the name of a function that is called
 abbrev pub is_called : List Token → ℕ → Bool
-is_called ts i = is_one (AName ∷ []) (kind_at ts i) && is_one (Mark mark.OPEN ∷ []) (kind_at ts (i + 1))
+is_called ts i = is_one (AName ∷ []) (kind_at ts i) && is_one (Mark punctuation.LEFT_PAREN ∷ []) (kind_at ts (i + 1))
 
 -- What the functions answer that read the arguments of a call with its end, and the numbers of a loop.
 abbrev pub IsCallEnd : List Token → Cursor → Result (List Expr × Cursor) ParseFault → Type 0
@@ -109,10 +110,10 @@ IsBounds ts from (Err f) = Halts ts loop_bounds from [] f
 
 -- The symbols of a table and of a function, and what the whole source goes on with between them.
 abbrev pub table_row : List Symbol
-table_row = word_of mark.CONST Outside ∷ Go Name_ ∷ mark_of mark.COLON Outside ∷ Go (FixIn Outside) ∷ mark_of mark.DEFINES Outside ∷ Go Words ∷ mark_of mark.SEMICOLON Outside ∷ Make add_table ∷ []
+table_row = word_of keyword.CONST Outside ∷ Go Name_ ∷ mark_of punctuation.COLON Outside ∷ Go (FixIn Outside) ∷ mark_of punctuation.EQUAL Outside ∷ Go Words ∷ mark_of punctuation.SEMICOLON Outside ∷ Make add_table ∷ []
 
 abbrev pub function_row : List Symbol
-function_row = word_of mark.FUNC Outside ∷ Take (AName ∷ []) Outside ∷ mark_of mark.OPEN Outside ∷ decl_list ++ mark_of mark.CLOSE Outside ∷ Go Results ∷ mark_of mark.DEFINES Outside ∷ word_of mark.BEGIN Outside ∷ local_lines ++ item_list ++ word_of mark.END Outside ∷ mark_of mark.SEMICOLON Outside ∷ Make add_function ∷ []
+function_row = word_of keyword.FUNC Outside ∷ Take (AName ∷ []) Outside ∷ mark_of punctuation.LEFT_PAREN Outside ∷ decl_list ++ mark_of punctuation.RIGHT_PAREN Outside ∷ Go Results ∷ mark_of punctuation.EQUAL Outside ∷ word_of keyword.BEGIN Outside ∷ local_lines ++ item_list ++ word_of keyword.END Outside ∷ mark_of punctuation.SEMICOLON Outside ∷ Make add_function ∷ []
 
 abbrev pub source_rest : List Symbol
 source_rest = Go Tops ∷ Take (End ∷ []) Outside ∷ []

@@ -7,7 +7,8 @@ use Rattle.silage_lex.specs.declared.TokenKind.TheVariants as kind
 use Rattle.silage_tree.specs.Grammar.{fix_type, kind_at, mode_of, number_of}
 use Rattle.silage_tree.specs.declared.tree.Manifest.{Manifest as RustManifest}
 use Rattle.silage_tree.specs.declared.tree.Expr.{Expr}
-use Rattle.silage_tree.specs.declared.marks.TheConstants as mark
+use Rattle.silage_lex.specs.declared.punctuation.TheConstants as punctuation
+use Rattle.silage_lex.specs.declared.keywords.TheConstants as keyword
 use Rattle.fix_word.specs.declared.types.Mode.{Mode}
 use Rattle.silage_tree.specs.Tree.{view_manifest, view_delay, view_expr}
 use Rattle.silage_parse.specs.declared.ParseFault.{ParseFault}
@@ -112,14 +113,14 @@ expr_value e = the.expr (view_expr e)
 
 -- a manifest number in brackets, with what the brackets are to the limits
 abbrev pub in_brackets : Effect → Effect → List Symbol
-in_brackets before behind = mark_of mark.OPEN_BRACKET before ∷ Go Manifest_ ∷ mark_of mark.CLOSE_BRACKET behind ∷ []
+in_brackets before behind = mark_of punctuation.LEFT_BRACKET before ∷ Go Manifest_ ∷ mark_of punctuation.RIGHT_BRACKET behind ∷ []
 
 abbrev pub IsSubscript : List Token → Effect → Effect → Cursor → Result (RustManifest × Cursor) ParseFault → Type 0
 IsSubscript ts before behind from (Ok x) = (opened : Token) × (closed : Token) × GoesThrough ts (in_brackets before behind) from (the.token closed ∷ manifest_value x.0 ∷ the.token opened ∷ []) x.1
 IsSubscript ts before behind from (Err f) = StopsIn ts (in_brackets before behind) from f
 
 abbrev pub modes : List Terminal
-modes = Word mark.TRUNC ∷ Word mark.ROUND ∷ []
+modes = Word keyword.TRUNC ∷ Word keyword.ROUND ∷ []
 
 -- the mode of a fix type
 abbrev pub IsMode : List Token → Effect → Cursor → Result (Mode × Cursor) ParseFault → Type 0

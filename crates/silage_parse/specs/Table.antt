@@ -6,7 +6,8 @@ use Rattle.fix_word.specs.declared.types.SigType.{SigType}
 use Rattle.silage_lex.specs.declared.Token.{Token}
 use Rattle.silage_lex.specs.declared.TokenKind.{TokenKind}
 use Rattle.silage_lex.specs.declared.TokenKind.TheVariants as kind
-use Rattle.silage_tree.specs.declared.marks.TheConstants as mark
+use Rattle.silage_lex.specs.declared.punctuation.TheConstants as punctuation
+use Rattle.silage_lex.specs.declared.keywords.TheConstants as keyword
 use Rattle.silage_tree.specs.declared.tree.Lit.{Lit}
 use Rattle.silage_tree.specs.declared.tree.Decl.{Decl}
 use Rattle.silage_tree.specs.Tree.{Manifest, Place, Expr, Item, Top}
@@ -214,13 +215,13 @@ abbrev pub number : List Terminal
 number = AWhole ∷ APoint ∷ []
 
 abbrev pub operators : Level → List Terminal
-operators Or = Mark mark.OR ∷ []
-operators And = Mark mark.AND ∷ []
-operators Sum = Mark mark.PLUS ∷ Mark mark.MINUS ∷ []
-operators Product = Mark mark.STAR ∷ []
+operators Or = Mark punctuation.PIPE ∷ []
+operators And = Mark punctuation.AMPERSAND ∷ []
+operators Sum = Mark punctuation.PLUS ∷ Mark punctuation.MINUS ∷ []
+operators Product = Mark punctuation.STAR ∷ []
 
 abbrev pub comparisons : List Terminal
-comparisons = Mark mark.BELOW ∷ Mark mark.AT_MOST ∷ Mark mark.EQUAL ∷ Mark mark.UNEQUAL ∷ Mark mark.ABOVE ∷ Mark mark.AT_LEAST ∷ []
+comparisons = Mark punctuation.LESS ∷ Mark punctuation.LESS_EQUAL ∷ Mark punctuation.EQUAL_EQUAL ∷ Mark punctuation.BANG_EQUAL ∷ Mark punctuation.GREATER ∷ Mark punctuation.GREATER_EQUAL ∷ []
 
 abbrev pub part : Level → Phrase
 part Or = Chain And
@@ -236,57 +237,57 @@ abbrev pub choices : Phrase → Choices
 choices Source = always (Make no_tops ∷ Go Tops ∷ Take (End ∷ []) Outside ∷ [])
 choices Tops = record {
   asked =
-      (Word mark.CONST ∷ [], word_of mark.CONST Outside ∷ Go Name_ ∷ mark_of mark.COLON Outside ∷ Go (FixIn Outside) ∷ mark_of mark.DEFINES Outside ∷ Go Words ∷ mark_of mark.SEMICOLON Outside ∷ Make add_table ∷ Go Tops ∷ [])
-      ∷ (Word mark.FUNC ∷ [], word_of mark.FUNC Outside ∷ Take (AName ∷ []) Outside ∷ mark_of mark.OPEN Outside ∷ Go Decl_ ∷ Make first_decl ∷ Go MoreDecls ∷ mark_of mark.CLOSE Outside ∷ Go Results ∷ mark_of mark.DEFINES Outside ∷ word_of mark.BEGIN Outside ∷ Make no_locals ∷ Go Locals ∷ Make no_items ∷ Go Items_ ∷ word_of mark.END Outside ∷ mark_of mark.SEMICOLON Outside ∷ Make add_function ∷ Go Tops ∷ [])
+      (Word keyword.CONST ∷ [], word_of keyword.CONST Outside ∷ Go Name_ ∷ mark_of punctuation.COLON Outside ∷ Go (FixIn Outside) ∷ mark_of punctuation.EQUAL Outside ∷ Go Words ∷ mark_of punctuation.SEMICOLON Outside ∷ Make add_table ∷ Go Tops ∷ [])
+      ∷ (Word keyword.FUNC ∷ [], word_of keyword.FUNC Outside ∷ Take (AName ∷ []) Outside ∷ mark_of punctuation.LEFT_PAREN Outside ∷ Go Decl_ ∷ Make first_decl ∷ Go MoreDecls ∷ mark_of punctuation.RIGHT_PAREN Outside ∷ Go Results ∷ mark_of punctuation.EQUAL Outside ∷ word_of keyword.BEGIN Outside ∷ Make no_locals ∷ Go Locals ∷ Make no_items ∷ Go Items_ ∷ word_of keyword.END Outside ∷ mark_of punctuation.SEMICOLON Outside ∷ Make add_function ∷ Go Tops ∷ [])
       ∷ [];
   else_ = [];
 }
-choices Signed = at_mark mark.MINUS (mark_of mark.MINUS Outside ∷ Take number Outside ∷ Make negative ∷ []) (Take number Outside ∷ Make positive ∷ [])
-choices Words = at_mark mark.OPEN (mark_of mark.OPEN Outside ∷ Go Signed ∷ Make first_word ∷ Go MoreWords ∷ mark_of mark.CLOSE Outside ∷ Make close_words ∷ []) (Go Signed ∷ Make first_word ∷ [])
-choices MoreWords = at_mark mark.COMMA (mark_of mark.COMMA Outside ∷ Go Signed ∷ Make add_word ∷ Go MoreWords ∷ []) []
-choices Dims = at_mark mark.OPEN_BRACKET (mark_of mark.OPEN_BRACKET Outside ∷ Take (AWhole ∷ []) Outside ∷ mark_of mark.CLOSE_BRACKET Outside ∷ Go SecondDim ∷ []) (Make no_dims ∷ [])
-choices SecondDim = at_mark mark.OPEN_BRACKET (mark_of mark.OPEN_BRACKET Outside ∷ Take (AWhole ∷ []) Outside ∷ mark_of mark.CLOSE_BRACKET Outside ∷ Make two_dims ∷ []) (Make one_dim ∷ [])
-choices (FixIn e) = always (word_of mark.FIX e ∷ mark_of mark.BELOW e ∷ Take (AWhole ∷ []) e ∷ mark_of mark.COMMA e ∷ Take (AWhole ∷ []) e ∷ Go (Mode e) ∷ [])
-choices (Mode e) = at_mark mark.COMMA (mark_of mark.COMMA e ∷ Take (Word mark.TRUNC ∷ Word mark.ROUND ∷ []) e ∷ mark_of mark.ABOVE e ∷ Make fix_mode ∷ []) (mark_of mark.ABOVE e ∷ Make fix_plain ∷ [])
-choices Type_ = record { asked = (Word mark.BOOL ∷ [], word_of mark.BOOL Outside ∷ Make type_bool ∷ []) ∷ []; else_ = Go (FixIn Outside) ∷ Make type_fix ∷ [] }
+choices Signed = at_mark punctuation.MINUS (mark_of punctuation.MINUS Outside ∷ Take number Outside ∷ Make negative ∷ []) (Take number Outside ∷ Make positive ∷ [])
+choices Words = at_mark punctuation.LEFT_PAREN (mark_of punctuation.LEFT_PAREN Outside ∷ Go Signed ∷ Make first_word ∷ Go MoreWords ∷ mark_of punctuation.RIGHT_PAREN Outside ∷ Make close_words ∷ []) (Go Signed ∷ Make first_word ∷ [])
+choices MoreWords = at_mark punctuation.COMMA (mark_of punctuation.COMMA Outside ∷ Go Signed ∷ Make add_word ∷ Go MoreWords ∷ []) []
+choices Dims = at_mark punctuation.LEFT_BRACKET (mark_of punctuation.LEFT_BRACKET Outside ∷ Take (AWhole ∷ []) Outside ∷ mark_of punctuation.RIGHT_BRACKET Outside ∷ Go SecondDim ∷ []) (Make no_dims ∷ [])
+choices SecondDim = at_mark punctuation.LEFT_BRACKET (mark_of punctuation.LEFT_BRACKET Outside ∷ Take (AWhole ∷ []) Outside ∷ mark_of punctuation.RIGHT_BRACKET Outside ∷ Make two_dims ∷ []) (Make one_dim ∷ [])
+choices (FixIn e) = always (word_of keyword.FIX e ∷ mark_of punctuation.LESS e ∷ Take (AWhole ∷ []) e ∷ mark_of punctuation.COMMA e ∷ Take (AWhole ∷ []) e ∷ Go (Mode e) ∷ [])
+choices (Mode e) = at_mark punctuation.COMMA (mark_of punctuation.COMMA e ∷ Take (Word keyword.TRUNC ∷ Word keyword.ROUND ∷ []) e ∷ mark_of punctuation.GREATER e ∷ Make fix_mode ∷ []) (mark_of punctuation.GREATER e ∷ Make fix_plain ∷ [])
+choices Type_ = record { asked = (Word keyword.BOOL ∷ [], word_of keyword.BOOL Outside ∷ Make type_bool ∷ []) ∷ []; else_ = Go (FixIn Outside) ∷ Make type_fix ∷ [] }
 choices Name_ = always (Take (AName ∷ []) Outside ∷ Go Dims ∷ Make declared ∷ [])
-choices MoreNames = at_mark mark.COMMA (mark_of mark.COMMA Outside ∷ Go Name_ ∷ Make add_name ∷ Go MoreNames ∷ []) []
-choices Decl_ = always (Go Name_ ∷ mark_of mark.COLON Outside ∷ Go Type_ ∷ Make typed_decl ∷ [])
-choices MoreDecls = at_mark mark.COMMA (mark_of mark.COMMA Outside ∷ Go Decl_ ∷ Make add_decl ∷ Go MoreDecls ∷ []) []
-choices Results = at_mark mark.OPEN (mark_of mark.OPEN Outside ∷ Go Decl_ ∷ Make first_decl ∷ Go MoreDecls ∷ mark_of mark.CLOSE Outside ∷ Make close_decls ∷ []) (Go Decl_ ∷ Make first_decl ∷ [])
-choices Locals = record { asked = (Word mark.VAR ∷ [], word_of mark.VAR Outside ∷ Go Name_ ∷ Make first_name ∷ Go MoreNames ∷ mark_of mark.COLON Outside ∷ Go Type_ ∷ mark_of mark.SEMICOLON Outside ∷ Make add_locals ∷ Go Locals ∷ []) ∷ []; else_ = [] }
+choices MoreNames = at_mark punctuation.COMMA (mark_of punctuation.COMMA Outside ∷ Go Name_ ∷ Make add_name ∷ Go MoreNames ∷ []) []
+choices Decl_ = always (Go Name_ ∷ mark_of punctuation.COLON Outside ∷ Go Type_ ∷ Make typed_decl ∷ [])
+choices MoreDecls = at_mark punctuation.COMMA (mark_of punctuation.COMMA Outside ∷ Go Decl_ ∷ Make add_decl ∷ Go MoreDecls ∷ []) []
+choices Results = at_mark punctuation.LEFT_PAREN (mark_of punctuation.LEFT_PAREN Outside ∷ Go Decl_ ∷ Make first_decl ∷ Go MoreDecls ∷ mark_of punctuation.RIGHT_PAREN Outside ∷ Make close_decls ∷ []) (Go Decl_ ∷ Make first_decl ∷ [])
+choices Locals = record { asked = (Word keyword.VAR ∷ [], word_of keyword.VAR Outside ∷ Go Name_ ∷ Make first_name ∷ Go MoreNames ∷ mark_of punctuation.COLON Outside ∷ Go Type_ ∷ mark_of punctuation.SEMICOLON Outside ∷ Make add_locals ∷ Go Locals ∷ []) ∷ []; else_ = [] }
 choices Manifest_ = always (Go Term ∷ Go Terms ∷ [])
 choices Terms = record { asked = (operators Sum, Take (operators Sum) Inside ∷ Go Term ∷ Make add_term ∷ Go Terms ∷ []) ∷ []; else_ = [] }
 choices Term = always (Go Factor ∷ Go Factors ∷ [])
-choices Factors = at_mark mark.STAR (mark_of mark.STAR Inside ∷ Go Factor ∷ Make add_factor ∷ Go Factors ∷ []) []
-choices Factor = at_mark mark.MINUS (mark_of mark.MINUS Inside ∷ Go Factor ∷ Make minus_factor ∷ []) (Go ManifestPrimary ∷ [])
+choices Factors = at_mark punctuation.STAR (mark_of punctuation.STAR Inside ∷ Go Factor ∷ Make add_factor ∷ Go Factors ∷ []) []
+choices Factor = at_mark punctuation.MINUS (mark_of punctuation.MINUS Inside ∷ Go Factor ∷ Make minus_factor ∷ []) (Go ManifestPrimary ∷ [])
 choices ManifestPrimary = record {
   asked =
       (AWhole ∷ [], Take (AWhole ∷ []) Inside ∷ Make whole_manifest ∷ [])
       ∷ (AName ∷ [], Take (AName ∷ []) Inside ∷ Make name_manifest ∷ [])
       ∷ [];
-  else_ = mark_of mark.OPEN Inside ∷ Go Manifest_ ∷ mark_of mark.CLOSE Inside ∷ Make close_manifest ∷ [];
+  else_ = mark_of punctuation.LEFT_PAREN Inside ∷ Go Manifest_ ∷ mark_of punctuation.RIGHT_PAREN Inside ∷ Make close_manifest ∷ [];
 }
-choices Subs = at_mark mark.OPEN_BRACKET (mark_of mark.OPEN_BRACKET Inside ∷ Go Manifest_ ∷ mark_of mark.CLOSE_BRACKET Inside ∷ Go SecondSub ∷ []) (Make no_subs ∷ [])
-choices SecondSub = at_mark mark.OPEN_BRACKET (mark_of mark.OPEN_BRACKET Inside ∷ Go Manifest_ ∷ mark_of mark.CLOSE_BRACKET Inside ∷ Make two_subs ∷ []) (Make one_sub ∷ [])
-choices Delay = at_mark mark.DELAY (mark_of mark.DELAY Inside ∷ Go ManifestPrimary ∷ Make some_delay ∷ []) (Make no_delay ∷ [])
+choices Subs = at_mark punctuation.LEFT_BRACKET (mark_of punctuation.LEFT_BRACKET Inside ∷ Go Manifest_ ∷ mark_of punctuation.RIGHT_BRACKET Inside ∷ Go SecondSub ∷ []) (Make no_subs ∷ [])
+choices SecondSub = at_mark punctuation.LEFT_BRACKET (mark_of punctuation.LEFT_BRACKET Inside ∷ Go Manifest_ ∷ mark_of punctuation.RIGHT_BRACKET Inside ∷ Make two_subs ∷ []) (Make one_sub ∷ [])
+choices Delay = at_mark punctuation.AT (mark_of punctuation.AT Inside ∷ Go ManifestPrimary ∷ Make some_delay ∷ []) (Make no_delay ∷ [])
 choices (Chain l) = always (Go (part l) ∷ Go (Rest l) ∷ [])
 choices (Rest l) = record { asked = (operators l, Take (operators l) Inside ∷ Go (part l) ∷ Make (add_part l) ∷ Go (Rest l) ∷ []) ∷ []; else_ = [] }
 choices Comparison = always (Go (Chain Sum) ∷ Go CompareRest ∷ [])
 choices CompareRest = record { asked = (comparisons, Take comparisons Inside ∷ Go (Chain Sum) ∷ Make compare ∷ []) ∷ []; else_ = [] }
 choices Shift = always (Go Unary ∷ Go Shifts ∷ [])
-choices Shifts = record { asked = (Mark mark.LEFT ∷ Mark mark.RIGHT ∷ [], Take (Mark mark.LEFT ∷ Mark mark.RIGHT ∷ []) Inside ∷ Go ManifestPrimary ∷ Make add_shift ∷ Go Shifts ∷ []) ∷ []; else_ = [] }
+choices Shifts = record { asked = (Mark punctuation.LESS_LESS ∷ Mark punctuation.GREATER_GREATER ∷ [], Take (Mark punctuation.LESS_LESS ∷ Mark punctuation.GREATER_GREATER ∷ []) Inside ∷ Go ManifestPrimary ∷ Make add_shift ∷ Go Shifts ∷ []) ∷ []; else_ = [] }
 choices Unary = record {
   asked =
-      (Mark mark.MINUS ∷ [], mark_of mark.MINUS Inside ∷ Go AfterMinus ∷ [])
-      ∷ (Mark mark.NOT ∷ [], mark_of mark.NOT Inside ∷ Go Unary ∷ Make not_expr ∷ [])
+      (Mark punctuation.MINUS ∷ [], mark_of punctuation.MINUS Inside ∷ Go AfterMinus ∷ [])
+      ∷ (Mark punctuation.BANG ∷ [], mark_of punctuation.BANG Inside ∷ Go Unary ∷ Make not_expr ∷ [])
       ∷ [];
   else_ = Go Primary ∷ [];
 }
 choices OtherUnary = record {
   asked =
-      (Mark mark.MINUS ∷ [], mark_of mark.MINUS Inside ∷ Go AfterMinus ∷ [])
-      ∷ (Mark mark.NOT ∷ [], mark_of mark.NOT Inside ∷ Go Unary ∷ Make not_expr ∷ [])
+      (Mark punctuation.MINUS ∷ [], mark_of punctuation.MINUS Inside ∷ Go AfterMinus ∷ [])
+      ∷ (Mark punctuation.BANG ∷ [], mark_of punctuation.BANG Inside ∷ Go Unary ∷ Make not_expr ∷ [])
       ∷ [];
   else_ = Go OtherPrimary ∷ [];
 }
@@ -295,31 +296,31 @@ choices Primary = record { asked = (AName ∷ [], Take (AName ∷ []) Inside ∷
 choices OtherPrimary = record {
   asked =
       (number, Take number Inside ∷ Make positive ∷ Make literal_expr ∷ [])
-      ∷ (Word mark.TRUE ∷ Word mark.FALSE ∷ [], Take (Word mark.TRUE ∷ Word mark.FALSE ∷ []) Inside ∷ Make truth ∷ Make literal_expr ∷ [])
-      ∷ (Word mark.FIX ∷ [], Go (FixIn Inside) ∷ mark_of mark.OPEN Inside ∷ Go (Chain Or) ∷ mark_of mark.CLOSE Inside ∷ Make cast_expr ∷ [])
-      ∷ (Word mark.IF ∷ [], word_of mark.IF Inside ∷ Go (Chain Or) ∷ mark_of mark.ARROW Inside ∷ Go (Chain Or) ∷ Make first_arm ∷ Go Arms ∷ [])
+      ∷ (Word keyword.TRUE ∷ Word keyword.FALSE ∷ [], Take (Word keyword.TRUE ∷ Word keyword.FALSE ∷ []) Inside ∷ Make truth ∷ Make literal_expr ∷ [])
+      ∷ (Word keyword.FIX ∷ [], Go (FixIn Inside) ∷ mark_of punctuation.LEFT_PAREN Inside ∷ Go (Chain Or) ∷ mark_of punctuation.RIGHT_PAREN Inside ∷ Make cast_expr ∷ [])
+      ∷ (Word keyword.IF ∷ [], word_of keyword.IF Inside ∷ Go (Chain Or) ∷ mark_of punctuation.ARROW Inside ∷ Go (Chain Or) ∷ Make first_arm ∷ Go Arms ∷ [])
       ∷ [];
-  else_ = mark_of mark.OPEN Inside ∷ Go (Chain Or) ∷ mark_of mark.CLOSE Inside ∷ Make close_expr ∷ [];
+  else_ = mark_of punctuation.LEFT_PAREN Inside ∷ Go (Chain Or) ∷ mark_of punctuation.RIGHT_PAREN Inside ∷ Make close_expr ∷ [];
 }
-choices Arms = always (mark_of mark.ELSE Inside ∷ Go (Chain Or) ∷ Go ArmEnd ∷ [])
-choices ArmEnd = at_mark mark.ARROW (mark_of mark.ARROW Inside ∷ Go (Chain Or) ∷ Make add_arm ∷ Go Arms ∷ []) (word_of mark.FI Inside ∷ Make choose_expr ∷ [])
-choices TargetSubs = at_mark mark.OPEN_BRACKET (mark_of mark.OPEN_BRACKET Begins ∷ Go Manifest_ ∷ mark_of mark.CLOSE_BRACKET Outside ∷ Go SecondTargetSub ∷ []) (Make no_subs ∷ [])
-choices SecondTargetSub = at_mark mark.OPEN_BRACKET (mark_of mark.OPEN_BRACKET Begins ∷ Go Manifest_ ∷ mark_of mark.CLOSE_BRACKET Outside ∷ Make two_subs ∷ []) (Make one_sub ∷ [])
+choices Arms = always (mark_of punctuation.PIPE_PIPE Inside ∷ Go (Chain Or) ∷ Go ArmEnd ∷ [])
+choices ArmEnd = at_mark punctuation.ARROW (mark_of punctuation.ARROW Inside ∷ Go (Chain Or) ∷ Make add_arm ∷ Go Arms ∷ []) (word_of keyword.FI Inside ∷ Make choose_expr ∷ [])
+choices TargetSubs = at_mark punctuation.LEFT_BRACKET (mark_of punctuation.LEFT_BRACKET Begins ∷ Go Manifest_ ∷ mark_of punctuation.RIGHT_BRACKET Outside ∷ Go SecondTargetSub ∷ []) (Make no_subs ∷ [])
+choices SecondTargetSub = at_mark punctuation.LEFT_BRACKET (mark_of punctuation.LEFT_BRACKET Begins ∷ Go Manifest_ ∷ mark_of punctuation.RIGHT_BRACKET Outside ∷ Make two_subs ∷ []) (Make one_sub ∷ [])
 choices Target = always (Take (AName ∷ []) Outside ∷ Go TargetSubs ∷ Make a_place ∷ [])
-choices MoreTargets = at_mark mark.COMMA (mark_of mark.COMMA Outside ∷ Go Target ∷ Make add_place ∷ Go MoreTargets ∷ []) []
+choices MoreTargets = at_mark punctuation.COMMA (mark_of punctuation.COMMA Outside ∷ Go Target ∷ Make add_place ∷ Go MoreTargets ∷ []) []
 choices Args = always (Go (Chain Or) ∷ Make first_arg ∷ Go MoreArgs ∷ [])
-choices MoreArgs = at_mark mark.COMMA (mark_of mark.COMMA Begins ∷ Go (Chain Or) ∷ Make add_arg ∷ Go MoreArgs ∷ []) []
-choices Items_ = record { asked = (AName ∷ Mark mark.OPEN ∷ [], Go Item_ ∷ Make add_item ∷ Go Items_ ∷ []) ∷ []; else_ = [] }
-choices Item_ = record { asked = (AName ∷ [], Go Target ∷ Go AfterTarget ∷ []) ∷ []; else_ = mark_of mark.OPEN Outside ∷ Take (AName ∷ []) Outside ∷ Go AfterOpenName ∷ [] }
-choices AfterTarget = at_mark mark.INITIAL (mark_of mark.INITIAL Begins ∷ Go ManifestPrimary ∷ mark_of mark.DEFINES Outside ∷ Go InitialValue ∷ mark_of mark.SEMICOLON Outside ∷ Make is_initial ∷ []) (mark_of mark.DEFINES Begins ∷ Go RightSide ∷ [])
-choices InitialValue = record { asked = (Word mark.TRUE ∷ Word mark.FALSE ∷ [], Take (Word mark.TRUE ∷ Word mark.FALSE ∷ []) Outside ∷ Make truth ∷ []) ∷ []; else_ = Go Signed ∷ [] }
+choices MoreArgs = at_mark punctuation.COMMA (mark_of punctuation.COMMA Begins ∷ Go (Chain Or) ∷ Make add_arg ∷ Go MoreArgs ∷ []) []
+choices Items_ = record { asked = (AName ∷ Mark punctuation.LEFT_PAREN ∷ [], Go Item_ ∷ Make add_item ∷ Go Items_ ∷ []) ∷ []; else_ = [] }
+choices Item_ = record { asked = (AName ∷ [], Go Target ∷ Go AfterTarget ∷ []) ∷ []; else_ = mark_of punctuation.LEFT_PAREN Outside ∷ Take (AName ∷ []) Outside ∷ Go AfterOpenName ∷ [] }
+choices AfterTarget = at_mark punctuation.AT_AT (mark_of punctuation.AT_AT Begins ∷ Go ManifestPrimary ∷ mark_of punctuation.EQUAL Outside ∷ Go InitialValue ∷ mark_of punctuation.SEMICOLON Outside ∷ Make is_initial ∷ []) (mark_of punctuation.EQUAL Begins ∷ Go RightSide ∷ [])
+choices InitialValue = record { asked = (Word keyword.TRUE ∷ Word keyword.FALSE ∷ [], Take (Word keyword.TRUE ∷ Word keyword.FALSE ∷ []) Outside ∷ Make truth ∷ []) ∷ []; else_ = Go Signed ∷ [] }
 choices RightSide = record {
   asked = (AName ∷ [], Take (AName ∷ []) Inside ∷ Go AfterRightName ∷ []) ∷ [];
-  else_ = Go OtherUnary ∷ (rests ++ mark_of mark.SEMICOLON Outside ∷ Make is_equation ∷ []);
+  else_ = Go OtherUnary ∷ (rests ++ mark_of punctuation.SEMICOLON Outside ∷ Make is_equation ∷ []);
 }
-choices AfterRightName = at_mark mark.OPEN
-    (mark_of mark.OPEN Begins ∷ Go Args ∷ mark_of mark.CLOSE Outside ∷ mark_of mark.SEMICOLON Outside ∷ Make is_call ∷ [])
-    (Go Subs ∷ Make a_place ∷ Go Delay ∷ Make read_expr ∷ (rests ++ mark_of mark.SEMICOLON Outside ∷ Make is_equation ∷ []))
-choices AfterOpenName = at_mark mark.COLON
-    (mark_of mark.COLON Begins ∷ Go Manifest_ ∷ mark_of mark.TO Begins ∷ Go Manifest_ ∷ mark_of mark.CLOSE Outside ∷ mark_of mark.EACH Outside ∷ word_of mark.BEGIN Enters ∷ Make no_items ∷ Go Items_ ∷ word_of mark.END Leaves ∷ mark_of mark.SEMICOLON Outside ∷ Make is_loop ∷ [])
-    (Go TargetSubs ∷ Make a_place ∷ Make first_place ∷ Go MoreTargets ∷ mark_of mark.CLOSE Outside ∷ mark_of mark.DEFINES Outside ∷ Take (AName ∷ []) Outside ∷ mark_of mark.OPEN Begins ∷ Go Args ∷ mark_of mark.CLOSE Outside ∷ mark_of mark.SEMICOLON Outside ∷ Make is_calls ∷ [])
+choices AfterRightName = at_mark punctuation.LEFT_PAREN
+    (mark_of punctuation.LEFT_PAREN Begins ∷ Go Args ∷ mark_of punctuation.RIGHT_PAREN Outside ∷ mark_of punctuation.SEMICOLON Outside ∷ Make is_call ∷ [])
+    (Go Subs ∷ Make a_place ∷ Go Delay ∷ Make read_expr ∷ (rests ++ mark_of punctuation.SEMICOLON Outside ∷ Make is_equation ∷ []))
+choices AfterOpenName = at_mark punctuation.COLON
+    (mark_of punctuation.COLON Begins ∷ Go Manifest_ ∷ mark_of punctuation.DOT_DOT Begins ∷ Go Manifest_ ∷ mark_of punctuation.RIGHT_PAREN Outside ∷ mark_of punctuation.COLON_COLON Outside ∷ word_of keyword.BEGIN Enters ∷ Make no_items ∷ Go Items_ ∷ word_of keyword.END Leaves ∷ mark_of punctuation.SEMICOLON Outside ∷ Make is_loop ∷ [])
+    (Go TargetSubs ∷ Make a_place ∷ Make first_place ∷ Go MoreTargets ∷ mark_of punctuation.RIGHT_PAREN Outside ∷ mark_of punctuation.EQUAL Outside ∷ Take (AName ∷ []) Outside ∷ mark_of punctuation.LEFT_PAREN Begins ∷ Go Args ∷ mark_of punctuation.RIGHT_PAREN Outside ∷ mark_of punctuation.SEMICOLON Outside ∷ Make is_calls ∷ [])

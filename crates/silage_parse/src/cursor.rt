@@ -9,8 +9,7 @@ ghost use Rattle.silage_parse.specs.Parsed.{effect as effect_of, name_at as the_
 
 use crate::ParseFault;
 use lists::{List, Name};
-use silage_lex::{Token, TokenKind};
-use silage_tree::marks;
+use silage_lex::{Token, TokenKind, keywords, punctuation};
 use std::alloc::Global;
 
 /// Where the next token is, the weight of the outermost expression that began last, and how many loops are open.
@@ -153,26 +152,27 @@ fn weighs(kind: &TokenKind) -> bool
     match kind {
         TokenKind::Symbol(n) => matches!(
             *n,
-            marks::OPEN
-                | marks::OPEN_BRACKET
-                | marks::MINUS
-                | marks::NOT
-                | marks::PLUS
-                | marks::STAR
-                | marks::LEFT
-                | marks::RIGHT
-                | marks::BELOW
-                | marks::AT_MOST
-                | marks::EQUAL
-                | marks::UNEQUAL
-                | marks::ABOVE
-                | marks::AT_LEAST
-                | marks::AND
-                | marks::OR
-                | marks::ARROW
-                | marks::DELAY
+            punctuation::LEFT_PAREN
+                | punctuation::LEFT_BRACKET
+                | punctuation::MINUS
+                | punctuation::BANG
+                | punctuation::PLUS
+                | punctuation::STAR
+                | punctuation::LESS_LESS
+                | punctuation::GREATER_GREATER
+                | punctuation::LESS
+                | punctuation::LESS_EQUAL
+                | punctuation::EQUAL_EQUAL
+                | punctuation::BANG_EQUAL
+                | punctuation::GREATER
+                | punctuation::GREATER_EQUAL
+                | punctuation::AMPERSAND
+                | punctuation::PIPE
+                | punctuation::PIPE_PIPE
+                | punctuation::ARROW
+                | punctuation::AT
         ),
-        TokenKind::Reserved(n) => *n == marks::IF || *n == marks::FIX,
+        TokenKind::Reserved(n) => *n == keywords::IF || *n == keywords::FIX,
         _ => false,
     }
 }

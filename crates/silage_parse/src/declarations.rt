@@ -15,8 +15,8 @@ use crate::cursor::{
 use crate::types::fix_type;
 use fix_word::SigType;
 use lists::{List, Name};
-use silage_lex::Token;
-use silage_tree::{Decl, Lit, marks};
+use silage_lex::{Token, keywords, punctuation};
+use silage_tree::{Decl, Lit};
 use std::alloc::{AllocError, AllocFailed, Global};
 
 /// A declared name with its dims.
@@ -52,19 +52,24 @@ fn dims(alloc: Global, tokens: &[Token], from: Cursor) -> Result<(List<u32>, Cur
     ensures within { IfOk result (λ x. (from.at ≤ x.1.at) × (x.1.at ≤ length tokens.now)) }
 {
     let mut list = List::new(alloc);
-    if !is_mark(tokens, from.at, marks::OPEN_BRACKET) {
+    if !is_mark(tokens, from.at, punctuation::LEFT_BRACKET) {
         return Ok((list, from));
     }
     let open = past(tokens, from, Effect::Outside)?;
     let (first, behind) = whole(tokens, open, Effect::Outside)?;
-    let close = past_mark(tokens, behind, marks::CLOSE_BRACKET, Effect::Outside)?;
+    let close = past_mark(tokens, behind, punctuation::RIGHT_BRACKET, Effect::Outside)?;
     list.push(dim(first))?;
-    if !is_mark(tokens, close.at, marks::OPEN_BRACKET) {
+    if !is_mark(tokens, close.at, punctuation::LEFT_BRACKET) {
         return Ok((list, close));
     }
     let open_second = past(tokens, close, Effect::Outside)?;
     let (second, behind_second) = whole(tokens, open_second, Effect::Outside)?;
-    let to = past_mark(tokens, behind_second, marks::CLOSE_BRACKET, Effect::Outside)?;
+    let to = past_mark(
+        tokens,
+        behind_second,
+        punctuation::RIGHT_BRACKET,
+        Effect::Outside,
+    )?;
     list.push(dim(second))?;
     Ok((list, to))
 }
@@ -101,7 +106,7 @@ fn signal_type(tokens: &[Token], from: Cursor) -> Result<(SigType, Cursor), Pars
     ensures within { IfOk result (λ x. (from.at < x.1.at) × (x.1.at ≤ length tokens.now)) }
     ensures memory { IfErr result (λ fault. fault ≢ Memory) }
 {
-    if is_word(tokens, from.at, marks::BOOL) {
+    if is_word(tokens, from.at, keywords::BOOL) {
         return Ok((SigType::Bool, past(tokens, from, Effect::Outside)?));
     }
     let (ty, to) = fix_type(tokens, from, Effect::Outside)?;
@@ -116,7 +121,7 @@ fn decl(alloc: Global, tokens: &[Token], from: Cursor) -> Result<(Decl, Cursor),
     ensures within { IfOk result (λ x. (from.at < x.1.at) × (x.1.at ≤ length tokens.now)) }
 {
     let (declared, behind) = declared_name(alloc, tokens, from)?;
-    let colon = past_mark(tokens, behind, marks::COLON, Effect::Outside)?;
+    let colon = past_mark(tokens, behind, punctuation::COLON, Effect::Outside)?;
     let (ty, to) = signal_type(tokens, colon)?;
     Ok((declared.typed(ty), to))
 }
@@ -135,7 +140,7 @@ fn declared_names(
     let (first, mut to) = declared_name(alloc, tokens, from)?;
     let mut list = List::new(alloc);
     list.push(first)?;
-    'more: while is_mark(tokens, to.at, marks::COMMA) {
+    'more: while is_mark(tokens, to.at, punctuation::COMMA) {
         let comma = past(tokens, to, Effect::Outside)?;
         let (next, end) = declared_name(alloc, tokens, comma)?;
         list.push(next)?;
@@ -158,7 +163,7 @@ pub fn decls(
     let (first, mut to) = decl(alloc, tokens, from)?;
     let mut list = List::new(alloc);
     list.push(first)?;
-    'more: while is_mark(tokens, to.at, marks::COMMA) {
+    'more: while is_mark(tokens, to.at, punctuation::COMMA) {
         let comma = past(tokens, to, Effect::Outside)?;
         let (next, end) = decl(alloc, tokens, comma)?;
         list.push(next)?;
@@ -178,10 +183,10 @@ pub fn results(
     ensures read { IsParsed tokens.now Results from (λ ds. the.decls ds) result }
     ensures within { IfOk result (λ x. (from.at < x.1.at) × (x.1.at ≤ length tokens.now)) }
 {
-    if is_mark(tokens, from.at, marks::OPEN) {
+    if is_mark(tokens, from.at, punctuation::LEFT_PAREN) {
         let open = past(tokens, from, Effect::Outside)?;
         let (list, close) = decls(alloc, tokens, open)?;
-        let to = past_mark(tokens, close, marks::CLOSE, Effect::Outside)?;
+        let to = past_mark(tokens, close, punctuation::RIGHT_PAREN, Effect::Outside)?;
         return Ok((list, to));
     }
     let (one, to) = decl(alloc, tokens, from)?;
@@ -213,12 +218,12 @@ pub fn locals(
 {
     let mut list = List::new(alloc);
     let mut to = from;
-    'lines: while is_word(tokens, to.at, marks::VAR) {
+    'lines: while is_word(tokens, to.at, keywords::VAR) {
         let var = past(tokens, to, Effect::Outside)?;
         let (names, behind) = declared_names(alloc, tokens, var)?;
-        let colon = past_mark(tokens, behind, marks::COLON, Effect::Outside)?;
+        let colon = past_mark(tokens, behind, punctuation::COLON, Effect::Outside)?;
         let (ty, semicolon) = signal_type(tokens, colon)?;
-        let end = past_mark(tokens, semicolon, marks::SEMICOLON, Effect::Outside)?;
+        let end = past_mark(tokens, semicolon, punctuation::SEMICOLON, Effect::Outside)?;
         add_typed(&mut list, names, ty)?;
         to = end;
     }
@@ -234,7 +239,7 @@ pub fn signed(tokens: &[Token], from: Cursor) -> Result<(Lit, Cursor), ParseFaul
     ensures memory { IfErr result (λ fault. fault ≢ Memory) }
 {
     let at = start(tokens, from.at);
-    if !is_mark(tokens, from.at, marks::MINUS) {
+    if !is_mark(tokens, from.at, punctuation::MINUS) {
         let ((digits, places), to) = number(tokens, from, Effect::Outside)?;
         let neg = false;
         return Ok((
@@ -271,7 +276,7 @@ fn numbers(alloc: Global, tokens: &[Token], from: Cursor) -> Result<(List<Lit>, 
     let (first, mut to) = signed(tokens, from)?;
     let mut list = List::new(alloc);
     list.push(first)?;
-    'more: while is_mark(tokens, to.at, marks::COMMA) {
+    'more: while is_mark(tokens, to.at, punctuation::COMMA) {
         let comma = past(tokens, to, Effect::Outside)?;
         let (next, end) = signed(tokens, comma)?;
         list.push(next)?;
@@ -291,10 +296,10 @@ pub fn words(
     ensures read { IsParsed tokens.now Words from (λ ls. the.lits ls) result }
     ensures within { IfOk result (λ x. (from.at < x.1.at) × (x.1.at ≤ length tokens.now)) }
 {
-    if is_mark(tokens, from.at, marks::OPEN) {
+    if is_mark(tokens, from.at, punctuation::LEFT_PAREN) {
         let open = past(tokens, from, Effect::Outside)?;
         let (list, close) = numbers(alloc, tokens, open)?;
-        let to = past_mark(tokens, close, marks::CLOSE, Effect::Outside)?;
+        let to = past_mark(tokens, close, punctuation::RIGHT_PAREN, Effect::Outside)?;
         return Ok((list, to));
     }
     let (one, to) = signed(tokens, from)?;

@@ -5,7 +5,8 @@ ghost use Rattle.silage_tree.specs.Grammar.{Or, kind_at, operator as the_operato
 ghost use Rattle.silage_parse.specs.Table.{Mark, Word, AName, Chain, part as the_part, Comparison, Shift, Unary, Primary, OtherPrimary, is_one};
 ghost use Rattle.silage_parse.specs.Parsed.{IsParsed, expr_value};
 ghost use Rattle.silage_parse.specs.Levels.{level as level_of};
-ghost use Rattle.silage_tree.specs.declared.marks.TheConstants as mark;
+ghost use Rattle.silage_lex.specs.declared.punctuation.TheConstants as punctuation;
+ghost use Rattle.silage_lex.specs.declared.keywords.TheConstants as keyword;
 
 use crate::ParseFault;
 use crate::cursor::{
@@ -15,8 +16,8 @@ use crate::cursor::{
 use crate::manifests::manifest_primary;
 use crate::places::{delay, subscripts};
 use crate::types::fix_type;
-use silage_lex::{Token, TokenKind};
-use silage_tree::{BinOp, Expr, Lit, Place, marks};
+use silage_lex::{Token, TokenKind, keywords, punctuation};
+use silage_tree::{BinOp, Expr, Lit, Place};
 use std::alloc::{AllocError, AllocFailed, Global};
 
 /// The levels whose operators group to the left, the loosest first.
@@ -38,11 +39,11 @@ fn operator(tokens: &[Token], at: usize, level: Level) -> Option<BinOp>
     ensures within { IsSome result → at < length tokens.now }
 {
     match (level, kind(tokens, at)) {
-        (Level::Or, Some(TokenKind::Symbol(marks::OR))) => Some(BinOp::Or),
-        (Level::And, Some(TokenKind::Symbol(marks::AND))) => Some(BinOp::And),
-        (Level::Sum, Some(TokenKind::Symbol(marks::PLUS))) => Some(BinOp::Add),
-        (Level::Sum, Some(TokenKind::Symbol(marks::MINUS))) => Some(BinOp::Sub),
-        (Level::Product, Some(TokenKind::Symbol(marks::STAR))) => Some(BinOp::Mul),
+        (Level::Or, Some(TokenKind::Symbol(punctuation::PIPE))) => Some(BinOp::Or),
+        (Level::And, Some(TokenKind::Symbol(punctuation::AMPERSAND))) => Some(BinOp::And),
+        (Level::Sum, Some(TokenKind::Symbol(punctuation::PLUS))) => Some(BinOp::Add),
+        (Level::Sum, Some(TokenKind::Symbol(punctuation::MINUS))) => Some(BinOp::Sub),
+        (Level::Product, Some(TokenKind::Symbol(punctuation::STAR))) => Some(BinOp::Mul),
         _ => None,
     }
 }
@@ -53,12 +54,12 @@ fn comparison_operator(tokens: &[Token], at: usize) -> Option<BinOp>
     ensures within { IsSome result → at < length tokens.now }
 {
     match kind(tokens, at) {
-        Some(TokenKind::Symbol(marks::BELOW)) => Some(BinOp::Lt),
-        Some(TokenKind::Symbol(marks::AT_MOST)) => Some(BinOp::Le),
-        Some(TokenKind::Symbol(marks::EQUAL)) => Some(BinOp::Eq),
-        Some(TokenKind::Symbol(marks::UNEQUAL)) => Some(BinOp::Ne),
-        Some(TokenKind::Symbol(marks::ABOVE)) => Some(BinOp::Gt),
-        Some(TokenKind::Symbol(marks::AT_LEAST)) => Some(BinOp::Ge),
+        Some(TokenKind::Symbol(punctuation::LESS)) => Some(BinOp::Lt),
+        Some(TokenKind::Symbol(punctuation::LESS_EQUAL)) => Some(BinOp::Le),
+        Some(TokenKind::Symbol(punctuation::EQUAL_EQUAL)) => Some(BinOp::Eq),
+        Some(TokenKind::Symbol(punctuation::BANG_EQUAL)) => Some(BinOp::Ne),
+        Some(TokenKind::Symbol(punctuation::GREATER)) => Some(BinOp::Gt),
+        Some(TokenKind::Symbol(punctuation::GREATER_EQUAL)) => Some(BinOp::Ge),
         _ => None,
     }
 }
@@ -69,8 +70,8 @@ fn shift_operator(tokens: &[Token], at: usize) -> Option<bool>
     ensures within { IsSome result → at < length tokens.now }
 {
     match kind(tokens, at) {
-        Some(TokenKind::Symbol(marks::LEFT)) => Some(true),
-        Some(TokenKind::Symbol(marks::RIGHT)) => Some(false),
+        Some(TokenKind::Symbol(punctuation::LESS_LESS)) => Some(true),
+        Some(TokenKind::Symbol(punctuation::GREATER_GREATER)) => Some(false),
         _ => None,
     }
 }
@@ -81,8 +82,8 @@ pub fn truth_at(tokens: &[Token], at: usize) -> Option<bool>
     ensures within { IsSome result → at < length tokens.now }
 {
     match kind(tokens, at) {
-        Some(TokenKind::Reserved(marks::TRUE)) => Some(true),
-        Some(TokenKind::Reserved(marks::FALSE)) => Some(false),
+        Some(TokenKind::Reserved(keywords::TRUE)) => Some(true),
+        Some(TokenKind::Reserved(keywords::FALSE)) => Some(false),
         _ => None,
     }
 }
@@ -199,10 +200,10 @@ fn unary(alloc: Global, tokens: &[Token], from: Cursor) -> Result<(Expr, Cursor)
     ensures read { IsParsed tokens.now Unary from expr_value result }
     ensures within { IfOk result (λ x. (from.at < x.1.at) × (x.1.at ≤ length tokens.now)) }
 {
-    if is_mark(tokens, from.at, marks::MINUS) {
+    if is_mark(tokens, from.at, punctuation::MINUS) {
         return negated(alloc, tokens, from);
     }
-    if !is_mark(tokens, from.at, marks::NOT) {
+    if !is_mark(tokens, from.at, punctuation::BANG) {
         return primary(alloc, tokens, from);
     }
     let behind = past(tokens, from, Effect::Inside)?;
@@ -216,7 +217,7 @@ fn unary(alloc: Global, tokens: &[Token], from: Cursor) -> Result<(Expr, Cursor)
 fn negated(alloc: Global, tokens: &[Token], from: Cursor) -> Result<(Expr, Cursor), ParseFault>
     requires few { length tokens.now < 2 ^ 32 }
     requires within { from.at < length tokens.now }
-    requires minus { is_one (Mark mark.MINUS ∷ []) (kind_at tokens.now from.at) ≡ true }
+    requires minus { is_one (Mark punctuation.MINUS ∷ []) (kind_at tokens.now from.at) ≡ true }
     ensures read { IsParsed tokens.now Unary from expr_value result }
     ensures within { IfOk result (λ x. (from.at < x.1.at) × (x.1.at ≤ length tokens.now)) }
 {
@@ -264,15 +265,15 @@ fn primary(alloc: Global, tokens: &[Token], from: Cursor) -> Result<(Expr, Curso
         let to = past(tokens, from, Effect::Inside)?;
         return Ok((Expr::Lit(Lit::Truth { value, at }), to));
     }
-    if is_word(tokens, from.at, marks::FIX) {
+    if is_word(tokens, from.at, keywords::FIX) {
         return cast(alloc, tokens, from);
     }
-    if is_word(tokens, from.at, marks::IF) {
+    if is_word(tokens, from.at, keywords::IF) {
         return choice(alloc, tokens, from);
     }
-    let open = past_mark(tokens, from, marks::OPEN, Effect::Inside)?;
+    let open = past_mark(tokens, from, punctuation::LEFT_PAREN, Effect::Inside)?;
     let (inner, close) = expression(alloc, tokens, open)?;
-    let end = past_mark(tokens, close, marks::CLOSE, Effect::Inside)?;
+    let end = past_mark(tokens, close, punctuation::RIGHT_PAREN, Effect::Inside)?;
     Ok((inner, end))
 }
 
@@ -297,15 +298,15 @@ fn place(alloc: Global, tokens: &[Token], from: Cursor) -> Result<(Expr, Cursor)
 fn cast(alloc: Global, tokens: &[Token], from: Cursor) -> Result<(Expr, Cursor), ParseFault>
     requires few { length tokens.now < 2 ^ 32 }
     requires within { from.at < length tokens.now }
-    requires fix { is_one (Word mark.FIX ∷ []) (kind_at tokens.now from.at) ≡ true }
+    requires fix { is_one (Word keyword.FIX ∷ []) (kind_at tokens.now from.at) ≡ true }
     ensures read { IsParsed tokens.now OtherPrimary from expr_value result }
     ensures within { IfOk result (λ x. (from.at < x.1.at) × (x.1.at ≤ length tokens.now)) }
 {
     let at = start(tokens, from.at);
     let (fix, open) = fix_type(tokens, from, Effect::Inside)?;
-    let behind = past_mark(tokens, open, marks::OPEN, Effect::Inside)?;
+    let behind = past_mark(tokens, open, punctuation::LEFT_PAREN, Effect::Inside)?;
     let (inner, close) = expression(alloc, tokens, behind)?;
-    let to = past_mark(tokens, close, marks::CLOSE, Effect::Inside)?;
+    let to = past_mark(tokens, close, punctuation::RIGHT_PAREN, Effect::Inside)?;
     Ok((Expr::Cast(at, fix, Box::new(alloc, inner)?), to))
 }
 
@@ -314,23 +315,23 @@ fn cast(alloc: Global, tokens: &[Token], from: Cursor) -> Result<(Expr, Cursor),
 fn choice(alloc: Global, tokens: &[Token], from: Cursor) -> Result<(Expr, Cursor), ParseFault>
     requires few { length tokens.now < 2 ^ 32 }
     requires within { from.at < length tokens.now }
-    requires begins { is_one (Word mark.IF ∷ []) (kind_at tokens.now from.at) ≡ true }
+    requires begins { is_one (Word keyword.IF ∷ []) (kind_at tokens.now from.at) ≡ true }
     ensures read { IsParsed tokens.now OtherPrimary from expr_value result }
     ensures within { IfOk result (λ x. (from.at < x.1.at) × (x.1.at ≤ length tokens.now)) }
 {
     let at = start(tokens, from.at);
-    let word = past_word(tokens, from, marks::IF, Effect::Inside)?;
+    let word = past_word(tokens, from, keywords::IF, Effect::Inside)?;
     let (when, arrow) = expression(alloc, tokens, word)?;
-    let behind = past_mark(tokens, arrow, marks::ARROW, Effect::Inside)?;
+    let behind = past_mark(tokens, arrow, punctuation::ARROW, Effect::Inside)?;
     let (then, end) = expression(alloc, tokens, behind)?;
     let mut branches = Vec::new(alloc);
     branches.push((when, then))?;
     let mut to = end;
     'arms: loop {
-        let bar = past_mark(tokens, to, marks::ELSE, Effect::Inside)?;
+        let bar = past_mark(tokens, to, punctuation::PIPE_PIPE, Effect::Inside)?;
         let (part, stop) = expression(alloc, tokens, bar)?;
-        if !is_mark(tokens, stop.at, marks::ARROW) {
-            let last = past_word(tokens, stop, marks::FI, Effect::Inside)?;
+        if !is_mark(tokens, stop.at, punctuation::ARROW) {
+            let last = past_word(tokens, stop, keywords::FI, Effect::Inside)?;
             return Ok((Expr::Choose(at, branches, Box::new(alloc, part)?), last));
         }
         let next = past(tokens, stop, Effect::Inside)?;

@@ -3,7 +3,7 @@
 ghost use Rattle.std.specs.Prelude.{◌≡◌, ◌+◌, ◌≤◌, ◌<◌, ◌^◌, [], ◌∷◌, true, false, length, IfOk, IfErr, ◌≢◌, IsTrue};
 ghost use Rattle.silage_lex.specs.declared.Token.{Token as AToken};
 ghost use Rattle.silage_tree.specs.Grammar.{kind_at};
-ghost use Rattle.silage_tree.specs.declared.marks.TheConstants as mark;
+ghost use Rattle.silage_lex.specs.declared.punctuation.TheConstants as punctuation;
 ghost use Rattle.silage_parse.specs.Table.{AName, Mark, is_one, Args, TargetSubs, Target, InitialValue, RightSide, AfterTarget, Item_, Go};
 ghost use Rattle.silage_parse.specs.Table as the;
 ghost use Rattle.silage_parse.specs.Parsed.{IsParsed, subs_value};
@@ -19,8 +19,8 @@ use crate::expressions::{expression, truth_at};
 use crate::manifests::{manifest, manifest_primary};
 use crate::places::subscript;
 use lists::List;
-use silage_lex::{Token, TokenKind};
-use silage_tree::{Expr, Item, Lit, Manifest, Place, marks};
+use silage_lex::{Token, TokenKind, keywords, punctuation};
+use silage_tree::{Expr, Item, Lit, Manifest, Place};
 use std::alloc::{AllocError, AllocFailed, Global};
 
 /// Reads the subscripts of a place on the left: none, one or two.
@@ -35,12 +35,12 @@ fn target_subscripts(
     ensures within { IfOk result (λ x. (from.at ≤ x.1.at) × (x.1.at ≤ length tokens.now)) }
 {
     let mut subs = List::new(alloc);
-    if !is_mark(tokens, from.at, marks::OPEN_BRACKET) {
+    if !is_mark(tokens, from.at, punctuation::LEFT_BRACKET) {
         return Ok((subs, from));
     }
     let (first, middle) = subscript(alloc, tokens, from, Effect::Begins, Effect::Outside)?;
     subs.push(first)?;
-    if !is_mark(tokens, middle.at, marks::OPEN_BRACKET) {
+    if !is_mark(tokens, middle.at, punctuation::LEFT_BRACKET) {
         return Ok((subs, middle));
     }
     let (second, to) = subscript(alloc, tokens, middle, Effect::Begins, Effect::Outside)?;
@@ -82,7 +82,7 @@ fn targets(
     let (first, mut to) = target(alloc, tokens, from)?;
     let mut list = List::new(alloc);
     list.push(first)?;
-    'more: while is_mark(tokens, to.at, marks::COMMA) {
+    'more: while is_mark(tokens, to.at, punctuation::COMMA) {
         let comma = past(tokens, to, Effect::Outside)?;
         let (next, end) = target(alloc, tokens, comma)?;
         list.push(next)?;
@@ -105,7 +105,7 @@ fn arguments(
     let (first, mut to) = expression(alloc, tokens, from)?;
     let mut list = List::new(alloc);
     list.push(first)?;
-    'more: while is_mark(tokens, to.at, marks::COMMA) {
+    'more: while is_mark(tokens, to.at, punctuation::COMMA) {
         let comma = past(tokens, to, Effect::Begins)?;
         let (next, end) = expression(alloc, tokens, comma)?;
         list.push(next)?;
@@ -125,10 +125,10 @@ fn call_end(
     ensures read { IsCallEnd tokens.now from result }
     ensures within { IfOk result (λ x. (from.at < x.1.at) × (x.1.at ≤ length tokens.now)) }
 {
-    let open = past_mark(tokens, from, marks::OPEN, Effect::Begins)?;
+    let open = past_mark(tokens, from, punctuation::LEFT_PAREN, Effect::Begins)?;
     let (args, close) = arguments(alloc, tokens, open)?;
-    let semicolon = past_mark(tokens, close, marks::CLOSE, Effect::Outside)?;
-    let to = past_mark(tokens, semicolon, marks::SEMICOLON, Effect::Outside)?;
+    let semicolon = past_mark(tokens, close, punctuation::RIGHT_PAREN, Effect::Outside)?;
+    let to = past_mark(tokens, semicolon, punctuation::SEMICOLON, Effect::Outside)?;
     Ok((args, to))
 }
 
@@ -136,7 +136,7 @@ fn call_end(
 fn is_call(tokens: &[Token], at: usize) -> bool
     ensures { result ≡ is_called tokens.now at }
 {
-    is_name(tokens, at) && is_mark(tokens, at + 1, marks::OPEN)
+    is_name(tokens, at) && is_mark(tokens, at + 1, punctuation::LEFT_PAREN)
 }
 
 /// Reads what stands behind the `=` of a place: a call of a function or an expression, and `;`.
@@ -155,7 +155,7 @@ fn right_side(
         let at = start(tokens, from.at);
         let (func, open) = name(alloc, tokens, from, Effect::Inside)?;
         let (args, to) = call_end(alloc, tokens, open)?;
-        let mut places = List::new(alloc);
+        let mut places = Vec::new(alloc);
         places.push(place)?;
         return Ok((
             Item::Call {
@@ -168,7 +168,7 @@ fn right_side(
         ));
     }
     let (value, end) = expression(alloc, tokens, from)?;
-    let to = past_mark(tokens, end, marks::SEMICOLON, Effect::Outside)?;
+    let to = past_mark(tokens, end, punctuation::SEMICOLON, Effect::Outside)?;
     Ok((Item::Equation { place, value }, to))
 }
 
@@ -200,11 +200,11 @@ fn initial(
     ensures read { IsLed tokens.now initial_end from (place_value place ∷ []) (λ x. item_value x ∷ []) result }
     ensures within { IfOk result (λ x. (from.at < x.1.at) × (x.1.at ≤ length tokens.now)) }
 {
-    let behind = past_mark(tokens, from, marks::INITIAL, Effect::Begins)?;
+    let behind = past_mark(tokens, from, punctuation::AT_AT, Effect::Begins)?;
     let (k, defines) = manifest_primary(alloc, tokens, behind)?;
-    let number = past_mark(tokens, defines, marks::DEFINES, Effect::Outside)?;
+    let number = past_mark(tokens, defines, punctuation::EQUAL, Effect::Outside)?;
     let (value, semicolon) = initial_value(tokens, number)?;
-    let to = past_mark(tokens, semicolon, marks::SEMICOLON, Effect::Outside)?;
+    let to = past_mark(tokens, semicolon, punctuation::SEMICOLON, Effect::Outside)?;
     Ok((Item::Initial { place, k, value }, to))
 }
 
@@ -220,10 +220,10 @@ fn after_target(
     ensures read { IsLed tokens.now (Go AfterTarget ∷ []) from (place_value place ∷ []) (λ x. item_value x ∷ []) result }
     ensures within { IfOk result (λ x. (from.at < x.1.at) × (x.1.at ≤ length tokens.now)) }
 {
-    if is_mark(tokens, from.at, marks::INITIAL) {
+    if is_mark(tokens, from.at, punctuation::AT_AT) {
         return initial(alloc, tokens, from, place);
     }
-    let defines = past_mark(tokens, from, marks::DEFINES, Effect::Begins)?;
+    let defines = past_mark(tokens, from, punctuation::EQUAL, Effect::Begins)?;
     right_side(alloc, tokens, defines, place)
 }
 
@@ -231,13 +231,13 @@ fn after_target(
 fn calls(alloc: Global, tokens: &[Token], from: Cursor) -> Result<(Item, Cursor), ParseFault>
     requires few { length tokens.now < 2 ^ 32 }
     requires within { from.at ≤ length tokens.now }
-    requires no_loop { is_one (Mark mark.COLON ∷ []) (kind_at tokens.now (from.at + 1)) ≡ false }
+    requires no_loop { is_one (Mark punctuation.COLON ∷ []) (kind_at tokens.now (from.at + 1)) ≡ false }
     ensures read { (t : AToken) → IsLed tokens.now behind_open from (the.token t ∷ []) (λ x. item_value x ∷ []) result }
     ensures within { IfOk result (λ x. (from.at < x.1.at) × (x.1.at ≤ length tokens.now)) }
 {
     let (places, close) = targets(alloc, tokens, from)?;
-    let defines = past_mark(tokens, close, marks::CLOSE, Effect::Outside)?;
-    let called = past_mark(tokens, defines, marks::DEFINES, Effect::Outside)?;
+    let defines = past_mark(tokens, close, punctuation::RIGHT_PAREN, Effect::Outside)?;
+    let called = past_mark(tokens, defines, punctuation::EQUAL, Effect::Outside)?;
     let at = start(tokens, called.at);
     let (func, open) = name(alloc, tokens, called, Effect::Outside)?;
     let (args, to) = call_end(alloc, tokens, open)?;
@@ -263,12 +263,12 @@ fn loop_bounds(
     ensures read { IsBounds tokens.now from result }
     ensures within { IfOk result (λ x. (from.at < x.1.at) × (x.1.at ≤ length tokens.now)) }
 {
-    let first = past_mark(tokens, from, marks::COLON, Effect::Begins)?;
+    let first = past_mark(tokens, from, punctuation::COLON, Effect::Begins)?;
     let (lo, between) = manifest(alloc, tokens, first)?;
-    let last = past_mark(tokens, between, marks::TO, Effect::Begins)?;
+    let last = past_mark(tokens, between, punctuation::DOT_DOT, Effect::Begins)?;
     let (hi, close) = manifest(alloc, tokens, last)?;
-    let each = past_mark(tokens, close, marks::CLOSE, Effect::Outside)?;
-    let to = past_mark(tokens, each, marks::EACH, Effect::Outside)?;
+    let each = past_mark(tokens, close, punctuation::RIGHT_PAREN, Effect::Outside)?;
+    let to = past_mark(tokens, each, punctuation::COLON_COLON, Effect::Outside)?;
     Ok(((lo, hi), to))
 }
 
@@ -282,16 +282,16 @@ fn counted_loop(
 ) -> Result<(Item, Cursor), ParseFault>
     requires few { length tokens.now < 2 ^ 32 }
     requires within { from.at ≤ length tokens.now }
-    requires is_loop { is_one (Mark mark.COLON ∷ []) (kind_at tokens.now (from.at + 1)) ≡ true }
+    requires is_loop { is_one (Mark punctuation.COLON ∷ []) (kind_at tokens.now (from.at + 1)) ≡ true }
     ensures read { (t : AToken) → t.from ≡ at → IsLed tokens.now behind_open from (the.token t ∷ []) (λ x. item_value x ∷ []) result }
     ensures within { IfOk result (λ x. (from.at < x.1.at) × (x.1.at ≤ length tokens.now)) }
 {
     let (index, colon) = name(alloc, tokens, from, Effect::Outside)?;
     let ((lo, hi), begin) = loop_bounds(alloc, tokens, colon)?;
-    let body = past_word(tokens, begin, marks::BEGIN, Effect::Enters)?;
+    let body = past_word(tokens, begin, keywords::BEGIN, Effect::Enters)?;
     let (inner, end) = items(alloc, tokens, body)?;
-    let semicolon = past_word(tokens, end, marks::END, Effect::Leaves)?;
-    let to = past_mark(tokens, semicolon, marks::SEMICOLON, Effect::Outside)?;
+    let semicolon = past_word(tokens, end, keywords::END, Effect::Leaves)?;
+    let to = past_mark(tokens, semicolon, punctuation::SEMICOLON, Effect::Outside)?;
     Ok((
         Item::Loop {
             index,
@@ -317,8 +317,8 @@ fn item(alloc: Global, tokens: &[Token], from: Cursor) -> Result<(Item, Cursor),
         return after_target(alloc, tokens, behind, place);
     }
     let at = start(tokens, from.at);
-    let open = past_mark(tokens, from, marks::OPEN, Effect::Outside)?;
-    if is_mark(tokens, open.at + 1, marks::COLON) {
+    let open = past_mark(tokens, from, punctuation::LEFT_PAREN, Effect::Outside)?;
+    if is_mark(tokens, open.at + 1, punctuation::COLON) {
         counted_loop(alloc, tokens, open, at)
     } else {
         calls(alloc, tokens, open)
@@ -327,12 +327,12 @@ fn item(alloc: Global, tokens: &[Token], from: Cursor) -> Result<(Item, Cursor),
 
 /// Whether token `at` begins an item.
 fn begins_item(tokens: &[Token], at: usize) -> bool
-    ensures value { result ≡ is_one (AName ∷ Mark mark.OPEN ∷ []) (kind_at tokens.now at) }
+    ensures value { result ≡ is_one (AName ∷ Mark punctuation.LEFT_PAREN ∷ []) (kind_at tokens.now at) }
     ensures within { IsTrue result → at < length tokens.now }
 {
     matches!(
         kind(tokens, at),
-        Some(TokenKind::Name(_) | TokenKind::Symbol(marks::OPEN))
+        Some(TokenKind::Name(_) | TokenKind::Symbol(punctuation::LEFT_PAREN))
     )
 }
 

@@ -9,8 +9,8 @@ use crate::ParseFault;
 use crate::cursor::{
     Cursor, Effect, is_mark, is_name, is_whole, kind, name, past, past_mark, start, whole,
 };
-use silage_lex::{Token, TokenKind};
-use silage_tree::{MOp, Manifest, marks};
+use silage_lex::{Token, TokenKind, punctuation};
+use silage_tree::{MOp, Manifest};
 use std::alloc::{AllocError, AllocFailed, Global};
 
 /// The operator between terms that token `at` is.
@@ -19,8 +19,8 @@ fn term_operator(tokens: &[Token], at: usize) -> Option<MOp>
     ensures within { IsSome result → at < length tokens.now }
 {
     match kind(tokens, at) {
-        Some(TokenKind::Symbol(marks::PLUS)) => Some(MOp::Add),
-        Some(TokenKind::Symbol(marks::MINUS)) => Some(MOp::Sub),
+        Some(TokenKind::Symbol(punctuation::PLUS)) => Some(MOp::Add),
+        Some(TokenKind::Symbol(punctuation::MINUS)) => Some(MOp::Sub),
         _ => None,
     }
 }
@@ -62,7 +62,7 @@ fn term(alloc: Global, tokens: &[Token], from: Cursor) -> Result<(Manifest, Curs
     ensures within { IfOk result (λ x. (from.at < x.1.at) × (x.1.at ≤ length tokens.now)) }
 {
     let (mut left, mut to) = factor(alloc, tokens, from)?;
-    'factors: while is_mark(tokens, to.at, marks::STAR) {
+    'factors: while is_mark(tokens, to.at, punctuation::STAR) {
         let at = start(tokens, to.at);
         let behind = past(tokens, to, Effect::Inside)?;
         let (right, end) = factor(alloc, tokens, behind)?;
@@ -85,7 +85,7 @@ fn factor(alloc: Global, tokens: &[Token], from: Cursor) -> Result<(Manifest, Cu
     ensures read { IsParsed tokens.now Factor from manifest_value result }
     ensures within { IfOk result (λ x. (from.at < x.1.at) × (x.1.at ≤ length tokens.now)) }
 {
-    if !is_mark(tokens, from.at, marks::MINUS) {
+    if !is_mark(tokens, from.at, punctuation::MINUS) {
         return manifest_primary(alloc, tokens, from);
     }
     let behind = past(tokens, from, Effect::Inside)?;
@@ -115,8 +115,8 @@ pub fn manifest_primary(
         let (text, to) = name(alloc, tokens, from, Effect::Inside)?;
         return Ok((Manifest::Index(text, at), to));
     }
-    let open = past_mark(tokens, from, marks::OPEN, Effect::Inside)?;
+    let open = past_mark(tokens, from, punctuation::LEFT_PAREN, Effect::Inside)?;
     let (inner, close) = manifest(alloc, tokens, open)?;
-    let end = past_mark(tokens, close, marks::CLOSE, Effect::Inside)?;
+    let end = past_mark(tokens, close, punctuation::RIGHT_PAREN, Effect::Inside)?;
     Ok((inner, end))
 }

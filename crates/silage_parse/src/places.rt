@@ -8,8 +8,8 @@ use crate::ParseFault;
 use crate::cursor::{Cursor, Effect, is_mark, past, past_mark};
 use crate::manifests::{manifest, manifest_primary};
 use lists::List;
-use silage_lex::Token;
-use silage_tree::{Manifest, marks};
+use silage_lex::{Token, punctuation};
+use silage_tree::Manifest;
 use std::alloc::{AllocError, AllocFailed, Global};
 
 /// Reads a subscript in brackets, which have these effects.
@@ -25,9 +25,9 @@ pub fn subscript(
     ensures read { IsSubscript tokens.now (effect_of before) (effect_of behind) from result }
     ensures within { IfOk result (λ x. (from.at < x.1.at) × (x.1.at ≤ length tokens.now)) }
 {
-    let open = past_mark(tokens, from, marks::OPEN_BRACKET, before)?;
+    let open = past_mark(tokens, from, punctuation::LEFT_BRACKET, before)?;
     let (inner, close) = manifest(alloc, tokens, open)?;
-    let end = past_mark(tokens, close, marks::CLOSE_BRACKET, behind)?;
+    let end = past_mark(tokens, close, punctuation::RIGHT_BRACKET, behind)?;
     Ok((inner, end))
 }
 
@@ -43,12 +43,12 @@ pub fn subscripts(
     ensures within { IfOk result (λ x. (from.at ≤ x.1.at) × (x.1.at ≤ length tokens.now)) }
 {
     let mut subs = List::new(alloc);
-    if !is_mark(tokens, from.at, marks::OPEN_BRACKET) {
+    if !is_mark(tokens, from.at, punctuation::LEFT_BRACKET) {
         return Ok((subs, from));
     }
     let (first, to) = subscript(alloc, tokens, from, Effect::Inside, Effect::Inside)?;
     subs.push(first)?;
-    if !is_mark(tokens, to.at, marks::OPEN_BRACKET) {
+    if !is_mark(tokens, to.at, punctuation::LEFT_BRACKET) {
         return Ok((subs, to));
     }
     let (second, end) = subscript(alloc, tokens, to, Effect::Inside, Effect::Inside)?;
@@ -67,7 +67,7 @@ pub fn delay(
     ensures read { IsParsed tokens.now Delay from delay_value result }
     ensures within { IfOk result (λ x. (from.at ≤ x.1.at) × (x.1.at ≤ length tokens.now)) }
 {
-    if !is_mark(tokens, from.at, marks::DELAY) {
+    if !is_mark(tokens, from.at, punctuation::AT) {
         return Ok((None, from));
     }
     let behind = past(tokens, from, Effect::Inside)?;

@@ -11,8 +11,8 @@ use crate::declarations::{Declared, declared_name, decls, locals, results, words
 use crate::items::items;
 use crate::types::fix_type;
 use lists::List;
-use silage_lex::Token;
-use silage_tree::{ConstDef, Func, Program, Top, marks};
+use silage_lex::{Token, keywords, punctuation};
+use silage_tree::{ConstDef, Func, Program, Top};
 use std::alloc::{AllocError, AllocFailed, Global};
 
 /// Reads a table.
@@ -22,13 +22,13 @@ fn table(alloc: Global, tokens: &[Token], from: Cursor) -> Result<(ConstDef, Cur
     ensures read { (tops : Listed TreeTop) → IsLed tokens.now table_row from (the.tops tops ∷ []) (with_table tops) result }
     ensures within { IfOk result (λ x. (from.at < x.1.at) × (x.1.at ≤ length tokens.now)) }
 {
-    let behind = past_word(tokens, from, marks::CONST, Effect::Outside)?;
+    let behind = past_word(tokens, from, keywords::CONST, Effect::Outside)?;
     let (declared, colon) = declared_name(alloc, tokens, behind)?;
-    let shape = past_mark(tokens, colon, marks::COLON, Effect::Outside)?;
+    let shape = past_mark(tokens, colon, punctuation::COLON, Effect::Outside)?;
     let (ty, defines) = fix_type(tokens, shape, Effect::Outside)?;
-    let first = past_mark(tokens, defines, marks::DEFINES, Effect::Outside)?;
+    let first = past_mark(tokens, defines, punctuation::EQUAL, Effect::Outside)?;
     let (words, semicolon) = words(alloc, tokens, first)?;
-    let to = past_mark(tokens, semicolon, marks::SEMICOLON, Effect::Outside)?;
+    let to = past_mark(tokens, semicolon, punctuation::SEMICOLON, Effect::Outside)?;
     let Declared { name, at, dims } = declared;
     Ok((
         ConstDef {
@@ -49,19 +49,19 @@ fn function(alloc: Global, tokens: &[Token], from: Cursor) -> Result<(Func, Curs
     ensures read { (tops : Listed TreeTop) → IsLed tokens.now function_row from (the.tops tops ∷ []) (with_function tops) result }
     ensures within { IfOk result (λ x. (from.at < x.1.at) × (x.1.at ≤ length tokens.now)) }
 {
-    let behind = past_word(tokens, from, marks::FUNC, Effect::Outside)?;
+    let behind = past_word(tokens, from, keywords::FUNC, Effect::Outside)?;
     let at = start(tokens, behind.at);
     let (name, open) = name(alloc, tokens, behind, Effect::Outside)?;
-    let first = past_mark(tokens, open, marks::OPEN, Effect::Outside)?;
+    let first = past_mark(tokens, open, punctuation::LEFT_PAREN, Effect::Outside)?;
     let (params, close) = decls(alloc, tokens, first)?;
-    let arrow = past_mark(tokens, close, marks::CLOSE, Effect::Outside)?;
+    let arrow = past_mark(tokens, close, punctuation::RIGHT_PAREN, Effect::Outside)?;
     let (results, defines) = results(alloc, tokens, arrow)?;
-    let begin = past_mark(tokens, defines, marks::DEFINES, Effect::Outside)?;
-    let body = past_word(tokens, begin, marks::BEGIN, Effect::Outside)?;
+    let begin = past_mark(tokens, defines, punctuation::EQUAL, Effect::Outside)?;
+    let body = past_word(tokens, begin, keywords::BEGIN, Effect::Outside)?;
     let (locals, inner) = locals(alloc, tokens, body)?;
     let (items, end) = items(alloc, tokens, inner)?;
-    let semicolon = past_word(tokens, end, marks::END, Effect::Outside)?;
-    let to = past_mark(tokens, semicolon, marks::SEMICOLON, Effect::Outside)?;
+    let semicolon = past_word(tokens, end, keywords::END, Effect::Outside)?;
+    let to = past_mark(tokens, semicolon, punctuation::SEMICOLON, Effect::Outside)?;
     Ok((
         Func {
             name,
@@ -82,11 +82,11 @@ fn top(alloc: Global, tokens: &[Token], from: Cursor) -> Result<(Top, Cursor), P
     ensures read { (tops : Listed TreeTop) → IsNextTop tokens.now from tops result }
     ensures within { IfOk result (λ x. (from.at < x.1.at) × (x.1.at ≤ length tokens.now)) }
 {
-    if is_word(tokens, from.at, marks::CONST) {
+    if is_word(tokens, from.at, keywords::CONST) {
         let (read, to) = table(alloc, tokens, from)?;
         return Ok((Top::Const(read), to));
     }
-    if is_word(tokens, from.at, marks::FUNC) {
+    if is_word(tokens, from.at, keywords::FUNC) {
         let (read, to) = function(alloc, tokens, from)?;
         return Ok((Top::Func(read), to));
     }

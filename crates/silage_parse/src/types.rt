@@ -10,8 +10,7 @@ ghost use Rattle.silage_parse.specs.Parsed.{effect as effect_of, IsFixEnd, IsMod
 use crate::ParseFault;
 use crate::cursor::{Cursor, Effect, is_mark, kind, past, past_mark, past_word, whole};
 use fix_word::{FixType, Mode, Shape};
-use silage_lex::{Token, TokenKind};
-use silage_tree::marks;
+use silage_lex::{Token, TokenKind, keywords, punctuation};
 
 /// The size in bits that a number of the source tells. One that no type may have is the greatest of them.
 fn size(n: u64) -> u8
@@ -26,8 +25,8 @@ fn mode_at(tokens: &[Token], at: usize) -> Option<Mode>
     ensures within { IsSome result → at < length tokens.now }
 {
     match kind(tokens, at) {
-        Some(TokenKind::Reserved(marks::TRUNC)) => Some(Mode::Trunc),
-        Some(TokenKind::Reserved(marks::ROUND)) => Some(Mode::Round),
+        Some(TokenKind::Reserved(keywords::TRUNC)) => Some(Mode::Trunc),
+        Some(TokenKind::Reserved(keywords::ROUND)) => Some(Mode::Round),
         _ => None,
     }
 }
@@ -54,13 +53,13 @@ fn fix_end(tokens: &[Token], from: Cursor, effect: Effect) -> Result<(Mode, Curs
     ensures within { IfOk result (λ x. (from.at < x.1.at) × (x.1.at ≤ length tokens.now)) }
     ensures memory { IfErr result (λ fault. fault ≢ Memory) }
 {
-    if !is_mark(tokens, from.at, marks::COMMA) {
-        let to = past_mark(tokens, from, marks::ABOVE, effect)?;
+    if !is_mark(tokens, from.at, punctuation::COMMA) {
+        let to = past_mark(tokens, from, punctuation::GREATER, effect)?;
         return Ok((Mode::Trunc, to));
     }
     let word = past(tokens, from, effect)?;
     let (mode, close) = mode(tokens, word, effect)?;
-    let end = past_mark(tokens, close, marks::ABOVE, effect)?;
+    let end = past_mark(tokens, close, punctuation::GREATER, effect)?;
     Ok((mode, end))
 }
 
@@ -76,10 +75,10 @@ pub fn fix_type(
     ensures within { IfOk result (λ x. (from.at < x.1.at) × (x.1.at ≤ length tokens.now)) }
     ensures memory { IfErr result (λ fault. fault ≢ Memory) }
 {
-    let below = past_word(tokens, from, marks::FIX, effect)?;
-    let width = past_mark(tokens, below, marks::BELOW, effect)?;
+    let below = past_word(tokens, from, keywords::FIX, effect)?;
+    let width = past_mark(tokens, below, punctuation::LESS, effect)?;
     let (w, comma) = whole(tokens, width, effect)?;
-    let fraction = past_mark(tokens, comma, marks::COMMA, effect)?;
+    let fraction = past_mark(tokens, comma, punctuation::COMMA, effect)?;
     let (f, end) = whole(tokens, fraction, effect)?;
     let (mode, to) = fix_end(tokens, end, effect)?;
     let shape = Shape {

@@ -4,7 +4,7 @@ use Rattle.std.specs.Prelude.{nat_eq, if◌then◌else◌}
 use Rattle.silage_lex.specs.declared.Token.{Token}
 use Rattle.silage_lex.specs.declared.TokenKind.{TokenKind}
 use Rattle.silage_lex.specs.declared.TokenKind.TheVariants as kind
-use Rattle.silage_tree.specs.declared.marks.TheConstants as mark
+use Rattle.silage_lex.specs.declared.punctuation.TheConstants as punctuation
 use Rattle.silage_tree.specs.declared.tree.BinOp.{BinOp}
 use Rattle.silage_tree.specs.declared.tree.BinOp.TheVariants as op
 use Rattle.silage_tree.specs.declared.tree.MOp.TheVariants as mop
@@ -42,14 +42,14 @@ chain_level Sum = 3
 chain_level Product = 4
 
 operator_is : (l : Level) (k : Option TokenKind) (o : BinOp) → operator l k ≡ Some o → operator_level o ≡ chain_level l
-operator_is Or k o e = marked_rows (λ p. operator_level p ≡ 0) ((mark.OR, op.Or) ∷ []) (refl, tt) k o e
-operator_is And k o e = marked_rows (λ p. operator_level p ≡ 1) ((mark.AND, op.And) ∷ []) (refl, tt) k o e
-operator_is Sum k o e = marked_rows (λ p. operator_level p ≡ 3) ((mark.PLUS, op.Add) ∷ (mark.MINUS, op.Sub) ∷ []) (refl, (refl, tt)) k o e
-operator_is Product k o e = marked_rows (λ p. operator_level p ≡ 4) ((mark.STAR, op.Mul) ∷ []) (refl, tt) k o e
+operator_is Or k o e = marked_rows (λ p. operator_level p ≡ 0) ((punctuation.PIPE, op.Or) ∷ []) (refl, tt) k o e
+operator_is And k o e = marked_rows (λ p. operator_level p ≡ 1) ((punctuation.AMPERSAND, op.And) ∷ []) (refl, tt) k o e
+operator_is Sum k o e = marked_rows (λ p. operator_level p ≡ 3) ((punctuation.PLUS, op.Add) ∷ (punctuation.MINUS, op.Sub) ∷ []) (refl, (refl, tt)) k o e
+operator_is Product k o e = marked_rows (λ p. operator_level p ≡ 4) ((punctuation.STAR, op.Mul) ∷ []) (refl, tt) k o e
 
 comparison_is : (k : Option TokenKind) (o : BinOp) → comparison k ≡ Some o → operator_level o ≡ 2
 comparison_is k o e =
-    marked_rows (λ p. operator_level p ≡ 2) ((mark.BELOW, op.Lt) ∷ (mark.AT_MOST, op.Le) ∷ (mark.EQUAL, op.Eq) ∷ (mark.UNEQUAL, op.Ne) ∷ (mark.ABOVE, op.Gt) ∷ (mark.AT_LEAST, op.Ge) ∷ [])
+    marked_rows (λ p. operator_level p ≡ 2) ((punctuation.LESS, op.Lt) ∷ (punctuation.LESS_EQUAL, op.Le) ∷ (punctuation.EQUAL_EQUAL, op.Eq) ∷ (punctuation.BANG_EQUAL, op.Ne) ∷ (punctuation.GREATER, op.Gt) ∷ (punctuation.GREATER_EQUAL, op.Ge) ∷ [])
     (refl, (refl, (refl, (refl, (refl, (refl, tt)))))) k o e
 
 abbrev pub rule_level : ExprRule → ℕ

@@ -6,14 +6,15 @@ use Rattle.fix_word.specs.declared.types.FixType.{FixType}
 use Rattle.silage_lex.specs.declared.Token.{Token}
 use Rattle.silage_lex.specs.declared.TokenKind.{TokenKind}
 use Rattle.silage_lex.specs.declared.TokenKind.TheVariants as kind
-use Rattle.silage_tree.specs.declared.marks.TheConstants as mark
+use Rattle.silage_lex.specs.declared.punctuation.TheConstants as punctuation
+use Rattle.silage_lex.specs.declared.keywords.TheConstants as keyword
 use Rattle.silage_tree.specs.declared.levels.TheConstants as level
 use Rattle.silage_tree.specs.declared.tree.BinOp.{BinOp}
 use Rattle.silage_tree.specs.declared.tree.BinOp.TheVariants as op
 use Rattle.silage_tree.specs.declared.tree.Lit.TheVariants.{Number, Truth}
 use Rattle.silage_tree.specs.Tree.{Manifest, Place, Expr, literal, read, negate, not, binary, shift, cast, choose, Branches, no_branch, branch}
 use Rattle.silage_tree.specs.Places.{unplaced_manifest, unplaced_place, unplaced_delay, unplaced_expr, unplaced_branches}
-use Rattle.silage_tree.specs.Grammar.{kind_at, from_at, number_of, IsMark, IsWord, Level, Or, And, Sum, Product, ExprRule, Chain, Rest, Shift, Shifts, Arms, part, operator, comparison, shift_operator, IsManifest, Primary_, IsExpr, chain, no_more, one_more, no_comparison, comparison_of, shifts, no_shift, one_shift, negative_number, negated, denied, primary, number as number_, truth, place, cast_of, paren, choice, one_arm, last_arm}
+use Rattle.silage_tree.specs.Grammar.{kind_at, from_at, number_of, IsPunctuation, IsKeyword, Level, Or, And, Sum, Product, ExprRule, Chain, Rest, Shift, Shifts, Arms, part, operator, comparison, shift_operator, IsManifest, Primary_, IsExpr, chain, no_more, one_more, no_comparison, comparison_of, shifts, no_shift, one_shift, negative_number, negated, denied, primary, number as number_, truth, place, cast_of, paren, choice, one_arm, last_arm}
 use Rattle.silage_tree.specs.Text.{symbol, word, enclosed, amount_text, fix_text, delay_text, operator_mark, operator_level, left_level, right_level, expr_level, is_loose_operand, shift_mark, expr_text, branches_text}
 use Rattle.silage_tree.specs.Parentheses.{expr_rule}
 use Rattle.silage_tree.proofs.Stands.{Stands, split, IsWritten, AreWritten, no_kind, one_kind, joined, enclosed_written, TokensWritten}
@@ -61,7 +62,7 @@ as_whole e good us i j s = let d = good.reads us i j s in record { tree = d.tree
 placed_by : (e : Expr) → GoodExpr e → (k : ℕ) → k ≤ 7 → (b : Bool) → (b ≡ false → k ≤ expr_level e) → (us : List Token) (i j : ℕ)
     → Stands us i (enclosed b (expr_text e)) j → ReadsExpr us (expr_rule k) e i j
 placed_by e good k small true tight us i j s =
-    let r = split us (expr_text e) (symbol mark.CLOSE ∷ []) (i + 1) j s.1 in
+    let r = split us (expr_text e) (symbol punctuation.RIGHT_PAREN ∷ []) (i + 1) j s.1 in
     let d = as_whole e good us (i + 1) r.0 r.1 in
     at_end (record { tree = d.tree; same = d.same; reads = loosened 7 k small (paren s.0 d.reads r.2.0) }) r.2.1
 placed_by e good k small false tight us i j s =
@@ -198,7 +199,7 @@ good_cast at ty e f g = record {
   written = joined (fix_written ty f) (enclosed_written true g.written);
   reads = λ us i j s.
       let r = split us (fix_text ty) (enclosed true (expr_text e)) i j s in
-      let q = split us (expr_text e) (symbol mark.CLOSE ∷ []) (r.0 + 1) j r.2.1 in
+      let q = split us (expr_text e) (symbol punctuation.RIGHT_PAREN ∷ []) (r.0 + 1) j r.2.1 in
       let x = as_whole e g us (r.0 + 1) q.0 q.1 in
       at_end (record { tree = cast (from_at us i) ty x.tree; same = ap (cast 0 ty) x.same; reads = cast_of (fix_read us ty f i r.0 r.1) r.2.0 x.reads q.2.0 }) q.2.1;
 }
@@ -235,15 +236,15 @@ record ReadsArms (us : List Token) (at : ℕ) (bs : Branches) (last : Expr) (i j
   reads : IsExpr us (Arms at) i (choose at branches value) j
 
 -- behind a `||`
-read_arms : (us : List Token) (at : ℕ) (bs : Branches) (last : Expr) → GoodBranches bs → GoodExpr last → (i m n : ℕ) → IsMark us i mark.ELSE → Stands us (i + 1) (branches_text bs) m
-    → Stands us m (expr_text last) n → IsWord us n mark.FI → ReadsArms us at bs last i (n + 1)
+read_arms : (us : List Token) (at : ℕ) (bs : Branches) (last : Expr) → GoodBranches bs → GoodExpr last → (i m n : ℕ) → IsPunctuation us i punctuation.PIPE_PIPE → Stands us (i + 1) (branches_text bs) m
+    → Stands us m (expr_text last) n → IsKeyword us n keyword.FI → ReadsArms us at bs last i (n + 1)
 read_arms us at bs last no_good l i m n bar s t fi =
     let P : ℕ → Type 0 = λ k. Stands us k (expr_text last) n in
     let x = as_whole last l us (i + 1) n (subst P (sym s) t) in
     record { branches = no_branch; value = x.tree; same_branches = refl; same_value = x.same; reads = last_arm bar x.reads fi }
 read_arms us at bs last (good {c = c} {v = v} {bs = rest} g h k) l i m n bar s t fi =
-    let r = split us (expr_text c ++ symbol mark.ARROW ∷ expr_text v) (symbol mark.ELSE ∷ branches_text rest) (i + 1) m s in
-    let q = split us (expr_text c) (symbol mark.ARROW ∷ expr_text v) (i + 1) r.0 r.1 in
+    let r = split us (expr_text c ++ symbol punctuation.ARROW ∷ expr_text v) (symbol punctuation.PIPE_PIPE ∷ branches_text rest) (i + 1) m s in
+    let q = split us (expr_text c) (symbol punctuation.ARROW ∷ expr_text v) (i + 1) r.0 r.1 in
     let x = as_whole c g us (i + 1) q.0 q.1 in
     let y = as_whole v h us (q.0 + 1) r.0 q.2.1 in
     let z = read_arms us at rest last k l r.0 m n r.2.0 r.2.1 t fi in
@@ -260,10 +261,10 @@ good_choice : (at : ℕ) (c v last : Expr) (bs : Branches) → GoodExpr c → Go
 good_choice at c v last bs g h k l = record {
   written = one_kind refl (joined (joined (branches_written (good g h k)) l.written) (one_kind refl no_kind));
   reads = λ us i j s.
-      let fi = split us (branches_text (branch c v bs) ++ expr_text last) (word mark.FI ∷ []) (i + 1) j s.1 in
+      let fi = split us (branches_text (branch c v bs) ++ expr_text last) (word keyword.FI ∷ []) (i + 1) j s.1 in
       let e = split us (branches_text (branch c v bs)) (expr_text last) (i + 1) fi.0 fi.1 in
-      let r = split us (expr_text c ++ symbol mark.ARROW ∷ expr_text v) (symbol mark.ELSE ∷ branches_text bs) (i + 1) e.0 e.1 in
-      let q = split us (expr_text c) (symbol mark.ARROW ∷ expr_text v) (i + 1) r.0 r.1 in
+      let r = split us (expr_text c ++ symbol punctuation.ARROW ∷ expr_text v) (symbol punctuation.PIPE_PIPE ∷ branches_text bs) (i + 1) e.0 e.1 in
+      let q = split us (expr_text c) (symbol punctuation.ARROW ∷ expr_text v) (i + 1) r.0 r.1 in
       let x = as_whole c g us (i + 1) q.0 q.1 in
       let y = as_whole v h us (q.0 + 1) r.0 q.2.1 in
       let z = read_arms us (from_at us i) bs last k l r.0 e.0 fi.0 r.2.0 r.2.1 e.2 fi.2.0 in

@@ -2,13 +2,14 @@
 use Rattle.std.proofs.Common.{◌≡◌, ℕ, ◌+◌, ◌≤◌, length, Bool, List, [], ◌∷◌, ◌++◌, Some, map, refl, sym, ap, ◌∙◌, subst, arith, lit≤}
 use Rattle.silage_lex.specs.declared.Token.{Token}
 use Rattle.silage_lex.specs.declared.TokenKind.TheVariants as kind
-use Rattle.silage_tree.specs.declared.marks.TheConstants as mark
+use Rattle.silage_lex.specs.declared.punctuation.TheConstants as punctuation
+use Rattle.silage_lex.specs.declared.keywords.TheConstants as keyword
 use Rattle.silage_tree.specs.declared.levels.TheConstants as level
 use Rattle.silage_tree.specs.declared.tree.Lit.{Lit}
 use Rattle.silage_tree.specs.declared.tree.Lit.TheVariants.{Truth}
 use Rattle.silage_tree.specs.Tree.{Manifest, Place, Expr, Item, equation, call, loop, initial, Items, no_item, item}
 use Rattle.silage_tree.specs.Places.{unplaced_lit, unplaced_manifest, unplaced_place, unplaced_expr, unplaced_item, unplaced_items}
-use Rattle.silage_tree.specs.Grammar.{from_at, IsMark, IsName, IsManifest, Manifest_, IsExpr, Chain, Or, Role, weights, IsTargetSubs, no_target_sub, one_target_sub, two_target_subs, IsTarget, target, IsTargets, last_target, more_targets, IsArgs, last_arg, more_args, IsInitialValue, signed, truth_value, IsItem, is_equation, is_call, is_calls, is_loop, is_initial, IsItems, no_items, one_item}
+use Rattle.silage_tree.specs.Grammar.{from_at, IsPunctuation, IsName, IsManifest, Manifest_, IsExpr, Chain, Or, Role, weights, IsTargetSubs, no_target_sub, one_target_sub, two_target_subs, IsTarget, target, IsTargets, last_target, more_targets, IsArgs, last_arg, more_args, IsInitialValue, signed, truth_value, IsItem, is_equation, is_call, is_calls, is_loop, is_initial, IsItems, no_items, one_item}
 use Rattle.silage_tree.specs.Text.{symbol, word, enclosed, listed, several, lit_text, manifest_text, amount_text, place_text, expr_text, call_text, turns_text, clause_text, items_text}
 use Rattle.silage_tree.proofs.Stands.{Stands, split, moved, IsWritten, AreWritten, no_kind, one_kind, joined, enclosed_written, TokensWritten}
 use Rattle.silage_tree.proofs.ReadManifests.{GoodManifest, ReadsManifest, placed, as_manifest, good_manifest, good_amount}
@@ -110,7 +111,7 @@ good_value ts w (truth_value e) = truth_good
 -- Items.
 pub record GoodItem (x : Item) : Type 0 where
   pub written : AreWritten (clause_text x)
-  pub reads : (us : List Token) (i j : ℕ) → Stands us i (clause_text x) j → IsMark us j mark.SEMICOLON → ReadsBy Item unplaced_item (Has IsItem us x) x i (j + 1)
+  pub reads : (us : List Token) (i j : ℕ) → Stands us i (clause_text x) j → IsPunctuation us j punctuation.SEMICOLON → ReadsBy Item unplaced_item (Has IsItem us x) x i (j + 1)
 
 pub record GoodItems (xs : Items) : Type 0 where
   pub written : AreWritten (items_text xs)
@@ -120,7 +121,7 @@ good_equation : (p : Place) (e : Expr) → GoodPlace p → GoodExpr e → GoodIt
 good_equation p e g h = record {
   written = joined (place_written p g) (one_kind refl h.written);
   reads = λ us i j s end.
-      let r = split us (place_text p) (symbol mark.DEFINES ∷ expr_text e) i j s in
+      let r = split us (place_text p) (symbol punctuation.EQUAL ∷ expr_text e) i j s in
       let x = target_read us p g i r.0 r.1 in
       let y = as_whole e h us (r.0 + 1) j r.2.1 in
       record {
@@ -134,8 +135,8 @@ good_initial : (p : Place) (k : Manifest) (l : Lit) → GoodPlace p → GoodMani
 good_initial p k l g h v = record {
   written = joined (joined (place_written p g) (one_kind refl (enclosed_written _ h.written))) (one_kind refl (value_written v));
   reads = λ us i j s end.
-      let r = split us (place_text p ++ symbol mark.INITIAL ∷ amount_text k) (symbol mark.DEFINES ∷ lit_text l) i j s in
-      let q = split us (place_text p) (symbol mark.INITIAL ∷ amount_text k) i r.0 r.1 in
+      let r = split us (place_text p ++ symbol punctuation.AT_AT ∷ amount_text k) (symbol punctuation.EQUAL ∷ lit_text l) i j s in
+      let q = split us (place_text p) (symbol punctuation.AT_AT ∷ amount_text k) i r.0 r.1 in
       let x = target_read us p g i q.0 q.1 in
       let y = placed k h level.PRIMARY (lit≤ tt) us (q.0 + 1) r.0 q.2.1 in
       let z = value_read us v (r.0 + 1) j r.2.1 in
@@ -156,14 +157,14 @@ record ReadsCall (us : List Token) (f : List ℕ) (es : List Expr) (i j : ℕ) :
   same : map unplaced_expr args ≡ map unplaced_expr es
   close : ℕ
   name : IsName us i f
-  opens : IsMark us (i + 1) mark.OPEN
+  opens : IsPunctuation us (i + 1) punctuation.LEFT_PAREN
   reads : Has IsArgs us es (i + 2) args close
-  closes : IsMark us close mark.CLOSE
+  closes : IsPunctuation us close punctuation.RIGHT_PAREN
   ends : close + 1 ≡ j
 
 call_read : (us : List Token) (f : List ℕ) (es : List Expr) → Goods Expr GoodExpr es → (i j : ℕ) → Stands us i (call_text f es) j → ReadsCall us f es i j
 call_read us f es gs i j s =
-    let r = split us (listed expr_text es) (symbol mark.CLOSE ∷ []) (i + 1 + 1) j s.1.1 in
+    let r = split us (listed expr_text es) (symbol punctuation.RIGHT_PAREN ∷ []) (i + 1 + 1) j s.1.1 in
     let P : ℕ → Type 0 = λ l. Stands us l (listed expr_text es) r.0 in
     let x = args_read us gs (i + 2) r.0 (subst P (omega arith) r.1) in
     record { args = x.tree; same = x.same; close = r.0; name = s.0; opens = s.1.0; reads = x.reads; closes = r.2.0; ends = r.2.1 }
@@ -174,7 +175,7 @@ call_written f n gs = one_kind n (one_kind refl (joined (listed_written Expr Goo
 one_target : (us : List Token) (i j : ℕ) (p q : Place) → Has IsTarget us p i q j → Has IsTargets us (p ∷ []) i (q ∷ []) j
 one_target us i j p q d = record { roles = _; is = last_target d.is; light = light_last d.light }
 
-another_target : (us : List Token) (i j k : ℕ) (p q : Place) (ps qs : List Place) → 1 ≤ length ps → Has IsTarget us p i q j → IsMark us j mark.COMMA → Has IsTargets us ps (j + 1) qs k
+another_target : (us : List Token) (i j k : ℕ) (p q : Place) (ps qs : List Place) → 1 ≤ length ps → Has IsTarget us p i q j → IsPunctuation us j punctuation.COMMA → Has IsTargets us ps (j + 1) qs k
     → Has IsTargets us (p ∷ ps) i (q ∷ qs) k
 another_target us i j k p q ps qs long d c rest = record { roles = _; is = more_targets d.is c rest.is; light = light_more long d.light rest.light }
 
@@ -185,14 +186,14 @@ TargetGroup us ps i j =
 item_end : {us : List Token} {x : Item} {i j k : ℕ} → j ≡ k → ReadsBy Item unplaced_item (Has IsItem us x) x i j → ReadsBy Item unplaced_item (Has IsItem us x) x i k
 item_end {us} {x} {i} {j} {k} e h = by_end e h
 
-call_of : (us : List Token) (ps : List Place) (f : List ℕ) (es : List Expr) (at i k j : ℕ) → TargetGroup us ps i k → IsMark us k mark.DEFINES → ReadsCall us f es (k + 1) j → IsMark us j mark.SEMICOLON
+call_of : (us : List Token) (ps : List Place) (f : List ℕ) (es : List Expr) (at i k j : ℕ) → TargetGroup us ps i k → IsPunctuation us k punctuation.EQUAL → ReadsCall us f es (k + 1) j → IsPunctuation us j punctuation.SEMICOLON
     → ReadsBy Item unplaced_item (Has IsItem us (call ps f es at)) (call ps f es at) i (j + 1)
 call_of us ps f es at i k j (bare t) defines c end =
     let close = c.ends in
-    let opens = moved us (k + 1 + 1) (k + 2) (Some (symbol mark.OPEN)) (omega arith) c.opens in
+    let opens = moved us (k + 1 + 1) (k + 2) (Some (symbol punctuation.LEFT_PAREN)) (omega arith) c.opens in
     let P : ℕ → Type 0 = λ l. IsArgs us l c.args c.reads.roles c.close in
     let args : IsArgs us (k + 3) c.args c.reads.roles c.close = subst P (omega arith) c.reads.is in
-    let semicolon = moved us j (c.close + 1) (Some (symbol mark.SEMICOLON)) (sym close) end in
+    let semicolon = moved us j (c.close + 1) (Some (symbol punctuation.SEMICOLON)) (sym close) end in
     let last : c.close + 2 ≡ j + 1 = omega arith in
     item_end last (record {
       tree = call (t.tree ∷ []) f c.args (from_at us (k + 1));
@@ -202,10 +203,10 @@ call_of us ps f es at i k j (bare t) defines c end =
 call_of us ps f es at i k j (inside {j = m} opening t shut) defines c end =
     let close = c.ends in
     let name = moved us (m + 1 + 1) (m + 2) (Some (kind.Name f)) (omega arith) c.name in
-    let opens = moved us (m + 1 + 1 + 1) (m + 3) (Some (symbol mark.OPEN)) (omega arith) c.opens in
+    let opens = moved us (m + 1 + 1 + 1) (m + 3) (Some (symbol punctuation.LEFT_PAREN)) (omega arith) c.opens in
     let P : ℕ → Type 0 = λ l. IsArgs us l c.args c.reads.roles c.close in
     let args : IsArgs us (m + 4) c.args c.reads.roles c.close = subst P (omega arith) c.reads.is in
-    let semicolon = moved us j (c.close + 1) (Some (symbol mark.SEMICOLON)) (sym close) end in
+    let semicolon = moved us j (c.close + 1) (Some (symbol punctuation.SEMICOLON)) (sym close) end in
     let last : c.close + 2 ≡ j + 1 = omega arith in
     item_end last (record {
       tree = call t.tree f c.args (from_at us (m + 2));
@@ -217,7 +218,7 @@ good_call : (ps : List Place) (f : List ℕ) (es : List Expr) (at : ℕ) → Goo
 good_call ps f es at gs n hs = record {
   written = joined (enclosed_written _ (listed_written Place GoodPlace place_text place_written gs)) (one_kind refl (call_written f n hs));
   reads = λ us i j s end.
-      let r = split us (enclosed (several ps) (listed place_text ps)) (symbol mark.DEFINES ∷ call_text f es) i j s in
+      let r = split us (enclosed (several ps) (listed place_text ps)) (symbol punctuation.EQUAL ∷ call_text f es) i j s in
       let g = grouped_read Place GoodPlace place_text unplaced_place us (Has IsTarget us) (Has IsTargets us) (one_target us) (another_target us) (target_read us)
       gs (several ps) (one_of_several ps) i r.0 r.1 in
       call_of us ps f es at i r.0 j g r.2.0 (call_read us f es hs (r.0 + 1) j r.2.1) end;
@@ -227,21 +228,21 @@ good_call ps f es at gs n hs = record {
 record ReadsTurns (us : List Token) (index : List ℕ) (lo hi : Manifest) (i j : ℕ) : Type 0 where
   to : ℕ
   close : ℕ
-  opens : IsMark us i mark.OPEN
+  opens : IsPunctuation us i punctuation.LEFT_PAREN
   name : IsName us (i + 1) index
-  colon : IsMark us (i + 2) mark.COLON
+  colon : IsPunctuation us (i + 2) punctuation.COLON
   low : ReadsManifest us Manifest_ lo (i + 3) to
   low_stands : Stands us (i + 3) (manifest_text lo) to
-  upto : IsMark us to mark.TO
+  upto : IsPunctuation us to punctuation.DOT_DOT
   high : ReadsManifest us Manifest_ hi (to + 1) close
   high_stands : Stands us (to + 1) (manifest_text hi) close
-  closes : IsMark us close mark.CLOSE
+  closes : IsPunctuation us close punctuation.RIGHT_PAREN
   ends : close + 1 ≡ j
 
 turns_read : (us : List Token) (index : List ℕ) (lo hi : Manifest) → GoodManifest lo → GoodManifest hi → (i j : ℕ) → Stands us i (turns_text index lo hi) j → ReadsTurns us index lo hi i j
 turns_read us index lo hi g h i j s =
-    let r = split us (manifest_text lo ++ symbol mark.TO ∷ manifest_text hi) (symbol mark.CLOSE ∷ []) (i + 1 + 1 + 1) j s.1.1.1 in
-    let q = split us (manifest_text lo) (symbol mark.TO ∷ manifest_text hi) (i + 1 + 1 + 1) r.0 r.1 in
+    let r = split us (manifest_text lo ++ symbol punctuation.DOT_DOT ∷ manifest_text hi) (symbol punctuation.RIGHT_PAREN ∷ []) (i + 1 + 1 + 1) j s.1.1.1 in
+    let q = split us (manifest_text lo) (symbol punctuation.DOT_DOT ∷ manifest_text hi) (i + 1 + 1 + 1) r.0 r.1 in
     let P : ℕ → Type 0 = λ l. Stands us l (manifest_text lo) q.0 in
     let low : Stands us (i + 3) (manifest_text lo) q.0 = subst P (omega arith) q.1 in
     record {
@@ -249,7 +250,7 @@ turns_read us index lo hi g h i j s =
       close = r.0;
       opens = s.0;
       name = s.1.0;
-      colon = moved us (i + 1 + 1) (i + 2) (Some (symbol mark.COLON)) (omega arith) s.1.1.0;
+      colon = moved us (i + 1 + 1) (i + 2) (Some (symbol punctuation.COLON)) (omega arith) s.1.1.0;
       low = as_manifest lo g us (i + 3) q.0 low;
       low_stands = low;
       upto = q.2.0;
@@ -263,16 +264,16 @@ good_loop : (index : List ℕ) (lo hi : Manifest) (xs : Items) (at : ℕ) → Is
 good_loop index lo hi xs at n g h k = record {
   written = joined (joined (one_kind refl (one_kind n (one_kind refl (joined (joined g.written (one_kind refl h.written)) (one_kind refl no_kind))))) (one_kind refl (one_kind refl k.written))) (one_kind refl no_kind);
   reads = λ us i j s end.
-      let e = split us (turns_text index lo hi ++ symbol mark.EACH ∷ word mark.BEGIN ∷ items_text xs) (word mark.END ∷ []) i j s in
-      let r = split us (turns_text index lo hi) (symbol mark.EACH ∷ word mark.BEGIN ∷ items_text xs) i e.0 e.1 in
+      let e = split us (turns_text index lo hi ++ symbol punctuation.COLON_COLON ∷ word keyword.BEGIN ∷ items_text xs) (word keyword.END ∷ []) i j s in
+      let r = split us (turns_text index lo hi) (symbol punctuation.COLON_COLON ∷ word keyword.BEGIN ∷ items_text xs) i e.0 e.1 in
       let t = turns_read us index lo hi g h i r.0 r.1 in
       let close = t.ends in
       let stop = e.2.1 in
-      let each = moved us r.0 (t.close + 1) (Some (symbol mark.EACH)) (sym close) r.2.0 in
-      let begin = moved us (r.0 + 1) (t.close + 2) (Some (word mark.BEGIN)) (omega arith) r.2.1.0 in
+      let each = moved us r.0 (t.close + 1) (Some (symbol punctuation.COLON_COLON)) (sym close) r.2.0 in
+      let begin = moved us (r.0 + 1) (t.close + 2) (Some (word keyword.BEGIN)) (omega arith) r.2.1.0 in
       let P : ℕ → Type 0 = λ l. Stands us l (items_text xs) e.0 in
       let body = k.reads us (t.close + 3) e.0 (subst P (omega arith) r.2.1.1) in
-      let semicolon = moved us j (e.0 + 1) (Some (symbol mark.SEMICOLON)) (sym stop) end in
+      let semicolon = moved us j (e.0 + 1) (Some (symbol punctuation.SEMICOLON)) (sym stop) end in
       let last : e.0 + 2 ≡ j + 1 = omega arith in
       item_end last (record {
         tree = loop index t.low.tree t.high.tree body.tree (from_at us i);
@@ -293,7 +294,7 @@ more_good_items : (x : Item) (xs : Items) → GoodItem x → GoodItems xs → Go
 more_good_items x xs g h = record {
   written = joined g.written (one_kind refl h.written);
   reads = λ us i j s.
-      let r = split us (clause_text x) (symbol mark.SEMICOLON ∷ items_text xs) i j s in
+      let r = split us (clause_text x) (symbol punctuation.SEMICOLON ∷ items_text xs) i j s in
       let y = g.reads us i r.0 r.1 r.2.0 in
       let ys = h.reads us (r.0 + 1) j r.2.1 in
       record { tree = item y.tree ys.tree; same = ap (λ z. item z (unplaced_items ys.tree)) y.same ∙ ap (λ z. item (unplaced_item x) z) ys.same; reads = record { roles = _; is = one_item y.reads.is ys.reads.is; light = light_items y.reads.light ys.reads.light } };

@@ -4,8 +4,8 @@ use Rattle.std.specs.List.{flat_map}
 use Rattle.std.proofs.lemmas.Bool.Decides.{nat_tests}
 use Rattle.silage_lex.specs.declared.Token.{Token}
 use Rattle.silage_lex.specs.declared.TokenKind.{TokenKind}
-use Rattle.silage_tree.specs.declared.marks.TheConstants as mark
-use Rattle.silage_tree.specs.Grammar.{IsMark}
+use Rattle.silage_lex.specs.declared.punctuation.TheConstants as punctuation
+use Rattle.silage_tree.specs.Grammar.{IsPunctuation}
 use Rattle.silage_tree.specs.Text.{symbol, enclosed, listed, behind_comma, several}
 use Rattle.silage_tree.proofs.Stands.{Stands, split, AreWritten, no_kind, one_kind, joined}
 
@@ -38,9 +38,9 @@ module _ (A : Type 0) (Good : A → Type 0) (text : A → List TokenKind) (writt
 
 module _ (A : Type 0) (Good : A → Type 0) (text : A → List TokenKind) (up_to : A → A) (us : List Token) (One : A → ℕ → A → ℕ → Type 0) (Many : List A → ℕ → List A → ℕ → Type 0)
     (last : (i j : ℕ) (x y : A) → One x i y j → Many (x ∷ []) i (y ∷ []) j)
-    (more : (i j k : ℕ) (x y : A) (xs ys : List A) → 1 ≤ length xs → One x i y j → IsMark us j mark.COMMA → Many xs (j + 1) ys k → Many (x ∷ xs) i (y ∷ ys) k)
+    (more : (i j k : ℕ) (x y : A) (xs ys : List A) → 1 ≤ length xs → One x i y j → IsPunctuation us j punctuation.COMMA → Many xs (j + 1) ys k → Many (x ∷ xs) i (y ∷ ys) k)
     (reads : (x : A) → Good x → (i j : ℕ) → Stands us i (text x) j → ReadsBy A up_to (One x) x i j) where
-  comma_first : {xs : List A} → Goods A Good xs → (i j : ℕ) → Stands us i (flat_map (behind_comma text) xs) j → IsMark us i mark.COMMA × Stands us (i + 1) (listed text xs) j
+  comma_first : {xs : List A} → Goods A Good xs → (i j : ℕ) → Stands us i (flat_map (behind_comma text) xs) j → IsPunctuation us i punctuation.COMMA × Stands us (i + 1) (listed text xs) j
   comma_first (only g) i j s = (s.0, s.1)
   comma_first (also g gs) i j s = (s.0, s.1)
 
@@ -59,14 +59,14 @@ module _ (A : Type 0) (Good : A → Type 0) (text : A → List TokenKind) (up_to
   -- one part by itself, or parts in parentheses
   pub data Grouped : List A → ℕ → ℕ → Type 0 where
     bare : {x : A} {i j : ℕ} → ReadsBy A up_to (One x) x i j → Grouped (x ∷ []) i j
-    inside : {xs : List A} {i j : ℕ} → IsMark us i mark.OPEN → ReadsBy (List A) (map up_to) (Many xs) xs (i + 1) j → IsMark us j mark.CLOSE → Grouped xs i (j + 1)
+    inside : {xs : List A} {i j : ℕ} → IsPunctuation us i punctuation.LEFT_PAREN → ReadsBy (List A) (map up_to) (Many xs) xs (i + 1) j → IsPunctuation us j punctuation.RIGHT_PAREN → Grouped xs i (j + 1)
 
   group_end : {xs : List A} {i j k : ℕ} → j ≡ k → Grouped xs i j → Grouped xs i k
   group_end {xs} {i} {j} {k} e h = let P : ℕ → Type 0 = λ l. Grouped xs i l in subst P e h
 
   pub grouped_read : {xs : List A} → Goods A Good xs → (b : Bool) → (b ≡ false → length xs ≡ 1) → (i j : ℕ) → Stands us i (enclosed b (listed text xs)) j → Grouped xs i j
   grouped_read {xs} gs true one i j s =
-      let r = split us (listed text xs) (symbol mark.CLOSE ∷ []) (i + 1) j s.1 in
+      let r = split us (listed text xs) (symbol punctuation.RIGHT_PAREN ∷ []) (i + 1) j s.1 in
       group_end r.2.1 (inside s.0 (listed_read gs (i + 1) r.0 r.1) r.2.0)
   grouped_read (only {x = x} g) false one i j s =
       let r = split us (text x ++ []) [] i j s in

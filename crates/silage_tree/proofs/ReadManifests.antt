@@ -4,13 +4,13 @@ use Rattle.std.proofs.lemmas.Bool.{cases_order}
 use Rattle.std.proofs.lemmas.Bool.Decides.{nat_tests}
 use Rattle.silage_lex.specs.declared.Token.{Token}
 use Rattle.silage_lex.specs.declared.TokenKind.TheVariants as kind
-use Rattle.silage_tree.specs.declared.marks.TheConstants as mark
+use Rattle.silage_lex.specs.declared.punctuation.TheConstants as punctuation
 use Rattle.silage_tree.specs.declared.levels.TheConstants as level
 use Rattle.silage_tree.specs.declared.tree.MOp.{MOp}
 use Rattle.silage_tree.specs.declared.tree.MOp.TheVariants as mop
 use Rattle.silage_tree.specs.Tree.{Manifest, whole, counter, minus, both}
 use Rattle.silage_tree.specs.Places.{unplaced_manifest}
-use Rattle.silage_tree.specs.Grammar.{kind_at, from_at, ManifestRule, Manifest_, Terms, Term, Factors, Factor, Primary_, term_operator, IsMark, IsManifest, terms, no_term, one_term, factors, no_factor, one_factor, minus_factor, primary_factor, whole_primary, name_primary, paren_primary}
+use Rattle.silage_tree.specs.Grammar.{kind_at, from_at, ManifestRule, Manifest_, Terms, Term, Factors, Factor, Primary_, term_operator, IsPunctuation, IsManifest, terms, no_term, one_term, factors, no_factor, one_factor, minus_factor, primary_factor, whole_primary, name_primary, paren_primary}
 use Rattle.silage_tree.specs.Text.{symbol, enclosed, manifest_level, manifest_text}
 use Rattle.silage_tree.specs.Parentheses.{manifest_rule}
 use Rattle.silage_tree.proofs.Stands.{Stands, split, AreWritten, no_kind, one_kind, joined, enclosed_written, TokensWritten}
@@ -51,7 +51,7 @@ at_end {us} {rule} {m} {i} {j} {k} d q = let P : ℕ → Type 0 = λ l. ReadsMan
 placed_by : (m : Manifest) → GoodManifest m → (k : ℕ) → k ≤ 7 → (b : Bool) → nat_lt (manifest_level m) k ≡ b → (us : List Token) (i j : ℕ)
     → Stands us i (enclosed b (manifest_text m)) j → ReadsManifest us (manifest_rule k) m i j
 placed_by m good k small true e us i j s =
-    let r = split us (manifest_text m) (symbol mark.CLOSE ∷ []) (i + 1) j s.1 in
+    let r = split us (manifest_text m) (symbol punctuation.RIGHT_PAREN ∷ []) (i + 1) j s.1 in
     let d = good.reads us (i + 1) r.0 r.1 in
     let whole : IsManifest us Manifest_ (i + 1) d.tree r.0 = loosened (manifest_level m) 0 (omega arith) d.reads in
     at_end (record { tree = d.tree; same = d.same; reads = loosened 7 k small (paren_primary s.0 whole r.2.0) }) r.2.1
@@ -75,7 +75,7 @@ more_terms : {us : List Token} {i j k : ℕ} {c a b : Manifest} {o : MOp} → Is
 more_terms no_term e d = one_term e d no_term
 more_terms (one_term f c rest) e d = one_term f c (more_terms rest e d)
 
-more_factors : {us : List Token} {i j k : ℕ} {c a b : Manifest} → IsManifest us (Factors c) i a j → IsMark us j mark.STAR → IsManifest us Factor (j + 1) b k
+more_factors : {us : List Token} {i j k : ℕ} {c a b : Manifest} → IsManifest us (Factors c) i a j → IsPunctuation us j punctuation.STAR → IsManifest us Factor (j + 1) b k
     → IsManifest us (Factors c) i (both (from_at us j) mop.Mul a b) k
 more_factors no_factor e d = one_factor e d no_factor
 more_factors (one_factor f c rest) e d = one_factor f c (more_factors rest e d)
@@ -84,7 +84,7 @@ sum_of : {us : List Token} {i j k : ℕ} {a b : Manifest} {o : MOp} → IsManife
     → IsManifest us Manifest_ i (both (from_at us j) o a b) k
 sum_of (terms f rest) e d = terms f (more_terms rest e d)
 
-product_of : {us : List Token} {i j k : ℕ} {a b : Manifest} → IsManifest us Term i a j → IsMark us j mark.STAR → IsManifest us Factor (j + 1) b k
+product_of : {us : List Token} {i j k : ℕ} {a b : Manifest} → IsManifest us Term i a j → IsPunctuation us j punctuation.STAR → IsManifest us Factor (j + 1) b k
     → IsManifest us Term i (both (from_at us j) mop.Mul a b) k
 product_of (factors f rest) e d = factors f (more_factors rest e d)
 
@@ -93,7 +93,7 @@ good_both : (at : ℕ) (o : MOp) (a b : Manifest) → GoodManifest a → GoodMan
 good_both at mop.Add a b g h = record {
   written = joined (enclosed_written _ g.written) (one_kind refl (enclosed_written _ h.written));
   reads = λ us i j s.
-      let r = split us (enclosed (nat_lt (manifest_level a) level.SUM) (manifest_text a)) (symbol mark.PLUS ∷ enclosed (nat_lt (manifest_level b) level.PRODUCT) (manifest_text b)) i j s in
+      let r = split us (enclosed (nat_lt (manifest_level a) level.SUM) (manifest_text a)) (symbol punctuation.PLUS ∷ enclosed (nat_lt (manifest_level b) level.PRODUCT) (manifest_text b)) i j s in
       let x = placed a g level.SUM (lit≤ tt) us i r.0 r.1 in
       let y = placed b h level.PRODUCT (lit≤ tt) us (r.0 + 1) j r.2.1 in
       record { tree = both (from_at us r.0) mop.Add x.tree y.tree; same = ap (λ z. both 0 mop.Add z (unplaced_manifest y.tree)) x.same ∙ ap (λ z. both 0 mop.Add (unplaced_manifest a) z) y.same; reads = sum_of x.reads (ap term_operator r.2.0) y.reads };
@@ -101,7 +101,7 @@ good_both at mop.Add a b g h = record {
 good_both at mop.Sub a b g h = record {
   written = joined (enclosed_written _ g.written) (one_kind refl (enclosed_written _ h.written));
   reads = λ us i j s.
-      let r = split us (enclosed (nat_lt (manifest_level a) level.SUM) (manifest_text a)) (symbol mark.MINUS ∷ enclosed (nat_lt (manifest_level b) level.PRODUCT) (manifest_text b)) i j s in
+      let r = split us (enclosed (nat_lt (manifest_level a) level.SUM) (manifest_text a)) (symbol punctuation.MINUS ∷ enclosed (nat_lt (manifest_level b) level.PRODUCT) (manifest_text b)) i j s in
       let x = placed a g level.SUM (lit≤ tt) us i r.0 r.1 in
       let y = placed b h level.PRODUCT (lit≤ tt) us (r.0 + 1) j r.2.1 in
       record { tree = both (from_at us r.0) mop.Sub x.tree y.tree; same = ap (λ z. both 0 mop.Sub z (unplaced_manifest y.tree)) x.same ∙ ap (λ z. both 0 mop.Sub (unplaced_manifest a) z) y.same; reads = sum_of x.reads (ap term_operator r.2.0) y.reads };
@@ -109,7 +109,7 @@ good_both at mop.Sub a b g h = record {
 good_both at mop.Mul a b g h = record {
   written = joined (enclosed_written _ g.written) (one_kind refl (enclosed_written _ h.written));
   reads = λ us i j s.
-      let r = split us (enclosed (nat_lt (manifest_level a) level.PRODUCT) (manifest_text a)) (symbol mark.STAR ∷ enclosed (nat_lt (manifest_level b) level.UNARY) (manifest_text b)) i j s in
+      let r = split us (enclosed (nat_lt (manifest_level a) level.PRODUCT) (manifest_text a)) (symbol punctuation.STAR ∷ enclosed (nat_lt (manifest_level b) level.UNARY) (manifest_text b)) i j s in
       let x = placed a g level.PRODUCT (lit≤ tt) us i r.0 r.1 in
       let y = placed b h level.UNARY (lit≤ tt) us (r.0 + 1) j r.2.1 in
       record { tree = both (from_at us r.0) mop.Mul x.tree y.tree; same = ap (λ z. both 0 mop.Mul z (unplaced_manifest y.tree)) x.same ∙ ap (λ z. both 0 mop.Mul (unplaced_manifest a) z) y.same; reads = product_of x.reads r.2.0 y.reads };

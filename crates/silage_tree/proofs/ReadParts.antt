@@ -9,12 +9,12 @@ use Rattle.fix_word.specs.declared.types.Mode.TheVariants.{Trunc, Round}
 use Rattle.silage_lex.specs.declared.Token.{Token}
 use Rattle.silage_lex.specs.declared.TokenKind.{TokenKind}
 use Rattle.silage_lex.specs.declared.TokenKind.TheVariants as kind
-use Rattle.silage_tree.specs.declared.marks.TheConstants as mark
+use Rattle.silage_lex.specs.declared.punctuation.TheConstants as punctuation
 use Rattle.silage_tree.specs.declared.tree.Lit.{Lit}
 use Rattle.silage_tree.specs.declared.tree.Lit.TheVariants.{Number}
 use Rattle.silage_tree.specs.Tree.{Manifest}
 use Rattle.silage_tree.specs.Places.{unplaced_lit, unplaced_manifest, unplaced_delay}
-use Rattle.silage_tree.specs.Grammar.{kind_at, from_at, number_of, IsMark, IsNumber, IsSigned, positive, negative, size, mode_of, fix_type, IsFix, no_mode, with_mode, truth_of, IsManifest, Manifest_, IsSubs, no_sub, one_sub, two_subs, IsDelay, no_delay, delay}
+use Rattle.silage_tree.specs.Grammar.{kind_at, from_at, number_of, IsPunctuation, IsNumber, IsSigned, positive, negative, size, mode_of, fix_type, IsFix, no_mode, with_mode, truth_of, IsManifest, Manifest_, IsSubs, no_sub, one_sub, two_subs, IsDelay, no_delay, delay}
 use Rattle.silage_tree.specs.Text.{symbol, word, number, bracketed, lit_text, truth_word, mode_word, fix_text, manifest_text, delay_text}
 use Rattle.silage_tree.proofs.Numbers.{whole_written, point_has_places}
 use Rattle.silage_tree.proofs.Stands.{Stands, split, moved, IsWritten, AreWritten, no_kind, one_kind, joined, enclosed_written, TokensWritten}
@@ -116,11 +116,11 @@ fix_read us ty good i j s =
     let t6 = t4.1.1 in
     let end : i + 8 ≡ j = let e = t6.1.1 in omega arith in
     let first = moved us (i + 1 + 1) (i + 2) (Some (kind.Whole ty.shape.w)) (omega arith) t2.0 in
-    let comma = moved us (i + 1 + 1 + 1) (i + 3) (Some (symbol mark.COMMA)) (omega arith) t2.1.0 in
+    let comma = moved us (i + 1 + 1 + 1) (i + 3) (Some (symbol punctuation.COMMA)) (omega arith) t2.1.0 in
     let second = moved us (i + 1 + 1 + 1 + 1) (i + 4) (Some (kind.Whole ty.shape.f)) (omega arith) t4.0 in
-    let comma_too = moved us (i + 1 + 1 + 1 + 1 + 1) (i + 5) (Some (symbol mark.COMMA)) (omega arith) t4.1.0 in
+    let comma_too = moved us (i + 1 + 1 + 1 + 1 + 1) (i + 5) (Some (symbol punctuation.COMMA)) (omega arith) t4.1.0 in
     let mode = moved us (i + 1 + 1 + 1 + 1 + 1 + 1) (i + 6) (Some (word (mode_word ty.mode))) (omega arith) t6.0 in
-    let close = moved us (i + 1 + 1 + 1 + 1 + 1 + 1 + 1) (i + 7) (Some (symbol mark.ABOVE)) (omega arith) t6.1.0 in
+    let close = moved us (i + 1 + 1 + 1 + 1 + 1 + 1 + 1) (i + 7) (Some (symbol punctuation.GREATER)) (omega arith) t6.1.0 in
     subst P type (subst Q end (with_mode s.0 s.1.0 first comma second comma_too (mode_read ty.mode mode) close))
 
 -- Subscripts, delays.
@@ -143,15 +143,15 @@ subs_written (matrix g h) = joined (bracketed_written g) (joined (bracketed_writ
 -- a number in brackets
 pub record ReadsBracketed (us : List Token) (m : Manifest) (i j : ℕ) : Type 0 where
   pub end : ℕ
-  pub opens : IsMark us i mark.OPEN_BRACKET
+  pub opens : IsPunctuation us i punctuation.LEFT_BRACKET
   pub stands : Stands us (i + 1) (manifest_text m) end
   pub inside : ReadsManifest us Manifest_ m (i + 1) end
-  pub closes : IsMark us end mark.CLOSE_BRACKET
+  pub closes : IsPunctuation us end punctuation.RIGHT_BRACKET
   pub ends : end + 1 ≡ j
 
 pub read_bracketed : (us : List Token) (m : Manifest) → GoodManifest m → (i j : ℕ) → Stands us i (bracketed (manifest_text m)) j → ReadsBracketed us m i j
 read_bracketed us m good i j s =
-    let r = split us (manifest_text m) (symbol mark.CLOSE_BRACKET ∷ []) (i + 1) j s.1 in
+    let r = split us (manifest_text m) (symbol punctuation.RIGHT_BRACKET ∷ []) (i + 1) j s.1 in
     record { end = r.0; opens = s.0; stands = r.1; inside = as_manifest m good us (i + 1) r.0 r.1; closes = r.2.0; ends = r.2.1 }
 
 -- the second of two numbers in brackets begins where the first ends

@@ -7,13 +7,14 @@ use Rattle.fix_word.specs.declared.types.SigType.{SigType}
 use Rattle.fix_word.specs.declared.types.SigType.TheVariants.{Fix, Bool as Truths}
 use Rattle.silage_lex.specs.declared.Token.{Token}
 use Rattle.silage_lex.specs.declared.TokenKind.TheVariants as kind
-use Rattle.silage_tree.specs.declared.marks.TheConstants as mark
+use Rattle.silage_lex.specs.declared.punctuation.TheConstants as punctuation
+use Rattle.silage_lex.specs.declared.keywords.TheConstants as keyword
 use Rattle.silage_tree.specs.declared.tree.Lit.{Lit}
 use Rattle.silage_tree.specs.declared.tree.ConstDef.{ConstDef}
 use Rattle.silage_tree.specs.declared.tree.Decl.{Decl}
 use Rattle.silage_tree.specs.Tree.{Items, Func, Top, table, function, Program}
 use Rattle.silage_tree.specs.Places.{unplaced_lit, unplaced_items, unplaced_decl, unplaced_top, unplaced}
-use Rattle.silage_tree.specs.Grammar.{from_at, IsMark, IsWord, IsName, IsSigned, IsList, last, more, dim, IsDims, scalar, vector, matrix, IsType, fix, bool, Declared, typed, IsDeclared, declared, IsDecl, decl, Role, IsLocals, no_locals, some_locals, IsResults, one_result, results, IsWords, one_word, words, IsTop, is_table, is_function, IsTops, no_tops, one_top, HasRoles, Derives}
+use Rattle.silage_tree.specs.Grammar.{from_at, IsPunctuation, IsKeyword, IsName, IsSigned, IsList, last, more, dim, IsDims, scalar, vector, matrix, IsType, fix, bool, Declared, typed, IsDeclared, declared, IsDecl, decl, Role, IsLocals, no_locals, some_locals, IsResults, one_result, results, IsWords, one_word, words, IsTop, is_table, is_function, IsTops, no_tops, one_top, HasRoles, Derives}
 use Rattle.silage_tree.specs.Limits.{AreWithin}
 use Rattle.silage_tree.specs.Text.{symbol, word, enclosed, listed, several, lit_text, dims_text, fix_text, type_text, decl_text, words_text, local_text, head_text, body_text, items_text, top_text, program_text}
 use Rattle.silage_tree.proofs.Numbers.{whole_written}
@@ -56,7 +57,7 @@ dims_read us (one_dim {n = n} h) i j s =
     let Q : ℕ → Type 0 = λ d. IsDims us i (d ∷ []) j in
     let end = s.1.1.1 in
     let stop : i + 3 ≡ j = omega arith in
-    let close = moved us (i + 1 + 1) (i + 2) (Some (symbol mark.CLOSE_BRACKET)) (omega arith) s.1.1.0 in
+    let close = moved us (i + 1 + 1) (i + 2) (Some (symbol punctuation.RIGHT_BRACKET)) (omega arith) s.1.1.0 in
     subst Q (same_dim n h) (subst P stop (vector s.0 s.1.0 close))
 dims_read us (two_dims {n = n} {m = m} h k) i j s =
     let P : ℕ → Type 0 = λ l. IsDims us i (dim n ∷ dim m ∷ []) l in
@@ -66,10 +67,10 @@ dims_read us (two_dims {n = n} {m = m} h k) i j s =
     let t4 = t2.1.1 in
     let end = t4.1.1 in
     let stop : i + 6 ≡ j = omega arith in
-    let close = moved us (i + 1 + 1) (i + 2) (Some (symbol mark.CLOSE_BRACKET)) (omega arith) t2.0 in
-    let opens = moved us (i + 1 + 1 + 1) (i + 3) (Some (symbol mark.OPEN_BRACKET)) (omega arith) t2.1.0 in
+    let close = moved us (i + 1 + 1) (i + 2) (Some (symbol punctuation.RIGHT_BRACKET)) (omega arith) t2.0 in
+    let opens = moved us (i + 1 + 1 + 1) (i + 3) (Some (symbol punctuation.LEFT_BRACKET)) (omega arith) t2.1.0 in
     let second = moved us (i + 1 + 1 + 1 + 1) (i + 4) (Some (kind.Whole m)) (omega arith) t4.0 in
-    let closes = moved us (i + 1 + 1 + 1 + 1 + 1) (i + 5) (Some (symbol mark.CLOSE_BRACKET)) (omega arith) t4.1.0 in
+    let closes = moved us (i + 1 + 1 + 1 + 1 + 1) (i + 5) (Some (symbol punctuation.RIGHT_BRACKET)) (omega arith) t4.1.0 in
     subst R (same_dim m k) (subst Q (same_dim n h) (subst P stop (matrix s.0 s.1.0 close opens second closes)))
 
 data GoodType : SigType → Type 0 where
@@ -110,12 +111,12 @@ decl_written d g = joined (one_kind g.name (dims_written g.dims)) (one_kind refl
 record ReadsDecl (us : List Token) (d : Decl) (i j : ℕ) : Type 0 where
   middle : ℕ
   named : IsDeclared us i (record { name = d.name; at = from_at us i; dims = d.dims }) middle
-  colon : IsMark us middle mark.COLON
+  colon : IsPunctuation us middle punctuation.COLON
   type : IsType us (middle + 1) d.ty j
 
 decl_parts : (us : List Token) (d : Decl) → GoodDecl d → (i j : ℕ) → Stands us i (decl_text d) j → ReadsDecl us d i j
 decl_parts us d g i j s =
-    let r = split us (dims_text d.dims) (symbol mark.COLON ∷ type_text d.ty) (i + 1) j s.1 in
+    let r = split us (dims_text d.dims) (symbol punctuation.COLON ∷ type_text d.ty) (i + 1) j s.1 in
     record { middle = r.0; named = declared s.0 (dims_read us g.dims (i + 1) r.0 r.1); colon = r.2.0; type = type_read us g.type (r.0 + 1) j r.2.1 }
 
 decl_read : (us : List Token) (d : Decl) → GoodDecl d → (i j : ℕ) → Stands us i (decl_text d) j → ReadsBy Decl unplaced_decl (IsDecl us) d i j
@@ -154,7 +155,7 @@ locals_read : (us : List Token) {ds : List Decl} → GoodLocals ds → (i j : �
 locals_read us no_local i j s = by_end s (record { tree = []; same = refl; reads = no_locals })
 locals_read us (one_local {d = d} {ds = ds} g gs) i j s =
     let r = split us (local_text d) (flat_map local_text ds) i j s in
-    let q = split us (decl_text d) (symbol mark.SEMICOLON ∷ []) (i + 1) r.0 r.1.1 in
+    let q = split us (decl_text d) (symbol punctuation.SEMICOLON ∷ []) (i + 1) r.0 r.1.1 in
     let x = decl_parts us d g (i + 1) q.0 q.1 in
     let P : ℕ → Type 0 = λ k. Stands us k (flat_map local_text ds) j in
     let rest = locals_read us gs (q.0 + 1) j (subst P (sym q.2.1) r.2) in
@@ -220,9 +221,9 @@ good_table c g = record {
   written = joined (joined (joined (one_kind refl (one_kind g.name (dims_written g.dims))) (one_kind refl (fix_written c.ty g.type)))
       (one_kind refl (enclosed_written _ (listed_written Lit GoodSigned lit_text (λ x h. h.written) g.words)))) (one_kind refl no_kind);
   reads = λ us i j s.
-      let e = split us (word mark.CONST ∷ kind.Name c.name ∷ dims_text c.dims ++ symbol mark.COLON ∷ fix_text c.ty ++ symbol mark.DEFINES ∷ words_text c.dims c.words) (symbol mark.SEMICOLON ∷ []) i j s in
-      let r = split us (word mark.CONST ∷ kind.Name c.name ∷ dims_text c.dims ++ symbol mark.COLON ∷ fix_text c.ty) (symbol mark.DEFINES ∷ words_text c.dims c.words) i e.0 e.1 in
-      let q = split us (word mark.CONST ∷ kind.Name c.name ∷ dims_text c.dims) (symbol mark.COLON ∷ fix_text c.ty) i r.0 r.1 in
+      let e = split us (word keyword.CONST ∷ kind.Name c.name ∷ dims_text c.dims ++ symbol punctuation.COLON ∷ fix_text c.ty ++ symbol punctuation.EQUAL ∷ words_text c.dims c.words) (symbol punctuation.SEMICOLON ∷ []) i j s in
+      let r = split us (word keyword.CONST ∷ kind.Name c.name ∷ dims_text c.dims ++ symbol punctuation.COLON ∷ fix_text c.ty) (symbol punctuation.EQUAL ∷ words_text c.dims c.words) i e.0 e.1 in
+      let q = split us (word keyword.CONST ∷ kind.Name c.name ∷ dims_text c.dims) (symbol punctuation.COLON ∷ fix_text c.ty) i r.0 r.1 in
       let named = declared q.1.1.0 (dims_read us g.dims (i + 1 + 1) q.0 q.1.1.1) in
       let type = fix_read us c.ty g.type (q.0 + 1) r.0 q.2.1 in
       let ls = words_read us c.dims g.words (r.0 + 1) e.0 r.2.1 in
@@ -247,17 +248,17 @@ record ReadsHead (us : List Token) (f : Func) (i j : ℕ) : Type 0 where
   results : List Decl
   same_results : map unplaced_decl results ≡ map unplaced_decl f.results
   close : ℕ
-  func : IsWord us i mark.FUNC
+  func : IsKeyword us i keyword.FUNC
   name : IsName us (i + 1) f.name
-  opens : IsMark us (i + 2) mark.OPEN
+  opens : IsPunctuation us (i + 2) punctuation.LEFT_PAREN
   reads_params : IsList us Decl (IsDecl us) (i + 3) params close
-  closes : IsMark us close mark.CLOSE
+  closes : IsPunctuation us close punctuation.RIGHT_PAREN
   reads_results : IsResults us (close + 1) results j
 
 head_read : (us : List Token) (f : Func) → GoodFunc f → (i j : ℕ) → Stands us i (head_text f) j → ReadsHead us f i j
 head_read us f g i j s =
-    let r = split us (word mark.FUNC ∷ kind.Name f.name ∷ enclosed true (listed decl_text f.params)) (enclosed (several f.results) (listed decl_text f.results)) i j s in
-    let q = split us (listed decl_text f.params) (symbol mark.CLOSE ∷ []) (i + 1 + 1 + 1) r.0 r.1.1.1.1 in
+    let r = split us (word keyword.FUNC ∷ kind.Name f.name ∷ enclosed true (listed decl_text f.params)) (enclosed (several f.results) (listed decl_text f.results)) i j s in
+    let q = split us (listed decl_text f.params) (symbol punctuation.RIGHT_PAREN ∷ []) (i + 1 + 1 + 1) r.0 r.1.1.1.1 in
     let P : ℕ → Type 0 = λ k. Stands us k (listed decl_text f.params) q.0 in
     let ps = decls_read us g.params (i + 3) q.0 (subst P (omega arith) q.1) in
     let Q : ℕ → Type 0 = λ k. Stands us k (enclosed (several f.results) (listed decl_text f.results)) j in
@@ -270,7 +271,7 @@ head_read us f g i j s =
       close = q.0;
       func = r.1.0;
       name = r.1.1.0;
-      opens = moved us (i + 1 + 1) (i + 2) (Some (symbol mark.OPEN)) (omega arith) r.1.1.1.0;
+      opens = moved us (i + 1 + 1) (i + 2) (Some (symbol punctuation.LEFT_PAREN)) (omega arith) r.1.1.1.0;
       reads_params = ps.reads;
       closes = q.2.0;
       reads_results = rs.reads;
@@ -284,10 +285,10 @@ good_function f g = record {
   written = joined (joined (one_kind refl (one_kind g.name (enclosed_written true (decls_written g.params)))) (enclosed_written _ (decls_written g.results)))
       (one_kind refl (joined (joined (one_kind refl (locals_written g.locals)) g.items.written) (one_kind refl (one_kind refl no_kind))));
   reads = λ us i j s.
-      let r = split us (head_text f) (symbol mark.DEFINES ∷ body_text f.locals f.items) i j s in
+      let r = split us (head_text f) (symbol punctuation.EQUAL ∷ body_text f.locals f.items) i j s in
       let h = head_read us f g i r.0 r.1 in
-      let e = split us (word mark.BEGIN ∷ flat_map local_text f.locals ++ items_text f.items) (word mark.END ∷ symbol mark.SEMICOLON ∷ []) (r.0 + 1) j r.2.1 in
-      let q = split us (word mark.BEGIN ∷ flat_map local_text f.locals) (items_text f.items) (r.0 + 1) e.0 e.1 in
+      let e = split us (word keyword.BEGIN ∷ flat_map local_text f.locals ++ items_text f.items) (word keyword.END ∷ symbol punctuation.SEMICOLON ∷ []) (r.0 + 1) j r.2.1 in
+      let q = split us (word keyword.BEGIN ∷ flat_map local_text f.locals) (items_text f.items) (r.0 + 1) e.0 e.1 in
       let P : ℕ → Type 0 = λ k. Stands us k (flat_map local_text f.locals) q.0 in
       let ls = locals_read us g.locals (r.0 + 2) q.0 (subst P (omega arith) q.1.1) in
       let xs = g.items.reads us q.0 e.0 q.2 in

@@ -4,7 +4,8 @@ use Rattle.std.specs.Global.{Global}
 use Rattle.std.specs.List.{flat_map}
 use mathlib.Core.Former.{Count}
 use mathlib.Core.List.{append_assoc}
-use Rattle.silage_tree.specs.declared.marks.TheConstants as mark
+use Rattle.silage_lex.specs.declared.punctuation.TheConstants as punctuation
+use Rattle.silage_lex.specs.declared.keywords.TheConstants as keyword
 use Rattle.silage_tree.specs.declared.tree.Expr.{Expr as RustExpr, Choose, Choose', Row_of-Expr-Choose-1-2, end_of-Expr-Choose-1-2, more_of-Expr-Choose-1-2, items-the_row-Expr-Choose-1-2, items_hidden-the_row-Expr-Choose-1-2-0}
 use Rattle.silage_tree.specs.declared.tree.Manifest.{Manifest as RustManifest}
 use Rattle.silage_tree.specs.declared.tree.Item.{Item as RustItem, Loop, Loop', Row_of-Item, end_of-Item, more_of-Item, items-the_row-Item, items_hidden-the_row-Item-0}
@@ -32,13 +33,13 @@ view_Choose at v b =
 arms_spelled : (xs : List (RustExpr × RustExpr)) → branches_text (arms_of xs) ≡ flat_map (λ arm. arm_text (view_expr arm.0) (view_expr arm.1)) xs
 arms_spelled [] = refl
 arms_spelled (x ∷ xs) =
-    let front = expr_text (view_expr x.0) ++ symbol mark.ARROW ∷ expr_text (view_expr x.1) in
-    ap (λ ks. front ++ symbol mark.ELSE ∷ ks) (arms_spelled xs) ∙ sym (append_assoc front (symbol mark.ELSE ∷ []) (flat_map (λ arm. arm_text (view_expr arm.0) (view_expr arm.1)) xs))
+    let front = expr_text (view_expr x.0) ++ symbol punctuation.ARROW ∷ expr_text (view_expr x.1) in
+    ap (λ ks. front ++ symbol punctuation.PIPE_PIPE ∷ ks) (arms_spelled xs) ∙ sym (append_assoc front (symbol punctuation.PIPE_PIPE ∷ []) (flat_map (λ arm. arm_text (view_expr arm.0) (view_expr arm.1)) xs))
 
 pub choice_spelled : (at : ℕ) (v : Vec (RustExpr × RustExpr) Global) (b : Box RustExpr Global)
-    → expr_text (view_expr (Choose at v b)) ≡ word mark.IF ∷ flat_map (λ arm. arm_text (view_expr arm.0) (view_expr arm.1)) v.items ++ expr_text (view_expr b.value) ++ word mark.FI ∷ []
+    → expr_text (view_expr (Choose at v b)) ≡ word keyword.IF ∷ flat_map (λ arm. arm_text (view_expr arm.0) (view_expr arm.1)) v.items ++ expr_text (view_expr b.value) ++ word keyword.FI ∷ []
 choice_spelled at v b =
-    ap expr_text (view_Choose at v b) ∙ ap (λ ks. word mark.IF ∷ ks ++ expr_text (view_expr b.value) ++ word mark.FI ∷ []) (arms_spelled v.items)
+    ap expr_text (view_Choose at v b) ∙ ap (λ ks. word keyword.IF ∷ ks ++ expr_text (view_expr b.value) ++ word keyword.FI ∷ []) (arms_spelled v.items)
 
 row_items : (m : _) (k : Row_of-Item m) → view_row k ≡ items_of (map view_item (items-the_row-Item m k))
 row_items _ end_of-Item = refl
@@ -54,12 +55,12 @@ view_Loop index lo hi v at =
     let same = items_hidden-the_row-Item-0 v in
     ap (λ xs. loop index (view_manifest lo) (view_manifest hi) xs at) (row_items row.0 row.1 ∙ ap view_items same)
 
-pub items_spelled : (xs : List RustItem) → items_text (view_items xs) ≡ flat_map (λ x. clause_text (view_item x) ++ symbol mark.SEMICOLON ∷ []) xs
+pub items_spelled : (xs : List RustItem) → items_text (view_items xs) ≡ flat_map (λ x. clause_text (view_item x) ++ symbol punctuation.SEMICOLON ∷ []) xs
 items_spelled [] = refl
 items_spelled (x ∷ xs) =
-    ap (λ ks. clause_text (view_item x) ++ symbol mark.SEMICOLON ∷ ks) (items_spelled xs)
-    ∙ sym (append_assoc (clause_text (view_item x)) (symbol mark.SEMICOLON ∷ []) (flat_map (λ y. clause_text (view_item y) ++ symbol mark.SEMICOLON ∷ []) xs))
+    ap (λ ks. clause_text (view_item x) ++ symbol punctuation.SEMICOLON ∷ ks) (items_spelled xs)
+    ∙ sym (append_assoc (clause_text (view_item x)) (symbol punctuation.SEMICOLON ∷ []) (flat_map (λ y. clause_text (view_item y) ++ symbol punctuation.SEMICOLON ∷ []) xs))
 
 pub loop_spelled : (index : List ℕ) (lo hi : RustManifest) (v : Vec RustItem Global) (at : ℕ)
-    → clause_text (view_item (Loop index lo hi v at)) ≡ turns_text index (view_manifest lo) (view_manifest hi) ++ symbol mark.EACH ∷ word mark.BEGIN ∷ items_text (view_items v.items) ++ word mark.END ∷ []
+    → clause_text (view_item (Loop index lo hi v at)) ≡ turns_text index (view_manifest lo) (view_manifest hi) ++ symbol punctuation.COLON_COLON ∷ word keyword.BEGIN ∷ items_text (view_items v.items) ++ word keyword.END ∷ []
 loop_spelled index lo hi v at = ap clause_text (view_Loop index lo hi v at)

@@ -8,7 +8,8 @@ use Rattle.fix_word.specs.declared.types.Mode.TheVariants.{Trunc, Round}
 use Rattle.silage_lex.specs.declared.Token.{Token}
 use Rattle.silage_lex.specs.declared.TokenKind.{TokenKind}
 use Rattle.silage_lex.specs.declared.TokenKind.TheVariants as kind
-use Rattle.silage_tree.specs.declared.marks.TheConstants as mark
+use Rattle.silage_lex.specs.declared.punctuation.TheConstants as punctuation
+use Rattle.silage_lex.specs.declared.keywords.TheConstants as keyword
 use Rattle.silage_tree.specs.declared.tree.BinOp.{BinOp}
 use Rattle.silage_tree.specs.declared.tree.BinOp.TheVariants as op
 use Rattle.silage_tree.specs.declared.tree.MOp.{MOp}
@@ -67,7 +68,7 @@ extra true = 1
 extra false = 0
 
 total_enclosed : (b : Bool) (ks : List TokenKind) → total (enclosed b ks) ≡ extra b + total ks
-total_enclosed true ks = let e = total_join ks (symbol mark.CLOSE ∷ []) in omega arith
+total_enclosed true ks = let e = total_join ks (symbol punctuation.RIGHT_PAREN ∷ []) in omega arith
 total_enclosed false ks = let e = total_join ks [] in omega arith
 
 extra_less : (b c : Bool) → (b ≡ true → c ≡ true) → extra b ≤ extra c
@@ -137,11 +138,11 @@ data IsTermOp : MOp → Type 0 where
   subtracts : IsTermOp mop.Sub
 
 sum_placed : {o : MOp} (at : ℕ) (a b : Manifest) → IsTermOp o → placed_manifest 3 (both at o a b) ≤ placed_manifest 3 a + (1 + placed_manifest 4 b)
-sum_placed at a b adds = let x = both_total at a b mop.Add 3 4 (symbol mark.PLUS) refl in omega (arith, x)
-sum_placed at a b subtracts = let x = both_total at a b mop.Sub 3 4 (symbol mark.MINUS) refl in omega (arith, x)
+sum_placed at a b adds = let x = both_total at a b mop.Add 3 4 (symbol punctuation.PLUS) refl in omega (arith, x)
+sum_placed at a b subtracts = let x = both_total at a b mop.Sub 3 4 (symbol punctuation.MINUS) refl in omega (arith, x)
 
 term_marked : (k : Option TokenKind) (o : MOp) → term_operator k ≡ Some o → Marked IsTermOp k o
-term_marked k o e = marked_has IsTermOp ((mark.PLUS, mop.Add) ∷ (mark.MINUS, mop.Sub) ∷ []) ((refl, adds), ((refl, subtracts), tt)) k o e
+term_marked k o e = marked_has IsTermOp ((punctuation.PLUS, mop.Add) ∷ (punctuation.MINUS, mop.Sub) ∷ []) ((refl, adds), ((refl, subtracts), tt)) k o e
 
 abbrev ManifestBound : List Token → ManifestRule → ℕ → Manifest → ℕ → Type 0
 ManifestBound ts Manifest_ i m j = placed_manifest 3 m + before ts i ≤ before ts j
@@ -176,7 +177,7 @@ manifest_bound {ts} (one_factor {i = i} {a = a} {b = b} e d rest) =
     let c = counts ts i e in
     let x = manifest_bound d in
     let y = manifest_bound rest in
-    let s = both_total (from_at ts i) a b mop.Mul 4 6 (symbol mark.STAR) refl in
+    let s = both_total (from_at ts i) a b mop.Mul 4 6 (symbol punctuation.STAR) refl in
     omega (arith, c, x, y, s)
 manifest_bound {ts} (minus_factor {i = i} {m = m} e d) =
     let c = counts ts i e in
@@ -209,7 +210,7 @@ amount_total {m = m} d =
 bracketed_total : (m : Manifest) (rest : List TokenKind) → total (bracketed (manifest_text m) ++ rest) ≡ 1 + (total (manifest_text m) + total rest)
 bracketed_total m rest =
     let x = total_join (bracketed (manifest_text m)) rest in
-    let y = total_join (manifest_text m) (symbol mark.CLOSE_BRACKET ∷ []) in
+    let y = total_join (manifest_text m) (symbol punctuation.RIGHT_BRACKET ∷ []) in
     omega (arith, x, y)
 
 subs_total : {ts : List Token} {i j : ℕ} {ms : List Manifest} → IsSubs ts i ms j → total (subs_text ms) + before ts i ≤ before ts j
@@ -297,25 +298,25 @@ binary_placed {n} {l} {r} {o} at a b h =
     omega (arith, x, y, z, w, own, left, right)
 
 or_marked : (k : Option TokenKind) (o : BinOp) → operator Or k ≡ Some o → Marked (HasLevels 0 0 1) k o
-or_marked k o e = marked_has (HasLevels 0 0 1) ((mark.OR, op.Or) ∷ []) ((refl, record { own = refl; left = refl; right = refl }), tt) k o e
+or_marked k o e = marked_has (HasLevels 0 0 1) ((punctuation.PIPE, op.Or) ∷ []) ((refl, record { own = refl; left = refl; right = refl }), tt) k o e
 
 and_marked : (k : Option TokenKind) (o : BinOp) → operator And k ≡ Some o → Marked (HasLevels 1 1 2) k o
-and_marked k o e = marked_has (HasLevels 1 1 2) ((mark.AND, op.And) ∷ []) ((refl, record { own = refl; left = refl; right = refl }), tt) k o e
+and_marked k o e = marked_has (HasLevels 1 1 2) ((punctuation.AMPERSAND, op.And) ∷ []) ((refl, record { own = refl; left = refl; right = refl }), tt) k o e
 
 sum_marked : (k : Option TokenKind) (o : BinOp) → operator Sum k ≡ Some o → Marked (HasLevels 3 3 4) k o
 sum_marked k o e =
-    marked_has (HasLevels 3 3 4) ((mark.PLUS, op.Add) ∷ (mark.MINUS, op.Sub) ∷ [])
+    marked_has (HasLevels 3 3 4) ((punctuation.PLUS, op.Add) ∷ (punctuation.MINUS, op.Sub) ∷ [])
     ((refl, record { own = refl; left = refl; right = refl }), ((refl, record { own = refl; left = refl; right = refl }), tt)) k o e
 
 product_marked : (k : Option TokenKind) (o : BinOp) → operator Product k ≡ Some o → Marked (HasLevels 4 4 5) k o
-product_marked k o e = marked_has (HasLevels 4 4 5) ((mark.STAR, op.Mul) ∷ []) ((refl, record { own = refl; left = refl; right = refl }), tt) k o e
+product_marked k o e = marked_has (HasLevels 4 4 5) ((punctuation.STAR, op.Mul) ∷ []) ((refl, record { own = refl; left = refl; right = refl }), tt) k o e
 
 compared : (o : BinOp) → operator_level o ≡ 2 → left_level o ≡ 3 → right_level o ≡ 3 → HasLevels 2 3 3 o
 compared o a b c = record { own = a; left = b; right = c }
 
 comparison_marked : (k : Option TokenKind) (o : BinOp) → comparison k ≡ Some o → Marked (HasLevels 2 3 3) k o
 comparison_marked k o e =
-    marked_has (HasLevels 2 3 3) ((mark.BELOW, op.Lt) ∷ (mark.AT_MOST, op.Le) ∷ (mark.EQUAL, op.Eq) ∷ (mark.UNEQUAL, op.Ne) ∷ (mark.ABOVE, op.Gt) ∷ (mark.AT_LEAST, op.Ge) ∷ []) (
+    marked_has (HasLevels 2 3 3) ((punctuation.LESS, op.Lt) ∷ (punctuation.LESS_EQUAL, op.Le) ∷ (punctuation.EQUAL_EQUAL, op.Eq) ∷ (punctuation.BANG_EQUAL, op.Ne) ∷ (punctuation.GREATER, op.Gt) ∷ (punctuation.GREATER_EQUAL, op.Ge) ∷ []) (
       (refl, compared op.Lt refl refl refl),
       (
         (refl, compared op.Le refl refl refl),
@@ -327,7 +328,7 @@ comparison_marked k o e =
     ) k o e
 
 shift_marked : (k : Option TokenKind) (left : Bool) → shift_operator k ≡ Some left → Marked (λ b. Unit {0}) k left
-shift_marked k left e = marked_has (λ b. Unit {0}) ((mark.LEFT, true) ∷ (mark.RIGHT, false) ∷ []) ((refl, tt), ((refl, tt), tt)) k left e
+shift_marked k left e = marked_has (λ b. Unit {0}) ((punctuation.LESS_LESS, true) ∷ (punctuation.GREATER_GREATER, false) ∷ []) ((refl, tt), ((refl, tt), tt)) k left e
 
 -- one more operator with its right side
 chain_more : (ts : List Token) (n r i j k at : ℕ) (a b e : Expr) (o : BinOp) → Marked (HasLevels n n r) (kind_at ts i) o
@@ -394,13 +395,13 @@ operand_by ts false e i j u x alone =
 
 branch_total : (c v : Expr) (bs : Branches) → total (branches_text (branch c v bs)) ≡ total (expr_text c) + (1 + (total (expr_text v) + total (branches_text bs)))
 branch_total c v bs =
-    let x = total_join (expr_text c ++ symbol mark.ARROW ∷ expr_text v) (symbol mark.ELSE ∷ branches_text bs) in
-    let y = total_join (expr_text c) (symbol mark.ARROW ∷ expr_text v) in
+    let x = total_join (expr_text c ++ symbol punctuation.ARROW ∷ expr_text v) (symbol punctuation.PIPE_PIPE ∷ branches_text bs) in
+    let y = total_join (expr_text c) (symbol punctuation.ARROW ∷ expr_text v) in
     omega (arith, x, y)
 
 choice_total : (at : ℕ) (bs : Branches) (last : Expr) → total (expr_text (choose at bs last)) ≡ 1 + (total (branches_text bs) + total (expr_text last))
 choice_total at bs last =
-    let x = total_join (branches_text bs ++ expr_text last) (word mark.FI ∷ []) in
+    let x = total_join (branches_text bs ++ expr_text last) (word keyword.FI ∷ []) in
     let y = total_join (branches_text bs) (expr_text last) in
     omega (arith, x, y)
 

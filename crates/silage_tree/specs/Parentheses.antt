@@ -1,10 +1,10 @@
 -- What is read at a place that asks for more than the part's own level stands in parentheses.
 use Rattle.std.specs.Prelude.{◌≡◌, ℕ, suc, zero, ◌+◌, ◌≤◌, ◌<◌}
 use Rattle.silage_lex.specs.Tokens.{TokenList}
-use Rattle.silage_tree.specs.declared.marks.TheConstants as mark
+use Rattle.silage_lex.specs.declared.punctuation.TheConstants as punctuation
 use Rattle.silage_tree.specs.declared.levels.TheConstants as level
 use Rattle.silage_tree.specs.Tree.{Manifest, Expr}
-use Rattle.silage_tree.specs.Grammar.{IsMark, Or, And, Sum, Product, ExprRule, Chain, Comparison, Shift, Unary, Primary, IsExpr, ManifestRule, Manifest_, Term, Factor, Primary_, IsManifest}
+use Rattle.silage_tree.specs.Grammar.{IsPunctuation, Or, And, Sum, Product, ExprRule, Chain, Comparison, Shift, Unary, Primary, IsExpr, ManifestRule, Manifest_, Term, Factor, Primary_, IsManifest}
 use Rattle.silage_tree.specs.Text.{expr_level, manifest_level}
 
 -- the rule of each level: what is read where this level is asked
@@ -30,9 +30,9 @@ manifest_rule (suc (suc (suc (suc (suc (suc (suc n))))))) = Primary_
 
 -- the tokens from i to j are a pair of parentheses with something between
 pub record IsEnclosed (ts : TokenList) (i j : ℕ) : Type 0 where
-  pub opens : IsMark ts i mark.OPEN
+  pub opens : IsPunctuation ts i punctuation.LEFT_PAREN
   pub close : ℕ
-  pub closes : IsMark ts close mark.CLOSE
+  pub closes : IsPunctuation ts close punctuation.RIGHT_PAREN
   pub ends : close + 1 ≡ j
 
 -- an expression that is looser than what is asked is read in parentheses alone

@@ -9,7 +9,8 @@ use Rattle.fix_word.specs.declared.types.SigType.TheVariants.{Fix, Bool as Truth
 use Rattle.silage_lex.specs.declared.TokenKind.{TokenKind}
 use Rattle.silage_lex.specs.declared.TokenKind.TheVariants as kind
 use Rattle.silage_lex.specs.Texts.{reserved_words, symbols}
-use Rattle.silage_tree.specs.declared.marks.TheConstants as mark
+use Rattle.silage_lex.specs.declared.punctuation.TheConstants as punctuation
+use Rattle.silage_lex.specs.declared.keywords.TheConstants as keyword
 use Rattle.silage_tree.specs.declared.levels.TheConstants as level
 use Rattle.silage_tree.specs.declared.tree.BinOp.{BinOp}
 use Rattle.silage_tree.specs.declared.tree.BinOp.TheVariants as op
@@ -56,11 +57,11 @@ abbrev pub word : ℕ → TokenKind
 word n = kind.Reserved n
 
 abbrev pub opened : Bool → List TokenKind
-opened true = symbol mark.OPEN ∷ []
+opened true = symbol punctuation.LEFT_PAREN ∷ []
 opened false = []
 
 abbrev pub closed : Bool → List TokenKind
-closed true = symbol mark.CLOSE ∷ []
+closed true = symbol punctuation.RIGHT_PAREN ∷ []
 closed false = []
 
 -- in parentheses, where the test says so
@@ -68,7 +69,7 @@ abbrev pub enclosed : Bool → List TokenKind → List TokenKind
 enclosed b ks = opened b ++ ks ++ closed b
 
 abbrev pub behind_comma : {A : Type 0} → (A → List TokenKind) → A → List TokenKind
-behind_comma text x = symbol mark.COMMA ∷ text x
+behind_comma text x = symbol punctuation.COMMA ∷ text x
 
 -- with commas between
 abbrev pub listed : {A : Type 0} → (A → List TokenKind) → List A → List TokenKind
@@ -76,17 +77,17 @@ listed text [] = []
 listed text (x ∷ xs) = text x ++ flat_map (behind_comma text) xs
 
 abbrev pub bracketed : List TokenKind → List TokenKind
-bracketed ks = symbol mark.OPEN_BRACKET ∷ ks ++ symbol mark.CLOSE_BRACKET ∷ []
+bracketed ks = symbol punctuation.LEFT_BRACKET ∷ ks ++ symbol punctuation.RIGHT_BRACKET ∷ []
 
 abbrev pub number : ℕ → ℕ → TokenKind
 number digits places = if nat_eq places 0 then kind.Whole digits else kind.Point digits places
 
 abbrev pub truth_word : Bool → ℕ
-truth_word true = mark.TRUE
-truth_word false = mark.FALSE
+truth_word true = keyword.TRUE
+truth_word false = keyword.FALSE
 
 abbrev pub sign_text : Bool → List TokenKind
-sign_text true = symbol mark.MINUS ∷ []
+sign_text true = symbol punctuation.MINUS ∷ []
 sign_text false = []
 
 abbrev pub lit_text : Lit → List TokenKind
@@ -98,20 +99,20 @@ abbrev pub dims_text : List ℕ → List TokenKind
 dims_text dims = flat_map (λ n. bracketed (kind.Whole n ∷ [])) dims
 
 abbrev pub mode_word : Mode → ℕ
-mode_word Trunc = mark.TRUNC
-mode_word Round = mark.ROUND
+mode_word Trunc = keyword.TRUNC
+mode_word Round = keyword.ROUND
 
 abbrev pub fix_text : FixType → List TokenKind
 fix_text ty =
-    word mark.FIX ∷ symbol mark.BELOW ∷ kind.Whole ty.shape.w ∷ symbol mark.COMMA ∷ kind.Whole ty.shape.f ∷ symbol mark.COMMA
-    ∷ word (mode_word ty.mode) ∷ symbol mark.ABOVE ∷ []
+    word keyword.FIX ∷ symbol punctuation.LESS ∷ kind.Whole ty.shape.w ∷ symbol punctuation.COMMA ∷ kind.Whole ty.shape.f ∷ symbol punctuation.COMMA
+    ∷ word (mode_word ty.mode) ∷ symbol punctuation.GREATER ∷ []
 
 abbrev pub type_text : SigType → List TokenKind
 type_text (Fix ty) = fix_text ty
-type_text Truths = word mark.BOOL ∷ []
+type_text Truths = word keyword.BOOL ∷ []
 
 abbrev pub decl_text : Decl → List TokenKind
-decl_text d = kind.Name d.name ∷ dims_text d.dims ++ symbol mark.COLON ∷ type_text d.ty
+decl_text d = kind.Name d.name ∷ dims_text d.dims ++ symbol punctuation.COLON ∷ type_text d.ty
 
 -- Manifest numbers. A part stands in parentheses where it is looser than its place asks.
 abbrev pub manifest_level : Manifest → ℕ
@@ -123,9 +124,9 @@ manifest_level (both at _ a b) = level.SUM
 
 -- the mark of an operator, and what its sides ask
 abbrev pub term_mark : MOp → ℕ
-term_mark mop.Add = mark.PLUS
-term_mark mop.Sub = mark.MINUS
-term_mark mop.Mul = mark.STAR
+term_mark mop.Add = punctuation.PLUS
+term_mark mop.Sub = punctuation.MINUS
+term_mark mop.Mul = punctuation.STAR
 
 abbrev pub term_left : MOp → ℕ
 term_left mop.Mul = level.PRODUCT
@@ -138,7 +139,7 @@ term_right _ = level.PRODUCT
 abbrev pub manifest_text : Manifest → List TokenKind
 manifest_text (whole value at) = kind.Whole value ∷ []
 manifest_text (counter name at) = kind.Name name ∷ []
-manifest_text (minus at m) = symbol mark.MINUS ∷ enclosed (nat_lt (manifest_level m) level.UNARY) (manifest_text m)
+manifest_text (minus at m) = symbol punctuation.MINUS ∷ enclosed (nat_lt (manifest_level m) level.UNARY) (manifest_text m)
 manifest_text (both at o a b) =
     enclosed (nat_lt (manifest_level a) (term_left o)) (manifest_text a) ++ symbol (term_mark o)
     ∷ enclosed (nat_lt (manifest_level b) (term_right o)) (manifest_text b)
@@ -153,21 +154,21 @@ place_text p = kind.Name p.name ∷ flat_map (λ m. bracketed (manifest_text m))
 
 abbrev pub delay_text : Option Manifest → List TokenKind
 delay_text None = []
-delay_text (Some m) = symbol mark.DELAY ∷ amount_text m
+delay_text (Some m) = symbol punctuation.AT ∷ amount_text m
 
 -- Expressions.
 abbrev pub operator_mark : BinOp → ℕ
-operator_mark op.Add = mark.PLUS
-operator_mark op.Sub = mark.MINUS
-operator_mark op.Mul = mark.STAR
-operator_mark op.Lt = mark.BELOW
-operator_mark op.Le = mark.AT_MOST
-operator_mark op.Eq = mark.EQUAL
-operator_mark op.Ne = mark.UNEQUAL
-operator_mark op.Gt = mark.ABOVE
-operator_mark op.Ge = mark.AT_LEAST
-operator_mark op.And = mark.AND
-operator_mark op.Or = mark.OR
+operator_mark op.Add = punctuation.PLUS
+operator_mark op.Sub = punctuation.MINUS
+operator_mark op.Mul = punctuation.STAR
+operator_mark op.Lt = punctuation.LESS
+operator_mark op.Le = punctuation.LESS_EQUAL
+operator_mark op.Eq = punctuation.EQUAL_EQUAL
+operator_mark op.Ne = punctuation.BANG_EQUAL
+operator_mark op.Gt = punctuation.GREATER
+operator_mark op.Ge = punctuation.GREATER_EQUAL
+operator_mark op.And = punctuation.AMPERSAND
+operator_mark op.Or = punctuation.PIPE
 
 -- the level of an operator's own text, and what its sides ask. Chains group to the left, and comparisons do not chain
 abbrev pub operator_level : BinOp → ℕ
@@ -209,28 +210,28 @@ abbrev pub is_loose_operand : Expr → Bool
 is_loose_operand e = nat_lt (expr_level e) level.UNARY || is_unsigned e
 
 abbrev pub shift_mark : Bool → ℕ
-shift_mark true = mark.LEFT
-shift_mark false = mark.RIGHT
+shift_mark true = punctuation.LESS_LESS
+shift_mark false = punctuation.GREATER_GREATER
 
 abbrev mutual
   pub expr_text : Expr → List TokenKind
   expr_text (literal l) = lit_text l
   expr_text (read p delay) = place_text p ++ delay_text delay
-  expr_text (negate at e) = symbol mark.MINUS ∷ enclosed (is_loose_operand e) (expr_text e)
-  expr_text (not at e) = symbol mark.NOT ∷ enclosed (nat_lt (expr_level e) level.UNARY) (expr_text e)
+  expr_text (negate at e) = symbol punctuation.MINUS ∷ enclosed (is_loose_operand e) (expr_text e)
+  expr_text (not at e) = symbol punctuation.BANG ∷ enclosed (nat_lt (expr_level e) level.UNARY) (expr_text e)
   expr_text (binary at o a b) =
       enclosed (nat_lt (expr_level a) (left_level o)) (expr_text a) ++ symbol (operator_mark o)
       ∷ enclosed (nat_lt (expr_level b) (right_level o)) (expr_text b)
   expr_text (shift at left e m) = enclosed (nat_lt (expr_level e) level.SHIFT) (expr_text e) ++ symbol (shift_mark left) ∷ amount_text m
   expr_text (cast at ty e) = fix_text ty ++ enclosed true (expr_text e)
-  expr_text (choose at bs last) = word mark.IF ∷ branches_text bs ++ expr_text last ++ word mark.FI ∷ []
+  expr_text (choose at bs last) = word keyword.IF ∷ branches_text bs ++ expr_text last ++ word keyword.FI ∷ []
 
   pub branches_text : Branches → List TokenKind
   branches_text no_branch = []
-  branches_text (branch c v bs) = expr_text c ++ symbol mark.ARROW ∷ expr_text v ++ symbol mark.ELSE ∷ branches_text bs
+  branches_text (branch c v bs) = expr_text c ++ symbol punctuation.ARROW ∷ expr_text v ++ symbol punctuation.PIPE_PIPE ∷ branches_text bs
 
 abbrev pub arm_text : Expr → Expr → List TokenKind
-arm_text c v = expr_text c ++ symbol mark.ARROW ∷ expr_text v ++ symbol mark.ELSE ∷ []
+arm_text c v = expr_text c ++ symbol punctuation.ARROW ∷ expr_text v ++ symbol punctuation.PIPE_PIPE ∷ []
 
 -- Items. One place stands without parentheses.
 abbrev pub several : {A : Type 0} → List A → Bool
@@ -238,24 +239,24 @@ several xs = negation (nat_eq (length xs) 1)
 
 -- a function's name and its arguments
 abbrev pub call_text : List ℕ → List Expr → List TokenKind
-call_text func args = kind.Name func ∷ symbol mark.OPEN ∷ listed expr_text args ++ symbol mark.CLOSE ∷ []
+call_text func args = kind.Name func ∷ symbol punctuation.LEFT_PAREN ∷ listed expr_text args ++ symbol punctuation.RIGHT_PAREN ∷ []
 
 -- the index of a loop and its bounds
 abbrev pub turns_text : List ℕ → Manifest → Manifest → List TokenKind
 turns_text index lo hi =
-    symbol mark.OPEN ∷ kind.Name index ∷ symbol mark.COLON ∷ manifest_text lo ++ symbol mark.TO ∷ manifest_text hi ++ symbol mark.CLOSE ∷ []
+    symbol punctuation.LEFT_PAREN ∷ kind.Name index ∷ symbol punctuation.COLON ∷ manifest_text lo ++ symbol punctuation.DOT_DOT ∷ manifest_text hi ++ symbol punctuation.RIGHT_PAREN ∷ []
 
 -- an item but for the `;` behind it
 abbrev mutual
   pub clause_text : Item → List TokenKind
-  clause_text (equation p e) = place_text p ++ symbol mark.DEFINES ∷ expr_text e
-  clause_text (call places func args at) = enclosed (several places) (listed place_text places) ++ symbol mark.DEFINES ∷ call_text func args
-  clause_text (loop index lo hi items at) = turns_text index lo hi ++ symbol mark.EACH ∷ word mark.BEGIN ∷ items_text items ++ word mark.END ∷ []
-  clause_text (initial p k value) = place_text p ++ symbol mark.INITIAL ∷ amount_text k ++ symbol mark.DEFINES ∷ lit_text value
+  clause_text (equation p e) = place_text p ++ symbol punctuation.EQUAL ∷ expr_text e
+  clause_text (call places func args at) = enclosed (several places) (listed place_text places) ++ symbol punctuation.EQUAL ∷ call_text func args
+  clause_text (loop index lo hi items at) = turns_text index lo hi ++ symbol punctuation.COLON_COLON ∷ word keyword.BEGIN ∷ items_text items ++ word keyword.END ∷ []
+  clause_text (initial p k value) = place_text p ++ symbol punctuation.AT_AT ∷ amount_text k ++ symbol punctuation.EQUAL ∷ lit_text value
 
   pub items_text : Items → List TokenKind
   items_text no_item = []
-  items_text (item x xs) = clause_text x ++ symbol mark.SEMICOLON ∷ items_text xs
+  items_text (item x xs) = clause_text x ++ symbol punctuation.SEMICOLON ∷ items_text xs
 
 -- Tables, functions and programs. One result stands without parentheses, and each local has its own `var`.
 abbrev pub words_text : List ℕ → List Lit → List TokenKind
@@ -263,22 +264,22 @@ words_text dims words = enclosed (nat_lt 0 (length dims) || nat_lt 1 (length wor
 
 abbrev pub table_text : ConstDef → List TokenKind
 table_text c =
-    word mark.CONST ∷ kind.Name c.name ∷ dims_text c.dims ++ symbol mark.COLON ∷ fix_text c.ty
-    ++ symbol mark.DEFINES ∷ words_text c.dims c.words ++ symbol mark.SEMICOLON ∷ []
+    word keyword.CONST ∷ kind.Name c.name ∷ dims_text c.dims ++ symbol punctuation.COLON ∷ fix_text c.ty
+    ++ symbol punctuation.EQUAL ∷ words_text c.dims c.words ++ symbol punctuation.SEMICOLON ∷ []
 
 abbrev pub local_text : Decl → List TokenKind
-local_text d = word mark.VAR ∷ decl_text d ++ symbol mark.SEMICOLON ∷ []
+local_text d = word keyword.VAR ∷ decl_text d ++ symbol punctuation.SEMICOLON ∷ []
 
 abbrev pub head_text : Func → List TokenKind
 head_text f =
-    word mark.FUNC ∷ kind.Name f.name ∷ enclosed true (listed decl_text f.params)
+    word keyword.FUNC ∷ kind.Name f.name ∷ enclosed true (listed decl_text f.params)
     ++ enclosed (several f.results) (listed decl_text f.results)
 
 abbrev pub body_text : List Decl → Items → List TokenKind
-body_text locals items = word mark.BEGIN ∷ flat_map local_text locals ++ items_text items ++ word mark.END ∷ symbol mark.SEMICOLON ∷ []
+body_text locals items = word keyword.BEGIN ∷ flat_map local_text locals ++ items_text items ++ word keyword.END ∷ symbol punctuation.SEMICOLON ∷ []
 
 abbrev pub func_text : Func → List TokenKind
-func_text f = head_text f ++ symbol mark.DEFINES ∷ body_text f.locals f.items
+func_text f = head_text f ++ symbol punctuation.EQUAL ∷ body_text f.locals f.items
 
 abbrev pub top_text : Top → List TokenKind
 top_text (table c) = table_text c

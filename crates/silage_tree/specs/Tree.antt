@@ -103,7 +103,7 @@ abbrev mutual
 abbrev mutual
   pub view_item : RustItem → Item
   view_item (i.Equation p x) = equation (view_place p) (view_expr x)
-  view_item (i.Call ps f xs at) = call (map view_place ps) f (map view_expr xs) at
+  view_item (i.Call ps f xs at) = call (map view_place ps.items) f (map view_expr xs.items) at
   view_item (i.Loop' index lo hi shape row at) = loop index (view_manifest lo) (view_manifest hi) (view_row row) at
   view_item (i.Initial p k l) = initial (view_place p) (view_manifest k) l
 

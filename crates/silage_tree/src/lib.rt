@@ -2,7 +2,6 @@
 #![tactic(auto)]
 
 mod levels;
-pub mod marks;
 mod print_exprs;
 mod print_items;
 mod print_tokens;

@@ -10,8 +10,9 @@ ghost use Rattle.silage_tree.specs.Text.{Puts, enclosed, bracketed, manifest_tex
 use crate::levels::{AND, COMPARISON, OR, PRIMARY, PRODUCT, SHIFT, SUM, UNARY};
 use crate::print_tokens::{put_close, put_name, put_open, put_symbol, put_whole, put_word};
 use crate::print_types::{put_fix, put_lit};
-use crate::{BinOp, Expr, Lit, MOp, Manifest, Place, marks};
+use crate::{BinOp, Expr, Lit, MOp, Manifest, Place};
 use lists::Bytes;
+use silage_lex::{keywords, punctuation};
 use std::alloc::AllocError;
 
 fn manifest_level(m: &Manifest) -> u8
@@ -31,9 +32,9 @@ fn term_mark(op: MOp) -> u8
     ensures symbol { result < length symbols }
 {
     match op {
-        MOp::Add => marks::PLUS,
-        MOp::Sub => marks::MINUS,
-        MOp::Mul => marks::STAR,
+        MOp::Add => punctuation::PLUS,
+        MOp::Sub => punctuation::MINUS,
+        MOp::Mul => punctuation::STAR,
     }
 }
 
@@ -65,7 +66,7 @@ pub(crate) fn put_manifest(out: &mut Bytes, m: &Manifest) -> Result<(), AllocErr
         Manifest::Whole(value, _) => put_whole(out, *value),
         Manifest::Index(name, _) => put_name(out, name),
         Manifest::Negate(_, part) => {
-            put_symbol(out, marks::MINUS)?;
+            put_symbol(out, punctuation::MINUS)?;
             put_term(out, part, UNARY)
         }
         Manifest::Binary(_, op, left, right) => {
@@ -98,9 +99,9 @@ fn put_subs(out: &mut Bytes, subs: &[Manifest]) -> Result<(), AllocError>
     ensures { OnOk result (Puts out.old (flat_map (λ m. bracketed (manifest_text (view_manifest m))) subs.now) out.new) }
 {
     for sub in subs {
-        put_symbol(out, marks::OPEN_BRACKET)?;
+        put_symbol(out, punctuation::LEFT_BRACKET)?;
         put_manifest(out, sub)?;
-        put_symbol(out, marks::CLOSE_BRACKET)?;
+        put_symbol(out, punctuation::RIGHT_BRACKET)?;
     }
     Ok(())
 }
@@ -118,7 +119,7 @@ fn put_delay(out: &mut Bytes, delay: &Option<Manifest>) -> Result<(), AllocError
     match delay {
         None => Ok(()),
         Some(m) => {
-            put_symbol(out, marks::DELAY)?;
+            put_symbol(out, punctuation::AT)?;
             put_amount(out, m)
         }
     }
@@ -129,17 +130,17 @@ fn operator_mark(op: BinOp) -> u8
     ensures symbol { result < length symbols }
 {
     match op {
-        BinOp::Add => marks::PLUS,
-        BinOp::Sub => marks::MINUS,
-        BinOp::Mul => marks::STAR,
-        BinOp::Lt => marks::BELOW,
-        BinOp::Le => marks::AT_MOST,
-        BinOp::Eq => marks::EQUAL,
-        BinOp::Ne => marks::UNEQUAL,
-        BinOp::Gt => marks::ABOVE,
-        BinOp::Ge => marks::AT_LEAST,
-        BinOp::And => marks::AND,
-        BinOp::Or => marks::OR,
+        BinOp::Add => punctuation::PLUS,
+        BinOp::Sub => punctuation::MINUS,
+        BinOp::Mul => punctuation::STAR,
+        BinOp::Lt => punctuation::LESS,
+        BinOp::Le => punctuation::LESS_EQUAL,
+        BinOp::Eq => punctuation::EQUAL_EQUAL,
+        BinOp::Ne => punctuation::BANG_EQUAL,
+        BinOp::Gt => punctuation::GREATER,
+        BinOp::Ge => punctuation::GREATER_EQUAL,
+        BinOp::And => punctuation::AMPERSAND,
+        BinOp::Or => punctuation::PIPE,
     }
 }
 
@@ -230,7 +231,11 @@ fn shift_mark(left: bool) -> u8
     ensures mark { result ≡ text.shift_mark left }
     ensures symbol { result < length symbols }
 {
-    if left { marks::LEFT } else { marks::RIGHT }
+    if left {
+        punctuation::LESS_LESS
+    } else {
+        punctuation::GREATER_GREATER
+    }
 }
 
 #[cycle(exprs)]
@@ -244,11 +249,11 @@ pub(crate) fn put_expr(out: &mut Bytes, e: &Expr) -> Result<(), AllocError>
             put_delay(out, delay)
         }
         Expr::Negate(_, part) => {
-            put_symbol(out, marks::MINUS)?;
+            put_symbol(out, punctuation::MINUS)?;
             put_part(out, part, is_loose_operand(part))
         }
         Expr::Not(_, part) => {
-            put_symbol(out, marks::NOT)?;
+            put_symbol(out, punctuation::BANG)?;
             put_part(out, part, expr_level(part) < UNARY)
         }
         Expr::Binary(_, op, left, right) => {
@@ -266,10 +271,10 @@ pub(crate) fn put_expr(out: &mut Bytes, e: &Expr) -> Result<(), AllocError>
             put_part(out, part, true)
         }
         Expr::Choose(_, arms, last) => {
-            put_word(out, marks::IF)?;
+            put_word(out, keywords::IF)?;
             put_arms(out, arms)?;
             put_expr(out, last)?;
-            put_word(out, marks::FI)
+            put_word(out, keywords::FI)
         }
     }
 }
@@ -291,9 +296,9 @@ fn put_arms(out: &mut Bytes, arms: &[(Expr, Expr)]) -> Result<(), AllocError>
 {
     for arm in arms {
         put_expr(out, &arm.0)?;
-        put_symbol(out, marks::ARROW)?;
+        put_symbol(out, punctuation::ARROW)?;
         put_expr(out, &arm.1)?;
-        put_symbol(out, marks::ELSE)?;
+        put_symbol(out, punctuation::PIPE_PIPE)?;
     }
     Ok(())
 }
@@ -303,7 +308,7 @@ fn put_other_exprs(out: &mut Bytes, exprs: &[Expr]) -> Result<(), AllocError>
     ensures { OnOk result (Puts out.old (flat_map (λ e. behind_comma expr_text (view_expr e)) exprs.now) out.new) }
 {
     for e in exprs {
-        put_symbol(out, marks::COMMA)?;
+        put_symbol(out, punctuation::COMMA)?;
         put_expr(out, e)?;
     }
     Ok(())
@@ -327,7 +332,7 @@ fn put_other_places(out: &mut Bytes, places: &[Place]) -> Result<(), AllocError>
     ensures { OnOk result (Puts out.old (flat_map (λ p. behind_comma place_text (view_place p)) places.now) out.new) }
 {
     for place in places {
-        put_symbol(out, marks::COMMA)?;
+        put_symbol(out, punctuation::COMMA)?;
         put_place(out, place)?;
     }
     Ok(())

@@ -5,12 +5,15 @@ ghost use Rattle.silage_tree.specs.Tree.{view_manifest, view_place, view_expr, v
 ghost use Rattle.silage_tree.specs.Text as text;
 ghost use Rattle.silage_tree.specs.Text.{Puts, enclosed, call_text, turns_text, place_text, listed, clause_text, items_text};
 
-use crate::marks::{BEGIN, CLOSE, COLON, DEFINES, EACH, END, INITIAL, OPEN, SEMICOLON, TO};
 use crate::print_exprs::{put_amount, put_expr, put_exprs, put_manifest, put_place, put_places};
 use crate::print_tokens::{is_several, put_close, put_name, put_open, put_symbol, put_word};
 use crate::print_types::put_lit;
 use crate::{Expr, Item, Manifest, Place};
 use lists::{Bytes, Name};
+use silage_lex::keywords::{BEGIN, END};
+use silage_lex::punctuation::{
+    AT_AT, COLON, COLON_COLON, DOT_DOT, EQUAL, LEFT_PAREN, RIGHT_PAREN, SEMICOLON,
+};
 use std::alloc::AllocError;
 
 /// Adds the places on the left of a call.
@@ -28,22 +31,22 @@ fn put_call(out: &mut Bytes, func: &Name, args: &[Expr]) -> Result<(), AllocErro
     ensures { OnOk result (Puts out.old (call_text func.now (map view_expr args.now)) out.new) }
 {
     put_name(out, func)?;
-    put_symbol(out, OPEN)?;
+    put_symbol(out, LEFT_PAREN)?;
     put_exprs(out, args)?;
-    put_symbol(out, CLOSE)
+    put_symbol(out, RIGHT_PAREN)
 }
 
 /// Adds the index of a loop and its bounds.
 fn put_turns(out: &mut Bytes, index: &Name, lo: &Manifest, hi: &Manifest) -> Result<(), AllocError>
     ensures { OnOk result (Puts out.old (turns_text index.now (view_manifest lo.now) (view_manifest hi.now)) out.new) }
 {
-    put_symbol(out, OPEN)?;
+    put_symbol(out, LEFT_PAREN)?;
     put_name(out, index)?;
     put_symbol(out, COLON)?;
     put_manifest(out, lo)?;
-    put_symbol(out, TO)?;
+    put_symbol(out, DOT_DOT)?;
     put_manifest(out, hi)?;
-    put_symbol(out, CLOSE)
+    put_symbol(out, RIGHT_PAREN)
 }
 
 /// Adds an item but for the `;` behind it.
@@ -54,7 +57,7 @@ fn put_clause(out: &mut Bytes, item: &Item) -> Result<(), AllocError>
     match item {
         Item::Equation { place, value } => {
             put_place(out, place)?;
-            put_symbol(out, DEFINES)?;
+            put_symbol(out, EQUAL)?;
             put_expr(out, value)
         }
         Item::Call {
@@ -64,7 +67,7 @@ fn put_clause(out: &mut Bytes, item: &Item) -> Result<(), AllocError>
             at: _,
         } => {
             put_targets(out, places)?;
-            put_symbol(out, DEFINES)?;
+            put_symbol(out, EQUAL)?;
             put_call(out, func, args)
         }
         Item::Loop {
@@ -75,16 +78,16 @@ fn put_clause(out: &mut Bytes, item: &Item) -> Result<(), AllocError>
             at: _,
         } => {
             put_turns(out, index, lo, hi)?;
-            put_symbol(out, EACH)?;
+            put_symbol(out, COLON_COLON)?;
             put_word(out, BEGIN)?;
             put_items(out, items)?;
             put_word(out, END)
         }
         Item::Initial { place, k, value } => {
             put_place(out, place)?;
-            put_symbol(out, INITIAL)?;
+            put_symbol(out, AT_AT)?;
             put_amount(out, k)?;
-            put_symbol(out, DEFINES)?;
+            put_symbol(out, EQUAL)?;
             put_lit(out, *value)
         }
     }

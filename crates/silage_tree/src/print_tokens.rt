@@ -5,9 +5,9 @@ ghost use Rattle.silage_lex.specs.Texts.{reserved_words, symbols};
 ghost use Rattle.silage_lex.specs.declared.TokenKind.TheVariants as kind;
 ghost use Rattle.silage_tree.specs.Text.{Puts, opened, closed, filled, pointed, number};
 
-use crate::marks::{CLOSE, OPEN};
 use itoa::Buffer;
 use lists::{Bytes, Name};
+use silage_lex::punctuation::{LEFT_PAREN, RIGHT_PAREN};
 use silage_lex::{reserved_text, symbol_text};
 use std::alloc::AllocError;
 
@@ -69,7 +69,7 @@ pub(crate) fn put_open(out: &mut Bytes, wanted: bool) -> Result<(), AllocError>
     ensures { OnOk result (Puts out.old (opened wanted) out.new) }
 {
     if wanted {
-        put_symbol(out, OPEN)
+        put_symbol(out, LEFT_PAREN)
     } else {
         Ok(())
     }
@@ -81,7 +81,7 @@ pub(crate) fn put_close(out: &mut Bytes, wanted: bool) -> Result<(), AllocError>
     ensures { OnOk result (Puts out.old (closed wanted) out.new) }
 {
     if wanted {
-        put_symbol(out, CLOSE)
+        put_symbol(out, RIGHT_PAREN)
     } else {
         Ok(())
     }

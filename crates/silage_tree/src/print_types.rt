@@ -5,14 +5,12 @@ ghost use Rattle.silage_lex.specs.Texts.{reserved_words};
 ghost use Rattle.silage_tree.specs.Text.{Puts, truth_word, sign_text, lit_text, dims_text, mode_word, fix_text, type_text, decl_text, behind_comma, listed};
 ghost use Rattle.std.specs.List.{flat_map};
 
-use crate::marks::{
-    ABOVE, BELOW, BOOL, CLOSE_BRACKET, COLON, COMMA, FALSE, FIX, MINUS, OPEN_BRACKET, ROUND, TRUE,
-    TRUNC,
-};
 use crate::print_tokens::{put_name, put_number, put_symbol, put_whole, put_word};
 use crate::{Decl, Lit};
 use fix_word::{FixType, Mode, SigType};
 use lists::{Bytes, List};
+use silage_lex::keywords::{BOOL, FALSE, FIX, ROUND, TRUE, TRUNC};
+use silage_lex::punctuation::{COLON, COMMA, GREATER, LEFT_BRACKET, LESS, MINUS, RIGHT_BRACKET};
 use std::alloc::AllocError;
 
 fn truth_word_of(value: bool) -> u8
@@ -66,9 +64,9 @@ pub(crate) fn put_dims(out: &mut Bytes, dims: &List<u32>) -> Result<(), AllocErr
     ensures { OnOk result (Puts out.old (dims_text dims.now) out.new) }
 {
     for dim in dims.iter() {
-        put_symbol(out, OPEN_BRACKET)?;
+        put_symbol(out, LEFT_BRACKET)?;
         put_whole(out, u64::from(*dim))?;
-        put_symbol(out, CLOSE_BRACKET)?;
+        put_symbol(out, RIGHT_BRACKET)?;
     }
     Ok(())
 }
@@ -77,13 +75,13 @@ pub(crate) fn put_fix(out: &mut Bytes, ty: &FixType) -> Result<(), AllocError>
     ensures { OnOk result (Puts out.old (fix_text ty.now) out.new) }
 {
     put_word(out, FIX)?;
-    put_symbol(out, BELOW)?;
+    put_symbol(out, LESS)?;
     put_whole(out, u64::from(ty.shape.w))?;
     put_symbol(out, COMMA)?;
     put_whole(out, u64::from(ty.shape.f))?;
     put_symbol(out, COMMA)?;
     put_word(out, mode_word_of(ty.mode))?;
-    put_symbol(out, ABOVE)
+    put_symbol(out, GREATER)
 }
 
 fn put_type(out: &mut Bytes, ty: &SigType) -> Result<(), AllocError>

@@ -10,12 +10,13 @@ ghost use Rattle.silage_tree.specs.Parentheses.{ExprsNeedThem, ManifestsNeedThem
 ghost use Rattle.silage_tree.specs.ReadAgain.{ByteList, ProgramTree, RoleList, IsReadAgain, IsReadWithin};
 ghost use Rattle.silage_tree.specs.Text.{Puts, enclosed, listed, decl_text, words_text, table_text, local_text, head_text, body_text, func_text, top_text, canonical};
 
-use crate::marks::{BEGIN, COLON, CONST, DEFINES, END, FUNC, SEMICOLON, VAR};
 use crate::print_items::put_items;
 use crate::print_tokens::{is_several, put_close, put_name, put_open, put_symbol, put_word};
 use crate::print_types::{put_decl, put_decls, put_dims, put_fix, put_lits};
 use crate::{ConstDef, Decl, Func, Item, Lit, Program, Top};
 use lists::{Bytes, List};
+use silage_lex::keywords::{BEGIN, CONST, END, FUNC, VAR};
+use silage_lex::punctuation::{COLON, EQUAL, SEMICOLON};
 use std::alloc::{AllocError, Global};
 
 /// Why a program was not printed.
@@ -56,7 +57,7 @@ fn put_table(out: &mut Bytes, table: &ConstDef) -> Result<(), AllocError>
     put_dims(out, &table.dims)?;
     put_symbol(out, COLON)?;
     put_fix(out, &table.ty)?;
-    put_symbol(out, DEFINES)?;
+    put_symbol(out, EQUAL)?;
     put_words(out, &table.dims, &table.words)?;
     put_symbol(out, SEMICOLON)
 }
@@ -105,7 +106,7 @@ fn put_func(out: &mut Bytes, func: &Func) -> Result<(), AllocError>
     ensures { OnOk result (Puts out.old (func_text (view_func func.now)) out.new) }
 {
     put_head(out, func)?;
-    put_symbol(out, DEFINES)?;
+    put_symbol(out, EQUAL)?;
     put_body(out, &func.locals, &func.items)
 }
 

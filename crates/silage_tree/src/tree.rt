@@ -53,9 +53,9 @@ pub enum Item {
     },
     /// `places = func(args);` makes an instance of a function.
     Call {
-        places: List<Place>,
+        places: Vec<Place>,
         func: Name,
-        args: List<Expr>,
+        args: Vec<Expr>,
         at: u32,
     },
     /// The items, once for each number from `lo` to `hi`, both included.

@@ -6,7 +6,7 @@ use Rattle.silage_parse.proofs.Parts.{halted, halted_led, first_row, other_row, 
 use Rattle.std.proofs.Common.{[], ◌∷◌, arith}
 use Rattle.silage_parse.specs.Table as the
 use Rattle.silage_tree.specs.Tree.{view_item}
-use Rattle.silage_tree.specs.declared.marks.TheConstants as mark
+use Rattle.silage_lex.specs.declared.punctuation.TheConstants as punctuation
 use Rattle.std.proofs.Common.{true}
 use Rattle.silage_parse.specs.Table.{Mark}
 use Rattle.silage_parse.proofs.Parts.{at_next}
@@ -26,36 +26,36 @@ pub counted_loop-returns-in_err-lo-clause-read : goal.counted_loop-returns-in_er
 counted_loop-returns-in_err-lo-clause-read t c =
     let p = err_from_is_err_and c.from_residual-in_err-lo.result c.from_residual-in_err-lo.ensures.1 in
     let n = c.in_ok-index.ensures.read.0 in
-    λ k same. rw (p.1, p.2) (halted_led behind_open loop_bounds (the.token k ∷ []) [] _ (λ ss vs o stop. n.goes.run _ _ _ (first_row refl (at_next (Mark mark.COLON ∷ []) true n c.requires.is_loop) (stop _ _))) c.in_err-lo.ensures.read)
+    λ k same. rw (p.1, p.2) (halted_led behind_open loop_bounds (the.token k ∷ []) [] _ (λ ss vs o stop. n.goes.run _ _ _ (first_row refl (at_next (Mark punctuation.COLON ∷ []) true n c.requires.is_loop) (stop _ _))) c.in_err-lo.ensures.read)
 
 pub counted_loop-returns-in_err-body-clause-read : goal.counted_loop-returns-in_err-body-clause-read
 counted_loop-returns-in_err-body-clause-read t c =
     let p = err_from_is_err_and c.from_residual-in_err-body.result c.from_residual-in_err-body.ensures.1 in
     let n = c.in_ok-index.ensures.read.0 in
-    λ k same. rw (p.1, p.2) (halted behind_open (the.token k ∷ []) _ (λ ss vs o stop. n.goes.run _ _ _ (first_row refl (at_next (Mark mark.COLON ∷ []) true n c.requires.is_loop) (c.in_ok-lo.ensures.read.4.run _ _ _ (stop _ _)))) c.in_err-body.ensures.read)
+    λ k same. rw (p.1, p.2) (halted behind_open (the.token k ∷ []) _ (λ ss vs o stop. n.goes.run _ _ _ (first_row refl (at_next (Mark punctuation.COLON ∷ []) true n c.requires.is_loop) (c.in_ok-lo.ensures.read.4.run _ _ _ (stop _ _)))) c.in_err-body.ensures.read)
 
 pub counted_loop-returns-in_err-inner-clause-read : goal.counted_loop-returns-in_err-inner-clause-read
 counted_loop-returns-in_err-inner-clause-read t c =
     let p = err_from_is_err_and c.from_residual-in_err-inner.result c.from_residual-in_err-inner.ensures.1 in
     let n = c.in_ok-index.ensures.read.0 in
-    λ k same. rw (p.1, p.2) (halted_led behind_open item_list (the.token k ∷ []) [] _ (λ ss vs o stop. n.goes.run _ _ _ (first_row refl (at_next (Mark mark.COLON ∷ []) true n c.requires.is_loop) (c.in_ok-lo.ensures.read.4.run _ _ _ (c.in_ok-body.ensures.read.goes.run _ _ _ (stop _ _))))) c.in_err-inner.ensures.read)
+    λ k same. rw (p.1, p.2) (halted_led behind_open item_list (the.token k ∷ []) [] _ (λ ss vs o stop. n.goes.run _ _ _ (first_row refl (at_next (Mark punctuation.COLON ∷ []) true n c.requires.is_loop) (c.in_ok-lo.ensures.read.4.run _ _ _ (c.in_ok-body.ensures.read.goes.run _ _ _ (stop _ _))))) c.in_err-inner.ensures.read)
 
 pub counted_loop-returns-in_err-semicolon-clause-read : goal.counted_loop-returns-in_err-semicolon-clause-read
 counted_loop-returns-in_err-semicolon-clause-read t c =
     let p = err_from_is_err_and c.from_residual-in_err-semicolon.result c.from_residual-in_err-semicolon.ensures.1 in
     let n = c.in_ok-index.ensures.read.0 in
-    λ k same. rw (p.1, p.2) (halted behind_open (the.token k ∷ []) _ (λ ss vs o stop. n.goes.run _ _ _ (first_row refl (at_next (Mark mark.COLON ∷ []) true n c.requires.is_loop) (c.in_ok-lo.ensures.read.4.run _ _ _ (c.in_ok-body.ensures.read.goes.run _ _ _ (c.in_ok-inner.ensures.read.run _ _ _ (stop _ _)))))) c.in_err-semicolon.ensures.read)
+    λ k same. rw (p.1, p.2) (halted behind_open (the.token k ∷ []) _ (λ ss vs o stop. n.goes.run _ _ _ (first_row refl (at_next (Mark punctuation.COLON ∷ []) true n c.requires.is_loop) (c.in_ok-lo.ensures.read.4.run _ _ _ (c.in_ok-body.ensures.read.goes.run _ _ _ (c.in_ok-inner.ensures.read.run _ _ _ (stop _ _)))))) c.in_err-semicolon.ensures.read)
 
 pub counted_loop-returns-in_err-to-clause-read : goal.counted_loop-returns-in_err-to-clause-read
 counted_loop-returns-in_err-to-clause-read t c =
     let p = err_from_is_err_and c.from_residual-in_err-to.result c.from_residual-in_err-to.ensures.1 in
     let n = c.in_ok-index.ensures.read.0 in
-    λ k same. rw (p.1, p.2) (halted behind_open (the.token k ∷ []) _ (λ ss vs o stop. n.goes.run _ _ _ (first_row refl (at_next (Mark mark.COLON ∷ []) true n c.requires.is_loop) (c.in_ok-lo.ensures.read.4.run _ _ _ (c.in_ok-body.ensures.read.goes.run _ _ _ (c.in_ok-inner.ensures.read.run _ _ _ (c.in_ok-semicolon.ensures.read.goes.run _ _ _ (stop _ _))))))) c.in_err-to.ensures.read)
+    λ k same. rw (p.1, p.2) (halted behind_open (the.token k ∷ []) _ (λ ss vs o stop. n.goes.run _ _ _ (first_row refl (at_next (Mark punctuation.COLON ∷ []) true n c.requires.is_loop) (c.in_ok-lo.ensures.read.4.run _ _ _ (c.in_ok-body.ensures.read.goes.run _ _ _ (c.in_ok-inner.ensures.read.run _ _ _ (c.in_ok-semicolon.ensures.read.goes.run _ _ _ (stop _ _))))))) c.in_err-to.ensures.read)
 
 pub counted_loop-returns-clause-read : goal.counted_loop-returns-clause-read
 counted_loop-returns-clause-read t c =
     let n = c.in_ok-index.ensures.read.0 in
-    λ k same. record { run = λ ss vs o r. n.goes.run _ _ _ (first_row refl (at_next (Mark mark.COLON ∷ []) true n c.requires.is_loop) (c.in_ok-lo.ensures.read.4.run _ _ _ (c.in_ok-body.ensures.read.goes.run _ _ _ (c.in_ok-inner.ensures.read.run _ _ _ (c.in_ok-semicolon.ensures.read.goes.run _ _ _ (c.in_ok-to.ensures.read.goes.run _ _ _ (makes (made_as (ap the.an_item (loop_made c.in_ok-index.index c.in_ok-lo.lo c.in_ok-lo.hi c.into_vec.result c.args.at c.into_vec.ensures (taken_name n c.in_ok-index.ensures.read.1) same)) r)))))))) }
+    λ k same. record { run = λ ss vs o r. n.goes.run _ _ _ (first_row refl (at_next (Mark punctuation.COLON ∷ []) true n c.requires.is_loop) (c.in_ok-lo.ensures.read.4.run _ _ _ (c.in_ok-body.ensures.read.goes.run _ _ _ (c.in_ok-inner.ensures.read.run _ _ _ (c.in_ok-semicolon.ensures.read.goes.run _ _ _ (c.in_ok-to.ensures.read.goes.run _ _ _ (makes (made_as (ap the.an_item (loop_made c.in_ok-index.index c.in_ok-lo.lo c.in_ok-lo.hi c.into_vec.result c.args.at c.into_vec.ensures (taken_name n c.in_ok-index.ensures.read.1) same)) r)))))))) }
 
 pub item-returns-in_err-place-clause-read : goal.item-returns-in_err-place-clause-read
 item-returns-in_err-place-clause-read t c =

@@ -5,7 +5,7 @@ use Rattle.silage_parse.proofs.Chains.{taken_from}
 use Rattle.silage_parse.proofs.Parts.{halted, halted_led, first_row, made_as, taken_name}
 use Rattle.std.proofs.Common.{[], ◌∷◌}
 use Rattle.silage_parse.specs.Table as the
-use Rattle.silage_tree.specs.declared.marks.TheConstants as mark
+use Rattle.silage_lex.specs.declared.punctuation.TheConstants as punctuation
 use Rattle.std.proofs.Common.{true}
 use Rattle.silage_parse.specs.Table.{Mark}
 use Rattle.silage_parse.proofs.Parts.{at_next}
@@ -25,13 +25,13 @@ returns-in_err-args-clause-read c =
     let p = err_from_is_err_and c.from_residual-in_err-args.result c.from_residual-in_err-args.ensures.1 in
     let call = called c.args.tokens.now c.args.from.at (sym c.if-is_call.ensures) in
     let n = c.in_ok-func.ensures.read.0 in
-    λ k. rw (p.1, p.2) (halted_led (Go RightSide ∷ []) call_end (the.token k ∷ place_value c.args.place ∷ []) [] _ (λ ss vs o stop. first_row refl call.0 (n.goes.run _ _ _ (first_row refl (at_next (Mark mark.OPEN ∷ []) true n call.1) (stop _ _)))) c.in_err-args.ensures.read)
+    λ k. rw (p.1, p.2) (halted_led (Go RightSide ∷ []) call_end (the.token k ∷ place_value c.args.place ∷ []) [] _ (λ ss vs o stop. first_row refl call.0 (n.goes.run _ _ _ (first_row refl (at_next (Mark punctuation.LEFT_PAREN ∷ []) true n call.1) (stop _ _)))) c.in_err-args.ensures.read)
 
 pub returns-then-is_call-clause-read : goal.returns-then-is_call-clause-read
 returns-then-is_call-clause-read c =
     let call = called c.args.tokens.now c.args.from.at (sym c.if-is_call.ensures) in
     let n = c.in_ok-func.ensures.read.0 in
-    λ k. record { run = λ ss vs o r. first_row refl call.0 (n.goes.run _ _ _ (first_row refl (at_next (Mark mark.OPEN ∷ []) true n call.1) (c.in_ok-args.ensures.read.3.run _ _ _ (makes (made_as (rw (c.in_ok-push.ensures.ok, c.new-places.ensures, taken_name n c.in_ok-func.ensures.read.1, c.start-at.ensures, taken_from n) refl) r))))) }
+    λ k. record { run = λ ss vs o r. first_row refl call.0 (n.goes.run _ _ _ (first_row refl (at_next (Mark punctuation.LEFT_PAREN ∷ []) true n call.1) (c.in_ok-args.ensures.read.3.run _ _ _ (makes (made_as (rw (c.in_ok-push.ensures.ok, c.new-places.ensures, taken_name n c.in_ok-func.ensures.read.1, c.start-at.ensures, taken_from n) refl) r))))) }
 
 pub returns-in_err-value-clause-read : goal.returns-in_err-value-clause-read
 returns-in_err-value-clause-read c =

@@ -3,7 +3,7 @@ use Rattle.std.proofs.lemmas.Result.{err_from_is_err_and}
 use Rattle.silage_tree.specs.Tree.{view_manifest}
 use Rattle.silage_tree.specs.Grammar.{kind_at, Sum}
 use Rattle.silage_parse.specs.Table.{Mark, operators}
-use Rattle.silage_tree.specs.declared.marks.TheConstants as mark
+use Rattle.silage_lex.specs.declared.punctuation.TheConstants as punctuation
 use Rattle.silage_parse.specs.Parsed.{manifest_value}
 use Rattle.silage_parse.specs.Machine.{goes}
 use Rattle.silage_parse.proofs.Chains.{inside, passed, chain_begins, chain_ends, chain_more, chain_longer}
@@ -113,7 +113,7 @@ term-returns-in_err-right-clause-read t c =
 
 pub term-factors-preserved : goal.term-factors-preserved
 term-factors-preserved t c =
-    let token = c.in_ok-behind.ensures.read (Mark mark.STAR ∷ []) (sym c.factors-test.ensures.value) in
+    let token = c.in_ok-behind.ensures.read (Mark punctuation.STAR ∷ []) (sym c.factors-test.ensures.value) in
     rw (c.in_ok-new.ensures.ok, c.in_ok-new-2.ensures.ok) (chain_longer factors c.factors.invariant token c.in_ok-right.ensures.read (factor_made (view_manifest c.factors.left) (view_manifest c.in_ok-right.right) token c.start-at.ensures) c.in_ok-behind.ensures.within c.in_ok-right.ensures.within)
 
 pub term-returns-clause-read : goal.term-returns-clause-read

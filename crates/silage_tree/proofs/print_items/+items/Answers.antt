@@ -1,6 +1,6 @@
 -- Each kind of item: the parts of its text one behind another.
 use Rattle.std.proofs.Common.{ap, sym, ◌∙◌, ◌++◌, ◌∷◌, []}
-use Rattle.silage_tree.specs.declared.marks.TheConstants as mark
+use Rattle.silage_lex.specs.declared.punctuation.TheConstants as punctuation
 use Rattle.silage_tree.specs.Tree.{view_item, view_items}
 use Rattle.silage_tree.specs.Text.{symbol, clause_text, items_text}
 use Rattle.silage_tree.proofs.Rows.{items_spelled, loop_spelled}
@@ -12,7 +12,7 @@ put_items-loop-item-init t c = nothing
 
 pub put_items-loop-item-preserved : goal.put_items-loop-item-preserved
 put_items-loop-item-preserved t c =
-    more (λ x. clause_text (view_item x) ++ symbol mark.SEMICOLON ∷ []) _ _ _ _ _ _ _ c.loop-item-test.true c.item-item.is c.loop-item.invariant
+    more (λ x. clause_text (view_item x) ++ symbol punctuation.SEMICOLON ∷ []) _ _ _ _ _ _ _ c.loop-item-test.true c.item-item.is c.loop-item.invariant
     (behind c.in_ok-put_clause.ensures c.in_ok-put_symbol.ensures)
 
 pub put_items-returns : goal.put_items-returns
