@@ -1,7 +1,7 @@
 -- Small programs, read by the definitions.
 use Rattle.std.proofs.Common.{◌≡◌, refl, sym, arith, ℕ, inl, inr, Bool, true, false, codes, List, [], ◌∷◌, Some, None, ℤ, pos, negsuc, ◌*ℤ◌}
 use Rattle.std.proofs.lemmas.Int.{ints}
-use Rattle.fix_word.specs.Words.{IsKeyword, IsWrap, IsForm}
+use Rattle.fix_word.specs.Words.{IsWord, IsWrap, IsForm}
 use Rattle.fix_word.specs.declared.types.FixType.{FixType}
 use Rattle.fix_word.specs.declared.types.Mode.{Mode}
 use Rattle.fix_word.specs.declared.types.Mode.TheVariants.{Trunc, Round}
@@ -205,7 +205,7 @@ cast_value mode a v form words is =
     (refl, (a, signal 0 0 0 (typed (codes "x") [] (fix 16 8 Trunc)) (record { named = refl; placed = refl }) no_delay refl (sym is), record { shape = record { narrowest = omega arith; widest = omega arith; places = omega arith }; conv = form }))
 
 -- a word of 8 bits is its own wrapped word
-wrapped : (v : ℤ) → IsKeyword 8 v → IsWrap v 8 v
+wrapped : (v : ℤ) → IsWord 8 v → IsWrap v 8 v
 wrapped v word = record { word = word; congruent = (pos 0, omega (arith, ints)) }
 
 cast_down : Casts Trunc (pos 384) (pos 1)

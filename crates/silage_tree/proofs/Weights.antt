@@ -346,7 +346,7 @@ arms_total _ = 0
 abbrev Bound : List Token → ExprRule → ℕ → Expr → ℕ → Type 0
 Bound ts (Rest l a) i e j = placed (chain_level l) e + before ts i ≤ placed (chain_level l) a + before ts j
 Bound ts (Shifts a) i e j = placed 5 e + before ts i ≤ placed 5 a + before ts j
-Bound ts (Arms at) i e j = arms_total e + before ts i ≤ before ts j
+Bound ts (Arms at) i e j = 1 + (arms_total e + before ts i) ≤ before ts j
 Bound ts rule i e j = placed (rule_level rule) e + before ts i ≤ before ts j
 
 -- a chain begins with a part
@@ -393,7 +393,7 @@ operand_by ts false e i j u x alone =
     let same : extra (is_loose_operand e) ≡ extra (nat_lt (expr_level e) 6) = ap (λ t. extra (nat_lt (expr_level e) 6 || t)) u ∙ ap extra (or_false (nat_lt (expr_level e) 6)) in
     omega (arith, same, x)
 
-branch_total : (c v : Expr) (bs : Branches) → total (branches_text (branch c v bs)) ≡ total (expr_text c) + (1 + (total (expr_text v) + total (branches_text bs)))
+branch_total : (c v : Expr) (bs : Branches) → total (branches_text (branch c v bs)) ≡ total (expr_text c) + (1 + (total (expr_text v) + (1 + total (branches_text bs))))
 branch_total c v bs =
     let x = total_join (expr_text c ++ symbol punctuation.ARROW ∷ expr_text v) (symbol punctuation.PIPE_PIPE ∷ branches_text bs) in
     let y = total_join (expr_text c) (symbol punctuation.ARROW ∷ expr_text v) in

@@ -2,7 +2,7 @@
 use Rattle.std.specs.Prelude.{◌≡◌, ℕ, List, replicate, flat_map, Option, Some, None, option_map, ℤ, pos, ◌≤ℤ◌}
 use Rattle.std.specs.Option.{option_or}
 use Rattle.fix_word.specs.Values.{bit_of}
-use Rattle.fix_word.specs.Words.{IsKeyword, IsLiteral}
+use Rattle.fix_word.specs.Words.{IsWord, IsLiteral}
 use Rattle.fix_word.specs.declared.types.SigType.{SigType}
 use Rattle.fix_word.specs.declared.types.SigType.TheVariants as sig
 use Rattle.silage_tree.specs.declared.tree.BinOp.{BinOp}
@@ -16,7 +16,7 @@ use Rattle.silage_tree.specs.Names.{declared, table_named, element_count}
 
 -- the word lies in the type's range
 abbrev pub IsInType : SigType → ℤ → Type 0
-IsInType (sig.Fix t) word = IsKeyword t.shape.w word
+IsInType (sig.Fix t) word = IsWord t.shape.w word
 IsInType sig.Bool word = (pos 0 ≤ℤ word) × (word ≤ℤ pos 1)
 
 -- two types have one shape, whatever their modes, or both are `bool`
