@@ -3,7 +3,7 @@ use Rattle.name_check.proofs.TreeRows.{turns_pass}
 use Rattle.name_check.proofs.items.+items.Goals as goal
 
 pub check_item-returns-in-Call : goal.check_item-returns-in-Call
-check_item-returns-in-Call t c = rw (c.in-Call.is, ← c.deref.ensures, ← c.deref-in-Call.ensures) c.check_call.ensures
+check_item-returns-in-Call t c = rw (c.in-Call.is, ← c.deref.ensures.value, ← c.deref-in-Call.ensures.value) c.check_call.ensures
 
 pub check_item-returns-in_ok-check_turns-in-Loop : goal.check_item-returns-in_ok-check_turns-in-Loop
 check_item-returns-in_ok-check_turns-in-Loop t c =
