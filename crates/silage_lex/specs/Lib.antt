@@ -1,5 +1,6 @@
 pub mod Bytes
 pub mod Texts
+pub mod Positions
 pub mod Tokens
 pub mod Faults
 pub mod Scan

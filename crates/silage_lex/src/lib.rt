@@ -18,7 +18,9 @@ use gaps::gap_end;
 use kinds::kind_at;
 use lists::{List, Name};
 use std::alloc::{AllocError, AllocFailed, Global};
-pub use texts::{RESERVED_COUNT, SYMBOL_COUNT, reserved_text, symbol_text};
+pub use texts::{
+    RESERVED_COUNT, SYMBOL_COUNT, constants_are_positions, reserved_text, symbol_text,
+};
 
 /// What a token is.
 #[derive(Debug, Clone, PartialEq, Eq, Drop)]

@@ -2,6 +2,7 @@
 
 ghost use Rattle.std.specs.Prelude.{◌≡◌, ◌<◌, length, slice_get, Some};
 ghost use Rattle.silage_lex.specs.Texts.{reserved_words, symbols};
+ghost use Rattle.silage_lex.specs.Positions.{symbol_constants, keyword_constants, ArePositions};
 
 /// How many reserved words there are.
 pub const RESERVED_COUNT: u8 = 16;
@@ -72,3 +73,11 @@ pub fn reserved_text(n: u8) -> &'static str
         _ => unreachable!(),
     }
 }
+
+/// The constants of `punctuation` and `keywords` are the positions of their texts in the two lists.
+pub fn constants_are_positions()
+    ensures punctuation { ArePositions symbol_constants symbols }
+    ensures keywords { ArePositions keyword_constants reserved_words }
+    ensures symbol_count { SYMBOL_COUNT ≡ length symbols }
+    ensures reserved_count { RESERVED_COUNT ≡ length reserved_words }
+{}
