@@ -8,7 +8,7 @@ use Rattle.silage_lex.specs.declared.TokenKind.{TokenKind}
 use Rattle.silage_lex.specs.declared.TokenKind.TheVariants as kind
 use Rattle.silage_lex.specs.declared.punctuation.TheConstants as punctuation
 use Rattle.silage_lex.specs.declared.keywords.TheConstants as keyword
-use Rattle.silage_tree.specs.declared.levels.TheConstants as level
+use Rattle.silage_tree.specs.Precedence as precedence
 use Rattle.silage_tree.specs.declared.tree.BinOp.{BinOp}
 use Rattle.silage_tree.specs.declared.tree.BinOp.TheVariants as op
 use Rattle.silage_tree.specs.declared.tree.Lit.TheVariants.{Number, Truth}
@@ -111,7 +111,7 @@ joins op.Ge a h b = comparison_of a (ap comparison h) b
 record OperatorFacts (o : BinOp) : Type 0 where
   left : left_level o ≤ 7
   right : right_level o ≤ 7
-  loose : nat_lt (operator_level o) level.UNARY ≡ true
+  loose : nat_lt (operator_level o) precedence.unary ≡ true
   written : IsWritten (symbol (operator_mark o))
 
 operator_facts : (o : BinOp) → OperatorFacts o
@@ -151,9 +151,9 @@ good_shift : (at : ℕ) (left : Bool) (e : Expr) (m : Manifest) → GoodExpr e �
 good_shift at left e m g h = record {
   written = joined (enclosed_written _ g.written) (one_kind (shift_written left) (enclosed_written _ h.written));
   reads = λ us i j s.
-      let r = split us (enclosed (nat_lt (expr_level e) level.SHIFT) (expr_text e)) (symbol (shift_mark left) ∷ amount_text m) i j s in
-      let x = placed_expr e g level.SHIFT (lit≤ tt) us i r.0 r.1 in
-      let y = placed m h level.PRIMARY (lit≤ tt) us (r.0 + 1) j r.2.1 in
+      let r = split us (enclosed (nat_lt (expr_level e) precedence.shift) (expr_text e)) (symbol (shift_mark left) ∷ amount_text m) i j s in
+      let x = placed_expr e g precedence.shift (lit≤ tt) us i r.0 r.1 in
+      let y = placed m h precedence.primary (lit≤ tt) us (r.0 + 1) j r.2.1 in
       record {
         tree = shift (from_at us r.0) left x.tree y.tree;
         same = ap (λ z. shift 0 left z (unplaced_manifest y.tree)) x.same ∙ ap (λ z. shift 0 left (unplaced_expr e) z) y.same;
@@ -175,14 +175,14 @@ no_number us (shift at left e m) false h i j s = cc
 no_number us (cast at ty e) false h i j s = ap number_of s.0
 no_number us (choose at bs last) false h i j s = ap number_of s.0
 
-tight_operand : (e : Expr) → is_loose_operand e ≡ false → level.UNARY ≤ expr_level e
+tight_operand : (e : Expr) → is_loose_operand e ≡ false → precedence.unary ≤ expr_level e
 tight_operand e h = grind (arith, nat_tests)
 
 good_negate : (at : ℕ) (e : Expr) → GoodExpr e → GoodExpr (negate at e)
 good_negate at e g = record {
   written = one_kind refl (enclosed_written _ g.written);
   reads = λ us i j s.
-      let x = placed_by e g level.UNARY (lit≤ tt) (is_loose_operand e) (tight_operand e) us (i + 1) j s.1 in
+      let x = placed_by e g precedence.unary (lit≤ tt) (is_loose_operand e) (tight_operand e) us (i + 1) j s.1 in
       record { tree = negate (from_at us i) x.tree; same = ap (negate 0) x.same; reads = negated s.0 (no_number us e (is_loose_operand e) refl (i + 1) j s.1) x.reads };
 }
 
@@ -190,7 +190,7 @@ good_not : (at : ℕ) (e : Expr) → GoodExpr e → GoodExpr (not at e)
 good_not at e g = record {
   written = one_kind refl (enclosed_written _ g.written);
   reads = λ us i j s.
-      let x = placed_expr e g level.UNARY (lit≤ tt) us (i + 1) j s.1 in
+      let x = placed_expr e g precedence.unary (lit≤ tt) us (i + 1) j s.1 in
       record { tree = not (from_at us i) x.tree; same = ap (not 0) x.same; reads = denied s.0 x.reads };
 }
 

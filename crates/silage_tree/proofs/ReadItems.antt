@@ -4,7 +4,7 @@ use Rattle.silage_lex.specs.declared.Token.{Token}
 use Rattle.silage_lex.specs.declared.TokenKind.TheVariants as kind
 use Rattle.silage_lex.specs.declared.punctuation.TheConstants as punctuation
 use Rattle.silage_lex.specs.declared.keywords.TheConstants as keyword
-use Rattle.silage_tree.specs.declared.levels.TheConstants as level
+use Rattle.silage_tree.specs.Precedence as precedence
 use Rattle.silage_tree.specs.declared.tree.Lit.{Lit}
 use Rattle.silage_tree.specs.declared.tree.Lit.TheVariants.{Truth}
 use Rattle.silage_tree.specs.Tree.{Manifest, Place, Expr, Item, equation, call, loop, initial, Items, no_item, item}
@@ -138,7 +138,7 @@ good_initial p k l g h v = record {
       let r = split us (place_text p ++ symbol punctuation.AT_AT ∷ amount_text k) (symbol punctuation.EQUAL ∷ lit_text l) i j s in
       let q = split us (place_text p) (symbol punctuation.AT_AT ∷ amount_text k) i r.0 r.1 in
       let x = target_read us p g i q.0 q.1 in
-      let y = placed k h level.PRIMARY (lit≤ tt) us (q.0 + 1) r.0 q.2.1 in
+      let y = placed k h precedence.primary (lit≤ tt) us (q.0 + 1) r.0 q.2.1 in
       let z = value_read us v (r.0 + 1) j r.2.1 in
       record {
         tree = initial x.tree y.tree z.tree;

@@ -5,7 +5,7 @@ use Rattle.std.proofs.lemmas.Bool.Decides.{nat_tests}
 use Rattle.silage_lex.specs.declared.Token.{Token}
 use Rattle.silage_lex.specs.declared.TokenKind.TheVariants as kind
 use Rattle.silage_lex.specs.declared.punctuation.TheConstants as punctuation
-use Rattle.silage_tree.specs.declared.levels.TheConstants as level
+use Rattle.silage_tree.specs.Precedence as precedence
 use Rattle.silage_tree.specs.declared.tree.MOp.{MOp}
 use Rattle.silage_tree.specs.declared.tree.MOp.TheVariants as mop
 use Rattle.silage_tree.specs.Tree.{Manifest, whole, counter, minus, both}
@@ -93,25 +93,25 @@ good_both : (at : ℕ) (o : MOp) (a b : Manifest) → GoodManifest a → GoodMan
 good_both at mop.Add a b g h = record {
   written = joined (enclosed_written _ g.written) (one_kind refl (enclosed_written _ h.written));
   reads = λ us i j s.
-      let r = split us (enclosed (nat_lt (manifest_level a) level.SUM) (manifest_text a)) (symbol punctuation.PLUS ∷ enclosed (nat_lt (manifest_level b) level.PRODUCT) (manifest_text b)) i j s in
-      let x = placed a g level.SUM (lit≤ tt) us i r.0 r.1 in
-      let y = placed b h level.PRODUCT (lit≤ tt) us (r.0 + 1) j r.2.1 in
+      let r = split us (enclosed (nat_lt (manifest_level a) precedence.sum) (manifest_text a)) (symbol punctuation.PLUS ∷ enclosed (nat_lt (manifest_level b) precedence.product) (manifest_text b)) i j s in
+      let x = placed a g precedence.sum (lit≤ tt) us i r.0 r.1 in
+      let y = placed b h precedence.product (lit≤ tt) us (r.0 + 1) j r.2.1 in
       record { tree = both (from_at us r.0) mop.Add x.tree y.tree; same = ap (λ z. both 0 mop.Add z (unplaced_manifest y.tree)) x.same ∙ ap (λ z. both 0 mop.Add (unplaced_manifest a) z) y.same; reads = sum_of x.reads (ap term_operator r.2.0) y.reads };
 }
 good_both at mop.Sub a b g h = record {
   written = joined (enclosed_written _ g.written) (one_kind refl (enclosed_written _ h.written));
   reads = λ us i j s.
-      let r = split us (enclosed (nat_lt (manifest_level a) level.SUM) (manifest_text a)) (symbol punctuation.MINUS ∷ enclosed (nat_lt (manifest_level b) level.PRODUCT) (manifest_text b)) i j s in
-      let x = placed a g level.SUM (lit≤ tt) us i r.0 r.1 in
-      let y = placed b h level.PRODUCT (lit≤ tt) us (r.0 + 1) j r.2.1 in
+      let r = split us (enclosed (nat_lt (manifest_level a) precedence.sum) (manifest_text a)) (symbol punctuation.MINUS ∷ enclosed (nat_lt (manifest_level b) precedence.product) (manifest_text b)) i j s in
+      let x = placed a g precedence.sum (lit≤ tt) us i r.0 r.1 in
+      let y = placed b h precedence.product (lit≤ tt) us (r.0 + 1) j r.2.1 in
       record { tree = both (from_at us r.0) mop.Sub x.tree y.tree; same = ap (λ z. both 0 mop.Sub z (unplaced_manifest y.tree)) x.same ∙ ap (λ z. both 0 mop.Sub (unplaced_manifest a) z) y.same; reads = sum_of x.reads (ap term_operator r.2.0) y.reads };
 }
 good_both at mop.Mul a b g h = record {
   written = joined (enclosed_written _ g.written) (one_kind refl (enclosed_written _ h.written));
   reads = λ us i j s.
-      let r = split us (enclosed (nat_lt (manifest_level a) level.PRODUCT) (manifest_text a)) (symbol punctuation.STAR ∷ enclosed (nat_lt (manifest_level b) level.UNARY) (manifest_text b)) i j s in
-      let x = placed a g level.PRODUCT (lit≤ tt) us i r.0 r.1 in
-      let y = placed b h level.UNARY (lit≤ tt) us (r.0 + 1) j r.2.1 in
+      let r = split us (enclosed (nat_lt (manifest_level a) precedence.product) (manifest_text a)) (symbol punctuation.STAR ∷ enclosed (nat_lt (manifest_level b) precedence.unary) (manifest_text b)) i j s in
+      let x = placed a g precedence.product (lit≤ tt) us i r.0 r.1 in
+      let y = placed b h precedence.unary (lit≤ tt) us (r.0 + 1) j r.2.1 in
       record { tree = both (from_at us r.0) mop.Mul x.tree y.tree; same = ap (λ z. both 0 mop.Mul z (unplaced_manifest y.tree)) x.same ∙ ap (λ z. both 0 mop.Mul (unplaced_manifest a) z) y.same; reads = product_of x.reads r.2.0 y.reads };
 }
 
@@ -119,7 +119,7 @@ good_minus : (at : ℕ) (m : Manifest) → GoodManifest m → GoodManifest (minu
 good_minus at m g = record {
   written = one_kind refl (enclosed_written _ g.written);
   reads = λ us i j s.
-      let x = placed m g level.UNARY (lit≤ tt) us (i + 1) j s.1 in
+      let x = placed m g precedence.unary (lit≤ tt) us (i + 1) j s.1 in
       record { tree = minus (from_at us i) x.tree; same = ap (minus 0) x.same; reads = minus_factor s.0 x.reads };
 }
 

@@ -9,6 +9,7 @@ pub mod Value
 pub mod Solves
 pub mod Rules
 pub mod OneLine
+pub mod Precedence
 pub mod Text
 pub mod Places
 pub mod ReadAgain

@@ -2,7 +2,7 @@
 use Rattle.std.specs.Prelude.{◌≡◌, ℕ, suc, zero, ◌+◌, ◌≤◌, ◌<◌}
 use Rattle.silage_lex.specs.Tokens.{TokenList}
 use Rattle.silage_lex.specs.declared.punctuation.TheConstants as punctuation
-use Rattle.silage_tree.specs.declared.levels.TheConstants as level
+use Rattle.silage_tree.specs.Precedence as precedence
 use Rattle.silage_tree.specs.Tree.{Manifest, Expr}
 use Rattle.silage_tree.specs.Grammar.{IsPunctuation, Or, And, Sum, Product, ExprRule, Chain, Comparison, Shift, Unary, Primary, IsExpr, ManifestRule, Manifest_, Term, Factor, Primary_, IsManifest}
 use Rattle.silage_tree.specs.Text.{expr_level, manifest_level}
@@ -37,8 +37,8 @@ pub record IsEnclosed (ts : TokenList) (i j : ℕ) : Type 0 where
 
 -- an expression that is looser than what is asked is read in parentheses alone
 abbrev pub ExprsNeedThem : Type 0
-ExprsNeedThem = (ts : TokenList) (asked i j : ℕ) (e : Expr) → asked ≤ level.PRIMARY → IsExpr ts (expr_rule asked) i e j → expr_level e < asked → IsEnclosed ts i j
+ExprsNeedThem = (ts : TokenList) (asked i j : ℕ) (e : Expr) → asked ≤ precedence.primary → IsExpr ts (expr_rule asked) i e j → expr_level e < asked → IsEnclosed ts i j
 
 -- and so is a manifest number
 abbrev pub ManifestsNeedThem : Type 0
-ManifestsNeedThem = (ts : TokenList) (asked i j : ℕ) (m : Manifest) → asked ≤ level.PRIMARY → IsManifest ts (manifest_rule asked) i m j → manifest_level m < asked → IsEnclosed ts i j
+ManifestsNeedThem = (ts : TokenList) (asked i j : ℕ) (m : Manifest) → asked ≤ precedence.primary → IsManifest ts (manifest_rule asked) i m j → manifest_level m < asked → IsEnclosed ts i j

@@ -11,7 +11,7 @@ use Rattle.silage_lex.specs.declared.TokenKind.TheVariants as kind
 use Rattle.silage_lex.specs.Texts.{reserved_words, symbols}
 use Rattle.silage_lex.specs.declared.punctuation.TheConstants as punctuation
 use Rattle.silage_lex.specs.declared.keywords.TheConstants as keyword
-use Rattle.silage_tree.specs.declared.levels.TheConstants as level
+use Rattle.silage_tree.specs.Precedence as precedence
 use Rattle.silage_tree.specs.declared.tree.BinOp.{BinOp}
 use Rattle.silage_tree.specs.declared.tree.BinOp.TheVariants as op
 use Rattle.silage_tree.specs.declared.tree.MOp.{MOp}
@@ -116,11 +116,11 @@ decl_text d = kind.Name d.name ∷ dims_text d.dims ++ symbol punctuation.COLON 
 
 -- Manifest numbers. A part stands in parentheses where it is looser than its place asks.
 abbrev pub manifest_level : Manifest → ℕ
-manifest_level (whole value at) = level.PRIMARY
-manifest_level (counter name at) = level.PRIMARY
-manifest_level (minus at m) = level.UNARY
-manifest_level (both at mop.Mul a b) = level.PRODUCT
-manifest_level (both at _ a b) = level.SUM
+manifest_level (whole value at) = precedence.primary
+manifest_level (counter name at) = precedence.primary
+manifest_level (minus at m) = precedence.unary
+manifest_level (both at mop.Mul a b) = precedence.product
+manifest_level (both at _ a b) = precedence.sum
 
 -- the mark of an operator, and what its sides ask
 abbrev pub term_mark : MOp → ℕ
@@ -129,24 +129,24 @@ term_mark mop.Sub = punctuation.MINUS
 term_mark mop.Mul = punctuation.STAR
 
 abbrev pub term_left : MOp → ℕ
-term_left mop.Mul = level.PRODUCT
-term_left _ = level.SUM
+term_left mop.Mul = precedence.product
+term_left _ = precedence.sum
 
 abbrev pub term_right : MOp → ℕ
-term_right mop.Mul = level.UNARY
-term_right _ = level.PRODUCT
+term_right mop.Mul = precedence.unary
+term_right _ = precedence.product
 
 abbrev pub manifest_text : Manifest → List TokenKind
 manifest_text (whole value at) = kind.Whole value ∷ []
 manifest_text (counter name at) = kind.Name name ∷ []
-manifest_text (minus at m) = symbol punctuation.MINUS ∷ enclosed (nat_lt (manifest_level m) level.UNARY) (manifest_text m)
+manifest_text (minus at m) = symbol punctuation.MINUS ∷ enclosed (nat_lt (manifest_level m) precedence.unary) (manifest_text m)
 manifest_text (both at o a b) =
     enclosed (nat_lt (manifest_level a) (term_left o)) (manifest_text a) ++ symbol (term_mark o)
     ∷ enclosed (nat_lt (manifest_level b) (term_right o)) (manifest_text b)
 
 -- the amount of a delay, of a shift or of an initial value
 abbrev pub amount_text : Manifest → List TokenKind
-amount_text m = enclosed (nat_lt (manifest_level m) level.PRIMARY) (manifest_text m)
+amount_text m = enclosed (nat_lt (manifest_level m) precedence.primary) (manifest_text m)
 
 -- Places.
 abbrev pub place_text : Place → List TokenKind
@@ -172,34 +172,34 @@ operator_mark op.Or = punctuation.PIPE
 
 -- the level of an operator's own text, and what its sides ask. Chains group to the left, and comparisons do not chain
 abbrev pub operator_level : BinOp → ℕ
-operator_level op.Or = level.OR
-operator_level op.And = level.AND
-operator_level op.Add = level.SUM
-operator_level op.Sub = level.SUM
-operator_level op.Mul = level.PRODUCT
-operator_level _ = level.COMPARISON
+operator_level op.Or = precedence.or
+operator_level op.And = precedence.and
+operator_level op.Add = precedence.sum
+operator_level op.Sub = precedence.sum
+operator_level op.Mul = precedence.product
+operator_level _ = precedence.comparison
 
 abbrev pub left_level : BinOp → ℕ
-left_level op.Or = level.OR
-left_level op.And = level.AND
-left_level op.Mul = level.PRODUCT
-left_level _ = level.SUM
+left_level op.Or = precedence.or
+left_level op.And = precedence.and
+left_level op.Mul = precedence.product
+left_level _ = precedence.sum
 
 abbrev pub right_level : BinOp → ℕ
-right_level op.Or = level.AND
-right_level op.And = level.COMPARISON
-right_level op.Add = level.PRODUCT
-right_level op.Sub = level.PRODUCT
-right_level op.Mul = level.SHIFT
-right_level _ = level.SUM
+right_level op.Or = precedence.and
+right_level op.And = precedence.comparison
+right_level op.Add = precedence.product
+right_level op.Sub = precedence.product
+right_level op.Mul = precedence.shift
+right_level _ = precedence.sum
 
 abbrev pub expr_level : Expr → ℕ
-expr_level (literal (Number true digits places at)) = level.UNARY
-expr_level (negate at e) = level.UNARY
-expr_level (not at e) = level.UNARY
+expr_level (literal (Number true digits places at)) = precedence.unary
+expr_level (negate at e) = precedence.unary
+expr_level (not at e) = precedence.unary
 expr_level (binary at o a b) = operator_level o
-expr_level (shift at left e m) = level.SHIFT
-expr_level _ = level.PRIMARY
+expr_level (shift at left e m) = precedence.shift
+expr_level _ = precedence.primary
 
 -- a number without a sign, which would take a `-` in front of it for its own
 abbrev pub is_unsigned : Expr → Bool
@@ -207,7 +207,7 @@ is_unsigned (literal (Number false digits places at)) = true
 is_unsigned _ = false
 
 abbrev pub is_loose_operand : Expr → Bool
-is_loose_operand e = nat_lt (expr_level e) level.UNARY || is_unsigned e
+is_loose_operand e = nat_lt (expr_level e) precedence.unary || is_unsigned e
 
 abbrev pub shift_mark : Bool → ℕ
 shift_mark true = punctuation.LESS_LESS
@@ -218,11 +218,11 @@ abbrev mutual
   expr_text (literal l) = lit_text l
   expr_text (read p delay) = place_text p ++ delay_text delay
   expr_text (negate at e) = symbol punctuation.MINUS ∷ enclosed (is_loose_operand e) (expr_text e)
-  expr_text (not at e) = symbol punctuation.BANG ∷ enclosed (nat_lt (expr_level e) level.UNARY) (expr_text e)
+  expr_text (not at e) = symbol punctuation.BANG ∷ enclosed (nat_lt (expr_level e) precedence.unary) (expr_text e)
   expr_text (binary at o a b) =
       enclosed (nat_lt (expr_level a) (left_level o)) (expr_text a) ++ symbol (operator_mark o)
       ∷ enclosed (nat_lt (expr_level b) (right_level o)) (expr_text b)
-  expr_text (shift at left e m) = enclosed (nat_lt (expr_level e) level.SHIFT) (expr_text e) ++ symbol (shift_mark left) ∷ amount_text m
+  expr_text (shift at left e m) = enclosed (nat_lt (expr_level e) precedence.shift) (expr_text e) ++ symbol (shift_mark left) ∷ amount_text m
   expr_text (cast at ty e) = fix_text ty ++ enclosed true (expr_text e)
   expr_text (choose at bs last) = word keyword.IF ∷ branches_text bs ++ expr_text last ++ word keyword.FI ∷ []
 

@@ -1,7 +1,7 @@
 //! The tree of a source, what its grammar is, what it means, and its canonical text.
 #![tactic(auto)]
 
-mod levels;
+mod precedence;
 mod print_exprs;
 mod print_items;
 mod print_tokens;

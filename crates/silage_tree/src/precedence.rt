@@ -1,4 +1,4 @@
-//! How tightly a text holds together, from the loosest on.
+//! Precedence: how tightly a text holds together, the loosest first.
 
 /// A chain of `|`.
 pub const OR: u8 = 0;
@@ -14,5 +14,5 @@ pub const PRODUCT: u8 = 4;
 pub const SHIFT: u8 = 5;
 /// A `-` or `!` with its operand.
 pub const UNARY: u8 = 6;
-/// What stands by itself.
+/// A literal, a name, a cast, a conditional, or anything in parentheses.
 pub const PRIMARY: u8 = 7;

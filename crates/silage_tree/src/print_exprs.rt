@@ -7,7 +7,7 @@ ghost use Rattle.silage_tree.specs.Tree.{view_manifest, view_place, view_delay, 
 ghost use Rattle.silage_tree.specs.Text as text;
 ghost use Rattle.silage_tree.specs.Text.{Puts, enclosed, bracketed, manifest_text, amount_text, place_text, delay_text, expr_text, arm_text, listed, behind_comma};
 
-use crate::levels::{AND, COMPARISON, OR, PRIMARY, PRODUCT, SHIFT, SUM, UNARY};
+use crate::precedence::{AND, COMPARISON, OR, PRIMARY, PRODUCT, SHIFT, SUM, UNARY};
 use crate::print_tokens::{put_close, put_name, put_open, put_symbol, put_whole, put_word};
 use crate::print_types::{put_fix, put_lit};
 use crate::{BinOp, Expr, Lit, MOp, Manifest, Place};
