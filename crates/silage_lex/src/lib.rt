@@ -21,6 +21,7 @@ use std::alloc::{AllocError, AllocFailed, Global};
 pub use texts::{
     RESERVED_COUNT, SYMBOL_COUNT, constants_are_positions, reserved_text, symbol_text,
 };
+use thiserror::Error;
 
 /// What a token is.
 #[derive(Debug, Clone, PartialEq, Eq, Drop)]
@@ -51,15 +52,19 @@ pub struct Token {
 pub type Tokens = List<Token>;
 
 /// Why a source has no tokens, each with the byte offset of its place.
-#[derive(Debug, Clone, Copy, PartialEq, Eq, Drop)]
+#[derive(Debug, Clone, Copy, PartialEq, Eq, Drop, Error)]
 pub enum LexFault {
     /// A byte that begins no token, no blank and no comment.
+    #[error("bad byte")]
     BadByte(u32),
-    /// A number of more than 18 digits, or one with a letter or `_` directly behind it.
+    /// A number of more than 18 digits, or one with a letter or `_` directly after it.
+    #[error("bad number")]
     BadNumber(u32),
     /// A `/*` without a later `*/`.
+    #[error("open comment")]
     OpenComment(u32),
-    /// Want of memory.
+    /// No memory was left.
+    #[error("no memory")]
     Memory,
 }
 
