@@ -161,7 +161,7 @@ fn right_side(
             Item::Call {
                 places,
                 func,
-                args,
+                args: args.into_vec(),
                 at,
             },
             to,
@@ -243,9 +243,9 @@ fn calls(alloc: Global, tokens: &[Token], from: Cursor) -> Result<(Item, Cursor)
     let (args, to) = call_end(alloc, tokens, open)?;
     Ok((
         Item::Call {
-            places,
+            places: places.into_vec(),
             func,
-            args,
+            args: args.into_vec(),
             at,
         },
         to,

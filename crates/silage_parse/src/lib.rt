@@ -23,15 +23,19 @@ use program::program;
 use silage_lex::Tokens;
 use silage_tree::{Program, print_is_read};
 use std::alloc::{AllocError, AllocFailed, Global};
+use thiserror::Error;
 
 /// Why tokens are no program that may be compiled, each with the number of a token.
-#[derive(Debug, Clone, Copy, PartialEq, Eq, Drop)]
+#[derive(Debug, Clone, Copy, PartialEq, Eq, Drop, Error)]
 pub enum ParseFault {
     /// The least token with which no program goes on; the number of tokens where they only begin a program.
+    #[error("syntax")]
     Syntax(u32),
     /// The 257th token that counts in its outermost expression, or the `begin` of a loop inside 16 loops.
+    #[error("too deep")]
     Deep(u32),
-    /// Want of memory.
+    /// No memory was left.
+    #[error("no memory")]
     Memory,
 }
 

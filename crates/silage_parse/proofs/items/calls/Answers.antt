@@ -40,4 +40,4 @@ returns-in_err-args-clause-read c =
 pub returns-clause-read : goal.returns-clause-read
 returns-clause-read c =
     let n = c.in_ok-func.ensures.read.0 in
-    λ k. record { run = λ ss vs o r. to_calls c.requires.no_loop (c.in_ok-places.ensures.read.run _ _ _ (c.in_ok-defines.ensures.read.goes.run _ _ _ (c.in_ok-called.ensures.read.goes.run _ _ _ (n.goes.run _ _ _ (c.in_ok-args.ensures.read.3.run _ _ _ (makes (made_as (rw (taken_name n c.in_ok-func.ensures.read.1, c.start-at.ensures, taken_from n) refl) r))))))) }
+    λ k. record { run = λ ss vs o r. to_calls c.requires.no_loop (c.in_ok-places.ensures.read.run _ _ _ (c.in_ok-defines.ensures.read.goes.run _ _ _ (c.in_ok-called.ensures.read.goes.run _ _ _ (n.goes.run _ _ _ (c.in_ok-args.ensures.read.3.run _ _ _ (makes (made_as (rw (c.into_vec.ensures, c.into_vec-2.ensures, taken_name n c.in_ok-func.ensures.read.1, c.start-at.ensures, taken_from n) refl) r))))))) }

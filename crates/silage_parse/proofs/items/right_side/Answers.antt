@@ -31,7 +31,7 @@ pub returns-then-is_call-clause-read : goal.returns-then-is_call-clause-read
 returns-then-is_call-clause-read c =
     let call = called c.args.tokens.now c.args.from.at (sym c.if-is_call.ensures) in
     let n = c.in_ok-func.ensures.read.0 in
-    λ k. record { run = λ ss vs o r. first_row refl call.0 (n.goes.run _ _ _ (first_row refl (at_next (Mark punctuation.LEFT_PAREN ∷ []) true n call.1) (c.in_ok-args.ensures.read.3.run _ _ _ (makes (made_as (rw (c.in_ok-push.ensures.ok, c.new-places.ensures, taken_name n c.in_ok-func.ensures.read.1, c.start-at.ensures, taken_from n) refl) r))))) }
+    λ k. record { run = λ ss vs o r. first_row refl call.0 (n.goes.run _ _ _ (first_row refl (at_next (Mark punctuation.LEFT_PAREN ∷ []) true n call.1) (c.in_ok-args.ensures.read.3.run _ _ _ (makes (made_as (rw (c.into_vec.ensures, c.in_ok-push.ensures.items, c.new-places.ensures.items, taken_name n c.in_ok-func.ensures.read.1, c.start-at.ensures, taken_from n) refl) r))))) }
 
 pub returns-in_err-value-clause-read : goal.returns-in_err-value-clause-read
 returns-in_err-value-clause-read c =
