@@ -1,5 +1,7 @@
-//! The one list of the project: a `Vec` that contracts see as the plain list of its elements.
+//! The one list type of the project, a `Vec` that contracts see as the plain list of its elements, and texts.
 #![tactic(auto)]
+
+mod name;
 
 ghost use Rattle.std.specs.Prelude.{◌≡◌, ◌<◌, ◌^◌, ◌↔◌, [], ◌∷◌, ◌++◌, length, slice_get, slice_index_or, slice_set, option_copied, IsTrue, IfOk, OnOk, OnErr, IfErr};
 ghost use Rattle.std.specs.Cmp.Lexicographic.{pointwise, slice_cmp, slice_partial_cmp, lists_per, lists_equiv, lists_po, lists_total, lists_agrees, lists_ties};
@@ -11,6 +13,7 @@ ghost use Rattle.std.specs.Slice.Iter.{iter_rest, iter_steps};
 ghost use Rattle.std.specs.Vec.Iter.{into_iter_items, into_iter_steps};
 ghost use Rattle.std.specs.declared.alloc.Global.{Global as GlobalAlloc};
 
+pub use name::Name;
 use std::alloc::{AllocError, AllocFailed, Global};
 use std::cmp::Ordering;
 use std::fmt::{self, Debug, Formatter, Write};
@@ -27,9 +30,6 @@ pub struct List<T> {
 
 /// A list of bytes.
 pub type Bytes = List<u8>;
-
-/// A text, which contracts see as the list of its bytes.
-pub type Name = List<u8>;
 
 impl<T> Model for List<T> {
     ghost use Rattle.std.specs.Prelude.{List as Listed};

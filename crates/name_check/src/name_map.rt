@@ -65,7 +65,7 @@ impl NameMap {
     {
         let mut names = IndexSet::new(alloc);
         for top in program.tops.as_slice() {
-            let text = List::from_slice(alloc, top_name(top).as_slice())?;
+            let text = Name::from_slice(alloc, top_name(top).as_slice())?;
             if !names.insert(text)? {
                 return Err(NameFault::Twice(top_at(top)));
             }

@@ -7,3 +7,4 @@ pub mod Numbers
 pub mod OneKind
 pub mod OneReading
 pub mod Answering
+pub mod Positions

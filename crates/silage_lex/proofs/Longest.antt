@@ -169,11 +169,11 @@ pointed_longest bytes from to point rises inside h stop = λ end more within tex
         ]
 
 -- the table has the longest symbols first
-abbrev falls : List (List ℕ) → Bool
+abbrev pub falls : List (List ℕ) → Bool
 falls [] = true
 falls (x ∷ xs) = list_all (λ y. nat_le (length y) (length x)) (x ∷ xs) && falls xs
 
-falling_sizes : (table : List (List ℕ)) → falls table ≡ true → (n m : ℕ) → n ≤ m → m < length table
+pub falling_sizes : (table : List (List ℕ)) → falls table ≡ true → (n m : ℕ) → n ≤ m → m < length table
     → length (slice_index_or table m []) ≤ length (slice_index_or table n [])
 falling_sizes [] h n m order lt = absurd (omega arith)
 falling_sizes (x ∷ xs) h zero m order lt =

@@ -1,9 +1,14 @@
 -- Words for the parts of the scanner.
-use Rattle.std.specs.Prelude.{◌≡◌, ℕ, ◌+◌, ◌≤◌, ◌<◌, true, false, List, [], length, drop, nat_eq, Bool, slice_index, slice_index_or, slice_range}
-use Rattle.std.specs.List.{starts_with}
+use Rattle.std.specs.Prelude.{◌≡◌, ℕ, ◌+◌, ◌≤◌, ◌<◌, true, false, List, [], length, drop, nat_eq, Bool, slice_index, slice_index_or, slice_range, Option}
+use Rattle.std.specs.Cmp.Lexicographic.{pointwise}
+use Rattle.std.specs.List.{starts_with, position_from}
 use Rattle.silage_lex.specs.Bytes.{is_blank, is_digit, opens_comment, closes_comment}
 use Rattle.silage_lex.specs.Texts.{symbols, is_digits}
 use Rattle.silage_lex.specs.Tokens.{Gap, NoCloseBetween}
+
+-- the position of a text in a table, if it is there
+abbrev pub position_of : List (List ℕ) → List ℕ → Option ℕ
+position_of table text = position_from (λ row. pointwise nat_eq row text) 0 table
 
 -- the text stands at the place
 abbrev pub stands_at : List ℕ → ℕ → List ℕ → Bool

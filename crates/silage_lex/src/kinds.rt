@@ -1,64 +1,108 @@
 //! The token that begins at a place: its kind, and where it ends.
 
-ghost use Rattle.std.specs.Prelude.{◌≡◌, ◌≢◌, ◌+◌, ◌*◌, ◌≤◌, ◌<◌, ◌^◌, ◌↔◌, true, false, length, slice_index, slice_get, slice_range, IsTrue, IfOk, IfErr, OnOk, IfSome, IfNone, Some, Contains};
+ghost use Rattle.std.specs.Prelude.{◌≡◌, ◌≢◌, ◌+◌, ◌*◌, ◌≤◌, ◌<◌, ◌^◌, true, false, [], ◌∷◌, length, slice_index, slice_index_or, slice_range, IsTrue, IfOk, IfErr, OnOk, IfSome, IfNone};
 ghost use Rattle.std.specs.List.{list_all};
 ghost use Rattle.silage_lex.specs.Bytes as byte;
 ghost use Rattle.silage_lex.specs.Bytes.{begins_fraction};
 ghost use Rattle.silage_lex.specs.Texts.{reserved_words, symbols, is_digits, digit_count, decimal_after};
 ghost use Rattle.silage_lex.specs.Tokens.{IsSpan};
 ghost use Rattle.silage_lex.specs.Faults.{IsNumberSpan, StandsAt};
-ghost use Rattle.silage_lex.specs.Scan.{stands_at, NoneBefore, IsFirstAt, IsDigitSpan, StartsToken};
+ghost use Rattle.silage_lex.specs.Scan.{position_of, NoneBefore, IsFirstAt, IsDigitSpan, StartsToken};
 ghost use Rattle.silage_lex.specs.declared.LexFault.TheVariants.{Memory};
 
 use crate::bytes::{byte_at, digits_end, is_digit, is_letter, word_end};
-use crate::texts::{RESERVED_COUNT, SYMBOL_COUNT, reserved_text, symbol_text};
-use crate::{LexFault, TokenKind};
-use lists::List;
+use crate::{LexFault, TokenKind, keywords, punctuation};
+use lists::Name;
 use std::alloc::{AllocError, Global};
 
 /// The most digits that a number may have.
 const MAX_DIGITS: usize = 18;
 
-/// Whether the text stands at a place.
-fn is_at(src: &[u8], at: usize, text: &str) -> bool
-    requires { at ≤ length src.now }
-    ensures { result ≡ stands_at src.now at text.now }
+/// The symbol that these two bytes are.
+fn double_symbol(first: u8, second: u8) -> Option<u8>
+    ensures { result ≡ position_of symbols (first ∷ second ∷ []) }
 {
-    src[at..].starts_with(text.as_bytes())
+    match (first, second) {
+        (b':', b':') => Some(punctuation::COLON_COLON),
+        (b'.', b'.') => Some(punctuation::DOT_DOT),
+        (b'=', b'=') => Some(punctuation::EQUAL_EQUAL),
+        (b'!', b'=') => Some(punctuation::BANG_EQUAL),
+        (b'<', b'=') => Some(punctuation::LESS_EQUAL),
+        (b'>', b'=') => Some(punctuation::GREATER_EQUAL),
+        (b'<', b'<') => Some(punctuation::LESS_LESS),
+        (b'>', b'>') => Some(punctuation::GREATER_GREATER),
+        (b'-', b'>') => Some(punctuation::ARROW),
+        (b'|', b'|') => Some(punctuation::PIPE_PIPE),
+        (b'@', b'@') => Some(punctuation::AT_AT),
+        _ => None,
+    }
 }
 
-/// The first symbol of the table that stands at a place.
-fn symbol_at(src: &[u8], at: usize) -> Option<u8>
-    requires { at ≤ length src.now }
-    ensures some { IfSome result (IsFirstAt src.now at) }
+/// The symbol that this byte is.
+fn single_symbol(byte: u8) -> Option<u8>
+    ensures { result ≡ position_of symbols (byte ∷ []) }
+{
+    match byte {
+        b'(' => Some(punctuation::LEFT_PAREN),
+        b')' => Some(punctuation::RIGHT_PAREN),
+        b'[' => Some(punctuation::LEFT_BRACKET),
+        b']' => Some(punctuation::RIGHT_BRACKET),
+        b',' => Some(punctuation::COMMA),
+        b';' => Some(punctuation::SEMICOLON),
+        b':' => Some(punctuation::COLON),
+        b'=' => Some(punctuation::EQUAL),
+        b'<' => Some(punctuation::LESS),
+        b'>' => Some(punctuation::GREATER),
+        b'+' => Some(punctuation::PLUS),
+        b'-' => Some(punctuation::MINUS),
+        b'*' => Some(punctuation::STAR),
+        b'&' => Some(punctuation::AMPERSAND),
+        b'|' => Some(punctuation::PIPE),
+        b'!' => Some(punctuation::BANG),
+        b'@' => Some(punctuation::AT),
+        _ => None,
+    }
+}
+
+/// The longest symbol at a place, and where it ends.
+fn symbol_at(src: &[u8], at: usize) -> Option<(u8, usize)>
+    requires inside { at < length src.now }
+    requires size { length src.now ≤ 2 ^ 20 }
+    ensures some { IfSome result (λ symbol. IsFirstAt src.now at symbol.0 × (symbol.1 ≡ at + length (slice_index_or symbols symbol.0 []))) }
     ensures none { IfNone result (NoneBefore src.now at (length symbols)) }
 {
-    for n in 0..SYMBOL_COUNT {
-        if is_at(src, at, symbol_text(n)) {
-            return Some(n);
-        }
+    if let Some(symbol) = double_symbol(src[at], byte_at(src, at + 1)) {
+        return Some((symbol, at + 2));
     }
-    None
+    match single_symbol(src[at]) {
+        Some(symbol) => Some((symbol, at + 1)),
+        None => None,
+    }
 }
 
-/// Whether the word has this text.
-fn is_word_of(word: &[u8], text: &str) -> bool
-    ensures { IsTrue result ↔ (text.now ≡ word.now) }
-{
-    word == text.as_bytes()
-}
-
-/// The position of the word in the table of reserved words.
+/// The reserved word that this word is.
 fn reserved(word: &[u8]) -> Option<u8>
-    ensures some { IfSome result (λ n. slice_get reserved_words n ≡ Some word.now) }
-    ensures none { IfNone result (¬ Contains reserved_words word.now) }
+    ensures { result ≡ position_of reserved_words word.now }
 {
-    for n in 0..RESERVED_COUNT {
-        if is_word_of(word, reserved_text(n)) {
-            return Some(n);
-        }
+    match word {
+        b"func" => Some(keywords::FUNC),
+        b"const" => Some(keywords::CONST),
+        b"var" => Some(keywords::VAR),
+        b"begin" => Some(keywords::BEGIN),
+        b"end" => Some(keywords::END),
+        b"fix" => Some(keywords::FIX),
+        b"bool" => Some(keywords::BOOL),
+        b"trunc" => Some(keywords::TRUNC),
+        b"round" => Some(keywords::ROUND),
+        b"if" => Some(keywords::IF),
+        b"fi" => Some(keywords::FI),
+        b"true" => Some(keywords::TRUE),
+        b"false" => Some(keywords::FALSE),
+        b"sat" => Some(keywords::SAT),
+        b"down" => Some(keywords::DOWN),
+        b"up" => Some(keywords::UP),
+        _ => None,
     }
-    None
 }
 
 /// The number whose decimal digits are those of `number` and then these.
@@ -85,7 +129,7 @@ fn word_at(alloc: Global, src: &[u8], at: usize) -> Result<(TokenKind, usize), A
     let word = &src[at..to];
     match reserved(word) {
         Some(n) => Ok((TokenKind::Reserved(n), to)),
-        None => Ok((TokenKind::Name(List::from_slice(alloc, word)?), to)),
+        None => Ok((TokenKind::Name(Name::from_slice(alloc, word)?), to)),
     }
 }
 
@@ -167,7 +211,7 @@ pub(crate) fn kind_at(alloc: Global, src: &[u8], at: usize) -> Result<(TokenKind
         return number_at(src, at);
     }
     match symbol_at(src, at) {
-        Some(n) => Ok((TokenKind::Symbol(n), at + symbol_text(n).len())),
+        Some((symbol, to)) => Ok((TokenKind::Symbol(symbol), to)),
         None => Err(LexFault::BadByte(at as u32)),
     }
 }

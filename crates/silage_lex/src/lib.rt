@@ -14,6 +14,7 @@ ghost use Rattle.silage_lex.specs.Faults.{HasFault, Answers};
 ghost use Rattle.silage_lex.specs.declared.LexFault.{LexFault as FaultType};
 ghost use Rattle.silage_lex.specs.declared.LexFault.TheVariants.{Memory};
 
+use bytes::{is_blank, is_name_byte};
 use gaps::gap_end;
 use kinds::kind_at;
 use lists::{List, Name};
@@ -102,6 +103,22 @@ fn newlines(bytes: &[u8]) -> u32
     count
 }
 
+/// At how many bytes a token may begin: at none that is blank, and at none inside a word.
+fn token_starts(src: &[u8]) -> usize
+    ensures { result ≤ length src.now }
+{
+    let mut count = 0;
+    let mut is_in_word = false;
+    for b in src {
+        let is_of_word = is_name_byte(*b);
+        if !(is_blank(*b) || is_of_word && is_in_word) {
+            count += 1;
+        }
+        is_in_word = is_of_word;
+    }
+    count
+}
+
 /// Reads a source of at most 1 MiB to its tokens. The fault is the first in the source.
 pub fn lex(alloc: Global, src: &[u8]) -> Result<Tokens, LexFault>
     requires { length src.now ≤ 2 ^ 20 }
@@ -112,8 +129,7 @@ pub fn lex(alloc: Global, src: &[u8]) -> Result<Tokens, LexFault>
     ensures all_tokens { (tokens : TokenList) → HasTokens src.now tokens → Answers result (Ok tokens) }
     ensures each_fault { (fault : FaultType) → HasFault src.now fault → Answers result (Err fault) }
 {
-    // No source has more tokens than bytes.
-    let mut tokens = Vec::with_capacity(alloc, src.len())?;
+    let mut tokens = Vec::with_capacity(alloc, token_starts(src))?;
     let mut at = gap_end(src, 0)?;
     let mut line = 1 + newlines(&src[..at]);
     while at < src.len() {

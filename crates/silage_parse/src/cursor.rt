@@ -8,7 +8,7 @@ ghost use Rattle.silage_parse.specs.Machine.{allowed};
 ghost use Rattle.silage_parse.specs.Parsed.{effect as effect_of, name_at as the_name_at, whole_at as the_whole_at, count, IsCountedBehind, IsPast, IsPastAny, IsNamed, IsCounted, IsNumbered};
 
 use crate::ParseFault;
-use lists::{List, Name};
+use lists::Name;
 use silage_lex::{Token, TokenKind, keywords, punctuation};
 use std::alloc::Global;
 
@@ -275,7 +275,7 @@ pub fn name(
     match name_at(tokens, from.at) {
         Some(text) => {
             let to = past(tokens, from, effect)?;
-            Ok((List::from_slice(alloc, text.as_slice())?, to))
+            Ok((text.clone()?, to))
         }
         None => Err(ParseFault::Syntax(from.at as u32)),
     }

@@ -11,9 +11,8 @@ use Rattle.silage_lex.proofs.kinds.kind_at.Goals as goal
 pub returns-in-Some-clause-ok : goal.returns-in-Some-clause-ok
 returns-in-Some-clause-ok c =
     let first = c.in-Some.ensures.some in
-    let row = get_or_from_slice_get symbols c.in-Some.n c.symbol_text.result.now [] c.symbol_text.ensures in
-    let P : ℕ → Type 0 = λ size. IsSpan c.args.src.now (Symbol c.in-Some.n) c.args.at (c.args.at + size) in
-    subst P (ap length row) (symbol_span c.args.src.now c.args.at c.in-Some.n (omega arith) first)
+    let P : ℕ → Type 0 = λ to. IsSpan c.args.src.now (Symbol c.in-Some.symbol) c.args.at to in
+    subst P (sym first.1) (symbol_span c.args.src.now c.args.at c.in-Some.symbol (omega arith) first.0)
 
 pub returns-in-None-clause-err : goal.returns-in-None-clause-err
 returns-in-None-clause-err c = λ _. (
