@@ -5,7 +5,7 @@ use Rattle.silage_lex.specs.declared.Token.{Token}
 use Rattle.silage_tree.specs.declared.tree.Program.{Program as RustProgram}
 use Rattle.silage_tree.specs.Tree.{Program, view}
 use Rattle.silage_parse.specs.Answers.{IsWithin, HasFault, AnswersProgram, AnswersFault}
-use Rattle.silage_parse.specs.Leads.{IsRun}
+use Rattle.silage_parse.specs.Parsed.{IsRun}
 use Rattle.silage_parse.specs.declared.ParseFault.{ParseFault}
 use Rattle.silage_parse.specs.declared.ParseFault.TheVariants.{Syntax, Deep, Memory}
 use Rattle.silage_parse.proofs.Answer.{program_answer, fault_answer}

@@ -8,36 +8,37 @@ use Rattle.silage_tree.specs.Tree.{Top}
 use Rattle.silage_tree.specs.Grammar.{kind_at}
 use Rattle.silage_parse.specs.declared.ParseFault.{ParseFault}
 use Rattle.silage_parse.specs.declared.ParseFault.TheVariants.{Syntax, Deep, Memory}
-use Rattle.silage_parse.specs.declared.cursor.Cursor.{Cursor}
-use Rattle.silage_parse.specs.Table.{End, Word, Outside, Value, Symbol, Take, Go, Source, Tops, is_one}
+use Rattle.silage_parse.specs.declared.parser.Parser.{Parser}
+use Rattle.silage_parse.specs.Table.{End, Word, Value, Source, is_one}
 use Rattle.silage_parse.specs.Table as the
-use Rattle.silage_parse.specs.Machine.{Count, done, Runs, RunsTo, pushed, takes, ends, wrong}
-use Rattle.silage_parse.specs.Leads.{Leads, Halts, IsRun, source_rest}
-use Rattle.silage_parse.proofs.Parts.{third_row}
-
--- where the run begins
-abbrev pub start : Cursor
-start = record { at = 0; weight = 0; loops = 0 }
+use Rattle.silage_parse.specs.Machine.{Count, Outcome, done, Runs, RunsTo, pushed, goes, takes, ends, wrong}
+use Rattle.silage_parse.specs.Parsed.{next, RunsFrom, Halts, IsRun, source_rest}
 
 -- token i is there, and is not behind the last one
-pub no_end : (ts : List Token) (i : ℕ) → i < length ts → is_one (End ∷ []) (kind_at ts i) ≡ false
+no_end : (ts : List Token) (i : ℕ) → i < length ts → is_one (End ∷ []) (kind_at ts i) ≡ false
 no_end ts i h = elim (slice_get_cases ts i).1 [ inl s ↦ rw s.2 refl | inr s ↦ absurd (omega (arith, s.0)) ]
 
 -- no table and no function begins, and it is not the end
-pub no_top : {ts : List Token} {from : Cursor} (tops : List Top) → from.at < length ts → is_one (Word keyword.CONST ∷ []) (kind_at ts from.at) ≡ false → is_one (Word keyword.FUNC ∷ []) (kind_at ts from.at) ≡ false → Halts ts source_rest from (the.tops tops ∷ []) (Syntax from.at)
-no_top {ts} {from} tops inside no_table no_function = λ behind under. third_row refl no_table no_function (wrong (no_end ts from.at inside))
+pub no_top : (from : Parser) (tops : List Top) → from.at < length from.tokens.now → is_one (Word keyword.CONST ∷ []) (next from) ≡ false
+    → is_one (Word keyword.FUNC ∷ []) (next from) ≡ false → Halts source_rest from (the.tops tops ∷ []) (Syntax from.at)
+no_top from tops inside no_table no_function = λ below under. goes (rw (no_table, no_function) (wrong (no_end from.tokens.now from.at inside)))
 
 -- behind the last token the source is over
 over : {ts : List Token} {i : ℕ} {c : Count} {vs : List Value} → slice_get ts i ≡ None → Runs ts source_rest i c vs (done vs)
 over {ts} {i} {c} {vs} h =
     let P : Option Token → Type 0 = λ x. Runs ts [] (i + 1) c (pushed x vs) (done vs) in
-    third_row refl (rw h refl) (rw h refl) (takes (rw h refl) refl (subst P (sym h) ends))
+    goes (rw h (takes (rw h refl) refl (subst P (sym h) ends)))
 
-pub source_over : {ts : List Token} {to : Cursor} (tops : List Top) → Leads ts (Go Source ∷ []) start [] source_rest to (the.tops tops ∷ []) → length ts ≤ to.at → RunsTo ts (done (the.tops tops ∷ []))
-source_over {ts} {to = to} tops l h = l.run [] [] _ (over (slice_get_past ts to.at h))
+-- The run over the source has come to a table or a function, or to the end.
+pub record SoFar (ts : List Token) (tops : List Top) (to : Parser) : Type 0 where
+  pub same : to.tokens.now ≡ ts
+  pub run : (o : Outcome) → RunsFrom to source_rest (the.tops tops ∷ []) o → RunsTo ts o
+
+pub source_over : {ts : List Token} {to : Parser} (tops : List Top) → SoFar ts tops to → length ts ≤ to.at → RunsTo ts (done (the.tops tops ∷ []))
+source_over {ts} {to} tops s h = s.run _ (over (slice_get_past to.tokens.now to.at (rw s.same h)))
 
 -- a fault between tables and functions is the whole run's
-pub source_stops : {ts : List Token} {to : Cursor} (tops : List Top) (f : ParseFault) → Leads ts (Go Source ∷ []) start [] source_rest to (the.tops tops ∷ []) → Halts ts source_rest to (the.tops tops ∷ []) f → IsRun ts (Err f)
-source_stops tops (Syntax k) l h = l.run [] [] _ (h [] [])
-source_stops tops (Deep k) l h = l.run [] [] _ (h [] [])
-source_stops tops Memory l h = tt
+pub source_stops : {ts : List Token} {to : Parser} (tops : List Top) (f : ParseFault) → SoFar ts tops to → Halts source_rest to (the.tops tops ∷ []) f → IsRun ts (Err f)
+source_stops tops (Syntax k) s h = s.run _ (h [] [])
+source_stops tops (Deep k) s h = s.run _ (h [] [])
+source_stops tops Memory s h = tt

@@ -76,3 +76,11 @@ word_known n (Some (kind.Name name)) h = cc
 word_known n (Some (kind.Whole m)) h = cc
 word_known n (Some (kind.Point d p)) h = cc
 word_known n None h = cc
+
+pub mark_known : (n : ℕ) (k : Option TokenKind) → is_one (Mark n ∷ []) k ≡ true → k ≡ Some (kind.Symbol n)
+mark_known n (Some (kind.Symbol m)) h = ap (λ x. Some (kind.Symbol x)) (sym (eqb-true n m (or_false (nat_eq n m) h)))
+mark_known n (Some (kind.Reserved m)) h = cc
+mark_known n (Some (kind.Name name)) h = cc
+mark_known n (Some (kind.Whole m)) h = cc
+mark_known n (Some (kind.Point d p)) h = cc
+mark_known n None h = cc

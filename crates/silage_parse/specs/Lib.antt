@@ -3,5 +3,4 @@ pub mod Machine
 pub mod Answers
 pub mod ReadAgain
 pub mod Parsed
-pub mod Levels
-pub mod Leads
+pub mod Precedence

@@ -1,27 +1,36 @@
--- What the functions that read tokens and phrases answer, said of the machine's run: a run behind the phrase goes on to be a
--- run from the phrase, and a fault is the machine's, whatever symbols and values lie behind.
-use Rattle.std.specs.Prelude.{◌≡◌, ℕ, ◌+◌, true, List, [], ◌∷◌, ◌++◌, map, slice_get, Option, Some, None, Result, Ok, Err}
+-- What the methods of the parser ensure, said of the run of the machine.
+use Rattle.std.specs.Prelude.{◌≡◌, ℕ, ◌+◌, ◌≤◌, ◌&&◌, Bool, true, List, [], ◌∷◌, ◌++◌, map, slice_get, Option, Some, None, Result, Ok, Err}
+use Rattle.fix_word.specs.declared.types.Mode.{Mode}
 use Rattle.silage_lex.specs.declared.Token.{Token}
 use Rattle.silage_lex.specs.declared.TokenKind.{TokenKind}
 use Rattle.silage_lex.specs.declared.TokenKind.TheVariants as kind
-use Rattle.silage_tree.specs.Grammar.{fix_type, kind_at, mode_of, number_of}
-use Rattle.silage_tree.specs.declared.tree.Manifest.{Manifest as RustManifest}
-use Rattle.silage_tree.specs.declared.tree.Expr.{Expr}
 use Rattle.silage_lex.specs.declared.punctuation.TheConstants as punctuation
 use Rattle.silage_lex.specs.declared.keywords.TheConstants as keyword
-use Rattle.fix_word.specs.declared.types.Mode.{Mode}
-use Rattle.silage_tree.specs.Tree.{view_manifest, view_delay, view_expr}
+use Rattle.silage_tree.specs.declared.tree.Manifest.{Manifest as RustManifest}
+use Rattle.silage_tree.specs.declared.tree.Place.{Place}
+use Rattle.silage_tree.specs.declared.tree.Expr.{Expr}
+use Rattle.silage_tree.specs.declared.tree.Item.{Item}
+use Rattle.silage_tree.specs.declared.tree.ConstDef.{ConstDef}
+use Rattle.silage_tree.specs.declared.tree.Func.{Func}
+use Rattle.silage_tree.specs.declared.tree.Top.{Top as RustTop}
+use Rattle.silage_tree.specs.declared.tree.Program.{Program}
+use Rattle.silage_tree.specs.Tree.{Top, table, function, view, view_manifest, view_delay, view_place, view_expr, view_item, view_func, view_top}
+use Rattle.silage_tree.specs.Grammar.{Declared, fix_type, kind_at, from_at, mode_of, number_of}
 use Rattle.silage_parse.specs.declared.ParseFault.{ParseFault}
 use Rattle.silage_parse.specs.declared.ParseFault.TheVariants.{Syntax, Deep, Memory}
-use Rattle.silage_parse.specs.declared.cursor.Cursor.{Cursor}
-use Rattle.silage_parse.specs.declared.cursor.Effect.{Effect as RustEffect}
-use Rattle.silage_parse.specs.declared.cursor.Effect.TheVariants as r
-use Rattle.silage_parse.specs.Table.{Terminal, Word, AName, AWhole, is_one, Effect, Outside, Begins, Inside, Enters, Leaves, Value, Symbol, Take, Go, Phrase, number, mark_of, Manifest_}
+use Rattle.silage_parse.specs.declared.parser.Counts.{Counts}
+use Rattle.silage_parse.specs.declared.parser.Effect.{Effect as RustEffect}
+use Rattle.silage_parse.specs.declared.parser.Effect.TheVariants as r
+use Rattle.silage_parse.specs.declared.parser.Parser.{Parser}
+use Rattle.silage_parse.specs.declared.declarations.Declared.{Declared as RustDeclared}
+use Rattle.silage_parse.specs.Table.{Terminal, Mark, Word, AName, AWhole, End, is_one, Effect, Outside, Begins, Inside, Enters, Leaves, Value, Symbol, Take, Go, Make, mark_of, word_of, Phrase, number, Decl_, MoreDecls, first_decl, Name_, MoreNames, first_name, Locals, no_locals, Signed, MoreWords, first_word, Target, MoreTargets, first_place, Args, Manifest_, ManifestPrimary, InitialValue, is_initial, AfterOpenName, Items_, no_items, FixIn, Words, add_table, Results, add_function, Tops}
 use Rattle.silage_parse.specs.Table as the
-use Rattle.silage_parse.specs.Machine.{whole_value, Count, allowed, counted, Outcome, fault, Runs}
+use Rattle.silage_parse.specs.Machine.{whole_value, Count, allowed, counted, Outcome, done, fault, Runs, RunsTo}
 
-abbrev pub count : Cursor → Count
-count c = record { weight = c.weight; loops = c.loops }
+-- THE STATE OF THE PARSER
+
+abbrev pub counts_of : Counts → Count
+counts_of c = record { weight = c.weight; loops = c.loops }
 
 abbrev pub effect : RustEffect → Effect
 effect r.Outside = Outside
@@ -30,75 +39,102 @@ effect r.Inside = Inside
 effect r.Enters = Enters
 effect r.Leaves = Leaves
 
--- the machine goes through the symbol from one cursor to another, and puts the value in front
-pub record Goes (ts : List Token) (s : Symbol) (from : Cursor) (v : Value) (to : Cursor) : Type 0 where
-  pub run : (ss : List Symbol) (vs : List Value) (o : Outcome) → Runs ts ss to.at (count to) (v ∷ vs) o → Runs ts (s ∷ ss) from.at (count from) vs o
+-- the kind of the next token, and of the token after it
+abbrev pub next : Parser → Option TokenKind
+next p = kind_at p.tokens.now p.at
 
--- the machine stops with the fault inside the symbol
-abbrev pub Stops : List Token → Symbol → Cursor → ParseFault → Type 0
-Stops ts s from Memory = Unit {0}
-Stops ts s from (Syntax k) = (ss : List Symbol) (vs : List Value) → Runs ts (s ∷ ss) from.at (count from) vs (fault (Syntax k))
-Stops ts s from (Deep k) = (ss : List Symbol) (vs : List Value) → Runs ts (s ∷ ss) from.at (count from) vs (fault (Deep k))
+abbrev pub later : Parser → Option TokenKind
+later p = kind_at p.tokens.now (p.at + 1)
 
--- The same of some symbols in turn, with the values that they put in front.
-pub record GoesThrough (ts : List Token) (ps : List Symbol) (from : Cursor) (us : List Value) (to : Cursor) : Type 0 where
-  pub run : (ss : List Symbol) (vs : List Value) (o : Outcome) → Runs ts ss to.at (count to) (us ++ vs) o → Runs ts (ps ++ ss) from.at (count from) vs o
+-- the byte at which the next token begins
+abbrev pub start_of : Parser → ℕ
+start_of p = from_at p.tokens.now p.at
 
-abbrev pub StopsIn : List Token → List Symbol → Cursor → ParseFault → Type 0
-StopsIn ts ps from Memory = Unit {0}
-StopsIn ts ps from (Syntax k) = (ss : List Symbol) (vs : List Value) → Runs ts (ps ++ ss) from.at (count from) vs (fault (Syntax k))
-StopsIn ts ps from (Deep k) = (ss : List Symbol) (vs : List Value) → Runs ts (ps ++ ss) from.at (count from) vs (fault (Deep k))
+-- from here, with these symbols to go through and these values on its stack, the machine comes to this outcome
+abbrev pub RunsFrom : Parser → List Symbol → List Value → Outcome → Type 0
+RunsFrom p ss vs o = Runs p.tokens.now ss p.at (counts_of p.counts) vs o
 
--- the token is one of these, and the machine goes past it
-pub record Takes (ts : List Token) (ks : List Terminal) (e : Effect) (from to : Cursor) : Type 0 where
+-- From one state of the parser to another the symbols ss become rest, and the values vs become ws, whatever is below them.
+pub record Leads (ss : List Symbol) (from : Parser) (vs : List Value) (rest : List Symbol) (to : Parser) (ws : List Value) : Type 0 where
+  pub same : to.tokens.now ≡ from.tokens.now
+  pub order : from.at ≤ to.at
+  pub run : (below : List Symbol) (under : List Value) (o : Outcome) → RunsFrom to (rest ++ below) (ws ++ under) o
+      → RunsFrom from (ss ++ below) (vs ++ under) o
+
+-- the machine stops with the fault inside these symbols
+abbrev pub Halts : List Symbol → Parser → List Value → ParseFault → Type 0
+Halts ss from vs Memory = Unit {0}
+Halts ss from vs (Syntax k) = (below : List Symbol) (under : List Value) → RunsFrom from (ss ++ below) (vs ++ under) (fault (Syntax k))
+Halts ss from vs (Deep k) = (below : List Symbol) (under : List Value) → RunsFrom from (ss ++ below) (vs ++ under) (fault (Deep k))
+
+-- WHAT A METHOD READS
+
+-- It goes through the symbols, and the values vs on the stack become those of what it answers.
+abbrev pub IsRead : {A : Type 0} → List Symbol → Parser → List Value → (A → List Value) → Parser → Result A ParseFault → Type 0
+IsRead ss from vs values to (Ok x) = Leads ss from vs [] to (values x)
+IsRead ss from vs values to (Err f) = Halts ss from vs f
+
+-- it reads one phrase
+abbrev pub IsParsed : {A : Type 0} → Phrase → Parser → (A → Value) → Parser → Result A ParseFault → Type 0
+IsParsed p from value to result = IsRead (Go p ∷ []) from [] (λ x. value x ∷ []) to result
+
+-- the next token is one of these, and the parser goes past it
+pub record Takes (ks : List Terminal) (e : Effect) (from to : Parser) : Type 0 where
   pub token : Token
-  pub there : slice_get ts from.at ≡ Some token
-  pub is_of : is_one ks (kind_at ts from.at) ≡ true
-  pub goes : Goes ts (Take ks e) from (the.token token) to
+  pub there : slice_get from.tokens.now from.at ≡ Some token
+  pub is_of : is_one ks (next from) ≡ true
+  pub same : to.tokens.now ≡ from.tokens.now
+  pub one : to.at ≡ from.at + 1
+  pub run : (below : List Symbol) (under : List Value) (o : Outcome) → RunsFrom to below (the.token token ∷ under) o
+      → RunsFrom from (Take ks e ∷ below) under o
 
--- the name, and the whole number, that a token is
-abbrev pub name_at : Option TokenKind → Option (List ℕ)
-name_at (Some (kind.Name name)) = Some name
-name_at _ = None
+-- the limits let the token pass, and the counts become these
+pub record IsCounted (t : Token) (e : Effect) (from to : Counts) : Type 0 where
+  pub passes : allowed e (Some t) (counts_of from) ≡ true
+  pub counts : counts_of to ≡ counted e (Some t) (counts_of from)
 
-abbrev pub whole_at : Option TokenKind → Option ℕ
-whole_at (Some (kind.Whole n)) = Some n
-whole_at _ = None
+-- it goes past a token that may be one of these, and past one that is known to be one of them
+abbrev pub Passes : List Terminal → Effect → Parser → Parser → Result Unit ParseFault → Type 0
+Passes ks e from to (Ok x) = Takes ks e from to
+Passes ks e from to (Err f) = Halts (Take ks e ∷ []) from [] f
 
--- the counts let the token pass, and the cursor is behind it with the counts that they become
-pub record IsCountedBehind (t : Token) (e : Effect) (from to : Cursor) : Type 0 where
-  pub passes : allowed e (Some t) (count from) ≡ true
-  pub counts : count to ≡ counted e (Some t) (count from)
-  pub next : to.at ≡ from.at + 1
+abbrev pub PassesAny : Effect → Parser → Parser → Result Unit ParseFault → Type 0
+PassesAny e from to result = (ks : List Terminal) → is_one ks (next from) ≡ true → Passes ks e from to result
 
--- What a function answers that goes past a token that may be one of these.
-abbrev pub IsPast : List Token → List Terminal → Effect → Cursor → Result Cursor ParseFault → Type 0
-IsPast ts ks e from (Ok to) = Takes ts ks e from to
-IsPast ts ks e from (Err f) = Stops ts (Take ks e) from f
+-- it reads a name, a number without a point, the digits and the places of a number
+abbrev pub ReadsName : Effect → Parser → Parser → Result (List ℕ) ParseFault → Type 0
+ReadsName e from to (Ok name) = Takes (AName ∷ []) e from to × (next from ≡ Some (kind.Name name))
+ReadsName e from to (Err f) = Halts (Take (AName ∷ []) e ∷ []) from [] f
 
--- the same where the token is known to be one of them
-abbrev pub IsPastAny : List Token → Effect → Cursor → Result Cursor ParseFault → Type 0
-IsPastAny ts e from result = (ks : List Terminal) → is_one ks (kind_at ts from.at) ≡ true → IsPast ts ks e from result
+abbrev pub ReadsWhole : Effect → Parser → Parser → Result ℕ ParseFault → Type 0
+ReadsWhole e from to (Ok n) = Takes (AWhole ∷ []) e from to × (next from ≡ Some (kind.Whole n))
+ReadsWhole e from to (Err f) = Halts (Take (AWhole ∷ []) e ∷ []) from [] f
 
--- The same with the name, the whole number, the digits and places that the token has.
-abbrev pub IsNamed : List Token → Effect → Cursor → Result (List ℕ × Cursor) ParseFault → Type 0
-IsNamed ts e from (Ok x) = Takes ts (AName ∷ []) e from x.1 × (kind_at ts from.at ≡ Some (kind.Name x.0))
-IsNamed ts e from (Err f) = Stops ts (Take (AName ∷ []) e) from f
+abbrev pub ReadsNumber : Effect → Parser → Parser → Result (ℕ × ℕ) ParseFault → Type 0
+ReadsNumber e from to (Ok n) = Takes number e from to × (number_of (next from) ≡ Some n)
+ReadsNumber e from to (Err f) = Halts (Take number e ∷ []) from [] f
 
-abbrev pub IsCounted : List Token → Effect → Cursor → Result (ℕ × Cursor) ParseFault → Type 0
-IsCounted ts e from (Ok x) = Takes ts (AWhole ∷ []) e from x.1 × (kind_at ts from.at ≡ Some (kind.Whole x.0))
-IsCounted ts e from (Err f) = Stops ts (Take (AWhole ∷ []) e) from f
+-- TYPES
 
-abbrev pub IsNumbered : List Token → Effect → Cursor → Result ((ℕ × ℕ) × Cursor) ParseFault → Type 0
-IsNumbered ts e from (Ok x) = Takes ts number e from x.1 × (number_of (kind_at ts from.at) ≡ Some x.0)
-IsNumbered ts e from (Err f) = Stops ts (Take number e) from f
+abbrev pub modes : List Terminal
+modes = Word keyword.TRUNC ∷ Word keyword.ROUND ∷ []
 
--- What a function answers that reads a phrase.
-abbrev pub IsParsed : {A : Type 0} → List Token → Phrase → Cursor → (A → Value) → Result (A × Cursor) ParseFault → Type 0
-IsParsed ts p from value (Ok x) = Goes ts (Go p) from (value x.0) x.1
-IsParsed ts p from value (Err f) = Stops ts (Go p) from f
+abbrev pub ReadsMode : Effect → Parser → Parser → Result Mode ParseFault → Type 0
+ReadsMode e from to (Ok m) = Takes modes e from to × (mode_of (next from) ≡ Some m)
+ReadsMode e from to (Err f) = Halts (Take modes e ∷ []) from [] f
 
--- the trees as the machine keeps them
+-- what is on the stack where the sizes of a fix type are read
+abbrev pub sizes_read : (fraction comma width below fix : Token) → List Value
+sizes_read fraction comma width below fix = the.token fraction ∷ the.token comma ∷ the.token width ∷ the.token below ∷ the.token fix ∷ []
+
+-- it reads the end of a fix type after its sizes, of which the machine makes the type
+abbrev pub EndsFix : Effect → Parser → Parser → Result Mode ParseFault → Type 0
+EndsFix e from to result = (fraction comma width below fix : Token)
+    → IsRead (Go (the.Mode e) ∷ []) from (sizes_read fraction comma width below fix)
+      (λ m. the.fix fix.from (fix_type (whole_value width) (whole_value fraction) m) ∷ []) to result
+
+-- MANIFESTS AND PLACES
+
 abbrev pub manifest_value : RustManifest → Value
 manifest_value m = the.manifest (view_manifest m)
 
@@ -108,30 +144,142 @@ subs_value ms = the.subs (map view_manifest ms)
 abbrev pub delay_value : Option RustManifest → Value
 delay_value d = the.delay (view_delay d)
 
+abbrev pub place_value : Place → Value
+place_value p = the.place (view_place p)
+
+abbrev pub place_values : List Place → Value
+place_values ps = the.places (map view_place ps)
+
+-- a manifest in brackets, with their effects
+abbrev pub in_brackets : Effect → Effect → List Symbol
+in_brackets before after = mark_of punctuation.LEFT_BRACKET before ∷ Go Manifest_ ∷ mark_of punctuation.RIGHT_BRACKET after ∷ []
+
+abbrev pub ReadsSubscript : Effect → Effect → Parser → Parser → Result RustManifest ParseFault → Type 0
+ReadsSubscript before after from to (Ok m) = (opened : Token) × (closed : Token)
+    × Leads (in_brackets before after) from [] [] to (the.token closed ∷ manifest_value m ∷ the.token opened ∷ [])
+ReadsSubscript before after from to (Err f) = Halts (in_brackets before after) from [] f
+
+-- DECLARATIONS
+
+abbrev pub view_declared : RustDeclared → Declared
+view_declared d = record { name = d.name; at = d.at; dims = d.dims }
+
+abbrev pub declared_value : RustDeclared → Value
+declared_value d = the.name (view_declared d)
+
+abbrev pub declared_values : List RustDeclared → Value
+declared_values ds = the.names (map view_declared ds)
+
+-- lists with commas between their parts, and the lines of locals
+abbrev pub name_list : List Symbol
+name_list = Go Name_ ∷ Make first_name ∷ Go MoreNames ∷ []
+
+abbrev pub decl_list : List Symbol
+decl_list = Go Decl_ ∷ Make first_decl ∷ Go MoreDecls ∷ []
+
+abbrev pub word_list : List Symbol
+word_list = Go Signed ∷ Make first_word ∷ Go MoreWords ∷ []
+
+abbrev pub local_lines : List Symbol
+local_lines = Make no_locals ∷ Go Locals ∷ []
+
+-- EXPRESSIONS
+
 abbrev pub expr_value : Expr → Value
 expr_value e = the.expr (view_expr e)
 
--- a manifest number in brackets, with what the brackets are to the limits
-abbrev pub in_brackets : Effect → Effect → List Symbol
-in_brackets before behind = mark_of punctuation.LEFT_BRACKET before ∷ Go Manifest_ ∷ mark_of punctuation.RIGHT_BRACKET behind ∷ []
+abbrev pub expr_values : List Expr → Value
+expr_values es = the.exprs (map view_expr es)
 
-abbrev pub IsSubscript : List Token → Effect → Effect → Cursor → Result (RustManifest × Cursor) ParseFault → Type 0
-IsSubscript ts before behind from (Ok x) = (opened : Token) × (closed : Token) × GoesThrough ts (in_brackets before behind) from (the.token closed ∷ manifest_value x.0 ∷ the.token opened ∷ []) x.1
-IsSubscript ts before behind from (Err f) = StopsIn ts (in_brackets before behind) from f
+-- ITEMS
 
-abbrev pub modes : List Terminal
-modes = Word keyword.TRUNC ∷ Word keyword.ROUND ∷ []
+abbrev pub item_value : Item → Value
+item_value x = the.an_item (view_item x)
 
--- the mode of a fix type
-abbrev pub IsMode : List Token → Effect → Cursor → Result (Mode × Cursor) ParseFault → Type 0
-IsMode ts e from (Ok x) = Takes ts modes e from x.1 × (mode_of (kind_at ts from.at) ≡ Some x.0)
-IsMode ts e from (Err f) = Stops ts (Take modes e) from f
+abbrev pub item_values : List Item → Value
+item_values xs = the.items (map view_item xs)
 
--- What a function answers that reads the end of a fix type, behind its second number: the machine makes the type of the values
--- that were put in front before.
-pub record EndsFix (ts : List Token) (e : Effect) (from : Cursor) (m : Mode) (to : Cursor) : Type 0 where
-  pub run : (fraction comma width below fix : Token) (ss : List Symbol) (vs : List Value) (o : Outcome) → Runs ts ss to.at (count to) (the.fix fix.from (fix_type (whole_value width) (whole_value fraction) m) ∷ vs) o → Runs ts (Go (the.Mode e) ∷ ss) from.at (count from) (the.token fraction ∷ the.token comma ∷ the.token width ∷ the.token below ∷ the.token fix ∷ vs) o
+abbrev pub place_list : List Symbol
+place_list = Go Target ∷ Make first_place ∷ Go MoreTargets ∷ []
 
-abbrev pub IsFixEnd : List Token → Effect → Cursor → Result (Mode × Cursor) ParseFault → Type 0
-IsFixEnd ts e from (Ok x) = EndsFix ts e from x.0 x.1
-IsFixEnd ts e from (Err f) = Stops ts (Go (the.Mode e)) from f
+abbrev pub item_list : List Symbol
+item_list = Make no_items ∷ Go Items_ ∷ []
+
+-- the arguments of a call with what ends it; an initial value after its place; the bounds of a loop after its index
+abbrev pub call_end : List Symbol
+call_end =
+    mark_of punctuation.LEFT_PAREN Begins ∷ Go Args ∷ mark_of punctuation.RIGHT_PAREN Outside
+    ∷ mark_of punctuation.SEMICOLON Outside ∷ []
+
+abbrev pub initial_end : List Symbol
+initial_end =
+    mark_of punctuation.AT_AT Begins ∷ Go ManifestPrimary ∷ mark_of punctuation.EQUAL Outside ∷ Go InitialValue
+    ∷ mark_of punctuation.SEMICOLON Outside ∷ Make is_initial ∷ []
+
+abbrev pub loop_bounds : List Symbol
+loop_bounds =
+    mark_of punctuation.COLON Begins ∷ Go Manifest_ ∷ mark_of punctuation.DOT_DOT Begins ∷ Go Manifest_
+    ∷ mark_of punctuation.RIGHT_PAREN Outside ∷ mark_of punctuation.COLON_COLON Outside ∷ []
+
+-- what comes after the `(` of an item
+abbrev pub behind_open : List Symbol
+behind_open = Take (AName ∷ []) Outside ∷ Go AfterOpenName ∷ []
+
+-- the next token is the name of a function that is called
+abbrev pub is_called : Parser → Bool
+is_called p = is_one (AName ∷ []) (next p) && is_one (Mark punctuation.LEFT_PAREN ∷ []) (later p)
+
+abbrev pub ReadsCallEnd : Parser → Parser → Result (List Expr) ParseFault → Type 0
+ReadsCallEnd from to (Ok args) = (opened : Token) × (closed : Token) × (ended : Token)
+    × Leads call_end from [] [] to (the.token ended ∷ the.token closed ∷ expr_values args ∷ the.token opened ∷ [])
+ReadsCallEnd from to (Err f) = Halts call_end from [] f
+
+-- what is on the stack where the bounds of a loop are read
+abbrev pub bounds_read : (each closed to colon : Token) → RustManifest × RustManifest → List Value
+bounds_read each closed to colon bounds =
+    the.token each ∷ the.token closed ∷ manifest_value bounds.1 ∷ the.token to ∷ manifest_value bounds.0 ∷ the.token colon ∷ []
+
+abbrev pub ReadsBounds : Parser → Parser → Result (RustManifest × RustManifest) ParseFault → Type 0
+ReadsBounds from end (Ok bounds) = (each : Token) × (closed : Token) × (to : Token) × (colon : Token)
+    × Leads loop_bounds from [] [] end (bounds_read each closed to colon bounds)
+ReadsBounds from end (Err f) = Halts loop_bounds from [] f
+
+-- THE WHOLE SOURCE
+
+abbrev pub table_row : List Symbol
+table_row =
+    word_of keyword.CONST Outside ∷ Go Name_ ∷ mark_of punctuation.COLON Outside ∷ Go (FixIn Outside)
+    ∷ mark_of punctuation.EQUAL Outside ∷ Go Words ∷ mark_of punctuation.SEMICOLON Outside ∷ Make add_table ∷ []
+
+abbrev pub function_row : List Symbol
+function_row =
+    word_of keyword.FUNC Outside ∷ Take (AName ∷ []) Outside ∷ mark_of punctuation.LEFT_PAREN Outside
+    ∷ decl_list ++ mark_of punctuation.RIGHT_PAREN Outside ∷ Go Results ∷ mark_of punctuation.EQUAL Outside
+    ∷ word_of keyword.BEGIN Outside ∷ local_lines ++ item_list ++ word_of keyword.END Outside
+    ∷ mark_of punctuation.SEMICOLON Outside ∷ Make add_function ∷ []
+
+-- what the whole source goes on with between tables and functions
+abbrev pub source_rest : List Symbol
+source_rest = Go Tops ∷ Take (End ∷ []) Outside ∷ []
+
+-- the tables and functions so far, with one more
+abbrev pub with_table : List Top → ConstDef → List Value
+with_table tops t = the.tops (tops ++ table t ∷ []) ∷ []
+
+abbrev pub with_function : List Top → Func → List Value
+with_function tops f = the.tops (tops ++ function (view_func f) ∷ []) ∷ []
+
+abbrev pub with_top : List Top → RustTop → List Value
+with_top tops t = the.tops (tops ++ view_top t ∷ []) ∷ []
+
+-- it reads a table or a function, to where the machine looks for the next one
+abbrev pub ReadsTop : Parser → List Top → Parser → Result RustTop ParseFault → Type 0
+ReadsTop from tops to (Ok top) = Leads source_rest from (the.tops tops ∷ []) source_rest to (with_top tops top)
+ReadsTop from tops to (Err f) = Halts source_rest from (the.tops tops ∷ []) f
+
+-- what the whole run comes to, memory aside
+abbrev pub IsRun : List Token → Result Program ParseFault → Type 0
+IsRun ts (Ok p) = RunsTo ts (done (the.tops (view p).tops ∷ []))
+IsRun ts (Err (Syntax k)) = RunsTo ts (fault (Syntax k))
+IsRun ts (Err (Deep k)) = RunsTo ts (fault (Deep k))
+IsRun ts (Err Memory) = Unit {0}

@@ -1,11 +1,11 @@
 //! Which program the tokens of a source are.
 #![tactic(auto)]
 
-mod cursor;
 mod declarations;
 mod expressions;
 mod items;
 mod manifests;
+mod parser;
 mod places;
 mod program;
 mod types;
@@ -79,6 +79,3 @@ pub fn print_is_parsed()
 {
     print_is_read()
 }
-
-#[cfg(test)]
-mod tests;
