@@ -1,11 +1,4 @@
-pub mod Places
-pub mod Files
-pub mod Effects
-pub mod UnderWay
-pub mod Window
-pub mod Jobs
-pub mod Cycle
-pub mod Issues
-pub mod Clashes
+pub mod Storage
+pub mod InFlight
 pub mod Machine
-pub mod Hardware
+pub mod Private

@@ -4,7 +4,8 @@ use Rattle.std.proofs.lemmas.Slice.Eq.{bytes_eq-Decides}
 use Rattle.silage_tree.specs.declared.tree.ConstDef.{ConstDef}
 use Rattle.silage_tree.specs.Tree.{Func, Top, table, function, Program}
 use Rattle.silage_tree.specs.Names.{as_table, as_function, table_named, function_named}
-use Rattle.name_check.specs.TopNames.{top_name, top_names, IsDistinct}
+use Rattle.name_check.specs.TopNames.{top_name, top_names}
+use Rattle.name_check.specs.Private.FirstTops.{IsDistinct}
 
 abbrev named : List ℕ → List Top → Option Top
 named name ts = find (λ t. bytes_eq (top_name t) name) ts

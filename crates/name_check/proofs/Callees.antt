@@ -13,7 +13,7 @@ use Rattle.silage_tree.specs.declared.tree.Item.{Item as RustItem, Loop, Loop', 
 use Rattle.silage_tree.specs.Tree.{loop, item, items_of, view_manifest, view_item, view_row, view_items}
 use Rattle.name_check.specs.TopNames.{IsFirstPlace}
 use Rattle.name_check.specs.Calls.{called, all_called}
-use Rattle.name_check.specs.Search.{place, places}
+use Rattle.name_check.specs.Private.CallLists.{place, places}
 use Rattle.name_check.proofs.FirstPlaces.{place_found, place_missing}
 
 row_items : (m : _) (k : Row_of-Item m) → view_row k ≡ items_of (map view_item (items-the_row-Item m k))

@@ -1,7 +1,7 @@
 -- Small programs and their first faults, read by the definitions. Each `at` is that of the source in the comment.
 use Rattle.std.proofs.Common.{◌≡◌, ◌∷◌, ◌+◌, ℕ, zero, suc, refl, arith, List, [], Some, None, false, codes, Result, Ok, Err, replicate}
 use Rattle.ranked_faults.specs.Ranked.{IsFirst}
-use Rattle.ranked_faults.specs.Rules.{first}
+use Rattle.ranked_faults.specs.Private.FirstMet.{first}
 use Rattle.fix_word.specs.declared.types.FixType.{FixType}
 use Rattle.fix_word.specs.declared.types.Mode.TheVariants.{Trunc}
 use Rattle.fix_word.specs.declared.types.SigType.TheVariants as sig
@@ -10,8 +10,9 @@ use Rattle.silage_tree.specs.declared.tree.Decl.{Decl}
 use Rattle.silage_tree.specs.declared.tree.Lit.{Lit}
 use Rattle.silage_tree.specs.declared.tree.Lit.TheVariants.{Number}
 use Rattle.silage_tree.specs.Tree.{Manifest, whole, counter, Place, Expr, literal, read, binary, cast, equation, call, loop, initial, Item, no_item, items_of, Top, table, function, Program}
-use Rattle.name_check.specs.TopNames.{IsDistinct}
-use Rattle.name_check.specs.Calls.{Calls, HasNoRecursion, by_call, by_calls}
+use Rattle.name_check.specs.Private.FirstTops.{IsDistinct}
+use Rattle.name_check.specs.Calls.{Calls, by_call, by_calls}
+use Rattle.name_check.specs.Private.FirstTops.{HasNoRecursion}
 use Rattle.name_check.specs.NameRules.{all_top_rules}
 use Rattle.name_check.specs.NameFaults.{name_faults}
 use Rattle.name_check.specs.declared.fault.NameFault.{NameFault}

@@ -1,4 +1,4 @@
--- The place of a name in a list of names, and names that stand twice.
+-- The place of a name in a list of names, and duplicate names.
 use Rattle.std.proofs.Common.{◌≡◌, ℕ, ◌+◌, ◌<◌, ◌≤◌, Bool, true, false, cond, List, [], ◌∷◌, ◌++◌, Option, Some, None, length, get_or, take, refl, sym, ap, subst, ◌∙◌, arith, inl, inr, map, nat_lt}
 use Rattle.std.specs.Prelude.{◌↔◌, ◌⊎◌, Contains, slice_get, bytes_eq, option_map, if◌then◌else◌}
 use Rattle.std.specs.List.{position_or_len, list_any}
@@ -14,18 +14,10 @@ use Rattle.silage_tree.specs.declared.tree.Top.{Top as RustTop}
 use Rattle.silage_tree.specs.Tree.{Top, Program, view_top}
 use Rattle.name_check.specs.declared.fault.NameFault.{NameFault}
 use Rattle.name_check.specs.declared.fault.NameFault.TheVariants.{Twice}
-use Rattle.name_check.specs.TopNames.{top_name, top_at, top_names, IsFirstPlace, IsDoubled, IsDistinct, IsTwice}
-use Rattle.name_check.specs.Search.{place}
-
-some_once : {A : Type 0} {x y : A} {o : Option A} → o ≡ Some x → o ≡ Some y → x ≡ y
-some_once e f = cc
-
--- what stands at a place is in the list
-pub contains_at : {A : Type 0} (xs : List A) (k : ℕ) (x : A) → slice_get xs k ≡ Some x → Contains xs x
-contains_at xs k x e = (k, slice_get_within xs k x e, get_or_from_slice_get xs k x x e)
-
-pub place_of : {A : Type 0} (xs : List A) (x : A) → Contains xs x → (k : ℕ) × (slice_get xs k ≡ Some x)
-place_of xs x (k, within, at) = (k, slice_get-get_or xs k x within ∙ ap Some at)
+use Rattle.name_check.specs.TopNames.{top_name, top_at, top_names, IsFirstPlace, IsDuplicate}
+use Rattle.name_check.specs.Private.FirstTops.{IsDistinct, IsFirstDuplicate}
+use Rattle.name_check.specs.Private.CallLists.{place}
+use Rattle.lists.proofs.Places.{some_once, contains_at}
 
 -- a place in the first i is a place in the list
 pub in_front : {A : Type 0} (xs : List A) (i j : ℕ) (x : A) → j < i → slice_get xs j ≡ Some x → Contains (take i xs) x
@@ -113,7 +105,7 @@ answered names name r e = record {
 -- the first i names are kept, and none of them stands before itself
 pub record IsKept (all : List (List ℕ)) (i : ℕ) (names : List (List ℕ)) : Type 0 where
   pub same : names ≡ take i all
-  pub apart : (k : ℕ) → k < i → ¬ IsDoubled all k
+  pub apart : (k : ℕ) → k < i → ¬ IsDuplicate all k
 
 pub none_kept : (all names : List (List ℕ)) → names ≡ [] → IsKept all 0 names
 none_kept all names e = record { same = e; apart = λ k below. absurd (omega arith) }
@@ -146,7 +138,7 @@ kept_all all i names past h =
 
 -- a name that is kept already stands twice, and is the first that does
 pub kept_twice : (p : Program) (i : ℕ) (top : Top) (names : List (List ℕ)) (fault : NameFault) → slice_get p.tops i ≡ Some top → list_any (bytes_eq (top_name top)) names ≡ true
-    → fault ≡ Twice (top_at top) → IsKept (top_names p) i names → IsTwice p fault
+    → fault ≡ Twice (top_at top) → IsKept (top_names p) i names → IsFirstDuplicate p fault
 kept_twice p i top names fault stands there told h =
     let all = top_names p in
     let here : slice_get all i ≡ Some (top_name top) = slice_get-map top_name p.tops i ∙ ap (option_map top_name) stands in
@@ -154,7 +146,7 @@ kept_twice p i top names fault stands there told h =
     let earlier = from_front all i (top_name top) (subst (λ xs. Contains xs (top_name top)) h.same kept) in
     record {
       place = i;
-      doubled = record { name = top_name top; here = here; earlier = earlier.0; before = earlier.1; there = earlier.2 };
+      duplicate = record { name = top_name top; here = here; earlier = earlier.0; before = earlier.1; there = earlier.2 };
       first = λ k double. elim (cases_lt k i) [ inl below ↦ absurd (h.apart k below double) | inr above ↦ above ];
       top = top;
       stands = stands;

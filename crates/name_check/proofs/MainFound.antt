@@ -1,5 +1,6 @@
 -- The search for main, and what the whole phase answers.
-use Rattle.std.proofs.Common.{◌≡◌, ◌≢◌, ◌⊎◌, ◌<◌, ◌+◌, ◌∙◌, ℕ, suc, List, ◌∷◌, Option, Some, None, true, false, cond, Result, Ok, Err, map, drop, find, filter_map, length, get_or, codes, bytes_eq, refl, sym, ap, inl, inr, add-one, drop-cons, IfErr, IsErrAnd, OnOk, subst, option_map}
+use Rattle.std.proofs.Common.{◌≡◌, ◌≢◌, ◌⊎◌, ◌<◌, ◌+◌, ◌∙◌, ℕ, suc, List, ◌∷◌, Option, Some, None, true, false, cond, Result, Ok, Err, map, drop, find, filter_map, length, get_or, codes, bytes_eq, refl, sym, ap, inl, inr, add-one, drop-cons, IfErr, IsErrAnd, OnOk, subst, option_map, MatchOption}
+use Rattle.std.specs.Option.{ok_or}
 use Rattle.std.proofs.lemmas.Option.{slice_get-map, slice_get_read}
 use Rattle.ranked_faults.specs.Ranked.{IsClear, IsFirst}
 use Rattle.ranked_faults.proofs.FirstFaults.{one_first}
@@ -7,8 +8,9 @@ use Rattle.silage_tree.specs.declared.tree.Top.{Top as RustTop}
 use Rattle.silage_tree.specs.Tree.{Func, Top, table, function, Program, view_top}
 use Rattle.silage_tree.specs.Names.{as_function}
 use Rattle.silage_tree.specs.Instances.{main_of}
-use Rattle.name_check.specs.Meanings.{is_main}
-use Rattle.name_check.specs.NameFaults.{name_faults, IsMain, AnswersOk, AnswersFault}
+use Rattle.name_check.specs.Private.FirstTops.{is_main}
+use Rattle.name_check.specs.NameFaults.{name_faults, IsMain}
+use Rattle.ranked_faults.specs.Ranked.{AnswersOk, AnswersFault}
 use Rattle.name_check.specs.declared.fault.NameFault.{NameFault}
 use Rattle.name_check.specs.declared.fault.NameFault.TheVariants.{Unknown, Twice, Recursive, NoMain, Arity, Size, Memory}
 use Rattle.name_check.proofs.NameAnswers.{names_single}
@@ -54,7 +56,7 @@ memory_or_not (Size at) = inr (λ e. cc)
 memory_or_not Memory = inl refl
 
 module _ {A : Type 0} (p : Program) where
-  pub clear_is_ok : (r : Result A NameFault) → IfErr r (λ fault. fault ≢ Memory → IsFirst (name_faults p) fault) → IsClear (name_faults p) → AnswersOk r
+  pub clear_is_ok : (r : Result A NameFault) → IfErr r (λ fault. fault ≢ Memory → IsFirst (name_faults p) fault) → IsClear (name_faults p) → AnswersOk Memory r
   clear_is_ok (Ok x) fails clear = tt
   clear_is_ok (Err f) fails clear = by (memory_or_not f)
     where
@@ -62,7 +64,7 @@ module _ {A : Type 0} (p : Program) where
       by (inl e) = e
       by (inr n) = let i = fails n in absurd (clear i.rank f i.here)
 
-  pub first_is_told : (r : Result A NameFault) → OnOk r (IsClear (name_faults p)) → IfErr r (λ fault. fault ≢ Memory → IsFirst (name_faults p) fault) → (fault : NameFault) → IsFirst (name_faults p) fault → AnswersFault fault r
+  pub first_is_told : (r : Result A NameFault) → OnOk r (IsClear (name_faults p)) → IfErr r (λ fault. fault ≢ Memory → IsFirst (name_faults p) fault) → (fault : NameFault) → IsFirst (name_faults p) fault → AnswersFault Memory fault r
   first_is_told (Ok x) clear fails fault i = absurd (clear i.rank fault i.here)
   first_is_told (Err f) clear fails fault i = by (memory_or_not f)
     where
@@ -86,8 +88,24 @@ module _ {A : Type 0} (p : Program) where
         by (Ok x) h = absurd h
         by (Err f) h = tt
 
-    pub error_each_ok : IsClear (name_faults p) → AnswersOk r
+    pub error_each_ok : IsClear (name_faults p) → AnswersOk Memory r
     error_each_ok = clear_is_ok r error_told
 
-    pub error_each_fault : (fault : NameFault) → IsFirst (name_faults p) fault → AnswersFault fault r
+    pub error_each_fault : (fault : NameFault) → IsFirst (name_faults p) fault → AnswersFault Memory fault r
     error_each_fault = first_is_told r no_ok error_told
+
+-- the search for main, as a result
+module _ (p : Program) (o : Option ℕ) (m : MatchOption o (main_of p ≡ None) (IsMain p)) where
+  pub no_main_given : (e : NameFault) → Err e ≡ ok_or o NoMain → (main_of p ≡ None) × (e ≡ NoMain)
+  no_main_given e is = by o m is
+    where
+      by : (o : Option ℕ) → MatchOption o (main_of p ≡ None) (IsMain p) → Err e ≡ ok_or o NoMain → (main_of p ≡ None) × (e ≡ NoMain)
+      by None m is = (m, (cc))
+      by (Some k) m is = absurd (cc)
+
+  pub main_given : (k : ℕ) → Ok k ≡ ok_or o NoMain → main_of p ≢ None
+  main_given k is = by o m is
+    where
+      by : (o : Option ℕ) → MatchOption o (main_of p ≡ None) (IsMain p) → Ok k ≡ ok_or o NoMain → main_of p ≢ None
+      by None m is = absurd (cc)
+      by (Some j) m is = some_main p j m

@@ -1,14 +1,18 @@
 -- What the parts of the names phase answer is the first fault of the whole.
 use Rattle.std.proofs.Common.{◌≡◌, ◌≢◌, ◌<◌, ◌≤◌, ◌⊎◌, ◌∙◌, ℕ, List, [], ◌∷◌, Some, None, Result, Ok, Err, slice_get, sym, ap, subst, inl, inr, arith}
 use Rattle.std.proofs.lemmas.Bool.{cases_lt}
-use Rattle.ranked_faults.specs.Ranked.{FaultSet, StandsBefore, IsFirst, IsClear, IsSingle, Answers, faults_in, fault_where, no_faults, ◌before◌}
-use Rattle.ranked_faults.specs.Rules.{faults, first}
+use Rattle.ranked_faults.specs.Ranked.{FaultSet, StandsBefore, IsFirst, IsClear, faults_in, fault_where, no_faults, ◌before◌}
+use Rattle.ranked_faults.proofs.FirstFaults.{IsSingle, Answers}
+use Rattle.ranked_faults.specs.Rules.{faults}
+use Rattle.ranked_faults.specs.Private.FirstMet.{first}
 use Rattle.ranked_faults.proofs.FirstFaults.{none_clear, before_clear, before_first, later_first, own_clear, own_first, none_single, before_single, own_single}
 use Rattle.ranked_faults.proofs.TableFaults.{first_answers, single_faults}
 use Rattle.silage_tree.specs.Tree.{Top, Program}
 use Rattle.silage_tree.specs.Instances.{main_of}
-use Rattle.name_check.specs.TopNames.{top_at, top_names, IsDoubled, IsDistinct, IsTwice}
-use Rattle.name_check.specs.Calls.{Calls, Reaches, HasNoRecursion, IsRecursive}
+use Rattle.name_check.specs.TopNames.{top_at, top_names, IsDuplicate}
+use Rattle.name_check.specs.Private.FirstTops.{IsDistinct, IsFirstDuplicate}
+use Rattle.name_check.specs.Calls.{Calls, Reaches}
+use Rattle.name_check.specs.Private.FirstTops.{HasNoRecursion, IsRecursive}
 use Rattle.name_check.specs.NameRules.{all_top_rules}
 use Rattle.name_check.specs.NameFaults.{faults_of_tops, name_faults}
 use Rattle.name_check.specs.declared.fault.NameFault.{NameFault}
@@ -53,24 +57,24 @@ module _ (p : Program) where
   recursion = faults_in (faults_of_tops p (λ k. Reaches (Calls p) k k) Recursive)
 
   abbrev doubles : FaultSet NameFault
-  doubles = faults_in (faults_of_tops p (IsDoubled (top_names p)) Twice)
+  doubles = faults_in (faults_of_tops p (IsDuplicate (top_names p)) Twice)
 
   abbrev inside : FaultSet NameFault
   inside = faults (all_top_rules p)
 
   pub names_single : IsSingle (name_faults p)
   names_single =
-      before_single doubles (inside before recursion before no_main before no_faults) (tops_single p (IsDoubled (top_names p)) Twice)
+      before_single doubles (inside before recursion before no_main before no_faults) (tops_single p (IsDuplicate (top_names p)) Twice)
       (before_single inside (recursion before no_main before no_faults) (single_faults (all_top_rules p))
       (before_single recursion (no_main before no_faults) (tops_single p (λ k. Reaches (Calls p) k k) Recursive)
       (before_single no_main no_faults (own_single (main_of p ≡ None) NoMain no_faults none_single) none_single)))
 
-  pub twice_first : (fault : NameFault) → IsTwice p fault → IsFirst (name_faults p) fault
-  twice_first fault i = before_first doubles (inside before recursion before no_main before no_faults) fault (tops_first p (IsDoubled (top_names p)) Twice i.place i.top fault i.stands i.doubled i.first i.told)
+  pub twice_first : (fault : NameFault) → IsFirstDuplicate p fault → IsFirst (name_faults p) fault
+  twice_first fault i = before_first doubles (inside before recursion before no_main before no_faults) fault (tops_first p (IsDuplicate (top_names p)) Twice i.place i.top fault i.stands i.duplicate i.first i.told)
 
   module _ (apart : IsDistinct (top_names p)) where
     behind_doubles : (fault : NameFault) → IsFirst (faults_in (inside before recursion before no_main before no_faults)) fault → IsFirst (name_faults p) fault
-    behind_doubles fault i = later_first doubles (inside before recursion before no_main before no_faults) fault (tops_clear p (IsDoubled (top_names p)) Twice apart) i
+    behind_doubles fault i = later_first doubles (inside before recursion before no_main before no_faults) fault (tops_clear p (IsDuplicate (top_names p)) Twice apart) i
 
     pub inside_first : (fault : NameFault) → Err fault ≡ first (all_top_rules p) → IsFirst (name_faults p) fault
     inside_first fault e =
@@ -97,7 +101,7 @@ module _ (p : Program) where
 
         pub names_clear : main_of p ≢ None → IsClear (name_faults p)
         names_clear n =
-            before_clear doubles (inside before recursion before no_main before no_faults) (tops_clear p (IsDoubled (top_names p)) Twice apart)
+            before_clear doubles (inside before recursion before no_main before no_faults) (tops_clear p (IsDuplicate (top_names p)) Twice apart)
             (before_clear inside (recursion before no_main before no_faults) inside_clear
             (before_clear recursion (no_main before no_faults) recursion_clear
             (before_clear no_main no_faults (own_clear (main_of p ≡ None) NoMain no_faults n none_clear) none_clear)))

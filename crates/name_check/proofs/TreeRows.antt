@@ -1,15 +1,17 @@
 -- The branches of a conditional and the items of a loop are the lists that they were made of.
-use Rattle.std.proofs.Common.{◌≡◌, ℕ, List, ◌∷◌, Vec, Box, Result, Ok, Err, IsErrAnd, refl, sym, ap, ◌∙◌, map}
+use Rattle.std.proofs.Common.{◌≡◌, ℕ, List, Vec, Box, Result, Ok, Err, IsErrAnd, refl, sym, ap, ◌∙◌, map}
 use Rattle.std.specs.Global.{Global}
 use mathlib.Core.Former.{Count}
 use Rattle.silage_tree.specs.declared.tree.Expr.{Expr as RustExpr, Choose, Choose', Row_of-Expr-Choose-1-2, end_of-Expr-Choose-1-2, more_of-Expr-Choose-1-2, items-the_row-Expr-Choose-1-2, items_hidden-the_row-Expr-Choose-1-2-0}
 use Rattle.silage_tree.specs.declared.tree.Manifest.{Manifest as RustManifest}
 use Rattle.silage_tree.specs.declared.tree.Item.{Item as RustItem, Loop, Loop', Row_of-Item, end_of-Item, more_of-Item, items-the_row-Item, items_hidden-the_row-Item-0}
-use Rattle.silage_tree.specs.Tree.{Program, Func, branch, choose, loop, item, items_of, view_expr, view_branches, view_manifest, view_item, view_row, view_items}
-use Rattle.ranked_faults.specs.Rules.{first, parts, ◌>>◌}
+use Rattle.silage_tree.specs.Tree.{branch, choose, loop, item, items_of, view_expr, view_branches, view_manifest, view_item, view_row, view_items}
+use Rattle.ranked_faults.specs.Rules.{parts}
+use Rattle.ranked_faults.specs.Private.FirstMet.{first, ◌>>◌}
 use Rattle.ranked_faults.proofs.TableFaults.{then_ok, err_is}
-use Rattle.name_check.specs.Scopes.{view_arms}
-use Rattle.name_check.specs.NameRules.{expr_rules, branch_rules, turns_rules, item_rules, items_rules}
+use Rattle.name_check.specs.Private.Views.{view_arms}
+use Rattle.name_check.specs.Contexts.{Context, inside}
+use Rattle.name_check.specs.NameRules.{expr_rules, branch_rules, head_rules, item_rules, items_rules}
 use Rattle.name_check.specs.declared.fault.NameFault.{NameFault}
 
 row_arms : (m : _) (k : Row_of-Expr-Choose-1-2 m) → view_branches k ≡ view_arms (items-the_row-Expr-Choose-1-2 m k)
@@ -41,39 +43,39 @@ view_Loop index lo hi v at =
     ap (λ xs. loop index (view_manifest lo) (view_manifest hi) xs at) (row_items row.0 row.1 ∙ ap view_items same)
 
 -- a conditional is met by its branches and then its last value
-module _ (p : Program) (f : Func) (indices : List (List ℕ)) (e : RustExpr) (at : ℕ) (v : Vec (RustExpr × RustExpr) Global) (b : Box RustExpr Global) (is : e ≡ Choose at v b) where
+module _ (c : Context) (e : RustExpr) (at : ℕ) (v : Vec (RustExpr × RustExpr) Global) (b : Box RustExpr Global) (is : e ≡ Choose at v b) where
   abbrev first_arms : List (RustExpr × RustExpr) → Result (Unit {0}) NameFault
-  first_arms arms = first (parts (branch_rules p f indices (view_arms arms)))
+  first_arms arms = first (parts (branch_rules c (view_arms arms)))
 
-  whole_choice : first (expr_rules p f indices (view_expr e)) ≡ first_arms v.items >> (first (expr_rules p f indices (view_expr b.value)) >> Ok tt)
-  whole_choice = ap (λ x. first (expr_rules p f indices x)) (ap view_expr is ∙ view_Choose at v b)
+  whole_choice : first (expr_rules c (view_expr e)) ≡ first_arms v.items >> (first (expr_rules c (view_expr b.value)) >> Ok tt)
+  whole_choice = ap (λ x. first (expr_rules c x)) (ap view_expr is ∙ view_Choose at v b)
 
   pub arms_fail : (arms : List (RustExpr × RustExpr)) (r : Result (Unit {0}) NameFault) (err : NameFault) → arms ≡ v.items → Err err ≡ first_arms arms → IsErrAnd r (λ x. x ≡ err)
-      → r ≡ first (expr_rules p f indices (view_expr e))
+      → r ≡ first (expr_rules c (view_expr e))
   arms_fail arms r err a h fails =
       let met : first_arms v.items ≡ Err err = sym (h ∙ ap first_arms a) in
-      err_is r err fails ∙ sym (whole_choice ∙ ap (λ x. x >> (first (expr_rules p f indices (view_expr b.value)) >> Ok tt)) met)
+      err_is r err fails ∙ sym (whole_choice ∙ ap (λ x. x >> (first (expr_rules c (view_expr b.value)) >> Ok tt)) met)
 
-  pub arms_pass : (arms : List (RustExpr × RustExpr)) (last : RustExpr) (r : Result (Unit {0}) NameFault) → arms ≡ v.items → last ≡ b.value → Ok tt ≡ first_arms arms → r ≡ first (expr_rules p f indices (view_expr last))
-      → r ≡ first (expr_rules p f indices (view_expr e))
+  pub arms_pass : (arms : List (RustExpr × RustExpr)) (last : RustExpr) (r : Result (Unit {0}) NameFault) → arms ≡ v.items → last ≡ b.value → Ok tt ≡ first_arms arms → r ≡ first (expr_rules c (view_expr last))
+      → r ≡ first (expr_rules c (view_expr e))
   arms_pass arms last r a l h g =
       let met : first_arms v.items ≡ Ok tt = sym (h ∙ ap first_arms a) in
-      let rest : first (expr_rules p f indices (view_expr b.value)) ≡ r = sym (g ∙ ap (λ x. first (expr_rules p f indices (view_expr x))) l) in
-      sym (whole_choice ∙ ap (λ x. x >> (first (expr_rules p f indices (view_expr b.value)) >> Ok tt)) met ∙ then_ok _ ∙ rest)
+      let rest : first (expr_rules c (view_expr b.value)) ≡ r = sym (g ∙ ap (λ x. first (expr_rules c (view_expr x))) l) in
+      sym (whole_choice ∙ ap (λ x. x >> (first (expr_rules c (view_expr b.value)) >> Ok tt)) met ∙ then_ok _ ∙ rest)
 
 -- a loop is met by its index and bounds and then its items
-module _ (p : Program) (f : Func) (indices : List (List ℕ)) (x : RustItem) (index : List ℕ) (lo hi : RustManifest) (v : Vec RustItem Global) (at : ℕ) (is : x ≡ Loop index lo hi v at) where
-  abbrev turns : Result (Unit {0}) NameFault
-  turns = first (turns_rules p f indices index (view_manifest lo) (view_manifest hi) at)
+module _ (c : Context) (x : RustItem) (index : List ℕ) (lo hi : RustManifest) (v : Vec RustItem Global) (at : ℕ) (is : x ≡ Loop index lo hi v at) where
+  abbrev head : Result (Unit {0}) NameFault
+  head = first (head_rules c index (view_manifest lo) (view_manifest hi) at)
 
   abbrev first_items : List RustItem → Result (Unit {0}) NameFault
-  first_items xs = first (parts (items_rules p f (index ∷ indices) (view_items xs)))
+  first_items xs = first (parts (items_rules (inside index c) (view_items xs)))
 
-  whole_loop : first (item_rules p f indices (view_item x)) ≡ turns >> (first_items v.items >> Ok tt)
-  whole_loop = ap (λ y. first (item_rules p f indices y)) (ap view_item is ∙ view_Loop index lo hi v at)
+  whole_loop : first (item_rules c (view_item x)) ≡ head >> (first_items v.items >> Ok tt)
+  whole_loop = ap (λ y. first (item_rules c y)) (ap view_item is ∙ view_Loop index lo hi v at)
 
-  pub turns_fail : (r : Result (Unit {0}) NameFault) (err : NameFault) → Err err ≡ turns → IsErrAnd r (λ e. e ≡ err) → r ≡ first (item_rules p f indices (view_item x))
-  turns_fail r err h fails = err_is r err fails ∙ ap (λ s. s >> (first_items v.items >> Ok tt)) h ∙ sym whole_loop
+  pub head_fails : (r : Result (Unit {0}) NameFault) (err : NameFault) → Err err ≡ head → IsErrAnd r (λ e. e ≡ err) → r ≡ first (item_rules c (view_item x))
+  head_fails r err h fails = err_is r err fails ∙ ap (λ s. s >> (first_items v.items >> Ok tt)) h ∙ sym whole_loop
 
-  pub turns_pass : (xs : List RustItem) (r : Result (Unit {0}) NameFault) → xs ≡ v.items → Ok tt ≡ turns → r ≡ first_items xs → r ≡ first (item_rules p f indices (view_item x))
-  turns_pass xs r a h g = g ∙ ap first_items a ∙ sym (then_ok (first_items v.items)) ∙ ap (λ s. s >> (first_items v.items >> Ok tt)) h ∙ sym whole_loop
+  pub head_passes : (xs : List RustItem) (r : Result (Unit {0}) NameFault) → xs ≡ v.items → Ok tt ≡ head → r ≡ first_items xs → r ≡ first (item_rules c (view_item x))
+  head_passes xs r a h g = g ∙ ap first_items a ∙ sym (then_ok (first_items v.items)) ∙ ap (λ s. s >> (first_items v.items >> Ok tt)) h ∙ sym whole_loop

@@ -1,9 +1,8 @@
--- Which functions call which, and which function reaches itself.
-use Rattle.std.specs.Prelude.{◌≡◌, ℕ, ◌≤◌, List, [], ◌∷◌, ◌++◌, Contains, slice_get, Some}
-use Rattle.silage_tree.specs.Tree.{Item, equation, call, loop, initial, Items, no_item, item, Top, table, function, Program}
-use Rattle.name_check.specs.TopNames.{top_names, top_at, IsFirstPlace}
-use Rattle.name_check.specs.declared.fault.NameFault.{NameFault}
-use Rattle.name_check.specs.declared.fault.NameFault.TheVariants.{Recursive}
+-- Which functions call which, and which functions reach which by calls.
+use Rattle.std.specs.Prelude.{◌≡◌, ℕ, List, [], ◌∷◌, ◌++◌, Contains, slice_get, Some}
+use Rattle.silage_tree.specs.Tree.{Item, equation, call, loop, initial, Items, no_item, item}
+use Rattle.silage_tree.specs.Tree.{Top, table, function, Program}
+use Rattle.name_check.specs.TopNames.{top_names, IsFirstPlace}
 
 -- the names of the functions that items call, in loops too
 abbrev mutual
@@ -33,20 +32,3 @@ pub record Calls (p : Program) (f g : ℕ) : Type 0 where
 pub data Reaches (Step : ℕ → ℕ → Type 0) : ℕ → ℕ → Type 0 where
   by_call : {f g : ℕ} → Step f g → Reaches Step f g
   by_calls : {f g h : ℕ} → Step f g → Reaches Step g h → Reaches Step f h
-
--- no function reaches itself
-abbrev pub HasNoRecursion : (ℕ → ℕ → Type 0) → Type 0
-HasNoRecursion Step = (f : ℕ) → ¬ Reaches Step f f
-
--- f is the first function that reaches itself
-pub record IsFirstRecursive (Step : ℕ → ℕ → Type 0) (f : ℕ) : Type 0 where
-  pub recursive : Reaches Step f f
-  pub first : (g : ℕ) → Reaches Step g g → f ≤ g
-
--- the fault is that of the first function that reaches itself
-pub record IsRecursive (p : Program) (fault : NameFault) : Type 0 where
-  pub place : ℕ
-  pub first : IsFirstRecursive (Calls p) place
-  pub top : Top
-  pub stands : slice_get p.tops place ≡ Some top
-  pub told : fault ≡ Recursive (top_at top)

@@ -1,8 +1,8 @@
+pub mod Contexts
 pub mod ManifestFaults
 pub mod TopNames
 pub mod Calls
-pub mod Search
 pub mod Meanings
 pub mod NameRules
 pub mod NameFaults
-pub mod Scopes
+pub mod Private

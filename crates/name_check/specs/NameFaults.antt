@@ -1,25 +1,25 @@
 -- The faults of the names of a program, each with its rank.
-use Rattle.std.specs.Prelude.{◌≡◌, ◌⊎◌, ℕ, [], ◌∷◌, slice_get, Some, None, Result, Ok, Err}
+use Rattle.std.specs.Prelude.{◌≡◌, ℕ, [], ◌∷◌, slice_get, Some, None}
 use Rattle.ranked_faults.specs.Ranked.{FaultSet, FaultRow, faults_in, fault_where, no_faults, ◌before◌}
 use Rattle.ranked_faults.specs.Rules.{faults}
 use Rattle.silage_tree.specs.Tree.{Func, Top, function, Program}
 use Rattle.silage_tree.specs.Instances.{main_of}
-use Rattle.name_check.specs.TopNames.{top_at, top_names, IsDoubled}
+use Rattle.name_check.specs.TopNames.{top_at, top_names, IsDuplicate}
 use Rattle.name_check.specs.Calls.{Calls, Reaches}
 use Rattle.name_check.specs.NameRules.{all_top_rules}
 use Rattle.name_check.specs.declared.fault.NameFault.{NameFault}
-use Rattle.name_check.specs.declared.fault.NameFault.TheVariants.{Twice, Recursive, NoMain, Memory}
+use Rattle.name_check.specs.declared.fault.NameFault.TheVariants.{Twice, Recursive, NoMain}
 
--- the fault of a top, where something holds of its position
+-- the fault of each table or function of which this holds, by its position
 abbrev pub faults_of_tops : Program → (IsBroken : ℕ → Type 0) → (at : ℕ → NameFault) → FaultRow NameFault
 faults_of_tops p IsBroken at k [] f = (t : Top) × (slice_get p.tops k ≡ Some t) × IsBroken k × (f ≡ at (top_at t))
 faults_of_tops p IsBroken at k (_ ∷ _) f = ⊥
 
--- names of tables and functions that stand twice; then what is wrong inside each of these; then functions that reach
--- themselves by calls; then that there is no main
+-- duplicate names of tables and functions, then the faults inside each of these, then functions that reach themselves
+-- by calls, then that there is no main
 abbrev pub name_faults : Program → FaultSet NameFault
 name_faults p = faults_in (
-    faults_in (faults_of_tops p (IsDoubled (top_names p)) Twice)
+    faults_in (faults_of_tops p (IsDuplicate (top_names p)) Twice)
     before faults (all_top_rules p)
     before faults_in (faults_of_tops p (λ k. Reaches (Calls p) k k) Recursive)
     before fault_where (main_of p ≡ None) NoMain
@@ -30,13 +30,3 @@ pub record IsMain (p : Program) (k : ℕ) : Type 0 where
   pub func : Func
   pub is_main : main_of p ≡ Some func
   pub stands : slice_get p.tops k ≡ Some (function func)
-
--- the call answers Ok, or it wants memory
-abbrev pub AnswersOk : {A : Type 0} → Result A NameFault → Type 0
-AnswersOk (Ok names) = Unit {0}
-AnswersOk (Err fault) = fault ≡ Memory
-
--- the call answers this fault, or it wants memory
-abbrev pub AnswersFault : {A : Type 0} → NameFault → Result A NameFault → Type 0
-AnswersFault fault (Ok names) = ⊥
-AnswersFault fault (Err other) = (other ≡ fault) ⊎ (other ≡ Memory)

@@ -1,38 +1,68 @@
--- The rules on names, as a table in the order of the source: each is what has to hold, with the fault where it does not.
-use Rattle.std.specs.Prelude.{ℕ, ◌&&◌, ◌||◌, not, Bool, true, false, List, [], ◌∷◌, length, slice_get, nat_eq, is_some, is_none, unwrap_or, option_map, Option, Some, None, if◌then◌else◌}
-use Rattle.ranked_faults.specs.Rules.{Rules, RuleRow, parts, own, none, ◌▸◌, unless, each, each_behind, each_from}
+-- The rules on names, as a table in the order of the source: each is a test, with the fault where it fails.
+use Rattle.std.specs.Prelude.{ℕ, ◌&&◌, ◌||◌, not, Bool, true, false, List, [], ◌∷◌, ◌++◌, length, slice_get, nat_eq}
+use Rattle.std.specs.Prelude.{is_some, is_none, unwrap_or, option_map, Option, Some, None, if◌then◌else◌}
+use Rattle.ranked_faults.specs.Rules.{Rules, RuleRow, parts, own, none, ◌▸◌, unless, each, each_from}
 use Rattle.silage_tree.specs.declared.tree.ConstDef.{ConstDef}
 use Rattle.silage_tree.specs.declared.tree.Decl.{Decl}
 use Rattle.silage_tree.specs.declared.tree.Lit.TheVariants.{Number, Truth}
-use Rattle.silage_tree.specs.Tree.{Manifest, whole, counter, minus, both, Place, Expr, literal, read, negate, not as denied, binary, shift, cast, choose, Branches, no_branch, branch, Item, equation, call, loop, initial, Items, no_item, item, Func, Top, table, function, Program}
+use Rattle.silage_tree.specs.Tree.{Manifest, whole, counter, minus, both, Place}
+use Rattle.silage_tree.specs.Tree.{Expr, literal, read, negate, not as denied, binary, shift, cast, choose}
+use Rattle.silage_tree.specs.Tree.{Branches, no_branch, branch}
+use Rattle.silage_tree.specs.Tree.{Item, equation, call, loop, initial, Items, no_item, item}
+use Rattle.silage_tree.specs.Tree.{Func, Top, table, function, Program}
 use Rattle.silage_tree.specs.Names.{decls, declared, function_named, element_count}
+use Rattle.name_check.specs.Contexts.{Context, outermost, inside}
 use Rattle.name_check.specs.TopNames.{top_names}
-use Rattle.name_check.specs.Meanings.{is_among, has_name, signal_dims, read_dims, params_of, results_of, are_dims, is_fix_type, is_signal_type, is_element, is_whole_array, takes}
+use Rattle.name_check.specs.Meanings.{is_among, signal_dims, read_dims, params_of, results_of, are_dims}
+use Rattle.name_check.specs.Meanings.{is_fix_type, is_signal_type, is_element, is_whole_array, takes}
 use Rattle.name_check.specs.declared.fault.NameFault.{NameFault}
 use Rattle.name_check.specs.declared.fault.NameFault.TheVariants.{Unknown, Twice, Arity, Size}
 
--- Below, `indices` are those of the loops round an item, innermost first.
+-- an index in a manifest constant is that of a loop around it
+abbrev pub manifest_rules : Context → Manifest → Rules NameFault
+manifest_rules c (whole value at) = parts none
+manifest_rules c (counter name at) = unless (is_among c.indices name) (Unknown at)
+manifest_rules c (minus at m) = manifest_rules c m
+manifest_rules c (both at o a b) = parts (manifest_rules c a ▸ manifest_rules c b ▸ none)
 
--- an index in a manifest number is that of a loop round it
-abbrev pub manifest_rules : (indices : List (List ℕ)) → Manifest → Rules NameFault
-manifest_rules indices (whole value at) = parts none
-manifest_rules indices (counter name at) = unless (is_among indices name) (Unknown at)
-manifest_rules indices (minus at m) = manifest_rules indices m
-manifest_rules indices (both at o a b) = parts (manifest_rules indices a ▸ manifest_rules indices b ▸ none)
+abbrev pub delay_rules : Context → Option Manifest → Rules NameFault
+delay_rules c None = parts none
+delay_rules c (Some m) = manifest_rules c m
 
-abbrev pub delay_rules : (indices : List (List ℕ)) → Option Manifest → Rules NameFault
-delay_rules indices None = parts none
-delay_rules indices (Some m) = manifest_rules indices m
-
--- a place whose name has to be known, and to be used in a way that suits its dims; `suits` is None where it is unknown
-abbrev pub place_rules : (indices : List (List ℕ)) → (suits : Option Bool) → Place → Rules NameFault
-place_rules indices suits place =
+-- the name of a place is known and its dims fit the use; `fits` is None where the name is unknown
+abbrev pub place_rules : Context → (fits : Option Bool) → Place → Rules NameFault
+place_rules c fits place =
     parts (
-    parts (unless (is_some suits) (Unknown place.at) ▸ unless (unwrap_or suits true) (Arity place.at) ▸ none)
-    ▸ parts (each (manifest_rules indices) place.subs)
+    parts (unless (is_some fits) (Unknown place.at) ▸ unless (unwrap_or fits true) (Arity place.at) ▸ none)
+    ▸ parts (each (manifest_rules c) place.subs)
     ▸ none)
 
--- where a fault of an expression as a whole stands: at its operator, its first token, or its name
+-- a place on the left names a signal of the function
+abbrev pub target_rules : Context → (fits : List ℕ → Bool) → Place → Rules NameFault
+target_rules c fits place = place_rules c (option_map fits (signal_dims c place.name)) place
+
+-- a read names a signal or a table
+abbrev pub read_rules : Context → (fits : List ℕ → Bool) → Place → (delay : Option Manifest) → Rules NameFault
+read_rules c fits place delay =
+    parts (place_rules c (option_map fits (read_dims c place.name)) place ▸ delay_rules c delay ▸ none)
+
+abbrev mutual
+  pub expr_rules : Context → Expr → Rules NameFault
+  expr_rules c (literal l) = parts none
+  expr_rules c (read place delay) = read_rules c (is_element place.subs) place delay
+  expr_rules c (negate at x) = expr_rules c x
+  expr_rules c (denied at x) = expr_rules c x
+  expr_rules c (binary at o x y) = parts (expr_rules c x ▸ expr_rules c y ▸ none)
+  expr_rules c (shift at left x amount) = parts (expr_rules c x ▸ manifest_rules c amount ▸ none)
+  expr_rules c (cast at ty x) = own (is_fix_type ty) (Size at) (expr_rules c x ▸ none)
+  expr_rules c (choose at branches last) = parts (parts (branch_rules c branches) ▸ expr_rules c last ▸ none)
+
+  pub branch_rules : Context → Branches → RuleRow NameFault
+  branch_rules c no_branch = none
+  branch_rules c (branch condition value rest) =
+      parts (expr_rules c condition ▸ expr_rules c value ▸ none) ▸ branch_rules c rest
+
+-- the source position of an expression: its operator's, its first token's or its name's
 abbrev pub expr_at : Expr → ℕ
 expr_at (literal (Number neg digits places at)) = at
 expr_at (literal (Truth value at)) = at
@@ -44,104 +74,96 @@ expr_at (shift at left x amount) = at
 expr_at (cast at ty x) = at
 expr_at (choose at branches last) = at
 
--- a place on the left names a signal of the function
-abbrev pub target_rules : Func → (indices : List (List ℕ)) → (suits : List ℕ → Bool) → Place → Rules NameFault
-target_rules f indices suits place = place_rules indices (option_map suits (signal_dims f place.name)) place
+-- The argument for an array parameter is the bare name of an array with these dims. Any other expression has an arity
+-- mismatch, whatever the names inside it are.
+abbrev pub array_rules : Context → (dims : List ℕ) → Expr → Rules NameFault
+array_rules c dims (read place delay) =
+    read_rules c (λ its_dims. is_none delay && is_whole_array dims place.subs its_dims) place delay
+array_rules c dims x = own false (Arity (expr_at x)) (expr_rules c x ▸ none)
 
--- the name in a call is a function's, and it is called with as many arguments and places as it has parameters and results
+-- an argument without a parameter is an expression like any other
+abbrev pub argument_rules : Context → (param : Option Decl) → Expr → Rules NameFault
+argument_rules c None x = expr_rules c x
+argument_rules c (Some d) x = if nat_eq (length d.dims) 0 then expr_rules c x else array_rules c d.dims x
+
+-- the name in a call is a function's, and there are as many arguments and places as parameters and results
 abbrev pub callee_rules : (callee : Option Func) → (places args at : ℕ) → Rules NameFault
 callee_rules None places args at = unless false (Unknown at)
-callee_rules (Some g) places args at = unless (nat_eq args (length g.params) && nat_eq places (length g.results)) (Arity at)
+callee_rules (Some g) places args at =
+    unless (nat_eq args (length g.params) && nat_eq places (length g.results)) (Arity at)
 
-module _ (p : Program) (f : Func) where
-  -- a read names a signal or a table
-  abbrev pub read_rules : (indices : List (List ℕ)) → (suits : List ℕ → Bool) → Place → (delay : Option Manifest) → Rules NameFault
-  read_rules indices suits place delay = parts (place_rules indices (option_map suits (read_dims p f place.name)) place ▸ delay_rules indices delay ▸ none)
+-- the place at position k takes the result at that position
+abbrev pub taking_rules : Context → (results : List Decl) → (k : ℕ) → Place → Rules NameFault
+taking_rules c results k place = target_rules c (takes (slice_get results k) place.subs) place
 
-  abbrev mutual
-    pub expr_rules : (indices : List (List ℕ)) → Expr → Rules NameFault
-    expr_rules indices (literal l) = parts none
-    expr_rules indices (read place delay) = read_rules indices (is_element place.subs) place delay
-    expr_rules indices (negate at x) = expr_rules indices x
-    expr_rules indices (denied at x) = expr_rules indices x
-    expr_rules indices (binary at o x y) = parts (expr_rules indices x ▸ expr_rules indices y ▸ none)
-    expr_rules indices (shift at left x amount) = parts (expr_rules indices x ▸ manifest_rules indices amount ▸ none)
-    expr_rules indices (cast at ty x) = own (is_fix_type ty) (Size at) (expr_rules indices x ▸ none)
-    expr_rules indices (choose at branches last) = parts (parts (branch_rules indices branches) ▸ expr_rules indices last ▸ none)
+abbrev pub places_rules : Context → (results : List Decl) → List Place → Rules NameFault
+places_rules c results places = parts (each_from (taking_rules c results) 0 places)
 
-    pub branch_rules : (indices : List (List ℕ)) → Branches → RuleRow NameFault
-    branch_rules indices no_branch = none
-    branch_rules indices (branch condition value rest) = parts (expr_rules indices condition ▸ expr_rules indices value ▸ none) ▸ branch_rules indices rest
+-- the argument at position k is that of the parameter at that position
+abbrev pub passing_rules : Context → (params : List Decl) → (k : ℕ) → Expr → Rules NameFault
+passing_rules c params k x = argument_rules c (slice_get params k) x
 
-  -- the argument for an array is the bare name of an array with the same dims, so any other expression is none, whatever
-  -- the names inside it
-  abbrev pub array_rules : (indices : List (List ℕ)) → (wanted : List ℕ) → Expr → Rules NameFault
-  array_rules indices wanted (read place delay) = read_rules indices (λ dims. is_none delay && is_whole_array wanted place.subs dims) place delay
-  array_rules indices wanted x = own false (Arity (expr_at x)) (expr_rules indices x ▸ none)
+abbrev pub arguments_rules : Context → (params : List Decl) → List Expr → Rules NameFault
+arguments_rules c params args = parts (each_from (passing_rules c params) 0 args)
 
-  abbrev pub argument_rules : (indices : List (List ℕ)) → (param : Option Decl) → Expr → Rules NameFault
-  argument_rules indices None x = expr_rules indices x
-  argument_rules indices (Some d) x = if nat_eq (length d.dims) 0 then expr_rules indices x else array_rules indices d.dims x
-
-  -- each place takes the result at its position
-  abbrev pub taker_rules : (indices : List (List ℕ)) → (results : List Decl) → (k : ℕ) → Place → Rules NameFault
-  taker_rules indices results k place = target_rules f indices (takes (slice_get results k) place.subs) place
-
-  -- each argument is that of the parameter at its position
-  abbrev pub sent_rules : (indices : List (List ℕ)) → (params : List Decl) → (k : ℕ) → Expr → Rules NameFault
-  sent_rules indices params k x = argument_rules indices (slice_get params k) x
-
-  abbrev pub call_rules : (indices : List (List ℕ)) → (callee : Option Func) → List Place → List Expr → (at : ℕ) → Rules NameFault
-  call_rules indices callee places args at = parts (
-      parts (each_from (taker_rules indices (results_of callee)) 0 places)
-      ▸ callee_rules callee (length places) (length args) at
-      ▸ parts (each_from (sent_rules indices (params_of callee)) 0 args)
-      ▸ none)
-
-  -- an index has a name of its own: no table's or function's, no signal's, and not that of a loop round it
-  abbrev pub is_free_index : (indices : List (List ℕ)) → List ℕ → Bool
-  is_free_index indices name = not (is_among (top_names p) name || (is_some (declared f name) || is_among indices name))
-
-  -- the index of a loop, and the names in its bounds, which stand outside of the loop
-  abbrev pub turns_rules : (indices : List (List ℕ)) → (index : List ℕ) → (lo hi : Manifest) → (at : ℕ) → Rules NameFault
-  turns_rules indices index lo hi at = own (is_free_index indices index) (Twice at) (manifest_rules indices lo ▸ manifest_rules indices hi ▸ none)
-
-  abbrev mutual
-    pub item_rules : (indices : List (List ℕ)) → Item → Rules NameFault
-    item_rules indices (equation place x) = parts (target_rules f indices (is_element place.subs) place ▸ expr_rules indices x ▸ none)
-    item_rules indices (call places name args at) = call_rules indices (function_named p name) places args at
-    item_rules indices (loop index lo hi items at) = parts (turns_rules indices index lo hi at ▸ parts (items_rules (index ∷ indices) items) ▸ none)
-    item_rules indices (initial place k value) = parts (target_rules f indices (is_element place.subs) place ▸ manifest_rules indices k ▸ none)
-
-    pub items_rules : (indices : List (List ℕ)) → Items → RuleRow NameFault
-    items_rules indices no_item = none
-    items_rules indices (item x rest) = item_rules indices x ▸ items_rules indices rest
-
--- a signal has a name of its own: no table's or function's, and none of a signal declared in front of it
-abbrev pub is_free_signal : Program → (front : List Decl) → List ℕ → Bool
-is_free_signal p front name = not (is_among (top_names p) name || has_name front name)
-
-abbrev pub decl_rules : Program → (front : List Decl) → Decl → Rules NameFault
-decl_rules p front d = parts (
-    unless (are_dims d.dims && is_signal_type d.ty) (Size d.at)
-    ▸ unless (is_free_signal p front d.name) (Twice d.at)
+-- from left to right: the places, the name, the arguments
+abbrev pub call_rules : Context → (callee : Option Func) → List Place → List Expr → (at : ℕ) → Rules NameFault
+call_rules c callee places args at = parts (
+    places_rules c (results_of callee) places
+    ▸ callee_rules callee (length places) (length args) at
+    ▸ arguments_rules c (params_of callee) args
     ▸ none)
 
+-- an index has a name of its own: it is no table's or function's, no signal's, and no index of a loop around its loop
+abbrev pub is_free_index : Context → List ℕ → Bool
+is_free_index c name =
+    not (is_among (top_names c.program) name || (is_some (declared c.func name) || is_among c.indices name))
+
+-- the index of a loop, and the names in its bounds, which are outside of the loop
+abbrev pub head_rules : Context → (index : List ℕ) → (lo hi : Manifest) → (at : ℕ) → Rules NameFault
+head_rules c index lo hi at =
+    own (is_free_index c index) (Twice at) (manifest_rules c lo ▸ manifest_rules c hi ▸ none)
+
+abbrev mutual
+  pub item_rules : Context → Item → Rules NameFault
+  item_rules c (equation place x) = parts (target_rules c (is_element place.subs) place ▸ expr_rules c x ▸ none)
+  item_rules c (call places name args at) = call_rules c (function_named c.program name) places args at
+  item_rules c (loop index lo hi items at) =
+      parts (head_rules c index lo hi at ▸ parts (items_rules (inside index c) items) ▸ none)
+  item_rules c (initial place k value) =
+      parts (target_rules c (is_element place.subs) place ▸ manifest_rules c k ▸ none)
+
+  pub items_rules : Context → Items → RuleRow NameFault
+  items_rules c no_item = none
+  items_rules c (item x rest) = item_rules c x ▸ items_rules c rest
+
+-- a signal has an allowed size, and a name of its own: it is no table's or function's, and no earlier signal's
+abbrev pub decl_rules : (tops signals : List (List ℕ)) → Decl → Rules NameFault
+decl_rules tops signals d = parts (
+    unless (are_dims d.dims && is_signal_type d.ty) (Size d.at)
+    ▸ unless (not (is_among tops d.name || is_among signals d.name)) (Twice d.at)
+    ▸ none)
+
+-- the declarations of signals, after those of signals with these names
+abbrev pub signal_rules : (tops signals : List (List ℕ)) → List Decl → RuleRow NameFault
+signal_rules tops signals [] = none
+signal_rules tops signals (d ∷ ds) = decl_rules tops signals d ▸ signal_rules tops (signals ++ d.name ∷ []) ds
+
 abbrev pub table_rules : ConstDef → Rules NameFault
-table_rules c = parts (
-    unless (are_dims c.dims && is_fix_type c.ty) (Size c.at)
-    ▸ unless (nat_eq (length c.words) (element_count c.dims)) (Arity c.at)
+table_rules t = parts (
+    unless (are_dims t.dims && is_fix_type t.ty) (Size t.at)
+    ▸ unless (nat_eq (length t.words) (element_count t.dims)) (Arity t.at)
     ▸ none)
 
 -- the signals of a function in the order of their declarations, then its items
 abbrev pub function_rules : Program → Func → Rules NameFault
 function_rules p f = parts (
-    parts (each_behind (decl_rules p) [] (decls f))
-    ▸ parts (items_rules p f [] f.items)
+    parts (signal_rules (top_names p) [] (decls f))
+    ▸ parts (items_rules (outermost p f) f.items)
     ▸ none)
 
 abbrev pub top_rules : Program → Top → Rules NameFault
-top_rules p (table c) = table_rules c
+top_rules p (table t) = table_rules t
 top_rules p (function f) = function_rules p f
 
 abbrev pub all_top_rules : Program → Rules NameFault

@@ -1,82 +1,57 @@
 //! Declarations of signals.
 
-ghost use Rattle.std.specs.Prelude.{◌≡◌, ◌++◌, ◌<◌, [], length, not};
-ghost use Rattle.std.specs.List.{list_any};
-ghost use Rattle.ranked_faults.specs.Rules.{first, first_in, parts, each_behind};
+ghost use Rattle.std.specs.Prelude.{◌≡◌, ◌∷◌, ◌++◌, [], IfOk, OnOk};
+ghost use Rattle.ranked_faults.specs.Private.FirstMet.{first, first_in, MeetsOr};
+ghost use Rattle.silage_tree.specs.Tree.{view_func};
 ghost use Rattle.silage_tree.specs.Names.{decls};
-ghost use Rattle.name_check.specs.Meanings.{has_name};
-ghost use Rattle.name_check.specs.NameRules.{decl_rules, is_free_signal};
-ghost use Rattle.name_check.specs.Scopes.{program_of, function_of};
+ghost use Rattle.name_check.specs.Meanings.{names_of};
+ghost use Rattle.name_check.specs.NameRules.{decl_rules, signal_rules};
 
-use crate::NameFault;
 use crate::lookups::is_top;
-use crate::scope::Scope;
+use crate::name_set::NameSet;
 use crate::sizes::{are_dims, is_signal_type};
-use lists::Name;
-use silage_tree::Decl;
+use crate::{NameFault, NameMap};
+use silage_tree::{Decl, Func};
+use std::alloc::Global;
 
-fn is_declared(decls: &[Decl], name: &Name) -> bool
-    ensures { result ≡ has_name decls.now name.now }
-{
-    decls.iter().any(|d| d.name == *name)
-}
-
-/// The declarations in front of one, in three parts.
-#[derive(Clone, Copy)]
-struct Front<'a> {
-    params: &'a [Decl],
-    results: &'a [Decl],
-    others: &'a [Decl],
-}
-
-/// Whether a signal has a name that nothing in front of it has, and no table or function.
-fn is_free(scope: &Scope, front: Front, name: &Name) -> bool
-    ensures { result ≡ is_free_signal (program_of scope.now) ((front.entry.params.now ++ front.entry.results.now) ++ front.entry.others.now) name.now }
-{
-    let is_taken = is_declared(front.params, name)
-        || is_declared(front.results, name)
-        || is_declared(front.others, name);
-    !(is_top(scope, name) || is_taken)
-}
-
-fn check_decl(scope: &Scope, front: Front, d: &Decl) -> Result<(), NameFault>
-    ensures { result ≡ first (decl_rules (program_of scope.now) ((front.entry.params.now ++ front.entry.results.now) ++ front.entry.others.now) d.now) }
+/// Adds the name of a declaration to those of the signals before it.
+fn declare(alloc: Global, tops: &NameMap, signals: &mut NameSet, d: &Decl) -> Result<(), NameFault>
+    ensures met { MeetsOr NameFault.Memory (first (decl_rules tops.now signals.old d.now)) result }
+    ensures names { OnOk result (signals.new ≡ signals.old ++ d.now.name ∷ []) }
 {
     if !are_dims(&d.dims) || !is_signal_type(&d.ty) {
         return Err(NameFault::Size(d.at));
     }
-    if !is_free(scope, front, &d.name) {
+    if is_top(tops, &d.name) || !signals.insert(alloc, &d.name)? {
         return Err(NameFault::Twice(d.at));
     }
     Ok(())
 }
 
-/// Declarations behind those parameters and results.
-fn check_decls(
-    scope: &Scope,
-    params: &[Decl],
-    results: &[Decl],
+/// Adds the names of declarations to those of the signals before them.
+fn declare_all(
+    alloc: Global,
+    tops: &NameMap,
+    signals: &mut NameSet,
     decls: &[Decl],
 ) -> Result<(), NameFault>
-    ensures { result ≡ first_in (each_behind (decl_rules (program_of scope.now)) (params.now ++ results.now) decls.now) }
+    ensures met { MeetsOr NameFault.Memory (first_in (signal_rules tops.now signals.old decls.now)) result }
+    ensures names { OnOk result (signals.new ≡ signals.old ++ names_of decls.now) }
 {
-    for i in 0..decls.len() {
-        let front = Front {
-            params,
-            results,
-            others: &decls[..i],
-        };
-        check_decl(scope, front, &decls[i])?;
+    for d in decls {
+        declare(alloc, tops, signals, d)?;
     }
     Ok(())
 }
 
-/// All declarations of a function: its parameters, its results, its locals.
-pub(crate) fn check_all_decls(scope: &Scope) -> Result<(), NameFault>
-    ensures { result ≡ first (parts (each_behind (decl_rules (program_of scope.now)) [] (decls (function_of scope.now)))) }
+/// The names of a function's parameters, results and locals.
+pub(crate) fn signals_of(alloc: Global, tops: &NameMap, func: &Func) -> Result<NameSet, NameFault>
+    ensures met { MeetsOr NameFault.Memory (first_in (signal_rules tops.now [] (decls (view_func func.now)))) result }
+    ensures names { IfOk result (λ signals. signals ≡ names_of (decls (view_func func.now))) }
 {
-    let func = scope.func;
-    check_decls(scope, &[], &[], &func.params)?;
-    check_decls(scope, &func.params, &[], &func.results)?;
-    check_decls(scope, &func.params, &func.results, &func.locals)
+    let mut signals = NameSet::new(alloc);
+    declare_all(alloc, tops, &mut signals, &func.params)?;
+    declare_all(alloc, tops, &mut signals, &func.results)?;
+    declare_all(alloc, tops, &mut signals, &func.locals)?;
+    Ok(signals)
 }

@@ -1,62 +1,66 @@
 //! Items: equations, calls, loops and initial values.
 
 ghost use Rattle.std.specs.Prelude.{◌≡◌, ◌∷◌, Option, map};
-ghost use Rattle.ranked_faults.specs.Rules.{first, parts};
+ghost use Rattle.ranked_faults.specs.Rules.{parts};
+ghost use Rattle.ranked_faults.specs.Private.FirstMet.{first};
 ghost use Rattle.silage_tree.specs.Tree.{view_manifest, view_item, view_items};
 ghost use Rattle.name_check.specs.NameRules as rules;
-ghost use Rattle.name_check.specs.NameRules.{turns_rules, item_rules, items_rules};
-ghost use Rattle.name_check.specs.Scopes.{index_names, program_of, function_of};
+ghost use Rattle.name_check.specs.NameRules.{head_rules, item_rules, items_rules};
+ghost use Rattle.name_check.specs.Private.Views.{context_of};
 
 use crate::NameFault;
 use crate::calls::check_call;
+use crate::context::{Context, Indices};
 use crate::expressions::check_expr;
-use crate::indices::{Indices, check_manifest, has_index};
-use crate::lookups::{is_top, signal};
+use crate::indices::{check_manifest, has_index};
+use crate::lookups::{is_signal, is_top};
 use crate::places::check_target;
-use crate::scope::Scope;
 use lists::Name;
 use silage_tree::{Item, Manifest};
 
-/// Whether an index has a name that nothing else has where it stands.
-fn is_free_index(scope: &Scope, indices: &Indices, index: &Name) -> bool
-    ensures { result ≡ rules.is_free_index (program_of scope.now) (function_of scope.now) (index_names indices.now) index.now }
+/// Whether an index has a name that nothing else has where the loop is.
+fn is_free_index(context: &Context, index: &Name) -> bool
+    ensures { result ≡ rules.is_free_index (context_of context.now) index.now }
 {
-    !(is_top(scope, index) || signal(scope, index).is_some() || has_index(indices, index))
+    let is_taken = is_top(context.tops, index)
+        || is_signal(context, index)
+        || has_index(context.indices, index);
+    !is_taken
 }
 
 /// The index of a loop and its bounds.
-fn check_turns(
-    scope: &Scope,
-    indices: &Indices,
+fn check_head(
+    context: &Context,
     index: &Name,
     lo: &Manifest,
     hi: &Manifest,
     at: u32,
 ) -> Result<(), NameFault>
-    ensures { result ≡ first (turns_rules (program_of scope.now) (function_of scope.now) (index_names indices.now) index.now (view_manifest lo.now) (view_manifest hi.now) at) }
+    ensures { let c = context_of context.now in
+        result ≡ first (head_rules c index.now (view_manifest lo.now) (view_manifest hi.now) at) }
 {
-    if !is_free_index(scope, indices, index) {
+    if !is_free_index(context, index) {
         return Err(NameFault::Twice(at));
     }
-    check_manifest(indices, lo)?;
-    check_manifest(indices, hi)
+    check_manifest(context, lo)?;
+    check_manifest(context, hi)
 }
 
 #[cycle(items)]
-fn check_item(scope: &Scope, indices: &Indices, item: &Item) -> Result<(), NameFault>
-    ensures { result ≡ first (item_rules (program_of scope.now) (function_of scope.now) (index_names indices.now) (view_item item.now)) }
+fn check_item(context: &Context, item: &Item) -> Result<(), NameFault>
+    ensures { result ≡ first (item_rules (context_of context.now) (view_item item.now)) }
 {
     match item {
         Item::Equation { place, value } => {
-            check_target(scope, indices, place)?;
-            check_expr(scope, indices, value)
+            check_target(context, place)?;
+            check_expr(context, value)
         }
         Item::Call {
             places,
             func,
             args,
             at,
-        } => check_call(scope, indices, places, func, args, *at),
+        } => check_call(context, places, func, args, *at),
         Item::Loop {
             index,
             lo,
@@ -64,26 +68,33 @@ fn check_item(scope: &Scope, indices: &Indices, item: &Item) -> Result<(), NameF
             items,
             at,
         } => {
-            check_turns(scope, indices, index, lo, hi, *at)?;
-            let inner = Indices::Inside {
+            check_head(context, index, lo, hi, *at)?;
+            let indices = Indices::Inside {
                 index: &*index,
-                outer: &*indices,
+                outer: context.indices,
             };
-            check_items(scope, &inner, items)
+            let inner = Context {
+                program: context.program,
+                tops: context.tops,
+                func: context.func,
+                signals: context.signals,
+                indices: &indices,
+            };
+            check_items(&inner, items)
         }
         Item::Initial { place, k, value: _ } => {
-            check_target(scope, indices, place)?;
-            check_manifest(indices, k)
+            check_target(context, place)?;
+            check_manifest(context, k)
         }
     }
 }
 
 #[cycle(items)]
-pub(crate) fn check_items(scope: &Scope, indices: &Indices, items: &[Item]) -> Result<(), NameFault>
-    ensures { result ≡ first (parts (items_rules (program_of scope.now) (function_of scope.now) (index_names indices.now) (view_items items.now))) }
+pub(crate) fn check_items(context: &Context, items: &[Item]) -> Result<(), NameFault>
+    ensures { result ≡ first (parts (items_rules (context_of context.now) (view_items items.now))) }
 {
     for item in items {
-        check_item(scope, indices, item)?;
+        check_item(context, item)?;
     }
     Ok(())
 }

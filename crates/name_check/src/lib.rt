@@ -2,6 +2,8 @@
 #![tactic(auto)]
 
 mod calls;
+mod components;
+mod context;
 mod declarations;
 mod expressions;
 mod fault;
@@ -10,17 +12,17 @@ mod items;
 mod lookups;
 mod manifests;
 mod name_map;
+mod name_set;
 mod places;
 mod recursion;
-mod scope;
 mod sizes;
 mod tops;
 
 ghost use Rattle.std.specs.Prelude.{◌≡◌, ◌≢◌, ◌<◌, ◌^◌, length, IfOk, OnOk, IfErr};
-ghost use Rattle.ranked_faults.specs.Ranked.{IsClear, IsFirst};
+ghost use Rattle.ranked_faults.specs.Ranked.{IsClear, IsFirst, AnswersOk, AnswersFault};
 ghost use Rattle.silage_tree.specs.Tree.{view};
 ghost use Rattle.name_check.specs.TopNames.{top_names};
-ghost use Rattle.name_check.specs.NameFaults.{name_faults, IsMain, AnswersOk, AnswersFault};
+ghost use Rattle.name_check.specs.NameFaults.{name_faults, IsMain};
 ghost use Rattle.name_check.specs.declared.fault.NameFault.{NameFault as FaultType};
 
 pub use fault::{ManifestFault, NameFault};
@@ -31,8 +33,8 @@ use silage_tree::Program;
 use std::alloc::Global;
 use tops::{check_tops, main_position};
 
-/// What the names of a program mean, or its first fault: a name that two tables or functions have, else a fault inside one of
-/// them, else a function that reaches itself by calls, else that no function is called `main`.
+/// What the names of a program mean, or its first fault: a name that two tables or functions have, else a fault inside
+/// one of them, else a function that reaches itself by calls, else that no function is called `main`.
 pub fn check_names(alloc: Global, program: &Program) -> Result<Names, NameFault>
     requires { length (view program.now).tops < 2 ^ 32 }
     ensures ok { OnOk result (IsClear (name_faults (view program.now))) }
@@ -40,18 +42,14 @@ pub fn check_names(alloc: Global, program: &Program) -> Result<Names, NameFault>
     ensures tops { IfOk result (λ names. names.tops ≡ top_names (view program.now)) }
     ensures main { IfOk result (λ names. IsMain (view program.now) names.main) }
 
-    // What the first fault is decides on what the call answers, want of memory aside.
-    ensures each_ok { IsClear (name_faults (view program.now)) → AnswersOk result }
-    ensures each_fault { (fault : FaultType) → IsFirst (name_faults (view program.now)) fault → AnswersFault fault result }
+    // The first fault decides the answer, unless memory runs out.
+    ensures each_ok { IsClear (name_faults (view program.now)) → AnswersOk NameFault.Memory result }
+    ensures each_fault { (fault : FaultType) → IsFirst (name_faults (view program.now)) fault
+        → AnswersFault NameFault.Memory fault result }
 {
     let tops = NameMap::of(alloc, program)?;
-    check_tops(program, &tops)?;
+    check_tops(alloc, program, &tops)?;
     check_recursion(alloc, &tops, program)?;
-    match main_position(program) {
-        Some(main) => Ok(Names { main, tops }),
-        None => Err(NameFault::NoMain),
-    }
+    let main = main_position(program).ok_or(NameFault::NoMain)?;
+    Ok(Names { main, tops })
 }
-
-#[cfg(test)]
-mod tests;

@@ -1,86 +1,94 @@
-//! What a name means in a function.
+//! What a name means where it is used.
 
-ghost use Rattle.std.specs.Prelude.{◌≡◌, find, option_map, option_copied, bytes_eq};
+ghost use Rattle.std.specs.Prelude.{◌≡◌, option_map, option_copied, slice_get, is_some};
 ghost use Rattle.silage_tree.specs.Tree.{view_top, view_func};
-ghost use Rattle.silage_tree.specs.Names.{declared, table_named, function_named};
+ghost use Rattle.silage_tree.specs.Names.{decls, declared, table_named, function_named};
 ghost use Rattle.name_check.specs.Meanings as meaning;
 ghost use Rattle.name_check.specs.Meanings.{is_among};
-ghost use Rattle.name_check.specs.TopNames.{top_name, top_names};
-ghost use Rattle.name_check.specs.Scopes.{program_of, function_of};
+ghost use Rattle.name_check.specs.Private.Views.{context_of, top_named};
 
-use crate::scope::Scope;
+use crate::NameMap;
+use crate::context::Context;
 use lists::Name;
 use silage_tree::{ConstDef, Decl, Func, Top};
 
-fn find_decl<'a>(decls: &'a [Decl], name: &Name) -> Option<&'a Decl>
-    ensures { option_copied result ≡ find (λ d. bytes_eq d.name name.now) decls.now }
+/// The declaration at a position among a function's parameters, results and locals.
+fn signal_at(func: &Func, position: usize) -> Option<&Decl>
+    ensures { option_copied result ≡ slice_get (decls (view_func func.now)) position }
 {
-    decls.iter().find(|d| d.name == *name)
+    let params = func.params.len();
+    if position < params {
+        return func.params.get(position);
+    }
+    let position = position - params;
+    let results = func.results.len();
+    if position < results {
+        return func.results.get(position);
+    }
+    func.locals.get(position - results)
 }
 
 /// The signal of the function that has the name.
-pub(crate) fn signal<'a>(scope: &Scope<'a>, name: &Name) -> Option<&'a Decl>
-    ensures { option_copied result ≡ option_map (λ d. d.1) (declared (function_of scope.now) name.now) }
+fn signal<'a>(context: &Context<'a>, name: &Name) -> Option<&'a Decl>
+    ensures { option_copied result ≡ option_map (λ d. d.1) (declared (context_of context.now).func name.now) }
 {
-    match find_decl(&scope.func.params, name) {
-        Some(d) => Some(d),
-        None => match find_decl(&scope.func.results, name) {
-            Some(d) => Some(d),
-            None => find_decl(&scope.func.locals, name),
-        },
-    }
+    let position = context.signals.position(name)?;
+    signal_at(context.func, position)
 }
 
-fn top<'a>(scope: &Scope<'a>, name: &Name) -> Option<&'a Top>
-    ensures { option_map view_top (option_copied result) ≡ find (λ t. bytes_eq (top_name t) name.now) (program_of scope.now).tops }
+/// Whether a signal of the function has the name.
+pub(crate) fn is_signal(context: &Context, name: &Name) -> bool
+    ensures { result ≡ is_some (declared (context_of context.now).func name.now) }
 {
-    let position = scope.names.position(name)?;
-    scope.program.tops.get(position as usize)
+    signal(context, name).is_some()
 }
 
 /// Whether a table or function has the name.
-pub(crate) fn is_top(scope: &Scope, name: &Name) -> bool
-    ensures { result ≡ is_among (top_names (program_of scope.now)) name.now }
+pub(crate) fn is_top(tops: &NameMap, name: &Name) -> bool
+    ensures { result ≡ is_among tops.now name.now }
 {
-    top(scope, name).is_some()
+    tops.position(name).is_some()
 }
 
-fn table<'a>(scope: &Scope<'a>, name: &Name) -> Option<&'a ConstDef>
-    ensures { option_copied result ≡ table_named (program_of scope.now) name.now }
+fn top<'a>(context: &Context<'a>, name: &Name) -> Option<&'a Top>
+    ensures { option_map view_top (option_copied result) ≡ top_named (context_of context.now).program name.now }
 {
-    match top(scope, name)? {
-        Top::Const(c) => Some(c),
+    let position = context.tops.position(name)?;
+    context.program.tops.get(position as usize)
+}
+
+fn table<'a>(context: &Context<'a>, name: &Name) -> Option<&'a ConstDef>
+    ensures { option_copied result ≡ table_named (context_of context.now).program name.now }
+{
+    match top(context, name)? {
+        Top::Const(table) => Some(table),
         Top::Func(_) => None,
     }
 }
 
 /// The function that has the name.
-pub(crate) fn function<'a>(scope: &Scope<'a>, name: &Name) -> Option<&'a Func>
-    ensures { option_map view_func (option_copied result) ≡ function_named (program_of scope.now) name.now }
+pub(crate) fn function<'a>(context: &Context<'a>, name: &Name) -> Option<&'a Func>
+    ensures { option_map view_func (option_copied result) ≡ function_named (context_of context.now).program name.now }
 {
-    match top(scope, name)? {
+    match top(context, name)? {
         Top::Const(_) => None,
-        Top::Func(f) => Some(f),
+        Top::Func(function) => Some(function),
     }
 }
 
 /// The dims of the signal that has the name.
-pub(crate) fn signal_dims<'a>(scope: &Scope<'a>, name: &Name) -> Option<&'a [u32]>
-    ensures { option_copied result ≡ meaning.signal_dims (function_of scope.now) name.now }
+pub(crate) fn signal_dims<'a>(context: &Context<'a>, name: &Name) -> Option<&'a [u32]>
+    ensures { option_copied result ≡ meaning.signal_dims (context_of context.now) name.now }
 {
-    let d = signal(scope, name)?;
-    Some(&d.dims)
+    Some(&signal(context, name)?.dims)
 }
 
 /// The dims of the signal or table that has the name.
-pub(crate) fn read_dims<'a>(scope: &Scope<'a>, name: &Name) -> Option<&'a [u32]>
-    ensures { option_copied result ≡ meaning.read_dims (program_of scope.now) (function_of scope.now) name.now }
+pub(crate) fn read_dims<'a>(context: &Context<'a>, name: &Name) -> Option<&'a [u32]>
+    ensures { option_copied result ≡ meaning.read_dims (context_of context.now) name.now }
 {
-    match signal_dims(scope, name) {
+    match signal_dims(context, name) {
         Some(dims) => Some(dims),
-        None => match table(scope, name) {
-            Some(c) => Some(&c.dims),
-            None => None,
-        },
+        None => Some(&table(context, name)?.dims),
     }
 }

@@ -3,19 +3,20 @@
 ghost use Rattle.std.specs.Prelude.{◌≡◌, ◌≢◌, ◌<◌, ◌^◌, ◌↔◌, ℕ, length, IfOk, OnOk, IfErr, Contains};
 ghost use Rattle.silage_tree.specs.Tree.{view, view_top};
 ghost use Rattle.name_check.specs.TopNames as name;
-ghost use Rattle.name_check.specs.TopNames.{top_names, IsFirstPlace, IsDistinct, IsTwice};
+ghost use Rattle.name_check.specs.TopNames.{top_names, IsFirstPlace};
+ghost use Rattle.name_check.specs.Private.FirstTops.{IsDistinct, IsFirstDuplicate};
 
 use crate::NameFault;
-use indexmap::IndexSet;
-use lists::{List, Name};
+use crate::name_set::NameSet;
+use lists::Name;
 use silage_tree::{Program, Top};
-use std::alloc::{AllocError, AllocFailed, Global};
+use std::alloc::Global;
 use std::marker::Model;
 
 /// The names of the tables and functions of a program in order, none of them twice.
 #[derive(Drop)]
 pub struct NameMap {
-    names: IndexSet<Name>,
+    names: NameSet,
 }
 
 impl Model for NameMap {
@@ -23,12 +24,13 @@ impl Model for NameMap {
 
     ghost Value = { Listed (Listed ℕ) };
 
-    ghost view = { λ map. map.names.keys };
+    ghost view = { λ map. map.names };
 
-    ghost invariant = { λ map. length map.names.keys < 2 ^ 32 };
+    ghost invariant = { λ map. length map.names < 2 ^ 32 };
 }
 
-/// What the names of a program without a fault mean: where its function `main` stands among its tables and functions, and their names.
+/// What the names of a program without a fault mean: the position of its function `main` among its tables and
+/// functions, and the names of these.
 #[derive(Drop)]
 pub struct Names {
     pub main: u32,
@@ -45,7 +47,7 @@ fn top_name(top: &Top) -> &Name
     }
 }
 
-/// The byte at which the name of a table or function stands.
+/// The source position of a table or function, its name's.
 pub(crate) fn top_at(top: &Top) -> u32
     ensures { result ≡ name.top_at (view_top top.now) }
 {
@@ -56,29 +58,28 @@ pub(crate) fn top_at(top: &Top) -> u32
 }
 
 impl NameMap {
-    /// The names of a program. The first table or function whose name stands before it too is `Twice`.
-    pub fn of(alloc: Global, program: &Program) -> Result<NameMap, NameFault>
+    /// The names of a program. The first table or function with a duplicate name is `Twice`.
+    pub(crate) fn of(alloc: Global, program: &Program) -> Result<NameMap, NameFault>
         requires { length (view program.now).tops < 2 ^ 32 }
         ensures names { IfOk result (λ names. names ≡ top_names (view program.now)) }
         ensures distinct { OnOk result (IsDistinct (top_names (view program.now))) }
-        ensures twice { IfErr result (λ fault. fault ≢ NameFault.Memory → IsTwice (view program.now) fault) }
+        ensures twice { IfErr result (λ fault. fault ≢ NameFault.Memory → IsFirstDuplicate (view program.now) fault) }
     {
-        let mut names = IndexSet::new(alloc);
+        let mut names = NameSet::new(alloc);
         for top in program.tops.as_slice() {
-            let text = Name::from_slice(alloc, top_name(top).as_slice())?;
-            if !names.insert(text)? {
+            if !names.insert(alloc, top_name(top))? {
                 return Err(NameFault::Twice(top_at(top)));
             }
         }
         Ok(NameMap { names })
     }
 
-    /// The place of the table or function with this name.
+    /// The position of the table or function with this name.
     pub fn position(&self, name: &Name) -> Option<u32>
         ensures some { (k : ℕ) → (result ≡ Some k) ↔ IsFirstPlace self.now name.now k }
         ensures none { (result ≡ None) ↔ ¬ Contains self.now name.now }
     {
-        let index = self.names.get_index_of(name)?;
-        Some(index as u32)
+        let position = self.names.position(name)?;
+        Some(position as u32)
     }
 }

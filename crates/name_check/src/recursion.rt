@@ -1,12 +1,15 @@
 //! The first function that can reach itself by calls.
 
-ghost use Rattle.std.specs.Prelude.{◌≡◌, ◌≢◌, ◌++◌, ◌<◌, ◌^◌, ◌↔◌, ℕ, Contains, length, IsTrue, IfOk, OnOk, IfErr, MatchOption};
+ghost use Rattle.std.specs.Prelude.{◌≡◌, ◌≢◌, ◌++◌, ◌<◌, ◌^◌, ◌↔◌, ℕ, Contains, length, IsTrue, IfOk, OnOk, IfErr};
 ghost use Rattle.silage_tree.specs.Tree.{view, view_top, view_item, view_items};
 ghost use Rattle.name_check.specs.TopNames.{top_names};
-ghost use Rattle.name_check.specs.Calls.{called, all_called, called_by, Calls, Reaches, HasNoRecursion, IsFirstRecursive, IsRecursive};
-ghost use Rattle.name_check.specs.Search.{places, call_lists, Lists, IsWithin, AddsReached};
+ghost use Rattle.name_check.specs.Calls.{called, all_called, called_by, Calls};
+ghost use Rattle.name_check.specs.Private.CallLists.{places, call_lists, Lists, IsWithin};
+ghost use Rattle.name_check.specs.Private.FirstTops.{HasNoRecursion, IsRecursionIn, IsRecursive};
+ghost use Rattle.name_check.specs.Private.Walk.{CallsOwnComponent};
 
 use crate::NameFault;
+use crate::components::{Mark, components};
 use crate::name_map::{NameMap, top_at};
 use lists::List;
 use silage_tree::{Item, Program, Top};
@@ -68,72 +71,31 @@ fn calls_of_all(
     Ok(calls)
 }
 
-/// Marks these functions as reached, and keeps each that wasn't reached yet for the search to go on from.
-fn add_reached(callees: &[u32], reached: &mut [bool], work: &mut Vec<u32>) -> Result<(), AllocError>
-    requires { (g : ℕ) → Contains callees.now g → g < length reached.old }
-    ensures { OnOk result (AddsReached callees.now reached.old work.old.items reached.new work.new.items) }
+/// Whether a function calls one of its own component. Then it reaches itself.
+fn is_recursive(marks: &[Mark], function: u32, callees: &[u32]) -> bool
+    requires function { function < length marks.now }
+    requires callees { (g : ℕ) → Contains callees.now g → g < length marks.now }
+    ensures { IsTrue result ↔ CallsOwnComponent marks.now function callees.now }
 {
+    let own = marks[function as usize].component();
     for callee in callees {
-        let at = *callee as usize;
-        if !reached[at] {
-            work.push(*callee)?;
-            reached[at] = true;
+        if marks[*callee as usize].component() == own {
+            return true;
         }
     }
-    Ok(())
-}
-
-/// Whether a function reaches itself.
-fn reaches_itself(alloc: Global, calls: &[List<u32>], start: u32) -> Result<bool, AllocError>
-    requires within { IsWithin calls.now }
-    requires start_within { start < length calls.now }
-    ensures { IfOk result (λ answer. IsTrue answer ↔ Reaches (Lists calls.now) start start) }
-{
-    let mut reached = vec![in alloc; false; calls.len()]?;
-    let mut work = Vec::new(alloc);
-    work.push(start)?;
-    while let Some(function) = work.pop() {
-        add_reached(&calls[function as usize], &mut reached, &mut work)?;
-    }
-    Ok(reached[start as usize])
-}
-
-fn are_below(positions: &[u32], bound: usize) -> bool
-    ensures { IsTrue result → (g : ℕ) → Contains positions.now g → g < bound }
-{
-    for position in positions {
-        if *position as usize >= bound {
-            return false;
-        }
-    }
-    true
-}
-
-/// Whether each call leads to a function in front of its own, as it does where functions stand before their calls. Then
-/// none reaches itself, and no search is needed.
-fn lead_back(calls: &[List<u32>]) -> bool
-    ensures { IsTrue result → (f g : ℕ) → Lists calls.now f g → g < f }
-{
-    for f in 0..calls.len() {
-        if !are_below(&calls[f], f) {
-            return false;
-        }
-    }
-    true
+    false
 }
 
 /// The first function that reaches itself.
 fn first_recursive(alloc: Global, calls: &[List<u32>]) -> Result<Option<u32>, AllocError>
     requires few { length calls.now < 2 ^ 32 }
     requires within { IsWithin calls.now }
-    ensures { IfOk result (λ found. MatchOption found (HasNoRecursion (Lists calls.now)) (IsFirstRecursive (Lists calls.now))) }
+    ensures { IfOk result (IsRecursionIn (Lists calls.now)) }
 {
-    if lead_back(calls) {
-        return Ok(None);
-    }
-    for start in 0..calls.len() as u32 {
-        if reaches_itself(alloc, calls, start)? {
-            return Ok(Some(start));
+    let marks = components(alloc, calls)?;
+    for function in 0..calls.len() as u32 {
+        if is_recursive(&marks, function, &calls[function as usize]) {
+            return Ok(Some(function));
         }
     }
     Ok(None)
@@ -156,6 +118,3 @@ pub(crate) fn check_recursion(
         Some(function) => Err(NameFault::Recursive(top_at(&program.tops[function as usize]))),
     }
 }
-
-#[cfg(test)]
-mod tests;

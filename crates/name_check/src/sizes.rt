@@ -6,8 +6,11 @@ ghost use Rattle.name_check.specs.Meanings as meaning;
 
 use fix_word::{FixType, SigType};
 
-/// The most elements of an array, and the greatest of its dims.
-const MOST: u32 = 8192;
+/// The most elements of an array, and its greatest dim.
+const MOST_ELEMENTS: u32 = 8192;
+
+/// The most bits of a word.
+const MOST_BITS: u8 = 32;
 
 /// How many elements an array with these dims has, if they are allowed.
 pub(crate) fn element_count(dims: &[u32]) -> Option<u32>
@@ -17,7 +20,7 @@ pub(crate) fn element_count(dims: &[u32]) -> Option<u32>
         [] => Some(1),
         [dim, rest @ ..] => {
             let count = element_count(rest)?;
-            if *dim < 1 || *dim > MOST || *dim * count > MOST {
+            if *dim < 1 || *dim > MOST_ELEMENTS || *dim * count > MOST_ELEMENTS {
                 return None;
             }
             Some(*dim * count)
@@ -31,11 +34,11 @@ pub(crate) fn are_dims(dims: &[u32]) -> bool
     element_count(dims).is_some()
 }
 
-/// Whether a word has 1 to 32 bits, and no more of them behind the point.
+/// Whether a word has one bit or more, and no more of them after the point.
 pub(crate) fn is_fix_type(ty: &FixType) -> bool
     ensures { result ≡ meaning.is_fix_type ty.now }
 {
-    1 <= ty.shape.w && ty.shape.w <= 32 && ty.shape.f <= ty.shape.w
+    1 <= ty.shape.w && ty.shape.w <= MOST_BITS && ty.shape.f <= ty.shape.w
 }
 
 pub(crate) fn is_signal_type(ty: &SigType) -> bool

@@ -1,79 +1,83 @@
 //! Tables and functions, and all of them in order.
 
-ghost use Rattle.std.specs.Prelude.{◌≡◌, ◌<◌, ◌^◌, length, codes, None, MatchOption};
-ghost use Rattle.ranked_faults.specs.Rules.{first};
-ghost use Rattle.silage_tree.specs.Tree.{view, view_top};
+ghost use Rattle.std.specs.Prelude.{◌≡◌, ◌<◌, ◌^◌, length, None, MatchOption};
+ghost use Rattle.ranked_faults.specs.Private.FirstMet.{first, MeetsOr};
+ghost use Rattle.silage_tree.specs.Tree.{view, view_top, view_func};
 ghost use Rattle.silage_tree.specs.Instances.{main_of};
-ghost use Rattle.name_check.specs.Meanings as meaning;
-ghost use Rattle.name_check.specs.TopNames.{top_names, IsDistinct};
+ghost use Rattle.name_check.specs.TopNames.{top_names};
 ghost use Rattle.name_check.specs.NameRules.{table_rules, function_rules, top_rules, all_top_rules};
-ghost use Rattle.name_check.specs.Scopes.{program_of, function_of};
 ghost use Rattle.name_check.specs.NameFaults.{IsMain};
+ghost use Rattle.name_check.specs.Private.FirstTops as first_top;
+ghost use Rattle.name_check.specs.Private.FirstTops.{IsDistinct};
 
-use crate::declarations::check_all_decls;
-use crate::indices::Indices;
+use crate::context::{Context, Indices};
+use crate::declarations::signals_of;
 use crate::items::check_items;
-use crate::scope::Scope;
 use crate::sizes::{element_count, is_fix_type};
 use crate::{NameFault, NameMap};
-use silage_tree::{ConstDef, Program, Top};
+use silage_tree::{ConstDef, Func, Program, Top};
+use std::alloc::Global;
 
-fn check_table(c: &ConstDef) -> Result<(), NameFault>
-    ensures { result ≡ first (table_rules c.now) }
+fn check_table(table: &ConstDef) -> Result<(), NameFault>
+    ensures { result ≡ first (table_rules table.now) }
 {
-    let count = match element_count(&c.dims) {
-        Some(count) => count,
-        None => return Err(NameFault::Size(c.at)),
-    };
-    if !is_fix_type(&c.ty) {
-        return Err(NameFault::Size(c.at));
+    let count = element_count(&table.dims).ok_or(NameFault::Size(table.at))?;
+    if !is_fix_type(&table.ty) {
+        return Err(NameFault::Size(table.at));
     }
-    if c.words.len() != count as usize {
-        return Err(NameFault::Arity(c.at));
+    if table.words.len() != count as usize {
+        return Err(NameFault::Arity(table.at));
     }
     Ok(())
 }
 
-fn check_function(scope: &Scope) -> Result<(), NameFault>
-    ensures { result ≡ first (function_rules (program_of scope.now) (function_of scope.now)) }
+fn check_function(
+    alloc: Global,
+    program: &Program,
+    tops: &NameMap,
+    func: &Func,
+) -> Result<(), NameFault>
+    requires named { tops.now ≡ top_names (view program.now) }
+    requires apart { IsDistinct (top_names (view program.now)) }
+    ensures { MeetsOr NameFault.Memory (first (function_rules (view program.now) (view_func func.now))) result }
 {
-    check_all_decls(scope)?;
-    check_items(scope, &Indices::Outermost, &scope.func.items)
+    let signals = signals_of(alloc, tops, func)?;
+    let context = Context {
+        program,
+        tops,
+        func,
+        signals: &signals,
+        indices: &Indices::Outermost,
+    };
+    check_items(&context, &func.items)
 }
 
-fn check_top(program: &Program, names: &NameMap, top: &Top) -> Result<(), NameFault>
-    requires named { names.now ≡ top_names (view program.now) }
+fn check_top(alloc: Global, program: &Program, tops: &NameMap, top: &Top) -> Result<(), NameFault>
+    requires named { tops.now ≡ top_names (view program.now) }
     requires apart { IsDistinct (top_names (view program.now)) }
-    ensures { result ≡ first (top_rules (view program.now) (view_top top.now)) }
+    ensures { MeetsOr NameFault.Memory (first (top_rules (view program.now) (view_top top.now))) result }
 {
     match top {
-        Top::Const(c) => check_table(c),
-        Top::Func(func) => {
-            let scope = Scope {
-                program,
-                names,
-                func,
-            };
-            check_function(&scope)
-        }
+        Top::Const(table) => check_table(table),
+        Top::Func(func) => check_function(alloc, program, tops, func),
     }
 }
 
 /// The inside of each table and function.
-pub(crate) fn check_tops(program: &Program, names: &NameMap) -> Result<(), NameFault>
-    requires named { names.now ≡ top_names (view program.now) }
+pub(crate) fn check_tops(alloc: Global, program: &Program, tops: &NameMap) -> Result<(), NameFault>
+    requires named { tops.now ≡ top_names (view program.now) }
     requires apart { IsDistinct (top_names (view program.now)) }
-    ensures { result ≡ first (all_top_rules (view program.now)) }
+    ensures { MeetsOr NameFault.Memory (first (all_top_rules (view program.now))) result }
 {
     for top in program.tops.as_slice() {
-        check_top(program, names, top)?;
+        check_top(alloc, program, tops, top)?;
     }
     Ok(())
 }
 
-/// Whether a top is the function `main`.
+/// Whether a table or function is the function `main`.
 fn is_main(top: &Top) -> bool
-    ensures { result ≡ meaning.is_main (view_top top.now) }
+    ensures { result ≡ first_top.is_main (view_top top.now) }
 {
     match top {
         Top::Const(_) => false,

@@ -1,6 +1,6 @@
 -- The first fault of a thing, by the faults of its parts.
-use Rattle.std.proofs.Common.{◌≡◌, ◌<◌, ◌⊎◌, ◌↔◌, ◌∙◌, ℕ, zero, suc, List, [], ◌∷◌, Result, Ok, Err, IsOk, refl, sym, ap, subst, inl, inr, arith}
-use Rattle.ranked_faults.specs.Ranked.{FaultSet, FaultRow, StandsBefore, IsFirst, IsClear, IsSingle, Answers, AnswersOr, no_faults, faults_in, own_fault, ◌before◌}
+use Rattle.std.proofs.Common.{◌≡◌, ◌∙◌, ℕ, zero, suc, List, [], ◌∷◌, Result, Ok, Err, refl, sym, subst, inl, inr, arith}
+use Rattle.ranked_faults.specs.Ranked.{FaultSet, FaultRow, StandsBefore, IsFirst, IsClear, no_faults, faults_in, own_fault, ◌before◌}
 
 -- two ranks that stand before one another are the same
 same_rank : (r s : List ℕ) → StandsBefore r s → StandsBefore s r → r ≡ s
@@ -13,6 +13,15 @@ same_rank (k ∷ r) (l ∷ s) (inr a) (inl b) = absurd (omega (arith, a.0))
 same_rank (k ∷ r) (l ∷ s) (inr a) (inr b) = let e = same_rank r s a.1 b.1 in cc (a.0)
 
 module _ {F : Type 0} where
+  -- no rank has two faults
+  abbrev pub IsSingle : FaultSet F → Type 0
+  IsSingle H = (r : List ℕ) (f g : F) → H r f → H r g → f ≡ g
+
+  -- the first fault, and Ok where there is none
+  abbrev pub Answers : {A : Type 0} → FaultSet F → Result A F → Type 0
+  Answers H (Ok x) = IsClear H
+  Answers H (Err e) = IsFirst H e
+
   pub none_clear : IsClear {F = F} (faults_in no_faults)
   none_clear [] f h = h
   none_clear (k ∷ r) f h = h
@@ -72,15 +81,7 @@ module _ {F : Type 0} where
   own_go_on P g R n (Ok x) a = own_clear P g R n a
   own_go_on P g R n (Err e) i = own_later P g R e n i.rank i.here i.least
 
-  pub at_last : {A : Type 0} (H : FaultSet F) (r : Result A F) → Answers H r → Answers (faults_in (H before no_faults)) r
-  at_last H (Ok x) a = before_clear H no_faults a none_clear
-  at_last H (Err e) i = before_first H no_faults e i
-
-  pub with_memory : {A : Type 0} (m : F) (H : FaultSet F) (r : Result A F) → Answers H r → AnswersOr m H r
-  with_memory m H (Ok x) a = a
-  with_memory m H (Err e) a = inr a
-
-  pub none_single : IsSingle {F = F} (faults_in no_faults)
+  pub none_single : IsSingle (faults_in no_faults)
   none_single [] f g h i = absurd h
   none_single (k ∷ r) f g h i = absurd h
 
@@ -98,11 +99,3 @@ module _ {F : Type 0} where
   one_first H e f one i j =
       let same : i.rank ≡ j.rank = same_rank i.rank j.rank (i.least j.rank f j.here) (j.least i.rank e i.here) in
       one j.rank e f (subst (λ (r : List ℕ). H r e) same i.here) j.here
-
-  pub answers_ok : {A : Type 0} (H : FaultSet F) (r : Result A F) → Answers H r → IsOk r ↔ IsClear H
-  answers_ok H (Ok x) a = (λ _. a, λ _. refl)
-  answers_ok H (Err e) a = (λ ok. absurd (cc ok), λ clear. absurd (clear a.rank e a.here))
-
-  pub answers_exactly : {A : Type 0} (H : FaultSet F) (r : Result A F) → IsSingle H → Answers H r → (f : F) → (r ≡ Err f) ↔ IsFirst H f
-  answers_exactly H (Ok x) one a f = (λ e. absurd (cc), λ i. absurd (a i.rank f i.here))
-  answers_exactly H (Err e) one a f = (λ (same : Err e ≡ Err f). let is : e ≡ f = cc in subst (λ (g : F). IsFirst H g) is a, λ i. ap Err (one_first H e f one a i))

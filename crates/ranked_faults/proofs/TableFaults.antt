@@ -1,8 +1,9 @@
 -- Who goes through a table in order meets the fault of least rank.
-use Rattle.std.proofs.Common.{◌≡◌, ◌<◌, ◌∙◌, ◌+◌, ◌++◌, ℕ, suc, List, [], ◌∷◌, Bool, true, false, Result, Ok, Err, IsErrAnd, map, drop, length, get_or, refl, sym, ap, add-one, drop-cons, append-nil, append_assoc, true≢false}
-use Rattle.ranked_faults.specs.Ranked.{FaultSet, FaultRow, Answers, IsSingle, faults_in, ◌before◌}
-use Rattle.ranked_faults.specs.Rules.{Rules, RuleRow, parts, own, none, ◌▸◌, unless, each_behind, each_from, faults, row_faults, first, first_in, ◌>>◌}
-use Rattle.ranked_faults.proofs.FirstFaults.{none_clear, go_on, before_first, own_first, own_go_on, none_single, before_single, own_single}
+use Rattle.std.proofs.Common.{◌≡◌, ◌<◌, ◌∙◌, ◌+◌, ℕ, suc, List, ◌∷◌, Bool, true, false, Result, Ok, Err, IsErrAnd, map, drop, length, get_or, refl, sym, ap, add-one, drop-cons, true≢false}
+use Rattle.ranked_faults.specs.Ranked.{FaultSet, FaultRow, faults_in, ◌before◌}
+use Rattle.ranked_faults.specs.Rules.{Rules, RuleRow, parts, own, none, ◌▸◌, unless, each_from, faults, row_faults}
+use Rattle.ranked_faults.specs.Private.FirstMet.{first, first_in, ◌>>◌}
+use Rattle.ranked_faults.proofs.FirstFaults.{Answers, IsSingle, none_clear, go_on, before_first, own_first, own_go_on, none_single, before_single, own_single}
 
 module _ {F : Type 0} where
   pub then_ok : (r : Result (Unit {0}) F) → r >> Ok tt ≡ r
@@ -60,16 +61,6 @@ module _ {F : Type 0} where
     pub next_passes : (whole : Result (Unit {0}) F) → first_in (each_from G i (map v (drop i xs))) ≡ whole → Ok tt ≡ first (G i (v x)) → first_in (each_from G (i + 1) (map v (drop (i + 1) xs))) ≡ whole
     next_passes whole so_far h = ap (λ s. s >> first_in (each_from G (i + 1) (map v (drop (i + 1) xs)))) h ∙ sym next ∙ so_far
 
-  then_assoc : (a b d : Result (Unit {0}) F) → a >> (b >> d) ≡ (a >> b) >> d
+  pub then_assoc : (a b d : Result (Unit {0}) F) → a >> (b >> d) ≡ (a >> b) >> d
   then_assoc (Ok x) b d = refl
   then_assoc (Err e) b d = refl
-
-  -- a row of things in two parts
-  pub first_in-append : {A : Type 0} (G : List A → A → Rules F) (front xs ys : List A)
-      → first_in (each_behind G front (xs ++ ys)) ≡ first_in (each_behind G front xs) >> first_in (each_behind G (front ++ xs) ys)
-  first_in-append G front [] ys = ap (λ l. first_in (each_behind G l ys)) (sym (append-nil front))
-  first_in-append G front (x ∷ xs) ys =
-      let rest = first_in-append G (front ++ x ∷ []) xs ys in
-      let same : (front ++ x ∷ []) ++ xs ≡ front ++ x ∷ xs = append_assoc front (x ∷ []) xs in
-      ap (λ r. first (G front x) >> r) (rest ∙ ap (λ l. first_in (each_behind G (front ++ x ∷ []) xs) >> first_in (each_behind G l ys)) same)
-      ∙ then_assoc (first (G front x)) (first_in (each_behind G (front ++ x ∷ []) xs)) (first_in (each_behind G (front ++ x ∷ xs) ys))

@@ -1,7 +1,7 @@
--- Faults with ranks, and what it is to answer the first of them.
+-- Faults with ranks, and the first of them.
 use Rattle.std.specs.Prelude.{◌≡◌, ◌<◌, ◌⊎◌, ℕ, zero, suc, List, [], ◌∷◌, Result, Ok, Err}
 
--- in the order of a dictionary, where a beginning stands first
+-- in the order of a dictionary, where a prefix comes first
 abbrev pub StandsBefore : List ℕ → List ℕ → Type 0
 StandsBefore [] s = Unit {0}
 StandsBefore (k ∷ r) [] = ⊥
@@ -31,7 +31,7 @@ module _ {F : Type 0} where
   faults_in R [] f = ⊥
   faults_in R (k ∷ r) f = R k r f
 
-  -- a rule of the thing itself, where it is broken the fault is g, before the faults of its parts
+  -- a rule of the thing itself: where it is broken the fault is g, before the faults of the parts
   abbrev pub own_fault : (IsBroken : Type 0) → F → FaultRow F → FaultSet F
   own_fault IsBroken g R [] f = IsBroken × (f ≡ g)
   own_fault IsBroken g R (k ∷ r) f = R k r f
@@ -39,10 +39,6 @@ module _ {F : Type 0} where
   -- one rule alone
   abbrev pub fault_where : (IsBroken : Type 0) → F → FaultSet F
   fault_where IsBroken g = own_fault IsBroken g no_faults
-
-  abbrev pub faults_of_each : {A : Type 0} → (A → FaultSet F) → List A → FaultRow F
-  faults_of_each G [] = no_faults
-  faults_of_each G (x ∷ xs) = G x before faults_of_each G xs
 
   -- there is no fault
   abbrev pub IsClear : FaultSet F → Type 0
@@ -54,16 +50,12 @@ module _ {F : Type 0} where
     pub here : H rank e
     pub least : (s : List ℕ) (f : F) → H s f → StandsBefore rank s
 
-  -- no rank has two faults
-  abbrev pub IsSingle : FaultSet F → Type 0
-  IsSingle H = (r : List ℕ) (f g : F) → H r f → H r g → f ≡ g
+  -- the call answers Ok, or it is out of memory
+  abbrev pub AnswersOk : {A : Type 0} → (memory : F) → Result A F → Type 0
+  AnswersOk memory (Ok x) = Unit {0}
+  AnswersOk memory (Err e) = e ≡ memory
 
-  -- the first fault, and Ok where there is none
-  abbrev pub Answers : {A : Type 0} → FaultSet F → Result A F → Type 0
-  Answers H (Ok x) = IsClear H
-  Answers H (Err e) = IsFirst H e
-
-  -- the same, want of memory aside
-  abbrev pub AnswersOr : {A : Type 0} → (memory : F) → FaultSet F → Result A F → Type 0
-  AnswersOr memory H (Ok x) = IsClear H
-  AnswersOr memory H (Err e) = (e ≡ memory) ⊎ IsFirst H e
+  -- the call answers this fault, or it is out of memory
+  abbrev pub AnswersFault : {A : Type 0} → (memory fault : F) → Result A F → Type 0
+  AnswersFault memory fault (Ok x) = ⊥
+  AnswersFault memory fault (Err e) = (e ≡ fault) ⊎ (e ≡ memory)

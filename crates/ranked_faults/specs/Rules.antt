@@ -1,5 +1,5 @@
--- Rules as a table: each is a test that has to hold, with the fault where it does not.
-use Rattle.std.specs.Prelude.{◌≡◌, ◌+◌, ◌++◌, ℕ, Bool, true, false, List, [], ◌∷◌, Result, Ok, Err}
+-- Rules as a table: each is a test, with the fault where it fails.
+use Rattle.std.specs.Prelude.{◌≡◌, ◌+◌, ℕ, Bool, false, List, [], ◌∷◌}
 use Rattle.ranked_faults.specs.Ranked.{FaultSet, FaultRow, faults_in, own_fault, no_faults, ◌before◌}
 
 mutual
@@ -23,17 +23,12 @@ module _ {F : Type 0} where
   each G [] = none
   each G (x ∷ xs) = G x ▸ each G xs
 
-  -- the same where the rules of a thing hang on what stands in front of it
-  abbrev pub each_behind : {A : Type 0} → (List A → A → Rules F) → (front : List A) → List A → RuleRow F
-  each_behind G front [] = none
-  each_behind G front (x ∷ xs) = G front x ▸ each_behind G (front ++ x ∷ []) xs
-
-  -- the same where they hang on its position, of which the first is k
+  -- the same where the rules of a thing depend on its position, of which the first is k
   abbrev pub each_from : {A : Type 0} → (ℕ → A → Rules F) → (k : ℕ) → List A → RuleRow F
   each_from G k [] = none
   each_from G k (x ∷ xs) = G k x ▸ each_from G (k + 1) xs
 
-  -- the faults of the rules that do not hold: the rank of each is its place in the table
+  -- the faults of the rules that fail: the rank of each is its place in the table
   abbrev mutual
     pub faults : Rules F → FaultSet F
     faults (parts row) = faults_in (row_faults row)
@@ -42,19 +37,3 @@ module _ {F : Type 0} where
     pub row_faults : RuleRow F → FaultRow F
     row_faults none = no_faults
     row_faults (x ▸ row) = faults x before row_faults row
-
-  infixl 10 ◌>>◌
-  abbrev pub ◌>>◌ : Result (Unit {0}) F → Result (Unit {0}) F → Result (Unit {0}) F
-  (Ok x) >> b = b
-  (Err e) >> b = Err e
-
-  -- the fault that one meets first who goes through the table in order
-  abbrev mutual
-    pub first : Rules F → Result (Unit {0}) F
-    first (parts row) = first_in row
-    first (own true g row) = first_in row
-    first (own false g row) = Err g
-
-    pub first_in : RuleRow F → Result (Unit {0}) F
-    first_in none = Ok tt
-    first_in (x ▸ row) = first x >> first_in row

@@ -146,6 +146,3 @@ pub fn lex(alloc: Global, src: &[u8]) -> Result<Tokens, LexFault>
     }
     Ok(List::from_vec(tokens))
 }
-
-#[cfg(test)]
-mod tests;

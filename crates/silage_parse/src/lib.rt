@@ -79,6 +79,3 @@ pub fn print_is_parsed()
 {
     print_is_read()
 }
-
-#[cfg(test)]
-mod tests;

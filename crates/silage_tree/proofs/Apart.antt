@@ -1,4 +1,4 @@
--- In a program that was read from a source, one `at` in the same turns of the loops round it is one call.
+-- In a program that was read from a source, one position in the same turns of the loops around it is one call.
 use Rattle.std.proofs.Common.{◌≡◌, refl, sym, subst, ◌∙◌, ap, arith, ℕ, zero, suc, ◌+◌, ◌≤◌, ◌<◌, inl, inr, Bool, true, false, cond, List, [], ◌∷◌, ◌++◌, append_assoc, length, find, filter_map, slice_get, Option, Some, None, ℤ}
 use Rattle.std.proofs.lemmas.List.{map-append}
 use Rattle.silage_lex.specs.Tokens.{Gap, none, blank, comment, Spaced, HasTokens}
@@ -15,7 +15,7 @@ use Rattle.silage_tree.proofs.Rising.{target_rises, targets_rise, args_rise, man
 some_once : {A : Type 0} {x y : A} → Some x ≡ Some y → x ≡ y
 some_once e = cc
 
--- the tokens begin one behind another
+-- the tokens begin one after another
 abbrev pub AreRising : List Token → Type 0
 AreRising ts = (i j : ℕ) (t u : Token) → slice_get ts i ≡ Some t → slice_get ts j ≡ Some u → i < j → t.from < u.from
 
@@ -45,7 +45,7 @@ spaced_rising bytes from (v ∷ ts) to (gap, is, rest) (suc i) (suc j) t u e f b
 pub tokens_rise : (bytes : List ℕ) (ts : List Token) → HasTokens bytes ts → AreRising ts
 tokens_rise bytes ts h = spaced_rising bytes 0 ts (length bytes) h
 
--- Indices round an item inside loops go on from those outside.
+-- The indices around an item inside loops continue those outside.
 cancel : (xs ys zs : List ℤ) (a b : ℤ) → xs ++ (a ∷ ys) ≡ xs ++ (b ∷ zs) → a ≡ b
 cancel [] ys zs a b e = cc
 cancel (x ∷ xs) ys zs a b e = let rest : xs ++ (a ∷ ys) ≡ xs ++ (b ∷ zs) = cc in cancel xs ys zs a b rest
@@ -84,13 +84,13 @@ same_at : (ps qs : List Place) (f h : List ℕ) (xs ys : List Expr) (i j : ℕ) 
 same_at ps qs f h xs ys i j e = cc
 
 module _ (ts : List Token) where
-  -- a place in the source at which one of the tokens i to j - 1 begins
+  -- a position at which one of the tokens i to j - 1 begins
   record IsWithin (i j at : ℕ) : Type 0 where
     number : ℕ
     token : Token
     low : i ≤ number
     high : number < j
-    stands : slice_get ts number ≡ Some token
+    found : slice_get ts number ≡ Some token
     begins : at ≡ token.from
 
   name_within : (i k j : ℕ) (f : List ℕ) (at : ℕ) → IsName ts k f → i ≤ k → k < j → at ≡ from_at ts k → IsWithin i j at
@@ -98,10 +98,10 @@ module _ (ts : List Token) where
     where
       go : (o : Option Token) → slice_get ts k ≡ o → IsWithin i j at
       go None h = let none : None ≡ Some (kind.Name f) = ap kind_of (sym h) ∙ named in absurd (cc none)
-      go (Some t) h = record { number = k; token = t; low = low; high = high; stands = h; begins = e ∙ ap from_of h }
+      go (Some t) h = record { number = k; token = t; low = low; high = high; found = h; begins = e ∙ ap from_of h }
 
   wider : (i j k m at : ℕ) → k ≤ i → j ≤ m → IsWithin i j at → IsWithin k m at
-  wider i j k m at a b is = record { number = is.number; token = is.token; low = omega (arith, is.low); high = omega (arith, is.high); stands = is.stands; begins = is.begins }
+  wider i j k m at a b is = record { number = is.number; token = is.token; low = omega (arith, is.low); high = omega (arith, is.high); found = is.found; begins = is.begins }
 
   mutual
     item_within : (i : ℕ) (y : Item) (rs : List Role) (j : ℕ) → IsItem ts i y rs j → (outer : Indices) (ps : List Place) (f : List ℕ) (xs : List Expr) (at : ℕ) (indices : Indices) → OccursIn y outer (call ps f xs at) indices → IsWithin i j at
@@ -124,7 +124,7 @@ module _ (ts : List Token) where
   module _ (rising : AreRising ts) where
     apart_within : (i j k at : ℕ) → IsWithin i j at → IsWithin j k at → ⊥
     apart_within i j k at x y =
-        let below : x.token.from < y.token.from = rising x.number y.number x.token y.token x.stands y.stands (omega (arith, x.high, y.low)) in
+        let below : x.token.from < y.token.from = rising x.number y.number x.token y.token x.found y.found (omega (arith, x.high, y.low)) in
         omega (arith, below, x.begins, y.begins)
 
     same_turn : (outer a b : Indices) (index : List ℕ) (t u : ℤ) → GoesOn (outer ++ (index, t) ∷ []) a → GoesOn (outer ++ (index, u) ∷ []) b → turns_of a ≡ turns_of b → t ≡ u

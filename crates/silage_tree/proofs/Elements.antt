@@ -10,7 +10,7 @@ use Rattle.silage_tree.specs.Names.{decls, declared, element_count, IsOffset}
 use Rattle.silage_tree.specs.Instances.{Element, element, IsInstance, inside_is, IsElement, Site, IsSignal, IsArray, Call, made, result_of}
 use Rattle.silage_tree.specs.Solves.{Source, IsDefined, input, equated, argument, array, table, result, array_result}
 use Rattle.silage_tree.specs.Rules.{ReadsAt, reads_at, Reads, BranchesRead, SourceReads}
-use Rattle.silage_tree.proofs.Outputs.{behind, within}
+use Rattle.silage_tree.proofs.Outputs.{in_second, in_first}
 
 some_once : {A : Type 0} {x y : A} → Some x ≡ Some y → x ≡ y
 some_once e = cc
@@ -26,7 +26,7 @@ module _ {A : Type 0} (test : A → Bool) where
   abbrev numbered : ℕ → List A → Option (ℕ × A)
   numbered n xs = find (λ (q : ℕ × A). test q.1) (enumerate_from n xs)
 
-  -- what is found among numbered elements stands at its number
+  -- what is found among numbered elements is at its number
   found : (n : ℕ) (xs : List A) (i : ℕ) (x : A) → numbered n xs ≡ Some (i, x) → (k : ℕ) × (i ≡ n + k) × (slice_get xs k ≡ Some x)
   found n [] i x e = cc
   found n (y ∷ ys) i x e = by_test (test y) (λ e. found (n + 1) ys i x e) e
@@ -69,7 +69,7 @@ module _ (p : Program) where
       record { function = s.function; decl = decl; instance = instance; declared = declared_at s.function place.name d decl is.named; offset = subst (λ (z : List ℕ). k < element_count z) (sym is.same_dims) below }
 
   pub made_is : (s : Site) (c : Call p s) → IsInstance p (made c) c.callee
-  made_is s c = inside_is c.stands.instance (record { places = c.places; name = c.name; args = c.args; indices = s.indices; occurs = c.stands.occurs; turns = refl; named = c.named })
+  made_is s c = inside_is c.found.instance (record { places = c.places; name = c.name; args = c.args; indices = s.indices; occurs = c.found.occurs; turns = refl; named = c.named })
 
   pub result_is : (s : Site) (c : Call p s) (r k : ℕ) (decl : Decl) → slice_get c.callee.results r ≡ Some decl → k < element_count decl.dims → IsElement p (result_of c r k)
   result_is s c r k decl at below =
@@ -77,7 +77,7 @@ module _ (p : Program) where
         function = c.callee;
         decl = decl;
         instance = made_is s c;
-        declared = behind c.callee.params (c.callee.results ++ c.callee.locals) r ∙ within c.callee.results c.callee.locals r decl at;
+        declared = in_second c.callee.params (c.callee.results ++ c.callee.locals) r ∙ in_first c.callee.results c.callee.locals r decl at;
         offset = below;
       }
 
@@ -116,10 +116,10 @@ module _ (p : Program) where
 
   pub source_there : (e : Element) (source : Source) → IsDefined p e source → (d : Element) (ago : ℕ) → SourceReads source d ago → IsThere d ago
   source_there e _ (input x) d ago h = absurd h
-  source_there e _ (equated {s = s} {x = x} place i k decl stands is at) d ago h = reads_there s stands.instance d ago x h
-  source_there e _ (argument {s = s} {x = x} c i decl is none at) d ago h = reads_there s c.stands.instance d ago x h
+  source_there e _ (equated {s = s} {x = x} place i k decl found is at) d ago h = reads_there s found.instance d ago x h
+  source_there e _ (argument {s = s} {x = x} c i decl is none at) d ago h = reads_there s c.found.instance d ago x h
   source_there e _ (array s c i m k decl theirs place arg is below at) d ago h =
-      other_there d (element s.instance m k) ago (array_is s place decl.dims m k theirs c.stands.instance is below) h
+      other_there d (element s.instance m k) ago (array_is s place decl.dims m k theirs c.found.instance is below) h
   source_there e _ (table s c i decl place arg is below at) d ago h = absurd h
   source_there e _ (result s c r i k theirs decl place res none is at) d ago h =
       other_there d (result_of c r 0) ago (result_is s c r 0 theirs res.result (subst (λ (z : List ℕ). 0 < element_count z) (sym none) (omega arith))) h

@@ -36,7 +36,7 @@ least = refl
 unbound : manifest_value ((codes "i", pos 3) ∷ []) (counter (codes "j") 0) ≡ None
 unbound = refl
 
--- m[1][2] of m[2][3] is at place 5, and there is no m[1][3]
+-- m[1][2] of m[2][3] is at offset 5, and there is no m[1][3]
 row_major : IsOffset [] (2 ∷ 3 ∷ []) (whole 1 0 ∷ whole 2 0 ∷ []) 5
 row_major = (1, 2, refl, omega arith, (2, 0, refl, omega arith, refl, refl), refl)
 
@@ -128,7 +128,7 @@ second_call =
       args = now (codes "b") ∷ [];
       at = 80;
       callee = acc;
-      stands = record { instance = main_is refl; occurs = inr (inl (refl, refl)) };
+      found = record { instance = main_is refl; occurs = inr (inl (refl, refl)) };
       named = refl;
     }
 
@@ -267,14 +267,14 @@ p_preset =
       declaration = 2;
       decl = typed (codes "p") [] byte;
       offset = 0;
-      stands = record { instance = main_is refl; occurs = inr (inr (inl (refl, refl))) };
+      found = record { instance = main_is refl; occurs = inr (inr (inl (refl, refl))) };
       signal = record { named = refl; placed = refl };
       is = refl;
       sample = refl;
       typed = refl;
     }
 
--- `(i : 0 .. 3) :: begin a[i] = x; end; a[3] = x;` defines a[3] in the loop's last turn, and once more behind the loop
+-- `(i : 0 .. 3) :: begin a[i] = x; end; a[3] = x;` defines a[3] in the loop's last turn, and once more after the loop
 abbrev at_index : Manifest → Place
 at_index m = record { name = codes "a"; at = 0; subs = m ∷ [] }
 
@@ -292,8 +292,8 @@ in_the_loop =
     (record { instance = main_is refl; occurs = inl (pos 3, record { first = pos 0; last = pos 3; from = refl; to = refl; begun = omega (arith, ints); ended = omega (arith, ints) }, inl (refl, refl)) })
     (record { named = refl; placed = (3, 0, refl, omega arith, refl, refl) }) refl
 
-behind_the_loop : IsDefined (alone turns) (element main 2 3) (value (site main turns) (now (codes "x")) byte)
-behind_the_loop =
+after_the_loop : IsDefined (alone turns) (element main 2 3) (value (site main turns) (now (codes "x")) byte)
+after_the_loop =
     equated (at_index (whole 3 0)) 2 3 (typed (codes "a") (4 ∷ []) byte) (record { instance = main_is refl; occurs = inr (inl (refl, refl)) })
     (record { named = refl; placed = (3, 0, refl, omega arith, refl, refl) }) refl
 

@@ -14,8 +14,8 @@ use Rattle.silage_tree.specs.declared.tree.Lit.{Lit}
 use Rattle.silage_tree.specs.declared.tree.Lit.TheVariants.{Number, Truth}
 use Rattle.silage_tree.specs.declared.tree.Decl.{Decl}
 use Rattle.silage_tree.specs.Tree.{Manifest, whole, counter, minus, both, Place, Expr, literal, read, negate, not, binary, shift, cast, choose, Branches, no_branch, branch, Item, equation, call, loop, initial, Items, no_item, item, Top, table, function}
-use Rattle.silage_tree.specs.Text.{word, enclosed, listed, behind_comma, bracketed, subscript_text, truth_word, lit_text, mode_word, fix_text, type_text, dims_text, decl_text, manifest_text, place_text, delay_text, expr_text, branches_text, clause_text, call_text, turns_text, items_text, local_text, top_text}
-use Rattle.silage_tree.proofs.Stands.{Each, no_kind, one_kind, joined}
+use Rattle.silage_tree.specs.Text.{word, enclosed, listed, after_comma, bracketed, subscript_text, truth_word, lit_text, mode_word, fix_text, type_text, dims_text, decl_text, manifest_text, place_text, delay_text, expr_text, branches_text, clause_text, call_text, turns_text, items_text, local_text, top_text}
+use Rattle.silage_tree.proofs.KindsAt.{Each, no_kind, one_kind, joined}
 use Rattle.silage_tree.proofs.Weights.{total}
 use Rattle.silage_tree.proofs.TopWeights.{IsQuiet}
 
@@ -67,7 +67,7 @@ module _ {A : Type 0} (text : A → List TokenKind) (each : (x : A) → Each IsI
   in_all [] = no_kind
   in_all (x ∷ xs) = joined (each x) (in_all xs)
 
-  in_others : (xs : List A) → Each IsInner (flat_map (behind_comma text) xs)
+  in_others : (xs : List A) → Each IsInner (flat_map (after_comma text) xs)
   in_others [] = no_kind
   in_others (x ∷ xs) = one_kind refl (joined (each x) (in_others xs))
 

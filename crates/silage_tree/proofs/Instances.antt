@@ -36,11 +36,11 @@ module _ (p : Program) (apart : HasCallsApart p) where
       let (same_instance, same_step) = inside_once s.instance t.instance _ _ e in
       let same_at : c.at ≡ d.at = ap (λ (step : Step). step.at) same_step in
       let same_turns : turns_of s.indices ≡ turns_of t.indices = ap (λ (step : Step). step.turns) same_step in
-      let c_instance : IsInstance p t.instance s.function = subst (λ i. IsInstance p i s.function) same_instance c.stands.instance in
-      let same_function : s.function ≡ t.function = instance_once t.instance s.function t.function c_instance d.stands.instance in
-      let occurs : Occurs t.function.items [] (call c.places c.name c.args c.at) s.indices = subst (λ (z : Func). Occurs z.items [] (call c.places c.name c.args c.at) s.indices) same_function c.stands.occurs in
+      let c_instance : IsInstance p t.instance s.function = subst (λ i. IsInstance p i s.function) same_instance c.found.instance in
+      let same_function : s.function ≡ t.function = instance_once t.instance s.function t.function c_instance d.found.instance in
+      let occurs : Occurs t.function.items [] (call c.places c.name c.args c.at) s.indices = subst (λ (z : Func). Occurs z.items [] (call c.places c.name c.args c.at) s.indices) same_function c.found.occurs in
       let there : Occurs t.function.items [] (call c.places c.name c.args d.at) s.indices = subst (λ (at : ℕ). Occurs t.function.items [] (call c.places c.name c.args at) s.indices) same_at occurs in
-      let same : (call c.places c.name c.args d.at ≡ call d.places d.name d.args d.at) × (s.indices ≡ t.indices) = apart t.instance t.function d.stands.instance _ _ _ _ _ _ d.at _ _ there d.stands.occurs same_turns in (
+      let same : (call c.places c.name c.args d.at ≡ call d.places d.name d.args d.at) × (s.indices ≡ t.indices) = apart t.instance t.function d.found.instance _ _ _ _ _ _ d.at _ _ there d.found.occurs same_turns in (
         same_site s.instance t.instance s.function t.function s.indices t.indices s t refl refl same_instance same_function same.1,
         ap (call c.places c.name c.args) same_at ∙ same.0,
       )

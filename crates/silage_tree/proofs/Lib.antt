@@ -14,6 +14,7 @@ pub mod Apart
 pub mod OneLine
 pub mod OneLineOnce
 mod Examples
+pub mod KindsAt
 pub mod LightItems
 pub mod Lighter
 pub mod Levels
@@ -26,7 +27,6 @@ pub mod ReadManifests
 pub mod ReadParts
 pub mod ReadPrograms
 pub mod Spelled
-pub mod Stands
 pub mod Tokens
 pub mod TopWeights
 pub mod Weights

@@ -6,7 +6,7 @@ use Rattle.silage_tree.specs.declared.tree.ConstDef.{ConstDef}
 use Rattle.silage_tree.specs.Tree.{Manifest, Place, Expr, Item, equation, call, loop, initial, Items, no_item, item, Func, Top, table, function}
 use Rattle.silage_tree.specs.Grammar.{IsManifest, Manifest_, Primary_, IsExpr, Chain, Or, Role, Plain, Starts, Enters, Leaves, weights, plain, IsTargetSubscripts, no_target_sub, one_target_sub, two_target_subs, IsTarget, target, IsTargets, last_target, more_targets, IsArguments, last_arg, more_args, IsItem, is_equation, is_call, is_calls, is_loop, is_initial, IsItems, no_items, one_item, IsTop, is_table, is_function, IsTops, no_tops, one_top}
 use Rattle.silage_tree.specs.Text.{manifest_text, amount_text, expr_text}
-use Rattle.silage_tree.proofs.Stands.{Stands}
+use Rattle.silage_tree.proofs.KindsAt.{AreAt}
 use Rattle.silage_tree.proofs.Weights.{manifest_total, amount_total, expr_total}
 use Rattle.silage_tree.proofs.Lighter.{weight, weight_free, Lighter, joined, none_lighter, same_role, start_for_plain, plain_more, plain_less, start_late, text_lighter, plain_lighter}
 
@@ -30,13 +30,13 @@ LightManifest m rs = (ts : List Token) (i j : ℕ) → IsManifest ts Manifest_ i
 abbrev pub LightAmount : Manifest → List Role → Type 0
 LightAmount m rs = (ts : List Token) (i j : ℕ) → IsManifest ts Primary_ i m j → Lighter rs (weights ts i j)
 
-pub light_expr : (us : List Token) (e : Expr) (i j : ℕ) → Stands us i (expr_text e) j → LightExpr e (weights us i j)
+pub light_expr : (us : List Token) (e : Expr) (i j : ℕ) → AreAt us i (expr_text e) j → LightExpr e (weights us i j)
 light_expr us e i j s ts a b d = text_lighter us ts (expr_text e) i j a b s (expr_total weight weight_free d)
 
-pub light_manifest : (us : List Token) (m : Manifest) (i j : ℕ) → Stands us i (manifest_text m) j → LightManifest m (weights us i j)
+pub light_manifest : (us : List Token) (m : Manifest) (i j : ℕ) → AreAt us i (manifest_text m) j → LightManifest m (weights us i j)
 light_manifest us m i j s ts a b d = text_lighter us ts (manifest_text m) i j a b s (manifest_total weight weight_free d)
 
-pub light_amount : (us : List Token) (m : Manifest) (i j : ℕ) → Stands us i (amount_text m) j → LightAmount m (weights us i j)
+pub light_amount : (us : List Token) (m : Manifest) (i j : ℕ) → AreAt us i (amount_text m) j → LightAmount m (weights us i j)
 light_amount us m i j s ts a b d = text_lighter us ts (amount_text m) i j a b s (amount_total weight weight_free d)
 
 -- Places on the left.

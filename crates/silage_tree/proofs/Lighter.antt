@@ -11,7 +11,7 @@ use Rattle.fix_word.specs.declared.types.Mode.TheVariants.{Trunc, Round}
 use Rattle.silage_tree.specs.Grammar.{weighs, weight_role, weights, plain, Role, Plain, Starts, Weighs, Enters, Leaves}
 use Rattle.silage_tree.specs.Limits.{weigh, enter, Passes, too_heavy, too_deep, AreWithin}
 use Rattle.silage_tree.specs.Text.{word, truth_word, mode_word}
-use Rattle.silage_tree.proofs.Stands.{Stands}
+use Rattle.silage_tree.proofs.KindsAt.{AreAt}
 use Rattle.silage_tree.proofs.Weights.{IsFree, total, before, counts}
 
 -- what a token weighs
@@ -36,13 +36,13 @@ truth_free false = refl
 pub weight_free : IsFree weight
 weight_free = record { whole = λ n. refl; point = λ d p. refl; truth = truth_free; mode = mode_free; comma = refl }
 
--- a token with this role may stand behind tokens with this weight and these open loops
+-- a token with this role may come after tokens with this weight and these open loops
 abbrev pub Allows : ℕ → ℕ → Role → Type 0
 Allows w d Weighs = w < 256
 Allows w d Enters = d < 16
 Allows w d _ = Unit {0}
 
--- tokens with these roles may stand there
+-- tokens with these roles may come there
 abbrev pub Fits : ℕ → ℕ → List Role → Type 0
 Fits w d [] = Unit {0}
 Fits w d (r ∷ rs) = Allows w d r × Fits (weigh w r) (enter d r) rs
@@ -109,7 +109,7 @@ plain_more f w v d le h = let x = f w v d le h in record { fits = (tt, x.fits); 
 pub plain_less : {a b : List Role} → Lighter a b → Lighter a (Plain ∷ b)
 plain_less f w v d le h = let x = f w v d le h.1 in record { fits = x.fits; weight = x.weight; loops = x.loops }
 
--- one more start in front of what begins with a start
+-- one more start before what begins with a start
 pub start_late : {a b : List Role} → Lighter (Starts ∷ a) b → Lighter (Starts ∷ a) (Starts ∷ b)
 start_late f w v d le h = let x = f 0 0 d (omega arith) h.1 in record { fits = x.fits; weight = x.weight; loops = x.loops }
 
@@ -179,7 +179,7 @@ take_none : (n : ℕ) → take n no_tokens ≡ no_tokens
 take_none zero = refl
 take_none (suc n) = refl
 
--- what stands from i to j counts what is between them
+-- the tokens from i to j count the difference of what is before each
 front_heft : (ts : List Token) (n : ℕ) → before weight ts n ≡ heft (take n ts)
 front_heft ts zero = refl
 front_heft [] (suc n) = refl
@@ -205,7 +205,7 @@ heft_range (t ∷ ts) (suc i) (suc j) le =
     let y = ap (λ n. heft (take n (drop i ts))) e in
     omega (arith, x, y)
 
-stands_size : (us : List Token) (ks : List TokenKind) (i j : ℕ) → Stands us i ks j → (i ≤ j) × (before weight us j ≡ before weight us i + total weight ks)
+stands_size : (us : List Token) (ks : List TokenKind) (i j : ℕ) → AreAt us i ks j → (i ≤ j) × (before weight us j ≡ before weight us i + total weight ks)
 stands_size us [] i j s = let e = ap (before weight us) s in (omega (arith, s), omega (arith, e))
 stands_size us (k ∷ ks) i j s =
     let x = stands_size us ks (i + 1) j s.1 in
@@ -215,7 +215,7 @@ stands_size us (k ∷ ks) i j s =
     (omega (arith, le), omega (arith, same, y))
 
 -- a text that counts no more than the tokens from a to b
-pub text_lighter : (us ts : List Token) (ks : List TokenKind) (i j a b : ℕ) → Stands us i ks j → total weight ks + before weight ts a ≤ before weight ts b → Lighter (weights us i j) (weights ts a b)
+pub text_lighter : (us ts : List Token) (ks : List TokenKind) (i j a b : ℕ) → AreAt us i ks j → total weight ks + before weight ts a ≤ before weight ts b → Lighter (weights us i j) (weights ts a b)
 text_lighter us ts ks i j a b s less =
     let x = stands_size us ks i j s in
     let le = x.0 in

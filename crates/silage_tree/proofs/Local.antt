@@ -1,4 +1,4 @@
--- A value hangs on what its expression reads, and on no other words.
+-- A value depends on what its expression reads, and on no other words.
 use Rattle.std.proofs.Common.{◌≡◌, refl, sym, ◌∙◌, ap, ℕ, inl, inr, true, false, Option, Some, None, ℤ, pos, ◌-ℤ◌}
 use Rattle.fix_word.specs.declared.types.FixType.{FixType}
 use Rattle.fix_word.specs.declared.types.SigType.{SigType}
@@ -69,7 +69,7 @@ module _ (p : Program) (s : Site) (a b : Words) (n : ℕ) where
 now : (a : Words) (e : Element) (n : ℕ) → pos n ≡ pos n -ℤ pos 0 → a e (pos n) ≡ a e (pos n -ℤ pos 0)
 now a e n h = ap (a e) h
 
--- what a source gives hangs on what it reads alone
+-- what a source gives depends only on what it reads
 pub source_local : (p : Program) (stream : Rows) (a b : Words) (n : ℕ) (source : Source) (v : ℤ) → pos n ≡ pos n -ℤ pos 0 → Agree a b n (SourceReads source) → Gives p stream a n source v → Gives p stream b n source v
 source_local p stream a b n (word j) v zero agree h = h
 source_local p stream a b n (value s x ty) v zero agree h = value_local p s a b n x agree ty v h

@@ -1,5 +1,5 @@
--- Each pair of parentheses of the canonical text is needed: tokens that derive a definition have as many `(` as its text, and a list
--- of tokens without one of them has too few. Which tokens are a definition's own is told by the `func` or `const` in front.
+-- Each pair of parentheses of the canonical text is needed: tokens that derive a definition have as many `(` as its text,
+-- and a list of tokens without one of them has too few. A definition's own tokens begin at its `func` or `const`.
 use Rattle.std.proofs.Common.{◌≡◌, ℕ, zero, suc, ◌+◌, ◌≤◌, Bool, true, false, inl, inr, List, [], ◌∷◌, ◌++◌, Some, length, map, nat_eq, refl, sym, ap, ◌∙◌, arith}
 use Rattle.std.specs.Prelude.{if◌then◌else◌}
 use Rattle.std.proofs.lemmas.Bool.{cases_lt}
@@ -72,11 +72,11 @@ at_most_all count ts zero = omega arith
 at_most_all count [] (suc i) = omega arith
 at_most_all count (t ∷ ts) (suc i) = let a = at_most_all count ts i in omega (arith, a)
 
-behind : (ts : List Token) (xs ys : List TokenKind) (k : TokenKind) → kinds ts ≡ xs ++ k ∷ ys → kind_at ts (length xs) ≡ Some k
-behind [] [] ys k e = cc
-behind [] (x ∷ xs) ys k e = cc
-behind (t ∷ ts) [] ys k e = let same : t.kind ≡ k = cc in ap Some same
-behind (t ∷ ts) (x ∷ xs) ys k e = let others : kinds ts ≡ xs ++ k ∷ ys = cc in behind ts xs ys k others
+kind_after : (ts : List Token) (xs ys : List TokenKind) (k : TokenKind) → kinds ts ≡ xs ++ k ∷ ys → kind_at ts (length xs) ≡ Some k
+kind_after [] [] ys k e = cc
+kind_after [] (x ∷ xs) ys k e = cc
+kind_after (t ∷ ts) [] ys k e = let same : t.kind ≡ k = cc in ap Some same
+kind_after (t ∷ ts) (x ∷ xs) ys k e = let others : kinds ts ≡ xs ++ k ∷ ys = cc in kind_after ts xs ys k others
 
 -- Definitions and their heads.
 head_first : {ts : List Token} {i j : ℕ} {t : Top} {rs : List Role} → IsTop ts i t rs j → before heads ts (i + 1) ≡ before heads ts i + 1
@@ -98,7 +98,7 @@ head_each : {ts : List Token} {i j : ℕ} {tops : List Top} {rs : List Role} →
 head_each no_tops = omega arith
 head_each (one_top d rest) = let a = one_head d in let b = head_each rest in omega (arith, a, b)
 
--- what was read for a definition with so many others before and behind it
+-- what was read for a definition with this many others before and after it
 record Read (ts : List Token) (t : Top) (earlier later i k : ℕ) : Type 0 where
   from : ℕ
   to : ℕ
@@ -107,7 +107,7 @@ record Read (ts : List Token) (t : Top) (earlier later i k : ℕ) : Type 0 where
   is : IsTop ts from tree roles to
   same : unpositioned_top tree ≡ unpositioned_top t
   heads_before : before heads ts i + earlier ≤ before heads ts from
-  heads_behind : before heads ts to + later ≤ before heads ts k
+  heads_after : before heads ts to + later ≤ before heads ts k
 
 read_at : {ts : List Token} {i k : ℕ} {tops : List Top} {rs : List Role} (earlier : List Top) (t : Top) (later : List Top) → IsTops ts i tops rs k → map unpositioned_top tops ≡ map unpositioned_top (earlier ++ t ∷ later)
     → Read ts t (length earlier) (length later) i k
@@ -120,15 +120,15 @@ read_at [] t later (one_top {t = read} {rest = rest} d ds) e =
     let b = length-map rest unpositioned_top in
     let c = length-map later unpositioned_top in
     let h = head_each ds in
-    record { from = _; to = _; tree = read; roles = _; is = d; same = same; heads_before = omega arith; heads_behind = omega (arith, a, b, c, h) }
+    record { from = _; to = _; tree = read; roles = _; is = d; same = same; heads_before = omega arith; heads_after = omega (arith, a, b, c, h) }
 read_at (x ∷ xs) t later (one_top {rest = rest} d ds) e =
     let others : map unpositioned_top rest ≡ map unpositioned_top (xs ++ t ∷ later) = cc in
     let r = read_at xs t later ds others in
     let a = one_head d in
     let b = r.heads_before in
-    record { from = r.from; to = r.to; tree = r.tree; roles = r.roles; is = r.is; same = r.same; heads_before = omega (arith, a, b); heads_behind = r.heads_behind }
+    record { from = r.from; to = r.to; tree = r.tree; roles = r.roles; is = r.is; same = r.same; heads_before = omega (arith, a, b); heads_after = r.heads_after }
 
--- Trees that are the same up to places.
+-- Trees that are the same up to positions.
 abbrev word_count : Top → ℕ
 word_count (table c) = length c.words
 word_count (function f) = 0
@@ -211,7 +211,7 @@ module _ (program : Program) (pair : Pair program) where
           | inl long ↦
               let first = top_headed t in
               let texts : end_text ≡ first.first ∷ (first.rest ++ tops_text rest) = ap (tops_text) (sym e) ∙ ap (λ ks. ks ++ tops_text rest) first.is in
-              let next = behind ts (front_text ++ own_text) (first.rest ++ tops_text rest) first.first (is ∙ ap (λ ks. front_text ++ own_text ++ ks) texts) in
+              let next = kind_after ts (front_text ++ own_text) (first.rest ++ tops_text rest) first.first (is ∙ ap (λ ks. front_text ++ own_text ++ ks) texts) in
               let a = counts heads ts end next in
               let b = forth heads heads_quiet ts (end + 1) to (omega (arith, long)) in
               let c = at_end heads in
@@ -226,7 +226,7 @@ module _ (program : Program) (pair : Pair program) where
     too_few : Read ts pair.top (length pair.earlier) (length pair.later) 0 (length ts) → ¬ HasOneWord pair.top → ⊥
     too_few r several =
         let a = r.heads_before in
-        let b = r.heads_behind in
+        let b = r.heads_after in
         let c = one_head r.is in
         let d = at_length heads in
         let e = heads_of pair.earlier in

@@ -14,7 +14,7 @@ use Rattle.silage_lex.specs.Texts.{IsPoint, IsPointed, decimal_after, decimal as
 use Rattle.silage_lex.specs.declared.TokenKind.TheVariants as kind
 use Rattle.silage_lex.proofs.TextLemmas.{digits_some, digits_from, digit_count-digits, digit_count-pointed}
 use Rattle.silage_tree.specs.Text.{number, filled, pointed}
-use Rattle.silage_tree.proofs.Stands.{IsWritten}
+use Rattle.silage_tree.proofs.KindsAt.{IsWritten}
 
 -- digits that are the number's
 record AreDigits (n : ℕ) (ds : List ℕ) : Type 0 where
@@ -78,7 +78,7 @@ value_small ds h few =
     let high = pow-le-pow_right {n = 10} (omega arith) few in
     omega arith
 
--- zeros in front change no value
+-- leading zeros change no value
 zeros_before : (n : ℕ) (ds : List ℕ) → value (replicate n 48 ++ ds) ≡ value ds
 zeros_before zero ds = refl
 zeros_before (suc n) ds = zeros_before n ds
@@ -87,7 +87,7 @@ zeros_digits : (n : ℕ) → list_all is_digit (replicate n 48) ≡ true
 zeros_digits zero = refl
 zeros_digits (suc n) = zeros_digits n
 
--- a number with a point has places
+-- a number with a point has digits after it
 point_has : (digits places : ℕ) → IsPoint digits places (pointed (filled (decimal digits) places) places) → 1 ≤ places
 point_has digits places h =
     let some = digits_some h.fraction h.pointed.fraction_digits in
@@ -101,7 +101,7 @@ point_has_places digits places h =
     let same : kind.Point digits places ≡ number digits places = ap (λ t. if t then kind.Whole digits else kind.Point digits places) (sym no) in
     subst IsWritten same h
 
--- the text of a number with a point, whose digits are filled with zeros in front
+-- the text of a number with a point, whose digits are filled with leading zeros
 point_of : (digits places : ℕ) (ds : List ℕ) → list_all is_digit ds ≡ true → places < length ds → 1 ≤ places → length ds ≤ 18 → value ds ≡ digits → IsPoint digits places (pointed ds places)
 point_of digits places ds all more some few same =
     let whole = take (length ds - places) ds in

@@ -13,7 +13,7 @@ use Rattle.fix_word.specs.declared.types.SigType.{SigType}
 use Rattle.silage_tree.specs.Tree.{Place, Expr, Item, equation, call, initial, Func, Program}
 use Rattle.silage_tree.specs.Manifests.{Indices, no_delay}
 use Rattle.silage_tree.specs.Names.{decls, element_count, IsOffset}
-use Rattle.silage_tree.specs.Instances.{Instance, main, inside, Element, element, Occurs, IsInstance, main_is, inside_is, IsElement, Site, Stands, IsSignal, Call}
+use Rattle.silage_tree.specs.Instances.{Instance, main, inside, Element, element, Occurs, IsInstance, main_is, inside_is, IsElement, Site, IsItemAt, IsSignal, Call}
 use Rattle.silage_tree.specs.Value.{Words, IsRead, signal as is_signal, IsValue}
 use Rattle.silage_tree.specs.Solves.{Rows, Source, word, value, IsDefined, input, equated, argument, array, table, result, array_result, Gives, IsPreset, Solves, AreSame, IsOneSolution, out, IsRow, IsStream}
 use Rattle.silage_tree.specs.OneLine.{Spots, Signals, AreDistinct, whole_type, signal, bare, term, main_function, one_line, IsOneLine, result_word, result_row}
@@ -135,14 +135,14 @@ module _ (at : Spots) (names : Signals) (distinct : AreDistinct names) (w : ℕ)
   only_main (inside i step) h (inside_is {g = g} instance calls) =
       absurd (no_call _ _ _ _ _ _ (alone _ _ g (only_main i g instance).1 calls.occurs).0)
 
-  stands_where : (s : Site) (x : Item) → Stands tree s x → (x ≡ equation left right) × (s ≡ site)
-  stands_where s x stands =
-      let is : (s.instance ≡ main) × (s.function ≡ f) = only_main s.instance s.function stands.instance in
-      let item : (x ≡ equation left right) × (s.indices ≡ []) = alone x s.indices s.function is.1 stands.occurs in
+  stands_where : (s : Site) (x : Item) → IsItemAt tree s x → (x ≡ equation left right) × (s ≡ site)
+  stands_where s x found =
+      let is : (s.instance ≡ main) × (s.function ≡ f) = only_main s.instance s.function found.instance in
+      let item : (x ≡ equation left right) × (s.indices ≡ []) = alone x s.indices s.function is.1 found.occurs in
       (item.0, same_site s.instance main s.function f s.indices [] is.0 is.1 item.1)
 
   no_calls : (s : Site) → Call tree s → ⊥
-  no_calls s c = no_call _ _ _ _ _ _ (stands_where s _ c.stands).0
+  no_calls s c = no_call _ _ _ _ _ _ (stands_where s _ c.found).0
 
   x_is : IsElement tree x_element
   x_is = record { function = f; decl = signal names.input at.parameter w; instance = main_is refl; declared = refl; offset = omega arith }
@@ -175,7 +175,7 @@ module _ (at : Spots) (names : Signals) (distinct : AreDistinct names) (w : ℕ)
   solution stream e (negsuc j) = pos 0
 
   no_preset : (e : Element) (j : ℕ) (l : Lit) (ty : SigType) → IsPreset tree e j l ty → ⊥
-  no_preset e j l ty preset = no_initial _ _ _ _ _ (stands_where preset.site _ preset.stands).0
+  no_preset e j l ty preset = no_initial _ _ _ _ _ (stands_where preset.site _ preset.found).0
 
   input_place : (j : ℕ) (e : Element) → slice_get (x_element ∷ []) j ≡ Some e → (j ≡ 0) × (e ≡ x_element)
   input_place zero e h = (refl, sym (some_once h))
@@ -197,9 +197,9 @@ module _ (at : Spots) (names : Signals) (distinct : AreDistinct names) (w : ℕ)
   value_at : (words : Words) (m : ℕ) (s : Site) (x : Expr) (ty : SigType) (v : ℤ) → s ≡ site → x ≡ right → ty ≡ whole_type w → IsValue tree site words m right (whole_type w) v → IsValue tree s words m x ty v
   value_at words m s x ty v e h k is = subst (λ (z : Site). IsValue tree z words m x ty v) (sym e) (subst (λ (z : Expr). IsValue tree site words m z ty v) (sym h) (subst (λ (z : SigType). IsValue tree site words m right z v) (sym k) is))
 
-  defined_where : (s : Site) (x : Expr) (e : Element) (place : Place) (d k : ℕ) (decl : Decl) → Stands tree s (equation place x) → IsSignal s place d decl k → e ≡ element s.instance d k → (s ≡ site) × (x ≡ right) × (decl.ty ≡ whole_type w) × (e ≡ y_element)
-  defined_where s x e place d k decl stands is at_e =
-      let (item, s_is) = stands_where s (equation place x) stands in
+  defined_where : (s : Site) (x : Expr) (e : Element) (place : Place) (d k : ℕ) (decl : Decl) → IsItemAt tree s (equation place x) → IsSignal s place d decl k → e ≡ element s.instance d k → (s ≡ site) × (x ≡ right) × (decl.ty ≡ whole_type w) × (e ≡ y_element)
+  defined_where s x e place d k decl found is at_e =
+      let (item, s_is) = stands_where s (equation place x) found in
       let (place_is, x_is) = same_equation place left x right item in
       let (d_is, decl_is, k_is) = signal_named d k decl (is_signal_at s place d k decl s_is place_is is) in
       (s_is, x_is, ap (λ (z : Decl). z.ty) decl_is, at_e ∙ same_element s.instance main d 1 k 0 (ap (λ (z : Site). z.instance) s_is) d_is k_is)
@@ -216,8 +216,8 @@ module _ (at : Spots) (names : Signals) (distinct : AreDistinct names) (w : ℕ)
     gives e m _ below (input {j = j} h) =
         let (j_is, e_is) = input_place j e h in
         (row_at m, slice_get-get_or stream m [] below, ap (slice_get (row_at m)) j_is ∙ only_word (row_at m) (valid m [] below) ∙ ap (λ z. Some (solution stream z (pos m))) (sym e_is))
-    gives e m _ below (equated {s = s} {x = x} place d k decl stands is e_is) =
-        let (s_is, x_is, ty_is, y) = defined_where s x e place d k decl stands is e_is in
+    gives e m _ below (equated {s = s} {x = x} place d k decl found is e_is) =
+        let (s_is, x_is, ty_is, y) = defined_where s x e place d k decl found is e_is in
         value_at (solution stream) m s x decl.ty (solution stream e (pos m)) s_is x_is ty_is
         (subst (λ z. IsValue tree site (solution stream) m right (whole_type w) (solution stream z (pos m))) (sym y) (value_is at names w plus n (solution stream) m low high fits))
     gives e m _ below (argument {s = s} c _ _ _ _ _) = absurd (no_calls s c)
@@ -239,7 +239,7 @@ module _ (at : Spots) (names : Signals) (distinct : AreDistinct names) (w : ℕ)
           let row_is : row ≡ row_at m = some_once (sym is ∙ slice_get-get_or stream m [] below) in
           some_once (sym word_is ∙ ap (λ (z : List ℤ). slice_get z 0) row_is ∙ only_word (row_at m) (valid m [] below))
 
-      stands_here : Stands tree site (equation left right)
+      stands_here : IsItemAt tree site (equation left right)
       stands_here = record { instance = main_is refl; occurs = inl (refl, refl) }
 
       named_here : IsSignal site left 1 (signal names.output at.result w) 0

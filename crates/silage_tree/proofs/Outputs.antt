@@ -10,7 +10,7 @@ use Rattle.silage_tree.specs.Instances.{Instance, main, Element, element, main_i
 use Rattle.silage_tree.specs.Value.{Words}
 use Rattle.silage_tree.specs.Solves.{Rows, AreSame, out}
 
--- lists of so many numbers from a on, where two functions agree on these
+-- lists of this many numbers from a on, where two functions agree on these
 map_same : {A : Type 0} (g h : ℕ → A) (a n : ℕ) → ((m : ℕ) → a ≤ m → m < a + n → g m ≡ h m) → map g (range_with_len a n) ≡ map h (range_with_len a n)
 map_same g h a zero same = refl
 map_same {A} g h a (suc n) same =
@@ -21,20 +21,20 @@ map_twice g i d [] = refl
 map_twice g i d (k ∷ ks) = ap (λ (xs : List ℤ). g (element i d k) ∷ xs) (map_twice g i d ks)
 
 -- an element of the second list, and one of the first, in both lists together
-pub behind : {A : Type 0} (xs ys : List A) (k : ℕ) → slice_get (xs ++ ys) (length xs + k) ≡ slice_get ys k
-behind [] ys k = ap (slice_get ys) (plus k)
+pub in_second : {A : Type 0} (xs ys : List A) (k : ℕ) → slice_get (xs ++ ys) (length xs + k) ≡ slice_get ys k
+in_second [] ys k = ap (slice_get ys) (plus k)
   where
     plus : (k : ℕ) → 0 + k ≡ k
     plus k = omega arith
-behind (x ∷ xs) ys k = ap (slice_get (x ∷ xs ++ ys)) (more (length xs) k) ∙ behind xs ys k
+in_second (x ∷ xs) ys k = ap (slice_get (x ∷ xs ++ ys)) (more (length xs) k) ∙ in_second xs ys k
   where
     more : (n k : ℕ) → suc n + k ≡ suc (n + k)
     more n k = omega arith
 
-pub within : {A : Type 0} (xs ys : List A) (k : ℕ) (x : A) → slice_get xs k ≡ Some x → slice_get (xs ++ ys) k ≡ Some x
-within [] ys k x e = cc
-within (y ∷ xs) ys zero x e = e
-within (y ∷ xs) ys (suc k) x e = within xs ys k x e
+pub in_first : {A : Type 0} (xs ys : List A) (k : ℕ) (x : A) → slice_get xs k ≡ Some x → slice_get (xs ++ ys) k ≡ Some x
+in_first [] ys k x e = cc
+in_first (y ∷ xs) ys zero x e = e
+in_first (y ∷ xs) ys (suc k) x e = in_first xs ys k x e
 
 module _ (p : Program) (f : Func) (is : main_of p ≡ Some f) (g h : Element → ℤ) (same : (e : Element) → IsElement p e → g e ≡ h e) where
   place_same : (d : ℕ) (x : Decl) → slice_get (decls f) d ≡ Some x → map g (map (element main d) (range_with_len 0 (element_count x.dims))) ≡ map h (map (element main d) (range_with_len 0 (element_count x.dims)))
@@ -57,7 +57,7 @@ module _ (p : Program) (f : Func) (is : main_of p ≡ Some f) (g h : Element →
       one d k = omega arith
 
   results_same : map g (elements_from main (length f.params) f.results) ≡ map h (elements_from main (length f.params) f.results)
-  results_same = elements_same f.results (length f.params) (λ k x e. behind f.params (f.results ++ f.locals) k ∙ within f.results f.locals k x e)
+  results_same = elements_same f.results (length f.params) (λ k x e. in_second f.params (f.results ++ f.locals) k ∙ in_first f.results f.locals k x e)
 
 row_same : (p : Program) (o : Option Func) → main_of p ≡ o → (g h : Element → ℤ) → ((e : Element) → IsElement p e → g e ≡ h e) → map g (results_of o) ≡ map h (results_of o)
 row_same p None is g h same = refl

@@ -1,4 +1,4 @@
--- The text of an expression is read as that expression, up to places.
+-- The text of an expression is read as that expression, up to positions.
 use Rattle.std.proofs.Common.{inl, inr, ◌≡◌, ℕ, zero, suc, ◌+◌, ◌≤◌, Bool, true, false, ◌||◌, List, [], ◌∷◌, ◌++◌, Option, Some, None, nat_lt, refl, sym, ap, ◌∙◌, subst, arith, lit≤}
 use Rattle.std.proofs.lemmas.Bool.{cases_order, both_ways}
 use Rattle.std.proofs.lemmas.Bool.Decides.{nat_tests}
@@ -17,7 +17,7 @@ use Rattle.silage_tree.specs.Positions.{unpositioned_manifest, unpositioned_plac
 use Rattle.silage_tree.specs.Grammar.{kind_at, from_at, number_of, IsPunctuation, IsKeyword, Level, Or, And, Sum, Product, ExprRule, Chain, Rest, Shift, Shifts, Arms, part, operator, comparison, shift_operator, IsManifest, Primary_, IsExpr, chain, no_more, one_more, no_comparison, comparison_of, shifts, no_shift, one_shift, negative_number, negated, denied, primary, number as number_, truth, place, cast_of, paren, choice, one_arm, last_arm}
 use Rattle.silage_tree.specs.Text.{symbol, word, subscripts_text, enclosed, amount_text, fix_text, delay_text, operator_mark, operator_precedence, left_precedence, right_precedence, expr_precedence, is_loose_operand, shift_mark, expr_text, branches_text}
 use Rattle.silage_tree.proofs.Levels.{expr_rule}
-use Rattle.silage_tree.proofs.Stands.{Stands, split, IsWritten, AreWritten, no_kind, one_kind, joined, enclosed_written, TokensWritten}
+use Rattle.silage_tree.proofs.KindsAt.{AreAt, split, IsWritten, AreWritten, no_kind, one_kind, joined, enclosed_written, TokensWritten}
 use Rattle.silage_tree.proofs.ReadManifests.{GoodManifest, placed, good_amount}
 use Rattle.silage_tree.proofs.ReadParts.{number_written, number_read, truth_read, truth_written, GoodFix, good_fix, fix_written, fix_read, GoodSubs, good_subs, subs_written, subs_read, GoodDelay, good_delay, delay_read, delay_written}
 
@@ -40,27 +40,27 @@ loosened {us} {i} {j} {e} (suc n) k h d =
       | inr (inr after) ↦ absurd (omega arith)
     ]
 
--- an expression that is this one up to places, read by the rule
+-- an expression that is this one up to positions, read by the rule
 pub record ReadsExpr (us : List Token) (rule : ExprRule) (e : Expr) (i j : ℕ) : Type 0 where
   pub tree : Expr
   pub same : unpositioned_expr tree ≡ unpositioned_expr e
   pub reads : IsExpr us rule i tree j
 
--- the expression's text is written, and wherever it stands it is read as the expression
+-- the expression's text is written, and wherever it is it is read as the expression
 pub record GoodExpr (e : Expr) : Type 0 where
   pub written : AreWritten (expr_text e)
-  pub reads : (us : List Token) (i j : ℕ) → Stands us i (expr_text e) j → ReadsExpr us (expr_rule (expr_precedence e)) e i j
+  pub reads : (us : List Token) (i j : ℕ) → AreAt us i (expr_text e) j → ReadsExpr us (expr_rule (expr_precedence e)) e i j
 
 at_end : {us : List Token} {rule : ExprRule} {e : Expr} {i j k : ℕ} → ReadsExpr us rule e i j → j ≡ k → ReadsExpr us rule e i k
 at_end {us} {rule} {e} {i} {j} {k} d q = let P : ℕ → Type 0 = λ l. ReadsExpr us rule e i l in subst P q d
 
 -- as an outermost expression
-pub as_whole : (e : Expr) → GoodExpr e → (us : List Token) (i j : ℕ) → Stands us i (expr_text e) j → ReadsExpr us (Chain Or) e i j
+pub as_whole : (e : Expr) → GoodExpr e → (us : List Token) (i j : ℕ) → AreAt us i (expr_text e) j → ReadsExpr us (Chain Or) e i j
 as_whole e good us i j s = let d = good.reads us i j s in record { tree = d.tree; same = d.same; reads = loosened (expr_precedence e) 0 (omega arith) d.reads }
 
 -- in parentheses, or not, by a test that finds each looser expression
 placed_by : (e : Expr) → GoodExpr e → (k : ℕ) → k ≤ 7 → (b : Bool) → (b ≡ false → k ≤ expr_precedence e) → (us : List Token) (i j : ℕ)
-    → Stands us i (enclosed b (expr_text e)) j → ReadsExpr us (expr_rule k) e i j
+    → AreAt us i (enclosed b (expr_text e)) j → ReadsExpr us (expr_rule k) e i j
 placed_by e good k small true tight us i j s =
     let r = split us (expr_text e) (symbol punctuation.RIGHT_PAREN ∷ []) (i + 1) j s.1 in
     let d = as_whole e good us (i + 1) r.0 r.1 in
@@ -70,7 +70,7 @@ placed_by e good k small false tight us i j s =
     let d = good.reads us i r.0 r.1 in
     at_end (record { tree = d.tree; same = d.same; reads = loosened (expr_precedence e) k (tight refl) d.reads }) r.2
 
-pub placed_expr : (e : Expr) → GoodExpr e → (k : ℕ) → k ≤ 7 → (us : List Token) (i j : ℕ) → Stands us i (enclosed (nat_lt (expr_precedence e) k) (expr_text e)) j → ReadsExpr us (expr_rule k) e i j
+pub placed_expr : (e : Expr) → GoodExpr e → (k : ℕ) → k ≤ 7 → (us : List Token) (i j : ℕ) → AreAt us i (enclosed (nat_lt (expr_precedence e) k) (expr_text e)) j → ReadsExpr us (expr_rule k) e i j
 placed_expr e good k small us i j s = placed_by e good k small (nat_lt (expr_precedence e) k) (λ q. grind (arith, nat_tests)) us i j s
 
 -- Chains go on.
@@ -162,7 +162,7 @@ good_shift at left e m g h = record {
 }
 
 -- an operand of `-` begins with no number
-no_number : (us : List Token) (e : Expr) (b : Bool) → is_loose_operand e ≡ b → (i j : ℕ) → Stands us i (enclosed b (expr_text e)) j → number_of (kind_at us i) ≡ None
+no_number : (us : List Token) (e : Expr) (b : Bool) → is_loose_operand e ≡ b → (i j : ℕ) → AreAt us i (enclosed b (expr_text e)) j → number_of (kind_at us i) ≡ None
 no_number us e true h i j s = ap number_of s.0
 no_number us (literal (Number false d p at)) false h i j s = cc
 no_number us (literal (Number true d p at)) false h i j s = ap number_of s.0
@@ -227,7 +227,7 @@ branches_written : {bs : Branches} → GoodBranches bs → AreWritten (branches_
 branches_written no_good = no_kind
 branches_written (good g h k) = joined (joined g.written (one_kind refl h.written)) (one_kind refl (branches_written k))
 
--- branches and a last value that are these up to places
+-- branches and a last value that are these up to positions
 record ReadsArms (us : List Token) (at : ℕ) (bs : Branches) (last : Expr) (i j : ℕ) : Type 0 where
   branches : Branches
   value : Expr
@@ -235,11 +235,11 @@ record ReadsArms (us : List Token) (at : ℕ) (bs : Branches) (last : Expr) (i j
   same_value : unpositioned_expr value ≡ unpositioned_expr last
   reads : IsExpr us (Arms at) i (choose at branches value) j
 
--- behind a `||`
-read_arms : (us : List Token) (at : ℕ) (bs : Branches) (last : Expr) → GoodBranches bs → GoodExpr last → (i m n : ℕ) → IsPunctuation us i punctuation.PIPE_PIPE → Stands us (i + 1) (branches_text bs) m
-    → Stands us m (expr_text last) n → IsKeyword us n keyword.FI → ReadsArms us at bs last i (n + 1)
+-- after a `||`
+read_arms : (us : List Token) (at : ℕ) (bs : Branches) (last : Expr) → GoodBranches bs → GoodExpr last → (i m n : ℕ) → IsPunctuation us i punctuation.PIPE_PIPE → AreAt us (i + 1) (branches_text bs) m
+    → AreAt us m (expr_text last) n → IsKeyword us n keyword.FI → ReadsArms us at bs last i (n + 1)
 read_arms us at bs last no_good l i m n bar s t fi =
-    let P : ℕ → Type 0 = λ k. Stands us k (expr_text last) n in
+    let P : ℕ → Type 0 = λ k. AreAt us k (expr_text last) n in
     let x = as_whole last l us (i + 1) n (subst P (sym s) t) in
     record { branches = no_branch; value = x.tree; same_branches = refl; same_value = x.same; reads = last_arm bar x.reads fi }
 read_arms us at bs last (good {c = c} {v = v} {bs = rest} g h k) l i m n bar s t fi =

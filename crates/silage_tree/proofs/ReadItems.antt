@@ -1,4 +1,4 @@
--- The text of items is read as those items, up to places.
+-- The text of items is read as those items, up to positions.
 use Rattle.std.proofs.Common.{◌≡◌, ℕ, ◌+◌, ◌≤◌, length, Bool, List, [], ◌∷◌, ◌++◌, Some, map, refl, sym, ap, ◌∙◌, subst, arith, lit≤}
 use Rattle.silage_lex.specs.declared.Token.{Token}
 use Rattle.silage_lex.specs.declared.TokenKind.TheVariants as kind
@@ -11,7 +11,7 @@ use Rattle.silage_tree.specs.Tree.{Manifest, Place, Expr, Item, equation, call, 
 use Rattle.silage_tree.specs.Positions.{unpositioned_lit, unpositioned_manifest, unpositioned_place, unpositioned_expr, unpositioned_item, unpositioned_items}
 use Rattle.silage_tree.specs.Grammar.{from_at, IsPunctuation, IsName, IsManifest, Manifest_, IsExpr, Chain, Or, Role, weights, IsTargetSubscripts, no_target_sub, one_target_sub, two_target_subs, IsTarget, target, IsTargets, last_target, more_targets, IsArguments, last_arg, more_args, IsInitialValue, signed, truth_value, IsItem, is_equation, is_call, is_calls, is_loop, is_initial, IsItems, no_items, one_item}
 use Rattle.silage_tree.specs.Text.{symbol, word, subscripts_text, enclosed, listed, several, lit_text, manifest_text, amount_text, place_text, expr_text, call_text, turns_text, clause_text, items_text}
-use Rattle.silage_tree.proofs.Stands.{Stands, split, moved, IsWritten, AreWritten, no_kind, one_kind, joined, enclosed_written, TokensWritten}
+use Rattle.silage_tree.proofs.KindsAt.{AreAt, split, moved, IsWritten, AreWritten, no_kind, one_kind, joined, enclosed_written, TokensWritten}
 use Rattle.silage_tree.proofs.ReadManifests.{GoodManifest, ReadsManifest, placed, as_manifest, good_manifest, good_amount}
 use Rattle.silage_tree.proofs.ReadParts.{truth_read, truth_written, GoodSigned, good_signed, GoodSubs, scalar, vector, matrix, subs_written, read_one, read_two}
 use Rattle.silage_tree.proofs.ReadExprs.{GoodExpr, as_whole, good_expr}
@@ -26,14 +26,14 @@ pub record GoodPlace (p : Place) : Type 0 where
 place_written : (p : Place) → GoodPlace p → AreWritten (place_text p)
 place_written p good = one_kind good.name (subs_written good.subs)
 
-target_subs_read : (us : List Token) (ms : List Manifest) → GoodSubs ms → (i j : ℕ) → Stands us i (subscripts_text ms) j → ReadsBy (List Manifest) (map unpositioned_manifest) (Has IsTargetSubscripts us ms) ms i j
+target_subs_read : (us : List Token) (ms : List Manifest) → GoodSubs ms → (i j : ℕ) → AreAt us i (subscripts_text ms) j → ReadsBy (List Manifest) (map unpositioned_manifest) (Has IsTargetSubscripts us ms) ms i j
 target_subs_read us ms scalar i j s = by_end s (record { tree = []; same = refl; reads = record { roles = _; is = no_target_sub; light = light_no_sub } })
 target_subs_read us ms (vector {m = m} g) i j s =
     let x = read_one us m g i j s in
     by_end x.ends (record {
       tree = x.inside.tree ∷ [];
       same = ap (λ t. t ∷ []) x.inside.same;
-      reads = record { roles = _; is = one_target_sub x.opens x.inside.reads x.closes; light = light_sub (light_manifest us m (i + 1) x.end x.stands) };
+      reads = record { roles = _; is = one_target_sub x.opens x.inside.reads x.closes; light = light_sub (light_manifest us m (i + 1) x.end x.kinds_at) };
     })
 target_subs_read us ms (matrix {m = m} {n = n} g h) i j s =
     let r = read_two us m n g h i j s in
@@ -41,19 +41,19 @@ target_subs_read us ms (matrix {m = m} {n = n} g h) i j s =
     let y = r.second in
     let P : ℕ → Type 0 = λ l. IsManifest us Manifest_ l y.inside.tree y.end in
     let second : IsManifest us Manifest_ (x.end + 2) y.inside.tree y.end = subst P (omega arith) y.inside.reads in
-    let Q : ℕ → Type 0 = λ l. Stands us l (manifest_text n) y.end in
-    let stands : Stands us (x.end + 2) (manifest_text n) y.end = subst Q (omega arith) y.stands in
+    let Q : ℕ → Type 0 = λ l. AreAt us l (manifest_text n) y.end in
+    let kinds_at : AreAt us (x.end + 2) (manifest_text n) y.end = subst Q (omega arith) y.kinds_at in
     by_end y.ends (record {
       tree = x.inside.tree ∷ y.inside.tree ∷ [];
       same = ap (λ t. t ∷ unpositioned_manifest y.inside.tree ∷ []) x.inside.same ∙ ap (λ t. unpositioned_manifest m ∷ t ∷ []) y.inside.same;
       reads = record {
         roles = _;
         is = two_target_subs x.opens x.inside.reads x.closes y.opens second y.closes;
-        light = light_subs (light_manifest us m (i + 1) x.end x.stands) (light_manifest us n (x.end + 2) y.end stands);
+        light = light_subs (light_manifest us m (i + 1) x.end x.kinds_at) (light_manifest us n (x.end + 2) y.end kinds_at);
       };
     })
 
-target_read : (us : List Token) (p : Place) → GoodPlace p → (i j : ℕ) → Stands us i (place_text p) j → ReadsBy Place unpositioned_place (Has IsTarget us p) p i j
+target_read : (us : List Token) (p : Place) → GoodPlace p → (i j : ℕ) → AreAt us i (place_text p) j → ReadsBy Place unpositioned_place (Has IsTarget us p) p i j
 target_read us p good i j s =
     let x = target_subs_read us p.subs good.subs (i + 1) j s.1 in
     record {
@@ -79,10 +79,10 @@ record HasArg (us : List Token) (e : Expr) (i : ℕ) (x : Expr) (j : ℕ) : Type
   is : IsExpr us (Chain Or) i x j
   light : LightExpr e (weights us i j)
 
-arg_read : (us : List Token) (e : Expr) → GoodExpr e → (i j : ℕ) → Stands us i (expr_text e) j → ReadsBy Expr unpositioned_expr (HasArg us e) e i j
+arg_read : (us : List Token) (e : Expr) → GoodExpr e → (i j : ℕ) → AreAt us i (expr_text e) j → ReadsBy Expr unpositioned_expr (HasArg us e) e i j
 arg_read us e good i j s = let x = as_whole e good us i j s in record { tree = x.tree; same = x.same; reads = record { is = x.reads; light = light_expr us e i j s } }
 
-args_read : (us : List Token) {es : List Expr} → Goods Expr GoodExpr es → (i j : ℕ) → Stands us i (listed expr_text es) j → ReadsBy (List Expr) (map unpositioned_expr) (Has IsArguments us es) es i j
+args_read : (us : List Token) {es : List Expr} → Goods Expr GoodExpr es → (i j : ℕ) → AreAt us i (listed expr_text es) j → ReadsBy (List Expr) (map unpositioned_expr) (Has IsArguments us es) es i j
 args_read us gs i j s =
     listed_read Expr GoodExpr expr_text unpositioned_expr us (HasArg us) (Has IsArguments us) (λ i j x y d. record { roles = _; is = last_arg d.is; light = light_last_arg d.light })
     (λ i j k x y xs ys long d c rest. record { roles = _; is = more_args d.is c rest.is; light = light_more_args long d.light rest.light }) (arg_read us) gs i j s
@@ -100,7 +100,7 @@ value_written : {l : Lit} → GoodValue l → AreWritten (lit_text l)
 value_written (number_value g) = g.written
 value_written (truth_good {b = b}) = one_kind (truth_written b) no_kind
 
-value_read : (us : List Token) {l : Lit} → GoodValue l → (i j : ℕ) → Stands us i (lit_text l) j → ReadsBy Lit unpositioned_lit (IsInitialValue us) l i j
+value_read : (us : List Token) {l : Lit} → GoodValue l → (i j : ℕ) → AreAt us i (lit_text l) j → ReadsBy Lit unpositioned_lit (IsInitialValue us) l i j
 value_read us (number_value g) i j s = let x = g.reads us i j s in record { tree = x.0; same = x.1; reads = signed x.2 }
 value_read us (truth_good {b = b}) i j s = by_end s.1 (record { tree = Truth b (from_at us i); same = refl; reads = truth_value (truth_read b s.0) })
 
@@ -111,11 +111,11 @@ good_value ts w (truth_value e) = truth_good
 -- Items.
 pub record GoodItem (x : Item) : Type 0 where
   pub written : AreWritten (clause_text x)
-  pub reads : (us : List Token) (i j : ℕ) → Stands us i (clause_text x) j → IsPunctuation us j punctuation.SEMICOLON → ReadsBy Item unpositioned_item (Has IsItem us x) x i (j + 1)
+  pub reads : (us : List Token) (i j : ℕ) → AreAt us i (clause_text x) j → IsPunctuation us j punctuation.SEMICOLON → ReadsBy Item unpositioned_item (Has IsItem us x) x i (j + 1)
 
 pub record GoodItems (xs : Items) : Type 0 where
   pub written : AreWritten (items_text xs)
-  pub reads : (us : List Token) (i j : ℕ) → Stands us i (items_text xs) j → ReadsBy Items unpositioned_items (Has IsItems us xs) xs i j
+  pub reads : (us : List Token) (i j : ℕ) → AreAt us i (items_text xs) j → ReadsBy Items unpositioned_items (Has IsItems us xs) xs i j
 
 good_equation : (p : Place) (e : Expr) → GoodPlace p → GoodExpr e → GoodItem (equation p e)
 good_equation p e g h = record {
@@ -162,10 +162,10 @@ record ReadsCall (us : List Token) (f : List ℕ) (es : List Expr) (i j : ℕ) :
   closes : IsPunctuation us close punctuation.RIGHT_PAREN
   ends : close + 1 ≡ j
 
-call_read : (us : List Token) (f : List ℕ) (es : List Expr) → Goods Expr GoodExpr es → (i j : ℕ) → Stands us i (call_text f es) j → ReadsCall us f es i j
+call_read : (us : List Token) (f : List ℕ) (es : List Expr) → Goods Expr GoodExpr es → (i j : ℕ) → AreAt us i (call_text f es) j → ReadsCall us f es i j
 call_read us f es gs i j s =
     let r = split us (listed expr_text es) (symbol punctuation.RIGHT_PAREN ∷ []) (i + 1 + 1) j s.1.1 in
-    let P : ℕ → Type 0 = λ l. Stands us l (listed expr_text es) r.0 in
+    let P : ℕ → Type 0 = λ l. AreAt us l (listed expr_text es) r.0 in
     let x = args_read us gs (i + 2) r.0 (subst P (omega arith) r.1) in
     record { args = x.tree; same = x.same; close = r.0; name = s.0; opens = s.1.0; reads = x.reads; closes = r.2.0; ends = r.2.1 }
 
@@ -232,19 +232,19 @@ record ReadsTurns (us : List Token) (index : List ℕ) (lo hi : Manifest) (i j :
   name : IsName us (i + 1) index
   colon : IsPunctuation us (i + 2) punctuation.COLON
   low : ReadsManifest us Manifest_ lo (i + 3) to
-  low_stands : Stands us (i + 3) (manifest_text lo) to
+  low_stands : AreAt us (i + 3) (manifest_text lo) to
   upto : IsPunctuation us to punctuation.DOT_DOT
   high : ReadsManifest us Manifest_ hi (to + 1) close
-  high_stands : Stands us (to + 1) (manifest_text hi) close
+  high_stands : AreAt us (to + 1) (manifest_text hi) close
   closes : IsPunctuation us close punctuation.RIGHT_PAREN
   ends : close + 1 ≡ j
 
-turns_read : (us : List Token) (index : List ℕ) (lo hi : Manifest) → GoodManifest lo → GoodManifest hi → (i j : ℕ) → Stands us i (turns_text index lo hi) j → ReadsTurns us index lo hi i j
+turns_read : (us : List Token) (index : List ℕ) (lo hi : Manifest) → GoodManifest lo → GoodManifest hi → (i j : ℕ) → AreAt us i (turns_text index lo hi) j → ReadsTurns us index lo hi i j
 turns_read us index lo hi g h i j s =
     let r = split us (manifest_text lo ++ symbol punctuation.DOT_DOT ∷ manifest_text hi) (symbol punctuation.RIGHT_PAREN ∷ []) (i + 1 + 1 + 1) j s.1.1.1 in
     let q = split us (manifest_text lo) (symbol punctuation.DOT_DOT ∷ manifest_text hi) (i + 1 + 1 + 1) r.0 r.1 in
-    let P : ℕ → Type 0 = λ l. Stands us l (manifest_text lo) q.0 in
-    let low : Stands us (i + 3) (manifest_text lo) q.0 = subst P (omega arith) q.1 in
+    let P : ℕ → Type 0 = λ l. AreAt us l (manifest_text lo) q.0 in
+    let low : AreAt us (i + 3) (manifest_text lo) q.0 = subst P (omega arith) q.1 in
     record {
       to = q.0;
       close = r.0;
@@ -271,7 +271,7 @@ good_loop index lo hi xs at n g h k = record {
       let stop = e.2.1 in
       let each = moved us r.0 (t.close + 1) (Some (symbol punctuation.COLON_COLON)) (sym close) r.2.0 in
       let begin = moved us (r.0 + 1) (t.close + 2) (Some (word keyword.BEGIN)) (omega arith) r.2.1.0 in
-      let P : ℕ → Type 0 = λ l. Stands us l (items_text xs) e.0 in
+      let P : ℕ → Type 0 = λ l. AreAt us l (items_text xs) e.0 in
       let body = k.reads us (t.close + 3) e.0 (subst P (omega arith) r.2.1.1) in
       let semicolon = moved us j (e.0 + 1) (Some (symbol punctuation.SEMICOLON)) (sym stop) end in
       let last : e.0 + 2 ≡ j + 1 = omega arith in

@@ -1,4 +1,4 @@
--- The text of a manifest number is read as that number, up to places.
+-- The text of a manifest constant is read as that constant, up to positions.
 use Rattle.std.proofs.Common.{inl, inr, ◌≡◌, ℕ, zero, suc, ◌+◌, ◌≤◌, Bool, true, false, List, [], ◌∷◌, Some, nat_lt, refl, sym, ap, ◌∙◌, subst, arith, lit≤}
 use Rattle.std.proofs.lemmas.Bool.{cases_order}
 use Rattle.std.proofs.lemmas.Bool.Decides.{nat_tests}
@@ -13,7 +13,7 @@ use Rattle.silage_tree.specs.Positions.{unpositioned_manifest}
 use Rattle.silage_tree.specs.Grammar.{kind_at, from_at, ManifestRule, Manifest_, Terms, Term, Factors, Factor, Primary_, term_operator, IsPunctuation, IsManifest, terms, no_term, one_term, factors, no_factor, one_factor, minus_factor, primary_factor, whole_primary, name_primary, paren_primary}
 use Rattle.silage_tree.specs.Text.{symbol, enclosed, manifest_precedence, manifest_text}
 use Rattle.silage_tree.proofs.Levels.{manifest_rule}
-use Rattle.silage_tree.proofs.Stands.{Stands, split, AreWritten, no_kind, one_kind, joined, enclosed_written, TokensWritten}
+use Rattle.silage_tree.proofs.KindsAt.{AreAt, split, AreWritten, no_kind, one_kind, joined, enclosed_written, TokensWritten}
 
 loosen : {us : List Token} {i j : ℕ} {m : Manifest} (n : ℕ) → IsManifest us (manifest_rule (suc n)) i m j → IsManifest us (manifest_rule n) i m j
 loosen zero d = d
@@ -34,22 +34,22 @@ loosened {us} {i} {j} {m} (suc n) k h d =
       | inr (inr after) ↦ absurd (omega arith)
     ]
 
--- a number that is this one up to places, read by the rule
+-- a constant that is this one up to positions, read by the rule
 pub record ReadsManifest (us : List Token) (rule : ManifestRule) (m : Manifest) (i j : ℕ) : Type 0 where
   pub tree : Manifest
   pub same : unpositioned_manifest tree ≡ unpositioned_manifest m
   pub reads : IsManifest us rule i tree j
 
--- the number's text is written, and wherever it stands it is read as the number
+-- the constant's text is written, and wherever it is it is read as the constant
 pub record GoodManifest (m : Manifest) : Type 0 where
   pub written : AreWritten (manifest_text m)
-  pub reads : (us : List Token) (i j : ℕ) → Stands us i (manifest_text m) j → ReadsManifest us (manifest_rule (manifest_precedence m)) m i j
+  pub reads : (us : List Token) (i j : ℕ) → AreAt us i (manifest_text m) j → ReadsManifest us (manifest_rule (manifest_precedence m)) m i j
 
 at_end : {us : List Token} {rule : ManifestRule} {m : Manifest} {i j k : ℕ} → ReadsManifest us rule m i j → j ≡ k → ReadsManifest us rule m i k
 at_end {us} {rule} {m} {i} {j} {k} d q = let P : ℕ → Type 0 = λ l. ReadsManifest us rule m i l in subst P q d
 
 placed_by : (m : Manifest) → GoodManifest m → (k : ℕ) → k ≤ 7 → (b : Bool) → nat_lt (manifest_precedence m) k ≡ b → (us : List Token) (i j : ℕ)
-    → Stands us i (enclosed b (manifest_text m)) j → ReadsManifest us (manifest_rule k) m i j
+    → AreAt us i (enclosed b (manifest_text m)) j → ReadsManifest us (manifest_rule k) m i j
 placed_by m good k small true e us i j s =
     let r = split us (manifest_text m) (symbol punctuation.RIGHT_PAREN ∷ []) (i + 1) j s.1 in
     let d = good.reads us (i + 1) r.0 r.1 in
@@ -61,12 +61,12 @@ placed_by m good k small false e us i j s =
     let low : k ≤ manifest_precedence m = grind (arith, nat_tests) in
     at_end (record { tree = d.tree; same = d.same; reads = loosened (manifest_precedence m) k low d.reads }) r.2
 
--- in its place, in parentheses where it is looser than its place asks
-pub placed : (m : Manifest) → GoodManifest m → (k : ℕ) → k ≤ 7 → (us : List Token) (i j : ℕ) → Stands us i (enclosed (nat_lt (manifest_precedence m) k) (manifest_text m)) j → ReadsManifest us (manifest_rule k) m i j
+-- in its context, in parentheses where it is looser than that asks for
+pub placed : (m : Manifest) → GoodManifest m → (k : ℕ) → k ≤ 7 → (us : List Token) (i j : ℕ) → AreAt us i (enclosed (nat_lt (manifest_precedence m) k) (manifest_text m)) j → ReadsManifest us (manifest_rule k) m i j
 placed m good k small us i j s = placed_by m good k small (nat_lt (manifest_precedence m) k) refl us i j s
 
 -- as a whole manifest
-pub as_manifest : (m : Manifest) → GoodManifest m → (us : List Token) (i j : ℕ) → Stands us i (manifest_text m) j → ReadsManifest us Manifest_ m i j
+pub as_manifest : (m : Manifest) → GoodManifest m → (us : List Token) (i j : ℕ) → AreAt us i (manifest_text m) j → ReadsManifest us Manifest_ m i j
 as_manifest m good us i j s = let d = good.reads us i j s in record { tree = d.tree; same = d.same; reads = loosened (manifest_precedence m) 0 (omega arith) d.reads }
 
 -- a chain goes on

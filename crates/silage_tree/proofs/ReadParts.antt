@@ -1,4 +1,4 @@
--- The texts of numbers, types and places are read as what they are texts of, up to places.
+-- The texts of numbers, types and places are read as what they are texts of, up to positions.
 use Rattle.std.proofs.Common.{◌≡◌, ℕ, zero, suc, ◌+◌, ◌≤◌, Bool, true, false, List, [], ◌∷◌, Option, Some, None, map, refl, sym, ap, ◌∙◌, subst, arith, lit≤}
 use Rattle.std.specs.Prelude.{nat_eq, if◌then◌else◌}
 use Rattle.std.proofs.lemmas.Bool.Decides.{nat_tests}
@@ -16,7 +16,7 @@ use Rattle.silage_tree.specs.Positions.{unpositioned_lit, unpositioned_manifest,
 use Rattle.silage_tree.specs.Grammar.{kind_at, from_at, number_of, IsPunctuation, IsNumber, IsSigned, positive, negative, size, mode_of, fix_type, IsFix, no_mode, with_mode, truth_of, IsManifest, Manifest_, IsSubscripts, no_sub, one_sub, two_subs, IsDelay, no_delay, delay}
 use Rattle.silage_tree.specs.Text.{symbol, word, number, bracketed, lit_text, truth_word, mode_word, fix_text, manifest_text, subscripts_text, delay_text}
 use Rattle.silage_tree.proofs.Numbers.{whole_written, point_has_places}
-use Rattle.silage_tree.proofs.Stands.{Stands, split, moved, IsWritten, AreWritten, no_kind, one_kind, joined, enclosed_written, TokensWritten}
+use Rattle.silage_tree.proofs.KindsAt.{AreAt, split, moved, IsWritten, AreWritten, no_kind, one_kind, joined, enclosed_written, TokensWritten}
 use Rattle.silage_tree.proofs.ReadManifests.{ReadsManifest, GoodManifest, placed, as_manifest, good_manifest, good_amount}
 
 -- Numbers.
@@ -56,7 +56,7 @@ truth_written false = refl
 -- a literal with a sign, that its tokens are read as
 pub record GoodSigned (l : Lit) : Type 0 where
   pub written : AreWritten (lit_text l)
-  pub reads : (us : List Token) (i j : ℕ) → Stands us i (lit_text l) j → (m : Lit) × (unpositioned_lit m ≡ unpositioned_lit l) × IsSigned us i m j
+  pub reads : (us : List Token) (i j : ℕ) → AreAt us i (lit_text l) j → (m : Lit) × (unpositioned_lit m ≡ unpositioned_lit l) × IsSigned us i m j
 
 signed_end : (us : List Token) (l : Lit) (i j k : ℕ) → j ≡ k → (m : Lit) × (unpositioned_lit m ≡ unpositioned_lit l) × IsSigned us i m j → (m : Lit) × (unpositioned_lit m ≡ unpositioned_lit l) × IsSigned us i m k
 signed_end us l i j k e h = let P : ℕ → Type 0 = λ n. (m : Lit) × (unpositioned_lit m ≡ unpositioned_lit l) × IsSigned us i m n in subst P e h
@@ -103,7 +103,7 @@ fix_written ty good =
 same_size : (n : ℕ) → n ≤ 255 → size n ≡ n
 same_size n h = grind arith
 
-pub fix_read : (us : List Token) (ty : FixType) → GoodFix ty → (i j : ℕ) → Stands us i (fix_text ty) j → IsFix us i ty j
+pub fix_read : (us : List Token) (ty : FixType) → GoodFix ty → (i j : ℕ) → AreAt us i (fix_text ty) j → IsFix us i ty j
 fix_read us ty good i j s =
     let w : size ty.shape.w ≡ ty.shape.w = same_size ty.shape.w good.w in
     let f : size ty.shape.f ≡ ty.shape.f = same_size ty.shape.f good.f in
@@ -140,15 +140,15 @@ subs_written (matrix g h) = joined (bracketed_written g) (joined (bracketed_writ
 pub record ReadsBracketed (us : List Token) (m : Manifest) (i j : ℕ) : Type 0 where
   pub end : ℕ
   pub opens : IsPunctuation us i punctuation.LEFT_BRACKET
-  pub stands : Stands us (i + 1) (manifest_text m) end
+  pub kinds_at : AreAt us (i + 1) (manifest_text m) end
   pub inside : ReadsManifest us Manifest_ m (i + 1) end
   pub closes : IsPunctuation us end punctuation.RIGHT_BRACKET
   pub ends : end + 1 ≡ j
 
-pub read_bracketed : (us : List Token) (m : Manifest) → GoodManifest m → (i j : ℕ) → Stands us i (bracketed (manifest_text m)) j → ReadsBracketed us m i j
+pub read_bracketed : (us : List Token) (m : Manifest) → GoodManifest m → (i j : ℕ) → AreAt us i (bracketed (manifest_text m)) j → ReadsBracketed us m i j
 read_bracketed us m good i j s =
     let r = split us (manifest_text m) (symbol punctuation.RIGHT_BRACKET ∷ []) (i + 1) j s.1 in
-    record { end = r.0; opens = s.0; stands = r.1; inside = as_manifest m good us (i + 1) r.0 r.1; closes = r.2.0; ends = r.2.1 }
+    record { end = r.0; opens = s.0; kinds_at = r.1; inside = as_manifest m good us (i + 1) r.0 r.1; closes = r.2.0; ends = r.2.1 }
 
 -- the second of two numbers in brackets begins where the first ends
 pub record ReadsTwo (us : List Token) (m n : Manifest) (i j : ℕ) : Type 0 where
@@ -156,16 +156,16 @@ pub record ReadsTwo (us : List Token) (m n : Manifest) (i j : ℕ) : Type 0 wher
   pub first : ReadsBracketed us m i middle
   pub second : ReadsBracketed us n (first.end + 1) j
 
-pub read_two : (us : List Token) (m n : Manifest) → GoodManifest m → GoodManifest n → (i j : ℕ) → Stands us i (subscripts_text (m ∷ n ∷ [])) j → ReadsTwo us m n i j
+pub read_two : (us : List Token) (m n : Manifest) → GoodManifest m → GoodManifest n → (i j : ℕ) → AreAt us i (subscripts_text (m ∷ n ∷ [])) j → ReadsTwo us m n i j
 read_two us m n g h i j s =
     let r = split us (bracketed (manifest_text m)) (subscripts_text (n ∷ [])) i j s in
     let x = read_bracketed us m g i r.0 r.1 in
-    let P : ℕ → Type 0 = λ l. Stands us l (subscripts_text (n ∷ [])) j in
+    let P : ℕ → Type 0 = λ l. AreAt us l (subscripts_text (n ∷ [])) j in
     let q = split us (bracketed (manifest_text n)) [] (x.end + 1) j (subst P (sym x.ends) r.2) in
     let Q : ℕ → Type 0 = λ l. ReadsBracketed us n (x.end + 1) l in
     record { middle = r.0; first = x; second = subst Q q.2 (read_bracketed us n h (x.end + 1) q.0 q.1) }
 
-pub read_one : (us : List Token) (m : Manifest) → GoodManifest m → (i j : ℕ) → Stands us i (subscripts_text (m ∷ [])) j → ReadsBracketed us m i j
+pub read_one : (us : List Token) (m : Manifest) → GoodManifest m → (i j : ℕ) → AreAt us i (subscripts_text (m ∷ [])) j → ReadsBracketed us m i j
 read_one us m g i j s =
     let r = split us (bracketed (manifest_text m)) [] i j s in
     let Q : ℕ → Type 0 = λ l. ReadsBracketed us m i l in
@@ -179,7 +179,7 @@ pub record ReadsSubs (us : List Token) (ms : List Manifest) (i j : ℕ) : Type 0
 subs_end : {us : List Token} {ms : List Manifest} {i j k : ℕ} → j ≡ k → ReadsSubs us ms i j → ReadsSubs us ms i k
 subs_end {us} {ms} {i} {j} {k} e h = let P : ℕ → Type 0 = λ l. ReadsSubs us ms i l in subst P e h
 
-pub subs_read : (us : List Token) (ms : List Manifest) → GoodSubs ms → (i j : ℕ) → Stands us i (subscripts_text ms) j → ReadsSubs us ms i j
+pub subs_read : (us : List Token) (ms : List Manifest) → GoodSubs ms → (i j : ℕ) → AreAt us i (subscripts_text ms) j → ReadsSubs us ms i j
 subs_read us ms scalar i j s = subs_end s (record { trees = []; same = refl; reads = no_sub })
 subs_read us ms (vector {m = m} g) i j s =
     let x = read_one us m g i j s in
@@ -218,7 +218,7 @@ pub record ReadsDelay (us : List Token) (d : Option Manifest) (i j : ℕ) : Type
   pub same : unpositioned_delay tree ≡ unpositioned_delay d
   pub reads : IsDelay us i tree j
 
-pub delay_read : (us : List Token) (d : Option Manifest) → GoodDelay d → (i j : ℕ) → Stands us i (delay_text d) j → ReadsDelay us d i j
+pub delay_read : (us : List Token) (d : Option Manifest) → GoodDelay d → (i j : ℕ) → AreAt us i (delay_text d) j → ReadsDelay us d i j
 delay_read us d now i j s = let P : ℕ → Type 0 = λ l. ReadsDelay us None i l in subst P s (record { tree = None; same = refl; reads = no_delay })
 delay_read us d (earlier {m = m} g) i j s =
     let x = placed m g 7 (lit≤ tt) us (i + 1) j s.1 in

@@ -1,4 +1,4 @@
--- The text of a program is read as that program, up to places.
+-- The text of a program is read as that program, up to positions.
 use Rattle.std.proofs.Common.{◌≡◌, ℕ, ◌+◌, ◌-◌, ◌≤◌, ◌^◌, ◌||◌, true, false, List, [], ◌∷◌, ◌++◌, Some, length, map, nat_lt, refl, sym, ap, ◌∙◌, subst, arith}
 use Rattle.std.specs.List.{flat_map}
 use Rattle.std.proofs.lemmas.Bool.Decides.{nat_tests}
@@ -18,7 +18,7 @@ use Rattle.silage_tree.specs.Grammar.{from_at, IsPunctuation, IsKeyword, IsName,
 use Rattle.silage_tree.specs.Limits.{AreWithin}
 use Rattle.silage_tree.specs.Text.{symbol, word, enclosed, listed, several, lit_text, dims_text, fix_text, type_text, decl_text, words_text, local_text, head_text, body_text, items_text, top_text, program_text}
 use Rattle.silage_tree.proofs.Numbers.{whole_written}
-use Rattle.silage_tree.proofs.Stands.{Stands, split, moved, IsWritten, AreWritten, no_kind, one_kind, joined, enclosed_written, TokensWritten}
+use Rattle.silage_tree.proofs.KindsAt.{AreAt, split, moved, IsWritten, AreWritten, no_kind, one_kind, joined, enclosed_written, TokensWritten}
 use Rattle.silage_tree.proofs.ReadParts.{GoodSigned, good_signed, GoodFix, good_fix, fix_written, fix_read}
 use Rattle.silage_tree.proofs.Lighter.{lighter_within}
 use Rattle.silage_tree.proofs.LightItems.{Has, light_table, light_function, light_no_tops, light_tops}
@@ -50,7 +50,7 @@ dims_written no_dim = no_kind
 dims_written (one_dim {n = n} h) = one_kind refl (one_kind (dim_written n h) (one_kind refl no_kind))
 dims_written (two_dims {n = n} {m = m} h k) = one_kind refl (one_kind (dim_written n h) (one_kind refl (one_kind refl (one_kind (dim_written m k) (one_kind refl no_kind)))))
 
-dims_read : (us : List Token) {ds : List ℕ} → GoodDims ds → (i j : ℕ) → Stands us i (dims_text ds) j → IsDims us i ds j
+dims_read : (us : List Token) {ds : List ℕ} → GoodDims ds → (i j : ℕ) → AreAt us i (dims_text ds) j → IsDims us i ds j
 dims_read us no_dim i j s = let P : ℕ → Type 0 = λ k. IsDims us i [] k in subst P s scalar
 dims_read us (one_dim {n = n} h) i j s =
     let P : ℕ → Type 0 = λ k. IsDims us i (dim n ∷ []) k in
@@ -85,7 +85,7 @@ type_written : {ty : SigType} → GoodType ty → AreWritten (type_text ty)
 type_written (good_fixed {ty = ty} g) = fix_written ty g
 type_written good_bool = one_kind refl no_kind
 
-type_read : (us : List Token) {ty : SigType} → GoodType ty → (i j : ℕ) → Stands us i (type_text ty) j → IsType us i ty j
+type_read : (us : List Token) {ty : SigType} → GoodType ty → (i j : ℕ) → AreAt us i (type_text ty) j → IsType us i ty j
 type_read us (good_fixed {ty = ty} g) i j s = fix (fix_read us ty g i j s)
 type_read us good_bool i j s = let P : ℕ → Type 0 = λ k. IsType us i Truths k in subst P s.1 (bool s.0)
 
@@ -114,12 +114,12 @@ record ReadsDecl (us : List Token) (d : Decl) (i j : ℕ) : Type 0 where
   colon : IsPunctuation us middle punctuation.COLON
   type : IsType us (middle + 1) d.ty j
 
-decl_parts : (us : List Token) (d : Decl) → GoodDecl d → (i j : ℕ) → Stands us i (decl_text d) j → ReadsDecl us d i j
+decl_parts : (us : List Token) (d : Decl) → GoodDecl d → (i j : ℕ) → AreAt us i (decl_text d) j → ReadsDecl us d i j
 decl_parts us d g i j s =
     let r = split us (dims_text d.dims) (symbol punctuation.COLON ∷ type_text d.ty) (i + 1) j s.1 in
     record { middle = r.0; named = declared s.0 (dims_read us g.dims (i + 1) r.0 r.1); colon = r.2.0; type = type_read us g.type (r.0 + 1) j r.2.1 }
 
-decl_read : (us : List Token) (d : Decl) → GoodDecl d → (i j : ℕ) → Stands us i (decl_text d) j → ReadsBy Decl unpositioned_decl (IsDecl us) d i j
+decl_read : (us : List Token) (d : Decl) → GoodDecl d → (i j : ℕ) → AreAt us i (decl_text d) j → ReadsBy Decl unpositioned_decl (IsDecl us) d i j
 decl_read us d g i j s =
     let x = decl_parts us d g i j s in
     record { tree = record { name = d.name; at = from_at us i; dims = d.dims; ty = d.ty }; same = refl; reads = decl x.named x.colon x.type }
@@ -128,7 +128,7 @@ good_decls : (ts : List Token) → TokensWritten ts → {i j : ℕ} {ds : List D
 good_decls ts w (last d) = only (good_decl ts w d)
 good_decls ts w (more d c rest) = also (good_decl ts w d) (good_decls ts w rest)
 
-decls_read : (us : List Token) {ds : List Decl} → Goods Decl GoodDecl ds → (i j : ℕ) → Stands us i (listed decl_text ds) j → ReadsBy (List Decl) (map unpositioned_decl) (IsList us Decl (IsDecl us)) ds i j
+decls_read : (us : List Token) {ds : List Decl} → Goods Decl GoodDecl ds → (i j : ℕ) → AreAt us i (listed decl_text ds) j → ReadsBy (List Decl) (map unpositioned_decl) (IsList us Decl (IsDecl us)) ds i j
 decls_read us gs i j s = listed_read Decl GoodDecl decl_text unpositioned_decl us (λ d. IsDecl us) (λ ds. IsList us Decl (IsDecl us)) (λ i j x y d. last d) (λ i j k x y xs ys long d c rest. more d c rest) (decl_read us) gs i j s
 
 decls_written : {ds : List Decl} → Goods Decl GoodDecl ds → AreWritten (listed decl_text ds)
@@ -139,25 +139,25 @@ data GoodLocals : List Decl → Type 0 where
   no_local : GoodLocals []
   one_local : {d : Decl} {ds : List Decl} → GoodDecl d → GoodLocals ds → GoodLocals (d ∷ ds)
 
-locals_behind : (ts : List Token) → TokensWritten ts → {i j : ℕ} {ds : List Declared} {rest : List Decl} (ty : SigType) → IsList ts Declared (IsDeclared ts) i ds j → GoodType ty → GoodLocals rest → GoodLocals (map (typed ty) ds ++ rest)
-locals_behind ts w ty (last d) g rest = let n = good_declared ts w d in one_local (record { name = n.name; dims = n.dims; type = g }) rest
-locals_behind ts w ty (more d c ds) g rest = let n = good_declared ts w d in one_local (record { name = n.name; dims = n.dims; type = g }) (locals_behind ts w ty ds g rest)
+locals_with : (ts : List Token) → TokensWritten ts → {i j : ℕ} {ds : List Declared} {rest : List Decl} (ty : SigType) → IsList ts Declared (IsDeclared ts) i ds j → GoodType ty → GoodLocals rest → GoodLocals (map (typed ty) ds ++ rest)
+locals_with ts w ty (last d) g rest = let n = good_declared ts w d in one_local (record { name = n.name; dims = n.dims; type = g }) rest
+locals_with ts w ty (more d c ds) g rest = let n = good_declared ts w d in one_local (record { name = n.name; dims = n.dims; type = g }) (locals_with ts w ty ds g rest)
 
 good_locals : (ts : List Token) → TokensWritten ts → {i j : ℕ} {ds : List Decl} → IsLocals ts i ds j → GoodLocals ds
 good_locals ts w no_locals = no_local
-good_locals ts w (some_locals {ty = ty} v ds c t s rest) = locals_behind ts w ty ds (good_type t) (good_locals ts w rest)
+good_locals ts w (some_locals {ty = ty} v ds c t s rest) = locals_with ts w ty ds (good_type t) (good_locals ts w rest)
 
 locals_written : {ds : List Decl} → GoodLocals ds → AreWritten (flat_map local_text ds)
 locals_written no_local = no_kind
 locals_written (one_local {d = d} g gs) = joined (joined (one_kind refl (decl_written d g)) (one_kind refl no_kind)) (locals_written gs)
 
-locals_read : (us : List Token) {ds : List Decl} → GoodLocals ds → (i j : ℕ) → Stands us i (flat_map local_text ds) j → ReadsBy (List Decl) (map unpositioned_decl) (IsLocals us) ds i j
+locals_read : (us : List Token) {ds : List Decl} → GoodLocals ds → (i j : ℕ) → AreAt us i (flat_map local_text ds) j → ReadsBy (List Decl) (map unpositioned_decl) (IsLocals us) ds i j
 locals_read us no_local i j s = by_end s (record { tree = []; same = refl; reads = no_locals })
 locals_read us (one_local {d = d} {ds = ds} g gs) i j s =
     let r = split us (local_text d) (flat_map local_text ds) i j s in
     let q = split us (decl_text d) (symbol punctuation.SEMICOLON ∷ []) (i + 1) r.0 r.1.1 in
     let x = decl_parts us d g (i + 1) q.0 q.1 in
-    let P : ℕ → Type 0 = λ k. Stands us k (flat_map local_text ds) j in
+    let P : ℕ → Type 0 = λ k. AreAt us k (flat_map local_text ds) j in
     let rest = locals_read us gs (q.0 + 1) j (subst P (sym q.2.1) r.2) in
     record {
       tree = record { name = d.name; at = from_at us (i + 1); dims = d.dims; ty = d.ty } ∷ rest.tree;
@@ -175,13 +175,13 @@ results_of : (us : List Token) {ds : List Decl} {i j : ℕ} → Grouped Decl Goo
 results_of us (bare d) = record { tree = d.tree ∷ []; same = ap (λ z. z ∷ []) d.same; reads = one_result d.reads }
 results_of us (inside o ds c) = record { tree = ds.tree; same = ds.same; reads = results o ds.reads c }
 
-results_read : (us : List Token) {ds : List Decl} → Goods Decl GoodDecl ds → (i j : ℕ) → Stands us i (enclosed (several ds) (listed decl_text ds)) j → ReadsBy (List Decl) (map unpositioned_decl) (IsResults us) ds i j
+results_read : (us : List Token) {ds : List Decl} → Goods Decl GoodDecl ds → (i j : ℕ) → AreAt us i (enclosed (several ds) (listed decl_text ds)) j → ReadsBy (List Decl) (map unpositioned_decl) (IsResults us) ds i j
 results_read us {ds} gs i j s =
     results_of us (grouped_read Decl GoodDecl decl_text unpositioned_decl us (λ d. IsDecl us) (λ ds. IsList us Decl (IsDecl us)) (λ i j x y d. last d) (λ i j k x y xs ys long d c rest. more d c rest) (decl_read us)
     gs (several ds) (one_of_several ds) i j s)
 
 -- Words.
-word_read : (us : List Token) (l : Lit) → GoodSigned l → (i j : ℕ) → Stands us i (lit_text l) j → ReadsBy Lit unpositioned_lit (IsSigned us) l i j
+word_read : (us : List Token) (l : Lit) → GoodSigned l → (i j : ℕ) → AreAt us i (lit_text l) j → ReadsBy Lit unpositioned_lit (IsSigned us) l i j
 word_read us l g i j s = let x = g.reads us i j s in record { tree = x.0; same = x.1; reads = x.2 }
 
 good_list : (ts : List Token) → TokensWritten ts → {i j : ℕ} {ls : List Lit} → IsList ts Lit (IsSigned ts) i ls j → Goods Lit GoodSigned ls
@@ -200,7 +200,7 @@ words_of us (inside o ls c) = record { tree = ls.tree; same = ls.same; reads = w
 alone : (dims : List ℕ) (ls : List Lit) → 1 ≤ length ls → (nat_lt 0 (length dims) || nat_lt 1 (length ls)) ≡ false → length ls ≡ 1
 alone dims ls some h = grind (arith, nat_tests)
 
-words_read : (us : List Token) (dims : List ℕ) {ls : List Lit} → Goods Lit GoodSigned ls → (i j : ℕ) → Stands us i (words_text dims ls) j → ReadsBy (List Lit) (map unpositioned_lit) (IsWords us) ls i j
+words_read : (us : List Token) (dims : List ℕ) {ls : List Lit} → Goods Lit GoodSigned ls → (i j : ℕ) → AreAt us i (words_text dims ls) j → ReadsBy (List Lit) (map unpositioned_lit) (IsWords us) ls i j
 words_read us dims {ls} gs i j s =
     words_of us (grouped_read Lit GoodSigned lit_text unpositioned_lit us (λ l. IsSigned us) (λ ls. IsList us Lit (IsSigned us)) (λ i j x y d. last d) (λ i j k x y xs ys long d c rest. more d c rest) (word_read us)
     gs (nat_lt 0 (length dims) || nat_lt 1 (length ls)) (alone dims ls (goods_long gs)) i j s)
@@ -208,7 +208,7 @@ words_read us dims {ls} gs i j s =
 -- Tables and functions.
 record GoodTop (t : Top) : Type 0 where
   written : AreWritten (top_text t)
-  reads : (us : List Token) (i j : ℕ) → Stands us i (top_text t) j → ReadsBy Top unpositioned_top (Has IsTop us t) t i j
+  reads : (us : List Token) (i j : ℕ) → AreAt us i (top_text t) j → ReadsBy Top unpositioned_top (Has IsTop us t) t i j
 
 record GoodTable (c : ConstDef) : Type 0 where
   name : IsWritten (kind.Name c.name)
@@ -241,7 +241,7 @@ record GoodFunc (f : Func) : Type 0 where
   locals : GoodLocals f.locals
   items : GoodItems f.items
 
--- what stands in front of a function's body
+-- what comes before a function's body
 record ReadsHead (us : List Token) (f : Func) (i j : ℕ) : Type 0 where
   params : List Decl
   same_params : map unpositioned_decl params ≡ map unpositioned_decl f.params
@@ -255,13 +255,13 @@ record ReadsHead (us : List Token) (f : Func) (i j : ℕ) : Type 0 where
   closes : IsPunctuation us close punctuation.RIGHT_PAREN
   reads_results : IsResults us (close + 1) results j
 
-head_read : (us : List Token) (f : Func) → GoodFunc f → (i j : ℕ) → Stands us i (head_text f) j → ReadsHead us f i j
+head_read : (us : List Token) (f : Func) → GoodFunc f → (i j : ℕ) → AreAt us i (head_text f) j → ReadsHead us f i j
 head_read us f g i j s =
     let r = split us (word keyword.FUNC ∷ kind.Name f.name ∷ enclosed true (listed decl_text f.params)) (enclosed (several f.results) (listed decl_text f.results)) i j s in
     let q = split us (listed decl_text f.params) (symbol punctuation.RIGHT_PAREN ∷ []) (i + 1 + 1 + 1) r.0 r.1.1.1.1 in
-    let P : ℕ → Type 0 = λ k. Stands us k (listed decl_text f.params) q.0 in
+    let P : ℕ → Type 0 = λ k. AreAt us k (listed decl_text f.params) q.0 in
     let ps = decls_read us g.params (i + 3) q.0 (subst P (omega arith) q.1) in
-    let Q : ℕ → Type 0 = λ k. Stands us k (enclosed (several f.results) (listed decl_text f.results)) j in
+    let Q : ℕ → Type 0 = λ k. AreAt us k (enclosed (several f.results) (listed decl_text f.results)) j in
     let rs = results_read us g.results (q.0 + 1) j (subst Q (sym q.2.1) r.2) in
     record {
       params = ps.tree;
@@ -289,7 +289,7 @@ good_function f g = record {
       let h = head_read us f g i r.0 r.1 in
       let e = split us (word keyword.BEGIN ∷ flat_map local_text f.locals ++ items_text f.items) (word keyword.END ∷ symbol punctuation.SEMICOLON ∷ []) (r.0 + 1) j r.2.1 in
       let q = split us (word keyword.BEGIN ∷ flat_map local_text f.locals) (items_text f.items) (r.0 + 1) e.0 e.1 in
-      let P : ℕ → Type 0 = λ k. Stands us k (flat_map local_text f.locals) q.0 in
+      let P : ℕ → Type 0 = λ k. AreAt us k (flat_map local_text f.locals) q.0 in
       let ls = locals_read us g.locals (r.0 + 2) q.0 (subst P (omega arith) q.1.1) in
       let xs = g.items.reads us q.0 e.0 q.2 in
       let stop = e.2.1.1 in
@@ -316,7 +316,7 @@ good_top ts w (is_function {i = i} {name = name} a n o ps c rs d b ls xs e s) =
 -- Programs.
 record GoodTops (tops : List Top) : Type 0 where
   written : AreWritten (flat_map top_text tops)
-  reads : (us : List Token) (i j : ℕ) → Stands us i (flat_map top_text tops) j → ReadsBy (List Top) (map unpositioned_top) (Has IsTops us tops) tops i j
+  reads : (us : List Token) (i j : ℕ) → AreAt us i (flat_map top_text tops) j → ReadsBy (List Top) (map unpositioned_top) (Has IsTops us tops) tops i j
 
 more_tops : (t : Top) (rest : List Top) → GoodTop t → GoodTops rest → GoodTops (t ∷ rest)
 more_tops t rest g h = record {
@@ -336,7 +336,7 @@ good_tops : (ts : List Token) → TokensWritten ts → {i j : ℕ} {tops : List 
 good_tops ts w no_tops = record { written = no_kind; reads = λ us i j s. by_end s (record { tree = []; same = refl; reads = record { roles = _; is = no_tops; light = light_no_tops } }) }
 good_tops ts w (one_top t rest) = more_tops _ _ (good_top ts w t) (good_tops ts w rest)
 
--- a program that is this one up to places, and no token of which passes a limit where those of this one pass none
+-- a program that is this one up to positions, and no token of which passes a limit where those of this one pass none
 pub record ReadsProgram (us : List Token) (p : Program) : Type 0 where
   pub tree : Program
   pub same : unpositioned tree ≡ unpositioned p
@@ -347,7 +347,7 @@ pub record ReadsProgram (us : List Token) (p : Program) : Type 0 where
 -- the program's text is written, and tokens of its kinds are read as the program
 pub record GoodProgram (p : Program) : Type 0 where
   pub written : AreWritten (program_text p)
-  pub reads : (us : List Token) → Stands us 0 (program_text p) (length us) → ReadsProgram us p
+  pub reads : (us : List Token) → AreAt us 0 (program_text p) (length us) → ReadsProgram us p
 
 pub good_program : (ts : List Token) → TokensWritten ts → (p : Program) → Derives ts p → GoodProgram p
 good_program ts w p d =

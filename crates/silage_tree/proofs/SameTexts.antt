@@ -1,4 +1,4 @@
--- The text of a program does not depend on where its parts stand in the source.
+-- The text of a program does not depend on positions.
 use Rattle.std.proofs.Common.{◌≡◌, ℕ, Bool, true, false, nat_lt, nat_eq, ◌||◌, not as negation, List, [], ◌∷◌, ◌++◌, Option, Some, None, length, map, refl, ap, ◌∙◌}
 use Rattle.std.specs.List.{flat_map}
 use Rattle.std.proofs.lemmas.List.{length-map}
@@ -13,7 +13,7 @@ use Rattle.silage_tree.specs.declared.tree.Lit.TheVariants.{Number, Truth}
 use Rattle.silage_tree.specs.declared.tree.Decl.{Decl}
 use Rattle.silage_tree.specs.Tree.{Manifest, whole, counter, minus, both, Place, Expr, literal, read, negate, not, binary, shift, cast, choose, Branches, no_branch, branch, Item, equation, call, loop, initial, Items, no_item, item, Top, table, function}
 use Rattle.silage_tree.specs.Positions.{unpositioned_lit, unpositioned_manifest, unpositioned_place, unpositioned_delay, unpositioned_expr, unpositioned_branches, unpositioned_item, unpositioned_items, unpositioned_decl, unpositioned_top}
-use Rattle.silage_tree.specs.Text.{symbol, word, enclosed, listed, behind_comma, bracketed, subscript_text, lit_text, fix_text, dims_text, decl_text, manifest_precedence, term_mark, term_left, term_right, manifest_text, amount_text, place_text, delay_text, operator_mark, left_precedence, right_precedence, expr_precedence, is_unsigned, is_loose_operand, shift_mark, expr_text, branches_text, several, call_text, turns_text, clause_text, items_text, words_text, local_text, top_text}
+use Rattle.silage_tree.specs.Text.{symbol, word, enclosed, listed, after_comma, bracketed, subscript_text, lit_text, fix_text, dims_text, decl_text, manifest_precedence, term_mark, term_left, term_right, manifest_text, amount_text, place_text, delay_text, operator_mark, left_precedence, right_precedence, expr_precedence, is_unsigned, is_loose_operand, shift_mark, expr_text, branches_text, several, call_text, turns_text, clause_text, items_text, words_text, local_text, top_text}
 
 -- in parentheses by the same test
 enclosed_same : {b c : Bool} {xs ys : List TokenKind} → b ≡ c → xs ≡ ys → enclosed b xs ≡ enclosed c ys
@@ -28,7 +28,7 @@ module _ {A : Type 0} (text : A → List TokenKind) (up_to : A → A) (same : (x
   all_same [] = refl
   all_same (x ∷ xs) = joined_same (same x) (all_same xs)
 
-  others_same : (xs : List A) → flat_map (behind_comma text) (map up_to xs) ≡ flat_map (behind_comma text) xs
+  others_same : (xs : List A) → flat_map (after_comma text) (map up_to xs) ≡ flat_map (after_comma text) xs
   others_same [] = refl
   others_same (x ∷ xs) = joined_same (ap (λ ks. symbol punctuation.COMMA ∷ ks) (same x)) (others_same xs)
 

@@ -1,4 +1,4 @@
--- A source gives one word at most, and what it gives hangs on what it reads alone.
+-- A source gives at most one word.
 use Rattle.std.proofs.Common.{◌≡◌, sym, ◌∙◌, ap, ℕ, List, slice_get, Some, ℤ}
 use Rattle.silage_tree.specs.Tree.{Program}
 use Rattle.silage_tree.specs.Value.{Words}

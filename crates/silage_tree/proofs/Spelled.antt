@@ -8,7 +8,7 @@ use mathlib.Core.List.{append_assoc}
 use Rattle.silage_lex.specs.Texts.{symbols}
 use Rattle.silage_lex.specs.declared.TokenKind.{TokenKind}
 use Rattle.silage_lex.specs.declared.TokenKind.TheVariants as kind
-use Rattle.silage_tree.specs.Text.{spaced, spelled, opened, closed, sign_text, number, listed, behind_comma, filled, pointed}
+use Rattle.silage_tree.specs.Text.{spaced, spelled, opened, closed, sign_text, number, listed, after_comma, filled, pointed}
 use Rattle.silage_tree.specs.Private.Puts.{Puts}
 
 pub text_at : {A : Type 0} (xs : List A) (n : ℕ) (x d : A) → slice_get xs n ≡ Some x → get_or xs n d ≡ x
@@ -29,9 +29,9 @@ pub nothing : {a : List ℕ} → Puts a [] a
 unfolding spelled
 nothing {a} = record { added = sym (append-nil a) }
 
--- more is written behind what was there
-pub behind : {a b c : List ℕ} {xs ys : List TokenKind} → Puts a xs b → Puts b ys c → Puts a (xs ++ ys) c
-behind {a} {b} {c} {xs} {ys} h k =
+-- more is written after what was there
+pub followed : {a b c : List ℕ} {xs ys : List TokenKind} → Puts a xs b → Puts b ys c → Puts a (xs ++ ys) c
+followed {a} {b} {c} {xs} {ys} h k =
     record { added = k.added ∙ ap (λ x. x ++ spelled ys) h.added ∙ append_assoc a (spelled xs) (spelled ys) ∙ ap (λ x. a ++ x) (sym (spelled_append xs ys)) }
 
 pub no_open : (a : List ℕ) (b : Bool) → b ≡ false → Puts a (opened b) a
@@ -60,7 +60,7 @@ pub more : {A : Type 0} (f : A → List TokenKind) (xs : List A) (i : ℕ) (x d 
 more f xs i x d a b c within is before this =
     let one : flat_map f (take i xs) ++ f x ≡ flat_map f (take (i + 1) xs) =
     ap (λ ks. flat_map f (take i xs) ++ ks) (sym (append-nil (f x))) ∙ sym (flat_map-append f (take i xs) (x ∷ [])) ∙ ap (λ y. flat_map f (take i xs ++ y ∷ [])) is ∙ ap (flat_map f) (sym (take_more xs i d within)) in
-    alike one (behind before this)
+    alike one (followed before this)
 
 pub all : {A : Type 0} (f : A → List TokenKind) (xs : List A) (i : ℕ) (a b : List ℕ) → length xs ≤ i → Puts a (flat_map f (take i xs)) b → Puts a (flat_map f xs) b
 all f xs i a b past h = alike (ap (flat_map f) (take_all i xs past)) h
@@ -71,13 +71,13 @@ none_listed f [] a few = nothing
 none_listed f (x ∷ xs) a few = absurd (omega arith)
 
 pub some_listed : {A : Type 0} (f : A → List TokenKind) (xs : List A) (x d : A) {a b c : List ℕ} → 1 ≤ length xs → x ≡ get_or xs 0 d → Puts a (f x) b
-    → Puts b (flat_map (behind_comma f) (take (length xs - 1) (drop 1 xs))) c → Puts a (listed f xs) c
+    → Puts b (flat_map (after_comma f) (take (length xs - 1) (drop 1 xs))) c → Puts a (listed f xs) c
 some_listed f [] x d some is first rest = absurd (omega arith)
 some_listed f (y ∷ ys) x d some is first rest =
     let whole : take (length (y ∷ ys) - 1) ys ≡ ys = take_all (length (y ∷ ys) - 1) ys (omega arith) in
-    behind (alike (ap f is) first) (alike (ap (flat_map (behind_comma f)) whole) rest)
+    followed (alike (ap f is) first) (alike (ap (flat_map (after_comma f)) whole) rest)
 
--- the same of what the elements stand for
+-- the same of the elements' views
 pub flat_map_viewed : {A B : Type 0} (f : B → List TokenKind) (view : A → B) (xs : List A) → flat_map (λ x. f (view x)) xs ≡ flat_map f (map view xs)
 flat_map_viewed f view [] = refl
 flat_map_viewed f view (x ∷ xs) = ap (λ ks. f (view x) ++ ks) (flat_map_viewed f view xs)
@@ -87,11 +87,11 @@ none_viewed f view [] a few = nothing
 none_viewed f view (x ∷ xs) a few = absurd (omega arith)
 
 pub some_viewed : {A B : Type 0} (f : B → List TokenKind) (view : A → B) (xs : List A) (x d : A) {a b c : List ℕ} → 1 ≤ length xs → x ≡ get_or xs 0 d → Puts a (f (view x)) b
-    → Puts b (flat_map (λ y. behind_comma f (view y)) (take (length xs - 1) (drop 1 xs))) c → Puts a (listed f (map view xs)) c
+    → Puts b (flat_map (λ y. after_comma f (view y)) (take (length xs - 1) (drop 1 xs))) c → Puts a (listed f (map view xs)) c
 some_viewed f view [] x d some is first rest = absurd (omega arith)
 some_viewed f view (y ∷ ys) x d some is first rest =
     let whole : take (length (y ∷ ys) - 1) ys ≡ ys = take_all (length (y ∷ ys) - 1) ys (omega arith) in
-    behind (alike (ap (λ z. f (view z)) is) first) (alike (ap (flat_map (λ z. behind_comma f (view z))) whole ∙ flat_map_viewed (behind_comma f) view ys) rest)
+    followed (alike (ap (λ z. f (view z)) is) first) (alike (ap (flat_map (λ z. after_comma f (view z))) whole ∙ flat_map_viewed (after_comma f) view ys) rest)
 
 -- a number with its blank
 pub pointed_put : (digits places : ℕ) (a b c : List ℕ) → nat_eq places 0 ≡ false → b ≡ a ++ pointed (filled (decimal digits) places) places → c ≡ b ++ 32 ∷ [] → Puts a (number digits places ∷ []) c

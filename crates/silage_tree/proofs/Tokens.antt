@@ -20,7 +20,7 @@ use Rattle.silage_tree.specs.Grammar.{kind_of}
 use Rattle.silage_tree.specs.Text.{token_text, spelled}
 use Rattle.silage_tree.proofs.Numbers.{whole_written, point_written, value_small}
 use Rattle.silage_tree.proofs.Spelled.{text_at}
-use Rattle.silage_tree.proofs.Stands.{Stands, IsWritten, AreWritten, no_kind, one_kind, TokensWritten}
+use Rattle.silage_tree.proofs.KindsAt.{AreAt, IsWritten, AreWritten, no_kind, one_kind, TokensWritten}
 
 plus_one : (a b : ℕ) → a + suc b ≡ a + (1 + b)
 plus_one a b = omega arith
@@ -110,9 +110,9 @@ piece front text rest =
     let size : length front + length text - length front ≡ length text = omega arith in
     ap (λ n. take n (drop (length front) (front ++ (text ++ rest)))) size ∙ ap (take (length text)) (drop_front front (text ++ rest)) ∙ take_front text rest
 
--- a blank stands behind the text
-blank_behind : (front text rest : List ℕ) → slice_index (front ++ (text ++ 32 ∷ rest)) (length front + length text) ≡ 32
-blank_behind front text rest =
+-- a blank comes after the text
+blank_after : (front text rest : List ℕ) → slice_index (front ++ (text ++ 32 ∷ rest)) (length front + length text) ≡ 32
+blank_after front text rest =
     let size : length front + length text ≡ length (front ++ text) = sym (length-append front text) in
     ap (λ n. slice_index (front ++ (text ++ 32 ∷ rest)) n) size ∙ ap (λ bs. slice_index bs (length (front ++ text))) (sym (append_assoc front text (32 ∷ rest)))
     ∙ get_or_at (front ++ text) 32 rest 0 (length (front ++ text)) refl
@@ -124,7 +124,7 @@ ends_at bytes (kind.Name n) to h = tt
 ends_at bytes (kind.Reserved n) to h = tt
 ends_at bytes (kind.Symbol n) to h = tt
 
--- a token whose text stands in the bytes with a blank behind it
+-- a token whose text is in the bytes with a blank after it
 span_of : (front rest : List ℕ) (k : TokenKind) → IsWritten k → IsSpan (front ++ (token_text k ++ 32 ∷ rest)) k (length front) (length front + length (token_text k))
 span_of front rest k h =
     let text = token_text k in
@@ -132,7 +132,7 @@ span_of front rest k h =
     let some = token_some text (kind_text k text h) in
     let inner : length bytes ≡ length front + length (text ++ 32 ∷ rest) = length-append front (text ++ 32 ∷ rest) in
     let outer : length (text ++ 32 ∷ rest) ≡ length text + (1 + length rest) = length-append text (32 ∷ rest) ∙ plus_one (length text) (length rest) in
-    let blank_at = blank_behind front text rest in
+    let blank_at = blank_after front text rest in
     record {
       rises = omega arith;
       within = omega arith;
@@ -144,7 +144,7 @@ span_of front rest k h =
       ends = ends_at bytes k (length front + length text) blank_at;
     }
 
--- the kinds' texts, from the end of the bytes in front of them
+-- the kinds' texts, from the end of the bytes before them
 spaced_laid : (bytes front : List ℕ) (ks : List TokenKind) (from : ℕ) → bytes ≡ front ++ spelled ks → Gap bytes from (length front) → AreWritten ks → Spaced bytes from (laid bytes (length front) ks) (length bytes)
 unfolding spelled
 spaced_laid bytes front [] from e gap no_kind =
@@ -160,7 +160,7 @@ spaced_laid bytes front (k ∷ ks) from e gap (one_kind h hs) =
     let next : bytes ≡ (front ++ (text ++ 32 ∷ [])) ++ rest = e ∙ sym (append_assoc front (text ++ 32 ∷ []) rest) in
     let inner = length-append text (32 ∷ []) in
     let size : length (front ++ (text ++ 32 ∷ [])) ≡ length front + length text + 1 = let outer = length-append front (text ++ 32 ∷ []) in omega arith in
-    let blank_at : slice_index bytes (length front + length text) ≡ 32 = ap (λ bs. slice_index bs (length front + length text)) whole ∙ blank_behind front text rest in
+    let blank_at : slice_index bytes (length front + length text) ≡ 32 = ap (λ bs. slice_index bs (length front + length text)) whole ∙ blank_after front text rest in
     let Q : ℕ → Type 0 = λ n. Gap bytes (length front + length text) n in
     let gap_next = subst Q (sym size) (blank (ap is_blank blank_at) none) in
     let R : ℕ → Type 0 = λ n. Spaced bytes (length front + length text) (laid bytes n ks) (length bytes) in
@@ -170,24 +170,24 @@ get_at : (front : List Token) (x : Token) (xs : List Token) → slice_get (front
 get_at [] x xs = refl
 get_at (y ∷ front) x xs = get_at front x xs
 
-stands_by : (front xs : List Token) → Stands (front ++ xs) (length front) (map (λ t. t.kind) xs) (length (front ++ xs))
+stands_by : (front xs : List Token) → AreAt (front ++ xs) (length front) (map (λ t. t.kind) xs) (length (front ++ xs))
 stands_by front [] = sym (ap (length {A = Token}) (append-nil front))
 stands_by front (x ∷ xs) =
     let e : (front ++ x ∷ []) ++ xs ≡ front ++ x ∷ xs = append_assoc front (x ∷ []) xs in
     let f : length (front ++ x ∷ []) ≡ length front + 1 = length-append front (x ∷ []) in
-    let P : List Token → Type 0 = λ us. Stands us (length front + 1) (map (λ t. t.kind) xs) (length us) in
-    let Q : ℕ → Type 0 = λ m. Stands ((front ++ x ∷ []) ++ xs) m (map (λ t. t.kind) xs) (length ((front ++ x ∷ []) ++ xs)) in
+    let P : List Token → Type 0 = λ us. AreAt us (length front + 1) (map (λ t. t.kind) xs) (length us) in
+    let Q : ℕ → Type 0 = λ m. AreAt ((front ++ x ∷ []) ++ xs) m (map (λ t. t.kind) xs) (length ((front ++ x ∷ []) ++ xs)) in
     (ap kind_of (get_at front x xs), subst P e (subst Q f (stands_by (front ++ x ∷ []) xs)))
 
 -- tokens of the text that is spelled from the kinds
 pub record HasSpelled (ks : List TokenKind) : Type 0 where
   pub tokens : List Token
   pub has : HasTokens (spelled ks) tokens
-  pub stands : Stands tokens 0 ks (length tokens)
+  pub kinds_at : AreAt tokens 0 ks (length tokens)
 
 pub spelled_tokens : (ks : List TokenKind) → AreWritten ks → HasSpelled ks
 spelled_tokens ks h =
     let bytes = spelled ks in
     let ts = laid bytes 0 ks in
-    let P : List TokenKind → Type 0 = λ xs. Stands ts 0 xs (length ts) in
-    record { tokens = ts; has = spaced_laid bytes [] ks 0 refl none h; stands = subst P (laid_kinds bytes 0 ks) (stands_by [] ts) }
+    let P : List TokenKind → Type 0 = λ xs. AreAt ts 0 xs (length ts) in
+    record { tokens = ts; has = spaced_laid bytes [] ks 0 refl none h; kinds_at = subst P (laid_kinds bytes 0 ks) (stands_by [] ts) }

@@ -1,5 +1,5 @@
--- The text of a definition counts no more than the tokens that it was read from, whatever the tokens of its expressions count, as
--- long as those of its declarations count nothing.
+-- The text of a definition counts no more than the tokens that it was read from, whatever the tokens of its expressions
+-- count, as long as those of its declarations count nothing.
 use Rattle.std.proofs.Common.{◌≡◌, ℕ, zero, suc, ◌+◌, ◌-◌, ◌≤◌, ◌||◌, Bool, List, [], ◌∷◌, ◌++◌, length, nat_lt, refl, ap, arith, Some, true}
 use Rattle.std.specs.List.{flat_map}
 use Rattle.fix_word.specs.declared.types.FixType.{FixType}
@@ -14,7 +14,7 @@ use Rattle.silage_tree.specs.declared.tree.Lit.{Lit}
 use Rattle.silage_tree.specs.declared.tree.Decl.{Decl}
 use Rattle.silage_tree.specs.Tree.{Manifest, Place, Expr, Item, Items, Top}
 use Rattle.silage_tree.specs.Grammar.{IsSigned, positive, negative, IsList, last, more, IsDims, scalar, vector, matrix, IsFix, no_mode, with_mode, IsType, fix, bool, Declared, IsDeclared, declared, IsDecl, decl, Role, IsTargetSubscripts, no_target_sub, one_target_sub, two_target_subs, IsTarget, target, IsTargets, last_target, more_targets, IsArguments, last_arg, more_args, IsInitialValue, signed, truth_value, IsItem, is_equation, is_call, is_calls, is_loop, is_initial, IsItems, no_items, one_item, one_sub, two_subs, kind_at, IsLocals, no_locals, some_locals, IsResults, one_result, results, IsWords, one_word, words, IsTop, is_table, is_function}
-use Rattle.silage_tree.specs.Text.{symbol, word, subscripts_text, enclosed, listed, behind_comma, lit_text, dims_text, fix_text, type_text, decl_text, manifest_text, amount_text, place_text, expr_text, several, call_text, turns_text, clause_text, items_text, words_text, local_text, body_text, top_text}
+use Rattle.silage_tree.specs.Text.{symbol, word, subscripts_text, enclosed, listed, after_comma, lit_text, dims_text, fix_text, type_text, decl_text, manifest_text, amount_text, place_text, expr_text, several, call_text, turns_text, clause_text, items_text, words_text, local_text, body_text, top_text}
 use Rattle.silage_tree.specs.Parentheses.{HasOneWord}
 use Rattle.silage_tree.proofs.Weights as of
 use Rattle.silage_tree.proofs.Weights.{IsFree}
@@ -123,13 +123,13 @@ module _ (count : TokenKind → ℕ) (quiet : IsQuiet count) where
       let f = join (dims_text d.dims) (symbol punctuation.COLON ∷ type_text d.ty) in
       omega (arith, a, b, c, e, f)
 
-  -- what stands behind commas counts as the list does
-  commas : {A : Type 0} (text : A → List TokenKind) (xs : List A) → total (flat_map (behind_comma text) xs) ≡ total (listed text xs)
+  -- what comes after commas counts as the list does
+  commas : {A : Type 0} (text : A → List TokenKind) (xs : List A) → total (flat_map (after_comma text) xs) ≡ total (listed text xs)
   commas text [] = refl
   commas text (x ∷ xs) = let a = quiet.free.comma in omega (arith, a)
 
   listed_more : {A : Type 0} (text : A → List TokenKind) (x : A) (xs : List A) → total (listed text (x ∷ xs)) ≡ total (text x) + total (listed text xs)
-  listed_more text x xs = let a = join (text x) (flat_map (behind_comma text) xs) in let b = commas text xs in omega (arith, a, b)
+  listed_more text x xs = let a = join (text x) (flat_map (after_comma text) xs) in let b = commas text xs in omega (arith, a, b)
 
   decls_none : (ds : List Decl) → total (listed decl_text ds) ≡ 0
   decls_none [] = refl

@@ -79,7 +79,7 @@ converted_once t q r places v w e x y = form_unique r _ v w y.shape.narrowest (s
 
 pub entry_once : (c : ConstDef) (k : ℕ) (ty : SigType) (v w : ℤ) → IsEntry c k ty v → IsEntry c k ty w → v ≡ w
 entry_once c k ty v w x y =
-    let same : x.number ≡ y.number = some_once (sym x.stands ∙ y.stands) in
+    let same : x.number ≡ y.number = some_once (sym x.entry ∙ y.entry) in
     raw_word_once y.number (sig.Fix c.ty) v w (subst (λ l. IsRawWord l (sig.Fix c.ty) v) same x.word) y.word
 
 product_once : (r s : Option SigType) (x y : Part) (t : FixType) (v w : ℤ) → IsSingle x → IsSingle y → IsProduct r s x y t v → IsProduct r s x y t w → v ≡ w

@@ -1,5 +1,5 @@
--- The text of an expression counts no more than the tokens that it was read from, whatever each kind of token counts, as long
--- as literals, and what a fix type may leave out, count nothing.
+-- The text of an expression counts no more than the tokens that it was read from, whatever each kind of token counts, as
+-- long as literals, and what a fix type may leave out, count nothing.
 use Rattle.std.proofs.Common.{◌≡◌, ℕ, zero, suc, ◌+◌, ◌≤◌, Bool, true, false, ◌||◌, List, [], ◌∷◌, ◌++◌, Option, Some, None, nat_lt, refl, ap, ◌∙◌, subst, arith}
 use Rattle.std.specs.Prelude.{nat_eq, if◌then◌else◌}
 use Rattle.std.proofs.lemmas.Bool.Decides.{nat_tests}
@@ -123,7 +123,7 @@ module _ (count : TokenKind → ℕ) where
   total_join [] ys = omega arith
   total_join (x ∷ xs) ys = let rest = total_join xs ys in omega arith
 
-  -- what the tokens in front of token i count together
+  -- what the tokens before token i count together
   abbrev pub before : List Token → ℕ → ℕ
   before ts zero = 0
   before [] (suc n) = 0
@@ -134,7 +134,7 @@ module _ (count : TokenKind → ℕ) where
   next_counts (t ∷ ts) zero k h = let same : t.kind ≡ k = cc in let e : count t.kind ≡ count k = ap count same in omega arith
   next_counts (t ∷ ts) (suc i) k h = let rest = next_counts ts i k h in omega arith
 
-  -- a token, with the place behind it said in any way
+  -- a token, with the index after it said in any way
   pub counts_at : (ts : List Token) (i j : ℕ) {k : TokenKind} → i + 1 ≡ j → kind_at ts i ≡ Some k → before ts j ≡ before ts i + count k
   counts_at ts i j {k} e h = let next : j ≡ suc i = omega arith in ap (before ts) next ∙ next_counts ts i k h
 
@@ -173,7 +173,7 @@ module _ (count : TokenKind → ℕ) where
   pub extra_most : (b : Bool) → extra b ≤ extra true
   extra_most b = extra_less b true (λ h. refl)
 
-  -- Manifest numbers: what a number's text counts at a place of this level.
+  -- Manifest constants: what a constant's text counts where this precedence is asked for.
   abbrev placed_manifest : ℕ → Manifest → ℕ
   placed_manifest n m = extra (nat_lt (manifest_precedence m) n) + total (manifest_text m)
 
@@ -194,7 +194,7 @@ module _ (count : TokenKind → ℕ) where
   sum_placed at a b adds = let x = both_total at a b mop.Add 3 4 (symbol punctuation.PLUS) refl in omega (arith, x)
   sum_placed at a b subtracts = let x = both_total at a b mop.Sub 3 4 (symbol punctuation.MINUS) refl in omega (arith, x)
 
-  -- Expressions: what an expression's text counts at a place of this level.
+  -- Expressions: what an expression's text counts where this precedence is asked for.
   abbrev placed : ℕ → Expr → ℕ
   placed n e = extra (nat_lt (expr_precedence e) n) + total (expr_text e)
 
@@ -252,7 +252,7 @@ module _ (count : TokenKind → ℕ) where
   ManifestBound ts Factor i m j = placed_manifest 6 m + before ts i ≤ before ts j
   ManifestBound ts Primary_ i m j = placed_manifest 7 m + before ts i ≤ before ts j
 
-  -- a conditional's branches behind the first, with the `||` in front of each and the `fi`
+  -- a conditional's branches after the first, with the `||` before each and the `fi`
   abbrev arms_total : Expr → ℕ
   arms_total (choose at bs last) = count (symbol punctuation.PIPE_PIPE) + (total (branches_text bs) + (total (expr_text last) + count (word keyword.FI)))
   arms_total _ = 0
@@ -387,7 +387,7 @@ module _ (count : TokenKind → ℕ) where
     unsigned_free (cast at ty e) h = cc
     unsigned_free (choose at bs last) h = cc
 
-    -- the operand of a `-`, which stands in parentheses where it is a number without a sign
+    -- the operand of a `-`, which is in parentheses where it is a number without a sign
     operand_by : (ts : List Token) (b : Bool) (e : Expr) (i j : ℕ) → is_unsigned e ≡ b → placed 6 e + before ts i ≤ before ts j → (is_unsigned e ≡ true → extra true + before ts i ≤ before ts j)
         → extra (is_loose_operand e) + (total (expr_text e) + before ts i) ≤ before ts j
     operand_by ts true e i j u x alone =
@@ -400,7 +400,7 @@ module _ (count : TokenKind → ℕ) where
         omega (arith, same, x)
 
     mutual
-      -- a number without a sign that is read behind a `-` is read in parentheses
+      -- a number without a sign that is read after a `-` is read in parentheses
       unsigned_open : {ts : List Token} {i j : ℕ} {e : Expr} → IsExpr ts Unary i e j → is_unsigned e ≡ true → number_of (kind_at ts i) ≡ None → extra true + before ts i ≤ before ts j
       unsigned_open (negative_number m n) u n0 = cc
       unsigned_open (negated m n d) u n0 = cc

@@ -101,7 +101,7 @@ pub record Site : Type 0 where
   pub indices : Indices
 
 -- the item is in the program at this site
-pub record Stands (p : Program) (s : Site) (x : Item) : Type 0 where
+pub record IsItemAt (p : Program) (s : Site) (x : Item) : Type 0 where
   pub instance : IsInstance p s.instance s.function
   pub occurs : Occurs s.function.items [] x s.indices
 
@@ -132,7 +132,7 @@ pub record Call (p : Program) (s : Site) : Type 0 where
   pub args : List Expr
   pub at : ℕ
   pub callee : Func
-  pub stands : Stands p s (call places name args at)
+  pub found : IsItemAt p s (call places name args at)
   pub named : function_named p name ≡ Some callee
 
 -- the instance that a call makes

@@ -13,7 +13,7 @@ abbrev pub index_value : Indices → List ℕ → Option ℤ
 index_value indices name =
     option_map (λ (index : List ℕ × ℤ). index.1) (find (λ (index : List ℕ × ℤ). bytes_eq index.0 name) indices)
 
--- the number, if it lies in -2^31 .. 2^31-1
+-- the number, if it is in -2^31 .. 2^31-1
 abbrev pub in_range : ℤ → Option ℤ
 in_range z = if int_le (neg_ℤ (pos (2 ^ 31))) z && int_le z (pos (2 ^ 31 - 1)) then Some z else None
 

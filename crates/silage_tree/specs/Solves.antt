@@ -8,7 +8,7 @@ use Rattle.silage_tree.specs.declared.tree.Lit.{Lit}
 use Rattle.silage_tree.specs.Tree.{Manifest, Place, Expr, read, equation, initial, Func, Program}
 use Rattle.silage_tree.specs.Manifests.{HasValue, max_delay}
 use Rattle.silage_tree.specs.Names.{element_count}
-use Rattle.silage_tree.specs.Instances.{Element, element, IsElement, Site, Stands, IsSignal, IsArray, IsTable, Call, IsArgument, IsResult, parameter_of, result_of, main_of, inputs, outputs}
+use Rattle.silage_tree.specs.Instances.{Element, element, IsElement, Site, IsItemAt, IsSignal, IsArray, IsTable, Call, IsArgument, IsResult, parameter_of, result_of, main_of, inputs, outputs}
 use Rattle.silage_tree.specs.Types.{IsInType, HasShapeOf, IsRawWord, word_types}
 use Rattle.silage_tree.specs.Value.{Words, IsEntry, IsValue}
 
@@ -35,7 +35,7 @@ pub data IsDefined (p : Program) (e : Element) : Source → Type 0 where
       → IsDefined p e (word j)
   -- the target of an equation
   equated : {s : Site} {x : Expr} (place : Place) (d k : ℕ) (decl : Decl)
-      → Stands p s (equation place x)
+      → IsItemAt p s (equation place x)
       → IsSignal s place d decl k
       → e ≡ element s.instance d k
       → IsDefined p e (value s x decl.ty)
@@ -89,7 +89,7 @@ pub record IsPreset (p : Program) (e : Element) (j : ℕ) (l : Lit) (ty : SigTyp
   pub declaration : ℕ
   pub decl : Decl
   pub offset : ℕ
-  pub stands : Stands p site (initial place amount l)
+  pub found : IsItemAt p site (initial place amount l)
   pub signal : IsSignal site place declaration decl offset
   pub is : e ≡ element site.instance declaration offset
   pub sample : HasValue site.indices amount j

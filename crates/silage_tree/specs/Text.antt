@@ -23,7 +23,7 @@ use Rattle.silage_tree.specs.declared.tree.Decl.{Decl}
 use Rattle.silage_tree.specs.Tree.{Manifest, whole, counter, minus, both, Place, Expr, literal, read, negate, not, binary, shift, cast, choose, Branches, no_branch, branch, Item, equation, call, loop, initial, Items, no_item, item, Func, Top, table, function, Program}
 
 -- Lexemes.
--- digits, with zeros in front where no digit would be left before the point
+-- digits, with leading zeros where no digit would be left before the point
 abbrev pub filled : List ℕ → ℕ → List ℕ
 filled digits places = replicate (places + 1 - length digits) 48 ++ digits
 
@@ -68,13 +68,13 @@ enclosed b ks = opened b ++ ks ++ closed b
 abbrev pub in_context : (asked own : ℕ) → List TokenKind → List TokenKind
 in_context asked own ks = enclosed (nat_lt own asked) ks
 
-abbrev pub behind_comma : {A : Type 0} → (A → List TokenKind) → A → List TokenKind
-behind_comma text x = symbol COMMA ∷ text x
+abbrev pub after_comma : {A : Type 0} → (A → List TokenKind) → A → List TokenKind
+after_comma text x = symbol COMMA ∷ text x
 
 -- with commas between
 abbrev pub listed : {A : Type 0} → (A → List TokenKind) → List A → List TokenKind
 listed text [] = []
-listed text (x ∷ xs) = text x ++ flat_map (behind_comma text) xs
+listed text (x ∷ xs) = text x ++ flat_map (after_comma text) xs
 
 -- whether there are several, or none
 abbrev pub several : {A : Type 0} → List A → Bool

@@ -43,7 +43,7 @@ pub record IsConverted (t : FixType) (q : ℤ) (places : ℕ) (v : ℤ) : Type 0
 pub record IsEntry (c : ConstDef) (k : ℕ) (ty : SigType) (v : ℤ) : Type 0 where
   pub shape : HasShapeOf (Fix c.ty) ty
   pub number : Lit
-  pub stands : slice_get c.words k ≡ Some number
+  pub entry : slice_get c.words k ≡ Some number
   pub word : IsRawWord number (Fix c.ty) v
 
 -- the parts have values against these types that are in the relation

@@ -5,7 +5,7 @@ ghost use Rattle.std.specs.List.{flat_map};
 ghost use Rattle.silage_lex.specs.Texts.{symbols};
 ghost use Rattle.silage_tree.specs.Tree.{view_manifest, view_place, view_delay, view_expr};
 ghost use Rattle.silage_tree.specs.Text as text;
-ghost use Rattle.silage_tree.specs.Text.{enclosed, subscript_text, manifest_text, amount_text, place_text, delay_text, expr_text, listed, behind_comma};
+ghost use Rattle.silage_tree.specs.Text.{enclosed, subscript_text, manifest_text, amount_text, place_text, delay_text, expr_text, listed, after_comma};
 ghost use Rattle.silage_tree.specs.Private.Puts.{Puts, arm_text};
 
 use crate::precedence::{AND, COMPARISON, OR, PRIMARY, PRODUCT, SHIFT, SUM, UNARY};
@@ -304,9 +304,9 @@ fn put_arms(out: &mut Bytes, arms: &[(Expr, Expr)]) -> Result<(), AllocError>
     Ok(())
 }
 
-/// Adds the expressions with a comma in front of each.
+/// Adds the expressions with a comma before each.
 fn put_other_exprs(out: &mut Bytes, exprs: &[Expr]) -> Result<(), AllocError>
-    ensures { OnOk result (Puts out.old (flat_map (λ e. behind_comma expr_text (view_expr e)) exprs.now) out.new) }
+    ensures { OnOk result (Puts out.old (flat_map (λ e. after_comma expr_text (view_expr e)) exprs.now) out.new) }
 {
     for e in exprs {
         put_symbol(out, punctuation::COMMA)?;
@@ -328,9 +328,9 @@ pub(crate) fn put_exprs(out: &mut Bytes, exprs: &[Expr]) -> Result<(), AllocErro
     }
 }
 
-/// Adds the places with a comma in front of each.
+/// Adds the places with a comma before each.
 fn put_other_places(out: &mut Bytes, places: &[Place]) -> Result<(), AllocError>
-    ensures { OnOk result (Puts out.old (flat_map (λ p. behind_comma place_text (view_place p)) places.now) out.new) }
+    ensures { OnOk result (Puts out.old (flat_map (λ p. after_comma place_text (view_place p)) places.now) out.new) }
 {
     for place in places {
         put_symbol(out, punctuation::COMMA)?;

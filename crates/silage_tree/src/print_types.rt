@@ -2,7 +2,7 @@
 
 ghost use Rattle.std.specs.Prelude.{◌≡◌, ◌<◌, ◌++◌, ◌∷◌, [], length, OnOk};
 ghost use Rattle.silage_lex.specs.Texts.{reserved_words};
-ghost use Rattle.silage_tree.specs.Text.{truth_word, sign_text, lit_text, dims_text, mode_word, fix_text, type_text, decl_text, behind_comma, listed};
+ghost use Rattle.silage_tree.specs.Text.{truth_word, sign_text, lit_text, dims_text, mode_word, fix_text, type_text, decl_text, after_comma, listed};
 ghost use Rattle.silage_tree.specs.Private.Puts.{Puts};
 ghost use Rattle.std.specs.List.{flat_map};
 
@@ -103,9 +103,9 @@ pub(crate) fn put_decl(out: &mut Bytes, decl: &Decl) -> Result<(), AllocError>
     put_type(out, &decl.ty)
 }
 
-/// Adds the declarations with a comma in front of each.
+/// Adds the declarations with a comma before each.
 fn put_other_decls(out: &mut Bytes, decls: &[Decl]) -> Result<(), AllocError>
-    ensures { OnOk result (Puts out.old (flat_map (behind_comma decl_text) decls.now) out.new) }
+    ensures { OnOk result (Puts out.old (flat_map (after_comma decl_text) decls.now) out.new) }
 {
     for decl in decls {
         put_symbol(out, COMMA)?;
@@ -127,9 +127,9 @@ pub(crate) fn put_decls(out: &mut Bytes, decls: &[Decl]) -> Result<(), AllocErro
     }
 }
 
-/// Adds the literals with a comma in front of each.
+/// Adds the literals with a comma before each.
 fn put_other_lits(out: &mut Bytes, lits: &[Lit]) -> Result<(), AllocError>
-    ensures { OnOk result (Puts out.old (flat_map (behind_comma lit_text) lits.now) out.new) }
+    ensures { OnOk result (Puts out.old (flat_map (after_comma lit_text) lits.now) out.new) }
 {
     for lit in lits {
         put_symbol(out, COMMA)?;

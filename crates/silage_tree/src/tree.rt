@@ -1,4 +1,4 @@
-//! The tree of a source. `at` is always the byte offset of a place in the source.
+//! The tree of a source. `at` is always a position in the source, a byte offset.
 
 use fix_word::{FixType, SigType};
 use lists::{List, Name};
@@ -96,7 +96,7 @@ pub enum Expr {
     /// A shift by an amount of bits: `true` is `<<`.
     Shift(u32, bool, Box<Expr>, Manifest),
     Cast(u32, FixType, Box<Expr>),
-    /// The value behind the first true condition, else the last.
+    /// The value after the first true condition, else the last.
     Choose(u32, Vec<(Expr, Expr)>, Box<Expr>),
 }
 
@@ -115,7 +115,7 @@ pub enum BinOp {
     Or,
 }
 
-/// A whole number that is known before the program runs.
+/// A manifest constant: a compile-time integer.
 #[derive(Drop)]
 pub enum Manifest {
     Whole(u64, u32),

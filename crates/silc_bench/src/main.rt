@@ -2,7 +2,7 @@
 #![tactic(auto)]
 
 ghost use Rattle.std.specs.Prelude.{◌≡◌, length, All, IfOk};
-ghost use Rattle.cycle_sim.specs.Issues.{IsOperand};
+ghost use Rattle.cycle_sim.specs.Machine.{IsOperand};
 ghost use Rattle.micro_image.specs.Valid.{IsValid};
 
 use anyhow::{Context, Result, bail};

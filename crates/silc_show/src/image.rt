@@ -17,7 +17,7 @@ const MICROCODE_LIMIT: usize = 1 << 26;
 #[derive(Drop)]
 struct Lines<'a>(&'a Image);
 
-/// Numbers, each behind a blank.
+/// Numbers, each after a space.
 #[derive(Clone, Copy, Drop)]
 struct Numbers<'a, T>(&'a [T]);
 

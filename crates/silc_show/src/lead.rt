@@ -1,4 +1,4 @@
-//! What stands at the begin of a line of a tree, and how names, dims and types are printed in it.
+//! How a line of a tree begins, and how names, dims and types are printed in it.
 
 use fix_word::{FixType, Mode, SigType};
 use std::fmt;

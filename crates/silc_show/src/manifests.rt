@@ -2,7 +2,7 @@
 
 use crate::source::program_of;
 use anyhow::{Context, Result};
-use lists::List;
+use lists::{List, Name};
 use name_check::{Env, manifest};
 use silage_tree::{Item, Manifest, Program, Top};
 use std::alloc::{AllocError, Global};
@@ -29,7 +29,7 @@ fn indices(alloc: Global, text: &str) -> Result<Option<Env>, AllocError> {
         let Ok(value) = value.parse::<i32>() else {
             return Ok(None);
         };
-        env.push((List::from_slice(alloc, name.as_bytes())?, value))?;
+        env.push((Name::from_slice(alloc, name.as_bytes())?, value))?;
     }
     Ok(Some(env))
 }

@@ -37,11 +37,12 @@ pub fn channels(alloc: Global, widths: &str) -> Result<Option<List<Channel>>, Al
 
 fn put_rows(rt: &impl Print, list: &RowList) -> Result<()> {
     for row in list.words.as_slice().chunks(usize::from(list.width.max(1))) {
-        let mut line = [0u8; LINE];
-        if row.len() <= MAX_CHANNELS && !row.is_empty() {
-            let size = put_row(row, &mut line);
-            rt.write_all(&line[..size])?;
+        if row.is_empty() || row.len() > MAX_CHANNELS {
+            bail!("a row has {} words", row.len());
         }
+        let mut line = [0u8; LINE];
+        let size = put_row(row, &mut line);
+        rt.write_all(&line[..size])?;
     }
     Ok(())
 }

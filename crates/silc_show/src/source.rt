@@ -114,7 +114,7 @@ fn line_of(source: &[u8], at: u32) -> Option<u64> {
     source.get(..at as usize).map(last_line)
 }
 
-/// The line of a token, or of the end of the source behind the last one.
+/// The line of a token, or of the end of the source after the last one.
 fn line_of_token(source: &[u8], tokens: &Tokens, token: u32) -> u64 {
     match tokens.get(token as usize) {
         Some(token) => u64::from(token.line),

@@ -1,8 +1,7 @@
 -- What the steps of `sim` give: a machine, a stream, and the run of the one over the other.
 use Rattle.std.specs.Prelude.{◌≡◌, ◌⊎◌, ℕ, ◌<◌, ◌^◌, List, [], length, ℤ}
 use Rattle.std.specs.List.{All}
-use Rattle.cycle_sim.specs.Issues.{IsOperand}
-use Rattle.cycle_sim.specs.Machine.{Snapshot, state_of}
+use Rattle.cycle_sim.specs.Machine.{IsOperand, Snapshot, state_of}
 use Rattle.desk_core.specs.View.{Name, Content, View}
 use Rattle.desk_core.specs.Desk.{WhereSpecified, ReadFaultsRose, content_of}
 use Rattle.desk_core.specs.Whole.{IsAbove, IsReadThrough}
@@ -70,7 +69,7 @@ IsLoadError mic old new error =
     ⊎ ((error ≡ status.Image image_fault.TooLong) × IsBadMicrocode mic image_fault.TooLong old new)
     ⊎ ((error ≡ status.Image not_spelled) × IsBadMicrocode mic not_spelled old new)
 
--- a raw word of at most 40 bits for each input word
+-- a raw word of magnitude at most 2^39 for each input word
 pub record IsInputRow (image : Image) (row : List ℤ) : Type 0 where
   pub count : length row ≡ length image.inputs
   pub words : All IsOperand row

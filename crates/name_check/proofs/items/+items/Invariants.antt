@@ -1,11 +1,12 @@
 use Rattle.std.proofs.Common.{◌≡◌, drop}
-use Rattle.ranked_faults.specs.Rules.{first, parts}
+use Rattle.ranked_faults.specs.Rules.{parts}
+use Rattle.ranked_faults.specs.Private.FirstMet.{first}
 use Rattle.silage_tree.specs.Tree.{view_items}
 use Rattle.name_check.specs.NameRules.{items_rules}
-use Rattle.name_check.specs.Scopes.{index_names, program_of, function_of}
+use Rattle.name_check.specs.Private.Views.{context_of}
 use Rattle.name_check.proofs.items.+items.Given as goal
 
 abbrev pub invariant-check_items-loop-item : goal.invariant-check_items-loop-item
 invariant-check_items-loop-item l =
-    first (parts (items_rules (program_of l.scope) (function_of l.scope) (index_names l.indices) (view_items (drop l.item-index l.items))))
-    ≡ first (parts (items_rules (program_of l.scope) (function_of l.scope) (index_names l.indices) (view_items l.items)))
+    first (parts (items_rules (context_of l.context) (view_items (drop l.item-index l.items))))
+    ≡ first (parts (items_rules (context_of l.context) (view_items l.items)))

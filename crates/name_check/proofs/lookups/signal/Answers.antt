@@ -1,20 +1,12 @@
-use Rattle.std.proofs.Common.{refl}
-use Rattle.name_check.specs.Scopes.{function_of}
+use Rattle.std.proofs.Common.{ap, ◌∙◌, Some, None}
+use Rattle.std.specs.Option.{option_copied}
+use Rattle.name_check.specs.Private.Views.{context_of}
 use Rattle.name_check.proofs.FoundNames.{signal_is}
 use Rattle.name_check.proofs.lookups.signal.Goals as goal
 
-pub returns-in-Some : goal.returns-in-Some
-returns-in-Some c =
-    let f = function_of c.args.scope.now in
-    signal_is f c.args.name.now c.deref.result.now f.results f.locals _ c.deref.ensures refl refl (rw (← c.in-Some.ensures) refl)
+pub returns-in_err-position : goal.returns-in_err-position
+returns-in_err-position c =
+    ap option_copied c.from_residual.ensures ∙ signal_is (context_of c.args.context.now).func c.args.context.now.signals.now c.args.name.now c.args.context.now.declared None c.in_err-position.ensures
 
-pub returns-in-Some-find_decl : goal.returns-in-Some-find_decl
-returns-in-Some-find_decl c =
-    let f = function_of c.args.scope.now in
-    signal_is f c.args.name.now c.deref.result.now c.deref-in-None.result.now f.locals _ c.deref.ensures c.deref-in-None.ensures refl (rw (← c.in-None.ensures, ← c.in-Some-find_decl.ensures) refl)
-
-pub returns-in-None-find_decl : goal.returns-in-None-find_decl
-returns-in-None-find_decl c =
-    let f = function_of c.args.scope.now in
-    signal_is f c.args.name.now c.deref.result.now c.deref-in-None.result.now c.deref-in-None-find_decl.result.now _ c.deref.ensures c.deref-in-None.ensures c.deref-in-None-find_decl.ensures
-    (rw (← c.in-None.ensures, ← c.in-None-find_decl.ensures) c.find_decl-in-None-find_decl.ensures)
+pub returns : goal.returns
+returns c = c.signal_at.ensures ∙ signal_is (context_of c.args.context.now).func c.args.context.now.signals.now c.args.name.now c.args.context.now.declared (Some c.in_ok-position.position) c.in_ok-position.ensures

@@ -2,7 +2,7 @@
 use Rattle.std.proofs.Common.{◌≡◌, ◌<◌, length, get_or, ap, ◌∙◌, arith, map}
 use Rattle.silage_tree.specs.Tree.{view_top}
 use Rattle.name_check.specs.Calls.{called_by}
-use Rattle.name_check.specs.Search.{places}
+use Rattle.name_check.specs.Private.CallLists.{places}
 use Rattle.name_check.proofs.CallGraph.{list_more, all_lists}
 use Rattle.name_check.proofs.recursion.calls_of_all.Goals as goal
 

@@ -1,13 +1,12 @@
 -- What the lists tell is what the program's calls tell.
 use Rattle.std.proofs.Common.{◌<◌, length, sym, subst, ap, ◌∙◌, arith}
 use Rattle.std.proofs.lemmas.List.{length-map}
-use Rattle.std.proofs.lemmas.Option.{MatchOption-at_none, MatchOption-at_some}
 use Rattle.silage_tree.specs.Tree.{view, view_top}
 use Rattle.name_check.specs.declared.fault.NameFault.TheVariants.{Recursive}
-use Rattle.name_check.specs.Calls.{HasNoRecursion, IsFirstRecursive}
-use Rattle.name_check.specs.Search.{Lists, IsWithin}
+use Rattle.name_check.specs.Private.FirstTops.{HasNoRecursion, IsFirstRecursive, IsRecursionIn}
+use Rattle.name_check.specs.Private.CallLists.{Lists, IsWithin}
 use Rattle.name_check.proofs.FirstPlaces.{top_stands}
-use Rattle.name_check.proofs.Reached.{leaves}
+use Rattle.name_check.proofs.WalkEnds.{leaves}
 use Rattle.name_check.proofs.CallGraph.{lists_within, lists_length, none_recursive, first_recursive_of}
 use Rattle.name_check.proofs.recursion.check_recursion.Goals as goal
 
@@ -23,13 +22,13 @@ first_recursive-requires-clause-within c = subst IsWithin (sym (c.as_slice.ensur
 
 pub returns-in-None-clause-none : goal.returns-in-None-clause-none
 returns-in-None-clause-none c =
-    let none = MatchOption-at_none _ _ c.in-None.is c.in_ok-first_recursive.ensures in
+    let none = subst (IsRecursionIn _) c.in-None.is c.in_ok-first_recursive.ensures in
     none_recursive (view c.args.program.now) (subst (λ calls. HasNoRecursion (Lists calls)) (c.as_slice.ensures ∙ c.in_ok-calls.ensures) none)
 
 pub index-requires : goal.index-requires
 index-requires c =
-    let found = MatchOption-at_some _ _ c.in-Some.function c.in-Some.is c.in_ok-first_recursive.ensures in
-    let inside = leaves _ _ _ found.recursive in
+    let found = subst (IsRecursionIn _) c.in-Some.is c.in_ok-first_recursive.ensures in
+    let inside = leaves _ found.recursive in
     let same = ap length (c.as_slice.ensures ∙ c.in_ok-calls.ensures) in
     let size = lists_length (view c.args.program.now) in
     let tops = length-map c.args.program.now.tops view_top in
@@ -37,9 +36,9 @@ index-requires c =
 
 pub returns-clause-first : goal.returns-clause-first
 returns-clause-first c = λ other.
-    let found = MatchOption-at_some _ _ c.in-Some.function c.in-Some.is c.in_ok-first_recursive.ensures in
+    let found = subst (IsRecursionIn _) c.in-Some.is c.in_ok-first_recursive.ensures in
     let first = first_recursive_of (view c.args.program.now) c.in-Some.function (subst (λ calls. IsFirstRecursive (Lists calls) c.in-Some.function) (c.as_slice.ensures ∙ c.in_ok-calls.ensures) found) in
-    let inside = leaves _ _ _ found.recursive in
+    let inside = leaves _ found.recursive in
     let same = ap length (c.as_slice.ensures ∙ c.in_ok-calls.ensures) in
     let size = lists_length (view c.args.program.now) in
     let tops = length-map c.args.program.now.tops view_top in

@@ -1,21 +1,21 @@
--- A number behind its sign, two numbers round their operator, and parentheses where they are needed.
+-- A constant after its sign, two constants around their operator, and parentheses where they are needed.
 use Rattle.std.proofs.Common.{ap}
 use Rattle.silage_tree.specs.Tree.{view_manifest}
 use Rattle.silage_tree.specs.Text.{manifest_text}
-use Rattle.silage_tree.proofs.Spelled.{behind, ends, alike}
+use Rattle.silage_tree.proofs.Spelled.{followed, ends, alike}
 use Rattle.silage_tree.proofs.print_exprs.+manifests.Goals as goal
 
 pub put_manifest-returns-in_ok-put_symbol-in-Negate : goal.put_manifest-returns-in_ok-put_symbol-in-Negate
 put_manifest-returns-in_ok-put_symbol-in-Negate t c =
     let whole = ap (λ m. manifest_text (view_manifest m)) c.in-Negate.is in
     let part = c.deref.ensures in
-    ends _ _ c.put_term.result (λ h. alike (cc) (behind c.in_ok-put_symbol-in-Negate.ensures h)) c.put_term.ensures
+    ends _ _ c.put_term.result (λ h. alike (cc) (followed c.in_ok-put_symbol-in-Negate.ensures h)) c.put_term.ensures
 
 pub put_manifest-returns-in_ok-put_symbol-in-Binary : goal.put_manifest-returns-in_ok-put_symbol-in-Binary
 put_manifest-returns-in_ok-put_symbol-in-Binary t c =
     let whole = ap (λ m. manifest_text (view_manifest m)) c.in-Binary.is in
-    ends _ _ c.put_term-in-Binary-2.result (λ h. alike (cc) (behind c.in_ok-put_term-in-Binary.ensures (behind c.in_ok-put_symbol-in-Binary.ensures h))) c.put_term-in-Binary-2.ensures
+    ends _ _ c.put_term-in-Binary-2.result (λ h. alike (cc) (followed c.in_ok-put_term-in-Binary.ensures (followed c.in_ok-put_symbol-in-Binary.ensures h))) c.put_term-in-Binary-2.ensures
 
 pub put_term-returns : goal.put_term-returns
 put_term-returns t c =
-    ends _ _ c.put_close.result (λ h. alike (cc) (behind (behind c.in_ok-put_open.ensures c.in_ok-put_manifest.ensures) h)) c.put_close.ensures
+    ends _ _ c.put_close.result (λ h. alike (cc) (followed (followed c.in_ok-put_open.ensures c.in_ok-put_manifest.ensures) h)) c.put_close.ensures

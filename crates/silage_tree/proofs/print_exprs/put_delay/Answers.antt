@@ -2,7 +2,7 @@
 use Rattle.std.proofs.Common.{ap, sym}
 use Rattle.silage_tree.specs.Tree.{view_delay}
 use Rattle.silage_tree.specs.Text.{delay_text}
-use Rattle.silage_tree.proofs.Spelled.{nothing, behind, ends, alike}
+use Rattle.silage_tree.proofs.Spelled.{nothing, followed, ends, alike}
 use Rattle.silage_tree.proofs.print_exprs.put_delay.Goals as goal
 
 pub returns-in-None : goal.returns-in-None
@@ -11,4 +11,4 @@ returns-in-None c = alike (sym (ap (λ d. delay_text (view_delay d)) c.in-None.i
 pub returns-in_ok-put_symbol-in-Some : goal.returns-in_ok-put_symbol-in-Some
 returns-in_ok-put_symbol-in-Some c =
     let whole = ap (λ d. delay_text (view_delay d)) c.in-Some.is in
-    ends _ _ c.put_amount.result (λ h. alike (cc) (behind c.in_ok-put_symbol-in-Some.ensures h)) c.put_amount.ensures
+    ends _ _ c.put_amount.result (λ h. alike (cc) (followed c.in_ok-put_symbol-in-Some.ensures h)) c.put_amount.ensures

@@ -1,7 +1,7 @@
--- One behind another.
+-- One after another.
 use Rattle.silage_tree.specs.Tree.{view_expr}
-use Rattle.silage_tree.specs.Text.{behind_comma, expr_text}
-use Rattle.silage_tree.proofs.Spelled.{nothing, behind, more}
+use Rattle.silage_tree.specs.Text.{after_comma, expr_text}
+use Rattle.silage_tree.proofs.Spelled.{nothing, followed, more}
 use Rattle.silage_tree.proofs.print_exprs.put_other_exprs.Goals as goal
 
 pub loop-e-init : goal.loop-e-init
@@ -9,4 +9,4 @@ loop-e-init c = nothing
 
 pub loop-e-preserved : goal.loop-e-preserved
 loop-e-preserved c =
-    more (λ x. behind_comma expr_text (view_expr x)) _ _ _ _ _ _ _ c.loop-e-test.true c.e-item.is c.loop-e.invariant (behind c.in_ok-put_symbol.ensures c.in_ok-put_expr.ensures)
+    more (λ x. after_comma expr_text (view_expr x)) _ _ _ _ _ _ _ c.loop-e-test.true c.e-item.is c.loop-e.invariant (followed c.in_ok-put_symbol.ensures c.in_ok-put_expr.ensures)

@@ -1,7 +1,7 @@
--- One behind another.
+-- One after another.
 use Rattle.silage_tree.specs.Tree.{view_manifest}
 use Rattle.silage_tree.specs.Text.{subscript_text}
-use Rattle.silage_tree.proofs.Spelled.{nothing, behind, more}
+use Rattle.silage_tree.proofs.Spelled.{nothing, followed, more}
 use Rattle.silage_tree.proofs.print_exprs.put_subs.Goals as goal
 
 pub loop-sub-init : goal.loop-sub-init
@@ -9,4 +9,4 @@ loop-sub-init c = nothing
 
 pub loop-sub-preserved : goal.loop-sub-preserved
 loop-sub-preserved c =
-    more (λ m. subscript_text (view_manifest m)) _ _ _ _ _ _ _ c.loop-sub-test.true c.sub-item.is c.loop-sub.invariant (behind (behind c.in_ok-put_symbol.ensures c.in_ok-put_manifest.ensures) c.in_ok-put_symbol-2.ensures)
+    more (λ m. subscript_text (view_manifest m)) _ _ _ _ _ _ _ c.loop-sub-test.true c.sub-item.is c.loop-sub.invariant (followed (followed c.in_ok-put_symbol.ensures c.in_ok-put_manifest.ensures) c.in_ok-put_symbol-2.ensures)

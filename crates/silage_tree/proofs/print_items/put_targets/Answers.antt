@@ -1,10 +1,10 @@
--- The places between their parentheses.
+-- The targets between their parentheses.
 use Rattle.std.proofs.lemmas.List.{length-map}
 use Rattle.silage_tree.specs.Tree.{view_place}
-use Rattle.silage_tree.proofs.Spelled.{behind, ends, alike}
+use Rattle.silage_tree.proofs.Spelled.{followed, ends, alike}
 use Rattle.silage_tree.proofs.print_items.put_targets.Goals as goal
 
 pub returns : goal.returns
 returns c =
     let count = length-map c.args.places.now view_place in
-    ends _ _ c.put_close.result (λ h. alike (cc) (behind (behind c.in_ok-put_open.ensures c.in_ok-put_places.ensures) h)) c.put_close.ensures
+    ends _ _ c.put_close.result (λ h. alike (cc) (followed (followed c.in_ok-put_open.ensures c.in_ok-put_places.ensures) h)) c.put_close.ensures

@@ -1,8 +1,8 @@
--- One dim behind another.
+-- One dim after another.
 use Rattle.std.proofs.Common.{◌∷◌, []}
 use Rattle.silage_lex.specs.declared.TokenKind.TheVariants as kind
 use Rattle.silage_tree.specs.Text.{bracketed}
-use Rattle.silage_tree.proofs.Spelled.{nothing, behind, more}
+use Rattle.silage_tree.proofs.Spelled.{nothing, followed, more}
 use Rattle.silage_tree.proofs.print_types.put_dims.Goals as goal
 
 pub loop-dim-init : goal.loop-dim-init
@@ -11,4 +11,4 @@ loop-dim-init c = nothing
 pub loop-dim-preserved : goal.loop-dim-preserved
 loop-dim-preserved c =
     more (λ n. bracketed (kind.Whole n ∷ [])) _ _ c.from.result _ _ _ _ c.loop-dim-test.true c.from.ensures c.loop-dim.invariant
-    (behind c.in_ok-put_symbol.ensures (behind c.in_ok-put_whole.ensures c.in_ok-put_symbol-2.ensures))
+    (followed c.in_ok-put_symbol.ensures (followed c.in_ok-put_whole.ensures c.in_ok-put_symbol-2.ensures))

@@ -1,6 +1,6 @@
--- One declaration behind another.
-use Rattle.silage_tree.specs.Text.{behind_comma, decl_text}
-use Rattle.silage_tree.proofs.Spelled.{nothing, behind, more}
+-- One declaration after another.
+use Rattle.silage_tree.specs.Text.{after_comma, decl_text}
+use Rattle.silage_tree.proofs.Spelled.{nothing, followed, more}
 use Rattle.silage_tree.proofs.print_types.put_other_decls.Goals as goal
 
 pub loop-decl-init : goal.loop-decl-init
@@ -8,4 +8,4 @@ loop-decl-init c = nothing
 
 pub loop-decl-preserved : goal.loop-decl-preserved
 loop-decl-preserved c =
-    more (behind_comma decl_text) _ _ _ _ _ _ _ c.loop-decl-test.true c.decl-item.is c.loop-decl.invariant (behind c.in_ok-put_symbol.ensures c.in_ok-put_decl.ensures)
+    more (after_comma decl_text) _ _ _ _ _ _ _ c.loop-decl-test.true c.decl-item.is c.loop-decl.invariant (followed c.in_ok-put_symbol.ensures c.in_ok-put_decl.ensures)

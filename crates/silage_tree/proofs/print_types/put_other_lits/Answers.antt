@@ -1,7 +1,7 @@
--- One literal behind another.
+-- One literal after another.
 use Rattle.std.proofs.Common.{refl}
-use Rattle.silage_tree.specs.Text.{behind_comma, lit_text}
-use Rattle.silage_tree.proofs.Spelled.{nothing, behind, more}
+use Rattle.silage_tree.specs.Text.{after_comma, lit_text}
+use Rattle.silage_tree.proofs.Spelled.{nothing, followed, more}
 use Rattle.silage_tree.proofs.print_types.put_other_lits.Goals as goal
 
 pub loop-lit-init : goal.loop-lit-init
@@ -9,4 +9,4 @@ loop-lit-init c = nothing
 
 pub loop-lit-preserved : goal.loop-lit-preserved
 loop-lit-preserved c =
-    more (behind_comma lit_text) _ _ _ _ _ _ _ c.loop-lit-test.true refl c.loop-lit.invariant (behind c.in_ok-put_symbol.ensures c.in_ok-put_lit.ensures)
+    more (after_comma lit_text) _ _ _ _ _ _ _ c.loop-lit-test.true refl c.loop-lit.invariant (followed c.in_ok-put_symbol.ensures c.in_ok-put_lit.ensures)

@@ -17,7 +17,7 @@ read_again : (bytes : ByteList) (tokens : TokenList) (program : Program) → Has
 read_again bytes tokens program has derives =
     let good = good_program tokens (tokens_written bytes tokens has) program derives in
     let spelled = spelled_tokens (program_text program) good.written in
-    record { tokens = spelled.tokens; has_tokens = spelled.has; reads = good.reads spelled.tokens spelled.stands }
+    record { tokens = spelled.tokens; has_tokens = spelled.has; reads = good.reads spelled.tokens spelled.kinds_at }
 
 abbrev is_read : {program : Program} → Again program → IsReadAgain program
 is_read a = record { tokens = a.tokens; has_tokens = a.has_tokens; read = a.reads.tree; derives = (a.reads.roles, a.reads.is); same = a.reads.same }

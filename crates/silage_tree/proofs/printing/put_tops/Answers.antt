@@ -1,4 +1,4 @@
--- One behind another.
+-- One after another.
 use Rattle.silage_tree.specs.Tree.{view_top}
 use Rattle.silage_tree.specs.Text.{top_text}
 use Rattle.silage_tree.proofs.Spelled.{nothing, more}

@@ -39,7 +39,7 @@ returns-clause-ok c = λ s d hs hd.
     let plain : d ≡ plain_text = plain_input d c.args.datapath.now hd (c.if-not-is_plain.ensures.0 refl) in
     compiled s d c.in_ok-encode.field-0 (view c.in_ok-program.program) c.in-Some.form
     (subst (λ (x : Content). HasProgram x (view c.in_ok-program.program)) source c.in_ok-program.ensures.ok) c.in-Some.ensures plain
-    (only c.in_ok-encode.field-0 c.in_ok-image.image (serial_image c.in-Some.form) c.in_ok-image.ensures c.in_ok-encode.ensures)
+    (only c.in_ok-encode.field-0 c.in_ok-image.image (serial_image c.in-Some.form) c.in_ok-image.ensures c.in_ok-encode.ensures.spelled)
 
 pub returns-then-not-is_plain-clause-err : goal.returns-then-not-is_plain-clause-err
 returns-then-not-is_plain-clause-err c =

@@ -1,0 +1,9 @@
+pub mod Window
+pub mod Conflicts
+pub mod Values
+pub mod Predecode
+pub mod Sizes
+pub mod Issues
+pub mod Execution
+pub mod Hardware
+pub mod Loading

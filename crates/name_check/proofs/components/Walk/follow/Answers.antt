@@ -1,0 +1,23 @@
+-- What a call does hangs on the callee's mark.
+use Rattle.std.proofs.Common.{arith}
+use Rattle.name_check.specs.Private.Walk.{state_of}
+use Rattle.name_check.specs.declared.components.Mark.TheVariants.{New, Active, Closed}
+use Rattle.name_check.proofs.WalkSteps.{goes_on_closed, joins_groups}
+use Rattle.name_check.proofs.WalkEnds.{marked_as}
+use Rattle.name_check.proofs.components.Walk.follow.Goals as goal
+
+pub meet-requires-clause-new : goal.meet-requires-clause-new
+meet-requires-clause-new c = marked_as c.args.self.now.marks.items c.args.callee c.index.result.now New c.in-New.is (let size = c.requires.walk.size in let within = c.requires.within in omega arith) c.index.ensures
+
+pub join-requires : goal.join-requires
+join-requires c = c.requires.walk.rising
+
+pub returns-in-Active : goal.returns-in-Active
+returns-in-Active c =
+    let mark = marked_as c.args.self.now.marks.items c.args.callee c.index.result.now (Active c.in-Active.position) c.in-Active.is (let size = c.requires.walk.size in let within = c.requires.within in omega arith) c.index.ensures in
+    joins_groups c.args.calls.now (state_of c.args.self.now) c.args.callee c.in-Active.position c.join.new.groups.items mark c.requires.walk c.requires.due c.join.ensures
+
+pub returns-in-Closed : goal.returns-in-Closed
+returns-in-Closed c =
+    let mark = marked_as c.args.self.now.marks.items c.args.callee c.index.result.now (Closed c.in-Closed.field-0) c.in-Closed.is (let size = c.requires.walk.size in let within = c.requires.within in omega arith) c.index.ensures in
+    goes_on_closed c.args.calls.now (state_of c.args.self.now) c.args.callee c.in-Closed.field-0 mark c.requires.walk

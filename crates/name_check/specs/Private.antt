@@ -1,0 +1,5 @@
+pub mod CallLists
+pub mod FirstTops
+pub mod Ranges
+pub mod Views
+pub mod Walk
