@@ -2,9 +2,9 @@
 use Rattle.std.proofs.Common.{◌≡◌, ◌∙◌, ◌++◌, List, [], Result, Ok, Err, IsErrAnd, sym, ap, append-nil}
 use Rattle.ranked_faults.specs.Rules.{first_in, each_behind, ◌>>◌}
 use Rattle.ranked_faults.proofs.TableFaults.{err_is, first_in-append}
-use Rattle.silage_tree.specs.declared.tree.Decl.{Decl}
-use Rattle.silage_tree.specs.Tree.{Program, Func}
-use Rattle.silage_tree.specs.Names.{decls}
+use Rattle.silage_syntax.specs.declared.tree.Decl.{Decl}
+use Rattle.silage_syntax.specs.Tree.{Program, Func}
+use Rattle.silage_syntax.specs.Names.{decls}
 use Rattle.name_check.specs.NameRules.{decl_rules}
 use Rattle.name_check.specs.declared.fault.NameFault.{NameFault}
 

@@ -8,9 +8,9 @@ use Rattle.std.proofs.lemmas.List.{append-nil, take_more, take_all}
 use Rattle.std.proofs.lemmas.List.Elements.{filter_map-append}
 use mathlib.Core.Former.{Count}
 use mathlib.Core.List.{append_assoc}
-use Rattle.silage_tree.specs.declared.tree.Manifest.{Manifest as RustManifest}
-use Rattle.silage_tree.specs.declared.tree.Item.{Item as RustItem, Loop, Loop', Row_of-Item, end_of-Item, more_of-Item, items-the_row-Item, items_hidden-the_row-Item-0}
-use Rattle.silage_tree.specs.Tree.{loop, item, items_of, view_manifest, view_item, view_row, view_items}
+use Rattle.silage_syntax.specs.declared.tree.Manifest.{Manifest as RustManifest}
+use Rattle.silage_syntax.specs.declared.tree.Item.{Item as RustItem, Loop, Loop', Row_of-Item, end_of-Item, more_of-Item, items-the_row-Item, items_hidden-the_row-Item-0}
+use Rattle.silage_syntax.specs.Tree.{loop, item, items_of, view_manifest, view_item, view_row, view_items}
 use Rattle.name_check.specs.TopNames.{IsFirstPlace}
 use Rattle.name_check.specs.Calls.{called, all_called}
 use Rattle.name_check.specs.Search.{place, places}

@@ -5,8 +5,8 @@ use Rattle.ranked_faults.specs.Ranked.{FaultSet, StandsBefore, IsFirst, IsClear,
 use Rattle.ranked_faults.specs.Rules.{faults, first}
 use Rattle.ranked_faults.proofs.FirstFaults.{none_clear, before_clear, before_first, later_first, own_clear, own_first, none_single, before_single, own_single}
 use Rattle.ranked_faults.proofs.TableFaults.{first_answers, single_faults}
-use Rattle.silage_tree.specs.Tree.{Top, Program}
-use Rattle.silage_tree.specs.Instances.{main_of}
+use Rattle.silage_syntax.specs.Tree.{Top, Program}
+use Rattle.silage_syntax.specs.Names.{main_of}
 use Rattle.name_check.specs.TopNames.{top_at, top_names, IsDoubled, IsDistinct, IsTwice}
 use Rattle.name_check.specs.Calls.{Calls, Reaches, HasNoRecursion, IsRecursive}
 use Rattle.name_check.specs.NameRules.{all_top_rules}

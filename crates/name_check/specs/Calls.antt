@@ -1,6 +1,6 @@
 -- Which functions call which, and which function reaches itself.
 use Rattle.std.specs.Prelude.{◌≡◌, ℕ, ◌≤◌, List, [], ◌∷◌, ◌++◌, Contains, slice_get, Some}
-use Rattle.silage_tree.specs.Tree.{Item, equation, call, loop, initial, Items, no_item, item, Top, table, function, Program}
+use Rattle.silage_syntax.specs.Tree.{Item, equation, call, loop, initial, Items, no_item, item, Top, table, function, Program}
 use Rattle.name_check.specs.TopNames.{top_names, top_at, IsFirstPlace}
 use Rattle.name_check.specs.declared.fault.NameFault.{NameFault}
 use Rattle.name_check.specs.declared.fault.NameFault.TheVariants.{Recursive}

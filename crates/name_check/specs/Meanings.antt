@@ -5,10 +5,10 @@ use Rattle.std.specs.Option.{option_or}
 use Rattle.fix_word.specs.declared.types.FixType.{FixType}
 use Rattle.fix_word.specs.declared.types.SigType.{SigType}
 use Rattle.fix_word.specs.declared.types.SigType.TheVariants as sig
-use Rattle.silage_tree.specs.declared.tree.ConstDef.{ConstDef}
-use Rattle.silage_tree.specs.declared.tree.Decl.{Decl}
-use Rattle.silage_tree.specs.Tree.{Manifest, Func, Top, table, function, Program}
-use Rattle.silage_tree.specs.Names.{declared, table_named, element_count}
+use Rattle.silage_syntax.specs.declared.tree.ConstDef.{ConstDef}
+use Rattle.silage_syntax.specs.declared.tree.Decl.{Decl}
+use Rattle.silage_syntax.specs.Tree.{Manifest, Func, Top, table, function, Program}
+use Rattle.silage_syntax.specs.Names.{declared, table_named, element_count}
 
 abbrev pub is_main : Top → Bool
 is_main (table c) = false

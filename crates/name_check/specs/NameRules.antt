@@ -1,11 +1,11 @@
 -- The rules on names, as a table in the order of the source: each is what has to hold, with the fault where it does not.
 use Rattle.std.specs.Prelude.{ℕ, ◌&&◌, ◌||◌, not, Bool, true, false, List, [], ◌∷◌, length, slice_get, nat_eq, is_some, is_none, unwrap_or, option_map, Option, Some, None, if◌then◌else◌}
 use Rattle.ranked_faults.specs.Rules.{Rules, RuleRow, parts, own, none, ◌▸◌, unless, each, each_behind, each_from}
-use Rattle.silage_tree.specs.declared.tree.ConstDef.{ConstDef}
-use Rattle.silage_tree.specs.declared.tree.Decl.{Decl}
-use Rattle.silage_tree.specs.declared.tree.Lit.TheVariants.{Number, Truth}
-use Rattle.silage_tree.specs.Tree.{Manifest, whole, counter, minus, both, Place, Expr, literal, read, negate, not as denied, binary, shift, cast, choose, Branches, no_branch, branch, Item, equation, call, loop, initial, Items, no_item, item, Func, Top, table, function, Program}
-use Rattle.silage_tree.specs.Names.{decls, declared, function_named, element_count}
+use Rattle.silage_syntax.specs.declared.tree.ConstDef.{ConstDef}
+use Rattle.silage_syntax.specs.declared.tree.Decl.{Decl}
+use Rattle.silage_syntax.specs.declared.tree.Lit.TheVariants.{Number, Truth}
+use Rattle.silage_syntax.specs.Tree.{Manifest, whole, counter, minus, both, Place, Expr, literal, read, negate, not as denied, binary, shift, cast, choose, Branches, no_branch, branch, Item, equation, call, loop, initial, Items, no_item, item, Func, Top, table, function, Program}
+use Rattle.silage_syntax.specs.Names.{decls, declared, function_named, element_count}
 use Rattle.name_check.specs.TopNames.{top_names}
 use Rattle.name_check.specs.Meanings.{is_among, has_name, signal_dims, read_dims, params_of, results_of, are_dims, is_fix_type, is_signal_type, is_element, is_whole_array, takes}
 use Rattle.name_check.specs.declared.fault.NameFault.{NameFault}

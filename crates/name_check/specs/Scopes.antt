@@ -1,7 +1,7 @@
 -- What the code knows of names at an item, as the rules see it.
 use Rattle.std.specs.Prelude.{ℕ, List, [], ◌∷◌}
-use Rattle.silage_tree.specs.declared.tree.Expr.{Expr as RustExpr}
-use Rattle.silage_tree.specs.Tree.{Func, Program, Branches, no_branch, branch, view, view_func, view_expr}
+use Rattle.silage_syntax.specs.declared.tree.Expr.{Expr as RustExpr}
+use Rattle.silage_syntax.specs.Tree.{Func, Program, Branches, no_branch, branch, view, view_func, view_expr}
 use Rattle.name_check.specs.declared.indices.Indices.{Indices, Outermost, Inside'}
 use Rattle.name_check.specs.declared.scope.Scope.{Scope}
 

@@ -3,7 +3,7 @@
 ghost use Rattle.std.specs.Prelude.{◌≡◌, ◌++◌, ◌<◌, [], length, not};
 ghost use Rattle.std.specs.List.{list_any};
 ghost use Rattle.ranked_faults.specs.Rules.{first, first_in, parts, each_behind};
-ghost use Rattle.silage_tree.specs.Names.{decls};
+ghost use Rattle.silage_syntax.specs.Names.{decls};
 ghost use Rattle.name_check.specs.Meanings.{has_name};
 ghost use Rattle.name_check.specs.NameRules.{decl_rules, is_free_signal};
 ghost use Rattle.name_check.specs.Scopes.{program_of, function_of};
@@ -13,7 +13,7 @@ use crate::lookups::is_top;
 use crate::scope::Scope;
 use crate::sizes::{are_dims, is_signal_type};
 use lists::Name;
-use silage_tree::Decl;
+use silage_syntax::Decl;
 
 fn is_declared(decls: &[Decl], name: &Name) -> bool
     ensures { result ≡ has_name decls.now name.now }

@@ -2,7 +2,7 @@
 
 ghost use Rattle.std.specs.Prelude.{◌≡◌, Option, map, option_map};
 ghost use Rattle.ranked_faults.specs.Rules.{first, parts};
-ghost use Rattle.silage_tree.specs.Tree.{view_manifest, view_expr};
+ghost use Rattle.silage_syntax.specs.Tree.{view_manifest, view_expr};
 ghost use Rattle.name_check.specs.NameRules.{expr_rules, branch_rules};
 ghost use Rattle.name_check.specs.Scopes.{index_names, program_of, function_of, view_arms};
 
@@ -12,7 +12,7 @@ use crate::lookups::read_dims;
 use crate::places::{check_place, is_element};
 use crate::scope::Scope;
 use crate::sizes::is_fix_type;
-use silage_tree::Expr;
+use silage_syntax::Expr;
 
 #[cycle(exprs)]
 pub(crate) fn check_expr(scope: &Scope, indices: &Indices, e: &Expr) -> Result<(), NameFault>

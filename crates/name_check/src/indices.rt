@@ -2,14 +2,14 @@
 
 ghost use Rattle.std.specs.Prelude.{◌≡◌, map};
 ghost use Rattle.ranked_faults.specs.Rules.{first, parts, each};
-ghost use Rattle.silage_tree.specs.Tree.{view_manifest, view_delay};
+ghost use Rattle.silage_syntax.specs.Tree.{view_manifest, view_delay};
 ghost use Rattle.name_check.specs.Meanings.{is_among};
 ghost use Rattle.name_check.specs.NameRules.{manifest_rules, delay_rules};
 ghost use Rattle.name_check.specs.Scopes.{index_names};
 
 use crate::NameFault;
 use lists::Name;
-use silage_tree::Manifest;
+use silage_syntax::Manifest;
 
 /// The indices of the loops round an item, innermost first.
 #[derive(Clone, Copy)]

@@ -2,7 +2,7 @@
 
 ghost use Rattle.std.specs.Prelude.{◌≡◌, ◌∷◌, Option, map};
 ghost use Rattle.ranked_faults.specs.Rules.{first, parts};
-ghost use Rattle.silage_tree.specs.Tree.{view_manifest, view_item, view_items};
+ghost use Rattle.silage_syntax.specs.Tree.{view_manifest, view_item, view_items};
 ghost use Rattle.name_check.specs.NameRules as rules;
 ghost use Rattle.name_check.specs.NameRules.{turns_rules, item_rules, items_rules};
 ghost use Rattle.name_check.specs.Scopes.{index_names, program_of, function_of};
@@ -15,7 +15,7 @@ use crate::lookups::{is_top, signal};
 use crate::places::check_target;
 use crate::scope::Scope;
 use lists::Name;
-use silage_tree::{Item, Manifest};
+use silage_syntax::{Item, Manifest};
 
 /// Whether an index has a name that nothing else has where it stands.
 fn is_free_index(scope: &Scope, indices: &Indices, index: &Name) -> bool

@@ -1,8 +1,8 @@
 //! What a name means in a function.
 
 ghost use Rattle.std.specs.Prelude.{◌≡◌, find, option_map, option_copied, bytes_eq};
-ghost use Rattle.silage_tree.specs.Tree.{view_top, view_func};
-ghost use Rattle.silage_tree.specs.Names.{declared, table_named, function_named};
+ghost use Rattle.silage_syntax.specs.Tree.{view_top, view_func};
+ghost use Rattle.silage_syntax.specs.Names.{declared, table_named, function_named};
 ghost use Rattle.name_check.specs.Meanings as meaning;
 ghost use Rattle.name_check.specs.Meanings.{is_among};
 ghost use Rattle.name_check.specs.TopNames.{top_name, top_names};
@@ -10,7 +10,7 @@ ghost use Rattle.name_check.specs.Scopes.{program_of, function_of};
 
 use crate::scope::Scope;
 use lists::Name;
-use silage_tree::{ConstDef, Decl, Func, Top};
+use silage_syntax::{ConstDef, Decl, Func, Top};
 
 fn find_decl<'a>(decls: &'a [Decl], name: &Name) -> Option<&'a Decl>
     ensures { option_copied result ≡ find (λ d. bytes_eq d.name name.now) decls.now }

@@ -1,14 +1,14 @@
 //! The names of the tables and functions of a program.
 
 ghost use Rattle.std.specs.Prelude.{◌≡◌, ◌≢◌, ◌<◌, ◌^◌, ◌↔◌, ℕ, length, IfOk, OnOk, IfErr, Contains};
-ghost use Rattle.silage_tree.specs.Tree.{view, view_top};
+ghost use Rattle.silage_syntax.specs.Tree.{view, view_top};
 ghost use Rattle.name_check.specs.TopNames as name;
 ghost use Rattle.name_check.specs.TopNames.{top_names, IsFirstPlace, IsDistinct, IsTwice};
 
 use crate::NameFault;
 use indexmap::IndexSet;
 use lists::{List, Name};
-use silage_tree::{Program, Top};
+use silage_syntax::{Program, Top};
 use std::alloc::{AllocError, AllocFailed, Global};
 use std::marker::Model;
 

@@ -2,7 +2,7 @@
 
 ghost use Rattle.std.specs.Prelude.{◌≡◌, Option, map, length, option_copied, option_map};
 ghost use Rattle.ranked_faults.specs.Rules.{first};
-ghost use Rattle.silage_tree.specs.Tree.{view_manifest, view_place};
+ghost use Rattle.silage_syntax.specs.Tree.{view_manifest, view_place};
 ghost use Rattle.name_check.specs.Meanings as meaning;
 ghost use Rattle.name_check.specs.NameRules.{place_rules, target_rules};
 ghost use Rattle.name_check.specs.Scopes.{index_names, function_of};
@@ -11,7 +11,7 @@ use crate::NameFault;
 use crate::indices::{Indices, check_subscripts};
 use crate::lookups::signal_dims;
 use crate::scope::Scope;
-use silage_tree::{Decl, Manifest, Place};
+use silage_syntax::{Decl, Manifest, Place};
 
 /// Whether the subscripts pick one element of an array with these dims.
 pub(crate) fn is_element(subs: &[Manifest], dims: &[u32]) -> bool

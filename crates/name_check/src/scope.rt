@@ -1,11 +1,11 @@
 //! Where names are looked up.
 
 ghost use Rattle.std.specs.Prelude.{◌≡◌};
-ghost use Rattle.silage_tree.specs.Tree.{view};
+ghost use Rattle.silage_syntax.specs.Tree.{view};
 ghost use Rattle.name_check.specs.TopNames.{top_names, IsDistinct};
 
 use crate::NameMap;
-use silage_tree::{Func, Program};
+use silage_syntax::{Func, Program};
 
 /// A function of a program whose tables and functions have different names.
 #[derive(Clone, Copy)]

@@ -3,7 +3,7 @@
 use super::*;
 use fix_word::{FixType, Mode, Shape, SigType};
 use lists::{List, Name};
-use silage_tree::{ConstDef, Decl, Expr, Func, Item, Lit, Manifest, Place, Top};
+use silage_syntax::{ConstDef, Decl, Expr, Func, Item, Lit, Manifest, Place, Top};
 use std::alloc::AllocError;
 use std::process::Abort;
 use std::test::Fail;

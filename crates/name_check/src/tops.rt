@@ -2,8 +2,8 @@
 
 ghost use Rattle.std.specs.Prelude.{◌≡◌, ◌<◌, ◌^◌, length, codes, None, MatchOption};
 ghost use Rattle.ranked_faults.specs.Rules.{first};
-ghost use Rattle.silage_tree.specs.Tree.{view, view_top};
-ghost use Rattle.silage_tree.specs.Instances.{main_of};
+ghost use Rattle.silage_syntax.specs.Tree.{view, view_top};
+ghost use Rattle.silage_syntax.specs.Names.{main_of};
 ghost use Rattle.name_check.specs.Meanings as meaning;
 ghost use Rattle.name_check.specs.TopNames.{top_names, IsDistinct};
 ghost use Rattle.name_check.specs.NameRules.{table_rules, function_rules, top_rules, all_top_rules};
@@ -16,7 +16,7 @@ use crate::items::check_items;
 use crate::scope::Scope;
 use crate::sizes::{element_count, is_fix_type};
 use crate::{NameFault, NameMap};
-use silage_tree::{ConstDef, Program, Top};
+use silage_syntax::{ConstDef, Program, Top};
 
 fn check_table(c: &ConstDef) -> Result<(), NameFault>
     ensures { result ≡ first (table_rules c.now) }

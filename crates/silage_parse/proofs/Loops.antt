@@ -3,10 +3,10 @@ use Rattle.std.proofs.Common.{◌≡◌, ℕ, List, map, refl, ap, ◌∙◌}
 use mathlib.Core.Former.{Count}
 use Rattle.std.specs.declared.alloc.Global.{Global}
 use Rattle.std.specs.declared.vec.Vec.{Vec}
-use Rattle.silage_tree.specs.declared.tree.Manifest.{Manifest}
-use Rattle.silage_tree.specs.declared.tree.Item.{Item, Row_of-Item, end_of-Item, more_of-Item, items-the_row-Item, items_hidden-the_row-Item-0}
-use Rattle.silage_tree.specs.declared.tree.Item.TheVariants.{Loop, Loop'}
-use Rattle.silage_tree.specs.Tree.{loop, item, items_of, view_item, view_row, view_manifest}
+use Rattle.silage_syntax.specs.declared.tree.Manifest.{Manifest}
+use Rattle.silage_syntax.specs.declared.tree.Item.{Item, Row_of-Item, end_of-Item, more_of-Item, items-the_row-Item, items_hidden-the_row-Item-0}
+use Rattle.silage_syntax.specs.declared.tree.Item.TheVariants.{Loop, Loop'}
+use Rattle.silage_syntax.specs.Tree.{loop, item, items_of, view_item, view_row, view_manifest}
 
 row_items : (m : _) (k : Row_of-Item m) → view_row k ≡ items_of (map view_item (items-the_row-Item m k))
 row_items _ end_of-Item = refl

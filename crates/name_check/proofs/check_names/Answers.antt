@@ -1,5 +1,5 @@
 use Rattle.std.proofs.Common.{inl}
-use Rattle.silage_tree.specs.Tree.{view}
+use Rattle.silage_syntax.specs.Tree.{view}
 use Rattle.ranked_faults.proofs.FirstFaults.{one_first}
 use Rattle.name_check.specs.NameFaults.{name_faults}
 use Rattle.name_check.specs.declared.fault.NameFault.TheVariants.{NoMain}

@@ -1,7 +1,7 @@
 use super::*;
 use fix_word::{FixType, Mode, Shape};
 use lists::Name;
-use silage_tree::{ConstDef, Func, Manifest};
+use silage_syntax::{ConstDef, Func, Manifest};
 use std::process::Abort;
 use std::test::Fail;
 

@@ -1,6 +1,6 @@
 use Rattle.std.proofs.Common.{◌≡◌, map, drop}
 use Rattle.ranked_faults.specs.Rules.{first, parts, each_from}
-use Rattle.silage_tree.specs.Tree.{view_place}
+use Rattle.silage_syntax.specs.Tree.{view_place}
 use Rattle.name_check.specs.NameRules.{taker_rules}
 use Rattle.name_check.specs.Scopes.{index_names, program_of, function_of}
 use Rattle.name_check.proofs.calls.check_takers.Given as goal

@@ -1,6 +1,6 @@
 use Rattle.std.proofs.Common.{◌≡◌, map, drop}
 use Rattle.ranked_faults.specs.Rules.{first, parts, each}
-use Rattle.silage_tree.specs.Tree.{view_manifest}
+use Rattle.silage_syntax.specs.Tree.{view_manifest}
 use Rattle.name_check.specs.NameRules.{manifest_rules}
 use Rattle.name_check.specs.Scopes.{index_names}
 use Rattle.name_check.proofs.indices.check_subscripts.Given as goal

@@ -1,6 +1,6 @@
 use Rattle.std.proofs.Common.{◌≡◌, drop}
 use Rattle.ranked_faults.specs.Rules.{first, parts}
-use Rattle.silage_tree.specs.Tree.{view_items}
+use Rattle.silage_syntax.specs.Tree.{view_items}
 use Rattle.name_check.specs.NameRules.{items_rules}
 use Rattle.name_check.specs.Scopes.{index_names, program_of, function_of}
 use Rattle.name_check.proofs.items.+items.Given as goal

@@ -2,7 +2,7 @@
 use Rattle.std.proofs.Common.{◌<◌, length, sym, subst, ap, ◌∙◌, arith}
 use Rattle.std.proofs.lemmas.List.{length-map}
 use Rattle.std.proofs.lemmas.Option.{MatchOption-at_none, MatchOption-at_some}
-use Rattle.silage_tree.specs.Tree.{view, view_top}
+use Rattle.silage_syntax.specs.Tree.{view, view_top}
 use Rattle.name_check.specs.declared.fault.NameFault.TheVariants.{Recursive}
 use Rattle.name_check.specs.Calls.{HasNoRecursion, IsFirstRecursive}
 use Rattle.name_check.specs.Search.{Lists, IsWithin}

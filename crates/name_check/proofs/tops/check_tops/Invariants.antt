@@ -1,6 +1,6 @@
 use Rattle.std.proofs.Common.{◌≡◌, map, drop}
 use Rattle.ranked_faults.specs.Rules.{first, parts, each}
-use Rattle.silage_tree.specs.Tree.{view, view_top}
+use Rattle.silage_syntax.specs.Tree.{view, view_top}
 use Rattle.name_check.specs.NameRules.{top_rules}
 use Rattle.name_check.proofs.tops.check_tops.Given as goal
 

@@ -3,7 +3,7 @@ use Rattle.std.proofs.Common.{◌≡◌, ◌<◌, length, get_or, Some, ap, sym,
 use Rattle.std.specs.Prelude.{bytes_eq}
 use Rattle.std.specs.List.{list_any}
 use Rattle.std.proofs.lemmas.Bool.{not-true, not-false}
-use Rattle.silage_tree.specs.Tree.{view, view_top}
+use Rattle.silage_syntax.specs.Tree.{view, view_top}
 use Rattle.name_check.specs.declared.fault.NameFault.TheVariants.{Twice}
 use Rattle.name_check.specs.TopNames.{top_name, top_names}
 use Rattle.name_check.proofs.FirstPlaces.{kept_more, kept_all, kept_twice, top_stands, name_stands, names_length}
