@@ -12,7 +12,7 @@ use Rattle.name_check.specs.Calls.{called_by, Calls, Reaches, by_call, by_calls}
 use Rattle.name_check.specs.Private.FirstTops.{HasNoRecursion, IsFirstRecursive}
 use Rattle.name_check.specs.Private.CallLists.{place, places, call_lists, Lists, IsWithin}
 use Rattle.name_check.proofs.FirstPlaces.{first_place, place_found, top_stands}
-use Rattle.name_check.proofs.ListPlaces.{none_there, only_there}
+use Rattle.lists.proofs.Places.{none_there, only_there}
 
 -- what has a value in a list, and what the value is of
 module _ {X Y : Type 0} (h : X → Option Y) where

@@ -1,10 +1,9 @@
 -- The declarations of a function, one after another and in three parts.
-use Rattle.std.proofs.Common.{◌≡◌, ◌≢◌, ◌∙◌, ◌+◌, ◌<◌, ◌≤◌, ◌++◌, ◌∷◌, ◌&&◌, ◌||◌, Bool, true, false, not, ℕ, List, [], Result, Ok, Err, IsErrAnd, length, get_or, take, drop, map, refl, sym, ap, append-nil, append_assoc, arith}
-use Rattle.std.specs.Prelude.{OnOk}
+use Rattle.std.proofs.Common.{◌≡◌, ◌≢◌, ◌∙◌, ◌+◌, ◌<◌, ◌≤◌, ◌++◌, ◌∷◌, ◌&&◌, ◌||◌, Bool, true, false, not, ℕ, List, [], Result, Ok, Err, IsErrAnd, length, get_or, take, drop, refl, sym, ap, append-nil, append_assoc}
 use Rattle.std.proofs.lemmas.List.{map-append, take_more, take_all, drop_more, drop_all}
 use Rattle.ranked_faults.specs.Rules.{parts, unless, none, ◌▸◌}
 use Rattle.ranked_faults.specs.Private.FirstMet.{first, first_in, ◌>>◌, MeetsOr}
-use Rattle.ranked_faults.proofs.TableFaults.{err_is, then_assoc}
+use Rattle.ranked_faults.proofs.TableFaults.{then_assoc}
 use Rattle.silage_tree.specs.declared.tree.Decl.{Decl}
 use Rattle.silage_tree.specs.Tree.{Func}
 use Rattle.silage_tree.specs.Names.{decls}

@@ -17,7 +17,7 @@ use Rattle.name_check.specs.declared.fault.NameFault.TheVariants.{Twice}
 use Rattle.name_check.specs.TopNames.{top_name, top_at, top_names, IsFirstPlace, IsDuplicate}
 use Rattle.name_check.specs.Private.FirstTops.{IsDistinct, IsFirstDuplicate}
 use Rattle.name_check.specs.Private.CallLists.{place}
-use Rattle.name_check.proofs.ListPlaces.{some_once, contains_at, place_of}
+use Rattle.lists.proofs.Places.{some_once, contains_at}
 
 -- a place in the first i is a place in the list
 pub in_front : {A : Type 0} (xs : List A) (i j : ℕ) (x : A) → j < i → slice_get xs j ≡ Some x → Contains (take i xs) x

@@ -1,7 +1,7 @@
 -- What look-ups find.
-use Rattle.std.proofs.Common.{◌≡◌, ◌≢◌, ◌≤◌, ◌⊎◌, ◌↔◌, ◌∙◌, ℕ, zero, suc, ◌+◌, ◌++◌, List, [], ◌∷◌, Option, Some, None, Bool, true, false, cond, map, find, option_map, slice_get, refl, sym, ap, inl, inr, arith, bytes_eq, is_some, Bor}
+use Rattle.std.proofs.Common.{◌≡◌, ◌≢◌, ◌≤◌, ◌⊎◌, ◌↔◌, ◌∙◌, ℕ, zero, suc, ◌+◌, List, [], ◌∷◌, Option, Some, None, Bool, true, false, cond, map, find, option_map, slice_get, refl, sym, ap, inl, inr, arith, bytes_eq, is_some, Bor}
 use Rattle.std.specs.Prelude.{Contains, position}
-use Rattle.std.specs.List.{enumerate_from, list_any}
+use Rattle.std.specs.List.{enumerate_from}
 use Rattle.std.specs.Option.{option_copied}
 use Rattle.std.proofs.lemmas.Bool.{true≢false}
 use Rattle.std.proofs.lemmas.Cmp.{nat_list_eq_equiv}
@@ -10,12 +10,12 @@ use Rattle.std.proofs.lemmas.Option.{slice_get-map}
 use Rattle.std.proofs.lemmas.Slice.Eq.{bytes_eq-Decides}
 use Rattle.silage_tree.specs.declared.tree.Decl.{Decl}
 use Rattle.silage_tree.specs.declared.tree.Top.{Top as RustTop}
-use Rattle.silage_tree.specs.Tree.{Func, Top, view_top}
+use Rattle.silage_tree.specs.Tree.{Func, view_top}
 use Rattle.silage_tree.specs.Names.{declared, decls}
 use Rattle.name_check.specs.Meanings.{is_among, names_of}
 use Rattle.name_check.specs.TopNames.{top_name, IsFirstPlace}
-use Rattle.name_check.proofs.FirstPlaces.{IsAnswer, answered}
-use Rattle.name_check.proofs.ListPlaces.{contains_at}
+use Rattle.name_check.proofs.FirstPlaces.{answered}
+use Rattle.lists.proofs.Places.{contains_at}
 
 find_numbered : (q : Decl → Bool) (k : ℕ) (ds : List Decl) → option_map (λ (d : ℕ × Decl). d.1) (find (λ (d : ℕ × Decl). q d.1) (enumerate_from k ds)) ≡ find q ds
 find_numbered q k [] = refl

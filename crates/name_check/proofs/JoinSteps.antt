@@ -1,6 +1,6 @@
 -- Groups are taken away from the end, down to one that begins at the position or before it.
-use Rattle.std.proofs.Common.{◌≡◌, ◌⊎◌, ℕ, ◌+◌, ◌-◌, ◌<◌, ◌≤◌, List, [], ◌∷◌, ◌++◌, Some, length, get_or, take, sym, ap, subst, ◌∙◌, inl, inr, arith}
-use Rattle.std.specs.Prelude.{Contains, slice_get}
+use Rattle.std.proofs.Common.{◌≡◌, ℕ, ◌-◌, ◌<◌, ◌≤◌, List, [], ◌∷◌, ◌++◌, length, get_or, take, sym, ap, subst, ◌∙◌, inl, inr, arith}
+use Rattle.std.specs.Prelude.{Contains}
 use Rattle.std.specs.List.{AllPairs}
 use Rattle.std.proofs.lemmas.Bool.{cases_lt}
 use Rattle.std.proofs.lemmas.List.{length_push}
@@ -8,7 +8,7 @@ use Rattle.std.proofs.lemmas.Option.{slice_get-get_or}
 use Rattle.std.proofs.lemmas.List.Elements.{Contains-push_cases, Contains-append_left}
 use Rattle.name_check.specs.Private.Walk.{IsBefore, IsLast, LastBeginsAfter, KeepsGroups}
 use Rattle.name_check.specs.declared.components.Group.{Group}
-use Rattle.name_check.proofs.ListPlaces.{last_split, front_pairs}
+use Rattle.lists.proofs.Places.{last_split, front_pairs}
 use Rattle.name_check.proofs.WalkSteps.{before_last}
 
 -- some groups at the end are taken away, all of which begin behind the position

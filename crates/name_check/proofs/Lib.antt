@@ -1,4 +1,3 @@
-pub mod ListPlaces
 pub mod ManifestMet
 pub mod WalkSteps
 pub mod JoinSteps

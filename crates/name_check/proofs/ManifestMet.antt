@@ -5,11 +5,11 @@ use Rattle.std.specs.Option.{ok_or}
 use Rattle.silage_tree.specs.declared.tree.MOp.{MOp}
 use Rattle.silage_tree.specs.Tree.{Manifest, whole, counter, minus, both}
 use Rattle.silage_tree.specs.Manifests.{Indices, index_value, in_range, combined, manifest_value}
-use Rattle.name_check.proofs.ListPlaces.{some_once}
+use Rattle.lists.proofs.Places.{some_once}
 use Rattle.name_check.specs.ManifestFaults.{MeetsFirst, too_great, unbound, below_minus, at_minus, in_left, in_right, at_operator}
 use Rattle.name_check.specs.Private.Ranges.{IsRanged}
 use Rattle.name_check.specs.declared.fault.ManifestFault.{ManifestFault}
-use Rattle.name_check.specs.declared.fault.ManifestFault.TheVariants.{Overflow, Unbound}
+use Rattle.name_check.specs.declared.fault.ManifestFault.TheVariants.{Unbound}
 
 some_is_none : {A P : Type 0} {x : A} {o : Option A} → o ≡ Some x → o ≡ None → P
 some_is_none e n = cc

@@ -1,5 +1,5 @@
 -- The branches of a conditional and the items of a loop are the lists that they were made of.
-use Rattle.std.proofs.Common.{◌≡◌, ℕ, List, ◌∷◌, Vec, Box, Result, Ok, Err, IsErrAnd, refl, sym, ap, ◌∙◌, map}
+use Rattle.std.proofs.Common.{◌≡◌, ℕ, List, Vec, Box, Result, Ok, Err, IsErrAnd, refl, sym, ap, ◌∙◌, map}
 use Rattle.std.specs.Global.{Global}
 use mathlib.Core.Former.{Count}
 use Rattle.silage_tree.specs.declared.tree.Expr.{Expr as RustExpr, Choose, Choose', Row_of-Expr-Choose-1-2, end_of-Expr-Choose-1-2, more_of-Expr-Choose-1-2, items-the_row-Expr-Choose-1-2, items_hidden-the_row-Expr-Choose-1-2-0}

@@ -1,5 +1,5 @@
 -- The steps of a walk along calls: what it keeps from one to the next.
-use Rattle.std.proofs.Common.{◌≡◌, ◌≢◌, ◌⊎◌, ℕ, zero, suc, ◌+◌, ◌-◌, ◌*◌, ◌<◌, ◌≤◌, Bool, true, false, cond, List, [], ◌∷◌, ◌++◌, Option, Some, None, length, get_or, take, drop, refl, sym, ap, subst, ◌∙◌, inl, inr, arith}
+use Rattle.std.proofs.Common.{◌≡◌, ◌⊎◌, ℕ, ◌+◌, ◌-◌, ◌*◌, ◌<◌, ◌≤◌, false, cond, List, [], ◌∷◌, ◌++◌, Option, Some, None, length, get_or, take, drop, refl, sym, ap, subst, ◌∙◌, inl, inr, arith}
 use Rattle.std.specs.Prelude.{Contains, slice_get, count_by, sum_by, Result, Ok, Err, is_ok, OnOk, if◌then◌else◌, IfSome, IfNone, MatchOption, option_to_list}
 use Rattle.std.specs.List.{AllPairs}
 use Rattle.std.proofs.Math.ListN.{set}
@@ -10,12 +10,12 @@ use Rattle.std.proofs.lemmas.List.Quantifiers.{all_pairs_push}
 use Rattle.std.proofs.lemmas.List.Sums.{sum_by-set, get_or-le-sum_by}
 use Rattle.std.proofs.lemmas.Option.{slice_get_within, get_or_from_slice_get, slice_get-get_or}
 use Rattle.name_check.specs.Calls.{Reaches, by_call, by_calls}
-use Rattle.name_check.specs.Private.CallLists.{Lists, IsWithin}
+use Rattle.name_check.specs.Private.CallLists.{Lists}
 use Rattle.name_check.specs.Private.Walk.{Leads, State, IsMark, IsActiveAt, IsBefore, IsLast, IsNotEarlier, IsHandled, closed, active, pending, due, IsPending, IsDone, is_new, IsWalk, IsDue, KeepsGroups, ClosesAll, work_left, WalksOn, IsNext}
 use Rattle.name_check.specs.declared.components.Group.{Group}
 use Rattle.name_check.specs.declared.components.Mark.{Mark}
 use Rattle.name_check.specs.declared.components.Mark.TheVariants.{New, Active, Closed}
-use Rattle.name_check.proofs.ListPlaces.{some_once, cases_in, contains_at, place_of, at_left, at_right, at_end, at_append, at_push, at_front, from_take, in_drop, from_drop, at_set_same, at_set_other, last_split, front_pairs, before_end}
+use Rattle.lists.proofs.Places.{some_once, cases_in, contains_at, place_of, at_left, at_right, at_end, at_append, at_push, at_front, from_take, in_drop, from_drop, at_set_same, at_set_other, last_split, front_pairs, before_end}
 
 -- chains of calls, one behind another
 reaches_on : {Step : ℕ → ℕ → Type 0} {f g h : ℕ} → Reaches Step f g → Reaches Step g h → Reaches Step f h

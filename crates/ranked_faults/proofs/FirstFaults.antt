@@ -1,5 +1,5 @@
 -- The first fault of a thing, by the faults of its parts.
-use Rattle.std.proofs.Common.{◌≡◌, ◌<◌, ◌⊎◌, ◌↔◌, ◌∙◌, ℕ, zero, suc, List, [], ◌∷◌, Result, Ok, Err, IsOk, refl, sym, ap, subst, inl, inr, arith}
+use Rattle.std.proofs.Common.{◌≡◌, ◌∙◌, ℕ, zero, suc, List, [], ◌∷◌, Result, Ok, Err, refl, sym, subst, inl, inr, arith}
 use Rattle.ranked_faults.specs.Ranked.{FaultSet, FaultRow, StandsBefore, IsFirst, IsClear, no_faults, faults_in, own_fault, ◌before◌}
 
 -- two ranks that stand before one another are the same

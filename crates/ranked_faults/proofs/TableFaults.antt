@@ -1,5 +1,5 @@
 -- Who goes through a table in order meets the fault of least rank.
-use Rattle.std.proofs.Common.{◌≡◌, ◌<◌, ◌∙◌, ◌+◌, ◌++◌, ℕ, suc, List, [], ◌∷◌, Bool, true, false, Result, Ok, Err, IsErrAnd, map, drop, length, get_or, refl, sym, ap, add-one, drop-cons, append-nil, append_assoc, true≢false}
+use Rattle.std.proofs.Common.{◌≡◌, ◌<◌, ◌∙◌, ◌+◌, ℕ, suc, List, ◌∷◌, Bool, true, false, Result, Ok, Err, IsErrAnd, map, drop, length, get_or, refl, sym, ap, add-one, drop-cons, true≢false}
 use Rattle.ranked_faults.specs.Ranked.{FaultSet, FaultRow, faults_in, ◌before◌}
 use Rattle.ranked_faults.specs.Rules.{Rules, RuleRow, parts, own, none, ◌▸◌, unless, each_from, faults, row_faults}
 use Rattle.ranked_faults.specs.Private.FirstMet.{first, first_in, ◌>>◌}

@@ -1,5 +1,5 @@
 -- The calls of each function as a list of positions, and what a search along them has reached.
-use Rattle.std.specs.Prelude.{◌≡◌, ◌⊎◌, ℕ, ◌+◌, ◌<◌, Bool, true, false, not, List, map, position, count_by, Contains, length, slice_get, slice_index_or, Option, Some, bytes_eq}
+use Rattle.std.specs.Prelude.{◌≡◌, ℕ, ◌<◌, List, map, position, Contains, length, slice_get, Option, Some, bytes_eq}
 use Rattle.std.specs.List.{filter_map}
 use Rattle.silage_tree.specs.Tree.{Program}
 use Rattle.name_check.specs.TopNames.{top_names}

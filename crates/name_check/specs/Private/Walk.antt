@@ -1,5 +1,5 @@
 -- A depth-first walk along calls, which finds the strongly connected components of the call graph.
-use Rattle.std.specs.Prelude.{◌≡◌, ◌⊎◌, ℕ, zero, ◌+◌, ◌-◌, ◌*◌, ◌<◌, ◌≤◌, Bool, true, false, List, [], ◌∷◌, ◌++◌, Contains, length, count_by, sum_by, replicate, slice_get, slice_index_or, Option, Some, None}
+use Rattle.std.specs.Prelude.{◌≡◌, ◌⊎◌, ℕ, ◌+◌, ◌-◌, ◌*◌, ◌<◌, ◌≤◌, Bool, true, false, List, [], Contains, length, count_by, sum_by, replicate, slice_get, slice_index_or, Option, Some, None}
 use Rattle.std.specs.List.{AllPairs}
 use Rattle.name_check.specs.Calls.{Reaches}
 use Rattle.name_check.specs.Private.CallLists.{Lists, IsWithin}

@@ -1,5 +1,5 @@
 -- One function more is closed.
-use Rattle.std.proofs.Common.{◌<◌, length, arith}
+use Rattle.std.proofs.Common.{arith}
 use Rattle.std.proofs.lemmas.List.Elements.{Contains-get_or}
 use Rattle.name_check.proofs.WalkSteps.{closes_more, closes_end}
 use Rattle.name_check.proofs.components.close_all.Goals as goal

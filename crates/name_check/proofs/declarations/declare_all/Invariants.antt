@@ -1,4 +1,3 @@
-use Rattle.std.proofs.Common.{take}
 use Rattle.name_check.proofs.Declared.{HasDeclared}
 use Rattle.name_check.proofs.declarations.declare_all.Given as goal
 

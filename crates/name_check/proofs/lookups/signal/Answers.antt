@@ -1,4 +1,4 @@
-use Rattle.std.proofs.Common.{ap, sym, ◌∙◌, Some, None}
+use Rattle.std.proofs.Common.{ap, ◌∙◌, Some, None}
 use Rattle.std.specs.Option.{option_copied}
 use Rattle.name_check.specs.Private.Views.{context_of}
 use Rattle.name_check.proofs.FoundNames.{signal_is}

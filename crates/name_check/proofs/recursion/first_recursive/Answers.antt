@@ -1,11 +1,8 @@
 -- The first function that calls one of its own component is the first that reaches itself.
-use Rattle.std.proofs.Common.{◌≡◌, ◌<◌, Some, length, ap, ◌∙◌, sym, subst, refl, arith, inl, inr}
-use Rattle.std.specs.Prelude.{slice_get, Contains}
-use Rattle.std.proofs.lemmas.Bool.{cases_eq, cases_lt}
-use Rattle.std.proofs.lemmas.Option.{slice_get_read, slice_get_within}
-use Rattle.name_check.specs.Calls.{Reaches}
-use Rattle.name_check.specs.Private.CallLists.{Lists}
-use Rattle.name_check.specs.Private.Walk.{AreComponents, CallsOwnComponent}
+use Rattle.std.proofs.Common.{◌≡◌, Some, length, ap, ◌∙◌, sym, subst, refl, arith}
+use Rattle.std.specs.Prelude.{slice_get}
+use Rattle.std.proofs.lemmas.Option.{slice_get_read}
+use Rattle.name_check.specs.Private.Walk.{AreComponents}
 use Rattle.name_check.proofs.WalkEnds.{callees_within, own_recursive, first_met, passed_on, all_passed}
 use Rattle.name_check.proofs.recursion.first_recursive.Goals as goal
 

@@ -1,5 +1,5 @@
 -- The callees are compared with the function, one after another.
-use Rattle.std.proofs.Common.{◌∙◌, sym, refl, arith}
+use Rattle.std.proofs.Common.{◌∙◌, sym, refl}
 use Rattle.std.proofs.lemmas.List.Elements.{Contains-get_or}
 use Rattle.name_check.proofs.WalkEnds.{none_calls, one_calls, one_more_call, no_calls}
 use Rattle.name_check.proofs.recursion.is_recursive.Goals as goal

@@ -1,5 +1,5 @@
 -- The members of the last group are closed.
-use Rattle.std.proofs.Common.{◌<◌, ◌-◌, length, take, ap, ◌∙◌, sym, refl, arith}
+use Rattle.std.proofs.Common.{◌<◌, ◌-◌, length, take, ap, ◌∙◌, refl, arith}
 use Rattle.std.proofs.lemmas.List.{with_items_is}
 use Rattle.name_check.specs.Private.Walk.{state_of}
 use Rattle.name_check.proofs.WalkSteps.{members_within, ends_so}

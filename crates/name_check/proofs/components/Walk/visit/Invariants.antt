@@ -1,4 +1,3 @@
-use Rattle.std.proofs.Common.{None}
 use Rattle.name_check.specs.Private.Walk.{state_of, work_left}
 use Rattle.name_check.proofs.WalkEnds.{IsVisiting}
 use Rattle.name_check.proofs.components.Walk.visit.Given as goal

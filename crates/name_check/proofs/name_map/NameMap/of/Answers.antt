@@ -4,7 +4,7 @@ use Rattle.std.proofs.lemmas.Bool.{not-true, not-false}
 use Rattle.silage_tree.specs.Tree.{view, view_top}
 use Rattle.name_check.specs.declared.fault.NameFault.TheVariants.{Twice}
 use Rattle.name_check.specs.Meanings.{is_among}
-use Rattle.name_check.specs.TopNames.{top_name, top_names}
+use Rattle.name_check.specs.TopNames.{top_names}
 use Rattle.name_check.proofs.FirstPlaces.{kept_more, kept_all, kept_twice, top_stands, name_stands, names_length}
 use Rattle.name_check.proofs.name_map.NameMap.of.Goals as goal
 
