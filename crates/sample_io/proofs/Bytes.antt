@@ -14,7 +14,7 @@ use Rattle.sample_io.specs.declared.read.Part.{Part}
 use Rattle.sample_io.specs.declared.read.Part.TheVariants.{Empty, Minus, Digits, Return}
 use Rattle.sample_io.specs.Channels.{IsInChannel, IsChannel, AreChannels}
 use Rattle.sample_io.specs.Samples.{signed, signed_text, IsWord, no_words, one_more, RowText, IsLine, BeginsRow}
-use Rattle.sample_io.specs.Reading.{IsPart, with_comma, LineSoFar, HasDigit, TakesByte}
+use Rattle.sample_io.specs.Private.Reading.{IsPart, with_comma, LineSoFar, HasDigit, TakesByte}
 use Rattle.sample_io.specs.declared.read.Progress.{Progress}
 use Rattle.sample_io.specs.declared.read.Progress.TheVariants.{Within, Word, Row}
 use Rattle.std.proofs.lemmas.Int.{ints}

@@ -13,7 +13,7 @@ use Rattle.sample_io.specs.declared.read.Progress.TheVariants.{Within, Word, Row
 use Rattle.sample_io.specs.declared.read.Reader.{Reader}
 use Rattle.sample_io.specs.Channels.{AreChannels}
 use Rattle.sample_io.specs.Samples.{AreWords, no_words, one_more, RowText, IsLine, Lines, RowsOf, BeginsRow, IsFirstBadPlace, signed}
-use Rattle.sample_io.specs.Reading.{LineSoFar, TakesByte, ReadSoFar, with_comma, IsPart, word_of}
+use Rattle.sample_io.specs.Private.Reading.{LineSoFar, TakesByte, ReadSoFar, with_comma, IsPart, word_of}
 use Rattle.sample_io.proofs.Bytes.{word_of_digits, last_text, left_length}
 use Rattle.sample_io.proofs.Machine.{At}
 use Rattle.sample_io.proofs.Rows.{so_far_begins}

@@ -7,3 +7,4 @@ mod Files
 pub mod Streams
 mod Lists
 mod Outcomes
+pub mod Held

@@ -11,7 +11,7 @@ use Rattle.sample_io.specs.declared.read.Part.{Part}
 use Rattle.sample_io.specs.declared.read.Part.TheVariants.{Empty, Minus, Digits, Return}
 use Rattle.sample_io.specs.Channels.{IsInChannel}
 use Rattle.sample_io.specs.Samples.{signed}
-use Rattle.sample_io.specs.Reading.{HasDigit}
+use Rattle.sample_io.specs.Private.Reading.{HasDigit}
 
 -- within a line: the whole words, the channel of the next word, the channels left behind it, and what there is of the word;
 -- or the line has ended as this row

@@ -1,3 +1,3 @@
 pub mod Channels
 pub mod Samples
-pub mod Reading
+pub mod Private

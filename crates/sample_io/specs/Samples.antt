@@ -1,14 +1,16 @@
 -- The text of a sample file: one row a line, a row's words in decimal with a comma between two of them.
-use Rattle.std.specs.Prelude.{◌≡◌, ℕ, ◌+◌, ◌*◌, ◌<◌, ◌⊎◌, Bool, if◌then◌else◌, List, [], ◌∷◌, ◌++◌, length, take, map, slice_range, slice_index_or, Contains, ℤ, pos, neg_ℤ}
+use Rattle.std.specs.Prelude.{◌≡◌, ℕ, ◌+◌, ◌*◌, ◌/◌, ◌<◌, ◌⊎◌, Bool, if◌then◌else◌, ℤ, pos, neg_ℤ}
+use Rattle.std.specs.Prelude.{List, [], ◌∷◌, ◌++◌, length, take, map, slice_range, slice_index_or, Contains}
 use Rattle.std.specs.Fmt.{signed_decimal}
-use Rattle.std.specs.List.{join_with_byte, flat_map}
+use Rattle.std.specs.List.{join_with_byte, flat_map, range_with_len}
 use Rattle.std.specs.Str.Parse.{IsNumeral, digits_value}
+use Rattle.lists.specs.Rows.{Rows}
 use Rattle.sample_io.specs.declared.channel.Channel.{Channel}
 use Rattle.sample_io.specs.declared.RowFault.{RowFault}
 use Rattle.sample_io.specs.declared.RowList.{RowList}
 use Rattle.sample_io.specs.Channels.{IsInChannel}
 
--- the bytes that have a meaning beside the digits
+-- the bytes other than digits that have a meaning
 abbrev pub minus : ℕ
 minus = 45
 
@@ -21,7 +23,7 @@ carriage_return = 13
 abbrev pub line_feed : ℕ
 line_feed = 10
 
--- digits, with a minus in front or without
+-- digits, after a minus or not
 abbrev pub signed_text : Bool → List ℕ → List ℕ
 signed_text negative digits = if negative then minus ∷ digits else digits
 
@@ -38,13 +40,17 @@ pub record IsWord (channel : Channel) (text : List ℕ) (word : ℤ) : Type 0 wh
   pub word_is : word ≡ signed negative (digits_value 10 digits)
   pub in_channel : IsInChannel channel word
 
--- each text writes the word beside it, of the channel beside it
+-- each text writes the word at its position, of the channel at its position
 pub data AreWords : List Channel → List (List ℕ) → List ℤ → Type 0 where
   no_words : AreWords [] [] []
-  one_more : {channel : Channel} {channels : List Channel} {text : List ℕ} {texts : List (List ℕ)} {word : ℤ} {words : List ℤ}
-      → IsWord channel text word → AreWords channels texts words → AreWords (channel ∷ channels) (text ∷ texts) (word ∷ words)
+  one_more : {channel : Channel} {channels : List Channel}
+      → {text : List ℕ} {texts : List (List ℕ)}
+      → {word : ℤ} {words : List ℤ}
+      → IsWord channel text word
+      → AreWords channels texts words
+      → AreWords (channel ∷ channels) (text ∷ texts) (word ∷ words)
 
--- the words of the row in channel order, with one comma between each two
+-- the words of the row in the order of the channels, with a comma between two of them
 pub record RowText (channels : List Channel) (text : List ℕ) (row : List ℤ) : Type 0 where
   pub texts : List (List ℕ)
   pub text_is : text ≡ join_with_byte comma texts
@@ -54,7 +60,7 @@ pub record RowText (channels : List Channel) (text : List ℕ) (row : List ℤ) 
 abbrev pub IsLineEnd : List ℕ → Type 0
 IsLineEnd end = (end ≡ line_feed ∷ []) ⊎ (end ≡ carriage_return ∷ line_feed ∷ [])
 
--- a row's text with its end of line
+-- a row's text and its end of line
 pub record IsLine (channels : List Channel) (line : List ℕ) (row : List ℤ) : Type 0 where
   pub text : List ℕ
   pub end : List ℕ
@@ -63,15 +69,16 @@ pub record IsLine (channels : List Channel) (line : List ℕ) (row : List ℤ) :
   pub line_end : IsLineEnd end
 
 -- the lines of the rows, one after another
-abbrev pub Lines : List ℕ → List Channel → List (List ℤ) → Type 0
+abbrev pub Lines : List ℕ → List Channel → Rows → Type 0
 Lines bytes channels [] = bytes ≡ []
-Lines bytes channels (row ∷ rows) = (line : List ℕ) × (rest : List ℕ) × (bytes ≡ line ++ rest) × IsLine channels line row × Lines rest channels rows
+Lines bytes channels (row ∷ rows) =
+    (line : List ℕ) × (rest : List ℕ) × (bytes ≡ line ++ rest) × IsLine channels line row × Lines rest channels rows
 
--- lines, and behind them the text of a last row, which lacks its end of line
-pub record LacksLastEnd (bytes : List ℕ) (channels : List Channel) (rows : List (List ℤ)) : Type 0 where
+-- lines, and then the text of a last row, which lacks its end of line
+pub record LacksLastEnd (bytes : List ℕ) (channels : List Channel) (rows : Rows) : Type 0 where
   pub front : List ℕ
   pub text : List ℕ
-  pub before : List (List ℤ)
+  pub before : Rows
   pub last : List ℤ
   pub bytes_are : bytes ≡ front ++ text
   pub rows_are : rows ≡ before ++ last ∷ []
@@ -79,10 +86,10 @@ pub record LacksLastEnd (bytes : List ℕ) (channels : List Channel) (rows : Lis
   pub row_text : RowText channels text last
 
 -- the bytes are the row texts of the stream, each with its end of line, which the last may lack
-abbrev pub RowsOf : List ℕ → List Channel → List (List ℤ) → Type 0
+abbrev pub RowsOf : List ℕ → List Channel → Rows → Type 0
 RowsOf bytes channels rows = Lines bytes channels rows ⊎ LacksLastEnd bytes channels rows
 
--- some bytes behind these make them a row's text with its end of line
+-- with some bytes more, these are a row's text and its end of line
 abbrev pub BeginsRow : List Channel → List ℕ → Type 0
 BeginsRow channels bytes = (more : List ℕ) × (row : List ℤ) × IsLine channels (bytes ++ more) row
 
@@ -91,10 +98,10 @@ abbrev pub StopsAt : List Channel → List ℕ → ℕ → Type 0
 StopsAt channels rest at = ((at < length rest) × (BeginsRow channels (take (at + 1) rest) → ⊥))
     ⊎ ((at ≡ length rest) × (0 < at) × ((row : List ℤ) → RowText channels rest row → ⊥))
 
--- The fault names the least line that is no row, and in it the first byte after which that line,
--- its end of line counted to it, begins no row; at the end of input, the line's length.
+-- The fault names the least line that is no row, and in it the first byte after which that line, with its end of line,
+-- begins no row; at the end of input, the line's length.
 pub record IsFirstBadPlace (bytes : List ℕ) (channels : List Channel) (fault : RowFault) : Type 0 where
-  pub rows : List (List ℤ)
+  pub rows : Rows
   pub front : List ℕ
   pub rest : List ℕ
   pub bytes_are : bytes ≡ front ++ rest
@@ -104,15 +111,28 @@ pub record IsFirstBadPlace (bytes : List ℕ) (channels : List Channel) (fault :
   pub begins : BeginsRow channels (take fault.at rest)
   pub stops : StopsAt channels rest fault.at
 
--- a row as it is written: no leading zeros, `0` for zero, and LF behind it
+-- a row as it is written: no leading zeros, `0` for zero, and LF at the end
 abbrev pub printed_row : List ℤ → List ℕ
 printed_row row = join_with_byte comma (map signed_decimal row) ++ line_feed ∷ []
 
 -- a stream as it is written
-abbrev pub printed : List (List ℤ) → List ℕ
+abbrev pub printed : Rows → List ℕ
 printed rows = flat_map printed_row rows
 
--- the words of row n lie at the places from n * width on
-pub record HoldsRows (list : RowList) (rows : List (List ℤ)) : Type 0 where
+-- the words of row n are at the positions from n * width on
+abbrev pub row_of : RowList → ℕ → List ℤ
+row_of list n = slice_range list.words (n * list.width) ((n + 1) * list.width)
+
+-- the rows of the list
+abbrev pub stream_of : RowList → Rows
+stream_of list = map (row_of list) (range_with_len 0 (length list.words / list.width))
+
+-- these are the rows of the list, and it has no other words
+pub record HoldsRows (list : RowList) (rows : Rows) : Type 0 where
   pub count : length list.words ≡ length rows * list.width
-  pub row : (n : ℕ) (d : List ℤ) → n < length rows → slice_range list.words (n * list.width) ((n + 1) * list.width) ≡ slice_index_or rows n d
+  pub row : (n : ℕ) (d : List ℤ) → n < length rows → row_of list n ≡ slice_index_or rows n d
+
+-- the list has the rows of the bytes, and their width
+abbrev pub HoldsRowsOf : List ℕ → List Channel → RowList → Type 0
+HoldsRowsOf bytes channels list =
+    (rows : Rows) × RowsOf bytes channels rows × HoldsRows list rows × (list.width ≡ length channels)

@@ -14,8 +14,8 @@ use std::alloc::AllocError;
 use thiserror::Error;
 pub use write::put_row;
 
-/// The rows of a sample file. Row `n` holds the raw words at the places `n * width` to
-/// `(n + 1) * width - 1` of `words`.
+/// The rows of a sample file. Row `n` has the raw words at the positions `n * width` to `(n + 1) * width - 1` of
+/// `words`.
 #[derive(PartialEq, Debug, Drop)]
 pub struct RowList {
     pub width: u8,
@@ -28,8 +28,8 @@ pub struct RowList {
 pub struct RowFault {
     /// The line, from 1.
     pub line: u64,
-    /// The first byte of the line, from 0, after which the line begins no row. Where the input
-    /// ends within the line, the line's length.
+    /// The first byte of the line, from 0, after which the line begins no row. Where the input ends within the line,
+    /// the line's length.
     pub at: u64,
 }
 

@@ -1,11 +1,12 @@
 //! Sample files, read byte by byte.
 
-ghost use Rattle.std.specs.Prelude.{◌≡◌, ◌<◌, ◌≤◌, ◌+◌, ◌*◌, ◌^◌, ◌↔◌, ℕ, ℤ, List as Listed, [], ◌∷◌, ◌++◌, length, IfOk, OnOk, IfErr, IfSome, IfNone, IsOkAnd, MatchOption, ◌⊎◌};
+ghost use Rattle.std.specs.Prelude.{◌≡◌, ◌<◌, ◌+◌, ◌*◌, ◌^◌, ◌++◌, length, Err, IfOk, OnOk, IfSome, IfNone, IsOkAnd, ◌⊎◌};
 ghost use Rattle.std.specs.Char.{digit_value};
 ghost use Rattle.std.specs.Option.{option_to_list};
+ghost use Rattle.lists.specs.Rows.{Rows};
 ghost use Rattle.sample_io.specs.Channels.{AreChannels};
-ghost use Rattle.sample_io.specs.Samples.{signed, RowText, RowsOf, IsFirstBadPlace, HoldsRows};
-ghost use Rattle.sample_io.specs.Reading.{HasDigit, IsLineState, LineSoFar, TakesByte, IsReader, ReadSoFar, ReadsByte, ReadsEnd, word_of};
+ghost use Rattle.sample_io.specs.Samples.{signed, RowsOf, IsFirstBadPlace, HoldsRows, HoldsRowsOf, stream_of};
+ghost use Rattle.sample_io.specs.Private.Reading.{HasDigit, IsLineState, Takes, EndsWith, IsReader, Reads, Ends, word_of};
 
 use crate::{Channel, RowFault, RowList, RowsReadFault};
 use lists::List;
@@ -14,29 +15,29 @@ use std::alloc::{AllocError, Global};
 /// What a line has of its last word.
 #[derive(Clone, Copy)]
 enum Part {
-    /// Nothing, at the start of the line or behind a comma.
+    /// Nothing, at the start of the line or after a comma.
     Empty,
     /// A minus.
     Minus,
-    /// One or more digits, which may have a minus in front.
+    /// One or more digits, after a minus or not.
     Digits { negative: bool, magnitude: u64 },
-    /// The row's last word, and a CR behind it.
+    /// The row's last word, and a CR.
     Return { word: i64 },
 }
 
-/// What the byte did that a line has taken.
+/// What the last byte of a line has completed.
 #[derive(Clone, Copy)]
 enum Progress {
-    /// It made nothing whole.
+    /// Nothing.
     Within,
-    /// It ended a word, and the line goes on.
+    /// A word. The line goes on.
     Word(i64),
-    /// It ended the line, a row with this last word.
+    /// The line, a row with this last word.
     Row(i64),
 }
 
 impl Progress {
-    /// The word that is whole now.
+    /// The word that is complete now.
     fn word(self) -> Option<i64>
         ensures { result ≡ word_of self }
     {
@@ -47,7 +48,7 @@ impl Progress {
     }
 }
 
-/// Where a line stands: the place of its last word in the row, and what there is of it.
+/// The state of a line: the position of its last word in the row, and what there is of this word.
 #[derive(Clone, Copy)]
 struct LineState {
     column: usize,
@@ -69,7 +70,7 @@ impl LineState {
     fn take(&mut self, channels: &[Channel], byte: u8) -> Option<Progress>
         requires channels { AreChannels channels.now }
         requires state { IsLineState channels.now self.old }
-        ensures { (line : Listed ℕ) (words : Listed ℤ) → LineSoFar channels.now line words self.old → TakesByte channels.now line words byte result self.new }
+        ensures { Takes channels.now self.old byte result self.new }
     {
         let channel = channels[self.column];
         match self.part {
@@ -115,7 +116,8 @@ impl LineState {
         byte: u8,
     ) -> Option<Progress>
         requires { magnitude < 2 ^ 40 }
-        ensures taken { IfSome result (λ progress. (progress ≡ Progress.Within) × HasDigit channel negative magnitude byte
+        ensures taken { IfSome result (λ progress. (progress ≡ Progress.Within)
+            × HasDigit channel negative magnitude byte
             × (self.new ≡ record self.old { part = Part.Digits negative (magnitude * 10 + digit_value byte) })) }
         ensures refused { IfNone result (HasDigit channel negative magnitude byte → ⊥) }
     {
@@ -136,7 +138,8 @@ impl LineState {
     /// A comma ends a word that is not the row's last.
     fn next_word(&mut self, channels: &[Channel], word: i64) -> Option<Progress>
         requires { self.old.column < length channels.now }
-        ensures taken { IfSome result (λ progress. (progress ≡ Progress.Word word) × (self.old.column + 1 < length channels.now)
+        ensures taken { IfSome result (λ progress. (progress ≡ Progress.Word word)
+            × (self.old.column + 1 < length channels.now)
             × (self.new ≡ record { column = self.old.column + 1; part = Part.Empty })) }
         ensures refused { IfNone result (self.old.column + 1 ≡ length channels.now) }
     {
@@ -148,10 +151,11 @@ impl LineState {
         Some(Progress::Word(word))
     }
 
-    /// A CR stands behind the row's last word.
+    /// A CR comes after the row's last word.
     fn line_end(&mut self, channels: &[Channel], word: i64) -> Option<Progress>
         requires { self.old.column < length channels.now }
-        ensures taken { IfSome result (λ progress. (progress ≡ Progress.Within) × (self.old.column + 1 ≡ length channels.now)
+        ensures taken { IfSome result (λ progress. (progress ≡ Progress.Within)
+            × (self.old.column + 1 ≡ length channels.now)
             × (self.new ≡ record self.old { part = Part.Return word })) }
         ensures refused { IfNone result (self.old.column + 1 < length channels.now) }
     {
@@ -165,7 +169,8 @@ impl LineState {
     /// An LF ends the row's last word, and with it the line.
     fn next_line(&mut self, channels: &[Channel], word: i64) -> Option<Progress>
         requires { self.old.column < length channels.now }
-        ensures taken { IfSome result (λ progress. (progress ≡ Progress.Row word) × (self.old.column + 1 ≡ length channels.now)
+        ensures taken { IfSome result (λ progress. (progress ≡ Progress.Row word)
+            × (self.old.column + 1 ≡ length channels.now)
             × (self.new ≡ record { column = 0; part = Part.Empty })) }
         ensures refused { IfNone result (self.old.column + 1 < length channels.now) }
     {
@@ -180,8 +185,7 @@ impl LineState {
     fn last_word(&self, channels: &[Channel]) -> Option<i64>
         requires channels { AreChannels channels.now }
         requires state { IsLineState channels.now self.now }
-        ensures { (line : Listed ℕ) (words : Listed ℤ) → LineSoFar channels.now line words self.now
-            → MatchOption result ((row : Listed ℤ) → RowText channels.now line row → ⊥) (λ word. RowText channels.now line (words ++ word ∷ [])) }
+        ensures { EndsWith channels.now self.now result }
     {
         let Part::Digits {
             negative,
@@ -206,7 +210,7 @@ fn signed_word(negative: bool, magnitude: u64) -> i64
     if negative { -word } else { word }
 }
 
-/// The place in a sample file, and the line that stands there.
+/// The position in a sample file, and the state of the line there.
 #[derive(Clone, Copy)]
 struct Reader {
     line: u64,
@@ -226,11 +230,11 @@ impl Reader {
         }
     }
 
-    /// Takes the next byte, unless its place is the first bad one.
+    /// Takes the next byte, unless it is the first bad one.
     fn step(&mut self, channels: &[Channel], byte: u8) -> Result<Progress, RowFault>
         requires channels { AreChannels channels.now }
         requires reader { IsReader channels.now self.old }
-        ensures { (bytes : Listed ℕ) (words : Listed ℤ) → ReadSoFar channels.now bytes words self.old → ReadsByte channels.now bytes words byte result self.new }
+        ensures { Reads channels.now self.old byte result self.new }
     {
         let Some(progress) = self.state.take(channels, byte) else {
             return Err(self.fault());
@@ -248,7 +252,7 @@ impl Reader {
     fn finish(&self, channels: &[Channel]) -> Result<Option<i64>, RowFault>
         requires channels { AreChannels channels.now }
         requires reader { IsReader channels.now self.now }
-        ensures { (bytes : Listed ℕ) (words : Listed ℤ) → ReadSoFar channels.now bytes words self.now → ReadsEnd channels.now bytes words result }
+        ensures { Ends channels.now self.now result }
     {
         if self.at == 0 {
             return Ok(None);
@@ -259,7 +263,7 @@ impl Reader {
         }
     }
 
-    /// The place as a fault.
+    /// The position as a fault.
     fn fault(&self) -> RowFault
         ensures { result ≡ record { line = self.now.line; at = self.now.at } }
     {
@@ -270,19 +274,21 @@ impl Reader {
     }
 }
 
-/// Reads a whole sample file: one row of the channels a line, its words in decimal with a comma
-/// between two of them. The fault is the first bad place of the bytes, or want of memory for the
-/// rows.
+/// Reads a whole sample file: one row of the channels a line, its words in decimal with a comma between two of them.
+/// The fault is the first bad place of the bytes, unless there is no memory for the rows.
 pub fn read_rows(
     alloc: Global,
     bytes: &[u8],
     channels: &[Channel],
 ) -> Result<RowList, RowsReadFault>
     requires { AreChannels channels.now }
-    ensures rows { IfOk result (λ list. (rows : Listed (Listed ℤ)) × RowsOf bytes.now channels.now rows × HoldsRows list rows × (list.width ≡ length channels.now)) }
-    ensures fault { (fault : _) → result ≡ Err (RowsReadFault.Row fault) → IsFirstBadPlace bytes.now channels.now fault }
-    // Bytes with rows are read and a bad place is told, where there is memory.
-    ensures all_rows { (rows : Listed (Listed ℤ)) → RowsOf bytes.now channels.now rows
+    ensures stream { IfOk result (λ list. RowsOf bytes.now channels.now (stream_of list)) }
+    ensures rows { IfOk result (HoldsRowsOf bytes.now channels.now) }
+    ensures fault { (fault : _) → result ≡ Err (RowsReadFault.Row fault)
+        → IsFirstBadPlace bytes.now channels.now fault }
+
+    // Rows are read and a bad place is reported, unless memory runs out.
+    ensures all_rows { (rows : Rows) → RowsOf bytes.now channels.now rows
         → (result ≡ Err RowsReadFault.Memory) ⊎ IsOkAnd result (λ list. HoldsRows list rows) }
     ensures all_faults { (fault : _) → IsFirstBadPlace bytes.now channels.now fault
         → (result ≡ Err RowsReadFault.Memory) ⊎ (result ≡ Err (RowsReadFault.Row fault)) }

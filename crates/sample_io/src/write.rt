@@ -23,7 +23,7 @@ pub fn put_row(words: &[i64], put: &mut [u8]) -> usize
     end
 }
 
-/// Writes the text and a comma from `at` on, and gives the place behind them.
+/// Writes the text and a comma from `at` on, and gives the position after them.
 fn put_word(text: &str, put: &mut [u8], at: usize) -> usize
     requires { at + length text.now < length put.old }
     ensures end { result ≡ at + length text.now + 1 }

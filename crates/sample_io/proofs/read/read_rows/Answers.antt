@@ -2,6 +2,7 @@
 use Rattle.std.proofs.Common.{◌+◌, take, drop, refl, ◌∙◌}
 use Rattle.std.proofs.lemmas.Result.{err_from_is_err_and}
 use Rattle.sample_io.proofs.Files.{nothing_read}
+use Rattle.sample_io.proofs.Held.{held_stream}
 use Rattle.sample_io.proofs.Outcomes.{byte_exact, end_exact, rows_exact, held}
 use Rattle.sample_io.proofs.read.read_rows.Goals as goal
 
@@ -43,6 +44,12 @@ returns-in_err-last-clause-all_faults c =
     let p = err_from_is_err_and c.from_residual-in_err-last.result c.from_residual-in_err-last.ensures.1 in
     let bad = c.in_err-last.ensures (take c.loop-byte.byte-index c.args.bytes.now) c.loop-byte.words c.loop-byte.invariant in
     (end_exact c.args.bytes.now c.args.channels.now c.requires c.from_residual-in_err-last.result c.loop-byte.byte-index c.in_err-last.field-0.0 p.0 c.loop-byte-test.false bad p.1 p.2).all_faults
+
+pub returns-clause-stream : goal.returns-clause-stream
+returns-clause-stream c =
+    let read = c.in_ok-last.ensures (take c.loop-byte.byte-index c.args.bytes.now) c.loop-byte.words c.loop-byte.invariant in
+    let h = held c.args.bytes.now c.args.channels.now c.push_word-2.new.words c.loop-byte.byte-index c.loop-byte-test.false (read.0, read.1, c.in_ok-push_word-2.ensures ∙ read.2) in
+    held_stream c.args.bytes.now c.args.channels.now _ c.requires (h.rows, h.rows_of, h.holds, refl)
 
 pub returns-clause-rows : goal.returns-clause-rows
 returns-clause-rows c =

@@ -1,6 +1,6 @@
 -- What the loop over the bytes has read so far.
 use Rattle.std.proofs.Common.{take}
-use Rattle.sample_io.specs.Reading.{ReadSoFar}
+use Rattle.sample_io.specs.Private.Reading.{ReadSoFar}
 use Rattle.sample_io.proofs.read.read_rows.Given as goal
 
 abbrev pub invariant-loop-byte : goal.invariant-loop-byte
