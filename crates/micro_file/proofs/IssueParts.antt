@@ -16,8 +16,9 @@ use Rattle.fix_word.specs.declared.types.Mode.TheVariants.{Trunc}
 use Rattle.fix_word.specs.declared.operation.Op.{Op}
 use Rattle.fix_word.specs.declared.operation.Op.TheVariants as op
 use Rattle.micro_image.specs.Fields.{nth}
+use Rattle.micro_image.specs.Operations.{is_formatted}
 use Rattle.micro_image.specs.Spells.{eight_bytes, mode_byte, spelled_format}
-use Rattle.micro_image.specs.Valid.{IsWithin, IsBelow, IsNoFormat, IsFormatWhere, IsFormatFor, is_formatted, IsArgument, AreRegisters}
+use Rattle.micro_image.specs.Valid.{IsWithin, IsBelow, IsNoFormat, IsFormatWhere, IsFormatFor, IsArgument, AreRegisters}
 use Rattle.micro_file.specs.declared.fields.TheConstants.{MODES}
 use Rattle.micro_file.specs.Reading.{kept, byte_at, byte_within, entry_at, many_at, some_format_at, no_format_at, format_at, is_below, is_argument, argument_at, register_at}
 use Rattle.micro_file.proofs.Reader.{IsBytes, Takes, ◌⨟◌, Took, IsReader, IsTestOf, tested, such_reader, so_spelled, some_is, was_kept}

@@ -12,8 +12,9 @@ use Rattle.micro_image.specs.declared.image.Kind.{Kind}
 use Rattle.micro_image.specs.declared.image.Image.{Image}
 use Rattle.micro_image.specs.declared.image.Issue.{Issue}
 use Rattle.micro_image.specs.declared.image.UnitDesc.{UnitDesc}
-use Rattle.micro_image.specs.Spells.{eight_bytes, kind_byte, operation_byte, spelled_format, spelled_issue}
-use Rattle.micro_image.specs.Valid.{IsIssueOn, IsIssue, kind_of, reads}
+use Rattle.micro_image.specs.Operations.{kind_of, reads, opcode}
+use Rattle.micro_image.specs.Spells.{eight_bytes, kind_byte, spelled_format, spelled_issue}
+use Rattle.micro_image.specs.Valid.{IsIssueOn, IsIssue}
 use Rattle.micro_file.specs.declared.fields.TheConstants.{KINDS, OPERATIONS}
 use Rattle.micro_file.specs.Reading.{kept, byte_at, entry_at, many_at, format_at, argument_at, register_at, same_kind, issue_on_at, issue_at, issues_at, is_above, last_of}
 use Rattle.micro_file.proofs.Counts.{issue_count}
@@ -39,7 +40,7 @@ same_as_kind a b e = rw e (byte_same (kind_byte b))
 
 -- an issue but for its unit's number
 abbrev spelled_on : Issue → List ℕ
-spelled_on issue = operation_byte issue.op ∷ [] ++ spelled_format issue.fmt ++ eight_bytes issue.arg ++ issue.regs
+spelled_on issue = opcode issue.op ∷ [] ++ spelled_format issue.fmt ++ eight_bytes issue.arg ++ issue.regs
 
 -- an issue with the number, allowed on the unit
 record IsOn (image : Image) (number : ℕ) (unit : UnitDesc) (issue : Issue) : Type 0 where
@@ -73,7 +74,7 @@ module _ (image : Image) (few : HasFewWords image) (number : ℕ) (unit : UnitDe
       let s = bound5 (entry_at OPERATIONS bytes) kind_kept format_behind argument_behind registers_behind whole_issue x e in
       let o = operation_reader.took bytes fits s.0 s.5 in
       let k = was_kept (same_kind (kind_of s.0.0) unit.kind) s.0 s.1 s.6 in
-      let op : Takes bytes (one_byte (operation_byte s.1.0)) s.1.1 = subst (λ (p : Op × List ℕ). Takes bytes (one_byte (operation_byte p.0)) p.1) k.1 o.text in
+      let op : Takes bytes (one_byte (opcode s.1.0)) s.1.1 = subst (λ (p : Op × List ℕ). Takes bytes (one_byte (opcode p.0)) p.1) k.1 o.text in
       let does : same_kind (kind_of s.1.0) unit.kind ≡ true = subst (λ (p : Op × List ℕ). same_kind (kind_of p.0) unit.kind ≡ true) k.1 k.0 in
       let f = (format_reader s.1.0).took s.1.1 op.rest_fits s.2 s.7 in
       let a = (argument_reader s.1.0 (length image.inputs) image.outs few.inputs few.outs).took s.2.1 f.text.rest_fits s.3 s.8 in
@@ -89,7 +90,7 @@ module _ (image : Image) (few : HasFewWords image) (number : ℕ) (unit : UnitDe
   issue_on_again issue rest ok =
       let F = spelled_format issue.fmt in
       let A = eight_bytes issue.arg in
-      let byte = operation_byte issue.op in
+      let byte = opcode issue.op in
       let texts : F ++ A ++ issue.regs ++ rest ≡ F ++ (A ++ (issue.regs ++ rest)) = append_assoc (F ++ A) issue.regs rest ∙ append_assoc F A (issue.regs ++ rest) in
       ap (λ (t : List ℕ). issue_on_at image number unit (byte ∷ t)) texts
       ∙ joined5 (entry_at OPERATIONS (byte ∷ (F ++ (A ++ (issue.regs ++ rest))))) kind_kept format_behind argument_behind registers_behind whole_issue

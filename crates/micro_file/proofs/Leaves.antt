@@ -19,7 +19,8 @@ use Rattle.fix_word.specs.declared.operation.Op.{Op}
 use Rattle.fix_word.specs.declared.operation.Op.TheVariants as op
 use Rattle.micro_image.specs.declared.image.Kind.{Kind}
 use Rattle.micro_image.specs.declared.image.Kind.TheVariants as kind
-use Rattle.micro_image.specs.Spells.{two_bytes, four_bytes, eight_bytes, kind_byte, operation_byte, mode_byte}
+use Rattle.micro_image.specs.Operations.{opcode}
+use Rattle.micro_image.specs.Spells.{two_bytes, four_bytes, eight_bytes, kind_byte, mode_byte}
 use Rattle.micro_image.specs.Valid.{IsWithin}
 use Rattle.micro_file.specs.declared.fields.TheConstants.{KINDS, OPERATIONS, MODES}
 use Rattle.micro_file.specs.Reading.{◌>>=◌, byte_at, byte_within, byte_below, byte_upto, number_at, number_within, signed_at, is_raw_word, raw_word_at, entry_at}
@@ -244,7 +245,7 @@ kind_places = refl
 kind_only : (b : ℕ) (x : Kind) → slice_get KINDS b ≡ Some x → kind_byte x ≡ b
 kind_only b x e = place KINDS kind_byte 8 kind_places b x e
 
-operation_there : (x : Op) → slice_get OPERATIONS (operation_byte x) ≡ Some x
+operation_there : (x : Op) → slice_get OPERATIONS (opcode x) ≡ Some x
 operation_there op.Input = refl
 operation_there op.Output = refl
 operation_there op.Const = refl
@@ -266,11 +267,11 @@ operation_there op.Store = refl
 operation_there op.Addr = refl
 
 -- the places of the table, one after the other
-operation_places : map operation_byte OPERATIONS ≡ range_with_len 0 19
+operation_places : map opcode OPERATIONS ≡ range_with_len 0 19
 operation_places = refl
 
-operation_only : (b : ℕ) (x : Op) → slice_get OPERATIONS b ≡ Some x → operation_byte x ≡ b
-operation_only b x e = place OPERATIONS operation_byte 19 operation_places b x e
+operation_only : (b : ℕ) (x : Op) → slice_get OPERATIONS b ≡ Some x → opcode x ≡ b
+operation_only b x e = place OPERATIONS opcode 19 operation_places b x e
 
 mode_there : (x : Mode) → slice_get MODES (mode_byte x) ≡ Some x
 mode_there Trunc = refl
@@ -286,8 +287,8 @@ mode_only b x e = place MODES mode_byte 2 mode_places b x e
 pub kind_reader : IsReader (λ _. Unit {0}) (λ k. one_byte (kind_byte k)) (entry_at KINDS)
 kind_reader = entry_reader KINDS kind_byte (record { there = kind_there; only = kind_only })
 
-pub operation_reader : IsReader (λ _. Unit {0}) (λ o. one_byte (operation_byte o)) (entry_at OPERATIONS)
-operation_reader = entry_reader OPERATIONS operation_byte (record { there = operation_there; only = operation_only })
+pub operation_reader : IsReader (λ _. Unit {0}) (λ o. one_byte (opcode o)) (entry_at OPERATIONS)
+operation_reader = entry_reader OPERATIONS opcode (record { there = operation_there; only = operation_only })
 
 pub mode_reader : IsReader (λ _. Unit {0}) (λ m. one_byte (mode_byte m)) (entry_at MODES)
 mode_reader = entry_reader MODES mode_byte (record { there = mode_there; only = mode_only })

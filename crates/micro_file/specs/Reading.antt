@@ -15,8 +15,9 @@ use Rattle.micro_image.specs.declared.image.Take.{Take}
 use Rattle.micro_image.specs.declared.image.UnitDesc.{UnitDesc}
 use Rattle.micro_image.specs.declared.image.Word.{Word}
 use Rattle.micro_image.specs.Fields.{nth}
+use Rattle.micro_image.specs.Operations.{kind_of, reads, is_formatted}
 use Rattle.micro_image.specs.Spells.{kind_byte}
-use Rattle.micro_image.specs.Valid.{ports, kind_of, reads, is_formatted}
+use Rattle.micro_image.specs.Valid.{ports}
 use Rattle.micro_file.specs.declared.fault.FormFault.{FormFault}
 use Rattle.micro_file.specs.declared.fault.FormFault.TheVariants as fault
 use Rattle.micro_file.specs.declared.fields.TheConstants.{KINDS, OPERATIONS, MODES}

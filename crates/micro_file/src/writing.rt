@@ -1,7 +1,8 @@
 ghost use Rattle.std.specs.Prelude.{◌≡◌, ◌<◌, ◌≤◌, ◌^◌, ◌++◌, length, IfOk, OnOk};
 ghost use Rattle.std.specs.List.{All, flat_map};
+ghost use Rattle.micro_image.specs.Operations.{opcode};
 ghost use Rattle.micro_image.specs.Valid.{IsValid};
-ghost use Rattle.micro_image.specs.Spells.{Spells, eight_bytes, kind_byte, operation_byte, mode_byte, spelled_file, spelled_memory, spelled_unit, spelled_format, spelled_issue, spelled_enable, spelled_take, spelled_word, spelling};
+ghost use Rattle.micro_image.specs.Spells.{Spells, eight_bytes, kind_byte, mode_byte, spelled_file, spelled_memory, spelled_unit, spelled_format, spelled_issue, spelled_enable, spelled_take, spelled_word, spelling};
 ghost use Rattle.micro_file.specs.Sizes.{IsShortFile, IsSmallUnit, IsSmallWord};
 
 use crate::fault::CodeFault;
@@ -16,8 +17,8 @@ fn kind_byte_of(kind: Kind) -> u8
     kind as u8
 }
 
-fn operation_byte_of(op: Op) -> u8
-    ensures { result ≡ operation_byte op }
+fn opcode_of(op: Op) -> u8
+    ensures { result ≡ opcode op }
 {
     op as u8
 }
@@ -92,7 +93,7 @@ fn put_format(out: &mut Bytes, fmt: &Format) -> Result<(), AllocError>
 fn put_issue(out: &mut Bytes, issue: &Issue) -> Result<(), AllocError>
     ensures { OnOk result (out.new ≡ out.old ++ spelled_issue issue.now) }
 {
-    out.extend_from_slice(&[issue.unit, operation_byte_of(issue.op)])?;
+    out.extend_from_slice(&[issue.unit, opcode_of(issue.op)])?;
     put_format(out, &issue.fmt)?;
     put_raw_word(out, issue.arg)?;
     out.extend_from_slice(issue.regs.as_slice())

@@ -3,6 +3,7 @@
 -- at cycle 0, the store is issued at 1 and written at the end of 2, the load of the sample before is issued at 2 and
 -- gives its result in 3, the output is at 4.
 use Rattle.std.proofs.Common.{◌≡◌, refl, ℕ, List, [], ◌∷◌, Some, None, pos, map}
+use Rattle.lists.specs.Rows.{Rows}
 use Rattle.fix_word.specs.declared.operation.Op.{Op}
 use Rattle.fix_word.specs.declared.operation.Op.TheVariants as op
 use Rattle.micro_image.specs.declared.image.Enable.{Enable}
@@ -13,7 +14,7 @@ use Rattle.micro_image.specs.declared.image.Take.{Take}
 use Rattle.micro_image.specs.declared.image.UnitDesc.{UnitDesc}
 use Rattle.micro_image.specs.declared.image.Word.{Word}
 use Rattle.micro_image.specs.Fields.{no_word, issue_at}
-use Rattle.micro_image.specs.Log.{Rows, Cell, Content, Result, value, entries_by}
+use Rattle.micro_image.specs.Log.{Cell, Content, Result, value, entries_by}
 use Rattle.micro_image.specs.Run.{spread, latches, outcome, Gives, Writes}
 use Rattle.micro_image.proofs.Increment.{plain_unit, unformatted, zeros}
 

@@ -1,6 +1,7 @@
 -- The image of y = x + 1 on four units and one bus, and what the hardware does with it, against values worked out by
 -- hand. A sample's word is taken at its cycle 0, the constant at 1, the sum at 2, and it is put at 3.
 use Rattle.std.proofs.Common.{◌≡◌, refl, List, [], ◌∷◌, Some, None, ℤ, pos, negsuc, ℕ, replicate, map}
+use Rattle.lists.specs.Rows.{Rows}
 use Rattle.fix_word.specs.declared.operation.Op.TheVariants as op
 use Rattle.fix_word.specs.declared.types.Format.{Format}
 use Rattle.fix_word.specs.declared.types.Mode.TheVariants.{Trunc}
@@ -13,7 +14,7 @@ use Rattle.micro_image.specs.declared.image.Take.{Take}
 use Rattle.micro_image.specs.declared.image.UnitDesc.{UnitDesc}
 use Rattle.micro_image.specs.declared.image.Word.{Word}
 use Rattle.micro_image.specs.Fields.{no_word}
-use Rattle.micro_image.specs.Log.{Rows, Register, Content, Result, value, entries_by}
+use Rattle.micro_image.specs.Log.{Register, Content, Result, value, entries_by}
 use Rattle.micro_image.specs.Run.{spread, latches}
 
 -- the format of an operation that has none

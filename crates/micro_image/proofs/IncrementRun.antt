@@ -1,5 +1,6 @@
 -- The image of y = x + 1 runs without a conflict, and with two units on the bus it has one.
 use Rattle.std.proofs.Common.{◌≡◌, ◌<◌, ◌≤◌, ◌==◌, refl, arith, ap, subst, sym, ◌∙◌, ◌-◌, nat_le, if◌then◌else◌, ℕ, zero, suc, Bool, true, false, List, [], ◌∷◌, count_by, find, Some, None, IsNone, pos, negsuc, ◌%◌, replicate}
+use Rattle.lists.specs.Rows.{Rows}
 use Rattle.fix_word.specs.Values.{wrap_of}
 use Rattle.micro_image.specs.declared.conflict.ConflictKind.{ConflictKind}
 use Rattle.micro_image.specs.declared.conflict.ConflictKind.TheVariants.{Busy, TwoDrivers, FileTwice, NoDriver, NoResult, Address}
@@ -10,7 +11,8 @@ use Rattle.micro_image.specs.declared.image.Take.{Take}
 use Rattle.micro_image.specs.declared.image.Word.{Word}
 use Rattle.micro_image.specs.Conflict.{HasConflict, IsClear, IsConflict, IsMemory, file_of, rank}
 use Rattle.micro_image.specs.Fields.{delay_of, nth, no_word, unit_of, word_at, issue_at}
-use Rattle.micro_image.specs.Log.{Entry, Rows, Result, Log, given, gives, value, entries_by}
+use Rattle.micro_image.specs.Operations.{gives}
+use Rattle.micro_image.specs.Log.{Entry, Result, Log, given, value, entries_by}
 use Rattle.micro_image.specs.Run.{IsRunOut}
 use Rattle.micro_image.proofs.Increment.{increment, image_of, fetch, sum}
 use Rattle.micro_image.proofs.IncrementFile.{two_drivers}

@@ -1,7 +1,8 @@
 -- What a cycle writes to a place is what the place holds in the next.
 use Rattle.std.proofs.Common.{◌≡◌, ◌≤◌, ⊎_elim, refl, arith, ℕ, suc, Bool, true, false, ◌&&◌, nat_lt, List, ◌++◌, Option, ℤ}
+use Rattle.lists.specs.Rows.{Rows}
 use Rattle.micro_image.specs.declared.image.Image.{Image}
-use Rattle.micro_image.specs.Log.{Place, Entry, Rows, same_place, stamp_le, initial, value_or, Log, Content, entries_by}
+use Rattle.micro_image.specs.Log.{Place, Entry, same_place, stamp_le, initial, value_or, Log, Content, entries_by}
 use Rattle.micro_image.proofs.Each.{In, In-append_left, In-append_cases, Each, Each-at}
 use Rattle.micro_image.proofs.LogLaws.{IsBefore, entries-of_cycle, Log-before}
 use Rattle.micro_image.proofs.Newest.{IsNewest, unwritten, greatest, newest-greatest}

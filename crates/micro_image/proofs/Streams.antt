@@ -6,10 +6,10 @@ use Rattle.std.proofs.lemmas.Grind.{flat_map-append}
 use Rattle.std.proofs.lemmas.List.{get_or-append-add, get_or-replicate, length-append, length-replicate}
 use Rattle.std.proofs.lemmas.List.FromFn.{take-map-range_with_len, map-range_with_len_more}
 use Rattle.std.specs.List.{range_with_len}
+use Rattle.lists.specs.Rows.{Rows}
 use Rattle.micro_image.specs.declared.image.Image.{Image}
 use Rattle.micro_image.specs.Conflict.{IsClear, IsClearBelow}
 use Rattle.micro_image.specs.Fields.{nth}
-use Rattle.micro_image.specs.Log.{Rows}
 use Rattle.micro_image.specs.Run.{IsRunOut, latches, spread}
 use Rattle.micro_image.proofs.Lists.{In-range, map-same}
 use Rattle.micro_image.proofs.Prefix.{IsClearBelow-with, IsClearBelow-without, latches-prefix}

@@ -1,3 +1,4 @@
+pub mod Operations
 pub mod Valid
 pub mod Fields
 pub mod Log

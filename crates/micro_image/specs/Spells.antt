@@ -6,8 +6,6 @@ use Rattle.std.specs.Int.{w8, w16, w32, w64, to_be_bytes, cast_unsigned}
 use Rattle.fix_word.specs.declared.types.Format.{Format}
 use Rattle.fix_word.specs.declared.types.Mode.{Mode}
 use Rattle.fix_word.specs.declared.types.Mode.TheVariants.{Trunc, Round}
-use Rattle.fix_word.specs.declared.operation.Op.{Op}
-use Rattle.fix_word.specs.declared.operation.Op.TheVariants as op
 use Rattle.micro_image.specs.declared.image.Enable.{Enable}
 use Rattle.micro_image.specs.declared.image.Image.{Image}
 use Rattle.micro_image.specs.declared.image.Issue.{Issue}
@@ -16,6 +14,7 @@ use Rattle.micro_image.specs.declared.image.Kind.TheVariants as kind
 use Rattle.micro_image.specs.declared.image.Take.{Take}
 use Rattle.micro_image.specs.declared.image.UnitDesc.{UnitDesc}
 use Rattle.micro_image.specs.declared.image.Word.{Word}
+use Rattle.micro_image.specs.Operations.{opcode}
 use Rattle.micro_image.specs.Valid.{IsValid}
 
 -- a number in 2 bytes
@@ -40,28 +39,6 @@ kind_byte kind.Mul = 4
 kind_byte kind.Sel = 5
 kind_byte kind.Ram = 6
 kind_byte kind.Acu = 7
-
--- the number of an operation: its position in the list of all
-abbrev pub operation_byte : Op → ℕ
-operation_byte op.Input = 0
-operation_byte op.Output = 1
-operation_byte op.Const = 2
-operation_byte op.Add = 3
-operation_byte op.Sub = 4
-operation_byte op.Neg = 5
-operation_byte op.Pass = 6
-operation_byte op.Lt = 7
-operation_byte op.Le = 8
-operation_byte op.Eq = 9
-operation_byte op.Ne = 10
-operation_byte op.And = 11
-operation_byte op.Or = 12
-operation_byte op.Not = 13
-operation_byte op.Mul = 14
-operation_byte op.Sel = 15
-operation_byte op.Load = 16
-operation_byte op.Store = 17
-operation_byte op.Addr = 18
 
 -- the number of a rounding mode
 abbrev pub mode_byte : Mode → ℕ
@@ -91,7 +68,7 @@ spelled_format fmt = cast_unsigned w8 fmt.shift ∷ mode_byte fmt.mode ∷ fmt.w
 -- unit, operation, format, argument, a register for each port
 unfoldable pub spelled_issue : Issue → List ℕ
 spelled_issue issue =
-    issue.unit ∷ operation_byte issue.op ∷ []
+    issue.unit ∷ opcode issue.op ∷ []
     ++ spelled_format issue.fmt ++ eight_bytes issue.arg ++ issue.regs
 
 -- unit, bus

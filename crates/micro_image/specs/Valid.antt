@@ -6,7 +6,6 @@ use Rattle.fix_word.specs.Words.{IsWord, IsFormat}
 use Rattle.fix_word.specs.declared.types.Format.{Format}
 use Rattle.fix_word.specs.declared.types.Mode.TheVariants.{Trunc}
 use Rattle.fix_word.specs.declared.operation.Op.{Op}
-use Rattle.fix_word.specs.declared.operation.Op.TheVariants as op
 use Rattle.micro_image.specs.declared.image.Enable.{Enable}
 use Rattle.micro_image.specs.declared.image.Image.{Image}
 use Rattle.micro_image.specs.declared.image.Issue.{Issue}
@@ -17,6 +16,7 @@ use Rattle.micro_image.specs.declared.image.Take.{Take}
 use Rattle.micro_image.specs.declared.image.UnitDesc.{UnitDesc}
 use Rattle.micro_image.specs.declared.image.Word.{Word}
 use Rattle.micro_image.specs.Fields.{nth}
+use Rattle.micro_image.specs.Operations.{Argument, nothing, input_word, output_word, raw_word, offset, operation, kind_of, reads, is_formatted}
 
 -- low ≤ n ≤ high
 abbrev pub IsWithin : ℕ → ℕ → ℕ → Type 0
@@ -38,62 +38,9 @@ ports kind.Sel = 3
 ports kind.Ram = 2
 ports kind.Acu = 0
 
--- the kind of the units that do an operation
-abbrev pub kind_of : Op → Kind
-kind_of op.Input = kind.Input
-kind_of op.Output = kind.Output
-kind_of op.Const = kind.Rom
-kind_of op.Add = kind.Alu
-kind_of op.Sub = kind.Alu
-kind_of op.Neg = kind.Alu
-kind_of op.Pass = kind.Alu
-kind_of op.Lt = kind.Alu
-kind_of op.Le = kind.Alu
-kind_of op.Eq = kind.Alu
-kind_of op.Ne = kind.Alu
-kind_of op.And = kind.Alu
-kind_of op.Or = kind.Alu
-kind_of op.Not = kind.Alu
-kind_of op.Mul = kind.Mul
-kind_of op.Sel = kind.Sel
-kind_of op.Load = kind.Ram
-kind_of op.Store = kind.Ram
-kind_of op.Addr = kind.Acu
-
--- how many ports an operation reads, from port 0 on
-abbrev pub reads : Op → ℕ
-reads op.Input = 0
-reads op.Const = 0
-reads op.Addr = 0
-reads op.Output = 1
-reads op.Neg = 1
-reads op.Pass = 1
-reads op.Not = 1
-reads op.Load = 1
-reads op.Add = 2
-reads op.Sub = 2
-reads op.Lt = 2
-reads op.Le = 2
-reads op.Eq = 2
-reads op.Ne = 2
-reads op.And = 2
-reads op.Or = 2
-reads op.Mul = 2
-reads op.Store = 2
-reads op.Sel = 3
-
 -- shift 0, trunc and width 0
 abbrev pub IsNoFormat : Format → Type 0
 IsNoFormat fmt = fmt ≡ record { shift = pos 0; mode = Trunc; width = 0 }
-
--- the operations that bring an exact result to a word by their format
-abbrev pub is_formatted : Op → Bool
-is_formatted op.Add = true
-is_formatted op.Sub = true
-is_formatted op.Neg = true
-is_formatted op.Pass = true
-is_formatted op.Mul = true
-is_formatted _ = false
 
 -- a format where there is to be one, and else none
 abbrev pub IsFormatWhere : Bool → Format → Type 0
@@ -104,13 +51,20 @@ IsFormatWhere false = IsNoFormat
 abbrev pub IsFormatFor : Op → Format → Type 0
 IsFormatFor op = IsFormatWhere (is_formatted op)
 
--- the argument of an operation, where there are so many input and output words
-abbrev pub IsArgument : Op → ℕ → ℕ → ℤ → Type 0
-IsArgument op.Input inputs outs argument = IsBelow inputs argument
-IsArgument op.Output inputs outs argument = IsBelow outs argument
-IsArgument op.Const inputs outs argument = IsWord 32 argument
-IsArgument op.Addr inputs outs argument = IsBelow 65536 argument
-IsArgument _ inputs outs argument = argument ≡ pos 0
+-- the most that an offset of an address may be, and one
+abbrev pub offsets : ℕ
+offsets = 65536
+
+-- an argument of the kind, where there are so many input and output words
+abbrev pub IsArgumentOf : Argument → (inputs outs : ℕ) → ℤ → Type 0
+IsArgumentOf nothing inputs outs argument = argument ≡ pos 0
+IsArgumentOf input_word inputs outs argument = IsBelow inputs argument
+IsArgumentOf output_word inputs outs argument = IsBelow outs argument
+IsArgumentOf raw_word inputs outs argument = IsWord 32 argument
+IsArgumentOf offset inputs outs argument = IsBelow offsets argument
+
+abbrev pub IsArgument : Op → (inputs outs : ℕ) → ℤ → Type 0
+IsArgument o = IsArgumentOf (operation o).argument
 
 -- a register file: 1 to 256 raw words
 pub record IsFile (file : List ℤ) : Type 0 where

@@ -1,6 +1,7 @@
 ghost use Rattle.std.specs.Prelude.{◌≡◌};
 ghost use Rattle.micro_image.specs.Fields.{word_at};
-ghost use Rattle.micro_image.specs.Valid.{IsValid, kind_of, ports};
+ghost use Rattle.micro_image.specs.Operations.{kind_of};
+ghost use Rattle.micro_image.specs.Valid.{IsValid, ports};
 
 use fix_word::{Format, Op};
 use lists::List;

@@ -1,5 +1,5 @@
 ghost use Rattle.std.specs.Prelude.{◌≡◌};
-ghost use Rattle.micro_image.specs.Valid.{is_formatted as is_formatted_in, reads as reads_in};
+ghost use Rattle.micro_image.specs.Operations.{is_formatted as is_formatted_in, reads as reads_in};
 
 use fix_word::Op;
 

@@ -2,9 +2,10 @@
 use Rattle.std.proofs.Common.{◌≡◌, refl, sym, subst, arith, ℕ, zero, suc, ◌%◌, ◌<◌, ◌≤◌, ◌==◌, Bool, true, false, List, [], ◌∷◌, length, count_by, Some}
 use Rattle.std.proofs.lemmas.List.Sums.{count_by-le-length}
 use Rattle.std.specs.List.{find}
+use Rattle.lists.specs.Rows.{Rows}
 use Rattle.micro_image.specs.Conflict.{IsClear, IsMemory, file_of}
 use Rattle.micro_image.specs.Fields.{nth, no_word, unit_of}
-use Rattle.micro_image.specs.Log.{Rows, gives}
+use Rattle.micro_image.specs.Operations.{gives}
 use Rattle.micro_image.specs.declared.conflict.ConflictKind.TheVariants.{Busy, TwoDrivers, FileTwice, NoDriver, NoResult, Address}
 use Rattle.micro_image.specs.declared.image.Issue.{Issue}
 use Rattle.micro_image.specs.declared.image.Word.{Word}

@@ -2,9 +2,11 @@
 use Rattle.std.proofs.Common.{◌≡◌, refl, sym, subst, ◌∙◌, arith, ℕ, suc, true, false, Some, IsNone, [], ◌∷◌}
 use Rattle.std.proofs.Math.Dec.{leb-zero}
 use Rattle.std.proofs.Math.Nat.{sub-zero}
+use Rattle.lists.specs.Rows.{Rows}
 use Rattle.micro_image.specs.Conflict.{IsBusy}
 use Rattle.micro_image.specs.Fields.{unit_of, issue_at, began, ending}
-use Rattle.micro_image.specs.Log.{Rows, Place, Entry, same_place, Log, Content, Result, given, gives, value, entries_by}
+use Rattle.micro_image.specs.Operations.{gives}
+use Rattle.micro_image.specs.Log.{Place, Entry, same_place, Log, Content, Result, given, value, entries_by}
 use Rattle.micro_image.specs.declared.image.Image.{Image}
 use Rattle.micro_image.specs.declared.image.Issue.{Issue}
 use Rattle.micro_image.proofs.Each.{Each, none, more, In, here}

@@ -1,9 +1,10 @@
 -- The image of a serial plan, run on a stream, puts the words of the program's solution.
 use Rattle.std.proofs.Common.{◌≡◌, refl, sym, ap, ap₂, ◌∙◌, subst, arith, ℕ, zero, suc, ◌+◌, ◌*◌, ◌<◌, ◌≤◌, List, [], ◌∷◌, length, map, ℤ, pos}
 use Rattle.std.specs.List.{range_with_len}
+use Rattle.lists.specs.Rows.{Rows}
 use Rattle.fix_word.specs.Values.{wrap_of}
 use Rattle.micro_image.specs.Fields.{nth}
-use Rattle.micro_image.specs.Log.{Rows, Place, Register, Latch, Entry, Log, Content}
+use Rattle.micro_image.specs.Log.{Place, Register, Latch, Entry, Log, Content}
 use Rattle.micro_image.specs.Run.{spread, latches, IsRunOut}
 use Rattle.micro_image.proofs.Streams.{nth-spread}
 use Rattle.silage_tree.specs.OneLine.{exact, result_word, result_row}

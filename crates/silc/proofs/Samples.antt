@@ -6,11 +6,11 @@ use Rattle.std.proofs.lemmas.Int.{ints}
 use Rattle.std.proofs.lemmas.List.{ext_get_or, length-map}
 use Rattle.std.proofs.lemmas.List.Elements.{All-head, All-tail, All-cons, All-nil, All-weaker}
 use Rattle.std.proofs.lemmas.List.FromFn.{length-map-range_with_len, get_or-map-range_with_len, take-map-range_with_len, map-range_with_len_more}
+use Rattle.lists.specs.Rows.{Rows}
 use Rattle.cycle_sim.specs.Machine.{IsOperand}
 use Rattle.desk_core.specs.View.{Name, Content, View}
 use Rattle.desk_core.specs.Desk.{WhereSpecified, content_of}
 use Rattle.desk_core.specs.Whole.{IsReadThrough}
-use Rattle.micro_image.specs.Log.{Rows}
 use Rattle.micro_image.specs.Valid.{IsValid, IsWithin}
 use Rattle.micro_image.specs.declared.image.Image.{Image}
 use Rattle.sample_io.specs.declared.channel.Channel.{Channel}

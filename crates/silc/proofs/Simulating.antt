@@ -5,6 +5,7 @@ use Rattle.std.specs.Prelude.{String}
 use Rattle.std.proofs.Math.Nat.{mul-mod_left, mul-lt-mul_of_pos_right}
 use Rattle.std.proofs.lemmas.Grind.{flat_map-append}
 use Rattle.std.proofs.lemmas.List.{append-nil}
+use Rattle.lists.specs.Rows.{Rows}
 use Rattle.cycle_sim.specs.Machine.{Snapshot, state_of, IsAtSample, IsFirstOfSample}
 use Rattle.desk_core.specs.View.{Name, Content, View}
 use Rattle.desk_core.specs.Desk.{HasOutput, IfSpecified, WhereSpecified, IsPut, FaultsNeverFall, IsUnchanged}
@@ -14,7 +15,6 @@ use Rattle.desk_core.proofs.WholeLemmas.{through_from}
 use Rattle.micro_image.specs.declared.conflict.Conflict.{Conflict}
 use Rattle.micro_image.specs.declared.image.Image.{Image}
 use Rattle.micro_image.specs.Conflict.{IsConflict, IsClearBelow}
-use Rattle.micro_image.specs.Log.{Rows}
 use Rattle.micro_image.specs.Run.{Stands, latches, spread}
 use Rattle.micro_image.proofs.Prefix.{IsConflict-with, IsClearBelow-with}
 use Rattle.micro_image.proofs.Streams.{length-spread, spread-append, IsRunOut-more}

@@ -8,7 +8,8 @@ use Rattle.std.specs.List.Sorted.{IsStrictlyIncreasing}
 use Rattle.fix_word.specs.Words.{IsWord, IsFormat}
 use Rattle.fix_word.specs.declared.types.Format.{Format}
 use Rattle.micro_image.specs.Fields.{nth, no_word}
-use Rattle.micro_image.specs.Valid.{IsFile, IsUnit, IsIssue, IsEnable, IsTake, IsWordOf, IsValid, IsFormatFor, IsArgument, AreRegisters, EnableBefore, TakeBefore, ports, kind_of, reads}
+use Rattle.micro_image.specs.Operations.{kind_of, reads}
+use Rattle.micro_image.specs.Valid.{IsFile, IsUnit, IsIssue, IsEnable, IsTake, IsWordOf, IsValid, IsFormatFor, IsArgument, AreRegisters, EnableBefore, TakeBefore, ports}
 use Rattle.micro_image.specs.declared.image.Enable.{Enable}
 use Rattle.micro_image.specs.declared.image.Issue.{Issue}
 use Rattle.micro_image.specs.declared.image.Kind.{Kind}

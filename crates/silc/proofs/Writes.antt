@@ -2,9 +2,10 @@
 use Rattle.std.proofs.Common.{◌≡◌, refl, arith, ℕ, ℤ, Bool, true, false, zero, suc, ◌%◌, ◌≤◌, List, [], ◌∷◌, replicate, pos}
 use Rattle.std.proofs.Math.Dec.{leb-zero}
 use Rattle.std.proofs.Math.Nat.{sub-zero}
+use Rattle.lists.specs.Rows.{Rows}
 use Rattle.fix_word.specs.Values.{wrap_of}
 use Rattle.micro_image.specs.Fields.{nth, no_word}
-use Rattle.micro_image.specs.Log.{Rows, Register, Latch, Entry, content, entries_by, value}
+use Rattle.micro_image.specs.Log.{Register, Latch, Entry, content, entries_by, value}
 use Rattle.silage_tree.specs.OneLine.{exact}
 use Rattle.silc.specs.Serial.{serial_image, serial_words}
 use Rattle.silc.specs.declared.one_line.OneLine.{OneLine}

@@ -1,7 +1,7 @@
 -- What `compile` promises of the microcode that it writes.
 use Rattle.std.specs.Prelude.{◌≡◌, ℕ, List, length}
+use Rattle.lists.specs.Rows.{Rows}
 use Rattle.micro_image.specs.declared.image.Image.{Image}
-use Rattle.micro_image.specs.Log.{Rows}
 use Rattle.micro_image.specs.Run.{IsRunOut}
 use Rattle.micro_image.specs.Spells.{Spells}
 use Rattle.silage_tree.specs.Tree.{Program}

@@ -1,6 +1,7 @@
 -- What `sim MIC SAMPLES OUT` reads and runs, when each of its statuses comes, and what it leaves.
 use Rattle.std.specs.Prelude.{◌≡◌, ◌⊎◌, ℕ, zero, suc, ◌+◌, ◌-◌, ◌*◌, ◌/◌, ◌<◌, ◌≤◌, ◌^◌, List, length, map, slice_range, ℤ, pos, neg_ℤ}
 use Rattle.std.specs.List.{range_with_len}
+use Rattle.lists.specs.Rows.{Rows}
 use Rattle.cycle_sim.specs.Machine.{Snapshot, state_of}
 use Rattle.desk_core.specs.View.{Name, Content, Files, View}
 use Rattle.desk_core.specs.Desk.{IfSpecified, WhereSpecified, ReadFaultsRose, IsPut, content_of}
@@ -9,7 +10,6 @@ use Rattle.micro_file.specs.declared.fault.FormFault.TheVariants as form
 use Rattle.micro_image.specs.declared.conflict.Conflict.{Conflict}
 use Rattle.micro_image.specs.declared.image.Image.{Image}
 use Rattle.micro_image.specs.Conflict.{IsConflict, IsClearBelow}
-use Rattle.micro_image.specs.Log.{Rows}
 use Rattle.micro_image.specs.Run.{Stands, IsRunOut, spread}
 use Rattle.micro_image.specs.Spells.{Spells}
 use Rattle.sample_io.specs.declared.channel.Channel.{Channel}

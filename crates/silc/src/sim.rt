@@ -1,10 +1,10 @@
 //! `sim MIC SAMPLES OUT`: from the bytes of microcode and samples to the rows that the microcode puts.
 ghost use Rattle.std.specs.Prelude.{◌≡◌, ◌≢◌, ◌<◌, ◌≤◌, ◌^◌, [], ◌∷◌, ◌++◌, length, map, slice_index_or, Err, IfOk, IfErr, OnOk};
 ghost use Rattle.std.specs.List.{All};
+ghost use Rattle.lists.specs.Rows.{Rows};
 ghost use Rattle.cycle_sim.specs.Machine.{IsOperand};
 ghost use Rattle.desk_core.specs.Desk.{FaultsNeverFall, WhereSpecified, content_of};
 ghost use Rattle.desk_core.specs.Whole.{IsReadThrough};
-ghost use Rattle.micro_image.specs.Log.{Rows};
 ghost use Rattle.micro_image.specs.Valid.{IsValid};
 ghost use Rattle.sample_io.specs.Channels.{IsChannel};
 ghost use Rattle.silc.specs.Endings.{UsesOnly};

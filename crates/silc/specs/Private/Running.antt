@@ -1,13 +1,13 @@
 -- What the steps of `sim` give: a machine, a stream, and the run of the one over the other.
 use Rattle.std.specs.Prelude.{◌≡◌, ◌⊎◌, ℕ, ◌<◌, ◌^◌, List, [], length, ℤ}
 use Rattle.std.specs.List.{All}
+use Rattle.lists.specs.Rows.{Rows}
 use Rattle.cycle_sim.specs.Machine.{IsOperand, Snapshot, state_of}
 use Rattle.desk_core.specs.View.{Name, Content, View}
 use Rattle.desk_core.specs.Desk.{WhereSpecified, ReadFaultsRose, content_of}
 use Rattle.desk_core.specs.Whole.{IsAbove, IsReadThrough}
 use Rattle.micro_file.specs.declared.fault.FormFault.TheVariants as form
 use Rattle.micro_image.specs.declared.image.Image.{Image}
-use Rattle.micro_image.specs.Log.{Rows}
 use Rattle.micro_image.specs.Run.{Stands}
 use Rattle.micro_image.specs.Spells.{Spells}
 use Rattle.micro_image.specs.Valid.{IsValid, IsWithin}
