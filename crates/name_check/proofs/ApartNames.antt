@@ -1,9 +1,9 @@
 -- Where tables and functions have different names, the first top with a name is the only one.
 use Rattle.std.proofs.Common.{◌≡◌, ◌≢◌, ◌∙◌, ℕ, suc, List, [], ◌∷◌, Option, Some, None, Bool, true, false, cond, map, find, filter_map, slice_get, refl, sym, ap, arith, bytes_eq}
 use Rattle.std.proofs.lemmas.Slice.Eq.{bytes_eq-Decides}
-use Rattle.silage_tree.specs.declared.tree.ConstDef.{ConstDef}
-use Rattle.silage_tree.specs.Tree.{Func, Top, table, function, Program}
-use Rattle.silage_tree.specs.Names.{as_table, as_function, table_named, function_named}
+use Rattle.silage_syntax.specs.declared.tree.ConstDef.{ConstDef}
+use Rattle.silage_syntax.specs.Tree.{Func, Top, table, function, Program}
+use Rattle.silage_syntax.specs.Names.{as_table, as_function, table_named, function_named}
 use Rattle.name_check.specs.TopNames.{top_name, top_names}
 use Rattle.name_check.specs.Private.FirstTops.{IsDistinct}
 

@@ -5,8 +5,8 @@ use Rattle.std.specs.List.{filter_map, cons_option}
 use Rattle.std.proofs.lemmas.List.{length-map, map-append, take_more, take_all}
 use Rattle.std.proofs.lemmas.List.Elements.{Contains-push, Contains-append_left, Contains-append_right, Contains-append_cases}
 use Rattle.std.proofs.lemmas.Option.{slice_get_within, slice_get-map, get_or_from_slice_get}
-use Rattle.silage_tree.specs.declared.tree.Top.{Top as RustTop}
-use Rattle.silage_tree.specs.Tree.{Top, Program, view_top}
+use Rattle.silage_syntax.specs.declared.tree.Top.{Top as RustTop}
+use Rattle.silage_syntax.specs.Tree.{Top, Program, view_top}
 use Rattle.name_check.specs.TopNames.{top_name, top_names}
 use Rattle.name_check.specs.Calls.{called_by, Calls, Reaches, by_call, by_calls}
 use Rattle.name_check.specs.Private.FirstTops.{HasNoRecursion, IsFirstRecursive}

@@ -1,35 +1,20 @@
--- The positions of what items call, item by item, and the items of a loop.
-use Rattle.std.proofs.Common.{◌≡◌, ℕ, ◌+◌, ◌<◌, ◌≤◌, List, [], ◌∷◌, ◌++◌, Vec, Option, length, get_or, take, refl, sym, ap, subst, ◌∙◌, map, Result, Ok, Err}
+-- The positions of what items call, item by item.
+use Rattle.std.proofs.Common.{◌≡◌, ℕ, ◌+◌, ◌<◌, ◌≤◌, List, [], ◌∷◌, ◌++◌, Vec, Option, length, get_or, take, refl, sym, ap, subst, ◌∙◌, Result, Ok, Err}
 use Rattle.std.specs.Prelude.{Contains, OnOk}
 use Rattle.std.specs.Global.{Global}
 use Rattle.std.specs.List.{flat_map, cons_option}
 use Rattle.std.proofs.lemmas.Grind.{flat_map-append}
 use Rattle.std.proofs.lemmas.List.{append-nil, take_more, take_all}
 use Rattle.std.proofs.lemmas.List.Elements.{filter_map-append}
-use mathlib.Core.Former.{Count}
 use mathlib.Core.List.{append_assoc}
-use Rattle.silage_tree.specs.declared.tree.Manifest.{Manifest as RustManifest}
-use Rattle.silage_tree.specs.declared.tree.Item.{Item as RustItem, Loop, Loop', Row_of-Item, end_of-Item, more_of-Item, items-the_row-Item, items_hidden-the_row-Item-0}
-use Rattle.silage_tree.specs.Tree.{loop, item, items_of, view_manifest, view_item, view_row, view_items}
+use Rattle.silage_syntax.specs.declared.tree.Manifest.{Manifest as RustManifest}
+use Rattle.silage_syntax.specs.declared.tree.Item.{Item as RustItem, Loop}
+use Rattle.silage_syntax.specs.Tree.{view_item, view_items}
+use Rattle.silage_syntax.proofs.Rows.{view_Loop}
 use Rattle.name_check.specs.TopNames.{IsFirstPlace}
 use Rattle.name_check.specs.Calls.{called, all_called}
 use Rattle.name_check.specs.Private.CallLists.{place, places}
 use Rattle.name_check.proofs.FirstPlaces.{place_found, place_missing}
-
-row_items : (m : _) (k : Row_of-Item m) → view_row k ≡ items_of (map view_item (items-the_row-Item m k))
-row_items _ end_of-Item = refl
-row_items _ (more_of-Item {n = n} x rest) = ap (λ xs. item (view_item x) xs) (row_items n rest)
-
-abbrev row_of_loop : RustItem → (n : Count) × Row_of-Item n
-row_of_loop (Loop' index lo hi shape row at) = (_, row)
-row_of_loop _ = (_, end_of-Item)
-
--- a loop shows the items that it was made of
-view_Loop : (index : List ℕ) (lo hi : RustManifest) (v : Vec RustItem Global) (at : ℕ) → view_item (Loop index lo hi v at) ≡ loop index (view_manifest lo) (view_manifest hi) (view_items v.items) at
-view_Loop index lo hi v at =
-    let row = row_of_loop (Loop index lo hi v at) in
-    let same = items_hidden-the_row-Item-0 v in
-    ap (λ xs. loop index (view_manifest lo) (view_manifest hi) xs at) (row_items row.0 row.1 ∙ ap view_items same)
 
 pub loop_called : (index : List ℕ) (lo hi : RustManifest) (v : Vec RustItem Global) (at : ℕ) → called (view_item (Loop index lo hi v at)) ≡ all_called (view_items v.items)
 loop_called index lo hi v at = ap called (view_Loop index lo hi v at)

@@ -4,9 +4,9 @@ use Rattle.std.proofs.lemmas.List.{map-append, take_more, take_all, drop_more, d
 use Rattle.ranked_faults.specs.Rules.{parts, unless, none, ◌▸◌}
 use Rattle.ranked_faults.specs.Private.FirstMet.{first, first_in, ◌>>◌, MeetsOr}
 use Rattle.ranked_faults.proofs.TableFaults.{then_assoc}
-use Rattle.silage_tree.specs.declared.tree.Decl.{Decl}
-use Rattle.silage_tree.specs.Tree.{Func}
-use Rattle.silage_tree.specs.Names.{decls}
+use Rattle.silage_syntax.specs.declared.tree.Decl.{Decl}
+use Rattle.silage_syntax.specs.Tree.{Func}
+use Rattle.silage_syntax.specs.Names.{decls}
 use Rattle.name_check.specs.Meanings.{is_among, names_of, are_dims, is_signal_type}
 use Rattle.name_check.specs.NameRules.{decl_rules, signal_rules}
 use Rattle.name_check.specs.declared.fault.NameFault.{NameFault}

@@ -5,11 +5,11 @@ use Rattle.ranked_faults.specs.Private.FirstMet.{first}
 use Rattle.fix_word.specs.declared.types.FixType.{FixType}
 use Rattle.fix_word.specs.declared.types.Mode.TheVariants.{Trunc}
 use Rattle.fix_word.specs.declared.types.SigType.TheVariants as sig
-use Rattle.silage_tree.specs.declared.tree.BinOp.TheVariants as op
-use Rattle.silage_tree.specs.declared.tree.Decl.{Decl}
-use Rattle.silage_tree.specs.declared.tree.Lit.{Lit}
-use Rattle.silage_tree.specs.declared.tree.Lit.TheVariants.{Number}
-use Rattle.silage_tree.specs.Tree.{Manifest, whole, counter, Place, Expr, literal, read, binary, cast, equation, call, loop, initial, Item, no_item, items_of, Top, table, function, Program}
+use Rattle.silage_syntax.specs.declared.tree.BinOp.TheVariants as op
+use Rattle.silage_syntax.specs.declared.tree.Decl.{Decl}
+use Rattle.silage_syntax.specs.declared.tree.Lit.{Lit}
+use Rattle.silage_syntax.specs.declared.tree.Lit.TheVariants.{Number}
+use Rattle.silage_syntax.specs.Tree.{Manifest, whole, counter, Place, Expr, literal, read, binary, cast, equation, call, loop, initial, Item, no_item, items_of, Top, table, function, Program}
 use Rattle.name_check.specs.Private.FirstTops.{IsDistinct}
 use Rattle.name_check.specs.Calls.{Calls, by_call, by_calls}
 use Rattle.name_check.specs.Private.FirstTops.{HasNoRecursion}

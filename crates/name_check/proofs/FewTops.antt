@@ -3,12 +3,12 @@ use Rattle.std.proofs.Common.{arith, ℕ, ◌+◌, ◌≤◌, List, length}
 use Rattle.fix_word.specs.declared.types.FixType.{FixType}
 use Rattle.fix_word.specs.declared.types.SigType.{SigType}
 use Rattle.silage_lex.specs.declared.Token.{Token}
-use Rattle.silage_tree.specs.declared.tree.Decl.{Decl}
-use Rattle.silage_tree.specs.declared.tree.Lit.{Lit}
-use Rattle.silage_tree.specs.Grammar as g
-use Rattle.silage_tree.specs.Grammar.{Declared, IsSigned, IsList, IsDims, IsFix, IsType, IsDeclared, IsDecl, IsLocals, IsResults, IsWords, IsTop, IsTops, Role, Derives}
-use Rattle.silage_tree.specs.Tree.{Top, Program}
-use Rattle.silage_tree.proofs.Rising.{items_rise}
+use Rattle.silage_syntax.specs.declared.tree.Decl.{Decl}
+use Rattle.silage_syntax.specs.declared.tree.Lit.{Lit}
+use Rattle.silage_syntax.specs.Grammar as g
+use Rattle.silage_syntax.specs.Grammar.{Declared, IsSigned, IsList, IsDims, IsFix, IsType, IsDeclared, IsDecl, IsLocals, IsResults, IsWords, IsTop, IsTops, Role, Derives}
+use Rattle.silage_syntax.specs.Tree.{Top, Program}
+use Rattle.silage_syntax.proofs.Rising.{items_rise}
 
 module _ (ts : List Token) where
   list_rises : {A : Type 0} (One : ℕ → A → ℕ → Type 0) → ((i : ℕ) (x : A) (j : ℕ) → One i x j → i ≤ j) → (i : ℕ) (xs : List A) (j : ℕ) → IsList ts A One i xs j → i ≤ j

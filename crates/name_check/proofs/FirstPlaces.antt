@@ -10,8 +10,8 @@ use Rattle.std.proofs.lemmas.Map.Views.{Contains-from_any, list_any-from_Contain
 use Rattle.std.proofs.lemmas.Option.{slice_get-get_or, slice_get_within, get_or_from_slice_get, slice_get-map, slice_get_read}
 use Rattle.std.proofs.lemmas.Slice.Eq.{bytes_eq-Decides}
 use Rattle.std.proofs.lemmas.Cmp.{nat_list_eq_equiv}
-use Rattle.silage_tree.specs.declared.tree.Top.{Top as RustTop}
-use Rattle.silage_tree.specs.Tree.{Top, Program, view_top}
+use Rattle.silage_syntax.specs.declared.tree.Top.{Top as RustTop}
+use Rattle.silage_syntax.specs.Tree.{Top, Program, view_top}
 use Rattle.name_check.specs.declared.fault.NameFault.{NameFault}
 use Rattle.name_check.specs.declared.fault.NameFault.TheVariants.{Twice}
 use Rattle.name_check.specs.TopNames.{top_name, top_at, top_names, IsFirstPlace, IsDuplicate}

@@ -8,10 +8,10 @@ use Rattle.std.proofs.lemmas.Cmp.{nat_list_eq_equiv}
 use Rattle.std.proofs.lemmas.Map.Views.{Contains-from_any, list_any-from_Contains}
 use Rattle.std.proofs.lemmas.Option.{slice_get-map}
 use Rattle.std.proofs.lemmas.Slice.Eq.{bytes_eq-Decides}
-use Rattle.silage_tree.specs.declared.tree.Decl.{Decl}
-use Rattle.silage_tree.specs.declared.tree.Top.{Top as RustTop}
-use Rattle.silage_tree.specs.Tree.{Func, view_top}
-use Rattle.silage_tree.specs.Names.{declared, decls}
+use Rattle.silage_syntax.specs.declared.tree.Decl.{Decl}
+use Rattle.silage_syntax.specs.declared.tree.Top.{Top as RustTop}
+use Rattle.silage_syntax.specs.Tree.{Func, view_top}
+use Rattle.silage_syntax.specs.Names.{declared, decls}
 use Rattle.name_check.specs.Meanings.{is_among, names_of}
 use Rattle.name_check.specs.TopNames.{top_name, IsFirstPlace}
 use Rattle.name_check.proofs.FirstPlaces.{answered}

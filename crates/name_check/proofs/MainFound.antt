@@ -4,10 +4,9 @@ use Rattle.std.specs.Option.{ok_or}
 use Rattle.std.proofs.lemmas.Option.{slice_get-map, slice_get_read}
 use Rattle.ranked_faults.specs.Ranked.{IsClear, IsFirst}
 use Rattle.ranked_faults.proofs.FirstFaults.{one_first}
-use Rattle.silage_tree.specs.declared.tree.Top.{Top as RustTop}
-use Rattle.silage_tree.specs.Tree.{Func, Top, table, function, Program, view_top}
-use Rattle.silage_tree.specs.Names.{as_function}
-use Rattle.silage_tree.specs.Instances.{main_of}
+use Rattle.silage_syntax.specs.declared.tree.Top.{Top as RustTop}
+use Rattle.silage_syntax.specs.Tree.{Func, Top, table, function, Program, view_top}
+use Rattle.silage_syntax.specs.Names.{as_function, main_of}
 use Rattle.name_check.specs.Private.FirstTops.{is_main}
 use Rattle.name_check.specs.NameFaults.{name_faults, IsMain}
 use Rattle.ranked_faults.specs.Ranked.{AnswersOk, AnswersFault}

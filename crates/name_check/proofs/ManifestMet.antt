@@ -2,9 +2,9 @@
 use Rattle.std.proofs.Common.{◌≡◌, ℕ, List, Option, Some, None, Result, Ok, Err, refl, sym, ap, subst, ◌∙◌, ℤ, pos}
 use Rattle.std.specs.Prelude.{◌↔◌, neg_ℤ, option_and_then}
 use Rattle.std.specs.Option.{ok_or}
-use Rattle.silage_tree.specs.declared.tree.MOp.{MOp}
-use Rattle.silage_tree.specs.Tree.{Manifest, whole, counter, minus, both}
-use Rattle.silage_tree.specs.Manifests.{Indices, index_value, in_range, combined, manifest_value}
+use Rattle.silage_syntax.specs.declared.tree.MOp.{MOp}
+use Rattle.silage_syntax.specs.Tree.{Manifest, whole, counter, minus, both}
+use Rattle.silage_syntax.specs.Manifests.{Indices, index_value, in_range, combined, manifest_value}
 use Rattle.lists.proofs.Places.{some_once}
 use Rattle.name_check.specs.ManifestFaults.{MeetsFirst, too_great, unbound, below_minus, at_minus, in_left, in_right, at_operator}
 use Rattle.name_check.specs.Private.Ranges.{IsRanged}

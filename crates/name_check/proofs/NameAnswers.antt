@@ -7,8 +7,8 @@ use Rattle.ranked_faults.specs.Rules.{faults}
 use Rattle.ranked_faults.specs.Private.FirstMet.{first}
 use Rattle.ranked_faults.proofs.FirstFaults.{none_clear, before_clear, before_first, later_first, own_clear, own_first, none_single, before_single, own_single}
 use Rattle.ranked_faults.proofs.TableFaults.{first_answers, single_faults}
-use Rattle.silage_tree.specs.Tree.{Top, Program}
-use Rattle.silage_tree.specs.Instances.{main_of}
+use Rattle.silage_syntax.specs.Tree.{Top, Program}
+use Rattle.silage_syntax.specs.Names.{main_of}
 use Rattle.name_check.specs.TopNames.{top_at, top_names, IsDuplicate}
 use Rattle.name_check.specs.Private.FirstTops.{IsDistinct, IsFirstDuplicate}
 use Rattle.name_check.specs.Calls.{Calls, Reaches}

@@ -1,11 +1,12 @@
--- The branches of a conditional and the items of a loop are the lists that they were made of.
-use Rattle.std.proofs.Common.{◌≡◌, ℕ, List, Vec, Box, Result, Ok, Err, IsErrAnd, refl, sym, ap, ◌∙◌, map}
+-- The rules on a conditional and on a loop, one after another, from the lists that they were made of.
+use Rattle.std.proofs.Common.{◌≡◌, ℕ, List, Vec, Box, Result, Ok, Err, IsErrAnd, refl, sym, ap, ◌∙◌}
 use Rattle.std.specs.Global.{Global}
 use mathlib.Core.Former.{Count}
-use Rattle.silage_tree.specs.declared.tree.Expr.{Expr as RustExpr, Choose, Choose', Row_of-Expr-Choose-1-2, end_of-Expr-Choose-1-2, more_of-Expr-Choose-1-2, items-the_row-Expr-Choose-1-2, items_hidden-the_row-Expr-Choose-1-2-0}
-use Rattle.silage_tree.specs.declared.tree.Manifest.{Manifest as RustManifest}
-use Rattle.silage_tree.specs.declared.tree.Item.{Item as RustItem, Loop, Loop', Row_of-Item, end_of-Item, more_of-Item, items-the_row-Item, items_hidden-the_row-Item-0}
-use Rattle.silage_tree.specs.Tree.{branch, choose, loop, item, items_of, view_expr, view_branches, view_manifest, view_item, view_row, view_items}
+use Rattle.silage_syntax.specs.declared.tree.Expr.{Expr as RustExpr, Choose, Choose', Row_of-Expr-Choose-1-2, end_of-Expr-Choose-1-2, more_of-Expr-Choose-1-2, items-the_row-Expr-Choose-1-2, items_hidden-the_row-Expr-Choose-1-2-0}
+use Rattle.silage_syntax.specs.declared.tree.Manifest.{Manifest as RustManifest}
+use Rattle.silage_syntax.specs.declared.tree.Item.{Item as RustItem, Loop}
+use Rattle.silage_syntax.specs.Tree.{branch, choose, view_expr, view_branches, view_manifest, view_item, view_items}
+use Rattle.silage_syntax.proofs.Rows.{view_Loop}
 use Rattle.ranked_faults.specs.Rules.{parts}
 use Rattle.ranked_faults.specs.Private.FirstMet.{first, ◌>>◌}
 use Rattle.ranked_faults.proofs.TableFaults.{then_ok, err_is}
@@ -27,20 +28,6 @@ view_Choose at v b =
     let row = row_of (Choose at v b) in
     let same = items_hidden-the_row-Expr-Choose-1-2-0 v in
     ap (λ bs. choose at bs (view_expr b.value)) (row_arms row.0 row.1 ∙ ap view_arms same)
-
-row_items : (m : _) (k : Row_of-Item m) → view_row k ≡ items_of (map view_item (items-the_row-Item m k))
-row_items _ end_of-Item = refl
-row_items _ (more_of-Item {n = n} x rest) = ap (λ xs. item (view_item x) xs) (row_items n rest)
-
-abbrev row_of_loop : RustItem → (n : Count) × Row_of-Item n
-row_of_loop (Loop' index lo hi shape row at) = (_, row)
-row_of_loop _ = (_, end_of-Item)
-
-pub view_Loop : (index : List ℕ) (lo hi : RustManifest) (v : Vec RustItem Global) (at : ℕ) → view_item (Loop index lo hi v at) ≡ loop index (view_manifest lo) (view_manifest hi) (view_items v.items) at
-view_Loop index lo hi v at =
-    let row = row_of_loop (Loop index lo hi v at) in
-    let same = items_hidden-the_row-Item-0 v in
-    ap (λ xs. loop index (view_manifest lo) (view_manifest hi) xs at) (row_items row.0 row.1 ∙ ap view_items same)
 
 -- a conditional is met by its branches and then its last value
 module _ (c : Context) (e : RustExpr) (at : ℕ) (v : Vec (RustExpr × RustExpr) Global) (b : Box RustExpr Global) (is : e ≡ Choose at v b) where

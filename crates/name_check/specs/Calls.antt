@@ -1,7 +1,7 @@
 -- Which functions call which, and which functions reach which by calls.
 use Rattle.std.specs.Prelude.{◌≡◌, ℕ, List, [], ◌∷◌, ◌++◌, Contains, slice_get, Some}
-use Rattle.silage_tree.specs.Tree.{Item, equation, call, loop, initial, Items, no_item, item}
-use Rattle.silage_tree.specs.Tree.{Top, table, function, Program}
+use Rattle.silage_syntax.specs.Tree.{Item, equation, call, loop, initial, Items, no_item, item}
+use Rattle.silage_syntax.specs.Tree.{Top, table, function, Program}
 use Rattle.name_check.specs.TopNames.{top_names, IsFirstPlace}
 
 -- the names of the functions that items call, in loops too

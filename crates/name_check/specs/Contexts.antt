@@ -1,6 +1,6 @@
 -- Where a name is used.
 use Rattle.std.specs.Prelude.{ℕ, List, [], ◌∷◌}
-use Rattle.silage_tree.specs.Tree.{Func, Program}
+use Rattle.silage_syntax.specs.Tree.{Func, Program}
 
 -- a program, a function of it, and the indices of the loops around a place in it, innermost first
 pub record Context : Type 0 where

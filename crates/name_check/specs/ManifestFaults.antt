@@ -1,8 +1,8 @@
 -- The fault that is met first in a manifest constant, from left to right, an operator after its parts.
 use Rattle.std.specs.Prelude.{◌≡◌, ℕ, List, Some, None, ℤ, pos, neg_ℤ}
-use Rattle.silage_tree.specs.declared.tree.MOp.{MOp}
-use Rattle.silage_tree.specs.Tree.{Manifest, whole, counter, minus, both}
-use Rattle.silage_tree.specs.Manifests.{Indices, index_value, in_range, combined, manifest_value}
+use Rattle.silage_syntax.specs.declared.tree.MOp.{MOp}
+use Rattle.silage_syntax.specs.Tree.{Manifest, whole, counter, minus, both}
+use Rattle.silage_syntax.specs.Manifests.{Indices, index_value, in_range, combined, manifest_value}
 use Rattle.name_check.specs.declared.fault.ManifestFault.{ManifestFault}
 use Rattle.name_check.specs.declared.fault.ManifestFault.TheVariants.{Overflow, Unbound}
 

@@ -6,10 +6,10 @@ use Rattle.std.specs.Option.{option_or}
 use Rattle.fix_word.specs.declared.types.FixType.{FixType}
 use Rattle.fix_word.specs.declared.types.SigType.{SigType}
 use Rattle.fix_word.specs.declared.types.SigType.TheVariants as sig
-use Rattle.silage_tree.specs.declared.tree.ConstDef.{ConstDef}
-use Rattle.silage_tree.specs.declared.tree.Decl.{Decl}
-use Rattle.silage_tree.specs.Tree.{Manifest, Func}
-use Rattle.silage_tree.specs.Names.{declared, table_named, element_count}
+use Rattle.silage_syntax.specs.declared.tree.ConstDef.{ConstDef}
+use Rattle.silage_syntax.specs.declared.tree.Decl.{Decl}
+use Rattle.silage_syntax.specs.Tree.{Manifest, Func}
+use Rattle.silage_syntax.specs.Names.{declared, table_named, element_count}
 use Rattle.name_check.specs.Contexts.{Context}
 
 abbrev pub is_among : List (List ℕ) → List ℕ → Bool

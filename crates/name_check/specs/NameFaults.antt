@@ -2,8 +2,8 @@
 use Rattle.std.specs.Prelude.{◌≡◌, ℕ, [], ◌∷◌, slice_get, Some, None}
 use Rattle.ranked_faults.specs.Ranked.{FaultSet, FaultRow, faults_in, fault_where, no_faults, ◌before◌}
 use Rattle.ranked_faults.specs.Rules.{faults}
-use Rattle.silage_tree.specs.Tree.{Func, Top, function, Program}
-use Rattle.silage_tree.specs.Instances.{main_of}
+use Rattle.silage_syntax.specs.Tree.{Func, Top, function, Program}
+use Rattle.silage_syntax.specs.Names.{main_of}
 use Rattle.name_check.specs.TopNames.{top_at, top_names, IsDuplicate}
 use Rattle.name_check.specs.Calls.{Calls, Reaches}
 use Rattle.name_check.specs.NameRules.{all_top_rules}

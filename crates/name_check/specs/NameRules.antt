@@ -2,15 +2,15 @@
 use Rattle.std.specs.Prelude.{ℕ, ◌&&◌, ◌||◌, not, Bool, true, false, List, [], ◌∷◌, ◌++◌, length, slice_get, nat_eq}
 use Rattle.std.specs.Prelude.{is_some, is_none, unwrap_or, option_map, Option, Some, None, if◌then◌else◌}
 use Rattle.ranked_faults.specs.Rules.{Rules, RuleRow, parts, own, none, ◌▸◌, unless, each, each_from}
-use Rattle.silage_tree.specs.declared.tree.ConstDef.{ConstDef}
-use Rattle.silage_tree.specs.declared.tree.Decl.{Decl}
-use Rattle.silage_tree.specs.declared.tree.Lit.TheVariants.{Number, Truth}
-use Rattle.silage_tree.specs.Tree.{Manifest, whole, counter, minus, both, Place}
-use Rattle.silage_tree.specs.Tree.{Expr, literal, read, negate, not as denied, binary, shift, cast, choose}
-use Rattle.silage_tree.specs.Tree.{Branches, no_branch, branch}
-use Rattle.silage_tree.specs.Tree.{Item, equation, call, loop, initial, Items, no_item, item}
-use Rattle.silage_tree.specs.Tree.{Func, Top, table, function, Program}
-use Rattle.silage_tree.specs.Names.{decls, declared, function_named, element_count}
+use Rattle.silage_syntax.specs.declared.tree.ConstDef.{ConstDef}
+use Rattle.silage_syntax.specs.declared.tree.Decl.{Decl}
+use Rattle.silage_syntax.specs.declared.tree.Lit.TheVariants.{Number, Truth}
+use Rattle.silage_syntax.specs.Tree.{Manifest, whole, counter, minus, both, Place}
+use Rattle.silage_syntax.specs.Tree.{Expr, literal, read, negate, not as denied, binary, shift, cast, choose}
+use Rattle.silage_syntax.specs.Tree.{Branches, no_branch, branch}
+use Rattle.silage_syntax.specs.Tree.{Item, equation, call, loop, initial, Items, no_item, item}
+use Rattle.silage_syntax.specs.Tree.{Func, Top, table, function, Program}
+use Rattle.silage_syntax.specs.Names.{decls, declared, function_named, element_count}
 use Rattle.name_check.specs.Contexts.{Context, outermost, inside}
 use Rattle.name_check.specs.TopNames.{top_names}
 use Rattle.name_check.specs.Meanings.{is_among, signal_dims, read_dims, params_of, results_of, are_dims}

@@ -1,6 +1,6 @@
 -- The names of the tables and functions of a program in order, and the place of a name among them.
 use Rattle.std.specs.Prelude.{◌≡◌, ℕ, ◌<◌, ◌≤◌, List, map, slice_get, Some}
-use Rattle.silage_tree.specs.Tree.{Top, table, function, Program}
+use Rattle.silage_syntax.specs.Tree.{Top, table, function, Program}
 
 -- the name of a table or function, and its source position
 abbrev pub top_name : Top → List ℕ

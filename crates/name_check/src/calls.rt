@@ -2,8 +2,8 @@
 
 ghost use Rattle.std.specs.Prelude.{◌≡◌, Option, map, length, slice_get, option_copied, option_map};
 ghost use Rattle.ranked_faults.specs.Private.FirstMet.{first};
-ghost use Rattle.silage_tree.specs.Tree.{view_place, view_expr, view_func};
-ghost use Rattle.silage_tree.specs.Names.{function_named};
+ghost use Rattle.silage_syntax.specs.Tree.{view_place, view_expr, view_func};
+ghost use Rattle.silage_syntax.specs.Names.{function_named};
 ghost use Rattle.name_check.specs.Meanings as meaning;
 ghost use Rattle.name_check.specs.NameRules as rules;
 ghost use Rattle.name_check.specs.NameRules.{array_rules, argument_rules, callee_rules, places_rules, arguments_rules, call_rules};
@@ -16,7 +16,7 @@ use crate::indices::check_delay;
 use crate::lookups::{function, read_dims};
 use crate::places::{check_place, check_taking, is_whole_array};
 use lists::Name;
-use silage_tree::{Decl, Expr, Func, Lit, Place};
+use silage_syntax::{Decl, Expr, Func, Lit, Place};
 
 /// The source position of an expression.
 fn expr_at(e: &Expr) -> u32

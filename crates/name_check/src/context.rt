@@ -1,8 +1,8 @@
 //! Where names are used.
 
 ghost use Rattle.std.specs.Prelude.{◌≡◌};
-ghost use Rattle.silage_tree.specs.Tree.{view, view_func};
-ghost use Rattle.silage_tree.specs.Names.{decls};
+ghost use Rattle.silage_syntax.specs.Tree.{view, view_func};
+ghost use Rattle.silage_syntax.specs.Names.{decls};
 ghost use Rattle.name_check.specs.Meanings.{names_of};
 ghost use Rattle.name_check.specs.TopNames.{top_names};
 ghost use Rattle.name_check.specs.Private.FirstTops.{IsDistinct};
@@ -10,7 +10,7 @@ ghost use Rattle.name_check.specs.Private.FirstTops.{IsDistinct};
 use crate::NameMap;
 use crate::name_set::NameSet;
 use lists::Name;
-use silage_tree::{Func, Program};
+use silage_syntax::{Func, Program};
 
 /// The indices of the loops around a place, innermost first.
 #[derive(Clone, Copy)]

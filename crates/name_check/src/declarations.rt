@@ -2,8 +2,8 @@
 
 ghost use Rattle.std.specs.Prelude.{◌≡◌, ◌∷◌, ◌++◌, [], IfOk, OnOk};
 ghost use Rattle.ranked_faults.specs.Private.FirstMet.{first, first_in, MeetsOr};
-ghost use Rattle.silage_tree.specs.Tree.{view_func};
-ghost use Rattle.silage_tree.specs.Names.{decls};
+ghost use Rattle.silage_syntax.specs.Tree.{view_func};
+ghost use Rattle.silage_syntax.specs.Names.{decls};
 ghost use Rattle.name_check.specs.Meanings.{names_of};
 ghost use Rattle.name_check.specs.NameRules.{decl_rules, signal_rules};
 
@@ -11,7 +11,7 @@ use crate::lookups::is_top;
 use crate::name_set::NameSet;
 use crate::sizes::{are_dims, is_signal_type};
 use crate::{NameFault, NameMap};
-use silage_tree::{Decl, Func};
+use silage_syntax::{Decl, Func};
 use std::alloc::Global;
 
 /// Adds the name of a declaration to those of the signals before it.

@@ -3,7 +3,7 @@
 ghost use Rattle.std.specs.Prelude.{◌≡◌, Option, map, option_map};
 ghost use Rattle.ranked_faults.specs.Rules.{parts};
 ghost use Rattle.ranked_faults.specs.Private.FirstMet.{first};
-ghost use Rattle.silage_tree.specs.Tree.{view_manifest, view_expr};
+ghost use Rattle.silage_syntax.specs.Tree.{view_manifest, view_expr};
 ghost use Rattle.name_check.specs.NameRules.{expr_rules, branch_rules};
 ghost use Rattle.name_check.specs.Private.Views.{context_of, view_arms};
 
@@ -13,7 +13,7 @@ use crate::indices::{check_delay, check_manifest};
 use crate::lookups::read_dims;
 use crate::places::{check_place, is_element};
 use crate::sizes::is_fix_type;
-use silage_tree::Expr;
+use silage_syntax::Expr;
 
 #[cycle(exprs)]
 pub(crate) fn check_expr(context: &Context, e: &Expr) -> Result<(), NameFault>

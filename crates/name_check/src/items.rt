@@ -3,7 +3,7 @@
 ghost use Rattle.std.specs.Prelude.{◌≡◌, ◌∷◌, Option, map};
 ghost use Rattle.ranked_faults.specs.Rules.{parts};
 ghost use Rattle.ranked_faults.specs.Private.FirstMet.{first};
-ghost use Rattle.silage_tree.specs.Tree.{view_manifest, view_item, view_items};
+ghost use Rattle.silage_syntax.specs.Tree.{view_manifest, view_item, view_items};
 ghost use Rattle.name_check.specs.NameRules as rules;
 ghost use Rattle.name_check.specs.NameRules.{head_rules, item_rules, items_rules};
 ghost use Rattle.name_check.specs.Private.Views.{context_of};
@@ -16,7 +16,7 @@ use crate::indices::{check_manifest, has_index};
 use crate::lookups::{is_signal, is_top};
 use crate::places::check_target;
 use lists::Name;
-use silage_tree::{Item, Manifest};
+use silage_syntax::{Item, Manifest};
 
 /// Whether an index has a name that nothing else has where the loop is.
 fn is_free_index(context: &Context, index: &Name) -> bool

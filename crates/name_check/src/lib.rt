@@ -20,7 +20,7 @@ mod tops;
 
 ghost use Rattle.std.specs.Prelude.{◌≡◌, ◌≢◌, ◌<◌, ◌^◌, length, IfOk, OnOk, IfErr};
 ghost use Rattle.ranked_faults.specs.Ranked.{IsClear, IsFirst, AnswersOk, AnswersFault};
-ghost use Rattle.silage_tree.specs.Tree.{view};
+ghost use Rattle.silage_syntax.specs.Tree.{view};
 ghost use Rattle.name_check.specs.TopNames.{top_names};
 ghost use Rattle.name_check.specs.NameFaults.{name_faults, IsMain};
 ghost use Rattle.name_check.specs.declared.fault.NameFault.{NameFault as FaultType};
@@ -29,7 +29,7 @@ pub use fault::{ManifestFault, NameFault};
 pub use manifests::{Env, manifest};
 pub use name_map::{NameMap, Names};
 use recursion::check_recursion;
-use silage_tree::Program;
+use silage_syntax::Program;
 use std::alloc::Global;
 use tops::{check_tops, main_position};
 

@@ -1,8 +1,8 @@
 //! What a name means where it is used.
 
 ghost use Rattle.std.specs.Prelude.{◌≡◌, option_map, option_copied, slice_get, is_some};
-ghost use Rattle.silage_tree.specs.Tree.{view_top, view_func};
-ghost use Rattle.silage_tree.specs.Names.{decls, declared, table_named, function_named};
+ghost use Rattle.silage_syntax.specs.Tree.{view_top, view_func};
+ghost use Rattle.silage_syntax.specs.Names.{decls, declared, table_named, function_named};
 ghost use Rattle.name_check.specs.Meanings as meaning;
 ghost use Rattle.name_check.specs.Meanings.{is_among};
 ghost use Rattle.name_check.specs.Private.Views.{context_of, top_named};
@@ -10,7 +10,7 @@ ghost use Rattle.name_check.specs.Private.Views.{context_of, top_named};
 use crate::NameMap;
 use crate::context::Context;
 use lists::Name;
-use silage_tree::{ConstDef, Decl, Func, Top};
+use silage_syntax::{ConstDef, Decl, Func, Top};
 
 /// The declaration at a position among a function's parameters, results and locals.
 fn signal_at(func: &Func, position: usize) -> Option<&Decl>

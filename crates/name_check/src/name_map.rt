@@ -1,7 +1,7 @@
 //! The names of the tables and functions of a program.
 
 ghost use Rattle.std.specs.Prelude.{◌≡◌, ◌≢◌, ◌<◌, ◌^◌, ◌↔◌, ℕ, length, IfOk, OnOk, IfErr, Contains};
-ghost use Rattle.silage_tree.specs.Tree.{view, view_top};
+ghost use Rattle.silage_syntax.specs.Tree.{view, view_top};
 ghost use Rattle.name_check.specs.TopNames as name;
 ghost use Rattle.name_check.specs.TopNames.{top_names, IsFirstPlace};
 ghost use Rattle.name_check.specs.Private.FirstTops.{IsDistinct, IsFirstDuplicate};
@@ -9,7 +9,7 @@ ghost use Rattle.name_check.specs.Private.FirstTops.{IsDistinct, IsFirstDuplicat
 use crate::NameFault;
 use crate::name_set::NameSet;
 use lists::Name;
-use silage_tree::{Program, Top};
+use silage_syntax::{Program, Top};
 use std::alloc::Global;
 use std::marker::Model;
 

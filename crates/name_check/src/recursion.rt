@@ -1,7 +1,7 @@
 //! The first function that can reach itself by calls.
 
 ghost use Rattle.std.specs.Prelude.{◌≡◌, ◌≢◌, ◌++◌, ◌<◌, ◌^◌, ◌↔◌, ℕ, Contains, length, IsTrue, IfOk, OnOk, IfErr};
-ghost use Rattle.silage_tree.specs.Tree.{view, view_top, view_item, view_items};
+ghost use Rattle.silage_syntax.specs.Tree.{view, view_top, view_item, view_items};
 ghost use Rattle.name_check.specs.TopNames.{top_names};
 ghost use Rattle.name_check.specs.Calls.{called, all_called, called_by, Calls};
 ghost use Rattle.name_check.specs.Private.CallLists.{places, call_lists, Lists, IsWithin};
@@ -12,7 +12,7 @@ use crate::NameFault;
 use crate::components::{Mark, components};
 use crate::name_map::{NameMap, top_at};
 use lists::List;
-use silage_tree::{Item, Program, Top};
+use silage_syntax::{Item, Program, Top};
 use std::alloc::{AllocError, AllocFailed, Global};
 
 /// Adds the positions of what an item calls.

@@ -1,7 +1,7 @@
 //! Sizes of arrays and of words.
 
 ghost use Rattle.std.specs.Prelude.{◌≡◌, length, if◌then◌else◌, Some, None};
-ghost use Rattle.silage_tree.specs.Names as name;
+ghost use Rattle.silage_syntax.specs.Names as name;
 ghost use Rattle.name_check.specs.Meanings as meaning;
 
 use fix_word::{FixType, SigType};

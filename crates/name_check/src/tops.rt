@@ -2,8 +2,8 @@
 
 ghost use Rattle.std.specs.Prelude.{◌≡◌, ◌<◌, ◌^◌, length, None, MatchOption};
 ghost use Rattle.ranked_faults.specs.Private.FirstMet.{first, MeetsOr};
-ghost use Rattle.silage_tree.specs.Tree.{view, view_top, view_func};
-ghost use Rattle.silage_tree.specs.Instances.{main_of};
+ghost use Rattle.silage_syntax.specs.Tree.{view, view_top, view_func};
+ghost use Rattle.silage_syntax.specs.Names.{main_of};
 ghost use Rattle.name_check.specs.TopNames.{top_names};
 ghost use Rattle.name_check.specs.NameRules.{table_rules, function_rules, top_rules, all_top_rules};
 ghost use Rattle.name_check.specs.NameFaults.{IsMain};
@@ -15,7 +15,7 @@ use crate::declarations::signals_of;
 use crate::items::check_items;
 use crate::sizes::{element_count, is_fix_type};
 use crate::{NameFault, NameMap};
-use silage_tree::{ConstDef, Func, Program, Top};
+use silage_syntax::{ConstDef, Func, Program, Top};
 use std::alloc::Global;
 
 fn check_table(table: &ConstDef) -> Result<(), NameFault>

@@ -3,8 +3,8 @@ use Rattle.std.proofs.Common.{◌≡◌, ℕ, ◌+◌, ◌≤◌, List, ◌∷�
 use Rattle.std.proofs.lemmas.Bool.{both_ways}
 use Rattle.silage_lex.specs.declared.Token.{Token}
 use Rattle.silage_lex.specs.declared.TokenKind.{TokenKind}
-use Rattle.silage_tree.specs.Grammar.{kind_of, kind_at, Role}
-use Rattle.silage_tree.specs.Limits.{AgreeBelow}
+use Rattle.silage_syntax.specs.Grammar.{kind_of, kind_at, Role}
+use Rattle.silage_syntax.specs.Limits.{AgreeBelow}
 use Rattle.silage_parse.specs.declared.ParseFault.TheVariants.{Syntax, Deep, Memory}
 use Rattle.silage_parse.specs.Table.{is_one, Phrase, Value, Symbol, Go, choices}
 use Rattle.silage_parse.specs.Machine.{pushed, chosen, Count, Outcome, done, fault, Runs, ends, takes, wrong, limit, goes, makes, Reads, r_end, r_take, r_go, r_make}

@@ -1,9 +1,9 @@
 -- What the machine's run alone tells of the tokens, given that readings and programs are the same.
 use Rattle.std.proofs.Common.{◌≡◌, ℕ, slice_get, ◌+◌, List, [], ◌∷◌, ◌++◌, length, inr, refl, sym, ap, subst, ◌∙◌, append-nil, arith}
 use Rattle.silage_lex.specs.declared.Token.{Token}
-use Rattle.silage_tree.specs.Tree.{Program, Top}
-use Rattle.silage_tree.specs.Grammar.{kind_at, Role, HasRoles}
-use Rattle.silage_tree.specs.Limits.{Begins, IsDeep}
+use Rattle.silage_syntax.specs.Tree.{Program, Top}
+use Rattle.silage_syntax.specs.Grammar.{kind_at, Role, HasRoles}
+use Rattle.silage_syntax.specs.Limits.{Begins, IsDeep}
 use Rattle.silage_parse.specs.declared.ParseFault.{ParseFault}
 use Rattle.silage_parse.specs.declared.ParseFault.TheVariants.{Syntax, Deep, Memory}
 use Rattle.silage_parse.specs.Table.{End, Outside, Source, Tops, no_tops, Value, Symbol, Take, Go, Make, choices}

@@ -2,8 +2,8 @@
 use Rattle.std.proofs.Common.{refl, List, Result, Ok, Err, inl, inr}
 use Rattle.std.specs.Prelude.{◌≢◌, IfOk, IfErr}
 use Rattle.silage_lex.specs.declared.Token.{Token}
-use Rattle.silage_tree.specs.declared.tree.Program.{Program as RustProgram}
-use Rattle.silage_tree.specs.Tree.{Program, view}
+use Rattle.silage_syntax.specs.declared.tree.Program.{Program as RustProgram}
+use Rattle.silage_syntax.specs.Tree.{Program, view}
 use Rattle.silage_parse.specs.Answers.{IsWithin, HasFault, AnswersProgram, AnswersFault}
 use Rattle.silage_parse.specs.Leads.{IsRun}
 use Rattle.silage_parse.specs.declared.ParseFault.{ParseFault}

@@ -3,9 +3,9 @@ use Rattle.std.proofs.Common.{◌≡◌, ℕ, ◌+◌, true, false, Option, Some
 use Rattle.silage_lex.specs.declared.Token.{Token}
 use Rattle.silage_lex.specs.declared.TokenKind.{TokenKind}
 use Rattle.silage_lex.specs.declared.TokenKind.TheVariants as kind
-use Rattle.silage_tree.specs.declared.tree.Lit.TheVariants.{Number, Truth}
-use Rattle.silage_tree.specs.Tree.{Manifest, Expr, read, choose, Branches, no_branch, branch}
-use Rattle.silage_tree.specs.Grammar.{kind_at, from_at, number_of, IsName, IsSubscripts, IsDelay, Level, Or, And, Sum, Product, ExprRule, Chain, Rest, Comparison, Shift, Shifts, Unary, Primary, Arms, part, IsExpr, chain, no_more, one_more, no_comparison, comparison_of, shifts, no_shift, one_shift, negative_number, negated, denied, primary, number, truth, place, cast_of, paren, choice, one_arm, last_arm}
+use Rattle.silage_syntax.specs.declared.tree.Lit.TheVariants.{Number, Truth}
+use Rattle.silage_syntax.specs.Tree.{Manifest, Expr, read, choose, Branches, no_branch, branch}
+use Rattle.silage_syntax.specs.Grammar.{kind_at, from_at, number_of, IsName, IsSubscripts, IsDelay, Level, Or, And, Sum, Product, ExprRule, Chain, Rest, Comparison, Shift, Shifts, Unary, Primary, Arms, part, IsExpr, chain, no_more, one_more, no_comparison, comparison_of, shifts, no_shift, one_shift, negative_number, negated, denied, primary, number, truth, place, cast_of, paren, choice, one_arm, last_arm}
 use Rattle.silage_parse.specs.Table as the
 use Rattle.silage_parse.specs.Table.{Phrase, Value, Symbol, Take, Make, Go, Action, is_one, rests}
 use Rattle.silage_parse.specs.Machine.{Among, ways, here, there, branches_of}

@@ -1,11 +1,11 @@
 -- Expressions: what is read by the table, the grammar has.
 use Rattle.std.proofs.Common.{◌≡◌, ℕ, ◌+◌, Bool, true, false, if◌then◌else◌, List, [], ◌∷◌, ◌++◌, Some, refl, ap, ◌∙◌, arith, append_assoc, append-nil}
 use Rattle.silage_lex.specs.declared.Token.{Token}
-use Rattle.silage_tree.specs.declared.tree.BinOp.TheVariants as op
-use Rattle.silage_tree.specs.declared.tree.Lit.TheVariants.{Number, Truth}
-use Rattle.silage_tree.specs.Tree.{Place, Expr, literal, read, negate, not, binary, shift, cast, choose, branch}
-use Rattle.silage_tree.specs.Grammar.{kind_at, from_of, from_at, number_of, IsPunctuation, IsExpr, Level, Or, And, Sum, Product, chain, no_more, one_more, no_comparison, comparison_of, shifts, no_shift, one_shift, negative_number, negated, denied, primary, number, truth, place, cast_of, paren, choice, one_arm, last_arm, operator, comparison, shift_operator, truth_of, Role}
-use Rattle.silage_tree.specs.Grammar as g
+use Rattle.silage_syntax.specs.declared.tree.BinOp.TheVariants as op
+use Rattle.silage_syntax.specs.declared.tree.Lit.TheVariants.{Number, Truth}
+use Rattle.silage_syntax.specs.Tree.{Place, Expr, literal, read, negate, not, binary, shift, cast, choose, branch}
+use Rattle.silage_syntax.specs.Grammar.{kind_at, from_of, from_at, number_of, IsPunctuation, IsExpr, Level, Or, And, Sum, Product, chain, no_more, one_more, no_comparison, comparison_of, shifts, no_shift, one_shift, negative_number, negated, denied, primary, number, truth, place, cast_of, paren, choice, one_arm, last_arm, operator, comparison, shift_operator, truth_of, Role}
+use Rattle.silage_syntax.specs.Grammar as g
 use Rattle.silage_parse.specs.Table as the
 use Rattle.silage_parse.specs.Table.{Phrase, Value, Symbol, Take, Make, Go, Action, choices, is_one, Inside}
 use Rattle.silage_parse.specs.Machine.{made, Among, alternatives, chosen, here, there, name_text, or_else, branches_of}

@@ -2,8 +2,8 @@
 use Rattle.std.proofs.Common.{◌≡◌, ℕ, ◌+◌, List, [], ◌∷◌, ◌++◌, slice_get, refl, sym, ap, ◌∙◌, subst, arith, append_assoc, append-nil}
 use Rattle.silage_lex.specs.declared.Token.{Token}
 use Rattle.silage_lex.specs.declared.punctuation.TheConstants as punctuation
-use Rattle.silage_tree.specs.Tree.{Manifest, Place, Expr, Item, equation, Items, no_item, item, items_of}
-use Rattle.silage_tree.specs.Grammar.{kind_at, from_at, IsPunctuation, IsManifest, Manifest_, Primary_, IsExpr, Chain, Or, Role, Plain, Starts, weights, IsTargetSubscripts, no_target_sub, one_target_sub, two_target_subs, IsTarget, target, IsTargets, last_target, more_targets, IsArguments, last_arg, more_args, IsItem, is_equation, is_call, is_calls, is_loop, is_initial, IsItems, no_items, one_item}
+use Rattle.silage_syntax.specs.Tree.{Manifest, Place, Expr, Item, equation, Items, no_item, item, items_of}
+use Rattle.silage_syntax.specs.Grammar.{kind_at, from_at, IsPunctuation, IsManifest, Manifest_, Primary_, IsExpr, Chain, Or, Role, Plain, Starts, weights, IsTargetSubscripts, no_target_sub, one_target_sub, two_target_subs, IsTarget, target, IsTargets, last_target, more_targets, IsArguments, last_arg, more_args, IsItem, is_equation, is_call, is_calls, is_loop, is_initial, IsItems, no_items, one_item}
 use Rattle.silage_parse.specs.Table as the
 use Rattle.silage_parse.specs.Table.{Terminal, Effect, Outside, Begins, Inside, Phrase, Value, Symbol, Take, Make, Go, Action, choices, rests, AName, mark_of, word_of}
 use Rattle.silage_parse.specs.Machine.{made, Among, ways, here, there, roles_of, Reads, r_end, r_take, r_go, r_make}

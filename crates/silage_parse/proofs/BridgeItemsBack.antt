@@ -3,9 +3,9 @@ use Rattle.std.proofs.Common.{◌≡◌, ℕ, ◌+◌, ◌≤◌, List, [], ◌�
 use Rattle.silage_lex.specs.declared.Token.{Token}
 use Rattle.silage_lex.specs.declared.punctuation.TheConstants as punctuation
 use Rattle.silage_lex.specs.declared.keywords.TheConstants as keyword
-use Rattle.silage_tree.specs.Tree.{Manifest, Place, Expr, read, Item, equation, call, loop, initial, Items, items_of}
-use Rattle.silage_tree.specs.Grammar as g
-use Rattle.silage_tree.specs.Grammar.{kind_at, from_of, from_at, IsPunctuation, IsKeyword, IsName, IsManifest, IsExpr, Or, Sum, chain, shifts, primary, place, Role, Plain, Starts, weight_role, weights, plain, IsTargetSubscripts, no_target_sub, one_target_sub, two_target_subs, IsTarget, target, IsTargets, last_target, more_targets, IsArguments, last_arg, more_args, IsItem, is_equation, is_call, is_calls, is_loop, is_initial, IsItems, no_items, one_item}
+use Rattle.silage_syntax.specs.Tree.{Manifest, Place, Expr, read, Item, equation, call, loop, initial, Items, items_of}
+use Rattle.silage_syntax.specs.Grammar as g
+use Rattle.silage_syntax.specs.Grammar.{kind_at, from_of, from_at, IsPunctuation, IsKeyword, IsName, IsManifest, IsExpr, Or, Sum, chain, shifts, primary, place, Role, Plain, Starts, weight_role, weights, plain, IsTargetSubscripts, no_target_sub, one_target_sub, two_target_subs, IsTarget, target, IsTargets, last_target, more_targets, IsArguments, last_arg, more_args, IsItem, is_equation, is_call, is_calls, is_loop, is_initial, IsItems, no_items, one_item}
 use Rattle.silage_parse.specs.Table as the
 use Rattle.silage_parse.specs.Table.{Effect, Outside, Inside, Phrase, Value, Symbol, Take, Make, Go, Action, choices, rests, mark_of}
 use Rattle.silage_parse.specs.Machine.{made, Among, alternatives, here, there, name_text}

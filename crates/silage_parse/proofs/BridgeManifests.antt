@@ -1,8 +1,8 @@
 -- Manifest numbers, places that are read and delays: what the grammar has, the table reads.
 use Rattle.std.proofs.Common.{◌≡◌, ℕ, ◌+◌, List, [], ◌∷◌, Option, refl, sym, subst, arith}
 use Rattle.silage_lex.specs.declared.Token.{Token}
-use Rattle.silage_tree.specs.Tree.{Manifest}
-use Rattle.silage_tree.specs.Grammar.{ManifestRule, Manifest_, Terms, Term, Factors, Factor, Primary_, IsManifest, terms, no_term, one_term, factors, no_factor, one_factor, minus_factor, primary_factor, whole_primary, name_primary, paren_primary, IsSubscripts, no_sub, one_sub, two_subs, IsDelay, no_delay, delay}
+use Rattle.silage_syntax.specs.Tree.{Manifest}
+use Rattle.silage_syntax.specs.Grammar.{ManifestRule, Manifest_, Terms, Term, Factors, Factor, Primary_, IsManifest, terms, no_term, one_term, factors, no_factor, one_factor, minus_factor, primary_factor, whole_primary, name_primary, paren_primary, IsSubscripts, no_sub, one_sub, two_subs, IsDelay, no_delay, delay}
 use Rattle.silage_parse.specs.Table as the
 use Rattle.silage_parse.specs.Table.{Phrase, Value, Symbol, Make, Go, Action}
 use Rattle.silage_parse.specs.Machine.{made, here, there}

@@ -1,9 +1,9 @@
 -- Manifest numbers, places that are read and delays: what is read by the table, the grammar has.
 use Rattle.std.proofs.Common.{◌≡◌, ℕ, ◌+◌, List, [], ◌∷◌, Some, None, refl, ap, arith}
 use Rattle.silage_lex.specs.declared.Token.{Token}
-use Rattle.silage_tree.specs.declared.tree.MOp.TheVariants as mop
-use Rattle.silage_tree.specs.Tree.{whole, counter, minus, both}
-use Rattle.silage_tree.specs.Grammar.{from_at, terms, no_term, one_term, factors, no_factor, one_factor, minus_factor, primary_factor, whole_primary, name_primary, paren_primary, no_sub, one_sub, two_subs, no_delay, delay, Role, term_operator}
+use Rattle.silage_syntax.specs.declared.tree.MOp.TheVariants as mop
+use Rattle.silage_syntax.specs.Tree.{whole, counter, minus, both}
+use Rattle.silage_syntax.specs.Grammar.{from_at, terms, no_term, one_term, factors, no_factor, one_factor, minus_factor, primary_factor, whole_primary, name_primary, paren_primary, no_sub, one_sub, two_subs, no_delay, delay, Role, term_operator}
 use Rattle.silage_parse.specs.Table as the
 use Rattle.silage_parse.specs.Table.{Phrase, Value, Symbol, Make, Go, Action, choices}
 use Rattle.silage_parse.specs.Machine.{made, Among, alternatives, here, there, name_text, whole_value, or_else}

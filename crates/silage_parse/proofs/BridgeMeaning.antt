@@ -5,11 +5,11 @@ use Rattle.fix_word.specs.declared.types.SigType.{SigType}
 use Rattle.silage_lex.specs.declared.Token.{Token}
 use Rattle.silage_lex.specs.declared.punctuation.TheConstants as punctuation
 use Rattle.silage_lex.specs.declared.keywords.TheConstants as keyword
-use Rattle.silage_tree.specs.declared.tree.Lit.{Lit}
-use Rattle.silage_tree.specs.declared.tree.Decl.{Decl}
-use Rattle.silage_tree.specs.Tree.{Manifest, Place, Expr, choose, Item, items_of, Top}
-use Rattle.silage_tree.specs.Grammar as g
-use Rattle.silage_tree.specs.Grammar.{from_at, IsPunctuation, IsKeyword, IsName, IsWhole, IsSigned, IsList, IsDims, IsFix, IsType, Declared, IsDeclared, IsDecl, IsManifest, IsSubscripts, IsDelay, IsExpr, Level, Or, Sum, Role, Plain, Starts, weight_role, weights, IsTargetSubscripts, IsTarget, IsTargets, IsArguments, IsInitialValue, IsItem, IsItems, IsLocals, IsResults, IsWords, IsTop, IsTops}
+use Rattle.silage_syntax.specs.declared.tree.Lit.{Lit}
+use Rattle.silage_syntax.specs.declared.tree.Decl.{Decl}
+use Rattle.silage_syntax.specs.Tree.{Manifest, Place, Expr, choose, Item, items_of, Top}
+use Rattle.silage_syntax.specs.Grammar as g
+use Rattle.silage_syntax.specs.Grammar.{from_at, IsPunctuation, IsKeyword, IsName, IsWhole, IsSigned, IsList, IsDims, IsFix, IsType, Declared, IsDeclared, IsDecl, IsManifest, IsSubscripts, IsDelay, IsExpr, Level, Or, Sum, Role, Plain, Starts, weight_role, weights, IsTargetSubscripts, IsTarget, IsTargets, IsArguments, IsInitialValue, IsItem, IsItems, IsLocals, IsResults, IsWords, IsTop, IsTops}
 use Rattle.silage_parse.specs.Table.{Terminal, is_one, Effect, Phrase, Value, Symbol, Take, Go, Make, Action}
 use Rattle.silage_parse.specs.Table as the
 use Rattle.silage_parse.specs.Machine.{made, name_text, whole_value, branches_of, role_of}

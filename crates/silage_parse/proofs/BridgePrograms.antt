@@ -3,8 +3,8 @@ use Rattle.std.proofs.Common.{◌≡◌, ℕ, ◌+◌, true, List, [], ◌∷◌
 use Rattle.silage_lex.specs.declared.Token.{Token}
 use Rattle.silage_lex.specs.declared.punctuation.TheConstants as punctuation
 use Rattle.silage_lex.specs.declared.keywords.TheConstants as keyword
-use Rattle.silage_tree.specs.Tree.{Top, table, Program}
-use Rattle.silage_tree.specs.Grammar.{kind_at, from_at, Role, IsTop, is_table, is_function, IsTops, no_tops, one_top, HasRoles}
+use Rattle.silage_syntax.specs.Tree.{Top, table, Program}
+use Rattle.silage_syntax.specs.Grammar.{kind_at, from_at, Role, IsTop, is_table, is_function, IsTops, no_tops, one_top, HasRoles}
 use Rattle.silage_parse.specs.Table as the
 use Rattle.silage_parse.specs.Table.{Outside, Source, Phrase, Value, Symbol, Take, Make, Go, AName, End, is_one, mark_of, word_of}
 use Rattle.silage_parse.specs.Machine.{here, there, pushed, roles_of, Reads, r_end, r_take, r_make}

@@ -2,10 +2,10 @@
 use Rattle.std.proofs.Common.{◌≡◌, ℕ, zero, suc, ◌+◌, ◌≤◌, true, List, [], ◌∷◌, ◌++◌, length, Option, Some, None, slice_get, refl, sym, ap, ◌∙◌, subst, ap₂, arith, append_assoc, append-nil, le_refl, le_antisymm, zero-le}
 use Rattle.fix_word.specs.declared.types.FixType.{FixType}
 use Rattle.silage_lex.specs.declared.Token.{Token}
-use Rattle.silage_tree.specs.declared.tree.Lit.{Lit}
-use Rattle.silage_tree.specs.declared.tree.Decl.{Decl}
-use Rattle.silage_tree.specs.Tree.{Item, items_of, Top, table, function, Program}
-use Rattle.silage_tree.specs.Grammar.{kind_of, kind_at, from_at, Declared, Role, Plain, plain, IsList, IsDecl, IsLocals, is_table, is_function, IsTops, no_tops, one_top, HasRoles}
+use Rattle.silage_syntax.specs.declared.tree.Lit.{Lit}
+use Rattle.silage_syntax.specs.declared.tree.Decl.{Decl}
+use Rattle.silage_syntax.specs.Tree.{Item, items_of, Top, table, function, Program}
+use Rattle.silage_syntax.specs.Grammar.{kind_of, kind_at, from_at, Declared, Role, Plain, plain, IsList, IsDecl, IsLocals, is_table, is_function, IsTops, no_tops, one_top, HasRoles}
 use Rattle.silage_parse.specs.Table as the
 use Rattle.silage_parse.specs.Table.{Terminal, End, is_one, Effect, Outside, Source, Phrase, Value, Symbol, Take, Make, Go, Action, choices}
 use Rattle.silage_parse.specs.Machine.{made, pushed, roles_of, Among, alternatives, ways, here, there, name_text, Reads, r_end, r_take, r_go, r_make}

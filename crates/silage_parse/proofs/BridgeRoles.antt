@@ -2,7 +2,7 @@
 use Rattle.std.proofs.Common.{◌≡◌, ℕ, zero, suc, ◌+◌, ◌-◌, ◌≤◌, List, [], ◌∷◌, ◌++◌, map, drop, Some, slice_get, refl, ap, ◌∙◌, arith, drop-drop, take-add}
 use Rattle.std.specs.List.{range_with_len}
 use Rattle.silage_lex.specs.declared.Token.{Token}
-use Rattle.silage_tree.specs.Grammar.{Role, Plain, weight_role, weights, plain}
+use Rattle.silage_syntax.specs.Grammar.{Role, Plain, weight_role, weights, plain}
 
 map_append : {A B : Type 0} (f : A → B) (xs ys : List A) → map f (xs ++ ys) ≡ map f xs ++ map f ys
 map_append f [] ys = refl

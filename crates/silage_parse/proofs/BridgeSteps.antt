@@ -2,7 +2,7 @@
 use Rattle.std.proofs.Common.{◌≡◌, ℕ, ◌+◌, ◌≤◌, Bool, true, false, ◌&&◌, if◌then◌else◌, map, List, [], ◌∷◌, ◌++◌, Option, Some, None, slice_get, refl, sym, ap, ◌∙◌, subst, ap₂, arith}
 use Rattle.silage_lex.specs.declared.Token.{Token}
 use Rattle.silage_lex.specs.declared.TokenKind.{TokenKind}
-use Rattle.silage_tree.specs.Grammar.{kind_of, kind_at, Or, And, Sum, Product, Role, weights, plain}
+use Rattle.silage_syntax.specs.Grammar.{kind_of, kind_at, Or, And, Sum, Product, Role, weights, plain}
 use Rattle.silage_parse.specs.Table as the
 use Rattle.silage_parse.specs.Table.{Terminal, End, is_one, Effect, Outside, Begins, Inside, Enters, Leaves, Phrase, Source, Value, Symbol, Take, Go, Make, Choices, choices, Action}
 use Rattle.silage_parse.specs.Machine.{made, pushed, asked_for, chosen, Among, here, there, alternatives, ways, role_of, roles_of, Reads, r_end, r_take, r_go, r_make}

@@ -7,11 +7,11 @@ use Rattle.silage_lex.specs.declared.TokenKind.{TokenKind}
 use Rattle.silage_lex.specs.declared.TokenKind.TheVariants as kind
 use Rattle.silage_lex.specs.declared.punctuation.TheConstants as punctuation
 use Rattle.silage_lex.specs.declared.keywords.TheConstants as keyword
-use Rattle.silage_tree.specs.declared.tree.BinOp.{BinOp}
-use Rattle.silage_tree.specs.declared.tree.BinOp.TheVariants as op
-use Rattle.silage_tree.specs.declared.tree.MOp.{MOp}
-use Rattle.silage_tree.specs.declared.tree.MOp.TheVariants as mop
-use Rattle.silage_tree.specs.Grammar.{kind_of, kind_at, from_of, from_at, IsPunctuation, IsKeyword, IsName, IsWhole, IsNumber, number_of, row, marked, worded, mode_of, term_operator, Level, Or, And, Sum, Product, operator, comparison, shift_operator, truth_of, weight_role, Plain}
+use Rattle.silage_syntax.specs.declared.tree.BinOp.{BinOp}
+use Rattle.silage_syntax.specs.declared.tree.BinOp.TheVariants as op
+use Rattle.silage_syntax.specs.declared.tree.MOp.{MOp}
+use Rattle.silage_syntax.specs.declared.tree.MOp.TheVariants as mop
+use Rattle.silage_syntax.specs.Grammar.{kind_of, kind_at, from_of, from_at, IsPunctuation, IsKeyword, IsName, IsWhole, IsNumber, number_of, row, marked, worded, mode_of, term_operator, Level, Or, And, Sum, Product, operator, comparison, shift_operator, truth_of, weight_role, Plain}
 use Rattle.silage_parse.specs.Table.{Terminal, Mark, Word, AName, AWhole, is_one, number, operators, comparisons}
 use Rattle.silage_parse.specs.Machine.{name_text, whole_value, or_else}
 

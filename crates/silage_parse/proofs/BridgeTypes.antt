@@ -5,9 +5,9 @@ use Rattle.fix_word.specs.declared.types.SigType.{SigType}
 use Rattle.silage_lex.specs.declared.Token.{Token}
 use Rattle.silage_lex.specs.declared.TokenKind.{TokenKind}
 use Rattle.silage_lex.specs.declared.punctuation.TheConstants as punctuation
-use Rattle.silage_tree.specs.declared.tree.Lit.{Lit}
-use Rattle.silage_tree.specs.declared.tree.Decl.{Decl}
-use Rattle.silage_tree.specs.Grammar.{from_at, IsPunctuation, IsSigned, positive, negative, IsList, last, more, IsDims, scalar, vector, matrix, IsFix, no_mode, with_mode, IsType, fix, bool, Declared, typed, IsDeclared, declared, IsDecl, decl, IsLocals, no_locals, some_locals, IsResults, one_result, results, IsWords, one_word, words, IsInitialValue, signed, truth_value}
+use Rattle.silage_syntax.specs.declared.tree.Lit.{Lit}
+use Rattle.silage_syntax.specs.declared.tree.Decl.{Decl}
+use Rattle.silage_syntax.specs.Grammar.{from_at, IsPunctuation, IsSigned, positive, negative, IsList, last, more, IsDims, scalar, vector, matrix, IsFix, no_mode, with_mode, IsType, fix, bool, Declared, typed, IsDeclared, declared, IsDecl, decl, IsLocals, no_locals, some_locals, IsResults, one_result, results, IsWords, one_word, words, IsInitialValue, signed, truth_value}
 use Rattle.silage_parse.specs.Table as the
 use Rattle.silage_parse.specs.Table.{Effect, Phrase, Value, Symbol, Take, Make, Go, Action, choices, mark_of}
 use Rattle.silage_parse.specs.Machine.{made, Among, ways, here, there}

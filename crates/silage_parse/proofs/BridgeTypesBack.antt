@@ -4,9 +4,9 @@ use Rattle.fix_word.specs.declared.types.Mode.TheVariants.{Trunc}
 use Rattle.fix_word.specs.declared.types.SigType.TheVariants.{Fix, Bool as Truths}
 use Rattle.fix_word.specs.declared.types.SigType.{SigType}
 use Rattle.silage_lex.specs.declared.Token.{Token}
-use Rattle.silage_tree.specs.declared.tree.Lit.TheVariants.{Number, Truth}
-use Rattle.silage_tree.specs.declared.tree.Decl.{Decl}
-use Rattle.silage_tree.specs.Grammar.{from_at, dim, mode_of, truth_of, fix_type, positive, negative, last, more, scalar, vector, matrix, no_mode, with_mode, fix, bool, Declared, typed, declared, decl, no_locals, some_locals, one_result, results, one_word, words, signed, truth_value, Role}
+use Rattle.silage_syntax.specs.declared.tree.Lit.TheVariants.{Number, Truth}
+use Rattle.silage_syntax.specs.declared.tree.Decl.{Decl}
+use Rattle.silage_syntax.specs.Grammar.{from_at, dim, mode_of, truth_of, fix_type, positive, negative, last, more, scalar, vector, matrix, no_mode, with_mode, fix, bool, Declared, typed, declared, decl, no_locals, some_locals, one_result, results, one_word, words, signed, truth_value, Role}
 use Rattle.silage_parse.specs.Table as the
 use Rattle.silage_parse.specs.Table.{Effect, Phrase, Value, Symbol, Make, Go, Action, choices}
 use Rattle.silage_parse.specs.Machine.{made, Among, alternatives, here, there, name_text, whole_value, or_else}

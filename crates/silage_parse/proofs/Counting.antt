@@ -5,9 +5,9 @@ use Rattle.std.proofs.lemmas.Option.{slice_get_within, same_Some}
 use Rattle.std.proofs.lemmas.List.Sums.{fold-append}
 use Rattle.std.proofs.Math.Seq.{take-append_seam}
 use Rattle.silage_lex.specs.declared.Token.{Token}
-use Rattle.silage_tree.specs.Grammar.{kind_of, kind_at, weighs, weight_role, Role, Plain, Starts, Weighs}
-use Rattle.silage_tree.specs.Grammar as role
-use Rattle.silage_tree.specs.Limits.{weigh, enter, Passes, too_heavy, too_deep, AgreeBelow}
+use Rattle.silage_syntax.specs.Grammar.{kind_of, kind_at, weighs, weight_role, Role, Plain, Starts, Weighs}
+use Rattle.silage_syntax.specs.Grammar as role
+use Rattle.silage_syntax.specs.Limits.{weigh, enter, Passes, too_heavy, too_deep, AgreeBelow}
 use Rattle.silage_parse.specs.declared.ParseFault.TheVariants.{Syntax, Deep, Memory}
 use Rattle.silage_parse.specs.Table.{Effect, Outside, Begins, Inside, Enters, Leaves, Value, Symbol}
 use Rattle.silage_parse.specs.Machine.{pushed, Count, add_weight, no_count, counted, allowed, Outcome, done, fault, Runs, ends, takes, wrong, limit, goes, makes, role_of, roles_of, Reads, r_end, r_take, r_make}

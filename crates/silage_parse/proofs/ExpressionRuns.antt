@@ -9,13 +9,13 @@ use Rattle.silage_lex.specs.declared.TokenKind.{TokenKind}
 use Rattle.silage_lex.specs.declared.TokenKind.TheVariants as kind
 use Rattle.silage_lex.specs.declared.punctuation.TheConstants as punctuation
 use Rattle.silage_lex.specs.declared.keywords.TheConstants as keyword
-use Rattle.silage_tree.specs.declared.tree.Manifest.{Manifest as RustManifest}
-use Rattle.silage_tree.specs.declared.tree.Expr.{Expr as RustExpr, Row_of-Expr-Choose-1-2, end_of-Expr-Choose-1-2, more_of-Expr-Choose-1-2, items-the_row-Expr-Choose-1-2, items_hidden-the_row-Expr-Choose-1-2-0, Choose, Choose'}
-use Rattle.silage_tree.specs.declared.tree.BinOp.{BinOp}
-use Rattle.silage_tree.specs.declared.tree.BinOp.TheVariants as op
-use Rattle.silage_tree.specs.declared.tree.Lit.TheVariants.{Number, Truth}
-use Rattle.silage_tree.specs.Tree.{Manifest, Expr, literal, read, negate, not, binary, shift, cast, choose, branch, view_expr, view_branches, view_manifest, view_delay}
-use Rattle.silage_tree.specs.Grammar.{kind_at, kind_of, from_at, number_of, Level, Or, And, Sum, Product, operator, comparison, shift_operator, truth_of}
+use Rattle.silage_syntax.specs.declared.tree.Manifest.{Manifest as RustManifest}
+use Rattle.silage_syntax.specs.declared.tree.Expr.{Expr as RustExpr, Row_of-Expr-Choose-1-2, end_of-Expr-Choose-1-2, more_of-Expr-Choose-1-2, items-the_row-Expr-Choose-1-2, items_hidden-the_row-Expr-Choose-1-2-0, Choose, Choose'}
+use Rattle.silage_syntax.specs.declared.tree.BinOp.{BinOp}
+use Rattle.silage_syntax.specs.declared.tree.BinOp.TheVariants as op
+use Rattle.silage_syntax.specs.declared.tree.Lit.TheVariants.{Number, Truth}
+use Rattle.silage_syntax.specs.Tree.{Manifest, Expr, literal, read, negate, not, binary, shift, cast, choose, branch, view_expr, view_branches, view_manifest, view_delay}
+use Rattle.silage_syntax.specs.Grammar.{kind_at, kind_of, from_at, number_of, Level, Or, And, Sum, Product, operator, comparison, shift_operator, truth_of}
 use Rattle.silage_parse.specs.declared.cursor.Cursor.{Cursor}
 use Rattle.silage_parse.specs.Table.{Terminal, Mark, Word, AName, Inside, Value, Symbol, Take, Go, Make, Phrase, FixIn, Subs, Delay, ManifestPrimary, Chain, Rest, part, Comparison, CompareRest, Shift, Shifts, Unary, AfterMinus, Primary, OtherPrimary, Arms, ArmEnd, add_part, compare, add_shift, negate_expr, not_expr, negative, positive, truth, literal_expr, read_expr, a_place, cast_expr, close_expr, first_arm, add_arm, choose_expr, operators, comparisons, number, mark_of, word_of, is_one}
 use Rattle.silage_parse.specs.Table as the

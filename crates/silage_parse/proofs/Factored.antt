@@ -3,7 +3,7 @@ use Rattle.std.proofs.Common.{◌≡◌, ℕ, ◌+◌, List, [], ◌∷◌, ◌+
 use Rattle.std.specs.Prelude.{◌&&◌}
 use Rattle.silage_lex.specs.declared.Token.{Token}
 use Rattle.silage_lex.specs.declared.punctuation.TheConstants as punctuation
-use Rattle.silage_tree.specs.Grammar.{kind_at, Or}
+use Rattle.silage_syntax.specs.Grammar.{kind_at, Or}
 use Rattle.silage_parse.specs.Table.{AName, Mark, Outside, Value, Symbol, Take, Go, Make, Chain, RightSide, is_equation, is_calls, is_one, mark_of}
 use Rattle.silage_parse.specs.Machine.{Count, Outcome, Runs}
 use Rattle.silage_parse.specs.Leads.{place_list, behind_open, is_called, call_end}

@@ -2,7 +2,7 @@
 use Rattle.std.proofs.Common.{◌≡◌, ℕ, ◌+◌, Bool, true, false, not, ◌&&◌, ◌||◌, if◌then◌else◌, nat_lt, List, [], ◌∷◌, ◌++◌, refl}
 use Rattle.silage_lex.specs.declared.punctuation.TheConstants as punctuation
 use Rattle.silage_lex.specs.declared.keywords.TheConstants as keyword
-use Rattle.silage_tree.specs.Grammar.{Level, Or, And, Sum, Product}
+use Rattle.silage_syntax.specs.Grammar.{Level, Or, And, Sum, Product}
 use Rattle.silage_parse.specs.Table as the
 use Rattle.silage_parse.specs.Table.{Terminal, Mark, Word, AName, AWhole, APoint, End, Effect, Phrase, Source, Tops, Signed, Words, MoreWords, Dims, SecondDim, FixIn, Mode, Type_, Name_, MoreNames, Decl_, MoreDecls, Results, Locals, Manifest_, Terms, Term, Factors, Factor, ManifestPrimary, Subs, SecondSub, Delay, Chain, Rest, Comparison, CompareRest, Shift, Shifts, Unary, OtherUnary, AfterMinus, Primary, OtherPrimary, Arms, ArmEnd, TargetSubs, SecondTargetSub, Target, MoreTargets, Args, MoreArgs, Items_, Item_, AfterTarget, RightSide, AfterRightName, AfterOpenName, InitialValue, Symbol, Take, Go, Make, choices, number, operators, comparisons}
 use Rattle.silage_parse.specs.Machine.{alternatives}

@@ -4,10 +4,10 @@ use Rattle.silage_lex.specs.declared.Token.{Token}
 use Rattle.silage_lex.specs.declared.TokenKind.{TokenKind}
 use Rattle.silage_lex.specs.declared.TokenKind.TheVariants as kind
 use Rattle.silage_lex.specs.declared.punctuation.TheConstants as punctuation
-use Rattle.silage_tree.specs.declared.tree.MOp.{MOp}
-use Rattle.silage_tree.specs.declared.tree.MOp.TheVariants as mop
-use Rattle.silage_tree.specs.Tree.{Manifest, whole, counter, minus, both}
-use Rattle.silage_tree.specs.Grammar.{kind_at, kind_of, from_at, term_operator, Sum}
+use Rattle.silage_syntax.specs.declared.tree.MOp.{MOp}
+use Rattle.silage_syntax.specs.declared.tree.MOp.TheVariants as mop
+use Rattle.silage_syntax.specs.Tree.{Manifest, whole, counter, minus, both}
+use Rattle.silage_syntax.specs.Grammar.{kind_at, kind_of, from_at, term_operator, Sum}
 use Rattle.silage_parse.specs.declared.cursor.Cursor.{Cursor}
 use Rattle.silage_parse.specs.Table.{Terminal, Mark, AName, AWhole, Inside, Value, Symbol, Take, Go, Make, Manifest_, Terms, Term, Factors, Factor, ManifestPrimary, add_term, add_factor, minus_factor, whole_manifest, name_manifest, close_manifest, operators, mark_of, is_one}
 use Rattle.silage_parse.specs.Table as the

@@ -2,9 +2,9 @@
 use Rattle.std.proofs.Common.{◌≡◌, ℕ, ◌+◌, ◌≤◌, ◌<◌, List, length, Result, Ok, Err, inl, inr, refl, ap, arith}
 use Rattle.std.proofs.lemmas.Bool.{cases_order, cases_lt}
 use Rattle.silage_lex.specs.declared.Token.{Token}
-use Rattle.silage_tree.specs.Tree.{Program}
-use Rattle.silage_tree.specs.Grammar.{Derives}
-use Rattle.silage_tree.specs.Limits.{Begins, IsDeep}
+use Rattle.silage_syntax.specs.Tree.{Program}
+use Rattle.silage_syntax.specs.Grammar.{Derives}
+use Rattle.silage_syntax.specs.Limits.{Begins, IsDeep}
 use Rattle.silage_parse.specs.declared.ParseFault.{ParseFault}
 use Rattle.silage_parse.specs.declared.ParseFault.TheVariants.{Syntax, Deep, Memory}
 use Rattle.silage_parse.specs.Answers.{NoneDeepBelow, IsSyntax, HasFault, IsWithin, IsAnswer}

@@ -2,9 +2,9 @@
 use Rattle.std.proofs.Common.{◌≡◌, ℕ, List, [], ◌∷◌, ◌++◌, Some, None, true, false}
 use Rattle.silage_lex.specs.declared.Token.{Token}
 use Rattle.silage_lex.specs.declared.punctuation.TheConstants as punctuation
-use Rattle.silage_tree.specs.declared.tree.Manifest.{Manifest as RustManifest}
-use Rattle.silage_tree.specs.Tree.{Manifest}
-use Rattle.silage_tree.specs.Grammar.{kind_at}
+use Rattle.silage_syntax.specs.declared.tree.Manifest.{Manifest as RustManifest}
+use Rattle.silage_syntax.specs.Tree.{Manifest}
+use Rattle.silage_syntax.specs.Grammar.{kind_at}
 use Rattle.silage_parse.specs.declared.cursor.Cursor.{Cursor}
 use Rattle.silage_parse.specs.Table.{Mark, Effect, Inside, Value, Symbol, Take, Go, Make, Manifest_, ManifestPrimary, Subs, SecondSub, Delay, two_subs, some_delay, mark_of, is_one}
 use Rattle.silage_parse.specs.Table as the

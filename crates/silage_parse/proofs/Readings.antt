@@ -4,7 +4,7 @@ use Rattle.std.proofs.lemmas.Bool.{and_parts, and_from, or_cases, both_ways, not
 use Rattle.silage_lex.specs.declared.Token.{Token}
 use Rattle.silage_lex.specs.declared.TokenKind.{TokenKind}
 use Rattle.silage_lex.specs.declared.TokenKind.TheVariants as kind
-use Rattle.silage_tree.specs.Grammar.{kind_at, number_of, Role}
+use Rattle.silage_syntax.specs.Grammar.{kind_at, number_of, Role}
 use Rattle.silage_parse.specs.Table.{Terminal, Mark, Word, End, is_one, Phrase, AfterMinus, Value, Symbol, Take, Go, Make, Choices, choices, number}
 use Rattle.silage_parse.specs.Table as the
 use Rattle.silage_parse.specs.Machine.{asked_for, chosen, Among, here, there, alternatives, ways, roles_of, Reads, r_end, r_take, r_go, r_make}

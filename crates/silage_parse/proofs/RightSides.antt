@@ -4,7 +4,7 @@ use Rattle.silage_lex.specs.declared.Token.{Token}
 use Rattle.silage_lex.specs.declared.TokenKind.{TokenKind}
 use Rattle.silage_lex.specs.declared.TokenKind.TheVariants as kind
 use Rattle.silage_lex.specs.declared.punctuation.TheConstants as punctuation
-use Rattle.silage_tree.specs.Grammar.{kind_at, Or}
+use Rattle.silage_syntax.specs.Grammar.{kind_at, Or}
 use Rattle.silage_parse.specs.Table.{Terminal, Mark, AName, Effect, Outside, Value, Symbol, Take, Go, Make, Phrase, Chain, Unary, OtherUnary, RightSide, is_equation, rests, choices, mark_of, is_one}
 use Rattle.silage_parse.specs.Machine.{Count, Outcome, Runs, goes, takes, wrong, limit, chosen}
 

@@ -4,8 +4,8 @@ use Rattle.std.specs.Prelude.{slice_get}
 use Rattle.std.proofs.lemmas.Option.{slice_get_past, slice_get_cases}
 use Rattle.silage_lex.specs.declared.Token.{Token}
 use Rattle.silage_lex.specs.declared.keywords.TheConstants as keyword
-use Rattle.silage_tree.specs.Tree.{Top}
-use Rattle.silage_tree.specs.Grammar.{kind_at}
+use Rattle.silage_syntax.specs.Tree.{Top}
+use Rattle.silage_syntax.specs.Grammar.{kind_at}
 use Rattle.silage_parse.specs.declared.ParseFault.{ParseFault}
 use Rattle.silage_parse.specs.declared.ParseFault.TheVariants.{Syntax, Deep, Memory}
 use Rattle.silage_parse.specs.declared.cursor.Cursor.{Cursor}

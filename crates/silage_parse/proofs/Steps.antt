@@ -4,7 +4,7 @@ use Rattle.std.specs.Prelude.{slice_get}
 use Rattle.silage_lex.specs.declared.Token.{Token}
 use Rattle.silage_lex.specs.declared.TokenKind.{TokenKind}
 use Rattle.silage_lex.specs.declared.TokenKind.TheVariants as kind
-use Rattle.silage_tree.specs.Grammar.{kind_at, number_of}
+use Rattle.silage_syntax.specs.Grammar.{kind_at, number_of}
 use Rattle.silage_parse.specs.declared.ParseFault.TheVariants.{Deep}
 use Rattle.silage_parse.specs.declared.cursor.Cursor.{Cursor}
 use Rattle.silage_parse.specs.Table.{Terminal, AName, AWhole, number, is_one, Effect, Take}

@@ -4,7 +4,7 @@ use Rattle.std.specs.Prelude.{nat_eq, ◌||◌, if◌then◌else◌}
 use Rattle.std.proofs.lemmas.Bool.{eqb-true}
 use Rattle.silage_lex.specs.declared.TokenKind.{TokenKind}
 use Rattle.silage_lex.specs.declared.TokenKind.TheVariants as kind
-use Rattle.silage_tree.specs.Grammar.{row, marked, worded}
+use Rattle.silage_syntax.specs.Grammar.{row, marked, worded}
 use Rattle.silage_parse.specs.Table.{Terminal, Mark, Word, is_one}
 
 abbrev pub marks_of : {A : Type 0} → List (ℕ × A) → List Terminal

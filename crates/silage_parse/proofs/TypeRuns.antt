@@ -8,7 +8,7 @@ use Rattle.silage_lex.specs.declared.TokenKind.{TokenKind}
 use Rattle.silage_lex.specs.declared.TokenKind.TheVariants as kind
 use Rattle.silage_lex.specs.declared.punctuation.TheConstants as punctuation
 use Rattle.silage_lex.specs.declared.keywords.TheConstants as keyword
-use Rattle.silage_tree.specs.Grammar.{kind_at, kind_of, from_at, mode_of, fix_type}
+use Rattle.silage_syntax.specs.Grammar.{kind_at, kind_of, from_at, mode_of, fix_type}
 use Rattle.silage_parse.specs.declared.cursor.Cursor.{Cursor}
 use Rattle.silage_parse.specs.Table.{Mark, Word, AWhole, Effect, Symbol, Value, Take, Go, Make, FixIn, fix_plain, fix_mode, mark_of, is_one}
 use Rattle.silage_parse.specs.Table as the

@@ -5,8 +5,8 @@ use Rattle.std.proofs.lemmas.Option.{slice_get_past}
 use Rattle.silage_lex.specs.declared.Token.{Token}
 use Rattle.silage_lex.specs.declared.TokenKind.{TokenKind}
 use Rattle.silage_lex.specs.declared.TokenKind.TheVariants as kind
-use Rattle.silage_tree.specs.Grammar.{kind_of, kind_at, Role}
-use Rattle.silage_tree.specs.Limits.{AgreeBelow}
+use Rattle.silage_syntax.specs.Grammar.{kind_of, kind_at, Role}
+use Rattle.silage_syntax.specs.Limits.{AgreeBelow}
 use Rattle.silage_parse.specs.declared.ParseFault.{ParseFault}
 use Rattle.silage_parse.specs.declared.ParseFault.TheVariants.{Syntax, Deep, Memory}
 use Rattle.silage_parse.specs.Table.{Terminal, Mark, Word, AName, AWhole, APoint, End, is_one, Effect, Outside, Begins, Inside, Enters, Leaves, Phrase, ManifestPrimary, OtherPrimary, AfterMinus, Value, Symbol, Take, Go, Make, choices, number}

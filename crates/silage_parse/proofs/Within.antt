@@ -2,10 +2,10 @@
 use Rattle.std.proofs.Common.{inl, inr, ◌≡◌, ℕ, ◌+◌, ◌≤◌, ◌<◌, Bool, true, false, List, [], ◌++◌, length, min, Option, Some, None, slice_get, refl, sym, ap, subst, ◌∙◌, append_assoc, append-nil, length-append, arith}
 use Rattle.std.proofs.lemmas.Option.{slice_get_within, slice_get_cases}
 use Rattle.silage_lex.specs.declared.Token.{Token}
-use Rattle.silage_tree.specs.Tree.{Program}
-use Rattle.silage_tree.specs.Grammar.{kind_at, Role, Weighs, HasRoles}
-use Rattle.silage_tree.specs.Grammar as role
-use Rattle.silage_tree.specs.Limits.{Passes, too_heavy, too_deep, AreWithin}
+use Rattle.silage_syntax.specs.Tree.{Program}
+use Rattle.silage_syntax.specs.Grammar.{kind_at, Role, Weighs, HasRoles}
+use Rattle.silage_syntax.specs.Grammar as role
+use Rattle.silage_syntax.specs.Limits.{Passes, too_heavy, too_deep, AreWithin}
 use Rattle.silage_parse.specs.Table.{Effect, Outside, Begins, Inside, Enters, Leaves, Value, Symbol, choices}
 use Rattle.silage_parse.specs.Machine.{chosen, Count, counted, allowed, Outcome, Runs, ends, takes, goes, makes, roles_of, Reads, r_end, r_take, r_go, r_make}
 use Rattle.silage_parse.specs.Answers.{IsWithin}

@@ -1,10 +1,10 @@
 -- What `parse` answers, said of the grammar and the limits alone.
 use Rattle.std.specs.Prelude.{◌≡◌, ℕ, ◌+◌, ◌≤◌, ◌<◌, ◌⊎◌, List, length, Result, Ok, Err}
 use Rattle.silage_lex.specs.declared.Token.{Token}
-use Rattle.silage_tree.specs.declared.tree.Program.{Program as RustProgram}
-use Rattle.silage_tree.specs.Tree.{Program, view}
-use Rattle.silage_tree.specs.Grammar.{Derives}
-use Rattle.silage_tree.specs.Limits.{Begins, IsDeep}
+use Rattle.silage_syntax.specs.declared.tree.Program.{Program as RustProgram}
+use Rattle.silage_syntax.specs.Tree.{Program, view}
+use Rattle.silage_syntax.specs.Grammar.{Derives}
+use Rattle.silage_syntax.specs.Limits.{Begins, IsDeep}
 use Rattle.silage_parse.specs.declared.ParseFault.{ParseFault}
 use Rattle.silage_parse.specs.declared.ParseFault.TheVariants.{Syntax, Deep, Memory}
 

@@ -1,18 +1,18 @@
 -- What the functions that read a part of a phrase, or more than one, answer, said of the machine's run.
 use Rattle.std.specs.Prelude.{ℕ, ◌+◌, Bool, ◌&&◌, List, [], ◌∷◌, ◌++◌, map, Result, Ok, Err}
 use Rattle.silage_lex.specs.declared.Token.{Token}
-use Rattle.silage_tree.specs.declared.tree.Place.{Place}
-use Rattle.silage_tree.specs.declared.tree.Expr.{Expr}
-use Rattle.silage_tree.specs.declared.tree.Item.{Item}
-use Rattle.silage_tree.specs.declared.tree.Manifest.{Manifest}
+use Rattle.silage_syntax.specs.declared.tree.Place.{Place}
+use Rattle.silage_syntax.specs.declared.tree.Expr.{Expr}
+use Rattle.silage_syntax.specs.declared.tree.Item.{Item}
+use Rattle.silage_syntax.specs.declared.tree.Manifest.{Manifest}
 use Rattle.silage_lex.specs.declared.punctuation.TheConstants as punctuation
 use Rattle.silage_lex.specs.declared.keywords.TheConstants as keyword
-use Rattle.silage_tree.specs.declared.tree.ConstDef.{ConstDef}
-use Rattle.silage_tree.specs.declared.tree.Func.{Func}
-use Rattle.silage_tree.specs.declared.tree.Top.{Top as RustTop}
-use Rattle.silage_tree.specs.declared.tree.Program.{Program}
-use Rattle.silage_tree.specs.Tree.{Top, table, function, view, view_place, view_expr, view_item, view_func, view_top}
-use Rattle.silage_tree.specs.Grammar.{kind_at, Declared}
+use Rattle.silage_syntax.specs.declared.tree.ConstDef.{ConstDef}
+use Rattle.silage_syntax.specs.declared.tree.Func.{Func}
+use Rattle.silage_syntax.specs.declared.tree.Top.{Top as RustTop}
+use Rattle.silage_syntax.specs.declared.tree.Program.{Program}
+use Rattle.silage_syntax.specs.Tree.{Top, table, function, view, view_place, view_expr, view_item, view_func, view_top}
+use Rattle.silage_syntax.specs.Grammar.{kind_at, Declared}
 use Rattle.silage_parse.specs.declared.ParseFault.{ParseFault}
 use Rattle.silage_parse.specs.declared.ParseFault.TheVariants.{Syntax, Deep, Memory}
 use Rattle.silage_parse.specs.declared.cursor.Cursor.{Cursor}

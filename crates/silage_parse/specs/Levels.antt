@@ -1,5 +1,5 @@
 -- The levels of the parser as those of the grammar.
-use Rattle.silage_tree.specs.Grammar.{Level, Or, And, Sum, Product}
+use Rattle.silage_syntax.specs.Grammar.{Level, Or, And, Sum, Product}
 use Rattle.silage_parse.specs.declared.expressions.Level.{Level as RustLevel}
 use Rattle.silage_parse.specs.declared.expressions.Level.TheVariants as r
 

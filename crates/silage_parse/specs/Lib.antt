@@ -1,7 +1,6 @@
 pub mod Table
 pub mod Machine
 pub mod Answers
-pub mod ReadAgain
 pub mod Parsed
 pub mod Levels
 pub mod Leads

@@ -5,13 +5,13 @@ use Rattle.fix_word.specs.declared.types.SigType.TheVariants.{Fix, Bool as Truth
 use Rattle.silage_lex.specs.declared.Token.{Token}
 use Rattle.silage_lex.specs.declared.TokenKind.{TokenKind}
 use Rattle.silage_lex.specs.declared.TokenKind.TheVariants as kind
-use Rattle.silage_tree.specs.declared.tree.BinOp.TheVariants as op
-use Rattle.silage_tree.specs.declared.tree.MOp.TheVariants as mop
-use Rattle.silage_tree.specs.declared.tree.Lit.{Lit}
-use Rattle.silage_tree.specs.declared.tree.Lit.TheVariants.{Number, Truth}
-use Rattle.silage_tree.specs.Tree.{whole, counter, minus, both, Expr, literal, read, negate, not, binary, shift, cast, choose, Branches, no_branch, branch, equation, call, loop, initial, items_of, table, function}
-use Rattle.silage_tree.specs.Grammar.{kind_at, Declared, typed, dim, fix_type, mode_of, number_of, term_operator, Level, operator, comparison, shift_operator, truth_of, weighs, weight_role, Role, Plain, Starts}
-use Rattle.silage_tree.specs.Grammar as role
+use Rattle.silage_syntax.specs.declared.tree.BinOp.TheVariants as op
+use Rattle.silage_syntax.specs.declared.tree.MOp.TheVariants as mop
+use Rattle.silage_syntax.specs.declared.tree.Lit.{Lit}
+use Rattle.silage_syntax.specs.declared.tree.Lit.TheVariants.{Number, Truth}
+use Rattle.silage_syntax.specs.Tree.{whole, counter, minus, both, Expr, literal, read, negate, not, binary, shift, cast, choose, Branches, no_branch, branch, equation, call, loop, initial, items_of, table, function}
+use Rattle.silage_syntax.specs.Grammar.{kind_at, Declared, typed, dim, fix_type, mode_of, number_of, term_operator, Level, operator, comparison, shift_operator, truth_of, weighs, weight_role, Role, Plain, Starts}
+use Rattle.silage_syntax.specs.Grammar as role
 use Rattle.silage_parse.specs.declared.ParseFault.{ParseFault}
 use Rattle.silage_parse.specs.declared.ParseFault.TheVariants.{Syntax, Deep}
 use Rattle.silage_parse.specs.Table.{Terminal, is_one, Effect, Outside, Begins, Inside, Enters, Leaves, Phrase, Source, AfterMinus, Value, Symbol, Take, Go, Make, Choices, choices, Action}

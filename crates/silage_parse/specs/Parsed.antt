@@ -4,13 +4,13 @@ use Rattle.std.specs.Prelude.{◌≡◌, ℕ, ◌+◌, true, List, [], ◌∷◌
 use Rattle.silage_lex.specs.declared.Token.{Token}
 use Rattle.silage_lex.specs.declared.TokenKind.{TokenKind}
 use Rattle.silage_lex.specs.declared.TokenKind.TheVariants as kind
-use Rattle.silage_tree.specs.Grammar.{fix_type, kind_at, mode_of, number_of}
-use Rattle.silage_tree.specs.declared.tree.Manifest.{Manifest as RustManifest}
-use Rattle.silage_tree.specs.declared.tree.Expr.{Expr}
+use Rattle.silage_syntax.specs.Grammar.{fix_type, kind_at, mode_of, number_of}
+use Rattle.silage_syntax.specs.declared.tree.Manifest.{Manifest as RustManifest}
+use Rattle.silage_syntax.specs.declared.tree.Expr.{Expr}
 use Rattle.silage_lex.specs.declared.punctuation.TheConstants as punctuation
 use Rattle.silage_lex.specs.declared.keywords.TheConstants as keyword
 use Rattle.fix_word.specs.declared.types.Mode.{Mode}
-use Rattle.silage_tree.specs.Tree.{view_manifest, view_delay, view_expr}
+use Rattle.silage_syntax.specs.Tree.{view_manifest, view_delay, view_expr}
 use Rattle.silage_parse.specs.declared.ParseFault.{ParseFault}
 use Rattle.silage_parse.specs.declared.ParseFault.TheVariants.{Syntax, Deep, Memory}
 use Rattle.silage_parse.specs.declared.cursor.Cursor.{Cursor}

@@ -8,10 +8,10 @@ use Rattle.silage_lex.specs.declared.TokenKind.{TokenKind}
 use Rattle.silage_lex.specs.declared.TokenKind.TheVariants as kind
 use Rattle.silage_lex.specs.declared.punctuation.TheConstants as punctuation
 use Rattle.silage_lex.specs.declared.keywords.TheConstants as keyword
-use Rattle.silage_tree.specs.declared.tree.Lit.{Lit}
-use Rattle.silage_tree.specs.declared.tree.Decl.{Decl}
-use Rattle.silage_tree.specs.Tree.{Manifest, Place, Expr, Item, Top}
-use Rattle.silage_tree.specs.Grammar.{Declared, Level, Or, And, Sum, Product}
+use Rattle.silage_syntax.specs.declared.tree.Lit.{Lit}
+use Rattle.silage_syntax.specs.declared.tree.Decl.{Decl}
+use Rattle.silage_syntax.specs.Tree.{Manifest, Place, Expr, Item, Top}
+use Rattle.silage_syntax.specs.Grammar.{Declared, Level, Or, And, Sum, Product}
 
 -- which tokens may stand in a place
 pub data Terminal : Type 0 where

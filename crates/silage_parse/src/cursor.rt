@@ -1,7 +1,7 @@
 //! Where a parser stands among the tokens, and the way past one token.
 
 ghost use Rattle.std.specs.Prelude.{◌≡◌, ◌≢◌, ◌+◌, ◌≤◌, ◌<◌, ◌^◌, [], ◌∷◌, length, slice_get, option_copied, true, false, Some, IsTrue, IsSome, IfSome, IfNone, IfOk, IfErr};
-ghost use Rattle.silage_tree.specs.Grammar.{kind_at, kind_of, from_at, number_of, weighs as does_weigh};
+ghost use Rattle.silage_syntax.specs.Grammar.{kind_at, kind_of, from_at, number_of, weighs as does_weigh};
 ghost use Rattle.silage_parse.specs.Table.{AName, AWhole, Mark, Word, is_one, number as number_tokens};
 ghost use Rattle.silage_parse.specs.declared.ParseFault.TheVariants.{Memory};
 ghost use Rattle.silage_parse.specs.Machine.{allowed};

@@ -1,7 +1,7 @@
 //! Declarations: names with their dims, types, and numbers with a sign.
 
 ghost use Rattle.std.specs.Prelude.{◌≡◌, ◌≤◌, ◌<◌, ◌^◌, [], ◌∷◌, ◌++◌, map, length, IfOk, IfErr, ◌≢◌, OnOk};
-ghost use Rattle.silage_tree.specs.Grammar.{dim as the_dim, typed as typed_decl};
+ghost use Rattle.silage_syntax.specs.Grammar.{dim as the_dim, typed as typed_decl};
 ghost use Rattle.silage_parse.specs.Table.{Dims, Name_, Type_, Decl_, Results, Signed, Words};
 ghost use Rattle.silage_parse.specs.Table as the;
 ghost use Rattle.silage_parse.specs.Parsed.{IsParsed};
@@ -16,7 +16,7 @@ use crate::types::fix_type;
 use fix_word::SigType;
 use lists::{List, Name};
 use silage_lex::{Token, keywords, punctuation};
-use silage_tree::{Decl, Lit};
+use silage_syntax::{Decl, Lit};
 use std::alloc::{AllocError, AllocFailed, Global};
 
 /// A declared name with its dims.

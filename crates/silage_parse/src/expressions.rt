@@ -1,7 +1,7 @@
 //! Expressions.
 
 ghost use Rattle.std.specs.Prelude.{◌≡◌, ◌≤◌, ◌<◌, ◌^◌, [], ◌∷◌, length, true, IsSome, IfOk};
-ghost use Rattle.silage_tree.specs.Grammar.{Or, kind_at, operator as the_operator, comparison as the_comparison, shift_operator as the_shift_operator, truth_of};
+ghost use Rattle.silage_syntax.specs.Grammar.{Or, kind_at, operator as the_operator, comparison as the_comparison, shift_operator as the_shift_operator, truth_of};
 ghost use Rattle.silage_parse.specs.Table.{Mark, Word, AName, Chain, part as the_part, Comparison, Shift, Unary, Primary, OtherPrimary, is_one};
 ghost use Rattle.silage_parse.specs.Parsed.{IsParsed, expr_value};
 ghost use Rattle.silage_parse.specs.Levels.{level as level_of};
@@ -17,7 +17,7 @@ use crate::manifests::manifest_primary;
 use crate::places::{delay, subscripts};
 use crate::types::fix_type;
 use silage_lex::{Token, TokenKind, keywords, punctuation};
-use silage_tree::{BinOp, Expr, Lit, Place};
+use silage_syntax::{BinOp, Expr, Lit, Place};
 use std::alloc::{AllocError, AllocFailed, Global};
 
 /// The levels whose operators group to the left, the loosest first.

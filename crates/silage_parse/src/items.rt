@@ -2,7 +2,7 @@
 
 ghost use Rattle.std.specs.Prelude.{◌≡◌, ◌+◌, ◌≤◌, ◌<◌, ◌^◌, [], ◌∷◌, true, false, length, IfOk, IfErr, ◌≢◌, IsTrue};
 ghost use Rattle.silage_lex.specs.declared.Token.{Token as AToken};
-ghost use Rattle.silage_tree.specs.Grammar.{kind_at};
+ghost use Rattle.silage_syntax.specs.Grammar.{kind_at};
 ghost use Rattle.silage_lex.specs.declared.punctuation.TheConstants as punctuation;
 ghost use Rattle.silage_parse.specs.Table.{AName, Mark, is_one, Args, TargetSubs, Target, InitialValue, RightSide, AfterTarget, Item_, Go};
 ghost use Rattle.silage_parse.specs.Table as the;
@@ -20,7 +20,7 @@ use crate::manifests::{manifest, manifest_primary};
 use crate::places::subscript;
 use lists::List;
 use silage_lex::{Token, TokenKind, keywords, punctuation};
-use silage_tree::{Expr, Item, Lit, Manifest, Place};
+use silage_syntax::{Expr, Item, Lit, Manifest, Place};
 use std::alloc::{AllocError, AllocFailed, Global};
 
 /// Reads the subscripts of a place on the left: none, one or two.

@@ -11,17 +11,14 @@ mod program;
 mod types;
 
 ghost use Rattle.std.specs.Prelude.{◌≡◌, ◌≢◌, ◌<◌, ◌^◌, length, IfOk, IfErr};
-ghost use Rattle.silage_lex.specs.Tokens.{HasTokens, TokenList};
-ghost use Rattle.silage_tree.specs.ReadAgain.{ByteList};
-ghost use Rattle.silage_tree.specs.Tree.{Program as Tree, view};
+ghost use Rattle.silage_syntax.specs.Tree.{Program as Tree, view};
 ghost use Rattle.silage_parse.specs.Answers.{IsWithin, HasFault, AnswersProgram, AnswersFault};
-ghost use Rattle.silage_parse.specs.ReadAgain.{IsWithinAgain};
 ghost use Rattle.silage_parse.specs.declared.ParseFault.{ParseFault as FaultType};
 ghost use Rattle.silage_parse.specs.declared.ParseFault.TheVariants.{Memory};
 
 use program::program;
 use silage_lex::Tokens;
-use silage_tree::{Program, print_is_read};
+use silage_syntax::Program;
 use std::alloc::{AllocError, AllocFailed, Global};
 use thiserror::Error;
 
@@ -71,11 +68,4 @@ pub fn parse(alloc: Global, tokens: &Tokens) -> Result<Program, ParseFault>
     ensures each_fault { (fault : FaultType) → HasFault tokens.now fault → AnswersFault fault result }
 {
     program(alloc, tokens.as_slice())
-}
-
-/// The canonical text of a program that some source has within the limits is read as that program, up to places, and within them.
-pub fn print_is_parsed()
-    ensures { (bytes : ByteList) → (tokens : TokenList) → (program : Tree) → HasTokens bytes tokens → IsWithin tokens program → IsWithinAgain program }
-{
-    print_is_read()
 }

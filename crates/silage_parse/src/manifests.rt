@@ -1,7 +1,7 @@
 //! Numbers that are known before the program runs.
 
 ghost use Rattle.std.specs.Prelude.{◌≡◌, ◌≤◌, ◌<◌, ◌^◌, length, IsSome, IfOk};
-ghost use Rattle.silage_tree.specs.Grammar.{kind_at, term_operator as the_term_operator};
+ghost use Rattle.silage_syntax.specs.Grammar.{kind_at, term_operator as the_term_operator};
 ghost use Rattle.silage_parse.specs.Table.{Manifest_, Term, Factor, ManifestPrimary};
 ghost use Rattle.silage_parse.specs.Parsed.{IsParsed, manifest_value};
 
@@ -10,7 +10,7 @@ use crate::cursor::{
     Cursor, Effect, is_mark, is_name, is_whole, kind, name, past, past_mark, start, whole,
 };
 use silage_lex::{Token, TokenKind, punctuation};
-use silage_tree::{MOp, Manifest};
+use silage_syntax::{MOp, Manifest};
 use std::alloc::{AllocError, AllocFailed, Global};
 
 /// The operator between terms that token `at` is.

@@ -9,7 +9,7 @@ use crate::cursor::{Cursor, Effect, is_mark, past, past_mark};
 use crate::manifests::{manifest, manifest_primary};
 use lists::List;
 use silage_lex::{Token, punctuation};
-use silage_tree::Manifest;
+use silage_syntax::Manifest;
 use std::alloc::{AllocError, AllocFailed, Global};
 
 /// Reads a subscript in brackets, which have these effects.

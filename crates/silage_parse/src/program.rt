@@ -1,7 +1,7 @@
 //! Tables and functions, and the whole source.
 
 ghost use Rattle.std.specs.Prelude.{◌≡◌, ◌≤◌, ◌<◌, ◌^◌, [], ◌∷◌, List as Listed, length, IfOk};
-ghost use Rattle.silage_tree.specs.Tree.{Top as TreeTop};
+ghost use Rattle.silage_syntax.specs.Tree.{Top as TreeTop};
 ghost use Rattle.silage_parse.specs.Table as the;
 ghost use Rattle.silage_parse.specs.Leads.{IsLed, IsNextTop, IsRun, table_row, function_row, with_table, with_function};
 
@@ -12,7 +12,7 @@ use crate::items::items;
 use crate::types::fix_type;
 use lists::List;
 use silage_lex::{Token, keywords, punctuation};
-use silage_tree::{ConstDef, Func, Program, Top};
+use silage_syntax::{ConstDef, Func, Program, Top};
 use std::alloc::{AllocError, AllocFailed, Global};
 
 /// Reads a table.

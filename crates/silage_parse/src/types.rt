@@ -1,7 +1,7 @@
 //! Types of numbers.
 
 ghost use Rattle.std.specs.Prelude.{◌≡◌, ◌≢◌, ◌≤◌, ◌<◌, ◌^◌, length, min, IsSome, IfOk, IfErr};
-ghost use Rattle.silage_tree.specs.Grammar.{from_at, kind_at, mode_of, size as the_size};
+ghost use Rattle.silage_syntax.specs.Grammar.{from_at, kind_at, mode_of, size as the_size};
 ghost use Rattle.silage_parse.specs.declared.ParseFault.TheVariants.{Memory};
 ghost use Rattle.silage_parse.specs.Table as the;
 ghost use Rattle.silage_parse.specs.Table.{FixIn};

@@ -3,8 +3,8 @@ use Rattle.std.proofs.Common.{◌≡◌, ◌≤◌, ◌^◌, lit≤, refl, sym, 
 use Rattle.std.specs.Fmt.{digits}
 use Rattle.silage_lex.specs.declared.Token.{Token}
 use Rattle.silage_lex.proofs.OneReading.{tokens_once}
-use Rattle.silage_tree.specs.Grammar.{Derives}
-use Rattle.silage_tree.specs.Tree.{Program}
+use Rattle.silage_syntax.specs.Grammar.{Derives}
+use Rattle.silage_syntax.specs.Tree.{Program}
 use Rattle.silc.specs.Form.{HasForm}
 use Rattle.silc.specs.Front.{HasProgram}
 use Rattle.desk_core.specs.View.{Content}

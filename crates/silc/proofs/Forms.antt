@@ -1,12 +1,12 @@
 -- The parts of a program in the one-line form.
 use Rattle.std.proofs.Common.{◌≡◌, arith, length, refl, sym, ap, ap₂, subst, ◌∙◌, ℕ, Bool, false, List, [], ◌∷◌, map, Option, Some, None, codes}
 use Rattle.std.specs.Option.{is_some}
-use Rattle.silage_tree.specs.declared.tree.Item.{Item as RustItem}
-use Rattle.silage_tree.specs.declared.tree.Manifest.{Manifest as RustManifest}
-use Rattle.silage_tree.specs.Tree.{Place, Expr, read, binary, Item, item, no_item, Items, Func, function, equation, view_items, view_delay, Program}
+use Rattle.silage_syntax.specs.declared.tree.Item.{Item as RustItem}
+use Rattle.silage_syntax.specs.declared.tree.Manifest.{Manifest as RustManifest}
+use Rattle.silage_syntax.specs.Tree.{Place, Expr, read, binary, Item, item, no_item, Items, Func, function, equation, view_items, view_delay, Program}
 use Rattle.fix_word.specs.declared.types.SigType.{SigType}
-use Rattle.silage_tree.specs.declared.tree.Decl.{Decl}
-use Rattle.silage_tree.specs.OneLine.{bare, signal, term, main_function, Spots, Signals}
+use Rattle.silage_syntax.specs.declared.tree.Decl.{Decl}
+use Rattle.silage_meaning.specs.OneLine.{bare, signal, term, main_function, Spots, Signals}
 use Rattle.silc.specs.Form.{HasForm}
 use Rattle.silc.specs.Private.Parts.{IsWhole, IsBare, IsInputRead, IsPlainNumber, IsTerm, IsAllowed, IsDistinct}
 use Rattle.silc.specs.declared.one_line.OneLine.{OneLine}

@@ -7,10 +7,10 @@ use Rattle.micro_image.specs.Fields.{nth}
 use Rattle.micro_image.specs.Log.{Place, Register, Latch, Entry, Log, Content}
 use Rattle.micro_image.specs.Run.{spread, latches, IsRunOut}
 use Rattle.micro_image.proofs.Streams.{nth-spread}
-use Rattle.silage_tree.specs.OneLine.{exact, result_word, result_row}
-use Rattle.silage_tree.specs.Solves.{out}
-use Rattle.silage_tree.specs.Tree.{Program}
-use Rattle.silage_tree.proofs.OneLine.{one_line_solved, rows_of}
+use Rattle.silage_meaning.specs.OneLine.{exact, result_word, result_row}
+use Rattle.silage_meaning.specs.Solves.{out}
+use Rattle.silage_syntax.specs.Tree.{Program}
+use Rattle.silage_meaning.proofs.OneLine.{one_line_solved, rows_of}
 use Rattle.silc.specs.Headline.{RunsTheSolution}
 use Rattle.silc.specs.Serial.{serial_image}
 use Rattle.silc.specs.Form.{HasForm}

@@ -16,7 +16,7 @@ use Rattle.micro_image.specs.declared.image.Kind.{Kind}
 use Rattle.micro_image.specs.declared.image.Kind.TheVariants as kind
 use Rattle.micro_image.specs.declared.image.Take.{Take}
 use Rattle.micro_image.specs.declared.image.UnitDesc.{UnitDesc}
-use Rattle.silage_tree.specs.Tree.{Program}
+use Rattle.silage_syntax.specs.Tree.{Program}
 use Rattle.silc.specs.Form.{HasForm}
 use Rattle.silc.specs.Serial.{zeros, plain_unit, plain_units, operation, input_issue, number_issue, term_issue, output_issue, moving_word, node_words, serial_words, serial_image}
 use Rattle.silc.specs.declared.one_line.OneLine.{OneLine}

@@ -6,7 +6,7 @@ use Rattle.lists.specs.Rows.{Rows}
 use Rattle.fix_word.specs.Values.{wrap_of}
 use Rattle.micro_image.specs.Fields.{nth, no_word}
 use Rattle.micro_image.specs.Log.{Register, Latch, Entry, content, entries_by, value}
-use Rattle.silage_tree.specs.OneLine.{exact}
+use Rattle.silage_meaning.specs.OneLine.{exact}
 use Rattle.silc.specs.Serial.{serial_image, serial_words}
 use Rattle.silc.specs.declared.one_line.OneLine.{OneLine}
 

@@ -1,6 +1,6 @@
 -- The one-line form as Rust holds it.
-use Rattle.silage_tree.specs.Tree.{Program}
-use Rattle.silage_tree.specs.OneLine.{IsOneLine}
+use Rattle.silage_syntax.specs.Tree.{Program}
+use Rattle.silage_meaning.specs.OneLine.{IsOneLine}
 use Rattle.silc.specs.declared.one_line.OneLine.{OneLine}
 
 -- the program is in the one-line form, with this width, sign and number

@@ -4,7 +4,7 @@ use Rattle.silage_lex.specs.Tokens.{HasTokens}
 use Rattle.silage_lex.specs.Faults.{HasFault as HasLexFault}
 use Rattle.silage_lex.specs.declared.Token.{Token}
 use Rattle.silage_lex.specs.declared.LexFault.TheVariants as lex
-use Rattle.silage_tree.specs.Tree.{Program}
+use Rattle.silage_syntax.specs.Tree.{Program}
 use Rattle.silage_parse.specs.Answers.{IsWithin, HasFault as HasParseFault}
 use Rattle.silage_parse.specs.declared.ParseFault.TheVariants as parse
 use Rattle.silc.specs.Limits.{text_limit}

@@ -4,9 +4,9 @@ use Rattle.lists.specs.Rows.{Rows}
 use Rattle.micro_image.specs.declared.image.Image.{Image}
 use Rattle.micro_image.specs.Run.{IsRunOut}
 use Rattle.micro_image.specs.Spells.{Spells}
-use Rattle.silage_tree.specs.Tree.{Program}
-use Rattle.silage_tree.specs.Value.{Words}
-use Rattle.silage_tree.specs.Solves.{IsStream, IsOneSolution, out}
+use Rattle.silage_syntax.specs.Tree.{Program}
+use Rattle.silage_meaning.specs.Value.{Words}
+use Rattle.silage_meaning.specs.Solves.{IsStream, IsOneSolution, out}
 use Rattle.silc.specs.Form.{HasForm}
 use Rattle.silc.specs.Front.{HasProgram}
 use Rattle.silc.specs.Plain.{plain_period, plain_text}

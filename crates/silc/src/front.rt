@@ -1,6 +1,6 @@
 //! The front end: from the bytes of a source to its program, or to its first fault and the line of it.
 ghost use Rattle.std.specs.Prelude.{◌≡◌, ◌≤◌, length, IfOk, IfErr};
-ghost use Rattle.silage_tree.specs.Tree.{view};
+ghost use Rattle.silage_syntax.specs.Tree.{view};
 ghost use Rattle.silc.specs.Front.{HasProgram};
 ghost use Rattle.silc.specs.Limits.{text_limit};
 ghost use Rattle.silc.specs.Private.Statuses.{of_lex, of_parse, IsFrontError};
@@ -8,7 +8,7 @@ ghost use Rattle.silc.specs.Private.Statuses.{of_lex, of_parse, IsFrontError};
 use crate::status::{Ending, FrontFault, Status};
 use silage_lex::{LexFault, Tokens, lex};
 use silage_parse::{ParseFault, parse};
-use silage_tree::Program;
+use silage_syntax::Program;
 use std::alloc::Global;
 
 /// The line of a place: one more than the ends of lines before it.

@@ -1,13 +1,13 @@
 //! The one-line form: programs of one equation, `y = x + n` or `y = x - n`, the ones that are compiled today.
 ghost use Rattle.std.specs.Prelude.{◌≡◌, ◌↔◌, ℕ, Bool, List, [], ◌∷◌, MatchOption, IsTrue};
-ghost use Rattle.silage_tree.specs.Tree.{Place as PlaceTree, Expr as ExprTree, Func as FuncTree, equation, item, no_item, function, view, view_func, view_items, view_place, view_expr};
+ghost use Rattle.silage_syntax.specs.Tree.{Place as PlaceTree, Expr as ExprTree, Func as FuncTree, equation, item, no_item, function, view, view_func, view_items, view_place, view_expr};
 ghost use Rattle.silc.specs.Form.{HasForm};
 ghost use Rattle.silc.specs.Private.Parts.{IsWhole, IsTerm, IsBare, IsInputRead, IsPlainNumber, IsAllowed, IsDistinct};
 ghost use Rattle.silc.specs.declared.one_line.OneLine.{OneLine};
 
 use fix_word::{FixType, Mode, Shape, SigType};
 use lists::List;
-use silage_tree::{BinOp, Decl, Expr, Func, Item, Lit, Place, Program, Top};
+use silage_syntax::{BinOp, Decl, Expr, Func, Item, Lit, Place, Program, Top};
 
 /// A program in the one-line form.
 #[derive(Clone, Copy, Debug, PartialEq, Eq)]

@@ -1,5 +1,5 @@
 use Rattle.std.proofs.Common.{sym, subst}
-use Rattle.silage_tree.specs.Tree.{view}
+use Rattle.silage_syntax.specs.Tree.{view}
 use Rattle.ranked_faults.specs.Ranked.{IsFirst}
 use Rattle.name_check.specs.NameFaults.{name_faults}
 use Rattle.name_check.proofs.NameAnswers.{twice_first, inside_first, recursive_first, no_main_first, names_clear}

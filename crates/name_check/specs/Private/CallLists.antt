@@ -1,7 +1,7 @@
 -- The calls of each function as a list of positions, and what a search along them has reached.
 use Rattle.std.specs.Prelude.{◌≡◌, ℕ, ◌<◌, List, map, position, Contains, length, slice_get, Option, Some, bytes_eq}
 use Rattle.std.specs.List.{filter_map}
-use Rattle.silage_tree.specs.Tree.{Program}
+use Rattle.silage_syntax.specs.Tree.{Program}
 use Rattle.name_check.specs.TopNames.{top_names}
 use Rattle.name_check.specs.Calls.{called_by}
 

@@ -1,6 +1,6 @@
 -- The first table or function with a duplicate name, and the first function that reaches itself.
 use Rattle.std.specs.Prelude.{◌≡◌, ℕ, ◌≤◌, Bool, false, List, slice_get, Option, Some, None, bytes_eq, codes}
-use Rattle.silage_tree.specs.Tree.{Top, table, function, Program}
+use Rattle.silage_syntax.specs.Tree.{Top, table, function, Program}
 use Rattle.name_check.specs.TopNames.{top_at, top_names, IsDuplicate}
 use Rattle.name_check.specs.Calls.{Calls, Reaches}
 use Rattle.name_check.specs.declared.fault.NameFault.{NameFault}

@@ -1,6 +1,6 @@
 -- A manifest number that is in its range, or is not.
 use Rattle.std.specs.Prelude.{◌≡◌, Some, None, ℤ, Result, Ok, Err}
-use Rattle.silage_tree.specs.Manifests.{in_range}
+use Rattle.silage_syntax.specs.Manifests.{in_range}
 use Rattle.name_check.specs.declared.fault.ManifestFault.{ManifestFault}
 use Rattle.name_check.specs.declared.fault.ManifestFault.TheVariants.{Overflow}
 

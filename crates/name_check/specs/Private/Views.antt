@@ -1,7 +1,7 @@
 -- What the code knows of names, as the rules see it.
 use Rattle.std.specs.Prelude.{ℕ, List, [], ◌∷◌, ◌++◌, find, bytes_eq, Option, if◌then◌else◌}
-use Rattle.silage_tree.specs.declared.tree.Expr.{Expr as RustExpr}
-use Rattle.silage_tree.specs.Tree.{Branches, no_branch, branch, Top, Program, view, view_func, view_expr}
+use Rattle.silage_syntax.specs.declared.tree.Expr.{Expr as RustExpr}
+use Rattle.silage_syntax.specs.Tree.{Branches, no_branch, branch, Top, Program, view, view_func, view_expr}
 use Rattle.name_check.specs.Contexts.{Context}
 use Rattle.name_check.specs.Meanings.{is_among}
 use Rattle.name_check.specs.TopNames.{top_name}

@@ -1,9 +1,9 @@
 -- The parts of the one-line form, each as the code meets it.
 use Rattle.std.specs.Prelude.{◌≡◌, ◌≢◌, ℕ, ◌-◌, ◌^◌, ◌≤◌, Bool, false, codes, List, [], None}
-use Rattle.silage_tree.specs.declared.tree.Decl.{Decl}
-use Rattle.silage_tree.specs.declared.tree.Lit.TheVariants.{Number}
-use Rattle.silage_tree.specs.Tree.{Place, Expr, literal, read, binary}
-use Rattle.silage_tree.specs.OneLine.{whole_type, bare, operator}
+use Rattle.silage_syntax.specs.declared.tree.Decl.{Decl}
+use Rattle.silage_syntax.specs.declared.tree.Lit.TheVariants.{Number}
+use Rattle.silage_syntax.specs.Tree.{Place, Expr, literal, read, binary}
+use Rattle.silage_meaning.specs.OneLine.{whole_type, bare, operator}
 use Rattle.silc.specs.declared.one_line.OneLine.{OneLine}
 
 -- a signal without dims, of whole numbers of this width

@@ -1,7 +1,7 @@
 use Rattle.std.proofs.Common.{ap, ◌∙◌, arith}
 use Rattle.ranked_faults.specs.Private.FirstMet.{first}
 use Rattle.ranked_faults.proofs.TableFaults.{next_fails, next_passes}
-use Rattle.silage_tree.specs.Tree.{view_expr}
+use Rattle.silage_syntax.specs.Tree.{view_expr}
 use Rattle.name_check.specs.NameRules.{argument_rules, passing_rules}
 use Rattle.name_check.specs.Private.Views.{context_of}
 use Rattle.name_check.proofs.calls.check_arguments.Goals as goal

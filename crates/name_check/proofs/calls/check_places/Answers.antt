@@ -1,7 +1,7 @@
 use Rattle.std.proofs.Common.{ap, ◌∙◌, arith, map}
 use Rattle.ranked_faults.specs.Private.FirstMet.{first}
 use Rattle.ranked_faults.proofs.TableFaults.{next_fails, next_passes}
-use Rattle.silage_tree.specs.Tree.{view_place, view_manifest}
+use Rattle.silage_syntax.specs.Tree.{view_place, view_manifest}
 use Rattle.name_check.specs.Meanings.{takes}
 use Rattle.name_check.specs.NameRules.{target_rules, taking_rules}
 use Rattle.name_check.specs.Private.Views.{context_of}

@@ -1,7 +1,7 @@
 use Rattle.std.proofs.Common.{◌≡◌, map, drop}
 use Rattle.ranked_faults.specs.Rules.{parts, each}
 use Rattle.ranked_faults.specs.Private.FirstMet.{first}
-use Rattle.silage_tree.specs.Tree.{view_manifest}
+use Rattle.silage_syntax.specs.Tree.{view_manifest}
 use Rattle.name_check.specs.NameRules.{manifest_rules}
 use Rattle.name_check.specs.Private.Views.{context_of}
 use Rattle.name_check.proofs.indices.check_subscripts.Given as goal

@@ -1,6 +1,6 @@
 use Rattle.std.proofs.Common.{ap, sym, ◌∙◌, option_map, Some, None}
 use Rattle.std.specs.Option.{option_copied}
-use Rattle.silage_tree.specs.Tree.{table, function, view_func}
+use Rattle.silage_syntax.specs.Tree.{table, function, view_func}
 use Rattle.name_check.specs.Private.Views.{context_of}
 use Rattle.name_check.proofs.ApartNames.{function_is}
 use Rattle.name_check.proofs.lookups.function.Goals as goal

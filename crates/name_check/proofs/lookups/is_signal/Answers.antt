@@ -1,5 +1,5 @@
 use Rattle.std.proofs.Common.{ap, sym, ◌∙◌, is_some}
-use Rattle.silage_tree.specs.Names.{declared}
+use Rattle.silage_syntax.specs.Names.{declared}
 use Rattle.name_check.specs.Private.Views.{context_of}
 use Rattle.name_check.proofs.FoundNames.{is_some-map, is_some-copied}
 use Rattle.name_check.proofs.lookups.is_signal.Goals as goal

@@ -1,6 +1,6 @@
 use Rattle.std.proofs.Common.{ap, option_map, ◌∙◌}
 use Rattle.std.specs.Option.{option_copied}
-use Rattle.silage_tree.specs.Tree.{view_top}
+use Rattle.silage_syntax.specs.Tree.{view_top}
 use Rattle.name_check.proofs.FoundNames.{no_top, some_top}
 use Rattle.name_check.proofs.lookups.top.Goals as goal
 

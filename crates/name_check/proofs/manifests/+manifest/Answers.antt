@@ -3,8 +3,8 @@ use Rattle.std.proofs.Common.{◌≡◌, ap, ◌∙◌, Err, refl, arith, neg_�
 use mir.Syntax.{w32, w64}
 use Rattle.std.proofs.lemmas.Int.{ints}
 use Rattle.std.proofs.lemmas.Result.{err_from_is_err_and}
-use Rattle.silage_tree.specs.Manifests.{combined}
-use Rattle.silage_tree.specs.Tree.{view_manifest}
+use Rattle.silage_syntax.specs.Manifests.{combined}
+use Rattle.silage_syntax.specs.Tree.{view_manifest}
 use Rattle.name_check.proofs.ManifestMet.{whole_exact, counter_exact, minus_stops, minus_exact, left_stops, right_stops, both_exact}
 use Rattle.name_check.proofs.manifests.+manifest.Goals as goal
 

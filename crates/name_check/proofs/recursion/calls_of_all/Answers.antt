@@ -1,6 +1,6 @@
 -- The list of each table or function goes behind those before.
 use Rattle.std.proofs.Common.{◌≡◌, ◌<◌, length, get_or, ap, ◌∙◌, arith, map}
-use Rattle.silage_tree.specs.Tree.{view_top}
+use Rattle.silage_syntax.specs.Tree.{view_top}
 use Rattle.name_check.specs.Calls.{called_by}
 use Rattle.name_check.specs.Private.CallLists.{places}
 use Rattle.name_check.proofs.CallGraph.{list_more, all_lists}

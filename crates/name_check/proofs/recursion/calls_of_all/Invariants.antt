@@ -1,5 +1,5 @@
 use Rattle.std.proofs.Common.{◌≡◌, map, take}
-use Rattle.silage_tree.specs.Tree.{view_top}
+use Rattle.silage_syntax.specs.Tree.{view_top}
 use Rattle.name_check.specs.Calls.{called_by}
 use Rattle.name_check.specs.Private.CallLists.{places}
 use Rattle.name_check.proofs.recursion.calls_of_all.Given as goal

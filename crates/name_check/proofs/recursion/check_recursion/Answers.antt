@@ -1,7 +1,7 @@
 -- What the lists tell is what the program's calls tell.
 use Rattle.std.proofs.Common.{◌<◌, length, sym, subst, ap, ◌∙◌, arith}
 use Rattle.std.proofs.lemmas.List.{length-map}
-use Rattle.silage_tree.specs.Tree.{view, view_top}
+use Rattle.silage_syntax.specs.Tree.{view, view_top}
 use Rattle.name_check.specs.declared.fault.NameFault.TheVariants.{Recursive}
 use Rattle.name_check.specs.Private.FirstTops.{HasNoRecursion, IsFirstRecursive, IsRecursionIn}
 use Rattle.name_check.specs.Private.CallLists.{Lists, IsWithin}

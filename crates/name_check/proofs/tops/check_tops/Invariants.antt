@@ -1,7 +1,7 @@
 use Rattle.std.proofs.Common.{◌≡◌, map, drop}
 use Rattle.ranked_faults.specs.Rules.{parts, each}
 use Rattle.ranked_faults.specs.Private.FirstMet.{first}
-use Rattle.silage_tree.specs.Tree.{view, view_top}
+use Rattle.silage_syntax.specs.Tree.{view, view_top}
 use Rattle.name_check.specs.NameRules.{top_rules}
 use Rattle.name_check.proofs.tops.check_tops.Given as goal
 

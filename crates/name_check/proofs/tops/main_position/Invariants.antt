@@ -1,5 +1,5 @@
 use Rattle.std.proofs.Common.{◌≡◌, map, drop}
-use Rattle.silage_tree.specs.Tree.{view_top}
+use Rattle.silage_syntax.specs.Tree.{view_top}
 use Rattle.name_check.proofs.MainFound.{main_among}
 use Rattle.name_check.proofs.tops.main_position.Given as goal
 

@@ -1,8 +1,8 @@
 use Rattle.std.proofs.Common.{◌≡◌, ◌+◌, ◌++◌, ◌∷◌, [], map, length, List, ℕ, sym, ap, ◌∙◌, arith}
 use Rattle.std.proofs.lemmas.List.{append_assoc, append-nil, nil_from_length}
 use Rattle.fix_word.specs.declared.types.SigType.{SigType}
-use Rattle.silage_tree.specs.declared.tree.Decl.{Decl}
-use Rattle.silage_tree.specs.Grammar.{typed}
+use Rattle.silage_syntax.specs.declared.tree.Decl.{Decl}
+use Rattle.silage_syntax.specs.Grammar.{typed}
 use Rattle.silage_parse.specs.declared.declarations.Declared.{Declared}
 use Rattle.silage_parse.specs.Leads.{view_declared}
 use Rattle.silage_parse.proofs.declarations.add_typed.Goals as goal

@@ -1,7 +1,7 @@
 use Rattle.std.proofs.Common.{sym, arith}
 use Rattle.std.proofs.lemmas.Result.{err_from_is_err_and}
-use Rattle.silage_tree.specs.Tree.{view_expr, view_manifest}
-use Rattle.silage_tree.specs.Grammar.{kind_at}
+use Rattle.silage_syntax.specs.Tree.{view_expr, view_manifest}
+use Rattle.silage_syntax.specs.Grammar.{kind_at}
 use Rattle.silage_parse.specs.Table.{operators, comparisons}
 use Rattle.silage_parse.specs.Machine.{goes}
 use Rattle.silage_parse.specs.Parsed.{expr_value}

@@ -5,7 +5,7 @@ use Rattle.silage_parse.proofs.Chains.{inside, taken_from}
 use Rattle.silage_parse.proofs.Parts.{halted, halted_led, first_row, other_row, made_as, taken_name}
 use Rattle.std.proofs.Common.{[], ◌∷◌, arith}
 use Rattle.silage_parse.specs.Table as the
-use Rattle.silage_tree.specs.Tree.{view_item}
+use Rattle.silage_syntax.specs.Tree.{view_item}
 use Rattle.silage_lex.specs.declared.punctuation.TheConstants as punctuation
 use Rattle.std.proofs.Common.{true}
 use Rattle.silage_parse.specs.Table.{Mark}

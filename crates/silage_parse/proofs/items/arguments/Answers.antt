@@ -4,7 +4,7 @@ use Rattle.silage_parse.specs.Machine.{goes, makes}
 use Rattle.silage_parse.proofs.Parts.{halted, first_row, other_row, made_as}
 use Rattle.std.proofs.Common.{[], ◌∷◌, arith}
 use Rattle.silage_parse.specs.Table as the
-use Rattle.silage_tree.specs.Tree.{view_expr}
+use Rattle.silage_syntax.specs.Tree.{view_expr}
 use Rattle.silage_parse.specs.Table.{Mark}
 use Rattle.silage_parse.specs.Table.{Go, Args, AfterTarget, RightSide, Item_, Begins, Outside}
 use Rattle.std.proofs.lemmas.List.{map-append}

@@ -4,7 +4,7 @@ use Rattle.silage_parse.specs.Machine.{makes}
 use Rattle.silage_parse.proofs.Chains.{inside, taken_from}
 use Rattle.silage_parse.proofs.Parts.{first_row, other_row, made_as}
 use Rattle.silage_parse.specs.Table as the
-use Rattle.silage_tree.specs.Grammar.{kind_at}
+use Rattle.silage_syntax.specs.Grammar.{kind_at}
 use Rattle.silage_parse.specs.Table.{Mark}
 use Rattle.silage_parse.specs.Table.{Go, Args, AfterTarget, RightSide, Item_, Begins, Outside}
 use Rattle.silage_parse.proofs.Chains.{passed}

@@ -1,7 +1,7 @@
 use Rattle.std.proofs.Common.{sym, [], ◌∷◌}
 use Rattle.std.proofs.lemmas.Result.{err_from_is_err_and}
-use Rattle.silage_tree.specs.Tree.{view_manifest}
-use Rattle.silage_tree.specs.Grammar.{kind_at, Sum}
+use Rattle.silage_syntax.specs.Tree.{view_manifest}
+use Rattle.silage_syntax.specs.Grammar.{kind_at, Sum}
 use Rattle.silage_parse.specs.Table.{Mark, operators}
 use Rattle.silage_lex.specs.declared.punctuation.TheConstants as punctuation
 use Rattle.silage_parse.specs.Parsed.{manifest_value}

@@ -4,7 +4,7 @@ use Rattle.silage_parse.specs.Machine.{goes, makes}
 use Rattle.silage_parse.proofs.Parts.{made_as}
 use Rattle.std.proofs.Common.{map, arith}
 use Rattle.silage_parse.specs.Table as the
-use Rattle.silage_tree.specs.Tree.{view_top}
+use Rattle.silage_syntax.specs.Tree.{view_top}
 use Rattle.silage_parse.specs.Table.{Go, Tops, Source}
 use Rattle.silage_parse.proofs.Sources.{source_over, source_stops}
 use Rattle.std.proofs.lemmas.List.{map-append}

@@ -1,7 +1,7 @@
 use Rattle.silage_parse.proofs.Parts.{Kept}
 use Rattle.std.proofs.Common.{[], ◌∷◌, map, ◌-◌, length}
 use Rattle.silage_parse.specs.Table as the
-use Rattle.silage_tree.specs.Tree.{view_top}
+use Rattle.silage_syntax.specs.Tree.{view_top}
 use Rattle.silage_parse.specs.Table.{Go, Tops, Source}
 use Rattle.silage_parse.specs.Leads.{source_rest}
 use Rattle.silage_parse.proofs.Sources.{start}

@@ -1,6 +1,6 @@
 use Rattle.std.proofs.Common.{sym}
 use Rattle.std.proofs.lemmas.Result.{err_from_is_err_and}
-use Rattle.silage_tree.specs.Grammar.{kind_at}
+use Rattle.silage_syntax.specs.Grammar.{kind_at}
 use Rattle.silage_parse.specs.Machine.{wrong}
 use Rattle.silage_parse.specs.Parsed.{modes}
 use Rattle.silage_parse.proofs.TypeRuns.{is_a_mode, no_mode}

@@ -1,5 +1,5 @@
 use Rattle.std.proofs.Common.{ap}
-use Rattle.silage_tree.specs.Tree.{view_expr}
+use Rattle.silage_syntax.specs.Tree.{view_expr}
 use Rattle.silc.proofs.Forms.{input_read, read_bare, no_delay}
 use Rattle.silc.proofs.one_line.is_input.Goals as goal
 

@@ -1,5 +1,5 @@
 use Rattle.std.proofs.Common.{rules, ap, sym, subst, ◌∙◌, ℕ, List}
-use Rattle.silage_tree.specs.Tree.{view, view_expr, view_func, view_items, view_place}
+use Rattle.silage_syntax.specs.Tree.{view, view_expr, view_func, view_items, view_place}
 use Rattle.silc.specs.Private.Parts.{IsTerm}
 use Rattle.silc.proofs.Forms.{form_term, form_made, no_elements}
 use Rattle.silc.proofs.one_line.one_line.Goals as goal

@@ -1,6 +1,6 @@
 use Rattle.std.proofs.Common.{ap, sym, subst}
-use Rattle.silage_tree.specs.Tree.{view_expr}
-use Rattle.silage_tree.specs.declared.tree.Expr.{Expr as RustExpr}
+use Rattle.silage_syntax.specs.Tree.{view_expr}
+use Rattle.silage_syntax.specs.declared.tree.Expr.{Expr as RustExpr}
 use Rattle.silc.specs.Private.Parts.{IsPlainNumber}
 use Rattle.silc.proofs.Forms.{term_number}
 use Rattle.silc.proofs.one_line.term.Goals as goal

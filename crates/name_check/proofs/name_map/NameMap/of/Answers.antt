@@ -1,7 +1,7 @@
 -- A name that is not kept yet is kept after the others; one that is kept already is a duplicate.
 use Rattle.std.proofs.Common.{◌≡◌, ◌<◌, length, get_or, Some, ap, sym, ◌∙◌, arith, false, true}
 use Rattle.std.proofs.lemmas.Bool.{not-true, not-false}
-use Rattle.silage_tree.specs.Tree.{view, view_top}
+use Rattle.silage_syntax.specs.Tree.{view, view_top}
 use Rattle.name_check.specs.declared.fault.NameFault.TheVariants.{Twice}
 use Rattle.name_check.specs.Meanings.{is_among}
 use Rattle.name_check.specs.TopNames.{top_names}

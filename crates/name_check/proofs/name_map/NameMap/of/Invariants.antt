@@ -1,5 +1,5 @@
 use Rattle.name_check.specs.TopNames.{top_names}
-use Rattle.silage_tree.specs.Tree.{view}
+use Rattle.silage_syntax.specs.Tree.{view}
 use Rattle.name_check.proofs.FirstPlaces.{IsKept}
 use Rattle.name_check.proofs.name_map.NameMap.of.Given as goal
 

@@ -1,0 +1,6 @@
+pub mod Instances
+pub mod Types
+pub mod Value
+pub mod Solves
+pub mod Rules
+pub mod OneLine

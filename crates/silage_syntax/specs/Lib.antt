@@ -1,0 +1,6 @@
+pub mod Tree
+pub mod Grammar
+pub mod Limits
+pub mod Positions
+pub mod Manifests
+pub mod Names

@@ -1,9 +1,0 @@
-use Rattle.std.proofs.Common.{take}
-use Rattle.std.specs.List.{flat_map}
-use Rattle.silage_tree.specs.Tree.{view_expr}
-use Rattle.silage_tree.specs.Text.{after_comma, expr_text}
-use Rattle.silage_tree.specs.Private.Puts.{Puts}
-use Rattle.silage_tree.proofs.print_exprs.put_other_exprs.Given as goal
-
-abbrev pub invariant-loop-e : goal.invariant-loop-e
-invariant-loop-e l = Puts l.fn.out (flat_map (λ e. after_comma expr_text (view_expr e)) (take l.e-index l.exprs)) l.out

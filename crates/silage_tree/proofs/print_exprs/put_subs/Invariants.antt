@@ -1,9 +1,0 @@
-use Rattle.std.proofs.Common.{take}
-use Rattle.std.specs.List.{flat_map}
-use Rattle.silage_tree.specs.Tree.{view_manifest}
-use Rattle.silage_tree.specs.Text.{subscript_text}
-use Rattle.silage_tree.specs.Private.Puts.{Puts}
-use Rattle.silage_tree.proofs.print_exprs.put_subs.Given as goal
-
-abbrev pub invariant-loop-sub : goal.invariant-loop-sub
-invariant-loop-sub l = Puts l.fn.out (flat_map (λ m. subscript_text (view_manifest m)) (take l.sub-index l.subs)) l.out

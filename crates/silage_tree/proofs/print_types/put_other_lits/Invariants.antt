@@ -1,8 +1,0 @@
-use Rattle.std.proofs.Common.{take}
-use Rattle.std.specs.List.{flat_map}
-use Rattle.silage_tree.specs.Text.{after_comma, lit_text}
-use Rattle.silage_tree.specs.Private.Puts.{Puts}
-use Rattle.silage_tree.proofs.print_types.put_other_lits.Given as goal
-
-abbrev pub invariant-loop-lit : goal.invariant-loop-lit
-invariant-loop-lit l = Puts l.fn.out (flat_map (after_comma lit_text) (take l.lit-index l.lits)) l.out

@@ -1,7 +1,0 @@
--- The declarations between their parentheses.
-use Rattle.silage_tree.proofs.Spelled.{followed, ends, alike}
-use Rattle.silage_tree.proofs.printing.put_decls_in.Goals as goal
-
-pub returns : goal.returns
-returns c =
-    ends _ _ c.put_close.result (λ h. alike (cc) (followed (followed c.in_ok-put_open.ensures c.in_ok-put_decls.ensures) h)) c.put_close.ensures
