@@ -1,0 +1,43 @@
+-- What an instance comes to, by its parts.
+use Rattle.std.proofs.Common.{◌≡◌, ◌≢◌, ◌<◌, ◌-◌, ◌∙◌, ℕ, zero, suc, ℤ, List, [], map, length, slice_get, option_map, Some, Result, Ok, Err, IsErrAnd, refl, sym, ap, arith}
+use Rattle.std.proofs.lemmas.Option.{slice_get-map}
+use Rattle.single_def.specs.declared.actions.Body.{Body as RustBody}
+use Rattle.single_def.specs.declared.fault.DefFault.{DefFault}
+use Rattle.single_def.specs.declared.fault.DefFault.TheVariants.{Memory}
+use Rattle.single_def.specs.Private.Actions.{Body, Known, Found, State, Gives, view_body, at_first, entered_in, run_actions, run_body, run_some, run_instance, all_defined, ◌>>=◌}
+use Rattle.single_def.proofs.Each.{gives_err}
+
+module _ (inside : (parent func at : ℕ) → List ℤ → Found → Result Found DefFault) (body : Body) (func parent at : ℕ) (turns : List ℤ) (found entered : Found) (known : Known) (number : ℕ)
+    (e : entered_in body func parent at turns found ≡ Ok entered) (n : number ≡ length found.instances) (k : known ≡ at_first body.given body.count) where
+  abbrev begun : State
+  begun = record { known = known; found = entered }
+
+  abbrev rest : State → Result Found DefFault
+  rest s = all_defined s.known body.signals >>= λ _. Ok s.found
+
+  body_is : run_body inside body func parent at turns found ≡ run_actions (inside number) [] body.actions begun >>= rest
+  body_is =
+      ap (λ r. r >>= λ entered. run_actions (inside (length found.instances)) [] body.actions (record { known = at_first body.given body.count; found = entered }) >>= rest) e
+      ∙ ap (λ m. run_actions (inside m) [] body.actions (record { known = at_first body.given body.count; found = entered }) >>= rest) (sym n)
+      ∙ ap (λ known. run_actions (inside number) [] body.actions (record { known = known; found = entered }) >>= rest) (sym k)
+
+  pub body_err : (x : Found) (fault : DefFault) (r : Result (Unit {0}) DefFault) → IsErrAnd r (λ f. f ≡ fault) → (fault ≢ Memory → run_actions (inside number) [] body.actions begun ≡ Err fault)
+      → Gives x r (run_body inside body func parent at turns found)
+  body_err x fault r err fails = gives_err x fault r _ err (λ m. body_is ∙ ap (λ r. r >>= rest) (fails m))
+
+  checked : (x : Found) (r : Result (Unit {0}) DefFault) → Gives x r (r >>= λ _. Ok x)
+  checked x (Ok u) = refl
+  checked x (Err f) = λ m. refl
+
+  pub body_ok : (s : State) (r : Result (Unit {0}) DefFault) → run_actions (inside number) [] body.actions begun ≡ Ok s → r ≡ all_defined s.known body.signals
+      → Gives s.found r (run_body inside body func parent at turns found)
+  body_ok s r ok is = rw (body_is ∙ ap (λ r. r >>= rest) ok, ← is) (checked s.found r)
+
+-- an instance that may be entered comes to its body
+pub enter_is : (plan : List RustBody) (calls number func at : ℕ) (turns : List ℤ) (found : Found) (b : RustBody) → 0 < calls → slice_get plan func ≡ Some b
+    → run_instance (map view_body plan) calls number func at turns found ≡ run_body (run_instance (map view_body plan) (calls - 1)) (view_body b) func number at turns found
+enter_is plan zero number func at turns found b some e = absurd (omega arith)
+enter_is plan (suc calls) number func at turns found b some e =
+    let less : suc calls - 1 ≡ calls = omega arith in
+    let body : slice_get (map view_body plan) func ≡ Some (view_body b) = slice_get-map view_body plan func ∙ ap (λ o. option_map view_body o) e in
+    rw less (ap (λ o. run_some (suc calls) (run_instance (map view_body plan) calls) o func number at turns found) body)

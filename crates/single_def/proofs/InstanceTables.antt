@@ -1,0 +1,273 @@
+-- An instance does what is in its table.
+use Rattle.std.proofs.Common.{◌≡◌, ◌≢◌, ◌∙◌, ◌<◌, ◌≤◌, ◌+◌, ◌-◌, ◌++◌, ◌⊎◌, ◌||◌, ◌&&◌, inl, inr, ℕ, zero, suc, List, [], ◌∷◌, map, length, replicate, Bool, true, false, slice_get, Some, Result, Ok, Err, refl, sym, ap, subst, arith, append_assoc, append-nil}
+use Rattle.std.specs.Prelude.{nat_eq}
+use Rattle.std.specs.List.{range_with_len}
+use Rattle.std.proofs.lemmas.Bool.Decides.{eqb_tells}
+use Rattle.std.proofs.lemmas.List.Sums.{sum_by-cons, sum_by-append}
+use Rattle.ranked_faults.specs.Private.FirstMet.{first, first_in, ◌>>◌}
+use Rattle.silage_syntax.specs.declared.tree.Decl.{Decl}
+use Rattle.silage_syntax.specs.Tree.{Func, Program}
+use Rattle.silage_syntax.specs.Names.{decls, element_count}
+use Rattle.single_def.specs.declared.elements.Instance.{Instance}
+use Rattle.single_def.specs.declared.fault.DefFault.{DefFault}
+use Rattle.single_def.specs.Tables.{Mark, given, needs, counts, load_of, load_before, is_preset, Table, mark, Row, each, each_from, Context, at_entry, is_defined, after, after_row, table_rules, row_rules, max_load}
+use Rattle.single_def.specs.Expansion.{row_instances, elements_from, signals_of, elements_in}
+use Rattle.single_def.specs.ElementRules.{each_place, elements_of}
+use Rattle.single_def.specs.Private.Actions.{Known, for_each, signal_elements, is_defined_at, are_defined, all_defined, at_first, ◌>>=◌}
+use Rattle.single_def.specs.Private.Plans.{first_of, signals_from, capped}
+use Rattle.single_def.proofs.ElementNumbers.{IsPlace, behind_first, first_behind, number_within}
+use Rattle.single_def.proofs.Standing.{KnownStands}
+
+-- The elements of an instance.
+pub signal_elements-from : (number d n : ℕ) (ds : List Decl) → signal_elements number d (signals_from n ds) ≡ elements_from number d ds
+signal_elements-from number d n [] = refl
+signal_elements-from number d n (x ∷ ds) =
+    ap (λ es. map (λ k. record { inst = number; decl = d; place = k }) (range_with_len 0 (element_count x.dims)) ++ es) (signal_elements-from number (d + 1) (n + element_count x.dims) ds)
+
+pub elements_in-append : (p : Program) (n : ℕ) (is : List Instance) (i : Instance) → elements_in p n (is ++ i ∷ []) ≡ elements_in p n is ++ elements_from (n + length is) 0 (signals_of (slice_get p.tops i.func))
+elements_in-append p n [] i =
+    let same : n + 0 ≡ n = omega arith in
+    rw same (append-nil (elements_from n 0 (signals_of (slice_get p.tops i.func))))
+elements_in-append p n (j ∷ is) i =
+    let same : n + 1 + length is ≡ n + length (j ∷ is) = omega arith in
+    let own = elements_from n 0 (signals_of (slice_get p.tops j.func)) in
+    ap (λ es. own ++ es) (elements_in-append p (n + 1) is i)
+    ∙ sym (append_assoc own (elements_in p (n + 1) is) (elements_from (n + 1 + length is) 0 (signals_of (slice_get p.tops i.func))))
+    ∙ ap (λ m. (own ++ elements_in p (n + 1) is) ++ elements_from m 0 (signals_of (slice_get p.tops i.func))) same
+
+-- Where the rows of `given` and `needs` leave what is defined.
+or_true : (b : Bool) → b || true ≡ true
+or_true true = refl
+or_true false = refl
+
+module _ (e j : ℕ) where
+  abbrev IsBefore : Context → Bool → Type 0
+  IsBefore context b = is_defined context e j ≡ b
+
+  module _ (d : ℕ) where
+    abbrev gives : ℕ → Table
+    gives k = mark (given d k)
+
+    stays_given : (n a : ℕ) (context : Context) → IsBefore context true → IsBefore (after_row context (each gives (range_with_len a n))) true
+    stays_given zero a context h = h
+    stays_given (suc n) a context h = stays_given n (a + 1) (after context (gives a)) (ap (λ (b : Bool). nat_eq e d && nat_eq j a || b) h ∙ or_true (nat_eq e d && nat_eq j a))
+
+    is_given : (n a : ℕ) (context : Context) → e ≡ d → a ≤ j → j < a + n → IsBefore (after_row context (each gives (range_with_len a n))) true
+    is_given zero a context same least most = absurd (omega arith)
+    is_given (suc n) a context same least most = elim (eqb_tells j a) [
+      | inl here ↦ elim (eqb_tells e d) [
+        | inl both ↦
+            let now : IsBefore (after context (gives a)) true = rw (both.0, here.0) refl in
+            stays_given n (a + 1) (after context (gives a)) now
+        | inr other ↦ absurd (other.1 same)
+      ]
+      | inr later ↦ let apart = later.1 in is_given n (a + 1) (after context (gives a)) same (omega arith) (omega arith)
+    ]
+
+    is_other : (n a : ℕ) (context : Context) → e ≢ d → IsBefore context false → IsBefore (after_row context (each gives (range_with_len a n))) false
+    is_other zero a context other h = h
+    is_other (suc n) a context other h = elim (eqb_tells e d) [
+      | inl same ↦ absurd (other same.1)
+      | inr apart ↦
+          let now : IsBefore (after context (gives a)) false = rw (apart.0, h) refl in
+          is_other n (a + 1) (after context (gives a)) other now
+    ]
+
+  abbrev param_row : ℕ → List Decl → Row
+  param_row a ps = each_from (λ d decl. each_place (given d) decl) a ps
+
+  params_stay : (a : ℕ) (ps : List Decl) (context : Context) → IsBefore context true → IsBefore (after_row context (param_row a ps)) true
+  params_stay a [] context h = h
+  params_stay a (x ∷ ps) context h = params_stay (a + 1) ps _ (stays_given a (element_count x.dims) 0 context h)
+
+  param_given : (a : ℕ) (ps : List Decl) (context : Context) (i : ℕ) (decl : Decl) → e ≡ a + i → slice_get ps i ≡ Some decl → j < element_count decl.dims → IsBefore (after_row context (param_row a ps)) true
+  param_given a [] context i decl same stands within = absurd (cc (stands))
+  param_given a (x ∷ ps) context zero decl same stands within =
+      let is : decl ≡ x = cc (stands) in
+      let less = subst (λ (y : Decl). j < element_count y.dims) is within in
+      params_stay (a + 1) ps _ (is_given a (element_count x.dims) 0 context (omega arith) (omega arith) (omega arith))
+  param_given a (x ∷ ps) context (suc i) decl same stands within = param_given (a + 1) ps _ i decl (omega arith) stands within
+
+  past_params : (a : ℕ) (ps : List Decl) (context : Context) → a + length ps ≤ e → IsBefore context false → IsBefore (after_row context (param_row a ps)) false
+  past_params a [] context past h = h
+  past_params a (x ∷ ps) context past h = past_params (a + 1) ps _ (omega arith) (is_other a (element_count x.dims) 0 context (λ same. absurd (omega (arith, same))) h)
+
+-- A row that says which elements are given adds nothing else.
+pub record IsQuiet (context : Context) (row : Row) : Type 0 where
+  pub holds : first_in (row_rules context row) ≡ Ok tt
+  pub load : load_before (after_row context row) ≡ load_before context
+  pub presets : (e j s : ℕ) → is_preset (after_row context row) e j s ≡ is_preset context e j s
+  pub instances : (number : ℕ) (front : List Instance) → row_instances number front row ≡ front
+
+quiet_given : (d n a : ℕ) (context : Context) → IsQuiet context (each (λ k. mark (given d k)) (range_with_len a n))
+quiet_given d zero a context = record { holds = refl; load = refl; presets = λ e j s. refl; instances = λ number front. refl }
+quiet_given d (suc n) a context =
+    let rest = quiet_given d n (a + 1) (after context (mark (given d a))) in
+    let more = sum_by-cons load_of (given d a) context.of_program in
+    record { holds = rest.holds; load = rest.load ∙ omega (arith, more); presets = rest.presets; instances = rest.instances }
+
+pub quiet_params : (a : ℕ) (ps : List Decl) (context : Context) → IsQuiet context (each_from (λ d decl. each_place (given d) decl) a ps)
+quiet_params a [] context = record { holds = refl; load = refl; presets = λ e j s. refl; instances = λ number front. refl }
+quiet_params a (x ∷ ps) context =
+    let own = quiet_given a (element_count x.dims) 0 context in
+    let later = after_row context (each (λ k. mark (given a k)) (range_with_len 0 (element_count x.dims))) in
+    let rest = quiet_params (a + 1) ps later in
+    record {
+      holds = ap (λ (r : Result (Unit {0}) DefFault). r >> first_in (row_rules later (each_from (λ d decl. each_place (given d) decl) (a + 1) ps))) own.holds ∙ rest.holds;
+      load = rest.load ∙ own.load;
+      presets = λ e j s. rest.presets e j s ∙ own.presets e j s;
+      instances = λ number front. ap (λ f. row_instances number f (each_from (λ d decl. each_place (given d) decl) (a + 1) ps)) (own.instances number front) ∙ rest.instances number front;
+    }
+
+-- The bits of an instance that is entered.
+bit_given : (n : ℕ) (rest : List Bool) (m : ℕ) → m < n → slice_get (replicate n true ++ rest) m ≡ Some true
+bit_given zero rest m less = absurd (omega arith)
+bit_given (suc n) rest zero less = refl
+bit_given (suc n) rest (suc m) less = bit_given n rest m (omega arith)
+
+bit_not_given : (n all m : ℕ) → n ≤ m → m < n + all → slice_get (replicate n true ++ replicate all false) m ≡ Some false
+bit_not_given zero zero m least most = absurd (omega arith)
+bit_not_given zero (suc all) zero least most = refl
+bit_not_given zero (suc all) (suc m) least most = bit_not_given zero all m (omega arith) (omega arith)
+bit_not_given (suc n) all zero least most = absurd (omega arith)
+bit_not_given (suc n) all (suc m) least most = bit_not_given n all m (omega arith) (omega arith)
+
+record InFront (ps rest : List Decl) (e j : ℕ) : Type 0 where
+  decl : Decl
+  stands : slice_get ps e ≡ Some decl
+  within : j < element_count decl.dims
+  number : first_of (ps ++ rest) e + j < elements_of ps
+
+record Behind (ps rest : List Decl) (e : ℕ) : Type 0 where
+  position : length ps ≤ e
+  number : elements_of ps ≤ first_of (ps ++ rest) e
+
+either_side : (ps rest : List Decl) (e j : ℕ) → IsPlace (ps ++ rest) e j → InFront ps rest e j ⊎ Behind ps rest e
+either_side [] rest e j is = inr (record { position = omega arith; number = omega arith })
+either_side (x ∷ ps) rest zero j is =
+    let same : is.decl ≡ x = cc (is.stands) in
+    let less = subst (λ (y : Decl). j < element_count y.dims) same is.within in
+    let all = sum_by-cons (λ (d : Decl). element_count d.dims) x ps in
+    inl (record { decl = x; stands = refl; within = less; number = omega arith })
+either_side (x ∷ ps) rest (suc e) j is = elim (either_side ps rest e j (behind_first x (ps ++ rest) e j is)) [
+  | inl front ↦
+      let first = first_behind x (ps ++ rest) e in
+      let all = sum_by-cons (λ (d : Decl). element_count d.dims) x ps in
+      let less = front.number in
+      inl (record { decl = front.decl; stands = front.stands; within = front.within; number = omega arith })
+  | inr behind ↦
+      let first = first_behind x (ps ++ rest) e in
+      let all = sum_by-cons (λ (d : Decl). element_count d.dims) x ps in
+      let more = behind.number in
+      let far = behind.position in
+      inr (record { position = omega arith; number = omega arith })
+]
+
+-- an instance that is entered knows what is given
+module _ (g : Func) (few : elements_of (decls g) ≤ max_load) (marks : List Mark) (load : ℕ) where
+  abbrev counted_context : Context
+  counted_context = after (at_entry marks) (mark (counts load g.at))
+
+  abbrev params_of_g : Row
+  params_of_g = each_from (λ d decl. each_place (given d) decl) 0 g.params
+
+  abbrev begun : Context
+  begun = after_row counted_context params_of_g
+
+  all_of : elements_of (decls g) ≡ elements_of g.params + elements_of (g.results ++ g.locals)
+  all_of = sum_by-append (λ (d : Decl). element_count d.dims) g.params (g.results ++ g.locals)
+
+  bits_begun : (e j : ℕ) → IsPlace (decls g) e j
+      → slice_get (at_first (capped (elements_of g.params)) (capped (elements_of (decls g)))).defined (first_of (decls g) e + j) ≡ Some (is_defined begun e j)
+  bits_begun e j is =
+      let every = all_of in
+      let params : capped (elements_of g.params) ≡ elements_of g.params = omega arith in
+      let all : capped (elements_of (decls g)) ≡ elements_of (decls g) = omega arith in
+      elim (either_side g.params (g.results ++ g.locals) e j is) [
+        | inl front ↦
+            let given_now = param_given e j 0 g.params counted_context e front.decl (omega arith) front.stands front.within in
+            rw (params, given_now) (bit_given (elements_of g.params) _ (first_of (decls g) e + j) front.number)
+        | inr behind ↦
+            let past = behind.position in
+            let far = behind.number in
+            let most = number_within (decls g) e j is in
+            let not_now = past_params e j 0 g.params counted_context (omega arith) refl in
+            rw (params, all, not_now) (bit_not_given (elements_of g.params) (elements_of (decls g) - elements_of g.params) (first_of (decls g) e + j) (omega arith) (omega arith))
+      ]
+
+  pub known_begun : KnownStands (decls g) begun (at_first (capped (elements_of g.params)) (capped (elements_of (decls g))))
+  known_begun = record { defined = bits_begun; presets = λ e j s is. sym ((quiet_params 0 g.params counted_context).presets e j s) }
+
+-- Each element of an instance is defined in the end.
+pub record IsNeeded (context : Context) (row : Row) (checks : Result (Unit {0}) DefFault) : Type 0 where
+  pub holds : first_in (row_rules context row) ≡ checks
+  pub load : load_before (after_row context row) ≡ load_before context
+  pub defined : (e j : ℕ) → is_defined (after_row context row) e j ≡ is_defined context e j
+  pub instances : (number : ℕ) (front : List Instance) → row_instances number front row ≡ front
+
+unit_then : (r q : Result (Unit {0}) DefFault) (more : Unit {0} → Result (Unit {0}) DefFault) → more tt ≡ q → r >>= more ≡ r >> q
+unit_then (Ok tt) q more e = e
+unit_then (Err f) q more e = refl
+
+module _ (ds : List Decl) (known : Known) where
+  abbrev Bits : Context → Type 0
+  Bits context = (e j : ℕ) → IsPlace ds e j → slice_get known.defined (first_of ds e + j) ≡ Some (is_defined context e j)
+
+  need_is : (context : Context) (d k at : ℕ) (b : Bool) → is_defined context d k ≡ b → slice_get known.defined (first_of ds d + k) ≡ Some b
+      → first (table_rules context (mark (needs d k at))) ≡ is_defined_at known (first_of ds d + k) at
+  need_is context d k at true e bit = rw (e, bit) refl
+  need_is context d k at false e bit = rw (e, bit) refl
+
+  place_needed : (d at n a : ℕ) → ((k : ℕ) → a ≤ k → k < a + n → IsPlace ds d k) → (context : Context) → Bits context
+      → IsNeeded context (each (λ k. mark (needs d k at)) (range_with_len a n)) (for_each (λ n _. is_defined_at known n at) (range_with_len (first_of ds d + a) n) tt)
+  place_needed d at zero a is context bits = record { holds = refl; load = refl; defined = λ e j. refl; instances = λ number front. refl }
+  place_needed d at (suc n) a is context bits =
+      let place = is a (omega arith) (omega arith) in
+      let rest = place_needed d at n (a + 1) (λ k least most. is k (omega arith) (omega arith)) (after context (mark (needs d a at))) (λ e j other. bits e j other) in
+      let own = need_is context d a at (is_defined context d a) refl (bits d a place) in
+      let shift : first_of ds d + a + 1 ≡ first_of ds d + (a + 1) = omega arith in
+      let more = sum_by-cons load_of (needs d a at) context.of_program in
+      record {
+        holds = ap (λ (r : Result (Unit {0}) DefFault). r >> first_in (row_rules (after context (mark (needs d a at))) (each (λ k. mark (needs d k at)) (range_with_len (a + 1) n)))) own
+            ∙ ap (λ (q : Result (Unit {0}) DefFault). is_defined_at known (first_of ds d + a) at >> q) rest.holds
+            ∙ sym (unit_then (is_defined_at known (first_of ds d + a) at) _ (for_each (λ n _. is_defined_at known n at) (range_with_len (first_of ds d + a + 1) n)) (ap (λ m. for_each (λ n _. is_defined_at known n at) (range_with_len m n) tt) shift));
+        load = rest.load ∙ omega (arith, more);
+        defined = rest.defined;
+        instances = rest.instances;
+      }
+
+  -- the declarations from the one at position d on, of which the first element has number m
+  pub all_needed : (d m : ℕ) (xs : List Decl) → ((i : ℕ) (x : Decl) → slice_get xs i ≡ Some x → slice_get ds (d + i) ≡ Some x) → m ≡ first_of ds d
+      → ((i : ℕ) (x : Decl) → slice_get ds i ≡ Some x → first_of ds (i + 1) ≡ first_of ds i + element_count x.dims) → (context : Context) → Bits context
+      → IsNeeded context (each_from (λ d decl. each_place (λ k. needs d k decl.at) decl) d xs) (all_defined known (signals_from m xs))
+  all_needed d m [] stand is step context bits = record { holds = refl; load = refl; defined = λ e j. refl; instances = λ number front. refl }
+  all_needed d m (x ∷ xs) stand is step context bits =
+      let here : slice_get ds d ≡ Some x = subst (λ e. slice_get ds e ≡ Some x) (omega arith) (stand 0 x refl) in
+      let own = place_needed d x.at (element_count x.dims) 0 (λ k least most. record { decl = x; stands = here; within = omega arith }) context bits in
+      let later = after_row context (each (λ k. mark (needs d k x.at)) (range_with_len 0 (element_count x.dims))) in
+      let next : m + element_count x.dims ≡ first_of ds (d + 1) = ap (λ n. n + element_count x.dims) is ∙ sym (step d x here) in
+      let rest = all_needed (d + 1) (m + element_count x.dims) xs (λ i y e. subst (λ e. slice_get ds e ≡ Some y) (omega arith) (stand (suc i) y e)) next
+      step later (λ e j other. bits e j other ∙ ap Some (sym (own.defined e j))) in
+      let first_is : first_of ds d + 0 ≡ m = omega (arith, is) in
+      record {
+        holds = ap (λ (r : Result (Unit {0}) DefFault). r >> first_in (row_rules later (each_from (λ d decl. each_place (λ k. needs d k decl.at) decl) (d + 1) xs))) own.holds
+            ∙ ap (λ (q : Result (Unit {0}) DefFault). for_each (λ n _. is_defined_at known n x.at) (range_with_len (first_of ds d + 0) (element_count x.dims)) tt >> q) rest.holds
+            ∙ ap (λ n. for_each (λ n _. is_defined_at known n x.at) (range_with_len n (element_count x.dims)) tt >> all_defined known (signals_from (m + element_count x.dims) xs)) first_is
+            ∙ sym (unit_then (for_each (λ n _. is_defined_at known n x.at) (range_with_len m (element_count x.dims)) tt) _ (for_each (λ s _. are_defined known s) (signals_from (m + element_count x.dims) xs)) refl);
+        load = rest.load ∙ own.load;
+        defined = λ e j. rest.defined e j ∙ own.defined e j;
+        instances = λ number front. ap (λ f. row_instances number f (each_from (λ d decl. each_place (λ k. needs d k decl.at) decl) (d + 1) xs)) (own.instances number front) ∙ rest.instances number front;
+      }
+
+pub first_next : (ds : List Decl) (i : ℕ) (x : Decl) → slice_get ds i ≡ Some x → first_of ds (i + 1) ≡ first_of ds i + element_count x.dims
+first_next [] i x e = absurd (cc)
+first_next (y ∷ ds) zero x e =
+    let same : y ≡ x = cc in
+    let one = first_behind y ds 0 in
+    rw (← same) (omega (arith, one))
+first_next (y ∷ ds) (suc i) x e =
+    let rest = first_next ds i x e in
+    let one = first_behind y ds i in
+    let two = first_behind y ds (i + 1) in
+    let same : suc i + 1 ≡ suc (i + 1) = omega arith in
+    ap (first_of (y ∷ ds)) same ∙ omega arith

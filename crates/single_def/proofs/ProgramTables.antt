@@ -1,0 +1,50 @@
+-- The walk over a program does what is in its table.
+use Rattle.std.proofs.Common.{◌≡◌, ◌∙◌, inl, inr, ℕ, [], codes, slice_get, Some, refl, sym, ap, subst, arith, option_map}
+use Rattle.std.proofs.lemmas.Bool.{cases_lt}
+use Rattle.std.proofs.lemmas.Option.{slice_get-map}
+use Rattle.ranked_faults.specs.Private.FirstMet.{first, ◌>>◌}
+use Rattle.ranked_faults.proofs.TableFaults.{then_ok}
+use Rattle.silage_syntax.specs.Tree.{Top, function, Program}
+use Rattle.name_check.specs.TopNames.{top_name, top_names}
+use Rattle.name_check.specs.Private.FirstTops.{IsDistinct}
+use Rattle.name_check.specs.NameFaults.{IsMain}
+use Rattle.single_def.specs.Tables.{at_entry, enters, table_rules}
+use Rattle.single_def.specs.Expansion.{instances_after, elements_in, IsExpansion}
+use Rattle.single_def.specs.ElementRules.{word_rules, instance_table, max_nested, main_table, program_table, position_of, element_rules}
+use Rattle.single_def.specs.Private.Plans.{nothing_found, elements_found, run_program}
+use Rattle.single_def.proofs.PlannedFunctions.{top_named}
+use Rattle.single_def.proofs.Walks.{Matches, map_matches}
+use Rattle.single_def.proofs.WalkedInstances.{instances_do}
+
+-- a top has one position
+one_position : (p : Program) (t : Top) (k j : ℕ) → IsDistinct (top_names p) → slice_get p.tops k ≡ Some t → slice_get p.tops j ≡ Some t → k ≡ j
+one_position p t k j apart at_k at_j =
+    let name_k : slice_get (top_names p) k ≡ Some (top_name t) = slice_get-map top_name p.tops k ∙ ap (option_map top_name) at_k in
+    let name_j : slice_get (top_names p) j ≡ Some (top_name t) = slice_get-map top_name p.tops j ∙ ap (option_map top_name) at_j in
+    elim (cases_lt k j) [
+      | inl less ↦ absurd (apart j (record { name = top_name t; here = name_j; earlier = k; before = less; there = name_k }))
+      | inr more ↦ elim (cases_lt j k) [
+        | inl less ↦ absurd (apart k (record { name = top_name t; here = name_k; earlier = j; before = less; there = name_j }))
+        | inr same ↦ omega arith
+      ]
+    ]
+
+module _ (p : Program) (apart : IsDistinct (top_names p)) (k : ℕ) (main : IsMain p k) where
+  main_position : position_of p (codes "main") ≡ k
+  main_position = one_position p (function main.func) (position_of p (codes "main")) k apart (top_named p (codes "main") main.func apart main.is_main) main.stands
+
+  -- behind the words of main
+  pub program_does : Matches (IsExpansion p) (first (table_rules (at_entry []) (instance_table p max_nested main.func))) (run_program p k)
+  program_does =
+      subst (λ n. Matches (IsExpansion p) (first (table_rules (at_entry []) (instance_table p max_nested main.func))) (run_program p n)) main_position
+      (map_matches _ (IsExpansion p) _ _ elements_found
+      (instances_do p apart max_nested 0 main.func (codes "main") main.is_main (record { at = 0; turns = [] }) (at_entry []) [] nothing_found (record { load = refl; instances = refl; elements = refl }))
+      (λ found made. record { instances = made.instances ∙ sym expansion; elements = made.elements ∙ ap (elements_in p 0) (sym made.instances) }))
+    where
+      expansion : instances_after 0 [] (program_table p) ≡ instances_after 0 [] (enters (position_of p (codes "main")) (record { at = 0; turns = [] }) (instance_table p max_nested main.func))
+      expansion = ap (λ o. instances_after 0 [] (main_table p o)) main.is_main
+
+  pub rules_of : first (element_rules p) ≡ first (word_rules main.func) >> first (table_rules (at_entry []) (instance_table p max_nested main.func))
+  rules_of =
+      ap (λ o. first (table_rules (at_entry []) (main_table p o))) main.is_main
+      ∙ ap (λ r. first (word_rules main.func) >> r) (then_ok (first (table_rules (at_entry []) (instance_table p max_nested main.func))))

@@ -1,0 +1,157 @@
+-- What a walk knows of an instance, beside what comes before a place in its table.
+use Rattle.std.proofs.Common.{◌≡◌, ◌∙◌, ◌+◌, ◌++◌, ◌||◌, ◌&&◌, not, inl, inr, ℕ, ℤ, List, [], ◌∷◌, Bool, true, false, cond, slice_get, Some, Result, Ok, Err, refl, sym, ap, subst, arith}
+use Rattle.std.specs.Prelude.{nat_eq, slice_set}
+use Rattle.std.specs.List.{list_any}
+use Rattle.std.proofs.lemmas.Bool.Decides.{eqb_tells, leb_tells}
+use Rattle.std.proofs.lemmas.List.Folds.{list_any-append}
+use Rattle.std.proofs.lemmas.List.Sums.{sum_by-cons}
+use Rattle.ranked_faults.specs.Rules.{Rules, unless}
+use Rattle.ranked_faults.specs.Private.FirstMet.{first, first_in}
+use Rattle.silage_syntax.specs.declared.tree.Decl.{Decl}
+use Rattle.silage_syntax.specs.Tree.{Program}
+use Rattle.single_def.specs.declared.elements.Instance.{Instance}
+use Rattle.single_def.specs.declared.fault.DefFault.{DefFault}
+use Rattle.single_def.specs.declared.fault.DefFault.TheVariants.{DefinedTwice}
+use Rattle.single_def.specs.Tables.{defines, presets, counts, Table, rules, mark, Row, nothing, ◌▹◌, Context, load_of, is_defined, is_preset, load_before, after, after_row, table_rules, row_rules, max_load}
+use Rattle.single_def.specs.Expansion.{instances_after, row_instances, elements_in}
+use Rattle.single_def.specs.Private.Actions.{Action, Known, Found, State, is_preset as is_preset_of, marked, define_at, preset_at, count_in, in_known, in_found, ◌>>=◌}
+use Rattle.single_def.specs.Private.Plans.{first_of, capped}
+use Rattle.single_def.proofs.ElementNumbers.{IsPlace, is_same_place, set_same, set_other}
+use Rattle.single_def.proofs.Walks.{Matches, then_matches, map_matches, then_end, walk, Checks}
+
+-- each element's bit says whether it is defined, and the initial values are those of the marks
+pub record KnownStands (ds : List Decl) (context : Context) (known : Known) : Type 0 where
+  pub defined : (d k : ℕ) → IsPlace ds d k → slice_get known.defined (first_of ds d + k) ≡ Some (is_defined context d k)
+  pub presets : (d k s : ℕ) → IsPlace ds d k → list_any (is_preset_of (first_of ds d + k) s) known.presets ≡ is_preset context d k s
+
+pub record FoundStands (p : Program) (context : Context) (front : List Instance) (found : Found) : Type 0 where
+  pub load : found.load ≡ load_before context
+  pub instances : found.instances ≡ front
+  pub elements : found.elements ≡ elements_in p 0 front
+
+pub record Stands (p : Program) (ds : List Decl) (context : Context) (front : List Instance) (s : State) : Type 0 where
+  pub known : KnownStands ds context s.known
+  pub found : FoundStands p context front s.found
+
+-- a load is added
+pub found_counted : (p : Program) (context : Context) (front : List Instance) (found : Found) → FoundStands p context front found → (load at : ℕ)
+    → Matches (FoundStands p (after context (mark (counts load at))) front) (first (table_rules context (mark (counts load at)))) (count_in (capped load) at found)
+found_counted p context front found h load at = elim (leb_tells (load_before context + load) max_load) [
+  | inl few ↦
+      let more = sum_by-cons load_of (counts load at) context.of_program in
+      let same : capped load ≡ load = omega (arith, few.1) in
+      rw (same, h.load, few.0) (record found { load = load_before context + load }, refl, record { load = omega (arith, more); instances = h.instances; elements = h.elements })
+  | inr many ↦ elim (leb_tells (found.load + capped load) max_load) [
+    | inl few ↦ absurd (omega (arith, h.load, few.1, many.1))
+    | inr more ↦ rw (many.0, more.0) refl
+  ]
+]
+
+module _ (p : Program) (ds : List Decl) (number : ℕ) where
+  -- the walk does what is in the table of an instance with this number
+  abbrev pub Does : Context → List Instance → Table → Result State DefFault → Type 0
+  Does context front T walk = Matches (Stands p ds (after context T) (instances_after number front T)) (first (table_rules context T)) walk
+
+  abbrev pub DoesRow : Context → List Instance → Row → Result State DefFault → Type 0
+  DoesRow context front row walk = Matches (Stands p ds (after_row context row) (row_instances number front row)) (first_in (row_rules context row)) walk
+
+  pub row_end : (context : Context) (front : List Instance) (s : State) → Stands p ds context front s → DoesRow context front nothing (Ok s)
+  row_end context front s h = (s, refl, h)
+
+  module _ (context : Context) (front : List Instance) (T : Table) where
+    pub row_then : (row : Row) (walk : Result State DefFault) (more : State → Result State DefFault) → Does context front T walk
+        → ((s : State) → Stands p ds (after context T) (instances_after number front T) s → DoesRow (after context T) (instances_after number front T) row (more s))
+        → DoesRow context front (T ▹ row) (walk >>= more)
+    row_then row walk more does rest = then_matches (Stands p ds (after context T) (instances_after number front T)) _ (first (table_rules context T)) _ walk more does rest
+
+    pub row_last : (walk : Result State DefFault) → Does context front T walk → DoesRow context front (T ▹ nothing) walk
+    row_last walk does =
+        subst (λ (r : Result State DefFault). DoesRow context front (T ▹ nothing) r) (then_end walk)
+        (row_then nothing walk (λ s. Ok s) does (λ s h. row_end (after context T) (instances_after number front T) s h))
+
+  by_checks : (P : State → Type 0) (r : Result (Unit {0}) DefFault) (s : State) (run : Result State DefFault) → P s → run ≡ (r >>= λ _. Ok s) → Matches P r run
+  by_checks P (Ok u) s run h e = (s, e, h)
+  by_checks P (Err f) s run h e = e
+
+  module _ (context : Context) (front : List Instance) (s : State) (h : Stands p ds context front s) where
+    -- a table that holds rules alone
+    pub rules_do : (inside : (func at : ℕ) → List ℤ → Found → Result Found DefFault) (turns : List ℤ) (xs : List Action) (R : Rules DefFault)
+        → Checks inside turns xs (first R) → Does context front (rules R) (walk inside turns xs s)
+    rules_do inside turns xs R checks = by_checks (Stands p ds context front) (first R) s (walk inside turns xs s) h (checks s)
+
+    -- Definitions.
+    module _ (d k at : ℕ) (is : IsPlace ds d k) where
+      abbrev defined_now : Known
+      defined_now = record s.known { defined = slice_set s.known.defined (first_of ds d + k) true }
+
+      bit_after : (e j : ℕ) → IsPlace ds e j → slice_get defined_now.defined (first_of ds e + j) ≡ Some (is_defined (after context (mark (defines d k at))) e j)
+      bit_after e j other = elim (eqb_tells (first_of ds e + j) (first_of ds d + k)) [
+        | inl same ↦
+            let both : nat_eq e d && nat_eq j k ≡ true = sym (is_same_place ds e d j k other is) ∙ same.0 in
+            rw (same.1, both) (set_same s.known.defined (first_of ds d + k) _ true (h.known.defined d k is))
+        | inr apart ↦
+            let one : nat_eq e d && nat_eq j k ≡ false = sym (is_same_place ds e d j k other is) ∙ apart.0 in
+            rw one (set_other s.known.defined (first_of ds d + k) (first_of ds e + j) true (λ m. apart.1 (sym m)) ∙ h.known.defined e j other)
+      ]
+
+      define_by : (b : Bool) → slice_get s.known.defined (first_of ds d + k) ≡ Some b
+          → Matches (Stands p ds (after context (mark (defines d k at))) front) (first (unless (not b) (DefinedTwice at))) (marked s.known (first_of ds d + k) at (Some b) >>= λ known. Ok (record s { known = known }))
+      define_by true e = refl
+      define_by false e = (
+        record s { known = defined_now },
+        refl,
+        record {
+          known = record { defined = bit_after; presets = λ e j r other. h.known.presets e j r other };
+          found = record { load = h.found.load; instances = h.found.instances; elements = h.found.elements };
+        },
+      )
+
+      pub define_does : Does context front (mark (defines d k at)) (in_known s (define_at (first_of ds d + k) at))
+      define_does =
+          let bit = h.known.defined d k is in
+          rw bit (define_by (is_defined context d k) bit)
+
+    -- Initial values.
+    module _ (d k r at : ℕ) (is : IsPlace ds d k) where
+      abbrev preset_now : Known
+      preset_now = record s.known { presets = s.known.presets ++ (first_of ds d + k, r) ∷ [] }
+
+      or_swap : (a b : Bool) → a || (b || false) ≡ b || a
+      or_swap true true = refl
+      or_swap true false = refl
+      or_swap false true = refl
+      or_swap false false = refl
+
+      and_assoc : (a b d : Bool) → (a && b) && d ≡ a && (b && d)
+      and_assoc true b d = refl
+      and_assoc false b d = refl
+
+      preset_after : (e j t : ℕ) → IsPlace ds e j → list_any (is_preset_of (first_of ds e + j) t) preset_now.presets ≡ is_preset (after context (mark (presets d k r at))) e j t
+      preset_after e j t other =
+          list_any-append (is_preset_of (first_of ds e + j) t) s.known.presets ((first_of ds d + k, r) ∷ [])
+          ∙ or_swap (list_any (is_preset_of (first_of ds e + j) t) s.known.presets) (nat_eq (first_of ds e + j) (first_of ds d + k) && nat_eq t r)
+          ∙ ap (λ (b : Bool). b && nat_eq t r || list_any (is_preset_of (first_of ds e + j) t) s.known.presets) (is_same_place ds e d j k other is)
+          ∙ ap (λ (b : Bool). b || list_any (is_preset_of (first_of ds e + j) t) s.known.presets) (and_assoc (nat_eq e d) (nat_eq j k) (nat_eq t r))
+          ∙ ap (λ (b : Bool). (nat_eq e d && (nat_eq j k && nat_eq t r)) || b) (h.known.presets e j t other)
+
+      preset_by : (b : Bool) → Matches (Stands p ds (after context (mark (presets d k r at))) front) (first (unless (not b) (DefinedTwice at)))
+          (in_known s (λ known. cond b (Err (DefinedTwice at)) (Ok (record known { presets = known.presets ++ (first_of ds d + k, r) ∷ [] }))))
+      preset_by true = refl
+      preset_by false = (
+        record s { known = preset_now },
+        refl,
+        record {
+          known = record { defined = λ e j other. h.known.defined e j other; presets = preset_after };
+          found = record { load = h.found.load; instances = h.found.instances; elements = h.found.elements };
+        },
+      )
+
+      pub preset_does : Does context front (mark (presets d k r at)) (in_known s (preset_at (first_of ds d + k) r at))
+      preset_does = rw (h.known.presets d k r is) (preset_by (is_preset context d k r))
+
+    -- The load.
+    pub counted_does : (load at : ℕ) → Does context front (mark (counts load at)) (in_found s (count_in (capped load) at))
+    counted_does load at =
+        map_matches (FoundStands p (after context (mark (counts load at))) front) (Stands p ds (after context (mark (counts load at))) front) _ (count_in (capped load) at s.found) (λ found. record s { found = found })
+        (found_counted p context front s.found h.found load at)
+        (λ found more. record { known = record { defined = λ e j other. h.known.defined e j other; presets = λ e j t other. h.known.presets e j t other }; found = more })

@@ -1,0 +1,63 @@
+use Rattle.std.proofs.Common.{◌∙◌, ◌+ℤ◌, ◌-◌, [], pos, arith, rules, w32, sym, ap, subst, map, Result}
+use mir.Val.{SFits}
+use Rattle.std.proofs.lemmas.Int.{to_z-of_z}
+use Rattle.single_def.specs.Private.Actions.{Gives, State, Found, view_actions, view_body, run_actions, run_body, run_turn, run_instance, all_defined}
+use Rattle.single_def.specs.ElementRules.{count_up}
+use Rattle.single_def.specs.Private.States.{known_of, found_of, state_of, made_in}
+use Rattle.single_def.specs.declared.fault.DefFault.{DefFault}
+use Rattle.single_def.proofs.Each.{each_passes, each_gives}
+use Rattle.single_def.proofs.ActionRows.{repeat_is}
+use Rattle.single_def.proofs.Entering.{body_err, body_ok, enter_is}
+use Rattle.single_def.proofs.instances.+instances.Goals as goal
+
+pub run_action-returns-in-Repeat : goal.run_action-returns-in-Repeat
+run_action-returns-in-Repeat t c =
+    subst (λ (r : Result State DefFault). Gives (state_of c.run_loop.new.known c.run_loop.new.found) c.run_loop.result r)
+    (sym (repeat_is (made_in c.args.inside) c.args.turns.now c.args.action.now c.in-Repeat.lo c.in-Repeat.hi c.in-Repeat.actions c.in-Repeat.at c.in-Repeat.is c.deref-in-Repeat.result.now c.deref-in-Repeat.ensures.value _))
+    c.run_loop.ensures
+
+pub run_turns-returns-in_err-run_turn : goal.run_turns-returns-in_err-run_turn
+run_turns-returns-in_err-run_turn t c =
+    let turn = run_turn (made_in c.args.inside) c.args.outer.now (view_actions c.args.actions.now) c.args.at in
+    let end = simp (to_z-of_z, c.ranges.first, c.ranges.last) at c.turn_count-k-end.ensures in
+    let so_far = simp (to_z-of_z, c.ranges.first, c.ranges.last) at c.loop-k.invariant in
+    let at_k = simp (to_z-of_z, c.ranges.first) at c.turn_at.ensures in
+    let fits : SFits w32 c.turn_at.result = search rules in
+    let fails = simp (to_z-of_z, fits) at c.in_err-run_turn.ensures in
+    each_gives (λ k. turn (c.args.first +ℤ pos k)) 0 c.loop-k.k (count_up c.args.first c.args.last) (omega (arith, end)) (state_of c.loop-k.known c.loop-k.found) _ so_far
+    (state_of c.run_turn.new.known c.run_turn.new.found) c.loop-k.k (omega arith) _ _ c.from_residual.ensures.1
+    (λ n. ap (λ z. turn z (state_of c.loop-k.known c.loop-k.found)) (sym at_k) ∙ fails n)
+
+pub run_turns-loop-k-preserved : goal.run_turns-loop-k-preserved
+run_turns-loop-k-preserved t c =
+    let turn = run_turn (made_in c.args.inside) c.args.outer.now (view_actions c.args.actions.now) c.args.at in
+    let end = simp (to_z-of_z, c.ranges.first, c.ranges.last) at c.turn_count-k-end.ensures in
+    let so_far = simp (to_z-of_z, c.ranges.first, c.ranges.last) at c.loop-k.invariant in
+    let at_k = simp (to_z-of_z, c.ranges.first) at c.turn_at.ensures in
+    let fits : SFits w32 c.turn_at.result = search rules in
+    let passes = simp (to_z-of_z, fits) at c.in_ok-run_turn.ensures in
+    simp (to_z-of_z, c.ranges.first, c.ranges.last) (each_passes (λ k. turn (c.args.first +ℤ pos k)) 0 c.loop-k.k (count_up c.args.first c.args.last) (omega (arith, end)) (state_of c.loop-k.known c.loop-k.found) _ so_far
+    c.loop-k.k (omega arith) (state_of c.run_turn.new.known c.run_turn.new.found)
+    (ap (λ z. turn z (state_of c.loop-k.known c.loop-k.found)) (sym at_k) ∙ passes))
+
+pub enter-returns : goal.enter-returns
+enter-returns t c =
+    let plan = c.args.inside.plan.now in
+    let more = enter_is plan c.args.inside.calls c.args.inside.number c.args.func c.args.site c.args.turns.now (found_of c.args.found.now) c.in-Some.body.now (omega arith) (sym c.in-Some.ensures) in
+    let same = ap (λ turns. run_body (run_instance (map view_body plan) (c.args.inside.calls - 1)) (view_body c.in-Some.body.now) c.args.func c.args.inside.number c.args.site turns (found_of c.args.found.now)) (sym c.in_ok-from_slice.ensures) in
+    subst (λ (r : Result Found DefFault). Gives (found_of c.run_body.new.found) c.run_body.result r) (sym (more ∙ same)) c.run_body.ensures
+
+pub run_body-returns-in_err-run_actions : goal.run_body-returns-in_err-run_actions
+run_body-returns-in_err-run_actions t c =
+    let inside = run_instance (map view_body c.args.inside.plan.now) c.args.inside.calls in
+    body_err inside (view_body c.args.body.now) c.args.instance.func c.args.instance.parent c.args.instance.site c.args.instance.turns (found_of c.args.found.now) (found_of c.enter_instance.new.found) (known_of c.in_ok-known.known) c.in_ok-number.number
+    c.in_ok-number.ensures.found c.in_ok-number.ensures.number c.in_ok-known.ensures _ _ _ c.from_residual-in_err-run_actions.ensures.1
+    (λ n. ap (λ actions. run_actions (inside c.in_ok-number.number) [] (view_actions actions) (state_of c.in_ok-known.known c.enter_instance.new.found)) (sym c.deref.ensures.value) ∙ c.in_err-run_actions.ensures n)
+
+pub run_body-returns : goal.run_body-returns
+run_body-returns t c =
+    let inside = run_instance (map view_body c.args.inside.plan.now) c.args.inside.calls in
+    body_ok inside (view_body c.args.body.now) c.args.instance.func c.args.instance.parent c.args.instance.site c.args.instance.turns (found_of c.args.found.now) (found_of c.enter_instance.new.found) (known_of c.in_ok-known.known) c.in_ok-number.number
+    c.in_ok-number.ensures.found c.in_ok-number.ensures.number c.in_ok-known.ensures (state_of c.run_actions.new.known c.run_actions.new.found) c.check_all_defined.result
+    (ap (λ actions. run_actions (inside c.in_ok-number.number) [] (view_actions actions) (state_of c.in_ok-known.known c.enter_instance.new.found)) (sym c.deref.ensures.value) ∙ c.in_ok-run_actions.ensures)
+    (c.check_all_defined.ensures ∙ ap (all_defined (known_of c.run_actions.new.known)) c.deref-2.ensures)

@@ -1,0 +1,37 @@
+use Rattle.std.proofs.Common.{◌≡◌, ◌+◌, ◌-◌, ◌*◌, ◌+ℤ◌, pos, drop}
+use Rattle.std.specs.List.{range_with_len}
+use Rattle.single_def.specs.Private.Actions.{view_actions, run_actions, run_turn, run_turns, for_each}
+use Rattle.single_def.specs.ElementRules.{count_up}
+use Rattle.single_def.specs.Private.States.{state_of, made_in}
+use Rattle.single_def.proofs.instances.+instances.Given as goal
+
+abbrev pub decreases-run_action : goal.decreases-run_action
+decreases-run_action l = 8 * l.depth + 4
+
+abbrev pub decreases-run_actions : goal.decreases-run_actions
+decreases-run_actions l = 8 * l.depth + 5
+
+abbrev pub decreases-run_turn : goal.decreases-run_turn
+decreases-run_turn l = 8 * l.depth + 1
+
+abbrev pub decreases-run_turns : goal.decreases-run_turns
+decreases-run_turns l = 8 * l.depth + 2
+
+abbrev pub decreases-run_loop : goal.decreases-run_loop
+decreases-run_loop l = 8 * l.depth + 3
+
+abbrev pub decreases-run_body : goal.decreases-run_body
+decreases-run_body l = 8 * l.depth + 6
+
+abbrev pub decreases-enter : goal.decreases-enter
+decreases-enter l = 8 * l.depth + 7
+
+abbrev pub invariant-run_actions-loop-action : goal.invariant-run_actions-loop-action
+invariant-run_actions-loop-action l =
+    run_actions (made_in l.inside) l.turns (view_actions (drop l.action-index l.actions)) (state_of l.known l.found)
+    ≡ run_actions (made_in l.inside) l.turns (view_actions l.actions) (state_of l.fn.known l.fn.found)
+
+abbrev pub invariant-run_turns-loop-k : goal.invariant-run_turns-loop-k
+invariant-run_turns-loop-k l =
+    for_each (λ k. run_turn (made_in l.inside) l.outer (view_actions l.actions) l.at (l.first +ℤ pos k)) (range_with_len (0 + l.k) (count_up l.first l.last - l.k)) (state_of l.known l.found)
+    ≡ run_turns (made_in l.inside) l.outer (view_actions l.actions) l.at l.first l.last (state_of l.fn.known l.fn.found)

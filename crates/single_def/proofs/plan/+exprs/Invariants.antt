@@ -1,0 +1,10 @@
+use Rattle.std.proofs.Common.{◌≡◌, ◌++◌, drop}
+use Rattle.single_def.specs.Private.Scopes.{view_arms}
+use Rattle.single_def.specs.Private.Plans.{viewed, branch_checks}
+use Rattle.single_def.specs.Private.Scopes.{program_of, function_of}
+use Rattle.single_def.proofs.plan.+exprs.Given as goal
+
+abbrev pub invariant-put_arms-loop-arm : goal.invariant-put_arms-loop-arm
+invariant-put_arms-loop-arm l =
+    viewed l.actions ++ branch_checks (program_of l.scope) (function_of l.scope) l.loops (view_arms (drop l.arm-index l.arms))
+    ≡ viewed l.fn.actions ++ branch_checks (program_of l.scope) (function_of l.scope) l.loops (view_arms l.arms)

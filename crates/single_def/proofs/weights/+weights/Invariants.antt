@@ -1,0 +1,11 @@
+use Rattle.std.proofs.Common.{◌≡◌, ◌≤◌, ◌+◌, drop}
+use Rattle.single_def.specs.Private.Scopes.{view_arms}
+use Rattle.single_def.specs.ElementRules.{branches_weight}
+use Rattle.single_def.specs.Private.Plans.{capped}
+use Rattle.single_def.proofs.weights.+weights.Given as goal
+
+abbrev pub invariant-arms_weight-loop-arm : goal.invariant-arms_weight-loop-arm
+invariant-arms_weight-loop-arm l = record {
+  small : l.all ≤ 8193;
+  rest : capped (l.all + branches_weight (view_arms (drop l.arm-index l.arms))) ≡ capped (branches_weight (view_arms l.arms));
+}

@@ -1,0 +1,23 @@
+use Rattle.std.proofs.Common.{◌∙◌, ap}
+use Rattle.silage_syntax.specs.Tree.{function, view_func, view_top}
+use Rattle.single_def.specs.Private.Plans.{top_is_sized}
+use Rattle.single_def.proofs.Callees.{all_pass}
+use Rattle.single_def.proofs.MainTops.{no_top_at, top_at, no_table, same_function}
+use Rattle.single_def.proofs.words.check_words.Goals as goal
+
+pub has_few_words-requires : goal.has_few_words-requires
+has_few_words-requires c =
+    let at = top_at c.args.program.now.tops c.args.main c.get.result c.get.ensures c.in-Some-Func.field-0 c.in-Some-Func.is (function (view_func c.in-Some-Func.func)) (ap view_top c.in-Some-Func.field-0-is) in
+    all_pass top_is_sized _ c.args.main (function (view_func c.in-Some-Func.func)) c.requires at
+
+pub returns-in-Some-Func : goal.returns-in-Some-Func
+returns-in-Some-Func c f main =
+    c.has_few_words.ensures
+    ∙ same_function c.args.program.now.tops c.args.main c.get.result c.get.ensures c.in-Some-Func.field-0 c.in-Some-Func.is (view_func c.in-Some-Func.func) f (ap view_top c.in-Some-Func.field-0-is) main
+
+pub returns-in-Some-Const : goal.returns-in-Some-Const
+returns-in-Some-Const c f main =
+    no_table c.args.program.now.tops c.args.main c.get.result c.get.ensures c.in-Some-Const.field-0 c.in-Some-Const.is _ f (ap view_top c.in-Some-Const.field-0-is) main
+
+pub returns-in-None : goal.returns-in-None
+returns-in-None c f main = no_top_at c.args.program.now.tops c.args.main c.get.result c.get.ensures f c.in-None.is main

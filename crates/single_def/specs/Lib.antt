@@ -1,0 +1,6 @@
+pub mod Tables
+pub mod ElementRules
+pub mod ElementFaults
+pub mod Expansion
+pub mod Numbering
+pub mod Private

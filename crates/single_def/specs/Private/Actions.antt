@@ -1,0 +1,262 @@
+-- The items of a function as actions, wherever they are in memory, and what they do.
+use Rattle.std.specs.Prelude.{◌≡◌, ◌≢◌, ℕ, zero, suc, ◌+◌, ◌-◌, ◌*◌, ◌&&◌, nat_eq, nat_lt, nat_le, ℤ, pos, ◌+ℤ◌, int_le}
+use Rattle.std.specs.Prelude.{Bool, true, false, if◌then◌else◌, Option, Some, None, option_and_then, Result, Ok, Err}
+use Rattle.std.specs.Prelude.{List, [], ◌∷◌, ◌++◌, map, length, replicate, slice_get, slice_set}
+use Rattle.std.specs.List.{list_any, range_with_len}
+use Rattle.single_def.specs.Tables.{max_load}
+use Rattle.single_def.specs.ElementRules.{index_below, count_up}
+use Rattle.single_def.specs.Private.Numbers.{number_value}
+use Rattle.single_def.specs.declared.numbers.Number.{Number}
+use Rattle.single_def.specs.declared.actions.Check.{Check}
+use Rattle.single_def.specs.declared.actions.Subscript.{Subscript}
+use Rattle.single_def.specs.declared.actions.Bound.{Bound}
+use Rattle.single_def.specs.declared.actions.Signal.{Signal}
+use Rattle.single_def.specs.declared.actions.Action.{Action as RustAction, Repeat'}
+use Rattle.single_def.specs.declared.actions.Action.{Row_of-Action, end_of-Action, more_of-Action}
+use Rattle.single_def.specs.declared.actions.Action.TheVariants as a
+use Rattle.single_def.specs.declared.actions.Body.{Body as RustBody}
+use Rattle.single_def.specs.declared.elements.Instance.{Instance}
+use Rattle.single_def.specs.declared.elements.Element.{Element}
+use Rattle.single_def.specs.declared.fault.DefFault.{DefFault}
+use Rattle.single_def.specs.declared.fault.DefFault.TheVariants.{Index, DefinedTwice, NotDefined, TooLarge, Memory}
+
+mutual
+  pub data Action : Type 0 where
+    check : Check → Action
+    define : (first : ℕ) → List Subscript → (at : ℕ) → Action
+    define_all : (first count at : ℕ) → Action
+    preset : (first : ℕ) → List Subscript → Number → (at : ℕ) → Action
+    count : (load at : ℕ) → Action
+    enter : (func at : ℕ) → Action
+    repeat : (lo hi : Bound) → Actions → (at : ℕ) → Action
+
+  pub data Actions : Type 0 where
+    no_action : Actions
+    action : Action → Actions → Actions
+
+pub record Body : Type 0 where
+  pub at : ℕ
+  pub count : ℕ
+  pub given : ℕ
+  pub signals : List Signal
+  pub actions : Actions
+
+abbrev pub actions_of : List Action → Actions
+actions_of [] = no_action
+actions_of (x ∷ xs) = action x (actions_of xs)
+
+abbrev mutual
+  pub view_action : RustAction → Action
+  view_action (a.Check c) = check c
+  view_action (a.Define first subs at) = define first subs at
+  view_action (a.DefineAll first n at) = define_all first n at
+  view_action (a.Preset first subs sample at) = preset first subs sample at
+  view_action (a.Count load at) = count load at
+  view_action (a.Enter func at) = enter func at
+  view_action (a.Repeat' lo hi shape row at) = repeat lo hi (view_row row) at
+
+  pub view_row : {m : _} → Row_of-Action m → Actions
+  view_row end_of-Action = no_action
+  view_row (more_of-Action x rest) = action (view_action x) (view_row rest)
+
+abbrev pub view_actions : List RustAction → Actions
+view_actions xs = actions_of (map view_action xs)
+
+abbrev pub view_body : RustBody → Body
+view_body b = record {
+  at = b.at;
+  count = b.count;
+  given = b.given;
+  signals = b.signals;
+  actions = view_actions b.actions.items;
+}
+
+infixl 10 ◌>>=◌
+abbrev pub ◌>>=◌ : {A B : Type 0} → Result A DefFault → (A → Result B DefFault) → Result B DefFault
+(Ok x) >>= f = f x
+(Err e) >>= f = Err e
+
+-- the walk gives x where the call answers Ok, and the same fault else, unless memory runs out
+abbrev pub Gives : {A B : Type 0} → A → Result B DefFault → Result A DefFault → Type 0
+Gives x (Ok _) run = run ≡ Ok x
+Gives x (Err fault) run = fault ≢ Memory → run ≡ Err fault
+
+-- the same for a call that answers what the walk gives
+abbrev pub GivesValue : {A : Type 0} → Result A DefFault → Result A DefFault → Type 0
+GivesValue (Ok x) run = run ≡ Ok x
+GivesValue (Err fault) run = fault ≢ Memory → run ≡ Err fault
+
+-- what is done for each of a list in order
+abbrev pub for_each : {A S : Type 0} → (A → S → Result S DefFault) → List A → S → Result S DefFault
+for_each f [] s = Ok s
+for_each f (x ∷ xs) s = f x s >>= for_each f xs
+
+-- the load, instances and elements so far
+pub record Found : Type 0 where
+  pub load : ℕ
+  pub instances : List Instance
+  pub elements : List Element
+
+-- which elements of an instance are defined, and which have an initial value for which sample
+pub record Known : Type 0 where
+  pub defined : List Bool
+  pub presets : List (ℕ × ℕ)
+
+pub record State : Type 0 where
+  pub known : Known
+  pub found : Found
+
+abbrev pub check_value : Check → Option ℤ → Result (Unit {0}) DefFault
+check_value c None = Err (Index c.at)
+check_value c (Some v) = if int_le c.least v && int_le v c.most then Ok tt else Err c.outside
+
+abbrev pub check_of : List ℤ → Check → Result (Unit {0}) DefFault
+check_of turns c = check_value c (number_value turns c.number)
+
+abbrev pub index_of : (dim : ℕ) → Option ℤ → Option ℕ
+index_of dim value = option_and_then (index_below dim) value
+
+-- where each subscript is below its dim and picks one of the elements that it has
+abbrev pub place_of : List ℤ → List Subscript → Option ℕ
+place_of turns [] = Some 0
+place_of turns (s ∷ subs) =
+    option_and_then (λ i. option_and_then (λ rest. if nat_lt rest s.stride then Some (i * s.stride + rest) else None)
+    (place_of turns subs))
+    (index_of s.dim (number_value turns s.number))
+
+abbrev pub marked : Known → ℕ → (at : ℕ) → Option Bool → Result Known DefFault
+marked known n at None = Ok known
+marked known n at (Some true) = Err (DefinedTwice at)
+marked known n at (Some false) = Ok (record known { defined = slice_set known.defined n true })
+
+abbrev pub define_at : ℕ → (at : ℕ) → Known → Result Known DefFault
+define_at n at known = marked known n at (slice_get known.defined n)
+
+abbrev pub define_place : (first : ℕ) → Option ℕ → (at : ℕ) → Known → Result Known DefFault
+define_place first None at known = Ok known
+define_place first (Some k) at known = define_at (first + k) at known
+
+abbrev pub define_from : (first n at : ℕ) → Known → Result Known DefFault
+define_from first n at known = for_each (λ k. define_at k at) (range_with_len first n) known
+
+abbrev pub is_preset : ℕ → ℕ → (ℕ × ℕ) → Bool
+is_preset n s q = nat_eq n q.0 && nat_eq s q.1
+
+abbrev pub preset_at : ℕ → ℕ → (at : ℕ) → Known → Result Known DefFault
+preset_at n s at known =
+    if list_any (is_preset n s) known.presets then Err (DefinedTwice at)
+    else Ok (record known { presets = known.presets ++ (n, s) ∷ [] })
+
+abbrev pub preset_place : (first : ℕ) → Option ℕ → Option ℤ → (at : ℕ) → Known → Result Known DefFault
+preset_place first (Some k) (Some (pos s)) at known = preset_at (first + k) s at known
+preset_place first _ _ at known = Ok known
+
+abbrev pub count_in : (load at : ℕ) → Found → Result Found DefFault
+count_in load at found =
+    if nat_le (found.load + load) max_load then Ok (record found { load = found.load + load }) else Err (TooLarge at)
+
+abbrev pub places_of : (number decl n : ℕ) → List Element
+places_of number d n = map (λ k. record { inst = number; decl = d; place = k }) (range_with_len 0 n)
+
+abbrev pub signal_elements : (number : ℕ) → (decl : ℕ) → List Signal → List Element
+signal_elements number d [] = []
+signal_elements number d (s ∷ signals) = places_of number d s.count ++ signal_elements number (d + 1) signals
+
+abbrev pub defined_or : (at : ℕ) → Option Bool → Result (Unit {0}) DefFault
+defined_or at (Some true) = Ok tt
+defined_or at _ = Err (NotDefined at)
+
+abbrev pub is_defined_at : Known → ℕ → (at : ℕ) → Result (Unit {0}) DefFault
+is_defined_at known n at = defined_or at (slice_get known.defined n)
+
+-- each element of a signal is defined
+abbrev pub are_defined : Known → Signal → Result (Unit {0}) DefFault
+are_defined known s = for_each (λ n _. is_defined_at known n s.at) (range_with_len s.first s.count) tt
+
+abbrev pub all_defined : Known → List Signal → Result (Unit {0}) DefFault
+all_defined known signals = for_each (λ s _. are_defined known s) signals tt
+
+abbrev pub in_known : State → (Known → Result Known DefFault) → Result State DefFault
+in_known s f = f s.known >>= λ known. Ok (record s { known = known })
+
+abbrev pub in_found : State → (Found → Result Found DefFault) → Result State DefFault
+in_found s f = f s.found >>= λ found. Ok (record s { found = found })
+
+abbrev pub value_or : (at : ℕ) → Option ℤ → Result ℤ DefFault
+value_or at None = Err (Index at)
+value_or at (Some v) = Ok v
+
+abbrev pub bound_of : List ℤ → Bound → Result ℤ DefFault
+bound_of turns b = value_or b.at (number_value turns b.number)
+
+-- `inside` is what an instance of the function at a position does that a call makes, with its place and turns
+module _ (inside : (func at : ℕ) → List ℤ → Found → Result Found DefFault) where
+  abbrev mutual
+    pub run_action : List ℤ → Action → State → Result State DefFault
+    run_action turns (check c) s = check_of turns c >>= λ _. Ok s
+    run_action turns (define first subs at) s = in_known s (define_place first (place_of turns subs) at)
+    run_action turns (define_all first n at) s = in_known s (define_from first n at)
+    run_action turns (preset first subs sample at) s =
+        in_known s (preset_place first (place_of turns subs) (number_value turns sample) at)
+    run_action turns (count load at) s = in_found s (count_in load at)
+    run_action turns (enter func at) s = in_found s (inside func at turns)
+    run_action turns (repeat lo hi actions at) s =
+        bound_of turns lo >>= λ first.
+        bound_of turns hi >>= λ last.
+        for_each (λ k s. in_found s (count_in 1 at) >>= run_actions (turns ++ (first +ℤ pos k) ∷ []) actions)
+        (range_with_len 0 (count_up first last)) s
+
+    pub run_actions : List ℤ → Actions → State → Result State DefFault
+    run_actions turns no_action s = Ok s
+    run_actions turns (action x xs) s = run_action turns x s >>= run_actions turns xs
+
+  -- one turn of a loop inside loops with these turns
+  abbrev pub run_turn : List ℤ → Actions → (at : ℕ) → ℤ → State → Result State DefFault
+  run_turn turns actions at turn s = in_found s (count_in 1 at) >>= run_actions (turns ++ turn ∷ []) actions
+
+  abbrev pub run_turns : List ℤ → Actions → (at : ℕ) → (first last : ℤ) → State → Result State DefFault
+  run_turns turns actions at first last s =
+      for_each (λ k. run_turn turns actions at (first +ℤ pos k)) (range_with_len 0 (count_up first last)) s
+
+  abbrev pub run_loop : List ℤ → (lo hi : Bound) → Actions → (at : ℕ) → State → Result State DefFault
+  run_loop turns lo hi actions at s =
+      bound_of turns lo >>= λ first. bound_of turns hi >>= λ last. run_turns turns actions at first last s
+
+abbrev pub with_instance : (func parent at : ℕ) → List ℤ → List Signal → Found → Found
+with_instance func parent at turns signals found = record found {
+  instances = found.instances ++ record { func = func; parent = parent; site = at; turns = turns } ∷ [];
+  elements = found.elements ++ signal_elements (length found.instances) 0 signals;
+}
+
+-- of so many elements the first ones, which are the parameters', are defined
+abbrev pub at_first : (given all : ℕ) → Known
+at_first given all = record { defined = replicate given true ++ replicate (all - given) false; presets = [] }
+
+abbrev pub entered_in : Body → (func parent at : ℕ) → List ℤ → Found → Result Found DefFault
+entered_in body func parent at turns found =
+    count_in body.count body.at found >>= λ counted. Ok (with_instance func parent at turns body.signals counted)
+
+-- `inside` is what an instance of the function at a position does that a call makes in the one with the number `parent`
+abbrev pub Instances : Type 0
+Instances = (parent func at : ℕ) → List ℤ → Found → Result Found DefFault
+
+abbrev pub run_body : (inside : Instances) → Body → (func parent at : ℕ) → List ℤ → Found → Result Found DefFault
+run_body inside body func parent at turns found =
+    entered_in body func parent at turns found >>= λ entered.
+    run_actions (inside (length found.instances)) [] body.actions
+    (record { known = at_first body.given body.count; found = entered }) >>= λ s.
+    all_defined s.known body.signals >>= λ _.
+    Ok s.found
+
+abbrev pub run_some : (calls : ℕ) → (inside : Instances) → Option Body → (func parent at : ℕ) → List ℤ → Found
+    → Result Found DefFault
+run_some calls inside None func parent at turns found = Ok found
+run_some zero inside (Some body) func parent at turns found = Err (TooLarge body.at)
+run_some (suc calls) inside (Some body) func parent at turns found = run_body inside body func parent at turns found
+
+-- an instance of a function of the plan, inside which so many calls may nest
+abbrev pub run_instance : (plan : List Body) → (calls : ℕ) → Instances
+run_instance plan zero parent func at turns found =
+    run_some zero (λ parent func at turns found. Ok found) (slice_get plan func) func parent at turns found
+run_instance plan (suc calls) parent func at turns found =
+    run_some (suc calls) (run_instance plan calls) (slice_get plan func) func parent at turns found

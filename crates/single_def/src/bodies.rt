@@ -1,0 +1,187 @@
+//! The functions of a program, each as what its instances do.
+
+ghost use Rattle.std.specs.Prelude.{◌≡◌, ◌+◌, ◌++◌, ◌≤◌, [], map, IfOk, OnOk};
+ghost use Rattle.silage_syntax.specs.Tree.{view, view_func, view_top};
+ghost use Rattle.silage_syntax.specs.Names as meaning;
+ghost use Rattle.name_check.specs.TopNames.{top_names};
+ghost use Rattle.name_check.specs.Private.FirstTops.{IsDistinct};
+ghost use Rattle.single_def.specs.ElementRules.{elements_of};
+ghost use Rattle.single_def.specs.Private.Actions.{view_body};
+ghost use Rattle.single_def.specs.Private.Plans as plan;
+ghost use Rattle.single_def.specs.Private.Plans.{AreSized, AreAllSized, IsTopSized};
+ghost use Rattle.single_def.specs.Private.Plans.{capped, signals_from, body_of, plan_of};
+
+use crate::actions::{Body, Signal};
+use crate::items::put_items;
+use crate::scope::Scope;
+use crate::sizes::element_count;
+use crate::weights::sum;
+use lists::List;
+use name_check::NameMap;
+use silage_syntax::{Decl, Func, Program, Top};
+use std::alloc::{AllocError, Global};
+
+/// The most elements that an instance may have.
+const MOST: u32 = 8192;
+
+fn push_decls<'a>(all: &mut Vec<&'a Decl>, decls: &'a [Decl]) -> Result<(), AllocError>
+    ensures { OnOk result (map (λ d. d.now) all.new.items ≡ map (λ d. d.now) all.old.items ++ decls.now) }
+{
+    for decl in decls {
+        all.push(decl)?;
+    }
+    Ok(())
+}
+
+/// The parameters, results and locals of a function.
+fn all_decls<'a>(alloc: Global, func: &'a Func) -> Result<Vec<&'a Decl>, AllocError>
+    ensures { IfOk result (λ all. map (λ d. d.now) all.items ≡ meaning.decls (view_func func.now)) }
+{
+    let mut all = Vec::new(alloc);
+    push_decls(&mut all, &func.params)?;
+    push_decls(&mut all, &func.results)?;
+    push_decls(&mut all, &func.locals)?;
+    Ok(all)
+}
+
+/// How many elements declarations have, or 8,193 if that is less.
+pub(crate) fn count(decls: &[Decl]) -> u32
+    requires { AreSized decls.now }
+    ensures { result ≡ capped (elements_of decls.now) }
+{
+    let mut all = 0;
+    for decl in decls {
+        all = sum(all, element_count(&decl.dims));
+    }
+    all
+}
+
+/// Appends declarations with the numbers of their elements, of which the first has this number, and gives the next one.
+fn push_signals(signals: &mut List<Signal>, first: u32, decls: &[Decl]) -> Result<u32, AllocError>
+    requires sized { AreSized decls.now }
+    requires few { first + elements_of decls.now ≤ 8192 }
+    ensures signals { OnOk result (signals.new ≡ signals.old ++ signals_from first decls.now) }
+    ensures next { IfOk result (λ next. next ≡ first + elements_of decls.now) }
+{
+    let mut next = first;
+    for decl in decls {
+        let count = element_count(&decl.dims);
+        signals.push(Signal {
+            at: decl.at,
+            first: next,
+            count,
+        })?;
+        next += count;
+    }
+    Ok(next)
+}
+
+fn signals(alloc: Global, func: &Func) -> Result<List<Signal>, AllocError>
+    requires sized { AreSized (meaning.decls (view_func func.now)) }
+    requires few { elements_of (meaning.decls (view_func func.now)) ≤ 8192 }
+    ensures { IfOk result (λ signals. signals ≡ signals_from 0 (meaning.decls (view_func func.now))) }
+{
+    let mut signals = List::new(alloc);
+    let results = push_signals(&mut signals, 0, &func.params)?;
+    let locals = push_signals(&mut signals, results, &func.results)?;
+    push_signals(&mut signals, locals, &func.locals)?;
+    Ok(signals)
+}
+
+/// What instances of a function do that has no more than 8,192 elements.
+fn small_body(
+    alloc: Global,
+    program: &Program,
+    names: &NameMap,
+    func: &Func,
+    count: u32,
+    given: u32,
+) -> Result<Body, AllocError>
+    requires named { names.now ≡ top_names (view program.now) }
+    requires apart { IsDistinct (top_names (view program.now)) }
+    requires sized { AreSized (meaning.decls (view_func func.now)) }
+    requires few { elements_of (meaning.decls (view_func func.now)) ≤ 8192 }
+    ensures { IfOk result (λ body. view_body body
+        ≡ plan.small_body (view program.now) (view_func func.now) count given) }
+{
+    let decls = all_decls(alloc, func)?;
+    let signals = signals(alloc, func)?;
+    let mut actions = Vec::new(alloc);
+    let scope = Scope {
+        alloc,
+        program,
+        names,
+        func,
+        decls: &decls,
+        signals: &signals,
+    };
+    put_items(&scope, &[], &func.items, &mut actions)?;
+    Ok(Body {
+        at: func.at,
+        count,
+        given,
+        signals,
+        actions,
+    })
+}
+
+fn body(alloc: Global, program: &Program, names: &NameMap, func: &Func) -> Result<Body, AllocError>
+    requires named { names.now ≡ top_names (view program.now) }
+    requires apart { IsDistinct (top_names (view program.now)) }
+    requires sized { AreSized (meaning.decls (view_func func.now)) }
+    ensures { IfOk result (λ body. view_body body ≡ body_of (view program.now) (view_func func.now)) }
+{
+    let given = count(&func.params);
+    let count = sum(sum(given, count(&func.results)), count(&func.locals));
+    if count <= MOST {
+        return small_body(alloc, program, names, func, count, given);
+    }
+    Ok(Body {
+        at: func.at,
+        count,
+        given: 0,
+        signals: List::new(alloc),
+        actions: Vec::new(alloc),
+    })
+}
+
+fn top_body(
+    alloc: Global,
+    program: &Program,
+    names: &NameMap,
+    top: &Top,
+) -> Result<Body, AllocError>
+    requires named { names.now ≡ top_names (view program.now) }
+    requires apart { IsDistinct (top_names (view program.now)) }
+    requires sized { IsTopSized (view_top top.now) }
+    ensures { IfOk result (λ body. view_body body ≡ plan.top_body (view program.now) (view_top top.now)) }
+{
+    match top {
+        Top::Const(_) => Ok(Body {
+            at: 0,
+            count: 0,
+            given: 0,
+            signals: List::new(alloc),
+            actions: Vec::new(alloc),
+        }),
+        Top::Func(func) => body(alloc, program, names, func),
+    }
+}
+
+/// The bodies of all tops, by their positions.
+pub(crate) fn bodies(
+    alloc: Global,
+    program: &Program,
+    names: &NameMap,
+) -> Result<Vec<Body>, AllocError>
+    requires named { names.now ≡ top_names (view program.now) }
+    requires apart { IsDistinct (top_names (view program.now)) }
+    requires sized { AreAllSized (view program.now) }
+    ensures { IfOk result (λ bodies. map view_body bodies.items ≡ plan_of (view program.now)) }
+{
+    let mut bodies = Vec::with_capacity(alloc, program.tops.len())?;
+    for top in program.tops.as_slice() {
+        bodies.push(top_body(alloc, program, names, top)?)?;
+    }
+    Ok(bodies)
+}

@@ -1,0 +1,270 @@
+//! Instances, from main on: each does the actions of its function.
+
+ghost use Rattle.std.specs.Prelude.{◌≡◌, ◌+ℤ◌, ◌-ℤ◌, ◌≤ℤ◌, ◌∷◌, ◌++◌, [], map, pos, slice_get, option_copied, IfOk};
+ghost use Rattle.single_def.specs.ElementRules as rules;
+ghost use Rattle.single_def.specs.ElementRules.{count_up};
+ghost use Rattle.single_def.specs.Private.Actions as run;
+ghost use Rattle.single_def.specs.Private.Actions.{Gives, view_action, view_actions, view_body, run_instance};
+ghost use Rattle.single_def.specs.Private.States.{found_of, state_of, made_in};
+
+use crate::actions::{Action, Body, Bound};
+use crate::checks::{bound, place, run_check};
+use crate::found::{Found, count, enter_instance};
+use crate::known::{Known, check_all_defined, define_all, define_place, preset_place};
+use crate::{DefFault, Instance};
+use lists::List;
+use std::alloc::{AllocError, Global};
+
+/// Where an action is: in the instance with this number, inside which so many calls may nest.
+#[derive(Clone, Copy)]
+pub(crate) struct Inside<'a> {
+    pub alloc: Global,
+    pub plan: &'a [Body],
+    pub calls: u32,
+    pub number: u32,
+}
+
+fn at_least_0(count: i64) -> u64
+    ensures { result ≡ rules.at_least_0 count }
+{
+    match u64::try_from(count) {
+        Ok(count) => count,
+        Err(_) => 0,
+    }
+}
+
+fn one_more_than(first: i32, last: i32) -> i64
+    ensures { result ≡ last -ℤ first +ℤ pos 1 }
+{
+    i64::from(last) - i64::from(first) + 1
+}
+
+/// How many turns a loop has.
+fn turn_count(first: i32, last: i32) -> u64
+    ensures { result ≡ count_up first last }
+{
+    at_least_0(one_more_than(first, last))
+}
+
+fn turn_at(first: i32, last: i32, k: u64) -> i32
+    requires { (first +ℤ pos k) ≤ℤ last }
+    ensures { result ≡ first +ℤ pos k }
+{
+    (i64::from(first) + k as i64) as i32
+}
+
+fn body_at(plan: &[Body], func: u32) -> Option<&Body>
+    ensures { option_copied result ≡ slice_get plan.now func }
+{
+    plan.get(func as usize)
+}
+
+/// The turns of loops and of one inside of them.
+fn with_turn(alloc: Global, outer: &[i32], turn: i32) -> Result<List<i32>, AllocError>
+    ensures { IfOk result (λ turns. turns ≡ outer.now ++ turn ∷ []) }
+{
+    let mut turns = List::from_slice(alloc, outer)?;
+    turns.push(turn)?;
+    Ok(turns)
+}
+
+/// An action in these turns of the loops around it. Calls and loops nest no deeper than `depth`: a deeper program has
+/// no room in memory.
+#[cycle(instances)]
+fn run_action(
+    inside: Inside,
+    depth: u32,
+    turns: &[i32],
+    action: &Action,
+    known: &mut Known,
+    found: &mut Found,
+) -> Result<(), DefFault>
+    ensures { Gives (state_of known.new found.new) result
+        (run.run_action (made_in inside.entry) turns.now (view_action action.now) (state_of known.old found.old)) }
+{
+    match action {
+        Action::Check(check) => run_check(check, turns, &mut found.stack),
+        Action::Define { first, subs, at } => {
+            let place = place(subs, turns, &mut found.stack)?;
+            define_place(known, *first, place, *at)
+        }
+        Action::DefineAll { first, count, at } => define_all(known, *first, *count, *at),
+        Action::Preset {
+            first,
+            subs,
+            sample,
+            at,
+        } => {
+            let place = place(subs, turns, &mut found.stack)?;
+            let sample = sample.value(turns, &mut found.stack)?;
+            preset_place(known, *first, place, sample, *at)
+        }
+        Action::Count { load, at } => count(found, *load, *at),
+        Action::Enter { func, at } => {
+            if depth == 0 {
+                return Err(DefFault::Memory);
+            }
+            enter(inside, depth - 1, *func, *at, turns, found)
+        }
+        Action::Repeat {
+            lo,
+            hi,
+            actions,
+            at,
+        } => run_loop(inside, depth, turns, lo, hi, actions, *at, known, found),
+    }
+}
+
+#[cycle(instances)]
+fn run_actions(
+    inside: Inside,
+    depth: u32,
+    turns: &[i32],
+    actions: &[Action],
+    known: &mut Known,
+    found: &mut Found,
+) -> Result<(), DefFault>
+    ensures { Gives (state_of known.new found.new) result
+        (run.run_actions (made_in inside.entry) turns.now (view_actions actions.now) (state_of known.old found.old)) }
+{
+    for action in actions {
+        run_action(inside, depth, turns, action, known, found)?;
+    }
+    Ok(())
+}
+
+/// Actions in one turn of a loop.
+#[cycle(instances)]
+fn run_turn(
+    inside: Inside,
+    depth: u32,
+    outer: &[i32],
+    turn: i32,
+    actions: &[Action],
+    at: u32,
+    known: &mut Known,
+    found: &mut Found,
+) -> Result<(), DefFault>
+    ensures { Gives (state_of known.new found.new) result
+        (run.run_turn (made_in inside.entry) outer.now (view_actions actions.now) at turn
+        (state_of known.old found.old)) }
+{
+    if depth == 0 {
+        return Err(DefFault::Memory);
+    }
+    count(found, 1, at)?;
+    let turns = with_turn(inside.alloc, outer, turn)?;
+    run_actions(inside, depth - 1, &turns, actions, known, found)
+}
+
+/// Actions in each turn of a loop with these bounds.
+#[cycle(instances)]
+fn run_turns(
+    inside: Inside,
+    depth: u32,
+    outer: &[i32],
+    first: i32,
+    last: i32,
+    actions: &[Action],
+    at: u32,
+    known: &mut Known,
+    found: &mut Found,
+) -> Result<(), DefFault>
+    ensures { Gives (state_of known.new found.new) result
+        (run.run_turns (made_in inside.entry) outer.now (view_actions actions.now) at first last
+        (state_of known.old found.old)) }
+{
+    for k in 0..turn_count(first, last) {
+        run_turn(
+            inside,
+            depth,
+            outer,
+            turn_at(first, last, k),
+            actions,
+            at,
+            known,
+            found,
+        )?;
+    }
+    Ok(())
+}
+
+#[cycle(instances)]
+fn run_loop(
+    inside: Inside,
+    depth: u32,
+    outer: &[i32],
+    lo: &Bound,
+    hi: &Bound,
+    actions: &[Action],
+    at: u32,
+    known: &mut Known,
+    found: &mut Found,
+) -> Result<(), DefFault>
+    ensures { Gives (state_of known.new found.new) result
+        (run.run_loop (made_in inside.entry) outer.now lo.now hi.now (view_actions actions.now) at
+        (state_of known.old found.old)) }
+{
+    let first = bound(lo, outer, &mut found.stack)?;
+    let last = bound(hi, outer, &mut found.stack)?;
+    run_turns(inside, depth, outer, first, last, actions, at, known, found)
+}
+
+/// An instance that a call makes.
+#[cycle(instances)]
+fn run_body(
+    inside: Inside,
+    depth: u32,
+    body: &Body,
+    instance: Instance,
+    found: &mut Found,
+) -> Result<(), DefFault>
+    ensures { Gives (found_of found.new) result
+        (run.run_body (run_instance (map view_body inside.entry.plan.now) inside.entry.calls) (view_body body.now)
+        instance.func instance.parent instance.site instance.turns (found_of found.old)) }
+{
+    let number = enter_instance(found, instance, body)?;
+    let within = Inside {
+        alloc: inside.alloc,
+        plan: inside.plan,
+        calls: inside.calls,
+        number,
+    };
+    let mut known = Known::at_first(inside.alloc, body.given, body.count)?;
+    run_actions(within, depth, &[], &body.actions, &mut known, found)?;
+    check_all_defined(&known, &body.signals)
+}
+
+/// An instance of the function at a position among the tops, which a call at `site` makes.
+#[cycle(instances)]
+pub(crate) fn enter(
+    inside: Inside,
+    depth: u32,
+    func: u32,
+    site: u32,
+    turns: &[i32],
+    found: &mut Found,
+) -> Result<(), DefFault>
+    ensures { Gives (found_of found.new) result (made_in inside.entry func site turns.now (found_of found.old)) }
+{
+    let body = match body_at(inside.plan, func) {
+        None => return Ok(()),
+        Some(body) => body,
+    };
+    if inside.calls == 0 {
+        return Err(DefFault::TooLarge(body.at));
+    }
+    let instance = Instance {
+        func,
+        parent: inside.number,
+        site,
+        turns: List::from_slice(inside.alloc, turns)?,
+    };
+    let within = Inside {
+        alloc: inside.alloc,
+        plan: inside.plan,
+        calls: inside.calls - 1,
+        number: inside.number,
+    };
+    run_body(within, depth, body, instance, found)
+}

@@ -1,0 +1,227 @@
+//! Items as actions.
+
+ghost use Rattle.std.specs.Prelude.{◌≡◌, ◌++◌, [], ◌∷◌, IsTrue, IfOk, OnOk, map};
+ghost use Rattle.silage_syntax.specs.Tree.{view_manifest, view_place, view_expr, view_item, view_items};
+ghost use Rattle.name_check.specs.Meanings.{are_dims};
+ghost use Rattle.single_def.specs.Private.Actions as run;
+ghost use Rattle.single_def.specs.Private.Actions.{view_action};
+ghost use Rattle.single_def.specs.Private.Plans as plan;
+ghost use Rattle.single_def.specs.Private.Plans.{viewed, planned_item, planned_items};
+ghost use Rattle.single_def.specs.Private.Scopes.{program_of, function_of, located_in};
+
+use crate::DefFault;
+use crate::actions::{Action, Bound};
+use crate::lookups::{MAX_DELAY, function, located};
+use crate::numbers::Number;
+use crate::plan::{
+    manifest_at, put, put_args, put_count, put_expr, put_number, put_subscripts, put_takers,
+    put_target, subscripts,
+};
+use crate::scope::Scope;
+use crate::weights::{args_weight, weight};
+use lists::Name;
+use silage_syntax::{Expr, Item, Manifest, Place};
+use std::alloc::AllocError;
+
+/// The nearest sample before sample 0 that may have an initial value.
+const MIN_SAMPLE: i64 = 1;
+
+/// Appends a call.
+fn put_call(
+    scope: &Scope,
+    loops: &[Name],
+    places: &[Place],
+    func: &Name,
+    args: &[Expr],
+    at: u32,
+    actions: &mut Vec<Action>,
+) -> Result<(), AllocError>
+    ensures { OnOk result (viewed actions.new ≡ viewed actions.old
+        ++ plan.planned_call (program_of scope.now) (function_of scope.now) loops.now
+        (plan.callee_of (program_of scope.now) func.now) (map view_place places.now) (map view_expr args.now)
+        at) }
+{
+    let (position, callee) = match function(scope, func) {
+        None => return Ok(()),
+        Some(callee) => callee,
+    };
+    put_takers(scope, loops, &callee.results, places, actions)?;
+    put_args(scope, loops, args, actions)?;
+    put_count(args_weight(args), at, actions)?;
+    put(actions, Action::Enter { func: position, at })
+}
+
+/// Appends the initial value of an element.
+fn put_value(
+    scope: &Scope,
+    loops: &[Name],
+    first: u32,
+    dims: &[u32],
+    place: &Place,
+    k: &Manifest,
+    actions: &mut Vec<Action>,
+) -> Result<(), AllocError>
+    requires { IsTrue (are_dims dims.now) }
+    ensures { OnOk result (viewed actions.new ≡ viewed actions.old
+        ++ plan.planned_value loops.now first dims.now (view_place place.now) (view_manifest k.now)) }
+{
+    if dims.len() != place.subs.len() {
+        return Ok(());
+    }
+    let preset = Action::Preset {
+        first,
+        subs: subscripts(scope.alloc, loops, dims, &place.subs)?,
+        sample: Number::of(scope.alloc, loops, k)?,
+        at: place.at,
+    };
+    put(actions, preset)
+}
+
+fn put_initial(
+    scope: &Scope,
+    loops: &[Name],
+    place: &Place,
+    k: &Manifest,
+    actions: &mut Vec<Action>,
+) -> Result<(), AllocError>
+    ensures { OnOk result (viewed actions.new ≡ viewed actions.old
+        ++ plan.planned_initial loops.now (located_in scope.now place.now.name) (view_place place.now)
+        (view_manifest k.now)) }
+{
+    let (first, decl) = match located(scope, &place.name) {
+        None => return Ok(()),
+        Some(signal) => signal,
+    };
+    put_subscripts(scope.alloc, loops, &decl.dims, &place.subs, actions)?;
+    put_number(
+        scope.alloc,
+        loops,
+        k,
+        MIN_SAMPLE,
+        MAX_DELAY,
+        DefFault::Delay(manifest_at(k)),
+        actions,
+    )?;
+    put_value(scope, loops, first, &decl.dims, place, k, actions)?;
+    put(
+        actions,
+        Action::Count {
+            load: 1,
+            at: place.at,
+        },
+    )
+}
+
+/// Whether a loop has no turn, whatever the indices of the loops around it.
+fn is_empty(lo: &Number, hi: &Number) -> bool
+    ensures { result ≡ plan.is_empty lo.now hi.now }
+{
+    match (lo, hi) {
+        (Number::Known(Some(first)), Number::Known(Some(last))) => last < first,
+        _ => false,
+    }
+}
+
+fn bound(scope: &Scope, loops: &[Name], m: &Manifest) -> Result<Bound, AllocError>
+    ensures { IfOk result (λ bound. bound ≡ plan.bound_at loops.now (view_manifest m.now)) }
+{
+    Ok(Bound {
+        number: Number::of(scope.alloc, loops, m)?,
+        at: manifest_at(m),
+    })
+}
+
+fn repeat(lo: Bound, hi: Bound, actions: Vec<Action>, at: u32) -> Action
+    ensures { view_action result ≡ run.repeat lo hi (run.actions_of (viewed actions)) at }
+{
+    Action::Repeat {
+        lo,
+        hi,
+        actions,
+        at,
+    }
+}
+
+/// Appends a loop.
+fn put_loop(
+    lo: Bound,
+    hi: Bound,
+    inner: Vec<Action>,
+    at: u32,
+    actions: &mut Vec<Action>,
+) -> Result<(), AllocError>
+    ensures { OnOk result (viewed actions.new ≡ viewed actions.old ++ plan.planned_loop lo hi (viewed inner) at) }
+{
+    if is_empty(&lo.number, &hi.number) {
+        return Ok(());
+    }
+    put(actions, repeat(lo, hi, inner, at))
+}
+
+/// The names of the loops around a place, and of one inside of them.
+fn with_loop(loops: &[Name], index: &Name, scope: &Scope) -> Result<Vec<Name>, AllocError>
+    ensures { IfOk result (λ inner. inner.items ≡ loops.now ++ index.now ∷ []) }
+{
+    let mut inner = Vec::with_capacity(scope.alloc, loops.len() + 1)?;
+    for name in loops {
+        inner.push(name.clone()?)?;
+    }
+    inner.push(index.clone()?)?;
+    Ok(inner)
+}
+
+#[cycle(items)]
+fn put_item(
+    scope: &Scope,
+    loops: &[Name],
+    item: &Item,
+    actions: &mut Vec<Action>,
+) -> Result<(), AllocError>
+    ensures { OnOk result (viewed actions.new ≡ viewed actions.old
+        ++ planned_item (program_of scope.now) (function_of scope.now) loops.now (view_item item.now)) }
+{
+    match item {
+        Item::Equation { place, value } => {
+            put_target(scope, loops, place, actions)?;
+            put_expr(scope, loops, value, actions)?;
+            put_count(weight(value), place.at, actions)
+        }
+        Item::Call {
+            places,
+            func,
+            args,
+            at,
+        } => put_call(scope, loops, places, func, args, *at, actions),
+        Item::Loop {
+            index,
+            lo,
+            hi,
+            items,
+            at,
+        } => {
+            let lo = bound(scope, loops, lo)?;
+            let hi = bound(scope, loops, hi)?;
+            let loops = with_loop(loops, index, scope)?;
+            let mut inner = Vec::new(scope.alloc);
+            put_items(scope, &loops, items, &mut inner)?;
+            put_loop(lo, hi, inner, *at, actions)
+        }
+        Item::Initial { place, k, value: _ } => put_initial(scope, loops, place, k, actions),
+    }
+}
+
+#[cycle(items)]
+pub(crate) fn put_items(
+    scope: &Scope,
+    loops: &[Name],
+    items: &[Item],
+    actions: &mut Vec<Action>,
+) -> Result<(), AllocError>
+    ensures { OnOk result (viewed actions.new ≡ viewed actions.old
+        ++ planned_items (program_of scope.now) (function_of scope.now) loops.now (view_items items.now)) }
+{
+    for item in items {
+        put_item(scope, loops, item, actions)?;
+    }
+    Ok(())
+}

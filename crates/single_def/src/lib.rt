@@ -1,0 +1,90 @@
+//! The instances of a program and their elements in order.
+//!
+//! An element is defined once, and the numbers in items are allowed, by `specs/Tables` and `specs/ElementRules`.
+//!
+//! The code turns each function into a plan once and walks over the instances by it.
+#![tactic(auto)]
+
+mod actions;
+mod bodies;
+mod checks;
+mod elements;
+mod fault;
+mod found;
+mod instances;
+mod items;
+mod known;
+mod lookups;
+mod numbers;
+mod plan;
+mod scope;
+mod sizes;
+mod weights;
+mod words;
+
+ghost use Rattle.std.specs.Prelude.{◌≡◌, ◌≢◌, IfOk, OnOk, IfErr};
+ghost use Rattle.ranked_faults.specs.Ranked.{IsClear, IsFirst, AnswersOk, AnswersFault};
+ghost use Rattle.silage_syntax.specs.Tree.{view};
+ghost use Rattle.name_check.specs.TopNames.{top_names};
+ghost use Rattle.name_check.specs.NameFaults.{name_faults, IsMain};
+ghost use Rattle.single_def.specs.ElementFaults.{element_faults};
+ghost use Rattle.single_def.specs.Expansion.{IsExpansion};
+ghost use Rattle.single_def.specs.Numbering.{IsNumbering};
+ghost use Rattle.single_def.specs.Private.Actions.{GivesValue};
+ghost use Rattle.single_def.specs.Private.Plans.{run_program};
+ghost use Rattle.single_def.specs.declared.fault.DefFault.{DefFault as FaultType};
+
+use bodies::bodies;
+pub use elements::{Element, Elements, Instance};
+pub use fault::DefFault;
+use found::Found;
+use instances::{Inside, enter};
+use name_check::Names;
+use silage_syntax::Program;
+use std::alloc::Global;
+use words::check_words;
+
+/// The most instances of which each is inside the one before: an instance is inside 64 calls at most.
+const MAX_NESTED: u32 = 65;
+
+/// The walk over the instances of a program: the instances and elements on it, or the first fault on it.
+fn run_plan(alloc: Global, program: &Program, names: &Names) -> Result<Elements, DefFault>
+    requires clear { IsClear (name_faults (view program.now)) }
+    requires tops { names.now.tops ≡ top_names (view program.now) }
+    ensures { GivesValue result (run_program (view program.now) names.now.main) }
+{
+    let plan = bodies(alloc, program, &names.tops)?;
+    let mut found = Found::new(alloc);
+    let inside = Inside {
+        alloc,
+        plan: &plan,
+        calls: MAX_NESTED,
+        number: 0,
+    };
+    enter(inside, u32::MAX, names.main, 0, &[], &mut found)?;
+    Ok(Elements {
+        instances: found.instances,
+        elements: found.elements,
+    })
+}
+
+/// The instances and elements of a program in the order in which they are entered, or its first fault: of the numbers
+/// in its items, of an element that is defined twice or not at all, or of a load that is too large.
+pub fn check_defs(alloc: Global, program: &Program, names: &Names) -> Result<Elements, DefFault>
+    requires clear { IsClear (name_faults (view program.now)) }
+    requires tops { names.now.tops ≡ top_names (view program.now) }
+    requires main { IsMain (view program.now) names.now.main }
+    ensures ok { OnOk result (IsClear (element_faults (view program.now))) }
+    ensures fault { IfErr result (λ fault. fault ≢ DefFault.Memory
+        → IsFirst (element_faults (view program.now)) fault) }
+    ensures elements { IfOk result (IsExpansion (view program.now)) }
+    ensures numbering { IfOk result (IsNumbering (view program.now)) }
+
+    // The first fault decides the answer, unless memory runs out.
+    ensures each_ok { IsClear (element_faults (view program.now)) → AnswersOk DefFault.Memory result }
+    ensures each_fault { (fault : FaultType) → IsFirst (element_faults (view program.now)) fault
+        → AnswersFault DefFault.Memory fault result }
+{
+    check_words(program, names.main)?;
+    run_plan(alloc, program, names)
+}
