@@ -1,23 +1,29 @@
 //! Repeats one call on one file, for the scripts under `bench/` to measure.
 #![tactic(auto)]
 
-ghost use Rattle.std.specs.Prelude.{◌≡◌, length, All, IfOk};
+ghost use Rattle.std.specs.Prelude.{◌≡◌, length, All, IfOk, OnOk};
 ghost use Rattle.cycle_sim.specs.Machine.{IsOperand};
 ghost use Rattle.micro_image.specs.Valid.{IsValid};
+ghost use Rattle.ranked_faults.specs.Ranked.{IsClear};
+ghost use Rattle.silage_syntax.specs.Tree.{view};
+ghost use Rattle.name_check.specs.TopNames.{top_names};
+ghost use Rattle.name_check.specs.NameFaults.{name_faults, IsMain};
 
 use anyhow::{Context, Result, bail};
 use cycle_sim::Machine;
 use micro_file::{decode, encode};
 use micro_image::Image;
-use name_check::check_names;
+use name_check::{Names, check_names};
 use silage_lex::{Tokens, lex};
 use silage_parse::parse;
-use silage_tree::Program;
+use silage_syntax::Program;
+use single_def::{Elements, check_defs};
 use std::alloc::Global;
 use std::rt::{Env, Files};
 use std::{env, fs};
 
-const USAGE: &str = "usage: silc_bench decode|encode|clock|lex|parse|names TURNS FILE";
+const USAGE: &str =
+    "usage: silc_bench decode|encode|clock|lex|parse|names|elements|front TURNS FILE";
 
 /// A microcode file is at most this long, and so is a source.
 const MICROCODE_LIMIT: usize = 1 << 26;
@@ -127,20 +133,65 @@ fn program_of(alloc: Global, bytes: &[u8]) -> Result<Program> {
     }
 }
 
-/// How many tables and functions stand before those called main.
-fn names_again(alloc: Global, turns: u32, bytes: &[u8]) -> Result<u64> {
-    let program = program_of(alloc, bytes)?;
+/// The names of a program.
+fn names_of(alloc: Global, program: &Program) -> Result<Names>
+    ensures clear { OnOk result (IsClear (name_faults (view program.now))) }
+    ensures tops { IfOk result (λ names. names.tops ≡ top_names (view program.now)) }
+    ensures main { IfOk result (λ names. IsMain (view program.now) names.main) }
+{
     if program.tops.len() > SOURCE_LIMIT {
         bail!("there are too many tables and functions");
     }
+    match check_names(alloc, program) {
+        Ok(names) => Ok(names),
+        Err(_) => bail!("the names break a rule"),
+    }
+}
+
+/// How many tables and functions stand before those called main.
+fn names_again(alloc: Global, turns: u32, bytes: &[u8]) -> Result<u64> {
+    let program = program_of(alloc, bytes)?;
     let mut before = 0u64;
     for _ in 0..turns {
-        match check_names(alloc, &program) {
-            Ok(names) => before = before.wrapping_add(u64::from(names.main)),
-            Err(_) => bail!("the names break a rule"),
-        }
+        before = before.wrapping_add(u64::from(names_of(alloc, &program)?.main));
     }
     Ok(before)
+}
+
+/// The instances and elements of a program.
+fn elements_of(alloc: Global, program: &Program, names: &Names) -> Result<Elements>
+    requires clear { IsClear (name_faults (view program.now)) }
+    requires tops { names.now.tops ≡ top_names (view program.now) }
+    requires main { IsMain (view program.now) names.now.main }
+{
+    match check_defs(alloc, program, names) {
+        Ok(elements) => Ok(elements),
+        Err(_) => bail!("the elements break a rule"),
+    }
+}
+
+/// How many elements the programs have.
+fn elements_again(alloc: Global, turns: u32, bytes: &[u8]) -> Result<u64> {
+    let program = program_of(alloc, bytes)?;
+    let names = names_of(alloc, &program)?;
+    let mut count = 0u64;
+    for _ in 0..turns {
+        let found = elements_of(alloc, &program, &names)?;
+        count = count.wrapping_add(found.elements.len() as u64);
+    }
+    Ok(count)
+}
+
+/// How many elements the programs have, each time from the bytes of the source.
+fn front_again(alloc: Global, turns: u32, bytes: &[u8]) -> Result<u64> {
+    let mut count = 0u64;
+    for _ in 0..turns {
+        let program = program_of(alloc, bytes)?;
+        let names = names_of(alloc, &program)?;
+        let found = elements_of(alloc, &program, &names)?;
+        count = count.wrapping_add(found.elements.len() as u64);
+    }
+    Ok(count)
 }
 
 fn measure<R: Env + Files + AllocGlobal>(rt: &R) -> Result<u64> {
@@ -158,6 +209,8 @@ fn measure<R: Env + Files + AllocGlobal>(rt: &R) -> Result<u64> {
         "lex" => lex_again(rt.alloc(), turns, &bytes),
         "parse" => parse_again(rt.alloc(), turns, &bytes),
         "names" => names_again(rt.alloc(), turns, &bytes),
+        "elements" => elements_again(rt.alloc(), turns, &bytes),
+        "front" => front_again(rt.alloc(), turns, &bytes),
         _ => bail!("{USAGE}"),
     }
 }
