@@ -1,8 +1,9 @@
 -- The program y = x + 1 on 8 bits: its image, whose file is known byte by byte.
 use Rattle.std.proofs.Common.{◌≡◌, refl, true, [], ◌∷◌, pos, neg_ℤ}
 use Rattle.micro_image.proofs.Increment.{increment}
+use Rattle.sample_io.specs.Samples.{stream_of}
 use Rattle.silc.specs.Serial.{serial_image}
-use Rattle.silc.specs.Sim.{channels_of, stream_of}
+use Rattle.silc.specs.Sim.{channels_of}
 use Rattle.silc.specs.declared.one_line.OneLine.{OneLine}
 
 abbrev program : OneLine

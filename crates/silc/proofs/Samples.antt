@@ -1,9 +1,9 @@
 -- The rows of a list as a stream, and what their channels say of them.
-use Rattle.std.proofs.Common.{◌≡◌, refl, sym, ap, ap₂, subst, ◌∙◌, arith, ⊎_elim, inl, inr, ℕ, zero, suc, ◌+◌, ◌-◌, ◌*◌, ◌/◌, ◌<◌, ◌≤◌, ◌^◌, List, [], ◌∷◌, ◌++◌, length, map, get_or, take, drop, ℤ, pos, negsuc, neg_ℤ, mul-le-mul_right, length-append, length-drop, take-append-drop}
+use Rattle.std.proofs.Common.{◌≡◌, refl, sym, ap, ap₂, subst, ◌∙◌, arith, ⊎_elim, inl, inr, ℕ, ◌+◌, ◌-◌, ◌*◌, ◌/◌, ◌<◌, ◌≤◌, List, [], ◌∷◌, ◌++◌, length, map, get_or, take, drop, ℤ, pos, negsuc, mul-le-mul_right, length-append, length-drop, take-append-drop}
 use Rattle.std.specs.List.{All, range_with_len}
-use Rattle.std.proofs.Math.Nat.{div-mul-le_self, mul-div_left}
+use Rattle.std.proofs.Math.Nat.{div-mul-le_self}
 use Rattle.std.proofs.lemmas.Int.{ints}
-use Rattle.std.proofs.lemmas.List.{ext_get_or, length-map}
+use Rattle.std.proofs.lemmas.List.{length-map}
 use Rattle.std.proofs.lemmas.List.Elements.{All-head, All-tail, All-cons, All-nil, All-weaker}
 use Rattle.std.proofs.lemmas.List.FromFn.{length-map-range_with_len, get_or-map-range_with_len, take-map-range_with_len, map-range_with_len_more}
 use Rattle.lists.specs.Rows.{Rows}
@@ -15,20 +15,12 @@ use Rattle.micro_image.specs.Valid.{IsValid, IsWithin}
 use Rattle.micro_image.specs.declared.image.Image.{Image}
 use Rattle.sample_io.specs.declared.channel.Channel.{Channel}
 use Rattle.sample_io.specs.declared.RowList.{RowList}
-use Rattle.sample_io.specs.Channels.{IsInChannel, IsChannel, IsRow, IsStream}
-use Rattle.sample_io.specs.Samples.{IsLine, Lines, RowsOf, HoldsRows}
+use Rattle.sample_io.specs.Channels.{IsInChannel, IsChannel, IsRow, IsStream, channel_of}
+use Rattle.sample_io.specs.Samples.{IsLine, Lines, RowsOf, row_of, stream_of}
 use Rattle.sample_io.proofs.Streams.{RowsOf-stream}
 use Rattle.silc.specs.Limits.{samples_limit}
-use Rattle.silc.specs.Sim.{channel_of, channels_of, row_of, stream_of}
+use Rattle.silc.specs.Sim.{channels_of}
 use Rattle.silc.specs.Private.Running.{IsInputRow, IsStreamRead}
-
--- what a width's channel is
-pub channel_is : (width : ℕ) (channel : Channel) → (width ≡ 0 → channel ≡ record { low = pos 0; high = pos 1 })
-    → (0 < width → channel ≡ record { low = neg_ℤ (pos (2 ^ (width - 1))); high = pos (2 ^ (width - 1) - 1) }) → channel ≡ channel_of width
-channel_is zero channel bool signed = bool refl
-channel_is (suc n) channel bool signed =
-    let made : ℕ → Channel = λ m. record { low = neg_ℤ (pos (2 ^ m)); high = pos (2 ^ m - 1) } in
-    signed (omega arith) ∙ ap made (let e : suc n - 1 ≡ n = omega arith in e)
 
 -- the first n rows of a list
 abbrev pub first_rows : RowList → ℕ → Rows
@@ -69,12 +61,6 @@ pub stream_parts : (list : RowList) (n : ℕ) → n ≤ length (stream_of list) 
 stream_parts list n h =
     ap (λ front. front ++ drop n (stream_of list)) (sym (take-map-range_with_len (row_of list) 0 (length list.words / list.width) n (omega (arith, h, rows_count list))))
     ∙ take-append-drop n (stream_of list)
-
--- the rows that a list holds are its stream
-pub held_rows : (list : RowList) (rows : Rows) → 0 < list.width → HoldsRows list rows → rows ≡ stream_of list
-held_rows list rows some holds =
-    let count : length rows ≡ length (stream_of list) = sym (rows_count list ∙ ap (λ n. n / list.width) holds.count ∙ mul-div_left (length rows) some) in
-    ext_get_or [] rows (stream_of list) count (λ i within. sym (row_is list i (omega (arith, within, count)) ∙ holds.row i [] within))
 
 -- a line has a byte
 line_some : (channels : List Channel) (line : List ℕ) (row : List ℤ) → IsLine channels line row → 1 ≤ length line
@@ -121,12 +107,12 @@ pub stream_read : (samples : Name) (image : Image) (old new : View) (bytes : Con
     → IsValid image → channels ≡ channels_of image → All IsChannel channels
     → length bytes ≤ samples_limit → IsReadThrough samples samples_limit old new
     → WhereSpecified old (λ files. bytes ≡ content_of (files samples))
-    → (rows : Rows) × RowsOf bytes channels rows × HoldsRows list rows × (list.width ≡ length channels)
+    → RowsOf bytes channels (stream_of list) → list.width ≡ length channels
     → IsStreamRead samples image old new list
-stream_read samples image old new bytes channels list valid are each within through specified read =
-    let count : list.width ≡ length image.inputs = read.3 ∙ ap length are ∙ length-map image.inputs channel_of in
+stream_read samples image old new bytes channels list valid are each within through specified read same =
+    let count : list.width ≡ length image.inputs = same ∙ ap length are ∙ length-map image.inputs channel_of in
     let width : IsWithin 1 16 list.width = (omega (arith, count, valid.input_count.0), omega (arith, count, valid.input_count.1)) in
-    let rows : RowsOf bytes (channels_of image) (stream_of list) = subst (λ cs. RowsOf bytes cs (stream_of list)) are (subst (RowsOf bytes channels) (held_rows list read.0 width.0 read.2) read.1) in
+    let rows : RowsOf bytes (channels_of image) (stream_of list) = subst (λ cs. RowsOf bytes cs (stream_of list)) are read in
     record {
       read = through;
       input = record {

@@ -19,7 +19,7 @@ use Rattle.micro_image.specs.Run.{Stands, latches, spread}
 use Rattle.micro_image.proofs.Prefix.{IsConflict-with, IsClearBelow-with}
 use Rattle.micro_image.proofs.Streams.{length-spread, spread-append, IsRunOut-more}
 use Rattle.sample_io.specs.declared.RowList.{RowList}
-use Rattle.sample_io.specs.Samples.{printed, printed_row}
+use Rattle.sample_io.specs.Samples.{printed, printed_row, stream_of}
 use Rattle.silc.specs.declared.sim.Kept.{Kept}
 use Rattle.silc.specs.declared.status.Status.{Status}
 use Rattle.silc.specs.declared.status.Status.TheVariants.{Done, Memory, Words, Desk, FrontEnd, Image as bad_image, Samples as bad_samples, Conflict as in_conflict, NotBuilt}
@@ -29,7 +29,7 @@ use Rattle.silc.specs.Endings.{IsNotWritten, IsFinished}
 use Rattle.silc.specs.Limits.{microcode_limit, samples_limit}
 use Rattle.silc.specs.Private.Reading.{OnlyReads}
 use Rattle.silc.specs.Private.Running.{IsLoaded, IsStreamRead, IsRunError, IsMadeRun}
-use Rattle.silc.specs.Sim.{stream_of, HasRun, IsFirstConflict, HasStream, IsSimUnread, IsSimError, IsSimulated, IsSimCutShort, IsSimAnswer}
+use Rattle.silc.specs.Sim.{HasRun, IsFirstConflict, HasStream, IsSimUnread, IsSimError, IsSimulated, IsSimCutShort, IsSimAnswer}
 use Rattle.silc.proofs.Endings.{reads_both, unchanged_still, specified_still, rejected_still, finished_still, not_written_still}
 use Rattle.silc.proofs.Samples.{first_rows, first_more, stream_parts}
 

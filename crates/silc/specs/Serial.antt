@@ -1,6 +1,6 @@
 -- The serial plan of a one-line program over the datapath PLAIN: node v of the graph is at cycle v, and each value
 -- goes over bus 0 to register 0.
-use Rattle.std.specs.Prelude.{ℕ, Bool, true, false, ◌++◌, List, [], ◌∷◌, ℤ, pos, replicate}
+use Rattle.std.specs.Prelude.{ℕ, ◌-◌, Bool, true, false, ◌++◌, List, [], ◌∷◌, length, ℤ, pos, replicate}
 use Rattle.fix_word.specs.declared.types.Format.{Format}
 use Rattle.fix_word.specs.declared.types.Mode.TheVariants.{Trunc}
 use Rattle.fix_word.specs.declared.operation.Op.{Op}
@@ -77,9 +77,13 @@ node_words program =
     ∷ record { issues = output_issue ∷ []; enables = []; takes = [] }
     ∷ []
 
--- the words of one sample: nothing is done at the cycles after the nodes
+-- the cycles of one sample after those of its nodes
+abbrev pub idle_cycles : OneLine → ℕ
+idle_cycles program = plain_period - length (node_words program)
+
+-- the words of one sample: nothing is done in an idle cycle
 abbrev pub serial_words : OneLine → List Word
-serial_words program = node_words program ++ replicate 12 no_word
+serial_words program = node_words program ++ replicate (idle_cycles program) no_word
 
 -- the image of the plan
 abbrev pub serial_image : OneLine → Image

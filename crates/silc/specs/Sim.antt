@@ -1,6 +1,5 @@
 -- What `sim MIC SAMPLES OUT` reads and runs, when each of its statuses comes, and what it leaves.
-use Rattle.std.specs.Prelude.{◌≡◌, ◌⊎◌, ℕ, zero, suc, ◌+◌, ◌-◌, ◌*◌, ◌/◌, ◌<◌, ◌≤◌, ◌^◌, List, length, map, slice_range, ℤ, pos, neg_ℤ}
-use Rattle.std.specs.List.{range_with_len}
+use Rattle.std.specs.Prelude.{◌≡◌, ◌⊎◌, ◌*◌, ◌<◌, ◌≤◌, List, length, map}
 use Rattle.lists.specs.Rows.{Rows}
 use Rattle.cycle_sim.specs.Machine.{Snapshot, state_of}
 use Rattle.desk_core.specs.View.{Name, Content, Files, View}
@@ -13,7 +12,7 @@ use Rattle.micro_image.specs.Conflict.{IsConflict, IsClearBelow}
 use Rattle.micro_image.specs.Run.{Stands, IsRunOut, spread}
 use Rattle.micro_image.specs.Spells.{Spells}
 use Rattle.sample_io.specs.declared.channel.Channel.{Channel}
-use Rattle.sample_io.specs.declared.RowList.{RowList}
+use Rattle.sample_io.specs.Channels.{channel_of}
 use Rattle.sample_io.specs.Samples.{RowsOf, IsFirstBadPlace, printed}
 use Rattle.silc.specs.Endings.{IsRejected, IsNotWritten, IsFinished}
 use Rattle.silc.specs.Limits.{microcode_limit, samples_limit}
@@ -26,21 +25,9 @@ use Rattle.silc.specs.declared.status.SampleFault.TheVariants as sample_fault
 use Rattle.silc.specs.declared.status.Status.{Status}
 use Rattle.silc.specs.declared.status.Status.TheVariants as status
 
--- the channel of an input word of this many bits; 0 is the width of a truth value
-abbrev pub channel_of : ℕ → Channel
-channel_of zero = record { low = pos 0; high = pos 1 }
-channel_of (suc n) = record { low = neg_ℤ (pos (2 ^ n)); high = pos (2 ^ n - 1) }
-
 -- a channel for each input word
 abbrev pub channels_of : Image → List Channel
 channels_of image = map channel_of image.inputs
-
--- the rows that a list holds one after the other
-abbrev pub row_of : RowList → ℕ → List ℤ
-row_of list n = slice_range list.words (n * list.width) ((n + 1) * list.width)
-
-abbrev pub stream_of : RowList → Rows
-stream_of list = map (row_of list) (range_with_len 0 (length list.words / list.width))
 
 -- the bytes are within the limit and spell the image
 pub record IsMicrocodeOf (content : Content) (image : Image) : Type 0 where

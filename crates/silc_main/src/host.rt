@@ -2,14 +2,18 @@
 ghost use Rattle.std.specs.Prelude.{◌≡◌, ◌≤◌};
 ghost use Rattle.desk_core.specs.Desk.{Rose};
 
+use arrayvec::ArrayString;
 use desk_core::{Desk, Failed};
 use std::fs::{self, File};
 use std::io::{self, ErrorKind, Read, Write};
 
+/// The name of a file that could be opened. The host opens no path of 4,096 bytes or more, so each such name has room.
+type FileName = ArrayString<4096>;
+
 /// A file that is read, and its name.
 #[derive(Drop)]
 struct Input {
-    name: String,
+    name: FileName,
     file: File,
 }
 
@@ -48,11 +52,11 @@ fn raised(faults: u64) -> u64
     faults.saturating_add(1)
 }
 
-/// Opens a file to be read. Its name takes memory.
-fn opened(rt: &HostRuntime, name: &str) -> io::Result<Input> {
+/// Opens a file to be read, which takes no memory for its name. A name that is too long for the host is a fault of it.
+fn opened(rt: &HostRuntime, name: &str) -> Result<Input, Failed> {
     Ok(Input {
-        name: String::from_str(rt.alloc(), name)?,
-        file: fs::open(rt, name)?,
+        name: FileName::from(name).map_err(|_| Failed)?,
+        file: fs::open(rt, name).map_err(|_| Failed)?,
     })
 }
 
@@ -78,9 +82,9 @@ impl Desk for HostDesk {
                 self.place = 0;
                 Ok(())
             }
-            Err(_) => {
+            Err(failed) => {
                 self.faults = raised(self.faults);
-                Err(Failed)
+                Err(failed)
             }
         }
     }

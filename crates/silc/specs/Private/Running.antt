@@ -12,8 +12,9 @@ use Rattle.micro_image.specs.Run.{Stands}
 use Rattle.micro_image.specs.Spells.{Spells}
 use Rattle.micro_image.specs.Valid.{IsValid, IsWithin}
 use Rattle.sample_io.specs.declared.RowList.{RowList}
+use Rattle.sample_io.specs.Samples.{stream_of}
 use Rattle.silc.specs.Limits.{microcode_limit, samples_limit}
-use Rattle.silc.specs.Sim.{stream_of, AreSamplesFor, HasRun, IsFirstConflict, SpellsNone, IsSampleFault, HasImage, HasImageFault, HasStream}
+use Rattle.silc.specs.Sim.{AreSamplesFor, HasRun, IsFirstConflict, SpellsNone, IsSampleFault, HasImage, HasImageFault, HasStream}
 use Rattle.silc.specs.declared.status.ImageFault.{ImageFault}
 use Rattle.silc.specs.declared.status.ImageFault.TheVariants as image_fault
 use Rattle.silc.specs.declared.status.SampleFault.{SampleFault}

@@ -1,7 +1,6 @@
 use Rattle.std.proofs.Common.{◌≡◌, map, take}
 use Rattle.std.specs.List.{All}
-use Rattle.sample_io.specs.Channels.{IsChannel}
-use Rattle.silc.specs.Sim.{channel_of}
+use Rattle.sample_io.specs.Channels.{IsChannel, channel_of}
 use Rattle.silc.proofs.sim.input_channels.Given as goal
 
 abbrev pub invariant-loop-width : goal.invariant-loop-width

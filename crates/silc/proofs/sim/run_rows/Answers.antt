@@ -2,8 +2,9 @@ use Rattle.std.proofs.Common.{arith, ◌≡◌, sym, ap, ap₂, subst, ◌∙◌
 use Rattle.std.proofs.lemmas.List.Elements.{All-get_or}
 use Rattle.std.proofs.lemmas.List.FromFn.{length-map-range_with_len}
 use Rattle.std.proofs.lemmas.Result.{err_from_is_err_and}
+use Rattle.sample_io.specs.Samples.{row_of, stream_of}
 use Rattle.silc.specs.Private.Running.{IsInputRow}
-use Rattle.silc.specs.Sim.{row_of, stream_of, HasRun}
+use Rattle.silc.specs.Sim.{HasRun}
 use Rattle.silc.proofs.Samples.{first_rows, is_below}
 use Rattle.silc.proofs.Simulating.{own_image, next_ran, next_error}
 use Rattle.silc.proofs.sim.run_rows.Goals as goal
