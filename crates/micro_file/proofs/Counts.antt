@@ -8,7 +8,7 @@ use Rattle.std.proofs.lemmas.List.Elements.{All-map}
 use Rattle.micro_image.specs.declared.image.Image.{Image}
 use Rattle.micro_image.specs.declared.image.Issue.{Issue}
 use Rattle.micro_image.specs.Valid.{IsValid, IsIssue, IsIssueOn}
-use Rattle.micro_file.specs.Sizes.{IsSmallWord}
+use Rattle.micro_file.specs.Private.Sizes.{IsSmallWord}
 
 -- what is there has an index below the length
 pub is_there : {A : Type 0} (xs : List A) (k : ℕ) (P : A → Type 0) → IsSomeAnd (slice_get xs k) P → k < length xs

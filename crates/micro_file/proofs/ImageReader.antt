@@ -10,8 +10,11 @@ use Rattle.micro_image.specs.declared.image.UnitDesc.{UnitDesc}
 use Rattle.micro_image.specs.declared.image.Word.{Word}
 use Rattle.micro_image.specs.Spells.{two_bytes, spelled_unit, spelled_word, spelling, Spells}
 use Rattle.micro_image.specs.Valid.{IsWithin, IsWordOf, IsValid}
-use Rattle.micro_file.specs.Reading.{kept, byte_within, number_within, many_at, units_at, word_at, head_at, is_unroll, unroll_at, inputs_at, hardware_at, image_at, whole_at}
-use Rattle.micro_file.proofs.Reader.{IsBytes, Takes, ◌⨟◌, Took, IsReader, tested, such_reader, so_spelled, some_is, bound, joined, was_kept}
+use Rattle.micro_file.specs.Private.Fields.{kept, byte_within, number_within, many_at}
+use Rattle.micro_file.specs.Private.Units.{units_at}
+use Rattle.micro_file.specs.Private.Words.{word_at}
+use Rattle.micro_file.specs.Private.File.{head_at, is_unroll, unroll_at, inputs_at, hardware_at, image_at, whole_at}
+use Rattle.micro_file.proofs.Readers.{IsBytes, Takes, ◌⨟◌, Took, IsReader, tested, such_reader, so_spelled, some_is, bound, joined, was_kept}
 use Rattle.micro_file.proofs.Several.{all_from, grows_all, many_reader, counted}
 use Rattle.micro_file.proofs.Leaves.{one_byte, byte_reader, within_reader, two_reader}
 use Rattle.micro_file.proofs.UnitReader.{AreUnits, units_reader}

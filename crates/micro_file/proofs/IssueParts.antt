@@ -19,9 +19,10 @@ use Rattle.micro_image.specs.Fields.{nth}
 use Rattle.micro_image.specs.Operations.{is_formatted}
 use Rattle.micro_image.specs.Spells.{eight_bytes, mode_byte, spelled_format}
 use Rattle.micro_image.specs.Valid.{IsWithin, IsBelow, IsNoFormat, IsFormatWhere, IsFormatFor, IsArgument, AreRegisters}
-use Rattle.micro_file.specs.declared.fields.TheConstants.{MODES}
-use Rattle.micro_file.specs.Reading.{kept, byte_at, byte_within, entry_at, many_at, some_format_at, no_format_at, format_at, is_below, is_argument, argument_at, register_at}
-use Rattle.micro_file.proofs.Reader.{IsBytes, Takes, ◌⨟◌, Took, IsReader, IsTestOf, tested, such_reader, so_spelled, some_is, was_kept}
+use Rattle.micro_file.specs.declared.reader.TheConstants.{MODES}
+use Rattle.micro_file.specs.Private.Fields.{kept, byte_at, byte_within, entry_at, many_at}
+use Rattle.micro_file.specs.Private.Words.{some_format_at, no_format_at, format_at, is_below, is_argument, argument_at, register_at}
+use Rattle.micro_file.proofs.Readers.{IsBytes, Takes, ◌⨟◌, Took, IsReader, IsTestOf, tested, such_reader, so_spelled, some_is, was_kept}
 use Rattle.micro_file.proofs.Several.{Grows, grows_at, grows_from, many_reader}
 use Rattle.micro_file.proofs.Leaves.{one_byte, byte_reader, within_reader, below_reader, signed_reader, raw_word_test, word_fits, mode_reader}
 use Rattle.micro_file.proofs.Steps.{bound3, bound4, joined4}

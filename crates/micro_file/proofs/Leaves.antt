@@ -22,9 +22,9 @@ use Rattle.micro_image.specs.declared.image.Kind.TheVariants as kind
 use Rattle.micro_image.specs.Operations.{opcode}
 use Rattle.micro_image.specs.Spells.{two_bytes, four_bytes, eight_bytes, kind_byte, mode_byte}
 use Rattle.micro_image.specs.Valid.{IsWithin}
-use Rattle.micro_file.specs.declared.fields.TheConstants.{KINDS, OPERATIONS, MODES}
-use Rattle.micro_file.specs.Reading.{◌>>=◌, byte_at, byte_within, byte_below, byte_upto, number_at, number_within, signed_at, is_raw_word, raw_word_at, entry_at}
-use Rattle.micro_file.proofs.Reader.{IsBytes, IsBytes-take, IsBytes-drop, Took, IsReader, IsTestOf, tested, such_reader, bound, some_is, joined}
+use Rattle.micro_file.specs.declared.reader.TheConstants.{KINDS, OPERATIONS, MODES}
+use Rattle.micro_file.specs.Private.Fields.{◌>>=◌, byte_at, byte_within, byte_below, byte_upto, number_at, number_within, signed_at, is_raw_word, raw_word_at, entry_at}
+use Rattle.micro_file.proofs.Readers.{IsBytes, IsBytes-take, IsBytes-drop, Took, IsReader, IsTestOf, tested, such_reader, bound, some_is, joined}
 
 -- a field of one byte
 abbrev pub one_byte : ℕ → List ℕ

@@ -1,7 +1,7 @@
 pub mod Counts
 pub mod Length
 pub mod Many
-pub mod Reader
+pub mod Readers
 pub mod Several
 pub mod Leaves
 pub mod Steps

@@ -2,7 +2,7 @@
 use Rattle.std.proofs.Common.{◌≡◌, ℕ, suc, ◌-◌, ◌+◌, ◌≤◌, ◌<◌, List, [], ◌∷◌, ◌++◌, Option, Some, None, refl, sym, ◌∙◌, arith}
 use Rattle.micro_file.specs.declared.fault.FormFault.{FormFault}
 use Rattle.micro_file.specs.declared.fault.FormFault.TheVariants as fault
-use Rattle.micro_file.specs.Reading.{Fails, many_at}
+use Rattle.micro_file.specs.Private.Fields.{Fails, many_at}
 
 module _ {A : Type 0} (one : List A → List ℕ → Option (A × List ℕ)) (front : List A) (count i : ℕ) (bytes : List ℕ) (total : Option (List A × List ℕ)) (so_far : many_at one front (count - i) bytes ≡ total) where
   -- the step of a loop that reads one more

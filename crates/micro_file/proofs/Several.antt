@@ -5,8 +5,9 @@ use Rattle.std.specs.List.{All, AllAdjacentBelow, flat_map}
 use Rattle.std.proofs.lemmas.List.{append-nil, length-take-le, get_or-take}
 use Rattle.std.proofs.lemmas.List.Concat.{flat_map-cons}
 use Rattle.std.proofs.lemmas.Option.{slice_get-get_or}
-use Rattle.micro_file.specs.Reading.{◌>>=◌, many_at, last_of}
-use Rattle.micro_file.proofs.Reader.{IsBytes, Takes, ◌⨟◌, takes_none, IsReader, bound, some_is, joined}
+use Rattle.micro_file.specs.Private.Fields.{◌>>=◌, many_at}
+use Rattle.micro_file.specs.Private.Words.{last_of}
+use Rattle.micro_file.proofs.Readers.{IsBytes, Takes, ◌⨟◌, takes_none, IsReader, bound, some_is, joined}
 
 -- each value is allowed behind those before it, the first ones being in front
 pub data Grows {A : Type 0} (Next : List A → A → Type 0) : List A → List A → Type 0 where

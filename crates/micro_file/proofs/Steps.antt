@@ -1,7 +1,7 @@
 -- Several steps, one after another: each was done where all were, and all are done where each is.
 use Rattle.std.proofs.Common.{◌≡◌, Option, Some, refl}
-use Rattle.micro_file.specs.Reading.{◌>>=◌}
-use Rattle.micro_file.proofs.Reader.{bound}
+use Rattle.micro_file.specs.Private.Fields.{◌>>=◌}
+use Rattle.micro_file.proofs.Readers.{bound}
 
 pub bound2 : {A B Y : Type 0} (f1 : Option A) (f2 : A → Option B) (h : A → B → Option Y) (y : Y) → (f1 >>= λ a. f2 a >>= λ b. h a b) ≡ Some y → (a : A) × (b : B) × (f1 ≡ Some a) × (f2 a ≡ Some b) × (h a b ≡ Some y)
 bound2 f1 f2 h y e =

@@ -9,8 +9,9 @@ use Rattle.micro_image.specs.declared.image.Take.{Take}
 use Rattle.micro_image.specs.declared.image.UnitDesc.{UnitDesc}
 use Rattle.micro_image.specs.Spells.{two_bytes, spelled_enable, spelled_take}
 use Rattle.micro_image.specs.Valid.{IsWithin, IsEnable, IsTake, IsRegister, EnableBefore, TakeBefore}
-use Rattle.micro_file.specs.Reading.{kept, byte_at, byte_below, enable_at, enables_at, take_at, takes_at, enable_before, take_before, is_next, last_of}
-use Rattle.micro_file.proofs.Reader.{IsBytes, ◌⨟◌, Took, IsReader, such_reader, was_kept}
+use Rattle.micro_file.specs.Private.Fields.{kept, byte_at, byte_below}
+use Rattle.micro_file.specs.Private.Words.{enable_at, enables_at, take_at, takes_at, enable_before, take_before, is_next, last_of}
+use Rattle.micro_file.proofs.Readers.{IsBytes, ◌⨟◌, Took, IsReader, such_reader, was_kept}
 use Rattle.micro_file.proofs.Several.{counted, Behind, Rising, risen_all, risen_beside, grows_risen}
 use Rattle.micro_file.proofs.Leaves.{byte_reader, below_reader, two_reader}
 use Rattle.micro_file.proofs.IssueReader.{some_and}

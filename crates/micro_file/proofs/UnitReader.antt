@@ -12,9 +12,10 @@ use Rattle.micro_image.specs.declared.image.Kind.TheVariants as kind
 use Rattle.micro_image.specs.declared.image.UnitDesc.{UnitDesc}
 use Rattle.micro_image.specs.Spells.{four_bytes, eight_bytes, kind_byte, spelled_file, spelled_memory, spelled_unit}
 use Rattle.micro_image.specs.Valid.{IsWithin, IsFile, IsUnit, ports}
-use Rattle.micro_file.specs.declared.fields.TheConstants.{KINDS}
-use Rattle.micro_file.specs.Reading.{byte_within, raw_word_at, entry_at, many_at, file_at, cells_at, ram_at, unit_at, is_ram, is_some_ram, is_tied_by, is_tied, are_tied, some_units_at, units_at}
-use Rattle.micro_file.proofs.Reader.{IsBytes, ◌⨟◌, takes_none, Took, IsReader, IsTestOf, tested, such_reader, some_is}
+use Rattle.micro_file.specs.declared.reader.TheConstants.{KINDS}
+use Rattle.micro_file.specs.Private.Fields.{byte_within, raw_word_at, entry_at, many_at}
+use Rattle.micro_file.specs.Private.Units.{file_at, cells_at, ram_at, unit_at, is_ram, is_some_ram, is_tied_by, is_tied, are_tied, some_units_at, units_at}
+use Rattle.micro_file.proofs.Readers.{IsBytes, ◌⨟◌, takes_none, Took, IsReader, IsTestOf, tested, such_reader, some_is}
 use Rattle.micro_file.proofs.Several.{Grows, all_from, grows_all, many_reader, counted}
 use Rattle.micro_file.proofs.Leaves.{one_byte, byte_reader, within_reader, two_reader, four_reader, raw_word_reader, kind_reader}
 use Rattle.micro_file.proofs.Steps.{bound6, joined6}

@@ -8,8 +8,8 @@ use Rattle.micro_image.specs.declared.image.Take.{Take}
 use Rattle.micro_image.specs.declared.image.Word.{Word}
 use Rattle.micro_image.specs.Spells.{two_bytes, spelled_issue, spelled_enable, spelled_take, spelled_word}
 use Rattle.micro_image.specs.Valid.{IsWordOf}
-use Rattle.micro_file.specs.Reading.{enables_at, takes_at, issues_at, word_at}
-use Rattle.micro_file.proofs.Reader.{IsBytes, Takes, ◌⨟◌, Took, IsReader, some_is}
+use Rattle.micro_file.specs.Private.Words.{enables_at, takes_at, issues_at, word_at}
+use Rattle.micro_file.proofs.Readers.{IsBytes, Takes, ◌⨟◌, Took, IsReader, some_is}
 use Rattle.micro_file.proofs.Leaves.{one_byte}
 use Rattle.micro_file.proofs.TransferReader.{enables_reader, takes_reader}
 use Rattle.micro_file.proofs.IssueReader.{HasFewWords, AllHave, issues_reader}

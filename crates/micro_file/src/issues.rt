@@ -1,17 +1,26 @@
-//! The issues of a word.
-ghost use Rattle.std.specs.Prelude.{◌≡◌, [], length, nat_lt, if◌then◌else◌};
-ghost use Rattle.micro_image.specs.Fields.{nth};
-ghost use Rattle.micro_file.specs.Reading.{Gives, many_at, same_kind, some_format_at, no_format_at, format_at, is_below, is_argument, argument_at, register_at, is_above, last_of, issue_on_at, issue_at, issues_at};
+//! The issues of a microword.
+ghost use Rattle.std.specs.Prelude.{◌≡◌, [], length};
+ghost use Rattle.micro_file.specs.Private.Fields.{Reads, many_at};
+ghost use Rattle.micro_file.specs.Private.Words.{same_kind, some_format_at, no_format_at, format_at, is_below, is_argument, argument_at, register_count, register_at, is_above, last_of, issue_on_at, issue_at, issues_at};
 
 use crate::fault::FormFault;
-use crate::fields::{
-    byte_in, byte_of, byte_under, byte_up_to, is_word, mode_of_byte, operation_of_byte, signed_of,
-    with_room,
-};
+use crate::reader::{Reader, is_word};
 use fix_word::{Format, Mode, Op};
 use lists::List;
 use micro_image::{Image, Issue, Kind, UnitDesc, is_formatted, reads};
 use std::alloc::Global;
+
+/// The least shift of a format, which is to the left.
+const MIN_SHIFT: i8 = -32;
+
+/// The greatest shift of a format.
+const MAX_SHIFT: i8 = 64;
+
+/// The greatest width of a format.
+const MAX_WIDTH: u8 = 32;
+
+/// How many cells an address can name.
+const ADDRESSES: usize = 65536;
 
 fn is_one_kind(a: Kind, b: Kind) -> bool
     ensures { result ≡ same_kind a b }
@@ -19,42 +28,40 @@ fn is_one_kind(a: Kind, b: Kind) -> bool
     a as u8 == b as u8
 }
 
-#[tactic(auto, unfolding(crate::specs::Reading::some_format_at))]
-fn some_format_of(bytes: &[u8]) -> Result<(Format, &[u8]), FormFault>
-    ensures { Gives (λ x. (x.0, x.1.now)) result (some_format_at bytes.now) }
+#[tactic(auto, unfolding(crate::specs::Private::Words::some_format_at))]
+fn read_some_format(reader: &mut Reader<'_>) -> Result<Format, FormFault>
+    ensures { Reads some_format_at reader.old result reader.new }
 {
-    let (byte, rest) = byte_of(bytes)?;
-    let shift = byte.cast_signed();
-    if shift < -32 || 64 < shift {
+    let shift = reader.byte()?.cast_signed();
+    if shift < MIN_SHIFT || MAX_SHIFT < shift {
         return Err(FormFault::NotSpelled);
     }
-    let (mode, rest) = mode_of_byte(rest)?;
-    let (width, rest) = byte_in(rest, 1, 32)?;
-    Ok((Format { shift, mode, width }, rest))
+    let mode = reader.mode()?;
+    let width = reader.byte_in(1, MAX_WIDTH)?;
+    Ok(Format { shift, mode, width })
 }
 
-#[tactic(auto, unfolding(crate::specs::Reading::no_format_at))]
-fn no_format_of(bytes: &[u8]) -> Result<(Format, &[u8]), FormFault>
-    ensures { Gives (λ x. (x.0, x.1.now)) result (no_format_at bytes.now) }
+#[tactic(auto, unfolding(crate::specs::Private::Words::no_format_at))]
+fn read_no_format(reader: &mut Reader<'_>) -> Result<Format, FormFault>
+    ensures { Reads no_format_at reader.old result reader.new }
 {
-    let (_, rest) = byte_in(bytes, 0, 0)?;
-    let (_, rest) = byte_in(rest, 0, 0)?;
-    let (_, rest) = byte_in(rest, 0, 0)?;
-    let fmt = Format {
+    reader.byte_in(0, 0)?;
+    reader.byte_in(0, 0)?;
+    reader.byte_in(0, 0)?;
+    Ok(Format {
         shift: 0,
         mode: Mode::Trunc,
         width: 0,
-    };
-    Ok((fmt, rest))
+    })
 }
 
-fn format_of(op: Op, bytes: &[u8]) -> Result<(Format, &[u8]), FormFault>
-    ensures { Gives (λ x. (x.0, x.1.now)) result (format_at op bytes.now) }
+fn read_format(op: Op, reader: &mut Reader<'_>) -> Result<Format, FormFault>
+    ensures { Reads (format_at op) reader.old result reader.new }
 {
     if is_formatted(op) {
-        some_format_of(bytes)
+        read_some_format(reader)
     } else {
-        no_format_of(bytes)
+        read_no_format(reader)
     }
 }
 
@@ -65,7 +72,7 @@ fn is_among(number: i64, limit: usize) -> bool
     0 <= number && (number as u64) < limit as u64
 }
 
-/// Whether the operation takes the argument, where there are so many input and output words.
+/// Whether the operation takes the argument, where there are this many input and output words.
 fn fits_operation(op: Op, inputs: usize, outs: usize, argument: i64) -> bool
     ensures { result ≡ is_argument op inputs outs argument }
 {
@@ -73,18 +80,18 @@ fn fits_operation(op: Op, inputs: usize, outs: usize, argument: i64) -> bool
         Op::Input => is_among(argument, inputs),
         Op::Output => is_among(argument, outs),
         Op::Const => is_word(argument),
-        Op::Addr => is_among(argument, 65536),
+        Op::Addr => is_among(argument, ADDRESSES),
         _ => is_among(argument, 1),
     }
 }
 
-#[tactic(auto, unfolding(crate::specs::Reading::argument_at))]
-fn argument_of<'a>(op: Op, image: &Image, bytes: &'a [u8]) -> Result<(i64, &'a [u8]), FormFault>
-    ensures { Gives (λ x. (x.0, x.1.now)) result (argument_at op (length image.now.inputs) image.now.outs bytes.now) }
+#[tactic(auto, unfolding(crate::specs::Private::Words::argument_at))]
+fn read_argument(op: Op, image: &Image, reader: &mut Reader<'_>) -> Result<i64, FormFault>
+    ensures { Reads (argument_at op (length image.now.inputs) image.now.outs) reader.old result reader.new }
 {
-    let (argument, rest) = signed_of(bytes)?;
+    let argument = reader.signed()?;
     if fits_operation(op, image.inputs.len(), usize::from(image.outs), argument) {
-        Ok((argument, rest))
+        Ok(argument)
     } else {
         Err(FormFault::NotSpelled)
     }
@@ -92,7 +99,7 @@ fn argument_of<'a>(op: Op, image: &Image, bytes: &'a [u8]) -> Result<(i64, &'a [
 
 /// How many registers a field may name: those of the port's file, or only the first where the port is not read.
 fn registers_at(files: &List<List<i64>>, read: usize, port: usize) -> usize
-    ensures { result ≡ (if nat_lt port read then length (nth files.now port []) else 1) }
+    ensures { result ≡ register_count files.now read port }
 {
     if read <= port {
         return 1;
@@ -103,63 +110,60 @@ fn registers_at(files: &List<List<i64>>, read: usize, port: usize) -> usize
     }
 }
 
-/// A register for each port that comes, behind those of the ports before.
-fn register_of<'a>(
+/// A register for each port, after those of the ports before.
+fn read_register(
     files: &List<List<i64>>,
     read: usize,
     regs: &List<u8>,
-    bytes: &'a [u8],
-) -> Result<(u8, &'a [u8]), FormFault>
-    ensures { Gives (λ x. (x.0, x.1.now)) result (register_at files.now read regs.now bytes.now) }
+    reader: &mut Reader<'_>,
+) -> Result<u8, FormFault>
+    ensures { Reads (register_at files.now read regs.now) reader.old result reader.new }
 {
-    byte_under(bytes, registers_at(files, read, regs.len()))
+    reader.byte_under(registers_at(files, read, regs.len()))
 }
 
-fn registers_of<'a>(
+fn read_registers(
     alloc: Global,
     files: &List<List<i64>>,
     read: usize,
     count: usize,
-    bytes: &'a [u8],
-) -> Result<(List<u8>, &'a [u8]), FormFault>
-    ensures { Gives (λ x. (x.0, x.1.now)) result (many_at (register_at files.now read) [] count bytes.now) }
+    reader: &mut Reader<'_>,
+) -> Result<List<u8>, FormFault>
+    ensures { Reads (many_at (register_at files.now read) [] count) reader.old result reader.new }
 {
-    let mut regs = with_room(alloc, count)?;
-    let mut rest = bytes;
+    let mut regs = List::with_capacity(alloc, count)?;
     for _ in 0..count {
-        let (reg, after) = register_of(files, read, &regs, rest)?;
+        let reg = read_register(files, read, &regs, reader)?;
         regs.push(reg)?;
-        rest = after;
     }
-    Ok((regs, rest))
+    Ok(regs)
 }
 
-#[tactic(auto, unfolding(crate::specs::Reading::issue_on_at))]
-fn issue_on<'a>(
+#[tactic(auto, unfolding(crate::specs::Private::Words::issue_on_at))]
+fn read_issue_on(
     alloc: Global,
     image: &Image,
     number: u8,
     unit: &UnitDesc,
-    bytes: &'a [u8],
-) -> Result<(Issue, &'a [u8]), FormFault>
-    ensures { Gives (λ x. (x.0, x.1.now)) result (issue_on_at image.now number unit.now bytes.now) }
+    reader: &mut Reader<'_>,
+) -> Result<Issue, FormFault>
+    ensures { Reads (issue_on_at image.now number unit.now) reader.old result reader.new }
 {
-    let (op, rest) = operation_of_byte(bytes)?;
+    let op = reader.operation()?;
     if !is_one_kind(Kind::of(op), unit.kind) {
         return Err(FormFault::NotSpelled);
     }
-    let (fmt, rest) = format_of(op, rest)?;
-    let (arg, rest) = argument_of(op, image, rest)?;
+    let fmt = read_format(op, reader)?;
+    let arg = read_argument(op, image, reader)?;
     let files = &unit.files;
-    let (regs, rest) = registers_of(alloc, files, reads(op), files.len(), rest)?;
-    let issue = Issue {
+    let regs = read_registers(alloc, files, reads(op), files.len(), reader)?;
+    Ok(Issue {
         unit: number,
         op,
         fmt,
         arg,
         regs,
-    };
-    Ok((issue, rest))
+    })
 }
 
 /// Whether the number is above that of the last issue's unit.
@@ -172,49 +176,47 @@ fn rises(issues: &List<Issue>, number: u8) -> bool
     }
 }
 
-/// An issue behind others.
-#[tactic(auto, unfolding(crate::specs::Reading::issue_at))]
-fn issue_of<'a>(
+/// An issue after others.
+#[tactic(auto, unfolding(crate::specs::Private::Words::issue_at))]
+fn read_issue(
     alloc: Global,
     image: &Image,
     issues: &List<Issue>,
-    bytes: &'a [u8],
-) -> Result<(Issue, &'a [u8]), FormFault>
-    ensures { Gives (λ x. (x.0, x.1.now)) result (issue_at image.now issues.now bytes.now) }
+    reader: &mut Reader<'_>,
+) -> Result<Issue, FormFault>
+    ensures { Reads (issue_at image.now issues.now) reader.old result reader.new }
 {
-    let (number, rest) = byte_of(bytes)?;
+    let number = reader.byte()?;
     match image.units.get(usize::from(number)) {
-        Some(unit) if rises(issues, number) => issue_on(alloc, image, number, unit, rest),
+        Some(unit) if rises(issues, number) => read_issue_on(alloc, image, number, unit, reader),
         _ => Err(FormFault::NotSpelled),
     }
 }
 
-fn issues_of<'a>(
+fn read_several(
     alloc: Global,
     image: &Image,
     count: usize,
-    bytes: &'a [u8],
-) -> Result<(List<Issue>, &'a [u8]), FormFault>
-    ensures { Gives (λ x. (x.0, x.1.now)) result (many_at (issue_at image.now) [] count bytes.now) }
+    reader: &mut Reader<'_>,
+) -> Result<List<Issue>, FormFault>
+    ensures { Reads (many_at (issue_at image.now) [] count) reader.old result reader.new }
 {
-    let mut issues = with_room(alloc, count)?;
-    let mut rest = bytes;
+    let mut issues = List::with_capacity(alloc, count)?;
     for _ in 0..count {
-        let (issue, after) = issue_of(alloc, image, &issues, rest)?;
+        let issue = read_issue(alloc, image, &issues, reader)?;
         issues.push(issue)?;
-        rest = after;
     }
-    Ok((issues, rest))
+    Ok(issues)
 }
 
-#[tactic(auto, unfolding(crate::specs::Reading::issues_at))]
-pub(crate) fn counted_issues_of<'a>(
+#[tactic(auto, unfolding(crate::specs::Private::Words::issues_at))]
+pub(crate) fn read_issues(
     alloc: Global,
     image: &Image,
-    bytes: &'a [u8],
-) -> Result<(List<Issue>, &'a [u8]), FormFault>
-    ensures { Gives (λ x. (x.0, x.1.now)) result (issues_at image.now bytes.now) }
+    reader: &mut Reader<'_>,
+) -> Result<List<Issue>, FormFault>
+    ensures { Reads (issues_at image.now) reader.old result reader.new }
 {
-    let (count, rest) = byte_up_to(bytes, image.units.len())?;
-    issues_of(alloc, image, usize::from(count), rest)
+    let count = reader.byte_up_to(image.units.len())?;
+    read_several(alloc, image, usize::from(count), reader)
 }

@@ -1,15 +1,15 @@
 //! Microcode files, version 1: an image as bytes, and bytes as the image that they spell.
 #![tactic(auto)]
 
-mod decoding;
+mod decoder;
+mod encoder;
 mod fault;
-mod fields;
 mod issues;
+mod reader;
 mod transfers;
 mod units;
 mod words;
-mod writing;
 
-pub use decoding::decode;
+pub use decoder::decode;
+pub use encoder::encode;
 pub use fault::{CodeFault, FormFault};
-pub use writing::encode;

@@ -1,78 +1,80 @@
-//! What moves in a cycle: the enables of a word, which put results on buses, and its takes.
+//! What a microword moves: enables drive buses with results, and takes write registers from buses.
 ghost use Rattle.std.specs.Prelude.{◌≡◌, []};
-ghost use Rattle.micro_file.specs.Reading.{Gives, many_at, last_of, is_next, enable_before, enable_at, enables_at, take_before, take_at, takes_at};
+ghost use Rattle.micro_file.specs.Private.Fields.{Reads, many_at};
+ghost use Rattle.micro_file.specs.Private.Words.{last_of, is_next, enable_before, enable_at, enables_at, take_before, take_at, takes_at};
 
 use crate::fault::FormFault;
-use crate::fields::{byte_of, byte_under, short_in, with_room};
+use crate::reader::Reader;
 use lists::List;
 use micro_image::{Enable, Image, PortRef, Take};
 use std::alloc::Global;
 
-fn comes_before(a: &Enable, b: &Enable) -> bool
+/// The most enables, and the most takes, of a microword.
+const MAX_TRANSFERS: u16 = 1024;
+
+fn is_before(a: &Enable, b: &Enable) -> bool
     ensures { result ≡ enable_before a.now b.now }
 {
     a.unit < b.unit || (a.unit == b.unit && a.bus < b.bus)
 }
 
-/// Whether the enable comes behind the last one.
+/// Whether the enable comes after the last one.
 fn is_next_enable(enables: &List<Enable>, enable: &Enable) -> bool
     ensures { result ≡ is_next enable_before (last_of enables.now) enable.now }
 {
     match enables.last() {
-        Some(last) => comes_before(last, enable),
+        Some(last) => is_before(last, enable),
         None => true,
     }
 }
 
-#[tactic(auto, unfolding(crate::specs::Reading::enable_at))]
-fn enable_of<'a>(
+#[tactic(auto, unfolding(crate::specs::Private::Words::enable_at))]
+fn read_enable(
     image: &Image,
     enables: &List<Enable>,
-    bytes: &'a [u8],
-) -> Result<(Enable, &'a [u8]), FormFault>
-    ensures { Gives (λ x. (x.0, x.1.now)) result (enable_at image.now enables.now bytes.now) }
+    reader: &mut Reader<'_>,
+) -> Result<Enable, FormFault>
+    ensures { Reads (enable_at image.now enables.now) reader.old result reader.new }
 {
-    let (unit, rest) = byte_under(bytes, image.units.len())?;
-    let (bus, rest) = byte_under(rest, usize::from(image.buses))?;
+    let unit = reader.byte_under(image.units.len())?;
+    let bus = reader.byte_under(usize::from(image.buses))?;
     let enable = Enable { unit, bus };
     if is_next_enable(enables, &enable) {
-        Ok((enable, rest))
+        Ok(enable)
     } else {
         Err(FormFault::NotSpelled)
     }
 }
 
-fn enables_of<'a>(
+fn read_some_enables(
     alloc: Global,
     image: &Image,
     count: usize,
-    bytes: &'a [u8],
-) -> Result<(List<Enable>, &'a [u8]), FormFault>
-    ensures { Gives (λ x. (x.0, x.1.now)) result (many_at (enable_at image.now) [] count bytes.now) }
+    reader: &mut Reader<'_>,
+) -> Result<List<Enable>, FormFault>
+    ensures { Reads (many_at (enable_at image.now) [] count) reader.old result reader.new }
 {
-    let mut enables = with_room(alloc, count)?;
-    let mut rest = bytes;
+    let mut enables = List::with_capacity(alloc, count)?;
     for _ in 0..count {
-        let (enable, after) = enable_of(image, &enables, rest)?;
+        let enable = read_enable(image, &enables, reader)?;
         enables.push(enable)?;
-        rest = after;
     }
-    Ok((enables, rest))
+    Ok(enables)
 }
 
-#[tactic(auto, unfolding(crate::specs::Reading::enables_at))]
-pub(crate) fn counted_enables_of<'a>(
+#[tactic(auto, unfolding(crate::specs::Private::Words::enables_at))]
+pub(crate) fn read_enables(
     alloc: Global,
     image: &Image,
-    bytes: &'a [u8],
-) -> Result<(List<Enable>, &'a [u8]), FormFault>
-    ensures { Gives (λ x. (x.0, x.1.now)) result (enables_at image.now bytes.now) }
+    reader: &mut Reader<'_>,
+) -> Result<List<Enable>, FormFault>
+    ensures { Reads (enables_at image.now) reader.old result reader.new }
 {
-    let (count, rest) = short_in(bytes, 0, 1024)?;
-    enables_of(alloc, image, usize::from(count), rest)
+    let count = reader.short_in(0, MAX_TRANSFERS)?;
+    read_some_enables(alloc, image, usize::from(count), reader)
 }
 
-fn stands_before(a: &Take, b: &Take) -> bool
+fn is_take_before(a: &Take, b: &Take) -> bool
     ensures { result ≡ take_before a.now b.now }
 {
     if a.port.unit != b.port.unit {
@@ -84,69 +86,63 @@ fn stands_before(a: &Take, b: &Take) -> bool
     a.bus < b.bus || (a.bus == b.bus && a.reg < b.reg)
 }
 
-/// Whether the take comes behind the last one.
+/// Whether the take comes after the last one.
 fn is_next_take(takes: &List<Take>, take: &Take) -> bool
     ensures { result ≡ is_next take_before (last_of takes.now) take.now }
 {
     match takes.last() {
-        Some(last) => stands_before(last, take),
+        Some(last) => is_take_before(last, take),
         None => true,
     }
 }
 
-#[tactic(auto, unfolding(crate::specs::Reading::take_at))]
-fn take_of<'a>(
-    image: &Image,
-    takes: &List<Take>,
-    bytes: &'a [u8],
-) -> Result<(Take, &'a [u8]), FormFault>
-    ensures { Gives (λ x. (x.0, x.1.now)) result (take_at image.now takes.now bytes.now) }
+#[tactic(auto, unfolding(crate::specs::Private::Words::take_at))]
+fn read_take(image: &Image, takes: &List<Take>, reader: &mut Reader<'_>) -> Result<Take, FormFault>
+    ensures { Reads (take_at image.now takes.now) reader.old result reader.new }
 {
-    let (number, rest) = byte_of(bytes)?;
+    let number = reader.byte()?;
     let Some(unit) = image.units.get(usize::from(number)) else {
         return Err(FormFault::NotSpelled);
     };
-    let (port, rest) = byte_of(rest)?;
+    let port = reader.byte()?;
     let Some(file) = unit.files.get(usize::from(port)) else {
         return Err(FormFault::NotSpelled);
     };
-    let (bus, rest) = byte_under(rest, usize::from(image.buses))?;
-    let (reg, rest) = byte_under(rest, file.len())?;
+    let bus = reader.byte_under(usize::from(image.buses))?;
+    let reg = reader.byte_under(file.len())?;
     let port = PortRef { unit: number, port };
     let take = Take { port, bus, reg };
     if is_next_take(takes, &take) {
-        Ok((take, rest))
+        Ok(take)
     } else {
         Err(FormFault::NotSpelled)
     }
 }
 
-fn takes_of<'a>(
+fn read_some_takes(
     alloc: Global,
     image: &Image,
     count: usize,
-    bytes: &'a [u8],
-) -> Result<(List<Take>, &'a [u8]), FormFault>
-    ensures { Gives (λ x. (x.0, x.1.now)) result (many_at (take_at image.now) [] count bytes.now) }
+    reader: &mut Reader<'_>,
+) -> Result<List<Take>, FormFault>
+    ensures { Reads (many_at (take_at image.now) [] count) reader.old result reader.new }
 {
-    let mut takes = with_room(alloc, count)?;
-    let mut rest = bytes;
+    let mut takes = List::with_capacity(alloc, count)?;
     for _ in 0..count {
-        let (take, after) = take_of(image, &takes, rest)?;
+        let take = read_take(image, &takes, reader)?;
         takes.push(take)?;
-        rest = after;
     }
-    Ok((takes, rest))
+    Ok(takes)
 }
 
-#[tactic(auto, unfolding(crate::specs::Reading::takes_at))]
-pub(crate) fn counted_takes_of<'a>(
+#[tactic(auto, unfolding(crate::specs::Private::Words::takes_at))]
+pub(crate) fn read_takes(
     alloc: Global,
     image: &Image,
-    bytes: &'a [u8],
-) -> Result<(List<Take>, &'a [u8]), FormFault>
-    ensures { Gives (λ x. (x.0, x.1.now)) result (takes_at image.now bytes.now) }
+    reader: &mut Reader<'_>,
+) -> Result<List<Take>, FormFault>
+    ensures { Reads (takes_at image.now) reader.old result reader.new }
 {
-    let (count, rest) = short_in(bytes, 0, 1024)?;
-    takes_of(alloc, image, usize::from(count), rest)
+    let count = reader.short_in(0, MAX_TRANSFERS)?;
+    read_some_takes(alloc, image, usize::from(count), reader)
 }

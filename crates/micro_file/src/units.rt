@@ -1,107 +1,116 @@
 //! The units of a file.
 ghost use Rattle.std.specs.Prelude.{◌≡◌, []};
-ghost use Rattle.micro_file.specs.Reading.{Gives, many_at, file_at, cells_at, ram_at, unit_at, is_ram, is_tied, are_tied, some_units_at, units_at};
+ghost use Rattle.micro_file.specs.Private.Fields.{Reads, many_at};
+ghost use Rattle.micro_file.specs.Private.Units.{file_at, cells_at, ram_at, unit_at, is_tied, are_tied, some_units_at, units_at};
 
 use crate::fault::FormFault;
-use crate::fields::{byte_in, byte_of, kind_of_byte, long_in, raw_words_of, short_in, with_room};
+use crate::reader::Reader;
 use lists::List;
 use micro_image::{Kind, UnitDesc};
 use std::alloc::Global;
 
-#[tactic(auto, unfolding(crate::specs::Reading::file_at))]
-fn file_of(alloc: Global, bytes: &[u8]) -> Result<(List<i64>, &[u8]), FormFault>
-    ensures { Gives (λ x. (x.0, x.1.now)) result (file_at bytes.now) }
+/// The most units of a datapath.
+const MAX_UNITS: u8 = 32;
+
+/// The most cycles that an operation takes.
+const MAX_LATENCY: u8 = 8;
+
+/// The most registers of a file.
+const MAX_REGISTERS: u16 = 256;
+
+/// The most cells of a ram.
+const MAX_CELLS: u32 = 65536;
+
+#[tactic(auto, unfolding(crate::specs::Private::Units::file_at))]
+fn read_file(alloc: Global, reader: &mut Reader<'_>) -> Result<List<i64>, FormFault>
+    ensures { Reads file_at reader.old result reader.new }
 {
-    let (size, rest) = short_in(bytes, 1, 256)?;
-    raw_words_of(alloc, usize::from(size), rest)
+    let size = reader.short_in(1, MAX_REGISTERS)?;
+    reader.raw_words(alloc, usize::from(size))
 }
 
-fn files_of(
+fn read_files(
     alloc: Global,
     count: usize,
-    bytes: &[u8],
-) -> Result<(List<List<i64>>, &[u8]), FormFault>
-    ensures { Gives (λ x. (x.0, x.1.now)) result (many_at (λ _. file_at) [] count bytes.now) }
+    reader: &mut Reader<'_>,
+) -> Result<List<List<i64>>, FormFault>
+    ensures { Reads (many_at (λ _. file_at) [] count) reader.old result reader.new }
 {
-    let mut files = with_room(alloc, count)?;
-    let mut rest = bytes;
+    let mut files = List::with_capacity(alloc, count)?;
     for _ in 0..count {
-        let (file, after) = file_of(alloc, rest)?;
+        let file = read_file(alloc, reader)?;
         files.push(file)?;
-        rest = after;
     }
-    Ok((files, rest))
+    Ok(files)
 }
 
 /// The cells of a ram, and none of another unit.
-#[tactic(auto, unfolding(crate::specs::Reading::cells_at))]
-fn cells_of(alloc: Global, kind: Kind, bytes: &[u8]) -> Result<(List<i64>, &[u8]), FormFault>
-    ensures { Gives (λ x. (x.0, x.1.now)) result (cells_at kind bytes.now) }
+#[tactic(auto, unfolding(crate::specs::Private::Units::cells_at))]
+fn read_cells(alloc: Global, kind: Kind, reader: &mut Reader<'_>) -> Result<List<i64>, FormFault>
+    ensures { Reads (cells_at kind) reader.old result reader.new }
 {
     match kind {
         Kind::Ram => {
-            let (size, rest) = long_in(bytes, 1, 65536)?;
-            raw_words_of(alloc, size as usize, rest)
+            let size = reader.long_in(1, MAX_CELLS)?;
+            reader.raw_words(alloc, size as usize)
         }
-        _ => Ok((List::new(alloc), bytes)),
+        _ => Ok(List::new(alloc)),
     }
 }
 
 /// The number of an acu's ram, and 0 at another unit.
-#[tactic(auto, unfolding(crate::specs::Reading::ram_at))]
-fn ram_of(kind: Kind, bytes: &[u8]) -> Result<(u8, &[u8]), FormFault>
-    ensures { Gives (λ x. (x.0, x.1.now)) result (ram_at kind bytes.now) }
+#[tactic(auto, unfolding(crate::specs::Private::Units::ram_at))]
+fn read_ram(kind: Kind, reader: &mut Reader<'_>) -> Result<u8, FormFault>
+    ensures { Reads (ram_at kind) reader.old result reader.new }
 {
     match kind {
-        Kind::Acu => byte_of(bytes),
-        _ => Ok((0, bytes)),
+        Kind::Acu => reader.byte(),
+        _ => Ok(0),
     }
 }
 
-#[tactic(auto, unfolding(crate::specs::Reading::unit_at))]
-fn unit_of(alloc: Global, bytes: &[u8]) -> Result<(UnitDesc, &[u8]), FormFault>
-    ensures { Gives (λ x. (x.0, x.1.now)) result (unit_at bytes.now) }
+#[tactic(auto, unfolding(crate::specs::Private::Units::unit_at))]
+fn read_unit(alloc: Global, reader: &mut Reader<'_>) -> Result<UnitDesc, FormFault>
+    ensures { Reads unit_at reader.old result reader.new }
 {
-    let (kind, rest) = kind_of_byte(bytes)?;
-    let (latency, rest) = byte_in(rest, 1, 8)?;
-    let (gap, rest) = byte_in(rest, 1, latency)?;
-    let (files, rest) = files_of(alloc, kind.ports(), rest)?;
-    let (cells, rest) = cells_of(alloc, kind, rest)?;
-    let (ram, rest) = ram_of(kind, rest)?;
-    let unit = UnitDesc {
+    let kind = reader.kind()?;
+    let latency = reader.byte_in(1, MAX_LATENCY)?;
+    let gap = reader.byte_in(1, latency)?;
+    let files = read_files(alloc, kind.ports(), reader)?;
+    let cells = read_cells(alloc, kind, reader)?;
+    let ram = read_ram(kind, reader)?;
+    Ok(UnitDesc {
         kind,
         latency,
         gap,
         files,
         cells,
         ram,
-    };
-    Ok((unit, rest))
+    })
 }
 
-fn several_of(
+fn read_several(
     alloc: Global,
     count: usize,
-    bytes: &[u8],
-) -> Result<(List<UnitDesc>, &[u8]), FormFault>
-    ensures { Gives (λ x. (x.0, x.1.now)) result (many_at (λ _. unit_at) [] count bytes.now) }
+    reader: &mut Reader<'_>,
+) -> Result<List<UnitDesc>, FormFault>
+    ensures { Reads (many_at (λ _. unit_at) [] count) reader.old result reader.new }
 {
-    let mut units = with_room(alloc, count)?;
-    let mut rest = bytes;
+    let mut units = List::with_capacity(alloc, count)?;
     for _ in 0..count {
-        let (unit, after) = unit_of(alloc, rest)?;
+        let unit = read_unit(alloc, reader)?;
         units.push(unit)?;
-        rest = after;
     }
-    Ok((units, rest))
+    Ok(units)
 }
 
-#[tactic(auto, unfolding(crate::specs::Reading::some_units_at))]
-fn counted_units_of(alloc: Global, bytes: &[u8]) -> Result<(List<UnitDesc>, &[u8]), FormFault>
-    ensures { Gives (λ x. (x.0, x.1.now)) result (some_units_at bytes.now) }
+/// A count, and this many units.
+#[tactic(auto, unfolding(crate::specs::Private::Units::some_units_at))]
+fn read_counted(alloc: Global, reader: &mut Reader<'_>) -> Result<List<UnitDesc>, FormFault>
+    ensures { Reads some_units_at reader.old result reader.new }
 {
-    let (count, rest) = byte_in(bytes, 1, 32)?;
-    several_of(alloc, usize::from(count), rest)
+    let count = reader.byte_in(1, MAX_UNITS)?;
+    read_several(alloc, usize::from(count), reader)
 }
 
 /// Whether the unit is no acu, or an acu with a ram among the units.
@@ -128,13 +137,16 @@ fn have_rams(units: &List<UnitDesc>) -> bool
     true
 }
 
-#[tactic(auto, unfolding(crate::specs::Reading::units_at))]
-pub(crate) fn units_of(alloc: Global, bytes: &[u8]) -> Result<(List<UnitDesc>, &[u8]), FormFault>
-    ensures { Gives (λ x. (x.0, x.1.now)) result (units_at bytes.now) }
+#[tactic(auto, unfolding(crate::specs::Private::Units::units_at))]
+pub(crate) fn read_units(
+    alloc: Global,
+    reader: &mut Reader<'_>,
+) -> Result<List<UnitDesc>, FormFault>
+    ensures { Reads units_at reader.old result reader.new }
 {
-    let (units, rest) = counted_units_of(alloc, bytes)?;
+    let units = read_counted(alloc, reader)?;
     if have_rams(&units) {
-        Ok((units, rest))
+        Ok(units)
     } else {
         Err(FormFault::NotSpelled)
     }

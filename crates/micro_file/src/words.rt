@@ -1,44 +1,42 @@
-//! The words of a file.
-ghost use Rattle.std.specs.Prelude.{◌≡◌, []};
-ghost use Rattle.micro_file.specs.Reading.{Gives, many_at, word_at};
+//! The microwords of a file.
+ghost use Rattle.std.specs.Prelude.{[]};
+ghost use Rattle.micro_file.specs.Private.Fields.{Reads, many_at};
+ghost use Rattle.micro_file.specs.Private.Words.{word_at};
 
 use crate::fault::FormFault;
-use crate::fields::with_room;
-use crate::issues::counted_issues_of;
-use crate::transfers::{counted_enables_of, counted_takes_of};
+use crate::issues::read_issues;
+use crate::reader::Reader;
+use crate::transfers::{read_enables, read_takes};
 use lists::List;
 use micro_image::{Image, Word};
 use std::alloc::Global;
 
-#[tactic(auto, unfolding(crate::specs::Reading::word_at))]
-fn word_of<'a>(alloc: Global, image: &Image, bytes: &'a [u8]) -> Result<(Word, &'a [u8]), FormFault>
-    ensures { Gives (λ x. (x.0, x.1.now)) result (word_at image.now bytes.now) }
+#[tactic(auto, unfolding(crate::specs::Private::Words::word_at))]
+fn read_word(alloc: Global, image: &Image, reader: &mut Reader<'_>) -> Result<Word, FormFault>
+    ensures { Reads (word_at image.now) reader.old result reader.new }
 {
-    let (issues, rest) = counted_issues_of(alloc, image, bytes)?;
-    let (enables, rest) = counted_enables_of(alloc, image, rest)?;
-    let (takes, rest) = counted_takes_of(alloc, image, rest)?;
-    let word = Word {
+    let issues = read_issues(alloc, image, reader)?;
+    let enables = read_enables(alloc, image, reader)?;
+    let takes = read_takes(alloc, image, reader)?;
+    Ok(Word {
         issues,
         enables,
         takes,
-    };
-    Ok((word, rest))
+    })
 }
 
-pub(crate) fn words_of<'a>(
+pub(crate) fn read_words(
     alloc: Global,
     image: &Image,
     count: usize,
-    bytes: &'a [u8],
-) -> Result<(List<Word>, &'a [u8]), FormFault>
-    ensures { Gives (λ x. (x.0, x.1.now)) result (many_at (λ _. word_at image.now) [] count bytes.now) }
+    reader: &mut Reader<'_>,
+) -> Result<List<Word>, FormFault>
+    ensures { Reads (many_at (λ _. word_at image.now) [] count) reader.old result reader.new }
 {
-    let mut words = with_room(alloc, count)?;
-    let mut rest = bytes;
+    let mut words = List::with_capacity(alloc, count)?;
     for _ in 0..count {
-        let (word, after) = word_of(alloc, image, rest)?;
+        let word = read_word(alloc, image, reader)?;
         words.push(word)?;
-        rest = after;
     }
-    Ok((words, rest))
+    Ok(words)
 }

@@ -1,7 +1,7 @@
 use Rattle.std.proofs.Common.{◌≡◌, ℕ, ◌+◌, ◌<◌, ◌≤◌, true, ◌&&◌, List, length, get_or, drop, arith}
 use Rattle.std.proofs.lemmas.List.{at_drop_more, at_drop_all}
 use Rattle.micro_image.specs.declared.image.UnitDesc.{UnitDesc}
-use Rattle.micro_file.specs.Reading.{is_tied, are_tied}
+use Rattle.micro_file.specs.Private.Units.{is_tied, are_tied}
 use Rattle.micro_file.proofs.units.have_rams.Goals as goal
 
 tied_more : (units xs : List UnitDesc) (i : ℕ) (unit : UnitDesc) → i < length xs → unit ≡ get_or xs i unit → are_tied units (drop i xs) ≡ (is_tied units unit && are_tied units (drop (i + 1) xs))

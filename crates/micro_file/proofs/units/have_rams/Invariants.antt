@@ -1,5 +1,5 @@
 use Rattle.std.proofs.Common.{◌≡◌, drop}
-use Rattle.micro_file.specs.Reading.{are_tied}
+use Rattle.micro_file.specs.Private.Units.{are_tied}
 use Rattle.micro_file.proofs.units.have_rams.Given as goal
 
 abbrev pub invariant-loop-unit : goal.invariant-loop-unit

@@ -1,0 +1,90 @@
+-- A reader takes a value's bytes from the front and no others, and reads again what spells an allowed value.
+use Rattle.std.proofs.Common.{◌≡◌, ℕ, ◌+◌, ◌<◌, Bool, true, false, List, [], ◌++◌, get_or, take, drop, Option, Some, None, refl, sym, ap, subst, ◌∙◌, append_assoc, arith, inl, inr}
+use Rattle.std.proofs.lemmas.Bool.{cases_lt}
+use Rattle.std.proofs.lemmas.List.{length-take, get_or-drop, get_or-take, get_or_past}
+use Rattle.micro_file.specs.Private.Fields.{◌>>=◌, kept}
+
+-- each element is a byte
+pub record IsBytes (bytes : List ℕ) : Type 0 where
+  pub byte : (i : ℕ) → get_or bytes i 0 < 256
+
+pub IsBytes-drop : (n : ℕ) (bytes : List ℕ) → IsBytes bytes → IsBytes (drop n bytes)
+IsBytes-drop n bytes h = record { byte = λ i. rw get_or-drop (h.byte (n + i)) }
+
+pub IsBytes-take : (n : ℕ) (bytes : List ℕ) → IsBytes bytes → IsBytes (take n bytes)
+IsBytes-take n bytes h = record {
+  byte = λ i.
+      elim (cases_lt i n) [
+        | inl lt ↦ rw (get_or-take n bytes i 0 lt) (h.byte i)
+        | inr le ↦ rw (get_or_past (take n bytes) i 0 (omega (arith, length-take n bytes))) (omega arith)
+      ];
+}
+
+-- the text stands in front of the bytes, the rest behind it
+pub record Takes (bytes text rest : List ℕ) : Type 0 where
+  pub parts : bytes ≡ text ++ rest
+  pub rest_fits : IsBytes rest
+
+infixl 20 ◌⨟◌
+pub ◌⨟◌ : {a x b y c : List ℕ} → Takes a x b → Takes b y c → Takes a (x ++ y) c
+◌⨟◌ {a} {x} {b} {y} {c} p q = record { parts = p.parts ∙ ap (λ (t : List ℕ). x ++ t) q.parts ∙ sym (append_assoc x y c); rest_fits = q.rest_fits }
+
+pub takes_none : (a : List ℕ) → IsBytes a → Takes a [] a
+takes_none a h = record { parts = refl; rest_fits = h }
+
+-- an allowed value whose bytes stand in front
+pub record Took {A : Type 0} (Allowed : A → Type 0) (spell : A → List ℕ) (bytes : List ℕ) (x : A × List ℕ) : Type 0 where
+  pub allowed : Allowed x.0
+  pub text : Takes bytes (spell x.0) x.1
+
+pub record IsReader {A : Type 0} (Allowed : A → Type 0) (spell : A → List ℕ) (read : List ℕ → Option (A × List ℕ)) : Type 0 where
+  pub took : (bytes : List ℕ) → IsBytes bytes → (x : A × List ℕ) → read bytes ≡ Some x → Took Allowed spell bytes x
+  pub again : (x : A) (rest : List ℕ) → Allowed x → read (spell x ++ rest) ≡ Some (x, rest)
+
+-- ---- steps, one after another
+
+pub some_is : {A : Type 0} (x y : A) → Some x ≡ Some y → x ≡ y
+some_is x y e = cc
+
+pub bound : {A B : Type 0} (r : Option A) (f : A → Option B) (y : B) → (r >>= f) ≡ Some y → (a : A) × (r ≡ Some a) × (f a ≡ Some y)
+bound (Some x) f y e = (x, refl, e)
+bound None f y e = absurd cc
+
+pub was_kept : {A : Type 0} (b : Bool) (x y : A) → kept b x ≡ Some y → (b ≡ true) × (x ≡ y)
+was_kept true x y e = (refl, cc)
+was_kept false x y e = absurd cc
+
+pub joined : {A B : Type 0} (r : Option A) (f : A → Option B) (a : A) (y : Option B) → r ≡ Some a → f a ≡ y → (r >>= f) ≡ y
+joined r f a y e h = rw e h
+
+-- ---- a test of the value
+
+-- the test is true exactly where the value is such
+pub record IsTestOf {A : Type 0} (test : A → Bool) (Such : A → Type 0) : Type 0 where
+  pub sound : (x : A) → test x ≡ true → Such x
+  pub whole : (x : A) → Such x → test x ≡ true
+
+pub tested : {A : Type 0} {Allowed : A → Type 0} {spell : A → List ℕ} {read : List ℕ → Option (A × List ℕ)} (reader : IsReader Allowed spell read) {test : A → Bool} {Such : A → Type 0} (is : IsTestOf test Such)
+    → IsReader (λ x. Allowed x × Such x) spell (λ bytes. read bytes >>= λ x. kept (test x.0) x)
+tested {A} {Allowed} {spell} {read} reader {test} {Such} is = record {
+  took = λ bytes fits x e.
+      let s = bound (read bytes) (λ (a : A × List ℕ). kept (test a.0) a) x e in
+      let k = was_kept (test s.0.0) s.0 x s.2 in
+      let t = reader.took bytes fits s.0 s.1 in
+      subst (λ (a : A × List ℕ). Took (λ (v : A). Allowed v × Such v) spell bytes a) k.1 (record { allowed = (t.allowed, is.sound s.0.0 k.0); text = t.text });
+  again = λ x rest ok. joined (read (spell x ++ rest)) (λ (a : A × List ℕ). kept (test a.0) a) (x, rest) (Some (x, rest)) (reader.again x rest ok.0) (rw (is.whole x ok.1) refl);
+}
+
+-- the same reader, at a fact that says the same
+pub such_reader : {A : Type 0} {Allowed Such : A → Type 0} {spell : A → List ℕ} {read : List ℕ → Option (A × List ℕ)} → ((x : A) → Allowed x → Such x) → ((x : A) → Such x → Allowed x) → IsReader Allowed spell read → IsReader Such spell read
+such_reader to from reader = record {
+  took = λ bytes fits x e. let t = reader.took bytes fits x e in record { allowed = to x.0 t.allowed; text = t.text };
+  again = λ x rest ok. reader.again x rest (from x ok);
+}
+
+-- the same reader, where the spelling is the same
+pub so_spelled : {A : Type 0} {Allowed : A → Type 0} {spell other : A → List ℕ} {read : List ℕ → Option (A × List ℕ)} → ((x : A) → spell x ≡ other x) → IsReader Allowed spell read → IsReader Allowed other read
+so_spelled same reader = record {
+  took = λ bytes fits x e. let t = reader.took bytes fits x e in record { allowed = t.allowed; text = rw (← same x.0) t.text };
+  again = λ x rest ok. rw (← same x) (reader.again x rest ok);
+}

@@ -1,6 +1,0 @@
-use Rattle.std.proofs.Common.{◌≡◌, ◌-◌, []}
-use Rattle.micro_file.specs.Reading.{many_at, byte_within}
-use Rattle.micro_file.proofs.decoding.widths_of.Given as goal
-
-abbrev pub invariant-loop : goal.invariant-loop
-invariant-loop l = many_at (λ _. byte_within 0 32) l.widths (l.count - l.counter) l.rest ≡ many_at (λ _. byte_within 0 32) [] l.count l.bytes

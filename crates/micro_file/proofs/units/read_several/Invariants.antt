@@ -1,0 +1,8 @@
+use Rattle.std.proofs.Common.{◌≡◌, ◌-◌, []}
+use Rattle.micro_file.specs.Private.Fields.{many_at}
+use Rattle.micro_file.specs.Private.Units.{unit_at}
+use Rattle.micro_file.proofs.units.read_several.Given as goal
+
+abbrev pub invariant-loop : goal.invariant-loop
+invariant-loop l =
+    many_at (λ _. unit_at) l.units (l.count - l.counter) l.reader ≡ many_at (λ _. unit_at) [] l.count l.fn.reader

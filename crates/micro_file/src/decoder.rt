@@ -1,0 +1,139 @@
+ghost use Rattle.std.specs.Prelude.{◌≡◌, ◌<◌, ◌^◌, ◌*◌, [], length, IfOk, IfErr, MatchResult};
+ghost use Rattle.micro_image.specs.Spells.{Spells};
+ghost use Rattle.micro_file.specs.declared.fault.FormFault.TheVariants.{NotSpelled, Memory};
+ghost use Rattle.micro_file.specs.Private.Fields.{Gives, Reads, Passes, byte_within, many_at};
+ghost use Rattle.micro_file.specs.Private.File.{head_at, unroll_at, inputs_at, hardware_at, image_at, whole_at};
+
+use crate::fault::FormFault;
+use crate::reader::Reader;
+use crate::units::read_units;
+use crate::words::read_words;
+use lists::List;
+use micro_image::Image;
+use std::alloc::Global;
+
+/// The version of the format.
+const VERSION: u8 = 1;
+
+/// The longest period, in cycles.
+const MAX_PERIOD: u16 = 4096;
+
+/// The most input words, and the most output words.
+const MAX_CHANNELS: u8 = 16;
+
+/// The greatest width of an input word.
+const MAX_WIDTH: u8 = 32;
+
+/// The most buses.
+const MAX_BUSES: u8 = 32;
+
+/// Passes the magic bytes and the version.
+#[tactic(auto, unfolding(crate::specs::Private::File::head_at))]
+fn pass_head(reader: &mut Reader<'_>) -> Result<(), FormFault>
+    ensures { Passes head_at reader.old result reader.new }
+{
+    reader.byte_in(b'S', b'S')?;
+    reader.byte_in(b'I', b'I')?;
+    reader.byte_in(b'L', b'L')?;
+    reader.byte_in(b'M', b'M')?;
+    reader.byte_in(VERSION, VERSION)?;
+    Ok(())
+}
+
+/// The unroll factor.
+fn read_unroll(reader: &mut Reader<'_>) -> Result<u8, FormFault>
+    ensures { Reads unroll_at reader.old result reader.new }
+{
+    let unroll = reader.byte()?;
+    if unroll == 1 || unroll == 2 || unroll == 4 {
+        Ok(unroll)
+    } else {
+        Err(FormFault::NotSpelled)
+    }
+}
+
+fn read_widths(alloc: Global, count: usize, reader: &mut Reader<'_>) -> Result<List<u8>, FormFault>
+    ensures { Reads (many_at (λ _. byte_within 0 32) [] count) reader.old result reader.new }
+{
+    let mut widths = List::with_capacity(alloc, count)?;
+    for _ in 0..count {
+        let width = reader.byte_in(0, MAX_WIDTH)?;
+        widths.push(width)?;
+    }
+    Ok(widths)
+}
+
+#[tactic(auto, unfolding(crate::specs::Private::File::inputs_at))]
+fn read_inputs(alloc: Global, reader: &mut Reader<'_>) -> Result<List<u8>, FormFault>
+    ensures { Reads inputs_at reader.old result reader.new }
+{
+    let count = reader.byte_in(1, MAX_CHANNELS)?;
+    read_widths(alloc, usize::from(count), reader)
+}
+
+/// All but the words.
+#[tactic(auto, unfolding(crate::specs::Private::File::hardware_at))]
+fn read_hardware(alloc: Global, reader: &mut Reader<'_>) -> Result<Image, FormFault>
+    ensures { Reads hardware_at reader.old result reader.new }
+{
+    let period = reader.short_in(1, MAX_PERIOD)?;
+    let unroll = read_unroll(reader)?;
+    let inputs = read_inputs(alloc, reader)?;
+    let outs = reader.byte_in(1, MAX_CHANNELS)?;
+    let units = read_units(alloc, reader)?;
+    let buses = reader.byte_in(1, MAX_BUSES)?;
+    Ok(Image {
+        period,
+        unroll,
+        inputs,
+        outs,
+        units,
+        buses,
+        words: List::new(alloc),
+    })
+}
+
+fn word_count(image: &Image) -> usize
+    ensures { result ≡ image.now.period * image.now.unroll }
+{
+    usize::from(image.period) * usize::from(image.unroll)
+}
+
+#[tactic(auto, unfolding(crate::specs::Private::File::image_at))]
+fn read_image(alloc: Global, reader: &mut Reader<'_>) -> Result<Image, FormFault>
+    ensures { Reads image_at reader.old result reader.new }
+{
+    pass_head(reader)?;
+    let mut image = read_hardware(alloc, reader)?;
+    let words = read_words(alloc, &image, word_count(&image), reader)?;
+    image.words = words;
+    Ok(image)
+}
+
+#[tactic(auto, unfolding(crate::specs::Private::File::whole_at))]
+fn read_whole(alloc: Global, bytes: &[u8]) -> Result<Image, FormFault>
+    ensures { Gives result (whole_at bytes.now) }
+{
+    let mut reader = Reader::new(bytes);
+    let image = read_image(alloc, &mut reader)?;
+    if reader.is_at_end() {
+        Ok(image)
+    } else {
+        Err(FormFault::NotSpelled)
+    }
+}
+
+/// The image that the bytes spell. `NotSpelled` says that they spell none, `Memory` that no memory was left.
+pub fn decode(alloc: Global, bytes: &[u8]) -> Result<Image, FormFault>
+    requires { length bytes.now < 2 ^ 32 }
+    ensures spelled { IfOk result (λ image. Spells bytes.now image) }
+    ensures every_spelling { (image : Image)
+        → Spells bytes.now image
+        → MatchResult result (λ decoded. decoded ≡ image) (λ fault. fault ≡ Memory) }
+    ensures not_spelled { IfErr result (λ fault. fault ≡ NotSpelled
+        → (image : Image)
+        → Spells bytes.now image
+        → ⊥) }
+{
+    read_whole(alloc, bytes)
+}

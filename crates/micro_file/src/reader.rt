@@ -1,0 +1,243 @@
+//! A reader of a microcode file, and the fields that it reads.
+ghost use Rattle.std.specs.Prelude.{◌≡◌};
+ghost use Rattle.micro_file.specs.Private.Fields.{is_raw_word};
+
+use crate::fault::FormFault;
+use fix_word::{Mode, Op};
+use lists::List;
+use micro_image::Kind;
+use std::alloc::Global;
+use std::marker::Model;
+
+/// The kinds in the order of their bytes.
+pub(crate) const KINDS: [Kind; 8] = [
+    Kind::Input,
+    Kind::Output,
+    Kind::Rom,
+    Kind::Alu,
+    Kind::Mul,
+    Kind::Sel,
+    Kind::Ram,
+    Kind::Acu,
+];
+
+/// The operations in the order of their opcodes.
+pub(crate) const OPERATIONS: [Op; 19] = [
+    Op::Input,
+    Op::Output,
+    Op::Const,
+    Op::Add,
+    Op::Sub,
+    Op::Neg,
+    Op::Pass,
+    Op::Lt,
+    Op::Le,
+    Op::Eq,
+    Op::Ne,
+    Op::And,
+    Op::Or,
+    Op::Not,
+    Op::Mul,
+    Op::Sel,
+    Op::Load,
+    Op::Store,
+    Op::Addr,
+];
+
+/// The rounding modes in the order of their bytes.
+pub(crate) const MODES: [Mode; 2] = [Mode::Trunc, Mode::Round];
+
+/// Whether a word of 32 bits holds the number.
+#[inline]
+pub(crate) fn is_word(number: i64) -> bool
+    ensures { result ≡ is_raw_word number }
+{
+    -0x8000_0000 <= number && number < 0x8000_0000
+}
+
+/// A file of which the front is read. A contract sees the bytes that are left.
+#[derive(Drop)]
+pub(crate) struct Reader<'a> {
+    rest: &'a [u8],
+}
+
+impl<'a> Model for Reader<'a> {
+    ghost use Rattle.std.specs.Prelude.{ℕ, List};
+
+    ghost Value = { List ℕ };
+
+    ghost view = { λ reader. reader.rest.now };
+}
+
+impl<'a> Reader<'a> {
+    ghost use Rattle.std.specs.Prelude.{◌==◌, length};
+    ghost use Rattle.std.specs.Int.{w16, w32};
+    ghost use Rattle.micro_file.specs.Private.Fields.{Reads, byte_at, byte_within, byte_below, byte_upto, number_within, signed_at, raw_word_at, raw_words_at, entry_at};
+
+    pub(crate) fn new(bytes: &'a [u8]) -> Reader<'a>
+        ensures { result ≡ bytes.now }
+    {
+        Reader { rest: bytes }
+    }
+
+    pub(crate) fn is_at_end(&self) -> bool
+        ensures { result ≡ (length self.now == 0) }
+    {
+        self.rest.is_empty()
+    }
+
+    #[inline]
+    pub(crate) fn byte(&mut self) -> Result<u8, FormFault>
+        ensures { Reads byte_at self.old result self.new }
+    {
+        match self.rest {
+            [] => Err(FormFault::NotSpelled),
+            [byte, rest @ ..] => {
+                self.rest = rest;
+                Ok(*byte)
+            }
+        }
+    }
+
+    #[inline]
+    pub(crate) fn byte_in(&mut self, low: u8, high: u8) -> Result<u8, FormFault>
+        ensures { Reads (byte_within low high) self.old result self.new }
+    {
+        let byte = self.byte()?;
+        if low <= byte && byte <= high {
+            Ok(byte)
+        } else {
+            Err(FormFault::NotSpelled)
+        }
+    }
+
+    #[inline]
+    pub(crate) fn byte_under(&mut self, limit: usize) -> Result<u8, FormFault>
+        ensures { Reads (byte_below limit) self.old result self.new }
+    {
+        let byte = self.byte()?;
+        if usize::from(byte) < limit {
+            Ok(byte)
+        } else {
+            Err(FormFault::NotSpelled)
+        }
+    }
+
+    #[inline]
+    pub(crate) fn byte_up_to(&mut self, limit: usize) -> Result<u8, FormFault>
+        ensures { Reads (byte_upto limit) self.old result self.new }
+    {
+        let byte = self.byte()?;
+        if usize::from(byte) <= limit {
+            Ok(byte)
+        } else {
+            Err(FormFault::NotSpelled)
+        }
+    }
+
+    /// A number in two bytes.
+    pub(crate) fn short_in(&mut self, low: u16, high: u16) -> Result<u16, FormFault>
+        ensures { Reads (number_within w16 low high) self.old result self.new }
+    {
+        if self.rest.len() < 2 {
+            return Err(FormFault::NotSpelled);
+        }
+        let (front, rest) = self.rest.split_at(2);
+        self.rest = rest;
+        let number = u16::from_be_bytes([front[0], front[1]]);
+        if low <= number && number <= high {
+            Ok(number)
+        } else {
+            Err(FormFault::NotSpelled)
+        }
+    }
+
+    /// A number in four bytes.
+    pub(crate) fn long_in(&mut self, low: u32, high: u32) -> Result<u32, FormFault>
+        ensures { Reads (number_within w32 low high) self.old result self.new }
+    {
+        if self.rest.len() < 4 {
+            return Err(FormFault::NotSpelled);
+        }
+        let (front, rest) = self.rest.split_at(4);
+        self.rest = rest;
+        let number = u32::from_be_bytes([front[0], front[1], front[2], front[3]]);
+        if low <= number && number <= high {
+            Ok(number)
+        } else {
+            Err(FormFault::NotSpelled)
+        }
+    }
+
+    /// A number in two's complement, in eight bytes.
+    #[inline]
+    pub(crate) fn signed(&mut self) -> Result<i64, FormFault>
+        ensures { Reads signed_at self.old result self.new }
+    {
+        if self.rest.len() < 8 {
+            return Err(FormFault::NotSpelled);
+        }
+        let (front, rest) = self.rest.split_at(8);
+        self.rest = rest;
+        let number = u64::from_be_bytes([
+            front[0], front[1], front[2], front[3], front[4], front[5], front[6], front[7],
+        ]);
+        Ok(number.cast_signed())
+    }
+
+    #[inline]
+    #[tactic(auto, unfolding(crate::specs::Private::Fields::raw_word_at))]
+    fn raw_word(&mut self) -> Result<i64, FormFault>
+        ensures { Reads raw_word_at self.old result self.new }
+    {
+        let number = self.signed()?;
+        if is_word(number) {
+            Ok(number)
+        } else {
+            Err(FormFault::NotSpelled)
+        }
+    }
+
+    pub(crate) fn raw_words(&mut self, alloc: Global, count: usize) -> Result<List<i64>, FormFault>
+        ensures { Reads (raw_words_at count) self.old result self.new }
+    {
+        let mut raw_words = List::with_capacity(alloc, count)?;
+        for _ in 0..count {
+            let raw_word = self.raw_word()?;
+            raw_words.push(raw_word)?;
+        }
+        Ok(raw_words)
+    }
+
+    pub(crate) fn kind(&mut self) -> Result<Kind, FormFault>
+        ensures { Reads (entry_at KINDS) self.old result self.new }
+    {
+        let byte = self.byte()?;
+        match KINDS.get(usize::from(byte)) {
+            Some(kind) => Ok(*kind),
+            None => Err(FormFault::NotSpelled),
+        }
+    }
+
+    #[inline]
+    pub(crate) fn operation(&mut self) -> Result<Op, FormFault>
+        ensures { Reads (entry_at OPERATIONS) self.old result self.new }
+    {
+        let byte = self.byte()?;
+        match OPERATIONS.get(usize::from(byte)) {
+            Some(op) => Ok(*op),
+            None => Err(FormFault::NotSpelled),
+        }
+    }
+
+    #[inline]
+    pub(crate) fn mode(&mut self) -> Result<Mode, FormFault>
+        ensures { Reads (entry_at MODES) self.old result self.new }
+    {
+        let byte = self.byte()?;
+        match MODES.get(usize::from(byte)) {
+            Some(mode) => Ok(*mode),
+            None => Err(FormFault::NotSpelled),
+        }
+    }
+}
