@@ -5,12 +5,12 @@ use Rattle.silage_lex.specs.declared.Token.{Token}
 use Rattle.silage_syntax.specs.declared.tree.Program.{Program as RustProgram}
 use Rattle.silage_syntax.specs.Tree.{Program, view}
 use Rattle.silage_parse.specs.Answers.{IsWithin, HasFault, AnswersProgram, AnswersFault}
-use Rattle.silage_parse.specs.Leads.{IsRun}
+use Rattle.silage_parse.specs.Private.Parsed.{IsRun}
 use Rattle.silage_parse.specs.declared.ParseFault.{ParseFault}
 use Rattle.silage_parse.specs.declared.ParseFault.TheVariants.{Syntax, Deep, Memory}
-use Rattle.silage_parse.proofs.Answer.{program_answer, fault_answer}
-use Rattle.silage_parse.proofs.BridgePrograms.{reads_of}
-use Rattle.silage_parse.proofs.BridgeProgramsBack.{program_of}
+use Rattle.silage_parse.proofs.Outcomes.{program_answer, fault_answer}
+use Rattle.silage_parse.proofs.CompletePrograms.{reads_of}
+use Rattle.silage_parse.proofs.SoundPrograms.{program_of}
 use Rattle.silage_parse.proofs.OneAnswer.{one_fault, within_no_fault}
 
 pub answers_program : (ts : List Token) (r : Result RustProgram ParseFault) → IsRun ts r → IfOk r (λ program. IsWithin ts (view program))

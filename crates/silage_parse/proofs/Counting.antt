@@ -9,12 +9,12 @@ use Rattle.silage_syntax.specs.Grammar.{kind_of, kind_at, weighs, weight_role, R
 use Rattle.silage_syntax.specs.Grammar as role
 use Rattle.silage_syntax.specs.Limits.{weigh, enter, Passes, too_heavy, too_deep, AgreeBelow}
 use Rattle.silage_parse.specs.declared.ParseFault.TheVariants.{Syntax, Deep, Memory}
-use Rattle.silage_parse.specs.Table.{Effect, Outside, Begins, Inside, Enters, Leaves, Value, Symbol}
-use Rattle.silage_parse.specs.Machine.{pushed, Count, add_weight, no_count, counted, allowed, Outcome, done, fault, Runs, ends, takes, wrong, limit, goes, makes, role_of, roles_of, Reads, r_end, r_take, r_make}
+use Rattle.silage_parse.specs.Private.ParseTable.{Effect, Outside, Begins, Inside, Enters, Leaves, Value, Symbol}
+use Rattle.silage_parse.specs.Private.Machine.{pushed, Count, add_weight, no_count, counted, allowed, Outcome, done, fault, Runs, ends, matches, wrong, limit, expands, acts, role_of, roles_of, Reads, r_end, r_match, r_act}
 use Rattle.silage_parse.proofs.Readings.{Valid}
 use Rattle.silage_parse.proofs.Agreement.{stops_from, go_on, valid_on}
 
--- the counts behind tokens with these roles, which pass no limit
+-- the counts after tokens with these roles, which pass no limit
 pub record Counts (roles : List Role) (c : Count) : Type 0 where
   pub weight : fold weigh 0 roles ≡ c.weight
   pub loops : fold enter 0 roles ≡ c.loops
@@ -140,7 +140,7 @@ inside [] i h = absurd (omega arith)
 inside (u ∷ us) zero h = (u, refl)
 inside (u ∷ us) (suc i) h = inside us i (omega arith)
 
--- a run that stops in front of token m says nothing of it
+-- a run that stops before token m says nothing of it
 abbrev pub Reaches : ℕ → Outcome → Type 0
 Reaches m (done vs) = Unit {0}
 Reaches m (fault (Syntax k)) = m < k
@@ -153,7 +153,7 @@ pub free : (ts us : List Token) (m : ℕ) → m < length us → AgreeBelow ts us
     → (before : List Role) → length before ≡ i → Counts before c → i ≤ m → Reaches m o → Passes (before ++ rs) m → ⊥
 free ts us m lt agree ends v r_end before size count low reach passes =
     past_passes before m (omega arith) (subst (λ x. Passes x m) (append-nil before) passes)
-free ts us m lt agree (takes {e = e} {ss = ss} {i = i} {c = c} {vs = vs} h l r) v (r_take {j = j} {ws = ws} {rs = rs} g a) before size count low reach passes =
+free ts us m lt agree (matches {e = e} {ss = ss} {i = i} {c = c} {vs = vs} h l r) v (r_match {j = j} {ws = ws} {rs = rs} g a) before size count low reach passes =
     let t = inside us i (omega arith) in
     let s : slice_get ts i ≡ slice_get us i = agree i (omega arith) in
     let r0 : Role = role_of e t.0 in
@@ -172,15 +172,15 @@ free ts us m lt agree (takes {e = e} {ss = ss} {i = i} {c = c} {vs = vs} h l r) 
     ]
 free ts us m lt agree (wrong h) v a before size count low reach passes = omega (arith, low, reach)
 free ts us m lt agree (limit h l) v a before size count low reach passes = omega (arith, low, reach)
-free ts us m lt agree (goes {p = p} {ss = ss} {i = i} r) v a before size count low reach passes =
+free ts us m lt agree (expands {p = p} {ss = ss} {i = i} r) v a before size count low reach passes =
     free ts us m lt agree r (valid_on p ss (kind_at ts i) v) (go_on ts us (agree i (omega (arith, low))) v a) before size count low reach passes
-free ts us m lt agree (makes r) v (r_make a) before size count low reach passes = free ts us m lt agree r v a before size count low reach passes
+free ts us m lt agree (acts r) v (r_act a) before size count low reach passes = free ts us m lt agree r v a before size count low reach passes
 
 -- where a run stops at a limit, the token passes it
 pub hits : (ts us : List Token) (k : ℕ) → k < length us → AgreeBelow ts us (k + 1)
     → {ss : List Symbol} {i j : ℕ} {c : Count} {vs ws : List Value} {rs : List Role} → Runs ts ss i c vs (fault (Deep k)) → Valid ss → Reads us ss i vs rs j ws
     → (before : List Role) → length before ≡ i → Counts before c → Passes (before ++ rs) k
-hits ts us k lt agree (takes {e = e} {ss = ss} {i = i} {c = c} {vs = vs} h l r) v (r_take {j = j} {ws = ws} {rs = rs} g a) before size count =
+hits ts us k lt agree (matches {e = e} {ss = ss} {i = i} {c = c} {vs = vs} h l r) v (r_match {j = j} {ws = ws} {rs = rs} g a) before size count =
     let low : i + 1 ≤ k = stops_from r in
     let t = inside us i (omega arith) in
     let s : slice_get ts i ≡ slice_get us i = agree i (omega arith) in
@@ -190,12 +190,12 @@ hits ts us k lt agree (takes {e = e} {ss = ss} {i = i} {c = c} {vs = vs} h l r) 
     (length-append before (r0 ∷ []) ∙ omega arith)
     (subst (λ x. Counts (before ++ r0 ∷ []) (counted e x c)) (sym (s ∙ t.1)) (count_more before e t.0 c count ok)) in
     subst (λ x. Passes (before ++ (roles_of e x ++ rs)) k) (sym t.1) (subst (λ x. Passes x k) (append_assoc before (r0 ∷ []) rs) p)
-hits ts us k lt agree (limit {e = e} {c = c} h l) v (r_take {rs = rs} g a) before size count =
+hits ts us k lt agree (limit {e = e} {c = c} h l) v (r_match {rs = rs} g a) before size count =
     let t = inside us k lt in
     let s : slice_get ts k ≡ slice_get us k = agree k (omega arith) in
     let no : allowed e (Some t.0) c ≡ false = ap (λ x. allowed e x c) (sym (s ∙ t.1)) ∙ l in
     subst (λ x. Passes (before ++ (roles_of e x ++ rs)) k) (sym t.1) (subst (λ x. Passes (before ++ role_of e t.0 ∷ rs) x) size (refused_passes before rs e t.0 c count no))
-hits ts us k lt agree (goes {p = p} {ss = ss} {i = i} r) v a before size count =
+hits ts us k lt agree (expands {p = p} {ss = ss} {i = i} r) v a before size count =
     let low = stops_from r in
     hits ts us k lt agree r (valid_on p ss (kind_at ts i) v) (go_on ts us (agree i (omega (arith, low))) v a) before size count
-hits ts us k lt agree (makes r) v (r_make a) before size count = hits ts us k lt agree r v a before size count
+hits ts us k lt agree (acts r) v (r_act a) before size count = hits ts us k lt agree r v a before size count

@@ -1,5 +1,5 @@
 -- Tokens have one answer.
-use Rattle.std.proofs.Common.{◌≡◌, ℕ, ◌+◌, ◌≤◌, ◌<◌, List, length, Result, Ok, Err, inl, inr, refl, ap, arith}
+use Rattle.std.proofs.Common.{◌≡◌, ℕ, ◌+◌, ◌≤◌, ◌<◌, List, length, inl, inr, refl, ap, arith}
 use Rattle.std.proofs.lemmas.Bool.{cases_order, cases_lt}
 use Rattle.silage_lex.specs.declared.Token.{Token}
 use Rattle.silage_syntax.specs.Tree.{Program}
@@ -7,7 +7,7 @@ use Rattle.silage_syntax.specs.Grammar.{Derives}
 use Rattle.silage_syntax.specs.Limits.{Begins, IsDeep}
 use Rattle.silage_parse.specs.declared.ParseFault.{ParseFault}
 use Rattle.silage_parse.specs.declared.ParseFault.TheVariants.{Syntax, Deep, Memory}
-use Rattle.silage_parse.specs.Answers.{NoneDeepBelow, IsSyntax, HasFault, IsWithin, IsAnswer}
+use Rattle.silage_parse.specs.Answers.{NoneDeepBelow, IsSyntax, HasFault, IsWithin}
 
 begins_less : (ts : List Token) (j k : ℕ) → j ≤ k → Begins ts k → Begins ts j
 begins_less ts j k le b = record {
@@ -62,9 +62,3 @@ pub within_no_fault : (ts : List Token) (p : Program) (f : ParseFault) → IsWit
 within_no_fault ts p (Syntax k) w h = program_no_syntax ts p k w.is.derives h.0
 within_no_fault ts p (Deep k) w h = w.limits k h.0.within h.0
 within_no_fault ts p Memory w h = h
-
-pub one_answer : (ts : List Token) (a b : Result Program ParseFault) → IsAnswer ts a → IsAnswer ts b → a ≡ b
-one_answer ts (Ok p) (Ok q) v w = ap Ok (w.is.only p v.is.derives)
-one_answer ts (Ok p) (Err f) v w = absurd (within_no_fault ts p f v w)
-one_answer ts (Err f) (Ok p) v w = absurd (within_no_fault ts p f w v)
-one_answer ts (Err f) (Err g) v w = ap Err (one_fault ts f g v w)

@@ -1,62 +1,153 @@
--- One step of the machine, and how a fault of a part is the fault of the whole.
-use Rattle.std.proofs.Common.{◌≡◌, ℕ, ◌+◌, List, [], ◌∷◌, Option, Some, None, refl, sym, subst, true, false}
-use Rattle.std.specs.Prelude.{slice_get}
+-- The steps of a method: how what it has read so far goes on, and how a fault of a part is the fault of the whole.
+use Rattle.std.proofs.Common.{◌≡◌, ℕ, ◌+◌, ◌<◌, List, [], ◌∷◌, ◌++◌, Option, Some, refl, sym, subst, ◌∙◌, true, false, arith, append_assoc, Result, Ok, Err}
+use Rattle.std.specs.Prelude.{slice_get, OnOk}
 use Rattle.silage_lex.specs.declared.Token.{Token}
-use Rattle.silage_lex.specs.declared.TokenKind.{TokenKind}
-use Rattle.silage_lex.specs.declared.TokenKind.TheVariants as kind
-use Rattle.silage_syntax.specs.Grammar.{kind_at, number_of}
-use Rattle.silage_parse.specs.declared.ParseFault.TheVariants.{Deep}
-use Rattle.silage_parse.specs.declared.cursor.Cursor.{Cursor}
-use Rattle.silage_parse.specs.Table.{Terminal, AName, AWhole, number, is_one, Effect, Take}
-use Rattle.silage_parse.specs.Machine.{allowed, counted, pushed, Runs, takes, limit}
-use Rattle.silage_parse.specs.Parsed.{count, Stops, Takes, IsCountedBehind, name_at, whole_at}
+use Rattle.silage_parse.specs.declared.ParseFault.{ParseFault}
+use Rattle.silage_parse.specs.declared.ParseFault.TheVariants.{Syntax, Deep, Memory}
+use Rattle.silage_parse.specs.declared.parser.Parser.{Parser}
+use Rattle.silage_parse.specs.Private.ParseTable.{Terminal, Effect, Value, Symbol, Match, Expand, Act, Nonterminal, Action, Productions, productions, always, is_one}
+use Rattle.silage_parse.specs.Private.ParseTable as the
+use Rattle.silage_parse.specs.Private.Machine.{Outcome, fault, Runs, allowed, counted, pushed, predict, expands, acts, made}
+use Rattle.silage_parse.specs.Private.Machine as machine
+use Rattle.silage_parse.specs.Private.Parsed.{counts_of, next, RunsFrom, Leads, Halts, Matches, IsRead, IsCounted}
 
-pub past_taken : {ts : List Token} {ks : List Terminal} {e : Effect} {from to : Cursor} {t : Token} → slice_get ts from.at ≡ Some t → IsCountedBehind t e from to → is_one ks (kind_at ts from.at) ≡ true → Takes ts ks e from to
-past_taken {ts} {ks} {e} {from} {to} {t} there b is_of = record {
+-- nothing is read yet
+pub start : (ss : List Symbol) (from : Parser) (vs : List Value) → Leads ss from vs ss from vs
+start ss from vs = record { same = refl; order = omega arith; run = λ below under o r. r }
+
+-- a token is read
+pub matches : {ss rest : List Symbol} {from mid to : Parser} {vs us : List Value} {ks : List Terminal} {e : Effect}
+    → Leads ss from vs (Match ks e ∷ rest) mid us → (t : Matches ks e mid to) → Leads ss from vs rest to (the.token t.token ∷ us)
+matches l t = record {
+  same = t.same ∙ l.same;
+  order = let a = l.order in let b = t.one in omega arith;
+  run = λ below under o r. l.run _ _ _ (t.run _ _ _ r);
+}
+
+-- a nonterminal is read
+pub parses : {ss rest : List Symbol} {from mid to : Parser} {vs us : List Value} {p : Nonterminal} {v : Value}
+    → Leads ss from vs (Expand p ∷ rest) mid us → Leads (Expand p ∷ []) mid [] [] to (v ∷ []) → Leads ss from vs rest to (v ∷ us)
+parses l g = record {
+  same = g.same ∙ l.same;
+  order = let a = l.order in let b = g.order in omega arith;
+  run = λ below under o r. l.run _ _ _ (g.run _ _ _ r);
+}
+
+-- some symbols are read, over some values
+pub reads : (ps : List Symbol) (ws us : List Value) {ss rest : List Symbol} {from mid to : Parser} {vs xs : List Value}
+    → Leads ss from vs (ps ++ rest) mid (ws ++ us) → Leads ps mid ws [] to xs → Leads ss from vs rest to (xs ++ us)
+reads ps ws us {rest = rest} {xs = xs} l g = record {
+  same = g.same ∙ l.same;
+  order = let a = l.order in let b = g.order in omega arith;
+  run = λ below under o r.
+      l.run below under o (rw (append_assoc ps rest below, append_assoc ws us under) (g.run (rest ++ below) (us ++ under) o (rw (← (append_assoc xs us under)) r)));
+}
+
+-- an action is done
+pub does : {ss rest : List Symbol} {from to : Parser} {vs us ws : List Value} {a : Action}
+    → Leads ss from vs (Act a ∷ rest) to us → ((under : List Value) → made a (us ++ under) ≡ ws ++ under) → Leads ss from vs rest to ws
+does {rest = rest} {to = to} l same = record {
+  same = l.same;
+  order = l.order;
+  run = λ below under o r. l.run below under o (acts (subst (λ vs. RunsFrom to (rest ++ below) vs o) (sym (same under)) r));
+}
+
+-- an action is done whose result computes
+pub computes : {ss rest : List Symbol} {from to : Parser} {vs us : List Value} {a : Action}
+    → Leads ss from vs (Act a ∷ rest) to us → ((under : List Value) → made a (us ++ under) ≡ made a us ++ under) → Leads ss from vs rest to (made a us)
+computes l same = does l same
+
+-- the stack, written otherwise
+pub giving : {ss rest : List Symbol} {from to : Parser} {vs us ws : List Value} → Leads ss from vs rest to us → us ≡ ws → Leads ss from vs rest to ws
+giving {ss} {rest} {from} {to} {vs} l same = subst (λ us. Leads ss from vs rest to us) same l
+
+-- the symbols that are left, written otherwise
+pub turns : {ss ps qs : List Symbol} {from to : Parser} {vs us : List Value} → Leads ss from vs ps to us
+    → ((below : List Symbol) (under : List Value) (o : Outcome) → RunsFrom to (qs ++ below) (us ++ under) o → RunsFrom to (ps ++ below) (us ++ under) o)
+    → Leads ss from vs qs to us
+turns l turn = record { same = l.same; order = l.order; run = λ below under o r. l.run below under o (turn below under o r) }
+
+-- The machine replaces a nonterminal by the production that the table predicts.
+pub predicts : {ss rest : List Symbol} {from to : Parser} {vs us : List Value} {p : Nonterminal} (row : List Symbol)
+    → Leads ss from vs (Expand p ∷ rest) to us → predict (productions p) (next to) ≡ row → Leads ss from vs (row ++ rest) to us
+predicts {rest = rest} {to = to} {us = us} {p} row l is = record {
+  same = l.same;
+  order = l.order;
+  run = λ below under o r.
+      l.run below under o (expands (subst (λ ps. RunsFrom to (ps ++ (rest ++ below)) (us ++ under) o) (sym is) (rw (← (append_assoc row rest below)) r)));
+}
+
+pub only : {ss rest row : List Symbol} {from to : Parser} {vs us : List Value} {p : Nonterminal}
+    → Leads ss from vs (Expand p ∷ rest) to us → productions p ≡ always row → Leads ss from vs (row ++ rest) to us
+only {row = row} l table = predicts row l (rw table refl)
+
+pub first : {ss rest row other : List Symbol} {from to : Parser} {vs us : List Value} {p : Nonterminal} {ks : List Terminal} {rows : List (List Terminal × List Symbol)}
+    → Leads ss from vs (Expand p ∷ rest) to us → productions p ≡ record { by_lookahead = (ks, row) ∷ rows; otherwise = other }
+    → is_one ks (next to) ≡ true → Leads ss from vs (row ++ rest) to us
+first {row = row} l table this = predicts row l (rw (table, this) refl)
+
+pub second : {ss rest row row2 other : List Symbol} {from to : Parser} {vs us : List Value} {p : Nonterminal} {ks ls : List Terminal} {rows : List (List Terminal × List Symbol)}
+    → Leads ss from vs (Expand p ∷ rest) to us → productions p ≡ record { by_lookahead = (ks, row) ∷ (ls, row2) ∷ rows; otherwise = other }
+    → is_one ks (next to) ≡ false → is_one ls (next to) ≡ true → Leads ss from vs (row2 ++ rest) to us
+second {row2 = row2} l table before this = predicts row2 l (rw (table, before, this) refl)
+
+pub other : {ss rest row other : List Symbol} {from to : Parser} {vs us : List Value} {p : Nonterminal} {ks : List Terminal}
+    → Leads ss from vs (Expand p ∷ rest) to us → productions p ≡ record { by_lookahead = (ks, row) ∷ []; otherwise = other }
+    → is_one ks (next to) ≡ false → Leads ss from vs (other ++ rest) to us
+other {other = row} l table before = predicts row l (rw (table, before) refl)
+
+pub other_of_two : {ss rest row row2 other : List Symbol} {from to : Parser} {vs us : List Value} {p : Nonterminal} {ks ls : List Terminal}
+    → Leads ss from vs (Expand p ∷ rest) to us → productions p ≡ record { by_lookahead = (ks, row) ∷ (ls, row2) ∷ []; otherwise = other }
+    → is_one ks (next to) ≡ false → is_one ls (next to) ≡ false → Leads ss from vs (other ++ rest) to us
+other_of_two {other = row} l table before after = predicts row l (rw (table, before, after) refl)
+
+-- A fault of a part is the fault of the whole.
+pub stops : (ps rest : List Symbol) (ws us : List Value) {ss : List Symbol} {from mid : Parser} {vs : List Value} (f : ParseFault)
+    → Leads ss from vs (ps ++ rest) mid (ws ++ us) → Halts ps mid ws f → Halts ss from vs f
+stops ps rest ws us (Syntax k) l h = λ below under. l.run below under _ (rw (append_assoc ps rest below, append_assoc ws us under) (h (rest ++ below) (us ++ under)))
+stops ps rest ws us (Deep k) l h = λ below under. l.run below under _ (rw (append_assoc ps rest below, append_assoc ws us under) (h (rest ++ below) (us ++ under)))
+stops ps rest ws us Memory l h = tt
+
+pub stops_at : {s : Symbol} {ss rest : List Symbol} {from mid : Parser} {vs us : List Value} (f : ParseFault)
+    → Leads ss from vs (s ∷ rest) mid us → Halts (s ∷ []) mid [] f → Halts ss from vs f
+stops_at {s} {rest = rest} {us = us} f l h = stops (s ∷ []) rest [] us f l h
+
+-- the next token is gone past, or passes a limit
+pub taken : {ks : List Terminal} {e : Effect} {from to : Parser} (t : Token) → slice_get from.tokens.now from.at ≡ Some t
+    → IsCounted t e from.counts to.counts → to.tokens.now ≡ from.tokens.now → to.at ≡ from.at + 1 → is_one ks (next from) ≡ true → Matches ks e from to
+taken {ks} {e} {from} {to} t there c same one is_of = record {
   token = t;
   there = there;
   is_of = is_of;
-  goes = record {
-    run = λ ss vs o r.
-        let P : Option Token → Type 0 = λ x. Runs ts ss (from.at + 1) (counted e x (count from)) (pushed x vs) o in
-        takes is_of (rw there b.passes) (subst P (sym there) (rw (← b.counts, ← b.next) r));
-  };
+  same = same;
+  one = one;
+  run = λ below under o r.
+      let P : Option Token → Type 0 = λ x. Runs from.tokens.now below (from.at + 1) (counted e x (counts_of from.counts)) (pushed x under) o in
+      machine.matches is_of (rw there c.passes) (subst P (sym there) (rw (← c.counts, ← same, ← one) r));
 }
 
-pub past_limit : {ts : List Token} {ks : List Terminal} {e : Effect} {from : Cursor} {t : Token} → slice_get ts from.at ≡ Some t → allowed e (Some t) (count from) ≡ false → is_one ks (kind_at ts from.at) ≡ true → Stops ts (Take ks e) from (Deep from.at)
-past_limit there deep is_of = λ ss vs. limit is_of (rw there deep)
+pub limited : {ks : List Terminal} {e : Effect} (from : Parser) (t : Token) → slice_get from.tokens.now from.at ≡ Some t
+    → allowed e (Some t) (counts_of from.counts) ≡ false → is_one ks (next from) ≡ true → Halts (Match ks e ∷ []) from [] (Deep from.at)
+limited from t there deep is_of = λ below under. machine.limit is_of (rw there deep)
 
--- what the tests of a token tell
-pub is_a_name : (k : Option TokenKind) {name : List ℕ} → name_at k ≡ Some name → is_one (AName ∷ []) k ≡ true
-is_a_name (Some (kind.Name name)) h = refl
-is_a_name _ h = cc
+-- another token is next, or none
+pub unlike : {ks : List Terminal} {e : Effect} (from : Parser) → is_one ks (next from) ≡ false → Halts (Match ks e ∷ []) from [] (Syntax from.at)
+unlike from differs = λ below under. machine.wrong differs
 
-pub no_name : (k : Option TokenKind) → name_at k ≡ None → is_one (AName ∷ []) k ≡ false
-no_name (Some (kind.Name name)) h = cc
-no_name _ h = refl
+-- what reads the symbols that are left reads the whole
+pub whole : {A : Type 0} {ss : List Symbol} {from : Parser} {vs : List Value} (ps : List Symbol) {mid : Parser} (ws : List Value) (values : A → List Value) (to : Parser)
+    (r : Result A ParseFault) → Leads ss from vs ps mid ws → IsRead ps mid ws values to r → IsRead ss from vs values to r
+whole ps ws values to (Ok x) l g = record {
+  same = g.same ∙ l.same;
+  order = let a = l.order in let b = g.order in omega arith;
+  run = λ below under o r. l.run below under o (g.run below under o r);
+}
+whole ps ws values to (Err (Syntax k)) l h = λ below under. l.run below under _ (h below under)
+whole ps ws values to (Err (Deep k)) l h = λ below under. l.run below under _ (h below under)
+whole ps ws values to (Err Memory) l h = tt
 
-pub name_known : (k : Option TokenKind) {name : List ℕ} → name_at k ≡ Some name → k ≡ Some (kind.Name name)
-name_known (Some (kind.Name name)) h = cc
-name_known _ h = cc
-
-pub is_a_whole : (k : Option TokenKind) {n : ℕ} → whole_at k ≡ Some n → is_one (AWhole ∷ []) k ≡ true
-is_a_whole (Some (kind.Whole n)) h = refl
-is_a_whole _ h = cc
-
-pub no_whole : (k : Option TokenKind) → whole_at k ≡ None → is_one (AWhole ∷ []) k ≡ false
-no_whole (Some (kind.Whole n)) h = cc
-no_whole _ h = refl
-
-pub whole_known : (k : Option TokenKind) {n : ℕ} → whole_at k ≡ Some n → k ≡ Some (kind.Whole n)
-whole_known (Some (kind.Whole n)) h = cc
-whole_known _ h = cc
-
-pub is_a_number : (k : Option TokenKind) {n : ℕ × ℕ} → number_of k ≡ Some n → is_one number k ≡ true
-is_a_number (Some (kind.Whole n)) h = refl
-is_a_number (Some (kind.Point digits places)) h = refl
-is_a_number _ h = cc
-
-pub no_number : (k : Option TokenKind) → number_of k ≡ None → is_one number k ≡ false
-no_number (Some (kind.Whole n)) h = cc
-no_number (Some (kind.Point digits places)) h = cc
-no_number _ h = refl
+-- what is read after a token that was read is further on
+pub further : {A : Type 0} (ss : List Symbol) (n : ℕ) (mid : Parser) (vs : List Value) (values : A → List Value) (to : Parser)
+    (r : Result A ParseFault) → n < mid.at → IsRead ss mid vs values to r → OnOk r (n < to.at)
+further ss n mid vs values to (Ok x) less g = let order = g.order in omega arith
+further ss n mid vs values to (Err f) less g = tt

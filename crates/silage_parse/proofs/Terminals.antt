@@ -3,19 +3,19 @@ use Rattle.std.proofs.Common.{◌≡◌, Bool, true, false, not, ◌&&◌, ◌||
 use Rattle.std.proofs.lemmas.Bool.{and_parts, or_cases, or_left, or_right, or_from, not-true, eqb-true}
 use Rattle.silage_lex.specs.declared.TokenKind.{TokenKind}
 use Rattle.silage_lex.specs.declared.TokenKind.TheVariants as kind
-use Rattle.silage_parse.specs.Table.{Terminal, Mark, Word, AName, AWhole, APoint, End, is, is_one}
+use Rattle.silage_parse.specs.Private.ParseTable.{Terminal, Punctuation, Keyword, AName, AWhole, APoint, End, is, is_one}
 
 abbrev pub terminal_of : Option TokenKind → Terminal
-terminal_of (Some (kind.Symbol n)) = Mark n
-terminal_of (Some (kind.Reserved n)) = Word n
+terminal_of (Some (kind.Symbol n)) = Punctuation n
+terminal_of (Some (kind.Reserved n)) = Keyword n
 terminal_of (Some (kind.Name name)) = AName
 terminal_of (Some (kind.Whole n)) = AWhole
 terminal_of (Some (kind.Point digits places)) = APoint
 terminal_of None = End
 
 abbrev pub same : Terminal → Terminal → Bool
-same (Mark n) (Mark m) = nat_eq n m
-same (Word n) (Word m) = nat_eq n m
+same (Punctuation n) (Punctuation m) = nat_eq n m
+same (Keyword n) (Keyword m) = nat_eq n m
 same AName AName = true
 same AWhole AWhole = true
 same APoint APoint = true
@@ -23,8 +23,8 @@ same End End = true
 same _ _ = false
 
 same_from : (t u : Terminal) → same t u ≡ true → t ≡ u
-same_from (Mark n) (Mark m) h = ap Mark (eqb-true n m h)
-same_from (Word n) (Word m) h = ap Word (eqb-true n m h)
+same_from (Punctuation n) (Punctuation m) h = ap Punctuation (eqb-true n m h)
+same_from (Keyword n) (Keyword m) h = ap Keyword (eqb-true n m h)
 same_from AName AName h = refl
 same_from AWhole AWhole h = refl
 same_from APoint APoint h = refl
@@ -32,8 +32,8 @@ same_from End End h = refl
 same_from _ _ h = cc
 
 is_same : (t : Terminal) (k : Option TokenKind) → is t k ≡ same t (terminal_of k)
-is_same (Mark n) (Some (kind.Symbol m)) = refl
-is_same (Word n) (Some (kind.Reserved m)) = refl
+is_same (Punctuation n) (Some (kind.Symbol m)) = refl
+is_same (Keyword n) (Some (kind.Reserved m)) = refl
 is_same AName (Some (kind.Name name)) = refl
 is_same AWhole (Some (kind.Whole n)) = refl
 is_same APoint (Some (kind.Point digits places)) = refl

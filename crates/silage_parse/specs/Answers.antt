@@ -13,7 +13,7 @@ pub record IsOnly (ts : List Token) (program : Program) : Type 0 where
   pub derives : Derives ts program
   pub only : (other : Program) → Derives ts other → other ≡ program
 
--- no token in front of token k passes a limit
+-- no token before token k passes a limit
 abbrev pub NoneDeepBelow : List Token → ℕ → Type 0
 NoneDeepBelow ts k = (m : ℕ) → m < k → ¬ IsDeep ts m
 
@@ -24,7 +24,7 @@ pub record IsSyntax (ts : List Token) (k : ℕ) : Type 0 where
   pub ends : k < length ts → ¬ Begins ts (k + 1)
   pub no_program : k ≡ length ts → (program : Program) → ¬ Derives ts program
 
--- the fault of the tokens, at the least token that has one; one that passes a limit begins a program with those in front
+-- the fault of the tokens, at the least token that has one; a token that passes a limit ends a viable prefix
 abbrev pub HasFault : List Token → ParseFault → Type 0
 HasFault ts (Syntax k) = IsSyntax ts k × NoneDeepBelow ts k
 HasFault ts (Deep k) = IsDeep ts k × NoneDeepBelow ts k
@@ -35,16 +35,12 @@ pub record IsWithin (ts : List Token) (program : Program) : Type 0 where
   pub is : IsOnly ts program
   pub limits : NoneDeepBelow ts (length ts)
 
-abbrev pub IsAnswer : List Token → Result Program ParseFault → Type 0
-IsAnswer ts (Ok program) = IsWithin ts program
-IsAnswer ts (Err fault) = HasFault ts fault
-
--- the call gives this program, or it wants memory
+-- the call answers this program, or there is no memory
 abbrev pub AnswersProgram : Program → Result RustProgram ParseFault → Type 0
 AnswersProgram program (Ok found) = view found ≡ program
 AnswersProgram program (Err fault) = fault ≡ Memory
 
--- the call gives this fault, or it wants memory
+-- the call answers this fault, or there is no memory
 abbrev pub AnswersFault : ParseFault → Result RustProgram ParseFault → Type 0
 AnswersFault fault (Ok found) = ⊥
 AnswersFault fault (Err other) = (other ≡ fault) ⊎ (other ≡ Memory)

@@ -1,342 +1,372 @@
-//! Expressions.
+//! Expressions. The functions of the rarer forms are not inlined, so that a level of nesting takes little stack.
 
-ghost use Rattle.std.specs.Prelude.{◌≡◌, ◌≤◌, ◌<◌, ◌^◌, [], ◌∷◌, length, true, IsSome, IfOk};
-ghost use Rattle.silage_syntax.specs.Grammar.{Or, kind_at, operator as the_operator, comparison as the_comparison, shift_operator as the_shift_operator, truth_of};
-ghost use Rattle.silage_parse.specs.Table.{Mark, Word, AName, Chain, part as the_part, Comparison, Shift, Unary, Primary, OtherPrimary, is_one};
-ghost use Rattle.silage_parse.specs.Parsed.{IsParsed, expr_value};
-ghost use Rattle.silage_parse.specs.Levels.{level as level_of};
+ghost use Rattle.std.specs.Prelude.{◌≡◌, ◌<◌, [], ◌∷◌, length, Some, true, IsSome, IfSome, IfNone, OnOk};
+ghost use Rattle.silage_syntax.specs.Grammar.{Or, row, shift_operator as the_shift_operator, truth_of};
+ghost use Rattle.silage_parse.specs.Private.ParseTable.{Punctuation, Keyword, AName, Chain, Shift, Unary, Primary, OtherPrimary, number, is_one};
+ghost use Rattle.silage_parse.specs.Private.Parsed.{next, IsParsed, IsRead, expr_value};
+ghost use Rattle.silage_parse.specs.Private.Precedence.{rank as rank_of, precedence_of, operation, operated, right_operand, binary_operators, binary_operator as the_binary_operator, IsBetween, NoneBetween, tightest_after};
 ghost use Rattle.silage_lex.specs.declared.punctuation.TheConstants as punctuation;
 ghost use Rattle.silage_lex.specs.declared.keywords.TheConstants as keyword;
 
 use crate::ParseFault;
-use crate::cursor::{
-    Cursor, Effect, is_mark, is_name, is_number, is_word, kind, name, number, past, past_mark,
-    past_word, start,
-};
-use crate::manifests::manifest_primary;
-use crate::places::{delay, subscripts};
-use crate::types::fix_type;
-use silage_lex::{Token, TokenKind, keywords, punctuation};
+use crate::parser::{Effect, Parser};
+use silage_lex::{TokenKind, keywords, punctuation};
 use silage_syntax::{BinOp, Expr, Lit, Place};
-use std::alloc::{AllocError, AllocFailed, Global};
+use std::alloc::{AllocError, AllocFailed};
 
-/// The levels whose operators group to the left, the loosest first.
+/// The precedence of an operator between two operands, the loosest first.
 #[derive(Clone, Copy, Drop)]
-pub enum Level {
-    /// `|`
+pub enum Precedence {
     Or,
-    /// `&`
     And,
-    /// `+` and `-`
+    Comparison,
     Sum,
-    /// `*`
     Product,
 }
 
-/// The operator of a level that token `at` is.
-fn operator(tokens: &[Token], at: usize, level: Level) -> Option<BinOp>
-    ensures value { result ≡ the_operator (level_of level) (kind_at tokens.now at) }
-    ensures within { IsSome result → at < length tokens.now }
-{
-    match (level, kind(tokens, at)) {
-        (Level::Or, Some(TokenKind::Symbol(punctuation::PIPE))) => Some(BinOp::Or),
-        (Level::And, Some(TokenKind::Symbol(punctuation::AMPERSAND))) => Some(BinOp::And),
-        (Level::Sum, Some(TokenKind::Symbol(punctuation::PLUS))) => Some(BinOp::Add),
-        (Level::Sum, Some(TokenKind::Symbol(punctuation::MINUS))) => Some(BinOp::Sub),
-        (Level::Product, Some(TokenKind::Symbol(punctuation::STAR))) => Some(BinOp::Mul),
-        _ => None,
-    }
-}
-
-/// The comparison that token `at` is.
-fn comparison_operator(tokens: &[Token], at: usize) -> Option<BinOp>
-    ensures value { result ≡ the_comparison (kind_at tokens.now at) }
-    ensures within { IsSome result → at < length tokens.now }
-{
-    match kind(tokens, at) {
-        Some(TokenKind::Symbol(punctuation::LESS)) => Some(BinOp::Lt),
-        Some(TokenKind::Symbol(punctuation::LESS_EQUAL)) => Some(BinOp::Le),
-        Some(TokenKind::Symbol(punctuation::EQUAL_EQUAL)) => Some(BinOp::Eq),
-        Some(TokenKind::Symbol(punctuation::BANG_EQUAL)) => Some(BinOp::Ne),
-        Some(TokenKind::Symbol(punctuation::GREATER)) => Some(BinOp::Gt),
-        Some(TokenKind::Symbol(punctuation::GREATER_EQUAL)) => Some(BinOp::Ge),
-        _ => None,
-    }
-}
-
-/// Whether the shift that token `at` is goes to the left.
-fn shift_operator(tokens: &[Token], at: usize) -> Option<bool>
-    ensures value { result ≡ the_shift_operator (kind_at tokens.now at) }
-    ensures within { IsSome result → at < length tokens.now }
-{
-    match kind(tokens, at) {
-        Some(TokenKind::Symbol(punctuation::LESS_LESS)) => Some(true),
-        Some(TokenKind::Symbol(punctuation::GREATER_GREATER)) => Some(false),
-        _ => None,
-    }
-}
-
-/// The truth value that token `at` is.
-pub fn truth_at(tokens: &[Token], at: usize) -> Option<bool>
-    ensures value { result ≡ truth_of (kind_at tokens.now at) }
-    ensures within { IsSome result → at < length tokens.now }
-{
-    match kind(tokens, at) {
-        Some(TokenKind::Reserved(keywords::TRUE)) => Some(true),
-        Some(TokenKind::Reserved(keywords::FALSE)) => Some(false),
-        _ => None,
-    }
-}
-
-/// Reads an expression.
-#[cycle(expressions)]
-pub fn expression(
-    alloc: Global,
-    tokens: &[Token],
-    from: Cursor,
-) -> Result<(Expr, Cursor), ParseFault>
-    requires few { length tokens.now < 2 ^ 32 }
-    requires within { from.at ≤ length tokens.now }
-    ensures read { IsParsed tokens.now (Chain Or) from expr_value result }
-    ensures within { IfOk result (λ x. (from.at < x.1.at) × (x.1.at ≤ length tokens.now)) }
-{
-    chain(alloc, tokens, Level::Or, from)
-}
-
-/// Reads what operators of a level join.
-#[cycle(expressions)]
-fn chain(
-    alloc: Global,
-    tokens: &[Token],
-    level: Level,
-    from: Cursor,
-) -> Result<(Expr, Cursor), ParseFault>
-    requires few { length tokens.now < 2 ^ 32 }
-    requires within { from.at ≤ length tokens.now }
-    ensures read { IsParsed tokens.now (Chain (level_of level)) from expr_value result }
-    ensures within { IfOk result (λ x. (from.at < x.1.at) × (x.1.at ≤ length tokens.now)) }
-{
-    let (mut left, mut to) = part(alloc, tokens, level, from)?;
-    'parts: while let Some(operator) = operator(tokens, to.at, level) {
-        let at = start(tokens, to.at);
-        let behind = past(tokens, to, Effect::Inside)?;
-        let (right, end) = part(alloc, tokens, level, behind)?;
-        left = Expr::Binary(
-            at,
-            operator,
-            Box::new(alloc, left)?,
-            Box::new(alloc, right)?,
-        );
-        to = end;
-    }
-    Ok((left, to))
-}
-
-/// Reads what stands between the operators of a level.
-#[cycle(expressions)]
-fn part(
-    alloc: Global,
-    tokens: &[Token],
-    level: Level,
-    from: Cursor,
-) -> Result<(Expr, Cursor), ParseFault>
-    requires few { length tokens.now < 2 ^ 32 }
-    requires within { from.at ≤ length tokens.now }
-    ensures read { IsParsed tokens.now (the_part (level_of level)) from expr_value result }
-    ensures within { IfOk result (λ x. (from.at < x.1.at) × (x.1.at ≤ length tokens.now)) }
-{
-    match level {
-        Level::Or => chain(alloc, tokens, Level::And, from),
-        Level::And => comparison(alloc, tokens, from),
-        Level::Sum => chain(alloc, tokens, Level::Product, from),
-        Level::Product => shift(alloc, tokens, from),
-    }
-}
-
-/// Reads a sum, or two that are compared.
-#[cycle(expressions)]
-fn comparison(alloc: Global, tokens: &[Token], from: Cursor) -> Result<(Expr, Cursor), ParseFault>
-    requires few { length tokens.now < 2 ^ 32 }
-    requires within { from.at ≤ length tokens.now }
-    ensures read { IsParsed tokens.now Comparison from expr_value result }
-    ensures within { IfOk result (λ x. (from.at < x.1.at) × (x.1.at ≤ length tokens.now)) }
-{
-    let (left, to) = chain(alloc, tokens, Level::Sum, from)?;
-    let Some(operator) = comparison_operator(tokens, to.at) else {
-        return Ok((left, to));
-    };
-    let behind = past(tokens, to, Effect::Inside)?;
-    let (right, end) = chain(alloc, tokens, Level::Sum, behind)?;
-    let at = start(tokens, to.at);
-    let left = Box::new(alloc, left)?;
-    let right = Box::new(alloc, right)?;
-    Ok((Expr::Binary(at, operator, left, right), end))
-}
-
-/// Reads an operand, with each shift behind it.
-#[cycle(expressions)]
-fn shift(alloc: Global, tokens: &[Token], from: Cursor) -> Result<(Expr, Cursor), ParseFault>
-    requires few { length tokens.now < 2 ^ 32 }
-    requires within { from.at ≤ length tokens.now }
-    ensures read { IsParsed tokens.now Shift from expr_value result }
-    ensures within { IfOk result (λ x. (from.at < x.1.at) × (x.1.at ≤ length tokens.now)) }
-{
-    let (mut operand, mut to) = unary(alloc, tokens, from)?;
-    'shifts: while let Some(left) = shift_operator(tokens, to.at) {
-        let at = start(tokens, to.at);
-        let behind = past(tokens, to, Effect::Inside)?;
-        let (amount, end) = manifest_primary(alloc, tokens, behind)?;
-        operand = Expr::Shift(at, left, Box::new(alloc, operand)?, amount);
-        to = end;
-    }
-    Ok((operand, to))
-}
-
-/// Reads a primary, with each `-` and `!` in front of it.
-#[cycle(expressions)]
-fn unary(alloc: Global, tokens: &[Token], from: Cursor) -> Result<(Expr, Cursor), ParseFault>
-    requires few { length tokens.now < 2 ^ 32 }
-    requires within { from.at ≤ length tokens.now }
-    ensures read { IsParsed tokens.now Unary from expr_value result }
-    ensures within { IfOk result (λ x. (from.at < x.1.at) × (x.1.at ≤ length tokens.now)) }
-{
-    if is_mark(tokens, from.at, punctuation::MINUS) {
-        return negated(alloc, tokens, from);
-    }
-    if !is_mark(tokens, from.at, punctuation::BANG) {
-        return primary(alloc, tokens, from);
-    }
-    let behind = past(tokens, from, Effect::Inside)?;
-    let (operand, to) = unary(alloc, tokens, behind)?;
-    let at = start(tokens, from.at);
-    Ok((Expr::Not(at, Box::new(alloc, operand)?), to))
-}
-
-/// Reads what begins with a `-`, which belongs to a number directly behind it.
-#[cycle(expressions)]
-fn negated(alloc: Global, tokens: &[Token], from: Cursor) -> Result<(Expr, Cursor), ParseFault>
-    requires few { length tokens.now < 2 ^ 32 }
-    requires within { from.at < length tokens.now }
-    requires minus { is_one (Mark punctuation.MINUS ∷ []) (kind_at tokens.now from.at) ≡ true }
-    ensures read { IsParsed tokens.now Unary from expr_value result }
-    ensures within { IfOk result (λ x. (from.at < x.1.at) × (x.1.at ≤ length tokens.now)) }
-{
-    let at = start(tokens, from.at);
-    let behind = past(tokens, from, Effect::Inside)?;
-    if is_number(tokens, behind.at) {
-        let ((digits, places), to) = number(tokens, behind, Effect::Inside)?;
-        let neg = true;
-        let literal = Lit::Number {
-            neg,
-            digits,
-            places,
-            at,
-        };
-        return Ok((Expr::Lit(literal), to));
-    }
-    let (operand, to) = unary(alloc, tokens, behind)?;
-    Ok((Expr::Negate(at, Box::new(alloc, operand)?), to))
-}
-
-/// Reads a literal, a place, a cast, a choice or an expression in parentheses.
-#[cycle(expressions)]
-fn primary(alloc: Global, tokens: &[Token], from: Cursor) -> Result<(Expr, Cursor), ParseFault>
-    requires few { length tokens.now < 2 ^ 32 }
-    requires within { from.at ≤ length tokens.now }
-    ensures read { IsParsed tokens.now Primary from expr_value result }
-    ensures within { IfOk result (λ x. (from.at < x.1.at) × (x.1.at ≤ length tokens.now)) }
-{
-    if is_name(tokens, from.at) {
-        return place(alloc, tokens, from);
-    }
-    let at = start(tokens, from.at);
-    if is_number(tokens, from.at) {
-        let ((digits, places), to) = number(tokens, from, Effect::Inside)?;
-        let neg = false;
-        let literal = Lit::Number {
-            neg,
-            digits,
-            places,
-            at,
-        };
-        return Ok((Expr::Lit(literal), to));
-    }
-    if let Some(value) = truth_at(tokens, from.at) {
-        let to = past(tokens, from, Effect::Inside)?;
-        return Ok((Expr::Lit(Lit::Truth { value, at }), to));
-    }
-    if is_word(tokens, from.at, keywords::FIX) {
-        return cast(alloc, tokens, from);
-    }
-    if is_word(tokens, from.at, keywords::IF) {
-        return choice(alloc, tokens, from);
-    }
-    let open = past_mark(tokens, from, punctuation::LEFT_PAREN, Effect::Inside)?;
-    let (inner, close) = expression(alloc, tokens, open)?;
-    let end = past_mark(tokens, close, punctuation::RIGHT_PAREN, Effect::Inside)?;
-    Ok((inner, end))
-}
-
-/// Reads a place with its subscripts and its delay.
-fn place(alloc: Global, tokens: &[Token], from: Cursor) -> Result<(Expr, Cursor), ParseFault>
-    requires few { length tokens.now < 2 ^ 32 }
-    requires within { from.at < length tokens.now }
-    requires name { is_one (AName ∷ []) (kind_at tokens.now from.at) ≡ true }
-    ensures read { IsParsed tokens.now Primary from expr_value result }
-    ensures within { IfOk result (λ x. (from.at < x.1.at) × (x.1.at ≤ length tokens.now)) }
-{
-    let at = start(tokens, from.at);
-    let (name, behind) = name(alloc, tokens, from, Effect::Inside)?;
-    let (subs, end) = subscripts(alloc, tokens, behind)?;
-    let (delay, to) = delay(alloc, tokens, end)?;
-    let place = Place { name, at, subs };
-    Ok((Expr::Read { place, delay }, to))
-}
-
-/// Reads a cast.
-#[cycle(expressions)]
-fn cast(alloc: Global, tokens: &[Token], from: Cursor) -> Result<(Expr, Cursor), ParseFault>
-    requires few { length tokens.now < 2 ^ 32 }
-    requires within { from.at < length tokens.now }
-    requires fix { is_one (Word keyword.FIX ∷ []) (kind_at tokens.now from.at) ≡ true }
-    ensures read { IsParsed tokens.now OtherPrimary from expr_value result }
-    ensures within { IfOk result (λ x. (from.at < x.1.at) × (x.1.at ≤ length tokens.now)) }
-{
-    let at = start(tokens, from.at);
-    let (fix, open) = fix_type(tokens, from, Effect::Inside)?;
-    let behind = past_mark(tokens, open, punctuation::LEFT_PAREN, Effect::Inside)?;
-    let (inner, close) = expression(alloc, tokens, behind)?;
-    let to = past_mark(tokens, close, punctuation::RIGHT_PAREN, Effect::Inside)?;
-    Ok((Expr::Cast(at, fix, Box::new(alloc, inner)?), to))
-}
-
-/// Reads a choice: its conditions with their values, and the last value.
-#[cycle(expressions)]
-fn choice(alloc: Global, tokens: &[Token], from: Cursor) -> Result<(Expr, Cursor), ParseFault>
-    requires few { length tokens.now < 2 ^ 32 }
-    requires within { from.at < length tokens.now }
-    requires begins { is_one (Word keyword.IF ∷ []) (kind_at tokens.now from.at) ≡ true }
-    ensures read { IsParsed tokens.now OtherPrimary from expr_value result }
-    ensures within { IfOk result (λ x. (from.at < x.1.at) × (x.1.at ≤ length tokens.now)) }
-{
-    let at = start(tokens, from.at);
-    let word = past_word(tokens, from, keywords::IF, Effect::Inside)?;
-    let (when, arrow) = expression(alloc, tokens, word)?;
-    let behind = past_mark(tokens, arrow, punctuation::ARROW, Effect::Inside)?;
-    let (then, end) = expression(alloc, tokens, behind)?;
-    let mut branches = Vec::new(alloc);
-    branches.push((when, then))?;
-    let mut to = end;
-    'arms: loop {
-        let bar = past_mark(tokens, to, punctuation::PIPE_PIPE, Effect::Inside)?;
-        let (part, stop) = expression(alloc, tokens, bar)?;
-        if !is_mark(tokens, stop.at, punctuation::ARROW) {
-            let last = past_word(tokens, stop, keywords::FI, Effect::Inside)?;
-            return Ok((Expr::Choose(at, branches, Box::new(alloc, part)?), last));
+impl Precedence {
+    /// The precedence of an operator.
+    fn of(operator: BinOp) -> Precedence
+        ensures { result ≡ precedence_of operator }
+    {
+        match operator {
+            BinOp::Or => Precedence::Or,
+            BinOp::And => Precedence::And,
+            BinOp::Lt | BinOp::Le | BinOp::Eq | BinOp::Ne | BinOp::Gt | BinOp::Ge => {
+                Precedence::Comparison
+            }
+            BinOp::Add | BinOp::Sub => Precedence::Sum,
+            BinOp::Mul => Precedence::Product,
         }
-        let next = past(tokens, stop, Effect::Inside)?;
-        let (value, end) = expression(alloc, tokens, next)?;
-        branches.push((part, value))?;
-        to = end;
+    }
+
+    /// How many precedences are looser.
+    fn rank(self) -> u8
+        ensures { result ≡ rank_of self }
+    {
+        match self {
+            Precedence::Or => 0,
+            Precedence::And => 1,
+            Precedence::Comparison => 2,
+            Precedence::Sum => 3,
+            Precedence::Product => 4,
+        }
+    }
+
+    /// The tightest precedence of an operator after one of this precedence and its operand: comparisons do not chain.
+    fn tightest_after(self) -> Precedence
+        ensures { result ≡ tightest_after self }
+    {
+        match self {
+            Precedence::Comparison => Precedence::And,
+            other => other,
+        }
+    }
+}
+
+/// The operator between two operands that a symbol is.
+fn operator_of(symbol: u8) -> Option<BinOp>
+    ensures { result ≡ row binary_operators symbol }
+{
+    match symbol {
+        punctuation::PIPE => Some(BinOp::Or),
+        punctuation::AMPERSAND => Some(BinOp::And),
+        punctuation::LESS => Some(BinOp::Lt),
+        punctuation::LESS_EQUAL => Some(BinOp::Le),
+        punctuation::EQUAL_EQUAL => Some(BinOp::Eq),
+        punctuation::BANG_EQUAL => Some(BinOp::Ne),
+        punctuation::GREATER => Some(BinOp::Gt),
+        punctuation::GREATER_EQUAL => Some(BinOp::Ge),
+        punctuation::PLUS => Some(BinOp::Add),
+        punctuation::MINUS => Some(BinOp::Sub),
+        punctuation::STAR => Some(BinOp::Mul),
+        _ => None,
+    }
+}
+
+impl Parser<'_> {
+    /// The operator between two operands that the next token is.
+    fn binary_operator(&self) -> Option<BinOp>
+        ensures value { result ≡ the_binary_operator (next self.now) }
+        ensures within { IsSome result → self.now.at < length self.now.tokens.now }
+    {
+        match self.kind() {
+            Some(TokenKind::Symbol(symbol)) => operator_of(*symbol),
+            _ => None,
+        }
+    }
+
+    /// The operator that the next token is, if its precedence is between these two.
+    fn operator_between(&self, loosest: Precedence, tightest: Precedence) -> Option<BinOp>
+        ensures some { IfSome result (IsBetween loosest tightest (next self.now)) }
+        ensures none { IfNone result (NoneBetween loosest tightest (next self.now)) }
+        ensures within { IsSome result → self.now.at < length self.now.tokens.now }
+    {
+        let operator = self.binary_operator()?;
+        let rank = Precedence::of(operator).rank();
+        if loosest.rank() <= rank && rank <= tightest.rank() {
+            Some(operator)
+        } else {
+            None
+        }
+    }
+
+    /// Whether the shift that the next token is goes to the left.
+    fn shift_operator(&self) -> Option<bool>
+        ensures value { result ≡ the_shift_operator (next self.now) }
+        ensures within { IsSome result → self.now.at < length self.now.tokens.now }
+    {
+        match self.kind() {
+            Some(TokenKind::Symbol(punctuation::LESS_LESS)) => Some(true),
+            Some(TokenKind::Symbol(punctuation::GREATER_GREATER)) => Some(false),
+            _ => None,
+        }
+    }
+
+    /// The truth value that the next token is.
+    pub fn next_truth(&self) -> Option<bool>
+        ensures value { result ≡ truth_of (next self.now) }
+        ensures within { IsSome result → self.now.at < length self.now.tokens.now }
+    {
+        match self.kind() {
+            Some(TokenKind::Reserved(keywords::TRUE)) => Some(true),
+            Some(TokenKind::Reserved(keywords::FALSE)) => Some(false),
+            _ => None,
+        }
+    }
+
+    /// Reads an expression.
+    #[cycle(expressions)]
+    pub fn expression(&mut self) -> Result<Expr, ParseFault>
+        ensures { IsParsed (Chain Or) self.old expr_value self.new result }
+    {
+        self.operation(Precedence::Or)
+    }
+
+    /// Reads operands with operators between them that are at least as tight as `loosest`, by precedence climbing.
+    #[cycle(expressions)]
+    fn operation(&mut self, loosest: Precedence) -> Result<Expr, ParseFault>
+        ensures { IsParsed (operation loosest) self.old expr_value self.new result }
+    {
+        let mut left = self.shift()?;
+        let mut tightest = Precedence::Product;
+        'operators: while let Some(operator) = self.operator_between(loosest, tightest) {
+            left = self.operated(left, operator)?;
+            tightest = Precedence::of(operator).tightest_after();
+        }
+        Ok(left)
+    }
+
+    /// Reads an operator and its right operand, after its left operand.
+    #[cycle(expressions)]
+    #[inline(never)]
+    fn operated(&mut self, left: Expr, operator: BinOp) -> Result<Expr, ParseFault>
+        requires inside { self.old.at < length self.old.tokens.now }
+        requires next { the_binary_operator (next self.old) ≡ Some operator }
+        ensures read { IsRead (operated (precedence_of operator)) self.old (expr_value left ∷ [])
+            (λ e. expr_value e ∷ []) self.new result }
+        ensures advances { OnOk result (self.old.at < self.new.at) }
+    {
+        let at = self.start();
+        self.advance(Effect::Inside)?;
+        let right = self.right_operand(Precedence::of(operator))?;
+        let left = Box::new(self.alloc, left)?;
+        let right = Box::new(self.alloc, right)?;
+        Ok(Expr::Binary(at, operator, left, right))
+    }
+
+    /// Reads the right operand of an operator of this precedence.
+    #[cycle(expressions)]
+    fn right_operand(&mut self, precedence: Precedence) -> Result<Expr, ParseFault>
+        ensures { IsParsed (right_operand precedence) self.old expr_value self.new result }
+    {
+        match precedence {
+            Precedence::Or => self.operation(Precedence::And),
+            Precedence::And => self.operation(Precedence::Comparison),
+            Precedence::Comparison => self.operation(Precedence::Sum),
+            Precedence::Sum => self.operation(Precedence::Product),
+            Precedence::Product => self.shift(),
+        }
+    }
+
+    /// Reads an operand, with each shift after it.
+    #[cycle(expressions)]
+    fn shift(&mut self) -> Result<Expr, ParseFault>
+        ensures { IsParsed Shift self.old expr_value self.new result }
+    {
+        let mut operand = self.unary()?;
+        'shifts: while let Some(is_left) = self.shift_operator() {
+            let at = self.start();
+            self.advance(Effect::Inside)?;
+            let amount = self.manifest_primary()?;
+            operand = Expr::Shift(at, is_left, Box::new(self.alloc, operand)?, amount);
+        }
+        Ok(operand)
+    }
+
+    /// Reads a primary, with each `-` and `!` in front of it.
+    #[cycle(expressions)]
+    fn unary(&mut self) -> Result<Expr, ParseFault>
+        ensures { IsParsed Unary self.old expr_value self.new result }
+    {
+        if self.is_symbol(punctuation::MINUS) {
+            return self.negated();
+        }
+        if self.is_symbol(punctuation::BANG) {
+            return self.inverted();
+        }
+        self.primary()
+    }
+
+    /// Reads a `!` and its operand.
+    #[cycle(expressions)]
+    #[inline(never)]
+    fn inverted(&mut self) -> Result<Expr, ParseFault>
+        requires inside { self.old.at < length self.old.tokens.now }
+        requires bang { is_one (Punctuation punctuation.BANG ∷ []) (next self.old) ≡ true }
+        ensures { IsParsed Unary self.old expr_value self.new result }
+    {
+        let at = self.start();
+        self.advance(Effect::Inside)?;
+        let operand = self.unary()?;
+        Ok(Expr::Not(at, Box::new(self.alloc, operand)?))
+    }
+
+    /// Reads what begins with a `-`, which belongs to a number directly after it.
+    #[cycle(expressions)]
+    #[inline(never)]
+    fn negated(&mut self) -> Result<Expr, ParseFault>
+        requires inside { self.old.at < length self.old.tokens.now }
+        requires minus { is_one (Punctuation punctuation.MINUS ∷ []) (next self.old) ≡ true }
+        ensures { IsParsed Unary self.old expr_value self.new result }
+    {
+        let at = self.start();
+        self.advance(Effect::Inside)?;
+        if self.is_number() {
+            let (digits, places) = self.number(Effect::Inside)?;
+            let neg = true;
+            return Ok(Expr::Lit(Lit::Number {
+                neg,
+                digits,
+                places,
+                at,
+            }));
+        }
+        let operand = self.unary()?;
+        Ok(Expr::Negate(at, Box::new(self.alloc, operand)?))
+    }
+
+    /// Reads a literal, a place, a cast, a choice or an expression in parentheses.
+    #[cycle(expressions)]
+    fn primary(&mut self) -> Result<Expr, ParseFault>
+        ensures { IsParsed Primary self.old expr_value self.new result }
+    {
+        if self.is_name() {
+            return self.read();
+        }
+        if self.is_number() {
+            return self.number_literal();
+        }
+        if let Some(value) = self.next_truth() {
+            return self.truth_literal(value);
+        }
+        if self.is_reserved(keywords::FIX) {
+            return self.cast();
+        }
+        if self.is_reserved(keywords::IF) {
+            return self.choice();
+        }
+        self.expect_symbol(punctuation::LEFT_PAREN, Effect::Inside)?;
+        let inner = self.expression()?;
+        self.expect_symbol(punctuation::RIGHT_PAREN, Effect::Inside)?;
+        Ok(inner)
+    }
+
+    /// Reads a number.
+    #[inline(never)]
+    fn number_literal(&mut self) -> Result<Expr, ParseFault>
+        requires { is_one number (next self.old) ≡ true }
+        ensures { IsParsed OtherPrimary self.old expr_value self.new result }
+    {
+        let at = self.start();
+        let (digits, places) = self.number(Effect::Inside)?;
+        let neg = false;
+        Ok(Expr::Lit(Lit::Number {
+            neg,
+            digits,
+            places,
+            at,
+        }))
+    }
+
+    /// Reads a truth value.
+    #[inline(never)]
+    fn truth_literal(&mut self, value: bool) -> Result<Expr, ParseFault>
+        requires inside { self.old.at < length self.old.tokens.now }
+        requires truth { truth_of (next self.old) ≡ Some value }
+        ensures { IsParsed OtherPrimary self.old expr_value self.new result }
+    {
+        let at = self.start();
+        self.advance(Effect::Inside)?;
+        Ok(Expr::Lit(Lit::Truth { value, at }))
+    }
+
+    /// Reads a place with its subscripts and its delay.
+    #[inline(never)]
+    fn read(&mut self) -> Result<Expr, ParseFault>
+        requires { is_one (AName ∷ []) (next self.old) ≡ true }
+        ensures { IsParsed Primary self.old expr_value self.new result }
+    {
+        let at = self.start();
+        let name = self.name(Effect::Inside)?;
+        let subs = self.subscripts()?;
+        let delay = self.delay()?;
+        let place = Place { name, at, subs };
+        Ok(Expr::Read { place, delay })
+    }
+
+    /// Reads a cast.
+    #[cycle(expressions)]
+    #[inline(never)]
+    fn cast(&mut self) -> Result<Expr, ParseFault>
+        requires inside { self.old.at < length self.old.tokens.now }
+        requires fix { is_one (Keyword keyword.FIX ∷ []) (next self.old) ≡ true }
+        ensures { IsParsed OtherPrimary self.old expr_value self.new result }
+    {
+        let at = self.start();
+        let fix = self.fix_type(Effect::Inside)?;
+        self.expect_symbol(punctuation::LEFT_PAREN, Effect::Inside)?;
+        let inner = self.expression()?;
+        self.expect_symbol(punctuation::RIGHT_PAREN, Effect::Inside)?;
+        Ok(Expr::Cast(at, fix, Box::new(self.alloc, inner)?))
+    }
+
+    /// Reads a choice: its conditions with their values, and the last value.
+    #[cycle(expressions)]
+    #[inline(never)]
+    fn choice(&mut self) -> Result<Expr, ParseFault>
+        requires inside { self.old.at < length self.old.tokens.now }
+        requires begins { is_one (Keyword keyword.IF ∷ []) (next self.old) ≡ true }
+        ensures { IsParsed OtherPrimary self.old expr_value self.new result }
+    {
+        let at = self.start();
+        self.expect_reserved(keywords::IF, Effect::Inside)?;
+        let when = self.expression()?;
+        self.expect_symbol(punctuation::ARROW, Effect::Inside)?;
+        let then = self.expression()?;
+        let mut branches = Vec::new(self.alloc);
+        branches.push((when, then))?;
+        'arms: loop {
+            self.expect_symbol(punctuation::PIPE_PIPE, Effect::Inside)?;
+            let part = self.expression()?;
+            if !self.is_symbol(punctuation::ARROW) {
+                self.expect_reserved(keywords::FI, Effect::Inside)?;
+                let last = Box::new(self.alloc, part)?;
+                return Ok(Expr::Choose(at, branches, last));
+            }
+            self.advance(Effect::Inside)?;
+            let value = self.expression()?;
+            branches.push((part, value))?;
+        }
     }
 }

@@ -1,11 +1,11 @@
 //! Which program the tokens of a source are.
 #![tactic(auto)]
 
-mod cursor;
 mod declarations;
 mod expressions;
 mod items;
 mod manifests;
+mod parser;
 mod places;
 mod program;
 mod types;
@@ -56,14 +56,14 @@ impl From<AllocError> for ParseFault {
     }
 }
 
-/// Reads the tokens of a source to its program. The fault is that of the least token that has one: `Syntax` where no program
-/// goes on with the token, else `Deep` where the token passes a limit.
+/// Reads the tokens of a source to its program. The fault is that of the least token that has one: `Syntax` where no
+/// program goes on with the token, else `Deep` where the token passes a limit.
 pub fn parse(alloc: Global, tokens: &Tokens) -> Result<Program, ParseFault>
     requires { length tokens.now < 2 ^ 32 }
     ensures program { IfOk result (λ program. IsWithin tokens.now (view program)) }
     ensures fault { IfErr result (λ fault. fault ≢ Memory → HasFault tokens.now fault) }
 
-    // What the tokens are is what the call answers, want of memory aside.
+    // What the tokens are is what the call answers, unless there is no memory.
     ensures each_program { (program : Tree) → IsWithin tokens.now program → AnswersProgram program result }
     ensures each_fault { (fault : FaultType) → HasFault tokens.now fault → AnswersFault fault result }
 {

@@ -1,89 +1,75 @@
 //! Types of numbers.
 
-ghost use Rattle.std.specs.Prelude.{◌≡◌, ◌≢◌, ◌≤◌, ◌<◌, ◌^◌, length, min, IsSome, IfOk, IfErr};
-ghost use Rattle.silage_syntax.specs.Grammar.{from_at, kind_at, mode_of, size as the_size};
-ghost use Rattle.silage_parse.specs.declared.ParseFault.TheVariants.{Memory};
-ghost use Rattle.silage_parse.specs.Table as the;
-ghost use Rattle.silage_parse.specs.Table.{FixIn};
-ghost use Rattle.silage_parse.specs.Parsed.{effect as effect_of, IsFixEnd, IsMode, IsParsed};
+ghost use Rattle.std.specs.Prelude.{◌≡◌, min, IsSome, ◌<◌, length};
+ghost use Rattle.silage_syntax.specs.Grammar.{mode_of, size as the_size};
+ghost use Rattle.silage_parse.specs.Private.ParseTable as the;
+ghost use Rattle.silage_parse.specs.Private.ParseTable.{FixIn};
+ghost use Rattle.silage_parse.specs.Private.Parsed.{next, start_of, effect as effect_of, EndsFix, ReadsMode, IsParsed};
 
 use crate::ParseFault;
-use crate::cursor::{Cursor, Effect, is_mark, kind, past, past_mark, past_word, whole};
+use crate::parser::{Effect, Parser};
 use fix_word::{FixType, Mode, Shape};
-use silage_lex::{Token, TokenKind, keywords, punctuation};
+use silage_lex::{TokenKind, keywords, punctuation};
 
-/// The size in bits that a number of the source tells. One that no type may have is the greatest of them.
+/// The size in bits that a number of the source stands for. One that no type may have is the greatest of them.
 fn size(n: u64) -> u8
     ensures { result ≡ the_size n }
 {
     n.min(255) as u8
 }
 
-/// The mode that token `at` is.
-fn mode_at(tokens: &[Token], at: usize) -> Option<Mode>
-    ensures value { result ≡ mode_of (kind_at tokens.now at) }
-    ensures within { IsSome result → at < length tokens.now }
-{
-    match kind(tokens, at) {
-        Some(TokenKind::Reserved(keywords::TRUNC)) => Some(Mode::Trunc),
-        Some(TokenKind::Reserved(keywords::ROUND)) => Some(Mode::Round),
-        _ => None,
+impl Parser<'_> {
+    /// The rounding mode that the next token is.
+    fn next_mode(&self) -> Option<Mode>
+        ensures value { result ≡ mode_of (next self.now) }
+        ensures within { IsSome result → self.now.at < length self.now.tokens.now }
+    {
+        match self.kind() {
+            Some(TokenKind::Reserved(keywords::TRUNC)) => Some(Mode::Trunc),
+            Some(TokenKind::Reserved(keywords::ROUND)) => Some(Mode::Round),
+            _ => None,
+        }
     }
-}
 
-/// Reads a mode. `Syntax` where another token stands, or none.
-fn mode(tokens: &[Token], from: Cursor, effect: Effect) -> Result<(Mode, Cursor), ParseFault>
-    requires few { length tokens.now < 2 ^ 32 }
-    requires within { from.at ≤ length tokens.now }
-    ensures read { IsMode tokens.now (effect_of effect) from result }
-    ensures within { IfOk result (λ x. (from.at < x.1.at) × (x.1.at ≤ length tokens.now)) }
-    ensures memory { IfErr result (λ fault. fault ≢ Memory) }
-{
-    match mode_at(tokens, from.at) {
-        Some(mode) => Ok((mode, past(tokens, from, effect)?)),
-        None => Err(ParseFault::Syntax(from.at as u32)),
+    /// Reads a rounding mode. `Syntax` where another token is next, or none.
+    fn mode(&mut self, effect: Effect) -> Result<Mode, ParseFault>
+        ensures { ReadsMode (effect_of effect) self.old self.new result }
+    {
+        let Some(mode) = self.next_mode() else {
+            return Err(self.syntax());
+        };
+        self.advance(effect)?;
+        Ok(mode)
     }
-}
 
-/// Reads the end of a fix type behind its sizes, and tells its mode.
-fn fix_end(tokens: &[Token], from: Cursor, effect: Effect) -> Result<(Mode, Cursor), ParseFault>
-    requires few { length tokens.now < 2 ^ 32 }
-    requires within { from.at ≤ length tokens.now }
-    ensures read { IsFixEnd tokens.now (effect_of effect) from result }
-    ensures within { IfOk result (λ x. (from.at < x.1.at) × (x.1.at ≤ length tokens.now)) }
-    ensures memory { IfErr result (λ fault. fault ≢ Memory) }
-{
-    if !is_mark(tokens, from.at, punctuation::COMMA) {
-        let to = past_mark(tokens, from, punctuation::GREATER, effect)?;
-        return Ok((Mode::Trunc, to));
+    /// Reads the end of a fix type after its sizes: its rounding mode, if it has one, and `>`.
+    fn fix_end(&mut self, effect: Effect) -> Result<Mode, ParseFault>
+        ensures { EndsFix (effect_of effect) self.old self.new result }
+    {
+        if !self.is_symbol(punctuation::COMMA) {
+            self.expect_symbol(punctuation::GREATER, effect)?;
+            return Ok(Mode::Trunc);
+        }
+        self.advance(effect)?;
+        let mode = self.mode(effect)?;
+        self.expect_symbol(punctuation::GREATER, effect)?;
+        Ok(mode)
     }
-    let word = past(tokens, from, effect)?;
-    let (mode, close) = mode(tokens, word, effect)?;
-    let end = past_mark(tokens, close, punctuation::GREATER, effect)?;
-    Ok((mode, end))
-}
 
-/// Reads a fix type, whose tokens have this effect.
-pub fn fix_type(
-    tokens: &[Token],
-    from: Cursor,
-    effect: Effect,
-) -> Result<(FixType, Cursor), ParseFault>
-    requires few { length tokens.now < 2 ^ 32 }
-    requires within { from.at ≤ length tokens.now }
-    ensures read { IsParsed tokens.now (FixIn (effect_of effect)) from (the.fix (from_at tokens.now from.at)) result }
-    ensures within { IfOk result (λ x. (from.at < x.1.at) × (x.1.at ≤ length tokens.now)) }
-    ensures memory { IfErr result (λ fault. fault ≢ Memory) }
-{
-    let below = past_word(tokens, from, keywords::FIX, effect)?;
-    let width = past_mark(tokens, below, punctuation::LESS, effect)?;
-    let (w, comma) = whole(tokens, width, effect)?;
-    let fraction = past_mark(tokens, comma, punctuation::COMMA, effect)?;
-    let (f, end) = whole(tokens, fraction, effect)?;
-    let (mode, to) = fix_end(tokens, end, effect)?;
-    let shape = Shape {
-        w: size(w),
-        f: size(f),
-    };
-    Ok((FixType { shape, mode }, to))
+    /// Reads a fix type, whose tokens have this effect.
+    pub fn fix_type(&mut self, effect: Effect) -> Result<FixType, ParseFault>
+        ensures { IsParsed (FixIn (effect_of effect)) self.old (the.fix (start_of self.old)) self.new result }
+    {
+        self.expect_reserved(keywords::FIX, effect)?;
+        self.expect_symbol(punctuation::LESS, effect)?;
+        let w = self.whole(effect)?;
+        self.expect_symbol(punctuation::COMMA, effect)?;
+        let f = self.whole(effect)?;
+        let mode = self.fix_end(effect)?;
+        let shape = Shape {
+            w: size(w),
+            f: size(f),
+        };
+        Ok(FixType { shape, mode })
+    }
 }

@@ -1,6 +1,6 @@
 use Rattle.std.proofs.Common.{subst, List}
 use Rattle.silage_lex.specs.declared.Token.{Token}
-use Rattle.silage_parse.specs.Leads.{IsRun}
+use Rattle.silage_parse.specs.Private.Parsed.{IsRun}
 use Rattle.silage_parse.proofs.Answers.{answers_program, answers_fault, answers_each_program, answers_each_fault}
 use Rattle.silage_parse.proofs.parse.Goals as goal
 

@@ -4,7 +4,7 @@ use Rattle.fix_word.specs.declared.types.SigType.{SigType}
 use Rattle.silage_syntax.specs.declared.tree.Decl.{Decl}
 use Rattle.silage_syntax.specs.Grammar.{typed}
 use Rattle.silage_parse.specs.declared.declarations.Declared.{Declared}
-use Rattle.silage_parse.specs.Leads.{view_declared}
+use Rattle.silage_parse.specs.Private.Parsed.{view_declared}
 use Rattle.silage_parse.proofs.declarations.add_typed.Goals as goal
 
 abbrev decls_of : SigType → List Declared → List Decl

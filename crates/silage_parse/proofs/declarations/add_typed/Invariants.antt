@@ -1,7 +1,7 @@
 use Rattle.std.proofs.Common.{◌≡◌, ◌++◌, map, length}
 use Rattle.std.specs.Vec.Iter.{into_iter_items, into_iter_len}
 use Rattle.silage_syntax.specs.Grammar.{typed}
-use Rattle.silage_parse.specs.Leads.{view_declared}
+use Rattle.silage_parse.specs.Private.Parsed.{view_declared}
 use Rattle.silage_parse.proofs.declarations.add_typed.Given as goal
 
 -- what is there and what is still to come are what shall be there

@@ -1,0 +1,18 @@
+use Rattle.std.proofs.Common.{refl, sym, [], ◌∷◌}
+use Rattle.std.proofs.lemmas.Result.{err_from_is_err_and}
+use Rattle.silage_parse.specs.Private.ParseTable.{Expand, RightSide, AfterTarget}
+use Rattle.silage_parse.specs.Private.Parsed.{initial_end, place_value, item_value}
+use Rattle.silage_parse.proofs.Steps.{start, matches, first, other, stops_at, whole}
+use Rattle.silage_parse.specs.Private.ParseTable as the
+use Rattle.silage_parse.proofs.parser.Parser.after_target.Goals as goal
+
+pub returns-then-is_symbol : goal.returns-then-is_symbol
+returns-then-is_symbol c = whole initial_end (place_value c.args.place ∷ []) (λ x. item_value x ∷ []) _ c.initial.result (first (start (Expand AfterTarget ∷ []) c.args.self.now (place_value c.args.place ∷ [])) refl (sym c.if-is_symbol.ensures.value)) c.initial.ensures
+
+pub returns-in_err-expect_symbol : goal.returns-in_err-expect_symbol
+returns-in_err-expect_symbol c =
+    let p = err_from_is_err_and c.from_residual.result c.from_residual.ensures.1 in
+    rw (p.1, p.2) (stops_at _ (other (start (Expand AfterTarget ∷ []) c.args.self.now (place_value c.args.place ∷ [])) refl (sym c.if-is_symbol.ensures.value)) c.in_err-expect_symbol.ensures)
+
+pub returns : goal.returns
+returns c = whole (Expand RightSide ∷ []) (the.token c.in_ok-expect_symbol.ensures.token ∷ place_value c.args.place ∷ []) (λ x. item_value x ∷ []) _ c.right_side.result (matches (other (start (Expand AfterTarget ∷ []) c.args.self.now (place_value c.args.place ∷ [])) refl (sym c.if-is_symbol.ensures.value)) c.in_ok-expect_symbol.ensures) (c.right_side.ensures c.in_ok-expect_symbol.ensures.token)

@@ -1,0 +1,6 @@
+use Rattle.std.proofs.Common.{sym}
+use Rattle.silage_parse.proofs.Steps.{unlike}
+use Rattle.silage_parse.proofs.parser.Parser.expect_reserved.Goals as goal
+
+pub returns-then-not-is_reserved : goal.returns-then-not-is_reserved
+returns-then-not-is_reserved c = rw c.syntax.ensures (unlike c.args.self.now (sym c.if-not-is_reserved.ensures.value))

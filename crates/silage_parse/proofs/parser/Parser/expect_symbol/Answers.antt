@@ -1,0 +1,6 @@
+use Rattle.std.proofs.Common.{sym}
+use Rattle.silage_parse.proofs.Steps.{unlike}
+use Rattle.silage_parse.proofs.parser.Parser.expect_symbol.Goals as goal
+
+pub returns-then-not-is_symbol : goal.returns-then-not-is_symbol
+returns-then-not-is_symbol c = rw c.syntax.ensures (unlike c.args.self.now (sym c.if-not-is_symbol.ensures.value))

@@ -1,0 +1,38 @@
+use Rattle.std.proofs.Common.{[]}
+use Rattle.std.proofs.lemmas.Result.{err_from_is_err_and}
+use Rattle.silage_parse.specs.Private.Parsed.{loop_bounds}
+use Rattle.silage_parse.proofs.Steps.{start, matches, parses, stops_at}
+use Rattle.silage_parse.proofs.parser.Parser.loop_bounds.Goals as goal
+
+pub returns-in_err-expect_symbol : goal.returns-in_err-expect_symbol
+returns-in_err-expect_symbol c =
+    let p = err_from_is_err_and c.from_residual.result c.from_residual.ensures.1 in
+    rw (p.1, p.2) (stops_at _ (start loop_bounds c.args.self.now []) c.in_err-expect_symbol.ensures)
+
+pub returns-in_err-lo : goal.returns-in_err-lo
+returns-in_err-lo c =
+    let p = err_from_is_err_and c.from_residual-in_err-lo.result c.from_residual-in_err-lo.ensures.1 in
+    rw (p.1, p.2) (stops_at _ (matches (start loop_bounds c.args.self.now []) c.in_ok-expect_symbol.ensures) c.in_err-lo.ensures)
+
+pub returns-in_err-expect_symbol-2 : goal.returns-in_err-expect_symbol-2
+returns-in_err-expect_symbol-2 c =
+    let p = err_from_is_err_and c.from_residual-in_err-expect_symbol-2.result c.from_residual-in_err-expect_symbol-2.ensures.1 in
+    rw (p.1, p.2) (stops_at _ (parses (matches (start loop_bounds c.args.self.now []) c.in_ok-expect_symbol.ensures) c.in_ok-lo.ensures) c.in_err-expect_symbol-2.ensures)
+
+pub returns-in_err-hi : goal.returns-in_err-hi
+returns-in_err-hi c =
+    let p = err_from_is_err_and c.from_residual-in_err-hi.result c.from_residual-in_err-hi.ensures.1 in
+    rw (p.1, p.2) (stops_at _ (matches (parses (matches (start loop_bounds c.args.self.now []) c.in_ok-expect_symbol.ensures) c.in_ok-lo.ensures) c.in_ok-expect_symbol-2.ensures) c.in_err-hi.ensures)
+
+pub returns-in_err-expect_symbol-3 : goal.returns-in_err-expect_symbol-3
+returns-in_err-expect_symbol-3 c =
+    let p = err_from_is_err_and c.from_residual-in_err-expect_symbol-3.result c.from_residual-in_err-expect_symbol-3.ensures.1 in
+    rw (p.1, p.2) (stops_at _ (parses (matches (parses (matches (start loop_bounds c.args.self.now []) c.in_ok-expect_symbol.ensures) c.in_ok-lo.ensures) c.in_ok-expect_symbol-2.ensures) c.in_ok-hi.ensures) c.in_err-expect_symbol-3.ensures)
+
+pub returns-in_err-expect_symbol-4 : goal.returns-in_err-expect_symbol-4
+returns-in_err-expect_symbol-4 c =
+    let p = err_from_is_err_and c.from_residual-in_err-expect_symbol-4.result c.from_residual-in_err-expect_symbol-4.ensures.1 in
+    rw (p.1, p.2) (stops_at _ (matches (parses (matches (parses (matches (start loop_bounds c.args.self.now []) c.in_ok-expect_symbol.ensures) c.in_ok-lo.ensures) c.in_ok-expect_symbol-2.ensures) c.in_ok-hi.ensures) c.in_ok-expect_symbol-3.ensures) c.in_err-expect_symbol-4.ensures)
+
+pub returns : goal.returns
+returns c = (c.in_ok-expect_symbol-4.ensures.token, c.in_ok-expect_symbol-3.ensures.token, c.in_ok-expect_symbol-2.ensures.token, c.in_ok-expect_symbol.ensures.token, matches (matches (parses (matches (parses (matches (start loop_bounds c.args.self.now []) c.in_ok-expect_symbol.ensures) c.in_ok-lo.ensures) c.in_ok-expect_symbol-2.ensures) c.in_ok-hi.ensures) c.in_ok-expect_symbol-3.ensures) c.in_ok-expect_symbol-4.ensures)

@@ -1,0 +1,19 @@
+use Rattle.std.proofs.Common.{refl, [], ◌∷◌}
+use Rattle.std.proofs.lemmas.Result.{err_from_is_err_and}
+use Rattle.silage_parse.specs.Private.ParseTable.{Expand, Target}
+use Rattle.silage_parse.proofs.Steps.{start, matches, parses, does, only, stops_at}
+use Rattle.silage_parse.proofs.Tokens.{taken_from, taken_name}
+use Rattle.silage_parse.proofs.parser.Parser.target.Goals as goal
+
+pub returns-in_err-name-clause-read : goal.returns-in_err-name-clause-read
+returns-in_err-name-clause-read c =
+    let p = err_from_is_err_and c.from_residual.result c.from_residual.ensures.1 in
+    rw (p.1, p.2) (stops_at _ (only (start (Expand Target ∷ []) c.args.self.now []) refl) c.in_err-name.ensures)
+
+pub returns-in_err-subs-clause-read : goal.returns-in_err-subs-clause-read
+returns-in_err-subs-clause-read c =
+    let p = err_from_is_err_and c.from_residual-in_err-subs.result c.from_residual-in_err-subs.ensures.1 in
+    rw (p.1, p.2) (stops_at _ (matches (only (start (Expand Target ∷ []) c.args.self.now []) refl) c.in_ok-name.ensures.0) c.in_err-subs.ensures)
+
+pub returns-clause-read : goal.returns-clause-read
+returns-clause-read c = does (parses (matches (only (start (Expand Target ∷ []) c.args.self.now []) refl) c.in_ok-name.ensures.0) c.in_ok-subs.ensures) (λ under. rw (taken_name c.in_ok-name.ensures.0 c.in_ok-name.ensures.1, ← (taken_from c.in_ok-name.ensures.0), ← c.start-at.ensures) refl)

@@ -1,0 +1,4 @@
+pub mod ParseTable
+pub mod Machine
+pub mod Parsed
+pub mod Precedence

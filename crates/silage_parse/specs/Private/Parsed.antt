@@ -1,0 +1,313 @@
+-- What the methods of the parser ensure, said of the run of the LL(1) machine.
+use Rattle.std.specs.Prelude.{◌≡◌, ℕ, ◌+◌, ◌≤◌, ◌&&◌, Bool, true, List, [], ◌∷◌, ◌++◌, map, slice_get, Option, Some, None, Result, Ok, Err}
+use Rattle.fix_word.specs.declared.types.Mode.{Mode}
+use Rattle.silage_lex.specs.declared.Token.{Token}
+use Rattle.silage_lex.specs.declared.TokenKind.{TokenKind}
+use Rattle.silage_lex.specs.declared.TokenKind.TheVariants as kind
+use Rattle.silage_lex.specs.declared.punctuation.TheConstants as punctuation
+use Rattle.silage_lex.specs.declared.keywords.TheConstants as keyword
+use Rattle.silage_syntax.specs.declared.tree.Manifest.{Manifest as RustManifest}
+use Rattle.silage_syntax.specs.declared.tree.Place.{Place}
+use Rattle.silage_syntax.specs.declared.tree.Expr.{Expr}
+use Rattle.silage_syntax.specs.declared.tree.Item.{Item}
+use Rattle.silage_syntax.specs.declared.tree.ConstDef.{ConstDef}
+use Rattle.silage_syntax.specs.declared.tree.Func.{Func}
+use Rattle.silage_syntax.specs.declared.tree.Top.{Top as RustTop}
+use Rattle.silage_syntax.specs.declared.tree.Program.{Program}
+use Rattle.silage_syntax.specs.Tree.{Top, table, function, view, view_manifest, view_delay, view_place, view_expr, view_item, view_func, view_top}
+use Rattle.silage_syntax.specs.Grammar.{Declared, fix_type, kind_at, from_at, mode_of, number_of}
+use Rattle.silage_parse.specs.declared.ParseFault.{ParseFault}
+use Rattle.silage_parse.specs.declared.ParseFault.TheVariants.{Syntax, Deep, Memory}
+use Rattle.silage_parse.specs.declared.parser.Counts.{Counts}
+use Rattle.silage_parse.specs.declared.parser.Effect.{Effect as RustEffect}
+use Rattle.silage_parse.specs.declared.parser.Effect.TheVariants as r
+use Rattle.silage_parse.specs.declared.parser.Parser.{Parser}
+use Rattle.silage_parse.specs.declared.declarations.Declared.{Declared as RustDeclared}
+use Rattle.silage_parse.specs.Private.ParseTable.{Terminal, Punctuation, Keyword, AName, AWhole, End, is_one, Effect, Outside, Begins, Inside, Enters, Leaves, Value, Symbol, Match, Expand, Act, modes, punctuation_of, keyword_of, Nonterminal, number, Decl_, MoreDecls, first_decl, Name_, MoreNames, first_name, Locals, no_locals, Signed, MoreWords, first_word, Target, MoreTargets, first_place, Args, Manifest_, ManifestPrimary, InitialValue, is_initial, AfterOpenName, Items_, no_items, FixIn, Words, add_table, Results, add_function, Tops}
+use Rattle.silage_parse.specs.Private.ParseTable as the
+use Rattle.silage_parse.specs.Private.Machine.{whole_value, Count, allowed, counted, Outcome, done, fault, Runs, RunsTo}
+
+-- THE STATE OF THE PARSER
+
+abbrev pub counts_of : Counts → Count
+counts_of c = record { weight = c.weight; loops = c.loops }
+
+abbrev pub effect : RustEffect → Effect
+effect r.Outside = Outside
+effect r.Begins = Begins
+effect r.Inside = Inside
+effect r.Enters = Enters
+effect r.Leaves = Leaves
+
+-- the kind of the next token, and of the token after it
+abbrev pub next : Parser → Option TokenKind
+next p = kind_at p.tokens.now p.at
+
+abbrev pub later : Parser → Option TokenKind
+later p = kind_at p.tokens.now (p.at + 1)
+
+-- the name that a token is, and the number without a point
+abbrev pub name_of : Option TokenKind → Option (List ℕ)
+name_of (Some (kind.Name name)) = Some name
+name_of _ = None
+
+abbrev pub whole_of : Option TokenKind → Option ℕ
+whole_of (Some (kind.Whole n)) = Some n
+whole_of _ = None
+
+-- the byte at which the next token begins
+abbrev pub start_of : Parser → ℕ
+start_of p = from_at p.tokens.now p.at
+
+-- from here, with these symbols to go through and these values on its stack, the machine comes to this outcome
+abbrev pub RunsFrom : Parser → List Symbol → List Value → Outcome → Type 0
+RunsFrom p ss vs o = Runs p.tokens.now ss p.at (counts_of p.counts) vs o
+
+-- From one state of the parser to another the symbols ss become rest and the values vs become ws, whatever is below.
+pub record Leads
+    (ss : List Symbol) (from : Parser) (vs : List Value) (rest : List Symbol) (to : Parser) (ws : List Value)
+    : Type 0 where
+  pub same : to.tokens.now ≡ from.tokens.now
+  pub order : from.at ≤ to.at
+  pub run : (below : List Symbol) (under : List Value) (o : Outcome)
+      → RunsFrom to (rest ++ below) (ws ++ under) o
+      → RunsFrom from (ss ++ below) (vs ++ under) o
+
+-- the machine stops with the fault inside these symbols
+abbrev pub Halts : List Symbol → Parser → List Value → ParseFault → Type 0
+Halts ss from vs Memory = Unit {0}
+Halts ss from vs (Syntax k) =
+    (below : List Symbol) (under : List Value) → RunsFrom from (ss ++ below) (vs ++ under) (fault (Syntax k))
+Halts ss from vs (Deep k) =
+    (below : List Symbol) (under : List Value) → RunsFrom from (ss ++ below) (vs ++ under) (fault (Deep k))
+
+-- WHAT A METHOD READS
+
+-- It goes through the symbols, and the values vs on the stack become those of what it answers.
+abbrev pub IsRead : {A : Type 0} → List Symbol → Parser → List Value → (A → List Value)
+    → Parser → Result A ParseFault → Type 0
+IsRead ss from vs values to (Ok x) = Leads ss from vs [] to (values x)
+IsRead ss from vs values to (Err f) = Halts ss from vs f
+
+-- it reads one nonterminal
+abbrev pub IsParsed : {A : Type 0} → Nonterminal → Parser → (A → Value) → Parser → Result A ParseFault → Type 0
+IsParsed p from value to result = IsRead (Expand p ∷ []) from [] (λ x. value x ∷ []) to result
+
+-- the next token is one of these, and the parser goes past it
+pub record Matches (ks : List Terminal) (e : Effect) (from to : Parser) : Type 0 where
+  pub token : Token
+  pub there : slice_get from.tokens.now from.at ≡ Some token
+  pub is_of : is_one ks (next from) ≡ true
+  pub same : to.tokens.now ≡ from.tokens.now
+  pub one : to.at ≡ from.at + 1
+  pub run : (below : List Symbol) (under : List Value) (o : Outcome) → RunsFrom to below (the.token token ∷ under) o
+      → RunsFrom from (Match ks e ∷ below) under o
+
+-- the limits let the token pass, and the counts become these
+pub record IsCounted (t : Token) (e : Effect) (from to : Counts) : Type 0 where
+  pub passes : allowed e (Some t) (counts_of from) ≡ true
+  pub counts : counts_of to ≡ counted e (Some t) (counts_of from)
+
+-- it goes past the next token, whichever terminals that is one of
+pub record Advances (e : Effect) (from to : Parser) : Type 0 where
+  pub same : to.tokens.now ≡ from.tokens.now
+  pub one : to.at ≡ from.at + 1
+  pub as_one_of : (ks : List Terminal) → is_one ks (next from) ≡ true → Matches ks e from to
+
+-- it goes past a token that may be one of these, and past any token
+abbrev pub Passes : List Terminal → Effect → Parser → Parser → Result Unit ParseFault → Type 0
+Passes ks e from to (Ok x) = Matches ks e from to
+Passes ks e from to (Err f) = Halts (Match ks e ∷ []) from [] f
+
+abbrev pub PassesAny : Effect → Parser → Parser → Result Unit ParseFault → Type 0
+PassesAny e from to (Ok x) = Advances e from to
+PassesAny e from to (Err f) = (ks : List Terminal) → is_one ks (next from) ≡ true → Halts (Match ks e ∷ []) from [] f
+
+-- it reads a name, a number without a point, the digits and the places of a number
+abbrev pub ReadsName : Effect → Parser → Parser → Result (List ℕ) ParseFault → Type 0
+ReadsName e from to (Ok name) = Matches (AName ∷ []) e from to × (next from ≡ Some (kind.Name name))
+ReadsName e from to (Err f) = Halts (Match (AName ∷ []) e ∷ []) from [] f
+
+abbrev pub ReadsWhole : Effect → Parser → Parser → Result ℕ ParseFault → Type 0
+ReadsWhole e from to (Ok n) = Matches (AWhole ∷ []) e from to × (next from ≡ Some (kind.Whole n))
+ReadsWhole e from to (Err f) = Halts (Match (AWhole ∷ []) e ∷ []) from [] f
+
+abbrev pub ReadsNumber : Effect → Parser → Parser → Result (ℕ × ℕ) ParseFault → Type 0
+ReadsNumber e from to (Ok n) = Matches number e from to × (number_of (next from) ≡ Some n)
+ReadsNumber e from to (Err f) = Halts (Match number e ∷ []) from [] f
+
+-- TYPES
+
+abbrev pub ReadsMode : Effect → Parser → Parser → Result Mode ParseFault → Type 0
+ReadsMode e from to (Ok m) = Matches modes e from to × (mode_of (next from) ≡ Some m)
+ReadsMode e from to (Err f) = Halts (Match modes e ∷ []) from [] f
+
+-- what is on the stack where the sizes of a fix type are read
+abbrev pub sizes_read : (fraction comma width below fix : Token) → List Value
+sizes_read fraction comma width below fix =
+    the.token fraction ∷ the.token comma ∷ the.token width ∷ the.token below ∷ the.token fix ∷ []
+
+-- it reads the end of a fix type after its sizes, of which the machine makes the type
+abbrev pub EndsFix : Effect → Parser → Parser → Result Mode ParseFault → Type 0
+EndsFix e from to result = (fraction comma width below fix : Token)
+    → IsRead (Expand (the.Mode e) ∷ []) from (sizes_read fraction comma width below fix)
+    (λ m. the.fix fix.from (fix_type (whole_value width) (whole_value fraction) m) ∷ []) to result
+
+-- MANIFESTS AND PLACES
+
+abbrev pub manifest_value : RustManifest → Value
+manifest_value m = the.manifest (view_manifest m)
+
+abbrev pub subs_value : List RustManifest → Value
+subs_value ms = the.subs (map view_manifest ms)
+
+abbrev pub delay_value : Option RustManifest → Value
+delay_value d = the.delay (view_delay d)
+
+abbrev pub place_value : Place → Value
+place_value p = the.place (view_place p)
+
+abbrev pub place_values : List Place → Value
+place_values ps = the.places (map view_place ps)
+
+-- a manifest in brackets, with their effects
+abbrev pub in_brackets : Effect → Effect → List Symbol
+in_brackets before after =
+    punctuation_of punctuation.LEFT_BRACKET before ∷ Expand Manifest_ ∷ punctuation_of punctuation.RIGHT_BRACKET after
+    ∷ []
+
+abbrev pub ReadsSubscript : Effect → Effect → Parser → Parser → Result RustManifest ParseFault → Type 0
+ReadsSubscript before after from to (Ok m) = (opened : Token) × (closed : Token)
+    × Leads (in_brackets before after) from [] [] to (the.token closed ∷ manifest_value m ∷ the.token opened ∷ [])
+ReadsSubscript before after from to (Err f) = Halts (in_brackets before after) from [] f
+
+-- DECLARATIONS
+
+abbrev pub view_declared : RustDeclared → Declared
+view_declared d = record { name = d.name; at = d.at; dims = d.dims }
+
+abbrev pub declared_value : RustDeclared → Value
+declared_value d = the.name (view_declared d)
+
+abbrev pub declared_values : List RustDeclared → Value
+declared_values ds = the.names (map view_declared ds)
+
+-- lists with commas between their parts, and the lines of locals
+abbrev pub name_list : List Symbol
+name_list = Expand Name_ ∷ Act first_name ∷ Expand MoreNames ∷ []
+
+abbrev pub decl_list : List Symbol
+decl_list = Expand Decl_ ∷ Act first_decl ∷ Expand MoreDecls ∷ []
+
+abbrev pub word_list : List Symbol
+word_list = Expand Signed ∷ Act first_word ∷ Expand MoreWords ∷ []
+
+abbrev pub local_lines : List Symbol
+local_lines = Act no_locals ∷ Expand Locals ∷ []
+
+-- EXPRESSIONS
+
+abbrev pub expr_value : Expr → Value
+expr_value e = the.expr (view_expr e)
+
+abbrev pub expr_values : List Expr → Value
+expr_values es = the.exprs (map view_expr es)
+
+-- ITEMS
+
+abbrev pub item_value : Item → Value
+item_value x = the.an_item (view_item x)
+
+abbrev pub item_values : List Item → Value
+item_values xs = the.items (map view_item xs)
+
+abbrev pub place_list : List Symbol
+place_list = Expand Target ∷ Act first_place ∷ Expand MoreTargets ∷ []
+
+abbrev pub item_list : List Symbol
+item_list = Act no_items ∷ Expand Items_ ∷ []
+
+-- the arguments of a call with what ends it; an initial value after its place; the bounds of a loop after its index
+abbrev pub call_end : List Symbol
+call_end =
+    punctuation_of punctuation.LEFT_PAREN Begins ∷ Expand Args ∷ punctuation_of punctuation.RIGHT_PAREN Outside
+    ∷ punctuation_of punctuation.SEMICOLON Outside ∷ []
+
+abbrev pub initial_end : List Symbol
+initial_end =
+    punctuation_of punctuation.AT_AT Begins ∷ Expand ManifestPrimary ∷ punctuation_of punctuation.EQUAL Outside
+    ∷ Expand InitialValue
+    ∷ punctuation_of punctuation.SEMICOLON Outside ∷ Act is_initial ∷ []
+
+abbrev pub loop_bounds : List Symbol
+loop_bounds =
+    punctuation_of punctuation.COLON Begins ∷ Expand Manifest_ ∷ punctuation_of punctuation.DOT_DOT Begins
+    ∷ Expand Manifest_
+    ∷ punctuation_of punctuation.RIGHT_PAREN Outside ∷ punctuation_of punctuation.COLON_COLON Outside ∷ []
+
+-- what comes after the `(` of an item
+abbrev pub after_open : List Symbol
+after_open = Match (AName ∷ []) Outside ∷ Expand AfterOpenName ∷ []
+
+-- the next token is the name of a function that is called
+abbrev pub is_called : Parser → Bool
+is_called p = is_one (AName ∷ []) (next p) && is_one (Punctuation punctuation.LEFT_PAREN ∷ []) (later p)
+
+abbrev pub ReadsCallEnd : Parser → Parser → Result (List Expr) ParseFault → Type 0
+ReadsCallEnd from to (Ok args) = (opened : Token) × (closed : Token) × (ended : Token)
+    × Leads call_end from [] [] to (the.token ended ∷ the.token closed ∷ expr_values args ∷ the.token opened ∷ [])
+ReadsCallEnd from to (Err f) = Halts call_end from [] f
+
+-- what is on the stack where the bounds of a loop are read
+abbrev pub bounds_read : (each closed to colon : Token) → RustManifest × RustManifest → List Value
+bounds_read each closed to colon bounds =
+    the.token each ∷ the.token closed ∷ manifest_value bounds.1 ∷ the.token to ∷ manifest_value bounds.0
+    ∷ the.token colon ∷ []
+
+abbrev pub ReadsBounds : Parser → Parser → Result (RustManifest × RustManifest) ParseFault → Type 0
+ReadsBounds from end (Ok bounds) = (each : Token) × (closed : Token) × (to : Token) × (colon : Token)
+    × Leads loop_bounds from [] [] end (bounds_read each closed to colon bounds)
+ReadsBounds from end (Err f) = Halts loop_bounds from [] f
+
+-- THE WHOLE SOURCE
+
+abbrev pub table_row : List Symbol
+table_row =
+    keyword_of keyword.CONST Outside ∷ Expand Name_ ∷ punctuation_of punctuation.COLON Outside
+    ∷ Expand (FixIn Outside)
+    ∷ punctuation_of punctuation.EQUAL Outside ∷ Expand Words ∷ punctuation_of punctuation.SEMICOLON Outside
+    ∷ Act add_table ∷ []
+
+abbrev pub function_row : List Symbol
+function_row =
+    keyword_of keyword.FUNC Outside ∷ Match (AName ∷ []) Outside ∷ punctuation_of punctuation.LEFT_PAREN Outside
+    ∷ decl_list ++ punctuation_of punctuation.RIGHT_PAREN Outside ∷ Expand Results
+    ∷ punctuation_of punctuation.EQUAL Outside
+    ∷ keyword_of keyword.BEGIN Outside ∷ local_lines ++ item_list ++ keyword_of keyword.END Outside
+    ∷ punctuation_of punctuation.SEMICOLON Outside ∷ Act add_function ∷ []
+
+-- what the whole source goes on with between tables and functions
+abbrev pub source_rest : List Symbol
+source_rest = Expand Tops ∷ Match (End ∷ []) Outside ∷ []
+
+-- the tables and functions so far, with one more
+abbrev pub with_table : List Top → ConstDef → List Value
+with_table tops t = the.tops (tops ++ table t ∷ []) ∷ []
+
+abbrev pub with_function : List Top → Func → List Value
+with_function tops f = the.tops (tops ++ function (view_func f) ∷ []) ∷ []
+
+abbrev pub with_top : List Top → RustTop → List Value
+with_top tops t = the.tops (tops ++ view_top t ∷ []) ∷ []
+
+-- it reads a table or a function, to where the machine looks for the next one
+abbrev pub ReadsTop : Parser → List Top → Parser → Result RustTop ParseFault → Type 0
+ReadsTop from tops to (Ok top) = Leads source_rest from (the.tops tops ∷ []) source_rest to (with_top tops top)
+ReadsTop from tops to (Err f) = Halts source_rest from (the.tops tops ∷ []) f
+
+-- what the whole run comes to, memory aside
+abbrev pub IsRun : List Token → Result Program ParseFault → Type 0
+IsRun ts (Ok p) = RunsTo ts (done (the.tops (view p).tops ∷ []))
+IsRun ts (Err (Syntax k)) = RunsTo ts (fault (Syntax k))
+IsRun ts (Err (Deep k)) = RunsTo ts (fault (Deep k))
+IsRun ts (Err Memory) = Unit {0}
