@@ -1,15 +1,18 @@
 -- Small programs and their first faults, read by the definitions. Each `at` is that of the source in the comment.
-use Rattle.std.proofs.Common.{◌≡◌, ◌∷◌, ◌+◌, ℕ, refl, List, [], None, false, codes, Result, Ok, Err}
+use Rattle.std.proofs.Common.{◌≡◌, ◌∷◌, ◌+◌, ℕ, ℤ, pos, refl, List, [], None, false, codes, Result, Ok, Err}
 use Rattle.ranked_faults.specs.Private.FirstMet.{first}
 use Rattle.fix_word.specs.declared.types.Mode.TheVariants.{Trunc}
 use Rattle.fix_word.specs.declared.types.SigType.TheVariants as sig
 use Rattle.silage_syntax.specs.declared.tree.Decl.{Decl}
 use Rattle.silage_syntax.specs.declared.tree.Lit.{Lit}
 use Rattle.silage_syntax.specs.declared.tree.Lit.TheVariants.{Number}
-use Rattle.silage_syntax.specs.Tree.{Manifest, whole, counter, Place, Expr, read, equation, loop, Item, no_item, items_of, Top, function, Program}
-use Rattle.single_def.specs.ElementRules.{element_rules}
+use Rattle.silage_syntax.specs.declared.tree.MOp.TheVariants.{Sub}
+use Rattle.silage_syntax.specs.Tree.{Manifest, whole, counter, both, Place, Expr, read, equation, call, loop, Item, no_item, items_of, Top, function, Program}
+use Rattle.single_def.specs.declared.elements.Instance.{Instance}
+use Rattle.single_def.specs.Expansion.{instances_after}
+use Rattle.single_def.specs.ElementRules.{program_table, element_rules}
 use Rattle.single_def.specs.declared.fault.DefFault.{DefFault}
-use Rattle.single_def.specs.declared.fault.DefFault.TheVariants.{DefinedTwice, NotDefined, TooLarge}
+use Rattle.single_def.specs.declared.fault.DefFault.TheVariants.{Bounds, DefinedTwice, NotDefined, TooLarge}
 
 -- Parts of trees.
 abbrev decl : List ℕ → (at : ℕ) → List ℕ → Decl
@@ -67,3 +70,53 @@ many_turns : met (framed [] (decl (codes "a") 49 (8180 ∷ []) ∷ []) (
     ∷ loop (codes "i") (whole 0 81) (whole 20 86) no_item 76
     ∷ [])) ≡ Err (TooLarge 76)
 many_turns = refl
+
+-- Instances.
+-- func f(v : fix<8,0>) w : fix<8,0> = begin w = v; end;
+abbrev f : Top
+f = function (record {
+  name = codes "f";
+  at = 100;
+  params = decl (codes "v") 102 [] ∷ [];
+  results = decl (codes "w") 120 [] ∷ [];
+  locals = [];
+  items = items_of (equation (place (codes "w") 140 []) (bare (codes "v") 144) ∷ []);
+})
+
+-- an instance that a call of f in main makes
+abbrev of_f : (site : ℕ) → List ℤ → Instance
+of_f site turns = record { func = 1; parent = 0; site = site; turns = turns }
+
+abbrev of_main : Instance
+of_main = record { func = 0; parent = 0; site = 0; turns = [] }
+
+abbrev instances : Program → List Instance
+instances p = instances_after 0 [] (program_table p)
+
+-- var z : fix<8,0>; z = f(x); y = f(z);
+two_calls : instances (framed (f ∷ []) (decl (codes "z") 40 [] ∷ []) (
+    call (place (codes "z") 55 [] ∷ []) (codes "f") (bare (codes "x") 61 ∷ []) 59
+    ∷ call (place (codes "y") 65 [] ∷ []) (codes "f") (bare (codes "z") 71 ∷ []) 69
+    ∷ [])) ≡ of_main ∷ of_f 59 [] ∷ of_f 69 [] ∷ []
+two_calls = refl
+
+-- var m[2][2] : fix<8,0>; (i : 0 .. 1) :: begin (j : 5 .. 6) :: begin m[i][j - 5] = f(x); end; end; y = m[0][0];
+abbrev in_loops : List Item → Program
+in_loops rest = framed (f ∷ []) (decl (codes "m") 40 (2 ∷ 2 ∷ []) ∷ []) (
+    loop (codes "i") (whole 0 63) (whole 1 68) (items_of (
+    loop (codes "j") (whole 5 87) (whole 6 92) (items_of (
+    call (place (codes "m") 104 (counter (codes "i") 106 ∷ both 111 Sub (counter (codes "j") 109) (whole 5 113) ∷ []) ∷ []) (codes "f") (bare (codes "x") 120 ∷ []) 118
+    ∷ [])) 82
+    ∷ [])) 58
+    ∷ rest)
+
+calls_in_loops : instances (in_loops []) ≡
+    of_main ∷ of_f 118 (pos 0 ∷ pos 5 ∷ []) ∷ of_f 118 (pos 0 ∷ pos 6 ∷ []) ∷ of_f 118 (pos 1 ∷ pos 5 ∷ []) ∷ of_f 118 (pos 1 ∷ pos 6 ∷ []) ∷ []
+calls_in_loops = refl
+
+defined_in_loops : met (in_loops (equation (place (codes "y") 140 []) (read (place (codes "m") 144 (whole 0 146 ∷ whole 0 149 ∷ [])) None) ∷ [])) ≡ Ok tt
+defined_in_loops = refl
+
+-- y = m[0][2];
+past_a_row : met (in_loops (equation (place (codes "y") 140 []) (read (place (codes "m") 144 (whole 0 146 ∷ whole 2 149 ∷ [])) None) ∷ [])) ≡ Err (Bounds 149)
+past_a_row = refl
