@@ -5,9 +5,11 @@ use Rattle.ranked_faults.specs.Private.FirstMet.{first, ◌>>◌}
 use Rattle.ranked_faults.proofs.FirstFaults.{Answers, one_first}
 use Rattle.ranked_faults.proofs.TableFaults.{first_answers, single_faults}
 use Rattle.silage_syntax.specs.Tree.{Program}
+use Rattle.silage_meaning.specs.Instances.{HasCallsApart}
+use Rattle.silage_meaning.specs.Rules.{HasSingleDefinitions}
 use Rattle.name_check.specs.TopNames.{top_names}
 use Rattle.name_check.specs.Private.FirstTops.{IsDistinct}
-use Rattle.name_check.specs.NameFaults.{IsMain}
+use Rattle.name_check.specs.NameFaults.{name_faults, IsMain}
 use Rattle.single_def.specs.declared.elements.Elements.{Elements}
 use Rattle.single_def.specs.declared.fault.DefFault.{DefFault}
 use Rattle.single_def.specs.declared.fault.DefFault.TheVariants.{Index, Bounds, Delay, Shift, DefinedTwice, NotDefined, TooLarge, Memory}
@@ -18,6 +20,8 @@ use Rattle.single_def.specs.ElementFaults.{element_faults}
 use Rattle.single_def.specs.ElementRules.{word_rules, instance_table, max_nested, element_rules}
 use Rattle.single_def.specs.Private.Actions.{GivesValue}
 use Rattle.single_def.specs.Private.Plans.{run_program}
+use Rattle.single_def.proofs.SoundNames.{names_apart}
+use Rattle.single_def.proofs.SingleDefinitions.{single_definitions}
 use Rattle.single_def.proofs.Walks.{Matches}
 use Rattle.single_def.proofs.NumberedElements.{is_numbering}
 use Rattle.single_def.proofs.ProgramTables.{program_does, rules_of}
@@ -39,19 +43,20 @@ module _ (p : Program) where
     pub fault : IfErr r (λ fault. fault ≢ Memory → IsFirst (element_faults p) fault)
     pub elements : IfOk r (IsExpansion p)
     pub numbering : IfOk r (IsNumbering p)
+    pub single : OnOk r (HasCallsApart p → HasSingleDefinitions p)
     pub each_ok : IsClear (element_faults p) → AnswersOk Memory r
     pub each_fault : (fault : DefFault) → IsFirst (element_faults p) fault → AnswersFault Memory fault r
 
   table_answers : (met : Result (Unit {0}) DefFault) → first (element_rules p) ≡ met → Answers (element_faults p) met
   table_answers met e = subst (λ (r : Result (Unit {0}) DefFault). Answers (element_faults p) r) e (first_answers (element_rules p))
 
-  ok_answer : (es : Elements) → first (element_rules p) ≡ Ok tt → IsExpansion p es → IsNumbering p es → IsAnswer (Ok es)
-  ok_answer es met made numbered =
+  ok_answer : IsClear (name_faults p) → (es : Elements) → first (element_rules p) ≡ Ok tt → IsExpansion p es → IsNumbering p es → IsAnswer (Ok es)
+  ok_answer names es met made numbered =
       let clear : IsClear (element_faults p) = table_answers (Ok tt) met in
-      record { ok = clear; fault = tt; elements = made; numbering = numbered; each_ok = λ c. tt; each_fault = λ fault i. absurd (clear i.rank fault i.here) }
+      record { ok = clear; fault = tt; elements = made; numbering = numbered; single = λ apart. single_definitions p names clear apart; each_ok = λ c. tt; each_fault = λ fault i. absurd (clear i.rank fault i.here) }
 
   pub err_answer : (fault : DefFault) → (fault ≢ Memory → first (element_rules p) ≡ Err fault) → IsAnswer (Err fault)
-  err_answer fault met = record { ok = tt; fault = λ n. is_first n; elements = tt; numbering = tt; each_ok = λ clear. ok_or clear (memory_or_not fault); each_fault = λ other i. fault_or other i (memory_or_not fault) }
+  err_answer fault met = record { ok = tt; fault = λ n. is_first n; elements = tt; numbering = tt; single = tt; each_ok = λ clear. ok_or clear (memory_or_not fault); each_fault = λ other i. fault_or other i (memory_or_not fault) }
     where
       is_first : fault ≢ Memory → IsFirst (element_faults p) fault
       is_first n = table_answers (Err fault) (met n)
@@ -68,7 +73,10 @@ module _ (p : Program) where
   told_answer fault (Ok es) told met = absurd told
   told_answer fault (Err f) told met = err_answer f (λ n. met (λ m. n (told ∙ m)) ∙ ap Err (sym told))
 
-  module _ (apart : IsDistinct (top_names p)) (k : ℕ) (main : IsMain p k) where
+  module _ (names : IsClear (name_faults p)) (k : ℕ) (main : IsMain p k) where
+    apart : IsDistinct (top_names p)
+    apart = names_apart p names
+
     abbrev words : Result (Unit {0}) DefFault
     words = first (word_rules main.func)
 
@@ -86,7 +94,7 @@ module _ (p : Program) where
     met_ok (Ok u) es all is m =
         let same : es ≡ m.0 = cc (m.1) in
         let made = subst (IsExpansion p) (sym same) m.2 in
-        ok_answer es (all ∙ is) made (is_numbering p apart main.func main.is_main es made is)
+        ok_answer names es (all ∙ is) made (is_numbering p apart main.func main.is_main es made is)
     met_ok (Err e) es all is m = absurd (cc)
 
     met_err : (met : Result (Unit {0}) DefFault) (fault : DefFault) → Matches (IsExpansion p) met (Err fault) → met ≡ Err fault

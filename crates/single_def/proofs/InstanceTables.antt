@@ -80,7 +80,7 @@ module _ (e j : ℕ) where
   params_stay a [] context h = h
   params_stay a (x ∷ ps) context h = params_stay (a + 1) ps _ (stays_given a (element_count x.dims) 0 context h)
 
-  param_given : (a : ℕ) (ps : List Decl) (context : Context) (i : ℕ) (decl : Decl) → e ≡ a + i → slice_get ps i ≡ Some decl → j < element_count decl.dims → IsBefore (after_row context (param_row a ps)) true
+  pub param_given : (a : ℕ) (ps : List Decl) (context : Context) (i : ℕ) (decl : Decl) → e ≡ a + i → slice_get ps i ≡ Some decl → j < element_count decl.dims → IsBefore (after_row context (param_row a ps)) true
   param_given a [] context i decl same stands within = absurd (cc (stands))
   param_given a (x ∷ ps) context zero decl same stands within =
       let is : decl ≡ x = cc (stands) in
@@ -88,7 +88,7 @@ module _ (e j : ℕ) where
       params_stay (a + 1) ps _ (is_given a (element_count x.dims) 0 context (omega arith) (omega arith) (omega arith))
   param_given a (x ∷ ps) context (suc i) decl same stands within = param_given (a + 1) ps _ i decl (omega arith) stands within
 
-  past_params : (a : ℕ) (ps : List Decl) (context : Context) → a + length ps ≤ e → IsBefore context false → IsBefore (after_row context (param_row a ps)) false
+  pub past_params : (a : ℕ) (ps : List Decl) (context : Context) → a + length ps ≤ e → IsBefore context false → IsBefore (after_row context (param_row a ps)) false
   past_params a [] context past h = h
   past_params a (x ∷ ps) context past h = past_params (a + 1) ps _ (omega arith) (is_other a (element_count x.dims) 0 context (λ same. absurd (omega (arith, same))) h)
 

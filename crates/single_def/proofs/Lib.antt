@@ -23,6 +23,12 @@ pub mod QuietTables
 pub mod LoopTurns
 pub mod NumberedInstances
 pub mod NumberedElements
+pub mod DefinitionLists
+pub mod CheckedInstances
+pub mod NamedItems
+pub mod ItemDefinitions
+pub mod InputWords
+pub mod SingleDefinitions
 pub mod DefAnswers
 pub mod MainTops
 pub mod Examples

@@ -31,7 +31,7 @@ names_apart p clear k doubled =
     let at = top_at_name p.tops k doubled.name doubled.here in
     clear (zero ∷ k ∷ []) (Twice (top_at at.top)) (at.top, at.stands, doubled, refl)
 
-clear_first : {F : Type 0} (R : Rules F) → IsClear (faults R) → first R ≡ Ok tt
+pub clear_first : {F : Type 0} (R : Rules F) → IsClear (faults R) → first R ≡ Ok tt
 clear_first R clear = by (first R) (first_answers R)
   where
     by : (r : Result (Unit {0}) _) → Answers (faults R) r → r ≡ Ok tt

@@ -25,6 +25,8 @@ mod words;
 ghost use Rattle.std.specs.Prelude.{◌≡◌, ◌≢◌, IfOk, OnOk, IfErr};
 ghost use Rattle.ranked_faults.specs.Ranked.{IsClear, IsFirst, AnswersOk, AnswersFault};
 ghost use Rattle.silage_syntax.specs.Tree.{view};
+ghost use Rattle.silage_meaning.specs.Instances.{HasCallsApart};
+ghost use Rattle.silage_meaning.specs.Rules.{HasSingleDefinitions};
 ghost use Rattle.name_check.specs.TopNames.{top_names};
 ghost use Rattle.name_check.specs.NameFaults.{name_faults, IsMain};
 ghost use Rattle.single_def.specs.ElementFaults.{element_faults};
@@ -79,6 +81,7 @@ pub fn check_defs(alloc: Global, program: &Program, names: &Names) -> Result<Ele
         → IsFirst (element_faults (view program.now)) fault) }
     ensures elements { IfOk result (IsExpansion (view program.now)) }
     ensures numbering { IfOk result (IsNumbering (view program.now)) }
+    ensures single { OnOk result (HasCallsApart (view program.now) → HasSingleDefinitions (view program.now)) }
 
     // The first fault decides the answer, unless memory runs out.
     ensures each_ok { IsClear (element_faults (view program.now)) → AnswersOk DefFault.Memory result }
