@@ -6,7 +6,7 @@ use Rattle.silage_lex.proofs.OneReading.{tokens_once}
 use Rattle.silage_syntax.specs.Grammar.{Derives}
 use Rattle.silage_syntax.specs.Tree.{Program}
 use Rattle.silc.specs.Form.{HasForm}
-use Rattle.silc.specs.Front.{HasProgram}
+use Rattle.silc.specs.Faults.{HasProgram}
 use Rattle.desk_core.specs.View.{Content}
 use Rattle.silc.specs.Headline.{IsAccepted, IsCompiled, IsNotTaken, SpellsOnly}
 use Rattle.silc.specs.Plain.{plain_lines, plain_text}
@@ -20,8 +20,8 @@ use Rattle.silc.proofs.Run.{runs-the-solution}
 -- a source has one program at most
 pub one_program : (source : List ℕ) (program other : Program) → HasProgram source program → HasProgram source other → other ≡ program
 one_program source program other a b =
-    let same : b.tokens ≡ a.tokens = tokens_once source b.tokens a.tokens b.read a.read in
-    a.is.is.only other (subst (λ (ts : List Token). Derives ts other) same b.is.is.derives)
+    let same : b.read.tokens ≡ a.read.tokens = tokens_once source b.read.tokens a.read.tokens b.read.lexed a.read.lexed in
+    a.read.parsed.is.only other (subst (λ (ts : List Token). Derives ts other) same b.read.parsed.is.derives)
 
 pub accepted : (source datapath : List ℕ) (program : Program) (form : OneLine) → HasProgram source program → HasForm program form
     → datapath ≡ plain_text → IsAccepted source datapath program form

@@ -1,7 +1,10 @@
--- A source has no more tokens than bytes.
+-- A source has no more tokens, and its program no more tables and functions, than the source has bytes.
 use Rattle.std.proofs.Common.{arith, ℕ, ◌+◌, ◌≤◌, List, [], ◌∷◌, length}
+use Rattle.name_check.proofs.FewTops.{few_tops as few_tops_of_tokens}
 use Rattle.silage_lex.specs.Tokens.{Gap, none, blank, comment, Spaced, HasTokens}
 use Rattle.silage_lex.specs.declared.Token.{Token}
+use Rattle.silage_syntax.specs.Tree.{Program}
+use Rattle.silc.specs.Faults.{IsRead}
 
 gap_order : {bytes : List ℕ} {i j : ℕ} → Gap bytes i j → i ≤ j
 gap_order none = omega arith
@@ -17,3 +20,7 @@ spaced_order bytes i k (t ∷ ts) (g, is, rest) =
 
 pub few_tokens : (bytes : List ℕ) (ts : List Token) → HasTokens bytes ts → length ts ≤ length bytes
 few_tokens bytes ts h = let r = spaced_order bytes 0 (length bytes) ts h in omega (arith, r)
+
+pub few_tops : (source : List ℕ) (program : Program) → IsRead source program → length program.tops ≤ length source
+few_tops source program h =
+    omega (arith, few_tops_of_tokens h.tokens program h.parsed.is.derives, few_tokens source h.tokens h.lexed)

@@ -1,5 +1,6 @@
 pub mod Forms
 pub mod Counts
+pub mod FirstFaults
 pub mod Valid
 pub mod Cycles
 pub mod Writes

@@ -1,15 +1,45 @@
 -- How the parts of `compile` make up its answer.
-use Rattle.std.proofs.Common.{◌≡◌, sym, subst, ⊎_elim, inl, inr}
+use Rattle.std.proofs.Common.{◌≡◌, sym, subst, ◌∙◌, ⊎_elim, inl, inr}
 use Rattle.desk_core.specs.View.{Name, Content, View}
-use Rattle.desk_core.specs.Desk.{FaultsNeverFall, IsUnchanged}
+use Rattle.desk_core.specs.Desk.{FaultsNeverFall, IsUnchanged, WhereSpecified, content_of}
+use Rattle.desk_core.specs.Whole.{IsReadThrough}
 use Rattle.desk_core.proofs.DeskLemmas.{rose_earlier}
-use Rattle.silc.specs.Compile.{IsDone, IsUnread, IsCutShort, IsAnswer}
+use Rattle.desk_core.proofs.WholeLemmas.{through_from}
+use Rattle.silc.specs.Compile.{IsDone, IsUnread, IsCutShort, IsCompileError, IsAnswer}
 use Rattle.silc.specs.Endings.{IsNotWritten}
 use Rattle.silc.specs.Limits.{text_limit}
-use Rattle.silc.specs.Private.Compiling.{IsMade}
+use Rattle.silc.specs.Private.Compiling.{IsInput, IsNoMicrocode, IsMade}
+use Rattle.silc.specs.Private.Reading.{OnlyReads}
+use Rattle.silc.specs.declared.compile.Input.{Input}
 use Rattle.silc.specs.declared.status.Status.{Status}
 use Rattle.silc.specs.declared.status.Status.TheVariants.{Done, Memory, Words, Desk, FrontEnd, Image, Samples, Conflict, NotBuilt}
-use Rattle.silc.proofs.Endings.{unchanged_still, specified_still, rejected_still, finished_still, not_written_still}
+use Rattle.silc.proofs.Endings.{reads_both, unchanged_still, specified_still, rejected_still, finished_still, not_written_still}
+
+-- why no microcode is made of what was read is why `compile` ends
+module _ (src datapath : Name) (old mid new : View) (first : OnlyReads src src old mid) (second : OnlyReads datapath datapath mid new)
+    (source path : Input) (source_is : WhereSpecified old (λ files. IsInput (content_of (files src)) source))
+    (path_is : WhereSpecified mid (λ files. IsInput (content_of (files datapath)) path)) (read : IsReadThrough datapath text_limit mid new) where
+  pub not_made : (status : Status) → IsNoMicrocode source path status → IsCompileError src datapath old new status
+  not_made Memory h = (reads_both src datapath old mid new first second).unchanged
+  not_made (FrontEnd fault) h = (
+    h.0,
+    record {
+      unchanged = (reads_both src datapath old mid new first second).unchanged;
+      read = through_from datapath text_limit old mid new first.unchanged.files read;
+      why = λ files is. h.1 (content_of (files src)) (source_is files is);
+    },
+  )
+  not_made NotBuilt h = record {
+    unchanged = (reads_both src datapath old mid new first second).unchanged;
+    read = through_from datapath text_limit old mid new first.unchanged.files read;
+    why = λ files is. h (content_of (files src)) (content_of (files datapath)) (source_is files is) (path_is files (first.unchanged.files ∙ is));
+  }
+  not_made Done h = absurd h
+  not_made Words h = absurd h
+  not_made Desk h = absurd h
+  not_made (Image fault) h = absurd h
+  not_made (Samples fault) h = absurd h
+  not_made (Conflict conflict) h = absurd h
 
 -- a fault of writing, after the microcode was made
 pub cut_short : (src datapath out : Name) (microcode : Content) (old mid new : View) (status : Status) → status ≡ Desk

@@ -11,10 +11,11 @@ ghost use Rattle.silc.specs.declared.sim.Kept.TheVariants.{Nothing};
 use crate::compile::compile;
 use crate::sim::{Kept, sim};
 use crate::status::{Ending, Status};
+use crate::undefined::Element;
 use arrayvec::ArrayString;
 use desk_core::Desk;
 use std::alloc::Global;
-use std::fmt::Write;
+use std::fmt::{self, Write};
 
 /// The words of a command that reads two files and writes a third.
 #[derive(Drop)]
@@ -69,19 +70,55 @@ fn run<D: Desk>(alloc: Global, words: &[String], desk: &mut D, kept: &mut Kept) 
     Ending::from(Status::Words)
 }
 
-/// Reports the error in one line, which takes no memory.
-fn report<D: Desk>(desk: &mut D, ending: Ending)
+/// A part of a line that is reported. The longest, of a bad row, has 66 bytes.
+type Piece = ArrayString<80>;
+
+/// The line of an error, up to the name of the element.
+fn write_error(piece: &mut Piece, ending: &Ending) -> fmt::Result {
+    let status = ending.status;
+    match ending.line {
+        Some(number) => write!(piece, "silc: line {number}: {status}"),
+        None => write!(piece, "silc: {status}"),
+    }
+}
+
+/// The element that the error names, where it names one.
+fn undefined_element(ending: &Ending) -> Option<Element<'_>> {
+    match &ending.undefined {
+        Some(undefined) => undefined.element(),
+        None => None,
+    }
+}
+
+/// The subscripts of an element.
+fn write_subscripts(piece: &mut Piece, element: &Element) -> fmt::Result {
+    let place = element.place;
+    match element.decl.dims.as_slice() {
+        [_] => write!(piece, "[{place}]"),
+        [_, columns] => {
+            let columns = (*columns as usize).max(1);
+            write!(piece, "[{}][{}]", place / columns, place % columns)
+        }
+        _ => Ok(()),
+    }
+}
+
+/// Reports the error in one line. It takes no memory, and the name of an element has any length.
+fn report<D: Desk>(desk: &mut D, ending: &Ending)
     ensures faults { FaultsNeverFall (D.view desk.old) (D.view desk.new) }
     ensures unchanged { IsUnchanged (D.view desk.old) (D.view desk.new) }
 {
-    // The longest line, of a bad row, has 66 bytes.
-    let mut line = ArrayString::<80>::new();
-    let status = ending.status;
-    let _ = match ending.line {
-        Some(number) => writeln!(line, "silc: line {number}: {status}"),
-        None => writeln!(line, "silc: {status}"),
-    };
-    desk.complain(line.as_bytes());
+    let mut piece = Piece::new();
+    let _ = write_error(&mut piece, ending);
+    if let Some(element) = undefined_element(ending) {
+        let _ = piece.write_str(" ");
+        desk.complain(piece.as_bytes());
+        desk.complain(element.decl.name.as_slice());
+        piece.clear();
+        let _ = write_subscripts(&mut piece, &element);
+    }
+    let _ = piece.write_str("\n");
+    desk.complain(piece.as_bytes());
 }
 
 /// Carries out the command that the words are, the program's name left out, and reports an error in one line.
@@ -120,8 +157,9 @@ pub fn silc<D: Desk>(alloc: Global, words: &[String], desk: &mut D, kept: &mut K
         → kept.new ≡ Nothing }
 {
     let ending = run(alloc, words, desk, kept);
-    if ending.status != Status::Done {
-        report(desk, ending);
+    if ending.status == Status::Done {
+        return ending.status;
     }
+    report(desk, &ending);
     ending.status
 }

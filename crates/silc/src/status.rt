@@ -3,13 +3,16 @@ ghost use Rattle.silc.specs.Status.{code_of};
 ghost use Rattle.silc.specs.Private.Statuses.{of_form, of_rows};
 ghost use Rattle.silc.specs.declared.status.Status.TheVariants.{Memory, Desk, Conflict as in_conflict};
 
+use crate::undefined::Undefined;
 use cycle_sim::LoadFault;
 use desk_core::Failed;
 use micro_file::{CodeFault, FormFault};
 use micro_image::Conflict;
+use name_check::NameFault;
 use sample_io::RowsReadFault;
 use silage_lex::LexFault;
 use silage_parse::ParseFault;
+use single_def::DefFault;
 use std::alloc::AllocError;
 use thiserror::Error;
 
@@ -25,6 +28,12 @@ pub enum FrontFault {
     /// The tokens are no program.
     #[error(transparent)]
     Parse(ParseFault),
+    /// The names of the program mean nothing, or one has no main.
+    #[error(transparent)]
+    Name(NameFault),
+    /// An element is not defined exactly once, a number in an item is not allowed, or there are too many elements.
+    #[error(transparent)]
+    Def(DefFault),
 }
 
 /// Why bytes are no microcode.
@@ -152,24 +161,29 @@ impl From<Conflict> for Status {
     }
 }
 
-/// How a command ended, and the line of the source at which the error is.
-#[derive(Clone, Copy, Debug, PartialEq, Eq)]
+/// How a command ended, and what of the source the error is about.
+#[derive(Drop)]
 pub(crate) struct Ending {
     pub status: Status,
     /// From 1.
     pub line: Option<u64>,
+    pub undefined: Option<Undefined>,
 }
 
 impl From<Status> for Ending {
-    ghost from_gives = { λ status ending. ending ≡ record { status = status; line = None } };
+    ghost from_gives = { λ status ending. ending ≡ record { status = status; line = None; undefined = None } };
 
     fn from(status: Status) -> Self {
-        Ending { status, line: None }
+        Ending {
+            status,
+            line: None,
+            undefined: None,
+        }
     }
 }
 
 impl From<AllocError> for Ending {
-    ghost from_gives = { λ _ ending. ending ≡ record { status = Memory; line = None } };
+    ghost from_gives = { λ _ ending. ending ≡ record { status = Memory; line = None; undefined = None } };
 
     fn from(error: AllocError) -> Self {
         Ending::from(Status::from(error))
@@ -177,7 +191,7 @@ impl From<AllocError> for Ending {
 }
 
 impl From<CodeFault> for Ending {
-    ghost from_gives = { λ _ ending. ending ≡ record { status = Memory; line = None } };
+    ghost from_gives = { λ _ ending. ending ≡ record { status = Memory; line = None; undefined = None } };
 
     fn from(fault: CodeFault) -> Self {
         Ending::from(Status::from(fault))
@@ -185,7 +199,7 @@ impl From<CodeFault> for Ending {
 }
 
 impl From<Failed> for Ending {
-    ghost from_gives = { λ _ ending. ending ≡ record { status = Desk; line = None } };
+    ghost from_gives = { λ _ ending. ending ≡ record { status = Desk; line = None; undefined = None } };
 
     fn from(failed: Failed) -> Self {
         Ending::from(Status::from(failed))

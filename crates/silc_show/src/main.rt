@@ -1,6 +1,7 @@
 //! Prints what a layer of the compiler answers for a file, one fact a line.
 #![tactic(auto)]
 
+mod elements;
 mod expressions;
 mod image;
 mod lead;
@@ -20,7 +21,7 @@ use std::rt::{Env, Files};
 use std::{env, fs};
 
 const USAGE: &str =
-    "usage: silc_show tokens|tree|text|names SRC | manifests|words TABLE | image MIC | rows WIDTHS SAMPLES";
+    "usage: silc_show tokens|tree|text|names|elements SRC | manifests|words TABLE | image MIC | rows WIDTHS SAMPLES";
 
 const BAD_WORDS: u8 = 2;
 
@@ -37,6 +38,7 @@ fn show<R: Env + Files + Print + AllocGlobal>(rt: &R) -> Result<bool> {
             "tree" => tree::show(rt, &read(rt, file.as_str())?)?,
             "text" => text::show(rt, &read(rt, file.as_str())?)?,
             "names" => names::show(rt, &read(rt, file.as_str())?)?,
+            "elements" => elements::show(rt, &read(rt, file.as_str())?)?,
             "manifests" => manifests::show(rt, &read(rt, file.as_str())?)?,
             "words" => words::show(rt, &read(rt, file.as_str())?)?,
             "image" => image::show(rt, &read(rt, file.as_str())?)?,

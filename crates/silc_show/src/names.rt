@@ -1,5 +1,11 @@
 //! The names of a source: where its function `main` stands among the tables and functions, and the names of these.
 
+ghost use Rattle.std.specs.Prelude.{◌≡◌, IfOk, OnOk};
+ghost use Rattle.ranked_faults.specs.Ranked.{IsClear};
+ghost use Rattle.silage_syntax.specs.Tree.{view};
+ghost use Rattle.name_check.specs.NameFaults.{name_faults, IsMain};
+ghost use Rattle.name_check.specs.TopNames.{top_names};
+
 use crate::lead::Text;
 use crate::source::{Refusal, SOURCE_LIMIT, program_of};
 use anyhow::Result;
@@ -31,7 +37,11 @@ impl fmt::Display for Lines<'_> {
     }
 }
 
-fn names_of(alloc: Global, source: &[u8], program: &Program) -> Result<Names, Refusal> {
+pub fn names_of(alloc: Global, source: &[u8], program: &Program) -> Result<Names, Refusal>
+    ensures clear { OnOk result (IsClear (name_faults (view program.now))) }
+    ensures tops { IfOk result (λ names. names.tops ≡ top_names (view program.now)) }
+    ensures main { IfOk result (λ names. IsMain (view program.now) names.main) }
+{
     if program.tops.len() > SOURCE_LIMIT {
         return Err(Refusal::too_long());
     }

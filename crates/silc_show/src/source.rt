@@ -5,6 +5,7 @@ use name_check::NameFault;
 use silage_lex::{LexFault, Tokens, lex};
 use silage_parse::{ParseFault, parse};
 use silage_tree::Program;
+use single_def::DefFault;
 use std::alloc::Global;
 use std::fmt;
 
@@ -17,6 +18,7 @@ pub enum Fault {
     Lex(LexFault),
     Parse(ParseFault),
     Name(NameFault),
+    Def(DefFault),
 }
 
 /// A fault of a source, and the line of its place where it has one.
@@ -70,12 +72,26 @@ impl Refusal {
         }
     }
 
+    pub fn of_elements(source: &[u8], fault: DefFault) -> Refusal {
+        let place = match fault {
+            DefFault::Index(at) | DefFault::Bounds(at) | DefFault::Delay(at) => Some(at),
+            DefFault::Shift(at) | DefFault::DefinedTwice(at) => Some(at),
+            DefFault::NotDefined(at) | DefFault::TooLarge(at) => Some(at),
+            DefFault::Memory => None,
+        };
+        Refusal {
+            fault: Fault::Def(fault),
+            line: place.and_then(|at| line_of(source, at)),
+        }
+    }
+
     fn is_out_of_memory(&self) -> bool {
         matches!(
             &self.fault,
             Fault::Lex(LexFault::Memory)
                 | Fault::Parse(ParseFault::Memory)
                 | Fault::Name(NameFault::Memory)
+                | Fault::Def(DefFault::Memory)
         )
     }
 
@@ -96,6 +112,7 @@ impl fmt::Display for Refusal {
             Fault::Lex(fault) => write!(f, "fault {fault:?}")?,
             Fault::Parse(fault) => write!(f, "fault {fault:?}")?,
             Fault::Name(fault) => write!(f, "fault {fault:?}")?,
+            Fault::Def(fault) => write!(f, "fault {fault:?}")?,
         }
         match self.line {
             Some(line) => write!(f, " line {line}"),

@@ -2,20 +2,25 @@
 use Rattle.std.specs.Prelude.{List, ℕ}
 use Rattle.micro_file.specs.declared.fault.FormFault.{FormFault}
 use Rattle.micro_file.specs.declared.fault.FormFault.TheVariants as form
+use Rattle.name_check.specs.declared.fault.NameFault.{NameFault}
+use Rattle.name_check.specs.declared.fault.NameFault.TheVariants as name
 use Rattle.sample_io.specs.declared.RowsReadFault.{RowsReadFault}
 use Rattle.sample_io.specs.declared.RowsReadFault.TheVariants as rows
 use Rattle.silage_lex.specs.declared.LexFault.{LexFault}
 use Rattle.silage_lex.specs.declared.LexFault.TheVariants as lex
 use Rattle.silage_parse.specs.declared.ParseFault.{ParseFault}
 use Rattle.silage_parse.specs.declared.ParseFault.TheVariants as parse
-use Rattle.silc.specs.Front.{IsFrontFault, IsOfSource}
-use Rattle.silc.specs.declared.status.FrontFault.TheVariants.{Lex, Parse}
+use Rattle.single_def.specs.declared.fault.DefFault.{DefFault}
+use Rattle.single_def.specs.declared.fault.DefFault.TheVariants as def
+use Rattle.silc.specs.Faults.{IsFrontFault, IsOfSource}
+use Rattle.silc.specs.declared.status.FrontFault.TheVariants.{Lex, Parse, Name, Def}
 use Rattle.silc.specs.declared.status.ImageFault.TheVariants.{File}
 use Rattle.silc.specs.declared.status.SampleFault.TheVariants as sample
 use Rattle.silc.specs.declared.status.Status.{Status}
 use Rattle.silc.specs.declared.status.Status.TheVariants.{Memory, FrontEnd, Image, Samples}
 
--- the status where a source has no tokens, and where its tokens are no program
+-- the status where a source has no tokens, where its tokens are no program, and where the names or the elements of one
+-- have a fault
 abbrev pub of_lex : LexFault → Status
 of_lex lex.Memory = Memory
 of_lex fault = FrontEnd (Lex fault)
@@ -23,6 +28,14 @@ of_lex fault = FrontEnd (Lex fault)
 abbrev pub of_parse : ParseFault → Status
 of_parse parse.Memory = Memory
 of_parse fault = FrontEnd (Parse fault)
+
+abbrev pub of_names : NameFault → Status
+of_names name.Memory = Memory
+of_names fault = FrontEnd (Name fault)
+
+abbrev pub of_defs : DefFault → Status
+of_defs def.Memory = Memory
+of_defs fault = FrontEnd (Def fault)
 
 -- the status where microcode is not decoded
 abbrev pub of_form : FormFault → Status

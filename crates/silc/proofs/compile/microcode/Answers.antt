@@ -5,7 +5,7 @@ use Rattle.micro_image.specs.Spells.{Spells}
 use Rattle.micro_image.specs.Valid.{IsValid}
 use Rattle.micro_file.proofs.Unique.{Spells-unique}
 use Rattle.silage_syntax.specs.Tree.{view}
-use Rattle.silc.specs.Front.{HasProgram}
+use Rattle.silc.specs.Faults.{HasProgram}
 use Rattle.silc.specs.Headline.{SpellsOnly}
 use Rattle.silc.specs.Plain.{plain_text}
 use Rattle.silc.specs.Private.Compiling.{IsInput}

@@ -1,6 +1,20 @@
 use Rattle.std.proofs.Common.{arith}
-use Rattle.silc.proofs.Counts.{few_tokens}
+use Rattle.silage_syntax.specs.Tree.{view}
+use Rattle.silc.proofs.Counts.{few_tops}
+use Rattle.silc.proofs.FirstFaults.{name_error, def_error}
 use Rattle.silc.proofs.front.program_of.Goals as goal
 
-pub parse-requires : goal.parse-requires
-parse-requires c = omega (arith, c.requires, few_tokens c.args.source.now c.in-Ok.tokens c.in-Ok.ensures.tokens)
+pub check_names-requires : goal.check_names-requires
+check_names-requires c =
+    omega (arith, c.requires, few_tops c.args.source.now (view c.in_ok-program.program) c.in_ok-program.ensures.ok)
+
+pub returns-in-Err-clause-err : goal.returns-in-Err-clause-err
+returns-in-Err-clause-err c =
+    rw c.name_ending.ensures
+    (name_error c.args.source.now (view c.in_ok-program.program) c.in_ok-program.ensures.ok c.in-Err.fault c.in-Err.ensures.fault)
+
+pub returns-clause-err : goal.returns-clause-err
+returns-clause-err c =
+    rw c.def_ending.ensures
+    (def_error c.args.source.now (view c.in_ok-program.program) c.in_ok-program.ensures.ok c.in-Ok.ensures.ok c.in-Err-check_defs.fault
+    c.in-Err-check_defs.ensures.fault)

@@ -1,0 +1,6 @@
+use Rattle.std.proofs.Common.{arith}
+use Rattle.silc.proofs.Counts.{few_tokens}
+use Rattle.silc.proofs.front.read_program.Goals as goal
+
+pub parse-requires : goal.parse-requires
+parse-requires c = omega (arith, c.requires, few_tokens c.args.source.now c.in-Ok.tokens c.in-Ok.ensures.tokens)

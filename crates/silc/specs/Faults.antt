@@ -1,0 +1,49 @@
+-- The faults of a source: which one is the first over all phases, and when a source is accepted. A phase's own faults
+-- are defined in the crate of that phase.
+use Rattle.std.specs.Prelude.{ℕ, ◌≤◌, ◌<◌, List, length}
+use Rattle.ranked_faults.specs.Ranked.{IsClear, IsFirst}
+use Rattle.silage_lex.specs.Tokens.{HasTokens}
+use Rattle.silage_lex.specs.Faults.{HasFault as HasLexFault}
+use Rattle.silage_lex.specs.declared.Token.{Token}
+use Rattle.silage_lex.specs.declared.LexFault.TheVariants as lex
+use Rattle.silage_syntax.specs.Tree.{Program}
+use Rattle.silage_parse.specs.Answers.{IsWithin, HasFault as HasParseFault}
+use Rattle.silage_parse.specs.declared.ParseFault.TheVariants as parse
+use Rattle.name_check.specs.NameFaults.{name_faults}
+use Rattle.name_check.specs.declared.fault.NameFault.TheVariants as name
+use Rattle.single_def.specs.ElementFaults.{element_faults}
+use Rattle.single_def.specs.declared.fault.DefFault.TheVariants as def
+use Rattle.silc.specs.Limits.{text_limit}
+use Rattle.silc.specs.declared.status.FrontFault.{FrontFault}
+use Rattle.silc.specs.declared.status.FrontFault.TheVariants.{TooLong, Lex, Parse, Name, Def}
+
+-- the source's tokens are the program, within the limits of the language
+pub record IsRead (source : List ℕ) (program : Program) : Type 0 where
+  pub size : length source ≤ text_limit
+  pub tokens : List Token
+  pub lexed : HasTokens source tokens
+  pub parsed : IsWithin tokens program
+
+-- the source has no fault, and is this program
+pub record HasProgram (source : List ℕ) (program : Program) : Type 0 where
+  pub read : IsRead source program
+  pub names : IsClear (name_faults program)
+  pub elements : IsClear (element_faults program)
+
+-- the first fault of the source: the first of a phase, where no phase before it has one
+abbrev pub IsFrontFault : List ℕ → FrontFault → Type 0
+IsFrontFault source TooLong = text_limit < length source
+IsFrontFault source (Lex fault) = (length source ≤ text_limit) × HasLexFault source fault
+IsFrontFault source (Parse fault) =
+    (length source ≤ text_limit) × (tokens : List Token) × HasTokens source tokens × HasParseFault tokens fault
+IsFrontFault source (Name fault) = (program : Program) × IsRead source program × IsFirst (name_faults program) fault
+IsFrontFault source (Def fault) =
+    (program : Program) × IsRead source program × IsClear (name_faults program) × IsFirst (element_faults program) fault
+
+-- the fault is one of a source; want of memory is a status of its own
+abbrev pub IsOfSource : FrontFault → Type 0
+IsOfSource (Lex lex.Memory) = ⊥
+IsOfSource (Parse parse.Memory) = ⊥
+IsOfSource (Name name.Memory) = ⊥
+IsOfSource (Def def.Memory) = ⊥
+IsOfSource fault = Unit {0}
