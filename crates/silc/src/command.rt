@@ -96,7 +96,7 @@ fn write_subscripts(piece: &mut Piece, element: &Element) -> fmt::Result {
     match element.decl.dims.as_slice() {
         [_] => write!(piece, "[{place}]"),
         [_, columns] => {
-            let columns = (*columns as usize).max(1);
+            let columns = (*columns).max(1);
             write!(piece, "[{}][{}]", place / columns, place % columns)
         }
         _ => Ok(()),

@@ -11,7 +11,7 @@ use name_check::{NameFault, check_names};
 use silage_lex::{LexFault, Tokens, lex};
 use silage_parse::{ParseFault, parse};
 use silage_syntax::Program;
-use single_def::{DefFault, check_defs};
+use single_def::{DefFault, check_defs_with};
 use std::alloc::Global;
 
 /// The line of a place: one more than the ends of lines before it.
@@ -80,11 +80,11 @@ fn name_ending(source: &[u8], fault: NameFault) -> Ending
     }
 }
 
-/// An element without a definition is named in the line of its fault, by the program.
-fn def_ending(source: &[u8], program: Program, fault: DefFault) -> Ending
+/// An element without a definition is named in the line of its fault, by the program and its place in its declaration.
+fn def_ending(source: &[u8], program: Program, fault: DefFault, place: u32) -> Ending
     ensures { result.status ≡ of_defs fault }
 {
-    let place = match fault {
+    let at = match fault {
         DefFault::Index(at) | DefFault::Bounds(at) | DefFault::Delay(at) => at,
         DefFault::Shift(at) | DefFault::DefinedTwice(at) | DefFault::TooLarge(at) => at,
         DefFault::NotDefined(at) => at,
@@ -92,14 +92,14 @@ fn def_ending(source: &[u8], program: Program, fault: DefFault) -> Ending
     };
     Ending {
         status: Status::FrontEnd(FrontFault::Def(fault)),
-        line: line_of(source, place),
-        undefined: undefined_in(program, fault),
+        line: line_of(source, at),
+        undefined: undefined_in(program, fault, place),
     }
 }
 
-fn undefined_in(program: Program, fault: DefFault) -> Option<Undefined> {
+fn undefined_in(program: Program, fault: DefFault, place: u32) -> Option<Undefined> {
     match fault {
-        DefFault::NotDefined(at) => Some(Undefined { program, at }),
+        DefFault::NotDefined(at) => Some(Undefined { program, at, place }),
         _ => None,
     }
 }
@@ -131,8 +131,9 @@ pub(crate) fn program_of(alloc: Global, source: &[u8]) -> Result<Program, Ending
         Ok(names) => names,
         Err(fault) => return Err(name_ending(source, fault)),
     };
-    match check_defs(alloc, &program, &names) {
+    let mut undefined = 0;
+    match check_defs_with(alloc, &program, &names, &mut undefined) {
         Ok(_) => Ok(program),
-        Err(fault) => Err(def_ending(source, program, fault)),
+        Err(fault) => Err(def_ending(source, program, fault, undefined)),
     }
 }

@@ -232,7 +232,7 @@ fn run_body(
     };
     let mut known = Known::at_first(inside.alloc, body.given, body.count)?;
     run_actions(within, depth, &[], &body.actions, &mut known, found)?;
-    check_all_defined(&known, &body.signals)
+    check_all_defined(&known, &body.signals, &mut found.undefined)
 }
 
 /// An instance of the function at a position among the tops, which a call at `site` makes.

@@ -126,22 +126,27 @@ fn check_defined(known: &Known, element: u64, at: u32) -> Result<(), DefFault>
     }
 }
 
-/// Each element of a signal is defined.
-fn check_signal(known: &Known, signal: &Signal) -> Result<(), DefFault>
+/// Each element of a signal is defined. `undefined` gets the place of the first that is not.
+fn check_signal(known: &Known, signal: &Signal, undefined: &mut u32) -> Result<(), DefFault>
     ensures { result ≡ are_defined (known_of known.now) signal.now }
 {
     for k in 0..signal.count {
+        *undefined = k;
         check_defined(known, element_at(signal.first, k), signal.at)?;
     }
     Ok(())
 }
 
-/// Each element of the signals is defined.
-pub(crate) fn check_all_defined(known: &Known, signals: &[Signal]) -> Result<(), DefFault>
+/// Each element of the signals is defined. `undefined` gets the place in its signal of the first that is not.
+pub(crate) fn check_all_defined(
+    known: &Known,
+    signals: &[Signal],
+    undefined: &mut u32,
+) -> Result<(), DefFault>
     ensures { result ≡ all_defined (known_of known.now) signals.now }
 {
     for signal in signals {
-        check_signal(known, signal)?;
+        check_signal(known, signal, undefined)?;
     }
     Ok(())
 }

@@ -16,5 +16,5 @@ returns-in-Err-clause-err c =
 pub returns-clause-err : goal.returns-clause-err
 returns-clause-err c =
     rw c.def_ending.ensures
-    (def_error c.args.source.now (view c.in_ok-program.program) c.in_ok-program.ensures.ok c.in-Ok.ensures.ok c.in-Err-check_defs.fault
-    c.in-Err-check_defs.ensures.fault)
+    (def_error c.args.source.now (view c.in_ok-program.program) c.in_ok-program.ensures.ok c.in-Ok.ensures.ok c.in-Err-check_defs_with.fault
+    c.in-Err-check_defs_with.ensures.fault)
