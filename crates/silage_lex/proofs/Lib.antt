@@ -8,3 +8,4 @@ pub mod OneKind
 pub mod OneReading
 pub mod Answering
 pub mod Positions
+pub mod FewTokens

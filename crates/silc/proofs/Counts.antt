@@ -1,25 +1,9 @@
--- A source has no more tokens, and its program no more tables and functions, than the source has bytes.
-use Rattle.std.proofs.Common.{arith, ℕ, ◌+◌, ◌≤◌, List, [], ◌∷◌, length}
+-- A program has no more tables and functions than its source has bytes.
+use Rattle.std.proofs.Common.{arith, ℕ, ◌≤◌, List, length}
 use Rattle.name_check.proofs.FewTops.{few_tops as few_tops_of_tokens}
-use Rattle.silage_lex.specs.Tokens.{Gap, none, blank, comment, Spaced, HasTokens}
-use Rattle.silage_lex.specs.declared.Token.{Token}
+use Rattle.silage_lex.proofs.FewTokens.{few_tokens}
 use Rattle.silage_syntax.specs.Tree.{Program}
 use Rattle.silc.specs.Faults.{IsRead}
-
-gap_order : {bytes : List ℕ} {i j : ℕ} → Gap bytes i j → i ≤ j
-gap_order none = omega arith
-gap_order (blank b g) = let h = gap_order g in omega (arith, h)
-gap_order (comment c g) = let h = gap_order g in omega (arith, h, c.behind, c.ends)
-
-spaced_order : (bytes : List ℕ) (i k : ℕ) (ts : List Token) → Spaced bytes i ts k → i + length ts ≤ k
-spaced_order bytes i k [] g = let h = gap_order g in omega (arith, h)
-spaced_order bytes i k (t ∷ ts) (g, is, rest) =
-    let h = gap_order g in
-    let r = spaced_order bytes t.to k ts rest in
-    omega (arith, h, r, is.span.rises)
-
-pub few_tokens : (bytes : List ℕ) (ts : List Token) → HasTokens bytes ts → length ts ≤ length bytes
-few_tokens bytes ts h = let r = spaced_order bytes 0 (length bytes) ts h in omega (arith, r)
 
 pub few_tops : (source : List ℕ) (program : Program) → IsRead source program → length program.tops ≤ length source
 few_tops source program h =

@@ -1,5 +1,5 @@
 use Rattle.std.proofs.Common.{arith}
-use Rattle.silc.proofs.Counts.{few_tokens}
+use Rattle.silage_lex.proofs.FewTokens.{few_tokens}
 use Rattle.silc.proofs.front.read_program.Goals as goal
 
 pub parse-requires : goal.parse-requires
