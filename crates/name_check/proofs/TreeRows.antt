@@ -1,33 +1,17 @@
 -- The rules on a conditional and on a loop, one after another, from the lists that they were made of.
 use Rattle.std.proofs.Common.{◌≡◌, ℕ, List, Vec, Box, Result, Ok, Err, IsErrAnd, refl, sym, ap, ◌∙◌}
 use Rattle.std.specs.Global.{Global}
-use mathlib.Core.Former.{Count}
-use Rattle.silage_syntax.specs.declared.tree.Expr.{Expr as RustExpr, Choose, Choose', Row_of-Expr-Choose-1-2, end_of-Expr-Choose-1-2, more_of-Expr-Choose-1-2, items-the_row-Expr-Choose-1-2, items_hidden-the_row-Expr-Choose-1-2-0}
+use Rattle.silage_syntax.specs.declared.tree.Expr.{Expr as RustExpr, Choose}
 use Rattle.silage_syntax.specs.declared.tree.Manifest.{Manifest as RustManifest}
 use Rattle.silage_syntax.specs.declared.tree.Item.{Item as RustItem, Loop}
-use Rattle.silage_syntax.specs.Tree.{branch, choose, view_expr, view_branches, view_manifest, view_item, view_items}
-use Rattle.silage_syntax.proofs.Rows.{view_Loop}
+use Rattle.silage_syntax.specs.Tree.{view_expr, view_arms, view_manifest, view_item, view_items}
+use Rattle.silage_syntax.proofs.Rows.{view_Choose, view_Loop}
 use Rattle.ranked_faults.specs.Rules.{parts}
 use Rattle.ranked_faults.specs.Private.FirstMet.{first, ◌>>◌}
 use Rattle.ranked_faults.proofs.TableFaults.{then_ok, err_is}
-use Rattle.name_check.specs.Private.Views.{view_arms}
 use Rattle.name_check.specs.Contexts.{Context, inside}
 use Rattle.name_check.specs.NameRules.{expr_rules, branch_rules, head_rules, item_rules, items_rules}
 use Rattle.name_check.specs.declared.fault.NameFault.{NameFault}
-
-row_arms : (m : _) (k : Row_of-Expr-Choose-1-2 m) → view_branches k ≡ view_arms (items-the_row-Expr-Choose-1-2 m k)
-row_arms _ end_of-Expr-Choose-1-2 = refl
-row_arms _ (more_of-Expr-Choose-1-2 {n = n} a b rest) = ap (λ x. branch (view_expr a) (view_expr b) x) (row_arms n rest)
-
-abbrev row_of : RustExpr → (n : Count) × Row_of-Expr-Choose-1-2 n
-row_of (Choose' at shape row p e) = (_, row)
-row_of _ = (_, end_of-Expr-Choose-1-2)
-
-pub view_Choose : (at : ℕ) (v : Vec (RustExpr × RustExpr) Global) (b : Box RustExpr Global) → view_expr (Choose at v b) ≡ choose at (view_arms v.items) (view_expr b.value)
-view_Choose at v b =
-    let row = row_of (Choose at v b) in
-    let same = items_hidden-the_row-Expr-Choose-1-2-0 v in
-    ap (λ bs. choose at bs (view_expr b.value)) (row_arms row.0 row.1 ∙ ap view_arms same)
 
 -- a conditional is met by its branches and then its last value
 module _ (c : Context) (e : RustExpr) (at : ℕ) (v : Vec (RustExpr × RustExpr) Global) (b : Box RustExpr Global) (is : e ≡ Choose at v b) where

@@ -3,9 +3,9 @@
 ghost use Rattle.std.specs.Prelude.{◌≡◌, Option, map, option_map};
 ghost use Rattle.ranked_faults.specs.Rules.{parts};
 ghost use Rattle.ranked_faults.specs.Private.FirstMet.{first};
-ghost use Rattle.silage_syntax.specs.Tree.{view_manifest, view_expr};
+ghost use Rattle.silage_syntax.specs.Tree.{view_manifest, view_expr, view_arms};
 ghost use Rattle.name_check.specs.NameRules.{expr_rules, branch_rules};
-ghost use Rattle.name_check.specs.Private.Views.{context_of, view_arms};
+ghost use Rattle.name_check.specs.Private.Views.{context_of};
 
 use crate::NameFault;
 use crate::context::Context;

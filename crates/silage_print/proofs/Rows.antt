@@ -1,38 +1,19 @@
--- The branches of a conditional are the list that they were made of, and what the text of a conditional and of a loop is.
+-- The text of a conditional and of a loop, from the lists that they were made of.
 use Rattle.std.proofs.Common.{◌≡◌, ℕ, List, [], ◌∷◌, ◌++◌, Vec, Box, refl, sym, ap, ◌∙◌}
 use Rattle.std.specs.Global.{Global}
 use Rattle.std.specs.List.{flat_map}
-use mathlib.Core.Former.{Count}
 use mathlib.Core.List.{append_assoc}
 use Rattle.silage_lex.specs.declared.punctuation.TheConstants as punctuation
 use Rattle.silage_lex.specs.declared.keywords.TheConstants as keyword
-use Rattle.silage_syntax.specs.declared.tree.Expr.{Expr as RustExpr, Choose, Choose', Row_of-Expr-Choose-1-2, end_of-Expr-Choose-1-2, more_of-Expr-Choose-1-2, items-the_row-Expr-Choose-1-2, items_hidden-the_row-Expr-Choose-1-2-0}
+use Rattle.silage_syntax.specs.declared.tree.Expr.{Expr as RustExpr, Choose}
 use Rattle.silage_syntax.specs.declared.tree.Manifest.{Manifest as RustManifest}
 use Rattle.silage_syntax.specs.declared.tree.Item.{Item as RustItem, Loop}
-use Rattle.silage_syntax.specs.Tree.{Branches, no_branch, branch, choose, view_expr, view_branches, view_manifest, view_item, view_items}
-use Rattle.silage_syntax.proofs.Rows.{view_Loop}
+use Rattle.silage_syntax.specs.Tree.{view_expr, view_arms, view_manifest, view_item, view_items}
+use Rattle.silage_syntax.proofs.Rows.{view_Choose, view_Loop}
 use Rattle.silage_print.specs.Text.{symbol, word, expr_text, branches_text, clause_text, items_text, turns_text}
 use Rattle.silage_print.specs.Private.Puts.{arm_text}
 
-abbrev pub arms_of : List (RustExpr × RustExpr) → Branches
-arms_of [] = no_branch
-arms_of (x ∷ xs) = branch (view_expr x.0) (view_expr x.1) (arms_of xs)
-
-row_arms : (m : _) (k : Row_of-Expr-Choose-1-2 m) → view_branches k ≡ arms_of (items-the_row-Expr-Choose-1-2 m k)
-row_arms _ end_of-Expr-Choose-1-2 = refl
-row_arms _ (more_of-Expr-Choose-1-2 {n = n} a b rest) = ap (λ x. branch (view_expr a) (view_expr b) x) (row_arms n rest)
-
-abbrev row_of : RustExpr → (n : Count) × Row_of-Expr-Choose-1-2 n
-row_of (Choose' at shape row p e) = (_, row)
-row_of _ = (_, end_of-Expr-Choose-1-2)
-
-view_Choose : (at : ℕ) (v : Vec (RustExpr × RustExpr) Global) (b : Box RustExpr Global) → view_expr (Choose at v b) ≡ choose at (arms_of v.items) (view_expr b.value)
-view_Choose at v b =
-    let row = row_of (Choose at v b) in
-    let same = items_hidden-the_row-Expr-Choose-1-2-0 v in
-    ap (λ bs. choose at bs (view_expr b.value)) (row_arms row.0 row.1 ∙ ap arms_of same)
-
-arms_spelled : (xs : List (RustExpr × RustExpr)) → branches_text (arms_of xs) ≡ flat_map arm_text xs
+arms_spelled : (xs : List (RustExpr × RustExpr)) → branches_text (view_arms xs) ≡ flat_map arm_text xs
 arms_spelled [] = refl
 arms_spelled (x ∷ xs) =
     let front = expr_text (view_expr x.0) ++ symbol punctuation.ARROW ∷ expr_text (view_expr x.1) in

@@ -115,6 +115,10 @@ abbrev pub items_of : List Item → Items
 items_of [] = no_item
 items_of (x ∷ xs) = item x (items_of xs)
 
+abbrev pub view_arms : List (RustExpr × RustExpr) → Branches
+view_arms [] = no_branch
+view_arms (arm ∷ arms) = branch (view_expr arm.0) (view_expr arm.1) (view_arms arms)
+
 abbrev pub view_items : List RustItem → Items
 view_items xs = items_of (map view_item xs)
 

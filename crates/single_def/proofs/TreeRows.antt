@@ -1,45 +1,18 @@
--- The branches of a conditional and the items of a loop are the lists that they were made of.
-use Rattle.std.proofs.Common.{◌≡◌, ℕ, List, Vec, Box, refl, ap, ◌∙◌, map}
+-- A conditional and a loop as the definitions see them, from the lists that they were made of.
+use Rattle.std.proofs.Common.{◌≡◌, ℕ, List, Vec, Box}
 use Rattle.std.specs.Global.{Global}
-use mathlib.Core.Former.{Count}
-use Rattle.silage_syntax.specs.declared.tree.Expr.{Expr as RustExpr, Choose, Choose', Row_of-Expr-Choose-1-2, end_of-Expr-Choose-1-2, more_of-Expr-Choose-1-2, items-the_row-Expr-Choose-1-2, items_hidden-the_row-Expr-Choose-1-2-0}
+use Rattle.silage_syntax.specs.declared.tree.Expr.{Expr as RustExpr, Choose}
 use Rattle.silage_syntax.specs.declared.tree.Manifest.{Manifest as RustManifest}
-use Rattle.silage_syntax.specs.declared.tree.Item.{Item as RustItem, Loop, Loop', Row_of-Item, end_of-Item, more_of-Item, items-the_row-Item, items_hidden-the_row-Item-0}
-use Rattle.silage_syntax.specs.Tree.{branch, choose, loop, item, items_of, view_expr, view_branches, view_manifest, view_item, view_row, view_items}
-use Rattle.single_def.specs.Private.Scopes.{view_arms}
+use Rattle.silage_syntax.specs.declared.tree.Item.{Item as RustItem, Loop}
+use Rattle.silage_syntax.specs.Tree.{choose, loop, view_expr, view_arms, view_manifest, view_item, view_items}
+use Rattle.silage_syntax.proofs.Rows.{view_Choose, view_Loop}
 
-row_arms : (m : _) (k : Row_of-Expr-Choose-1-2 m) → view_branches k ≡ view_arms (items-the_row-Expr-Choose-1-2 m k)
-row_arms _ end_of-Expr-Choose-1-2 = refl
-row_arms _ (more_of-Expr-Choose-1-2 {n = n} a b rest) = ap (λ x. branch (view_expr a) (view_expr b) x) (row_arms n rest)
-
-abbrev row_of : RustExpr → (n : Count) × Row_of-Expr-Choose-1-2 n
-row_of (Choose' at shape row p e) = (_, row)
-row_of _ = (_, end_of-Expr-Choose-1-2)
-
-pub view_Choose : (at : ℕ) (v : Vec (RustExpr × RustExpr) Global) (b : Box RustExpr Global) → view_expr (Choose at v b) ≡ choose at (view_arms v.items) (view_expr b.value)
-view_Choose at v b =
-    let row = row_of (Choose at v b) in
-    let same = items_hidden-the_row-Expr-Choose-1-2-0 v in
-    ap (λ bs. choose at bs (view_expr b.value)) (row_arms row.0 row.1 ∙ ap view_arms same)
-
-row_items : (m : _) (k : Row_of-Item m) → view_row k ≡ items_of (map view_item (items-the_row-Item m k))
-row_items _ end_of-Item = refl
-row_items _ (more_of-Item {n = n} x rest) = ap (λ xs. item (view_item x) xs) (row_items n rest)
-
-abbrev row_of_loop : RustItem → (n : Count) × Row_of-Item n
-row_of_loop (Loop' index lo hi shape row at) = (_, row)
-row_of_loop _ = (_, end_of-Item)
-
-pub view_Loop : (index : List ℕ) (lo hi : RustManifest) (v : Vec RustItem Global) (at : ℕ) → view_item (Loop index lo hi v at) ≡ loop index (view_manifest lo) (view_manifest hi) (view_items v.items) at
-view_Loop index lo hi v at =
-    let row = row_of_loop (Loop index lo hi v at) in
-    let same = items_hidden-the_row-Item-0 v in
-    ap (λ xs. loop index (view_manifest lo) (view_manifest hi) xs at) (row_items row.0 row.1 ∙ ap view_items same)
-
-pub chosen : (e : RustExpr) (at : ℕ) (v : Vec (RustExpr × RustExpr) Global) (b : Box RustExpr Global) (arms : List (RustExpr × RustExpr)) (last : RustExpr) → e ≡ Choose at v b → arms ≡ v.items → last ≡ b.value
+pub chosen : (e : RustExpr) (at : ℕ) (v : Vec (RustExpr × RustExpr) Global) (b : Box RustExpr Global)
+    (arms : List (RustExpr × RustExpr)) (last : RustExpr) → e ≡ Choose at v b → arms ≡ v.items → last ≡ b.value
     → view_expr e ≡ choose at (view_arms arms) (view_expr last)
 chosen e at v b arms last is a l = rw (is, a, l) (view_Choose at v b)
 
-pub repeated : (x : RustItem) (index : List ℕ) (lo hi : RustManifest) (v : Vec RustItem Global) (at : ℕ) (xs : List RustItem) → x ≡ Loop index lo hi v at → xs ≡ v.items
+pub repeated : (x : RustItem) (index : List ℕ) (lo hi : RustManifest) (v : Vec RustItem Global) (at : ℕ)
+    (xs : List RustItem) → x ≡ Loop index lo hi v at → xs ≡ v.items
     → view_item x ≡ loop index (view_manifest lo) (view_manifest hi) (view_items xs) at
 repeated x index lo hi v at xs is a = rw (is, a) (view_Loop index lo hi v at)

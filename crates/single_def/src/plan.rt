@@ -1,13 +1,13 @@
 //! The items of a function as actions.
 
 ghost use Rattle.std.specs.Prelude.{◌≡◌, ◌++◌, [], ◌∷◌, map, IsTrue, IfOk, OnOk, Option, min};
-ghost use Rattle.silage_syntax.specs.Tree.{view_manifest, view_place, view_delay, view_expr, view_item, view_items};
+ghost use Rattle.silage_syntax.specs.Tree.{view_manifest, view_place, view_delay, view_expr, view_arms, view_item, view_items};
 ghost use Rattle.name_check.specs.Meanings.{are_dims};
 ghost use Rattle.single_def.specs.ElementRules as rules;
 ghost use Rattle.single_def.specs.Private.Actions.{view_action};
 ghost use Rattle.single_def.specs.Private.Plans as plan;
 ghost use Rattle.single_def.specs.Private.Plans.{viewed};
-ghost use Rattle.single_def.specs.Private.Scopes.{program_of, function_of, located_in, view_arms};
+ghost use Rattle.single_def.specs.Private.Scopes.{program_of, function_of, located_in};
 
 use crate::DefFault;
 use crate::actions::{Action, Bound, Check, Subscript};

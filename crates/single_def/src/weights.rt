@@ -1,10 +1,9 @@
 //! What expressions add to the load.
 
 ghost use Rattle.std.specs.Prelude.{◌≡◌, ◌+◌, ◌≤◌, map, sum_by};
-ghost use Rattle.silage_syntax.specs.Tree.{view_expr};
+ghost use Rattle.silage_syntax.specs.Tree.{view_expr, view_arms};
 ghost use Rattle.single_def.specs.ElementRules as load;
 ghost use Rattle.single_def.specs.Private.Plans.{capped};
-ghost use Rattle.single_def.specs.Private.Scopes.{view_arms};
 
 use silage_syntax::Expr;
 

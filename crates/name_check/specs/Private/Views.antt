@@ -1,7 +1,6 @@
 -- What the code knows of names, as the rules see it.
 use Rattle.std.specs.Prelude.{ℕ, List, [], ◌∷◌, ◌++◌, find, bytes_eq, Option, if◌then◌else◌}
-use Rattle.silage_syntax.specs.declared.tree.Expr.{Expr as RustExpr}
-use Rattle.silage_syntax.specs.Tree.{Branches, no_branch, branch, Top, Program, view, view_func, view_expr}
+use Rattle.silage_syntax.specs.Tree.{Top, Program, view, view_func}
 use Rattle.name_check.specs.Contexts.{Context}
 use Rattle.name_check.specs.Meanings.{is_among}
 use Rattle.name_check.specs.TopNames.{top_name}
@@ -22,7 +21,3 @@ top_named p name = find (λ t. bytes_eq (top_name t) name) p.tops
 -- the names, with this one at the end unless it is among them
 abbrev pub with_name : List (List ℕ) → List ℕ → List (List ℕ)
 with_name names name = if is_among names name then names else names ++ name ∷ []
-
-abbrev pub view_arms : List (RustExpr × RustExpr) → Branches
-view_arms [] = no_branch
-view_arms (arm ∷ arms) = branch (view_expr arm.0) (view_expr arm.1) (view_arms arms)

@@ -1,8 +1,9 @@
 use Rattle.std.proofs.Common.{◌≡◌, drop}
+use Rattle.silage_syntax.specs.Tree.{view_arms}
 use Rattle.ranked_faults.specs.Rules.{parts}
 use Rattle.ranked_faults.specs.Private.FirstMet.{first}
 use Rattle.name_check.specs.NameRules.{branch_rules}
-use Rattle.name_check.specs.Private.Views.{context_of, view_arms}
+use Rattle.name_check.specs.Private.Views.{context_of}
 use Rattle.name_check.proofs.expressions.+exprs.Given as goal
 
 abbrev pub invariant-check_arms-loop-arm : goal.invariant-check_arms-loop-arm

@@ -1,5 +1,5 @@
 use Rattle.std.proofs.Common.{◌≡◌, ◌++◌, drop}
-use Rattle.single_def.specs.Private.Scopes.{view_arms}
+use Rattle.silage_syntax.specs.Tree.{view_arms}
 use Rattle.single_def.specs.Private.Plans.{viewed, branch_checks}
 use Rattle.single_def.specs.Private.Scopes.{program_of, function_of}
 use Rattle.single_def.proofs.plan.+exprs.Given as goal

@@ -1,5 +1,5 @@
 use Rattle.std.proofs.Common.{◌≡◌, ◌≤◌, ◌+◌, drop}
-use Rattle.single_def.specs.Private.Scopes.{view_arms}
+use Rattle.silage_syntax.specs.Tree.{view_arms}
 use Rattle.single_def.specs.ElementRules.{branches_weight}
 use Rattle.single_def.specs.Private.Plans.{capped}
 use Rattle.single_def.proofs.weights.+weights.Given as goal
