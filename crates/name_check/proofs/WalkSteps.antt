@@ -103,9 +103,10 @@ pub closes_end : (marks now : List Mark) (functions : List ℕ) (i component : �
 closes_end marks now functions i component past h = let P : List ℕ → Type 0 = λ fs. ClosesAll marks fs component now in subst P (take_all i functions past) h
 
 module _ (calls : List (List ℕ)) where
-  -- the callee is closed already
-  follows_closed : (s : State) (g component : ℕ) → IsMark s.marks g (Closed component) → IsWalk calls (Some g) s → IsWalk calls None s
-  follows_closed s g component mark w = record {
+  -- another call may be due, where what was handled is handled all the same
+  with_due : {due other : Option ℕ} (s : State) → IsWalk calls due s
+      → ((i g : ℕ) → IsHandled due s i g → IsHandled other s i g) → IsWalk calls other s
+  with_due s w again = record {
     inside = w.inside;
     size = w.size;
     total = w.total;
@@ -118,39 +119,34 @@ module _ (calls : List (List ℕ)) where
     called = w.called;
     numbered = w.numbered;
     done = w.done;
-    handled = λ i f h at call. elim (w.handled i f h at call) [
-      | closed m ↦ closed m
-      | active a e ↦ active a e
-      | pending q e ↦ pending q e
-      | due same ↦ (let is : g ≡ h = some_once refl same in closed (subst (λ (k : ℕ). IsMark s.marks k (Closed component)) is mark))
-    ];
+    handled = λ i f g at call. again i g (w.handled i f g at call);
   }
 
-  pub goes_on_closed : (s : State) (g component : ℕ) → IsMark s.marks g (Closed component) → IsWalk calls (Some g) s → WalksOn calls s s
-  goes_on_closed s g component mark w = record { walk = follows_closed s g component mark w; met = λ f new. new; less = omega arith }
+  -- the callee is closed already
+  follows_closed : (s : State) (g component : ℕ) → IsMark s.marks g (Closed component) → IsWalk calls (Some g) s
+      → IsWalk calls None s
+  follows_closed s g component mark w = with_due s w (λ i h known. elim known [
+    | closed m ↦ closed m
+    | active a e ↦ active a e
+    | pending q e ↦ pending q e
+    | due same ↦
+        (let is : g ≡ h = some_once refl same in
+        closed (subst (λ (k : ℕ). IsMark s.marks k (Closed component)) is mark))
+  ])
+
+  pub goes_on_closed : (s : State) (g component : ℕ) → IsMark s.marks g (Closed component) → IsWalk calls (Some g) s
+      → WalksOn calls s s
+  goes_on_closed s g component mark w =
+      record { walk = follows_closed s g component mark w; met = λ f new. new; less = omega arith }
 
   -- any call may be due besides
   pub is_due : (s : State) (g : ℕ) → IsWalk calls None s → IsWalk calls (Some g) s
-  is_due s g w = record {
-    inside = w.inside;
-    size = w.size;
-    total = w.total;
-    position = w.position;
-    at_position = w.at_position;
-    rising = w.rising;
-    within = w.within;
-    begun = w.begun;
-    leads = w.leads;
-    called = w.called;
-    numbered = w.numbered;
-    done = w.done;
-    handled = λ i f h at call. elim (w.handled i f h at call) [
-      | closed m ↦ closed m
-      | active a e ↦ active a e
-      | pending q e ↦ pending q e
-      | due same ↦ no_such h same
-    ];
-  }
+  is_due s g w = with_due s w (λ i h known. elim known [
+    | closed m ↦ closed m
+    | active a e ↦ active a e
+    | pending q e ↦ pending q e
+    | due same ↦ no_such h same
+  ])
 
   -- the last pending call is due
   pub next_is : (s : State) (rest : List ℕ) (g : ℕ) (last : Group) → IsWalk calls None s → IsLast s.groups last → s.pending ≡ rest ++ g ∷ [] → last.pending ≤ length rest
