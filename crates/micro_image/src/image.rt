@@ -59,7 +59,7 @@ pub struct PortRef {
 }
 
 /// A unit of the hardware, and the state in which it starts.
-#[derive(Clone, Debug, PartialEq, Drop)]
+#[derive(Debug, Drop)]
 pub struct UnitDesc {
     pub kind: Kind,
     /// How many cycles an operation takes: the result of an issue at cycle T is on its buses in cycle T + latency - 1.
@@ -75,7 +75,7 @@ pub struct UnitDesc {
 }
 
 /// An issue: an operation that a unit begins in a cycle.
-#[derive(Clone, Debug, PartialEq, Drop)]
+#[derive(Debug, Drop)]
 pub struct Issue {
     pub unit: u8,
     pub op: Op,
@@ -103,7 +103,7 @@ pub struct Take {
 }
 
 /// A microword: all that the hardware does in one cycle.
-#[derive(Clone, Debug, PartialEq, Drop)]
+#[derive(Debug, Drop)]
 pub struct Word {
     pub issues: List<Issue>,
     pub enables: List<Enable>,
@@ -111,7 +111,7 @@ pub struct Word {
 }
 
 /// A microprogram with the hardware that it is for.
-#[derive(Clone, Debug, PartialEq, Drop)]
+#[derive(Debug, Drop)]
 pub struct Image {
     /// Cycles in a sample.
     pub period: u16,
