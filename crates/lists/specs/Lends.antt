@@ -6,7 +6,8 @@ use Rattle.lists.specs.contracts.List.{the_row}
 module _ (T : RattleType) (list : MutBor (List T.Denot)) where
   -- the elements end as the slice shows them last
   abbrev pub lends_slice : MutBor (List T.Denot) → Fml
-  lends_slice slice = Lends (the_row T) (Array T 0) list slice (λ w. take (length list.now) (w ++ drop (length w) list.now))
+  lends_slice slice =
+      Lends (the_row T) (Array T 0) list slice (λ w. take (length list.now) (w ++ drop (length w) list.now))
 
   -- the element at the index ends as the reference shows it last
   abbrev pub lends_item : ℕ → MutBor T.Denot → Fml

@@ -24,6 +24,10 @@ pub record IsFirstAt (bytes : List ℕ) (at n : ℕ) : Type 0 where
   pub stands : stands_at bytes at (slice_index_or symbols n []) ≡ true
   pub first : NoneBefore bytes at n
 
+-- and it ends at `end`
+abbrev pub IsSymbolSpan : List ℕ → (at n end : ℕ) → Type 0
+IsSymbolSpan bytes at n end = IsFirstAt bytes at n × (end ≡ at + length (slice_index_or symbols n []))
+
 -- the first `*/` behind the place
 pub record IsFirstClose (bytes : List ℕ) (from close : ℕ) : Type 0 where
   pub behind : from ≤ close

@@ -7,14 +7,17 @@ use Rattle.silage_lex.specs.declared.TokenKind.TheVariants.{Name, Whole, Point, 
 
 abbrev pub reserved_words : List (List ℕ)
 reserved_words =
-    codes "func" ∷ codes "const" ∷ codes "var" ∷ codes "begin" ∷ codes "end" ∷ codes "fix" ∷ codes "bool" ∷ codes "trunc"
-    ∷ codes "round" ∷ codes "if" ∷ codes "fi" ∷ codes "true" ∷ codes "false" ∷ codes "sat" ∷ codes "down" ∷ codes "up" ∷ []
+    codes "func" ∷ codes "const" ∷ codes "var" ∷ codes "begin" ∷ codes "end" ∷ codes "fix" ∷ codes "bool"
+    ∷ codes "trunc" ∷ codes "round" ∷ codes "if" ∷ codes "fi" ∷ codes "true" ∷ codes "false" ∷ codes "sat"
+    ∷ codes "down" ∷ codes "up" ∷ []
 
 -- the longest first
 abbrev pub symbols : List (List ℕ)
 symbols =
-    codes "::" ∷ codes ".." ∷ codes "==" ∷ codes "!=" ∷ codes "<=" ∷ codes ">=" ∷ codes "<<" ∷ codes ">>" ∷ codes "->" ∷ codes "||" ∷ codes "@@"
-    ∷ codes "(" ∷ codes ")" ∷ codes "[" ∷ codes "]" ∷ codes "," ∷ codes ";" ∷ codes ":" ∷ codes "=" ∷ codes "<" ∷ codes ">"
+    codes "::" ∷ codes ".." ∷ codes "==" ∷ codes "!=" ∷ codes "<=" ∷ codes ">=" ∷ codes "<<" ∷ codes ">>"
+    ∷ codes "->" ∷ codes "||" ∷ codes "@@"
+    ∷ codes "(" ∷ codes ")" ∷ codes "[" ∷ codes "]" ∷ codes "," ∷ codes ";" ∷ codes ":" ∷ codes "="
+    ∷ codes "<" ∷ codes ">"
     ∷ codes "+" ∷ codes "-" ∷ codes "*" ∷ codes "&" ∷ codes "|" ∷ codes "!" ∷ codes "@" ∷ []
 
 -- a letter or `_`, then letters, digits and `_`

@@ -1,13 +1,13 @@
 //! The token that begins at a place: its kind, and where it ends.
 
-ghost use Rattle.std.specs.Prelude.{◌≡◌, ◌≢◌, ◌+◌, ◌*◌, ◌≤◌, ◌<◌, ◌^◌, true, false, [], ◌∷◌, length, slice_index, slice_index_or, slice_range, IsTrue, IfOk, IfErr, OnOk, IfSome, IfNone};
+ghost use Rattle.std.specs.Prelude.{◌≡◌, ◌≢◌, ◌+◌, ◌*◌, ◌≤◌, ◌<◌, ◌^◌, true, false, [], ◌∷◌, length, slice_index, slice_range, IsTrue, IfOk, IfErr, OnOk, IfSome, IfNone};
 ghost use Rattle.std.specs.List.{list_all};
 ghost use Rattle.silage_lex.specs.Bytes as byte;
 ghost use Rattle.silage_lex.specs.Bytes.{begins_fraction};
 ghost use Rattle.silage_lex.specs.Texts.{reserved_words, symbols, is_digits, digit_count, decimal_after};
 ghost use Rattle.silage_lex.specs.Tokens.{IsSpan};
 ghost use Rattle.silage_lex.specs.Faults.{IsNumberSpan, StandsAt};
-ghost use Rattle.silage_lex.specs.Scan.{position_of, NoneBefore, IsFirstAt, IsDigitSpan, StartsToken};
+ghost use Rattle.silage_lex.specs.Scan.{position_of, NoneBefore, IsSymbolSpan, IsDigitSpan, StartsToken};
 ghost use Rattle.silage_lex.specs.declared.LexFault.TheVariants.{Memory};
 
 use crate::bytes::{byte_at, digits_end, is_digit, is_letter, word_end};
@@ -68,7 +68,7 @@ fn single_symbol(byte: u8) -> Option<u8>
 fn symbol_at(src: &[u8], at: usize) -> Option<(u8, usize)>
     requires inside { at < length src.now }
     requires size { length src.now ≤ 2 ^ 20 }
-    ensures some { IfSome result (λ symbol. IsFirstAt src.now at symbol.0 × (symbol.1 ≡ at + length (slice_index_or symbols symbol.0 []))) }
+    ensures some { IfSome result (λ symbol. IsSymbolSpan src.now at symbol.0 symbol.1) }
     ensures none { IfNone result (NoneBefore src.now at (length symbols)) }
 {
     if let Some(symbol) = double_symbol(src[at], byte_at(src, at + 1)) {

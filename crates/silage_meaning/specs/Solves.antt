@@ -97,8 +97,9 @@ pub record IsInitial (p : Program) (e : Element) (j : ℕ) (v : ℤ) : Type 0 wh
   pub given : (l : Lit) (ty : SigType) → IsPreset p e j l ty → IsRawWord l ty v
   pub absent : ((l : Lit) (ty : SigType) → IsPreset p e j l ty → ⊥) → v ≡ pos 0
 
--- The words solve the program over the stream: each element has its initial words at the samples before sample 0, as far
--- as delays reach, and at each sample of the stream the word that each of its definitions gives. negsuc j is -(j + 1).
+-- The words solve the program over the stream: each element has its initial words at the samples before sample 0, as
+-- far as delays reach, and at each sample of the stream the word that each of its definitions gives. negsuc j is
+-- -(j + 1).
 pub record Solves (p : Program) (stream : Rows) (words : Words) : Type 0 where
   pub past : (e : Element) (j : ℕ)
       → IsElement p e

@@ -1,5 +1,5 @@
-//! What is known of a source once it has tokens: its tree, its grammar and limits, what it means, its canonical text. The
-//! parts are crates of their own, which this one hands on.
+//! What is known of a source once it has tokens: its tree, its grammar and limits, what it means, its canonical text.
+//! The parts are crates of their own, which this one hands on.
 #![tactic(auto)]
 
 ghost use Rattle.silage_print.specs.ReadAgain.{ProgramTree};

@@ -1,7 +1,7 @@
 //! The program `silc`: its commands, over any desk.
 //!
-//! `silc` is the top call; its clauses carry what the whole program promises. In `specs/`, `Faults` says which fault of a
-//! source is the first and which program it has where there is none, `Form` which programs are compiled, `Plain` over
+//! `silc` is the top call; its clauses carry what the whole program promises. In `specs/`, `Faults` says which fault of
+//! a source is the first and which program it has where there is none, `Form` which programs are compiled, `Plain` over
 //! which datapath, `Serial` to which plan, and `Headline` what compiled microcode is. `Command` says which words are a
 //! command, `Compile` and `Sim` when each status comes. What only proofs and private contracts use is in
 //! `specs/Private`.

@@ -1,5 +1,5 @@
--- What the desk of the host means. It specifies no content, counts as reading and writing every name, and has one counter
--- for all of its faults.
+-- What the desk of the host means. It specifies no content, counts as reading and writing every name, and has one
+-- counter for all of its faults.
 use Rattle.std.specs.Prelude.{ℕ, None, true}
 use Rattle.desk_core.specs.Desk.{IsOutputSpecified}
 use Rattle.desk_core.specs.View.{View}

@@ -56,8 +56,8 @@ pub record LastBeginsAfter (groups : List Group) (position : ℕ) : Type 0 where
 abbrev pub IsNotEarlier : List Group → (i j : ℕ) → Type 0
 IsNotEarlier groups i j = (group : Group) → Contains groups group → group.active ≤ i → group.active ≤ j
 
--- the call of g by the active function at position i has been followed, or it is pending in a group that is not earlier,
--- or due
+-- the call of g by the active function at position i has been followed, or it is pending in a group that is not
+-- earlier, or due
 pub data IsHandled (due : Option ℕ) (s : State) (i g : ℕ) : Type 0 where
   closed : {component : ℕ} → IsMark s.marks g (Closed component) → IsHandled due s i g
   active : {j : ℕ} → IsActiveAt s j g → IsNotEarlier s.groups i j → IsHandled due s i g
