@@ -1,3 +1,5 @@
+use thiserror::Error;
+
 /// The size of a fixed-point number, Q(w-f).f in two's complement: `w` bits with the sign, of which `f` are fraction
 /// bits. A raw word, its raw integer, is m for the value m / 2^f.
 #[derive(Clone, Copy, Debug, PartialEq, Eq)]
@@ -39,9 +41,10 @@ pub enum SigType {
     Bool,
 }
 
-/// Why a literal has no raw word.
-#[derive(Clone, Copy, Debug, PartialEq, Eq)]
+/// Why a literal is refused.
+#[derive(Clone, Copy, Debug, PartialEq, Eq, Error)]
 pub enum LitFault {
     /// The raw word is outside the range of the shape.
+    #[error("literal out of range")]
     Range,
 }
