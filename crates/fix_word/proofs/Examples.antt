@@ -1,6 +1,6 @@
 -- The functions compute on numbers that are given.
-use Rattle.std.proofs.Common.{◌≡◌, refl, pos, negsuc}
-use Rattle.fix_word.specs.Values.{wrap_of, form_of, apply_of}
+use Rattle.std.proofs.Common.{◌≡◌, refl, pos, negsuc, true, false}
+use Rattle.fix_word.specs.Values.{wrap_of, form_of, conv_of, nearest_of, apply_of}
 use Rattle.fix_word.specs.declared.types.Mode.TheVariants.{Trunc, Round}
 use Rattle.fix_word.specs.declared.operation.Op.TheVariants.{And, Mul, Sel, Load}
 
@@ -26,6 +26,25 @@ form_of-cut = refl
 form_of-up : form_of (pos 5) (record { shift = negsuc 31; mode = Trunc; width = 32 }) ≡ pos 0
 unfolding wrap_of
 form_of-up = refl
+
+-- the raw word -8 with 8 fraction bits, in 8 bits with 4 of them
+conv_of-cut : conv_of (negsuc 7) (pos 8) (record { w = 8; f = 4 }) Trunc ≡ negsuc 0
+unfolding wrap_of
+conv_of-cut = refl
+
+conv_of-minus_half : conv_of (negsuc 7) (pos 8) (record { w = 8; f = 4 }) Round ≡ pos 0
+unfolding wrap_of
+conv_of-minus_half = refl
+
+-- 0.5 and -0.5 with no fraction bits, and -1.0 with 15
+nearest_of-half : nearest_of false 5 1 0 ≡ pos 1
+nearest_of-half = refl
+
+nearest_of-minus_half : nearest_of true 5 1 0 ≡ pos 0
+nearest_of-minus_half = refl
+
+nearest_of-lowest : nearest_of true 10 1 15 ≡ negsuc 32767
+nearest_of-lowest = refl
 
 -- 127 times 127 with 4 places
 apply_of-product : apply_of Mul (record { shift = pos 4; mode = Trunc; width = 8 }) (pos 127) (pos 127) (pos 0) ≡ negsuc 15

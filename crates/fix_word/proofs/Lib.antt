@@ -1,6 +1,8 @@
 pub mod Floors
 pub mod Wraps
 pub mod Forms
+pub mod Conversions
+pub mod Nearest
 pub mod Examples
 pub mod Operations
 mod Bodies

@@ -1,6 +1,8 @@
 -- The one number of each relation, as a function that computes.
-use Rattle.std.specs.Prelude.{ℕ, zero, suc, ◌-◌, ◌/◌, ◌^◌, ℤ, pos, negsuc, ◌+ℤ◌, ◌-ℤ◌, ◌*ℤ◌, neg_ℤ, int_lt, int_le, Bool, true, false, not, ◌&&◌, ◌||◌}
+use Rattle.std.specs.Prelude.{ℕ, zero, suc, ◌-◌, ◌*◌, ◌/◌, ◌^◌, ℤ, pos, negsuc, ◌+ℤ◌, ◌-ℤ◌, ◌*ℤ◌, neg_ℤ, int_lt, int_le, Bool, true, false, not, ◌&&◌, ◌||◌}
 use Rattle.std.specs.Ordering.{int_eq}
+use Rattle.fix_word.specs.Words.{signed}
+use Rattle.fix_word.specs.declared.types.Shape.{Shape}
 use Rattle.fix_word.specs.declared.types.Format.{Format}
 use Rattle.fix_word.specs.declared.types.Mode.{Mode}
 use Rattle.fix_word.specs.declared.types.Mode.TheVariants.{Trunc, Round}
@@ -26,6 +28,15 @@ scaled_of q (pos (suc s)) Round = floor_of (q +ℤ pos (2 ^ s)) (2 ^ suc s)
 -- the exact number q in the format
 abbrev pub form_of : ℤ → Format → ℤ
 form_of q fmt = wrap_of (scaled_of q fmt.shift fmt.mode) fmt.width
+
+-- the raw word m with `places` fraction bits, requantised to the shape
+abbrev pub conv_of : ℤ → ℤ → Shape → Mode → ℤ
+conv_of m places shape mode = form_of m (record { shift = places -ℤ pos shape.f; mode = mode; width = shape.w })
+
+-- ±digits / 10 ^ places times 2 ^ f, as the nearest whole number, a half going up
+abbrev pub nearest_of : Bool → ℕ → ℕ → ℕ → ℤ
+nearest_of negative digits places f =
+    floor_of (signed negative (2 * digits * 2 ^ f) +ℤ pos (10 ^ places)) (2 * 10 ^ places)
 
 -- 1 for true, and 0 for false
 abbrev pub bit_of : Bool → ℤ

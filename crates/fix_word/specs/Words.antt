@@ -69,3 +69,9 @@ IsNearest negative digits places f r =
 pub record IsLiteral (negative : Bool) (digits places : ℕ) (shape : Shape) (r : ℤ) : Type 0 where
   pub nearest : IsNearest negative digits places shape.f r
   pub word : IsWord shape.w r
+
+-- the decimal number ±digits / 10 ^ places has no raw word in the shape: the nearest one is outside the range
+pub record IsOutOfRange (negative : Bool) (digits places : ℕ) (shape : Shape) : Type 0 where
+  pub raw : ℤ
+  pub nearest : IsNearest negative digits places shape.f raw
+  pub outside : IsWord shape.w raw → ⊥

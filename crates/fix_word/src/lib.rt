@@ -1,12 +1,14 @@
-//! Words of fixed-point numbers: raw words wrapped to a width, formats with their rounding, and the operations of a
-//! processor.
+//! Words of fixed-point numbers: raw words wrapped to a width, formats with their rounding, the conversion of words and
+//! of decimal literals, and the operations of a processor.
 #![tactic(auto)]
 
+mod literals;
 mod operation;
 mod types;
 mod words;
 
 pub use lists::{Bytes, Name};
+pub use literals::literal;
 pub use operation::{Op, apply};
 pub use types::{FixType, Format, LitFault, Mode, Shape, SigType};
-pub use words::{form, wrap};
+pub use words::{conv, form, wrap};

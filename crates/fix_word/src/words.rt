@@ -1,13 +1,13 @@
-ghost use Rattle.std.specs.Prelude.{◌≡◌, ◌≤◌, ◌^◌, pos, unsigned_abs};
-ghost use Rattle.fix_word.specs.Words.{IsWrap, IsForm, IsFormat};
-ghost use Rattle.fix_word.specs.Values.{wrap_of, scaled_of, form_of};
+ghost use Rattle.std.specs.Prelude.{◌≡◌, ◌≤◌, ◌^◌, ◌≤ℤ◌, pos, unsigned_abs};
+ghost use Rattle.fix_word.specs.Words.{IsWrap, IsForm, IsFormat, IsShape, IsConv};
+ghost use Rattle.fix_word.specs.Values.{wrap_of, scaled_of, form_of, conv_of};
 
-use crate::types::{Format, Mode};
+use crate::types::{Format, Mode, Shape};
 
 /// A multiple of 2^w for each width w, so large that no number that is wrapped is as far below 0.
 const LIFT: i128 = 1 << 120;
 
-fn power_of_two(k: u8) -> i128
+pub(crate) fn power_of_two(k: u8) -> i128
     requires { k ≤ 63 }
     ensures { result ≡ pos (2 ^ k) }
 {
@@ -68,4 +68,21 @@ pub fn form(q: i128, fmt: &Format) -> i64
     ensures value { result ≡ form_of q fmt.now }
 {
     wrap_wide(scale(q, fmt), fmt.width)
+}
+
+/// The raw word in the shape `to` of the raw word `m` with `f1` fraction bits. What falls off on the right goes by the
+/// mode, and on the left the word wraps. Page `docs/LANGUAGE.md`, "Rounding and conversion".
+pub fn conv(m: i128, f1: i16, to: Shape, mode: Mode) -> i64
+    requires number { unsigned_abs m ≤ 2 ^ 80 }
+    requires places { (pos 0 ≤ℤ f1) × (f1 ≤ℤ pos 64) }
+    requires shape { IsShape to }
+    ensures meaning { IsConv m f1 to mode result }
+    ensures value { result ≡ conv_of m f1 to mode }
+{
+    let fmt = Format {
+        shift: (f1 - to.f as i16) as i8,
+        mode,
+        width: to.w,
+    };
+    form(m, &fmt)
 }
