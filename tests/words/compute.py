@@ -1,9 +1,12 @@
 #!/usr/bin/env python3
-"""Compares the results of the tables of word operations with those of exact arithmetic, as docs/MACHINE.md has them.
+"""Compares the results of the tables of word operations with those of exact arithmetic, as docs/MACHINE.md
+and docs/LANGUAGE.md have them.
 
 usage: tests/words/compute.py
 """
 import sys
+from fractions import Fraction
+from math import floor
 from pathlib import Path
 
 HERE = Path(__file__).resolve().parent
@@ -19,6 +22,17 @@ def formed(number, shift, mode, width):
         return wrapped(number << -shift, width)
     half = 1 << (shift - 1) if mode == "round" else 0
     return wrapped((number + half) >> shift, width)
+
+
+def converted(number, fraction_bits, width, point, mode):
+    exact = Fraction(number, 2**fraction_bits) * 2**point
+    return wrapped(floor(exact + Fraction(1, 2) if mode == "round" else exact), width)
+
+
+def literal(sign, digits, places, width, point):
+    exact = Fraction(-digits if sign == "-" else digits, 10**places)
+    word = floor(exact * 2**point + Fraction(1, 2))
+    return word if -(2 ** (width - 1)) <= word < 2 ** (width - 1) else None
 
 
 EXACT = {"add": lambda a, b: a + b, "sub": lambda a, b: a - b, "neg": lambda a, b: -a, "pass": lambda a, b: a,
@@ -37,15 +51,20 @@ def applied(name, shift, mode, width, a, b, c):
 
 def value(row):
     verb, *words = row.split()
-    words = [word if word.isalpha() else int(word) for word in words]
-    return {"wrap": wrapped, "form": formed, "apply": applied}[verb](*words)
+    words = [word if word.isalpha() or word in "+-" else int(word) for word in words]
+    return {"wrap": wrapped, "form": formed, "conv": converted, "literal": literal, "apply": applied}[verb](*words)
+
+
+def answer(row):
+    word = value(row)
+    return f"{row} fault: literal out of range\n" if word is None else f"{row} = {word}\n"
 
 
 def main():
     wrong = 0
-    for table in ("wrap", "form", "apply"):
+    for table in ("wrap", "form", "conv", "literal", "apply"):
         rows = (HERE / f"{table}.txt").read_text().splitlines()
-        results = "".join(f"{row} = {value(row)}\n" for row in rows)
+        results = "".join(answer(row) for row in rows)
         if (HERE / f"{table}.out").read_text() != results:
             wrong += 1
             print(f"{table}.out has other results")

@@ -2,15 +2,18 @@
 //!
 //! - `wrap Q W`: the word of W bits for Q;
 //! - `form Q SHIFT MODE WIDTH`: the word of Q in a format;
+//! - `conv M F1 W F MODE`: the word in the shape (W,F) of the word M with F1 fraction bits;
+//! - `literal SIGN DIGITS PLACES W F`: the word in the shape (W,F) of the literal DIGITS/10^PLACES, whose sign is `+` or
+//!   `-`, or its fault;
 //! - `apply OP SHIFT MODE WIDTH A B C`: the result of an operation, at three operands of which it reads its own.
 
-ghost use Rattle.std.specs.Prelude.{◌≡◌, ◌≤◌, ◌^◌, ◌↔◌, IsTrue, IfOk, unsigned_abs};
+ghost use Rattle.std.specs.Prelude.{◌≡◌, ◌<◌, ◌≤◌, ◌^◌, ◌↔◌, IsTrue, IfOk, unsigned_abs};
 ghost use Rattle.fix_word.specs.Operations.{IsReady};
-ghost use Rattle.fix_word.specs.Words.{IsFormat};
+ghost use Rattle.fix_word.specs.Words.{IsFormat, IsShape};
 
 use crate::operations::operation_named;
 use anyhow::{Context, Result};
-use fix_word::{Format, Mode, Op, apply, form, wrap};
+use fix_word::{Format, LitFault, Mode, Op, Shape, apply, conv, form, literal, wrap};
 use std::alloc::AllocError;
 use std::{fmt, str};
 
@@ -23,6 +26,14 @@ enum Broken {
     Number,
     /// A width is not 1 to 32.
     Width,
+    /// A width is not 1 to 32, or there are more fraction bits than bits.
+    Shape,
+    /// The fraction bits of a number are not 0 to 64.
+    FractionBits,
+    /// A literal has more than 18 digits.
+    Digits,
+    /// A literal has more than 17 digits behind its point.
+    Places,
     /// A shift is not -32 to 64, or a width not 1 to 32.
     Format,
     /// The operation is one that has no result by itself.
@@ -37,6 +48,10 @@ impl fmt::Display for Broken {
             Broken::Row => "row",
             Broken::Number => "number",
             Broken::Width => "width",
+            Broken::Shape => "shape",
+            Broken::FractionBits => "fraction bits",
+            Broken::Digits => "digits",
+            Broken::Places => "places",
             Broken::Format => "format",
             Broken::Operation => "operation",
             Broken::Operand => "operand",
@@ -44,10 +59,35 @@ impl fmt::Display for Broken {
     }
 }
 
+/// What a row gives.
+#[derive(Clone, Copy, Debug, PartialEq, Eq)]
+enum Answer {
+    Word(i64),
+    Fault(LitFault),
+}
+
+impl fmt::Display for Answer {
+    fn fmt<W: fmt::Write>(&self, f: &mut fmt::Formatter<W>) -> fmt::Result {
+        match self {
+            Answer::Word(word) => write!(f, "= {word}"),
+            Answer::Fault(fault) => write!(f, "fault: {fault}"),
+        }
+    }
+}
+
 /// The greatest size of a number, and of an operand.
 const NUMBER_LIMIT: u128 = 1 << 80;
 
 const OPERAND_LIMIT: u64 = 1 << 39;
+
+/// The most fraction bits of a number.
+const FRACTION_BITS_LIMIT: i16 = 64;
+
+/// The least number with 19 digits.
+const DIGITS_LIMIT: u64 = 1_000_000_000_000_000_000;
+
+/// The most digits behind the point of a literal.
+const PLACES_LIMIT: u8 = 17;
 
 fn number(word: &str) -> Result<i128, Broken>
     ensures { IfOk result (λ q. unsigned_abs q ≤ 2 ^ 80) }
@@ -117,6 +157,58 @@ fn formed(q: &str, fmt: &Format) -> Result<i64, Broken> {
     Ok(form(q, fmt))
 }
 
+fn shape(w: &str, f: &str) -> Result<Shape, Broken>
+    ensures { IfOk result IsShape }
+{
+    let (Ok(w), Ok(f)) = (w.parse::<u8>(), f.parse::<u8>()) else {
+        return Err(Broken::Row);
+    };
+    if w < 1 || w > 32 || f > w {
+        return Err(Broken::Shape);
+    }
+    Ok(Shape { w, f })
+}
+
+fn converted(m: &str, f1: &str, to: Shape, mode: Mode) -> Result<i64, Broken>
+    requires { IsShape to }
+{
+    let Ok(f1) = f1.parse::<i16>() else {
+        return Err(Broken::Row);
+    };
+    let m = number(m)?;
+    if f1 < 0 || f1 > FRACTION_BITS_LIMIT {
+        return Err(Broken::FractionBits);
+    }
+    Ok(conv(m, f1, to, mode))
+}
+
+fn is_negative(sign: &str) -> Result<bool, Broken> {
+    match sign {
+        "+" => Ok(false),
+        "-" => Ok(true),
+        _ => Err(Broken::Row),
+    }
+}
+
+fn literal_answer(sign: &str, digits: &str, places: &str, to: Shape) -> Result<Answer, Broken>
+    requires { IsShape to }
+{
+    let neg = is_negative(sign)?;
+    let (Ok(digits), Ok(places)) = (digits.parse::<u64>(), places.parse::<u8>()) else {
+        return Err(Broken::Row);
+    };
+    if digits >= DIGITS_LIMIT {
+        return Err(Broken::Digits);
+    }
+    if places > PLACES_LIMIT {
+        return Err(Broken::Places);
+    }
+    match literal(neg, digits, places, to) {
+        Ok(word) => Ok(Answer::Word(word)),
+        Err(fault) => Ok(Answer::Fault(fault)),
+    }
+}
+
 /// Whether the operation has a result in the format, which the formatted ones alone go through.
 fn check_ready(op: Op, fmt: &Format) -> Result<(), Broken>
     ensures { IfOk result (λ _. IsReady op fmt.now) }
@@ -147,10 +239,13 @@ fn applied(name: &str, fmt: &Format, operands: [&str; 3]) -> Result<i64, Broken>
     Ok(apply(op, fmt, a, b, c))
 }
 
-fn value(row: &[&str]) -> Result<i64, Broken> {
+fn word(row: &[&str]) -> Result<i64, Broken> {
     match row {
         [verb, q, width] if *verb == "wrap" => wrapped(q, width),
         [verb, q, shift, mode, width] if *verb == "form" => formed(q, &format(shift, mode, width)?),
+        [verb, m, f1, w, f, mode_word] if *verb == "conv" => {
+            converted(m, f1, shape(w, f)?, mode(mode_word)?)
+        }
         [verb, name, shift, mode, width, a, b, c] if *verb == "apply" => {
             applied(name, &format(shift, mode, width)?, [*a, *b, *c])
         }
@@ -158,12 +253,21 @@ fn value(row: &[&str]) -> Result<i64, Broken> {
     }
 }
 
+fn answer(row: &[&str]) -> Result<Answer, Broken> {
+    match row {
+        [verb, sign, digits, places, w, f] if *verb == "literal" => {
+            literal_answer(sign, digits, places, shape(w, f)?)
+        }
+        _ => Ok(Answer::Word(word(row)?)),
+    }
+}
+
 pub fn show(rt: &(impl Print + AllocGlobal), table: &[u8]) -> Result<()> {
     let table = str::from_utf8(table).context("the table is no text")?;
     for line in table.lines() {
         let row: Vec<&str> = line.split(' ').collect(rt.alloc())?;
-        match value(&row) {
-            Ok(word) => println!(rt; "{line} = {word}")?,
+        match answer(&row) {
+            Ok(answer) => println!(rt; "{line} {answer}")?,
             Err(broken) => println!(rt; "{line} refused: {broken}")?,
         }
     }
