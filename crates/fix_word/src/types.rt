@@ -17,8 +17,8 @@ pub enum Mode {
     Round,
 }
 
-/// How an exact number is quantised to a word: divided by 2^shift, which multiplies where the shift is negative, rounded
-/// to a whole number by the mode, and wrapped to `width` bits.
+/// How an exact number is quantised to a word: divided by 2^shift, which multiplies where the shift is negative,
+/// rounded to a whole number by the mode, and wrapped to `width` bits.
 #[derive(Clone, Copy, Debug, PartialEq, Eq)]
 pub struct Format {
     pub shift: i8,
