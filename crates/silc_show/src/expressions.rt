@@ -1,10 +1,10 @@
 //! Literals, manifest numbers, places and expressions as lines of a tree.
 
-use crate::lead::{Fix, Lead, Text};
+use crate::page::{Lead, Page};
+use fix_word::FixType;
 use silage_tree::{BinOp, Expr, Lit, MOp, Manifest, Place};
-use std::fmt::{self, Formatter};
 
-pub fn put_lit<W: fmt::Write>(f: &mut Formatter<W>, lead: Lead, lit: Lit) -> fmt::Result {
+pub fn put_lit(page: &mut Page, lead: Lead, lit: Lit) {
     match lit {
         Lit::Number {
             neg,
@@ -12,125 +12,113 @@ pub fn put_lit<W: fmt::Write>(f: &mut Formatter<W>, lead: Lead, lit: Lit) -> fmt
             places,
             at,
         } => {
-            let sign = if neg { "-" } else { "" };
-            writeln!(f, "{lead}number {sign}{digits} places {places} at {at}")
+            page.lead(lead);
+            page.number(if neg { "number -" } else { "number " }, digits);
+            page.number(" places ", places);
+            page.end_at(at);
         }
-        Lit::Truth { value, at } => writeln!(f, "{lead}{value} at {at}"),
+        Lit::Truth { value, at } => page.node(lead, if value { "true" } else { "false" }, at),
     }
 }
 
 fn term_text(op: MOp) -> &'static str {
     match op {
-        MOp::Add => "+",
-        MOp::Sub => "-",
-        MOp::Mul => "*",
+        MOp::Add => "binary +",
+        MOp::Sub => "binary -",
+        MOp::Mul => "binary *",
     }
 }
 
-pub fn put_manifest<W: fmt::Write>(
-    f: &mut Formatter<W>,
-    lead: Lead,
-    manifest: &Manifest,
-) -> fmt::Result {
+pub fn put_manifest(page: &mut Page, lead: Lead, manifest: &Manifest) {
     match manifest {
-        Manifest::Whole(value, at) => writeln!(f, "{lead}whole {value} at {at}"),
-        Manifest::Index(name, at) => {
-            writeln!(f, "{lead}index {} at {at}", Text(name.as_slice()))
+        Manifest::Whole(value, at) => {
+            page.lead(lead);
+            page.number("whole ", *value);
+            page.end_at(*at);
         }
+        Manifest::Index(name, at) => page.named(lead, "index", name, *at),
         Manifest::Negate(at, operand) => {
-            writeln!(f, "{lead}negate at {at}")?;
-            put_manifest(f, lead.below("operand"), operand)
+            page.node(lead, "negate", *at);
+            put_manifest(page, lead.below("operand"), operand);
         }
         Manifest::Binary(at, op, left, right) => {
-            writeln!(f, "{lead}binary {} at {at}", term_text(*op))?;
-            put_manifest(f, lead.below("left"), left)?;
-            put_manifest(f, lead.below("right"), right)
+            page.node(lead, term_text(*op), *at);
+            put_manifest(page, lead.below("left"), left);
+            put_manifest(page, lead.below("right"), right);
         }
     }
 }
 
 /// A place under the name of what it is: a place that is defined, or one that is read.
-pub fn put_place<W: fmt::Write>(
-    f: &mut Formatter<W>,
-    lead: Lead,
-    what: &str,
-    place: &Place,
-) -> fmt::Result {
-    writeln!(
-        f,
-        "{lead}{what} {} at {}",
-        Text(place.name.as_slice()),
-        place.at
-    )?;
+pub fn put_place(page: &mut Page, lead: Lead, what: &str, place: &Place) {
+    page.named(lead, what, &place.name, place.at);
     for sub in &place.subs {
-        put_manifest(f, lead.below("subscript"), sub)?;
+        put_manifest(page, lead.below("subscript"), sub);
     }
-    Ok(())
 }
 
 fn operator_text(op: BinOp) -> &'static str {
     match op {
-        BinOp::Add => "+",
-        BinOp::Sub => "-",
-        BinOp::Mul => "*",
-        BinOp::Lt => "<",
-        BinOp::Le => "<=",
-        BinOp::Eq => "==",
-        BinOp::Ne => "!=",
-        BinOp::Gt => ">",
-        BinOp::Ge => ">=",
-        BinOp::And => "&",
-        BinOp::Or => "|",
+        BinOp::Add => "binary +",
+        BinOp::Sub => "binary -",
+        BinOp::Mul => "binary *",
+        BinOp::Lt => "binary <",
+        BinOp::Le => "binary <=",
+        BinOp::Eq => "binary ==",
+        BinOp::Ne => "binary !=",
+        BinOp::Gt => "binary >",
+        BinOp::Ge => "binary >=",
+        BinOp::And => "binary &",
+        BinOp::Or => "binary |",
     }
 }
 
-fn put_read<W: fmt::Write>(
-    f: &mut Formatter<W>,
-    lead: Lead,
-    place: &Place,
-    delay: &Option<Manifest>,
-) -> fmt::Result {
-    put_place(f, lead, "read", place)?;
-    match delay {
-        Some(amount) => put_manifest(f, lead.below("delay"), amount),
-        None => Ok(()),
+fn put_read(page: &mut Page, lead: Lead, place: &Place, delay: &Option<Manifest>) {
+    put_place(page, lead, "read", place);
+    if let Some(amount) = delay {
+        put_manifest(page, lead.below("delay"), amount);
     }
 }
 
-pub fn put_expr<W: fmt::Write>(f: &mut Formatter<W>, lead: Lead, expr: &Expr) -> fmt::Result {
+fn put_cast(page: &mut Page, lead: Lead, ty: FixType, at: u32) {
+    page.lead(lead);
+    page.fix_type("cast ", ty);
+    page.end_at(at);
+}
+
+pub fn put_expr(page: &mut Page, lead: Lead, expr: &Expr) {
     match expr {
-        Expr::Lit(lit) => put_lit(f, lead, *lit),
-        Expr::Read { place, delay } => put_read(f, lead, place, delay),
+        Expr::Lit(lit) => put_lit(page, lead, *lit),
+        Expr::Read { place, delay } => put_read(page, lead, place, delay),
         Expr::Negate(at, operand) => {
-            writeln!(f, "{lead}negate at {at}")?;
-            put_expr(f, lead.below("operand"), operand)
+            page.node(lead, "negate", *at);
+            put_expr(page, lead.below("operand"), operand);
         }
         Expr::Not(at, operand) => {
-            writeln!(f, "{lead}not at {at}")?;
-            put_expr(f, lead.below("operand"), operand)
+            page.node(lead, "not", *at);
+            put_expr(page, lead.below("operand"), operand);
         }
         Expr::Binary(at, op, left, right) => {
-            writeln!(f, "{lead}binary {} at {at}", operator_text(*op))?;
-            put_expr(f, lead.below("left"), left)?;
-            put_expr(f, lead.below("right"), right)
+            page.node(lead, operator_text(*op), *at);
+            put_expr(page, lead.below("left"), left);
+            put_expr(page, lead.below("right"), right);
         }
         Expr::Shift(at, is_left, operand, amount) => {
-            let operator = if *is_left { "<<" } else { ">>" };
-            writeln!(f, "{lead}shift {operator} at {at}")?;
-            put_expr(f, lead.below("operand"), operand)?;
-            put_manifest(f, lead.below("amount"), amount)
+            page.node(lead, if *is_left { "shift <<" } else { "shift >>" }, *at);
+            put_expr(page, lead.below("operand"), operand);
+            put_manifest(page, lead.below("amount"), amount);
         }
         Expr::Cast(at, ty, operand) => {
-            writeln!(f, "{lead}cast {} at {at}", Fix(*ty))?;
-            put_expr(f, lead.below("operand"), operand)
+            put_cast(page, lead, *ty, *at);
+            put_expr(page, lead.below("operand"), operand);
         }
         Expr::Choose(at, arms, otherwise) => {
-            writeln!(f, "{lead}choose at {at}")?;
+            page.node(lead, "choose", *at);
             for (condition, value) in arms {
-                put_expr(f, lead.below("condition"), condition)?;
-                put_expr(f, lead.below("value"), value)?;
+                put_expr(page, lead.below("condition"), condition);
+                put_expr(page, lead.below("value"), value);
             }
-            put_expr(f, lead.below("otherwise"), otherwise)
+            put_expr(page, lead.below("otherwise"), otherwise);
         }
     }
 }

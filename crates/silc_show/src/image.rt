@@ -3,118 +3,105 @@
 ghost use Rattle.std.specs.Prelude.{IfOk};
 ghost use Rattle.micro_image.specs.Valid.{IsValid};
 
-use crate::lead::mode_text;
 use crate::operations::operation_text;
+use crate::page::{Page, mode_text};
 use anyhow::{Result, bail};
+use fix_word::Format;
 use micro_file::{CodeFault, FormFault, decode, encode};
 use micro_image::{Enable, Image, Issue, Kind, Take, UnitDesc, Word};
 use std::alloc::Global;
-use std::fmt::{self, Formatter};
 
 /// A microcode file has at most this many bytes.
 const MICROCODE_LIMIT: usize = 1 << 26;
 
-#[derive(Drop)]
-struct Lines<'a>(&'a Image);
-
-/// Numbers, each after a space.
-#[derive(Clone, Copy, Drop)]
-struct Numbers<'a, T>(&'a [T]);
-
-impl<T: fmt::Display> fmt::Display for Numbers<'_, T> {
-    fn fmt<W: fmt::Write>(&self, f: &mut Formatter<W>) -> fmt::Result {
-        for number in self.0 {
-            write!(f, " {number}")?;
-        }
-        Ok(())
-    }
-}
-
 fn kind_text(kind: Kind) -> &'static str {
     match kind {
-        Kind::Input => "in",
-        Kind::Output => "out",
-        Kind::Rom => "rom",
-        Kind::Alu => "alu",
-        Kind::Mul => "mul",
-        Kind::Sel => "sel",
-        Kind::Ram => "ram",
-        Kind::Acu => "acu",
+        Kind::Input => " in",
+        Kind::Output => " out",
+        Kind::Rom => " rom",
+        Kind::Alu => " alu",
+        Kind::Mul => " mul",
+        Kind::Sel => " sel",
+        Kind::Ram => " ram",
+        Kind::Acu => " acu",
     }
 }
 
-fn put_unit<W: fmt::Write>(f: &mut Formatter<W>, number: usize, unit: &UnitDesc) -> fmt::Result {
-    let kind = kind_text(unit.kind);
-    writeln!(
-        f,
-        "unit {number} {kind} latency {} gap {} ram {}",
-        unit.latency, unit.gap, unit.ram
-    )?;
+fn put_unit(page: &mut Page, number: usize, unit: &UnitDesc) {
+    page.number("unit ", number);
+    page.text(kind_text(unit.kind));
+    page.number(" latency ", unit.latency);
+    page.number(" gap ", unit.gap);
+    page.number(" ram ", unit.ram);
+    page.end();
     for file in &unit.files {
-        writeln!(f, "  file{}", Numbers(file.as_slice()))?;
+        page.numbers("  file", file);
+        page.end();
     }
-    if unit.cells.is_empty() {
-        return Ok(());
+    if !unit.cells.is_empty() {
+        page.numbers("  cells", &unit.cells);
+        page.end();
     }
-    writeln!(f, "  cells{}", Numbers(unit.cells.as_slice()))
 }
 
-fn put_issue<W: fmt::Write>(f: &mut Formatter<W>, issue: &Issue) -> fmt::Result {
-    let fmt = issue.fmt;
-    write!(
-        f,
-        "  issue unit {} {}",
-        issue.unit,
-        operation_text(issue.op)
-    )?;
-    write!(
-        f,
-        " shift {} {} width {}",
-        fmt.shift,
-        mode_text(fmt.mode),
-        fmt.width
-    )?;
-    writeln!(
-        f,
-        " argument {} registers{}",
-        issue.arg,
-        Numbers(issue.regs.as_slice())
-    )
+fn put_format(page: &mut Page, format: Format) {
+    page.number(" shift ", format.shift);
+    page.text(" ");
+    page.text(mode_text(format.mode));
+    page.number(" width ", format.width);
 }
 
-fn put_word<W: fmt::Write>(f: &mut Formatter<W>, number: usize, word: &Word) -> fmt::Result {
-    writeln!(f, "word {number}")?;
+fn put_issue(page: &mut Page, issue: &Issue) {
+    page.number("  issue unit ", issue.unit);
+    page.text(" ");
+    page.text(operation_text(issue.op));
+    put_format(page, issue.fmt);
+    page.number(" argument ", issue.arg);
+    page.numbers(" registers", &issue.regs);
+    page.end();
+}
+
+fn put_drive(page: &mut Page, drive: Enable) {
+    page.number("  drive unit ", drive.unit);
+    page.number(" bus ", drive.bus);
+    page.end();
+}
+
+fn put_take(page: &mut Page, take: Take) {
+    page.number("  take unit ", take.port.unit);
+    page.number(" port ", take.port.port);
+    page.number(" bus ", take.bus);
+    page.number(" register ", take.reg);
+    page.end();
+}
+
+fn put_word(page: &mut Page, number: usize, word: &Word) {
+    page.number("word ", number);
+    page.end();
     for issue in &word.issues {
-        put_issue(f, issue)?;
+        put_issue(page, issue);
     }
-    for Enable { unit, bus } in &word.enables {
-        writeln!(f, "  drive unit {unit} bus {bus}")?;
+    for drive in &word.enables {
+        put_drive(page, *drive);
     }
-    for Take { port, bus, reg } in &word.takes {
-        writeln!(
-            f,
-            "  take unit {} port {} bus {bus} register {reg}",
-            port.unit, port.port
-        )?;
+    for take in &word.takes {
+        put_take(page, *take);
     }
-    Ok(())
 }
 
-impl fmt::Display for Lines<'_> {
-    fn fmt<W: fmt::Write>(&self, f: &mut Formatter<W>) -> fmt::Result {
-        let image = self.0;
-        writeln!(f, "period {}", image.period)?;
-        writeln!(f, "unroll {}", image.unroll)?;
-        writeln!(f, "inputs{}", Numbers(image.inputs.as_slice()))?;
-        writeln!(f, "outputs {}", image.outs)?;
-        for (number, unit) in image.units.iter().enumerate() {
-            put_unit(f, number, unit)?;
-        }
-        writeln!(f, "buses {}", image.buses)?;
-        for (number, word) in image.words.iter().enumerate() {
-            put_word(f, number, word)?;
-        }
-        Ok(())
+fn put_image(page: &mut Page, image: &Image) {
+    page.number("period ", image.period);
+    page.number("\nunroll ", image.unroll);
+    page.numbers("\ninputs", &image.inputs);
+    page.number("\noutputs ", image.outs);
+    page.end();
+    for (number, unit) in image.units.iter().enumerate() {
+        put_unit(page, number, unit);
+    }
+    page.number("buses ", image.buses);
+    page.end();
+    for (number, word) in image.words.iter().enumerate() {
+        put_word(page, number, word);
     }
 }
 
@@ -128,17 +115,20 @@ fn is_same(alloc: Global, image: &Image, bytes: &[u8]) -> Result<bool>
     }
 }
 
-pub fn show(rt: &(impl Print + AllocGlobal), bytes: &[u8]) -> Result<()> {
+pub fn page(alloc: Global, bytes: &[u8]) -> Result<Page> {
+    let mut page = Page::new(alloc);
     if bytes.len() > MICROCODE_LIMIT {
-        return Ok(println!(rt; "fault TooLong")?);
+        page.text("fault TooLong\n");
+        return Ok(page);
     }
-    match decode(rt.alloc(), bytes) {
+    match decode(alloc, bytes) {
         Ok(image) => {
-            print!(rt; "{}", Lines(&image))?;
-            let is_same = is_same(rt.alloc(), &image, bytes)?;
-            Ok(println!(rt; "{}", if is_same { "same" } else { "other bytes" })?)
+            put_image(&mut page, &image);
+            let is_same = is_same(alloc, &image, bytes)?;
+            page.text(if is_same { "same\n" } else { "other bytes\n" });
         }
         Err(FormFault::Memory) => bail!("no memory"),
-        Err(fault) => Ok(println!(rt; "fault {fault:?}")?),
+        Err(FormFault::NotSpelled) => page.text("fault NotSpelled\n"),
     }
+    Ok(page)
 }

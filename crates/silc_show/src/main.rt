@@ -4,10 +4,10 @@
 mod elements;
 mod expressions;
 mod image;
-mod lead;
 mod manifests;
 mod names;
 mod operations;
+mod page;
 mod rows;
 mod source;
 mod text;
@@ -15,7 +15,10 @@ mod tokens;
 mod tree;
 mod words;
 
+use crate::page::Page;
+use crate::source::Refusal;
 use anyhow::{Context, Result};
+use std::alloc::Global;
 use std::process::ExitCode;
 use std::rt::{Env, Files};
 use std::{env, fs};
@@ -29,26 +32,72 @@ fn read<R: Files + AllocGlobal>(rt: &R, file: &str) -> Result<Vec<u8>> {
     fs::read(rt, file).context(format_args!("{file} can't be read"))
 }
 
+/// A layer, which answers for a source, a table or a microcode file.
+#[derive(Clone, Copy)]
+enum Layer {
+    Tokens,
+    Tree,
+    Text,
+    Names,
+    Elements,
+    Manifests,
+    Words,
+    Image,
+}
+
+fn layer_called(word: &str) -> Option<Layer> {
+    match word {
+        "tokens" => Some(Layer::Tokens),
+        "tree" => Some(Layer::Tree),
+        "text" => Some(Layer::Text),
+        "names" => Some(Layer::Names),
+        "elements" => Some(Layer::Elements),
+        "manifests" => Some(Layer::Manifests),
+        "words" => Some(Layer::Words),
+        "image" => Some(Layer::Image),
+        _ => None,
+    }
+}
+
+/// The page of an answer, or of what is shown in its place.
+fn shown(answer: Result<Page, Refusal>) -> Page {
+    match answer {
+        Ok(page) => page,
+        Err(refusal) => refusal,
+    }
+}
+
+/// What a layer answers for a file with these bytes.
+fn answer(alloc: Global, layer: Layer, bytes: &[u8]) -> Result<Page> {
+    match layer {
+        Layer::Tokens => Ok(shown(tokens::page(alloc, bytes))),
+        Layer::Tree => Ok(shown(tree::page(alloc, bytes))),
+        Layer::Text => Ok(shown(text::page(alloc, bytes))),
+        Layer::Names => Ok(shown(names::page(alloc, bytes))),
+        Layer::Elements => Ok(shown(elements::page(alloc, bytes))),
+        Layer::Manifests => manifests::page(alloc, bytes),
+        Layer::Words => words::page(alloc, bytes),
+        Layer::Image => image::page(alloc, bytes),
+    }
+}
+
 /// Shows what the layer that the words name answers for their files. `false`: they name none.
 fn show<R: Env + Files + Print + AllocGlobal>(rt: &R) -> Result<bool> {
     let words: Vec<String> = env::args(rt)?.collect(rt.alloc())?;
     match words.as_slice() {
-        [_, layer, file] => match layer.as_str() {
-            "tokens" => tokens::show(rt, &read(rt, file.as_str())?)?,
-            "tree" => tree::show(rt, &read(rt, file.as_str())?)?,
-            "text" => text::show(rt, &read(rt, file.as_str())?)?,
-            "names" => names::show(rt, &read(rt, file.as_str())?)?,
-            "elements" => elements::show(rt, &read(rt, file.as_str())?)?,
-            "manifests" => manifests::show(rt, &read(rt, file.as_str())?)?,
-            "words" => words::show(rt, &read(rt, file.as_str())?)?,
-            "image" => image::show(rt, &read(rt, file.as_str())?)?,
-            _ => return Ok(false),
-        },
+        [_, layer, file] => {
+            let Some(layer) = layer_called(layer.as_str()) else {
+                return Ok(false);
+            };
+            let bytes = read(rt, file.as_str())?;
+            answer(rt.alloc(), layer, &bytes)?.print(rt)?;
+        }
         [_, layer, widths, file] if layer.as_str() == "rows" => {
             let Some(channels) = rows::channels(rt.alloc(), widths.as_str())? else {
                 return Ok(false);
             };
-            rows::show(rt, &channels, &read(rt, file.as_str())?)?;
+            let samples = read(rt, file.as_str())?;
+            rows::page(rt.alloc(), &channels, &samples)?.print(rt)?;
         }
         _ => return Ok(false),
     }

@@ -1,5 +1,6 @@
 //! A table of manifest constants, one a line, each with its value: `2 * i + 1 with i=3 k=-2`.
 
+use crate::page::Page;
 use crate::source::program_of;
 use anyhow::{Context, Result};
 use lists::{List, Name};
@@ -34,31 +35,32 @@ fn indices(alloc: Global, text: &str) -> Result<Option<Env>, AllocError> {
     Ok(Some(env))
 }
 
-/// Prints the value of a manifest constant, which is read as an amount in a source made round it.
-fn show_row(rt: &(impl Print + AllocGlobal), row: &str) -> Result<()> {
-    let alloc = rt.alloc();
+/// Puts the value of a manifest constant, which is read as an amount in a source made round it.
+fn put_value(page: &mut Page, alloc: Global, row: &str) -> Result<(), AllocError> {
     let (text, env) = match row.split_once(" with ") {
         Some((text, values)) => (text, indices(alloc, values)?),
         None => (row, Some(List::new(alloc))),
     };
     let source = format!(in alloc; "func f(x : bool) y : bool = begin y@@({text}) = false; end;")?;
     let (Ok(program), Some(env)) = (program_of(alloc, source.as_bytes()), env) else {
-        return Ok(println!(rt; "{row} refused: row")?);
+        page.text(" refused: row");
+        return Ok(());
     };
-    let Some(number) = only_amount(&program) else {
-        return Ok(println!(rt; "{row} refused: row")?);
-    };
-    match manifest(number, &env) {
-        Ok(value) => println!(rt; "{row} = {value}")?,
-        Err(fault) => println!(rt; "{row} fault {fault:?}")?,
+    match only_amount(&program).map(|number| manifest(number, &env)) {
+        Some(Ok(value)) => page.number(" = ", value),
+        Some(Err(fault)) => page.debug(" fault ", &fault),
+        None => page.text(" refused: row"),
     }
     Ok(())
 }
 
-pub fn show(rt: &(impl Print + AllocGlobal), table: &[u8]) -> Result<()> {
+pub fn page(alloc: Global, table: &[u8]) -> Result<Page> {
     let table = str::from_utf8(table).context("the table is no text")?;
+    let mut page = Page::new(alloc);
     for row in table.lines() {
-        show_row(rt, row)?;
+        page.text(row);
+        put_value(&mut page, alloc, row)?;
+        page.end();
     }
-    Ok(())
+    Ok(page)
 }

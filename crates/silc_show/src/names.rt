@@ -6,35 +6,23 @@ ghost use Rattle.silage_syntax.specs.Tree.{view};
 ghost use Rattle.name_check.specs.NameFaults.{name_faults, IsMain};
 ghost use Rattle.name_check.specs.TopNames.{top_names};
 
-use crate::lead::Text;
-use crate::source::{Refusal, SOURCE_LIMIT, program_of};
-use anyhow::Result;
+use crate::page::Page;
+use crate::source::{Refusal, SOURCE_LIMIT, of_names, program_of, too_long};
 use name_check::{Names, check_names};
 use silage_tree::{Program, Top};
 use std::alloc::Global;
-use std::fmt::{self, Formatter};
 
-#[derive(Drop)]
-struct Lines<'a> {
-    names: &'a Names,
-    program: &'a Program,
-}
-
-impl fmt::Display for Lines<'_> {
-    fn fmt<W: fmt::Write>(&self, f: &mut Formatter<W>) -> fmt::Result {
-        writeln!(f, "main {}", self.names.main)?;
-        for top in &self.program.tops {
-            let name = match top {
-                Top::Const(table) => &table.name,
-                Top::Func(func) => &func.name,
-            };
-            match self.names.tops.position(name) {
-                Some(position) => writeln!(f, "top {position} {}", Text(name.as_slice()))?,
-                None => writeln!(f, "no top {}", Text(name.as_slice()))?,
-            }
-        }
-        Ok(())
+fn put_top(page: &mut Page, names: &Names, top: &Top) {
+    let name = match top {
+        Top::Const(table) => &table.name,
+        Top::Func(func) => &func.name,
+    };
+    match names.tops.position(name) {
+        Some(position) => page.number("top ", position),
+        None => page.text("no top"),
     }
+    page.name(" ", name);
+    page.end();
 }
 
 pub fn names_of(alloc: Global, source: &[u8], program: &Program) -> Result<Names, Refusal>
@@ -43,27 +31,22 @@ pub fn names_of(alloc: Global, source: &[u8], program: &Program) -> Result<Names
     ensures main { IfOk result (λ names. IsMain (view program.now) names.main) }
 {
     if program.tops.len() > SOURCE_LIMIT {
-        return Err(Refusal::too_long());
+        return Err(too_long(alloc));
     }
     match check_names(alloc, program) {
         Ok(names) => Ok(names),
-        Err(fault) => Err(Refusal::of_names(source, fault)),
+        Err(fault) => Err(of_names(alloc, source, fault)),
     }
 }
 
-pub fn show(rt: &(impl Print + AllocGlobal), source: &[u8]) -> Result<()> {
-    let program = match program_of(rt.alloc(), source) {
-        Ok(program) => program,
-        Err(refusal) => return refusal.show(rt),
-    };
-    match names_of(rt.alloc(), source, &program) {
-        Ok(names) => {
-            let lines = Lines {
-                names: &names,
-                program: &program,
-            };
-            Ok(print!(rt; "{lines}")?)
-        }
-        Err(refusal) => refusal.show(rt),
+pub fn page(alloc: Global, source: &[u8]) -> Result<Page, Refusal> {
+    let program = program_of(alloc, source)?;
+    let names = names_of(alloc, source, &program)?;
+    let mut page = Page::new(alloc);
+    page.number("main ", names.main);
+    page.end();
+    for top in &program.tops {
+        put_top(&mut page, &names, top);
     }
+    Ok(page)
 }

@@ -2,42 +2,57 @@
 
 use fix_word::Op;
 
-const OPERATIONS: [(&str, Op); 19] = [
-    ("input", Op::Input),
-    ("output", Op::Output),
-    ("const", Op::Const),
-    ("add", Op::Add),
-    ("sub", Op::Sub),
-    ("neg", Op::Neg),
-    ("pass", Op::Pass),
-    ("lt", Op::Lt),
-    ("le", Op::Le),
-    ("eq", Op::Eq),
-    ("ne", Op::Ne),
-    ("and", Op::And),
-    ("or", Op::Or),
-    ("not", Op::Not),
-    ("mul", Op::Mul),
-    ("sel", Op::Sel),
-    ("load", Op::Load),
-    ("store", Op::Store),
-    ("addr", Op::Addr),
+const OPERATIONS: [Op; 19] = [
+    Op::Input,
+    Op::Output,
+    Op::Const,
+    Op::Add,
+    Op::Sub,
+    Op::Neg,
+    Op::Pass,
+    Op::Lt,
+    Op::Le,
+    Op::Eq,
+    Op::Ne,
+    Op::And,
+    Op::Or,
+    Op::Not,
+    Op::Mul,
+    Op::Sel,
+    Op::Load,
+    Op::Store,
+    Op::Addr,
 ];
 
+pub fn operation_text(op: Op) -> &'static str {
+    match op {
+        Op::Input => "input",
+        Op::Output => "output",
+        Op::Const => "const",
+        Op::Add => "add",
+        Op::Sub => "sub",
+        Op::Neg => "neg",
+        Op::Pass => "pass",
+        Op::Lt => "lt",
+        Op::Le => "le",
+        Op::Eq => "eq",
+        Op::Ne => "ne",
+        Op::And => "and",
+        Op::Or => "or",
+        Op::Not => "not",
+        Op::Mul => "mul",
+        Op::Sel => "sel",
+        Op::Load => "load",
+        Op::Store => "store",
+        Op::Addr => "addr",
+    }
+}
+
 pub fn operation_named(text: &str) -> Option<Op> {
-    for (name, op) in OPERATIONS {
-        if name == text {
+    for op in OPERATIONS {
+        if operation_text(op) == text {
             return Some(op);
         }
     }
     None
-}
-
-pub fn operation_text(op: Op) -> &'static str {
-    for (name, other) in OPERATIONS {
-        if other == op {
-            return name;
-        }
-    }
-    "no operation"
 }

@@ -4,6 +4,7 @@ ghost use Rattle.std.specs.Prelude.{IfOk, IfSome, ◌≤◌, ◌<◌, length};
 ghost use Rattle.std.specs.List.{All};
 ghost use Rattle.sample_io.specs.Channels.{AreChannels, IsChannel};
 
+use crate::page::Page;
 use anyhow::{Result, bail};
 use lists::List;
 use sample_io::{Channel, RowFault, RowList, RowsReadFault, put_row, read_rows};
@@ -35,26 +36,30 @@ pub fn channels(alloc: Global, widths: &str) -> Result<Option<List<Channel>>, Al
     Ok(Some(channels))
 }
 
-fn put_rows(rt: &impl Print, list: &RowList) -> Result<()> {
+fn put_rows(page: &mut Page, list: &RowList) -> Result<()> {
     for row in list.words.as_slice().chunks(usize::from(list.width.max(1))) {
         if row.is_empty() || row.len() > MAX_CHANNELS {
             bail!("a row has {} words", row.len());
         }
         let mut line = [0u8; LINE];
         let size = put_row(row, &mut line);
-        rt.write_all(&line[..size])?;
+        page.bytes(&line[..size]);
     }
     Ok(())
 }
 
-pub fn show(rt: &(impl Print + AllocGlobal), channels: &List<Channel>, samples: &[u8]) -> Result<()>
+pub fn page(alloc: Global, channels: &List<Channel>, samples: &[u8]) -> Result<Page>
     requires { AreChannels channels.now }
 {
-    match read_rows(rt.alloc(), samples, channels) {
-        Ok(list) => put_rows(rt, &list),
-        Err(RowsReadFault::Row(RowFault { line, at })) => Ok(println!(rt;
-            "fault line {line} byte {at}"
-        )?),
+    let mut page = Page::new(alloc);
+    match read_rows(alloc, samples, channels) {
+        Ok(list) => put_rows(&mut page, &list)?,
+        Err(RowsReadFault::Row(RowFault { line, at })) => {
+            page.number("fault line ", line);
+            page.number(" byte ", at);
+            page.end();
+        }
         Err(RowsReadFault::Memory) => bail!("no memory"),
     }
+    Ok(page)
 }

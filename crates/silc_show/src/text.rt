@@ -1,17 +1,19 @@
 //! The canonical text of a source.
 
-use crate::source::program_of;
-use anyhow::{Result, bail};
+use crate::page::Page;
+use crate::source::{Refusal, program_of};
 use silage_tree::{TreeFault, print};
+use std::alloc::Global;
 
-/// Prints the text as it is, with no end of line.
-pub fn show(rt: &(impl Print + AllocGlobal), source: &[u8]) -> Result<()> {
-    let program = match program_of(rt.alloc(), source) {
-        Ok(program) => program,
-        Err(refusal) => return refusal.show(rt),
-    };
-    match print(rt.alloc(), &program) {
-        Ok(text) => Ok(rt.write_all(&text)?),
-        Err(TreeFault::Memory) => bail!("no memory"),
+/// The text as it is, with no end of line.
+pub fn page(alloc: Global, source: &[u8]) -> Result<Page, Refusal> {
+    let program = program_of(alloc, source)?;
+    match print(alloc, &program) {
+        Ok(text) => {
+            let mut page = Page::new(alloc);
+            page.bytes(&text);
+            Ok(page)
+        }
+        Err(TreeFault::Memory) => Err(Page::cut(alloc)),
     }
 }

@@ -1,45 +1,44 @@
 //! The tokens of a source, a line for each: its line, its span, its kind and its text or value.
 
-use crate::lead::Text;
-use crate::source::tokens_of;
-use anyhow::Result;
-use silage_lex::{
-    RESERVED_COUNT, SYMBOL_COUNT, Token, TokenKind, Tokens, reserved_text, symbol_text,
-};
-use std::fmt;
+use crate::page::Page;
+use crate::source::{Refusal, tokens_of};
+use silage_lex::{RESERVED_COUNT, SYMBOL_COUNT, Token, TokenKind, reserved_text, symbol_text};
+use std::alloc::Global;
 
-#[derive(Drop)]
-struct Lines<'a>(&'a Tokens);
-
-impl fmt::Display for Lines<'_> {
-    fn fmt<W: fmt::Write>(&self, f: &mut fmt::Formatter<W>) -> fmt::Result {
-        for token in self.0 {
-            put_token(f, token)?;
+fn put_kind(page: &mut Page, kind: &TokenKind) {
+    match kind {
+        TokenKind::Name(name) => page.name(" name ", name),
+        TokenKind::Whole(value) => page.number(" whole ", *value),
+        TokenKind::Point { digits, places } => {
+            page.number(" point ", *digits);
+            page.number(" places ", *places);
         }
-        Ok(())
-    }
-}
-
-fn put_token<W: fmt::Write>(f: &mut fmt::Formatter<W>, token: &Token) -> fmt::Result {
-    write!(f, "{} {}..{} ", token.line, token.from, token.to)?;
-    match &token.kind {
-        TokenKind::Name(name) => writeln!(f, "name {}", Text(name.as_slice())),
-        TokenKind::Whole(value) => writeln!(f, "whole {value}"),
-        TokenKind::Point { digits, places } => writeln!(f, "point {digits} places {places}"),
         TokenKind::Reserved(number) if *number < RESERVED_COUNT => {
-            writeln!(f, "reserved {}", reserved_text(*number))
+            page.text(" reserved ");
+            page.text(reserved_text(*number));
         }
         TokenKind::Symbol(number) if *number < SYMBOL_COUNT => {
-            writeln!(f, "symbol {}", symbol_text(*number))
+            page.text(" symbol ");
+            page.text(symbol_text(*number));
         }
-        TokenKind::Reserved(number) => writeln!(f, "no reserved word {number}"),
-        TokenKind::Symbol(number) => writeln!(f, "no symbol {number}"),
+        TokenKind::Reserved(number) => page.number(" no reserved word ", *number),
+        TokenKind::Symbol(number) => page.number(" no symbol ", *number),
     }
 }
 
-pub fn show(rt: &(impl Print + AllocGlobal), source: &[u8]) -> Result<()> {
-    match tokens_of(rt.alloc(), source) {
-        Ok(tokens) => Ok(print!(rt; "{}", Lines(&tokens))?),
-        Err(refusal) => refusal.show(rt),
+fn put_token(page: &mut Page, token: &Token) {
+    page.number("", token.line);
+    page.number(" ", token.from);
+    page.number("..", token.to);
+    put_kind(page, &token.kind);
+    page.end();
+}
+
+pub fn page(alloc: Global, source: &[u8]) -> Result<Page, Refusal> {
+    let tokens = tokens_of(alloc, source)?;
+    let mut page = Page::new(alloc);
+    for token in &tokens {
+        put_token(&mut page, token);
     }
+    Ok(page)
 }

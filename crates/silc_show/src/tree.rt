@@ -1,90 +1,59 @@
 //! The tree of a source: a line for each node, below the node that it belongs to, with all its fields.
 
 use crate::expressions::{put_expr, put_lit, put_manifest, put_place};
-use crate::lead::{Dims, Fix, Lead, Signal, Text};
-use crate::source::program_of;
-use anyhow::Result;
-use silage_tree::{ConstDef, Decl, Expr, Func, Item, Place, Program, Top};
-use std::fmt::{self, Formatter};
+use crate::page::{Lead, Page};
+use crate::source::{Refusal, program_of};
+use silage_tree::{ConstDef, Decl, Expr, Func, Item, Place, Top};
+use std::alloc::Global;
 
-#[derive(Drop)]
-struct Lines<'a>(&'a Program);
-
-impl fmt::Display for Lines<'_> {
-    fn fmt<W: fmt::Write>(&self, f: &mut Formatter<W>) -> fmt::Result {
-        for top in &self.0.tops {
-            match top {
-                Top::Const(table) => put_table(f, table)?,
-                Top::Func(func) => put_func(f, func)?,
-            }
-        }
-        Ok(())
-    }
-}
-
-fn put_table<W: fmt::Write>(f: &mut Formatter<W>, table: &ConstDef) -> fmt::Result {
-    let lead = Lead::top();
-    let name = Text(table.name.as_slice());
-    let dims = Dims(table.dims.as_slice());
-    writeln!(
-        f,
-        "{lead}const {name}{dims} at {} : {}",
-        table.at,
-        Fix(table.ty)
-    )?;
+fn put_table(page: &mut Page, lead: Lead, table: &ConstDef) {
+    page.lead(lead);
+    page.name("const ", &table.name);
+    page.dims(&table.dims);
+    page.number(" at ", table.at);
+    page.fix_type(" : ", table.ty);
+    page.end();
     for word in &table.words {
-        put_lit(f, lead.below("word"), *word)?;
+        put_lit(page, lead.below("word"), *word);
     }
-    Ok(())
 }
 
-fn put_decls<W: fmt::Write>(f: &mut Formatter<W>, lead: Lead, decls: &[Decl]) -> fmt::Result {
+fn put_decls(page: &mut Page, lead: Lead, decls: &[Decl]) {
     for decl in decls {
-        let name = Text(decl.name.as_slice());
-        let dims = Dims(decl.dims.as_slice());
-        writeln!(f, "{lead}{name}{dims} at {} : {}", decl.at, Signal(decl.ty))?;
+        page.lead(lead);
+        page.name("", &decl.name);
+        page.dims(&decl.dims);
+        page.number(" at ", decl.at);
+        page.sig_type(" : ", decl.ty);
+        page.end();
     }
-    Ok(())
 }
 
-fn put_func<W: fmt::Write>(f: &mut Formatter<W>, func: &Func) -> fmt::Result {
-    let lead = Lead::top();
-    writeln!(
-        f,
-        "{lead}func {} at {}",
-        Text(func.name.as_slice()),
-        func.at
-    )?;
-    put_decls(f, lead.below("parameter"), &func.params)?;
-    put_decls(f, lead.below("result"), &func.results)?;
-    put_decls(f, lead.below("local"), &func.locals)?;
+fn put_func(page: &mut Page, lead: Lead, func: &Func) {
+    page.named(lead, "func", &func.name, func.at);
+    put_decls(page, lead.below("parameter"), &func.params);
+    put_decls(page, lead.below("result"), &func.results);
+    put_decls(page, lead.below("local"), &func.locals);
     for item in &func.items {
-        put_item(f, lead.below(""), item)?;
+        put_item(page, lead.below(""), item);
     }
-    Ok(())
 }
 
-fn put_call<W: fmt::Write>(
-    f: &mut Formatter<W>,
-    lead: Lead,
-    places: &[Place],
-    args: &[Expr],
-) -> fmt::Result {
+fn put_call(page: &mut Page, lead: Lead, places: &[Place], args: &[Expr]) {
     for place in places {
-        put_place(f, lead.below(""), "place", place)?;
+        put_place(page, lead.below(""), "place", place);
     }
     for arg in args {
-        put_expr(f, lead.below("argument"), arg)?;
+        put_expr(page, lead.below("argument"), arg);
     }
-    Ok(())
 }
 
-fn put_item<W: fmt::Write>(f: &mut Formatter<W>, lead: Lead, item: &Item) -> fmt::Result {
+fn put_item(page: &mut Page, lead: Lead, item: &Item) {
     match item {
         Item::Equation { place, value } => {
-            writeln!(f, "{lead}equation")?;
-            put_place(f, lead.below(""), "place", place)?;
-            put_expr(f, lead.below("value"), value)
+            page.line(lead, "equation");
+            put_place(page, lead.below(""), "place", place);
+            put_expr(page, lead.below("value"), value);
         }
         Item::Call {
             places,
@@ -92,8 +61,8 @@ fn put_item<W: fmt::Write>(f: &mut Formatter<W>, lead: Lead, item: &Item) -> fmt
             args,
             at,
         } => {
-            writeln!(f, "{lead}call {} at {at}", Text(func.as_slice()))?;
-            put_call(f, lead, places, args)
+            page.named(lead, "call", func, *at);
+            put_call(page, lead, places, args);
         }
         Item::Loop {
             index,
@@ -102,26 +71,30 @@ fn put_item<W: fmt::Write>(f: &mut Formatter<W>, lead: Lead, item: &Item) -> fmt
             items,
             at,
         } => {
-            writeln!(f, "{lead}loop {} at {at}", Text(index.as_slice()))?;
-            put_manifest(f, lead.below("from"), lo)?;
-            put_manifest(f, lead.below("to"), hi)?;
+            page.named(lead, "loop", index, *at);
+            put_manifest(page, lead.below("from"), lo);
+            put_manifest(page, lead.below("to"), hi);
             for item in items {
-                put_item(f, lead.below(""), item)?;
+                put_item(page, lead.below(""), item);
             }
-            Ok(())
         }
         Item::Initial { place, k, value } => {
-            writeln!(f, "{lead}initial")?;
-            put_place(f, lead.below(""), "place", place)?;
-            put_manifest(f, lead.below("delay"), k)?;
-            put_lit(f, lead.below("value"), *value)
+            page.line(lead, "initial");
+            put_place(page, lead.below(""), "place", place);
+            put_manifest(page, lead.below("delay"), k);
+            put_lit(page, lead.below("value"), *value);
         }
     }
 }
 
-pub fn show(rt: &(impl Print + AllocGlobal), source: &[u8]) -> Result<()> {
-    match program_of(rt.alloc(), source) {
-        Ok(program) => Ok(print!(rt; "{}", Lines(&program))?),
-        Err(refusal) => refusal.show(rt),
+pub fn page(alloc: Global, source: &[u8]) -> Result<Page, Refusal> {
+    let program = program_of(alloc, source)?;
+    let mut page = Page::new(alloc);
+    for top in &program.tops {
+        match top {
+            Top::Const(table) => put_table(&mut page, Lead::top(), table),
+            Top::Func(func) => put_func(&mut page, Lead::top(), func),
+        }
     }
+    Ok(page)
 }

@@ -12,13 +12,14 @@ ghost use Rattle.fix_word.specs.Operations.{IsReady};
 ghost use Rattle.fix_word.specs.Words.{IsFormat, IsShape};
 
 use crate::operations::operation_named;
+use crate::page::Page;
 use anyhow::{Context, Result};
 use fix_word::{Format, LitFault, Mode, Op, Shape, apply, conv, form, literal, wrap};
-use std::alloc::AllocError;
-use std::{fmt, str};
+use std::alloc::Global;
+use std::str;
 
 /// The condition that a row breaks, so that it has no result.
-#[derive(Clone, Copy, Debug, PartialEq, Eq)]
+#[derive(Clone, Copy)]
 enum Broken {
     /// The words are no operation with its numbers.
     Row,
@@ -42,37 +43,28 @@ enum Broken {
     Operand,
 }
 
-impl fmt::Display for Broken {
-    fn fmt<W: fmt::Write>(&self, f: &mut fmt::Formatter<W>) -> fmt::Result {
-        f.write_str(match self {
-            Broken::Row => "row",
-            Broken::Number => "number",
-            Broken::Width => "width",
-            Broken::Shape => "shape",
-            Broken::FractionBits => "fraction bits",
-            Broken::Digits => "digits",
-            Broken::Places => "places",
-            Broken::Format => "format",
-            Broken::Operation => "operation",
-            Broken::Operand => "operand",
-        })
+impl Broken {
+    fn text(self) -> &'static str {
+        match self {
+            Broken::Row => " refused: row",
+            Broken::Number => " refused: number",
+            Broken::Width => " refused: width",
+            Broken::Shape => " refused: shape",
+            Broken::FractionBits => " refused: fraction bits",
+            Broken::Digits => " refused: digits",
+            Broken::Places => " refused: places",
+            Broken::Format => " refused: format",
+            Broken::Operation => " refused: operation",
+            Broken::Operand => " refused: operand",
+        }
     }
 }
 
 /// What a row gives.
-#[derive(Clone, Copy, Debug, PartialEq, Eq)]
+#[derive(Clone, Copy)]
 enum Answer {
     Word(i64),
     Fault(LitFault),
-}
-
-impl fmt::Display for Answer {
-    fn fmt<W: fmt::Write>(&self, f: &mut fmt::Formatter<W>) -> fmt::Result {
-        match self {
-            Answer::Word(word) => write!(f, "= {word}"),
-            Answer::Fault(fault) => write!(f, "fault: {fault}"),
-        }
-    }
 }
 
 /// The greatest size of a number, and of an operand.
@@ -262,14 +254,18 @@ fn answer(row: &[&str]) -> Result<Answer, Broken> {
     }
 }
 
-pub fn show(rt: &(impl Print + AllocGlobal), table: &[u8]) -> Result<()> {
+pub fn page(alloc: Global, table: &[u8]) -> Result<Page> {
     let table = str::from_utf8(table).context("the table is no text")?;
+    let mut page = Page::new(alloc);
     for line in table.lines() {
-        let row: Vec<&str> = line.split(' ').collect(rt.alloc())?;
+        let row: Vec<&str> = line.split(' ').collect(alloc)?;
+        page.text(line);
         match answer(&row) {
-            Ok(answer) => println!(rt; "{line} {answer}")?,
-            Err(broken) => println!(rt; "{line} refused: {broken}")?,
+            Ok(Answer::Word(word)) => page.number(" = ", word),
+            Ok(Answer::Fault(fault)) => page.shown(" fault: ", &fault),
+            Err(broken) => page.text(broken.text()),
         }
+        page.end();
     }
-    Ok(())
+    Ok(page)
 }
