@@ -1,5 +1,6 @@
 pub mod Each
 pub mod Stacks
+mod LineValues
 pub mod ActionRows
 pub mod TreeRows
 pub mod Callees

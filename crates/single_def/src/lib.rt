@@ -14,6 +14,7 @@ mod found;
 mod instances;
 mod items;
 mod known;
+mod lines;
 mod lookups;
 mod numbers;
 mod plan;
