@@ -1,0 +1,8 @@
+pub mod Determined
+pub mod Samples
+pub mod Unique
+pub mod Exists
+pub mod Reach
+pub mod Heights
+pub mod OneSolution
+mod Examples
