@@ -1,14 +1,13 @@
 -- A line over an index has the value of its manifest constant, and no number on the way is out of range.
-use Rattle.std.proofs.Common.{◌≡◌, ◌∙◌, ◌≤◌, ◌+◌, ◌-◌, ◌*◌, ◌^◌, ◌&&◌, ℕ, zero, suc, ℤ, pos, negsuc, neg_ℤ, ◌+ℤ◌, ◌-ℤ◌, ◌*ℤ◌, unsigned_abs, Bool, true, false, cond, Option, Some, None, option_and_then, refl, sym, ap, subst, arith, inl, inr}
-use Rattle.std.specs.Prelude.{nat_eq, nat_le}
-use Rattle.std.specs.Ordering.{int_eq}
+use Rattle.std.proofs.Common.{◌≡◌, ◌∙◌, ◌≤◌, ◌+◌, ◌-◌, ◌*◌, ◌^◌, ◌&&◌, ℕ, zero, suc, ℤ, pos, negsuc, neg_ℤ, ◌+ℤ◌, ◌-ℤ◌, ◌*ℤ◌, unsigned_abs, Bool, true, false, cond, Option, Some, None, refl, sym, ap, subst, arith, inl, inr}
+use Rattle.std.specs.Prelude.{nat_le}
 use Rattle.std.proofs.Math.IntN.{suc_ℤ, pred_ℤ, +ℤ-suc_ℤ, +ℤ-pred_ℤ, suc_ℤ-*ℤ, pred_ℤ-*ℤ, *ℤ_comm, +ℤ_assoc, +ℤ_comm}
 use Rattle.std.proofs.Math.Nat.{mul-le-mul_left}
 use Rattle.std.proofs.lemmas.Int.{unsigned_abs-mul}
-use Rattle.std.proofs.lemmas.Bool.Decides.{leb_tells, eqb_tells}
-use Rattle.silage_syntax.specs.Manifests.{in_range, combined}
+use Rattle.std.proofs.lemmas.Bool.Decides.{leb_tells}
+use Rattle.silage_syntax.specs.Manifests.{in_range}
 use Rattle.single_def.specs.declared.lines.Line.{Line}
-use Rattle.single_def.specs.Private.Numbers.{is_sure, sure_line, negated_line, product, joined_lines, line_value}
+use Rattle.single_def.specs.Private.Numbers.{sure_line, line_value}
 
 -- Products of sums.
 abbrev Splits : (a b t : ℤ) → Type 0

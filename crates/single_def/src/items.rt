@@ -202,7 +202,7 @@ fn put_item(
             let lo = bound(scope, loops, lo)?;
             let hi = bound(scope, loops, hi)?;
             let loops = with_loop(loops, index, scope)?;
-            let mut inner = Vec::new(scope.alloc);
+            let mut inner = Vec::with_capacity(scope.alloc, items.len())?;
             put_items(scope, &loops, items, &mut inner)?;
             put_loop(lo, hi, inner, *at, actions)
         }
