@@ -1,0 +1,5 @@
+pub mod Operations
+pub mod Flat
+pub mod Rules
+pub mod FlatRules
+pub mod GraphRules

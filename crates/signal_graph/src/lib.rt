@@ -1,0 +1,9 @@
+//! Flat programs, graphs of nodes, and what both mean. The code is types: the meaning is in `specs/`, and that each
+//! sound program and graph without a delay-free loop has exactly one solution is in `proofs/`. Page `docs/GRAPH.md`.
+#![tactic(auto)]
+
+mod flat;
+mod graph;
+
+pub use flat::{FlatBody, FlatElem, FlatExpr, FlatProgram};
+pub use graph::{Edge, Graph, Node};
