@@ -17,27 +17,27 @@ use Rattle.signal_graph.specs.Values.{Words, body_value, node_value}
 use Rattle.signal_graph.specs.FlatSolves.{element_of, ElementReads, IsFlatLoopless, FlatSolves, flat_out}
 use Rattle.signal_graph.specs.GraphSolves.{node_of, GraphSolves, graph_out}
 
-abbrev byte : SigType
+abbrev pub byte : SigType
 byte = sig.Fix (record { shape = record { w = 8; f = 0 }; mode = Trunc })
 
-abbrev sum : Element
+abbrev pub sum : Element
 sum = record {
   ty = byte;
   body = value (calculation op.Add (plain 8) (part (read 0 0) (part (read 1 1) no_part)));
   inits = (1, pos 5) ∷ [];
 }
 
-abbrev accumulator : Program
+abbrev pub accumulator : Program
 accumulator = record {
   elems = record { ty = byte; body = word 0; inits = [] } ∷ sum ∷ [];
   inputs = byte ∷ [];
   outs = 1 ∷ [];
 }
 
-abbrev edge : ℕ → ℕ → Edge
+abbrev pub edge : ℕ → ℕ → Edge
 edge node delay = record { node = node; delay = delay }
 
-abbrev its_graph : Graph
+abbrev pub its_graph : Graph
 its_graph = record {
   nodes =
       record { op = op.Input; fmt = plain 0; arg = pos 0; edges = []; inits = []; width = 8; ram = 0 }

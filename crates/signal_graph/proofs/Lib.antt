@@ -2,3 +2,4 @@ pub mod Values
 pub mod Tests
 pub mod OneSolution
 mod Examples
+mod GraphExamples

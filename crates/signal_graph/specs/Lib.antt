@@ -6,3 +6,5 @@ pub mod GraphRules
 pub mod Values
 pub mod FlatSolves
 pub mod GraphSolves
+pub mod GraphOf
+pub mod Pruned
