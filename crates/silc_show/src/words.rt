@@ -245,7 +245,7 @@ fn word(row: &[&str]) -> Result<i64, Broken> {
     }
 }
 
-fn answer(row: &[&str]) -> Result<Answer, Broken> {
+fn answer_of(row: &[&str]) -> Result<Answer, Broken> {
     match row {
         [verb, sign, digits, places, w, f] if *verb == "literal" => {
             literal_answer(sign, digits, places, shape(w, f)?)
@@ -260,7 +260,7 @@ pub fn page(alloc: Global, table: &[u8]) -> Result<Page> {
     for line in table.lines() {
         let row: Vec<&str> = line.split(' ').collect(alloc)?;
         page.text(line);
-        match answer(&row) {
+        match answer_of(&row) {
             Ok(Answer::Word(word)) => page.number(" = ", word),
             Ok(Answer::Fault(fault)) => page.shown(" fault: ", &fault),
             Err(broken) => page.text(broken.text()),
