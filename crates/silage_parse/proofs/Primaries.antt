@@ -1,22 +1,27 @@
 -- What a primary that is no place goes on with.
-use Rattle.std.proofs.Common.{◌≡◌, List, [], ◌∷◌, Option, Some, refl, true, false, Bool}
+use Rattle.std.proofs.Common.{◌≡◌, List, [], ◌∷◌, ◌++◌, Option, Some, refl, true, false, Bool, Result, Ok, Err}
 use Rattle.silage_lex.specs.declared.TokenKind.{TokenKind}
 use Rattle.silage_lex.specs.declared.TokenKind.TheVariants as kind
 use Rattle.silage_lex.specs.declared.punctuation.TheConstants as punctuation
 use Rattle.silage_lex.specs.declared.keywords.TheConstants as keyword
 use Rattle.silage_syntax.specs.Grammar.{Or, truth_of}
-use Rattle.silage_parse.specs.Private.ParseTable.{Punctuation, Keyword, Inside, Symbol, Expand, Act, Chain, OtherPrimary, FixIn, Arms, cast_expr, close_expr, first_arm, number, truths, productions, punctuation_of, keyword_of, is_one}
+use Rattle.silage_parse.specs.Private.ParseTable.{Punctuation, Keyword, Inside, Symbol, Expand, Act, Chain, Primary, OtherPrimary, FixIn, Arms, cast_expr, close_expr, first_arm, number, truths, productions, keyword_of, is_one}
 use Rattle.silage_parse.specs.Private.Machine.{predict}
+use Rattle.silage_syntax.specs.declared.tree.Expr.{Expr}
+use Rattle.silage_parse.specs.declared.ParseFault.{ParseFault}
+use Rattle.silage_parse.specs.declared.parser.Parser.{Parser}
+use Rattle.silage_parse.specs.Private.Parsed.{Leads, IsParsed, ReadsParentheses, expr_value, in_parentheses, branch_value}
+use Rattle.silage_parse.proofs.Steps.{reads, does, stops}
 use Rattle.silage_parse.proofs.Tables.{keyword_known, punctuation_known}
 
 abbrev pub paren_row : List Symbol
-paren_row = punctuation_of punctuation.LEFT_PAREN Inside ∷ Expand (Chain Or) ∷ punctuation_of punctuation.RIGHT_PAREN Inside ∷ Act close_expr ∷ []
+paren_row = in_parentheses ++ Act close_expr ∷ []
 
 abbrev pub cast_row : List Symbol
-cast_row = Expand (FixIn Inside) ∷ punctuation_of punctuation.LEFT_PAREN Inside ∷ Expand (Chain Or) ∷ punctuation_of punctuation.RIGHT_PAREN Inside ∷ Act cast_expr ∷ []
+cast_row = Expand (FixIn Inside) ∷ in_parentheses ++ Act cast_expr ∷ []
 
 abbrev pub choice_row : List Symbol
-choice_row = keyword_of keyword.IF Inside ∷ Expand (Chain Or) ∷ punctuation_of punctuation.ARROW Inside ∷ Expand (Chain Or) ∷ Act first_arm ∷ Expand Arms ∷ []
+choice_row = keyword_of keyword.IF Inside ∷ Expand (Chain Or) ∷ branch_value ++ Act first_arm ∷ Expand Arms ∷ []
 
 pub to_paren : (k : Option TokenKind) → is_one number k ≡ false → is_one truths k ≡ false → is_one (Keyword keyword.FIX ∷ []) k ≡ false
     → is_one (Keyword keyword.IF ∷ []) k ≡ false → predict (productions OtherPrimary) k ≡ paren_row
@@ -27,6 +32,12 @@ to_cast k h = rw (keyword_known keyword.FIX k h) refl
 
 pub to_choice : (k : Option TokenKind) → is_one (Keyword keyword.IF ∷ []) k ≡ true → predict (productions OtherPrimary) k ≡ choice_row
 to_choice k h = rw (keyword_known keyword.IF k h) refl
+
+-- an expression in parentheses is what they hold
+pub parentheses_read : {from mid : Parser} (to : Parser) (r : Result Expr ParseFault) → Leads (Expand Primary ∷ []) from [] paren_row mid []
+    → ReadsParentheses mid to r → IsParsed Primary from expr_value to r
+parentheses_read to (Ok e) l read = does (reads in_parentheses [] [] l read.2) (λ under. refl)
+parentheses_read to (Err f) l stop = stops in_parentheses _ [] [] f l stop
 
 -- a truth value is no number, and a `!` is no `-`
 pub truth_no_number : (k : Option TokenKind) {b : Bool} → truth_of k ≡ Some b → is_one number k ≡ false

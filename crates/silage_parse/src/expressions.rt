@@ -1,10 +1,13 @@
 //! Expressions. The functions of the rarer forms are not inlined, so that a level of nesting takes little stack.
 
-ghost use Rattle.std.specs.Prelude.{◌≡◌, ◌<◌, [], ◌∷◌, length, Some, true, IsSome, IfSome, IfNone, OnOk};
+ghost use Rattle.std.specs.Prelude.{List as Listed, ◌≡◌, ℕ, ◌<◌, [], ◌∷◌, length, Some, true, IsSome, IfSome, IfNone, OnOk};
+ghost use Rattle.silage_syntax.specs.Tree.{Expr as TreeExpr};
 ghost use Rattle.silage_syntax.specs.Grammar.{Or, row, shift_operator as the_shift_operator, truth_of};
-ghost use Rattle.silage_parse.specs.Private.ParseTable.{Punctuation, Keyword, AName, Chain, Shift, Unary, Primary, OtherPrimary, number, is_one};
-ghost use Rattle.silage_parse.specs.Private.Parsed.{next, IsParsed, IsRead, expr_value};
+ghost use Rattle.silage_parse.specs.Private.ParseTable.{Punctuation, Keyword, AName, Chain, Shift, Unary, Primary, OtherPrimary, Arms, Expand, number, is_one};
+ghost use Rattle.silage_parse.specs.Private.ParseTable as the;
+ghost use Rattle.silage_parse.specs.Private.Parsed.{next, start_of, IsParsed, IsRead, ReadsParentheses, ReadsBranchValue, expr_value, binary_value, branches_value, choice_value, choice_end, shifted};
 ghost use Rattle.silage_parse.specs.Private.Precedence.{rank as rank_of, precedence_of, operation, operated, right_operand, binary_operators, binary_operator as the_binary_operator, IsBetween, NoneBetween, tightest_after};
+ghost use Rattle.silage_lex.specs.declared.Token.{Token as AToken};
 ghost use Rattle.silage_lex.specs.declared.punctuation.TheConstants as punctuation;
 ghost use Rattle.silage_lex.specs.declared.keywords.TheConstants as keyword;
 
@@ -168,11 +171,23 @@ impl Parser<'_> {
         ensures advances { OnOk result (self.old.at < self.new.at) }
     {
         let at = self.start();
+        let left = Box::new(self.alloc, left)?;
+        let right = self.after_operator(operator)?;
+        Ok(Expr::Binary(at, operator, left, right))
+    }
+
+    /// Reads an operator and its right operand, whatever its left operand is.
+    #[cycle(expressions)]
+    fn after_operator(&mut self, operator: BinOp) -> Result<Box<Expr>, ParseFault>
+        requires inside { self.old.at < length self.old.tokens.now }
+        requires next { the_binary_operator (next self.old) ≡ Some operator }
+        ensures read { (left : TreeExpr) → IsRead (operated (precedence_of operator)) self.old (the.expr left ∷ [])
+            (λ right. binary_value (start_of self.old) operator left right ∷ []) self.new result }
+        ensures advances { OnOk result (self.old.at < self.new.at) }
+    {
         self.advance(Effect::Inside)?;
         let right = self.right_operand(Precedence::of(operator))?;
-        let left = Box::new(self.alloc, left)?;
-        let right = Box::new(self.alloc, right)?;
-        Ok(Expr::Binary(at, operator, left, right))
+        Ok(Box::new(self.alloc, right)?)
     }
 
     /// Reads the right operand of an operator of this precedence.
@@ -196,12 +211,24 @@ impl Parser<'_> {
     {
         let mut operand = self.unary()?;
         'shifts: while let Some(is_left) = self.shift_operator() {
-            let at = self.start();
-            self.advance(Effect::Inside)?;
-            let amount = self.manifest_primary()?;
-            operand = Expr::Shift(at, is_left, Box::new(self.alloc, operand)?, amount);
+            operand = self.shifted(operand, is_left)?;
         }
         Ok(operand)
+    }
+
+    /// Reads a shift after its operand.
+    #[inline(never)]
+    fn shifted(&mut self, operand: Expr, is_left: bool) -> Result<Expr, ParseFault>
+        requires inside { self.old.at < length self.old.tokens.now }
+        requires next { the_shift_operator (next self.old) ≡ Some is_left }
+        ensures read { IsRead shifted self.old (expr_value operand ∷ []) (λ e. expr_value e ∷ []) self.new result }
+        ensures advances { OnOk result (self.old.at < self.new.at) }
+    {
+        let at = self.start();
+        let operand = Box::new(self.alloc, operand)?;
+        self.advance(Effect::Inside)?;
+        let amount = self.manifest_primary()?;
+        Ok(Expr::Shift(at, is_left, operand, amount))
     }
 
     /// Reads a primary, with each `-` and `!` in front of it.
@@ -276,6 +303,14 @@ impl Parser<'_> {
         if self.is_reserved(keywords::IF) {
             return self.choice();
         }
+        self.parenthesised()
+    }
+
+    /// Reads an expression in parentheses.
+    #[cycle(expressions)]
+    fn parenthesised(&mut self) -> Result<Expr, ParseFault>
+        ensures { ReadsParentheses self.old self.new result }
+    {
         self.expect_symbol(punctuation::LEFT_PAREN, Effect::Inside)?;
         let inner = self.expression()?;
         self.expect_symbol(punctuation::RIGHT_PAREN, Effect::Inside)?;
@@ -335,9 +370,7 @@ impl Parser<'_> {
     {
         let at = self.start();
         let fix = self.fix_type(Effect::Inside)?;
-        self.expect_symbol(punctuation::LEFT_PAREN, Effect::Inside)?;
-        let inner = self.expression()?;
-        self.expect_symbol(punctuation::RIGHT_PAREN, Effect::Inside)?;
+        let inner = self.parenthesised()?;
         Ok(Expr::Cast(at, fix, Box::new(self.alloc, inner)?))
     }
 
@@ -352,21 +385,46 @@ impl Parser<'_> {
         let at = self.start();
         self.expect_reserved(keywords::IF, Effect::Inside)?;
         let when = self.expression()?;
-        self.expect_symbol(punctuation::ARROW, Effect::Inside)?;
-        let then = self.expression()?;
+        let then = self.branch_value()?;
         let mut branches = Vec::new(self.alloc);
         branches.push((when, then))?;
+        let last = self.more_branches(&mut branches)?;
+        Ok(Expr::Choose(at, branches, last))
+    }
+
+    /// Reads `->` and the value of a branch, after its condition.
+    #[cycle(expressions)]
+    fn branch_value(&mut self) -> Result<Expr, ParseFault>
+        ensures { ReadsBranchValue self.old self.new result }
+    {
+        self.expect_symbol(punctuation::ARROW, Effect::Inside)?;
+        self.expression()
+    }
+
+    /// Reads the branches after the first one onto `branches`, and the last value.
+    #[cycle(expressions)]
+    fn more_branches(&mut self, branches: &mut Vec<(Expr, Expr)>) -> Result<Box<Expr>, ParseFault>
+        ensures { (at : ℕ) → IsRead (Expand Arms ∷ []) self.old (branches_value at branches.old.items ∷ [])
+            (λ last. choice_value at branches.new.items last ∷ []) self.new result }
+    {
         'arms: loop {
             self.expect_symbol(punctuation::PIPE_PIPE, Effect::Inside)?;
             let part = self.expression()?;
             if !self.is_symbol(punctuation::ARROW) {
-                self.expect_reserved(keywords::FI, Effect::Inside)?;
-                let last = Box::new(self.alloc, part)?;
-                return Ok(Expr::Choose(at, branches, last));
+                return self.choice_end(part);
             }
-            self.advance(Effect::Inside)?;
-            let value = self.expression()?;
+            let value = self.branch_value()?;
             branches.push((part, value))?;
         }
+    }
+
+    /// Reads `fi` after the last value of a choice.
+    fn choice_end(&mut self, last: Expr) -> Result<Box<Expr>, ParseFault>
+        ensures { (bar : AToken) (at : ℕ) (branches : Listed (Expr × Expr)) → IsRead choice_end self.old
+            (expr_value last ∷ the.token bar ∷ branches_value at branches ∷ [])
+            (λ e. choice_value at branches e ∷ []) self.new result }
+    {
+        self.expect_reserved(keywords::FI, Effect::Inside)?;
+        Ok(Box::new(self.alloc, last)?)
     }
 }

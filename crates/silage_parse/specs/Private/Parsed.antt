@@ -1,5 +1,5 @@
 -- What the methods of the parser ensure, said of the run of the LL(1) machine.
-use Rattle.std.specs.Prelude.{◌≡◌, ℕ, ◌+◌, ◌≤◌, ◌&&◌, Bool, true, List, [], ◌∷◌, ◌++◌, map, slice_get, Option, Some, None, Result, Ok, Err}
+use Rattle.std.specs.Prelude.{Box, ◌≡◌, ℕ, ◌+◌, ◌≤◌, ◌&&◌, Bool, true, List, [], ◌∷◌, ◌++◌, map, slice_get, Option, Some, None, Result, Ok, Err}
 use Rattle.fix_word.specs.declared.types.Mode.{Mode}
 use Rattle.silage_lex.specs.declared.Token.{Token}
 use Rattle.silage_lex.specs.declared.TokenKind.{TokenKind}
@@ -9,13 +9,16 @@ use Rattle.silage_lex.specs.declared.keywords.TheConstants as keyword
 use Rattle.silage_syntax.specs.declared.tree.Manifest.{Manifest as RustManifest}
 use Rattle.silage_syntax.specs.declared.tree.Place.{Place}
 use Rattle.silage_syntax.specs.declared.tree.Expr.{Expr}
+use Rattle.silage_syntax.specs.declared.tree.BinOp.{BinOp}
+use Rattle.std.specs.Global.{Global}
 use Rattle.silage_syntax.specs.declared.tree.Item.{Item}
 use Rattle.silage_syntax.specs.declared.tree.ConstDef.{ConstDef}
 use Rattle.silage_syntax.specs.declared.tree.Func.{Func}
 use Rattle.silage_syntax.specs.declared.tree.Top.{Top as RustTop}
 use Rattle.silage_syntax.specs.declared.tree.Program.{Program}
+use Rattle.silage_syntax.specs.Tree as tree
 use Rattle.silage_syntax.specs.Tree.{Top, table, function, view, view_manifest, view_delay, view_place, view_expr, view_item, view_func, view_top}
-use Rattle.silage_syntax.specs.Grammar.{Declared, fix_type, kind_at, from_at, mode_of, number_of}
+use Rattle.silage_syntax.specs.Grammar.{Or, Declared, fix_type, kind_at, from_at, mode_of, number_of}
 use Rattle.silage_parse.specs.declared.ParseFault.{ParseFault}
 use Rattle.silage_parse.specs.declared.ParseFault.TheVariants.{Syntax, Deep, Memory}
 use Rattle.silage_parse.specs.declared.parser.Counts.{Counts}
@@ -23,9 +26,9 @@ use Rattle.silage_parse.specs.declared.parser.Effect.{Effect as RustEffect}
 use Rattle.silage_parse.specs.declared.parser.Effect.TheVariants as r
 use Rattle.silage_parse.specs.declared.parser.Parser.{Parser}
 use Rattle.silage_parse.specs.declared.declarations.Declared.{Declared as RustDeclared}
-use Rattle.silage_parse.specs.Private.ParseTable.{Terminal, Punctuation, Keyword, AName, AWhole, End, is_one, Effect, Outside, Begins, Inside, Enters, Leaves, Value, Symbol, Match, Expand, Act, modes, punctuation_of, keyword_of, Nonterminal, number, Decl_, MoreDecls, first_decl, Name_, MoreNames, first_name, Locals, no_locals, Signed, MoreWords, first_word, Target, MoreTargets, first_place, Args, Manifest_, ManifestPrimary, InitialValue, is_initial, AfterOpenName, Items_, no_items, FixIn, Words, add_table, Results, add_function, Tops}
+use Rattle.silage_parse.specs.Private.ParseTable.{Chain, shift_operators, add_shift, choose_expr, Terminal, Punctuation, Keyword, AName, AWhole, End, is_one, Effect, Outside, Begins, Inside, Enters, Leaves, Value, Symbol, Match, Expand, Act, modes, punctuation_of, keyword_of, Nonterminal, number, Decl_, MoreDecls, first_decl, Name_, MoreNames, first_name, Locals, no_locals, Signed, MoreWords, first_word, Target, MoreTargets, first_place, Args, Manifest_, ManifestPrimary, InitialValue, is_initial, AfterOpenName, Items_, no_items, FixIn, Words, add_table, Results, add_function, Tops}
 use Rattle.silage_parse.specs.Private.ParseTable as the
-use Rattle.silage_parse.specs.Private.Machine.{whole_value, Count, allowed, counted, Outcome, done, fault, Runs, RunsTo}
+use Rattle.silage_parse.specs.Private.Machine.{branches_of, whole_value, Count, allowed, counted, Outcome, done, fault, Runs, RunsTo}
 
 -- THE STATE OF THE PARSER
 
@@ -212,6 +215,46 @@ expr_value e = the.expr (view_expr e)
 
 abbrev pub expr_values : List Expr → Value
 expr_values es = the.exprs (map view_expr es)
+
+-- an expression in parentheses; an operator with the amount of a shift; what comes after the condition of a branch,
+-- and after the last value of a choice
+abbrev pub in_parentheses : List Symbol
+in_parentheses =
+    punctuation_of punctuation.LEFT_PAREN Inside ∷ Expand (Chain Or) ∷ punctuation_of punctuation.RIGHT_PAREN Inside
+    ∷ []
+
+abbrev pub shifted : List Symbol
+shifted = Match shift_operators Inside ∷ Expand ManifestPrimary ∷ Act add_shift ∷ []
+
+abbrev pub branch_value : List Symbol
+branch_value = punctuation_of punctuation.ARROW Inside ∷ Expand (Chain Or) ∷ []
+
+abbrev pub choice_end : List Symbol
+choice_end = keyword_of keyword.FI Inside ∷ Act choose_expr ∷ []
+
+abbrev pub ReadsParentheses : Parser → Parser → Result Expr ParseFault → Type 0
+ReadsParentheses from to (Ok e) = (opened : Token) × (closed : Token)
+    × Leads in_parentheses from [] [] to (the.token closed ∷ expr_value e ∷ the.token opened ∷ [])
+ReadsParentheses from to (Err f) = Halts in_parentheses from [] f
+
+abbrev pub ReadsBranchValue : Parser → Parser → Result Expr ParseFault → Type 0
+ReadsBranchValue from to (Ok e) = (arrow : Token)
+    × Leads branch_value from [] [] to (expr_value e ∷ the.token arrow ∷ [])
+ReadsBranchValue from to (Err f) = Halts branch_value from [] f
+
+-- the tree of an operator at this byte with its operands
+abbrev pub binary_value : ℕ → BinOp → tree.Expr → Box Expr Global → Value
+binary_value at operator left right = the.expr (tree.binary at operator left (view_expr right.value))
+
+-- the branches of a choice so far, and the choice of them and its last value
+abbrev pub view_branch : Expr × Expr → tree.Expr × tree.Expr
+view_branch x = (view_expr x.0, view_expr x.1)
+
+abbrev pub branches_value : ℕ → List (Expr × Expr) → Value
+branches_value at xs = the.arms at (map view_branch xs)
+
+abbrev pub choice_value : ℕ → List (Expr × Expr) → Box Expr Global → Value
+choice_value at xs last = the.expr (tree.choose at (branches_of (map view_branch xs)) (view_expr last.value))
 
 -- ITEMS
 

@@ -1,16 +1,17 @@
-use Rattle.std.proofs.Common.{refl, sym, ◌∙◌, [], ◌∷◌}
+use Rattle.std.proofs.Common.{refl, sym, ◌∙◌, [], ◌∷◌, ap, length, arith}
 use Rattle.std.proofs.lemmas.Result.{err_from_is_err_and}
 use Rattle.std.proofs.lemmas.List.{map-append}
 use Rattle.silage_syntax.specs.Tree.{view_expr}
 use Rattle.silage_syntax.specs.Grammar.{number_of, shift_operator}
-use Rattle.silage_parse.specs.Private.ParseTable.{Expand, Shift, Unary, Primary, OtherPrimary, Punctuation, shift_operators}
-use Rattle.silage_parse.specs.Private.Parsed.{next, expr_value}
+use Rattle.silage_parse.specs.Private.ParseTable.{Arms, Expand, Shift, Unary, Primary, OtherPrimary, Punctuation, shift_operators}
+use Rattle.silage_parse.specs.Private.Parsed.{next, expr_value, view_branch, branches_value, branch_value, choice_value, choice_end, in_parentheses, shifted}
 use Rattle.silage_parse.specs.Private.Precedence.{precedence_of, operated, infixes, operation}
 use Rattle.silage_parse.proofs.Steps.{start, matches, parses, reads, does, giving, only, first, second, other, other_of_two, predicts, stops, stops_at, whole, computes}
 use Rattle.silage_parse.proofs.Tokens.{taken_from, taken_as, is_a_shift, no_shift, no_truth}
 use Rattle.silage_parse.proofs.PrecedenceClimbing.{begins, is_infix, operator_is, operator_of, climbs, climbed, joined}
-use Rattle.silage_parse.proofs.Choices.{view_arm, view_Choose}
-use Rattle.silage_parse.proofs.Primaries.{paren_row, cast_row, choice_row, to_paren, to_cast, to_choice, bang_no_minus}
+use Rattle.silage_parse.proofs.Choices.{view_Choose, branch_read}
+use Rattle.silage_parse.specs.Private.ParseTable as the
+use Rattle.silage_parse.proofs.Primaries.{parentheses_read, paren_row, cast_row, choice_row, to_paren, to_cast, to_choice, bang_no_minus}
 use Rattle.silage_lex.specs.declared.punctuation.TheConstants as punctuation
 use Rattle.silage_parse.proofs.parser.Parser.+expressions.Goals as goal
 
@@ -36,19 +37,6 @@ operation-operators-preserved t c = rw (c.tightest_after-tightest.ensures, c.of.
 pub operation-returns : goal.operation-returns
 operation-returns t c = climbed c.args.loosest c.operators.tightest c.in_default.ensures.none c.operators.invariant
 
-pub operated-returns-in_err-advance-clause-read : goal.operated-returns-in_err-advance-clause-read
-operated-returns-in_err-advance-clause-read t c =
-    let p = err_from_is_err_and c.from_residual.result c.from_residual.ensures.1 in
-    rw (p.1, p.2) (stops_at _ (start (operated (precedence_of c.args.operator)) c.args.self.now (expr_value c.args.left ∷ [])) (c.in_err-advance.ensures (infixes (precedence_of c.args.operator)) (is_infix (next c.args.self.now) c.args.operator c.requires.next)))
-
-pub operated-returns-in_err-right-clause-read : goal.operated-returns-in_err-right-clause-read
-operated-returns-in_err-right-clause-read t c =
-    let p = err_from_is_err_and c.from_residual-in_err-right.result c.from_residual-in_err-right.ensures.1 in
-    rw (p.1, p.2) (stops_at _ (matches (start (operated (precedence_of c.args.operator)) c.args.self.now (expr_value c.args.left ∷ [])) (c.in_ok-advance.ensures.as_one_of (infixes (precedence_of c.args.operator)) (is_infix (next c.args.self.now) c.args.operator c.requires.next))) (rw c.of.ensures at c.in_err-right.ensures))
-
-pub operated-returns-clause-read : goal.operated-returns-clause-read
-operated-returns-clause-read t c = does (parses (matches (start (operated (precedence_of c.args.operator)) c.args.self.now (expr_value c.args.left ∷ [])) (c.in_ok-advance.ensures.as_one_of (infixes (precedence_of c.args.operator)) (is_infix (next c.args.self.now) c.args.operator c.requires.next))) (rw c.of.ensures at c.in_ok-right.ensures)) (λ under. joined (precedence_of c.args.operator) c.args.operator (view_expr c.args.left) (view_expr c.in_ok-right.right) _ (taken_as (operator_of (precedence_of c.args.operator)) (c.in_ok-advance.ensures.as_one_of (infixes (precedence_of c.args.operator)) (is_infix (next c.args.self.now) c.args.operator c.requires.next)) (operator_is (next c.args.self.now) c.args.operator c.requires.next)) under ∙ rw (c.in_ok-left.ensures.ok, c.in_ok-right-2.ensures.ok, c.start-at.ensures, taken_from (c.in_ok-advance.ensures.as_one_of (infixes (precedence_of c.args.operator)) (is_infix (next c.args.self.now) c.args.operator c.requires.next))) refl)
-
 pub shift-returns-in_err-operand : goal.shift-returns-in_err-operand
 shift-returns-in_err-operand t c =
     let p = err_from_is_err_and c.from_residual.result c.from_residual.ensures.1 in
@@ -56,19 +44,6 @@ shift-returns-in_err-operand t c =
 
 pub shift-shifts-init : goal.shift-shifts-init
 shift-shifts-init t c = parses (only (start (Expand Shift ∷ []) c.args.self.now []) refl) c.in_ok-operand.ensures
-
-pub shift-returns-in_err-advance : goal.shift-returns-in_err-advance
-shift-returns-in_err-advance t c =
-    let p = err_from_is_err_and c.from_residual-in_err-advance.result c.from_residual-in_err-advance.ensures.1 in
-    rw (p.1, p.2) (stops_at _ (first c.shifts.invariant refl (is_a_shift (next c.shifts.self) (sym c.in-Some.ensures.value))) (c.in_err-advance.ensures _ (is_a_shift (next c.shifts.self) (sym c.in-Some.ensures.value))))
-
-pub shift-returns-in_err-amount : goal.shift-returns-in_err-amount
-shift-returns-in_err-amount t c =
-    let p = err_from_is_err_and c.from_residual-in_err-amount.result c.from_residual-in_err-amount.ensures.1 in
-    rw (p.1, p.2) (stops_at _ (matches (first c.shifts.invariant refl (is_a_shift (next c.shifts.self) (sym c.in-Some.ensures.value))) (c.in_ok-advance.ensures.as_one_of _ (is_a_shift (next c.shifts.self) (sym c.in-Some.ensures.value)))) c.in_err-amount.ensures)
-
-pub shift-shifts-preserved : goal.shift-shifts-preserved
-shift-shifts-preserved t c = does (parses (matches (first c.shifts.invariant refl (is_a_shift (next c.shifts.self) (sym c.in-Some.ensures.value))) (c.in_ok-advance.ensures.as_one_of _ (is_a_shift (next c.shifts.self) (sym c.in-Some.ensures.value)))) c.in_ok-amount.ensures) (λ under. rw (c.in_ok-new.ensures.ok, taken_as shift_operator (c.in_ok-advance.ensures.as_one_of shift_operators (is_a_shift (next c.shifts.self) (sym c.in-Some.ensures.value))) (sym c.in-Some.ensures.value), c.start-at.ensures, taken_from (c.in_ok-advance.ensures.as_one_of shift_operators (is_a_shift (next c.shifts.self) (sym c.in-Some.ensures.value)))) refl)
 
 pub shift-returns : goal.shift-returns
 shift-returns t c = other c.shifts.invariant refl (no_shift (next c.shifts.self) (sym c.in_default.ensures.value))
@@ -122,46 +97,80 @@ primary-returns-then-is_reserved t c = whole (Expand OtherPrimary ∷ []) [] (λ
 pub primary-returns-then-is_reserved-2 : goal.primary-returns-then-is_reserved-2
 primary-returns-then-is_reserved-2 t c = whole (Expand OtherPrimary ∷ []) [] (λ x. expr_value x ∷ []) _ c.choice.result (other (start (Expand Primary ∷ []) c.args.self.now []) refl (sym c.if-is_name.ensures.value)) c.choice.ensures
 
-pub primary-returns-in_err-expect_symbol : goal.primary-returns-in_err-expect_symbol
-primary-returns-in_err-expect_symbol t c =
+pub operated-returns-in_err-right-clause-read : goal.operated-returns-in_err-right-clause-read
+operated-returns-in_err-right-clause-read t c =
+    let p = err_from_is_err_and c.from_residual-in_err-right.result c.from_residual-in_err-right.ensures.1 in
+    rw (p.1, p.2) (c.in_err-right.ensures.read (view_expr c.args.left))
+
+pub operated-returns-clause-read : goal.operated-returns-clause-read
+operated-returns-clause-read t c = giving (c.in_ok-right.ensures.read (view_expr c.args.left)) (rw (c.in_ok-left.ensures.ok, c.start-at.ensures) refl)
+
+pub after_operator-returns-in_err-advance-clause-read : goal.after_operator-returns-in_err-advance-clause-read
+after_operator-returns-in_err-advance-clause-read t c =
     let p = err_from_is_err_and c.from_residual.result c.from_residual.ensures.1 in
-    rw (p.1, p.2) (stops_at _ (predicts paren_row (other (start (Expand Primary ∷ []) c.args.self.now []) refl (sym c.if-is_name.ensures.value)) (to_paren (next c.args.self.now) (sym c.if-is_number.ensures.value) (no_truth (next c.args.self.now) (sym c.in_default.ensures.value)) (sym c.if-is_reserved.ensures.value) (sym c.if-is_reserved-2.ensures.value))) c.in_err-expect_symbol.ensures)
+    let is_one = is_infix (next c.args.self.now) c.args.operator c.requires.next in
+    λ left. rw (p.1, p.2) (stops_at _ (start (operated (precedence_of c.args.operator)) c.args.self.now (the.expr left ∷ [])) (c.in_err-advance.ensures (infixes (precedence_of c.args.operator)) is_one))
 
-pub primary-returns-in_err-inner : goal.primary-returns-in_err-inner
-primary-returns-in_err-inner t c =
-    let p = err_from_is_err_and c.from_residual-in_err-inner.result c.from_residual-in_err-inner.ensures.1 in
-    rw (p.1, p.2) (stops_at _ (matches (predicts paren_row (other (start (Expand Primary ∷ []) c.args.self.now []) refl (sym c.if-is_name.ensures.value)) (to_paren (next c.args.self.now) (sym c.if-is_number.ensures.value) (no_truth (next c.args.self.now) (sym c.in_default.ensures.value)) (sym c.if-is_reserved.ensures.value) (sym c.if-is_reserved-2.ensures.value))) c.in_ok-expect_symbol.ensures) c.in_err-inner.ensures)
+pub after_operator-returns-in_err-right-clause-read : goal.after_operator-returns-in_err-right-clause-read
+after_operator-returns-in_err-right-clause-read t c =
+    let p = err_from_is_err_and c.from_residual-in_err-right.result c.from_residual-in_err-right.ensures.1 in
+    let is_one = is_infix (next c.args.self.now) c.args.operator c.requires.next in
+    let taken = c.in_ok-advance.ensures.as_one_of (infixes (precedence_of c.args.operator)) is_one in
+    λ left. rw (p.1, p.2) (stops_at _ (matches (start (operated (precedence_of c.args.operator)) c.args.self.now (the.expr left ∷ [])) taken) (rw c.of.ensures at c.in_err-right.ensures))
 
-pub primary-returns-in_err-expect_symbol-2 : goal.primary-returns-in_err-expect_symbol-2
-primary-returns-in_err-expect_symbol-2 t c =
-    let p = err_from_is_err_and c.from_residual-in_err-expect_symbol-2.result c.from_residual-in_err-expect_symbol-2.ensures.1 in
-    rw (p.1, p.2) (stops_at _ (parses (matches (predicts paren_row (other (start (Expand Primary ∷ []) c.args.self.now []) refl (sym c.if-is_name.ensures.value)) (to_paren (next c.args.self.now) (sym c.if-is_number.ensures.value) (no_truth (next c.args.self.now) (sym c.in_default.ensures.value)) (sym c.if-is_reserved.ensures.value) (sym c.if-is_reserved-2.ensures.value))) c.in_ok-expect_symbol.ensures) c.in_ok-inner.ensures) c.in_err-expect_symbol-2.ensures)
+pub after_operator-returns-clause-read : goal.after_operator-returns-clause-read
+after_operator-returns-clause-read t c =
+    let is_one = is_infix (next c.args.self.now) c.args.operator c.requires.next in
+    let taken = c.in_ok-advance.ensures.as_one_of (infixes (precedence_of c.args.operator)) is_one in
+    let is = taken_as (operator_of (precedence_of c.args.operator)) taken (operator_is (next c.args.self.now) c.args.operator c.requires.next) in
+    λ left. does (parses (matches (start (operated (precedence_of c.args.operator)) c.args.self.now (the.expr left ∷ [])) taken) (rw c.of.ensures at c.in_ok-right.ensures)) (λ under. joined (precedence_of c.args.operator) c.args.operator left (view_expr c.in_ok-right.right) _ is under ∙ rw (c.in_ok-new.ensures.ok, taken_from taken) refl)
+
+pub shift-returns-in_err-operand-2 : goal.shift-returns-in_err-operand-2
+shift-returns-in_err-operand-2 t c =
+    let p = err_from_is_err_and c.from_residual-in_err-operand-2.result c.from_residual-in_err-operand-2.ensures.1 in
+    rw (p.1, p.2) (stops shifted _ (expr_value c.shifts.operand ∷ []) [] _ (first c.shifts.invariant refl (is_a_shift (next c.shifts.self) (sym c.in-Some.ensures.value))) c.in_err-operand-2.ensures.read)
+
+pub shift-shifts-preserved : goal.shift-shifts-preserved
+shift-shifts-preserved t c = reads shifted (expr_value c.shifts.operand ∷ []) [] (first c.shifts.invariant refl (is_a_shift (next c.shifts.self) (sym c.in-Some.ensures.value))) c.in_ok-operand-2.ensures.read
 
 pub primary-returns : goal.primary-returns
-primary-returns t c = does (matches (parses (matches (predicts paren_row (other (start (Expand Primary ∷ []) c.args.self.now []) refl (sym c.if-is_name.ensures.value)) (to_paren (next c.args.self.now) (sym c.if-is_number.ensures.value) (no_truth (next c.args.self.now) (sym c.in_default.ensures.value)) (sym c.if-is_reserved.ensures.value) (sym c.if-is_reserved-2.ensures.value))) c.in_ok-expect_symbol.ensures) c.in_ok-inner.ensures) c.in_ok-expect_symbol-2.ensures) (λ under. refl)
+primary-returns t c =
+    let to = to_paren (next c.args.self.now) (sym c.if-is_number.ensures.value) (no_truth (next c.args.self.now) (sym c.in_default.ensures.value)) (sym c.if-is_reserved.ensures.value) (sym c.if-is_reserved-2.ensures.value) in
+    parentheses_read _ c.parenthesised.result (predicts paren_row (other (start (Expand Primary ∷ []) c.args.self.now []) refl (sym c.if-is_name.ensures.value)) to) c.parenthesised.ensures
+
+pub parenthesised-returns-in_err-expect_symbol : goal.parenthesised-returns-in_err-expect_symbol
+parenthesised-returns-in_err-expect_symbol t c =
+    let p = err_from_is_err_and c.from_residual.result c.from_residual.ensures.1 in
+    rw (p.1, p.2) (stops_at _ (start in_parentheses c.args.self.now []) c.in_err-expect_symbol.ensures)
+
+pub parenthesised-returns-in_err-inner : goal.parenthesised-returns-in_err-inner
+parenthesised-returns-in_err-inner t c =
+    let p = err_from_is_err_and c.from_residual-in_err-inner.result c.from_residual-in_err-inner.ensures.1 in
+    rw (p.1, p.2) (stops_at _ (matches (start in_parentheses c.args.self.now []) c.in_ok-expect_symbol.ensures) c.in_err-inner.ensures)
+
+pub parenthesised-returns-in_err-expect_symbol-2 : goal.parenthesised-returns-in_err-expect_symbol-2
+parenthesised-returns-in_err-expect_symbol-2 t c =
+    let p = err_from_is_err_and c.from_residual-in_err-expect_symbol-2.result c.from_residual-in_err-expect_symbol-2.ensures.1 in
+    rw (p.1, p.2) (stops_at _ (parses (matches (start in_parentheses c.args.self.now []) c.in_ok-expect_symbol.ensures) c.in_ok-inner.ensures) c.in_err-expect_symbol-2.ensures)
+
+pub parenthesised-returns : goal.parenthesised-returns
+parenthesised-returns t c =
+    let opened = c.in_ok-expect_symbol.ensures in
+    let closed = c.in_ok-expect_symbol-2.ensures in
+    (opened.token, closed.token, matches (parses (matches (start in_parentheses c.args.self.now []) opened) c.in_ok-inner.ensures) closed)
 
 pub cast-returns-in_err-fix : goal.cast-returns-in_err-fix
 cast-returns-in_err-fix t c =
     let p = err_from_is_err_and c.from_residual.result c.from_residual.ensures.1 in
     rw (p.1, p.2) (stops_at _ (predicts cast_row (start (Expand OtherPrimary ∷ []) c.args.self.now []) (to_cast (next c.args.self.now) c.requires.fix)) c.in_err-fix.ensures)
 
-pub cast-returns-in_err-expect_symbol : goal.cast-returns-in_err-expect_symbol
-cast-returns-in_err-expect_symbol t c =
-    let p = err_from_is_err_and c.from_residual-in_err-expect_symbol.result c.from_residual-in_err-expect_symbol.ensures.1 in
-    rw (p.1, p.2) (stops_at _ (parses (predicts cast_row (start (Expand OtherPrimary ∷ []) c.args.self.now []) (to_cast (next c.args.self.now) c.requires.fix)) c.in_ok-fix.ensures) c.in_err-expect_symbol.ensures)
-
 pub cast-returns-in_err-inner : goal.cast-returns-in_err-inner
 cast-returns-in_err-inner t c =
     let p = err_from_is_err_and c.from_residual-in_err-inner.result c.from_residual-in_err-inner.ensures.1 in
-    rw (p.1, p.2) (stops_at _ (matches (parses (predicts cast_row (start (Expand OtherPrimary ∷ []) c.args.self.now []) (to_cast (next c.args.self.now) c.requires.fix)) c.in_ok-fix.ensures) c.in_ok-expect_symbol.ensures) c.in_err-inner.ensures)
-
-pub cast-returns-in_err-expect_symbol-2 : goal.cast-returns-in_err-expect_symbol-2
-cast-returns-in_err-expect_symbol-2 t c =
-    let p = err_from_is_err_and c.from_residual-in_err-expect_symbol-2.result c.from_residual-in_err-expect_symbol-2.ensures.1 in
-    rw (p.1, p.2) (stops_at _ (parses (matches (parses (predicts cast_row (start (Expand OtherPrimary ∷ []) c.args.self.now []) (to_cast (next c.args.self.now) c.requires.fix)) c.in_ok-fix.ensures) c.in_ok-expect_symbol.ensures) c.in_ok-inner.ensures) c.in_err-expect_symbol-2.ensures)
+    rw (p.1, p.2) (stops in_parentheses _ [] _ _ (parses (predicts cast_row (start (Expand OtherPrimary ∷ []) c.args.self.now []) (to_cast (next c.args.self.now) c.requires.fix)) c.in_ok-fix.ensures) c.in_err-inner.ensures)
 
 pub cast-returns : goal.cast-returns
-cast-returns t c = does (matches (parses (matches (parses (predicts cast_row (start (Expand OtherPrimary ∷ []) c.args.self.now []) (to_cast (next c.args.self.now) c.requires.fix)) c.in_ok-fix.ensures) c.in_ok-expect_symbol.ensures) c.in_ok-inner.ensures) c.in_ok-expect_symbol-2.ensures) (λ under. rw (c.in_ok-new.ensures.ok, c.start-at.ensures) refl)
+cast-returns t c = does (reads in_parentheses [] _ (parses (predicts cast_row (start (Expand OtherPrimary ∷ []) c.args.self.now []) (to_cast (next c.args.self.now) c.requires.fix)) c.in_ok-fix.ensures) c.in_ok-inner.ensures.2) (λ under. rw (c.in_ok-new.ensures.ok, c.start-at.ensures) refl)
 
 pub choice-returns-in_err-expect_reserved : goal.choice-returns-in_err-expect_reserved
 choice-returns-in_err-expect_reserved t c =
@@ -173,46 +182,66 @@ choice-returns-in_err-when t c =
     let p = err_from_is_err_and c.from_residual-in_err-when.result c.from_residual-in_err-when.ensures.1 in
     rw (p.1, p.2) (stops_at _ (matches (predicts choice_row (start (Expand OtherPrimary ∷ []) c.args.self.now []) (to_choice (next c.args.self.now) c.requires.begins)) c.in_ok-expect_reserved.ensures) c.in_err-when.ensures)
 
-pub choice-returns-in_err-expect_symbol : goal.choice-returns-in_err-expect_symbol
-choice-returns-in_err-expect_symbol t c =
-    let p = err_from_is_err_and c.from_residual-in_err-expect_symbol.result c.from_residual-in_err-expect_symbol.ensures.1 in
-    rw (p.1, p.2) (stops_at _ (parses (matches (predicts choice_row (start (Expand OtherPrimary ∷ []) c.args.self.now []) (to_choice (next c.args.self.now) c.requires.begins)) c.in_ok-expect_reserved.ensures) c.in_ok-when.ensures) c.in_err-expect_symbol.ensures)
-
 pub choice-returns-in_err-then : goal.choice-returns-in_err-then
 choice-returns-in_err-then t c =
     let p = err_from_is_err_and c.from_residual-in_err-then.result c.from_residual-in_err-then.ensures.1 in
-    rw (p.1, p.2) (stops_at _ (matches (parses (matches (predicts choice_row (start (Expand OtherPrimary ∷ []) c.args.self.now []) (to_choice (next c.args.self.now) c.requires.begins)) c.in_ok-expect_reserved.ensures) c.in_ok-when.ensures) c.in_ok-expect_symbol.ensures) c.in_err-then.ensures)
+    rw (p.1, p.2) (stops branch_value _ [] _ _ (parses (matches (predicts choice_row (start (Expand OtherPrimary ∷ []) c.args.self.now []) (to_choice (next c.args.self.now) c.requires.begins)) c.in_ok-expect_reserved.ensures) c.in_ok-when.ensures) c.in_err-then.ensures)
 
-pub choice-arms-init : goal.choice-arms-init
-choice-arms-init t c = does (parses (matches (parses (matches (predicts choice_row (start (Expand OtherPrimary ∷ []) c.args.self.now []) (to_choice (next c.args.self.now) c.requires.begins)) c.in_ok-expect_reserved.ensures) c.in_ok-when.ensures) c.in_ok-expect_symbol.ensures) c.in_ok-then.ensures) (λ under. rw (c.in_ok-push.ensures.items, c.new-branches.ensures.items, ← (taken_from c.in_ok-expect_reserved.ensures), ← c.start-at.ensures) refl)
+pub choice-returns-in_err-last : goal.choice-returns-in_err-last
+choice-returns-in_err-last t c =
+    let p = err_from_is_err_and c.from_residual-in_err-last.result c.from_residual-in_err-last.ensures.1 in
+    let began = parses (matches (predicts choice_row (start (Expand OtherPrimary ∷ []) c.args.self.now []) (to_choice (next c.args.self.now) c.requires.begins)) c.in_ok-expect_reserved.ensures) c.in_ok-when.ensures in
+    rw (p.1, p.2) (stops (Expand Arms ∷ []) [] (branches_value c.start-at.result c.push.new.self.items ∷ []) [] _ (does (reads branch_value [] _ began c.in_ok-then.ensures.1) (λ under. rw (c.in_ok-push.ensures.items, c.new-branches.ensures.items, ← (taken_from c.in_ok-expect_reserved.ensures), ← c.start-at.ensures) refl)) (c.in_err-last.ensures c.start-at.result))
 
-pub choice-returns-in_err-expect_symbol-2 : goal.choice-returns-in_err-expect_symbol-2
-choice-returns-in_err-expect_symbol-2 t c =
-    let p = err_from_is_err_and c.from_residual-in_err-expect_symbol-2.result c.from_residual-in_err-expect_symbol-2.ensures.1 in
-    rw (p.1, p.2) (stops_at _ (only c.arms.invariant refl) c.in_err-expect_symbol-2.ensures)
+pub choice-returns : goal.choice-returns
+choice-returns t c =
+    let began = parses (matches (predicts choice_row (start (Expand OtherPrimary ∷ []) c.args.self.now []) (to_choice (next c.args.self.now) c.requires.begins)) c.in_ok-expect_reserved.ensures) c.in_ok-when.ensures in
+    giving (reads (Expand Arms ∷ []) (branches_value c.start-at.result c.push.new.self.items ∷ []) [] (does (reads branch_value [] _ began c.in_ok-then.ensures.1) (λ under. rw (c.in_ok-push.ensures.items, c.new-branches.ensures.items, ← (taken_from c.in_ok-expect_reserved.ensures), ← c.start-at.ensures) refl)) (c.in_ok-last.ensures c.start-at.result)) (rw (view_Choose c.start-at.result c.more_branches.new.branches c.in_ok-last.last) refl)
 
-pub choice-returns-in_err-part : goal.choice-returns-in_err-part
-choice-returns-in_err-part t c =
+pub branch_value-returns-in_err-expect_symbol : goal.branch_value-returns-in_err-expect_symbol
+branch_value-returns-in_err-expect_symbol t c =
+    let p = err_from_is_err_and c.from_residual.result c.from_residual.ensures.1 in
+    rw (p.1, p.2) (stops_at _ (start branch_value c.args.self.now []) c.in_err-expect_symbol.ensures)
+
+pub branch_value-returns : goal.branch_value-returns
+branch_value-returns t c = branch_read _ c.expression.result c.in_ok-expect_symbol.ensures c.expression.ensures
+
+pub more_branches-arms-init : goal.more_branches-arms-init
+more_branches-arms-init t c = λ at. start (Expand Arms ∷ []) c.args.self.now (branches_value at c.args.branches.now.items ∷ [])
+
+pub more_branches-returns-in_err-expect_symbol : goal.more_branches-returns-in_err-expect_symbol
+more_branches-returns-in_err-expect_symbol t c =
+    let p = err_from_is_err_and c.from_residual.result c.from_residual.ensures.1 in
+    λ at. rw (p.1, p.2) (stops_at _ (only (c.arms.invariant at) refl) c.in_err-expect_symbol.ensures)
+
+pub more_branches-returns-in_err-part : goal.more_branches-returns-in_err-part
+more_branches-returns-in_err-part t c =
     let p = err_from_is_err_and c.from_residual-in_err-part.result c.from_residual-in_err-part.ensures.1 in
-    rw (p.1, p.2) (stops_at _ (matches (only c.arms.invariant refl) c.in_ok-expect_symbol-2.ensures) c.in_err-part.ensures)
+    λ at. rw (p.1, p.2) (stops_at _ (matches (only (c.arms.invariant at) refl) c.in_ok-expect_symbol.ensures) c.in_err-part.ensures)
 
-pub choice-returns-in_err-expect_reserved-2 : goal.choice-returns-in_err-expect_reserved-2
-choice-returns-in_err-expect_reserved-2 t c =
-    let p = err_from_is_err_and c.from_residual-in_err-expect_reserved-2.result c.from_residual-in_err-expect_reserved-2.ensures.1 in
-    rw (p.1, p.2) (stops_at _ (other (parses (matches (only c.arms.invariant refl) c.in_ok-expect_symbol-2.ensures) c.in_ok-part.ensures) refl (sym c.if-not-is_symbol.ensures.value)) c.in_err-expect_reserved-2.ensures)
+pub more_branches-returns-then-not-is_symbol : goal.more_branches-returns-then-not-is_symbol
+more_branches-returns-then-not-is_symbol t c =
+    λ at. let bar = c.in_ok-expect_symbol.ensures in
+    let part = other (parses (matches (only (c.arms.invariant at) refl) bar) c.in_ok-part.ensures) refl (sym c.if-not-is_symbol.ensures.value) in
+    whole choice_end (expr_value c.in_ok-part.part ∷ the.token bar.token ∷ branches_value at c.arms.branches.items ∷ []) (λ e. choice_value at c.arms.branches.items e ∷ []) _ c.choice_end.result part (c.choice_end.ensures bar.token at c.arms.branches.items)
 
-pub choice-returns-then-not-is_symbol : goal.choice-returns-then-not-is_symbol
-choice-returns-then-not-is_symbol t c = giving (computes (matches (other (parses (matches (only c.arms.invariant refl) c.in_ok-expect_symbol-2.ensures) c.in_ok-part.ensures) refl (sym c.if-not-is_symbol.ensures.value)) c.in_ok-expect_reserved-2.ensures) (λ under. refl)) (rw (view_Choose c.start-at.result c.arms.branches c.in_ok-last.last, c.in_ok-last.ensures.ok) refl)
-
-pub choice-returns-in_err-advance : goal.choice-returns-in_err-advance
-choice-returns-in_err-advance t c =
-    let p = err_from_is_err_and c.from_residual-in_err-advance.result c.from_residual-in_err-advance.ensures.1 in
-    rw (p.1, p.2) (stops_at _ (first (parses (matches (only c.arms.invariant refl) c.in_ok-expect_symbol-2.ensures) c.in_ok-part.ensures) refl (sym c.if-not-is_symbol.ensures.value)) (c.in_err-advance.ensures _ (sym c.if-not-is_symbol.ensures.value)))
-
-pub choice-returns-in_err-value : goal.choice-returns-in_err-value
-choice-returns-in_err-value t c =
+pub more_branches-returns-in_err-value : goal.more_branches-returns-in_err-value
+more_branches-returns-in_err-value t c =
     let p = err_from_is_err_and c.from_residual-in_err-value.result c.from_residual-in_err-value.ensures.1 in
-    rw (p.1, p.2) (stops_at _ (matches (first (parses (matches (only c.arms.invariant refl) c.in_ok-expect_symbol-2.ensures) c.in_ok-part.ensures) refl (sym c.if-not-is_symbol.ensures.value)) (c.in_ok-advance.ensures.as_one_of _ (sym c.if-not-is_symbol.ensures.value))) c.in_err-value.ensures)
+    λ at. rw (p.1, p.2) (stops branch_value _ [] _ _ (first (parses (matches (only (c.arms.invariant at) refl) c.in_ok-expect_symbol.ensures) c.in_ok-part.ensures) refl (sym c.if-not-is_symbol.ensures.value)) c.in_err-value.ensures)
 
-pub choice-arms-preserved : goal.choice-arms-preserved
-choice-arms-preserved t c = does (parses (matches (first (parses (matches (only c.arms.invariant refl) c.in_ok-expect_symbol-2.ensures) c.in_ok-part.ensures) refl (sym c.if-not-is_symbol.ensures.value)) (c.in_ok-advance.ensures.as_one_of _ (sym c.if-not-is_symbol.ensures.value))) c.in_ok-value.ensures) (λ under. rw (c.in_ok-push-2.ensures.items, map-append view_arm) refl)
+pub more_branches-arms-preserved : goal.more_branches-arms-preserved
+more_branches-arms-preserved t c = λ at. does (reads branch_value [] _ (first (parses (matches (only (c.arms.invariant at) refl) c.in_ok-expect_symbol.ensures) c.in_ok-part.ensures) refl (sym c.if-not-is_symbol.ensures.value)) c.in_ok-value.ensures.1) (λ under. rw (c.in_ok-push.ensures.items, map-append view_branch) refl)
+
+pub more_branches-expression-requires : goal.more_branches-expression-requires
+more_branches-expression-requires t c =
+    let so_far = c.arms.invariant 0 in
+    let bar = c.in_ok-expect_symbol.ensures in
+    omega (arith, ap length so_far.same, so_far.order, ap length bar.same, bar.one)
+
+pub more_branches-branch_value-requires : goal.more_branches-branch_value-requires
+more_branches-branch_value-requires t c =
+    let so_far = c.arms.invariant 0 in
+    let bar = c.in_ok-expect_symbol.ensures in
+    let part = c.in_ok-part.ensures in
+    omega (arith, ap length so_far.same, so_far.order, ap length bar.same, bar.one, ap length part.same, part.order)
