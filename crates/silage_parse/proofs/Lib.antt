@@ -1,5 +1,6 @@
 pub mod SpanRoles
 pub mod TokenFacts
+pub mod DeclaredLists
 pub mod Derivations
 pub mod CompleteManifests
 pub mod CompleteTypes

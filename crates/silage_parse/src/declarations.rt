@@ -4,7 +4,7 @@ ghost use Rattle.std.specs.Prelude.{◌≡◌, [], ◌∷◌, ◌++◌, map, OnO
 ghost use Rattle.silage_syntax.specs.Grammar.{dim as the_dim, typed as typed_decl};
 ghost use Rattle.silage_parse.specs.Private.ParseTable.{Dims, Name_, Type_, Decl_, Results, Signed, Words};
 ghost use Rattle.silage_parse.specs.Private.ParseTable as the;
-ghost use Rattle.silage_parse.specs.Private.Parsed.{IsParsed, IsRead, declared_value, declared_values, view_declared, name_list, decl_list, word_list, local_lines};
+ghost use Rattle.silage_parse.specs.Private.Parsed.{IsParsed, IsRead, ReadsDecls, declared_value, declared_values, view_declared, name_list, decl_list, word_list, local_lines};
 
 use crate::ParseFault;
 use crate::parser::{Effect, Parser};
@@ -117,7 +117,7 @@ impl Parser<'_> {
     }
 
     /// Reads declarations with commas between them.
-    pub fn decls(&mut self) -> Result<List<Decl>, ParseFault>
+    fn decls(&mut self) -> Result<List<Decl>, ParseFault>
         ensures { IsRead decl_list self.old [] (λ xs. the.decls xs ∷ []) self.new result }
     {
         let mut list = List::new(self.alloc);
@@ -129,15 +129,22 @@ impl Parser<'_> {
         Ok(list)
     }
 
+    /// Reads declarations in parentheses.
+    pub fn decls_in_parentheses(&mut self) -> Result<List<Decl>, ParseFault>
+        ensures { ReadsDecls self.old self.new result }
+    {
+        self.expect_symbol(punctuation::LEFT_PAREN, Effect::Outside)?;
+        let list = self.decls()?;
+        self.expect_symbol(punctuation::RIGHT_PAREN, Effect::Outside)?;
+        Ok(list)
+    }
+
     /// Reads the results of a function: one declaration, or some in parentheses.
     pub fn results(&mut self) -> Result<List<Decl>, ParseFault>
         ensures { IsParsed Results self.old (λ ds. the.decls ds) self.new result }
     {
         if self.is_symbol(punctuation::LEFT_PAREN) {
-            self.advance(Effect::Outside)?;
-            let list = self.decls()?;
-            self.expect_symbol(punctuation::RIGHT_PAREN, Effect::Outside)?;
-            return Ok(list);
+            return self.decls_in_parentheses();
         }
         let mut list = List::new(self.alloc);
         list.push(self.decl()?)?;

@@ -5,7 +5,7 @@ ghost use Rattle.silage_lex.specs.declared.Token.{Token as AToken};
 ghost use Rattle.silage_lex.specs.declared.punctuation.TheConstants as punctuation;
 ghost use Rattle.silage_parse.specs.Private.ParseTable.{AName, Punctuation, is_one, Args, TargetSubs, Target, InitialValue, RightSide, AfterTarget, Item_, Expand};
 ghost use Rattle.silage_parse.specs.Private.ParseTable as the;
-ghost use Rattle.silage_parse.specs.Private.Parsed.{next, later, IsParsed, IsRead, ReadsCallEnd, ReadsBounds, is_called, subs_value, place_value, place_values, expr_values, item_value, item_values, place_list, item_list, initial_end, after_open};
+ghost use Rattle.silage_parse.specs.Private.Parsed.{effect as effect_of, ReadsBlockEnd, ReadsLoopBody, next, later, IsParsed, IsRead, ReadsCallEnd, ReadsBounds, is_called, subs_value, place_value, place_values, expr_values, item_value, item_values, place_list, item_list, initial_end, after_open};
 
 use crate::ParseFault;
 use crate::parser::{Effect, Parser};
@@ -180,6 +180,14 @@ impl Parser<'_> {
         Ok((lo, hi))
     }
 
+    /// Reads the end of a block: an `end`, which has this effect, and `;`.
+    pub fn block_end(&mut self, effect: Effect) -> Result<(), ParseFault>
+        ensures { ReadsBlockEnd (effect_of effect) self.old self.new result }
+    {
+        self.expect_reserved(keywords::END, effect)?;
+        self.expect_symbol(punctuation::SEMICOLON, Effect::Outside)
+    }
+
     /// Reads a loop after its `(`, which is at byte `at`.
     #[cycle(items)]
     fn counted_loop(&mut self, at: u32) -> Result<Item, ParseFault>
@@ -189,10 +197,7 @@ impl Parser<'_> {
     {
         let index = self.name(Effect::Outside)?;
         let (lo, hi) = self.loop_bounds()?;
-        self.expect_reserved(keywords::BEGIN, Effect::Enters)?;
-        let items = self.items()?;
-        self.expect_reserved(keywords::END, Effect::Leaves)?;
-        self.expect_symbol(punctuation::SEMICOLON, Effect::Outside)?;
+        let items = self.loop_body()?;
         Ok(Item::Loop {
             index,
             lo,
@@ -200,6 +205,17 @@ impl Parser<'_> {
             items: items.into_vec(),
             at,
         })
+    }
+
+    /// Reads the body of a loop.
+    #[cycle(items)]
+    fn loop_body(&mut self) -> Result<List<Item>, ParseFault>
+        ensures { ReadsLoopBody self.old self.new result }
+    {
+        self.expect_reserved(keywords::BEGIN, Effect::Enters)?;
+        let items = self.items()?;
+        self.block_end(Effect::Leaves)?;
+        Ok(items)
     }
 
     /// Reads an item.

@@ -3,15 +3,24 @@
 ghost use Rattle.std.specs.Prelude.{◌≡◌, ◌<◌, ◌^◌, [], ◌∷◌, List as Listed, length, OnOk};
 ghost use Rattle.silage_syntax.specs.Tree.{Top as TreeTop};
 ghost use Rattle.silage_parse.specs.Private.ParseTable as the;
-ghost use Rattle.silage_parse.specs.Private.Parsed.{IsRead, ReadsTop, IsRun, table_row, function_row, with_table, with_function};
+ghost use Rattle.silage_parse.specs.Private.Parsed.{IsRead, ReadsHead, ReadsBody, ReadsTop, IsRun, table_row, function_row, with_table, with_function};
 
 use crate::ParseFault;
 use crate::declarations::Declared;
 use crate::parser::{Effect, Parser};
-use lists::List;
+use lists::{List, Name};
 use silage_lex::{Token, keywords, punctuation};
-use silage_syntax::{ConstDef, Func, Program, Top};
+use silage_syntax::{ConstDef, Decl, Func, Item, Program, Top};
 use std::alloc::{AllocError, AllocFailed, Global};
+
+/// What a function has before its `=`.
+#[derive(Drop)]
+pub struct Head {
+    pub name: Name,
+    pub at: u32,
+    pub params: List<Decl>,
+    pub results: List<Decl>,
+}
 
 impl Parser<'_> {
     /// Reads a table.
@@ -43,18 +52,13 @@ impl Parser<'_> {
         ensures advances { OnOk result (self.old.at < self.new.at) }
     {
         self.expect_reserved(keywords::FUNC, Effect::Outside)?;
-        let at = self.start();
-        let name = self.name(Effect::Outside)?;
-        self.expect_symbol(punctuation::LEFT_PAREN, Effect::Outside)?;
-        let params = self.decls()?;
-        self.expect_symbol(punctuation::RIGHT_PAREN, Effect::Outside)?;
-        let results = self.results()?;
-        self.expect_symbol(punctuation::EQUAL, Effect::Outside)?;
-        self.expect_reserved(keywords::BEGIN, Effect::Outside)?;
-        let locals = self.locals()?;
-        let items = self.items()?;
-        self.expect_reserved(keywords::END, Effect::Outside)?;
-        self.expect_symbol(punctuation::SEMICOLON, Effect::Outside)?;
+        let Head {
+            name,
+            at,
+            params,
+            results,
+        } = self.head()?;
+        let (locals, items) = self.body()?;
         Ok(Func {
             name,
             at,
@@ -63,6 +67,34 @@ impl Parser<'_> {
             locals,
             items,
         })
+    }
+
+    /// Reads the head of a function.
+    fn head(&mut self) -> Result<Head, ParseFault>
+        ensures { ReadsHead self.old self.new result }
+    {
+        let at = self.start();
+        let name = self.name(Effect::Outside)?;
+        let params = self.decls_in_parentheses()?;
+        let results = self.results()?;
+        Ok(Head {
+            name,
+            at,
+            params,
+            results,
+        })
+    }
+
+    /// Reads the body of a function: its locals and its items.
+    fn body(&mut self) -> Result<(List<Decl>, List<Item>), ParseFault>
+        ensures { ReadsBody self.old self.new result }
+    {
+        self.expect_symbol(punctuation::EQUAL, Effect::Outside)?;
+        self.expect_reserved(keywords::BEGIN, Effect::Outside)?;
+        let locals = self.locals()?;
+        let items = self.items()?;
+        self.block_end(Effect::Outside)?;
+        Ok((locals, items))
     }
 
     /// Reads the table or the function that begins with the next token. `Syntax` where none begins.

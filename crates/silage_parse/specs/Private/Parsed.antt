@@ -25,10 +25,12 @@ use Rattle.silage_parse.specs.declared.parser.Counts.{Counts}
 use Rattle.silage_parse.specs.declared.parser.Effect.{Effect as RustEffect}
 use Rattle.silage_parse.specs.declared.parser.Effect.TheVariants as r
 use Rattle.silage_parse.specs.declared.parser.Parser.{Parser}
+use Rattle.silage_parse.specs.declared.program.Head.{Head}
+use Rattle.silage_syntax.specs.declared.tree.Decl.{Decl}
 use Rattle.silage_parse.specs.declared.declarations.Declared.{Declared as RustDeclared}
 use Rattle.silage_parse.specs.Private.ParseTable.{Chain, shift_operators, add_shift, choose_expr, Terminal, Punctuation, Keyword, AName, AWhole, End, is_one, Effect, Outside, Begins, Inside, Enters, Leaves, Value, Symbol, Match, Expand, Act, modes, punctuation_of, keyword_of, Nonterminal, number, Decl_, MoreDecls, first_decl, Name_, MoreNames, first_name, Locals, no_locals, Signed, MoreWords, first_word, Target, MoreTargets, first_place, Args, Manifest_, ManifestPrimary, InitialValue, is_initial, AfterOpenName, Items_, no_items, FixIn, Words, add_table, Results, add_function, Tops}
 use Rattle.silage_parse.specs.Private.ParseTable as the
-use Rattle.silage_parse.specs.Private.Machine.{branches_of, whole_value, Count, allowed, counted, Outcome, done, fault, Runs, RunsTo}
+use Rattle.silage_parse.specs.Private.Machine.{branches_of, name_text, whole_value, Count, allowed, counted, Outcome, done, fault, Runs, RunsTo}
 
 -- THE STATE OF THE PARSER
 
@@ -307,6 +309,23 @@ bounds_read each closed to colon bounds =
     the.token each ∷ the.token closed ∷ manifest_value bounds.1 ∷ the.token to ∷ manifest_value bounds.0
     ∷ the.token colon ∷ []
 
+-- the end of a block with the effect of its `end`, and the body of a loop
+abbrev pub block_end : Effect → List Symbol
+block_end e = keyword_of keyword.END e ∷ punctuation_of punctuation.SEMICOLON Outside ∷ []
+
+abbrev pub loop_body : List Symbol
+loop_body = keyword_of keyword.BEGIN Enters ∷ item_list ++ block_end Leaves
+
+abbrev pub ReadsBlockEnd : Effect → Parser → Parser → Result Unit ParseFault → Type 0
+ReadsBlockEnd e from to (Ok x) = (closed : Token) × (ended : Token)
+    × Leads (block_end e) from [] [] to (the.token ended ∷ the.token closed ∷ [])
+ReadsBlockEnd e from to (Err f) = Halts (block_end e) from [] f
+
+abbrev pub ReadsLoopBody : Parser → Parser → Result (List Item) ParseFault → Type 0
+ReadsLoopBody from to (Ok xs) = (opened : Token) × (closed : Token) × (ended : Token)
+    × Leads loop_body from [] [] to (the.token ended ∷ the.token closed ∷ item_values xs ∷ the.token opened ∷ [])
+ReadsLoopBody from to (Err f) = Halts loop_body from [] f
+
 abbrev pub ReadsBounds : Parser → Parser → Result (RustManifest × RustManifest) ParseFault → Type 0
 ReadsBounds from end (Ok bounds) = (each : Token) × (closed : Token) × (to : Token) × (colon : Token)
     × Leads loop_bounds from [] [] end (bounds_read each closed to colon bounds)
@@ -321,13 +340,47 @@ table_row =
     ∷ punctuation_of punctuation.EQUAL Outside ∷ Expand Words ∷ punctuation_of punctuation.SEMICOLON Outside
     ∷ Act add_table ∷ []
 
+abbrev pub in_parentheses_decls : List Symbol
+in_parentheses_decls =
+    punctuation_of punctuation.LEFT_PAREN Outside ∷ decl_list ++ punctuation_of punctuation.RIGHT_PAREN Outside ∷ []
+
+-- a function has a head, which are its name, its parameters and its results, and a body
+abbrev pub function_head : List Symbol
+function_head = Match (AName ∷ []) Outside ∷ in_parentheses_decls ++ Expand Results ∷ []
+
+abbrev pub function_body : List Symbol
+function_body =
+    punctuation_of punctuation.EQUAL Outside ∷ keyword_of keyword.BEGIN Outside
+    ∷ local_lines ++ item_list ++ block_end Outside
+
 abbrev pub function_row : List Symbol
-function_row =
-    keyword_of keyword.FUNC Outside ∷ Match (AName ∷ []) Outside ∷ punctuation_of punctuation.LEFT_PAREN Outside
-    ∷ decl_list ++ punctuation_of punctuation.RIGHT_PAREN Outside ∷ Expand Results
-    ∷ punctuation_of punctuation.EQUAL Outside
-    ∷ keyword_of keyword.BEGIN Outside ∷ local_lines ++ item_list ++ keyword_of keyword.END Outside
-    ∷ punctuation_of punctuation.SEMICOLON Outside ∷ Act add_function ∷ []
+function_row = keyword_of keyword.FUNC Outside ∷ function_head ++ function_body ++ Act add_function ∷ []
+
+-- what is on the stack where the head of a function is read, and where its body is read
+abbrev pub head_read : (name opened closed : Token) → Head → List Value
+head_read name opened closed head =
+    the.decls head.results ∷ the.token closed ∷ the.decls head.params ∷ the.token opened ∷ the.token name ∷ []
+
+abbrev pub body_read : (equal opened closed ended : Token) → List Decl × List Item → List Value
+body_read equal opened closed ended body =
+    the.token ended ∷ the.token closed ∷ item_values body.1 ∷ the.decls body.0 ∷ the.token opened ∷ the.token equal
+    ∷ []
+
+abbrev pub ReadsDecls : Parser → Parser → Result (List Decl) ParseFault → Type 0
+ReadsDecls from to (Ok ds) = (opened : Token) × (closed : Token)
+    × Leads in_parentheses_decls from [] [] to (the.token closed ∷ the.decls ds ∷ the.token opened ∷ [])
+ReadsDecls from to (Err f) = Halts in_parentheses_decls from [] f
+
+abbrev pub ReadsHead : Parser → Parser → Result Head ParseFault → Type 0
+ReadsHead from to (Ok head) = (name : Token) × (opened : Token) × (closed : Token)
+    × (name_text name ≡ head.name) × (name.from ≡ head.at)
+    × Leads function_head from [] [] to (head_read name opened closed head)
+ReadsHead from to (Err f) = Halts function_head from [] f
+
+abbrev pub ReadsBody : Parser → Parser → Result (List Decl × List Item) ParseFault → Type 0
+ReadsBody from to (Ok body) = (equal : Token) × (opened : Token) × (closed : Token) × (ended : Token)
+    × Leads function_body from [] [] to (body_read equal opened closed ended body)
+ReadsBody from to (Err f) = Halts function_body from [] f
 
 -- what the whole source goes on with between tables and functions
 abbrev pub source_rest : List Symbol

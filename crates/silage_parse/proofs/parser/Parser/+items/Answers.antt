@@ -2,8 +2,8 @@ use Rattle.std.proofs.Common.{refl, sym, ap, ◌∙◌, [], ◌∷◌, arith}
 use Rattle.std.proofs.lemmas.Result.{err_from_is_err_and}
 use Rattle.std.proofs.lemmas.List.{map-append}
 use Rattle.silage_syntax.specs.Tree.{view_item}
-use Rattle.silage_parse.specs.Private.ParseTable.{Punctuation, Expand, AfterTarget, Item_}
-use Rattle.silage_parse.specs.Private.Parsed.{item_list, loop_bounds, after_open, place_value, item_value}
+use Rattle.silage_parse.specs.Private.ParseTable.{Punctuation, Leaves, Expand, AfterTarget, Item_}
+use Rattle.silage_parse.specs.Private.Parsed.{item_list, loop_bounds, loop_body, block_end, after_open, place_value, item_value}
 use Rattle.silage_parse.proofs.Steps.{start, matches, parses, reads, does, giving, first, other, stops, stops_at, whole, further}
 use Rattle.silage_parse.proofs.Tokens.{taken_from, taken_name, then_next}
 use Rattle.silage_parse.proofs.Loops.{loop_made}
@@ -21,28 +21,36 @@ counted_loop-returns-in_err-lo t c =
     let p = err_from_is_err_and c.from_residual-in_err-lo.result c.from_residual-in_err-lo.ensures.1 in
     λ k same. rw (p.1, p.2) (stops loop_bounds _ [] _ _ (first (matches (start after_open c.args.self.now (the.token k ∷ [])) c.in_ok-index.ensures.0) refl (then_next (Punctuation punctuation.COLON ∷ []) c.in_ok-index.ensures.0 c.requires)) c.in_err-lo.ensures)
 
-pub counted_loop-returns-in_err-expect_reserved : goal.counted_loop-returns-in_err-expect_reserved
-counted_loop-returns-in_err-expect_reserved t c =
-    let p = err_from_is_err_and c.from_residual-in_err-expect_reserved.result c.from_residual-in_err-expect_reserved.ensures.1 in
-    λ k same. rw (p.1, p.2) (stops_at _ (reads loop_bounds [] _ (first (matches (start after_open c.args.self.now (the.token k ∷ [])) c.in_ok-index.ensures.0) refl (then_next (Punctuation punctuation.COLON ∷ []) c.in_ok-index.ensures.0 c.requires)) c.in_ok-lo.ensures.4) c.in_err-expect_reserved.ensures)
-
 pub counted_loop-returns-in_err-items : goal.counted_loop-returns-in_err-items
 counted_loop-returns-in_err-items t c =
     let p = err_from_is_err_and c.from_residual-in_err-items.result c.from_residual-in_err-items.ensures.1 in
-    λ k same. rw (p.1, p.2) (stops item_list _ [] _ _ (matches (reads loop_bounds [] _ (first (matches (start after_open c.args.self.now (the.token k ∷ [])) c.in_ok-index.ensures.0) refl (then_next (Punctuation punctuation.COLON ∷ []) c.in_ok-index.ensures.0 c.requires)) c.in_ok-lo.ensures.4) c.in_ok-expect_reserved.ensures) c.in_err-items.ensures)
-
-pub counted_loop-returns-in_err-expect_reserved-2 : goal.counted_loop-returns-in_err-expect_reserved-2
-counted_loop-returns-in_err-expect_reserved-2 t c =
-    let p = err_from_is_err_and c.from_residual-in_err-expect_reserved-2.result c.from_residual-in_err-expect_reserved-2.ensures.1 in
-    λ k same. rw (p.1, p.2) (stops_at _ (reads item_list [] _ (matches (reads loop_bounds [] _ (first (matches (start after_open c.args.self.now (the.token k ∷ [])) c.in_ok-index.ensures.0) refl (then_next (Punctuation punctuation.COLON ∷ []) c.in_ok-index.ensures.0 c.requires)) c.in_ok-lo.ensures.4) c.in_ok-expect_reserved.ensures) c.in_ok-items.ensures) c.in_err-expect_reserved-2.ensures)
-
-pub counted_loop-returns-in_err-expect_symbol : goal.counted_loop-returns-in_err-expect_symbol
-counted_loop-returns-in_err-expect_symbol t c =
-    let p = err_from_is_err_and c.from_residual-in_err-expect_symbol.result c.from_residual-in_err-expect_symbol.ensures.1 in
-    λ k same. rw (p.1, p.2) (stops_at _ (matches (reads item_list [] _ (matches (reads loop_bounds [] _ (first (matches (start after_open c.args.self.now (the.token k ∷ [])) c.in_ok-index.ensures.0) refl (then_next (Punctuation punctuation.COLON ∷ []) c.in_ok-index.ensures.0 c.requires)) c.in_ok-lo.ensures.4) c.in_ok-expect_reserved.ensures) c.in_ok-items.ensures) c.in_ok-expect_reserved-2.ensures) c.in_err-expect_symbol.ensures)
+    λ k same. rw (p.1, p.2) (stops loop_body _ [] _ _ (reads loop_bounds [] _ (first (matches (start after_open c.args.self.now (the.token k ∷ [])) c.in_ok-index.ensures.0) refl (then_next (Punctuation punctuation.COLON ∷ []) c.in_ok-index.ensures.0 c.requires)) c.in_ok-lo.ensures.4) c.in_err-items.ensures)
 
 pub counted_loop-returns : goal.counted_loop-returns
-counted_loop-returns t c = λ k same. giving (does (matches (matches (reads item_list [] _ (matches (reads loop_bounds [] _ (first (matches (start after_open c.args.self.now (the.token k ∷ [])) c.in_ok-index.ensures.0) refl (then_next (Punctuation punctuation.COLON ∷ []) c.in_ok-index.ensures.0 c.requires)) c.in_ok-lo.ensures.4) c.in_ok-expect_reserved.ensures) c.in_ok-items.ensures) c.in_ok-expect_reserved-2.ensures) c.in_ok-expect_symbol.ensures) (λ under. refl)) (ap (λ x. the.an_item x ∷ []) (sym (loop_made c.in_ok-index.index c.in_ok-lo.lo c.in_ok-lo.hi c.into_vec.result c.args.at c.into_vec.ensures (taken_name c.in_ok-index.ensures.0 c.in_ok-index.ensures.1) same)))
+counted_loop-returns t c =
+    let index = c.in_ok-index.ensures in
+    λ k same. giving (does (reads loop_body [] _ (reads loop_bounds [] _ (first (matches (start after_open c.args.self.now (the.token k ∷ [])) index.0) refl (then_next (Punctuation punctuation.COLON ∷ []) index.0 c.requires)) c.in_ok-lo.ensures.4) c.in_ok-items.ensures.3) (λ under. refl)) (ap (λ x. the.an_item x ∷ []) (sym (loop_made c.in_ok-index.index c.in_ok-lo.lo c.in_ok-lo.hi c.into_vec.result c.args.at c.into_vec.ensures (taken_name index.0 index.1) same)))
+
+pub loop_body-returns-in_err-expect_reserved : goal.loop_body-returns-in_err-expect_reserved
+loop_body-returns-in_err-expect_reserved t c =
+    let p = err_from_is_err_and c.from_residual.result c.from_residual.ensures.1 in
+    rw (p.1, p.2) (stops_at _ (start loop_body c.args.self.now []) c.in_err-expect_reserved.ensures)
+
+pub loop_body-returns-in_err-items : goal.loop_body-returns-in_err-items
+loop_body-returns-in_err-items t c =
+    let p = err_from_is_err_and c.from_residual-in_err-items.result c.from_residual-in_err-items.ensures.1 in
+    rw (p.1, p.2) (stops item_list _ [] _ _ (matches (start loop_body c.args.self.now []) c.in_ok-expect_reserved.ensures) c.in_err-items.ensures)
+
+pub loop_body-returns-in_err-block_end : goal.loop_body-returns-in_err-block_end
+loop_body-returns-in_err-block_end t c =
+    let p = err_from_is_err_and c.from_residual-in_err-block_end.result c.from_residual-in_err-block_end.ensures.1 in
+    rw (p.1, p.2) (stops (block_end Leaves) [] [] _ _ (reads item_list [] _ (matches (start loop_body c.args.self.now []) c.in_ok-expect_reserved.ensures) c.in_ok-items.ensures) c.in_err-block_end.ensures)
+
+pub loop_body-returns : goal.loop_body-returns
+loop_body-returns t c =
+    let opened = c.in_ok-expect_reserved.ensures in
+    let end = c.in_ok-block_end.ensures in
+    (opened.token, end.0, end.1, reads (block_end Leaves) [] _ (reads item_list [] _ (matches (start loop_body c.args.self.now []) opened) c.in_ok-items.ensures) end.2)
 
 pub item-returns-in_err-place-clause-read : goal.item-returns-in_err-place-clause-read
 item-returns-in_err-place-clause-read t c =

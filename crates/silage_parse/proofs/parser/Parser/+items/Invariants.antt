@@ -4,13 +4,16 @@ use Rattle.silage_parse.specs.Private.Parsed.{Leads, item_list, item_values}
 use Rattle.silage_parse.proofs.parser.Parser.+items.Given as goal
 
 abbrev pub decreases-items : goal.decreases-items
-decreases-items l = 3 * (length l.self.now.tokens.now - l.self.now.at) + 2
+decreases-items l = 4 * (length l.self.now.tokens.now - l.self.now.at) + 2
 
 abbrev pub decreases-item : goal.decreases-item
-decreases-item l = 3 * (length l.self.now.tokens.now - l.self.now.at) + 1
+decreases-item l = 4 * (length l.self.now.tokens.now - l.self.now.at) + 1
 
 abbrev pub decreases-counted_loop : goal.decreases-counted_loop
-decreases-counted_loop l = 3 * (length l.self.now.tokens.now - l.self.now.at) + 0
+decreases-counted_loop l = 4 * (length l.self.now.tokens.now - l.self.now.at) + 0
+
+abbrev pub decreases-loop_body : goal.decreases-loop_body
+decreases-loop_body l = 4 * (length l.self.now.tokens.now - l.self.now.at) + 3
 
 abbrev pub invariant-items-more : goal.invariant-items-more
 invariant-items-more l = Leads item_list l.fn.self [] (Expand Items_ ∷ []) l.self (item_values l.list ∷ [])
