@@ -1,6 +1,5 @@
 pub mod SpanRoles
 pub mod TokenFacts
-pub mod DeclaredLists
 pub mod Derivations
 pub mod CompleteManifests
 pub mod CompleteTypes

@@ -1,5 +1,5 @@
 -- What a primary that is no place goes on with.
-use Rattle.std.proofs.Common.{◌≡◌, List, [], ◌∷◌, ◌++◌, Option, Some, refl, true, false, Bool, Result, Ok, Err}
+use Rattle.std.proofs.Common.{◌≡◌, List, [], ◌∷◌, ◌++◌, Option, Some, refl, true, false, Bool}
 use Rattle.silage_lex.specs.declared.TokenKind.{TokenKind}
 use Rattle.silage_lex.specs.declared.TokenKind.TheVariants as kind
 use Rattle.silage_lex.specs.declared.punctuation.TheConstants as punctuation
@@ -7,11 +7,7 @@ use Rattle.silage_lex.specs.declared.keywords.TheConstants as keyword
 use Rattle.silage_syntax.specs.Grammar.{Or, truth_of}
 use Rattle.silage_parse.specs.Private.ParseTable.{Punctuation, Keyword, Inside, Symbol, Expand, Act, Chain, Primary, OtherPrimary, FixIn, Arms, cast_expr, close_expr, first_arm, number, truths, productions, keyword_of, is_one}
 use Rattle.silage_parse.specs.Private.Machine.{predict}
-use Rattle.silage_syntax.specs.declared.tree.Expr.{Expr}
-use Rattle.silage_parse.specs.declared.ParseFault.{ParseFault}
-use Rattle.silage_parse.specs.declared.parser.Parser.{Parser}
-use Rattle.silage_parse.specs.Private.Parsed.{Leads, IsParsed, ReadsParentheses, expr_value, in_parentheses, branch_value}
-use Rattle.silage_parse.proofs.Steps.{reads, does, stops}
+use Rattle.silage_parse.specs.Private.Parsed.{in_parentheses, branch_value}
 use Rattle.silage_parse.proofs.Tables.{keyword_known, punctuation_known}
 
 abbrev pub paren_row : List Symbol
@@ -32,12 +28,6 @@ to_cast k h = rw (keyword_known keyword.FIX k h) refl
 
 pub to_choice : (k : Option TokenKind) → is_one (Keyword keyword.IF ∷ []) k ≡ true → predict (productions OtherPrimary) k ≡ choice_row
 to_choice k h = rw (keyword_known keyword.IF k h) refl
-
--- an expression in parentheses is what they hold
-pub parentheses_read : {from mid : Parser} (to : Parser) (r : Result Expr ParseFault) → Leads (Expand Primary ∷ []) from [] paren_row mid []
-    → ReadsParentheses mid to r → IsParsed Primary from expr_value to r
-parentheses_read to (Ok e) l read = does (reads in_parentheses [] [] l read.2) (λ under. refl)
-parentheses_read to (Err f) l stop = stops in_parentheses _ [] [] f l stop
 
 -- a truth value is no number, and a `!` is no `-`
 pub truth_no_number : (k : Option TokenKind) {b : Bool} → truth_of k ≡ Some b → is_one number k ≡ false

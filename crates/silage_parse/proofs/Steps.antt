@@ -9,7 +9,7 @@ use Rattle.silage_parse.specs.Private.ParseTable.{Terminal, Effect, Value, Symbo
 use Rattle.silage_parse.specs.Private.ParseTable as the
 use Rattle.silage_parse.specs.Private.Machine.{Outcome, fault, Runs, allowed, counted, pushed, predict, expands, acts, made}
 use Rattle.silage_parse.specs.Private.Machine as machine
-use Rattle.silage_parse.specs.Private.Parsed.{counts_of, next, RunsFrom, Leads, Halts, Matches, IsRead, IsCounted}
+use Rattle.silage_parse.specs.Private.Parsed.{counts_of, next, RunsFrom, Leads, Halts, Matches, IsRead, ReadsBetween, IsCounted}
 
 -- nothing is read yet
 pub start : (ss : List Symbol) (from : Parser) (vs : List Value) → Leads ss from vs ss from vs
@@ -151,3 +151,10 @@ pub further : {A : Type 0} (ss : List Symbol) (n : ℕ) (mid : Parser) (vs : Lis
     (r : Result A ParseFault) → n < mid.at → IsRead ss mid vs values to r → OnOk r (n < to.at)
 further ss n mid vs values to (Ok x) less g = let order = g.order in omega arith
 further ss n mid vs values to (Err f) less g = tt
+
+-- what is between two tokens, which an action takes off
+pub between : {A : Type 0} (ps : List Symbol) (value : A → Value) (a : Action) {ss : List Symbol} {from mid : Parser} {vs : List Value} (to : Parser)
+    (r : Result A ParseFault) → ((opened closed : Token) (x : A) (under : List Value) → made a (the.token closed ∷ value x ∷ the.token opened ∷ under) ≡ value x ∷ under)
+    → Leads ss from vs (ps ++ Act a ∷ []) mid [] → ReadsBetween ps value mid to r → IsRead ss from vs (λ x. value x ∷ []) to r
+between ps value a to (Ok x) same l read = does (reads ps [] [] l read.2) (λ under. same read.0 read.1 x under)
+between ps value a to (Err f) same l stop = stops ps _ [] [] f l stop

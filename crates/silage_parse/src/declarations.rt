@@ -1,10 +1,10 @@
 //! Declarations: names with their dims, types, and numbers with a sign.
 
-ghost use Rattle.std.specs.Prelude.{◌≡◌, [], ◌∷◌, ◌++◌, map, OnOk};
+ghost use Rattle.std.specs.Prelude.{◌<◌, ◌≡◌, [], ◌∷◌, ◌++◌, map, OnOk};
 ghost use Rattle.silage_syntax.specs.Grammar.{dim as the_dim, typed as typed_decl};
-ghost use Rattle.silage_parse.specs.Private.ParseTable.{Dims, Name_, Type_, Decl_, Results, Signed, Words};
+ghost use Rattle.silage_parse.specs.Private.ParseTable.{Expand, MoreDecls, MoreWords, MoreNames, Dims, Name_, Type_, Decl_, Results, Signed, Words};
 ghost use Rattle.silage_parse.specs.Private.ParseTable as the;
-ghost use Rattle.silage_parse.specs.Private.Parsed.{IsParsed, IsRead, ReadsDecls, declared_value, declared_values, view_declared, name_list, decl_list, word_list, local_lines};
+ghost use Rattle.silage_parse.specs.Private.Parsed.{IsParsed, IsRead, ReadsBetween, ReadsDim, decls_in_parentheses, words_in_parentheses, type_in_line, local_line, declared_value, declared_values, view_declared, name_list, decl_list, word_list, local_lines};
 
 use crate::ParseFault;
 use crate::parser::{Effect, Parser};
@@ -58,18 +58,22 @@ impl Parser<'_> {
         if !self.is_symbol(punctuation::LEFT_BRACKET) {
             return Ok(list);
         }
-        self.advance(Effect::Outside)?;
-        let first = self.whole(Effect::Outside)?;
-        self.expect_symbol(punctuation::RIGHT_BRACKET, Effect::Outside)?;
-        list.push(dim(first))?;
+        list.push(self.dim()?)?;
         if !self.is_symbol(punctuation::LEFT_BRACKET) {
             return Ok(list);
         }
-        self.advance(Effect::Outside)?;
-        let second = self.whole(Effect::Outside)?;
-        self.expect_symbol(punctuation::RIGHT_BRACKET, Effect::Outside)?;
-        list.push(dim(second))?;
+        list.push(self.dim()?)?;
         Ok(list)
+    }
+
+    /// Reads a dim in brackets.
+    fn dim(&mut self) -> Result<u32, ParseFault>
+        ensures { ReadsDim self.old self.new result }
+    {
+        self.expect_symbol(punctuation::LEFT_BRACKET, Effect::Outside)?;
+        let size = self.whole(Effect::Outside)?;
+        self.expect_symbol(punctuation::RIGHT_BRACKET, Effect::Outside)?;
+        Ok(dim(size))
     }
 
     /// Reads a declared name with its dims.
@@ -109,11 +113,19 @@ impl Parser<'_> {
     {
         let mut list = List::new(self.alloc);
         list.push(self.declared_name()?)?;
+        self.more_names(&mut list)?;
+        Ok(list)
+    }
+
+    /// Reads the declared names after the first one onto `list`.
+    fn more_names(&mut self, list: &mut List<Declared>) -> Result<(), ParseFault>
+        ensures { IsRead (Expand MoreNames ∷ []) self.old (declared_values list.old ∷ []) (λ x. declared_values list.new ∷ []) self.new result }
+    {
         'more: while self.is_symbol(punctuation::COMMA) {
             self.advance(Effect::Outside)?;
             list.push(self.declared_name()?)?;
         }
-        Ok(list)
+        Ok(())
     }
 
     /// Reads declarations with commas between them.
@@ -122,16 +134,24 @@ impl Parser<'_> {
     {
         let mut list = List::new(self.alloc);
         list.push(self.decl()?)?;
+        self.more_decls(&mut list)?;
+        Ok(list)
+    }
+
+    /// Reads the declarations after the first one onto `list`.
+    fn more_decls(&mut self, list: &mut List<Decl>) -> Result<(), ParseFault>
+        ensures { IsRead (Expand MoreDecls ∷ []) self.old (the.decls list.old ∷ []) (λ x. the.decls list.new ∷ []) self.new result }
+    {
         'more: while self.is_symbol(punctuation::COMMA) {
             self.advance(Effect::Outside)?;
             list.push(self.decl()?)?;
         }
-        Ok(list)
+        Ok(())
     }
 
     /// Reads declarations in parentheses.
     pub fn decls_in_parentheses(&mut self) -> Result<List<Decl>, ParseFault>
-        ensures { ReadsDecls self.old self.new result }
+        ensures { ReadsBetween decls_in_parentheses (λ ds. the.decls ds) self.old self.new result }
     {
         self.expect_symbol(punctuation::LEFT_PAREN, Effect::Outside)?;
         let list = self.decls()?;
@@ -157,14 +177,32 @@ impl Parser<'_> {
     {
         let mut list = List::new(self.alloc);
         'lines: while self.is_reserved(keywords::VAR) {
-            self.advance(Effect::Outside)?;
-            let names = self.declared_names()?;
-            self.expect_symbol(punctuation::COLON, Effect::Outside)?;
-            let ty = self.signal_type()?;
-            self.expect_symbol(punctuation::SEMICOLON, Effect::Outside)?;
-            add_typed(&mut list, names, ty)?;
+            self.local_line(&mut list)?;
         }
         Ok(list)
+    }
+
+    /// Reads a line of locals onto `list`.
+    fn local_line(&mut self, list: &mut List<Decl>) -> Result<(), ParseFault>
+        ensures read { IsRead local_line self.old (the.decls list.old ∷ []) (λ x. the.decls list.new ∷ []) self.new
+            result }
+        ensures advances { OnOk result (self.old.at < self.new.at) }
+    {
+        self.expect_reserved(keywords::VAR, Effect::Outside)?;
+        let names = self.declared_names()?;
+        let ty = self.type_in_line()?;
+        add_typed(list, names, ty)?;
+        Ok(())
+    }
+
+    /// Reads the type in a line of locals, between `:` and `;`.
+    fn type_in_line(&mut self) -> Result<SigType, ParseFault>
+        ensures { ReadsBetween type_in_line (λ ty. the.ty ty) self.old self.new result }
+    {
+        self.expect_symbol(punctuation::COLON, Effect::Outside)?;
+        let ty = self.signal_type()?;
+        self.expect_symbol(punctuation::SEMICOLON, Effect::Outside)?;
+        Ok(ty)
     }
 
     /// Reads a number with its sign.
@@ -199,10 +237,28 @@ impl Parser<'_> {
     {
         let mut list = List::new(self.alloc);
         list.push(self.signed()?)?;
+        self.more_numbers(&mut list)?;
+        Ok(list)
+    }
+
+    /// Reads the numbers after the first one onto `list`.
+    fn more_numbers(&mut self, list: &mut List<Lit>) -> Result<(), ParseFault>
+        ensures { IsRead (Expand MoreWords ∷ []) self.old (the.lits list.old ∷ []) (λ x. the.lits list.new ∷ []) self.new result }
+    {
         'more: while self.is_symbol(punctuation::COMMA) {
             self.advance(Effect::Outside)?;
             list.push(self.signed()?)?;
         }
+        Ok(())
+    }
+
+    /// Reads numbers in parentheses.
+    fn numbers_in_parentheses(&mut self) -> Result<List<Lit>, ParseFault>
+        ensures { ReadsBetween words_in_parentheses (λ ls. the.lits ls) self.old self.new result }
+    {
+        self.expect_symbol(punctuation::LEFT_PAREN, Effect::Outside)?;
+        let list = self.numbers()?;
+        self.expect_symbol(punctuation::RIGHT_PAREN, Effect::Outside)?;
         Ok(list)
     }
 
@@ -211,10 +267,7 @@ impl Parser<'_> {
         ensures { IsParsed Words self.old (λ ls. the.lits ls) self.new result }
     {
         if self.is_symbol(punctuation::LEFT_PAREN) {
-            self.advance(Effect::Outside)?;
-            let list = self.numbers()?;
-            self.expect_symbol(punctuation::RIGHT_PAREN, Effect::Outside)?;
-            return Ok(list);
+            return self.numbers_in_parentheses();
         }
         let mut list = List::new(self.alloc);
         list.push(self.signed()?)?;

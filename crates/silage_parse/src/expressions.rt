@@ -5,7 +5,7 @@ ghost use Rattle.silage_syntax.specs.Tree.{Expr as TreeExpr};
 ghost use Rattle.silage_syntax.specs.Grammar.{Or, row, shift_operator as the_shift_operator, truth_of};
 ghost use Rattle.silage_parse.specs.Private.ParseTable.{Punctuation, Keyword, AName, Chain, Shift, Unary, Primary, OtherPrimary, Arms, Expand, number, is_one};
 ghost use Rattle.silage_parse.specs.Private.ParseTable as the;
-ghost use Rattle.silage_parse.specs.Private.Parsed.{next, start_of, IsParsed, IsRead, ReadsParentheses, ReadsBranchValue, expr_value, binary_value, branches_value, choice_value, choice_end, shifted};
+ghost use Rattle.silage_parse.specs.Private.Parsed.{next, start_of, IsParsed, IsRead, ReadsBetween, in_parentheses, ReadsBranchValue, expr_value, binary_value, branches_value, choice_value, choice_end, shifted};
 ghost use Rattle.silage_parse.specs.Private.Precedence.{rank as rank_of, precedence_of, operation, operated, right_operand, binary_operators, binary_operator as the_binary_operator, IsBetween, NoneBetween, tightest_after};
 ghost use Rattle.silage_lex.specs.declared.Token.{Token as AToken};
 ghost use Rattle.silage_lex.specs.declared.punctuation.TheConstants as punctuation;
@@ -309,7 +309,7 @@ impl Parser<'_> {
     /// Reads an expression in parentheses.
     #[cycle(expressions)]
     fn parenthesised(&mut self) -> Result<Expr, ParseFault>
-        ensures { ReadsParentheses self.old self.new result }
+        ensures { ReadsBetween in_parentheses expr_value self.old self.new result }
     {
         self.expect_symbol(punctuation::LEFT_PAREN, Effect::Inside)?;
         let inner = self.expression()?;
@@ -354,7 +354,7 @@ impl Parser<'_> {
     {
         let at = self.start();
         let name = self.name(Effect::Inside)?;
-        let subs = self.subscripts()?;
+        let subs = self.subscripts(Effect::Inside, Effect::Inside)?;
         let delay = self.delay()?;
         let place = Place { name, at, subs };
         Ok(Expr::Read { place, delay })

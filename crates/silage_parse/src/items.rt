@@ -3,9 +3,9 @@
 ghost use Rattle.std.specs.Prelude.{◌≡◌, ◌+◌, ◌<◌, [], ◌∷◌, true, false, length, IsTrue, OnOk};
 ghost use Rattle.silage_lex.specs.declared.Token.{Token as AToken};
 ghost use Rattle.silage_lex.specs.declared.punctuation.TheConstants as punctuation;
-ghost use Rattle.silage_parse.specs.Private.ParseTable.{AName, Punctuation, is_one, Args, TargetSubs, Target, InitialValue, RightSide, AfterTarget, Item_, Expand};
+ghost use Rattle.silage_parse.specs.Private.ParseTable.{MoreTargets, MoreArgs, AName, Punctuation, is_one, Args, Target, InitialValue, RightSide, AfterTarget, Item_, Expand};
 ghost use Rattle.silage_parse.specs.Private.ParseTable as the;
-ghost use Rattle.silage_parse.specs.Private.Parsed.{effect as effect_of, ReadsBlockEnd, ReadsLoopBody, next, later, IsParsed, IsRead, ReadsCallEnd, ReadsBounds, is_called, subs_value, place_value, place_values, expr_values, item_value, item_values, place_list, item_list, initial_end, after_open};
+ghost use Rattle.silage_parse.specs.Private.Parsed.{effect as effect_of, ReadsBlockEnd, ReadsLoopBody, next, later, IsParsed, IsRead, ReadsCallEnd, ReadsBounds, is_called, place_value, place_values, expr_values, item_value, item_values, place_list, item_list, initial_end, after_open};
 
 use crate::ParseFault;
 use crate::parser::{Effect, Parser};
@@ -15,24 +15,6 @@ use silage_syntax::{Expr, Item, Lit, Manifest, Place};
 use std::alloc::{AllocError, AllocFailed};
 
 impl Parser<'_> {
-    /// Reads the subscripts of a place on the left: none, one or two.
-    fn target_subscripts(&mut self) -> Result<List<Manifest>, ParseFault>
-        ensures { IsParsed TargetSubs self.old subs_value self.new result }
-    {
-        if !self.is_symbol(punctuation::LEFT_BRACKET) {
-            return Ok(List::new(self.alloc));
-        }
-        let first = self.subscript(Effect::Begins, Effect::Outside)?;
-        let mut subs = List::with_capacity(self.alloc, 1)?;
-        subs.push(first)?;
-        if !self.is_symbol(punctuation::LEFT_BRACKET) {
-            return Ok(subs);
-        }
-        let second = self.subscript(Effect::Begins, Effect::Outside)?;
-        subs.push(second)?;
-        Ok(subs)
-    }
-
     /// Reads a place on the left.
     fn target(&mut self) -> Result<Place, ParseFault>
         ensures read { IsParsed Target self.old place_value self.new result }
@@ -40,7 +22,7 @@ impl Parser<'_> {
     {
         let at = self.start();
         let name = self.name(Effect::Outside)?;
-        let subs = self.target_subscripts()?;
+        let subs = self.subscripts(Effect::Begins, Effect::Outside)?;
         Ok(Place { name, at, subs })
     }
 
@@ -50,11 +32,19 @@ impl Parser<'_> {
     {
         let mut list = List::new(self.alloc);
         list.push(self.target()?)?;
+        self.more_targets(&mut list)?;
+        Ok(list)
+    }
+
+    /// Reads the places on the left after the first one onto `list`.
+    fn more_targets(&mut self, list: &mut List<Place>) -> Result<(), ParseFault>
+        ensures { IsRead (Expand MoreTargets ∷ []) self.old (place_values list.old ∷ []) (λ x. place_values list.new ∷ []) self.new result }
+    {
         'more: while self.is_symbol(punctuation::COMMA) {
             self.advance(Effect::Outside)?;
             list.push(self.target()?)?;
         }
-        Ok(list)
+        Ok(())
     }
 
     /// Reads the arguments of a call, with commas between them.
@@ -63,11 +53,19 @@ impl Parser<'_> {
     {
         let mut list = List::new(self.alloc);
         list.push(self.expression()?)?;
+        self.more_arguments(&mut list)?;
+        Ok(list)
+    }
+
+    /// Reads the arguments after the first one onto `list`.
+    fn more_arguments(&mut self, list: &mut List<Expr>) -> Result<(), ParseFault>
+        ensures { IsRead (Expand MoreArgs ∷ []) self.old (expr_values list.old ∷ []) (λ x. expr_values list.new ∷ []) self.new result }
+    {
         'more: while self.is_symbol(punctuation::COMMA) {
             self.advance(Effect::Begins)?;
             list.push(self.expression()?)?;
         }
-        Ok(list)
+        Ok(())
     }
 
     /// Reads the end of a call after the name of its function: the arguments in parentheses, and `;`.

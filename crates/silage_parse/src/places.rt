@@ -1,7 +1,7 @@
 //! Places that are read: their subscripts and their delays.
 
-ghost use Rattle.silage_parse.specs.Private.ParseTable.{Subs, Delay};
-ghost use Rattle.silage_parse.specs.Private.Parsed.{effect as effect_of, IsParsed, ReadsSubscript, subs_value, delay_value};
+ghost use Rattle.silage_parse.specs.Private.ParseTable.{Nonterminal, Delay};
+ghost use Rattle.silage_parse.specs.Private.Parsed.{effect as effect_of, IsParsed, ReadsBetween, AreSubscripts, in_brackets, manifest_value, subs_value, delay_value};
 
 use crate::ParseFault;
 use crate::parser::{Effect, Parser};
@@ -12,8 +12,8 @@ use std::alloc::{AllocError, AllocFailed};
 
 impl Parser<'_> {
     /// Reads a subscript in brackets, which have these effects.
-    pub fn subscript(&mut self, before: Effect, after: Effect) -> Result<Manifest, ParseFault>
-        ensures { ReadsSubscript (effect_of before) (effect_of after) self.old self.new result }
+    fn subscript(&mut self, before: Effect, after: Effect) -> Result<Manifest, ParseFault>
+        ensures { ReadsBetween (in_brackets (effect_of before) (effect_of after)) manifest_value self.old self.new result }
     {
         self.expect_symbol(punctuation::LEFT_BRACKET, before)?;
         let inner = self.manifest()?;
@@ -21,20 +21,25 @@ impl Parser<'_> {
         Ok(inner)
     }
 
-    /// Reads the subscripts of a place that is read: none, one or two.
-    pub fn subscripts(&mut self) -> Result<List<Manifest>, ParseFault>
-        ensures { IsParsed Subs self.old subs_value self.new result }
+    /// Reads the subscripts of a place: none, one or two, whose brackets have these effects.
+    pub fn subscripts(
+        &mut self,
+        before: Effect,
+        after: Effect,
+    ) -> Result<List<Manifest>, ParseFault>
+        ensures { (subs second : Nonterminal) → AreSubscripts subs second (effect_of before) (effect_of after)
+            → IsParsed subs self.old subs_value self.new result }
     {
         if !self.is_symbol(punctuation::LEFT_BRACKET) {
             return Ok(List::new(self.alloc));
         }
-        let first = self.subscript(Effect::Inside, Effect::Inside)?;
+        let first = self.subscript(before, after)?;
         let mut subs = List::with_capacity(self.alloc, 1)?;
         subs.push(first)?;
         if !self.is_symbol(punctuation::LEFT_BRACKET) {
             return Ok(subs);
         }
-        let second = self.subscript(Effect::Inside, Effect::Inside)?;
+        let second = self.subscript(before, after)?;
         subs.push(second)?;
         Ok(subs)
     }

@@ -3,14 +3,15 @@
 ghost use Rattle.std.specs.Prelude.{◌≡◌, ◌<◌, ◌^◌, [], ◌∷◌, List as Listed, length, OnOk};
 ghost use Rattle.silage_syntax.specs.Tree.{Top as TreeTop};
 ghost use Rattle.silage_parse.specs.Private.ParseTable as the;
-ghost use Rattle.silage_parse.specs.Private.Parsed.{IsRead, ReadsHead, ReadsBody, ReadsTop, IsRun, table_row, function_row, with_table, with_function};
+ghost use Rattle.silage_parse.specs.Private.Parsed.{IsRead, ReadsContent, ReadsHead, ReadsBody, ReadsTop, IsRun, table_row, function_row, with_table, with_function};
 
 use crate::ParseFault;
 use crate::declarations::Declared;
 use crate::parser::{Effect, Parser};
+use fix_word::FixType;
 use lists::{List, Name};
 use silage_lex::{Token, keywords, punctuation};
-use silage_syntax::{ConstDef, Decl, Func, Item, Program, Top};
+use silage_syntax::{ConstDef, Decl, Func, Item, Lit, Program, Top};
 use std::alloc::{AllocError, AllocFailed, Global};
 
 /// What a function has before its `=`.
@@ -31,11 +32,7 @@ impl Parser<'_> {
     {
         self.expect_reserved(keywords::CONST, Effect::Outside)?;
         let Declared { name, at, dims } = self.declared_name()?;
-        self.expect_symbol(punctuation::COLON, Effect::Outside)?;
-        let ty = self.fix_type(Effect::Outside)?;
-        self.expect_symbol(punctuation::EQUAL, Effect::Outside)?;
-        let words = self.words()?;
-        self.expect_symbol(punctuation::SEMICOLON, Effect::Outside)?;
+        let (ty, words) = self.content()?;
         Ok(ConstDef {
             name,
             at,
@@ -43,6 +40,18 @@ impl Parser<'_> {
             ty,
             words,
         })
+    }
+
+    /// Reads the content of a table after its name: its type and its numbers.
+    fn content(&mut self) -> Result<(FixType, List<Lit>), ParseFault>
+        ensures { ReadsContent self.old self.new result }
+    {
+        self.expect_symbol(punctuation::COLON, Effect::Outside)?;
+        let ty = self.fix_type(Effect::Outside)?;
+        self.expect_symbol(punctuation::EQUAL, Effect::Outside)?;
+        let words = self.words()?;
+        self.expect_symbol(punctuation::SEMICOLON, Effect::Outside)?;
+        Ok((ty, words))
     }
 
     /// Reads a function.

@@ -1,6 +1,8 @@
 -- What the methods of the parser ensure, said of the run of the LL(1) machine.
 use Rattle.std.specs.Prelude.{Box, ◌≡◌, ℕ, ◌+◌, ◌≤◌, ◌&&◌, Bool, true, List, [], ◌∷◌, ◌++◌, map, slice_get, Option, Some, None, Result, Ok, Err}
 use Rattle.fix_word.specs.declared.types.Mode.{Mode}
+use Rattle.fix_word.specs.declared.types.FixType.{FixType}
+use Rattle.silage_syntax.specs.declared.tree.Lit.{Lit}
 use Rattle.silage_lex.specs.declared.Token.{Token}
 use Rattle.silage_lex.specs.declared.TokenKind.{TokenKind}
 use Rattle.silage_lex.specs.declared.TokenKind.TheVariants as kind
@@ -18,7 +20,7 @@ use Rattle.silage_syntax.specs.declared.tree.Top.{Top as RustTop}
 use Rattle.silage_syntax.specs.declared.tree.Program.{Program}
 use Rattle.silage_syntax.specs.Tree as tree
 use Rattle.silage_syntax.specs.Tree.{Top, table, function, view, view_manifest, view_delay, view_place, view_expr, view_item, view_func, view_top}
-use Rattle.silage_syntax.specs.Grammar.{Or, Declared, fix_type, kind_at, from_at, mode_of, number_of}
+use Rattle.silage_syntax.specs.Grammar.{Or, dim, Declared, fix_type, kind_at, from_at, mode_of, number_of}
 use Rattle.silage_parse.specs.declared.ParseFault.{ParseFault}
 use Rattle.silage_parse.specs.declared.ParseFault.TheVariants.{Syntax, Deep, Memory}
 use Rattle.silage_parse.specs.declared.parser.Counts.{Counts}
@@ -28,7 +30,7 @@ use Rattle.silage_parse.specs.declared.parser.Parser.{Parser}
 use Rattle.silage_parse.specs.declared.program.Head.{Head}
 use Rattle.silage_syntax.specs.declared.tree.Decl.{Decl}
 use Rattle.silage_parse.specs.declared.declarations.Declared.{Declared as RustDeclared}
-use Rattle.silage_parse.specs.Private.ParseTable.{Chain, shift_operators, add_shift, choose_expr, Terminal, Punctuation, Keyword, AName, AWhole, End, is_one, Effect, Outside, Begins, Inside, Enters, Leaves, Value, Symbol, Match, Expand, Act, modes, punctuation_of, keyword_of, Nonterminal, number, Decl_, MoreDecls, first_decl, Name_, MoreNames, first_name, Locals, no_locals, Signed, MoreWords, first_word, Target, MoreTargets, first_place, Args, Manifest_, ManifestPrimary, InitialValue, is_initial, AfterOpenName, Items_, no_items, FixIn, Words, add_table, Results, add_function, Tops}
+use Rattle.silage_parse.specs.Private.ParseTable.{productions, if_punctuation, no_subs, two_subs, one_sub, add_locals, Type_, Chain, shift_operators, add_shift, choose_expr, Terminal, Punctuation, Keyword, AName, AWhole, End, is_one, Effect, Outside, Begins, Inside, Enters, Leaves, Value, Symbol, Match, Expand, Act, modes, punctuation_of, keyword_of, Nonterminal, number, Decl_, MoreDecls, first_decl, Name_, MoreNames, first_name, Locals, no_locals, Signed, MoreWords, first_word, Target, MoreTargets, first_place, Args, Manifest_, ManifestPrimary, InitialValue, is_initial, AfterOpenName, Items_, no_items, FixIn, Words, add_table, Results, add_function, Tops}
 use Rattle.silage_parse.specs.Private.ParseTable as the
 use Rattle.silage_parse.specs.Private.Machine.{branches_of, name_text, whole_value, Count, allowed, counted, Outcome, done, fault, Runs, RunsTo}
 
@@ -97,6 +99,12 @@ IsRead ss from vs values to (Err f) = Halts ss from vs f
 -- it reads one nonterminal
 abbrev pub IsParsed : {A : Type 0} → Nonterminal → Parser → (A → Value) → Parser → Result A ParseFault → Type 0
 IsParsed p from value to result = IsRead (Expand p ∷ []) from [] (λ x. value x ∷ []) to result
+
+-- it reads what is between two tokens
+abbrev pub ReadsBetween : {A : Type 0} → List Symbol → (A → Value) → Parser → Parser → Result A ParseFault → Type 0
+ReadsBetween ss value from to (Ok x) = (opened : Token) × (closed : Token)
+    × Leads ss from [] [] to (the.token closed ∷ value x ∷ the.token opened ∷ [])
+ReadsBetween ss value from to (Err f) = Halts ss from [] f
 
 -- the next token is one of these, and the parser goes past it
 pub record Matches (ks : List Terminal) (e : Effect) (from to : Parser) : Type 0 where
@@ -181,10 +189,12 @@ in_brackets before after =
     punctuation_of punctuation.LEFT_BRACKET before ∷ Expand Manifest_ ∷ punctuation_of punctuation.RIGHT_BRACKET after
     ∷ []
 
-abbrev pub ReadsSubscript : Effect → Effect → Parser → Parser → Result RustManifest ParseFault → Type 0
-ReadsSubscript before after from to (Ok m) = (opened : Token) × (closed : Token)
-    × Leads (in_brackets before after) from [] [] to (the.token closed ∷ manifest_value m ∷ the.token opened ∷ [])
-ReadsSubscript before after from to (Err f) = Halts (in_brackets before after) from [] f
+-- none, one or two of these are what the nonterminal stands for
+pub record AreSubscripts (subs second : Nonterminal) (before after : Effect) : Type 0 where
+  pub none : productions subs ≡ if_punctuation punctuation.LEFT_BRACKET
+      (in_brackets before after ++ Expand second ∷ []) (Act no_subs ∷ [])
+  pub one : productions second ≡ if_punctuation punctuation.LEFT_BRACKET
+      (in_brackets before after ++ Act two_subs ∷ []) (Act one_sub ∷ [])
 
 -- DECLARATIONS
 
@@ -207,8 +217,34 @@ decl_list = Expand Decl_ ∷ Act first_decl ∷ Expand MoreDecls ∷ []
 abbrev pub word_list : List Symbol
 word_list = Expand Signed ∷ Act first_word ∷ Expand MoreWords ∷ []
 
+abbrev pub decls_in_parentheses : List Symbol
+decls_in_parentheses =
+    punctuation_of punctuation.LEFT_PAREN Outside ∷ decl_list ++ punctuation_of punctuation.RIGHT_PAREN Outside ∷ []
+
+abbrev pub words_in_parentheses : List Symbol
+words_in_parentheses =
+    punctuation_of punctuation.LEFT_PAREN Outside ∷ word_list ++ punctuation_of punctuation.RIGHT_PAREN Outside ∷ []
+
+abbrev pub type_in_line : List Symbol
+type_in_line =
+    punctuation_of punctuation.COLON Outside ∷ Expand Type_ ∷ punctuation_of punctuation.SEMICOLON Outside ∷ []
+
+abbrev pub local_line : List Symbol
+local_line = keyword_of keyword.VAR Outside ∷ name_list ++ type_in_line ++ Act add_locals ∷ []
+
 abbrev pub local_lines : List Symbol
 local_lines = Act no_locals ∷ Expand Locals ∷ []
+
+-- a dim in brackets
+abbrev pub dim_in_brackets : List Symbol
+dim_in_brackets =
+    punctuation_of punctuation.LEFT_BRACKET Outside ∷ Match (AWhole ∷ []) Outside
+    ∷ punctuation_of punctuation.RIGHT_BRACKET Outside ∷ []
+
+abbrev pub ReadsDim : Parser → Parser → Result ℕ ParseFault → Type 0
+ReadsDim from to (Ok n) = (opened : Token) × (size : Token) × (closed : Token) × (dim (whole_value size) ≡ n)
+    × Leads dim_in_brackets from [] [] to (the.token closed ∷ the.token size ∷ the.token opened ∷ [])
+ReadsDim from to (Err f) = Halts dim_in_brackets from [] f
 
 -- EXPRESSIONS
 
@@ -233,11 +269,6 @@ branch_value = punctuation_of punctuation.ARROW Inside ∷ Expand (Chain Or) ∷
 
 abbrev pub choice_end : List Symbol
 choice_end = keyword_of keyword.FI Inside ∷ Act choose_expr ∷ []
-
-abbrev pub ReadsParentheses : Parser → Parser → Result Expr ParseFault → Type 0
-ReadsParentheses from to (Ok e) = (opened : Token) × (closed : Token)
-    × Leads in_parentheses from [] [] to (the.token closed ∷ expr_value e ∷ the.token opened ∷ [])
-ReadsParentheses from to (Err f) = Halts in_parentheses from [] f
 
 abbrev pub ReadsBranchValue : Parser → Parser → Result Expr ParseFault → Type 0
 ReadsBranchValue from to (Ok e) = (arrow : Token)
@@ -333,20 +364,29 @@ ReadsBounds from end (Err f) = Halts loop_bounds from [] f
 
 -- THE WHOLE SOURCE
 
-abbrev pub table_row : List Symbol
-table_row =
-    keyword_of keyword.CONST Outside ∷ Expand Name_ ∷ punctuation_of punctuation.COLON Outside
-    ∷ Expand (FixIn Outside)
-    ∷ punctuation_of punctuation.EQUAL Outside ∷ Expand Words ∷ punctuation_of punctuation.SEMICOLON Outside
-    ∷ Act add_table ∷ []
+-- what a table has after its name
+abbrev pub table_content : List Symbol
+table_content =
+    punctuation_of punctuation.COLON Outside ∷ Expand (FixIn Outside) ∷ punctuation_of punctuation.EQUAL Outside
+    ∷ Expand Words
+    ∷ punctuation_of punctuation.SEMICOLON Outside ∷ []
 
-abbrev pub in_parentheses_decls : List Symbol
-in_parentheses_decls =
-    punctuation_of punctuation.LEFT_PAREN Outside ∷ decl_list ++ punctuation_of punctuation.RIGHT_PAREN Outside ∷ []
+abbrev pub table_row : List Symbol
+table_row = keyword_of keyword.CONST Outside ∷ Expand Name_ ∷ table_content ++ Act add_table ∷ []
+
+-- what is on the stack where the content of a table is read, whose type begins at this byte
+abbrev pub content_read : (colon equal ended : Token) → (at : ℕ) → FixType × List Lit → List Value
+content_read colon equal ended at content =
+    the.token ended ∷ the.lits content.1 ∷ the.token equal ∷ the.fix at content.0 ∷ the.token colon ∷ []
+
+abbrev pub ReadsContent : Parser → Parser → Result (FixType × List Lit) ParseFault → Type 0
+ReadsContent from to (Ok content) = (colon : Token) × (equal : Token) × (ended : Token) × (at : ℕ)
+    × Leads table_content from [] [] to (content_read colon equal ended at content)
+ReadsContent from to (Err f) = Halts table_content from [] f
 
 -- a function has a head, which are its name, its parameters and its results, and a body
 abbrev pub function_head : List Symbol
-function_head = Match (AName ∷ []) Outside ∷ in_parentheses_decls ++ Expand Results ∷ []
+function_head = Match (AName ∷ []) Outside ∷ decls_in_parentheses ++ Expand Results ∷ []
 
 abbrev pub function_body : List Symbol
 function_body =
@@ -365,11 +405,6 @@ abbrev pub body_read : (equal opened closed ended : Token) → List Decl × List
 body_read equal opened closed ended body =
     the.token ended ∷ the.token closed ∷ item_values body.1 ∷ the.decls body.0 ∷ the.token opened ∷ the.token equal
     ∷ []
-
-abbrev pub ReadsDecls : Parser → Parser → Result (List Decl) ParseFault → Type 0
-ReadsDecls from to (Ok ds) = (opened : Token) × (closed : Token)
-    × Leads in_parentheses_decls from [] [] to (the.token closed ∷ the.decls ds ∷ the.token opened ∷ [])
-ReadsDecls from to (Err f) = Halts in_parentheses_decls from [] f
 
 abbrev pub ReadsHead : Parser → Parser → Result Head ParseFault → Type 0
 ReadsHead from to (Ok head) = (name : Token) × (opened : Token) × (closed : Token)

@@ -3,15 +3,15 @@ use Rattle.std.proofs.lemmas.Result.{err_from_is_err_and}
 use Rattle.std.proofs.lemmas.List.{map-append}
 use Rattle.silage_syntax.specs.Tree.{view_expr}
 use Rattle.silage_syntax.specs.Grammar.{number_of, shift_operator}
-use Rattle.silage_parse.specs.Private.ParseTable.{Arms, Expand, Shift, Unary, Primary, OtherPrimary, Punctuation, shift_operators}
+use Rattle.silage_parse.specs.Private.ParseTable.{close_expr, Arms, Expand, Shift, Unary, Primary, OtherPrimary, Punctuation, shift_operators}
 use Rattle.silage_parse.specs.Private.Parsed.{next, expr_value, view_branch, branches_value, branch_value, choice_value, choice_end, in_parentheses, shifted}
 use Rattle.silage_parse.specs.Private.Precedence.{precedence_of, operated, infixes, operation}
-use Rattle.silage_parse.proofs.Steps.{start, matches, parses, reads, does, giving, only, first, second, other, other_of_two, predicts, stops, stops_at, whole, computes}
+use Rattle.silage_parse.proofs.Steps.{start, matches, parses, reads, does, giving, only, first, second, other, other_of_two, predicts, stops, stops_at, whole, computes, between}
 use Rattle.silage_parse.proofs.Tokens.{taken_from, taken_as, is_a_shift, no_shift, no_truth}
 use Rattle.silage_parse.proofs.PrecedenceClimbing.{begins, is_infix, operator_is, operator_of, climbs, climbed, joined}
 use Rattle.silage_parse.proofs.Choices.{view_Choose, branch_read}
 use Rattle.silage_parse.specs.Private.ParseTable as the
-use Rattle.silage_parse.proofs.Primaries.{parentheses_read, paren_row, cast_row, choice_row, to_paren, to_cast, to_choice, bang_no_minus}
+use Rattle.silage_parse.proofs.Primaries.{paren_row, cast_row, choice_row, to_paren, to_cast, to_choice, bang_no_minus}
 use Rattle.silage_lex.specs.declared.punctuation.TheConstants as punctuation
 use Rattle.silage_parse.proofs.parser.Parser.+expressions.Goals as goal
 
@@ -136,7 +136,7 @@ shift-shifts-preserved t c = reads shifted (expr_value c.shifts.operand ∷ []) 
 pub primary-returns : goal.primary-returns
 primary-returns t c =
     let to = to_paren (next c.args.self.now) (sym c.if-is_number.ensures.value) (no_truth (next c.args.self.now) (sym c.in_default.ensures.value)) (sym c.if-is_reserved.ensures.value) (sym c.if-is_reserved-2.ensures.value) in
-    parentheses_read _ c.parenthesised.result (predicts paren_row (other (start (Expand Primary ∷ []) c.args.self.now []) refl (sym c.if-is_name.ensures.value)) to) c.parenthesised.ensures
+    between in_parentheses expr_value close_expr _ c.parenthesised.result (λ opened closed x under. refl) (predicts paren_row (other (start (Expand Primary ∷ []) c.args.self.now []) refl (sym c.if-is_name.ensures.value)) to) c.parenthesised.ensures
 
 pub parenthesised-returns-in_err-expect_symbol : goal.parenthesised-returns-in_err-expect_symbol
 parenthesised-returns-in_err-expect_symbol t c =

@@ -1,8 +1,8 @@
-use Rattle.std.proofs.Common.{refl, sym, []}
+use Rattle.std.proofs.Common.{refl, [], ◌∷◌}
 use Rattle.std.proofs.lemmas.Result.{err_from_is_err_and}
-use Rattle.std.proofs.lemmas.List.{map-append}
-use Rattle.silage_parse.specs.Private.Parsed.{name_list, view_declared}
-use Rattle.silage_parse.proofs.Steps.{start, matches, parses, does, first, other, stops_at}
+use Rattle.silage_parse.specs.Private.ParseTable.{Expand, MoreNames}
+use Rattle.silage_parse.specs.Private.Parsed.{name_list, declared_values}
+use Rattle.silage_parse.proofs.Steps.{start, parses, reads, does, stops, stops_at}
 use Rattle.silage_parse.proofs.parser.Parser.declared_names.Goals as goal
 
 pub returns-in_err-declared_name : goal.returns-in_err-declared_name
@@ -10,21 +10,10 @@ returns-in_err-declared_name c =
     let p = err_from_is_err_and c.from_residual.result c.from_residual.ensures.1 in
     rw (p.1, p.2) (stops_at _ (start name_list c.args.self.now []) c.in_err-declared_name.ensures)
 
-pub more-init : goal.more-init
-more-init c = does (parses (start name_list c.args.self.now []) c.in_ok-declared_name.ensures) (λ under. rw (c.in_ok-push.ensures.ok, c.new-list.ensures) refl)
-
-pub returns-in_err-advance : goal.returns-in_err-advance
-returns-in_err-advance c =
-    let p = err_from_is_err_and c.from_residual-in_err-advance.result c.from_residual-in_err-advance.ensures.1 in
-    rw (p.1, p.2) (stops_at _ (first c.more.invariant refl (sym c.more-test.ensures.value)) (c.in_err-advance.ensures _ (sym c.more-test.ensures.value)))
-
-pub returns-in_err-declared_name-2 : goal.returns-in_err-declared_name-2
-returns-in_err-declared_name-2 c =
-    let p = err_from_is_err_and c.from_residual-in_err-declared_name-2.result c.from_residual-in_err-declared_name-2.ensures.1 in
-    rw (p.1, p.2) (stops_at _ (matches (first c.more.invariant refl (sym c.more-test.ensures.value)) (c.in_ok-advance.ensures.as_one_of _ (sym c.more-test.ensures.value))) c.in_err-declared_name-2.ensures)
-
-pub more-preserved : goal.more-preserved
-more-preserved c = does (parses (matches (first c.more.invariant refl (sym c.more-test.ensures.value)) (c.in_ok-advance.ensures.as_one_of _ (sym c.more-test.ensures.value))) c.in_ok-declared_name-2.ensures) (λ under. rw (c.in_ok-push-2.ensures.ok, map-append view_declared) refl)
+pub returns-in_err-more_names : goal.returns-in_err-more_names
+returns-in_err-more_names c =
+    let p = err_from_is_err_and c.from_residual-in_err-more_names.result c.from_residual-in_err-more_names.ensures.1 in
+    rw (p.1, p.2) (stops (Expand MoreNames ∷ []) [] (declared_values c.push.new.self ∷ []) [] _ (does (parses (start name_list c.args.self.now []) c.in_ok-declared_name.ensures) (λ under. rw (c.in_ok-push.ensures.ok, c.new-list.ensures) refl)) c.in_err-more_names.ensures)
 
 pub returns : goal.returns
-returns c = other c.more.invariant refl (sym c.more-test.ensures.value)
+returns c = reads (Expand MoreNames ∷ []) (declared_values c.push.new.self ∷ []) [] (does (parses (start name_list c.args.self.now []) c.in_ok-declared_name.ensures) (λ under. rw (c.in_ok-push.ensures.ok, c.new-list.ensures) refl)) c.in_ok-more_names.ensures

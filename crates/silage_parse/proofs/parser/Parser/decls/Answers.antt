@@ -1,7 +1,9 @@
-use Rattle.std.proofs.Common.{refl, sym, []}
+use Rattle.std.proofs.Common.{refl, [], ◌∷◌}
 use Rattle.std.proofs.lemmas.Result.{err_from_is_err_and}
+use Rattle.silage_parse.specs.Private.ParseTable.{Expand, MoreDecls}
 use Rattle.silage_parse.specs.Private.Parsed.{decl_list}
-use Rattle.silage_parse.proofs.Steps.{start, matches, parses, does, first, other, stops_at}
+use Rattle.silage_parse.proofs.Steps.{start, parses, reads, does, stops, stops_at}
+use Rattle.silage_parse.specs.Private.ParseTable as the
 use Rattle.silage_parse.proofs.parser.Parser.decls.Goals as goal
 
 pub returns-in_err-decl : goal.returns-in_err-decl
@@ -9,21 +11,10 @@ returns-in_err-decl c =
     let p = err_from_is_err_and c.from_residual.result c.from_residual.ensures.1 in
     rw (p.1, p.2) (stops_at _ (start decl_list c.args.self.now []) c.in_err-decl.ensures)
 
-pub more-init : goal.more-init
-more-init c = does (parses (start decl_list c.args.self.now []) c.in_ok-decl.ensures) (λ under. rw (c.in_ok-push.ensures.ok, c.new-list.ensures) refl)
-
-pub returns-in_err-advance : goal.returns-in_err-advance
-returns-in_err-advance c =
-    let p = err_from_is_err_and c.from_residual-in_err-advance.result c.from_residual-in_err-advance.ensures.1 in
-    rw (p.1, p.2) (stops_at _ (first c.more.invariant refl (sym c.more-test.ensures.value)) (c.in_err-advance.ensures _ (sym c.more-test.ensures.value)))
-
-pub returns-in_err-decl-2 : goal.returns-in_err-decl-2
-returns-in_err-decl-2 c =
-    let p = err_from_is_err_and c.from_residual-in_err-decl-2.result c.from_residual-in_err-decl-2.ensures.1 in
-    rw (p.1, p.2) (stops_at _ (matches (first c.more.invariant refl (sym c.more-test.ensures.value)) (c.in_ok-advance.ensures.as_one_of _ (sym c.more-test.ensures.value))) c.in_err-decl-2.ensures)
-
-pub more-preserved : goal.more-preserved
-more-preserved c = does (parses (matches (first c.more.invariant refl (sym c.more-test.ensures.value)) (c.in_ok-advance.ensures.as_one_of _ (sym c.more-test.ensures.value))) c.in_ok-decl-2.ensures) (λ under. rw c.in_ok-push-2.ensures.ok refl)
+pub returns-in_err-more_decls : goal.returns-in_err-more_decls
+returns-in_err-more_decls c =
+    let p = err_from_is_err_and c.from_residual-in_err-more_decls.result c.from_residual-in_err-more_decls.ensures.1 in
+    rw (p.1, p.2) (stops (Expand MoreDecls ∷ []) [] (the.decls c.push.new.self ∷ []) [] _ (does (parses (start decl_list c.args.self.now []) c.in_ok-decl.ensures) (λ under. rw (c.in_ok-push.ensures.ok, c.new-list.ensures) refl)) c.in_err-more_decls.ensures)
 
 pub returns : goal.returns
-returns c = other c.more.invariant refl (sym c.more-test.ensures.value)
+returns c = reads (Expand MoreDecls ∷ []) (the.decls c.push.new.self ∷ []) [] (does (parses (start decl_list c.args.self.now []) c.in_ok-decl.ensures) (λ under. rw (c.in_ok-push.ensures.ok, c.new-list.ensures) refl)) c.in_ok-more_decls.ensures

@@ -1,9 +1,8 @@
-use Rattle.std.proofs.Common.{refl, sym, []}
+use Rattle.std.proofs.Common.{refl, [], ◌∷◌}
 use Rattle.std.proofs.lemmas.Result.{err_from_is_err_and}
-use Rattle.std.proofs.lemmas.List.{map-append}
-use Rattle.silage_syntax.specs.Tree.{view_place}
-use Rattle.silage_parse.specs.Private.Parsed.{place_list}
-use Rattle.silage_parse.proofs.Steps.{start, matches, parses, does, first, other, stops_at}
+use Rattle.silage_parse.specs.Private.ParseTable.{Expand, MoreTargets}
+use Rattle.silage_parse.specs.Private.Parsed.{place_list, place_values}
+use Rattle.silage_parse.proofs.Steps.{start, parses, reads, does, stops, stops_at}
 use Rattle.silage_parse.proofs.parser.Parser.targets.Goals as goal
 
 pub returns-in_err-target : goal.returns-in_err-target
@@ -11,21 +10,10 @@ returns-in_err-target c =
     let p = err_from_is_err_and c.from_residual.result c.from_residual.ensures.1 in
     rw (p.1, p.2) (stops_at _ (start place_list c.args.self.now []) c.in_err-target.ensures.read)
 
-pub more-init : goal.more-init
-more-init c = does (parses (start place_list c.args.self.now []) c.in_ok-target.ensures.read) (λ under. rw (c.in_ok-push.ensures.ok, c.new-list.ensures) refl)
-
-pub returns-in_err-advance : goal.returns-in_err-advance
-returns-in_err-advance c =
-    let p = err_from_is_err_and c.from_residual-in_err-advance.result c.from_residual-in_err-advance.ensures.1 in
-    rw (p.1, p.2) (stops_at _ (first c.more.invariant refl (sym c.more-test.ensures.value)) (c.in_err-advance.ensures _ (sym c.more-test.ensures.value)))
-
-pub returns-in_err-target-2 : goal.returns-in_err-target-2
-returns-in_err-target-2 c =
-    let p = err_from_is_err_and c.from_residual-in_err-target-2.result c.from_residual-in_err-target-2.ensures.1 in
-    rw (p.1, p.2) (stops_at _ (matches (first c.more.invariant refl (sym c.more-test.ensures.value)) (c.in_ok-advance.ensures.as_one_of _ (sym c.more-test.ensures.value))) c.in_err-target-2.ensures.read)
-
-pub more-preserved : goal.more-preserved
-more-preserved c = does (parses (matches (first c.more.invariant refl (sym c.more-test.ensures.value)) (c.in_ok-advance.ensures.as_one_of _ (sym c.more-test.ensures.value))) c.in_ok-target-2.ensures.read) (λ under. rw (c.in_ok-push-2.ensures.ok, map-append view_place) refl)
+pub returns-in_err-more_targets : goal.returns-in_err-more_targets
+returns-in_err-more_targets c =
+    let p = err_from_is_err_and c.from_residual-in_err-more_targets.result c.from_residual-in_err-more_targets.ensures.1 in
+    rw (p.1, p.2) (stops (Expand MoreTargets ∷ []) [] (place_values c.push.new.self ∷ []) [] _ (does (parses (start place_list c.args.self.now []) c.in_ok-target.ensures.read) (λ under. rw (c.in_ok-push.ensures.ok, c.new-list.ensures) refl)) c.in_err-more_targets.ensures)
 
 pub returns : goal.returns
-returns c = other c.more.invariant refl (sym c.more-test.ensures.value)
+returns c = reads (Expand MoreTargets ∷ []) (place_values c.push.new.self ∷ []) [] (does (parses (start place_list c.args.self.now []) c.in_ok-target.ensures.read) (λ under. rw (c.in_ok-push.ensures.ok, c.new-list.ensures) refl)) c.in_ok-more_targets.ensures

@@ -1,31 +1,17 @@
 use Rattle.std.proofs.Common.{refl, sym, [], ◌∷◌}
 use Rattle.std.proofs.lemmas.Result.{err_from_is_err_and}
-use Rattle.silage_parse.specs.Private.ParseTable.{Expand, Words}
-use Rattle.silage_parse.specs.Private.Parsed.{word_list}
-use Rattle.silage_parse.proofs.Steps.{start, matches, parses, reads, does, first, other, stops, stops_at}
+use Rattle.silage_parse.specs.Private.ParseTable.{Expand, Words, close_words}
+use Rattle.silage_parse.proofs.Steps.{start, parses, does, first, other, stops_at, between}
+use Rattle.silage_parse.specs.Private.ParseTable as the
+use Rattle.silage_parse.specs.Private.Parsed.{words_in_parentheses}
 use Rattle.silage_parse.proofs.parser.Parser.words.Goals as goal
 
-pub returns-in_err-advance : goal.returns-in_err-advance
-returns-in_err-advance c =
-    let p = err_from_is_err_and c.from_residual.result c.from_residual.ensures.1 in
-    rw (p.1, p.2) (stops_at _ (first (start (Expand Words ∷ []) c.args.self.now []) refl (sym c.if-is_symbol.ensures.value)) (c.in_err-advance.ensures _ (sym c.if-is_symbol.ensures.value)))
-
-pub returns-in_err-list : goal.returns-in_err-list
-returns-in_err-list c =
-    let p = err_from_is_err_and c.from_residual-in_err-list.result c.from_residual-in_err-list.ensures.1 in
-    rw (p.1, p.2) (stops word_list _ [] _ _ (matches (first (start (Expand Words ∷ []) c.args.self.now []) refl (sym c.if-is_symbol.ensures.value)) (c.in_ok-advance.ensures.as_one_of _ (sym c.if-is_symbol.ensures.value))) c.in_err-list.ensures)
-
-pub returns-in_err-expect_symbol : goal.returns-in_err-expect_symbol
-returns-in_err-expect_symbol c =
-    let p = err_from_is_err_and c.from_residual-in_err-expect_symbol.result c.from_residual-in_err-expect_symbol.ensures.1 in
-    rw (p.1, p.2) (stops_at _ (reads word_list [] _ (matches (first (start (Expand Words ∷ []) c.args.self.now []) refl (sym c.if-is_symbol.ensures.value)) (c.in_ok-advance.ensures.as_one_of _ (sym c.if-is_symbol.ensures.value))) c.in_ok-list.ensures) c.in_err-expect_symbol.ensures)
-
 pub returns-then-is_symbol : goal.returns-then-is_symbol
-returns-then-is_symbol c = does (matches (reads word_list [] _ (matches (first (start (Expand Words ∷ []) c.args.self.now []) refl (sym c.if-is_symbol.ensures.value)) (c.in_ok-advance.ensures.as_one_of _ (sym c.if-is_symbol.ensures.value))) c.in_ok-list.ensures) c.in_ok-expect_symbol.ensures) (λ under. refl)
+returns-then-is_symbol c = between words_in_parentheses (λ ls. the.lits ls) close_words _ c.numbers_in_parentheses.result (λ opened closed x under. refl) (first (start (Expand Words ∷ []) c.args.self.now []) refl (sym c.if-is_symbol.ensures.value)) c.numbers_in_parentheses.ensures
 
 pub returns-in_err-signed : goal.returns-in_err-signed
 returns-in_err-signed c =
-    let p = err_from_is_err_and c.from_residual-in_err-signed.result c.from_residual-in_err-signed.ensures.1 in
+    let p = err_from_is_err_and c.from_residual.result c.from_residual.ensures.1 in
     rw (p.1, p.2) (stops_at _ (other (start (Expand Words ∷ []) c.args.self.now []) refl (sym c.if-is_symbol.ensures.value)) c.in_err-signed.ensures)
 
 pub returns : goal.returns
