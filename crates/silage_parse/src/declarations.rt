@@ -119,7 +119,8 @@ impl Parser<'_> {
 
     /// Reads the declared names after the first one onto `list`.
     fn more_names(&mut self, list: &mut List<Declared>) -> Result<(), ParseFault>
-        ensures { IsRead (Expand MoreNames ∷ []) self.old (declared_values list.old ∷ []) (λ x. declared_values list.new ∷ []) self.new result }
+        ensures { IsRead (Expand MoreNames ∷ []) self.old (declared_values list.old ∷ [])
+            (λ x. declared_values list.new ∷ []) self.new result }
     {
         'more: while self.is_symbol(punctuation::COMMA) {
             self.advance(Effect::Outside)?;
@@ -140,7 +141,8 @@ impl Parser<'_> {
 
     /// Reads the declarations after the first one onto `list`.
     fn more_decls(&mut self, list: &mut List<Decl>) -> Result<(), ParseFault>
-        ensures { IsRead (Expand MoreDecls ∷ []) self.old (the.decls list.old ∷ []) (λ x. the.decls list.new ∷ []) self.new result }
+        ensures { IsRead (Expand MoreDecls ∷ []) self.old (the.decls list.old ∷ [])
+            (λ x. the.decls list.new ∷ []) self.new result }
     {
         'more: while self.is_symbol(punctuation::COMMA) {
             self.advance(Effect::Outside)?;
@@ -243,7 +245,8 @@ impl Parser<'_> {
 
     /// Reads the numbers after the first one onto `list`.
     fn more_numbers(&mut self, list: &mut List<Lit>) -> Result<(), ParseFault>
-        ensures { IsRead (Expand MoreWords ∷ []) self.old (the.lits list.old ∷ []) (λ x. the.lits list.new ∷ []) self.new result }
+        ensures { IsRead (Expand MoreWords ∷ []) self.old (the.lits list.old ∷ [])
+            (λ x. the.lits list.new ∷ []) self.new result }
     {
         'more: while self.is_symbol(punctuation::COMMA) {
             self.advance(Effect::Outside)?;

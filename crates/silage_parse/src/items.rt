@@ -38,7 +38,8 @@ impl Parser<'_> {
 
     /// Reads the places on the left after the first one onto `list`.
     fn more_targets(&mut self, list: &mut List<Place>) -> Result<(), ParseFault>
-        ensures { IsRead (Expand MoreTargets ∷ []) self.old (place_values list.old ∷ []) (λ x. place_values list.new ∷ []) self.new result }
+        ensures { IsRead (Expand MoreTargets ∷ []) self.old (place_values list.old ∷ [])
+            (λ x. place_values list.new ∷ []) self.new result }
     {
         'more: while self.is_symbol(punctuation::COMMA) {
             self.advance(Effect::Outside)?;
@@ -59,7 +60,8 @@ impl Parser<'_> {
 
     /// Reads the arguments after the first one onto `list`.
     fn more_arguments(&mut self, list: &mut List<Expr>) -> Result<(), ParseFault>
-        ensures { IsRead (Expand MoreArgs ∷ []) self.old (expr_values list.old ∷ []) (λ x. expr_values list.new ∷ []) self.new result }
+        ensures { IsRead (Expand MoreArgs ∷ []) self.old (expr_values list.old ∷ [])
+            (λ x. expr_values list.new ∷ []) self.new result }
     {
         'more: while self.is_symbol(punctuation::COMMA) {
             self.advance(Effect::Begins)?;

@@ -13,7 +13,8 @@ use std::alloc::{AllocError, AllocFailed};
 impl Parser<'_> {
     /// Reads a subscript in brackets, which have these effects.
     fn subscript(&mut self, before: Effect, after: Effect) -> Result<Manifest, ParseFault>
-        ensures { ReadsBetween (in_brackets (effect_of before) (effect_of after)) manifest_value self.old self.new result }
+        ensures { ReadsBetween (in_brackets (effect_of before) (effect_of after)) manifest_value
+            self.old self.new result }
     {
         self.expect_symbol(punctuation::LEFT_BRACKET, before)?;
         let inner = self.manifest()?;

@@ -1,4 +1,4 @@
-use Rattle.std.proofs.Common.{refl, [], ◌∷◌}
+use Rattle.std.proofs.Common.{refl, [], ◌∷◌, arith}
 use Rattle.std.proofs.lemmas.Result.{err_from_is_err_and}
 use Rattle.silage_parse.specs.Private.ParseTable.{TargetSubs, SecondTargetSub, Expand, Target}
 use Rattle.silage_parse.proofs.Steps.{start, matches, parses, does, only, stops_at}
@@ -14,6 +14,11 @@ pub returns-in_err-subs-clause-read : goal.returns-in_err-subs-clause-read
 returns-in_err-subs-clause-read c =
     let p = err_from_is_err_and c.from_residual-in_err-subs.result c.from_residual-in_err-subs.ensures.1 in
     rw (p.1, p.2) (stops_at _ (matches (only (start (Expand Target ∷ []) c.args.self.now []) refl) c.in_ok-name.ensures.0) (c.in_err-subs.ensures TargetSubs SecondTargetSub (record { none = refl; one = refl })))
+
+pub returns-clause-advances : goal.returns-clause-advances
+returns-clause-advances c =
+    let subs = c.in_ok-subs.ensures TargetSubs SecondTargetSub (record { none = refl; one = refl }) in
+    omega (arith, subs.order, c.in_ok-name.ensures.0.one)
 
 pub returns-clause-read : goal.returns-clause-read
 returns-clause-read c = does (parses (matches (only (start (Expand Target ∷ []) c.args.self.now []) refl) c.in_ok-name.ensures.0) (c.in_ok-subs.ensures TargetSubs SecondTargetSub (record { none = refl; one = refl }))) (λ under. rw (taken_name c.in_ok-name.ensures.0 c.in_ok-name.ensures.1, ← (taken_from c.in_ok-name.ensures.0), ← c.start-at.ensures) refl)
