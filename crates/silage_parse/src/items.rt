@@ -5,7 +5,7 @@ ghost use Rattle.silage_lex.specs.declared.Token.{Token as AToken};
 ghost use Rattle.silage_lex.specs.declared.punctuation.TheConstants as punctuation;
 ghost use Rattle.silage_parse.specs.Private.ParseTable.{MoreTargets, MoreArgs, AName, Punctuation, is_one, Args, Target, InitialValue, RightSide, AfterTarget, Item_, Expand};
 ghost use Rattle.silage_parse.specs.Private.ParseTable as the;
-ghost use Rattle.silage_parse.specs.Private.Parsed.{effect as effect_of, ReadsBlockEnd, ReadsLoopBody, next, later, IsParsed, IsRead, ReadsCallEnd, ReadsBounds, is_called, place_value, place_values, expr_values, item_value, item_values, place_list, item_list, initial_end, after_open};
+ghost use Rattle.silage_parse.specs.Private.Parsed.{effect as effect_of, ReadsBlockEnd, ReadsLoopBody, next, later, IsParsed, IsRead, ReadsCallEnd, ReadsInitial, ReadsEquationEnd, ReadsUpperBound, ReadsBounds, is_called, place_value, place_values, expr_values, item_value, item_values, place_list, item_list, after_open};
 
 use crate::ParseFault;
 use crate::parser::{Effect, Parser};
@@ -94,11 +94,11 @@ impl Parser<'_> {
             (λ x. item_value x ∷ []) self.new result }
     {
         if self.is_call() {
+            let mut places = Vec::new(self.alloc);
+            places.push(place)?;
             let at = self.start();
             let func = self.name(Effect::Inside)?;
             let args = self.call_end()?;
-            let mut places = Vec::new(self.alloc);
-            places.push(place)?;
             return Ok(Item::Call {
                 places,
                 func,
@@ -106,9 +106,17 @@ impl Parser<'_> {
                 at,
             });
         }
+        let value = self.equation_end()?;
+        Ok(Item::Equation { place, value })
+    }
+
+    /// Reads the value of an equation, and `;`.
+    fn equation_end(&mut self) -> Result<Expr, ParseFault>
+        ensures { ReadsEquationEnd self.old self.new result }
+    {
         let value = self.expression()?;
         self.expect_symbol(punctuation::SEMICOLON, Effect::Outside)?;
-        Ok(Item::Equation { place, value })
+        Ok(value)
     }
 
     /// Reads the literal of an initial value.
@@ -123,16 +131,16 @@ impl Parser<'_> {
         self.signed()
     }
 
-    /// Reads an initial value after its place.
-    fn initial(&mut self, place: Place) -> Result<Item, ParseFault>
-        ensures { IsRead initial_end self.old (place_value place ∷ []) (λ x. item_value x ∷ []) self.new result }
+    /// Reads an initial value after its place: how many samples before the first it is for, and what it is.
+    fn initial(&mut self) -> Result<(Manifest, Lit), ParseFault>
+        ensures { ReadsInitial self.old self.new result }
     {
         self.expect_symbol(punctuation::AT_AT, Effect::Begins)?;
         let k = self.manifest_primary()?;
         self.expect_symbol(punctuation::EQUAL, Effect::Outside)?;
         let value = self.initial_value()?;
         self.expect_symbol(punctuation::SEMICOLON, Effect::Outside)?;
-        Ok(Item::Initial { place, k, value })
+        Ok((k, value))
     }
 
     /// Reads the rest of an item that begins with a place.
@@ -141,7 +149,8 @@ impl Parser<'_> {
             (λ x. item_value x ∷ []) self.new result }
     {
         if self.is_symbol(punctuation::AT_AT) {
-            return self.initial(place);
+            let (k, value) = self.initial()?;
+            return Ok(Item::Initial { place, k, value });
         }
         self.expect_symbol(punctuation::EQUAL, Effect::Begins)?;
         self.right_side(place)
@@ -173,11 +182,19 @@ impl Parser<'_> {
     {
         self.expect_symbol(punctuation::COLON, Effect::Begins)?;
         let lo = self.manifest()?;
+        let hi = self.upper_bound()?;
+        Ok((lo, hi))
+    }
+
+    /// Reads the upper bound of a loop with its `..`, and the `)` and the `::` after it.
+    fn upper_bound(&mut self) -> Result<Manifest, ParseFault>
+        ensures { ReadsUpperBound self.old self.new result }
+    {
         self.expect_symbol(punctuation::DOT_DOT, Effect::Begins)?;
         let hi = self.manifest()?;
         self.expect_symbol(punctuation::RIGHT_PAREN, Effect::Outside)?;
         self.expect_symbol(punctuation::COLON_COLON, Effect::Outside)?;
-        Ok((lo, hi))
+        Ok(hi)
     }
 
     /// Reads the end of a block: an `end`, which has this effect, and `;`.

@@ -303,7 +303,8 @@ place_list = Expand Target ∷ Act first_place ∷ Expand MoreTargets ∷ []
 abbrev pub item_list : List Symbol
 item_list = Act no_items ∷ Expand Items_ ∷ []
 
--- the arguments of a call with what ends it; an initial value after its place; the bounds of a loop after its index
+-- the arguments of a call with what ends it; an initial value after its place; the value of an equation with its end;
+-- the bounds of a loop after its index, and the upper one after the lower one
 abbrev pub call_end : List Symbol
 call_end =
     punctuation_of punctuation.LEFT_PAREN Begins ∷ Expand Args ∷ punctuation_of punctuation.RIGHT_PAREN Outside
@@ -313,13 +314,18 @@ abbrev pub initial_end : List Symbol
 initial_end =
     punctuation_of punctuation.AT_AT Begins ∷ Expand ManifestPrimary ∷ punctuation_of punctuation.EQUAL Outside
     ∷ Expand InitialValue
-    ∷ punctuation_of punctuation.SEMICOLON Outside ∷ Act is_initial ∷ []
+    ∷ punctuation_of punctuation.SEMICOLON Outside ∷ []
+
+abbrev pub equation_end : List Symbol
+equation_end = Expand (Chain Or) ∷ punctuation_of punctuation.SEMICOLON Outside ∷ []
+
+abbrev pub upper_bound : List Symbol
+upper_bound =
+    punctuation_of punctuation.DOT_DOT Begins ∷ Expand Manifest_ ∷ punctuation_of punctuation.RIGHT_PAREN Outside
+    ∷ punctuation_of punctuation.COLON_COLON Outside ∷ []
 
 abbrev pub loop_bounds : List Symbol
-loop_bounds =
-    punctuation_of punctuation.COLON Begins ∷ Expand Manifest_ ∷ punctuation_of punctuation.DOT_DOT Begins
-    ∷ Expand Manifest_
-    ∷ punctuation_of punctuation.RIGHT_PAREN Outside ∷ punctuation_of punctuation.COLON_COLON Outside ∷ []
+loop_bounds = punctuation_of punctuation.COLON Begins ∷ Expand Manifest_ ∷ upper_bound
 
 -- what comes after the `(` of an item
 abbrev pub after_open : List Symbol
@@ -333,6 +339,21 @@ abbrev pub ReadsCallEnd : Parser → Parser → Result (List Expr) ParseFault �
 ReadsCallEnd from to (Ok args) = (opened : Token) × (closed : Token) × (ended : Token)
     × Leads call_end from [] [] to (the.token ended ∷ the.token closed ∷ expr_values args ∷ the.token opened ∷ [])
 ReadsCallEnd from to (Err f) = Halts call_end from [] f
+
+abbrev pub ReadsInitial : Parser → Parser → Result (RustManifest × Lit) ParseFault → Type 0
+ReadsInitial from to (Ok x) = (marks : Token) × (equal : Token) × (ended : Token) × Leads initial_end from [] [] to
+    (the.token ended ∷ the.lit x.1 ∷ the.token equal ∷ manifest_value x.0 ∷ the.token marks ∷ [])
+ReadsInitial from to (Err f) = Halts initial_end from [] f
+
+abbrev pub ReadsEquationEnd : Parser → Parser → Result Expr ParseFault → Type 0
+ReadsEquationEnd from to (Ok e) = (ended : Token)
+    × Leads equation_end from [] [] to (the.token ended ∷ expr_value e ∷ [])
+ReadsEquationEnd from to (Err f) = Halts equation_end from [] f
+
+abbrev pub ReadsUpperBound : Parser → Parser → Result RustManifest ParseFault → Type 0
+ReadsUpperBound from end (Ok hi) = (each : Token) × (closed : Token) × (to : Token)
+    × Leads upper_bound from [] [] end (the.token each ∷ the.token closed ∷ manifest_value hi ∷ the.token to ∷ [])
+ReadsUpperBound from end (Err f) = Halts upper_bound from [] f
 
 -- what is on the stack where the bounds of a loop are read
 abbrev pub bounds_read : (each closed to colon : Token) → RustManifest × RustManifest → List Value

@@ -1,7 +1,7 @@
 use Rattle.std.proofs.Common.{[]}
 use Rattle.std.proofs.lemmas.Result.{err_from_is_err_and}
-use Rattle.silage_parse.specs.Private.Parsed.{loop_bounds}
-use Rattle.silage_parse.proofs.Steps.{start, matches, parses, stops_at}
+use Rattle.silage_parse.specs.Private.Parsed.{loop_bounds, upper_bound}
+use Rattle.silage_parse.proofs.Steps.{start, matches, parses, reads, stops, stops_at}
 use Rattle.silage_parse.proofs.parser.Parser.loop_bounds.Goals as goal
 
 pub returns-in_err-expect_symbol : goal.returns-in_err-expect_symbol
@@ -14,25 +14,13 @@ returns-in_err-lo c =
     let p = err_from_is_err_and c.from_residual-in_err-lo.result c.from_residual-in_err-lo.ensures.1 in
     rw (p.1, p.2) (stops_at _ (matches (start loop_bounds c.args.self.now []) c.in_ok-expect_symbol.ensures) c.in_err-lo.ensures)
 
-pub returns-in_err-expect_symbol-2 : goal.returns-in_err-expect_symbol-2
-returns-in_err-expect_symbol-2 c =
-    let p = err_from_is_err_and c.from_residual-in_err-expect_symbol-2.result c.from_residual-in_err-expect_symbol-2.ensures.1 in
-    rw (p.1, p.2) (stops_at _ (parses (matches (start loop_bounds c.args.self.now []) c.in_ok-expect_symbol.ensures) c.in_ok-lo.ensures) c.in_err-expect_symbol-2.ensures)
-
 pub returns-in_err-hi : goal.returns-in_err-hi
 returns-in_err-hi c =
     let p = err_from_is_err_and c.from_residual-in_err-hi.result c.from_residual-in_err-hi.ensures.1 in
-    rw (p.1, p.2) (stops_at _ (matches (parses (matches (start loop_bounds c.args.self.now []) c.in_ok-expect_symbol.ensures) c.in_ok-lo.ensures) c.in_ok-expect_symbol-2.ensures) c.in_err-hi.ensures)
-
-pub returns-in_err-expect_symbol-3 : goal.returns-in_err-expect_symbol-3
-returns-in_err-expect_symbol-3 c =
-    let p = err_from_is_err_and c.from_residual-in_err-expect_symbol-3.result c.from_residual-in_err-expect_symbol-3.ensures.1 in
-    rw (p.1, p.2) (stops_at _ (parses (matches (parses (matches (start loop_bounds c.args.self.now []) c.in_ok-expect_symbol.ensures) c.in_ok-lo.ensures) c.in_ok-expect_symbol-2.ensures) c.in_ok-hi.ensures) c.in_err-expect_symbol-3.ensures)
-
-pub returns-in_err-expect_symbol-4 : goal.returns-in_err-expect_symbol-4
-returns-in_err-expect_symbol-4 c =
-    let p = err_from_is_err_and c.from_residual-in_err-expect_symbol-4.result c.from_residual-in_err-expect_symbol-4.ensures.1 in
-    rw (p.1, p.2) (stops_at _ (matches (parses (matches (parses (matches (start loop_bounds c.args.self.now []) c.in_ok-expect_symbol.ensures) c.in_ok-lo.ensures) c.in_ok-expect_symbol-2.ensures) c.in_ok-hi.ensures) c.in_ok-expect_symbol-3.ensures) c.in_err-expect_symbol-4.ensures)
+    rw (p.1, p.2) (stops upper_bound [] [] _ _ (parses (matches (start loop_bounds c.args.self.now []) c.in_ok-expect_symbol.ensures) c.in_ok-lo.ensures) c.in_err-hi.ensures)
 
 pub returns : goal.returns
-returns c = (c.in_ok-expect_symbol-4.ensures.token, c.in_ok-expect_symbol-3.ensures.token, c.in_ok-expect_symbol-2.ensures.token, c.in_ok-expect_symbol.ensures.token, matches (matches (parses (matches (parses (matches (start loop_bounds c.args.self.now []) c.in_ok-expect_symbol.ensures) c.in_ok-lo.ensures) c.in_ok-expect_symbol-2.ensures) c.in_ok-hi.ensures) c.in_ok-expect_symbol-3.ensures) c.in_ok-expect_symbol-4.ensures)
+returns c =
+    let colon = c.in_ok-expect_symbol.ensures in
+    let upper = c.in_ok-hi.ensures in
+    (upper.0, upper.1, upper.2, colon.token, reads upper_bound [] _ (parses (matches (start loop_bounds c.args.self.now []) colon) c.in_ok-lo.ensures) upper.3)

@@ -1,8 +1,8 @@
 use Rattle.std.proofs.Common.{refl, sym, [], ◌∷◌}
 use Rattle.std.proofs.lemmas.Result.{err_from_is_err_and}
 use Rattle.silage_parse.specs.Private.ParseTable.{Punctuation, Expand, RightSide}
-use Rattle.silage_parse.specs.Private.Parsed.{call_end, place_value}
-use Rattle.silage_parse.proofs.Steps.{start, matches, parses, reads, does, first, stops, stops_at}
+use Rattle.silage_parse.specs.Private.Parsed.{call_end, equation_end, place_value}
+use Rattle.silage_parse.proofs.Steps.{start, matches, reads, does, first, stops, stops_at}
 use Rattle.silage_parse.proofs.Tokens.{taken_from, taken_name, then_next}
 use Rattle.silage_parse.proofs.LeftFactored.{equation_begins, called}
 use Rattle.silage_parse.specs.Private.ParseTable as the
@@ -11,7 +11,7 @@ use Rattle.silage_parse.proofs.parser.Parser.right_side.Goals as goal
 
 pub returns-in_err-func : goal.returns-in_err-func
 returns-in_err-func c =
-    let p = err_from_is_err_and c.from_residual.result c.from_residual.ensures.1 in
+    let p = err_from_is_err_and c.from_residual-in_err-func.result c.from_residual-in_err-func.ensures.1 in
     let call = called c.args.self.now (sym c.if-is_call.ensures) in
     λ k. rw (p.1, p.2) (stops_at _ (first (start (Expand RightSide ∷ []) c.args.self.now (the.token k ∷ place_value c.args.place ∷ [])) refl call.0) c.in_err-func.ensures)
 
@@ -29,12 +29,7 @@ returns-then-is_call c =
 pub returns-in_err-value : goal.returns-in_err-value
 returns-in_err-value c =
     let p = err_from_is_err_and c.from_residual-in_err-value.result c.from_residual-in_err-value.ensures.1 in
-    λ k. rw (p.1, p.2) (stops_at _ (equation_begins (start (Expand RightSide ∷ []) c.args.self.now (the.token k ∷ place_value c.args.place ∷ [])) (sym c.if-is_call.ensures)) c.in_err-value.ensures)
-
-pub returns-in_err-expect_symbol : goal.returns-in_err-expect_symbol
-returns-in_err-expect_symbol c =
-    let p = err_from_is_err_and c.from_residual-in_err-expect_symbol.result c.from_residual-in_err-expect_symbol.ensures.1 in
-    λ k. rw (p.1, p.2) (stops_at _ (parses (equation_begins (start (Expand RightSide ∷ []) c.args.self.now (the.token k ∷ place_value c.args.place ∷ [])) (sym c.if-is_call.ensures)) c.in_ok-value.ensures) c.in_err-expect_symbol.ensures)
+    λ k. rw (p.1, p.2) (stops equation_end _ [] _ _ (equation_begins (start (Expand RightSide ∷ []) c.args.self.now (the.token k ∷ place_value c.args.place ∷ [])) (sym c.if-is_call.ensures)) c.in_err-value.ensures)
 
 pub returns : goal.returns
-returns c = λ k. does (matches (parses (equation_begins (start (Expand RightSide ∷ []) c.args.self.now (the.token k ∷ place_value c.args.place ∷ [])) (sym c.if-is_call.ensures)) c.in_ok-value.ensures) c.in_ok-expect_symbol.ensures) (λ under. refl)
+returns c = λ k. does (reads equation_end [] _ (equation_begins (start (Expand RightSide ∷ []) c.args.self.now (the.token k ∷ place_value c.args.place ∷ [])) (sym c.if-is_call.ensures)) c.in_ok-value.ensures.1) (λ under. refl)
