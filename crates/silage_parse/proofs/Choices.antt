@@ -1,16 +1,10 @@
 -- The branches of a choice as the tree holds them.
-use Rattle.std.proofs.Common.{◌≡◌, ℕ, List, [], ◌∷◌, map, refl, ap, ◌∙◌, Box, Vec, Result, Ok, Err}
+use Rattle.std.proofs.Common.{◌≡◌, ℕ, List, [], ◌∷◌, map, refl, ap, ◌∙◌, Box, Vec}
 use Rattle.std.specs.Global.{Global}
 use Rattle.silage_syntax.specs.declared.tree.Expr.{Expr as RustExpr, Choose}
 use Rattle.silage_syntax.specs.Tree.{choose, branch, view_expr, view_arms}
 use Rattle.silage_syntax.proofs.Rows.{view_Choose as row_Choose}
-use Rattle.silage_syntax.specs.Grammar.{Or}
-use Rattle.silage_lex.specs.declared.punctuation.TheConstants as punctuation
-use Rattle.silage_parse.specs.declared.ParseFault.{ParseFault}
-use Rattle.silage_parse.specs.declared.parser.Parser.{Parser}
-use Rattle.silage_parse.specs.Private.ParseTable.{Punctuation, Inside, Chain}
-use Rattle.silage_parse.specs.Private.Parsed.{Matches, IsParsed, ReadsBranchValue, expr_value, view_branch, branch_value}
-use Rattle.silage_parse.proofs.Steps.{start, matches, parses, stops_at}
+use Rattle.silage_parse.specs.Private.Parsed.{view_branch}
 use Rattle.silage_parse.specs.Private.Machine.{branches_of}
 
 arms_are : (xs : List (RustExpr × RustExpr)) → view_arms xs ≡ branches_of (map view_branch xs)
@@ -20,9 +14,3 @@ arms_are (x ∷ xs) = ap (λ bs. branch (view_expr x.0) (view_expr x.1) bs) (arm
 pub view_Choose : (at : ℕ) (v : Vec (RustExpr × RustExpr) Global) (b : Box RustExpr Global)
     → view_expr (Choose at v b) ≡ choose at (branches_of (map view_branch v.items)) (view_expr b.value)
 view_Choose at v b = row_Choose at v b ∙ ap (λ bs. choose at bs (view_expr b.value)) (arms_are v.items)
-
--- the value of a branch is an expression after an `->`
-pub branch_read : {from mid : Parser} (to : Parser) (r : Result RustExpr ParseFault) → Matches (Punctuation punctuation.ARROW ∷ []) Inside from mid
-    → IsParsed (Chain Or) mid expr_value to r → ReadsBranchValue from to r
-branch_read {from} to (Ok e) arrow read = (arrow.token, parses (matches (start branch_value from []) arrow) read)
-branch_read {from} to (Err f) arrow stop = stops_at f (matches (start branch_value from []) arrow) stop

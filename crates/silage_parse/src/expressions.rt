@@ -5,7 +5,7 @@ ghost use Rattle.silage_syntax.specs.Tree.{Expr as TreeExpr};
 ghost use Rattle.silage_syntax.specs.Grammar.{Or, row, shift_operator as the_shift_operator, truth_of};
 ghost use Rattle.silage_parse.specs.Private.ParseTable.{Punctuation, Keyword, AName, Chain, Shift, Unary, Primary, OtherPrimary, Arms, Expand, number, is_one};
 ghost use Rattle.silage_parse.specs.Private.ParseTable as the;
-ghost use Rattle.silage_parse.specs.Private.Parsed.{next, start_of, IsParsed, IsRead, ReadsBetween, in_parentheses, ReadsBranchValue, expr_value, binary_value, branches_value, choice_value, choice_end, shifted};
+ghost use Rattle.silage_parse.specs.Private.Parsed.{next, start_of, IsParsed, IsRead, ReadsBetween, in_parentheses, ReadsBranch, expr_value, binary_value, branches_value, choice_value, choice_end, shifted};
 ghost use Rattle.silage_parse.specs.Private.Precedence.{rank as rank_of, precedence_of, operation, operated, right_operand, binary_operators, binary_operator as the_binary_operator, IsBetween, NoneBetween, tightest_after};
 ghost use Rattle.silage_lex.specs.declared.Token.{Token as AToken};
 ghost use Rattle.silage_lex.specs.declared.punctuation.TheConstants as punctuation;
@@ -385,24 +385,27 @@ impl Parser<'_> {
         let at = self.start();
         self.expect_reserved(keywords::IF, Effect::Inside)?;
         let when = self.expression()?;
-        let then = self.branch_value()?;
         let mut branches = Vec::new(self.alloc);
-        branches.push((when, then))?;
+        self.branch(when, &mut branches)?;
         let last = self.more_branches(&mut branches)?;
         Ok(Expr::Choose(at, branches, last))
     }
 
-    /// Reads `->` and the value of a branch, after its condition.
+    /// Reads the `->` and the value of a branch after its condition, and adds the branch to `branches`.
     #[cycle(expressions)]
-    fn branch_value(&mut self) -> Result<Expr, ParseFault>
-        ensures { ReadsBranchValue self.old self.new result }
+    #[inline(never)]
+    fn branch(&mut self, when: Expr, branches: &mut Vec<(Expr, Expr)>) -> Result<(), ParseFault>
+        ensures { ReadsBranch when branches.old.items branches.new.items self.old self.new result }
     {
         self.expect_symbol(punctuation::ARROW, Effect::Inside)?;
-        self.expression()
+        let value = self.expression()?;
+        branches.push((when, value))?;
+        Ok(())
     }
 
     /// Reads the branches after the first one onto `branches`, and the last value.
     #[cycle(expressions)]
+    #[inline(never)]
     fn more_branches(&mut self, branches: &mut Vec<(Expr, Expr)>) -> Result<Box<Expr>, ParseFault>
         ensures { (at : ℕ) → IsRead (Expand Arms ∷ []) self.old (branches_value at branches.old.items ∷ [])
             (λ last. choice_value at branches.new.items last ∷ []) self.new result }
@@ -413,8 +416,7 @@ impl Parser<'_> {
             if !self.is_symbol(punctuation::ARROW) {
                 return self.choice_end(part);
             }
-            let value = self.branch_value()?;
-            branches.push((part, value))?;
+            self.branch(part, branches)?;
         }
     }
 

@@ -189,7 +189,7 @@ in_brackets before after =
     punctuation_of punctuation.LEFT_BRACKET before ∷ Expand Manifest_ ∷ punctuation_of punctuation.RIGHT_BRACKET after
     ∷ []
 
--- none, one or two of these are what the nonterminal stands for
+-- the nonterminal stands for none, one or two manifests in brackets with these effects
 pub record AreSubscripts (subs second : Nonterminal) (before after : Effect) : Type 0 where
   pub none : productions subs ≡ if_punctuation punctuation.LEFT_BRACKET
       (in_brackets before after ++ Expand second ∷ []) (Act no_subs ∷ [])
@@ -207,7 +207,7 @@ declared_value d = the.name (view_declared d)
 abbrev pub declared_values : List RustDeclared → Value
 declared_values ds = the.names (map view_declared ds)
 
--- lists with commas between their parts, and the lines of locals
+-- lists with commas between their parts, some of them in parentheses, and the lines of locals
 abbrev pub name_list : List Symbol
 name_list = Expand Name_ ∷ Act first_name ∷ Expand MoreNames ∷ []
 
@@ -270,10 +270,11 @@ branch_value = punctuation_of punctuation.ARROW Inside ∷ Expand (Chain Or) ∷
 abbrev pub choice_end : List Symbol
 choice_end = keyword_of keyword.FI Inside ∷ Act choose_expr ∷ []
 
-abbrev pub ReadsBranchValue : Parser → Parser → Result Expr ParseFault → Type 0
-ReadsBranchValue from to (Ok e) = (arrow : Token)
-    × Leads branch_value from [] [] to (expr_value e ∷ the.token arrow ∷ [])
-ReadsBranchValue from to (Err f) = Halts branch_value from [] f
+-- it reads the value of a branch, and adds the branch with this condition to the others
+abbrev pub ReadsBranch : Expr → (before after : List (Expr × Expr)) → Parser → Parser → Result Unit ParseFault → Type 0
+ReadsBranch when before after from to (Ok x) = (arrow : Token) × (value : Expr)
+    × (after ≡ before ++ (when, value) ∷ []) × Leads branch_value from [] [] to (expr_value value ∷ the.token arrow ∷ [])
+ReadsBranch when before after from to (Err f) = Halts branch_value from [] f
 
 -- the tree of an operator at this byte with its operands
 abbrev pub binary_value : ℕ → BinOp → tree.Expr → Box Expr Global → Value

@@ -9,7 +9,7 @@ use Rattle.silage_parse.specs.Private.Precedence.{precedence_of, operated, infix
 use Rattle.silage_parse.proofs.Steps.{start, matches, parses, reads, does, giving, only, first, second, other, other_of_two, predicts, stops, stops_at, whole, computes, between}
 use Rattle.silage_parse.proofs.Tokens.{taken_from, taken_as, is_a_shift, no_shift, no_truth}
 use Rattle.silage_parse.proofs.PrecedenceClimbing.{begins, is_infix, operator_is, operator_of, climbs, climbed, joined}
-use Rattle.silage_parse.proofs.Choices.{view_Choose, branch_read}
+use Rattle.silage_parse.proofs.Choices.{view_Choose}
 use Rattle.silage_parse.specs.Private.ParseTable as the
 use Rattle.silage_parse.proofs.Primaries.{paren_row, cast_row, choice_row, to_paren, to_cast, to_choice, bang_no_minus}
 use Rattle.silage_lex.specs.declared.punctuation.TheConstants as punctuation
@@ -182,30 +182,6 @@ choice-returns-in_err-when t c =
     let p = err_from_is_err_and c.from_residual-in_err-when.result c.from_residual-in_err-when.ensures.1 in
     rw (p.1, p.2) (stops_at _ (matches (predicts choice_row (start (Expand OtherPrimary ∷ []) c.args.self.now []) (to_choice (next c.args.self.now) c.requires.begins)) c.in_ok-expect_reserved.ensures) c.in_err-when.ensures)
 
-pub choice-returns-in_err-then : goal.choice-returns-in_err-then
-choice-returns-in_err-then t c =
-    let p = err_from_is_err_and c.from_residual-in_err-then.result c.from_residual-in_err-then.ensures.1 in
-    rw (p.1, p.2) (stops branch_value _ [] _ _ (parses (matches (predicts choice_row (start (Expand OtherPrimary ∷ []) c.args.self.now []) (to_choice (next c.args.self.now) c.requires.begins)) c.in_ok-expect_reserved.ensures) c.in_ok-when.ensures) c.in_err-then.ensures)
-
-pub choice-returns-in_err-last : goal.choice-returns-in_err-last
-choice-returns-in_err-last t c =
-    let p = err_from_is_err_and c.from_residual-in_err-last.result c.from_residual-in_err-last.ensures.1 in
-    let began = parses (matches (predicts choice_row (start (Expand OtherPrimary ∷ []) c.args.self.now []) (to_choice (next c.args.self.now) c.requires.begins)) c.in_ok-expect_reserved.ensures) c.in_ok-when.ensures in
-    rw (p.1, p.2) (stops (Expand Arms ∷ []) [] (branches_value c.start-at.result c.push.new.self.items ∷ []) [] _ (does (reads branch_value [] _ began c.in_ok-then.ensures.1) (λ under. rw (c.in_ok-push.ensures.items, c.new-branches.ensures.items, ← (taken_from c.in_ok-expect_reserved.ensures), ← c.start-at.ensures) refl)) (c.in_err-last.ensures c.start-at.result))
-
-pub choice-returns : goal.choice-returns
-choice-returns t c =
-    let began = parses (matches (predicts choice_row (start (Expand OtherPrimary ∷ []) c.args.self.now []) (to_choice (next c.args.self.now) c.requires.begins)) c.in_ok-expect_reserved.ensures) c.in_ok-when.ensures in
-    giving (reads (Expand Arms ∷ []) (branches_value c.start-at.result c.push.new.self.items ∷ []) [] (does (reads branch_value [] _ began c.in_ok-then.ensures.1) (λ under. rw (c.in_ok-push.ensures.items, c.new-branches.ensures.items, ← (taken_from c.in_ok-expect_reserved.ensures), ← c.start-at.ensures) refl)) (c.in_ok-last.ensures c.start-at.result)) (rw (view_Choose c.start-at.result c.more_branches.new.branches c.in_ok-last.last) refl)
-
-pub branch_value-returns-in_err-expect_symbol : goal.branch_value-returns-in_err-expect_symbol
-branch_value-returns-in_err-expect_symbol t c =
-    let p = err_from_is_err_and c.from_residual.result c.from_residual.ensures.1 in
-    rw (p.1, p.2) (stops_at _ (start branch_value c.args.self.now []) c.in_err-expect_symbol.ensures)
-
-pub branch_value-returns : goal.branch_value-returns
-branch_value-returns t c = branch_read _ c.expression.result c.in_ok-expect_symbol.ensures c.expression.ensures
-
 pub more_branches-arms-init : goal.more_branches-arms-init
 more_branches-arms-init t c = λ at. start (Expand Arms ∷ []) c.args.self.now (branches_value at c.args.branches.now.items ∷ [])
 
@@ -225,22 +201,57 @@ more_branches-returns-then-not-is_symbol t c =
     let part = other (parses (matches (only (c.arms.invariant at) refl) bar) c.in_ok-part.ensures) refl (sym c.if-not-is_symbol.ensures.value) in
     whole choice_end (expr_value c.in_ok-part.part ∷ the.token bar.token ∷ branches_value at c.arms.branches.items ∷ []) (λ e. choice_value at c.arms.branches.items e ∷ []) _ c.choice_end.result part (c.choice_end.ensures bar.token at c.arms.branches.items)
 
-pub more_branches-returns-in_err-value : goal.more_branches-returns-in_err-value
-more_branches-returns-in_err-value t c =
-    let p = err_from_is_err_and c.from_residual-in_err-value.result c.from_residual-in_err-value.ensures.1 in
-    λ at. rw (p.1, p.2) (stops branch_value _ [] _ _ (first (parses (matches (only (c.arms.invariant at) refl) c.in_ok-expect_symbol.ensures) c.in_ok-part.ensures) refl (sym c.if-not-is_symbol.ensures.value)) c.in_err-value.ensures)
-
-pub more_branches-arms-preserved : goal.more_branches-arms-preserved
-more_branches-arms-preserved t c = λ at. does (reads branch_value [] _ (first (parses (matches (only (c.arms.invariant at) refl) c.in_ok-expect_symbol.ensures) c.in_ok-part.ensures) refl (sym c.if-not-is_symbol.ensures.value)) c.in_ok-value.ensures.1) (λ under. rw (c.in_ok-push.ensures.items, map-append view_branch) refl)
-
 pub more_branches-expression-requires : goal.more_branches-expression-requires
 more_branches-expression-requires t c =
     let so_far = c.arms.invariant 0 in
     let bar = c.in_ok-expect_symbol.ensures in
     omega (arith, ap length so_far.same, so_far.order, ap length bar.same, bar.one)
 
-pub more_branches-branch_value-requires : goal.more_branches-branch_value-requires
-more_branches-branch_value-requires t c =
+pub choice-returns-in_err-branch : goal.choice-returns-in_err-branch
+choice-returns-in_err-branch t c =
+    let p = err_from_is_err_and c.from_residual-in_err-branch.result c.from_residual-in_err-branch.ensures.1 in
+    rw (p.1, p.2) (stops branch_value _ [] _ _ (parses (matches (predicts choice_row (start (Expand OtherPrimary ∷ []) c.args.self.now []) (to_choice (next c.args.self.now) c.requires.begins)) c.in_ok-expect_reserved.ensures) c.in_ok-when.ensures) c.in_err-branch.ensures)
+
+pub choice-returns-in_err-last : goal.choice-returns-in_err-last
+choice-returns-in_err-last t c =
+    let p = err_from_is_err_and c.from_residual-in_err-last.result c.from_residual-in_err-last.ensures.1 in
+    let began = parses (matches (predicts choice_row (start (Expand OtherPrimary ∷ []) c.args.self.now []) (to_choice (next c.args.self.now) c.requires.begins)) c.in_ok-expect_reserved.ensures) c.in_ok-when.ensures in
+    let branch = c.in_ok-branch.ensures in
+    rw (p.1, p.2) (stops (Expand Arms ∷ []) [] (branches_value c.start-at.result c.branch-self.new.branches.items ∷ []) [] _ (does (reads branch_value [] _ began branch.3) (λ under. rw (branch.2, c.new-branches.ensures.items, ← (taken_from c.in_ok-expect_reserved.ensures), ← c.start-at.ensures) refl)) (c.in_err-last.ensures c.start-at.result))
+
+pub choice-returns : goal.choice-returns
+choice-returns t c =
+    let began = parses (matches (predicts choice_row (start (Expand OtherPrimary ∷ []) c.args.self.now []) (to_choice (next c.args.self.now) c.requires.begins)) c.in_ok-expect_reserved.ensures) c.in_ok-when.ensures in
+    let branch = c.in_ok-branch.ensures in
+    giving (reads (Expand Arms ∷ []) (branches_value c.start-at.result c.branch-self.new.branches.items ∷ []) [] (does (reads branch_value [] _ began branch.3) (λ under. rw (branch.2, c.new-branches.ensures.items, ← (taken_from c.in_ok-expect_reserved.ensures), ← c.start-at.ensures) refl)) (c.in_ok-last.ensures c.start-at.result)) (rw (view_Choose c.start-at.result c.more_branches.new.branches c.in_ok-last.last) refl)
+
+pub branch-returns-in_err-expect_symbol : goal.branch-returns-in_err-expect_symbol
+branch-returns-in_err-expect_symbol t c =
+    let p = err_from_is_err_and c.from_residual.result c.from_residual.ensures.1 in
+    rw (p.1, p.2) (stops_at _ (start branch_value c.args.self.now []) c.in_err-expect_symbol.ensures)
+
+pub branch-returns-in_err-value : goal.branch-returns-in_err-value
+branch-returns-in_err-value t c =
+    let p = err_from_is_err_and c.from_residual-in_err-value.result c.from_residual-in_err-value.ensures.1 in
+    rw (p.1, p.2) (stops_at _ (matches (start branch_value c.args.self.now []) c.in_ok-expect_symbol.ensures) c.in_err-value.ensures)
+
+pub branch-returns : goal.branch-returns
+branch-returns t c =
+    let arrow = c.in_ok-expect_symbol.ensures in
+    (arrow.token, c.in_ok-value.value, c.in_ok-push.ensures.items, parses (matches (start branch_value c.args.self.now []) arrow) c.in_ok-value.ensures)
+
+pub more_branches-returns-in_err-branch : goal.more_branches-returns-in_err-branch
+more_branches-returns-in_err-branch t c =
+    let p = err_from_is_err_and c.from_residual-in_err-branch.result c.from_residual-in_err-branch.ensures.1 in
+    λ at. rw (p.1, p.2) (stops branch_value _ [] _ _ (first (parses (matches (only (c.arms.invariant at) refl) c.in_ok-expect_symbol.ensures) c.in_ok-part.ensures) refl (sym c.if-not-is_symbol.ensures.value)) c.in_err-branch.ensures)
+
+pub more_branches-arms-preserved : goal.more_branches-arms-preserved
+more_branches-arms-preserved t c =
+    let branch = c.in_ok-branch.ensures in
+    λ at. does (reads branch_value [] _ (first (parses (matches (only (c.arms.invariant at) refl) c.in_ok-expect_symbol.ensures) c.in_ok-part.ensures) refl (sym c.if-not-is_symbol.ensures.value)) branch.3) (λ under. rw (branch.2, map-append view_branch) refl)
+
+pub more_branches-branch-self-requires : goal.more_branches-branch-self-requires
+more_branches-branch-self-requires t c =
     let so_far = c.arms.invariant 0 in
     let bar = c.in_ok-expect_symbol.ensures in
     let part = c.in_ok-part.ensures in

@@ -44,8 +44,8 @@ decreases-cast l = 8 * (length l.self.now.tokens.now - l.self.now.at) + 1
 abbrev pub decreases-choice : goal.decreases-choice
 decreases-choice l = 8 * (length l.self.now.tokens.now - l.self.now.at) + 0
 
-abbrev pub decreases-branch_value : goal.decreases-branch_value
-decreases-branch_value l = 8 * (length l.self.now.tokens.now - l.self.now.at) + 0
+abbrev pub decreases-branch : goal.decreases-branch
+decreases-branch l = 8 * (length l.self.now.tokens.now - l.self.now.at) + 0
 
 abbrev pub decreases-more_branches : goal.decreases-more_branches
 decreases-more_branches l = 8 * (length l.self.now.tokens.now - l.self.now.at) + 0
