@@ -10,6 +10,7 @@ use Rattle.fix_word.specs.declared.types.SigType.{SigType}
 use Rattle.fix_word.specs.declared.types.SigType.TheVariants as sig
 use Rattle.fix_word.specs.declared.operation.Op.TheVariants as op
 use Rattle.signal_graph.specs.declared.graph.Edge.{Edge}
+use Rattle.signal_graph.specs.declared.graph.Node.{Node}
 use Rattle.signal_graph.specs.declared.graph.Graph.{Graph}
 use Rattle.signal_graph.specs.Rules.{plain, word_before}
 use Rattle.signal_graph.specs.Flat.{read, calculation, no_part, part, word, value, Element, Program}
@@ -37,16 +38,25 @@ accumulator = record {
 abbrev pub edge : ℕ → ℕ → Edge
 edge node delay = record { node = node; delay = delay }
 
-abbrev pub its_graph : Graph
-its_graph = record {
-  nodes =
-      record { op = op.Input; fmt = plain 0; arg = pos 0; edges = []; inits = []; width = 8; ram = 0 }
-      ∷ record { op = op.Add; fmt = plain 8; arg = pos 0; edges = edge 0 0 ∷ edge 1 1 ∷ []; inits = (1, pos 5) ∷ []; width = 8; ram = 0 }
-      ∷ record { op = op.Output; fmt = plain 0; arg = pos 0; edges = edge 1 0 ∷ []; inits = []; width = 8; ram = 0 }
-      ∷ [];
-  inputs = byte ∷ [];
-  outs = 1;
+abbrev pub input_node : Node
+input_node = record { op = op.Input; fmt = plain 0; arg = pos 0; edges = []; inits = []; width = 8; ram = 0 }
+
+abbrev pub sum_node : Node
+sum_node = record {
+  op = op.Add;
+  fmt = plain 8;
+  arg = pos 0;
+  edges = edge 0 0 ∷ edge 1 1 ∷ [];
+  inits = (1, pos 5) ∷ [];
+  width = 8;
+  ram = 0;
 }
+
+abbrev pub output_node : Node
+output_node = record { op = op.Output; fmt = plain 0; arg = pos 0; edges = edge 1 0 ∷ []; inits = []; width = 8; ram = 0 }
+
+abbrev pub its_graph : Graph
+its_graph = record { nodes = input_node ∷ sum_node ∷ output_node ∷ []; inputs = byte ∷ []; outs = 1 }
 
 abbrev stream : Rows
 stream = (pos 1 ∷ []) ∷ (pos 2 ∷ []) ∷ (pos 120 ∷ []) ∷ []

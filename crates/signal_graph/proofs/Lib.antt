@@ -3,3 +3,4 @@ pub mod Tests
 pub mod OneSolution
 mod Examples
 mod GraphExamples
+mod SoundExamples
