@@ -3,6 +3,7 @@ pub mod Tests
 pub mod Ready
 pub mod OneSolution
 pub mod OneGraph
+pub mod OnePruned
 mod Examples
 mod GraphExamples
 mod SoundExamples
