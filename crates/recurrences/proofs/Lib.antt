@@ -1,3 +1,4 @@
+pub mod Bools
 pub mod Determined
 pub mod Samples
 pub mod Unique

@@ -1,31 +1,12 @@
 -- Which number of a finite relation reaches which, as a test (Warshall's algorithm).
-use Rattle.std.proofs.Common.{◌≡◌, ◌<◌, ◌≤◌, ◌⊎◌, inl, inr, ℕ, zero, suc, Bool, true, false, ◌&&◌, ◌||◌, refl, subst, arith}
+use Rattle.std.proofs.Common.{◌≡◌, ◌<◌, ◌≤◌, ◌⊎◌, inl, inr, ℕ, zero, suc, Bool, true, ◌&&◌, ◌||◌, subst, arith}
 use Rattle.std.proofs.lemmas.Bool.{cases_lt}
+use Rattle.recurrences.proofs.Bools.{either, or_cases, both, both_cases}
 
 -- from e to c by the relation, through numbers below k
 pub data Via (R : ℕ → ℕ → Type 0) (k : ℕ) : ℕ → ℕ → Type 0 where
   last : {e c : ℕ} → R e c → Via R k e c
   more : {e c : ℕ} (d : ℕ) → d < k → R e d → Via R k d c → Via R k e c
-
-or_left : (a b : Bool) → a ≡ true → (a || b) ≡ true
-or_left true b h = refl
-or_left false b h = cc
-
-or_right : (a b : Bool) → b ≡ true → (a || b) ≡ true
-or_right true b h = refl
-or_right false b h = h
-
-or_cases : (a b : Bool) → (a || b) ≡ true → (a ≡ true) ⊎ (b ≡ true)
-or_cases true b h = inl refl
-or_cases false b h = inr h
-
-both : (a b : Bool) → a ≡ true → b ≡ true → (a && b) ≡ true
-both true b x y = y
-both false b x y = x
-
-both_cases : (a b : Bool) → (a && b) ≡ true → (a ≡ true) × (b ≡ true)
-both_cases true b h = (refl, h)
-both_cases false b h = cc
 
 module _ (R : ℕ → ℕ → Type 0) (test : ℕ → ℕ → Bool) (tests : (e d : ℕ) → (test e d ≡ true → R e d) × (R e d → test e d ≡ true)) where
   -- whether e reaches c through numbers below k
@@ -56,8 +37,8 @@ module _ (R : ℕ → ℕ → Type 0) (test : ℕ → ℕ → Bool) (tests : (e 
   complete (suc k) e c p = by (split k p) (λ a b q. complete k a b q)
     where
       by : Via R k e c ⊎ (Via R k e k × Via R k k c) → ((a b : ℕ) → Via R k a b → reach k a b ≡ true) → (reach k e c || (reach k e k && reach k k c)) ≡ true
-      by (inl q) ih = or_left _ _ (ih e c q)
-      by (inr q) ih = or_right (reach k e c) _ (both _ _ (ih e k q.0) (ih k c q.1))
+      by (inl q) ih = either _ _ (inl (ih e c q))
+      by (inr q) ih = either (reach k e c) _ (inr (both _ _ (ih e k q.0) (ih k c q.1)))
 
   module _ (Path : ℕ → ℕ → Type 0) (step : (e d : ℕ) → R e d → Path e d) (join : (e d c : ℕ) → Path e d → Path d c → Path e c) where
     pub sound : (k e c : ℕ) → reach k e c ≡ true → Path e c

@@ -2,6 +2,7 @@ pub mod Values
 pub mod Tests
 pub mod Ready
 pub mod OneSolution
+pub mod Same
 pub mod OneGraph
 pub mod OnePruned
 mod Examples

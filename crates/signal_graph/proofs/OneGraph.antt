@@ -1,6 +1,6 @@
 -- A flat program has one graph at most.
 use Rattle.std.proofs.Common.{◌≡◌, refl, sym, subst, ap, ◌∙◌, arith, ℕ, ◌+◌, ◌-◌, ◌<◌, ◌≤◌, ◌⊎◌, inl, inr, Bool, true, false, List, [], ◌∷◌, length}
-use Rattle.std.specs.Prelude.{ℤ, pos, Option, Some, slice_index_or, position}
+use Rattle.std.specs.Prelude.{ℤ, pos, slice_index_or, position}
 use Rattle.std.specs.List.{AllZip}
 use Rattle.std.proofs.lemmas.Bool.{cases_lt}
 use Rattle.std.proofs.lemmas.Option.{slice_get-get_or}
@@ -9,7 +9,6 @@ use Rattle.std.proofs.lemmas.List.Quantifiers.{position-Some}
 use Rattle.fix_word.specs.declared.operation.Op.{Op}
 use Rattle.fix_word.specs.declared.operation.Op.TheVariants as op
 use Rattle.fix_word.specs.declared.types.Format.{Format}
-use Rattle.fix_word.specs.declared.types.SigType.{SigType}
 use Rattle.signal_graph.specs.Operations.{class_of}
 use Rattle.signal_graph.specs.Rules.{plain}
 use Rattle.signal_graph.specs.declared.graph.Edge.{Edge}
@@ -18,10 +17,8 @@ use Rattle.signal_graph.specs.declared.graph.Graph.{Graph}
 use Rattle.signal_graph.specs.Flat.{Expr, raw, read, calculation, Body, word, value, Program, size}
 use Rattle.signal_graph.specs.FlatSolves.{element_of}
 use Rattle.signal_graph.specs.GraphSolves.{no_node, node_of}
+use Rattle.signal_graph.proofs.Same.{some_once, same_edge, same_graph}
 use Rattle.signal_graph.specs.GraphOf.{Operand, number, place, element, Made, nothing, constant, input, operation, Site, node_sites, Target, word_node, node_at, has_pass, IsNumber, IsNodeOf, input_node, pass_node, own_node, word_alias, read_alias, IsEdgeTo, IsLeastWidth, node_format, node_width, inits_at, IsMade, IsOutputOf, IsGraphOf}
-
-some_once : {A : Type 0} (o : Option A) (x y : A) → o ≡ Some x → o ≡ Some y → x ≡ y
-some_once o x y a b = cc
 
 abbrev no_site : Site
 no_site = record { element = 0; place = 0; made = nothing }
@@ -54,12 +51,6 @@ module _ (p : Program) where
   node_once e t u (own_node {o = o} {fmt = fmt} {parts = parts} h) q = sym (by_body e u (value (calculation o fmt parts)) q h)
   node_once e t u (word_alias {m = m} a) q = sym (subst (λ (z : Bool). ByValue e (raw m) z u) a.pass (by_body e u (value (raw m)) q a.body))
   node_once e t u (read_alias {d = d} a r) q = node_once d t u r (subst (λ (z : Bool). ByValue e (read d 0) z u) a.pass (by_body e u (value (read d 0)) q a.body))
-
-  abbrev edge_of : ℕ → ℕ → Edge
-  edge_of v ago = record { node = v; delay = ago }
-
-  same_edge : (a b : Edge) → a.node ≡ b.node → a.delay ≡ b.delay → a ≡ b
-  same_edge a b h k = ap (λ (v : ℕ). edge_of v a.delay) h ∙ ap (λ (ago : ℕ). edge_of b.node ago) k
 
   number_once : (t : Target) (v w : ℕ) → IsNumber p t v → IsNumber p t w → v ≡ w
   number_once t v w = some_once (position _ (node_sites p)) v w
@@ -146,11 +137,5 @@ module _ (p : Program) where
     nodes_same : g.nodes ≡ h.nodes
     nodes_same = ext_get_or no_node g.nodes h.nodes (is_g.count ∙ sym is_h.count) node_same
 
-    abbrev graph_of : List Node → List SigType → ℕ → Graph
-    graph_of nodes inputs outs = record { nodes = nodes; inputs = inputs; outs = outs }
-
     pub one_graph : g ≡ h
-    one_graph =
-        ap (λ (nodes : List Node). graph_of nodes g.inputs g.outs) nodes_same
-        ∙ ap (λ (inputs : List SigType). graph_of h.nodes inputs g.outs) (is_g.inputs ∙ sym is_h.inputs)
-        ∙ ap (λ (outs : ℕ). graph_of h.nodes h.inputs outs) (is_g.outs ∙ sym is_h.outs)
+    one_graph = same_graph g h nodes_same (is_g.inputs ∙ sym is_h.inputs) (is_g.outs ∙ sym is_h.outs)

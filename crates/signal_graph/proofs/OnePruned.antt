@@ -1,13 +1,13 @@
 -- A graph has one pruned graph at most.
 use Rattle.std.proofs.Common.{◌≡◌, refl, sym, subst, ap, ◌∙◌, arith, ℕ, zero, suc, ◌<◌, ◌⊎◌, inl, inr, List, [], ◌∷◌, map}
-use Rattle.std.specs.Prelude.{Option, Some, Contains}
+use Rattle.std.specs.Prelude.{Contains}
 use Rattle.std.specs.List.{AllZip, AllPairs}
 use Rattle.std.proofs.lemmas.List.Kept.{AllPairs-from_increasing}
-use Rattle.fix_word.specs.declared.types.SigType.{SigType}
 use Rattle.signal_graph.specs.declared.graph.Edge.{Edge}
 use Rattle.signal_graph.specs.declared.graph.Node.{Node}
 use Rattle.signal_graph.specs.declared.graph.Graph.{Graph}
 use Rattle.signal_graph.specs.GraphSolves.{node_of}
+use Rattle.signal_graph.proofs.Same.{some_once, same_edge, same_graph}
 use Rattle.signal_graph.specs.Pruned.{AreUsed, IsEdgeOf, IsRenumbered, IsPruned}
 
 abbrev Rises : List ℕ → Type 0
@@ -56,16 +56,8 @@ kept_once g xs ys a b =
     same_rising xs ys (AllPairs-from_increasing xs a.rise) (AllPairs-from_increasing ys b.rise)
     (λ v h. (b.used v).1 ((a.used v).0 h)) (λ v h. (a.used v).1 ((b.used v).0 h))
 
-some_once : {A : Type 0} (o : Option A) (x y : A) → o ≡ Some x → o ≡ Some y → x ≡ y
-some_once o x y a b = cc
-
-abbrev edge_of : ℕ → ℕ → Edge
-edge_of v ago = record { node = v; delay = ago }
-
 edge_once : (kept : List ℕ) (a b old : Edge) → IsEdgeOf kept a old → IsEdgeOf kept b old → a ≡ b
-edge_once kept a b old x y =
-    ap (λ (v : ℕ). edge_of v a.delay) (some_once _ a.node b.node x.node y.node)
-    ∙ ap (λ (ago : ℕ). edge_of b.node ago) (x.delay ∙ sym y.delay)
+edge_once kept a b old x y = same_edge a b (some_once _ a.node b.node x.node y.node) (x.delay ∙ sym y.delay)
 
 -- a list that is related to another one, place by place, where each element is determined
 zip_once : {A B : Type 0} (R : A → B → Type 0) → ((a b : A) (old : B) → R a old → R b old → a ≡ b) → (xs ys : List A) (olds : List B) → AllZip R xs olds → AllZip R ys olds → xs ≡ ys
@@ -81,13 +73,10 @@ node_once : (kept : List ℕ) (a b old : Node) → IsRenumbered kept a old → I
 node_once kept a b old x y =
     x.node ∙ ap (λ (edges : List Edge). record old { edges = edges }) (zip_once (IsEdgeOf kept) (edge_once kept) a.edges b.edges old.edges x.edges y.edges) ∙ sym y.node
 
-abbrev graph_of : List Node → List SigType → ℕ → Graph
-graph_of nodes inputs outs = record { nodes = nodes; inputs = inputs; outs = outs }
-
 pub one_pruned : (g a b : Graph) → IsPruned g a → IsPruned g b → a ≡ b
 one_pruned g a b x y =
     let same = kept_once g x.kept y.kept x.used y.used in
     let nodes = subst (λ (kept : List ℕ). AllZip (IsRenumbered kept) a.nodes (map (node_of g) kept)) same x.nodes in
-    ap (λ (nodes : List Node). graph_of nodes a.inputs a.outs) (zip_once (IsRenumbered y.kept) (node_once y.kept) a.nodes b.nodes (map (node_of g) y.kept) nodes y.nodes)
-    ∙ ap (λ (inputs : List SigType). graph_of b.nodes inputs a.outs) (x.inputs ∙ sym y.inputs)
-    ∙ ap (λ (outs : ℕ). graph_of b.nodes b.inputs outs) (x.outs ∙ sym y.outs)
+    same_graph a b
+    (zip_once (IsRenumbered y.kept) (node_once y.kept) a.nodes b.nodes (map (node_of g) y.kept) nodes y.nodes)
+    (x.inputs ∙ sym y.inputs) (x.outs ∙ sym y.outs)

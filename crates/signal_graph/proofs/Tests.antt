@@ -1,27 +1,11 @@
 -- Tests of what is read without a delay.
-use Rattle.std.proofs.Common.{◌≡◌, refl, sym, ℕ, Bool, true, false, ◌&&◌, ◌||◌, ◌⊎◌, inl, inr, List, [], ◌∷◌}
+use Rattle.std.proofs.Common.{◌≡◌, sym, ℕ, Bool, true, false, ◌&&◌, ◌||◌, ◌⊎◌, inl, inr, List, [], ◌∷◌}
 use Rattle.std.specs.Prelude.{◌==◌}
 use Rattle.std.proofs.lemmas.Bool.{eqb-true, eq-eqb}
+use Rattle.recurrences.proofs.Bools.{either, or_cases, both, both_cases}
 use Rattle.signal_graph.specs.declared.graph.Edge.{Edge}
 use Rattle.signal_graph.specs.Flat.{Expr, raw, read, calculation, Parts, no_part, part, Body, word, value}
 use Rattle.signal_graph.specs.Values.{Reads, PartsRead, BodyReads, EdgesRead}
-
-either : (a b : Bool) → (a ≡ true) ⊎ (b ≡ true) → (a || b) ≡ true
-either true b h = refl
-either false b (inl h) = cc
-either false b (inr h) = h
-
-or_cases : (a b : Bool) → (a || b) ≡ true → (a ≡ true) ⊎ (b ≡ true)
-or_cases true b h = inl refl
-or_cases false b h = inr h
-
-both : (a b : Bool) → a ≡ true → b ≡ true → (a && b) ≡ true
-both true b x y = y
-both false b x y = x
-
-both_cases : (a b : Bool) → (a && b) ≡ true → (a ≡ true) × (b ≡ true)
-both_cases true b h = (refl, h)
-both_cases false b h = cc
 
 -- e is d, and the delay is 0
 abbrev is_now : (d ago e : ℕ) → Bool
