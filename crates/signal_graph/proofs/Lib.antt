@@ -5,6 +5,7 @@ pub mod OneSolution
 pub mod Same
 pub mod OneGraph
 pub mod OnePruned
+pub mod PrunedSolves
 mod Examples
 mod GraphExamples
 mod SoundExamples
