@@ -5,7 +5,7 @@ use Rattle.silage_lex.specs.declared.TokenKind.TheVariants as kind
 use Rattle.silage_lex.specs.declared.punctuation.TheConstants as punctuation
 use Rattle.silage_lex.specs.declared.keywords.TheConstants as keyword
 use Rattle.silage_syntax.specs.Grammar.{Or, truth_of}
-use Rattle.silage_parse.specs.Private.ParseTable.{Punctuation, Keyword, Inside, Symbol, Expand, Act, Chain, Primary, OtherPrimary, FixIn, Arms, cast_expr, close_expr, first_arm, number, truths, productions, keyword_of, is_one}
+use Rattle.silage_parse.specs.Private.ParseTable.{Punctuation, Keyword, Inside, Symbol, Expand, Act, Chain, OtherPrimary, FixIn, Arms, cast_expr, close_expr, first_arm, number, truths, productions, keyword_of, is_one}
 use Rattle.silage_parse.specs.Private.Machine.{predict}
 use Rattle.silage_parse.specs.Private.Parsed.{in_parentheses, branch_value}
 use Rattle.silage_parse.proofs.Tables.{keyword_known, punctuation_known}

@@ -30,7 +30,7 @@ use Rattle.silage_parse.specs.declared.parser.Parser.{Parser}
 use Rattle.silage_parse.specs.declared.program.Head.{Head}
 use Rattle.silage_syntax.specs.declared.tree.Decl.{Decl}
 use Rattle.silage_parse.specs.declared.declarations.Declared.{Declared as RustDeclared}
-use Rattle.silage_parse.specs.Private.ParseTable.{productions, if_punctuation, no_subs, two_subs, one_sub, add_locals, Type_, Chain, shift_operators, add_shift, choose_expr, Terminal, Punctuation, Keyword, AName, AWhole, End, is_one, Effect, Outside, Begins, Inside, Enters, Leaves, Value, Symbol, Match, Expand, Act, modes, punctuation_of, keyword_of, Nonterminal, number, Decl_, MoreDecls, first_decl, Name_, MoreNames, first_name, Locals, no_locals, Signed, MoreWords, first_word, Target, MoreTargets, first_place, Args, Manifest_, ManifestPrimary, InitialValue, is_initial, AfterOpenName, Items_, no_items, FixIn, Words, add_table, Results, add_function, Tops}
+use Rattle.silage_parse.specs.Private.ParseTable.{productions, if_punctuation, no_subs, two_subs, one_sub, add_locals, Type_, Chain, shift_operators, add_shift, choose_expr, Terminal, Punctuation, Keyword, AName, AWhole, End, is_one, Effect, Outside, Begins, Inside, Enters, Leaves, Value, Symbol, Match, Expand, Act, modes, punctuation_of, keyword_of, Nonterminal, number, Decl_, MoreDecls, first_decl, Name_, MoreNames, first_name, Locals, no_locals, Signed, MoreWords, first_word, Target, MoreTargets, first_place, Args, Manifest_, ManifestPrimary, InitialValue, AfterOpenName, Items_, no_items, FixIn, Words, add_table, Results, add_function, Tops}
 use Rattle.silage_parse.specs.Private.ParseTable as the
 use Rattle.silage_parse.specs.Private.Machine.{branches_of, name_text, whole_value, Count, allowed, counted, Outcome, done, fault, Runs, RunsTo}
 

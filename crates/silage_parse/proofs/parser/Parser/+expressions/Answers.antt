@@ -2,8 +2,8 @@ use Rattle.std.proofs.Common.{refl, sym, ◌∙◌, [], ◌∷◌, ap, length, a
 use Rattle.std.proofs.lemmas.Result.{err_from_is_err_and}
 use Rattle.std.proofs.lemmas.List.{map-append}
 use Rattle.silage_syntax.specs.Tree.{view_expr}
-use Rattle.silage_syntax.specs.Grammar.{number_of, shift_operator}
-use Rattle.silage_parse.specs.Private.ParseTable.{close_expr, Arms, Expand, Shift, Unary, Primary, OtherPrimary, Punctuation, shift_operators}
+use Rattle.silage_syntax.specs.Grammar.{number_of}
+use Rattle.silage_parse.specs.Private.ParseTable.{close_expr, Arms, Expand, Shift, Unary, Primary, OtherPrimary, Punctuation}
 use Rattle.silage_parse.specs.Private.Parsed.{next, expr_value, view_branch, branches_value, branch_value, choice_value, choice_end, in_parentheses, shifted}
 use Rattle.silage_parse.specs.Private.Precedence.{precedence_of, operated, infixes, operation}
 use Rattle.silage_parse.proofs.Steps.{start, matches, parses, reads, does, giving, only, first, second, other, other_of_two, predicts, stops, stops_at, whole, computes, between}
