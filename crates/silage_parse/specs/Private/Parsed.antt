@@ -273,7 +273,8 @@ choice_end = keyword_of keyword.FI Inside ∷ Act choose_expr ∷ []
 -- it reads the value of a branch, and adds the branch with this condition to the others
 abbrev pub ReadsBranch : Expr → (before after : List (Expr × Expr)) → Parser → Parser → Result Unit ParseFault → Type 0
 ReadsBranch when before after from to (Ok x) = (arrow : Token) × (value : Expr)
-    × (after ≡ before ++ (when, value) ∷ []) × Leads branch_value from [] [] to (expr_value value ∷ the.token arrow ∷ [])
+    × (after ≡ before ++ (when, value) ∷ [])
+    × Leads branch_value from [] [] to (expr_value value ∷ the.token arrow ∷ [])
 ReadsBranch when before after from to (Err f) = Halts branch_value from [] f
 
 -- the tree of an operator at this byte with its operands
