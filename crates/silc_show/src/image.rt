@@ -5,7 +5,7 @@ ghost use Rattle.micro_image.specs.Valid.{IsValid};
 
 use crate::operations::operation_text;
 use crate::page::{Page, mode_text};
-use anyhow::{Result, bail};
+use crate::source::Refusal;
 use fix_word::Format;
 use micro_file::{CodeFault, FormFault, decode, encode};
 use micro_image::{Enable, Image, Issue, Kind, Take, UnitDesc, Word};
@@ -106,16 +106,14 @@ fn put_image(page: &mut Page, image: &Image) {
 }
 
 /// Whether the image is encoded to the bytes that it was decoded from.
-fn is_same(alloc: Global, image: &Image, bytes: &[u8]) -> Result<bool>
+fn is_same(alloc: Global, image: &Image, bytes: &[u8]) -> Result<bool, CodeFault>
     requires { IsValid image.now }
 {
-    match encode(alloc, image) {
-        Ok(again) => Ok(again.as_slice() == bytes),
-        Err(CodeFault::Memory) => bail!("no memory"),
-    }
+    let again = encode(alloc, image)?;
+    Ok(again.as_slice() == bytes)
 }
 
-pub fn page(alloc: Global, bytes: &[u8]) -> Result<Page> {
+pub fn page(alloc: Global, bytes: &[u8]) -> Result<Page, Refusal> {
     let mut page = Page::new(alloc);
     if bytes.len() > MICROCODE_LIMIT {
         page.text("fault TooLong\n");
@@ -124,10 +122,13 @@ pub fn page(alloc: Global, bytes: &[u8]) -> Result<Page> {
     match decode(alloc, bytes) {
         Ok(image) => {
             put_image(&mut page, &image);
-            let is_same = is_same(alloc, &image, bytes)?;
-            page.text(if is_same { "same\n" } else { "other bytes\n" });
+            match is_same(alloc, &image, bytes) {
+                Ok(true) => page.text("same\n"),
+                Ok(false) => page.text("other bytes\n"),
+                Err(CodeFault::Memory) => return Err(Page::cut(alloc)),
+            }
         }
-        Err(FormFault::Memory) => bail!("no memory"),
+        Err(FormFault::Memory) => return Err(Page::cut(alloc)),
         Err(FormFault::NotSpelled) => page.text("fault NotSpelled\n"),
     }
     Ok(page)

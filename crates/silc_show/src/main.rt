@@ -59,25 +59,24 @@ fn layer_called(word: &str) -> Option<Layer> {
     }
 }
 
-/// The page of an answer, or of what is shown in its place.
-fn shown(answer: Result<Page, Refusal>) -> Page {
-    match answer {
-        Ok(page) => page,
-        Err(refusal) => refusal,
-    }
-}
-
 /// What a layer answers for a file with these bytes.
-fn answer(alloc: Global, layer: Layer, bytes: &[u8]) -> Result<Page> {
+fn answer(alloc: Global, layer: Layer, bytes: &[u8]) -> Result<Page, Refusal> {
     match layer {
-        Layer::Tokens => Ok(shown(tokens::page(alloc, bytes))),
-        Layer::Tree => Ok(shown(tree::page(alloc, bytes))),
-        Layer::Text => Ok(shown(text::page(alloc, bytes))),
-        Layer::Names => Ok(shown(names::page(alloc, bytes))),
-        Layer::Elements => Ok(shown(elements::page(alloc, bytes))),
+        Layer::Tokens => tokens::page(alloc, bytes),
+        Layer::Tree => tree::page(alloc, bytes),
+        Layer::Text => text::page(alloc, bytes),
+        Layer::Names => names::page(alloc, bytes),
+        Layer::Elements => elements::page(alloc, bytes),
         Layer::Manifests => manifests::page(alloc, bytes),
         Layer::Words => words::page(alloc, bytes),
         Layer::Image => image::page(alloc, bytes),
+    }
+}
+
+fn print(rt: &impl Print, answer: Result<Page, Refusal>) -> Result<()> {
+    match answer {
+        Ok(page) => page.print(rt),
+        Err(refusal) => refusal.print(rt),
     }
 }
 
@@ -90,14 +89,14 @@ fn show<R: Env + Files + Print + AllocGlobal>(rt: &R) -> Result<bool> {
                 return Ok(false);
             };
             let bytes = read(rt, file.as_str())?;
-            answer(rt.alloc(), layer, &bytes)?.print(rt)?;
+            print(rt, answer(rt.alloc(), layer, &bytes))?;
         }
         [_, layer, widths, file] if layer.as_str() == "rows" => {
             let Some(channels) = rows::channels(rt.alloc(), widths.as_str())? else {
                 return Ok(false);
             };
             let samples = read(rt, file.as_str())?;
-            rows::page(rt.alloc(), &channels, &samples)?.print(rt)?;
+            print(rt, rows::page(rt.alloc(), &channels, &samples))?;
         }
         _ => return Ok(false),
     }

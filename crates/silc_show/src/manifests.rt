@@ -1,13 +1,11 @@
 //! A table of manifest constants, one a line, each with its value: `2 * i + 1 with i=3 k=-2`.
 
 use crate::page::Page;
-use crate::source::program_of;
-use anyhow::{Context, Result};
+use crate::source::{Refusal, program_of, text_of};
 use lists::{List, Name};
 use name_check::{Env, manifest};
 use silage_tree::{Item, Manifest, Program, Top};
 use std::alloc::{AllocError, Global};
-use std::str;
 
 /// The amount of the initial value that is all of a program.
 fn only_amount(program: &Program) -> Option<&Manifest> {
@@ -54,12 +52,14 @@ fn put_value(page: &mut Page, alloc: Global, row: &str) -> Result<(), AllocError
     Ok(())
 }
 
-pub fn page(alloc: Global, table: &[u8]) -> Result<Page> {
-    let table = str::from_utf8(table).context("the table is no text")?;
+pub fn page(alloc: Global, table: &[u8]) -> Result<Page, Refusal> {
+    let table = text_of(alloc, table)?;
     let mut page = Page::new(alloc);
     for row in table.lines() {
         page.text(row);
-        put_value(&mut page, alloc, row)?;
+        if put_value(&mut page, alloc, row).is_err() {
+            return Err(Page::cut(alloc));
+        }
         page.end();
     }
     Ok(page)

@@ -8,12 +8,14 @@ use std::alloc::Global;
 use std::fmt::{Debug, Display};
 use std::io::Write;
 
-/// Lines that are printed together. Where memory ran out on the way, they are cut, and none is printed.
+/// Lines that are printed together, or why none is printed.
 #[derive(Drop)]
 pub struct Page {
     bytes: Vec<u8>,
-    is_cut: bool,
+    trouble: Option<&'static str>,
 }
+
+const NO_MEMORY: &str = "no memory";
 
 /// How deep the node of a line stands, and what it is to the node above it.
 #[derive(Clone, Copy, Drop)]
@@ -40,29 +42,39 @@ impl Page {
     pub fn new(alloc: Global) -> Page {
         Page {
             bytes: Vec::new(alloc),
-            is_cut: false,
+            trouble: None,
+        }
+    }
+
+    /// The page of which nothing is printed, and why.
+    pub fn without_lines(alloc: Global, trouble: &'static str) -> Page {
+        Page {
+            bytes: Vec::new(alloc),
+            trouble: Some(trouble),
         }
     }
 
     /// The page for which there was no memory.
     pub fn cut(alloc: Global) -> Page {
-        Page {
-            bytes: Vec::new(alloc),
-            is_cut: true,
-        }
+        Page::without_lines(alloc, NO_MEMORY)
     }
 
     pub fn print(&self, rt: &impl Print) -> Result<()> {
-        if self.is_cut {
-            bail!("no memory");
+        if let Some(trouble) = self.trouble {
+            bail!("{trouble}");
         }
         rt.write_all(&self.bytes)?;
         Ok(())
     }
 
+    /// Lets nothing be printed.
+    pub fn fail(&mut self, trouble: &'static str) {
+        self.trouble = Some(trouble);
+    }
+
     pub fn bytes(&mut self, bytes: &[u8]) {
         if self.bytes.extend_from_slice(bytes).is_err() {
-            self.is_cut = true;
+            self.fail(NO_MEMORY);
         }
     }
 
@@ -95,14 +107,14 @@ impl Page {
     pub fn debug(&mut self, before: &str, value: &impl Debug) {
         self.text(before);
         if write!(self.bytes, "{value:?}").is_err() {
-            self.is_cut = true;
+            self.fail(NO_MEMORY);
         }
     }
 
     pub fn shown(&mut self, before: &str, value: &impl Display) {
         self.text(before);
         if write!(self.bytes, "{value}").is_err() {
-            self.is_cut = true;
+            self.fail(NO_MEMORY);
         }
     }
 

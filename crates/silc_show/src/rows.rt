@@ -5,7 +5,7 @@ ghost use Rattle.std.specs.List.{All};
 ghost use Rattle.sample_io.specs.Channels.{AreChannels, IsChannel};
 
 use crate::page::Page;
-use anyhow::{Result, bail};
+use crate::source::Refusal;
 use lists::List;
 use sample_io::{Channel, RowFault, RowList, RowsReadFault, put_row, read_rows};
 use std::alloc::{AllocError, Global};
@@ -36,30 +36,34 @@ pub fn channels(alloc: Global, widths: &str) -> Result<Option<List<Channel>>, Al
     Ok(Some(channels))
 }
 
-fn put_rows(page: &mut Page, list: &RowList) -> Result<()> {
-    for row in list.words.as_slice().chunks(usize::from(list.width.max(1))) {
-        if row.is_empty() || row.len() > MAX_CHANNELS {
-            bail!("a row has {} words", row.len());
-        }
-        let mut line = [0u8; LINE];
-        let size = put_row(row, &mut line);
-        page.bytes(&line[..size]);
+fn put_words(page: &mut Page, words: &[i64]) {
+    if words.is_empty() || words.len() > MAX_CHANNELS {
+        page.fail("a row has no words or too many");
+        return;
     }
-    Ok(())
+    let mut line = [0u8; LINE];
+    let size = put_row(words, &mut line);
+    page.bytes(&line[..size]);
 }
 
-pub fn page(alloc: Global, channels: &List<Channel>, samples: &[u8]) -> Result<Page>
+fn put_rows(page: &mut Page, list: &RowList) {
+    for row in list.words.as_slice().chunks(usize::from(list.width.max(1))) {
+        put_words(page, row);
+    }
+}
+
+pub fn page(alloc: Global, channels: &List<Channel>, samples: &[u8]) -> Result<Page, Refusal>
     requires { AreChannels channels.now }
 {
     let mut page = Page::new(alloc);
     match read_rows(alloc, samples, channels) {
-        Ok(list) => put_rows(&mut page, &list)?,
+        Ok(list) => put_rows(&mut page, &list),
         Err(RowsReadFault::Row(RowFault { line, at })) => {
             page.number("fault line ", line);
             page.number(" byte ", at);
             page.end();
         }
-        Err(RowsReadFault::Memory) => bail!("no memory"),
+        Err(RowsReadFault::Memory) => return Err(Page::cut(alloc)),
     }
     Ok(page)
 }

@@ -8,11 +8,12 @@ use silage_tree::Program;
 use single_def::DefFault;
 use std::alloc::Global;
 use std::fmt::Debug;
+use std::str;
 
 /// A source has at most this many bytes, and so at most this many tokens, tables and functions.
 pub const SOURCE_LIMIT: usize = 1 << 20;
 
-/// The page that is answered for a source with a fault: the fault, and the line of its place where it has one.
+/// The page that is answered in place of another: of a source the fault, and the line of its place where it has one.
 pub type Refusal = Page;
 
 fn refusal(alloc: Global, fault: &impl Debug, line: Option<u64>) -> Refusal {
@@ -90,6 +91,13 @@ fn line_of_token(source: &[u8], tokens: &Tokens, token: u32) -> u64 {
     match tokens.get(token as usize) {
         Some(token) => u64::from(token.line),
         None => last_line(source),
+    }
+}
+
+pub fn text_of(alloc: Global, table: &[u8]) -> Result<&str, Refusal> {
+    match str::from_utf8(table) {
+        Ok(text) => Ok(text),
+        Err(_) => Err(Page::without_lines(alloc, "the table is no text")),
     }
 }
 

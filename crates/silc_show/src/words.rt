@@ -13,10 +13,9 @@ ghost use Rattle.fix_word.specs.Words.{IsFormat, IsShape};
 
 use crate::operations::operation_named;
 use crate::page::Page;
-use anyhow::{Context, Result};
+use crate::source::{Refusal, text_of};
 use fix_word::{Format, LitFault, Mode, Op, Shape, apply, conv, form, literal, wrap};
-use std::alloc::Global;
-use std::str;
+use std::alloc::{AllocError, Global};
 
 /// The condition that a row breaks, so that it has no result.
 #[derive(Clone, Copy)]
@@ -254,16 +253,23 @@ fn answer_of(row: &[&str]) -> Result<Answer, Broken> {
     }
 }
 
-pub fn page(alloc: Global, table: &[u8]) -> Result<Page> {
-    let table = str::from_utf8(table).context("the table is no text")?;
+fn put_answer(page: &mut Page, alloc: Global, line: &str) -> Result<(), AllocError> {
+    let row: Vec<&str> = line.split(' ').collect(alloc)?;
+    match answer_of(&row) {
+        Ok(Answer::Word(word)) => page.number(" = ", word),
+        Ok(Answer::Fault(fault)) => page.shown(" fault: ", &fault),
+        Err(broken) => page.text(broken.text()),
+    }
+    Ok(())
+}
+
+pub fn page(alloc: Global, table: &[u8]) -> Result<Page, Refusal> {
+    let table = text_of(alloc, table)?;
     let mut page = Page::new(alloc);
     for line in table.lines() {
-        let row: Vec<&str> = line.split(' ').collect(alloc)?;
         page.text(line);
-        match answer_of(&row) {
-            Ok(Answer::Word(word)) => page.number(" = ", word),
-            Ok(Answer::Fault(fault)) => page.shown(" fault: ", &fault),
-            Err(broken) => page.text(broken.text()),
+        if put_answer(&mut page, alloc, line).is_err() {
+            return Err(Page::cut(alloc));
         }
         page.end();
     }
