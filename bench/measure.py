@@ -1,4 +1,4 @@
-"""Runs crates/silc_bench on files, and tells how long one turn takes."""
+"""Has silc_show repeat a call on files, and tells how long one turn takes."""
 import resource
 import subprocess
 import sys
@@ -6,21 +6,26 @@ import time
 from pathlib import Path
 
 ROOT = Path(__file__).resolve().parent.parent
-CRATE = ROOT / "crates" / "silc_bench"
-PROGRAM = CRATE / "out" / "silc_bench"
+PROGRAM = ROOT / "crates" / "silc_show" / "out" / "silc_show"
+# The microcode of y = x + 1.
+INCREMENT = ROOT / "tests" / "increment" / "add-8-1.mic"
 
 
 def build():
     """Builds the program where it is not there or older than its sources, and ends where that fails."""
-    status = subprocess.run([ROOT / "tools" / "build", "silc_bench"]).returncode
+    status = subprocess.run([ROOT / "tools" / "build", "silc_show"]).returncode
     if status:
         sys.exit(status)
 
 
 def run(call, turns, file):
+    """How long so many turns take. The program answers what they add up to, or the fault of the file."""
     started = time.monotonic()
-    subprocess.run([PROGRAM, call, str(turns), file], check=True, stdout=subprocess.DEVNULL)
-    return time.monotonic() - started
+    answer = subprocess.run([PROGRAM, "repeat", call, str(turns), file], check=True, stdout=subprocess.PIPE).stdout
+    taken = time.monotonic() - started
+    if not answer.strip().isdigit():
+        sys.exit(f"{call} answers {answer.decode(errors='replace')}")
+    return taken
 
 
 def best(call, turns, file):

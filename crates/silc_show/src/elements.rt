@@ -1,8 +1,16 @@
 //! The instances of a source and their elements, in the order in which the instances are entered.
 
+ghost use Rattle.std.specs.Prelude.{◌≡◌};
+ghost use Rattle.ranked_faults.specs.Ranked.{IsClear};
+ghost use Rattle.silage_syntax.specs.Tree.{view};
+ghost use Rattle.name_check.specs.NameFaults.{name_faults, IsMain};
+ghost use Rattle.name_check.specs.TopNames.{top_names};
+
 use crate::names::names_of;
 use crate::page::Page;
 use crate::source::{Refusal, of_elements, program_of};
+use name_check::Names;
+use silage_tree::Program;
 use single_def::{Element, Elements, Instance, check_defs};
 use std::alloc::Global;
 
@@ -25,13 +33,27 @@ fn put_element(page: &mut Page, number: usize, element: &Element) {
     page.end();
 }
 
-fn elements_of(alloc: Global, source: &[u8]) -> Result<Elements, Refusal> {
-    let program = program_of(alloc, source)?;
-    let names = names_of(alloc, source, &program)?;
-    match check_defs(alloc, &program, &names) {
+/// The instances and elements of a program with its names.
+pub fn expanded(
+    alloc: Global,
+    source: &[u8],
+    program: &Program,
+    names: &Names,
+) -> Result<Elements, Refusal>
+    requires clear { IsClear (name_faults (view program.now)) }
+    requires tops { names.now.tops ≡ top_names (view program.now) }
+    requires main { IsMain (view program.now) names.now.main }
+{
+    match check_defs(alloc, program, names) {
         Ok(elements) => Ok(elements),
         Err(fault) => Err(of_elements(alloc, source, fault)),
     }
+}
+
+pub fn elements_of(alloc: Global, source: &[u8]) -> Result<Elements, Refusal> {
+    let program = program_of(alloc, source)?;
+    let names = names_of(alloc, source, &program)?;
+    expanded(alloc, source, &program, &names)
 }
 
 pub fn page(alloc: Global, source: &[u8]) -> Result<Page, Refusal> {

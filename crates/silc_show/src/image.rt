@@ -5,8 +5,9 @@ ghost use Rattle.micro_image.specs.Valid.{IsValid};
 
 use crate::operations::operation_text;
 use crate::page::{Page, mode_text};
-use crate::source::Refusal;
+use crate::source::{Refusal, refusal, too_long};
 use fix_word::Format;
+use lists::Bytes;
 use micro_file::{CodeFault, FormFault, decode, encode};
 use micro_image::{Enable, Image, Issue, Kind, Take, UnitDesc, Word};
 use std::alloc::Global;
@@ -105,31 +106,37 @@ fn put_image(page: &mut Page, image: &Image) {
     }
 }
 
-/// Whether the image is encoded to the bytes that it was decoded from.
-fn is_same(alloc: Global, image: &Image, bytes: &[u8]) -> Result<bool, CodeFault>
+pub fn image_of(alloc: Global, bytes: &[u8]) -> Result<Image, Refusal>
+    ensures { IfOk result (λ image. IsValid image) }
+{
+    if bytes.len() > MICROCODE_LIMIT {
+        return Err(too_long(alloc));
+    }
+    match decode(alloc, bytes) {
+        Ok(image) => Ok(image),
+        Err(FormFault::Memory) => Err(Page::cut(alloc)),
+        Err(fault) => Err(refusal(alloc, &fault, None)),
+    }
+}
+
+pub fn bytes_of(alloc: Global, image: &Image) -> Result<Bytes, Refusal>
     requires { IsValid image.now }
 {
-    let again = encode(alloc, image)?;
-    Ok(again.as_slice() == bytes)
+    match encode(alloc, image) {
+        Ok(bytes) => Ok(bytes),
+        Err(CodeFault::Memory) => Err(Page::cut(alloc)),
+    }
 }
 
 pub fn page(alloc: Global, bytes: &[u8]) -> Result<Page, Refusal> {
+    let image = image_of(alloc, bytes)?;
+    let again = bytes_of(alloc, &image)?;
     let mut page = Page::new(alloc);
-    if bytes.len() > MICROCODE_LIMIT {
-        page.text("fault TooLong\n");
-        return Ok(page);
-    }
-    match decode(alloc, bytes) {
-        Ok(image) => {
-            put_image(&mut page, &image);
-            match is_same(alloc, &image, bytes) {
-                Ok(true) => page.text("same\n"),
-                Ok(false) => page.text("other bytes\n"),
-                Err(CodeFault::Memory) => return Err(Page::cut(alloc)),
-            }
-        }
-        Err(FormFault::Memory) => return Err(Page::cut(alloc)),
-        Err(FormFault::NotSpelled) => page.text("fault NotSpelled\n"),
-    }
+    put_image(&mut page, &image);
+    page.text(if again.as_slice() == bytes {
+        "same\n"
+    } else {
+        "other bytes\n"
+    });
     Ok(page)
 }

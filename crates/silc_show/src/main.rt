@@ -8,6 +8,7 @@ mod manifests;
 mod names;
 mod operations;
 mod page;
+mod repeat;
 mod rows;
 mod source;
 mod text;
@@ -16,6 +17,7 @@ mod tree;
 mod words;
 
 use crate::page::Page;
+use crate::repeat::call_named;
 use crate::source::Refusal;
 use anyhow::{Context, Result};
 use std::alloc::Global;
@@ -24,7 +26,8 @@ use std::rt::{Env, Files};
 use std::{env, fs};
 
 const USAGE: &str =
-    "usage: silc_show tokens|tree|text|names|elements SRC | manifests|words TABLE | image MIC | rows WIDTHS SAMPLES";
+    "usage: silc_show tokens|tree|text|names|elements SRC | manifests|words TABLE | image MIC | rows WIDTHS SAMPLES \
+     | repeat CALL TURNS FILE";
 
 const BAD_WORDS: u8 = 2;
 
@@ -80,27 +83,56 @@ fn print(rt: &impl Print, answer: Result<Page, Refusal>) -> Result<()> {
     }
 }
 
-/// Shows what the layer that the words name answers for their files. `false`: they name none.
+/// Shows what a layer answers for a file. `false`: no layer has this name.
+fn show_layer<R: Files + Print + AllocGlobal>(rt: &R, layer: &str, file: &str) -> Result<bool> {
+    let Some(layer) = layer_called(layer) else {
+        return Ok(false);
+    };
+    let bytes = read(rt, file)?;
+    print(rt, answer(rt.alloc(), layer, &bytes))?;
+    Ok(true)
+}
+
+/// Shows the rows of a sample file. `false`: these are no widths.
+fn show_rows<R: Files + Print + AllocGlobal>(rt: &R, widths: &str, file: &str) -> Result<bool> {
+    let Some(channels) = rows::channels(rt.alloc(), widths)? else {
+        return Ok(false);
+    };
+    let samples = read(rt, file)?;
+    print(rt, rows::page(rt.alloc(), &channels, &samples))?;
+    Ok(true)
+}
+
+/// Shows what the turns of a call add up to. `false`: no call has this name, or the turns are no number.
+fn show_repeat<R: Files + Print + AllocGlobal>(
+    rt: &R,
+    call: &str,
+    turns: &str,
+    file: &str,
+) -> Result<bool> {
+    let (Some(call), Ok(turns)) = (call_named(call), turns.parse::<u32>()) else {
+        return Ok(false);
+    };
+    let bytes = read(rt, file)?;
+    print(rt, repeat::page(rt.alloc(), call, turns, &bytes))?;
+    Ok(true)
+}
+
+/// Shows what the words ask for. `false`: they ask for nothing that there is.
 fn show<R: Env + Files + Print + AllocGlobal>(rt: &R) -> Result<bool> {
     let words: Vec<String> = env::args(rt)?.collect(rt.alloc())?;
     match words.as_slice() {
-        [_, layer, file] => {
-            let Some(layer) = layer_called(layer.as_str()) else {
-                return Ok(false);
-            };
-            let bytes = read(rt, file.as_str())?;
-            print(rt, answer(rt.alloc(), layer, &bytes))?;
+        [_, layer, file] => show_layer(rt, layer.as_str(), file.as_str()),
+        [_, rows, widths, file] if rows.as_str() == "rows" => show_rows(
+            rt,
+            widths.as_str(),
+            file.as_str(),
+        ),
+        [_, repeat, call, turns, file] if repeat.as_str() == "repeat" => {
+            show_repeat(rt, call.as_str(), turns.as_str(), file.as_str())
         }
-        [_, layer, widths, file] if layer.as_str() == "rows" => {
-            let Some(channels) = rows::channels(rt.alloc(), widths.as_str())? else {
-                return Ok(false);
-            };
-            let samples = read(rt, file.as_str())?;
-            print(rt, rows::page(rt.alloc(), &channels, &samples))?;
-        }
-        _ => return Ok(false),
+        _ => Ok(false),
     }
-    Ok(true)
 }
 
 fn main(rt: HostRuntime) -> ExitCode {

@@ -16,7 +16,7 @@ pub const SOURCE_LIMIT: usize = 1 << 20;
 /// The page that is answered in place of another: of a source the fault, and the line of its place where it has one.
 pub type Refusal = Page;
 
-fn refusal(alloc: Global, fault: &impl Debug, line: Option<u64>) -> Refusal {
+pub fn refusal(alloc: Global, fault: &impl Debug, line: Option<u64>) -> Refusal {
     let mut page = Page::new(alloc);
     page.debug("fault ", fault);
     if let Some(line) = line {
@@ -111,13 +111,18 @@ pub fn tokens_of(alloc: Global, source: &[u8]) -> Result<Tokens, Refusal> {
     }
 }
 
-pub fn program_of(alloc: Global, source: &[u8]) -> Result<Program, Refusal> {
-    let tokens = tokens_of(alloc, source)?;
+/// The program of the tokens of a source.
+pub fn parsed(alloc: Global, source: &[u8], tokens: &Tokens) -> Result<Program, Refusal> {
     if tokens.len() > SOURCE_LIMIT {
         return Err(too_long(alloc));
     }
-    match parse(alloc, &tokens) {
+    match parse(alloc, tokens) {
         Ok(program) => Ok(program),
-        Err(fault) => Err(of_program(alloc, source, &tokens, fault)),
+        Err(fault) => Err(of_program(alloc, source, tokens, fault)),
     }
+}
+
+pub fn program_of(alloc: Global, source: &[u8]) -> Result<Program, Refusal> {
+    let tokens = tokens_of(alloc, source)?;
+    parsed(alloc, source, &tokens)
 }

@@ -1,0 +1,5 @@
+use Rattle.std.proofs.Common.{◌≡◌, length}
+use Rattle.silc_show.proofs.repeat.clock_again.Given as goal
+
+abbrev pub invariant-loop-turn : goal.invariant-loop-turn
+invariant-loop-turn l = (l.machine.cycle ≡ l._turn) × (length l.row ≡ length l.machine.image.inputs)

@@ -1,0 +1,202 @@
+//! One call repeated on one file, for the scripts under `bench/` to measure, and the sum of what its turns give.
+
+ghost use Rattle.std.specs.Prelude.{◌≡◌, length, All, IfOk};
+ghost use Rattle.cycle_sim.specs.Machine.{IsOperand};
+ghost use Rattle.micro_image.specs.Valid.{IsValid};
+ghost use Rattle.ranked_faults.specs.Ranked.{IsClear};
+ghost use Rattle.silage_syntax.specs.Tree.{view};
+ghost use Rattle.name_check.specs.NameFaults.{name_faults, IsMain};
+ghost use Rattle.name_check.specs.TopNames.{top_names};
+
+use crate::elements::{elements_of, expanded};
+use crate::image::{bytes_of, image_of};
+use crate::names::names_of;
+use crate::page::Page;
+use crate::source::{Refusal, parsed, program_of, refusal, tokens_of};
+use cycle_sim::{Conflict, Machine};
+use micro_image::Image;
+use name_check::Names;
+use silage_tree::Program;
+use std::alloc::{AllocError, Global};
+
+/// A call, and what is added up over its turns.
+#[derive(Clone, Copy)]
+pub enum Call {
+    /// From bytes to an image: its words.
+    Decode,
+    /// From an image to bytes: these.
+    Encode,
+    /// One cycle a turn: the samples that ran.
+    Clock,
+    /// From a source to tokens: these.
+    Lex,
+    /// From tokens to a program: its tables and functions.
+    Parse,
+    /// From a program to its names: the tables and functions before `main`.
+    Names,
+    /// From a program and its names to instances and elements: the elements.
+    Elements,
+    /// From a source to instances and elements: the elements.
+    Front,
+}
+
+pub fn call_named(word: &str) -> Option<Call> {
+    match word {
+        "decode" => Some(Call::Decode),
+        "encode" => Some(Call::Encode),
+        "clock" => Some(Call::Clock),
+        "lex" => Some(Call::Lex),
+        "parse" => Some(Call::Parse),
+        "names" => Some(Call::Names),
+        "elements" => Some(Call::Elements),
+        "front" => Some(Call::Front),
+        _ => None,
+    }
+}
+
+fn decode_again(alloc: Global, turns: u32, bytes: &[u8]) -> Result<u64, Refusal> {
+    let mut words = 0u64;
+    for _ in 0..turns {
+        words = words.wrapping_add(image_of(alloc, bytes)?.words.len() as u64);
+    }
+    Ok(words)
+}
+
+fn encode_again(alloc: Global, turns: u32, image: &Image) -> Result<u64, Refusal>
+    requires { IsValid image.now }
+{
+    let mut written = 0u64;
+    for _ in 0..turns {
+        written = written.wrapping_add(bytes_of(alloc, image)?.len() as u64);
+    }
+    Ok(written)
+}
+
+fn encode_image(alloc: Global, turns: u32, bytes: &[u8]) -> Result<u64, Refusal> {
+    let image = image_of(alloc, bytes)?;
+    encode_again(alloc, turns, &image)
+}
+
+/// The machine before its first cycle.
+fn machine_of(alloc: Global, bytes: &[u8]) -> Result<Machine, Refusal>
+    ensures { IfOk result (λ machine. machine.cycle ≡ 0) }
+{
+    match Machine::load(alloc, image_of(alloc, bytes)?) {
+        Ok(machine) => Ok(machine),
+        Err(_) => Err(Page::cut(alloc)),
+    }
+}
+
+/// A row of input words.
+fn row(alloc: Global, machine: &Machine) -> Result<Vec<i64>, AllocError>
+    ensures { IfOk result (λ row. (length row.items ≡ length machine.now.image.inputs) × All IsOperand row.items) }
+{
+    vec![in alloc; 1i64; machine.inputs().len()]
+}
+
+fn clock_again(machine: &mut Machine, cycles: u32, row: &[i64]) -> Result<(), Conflict>
+    requires row { length row.now ≡ length machine.old.image.inputs }
+    requires words { All IsOperand row.now }
+    requires start { machine.old.cycle ≡ 0 }
+{
+    for _turn in 0..cycles {
+        machine.clock(row)?;
+    }
+    Ok(())
+}
+
+fn clock_machine(alloc: Global, cycles: u32, machine: &mut Machine) -> Result<u64, Refusal>
+    requires { machine.old.cycle ≡ 0 }
+{
+    let Ok(row) = row(alloc, machine) else {
+        return Err(Page::cut(alloc));
+    };
+    match clock_again(machine, cycles, &row) {
+        Ok(()) => Ok(machine.samples()),
+        Err(conflict) => Err(refusal(alloc, &conflict, None)),
+    }
+}
+
+fn clock_image(alloc: Global, cycles: u32, bytes: &[u8]) -> Result<u64, Refusal> {
+    let mut machine = machine_of(alloc, bytes)?;
+    clock_machine(alloc, cycles, &mut machine)
+}
+
+fn lex_again(alloc: Global, turns: u32, source: &[u8]) -> Result<u64, Refusal> {
+    let mut count = 0u64;
+    for _ in 0..turns {
+        count = count.wrapping_add(tokens_of(alloc, source)?.len() as u64);
+    }
+    Ok(count)
+}
+
+fn parse_again(alloc: Global, turns: u32, source: &[u8]) -> Result<u64, Refusal> {
+    let tokens = tokens_of(alloc, source)?;
+    let mut tops = 0u64;
+    for _ in 0..turns {
+        tops = tops.wrapping_add(parsed(alloc, source, &tokens)?.tops.len() as u64);
+    }
+    Ok(tops)
+}
+
+fn names_again(alloc: Global, turns: u32, source: &[u8]) -> Result<u64, Refusal> {
+    let program = program_of(alloc, source)?;
+    let mut before = 0u64;
+    for _ in 0..turns {
+        before = before.wrapping_add(u64::from(names_of(alloc, source, &program)?.main));
+    }
+    Ok(before)
+}
+
+fn elements_again(
+    alloc: Global,
+    turns: u32,
+    source: &[u8],
+    program: &Program,
+    names: &Names,
+) -> Result<u64, Refusal>
+    requires clear { IsClear (name_faults (view program.now)) }
+    requires tops { names.now.tops ≡ top_names (view program.now) }
+    requires main { IsMain (view program.now) names.now.main }
+{
+    let mut count = 0u64;
+    for _ in 0..turns {
+        count = count.wrapping_add(expanded(alloc, source, program, names)?.elements.len() as u64);
+    }
+    Ok(count)
+}
+
+fn expand_program(alloc: Global, turns: u32, source: &[u8]) -> Result<u64, Refusal> {
+    let program = program_of(alloc, source)?;
+    let names = names_of(alloc, source, &program)?;
+    elements_again(alloc, turns, source, &program, &names)
+}
+
+fn front_again(alloc: Global, turns: u32, source: &[u8]) -> Result<u64, Refusal> {
+    let mut count = 0u64;
+    for _ in 0..turns {
+        count = count.wrapping_add(elements_of(alloc, source)?.elements.len() as u64);
+    }
+    Ok(count)
+}
+
+fn sum(alloc: Global, call: Call, turns: u32, bytes: &[u8]) -> Result<u64, Refusal> {
+    match call {
+        Call::Decode => decode_again(alloc, turns, bytes),
+        Call::Encode => encode_image(alloc, turns, bytes),
+        Call::Clock => clock_image(alloc, turns, bytes),
+        Call::Lex => lex_again(alloc, turns, bytes),
+        Call::Parse => parse_again(alloc, turns, bytes),
+        Call::Names => names_again(alloc, turns, bytes),
+        Call::Elements => expand_program(alloc, turns, bytes),
+        Call::Front => front_again(alloc, turns, bytes),
+    }
+}
+
+pub fn page(alloc: Global, call: Call, turns: u32, bytes: &[u8]) -> Result<Page, Refusal> {
+    let sum = sum(alloc, call, turns, bytes)?;
+    let mut page = Page::new(alloc);
+    page.number("", sum);
+    page.end();
+    Ok(page)
+}
