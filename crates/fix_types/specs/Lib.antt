@@ -5,3 +5,4 @@ pub mod Translation
 pub mod TypedValue
 pub mod Boundary
 pub mod Numbers
+pub mod Private
