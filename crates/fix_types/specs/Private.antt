@@ -1,1 +1,4 @@
+pub mod Signals
 pub mod Sound
+pub mod Scopes
+pub mod Answers

@@ -1,8 +1,67 @@
-//! The types of a program. `specs/` has the typing table as rules, and what the typed program is and means.
+//! The types of a program: each expression as raw words, formats and operations, by the table in `specs/TypeRules`.
 #![tactic(auto)]
 
+mod copies;
+mod expressions;
 mod fault;
+mod items;
+mod lookups;
+mod nodes;
+mod operands;
+mod scope;
+mod signals;
+mod synthesis;
+mod tops;
 mod typed;
 
+ghost use Rattle.std.specs.Prelude.{◌≡◌, ◌≢◌, IfOk, OnOk, IfErr};
+ghost use Rattle.ranked_faults.specs.Ranked.{IsClear, IsFirst, AnswersOk, AnswersFault};
+ghost use Rattle.silage_syntax.specs.Tree.{view};
+ghost use Rattle.name_check.specs.TopNames.{top_names};
+ghost use Rattle.name_check.specs.NameFaults.{name_faults};
+ghost use Rattle.fix_types.specs.Boundary.{KeepsValues};
+ghost use Rattle.fix_types.specs.Numbers.{AreNumbersShort};
+ghost use Rattle.fix_types.specs.Translation.{typed_program};
+ghost use Rattle.fix_types.specs.TypedTree.{view_typed};
+ghost use Rattle.fix_types.specs.TypeFaults.{type_faults};
+ghost use Rattle.fix_types.specs.declared.fault.TypeFault.{TypeFault as FaultType};
+
 pub use fault::TypeFault;
+use lists::List;
+use name_check::Names;
+use silage_syntax::{Program, Top};
+use std::alloc::Global;
+use tops::{typed_function, typed_table};
 pub use typed::{Typed, TypedConst, TypedExpr, TypedFunc, TypedItem};
+
+/// The typed program, or the first fault of types in source order: an expression's own before those of its parts, and at
+/// a call the arguments before the places. `docs/LANGUAGE.md`, "Equations", has the typing table.
+pub fn check_types(alloc: Global, program: &Program, names: &Names) -> Result<Typed, TypeFault>
+    requires clear { IsClear (name_faults (view program.now)) }
+    requires tops { names.now.tops ≡ top_names (view program.now) }
+    requires numbers { AreNumbersShort (view program.now) }
+    ensures ok { OnOk result (IsClear (type_faults (view program.now))) }
+    ensures fault { IfErr result (λ fault. fault ≢ TypeFault.Memory → IsFirst (type_faults (view program.now)) fault) }
+    ensures typed { IfOk result (λ typed. view_typed typed ≡ typed_program (view program.now)) }
+    ensures values { OnOk result (KeepsValues (view program.now)) }
+
+    // The first fault decides the answer, unless memory runs out.
+    ensures each_ok { IsClear (type_faults (view program.now)) → AnswersOk TypeFault.Memory result }
+    ensures each_fault { (fault : FaultType) → IsFirst (type_faults (view program.now)) fault
+        → AnswersFault TypeFault.Memory fault result }
+{
+    let mut typed = Typed {
+        consts: List::new(alloc),
+        funcs: List::new(alloc),
+    };
+    for at in 0..program.tops.len() as u32 {
+        match &program.tops[at as usize] {
+            Top::Const(table) => typed.consts.push(typed_table(alloc, table)?)?,
+            Top::Func(func) => {
+                let func = typed_function(alloc, program, &names.tops, at, func)?;
+                typed.funcs.push(func)?;
+            }
+        }
+    }
+    Ok(typed)
+}
