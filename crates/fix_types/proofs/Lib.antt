@@ -5,3 +5,7 @@ pub mod TypedForms
 pub mod Literals
 pub mod OwnTypes
 pub mod SameValues
+pub mod NameTypes
+pub mod Choices
+pub mod SignalTypes
+pub mod Given

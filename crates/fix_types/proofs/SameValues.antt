@@ -333,7 +333,7 @@ module _ (p : Program) (s : Site) (words : Words) (n : ℕ) where
             sub_same at x y t _ _ (sound_shape t ok) (same_values x (Fix t) sound.0 ok k.0) (same_values y (Fix t) sound.1 ok k.1)
         same_values (binary at op.Mul x y) (Fix t) sound ok h =
             let r = product_same x y t at (sound_shape t ok) (factor_type p f x y) (factor_type p f y x) h
-                (λ ty e g. same_values x ty sound.0 (factor_sound p f types x y sound.0 sound.1 ty e) g) (λ ty e g. same_values y ty sound.1 (factor_sound p f types y x sound.1 sound.0 ty e) g) in
+            (λ ty e g. same_values x ty sound.0 (factor_sound p f types x y sound.0 sound.1 ty e) g) (λ ty e g. same_values y ty sound.1 (factor_sound p f types y x sound.1 sound.0 ty e) g) in
             record { there = λ v i. r.there v i; back = λ v i. r.back v i }
         same_values (binary at op.Lt x y) (Fix t) sound ok h = absurd (cc h)
         same_values (binary at op.Le x y) (Fix t) sound ok h = absurd (cc h)
@@ -348,27 +348,27 @@ module _ (p : Program) (s : Site) (words : Words) (n : ℕ) where
         same_values (binary at op.Mul x y) Truths sound ok h = absurd (cc h)
         same_values (binary at op.Lt x y) Truths sound ok h =
             let r = comparison_same x y at does.Lt (λ a b. a <ℤ b) (λ a b v k. k) (λ a b v k. k) (common x y) h
-                (λ ty e g. same_values x ty sound.0 (common_sound p f types x y sound.0 sound.1 ty e) g) (λ ty e g. same_values y ty sound.1 (common_sound p f types x y sound.0 sound.1 ty e) g) in
+            (λ ty e g. same_values x ty sound.0 (common_sound p f types x y sound.0 sound.1 ty e) g) (λ ty e g. same_values y ty sound.1 (common_sound p f types x y sound.0 sound.1 ty e) g) in
             record { there = λ v i. r.there v i; back = λ v i. r.back v i }
         same_values (binary at op.Le x y) Truths sound ok h =
             let r = comparison_same x y at does.Le (λ a b. a ≤ℤ b) (λ a b v k. k) (λ a b v k. k) (common x y) h
-                (λ ty e g. same_values x ty sound.0 (common_sound p f types x y sound.0 sound.1 ty e) g) (λ ty e g. same_values y ty sound.1 (common_sound p f types x y sound.0 sound.1 ty e) g) in
+            (λ ty e g. same_values x ty sound.0 (common_sound p f types x y sound.0 sound.1 ty e) g) (λ ty e g. same_values y ty sound.1 (common_sound p f types x y sound.0 sound.1 ty e) g) in
             record { there = λ v i. r.there v i; back = λ v i. r.back v i }
         same_values (binary at op.Eq x y) Truths sound ok h =
             let r = comparison_same x y at does.Eq (λ a b. a ≡ b) (λ a b v k. k) (λ a b v k. k) (common x y) h
-                (λ ty e g. same_values x ty sound.0 (common_sound p f types x y sound.0 sound.1 ty e) g) (λ ty e g. same_values y ty sound.1 (common_sound p f types x y sound.0 sound.1 ty e) g) in
+            (λ ty e g. same_values x ty sound.0 (common_sound p f types x y sound.0 sound.1 ty e) g) (λ ty e g. same_values y ty sound.1 (common_sound p f types x y sound.0 sound.1 ty e) g) in
             record { there = λ v i. r.there v i; back = λ v i. r.back v i }
         same_values (binary at op.Ne x y) Truths sound ok h =
             let r = comparison_same x y at does.Ne (λ a b. a ≢ b) (λ a b v k. k) (λ a b v k. k) (common x y) h
-                (λ ty e g. same_values x ty sound.0 (common_sound p f types x y sound.0 sound.1 ty e) g) (λ ty e g. same_values y ty sound.1 (common_sound p f types x y sound.0 sound.1 ty e) g) in
+            (λ ty e g. same_values x ty sound.0 (common_sound p f types x y sound.0 sound.1 ty e) g) (λ ty e g. same_values y ty sound.1 (common_sound p f types x y sound.0 sound.1 ty e) g) in
             record { there = λ v i. r.there v i; back = λ v i. r.back v i }
         same_values (binary at op.Gt x y) Truths sound ok h =
             let r = turned_same x y at does.Lt (λ a b. b <ℤ a) (λ a b v k. k) (λ a b v k. k) (common x y) h
-                (λ ty e g. same_values x ty sound.0 (common_sound p f types x y sound.0 sound.1 ty e) g) (λ ty e g. same_values y ty sound.1 (common_sound p f types x y sound.0 sound.1 ty e) g) in
+            (λ ty e g. same_values x ty sound.0 (common_sound p f types x y sound.0 sound.1 ty e) g) (λ ty e g. same_values y ty sound.1 (common_sound p f types x y sound.0 sound.1 ty e) g) in
             record { there = λ v i. r.there v i; back = λ v i. r.back v i }
         same_values (binary at op.Ge x y) Truths sound ok h =
             let r = turned_same x y at does.Le (λ a b. b ≤ℤ a) (λ a b v k. k) (λ a b v k. k) (common x y) h
-                (λ ty e g. same_values x ty sound.0 (common_sound p f types x y sound.0 sound.1 ty e) g) (λ ty e g. same_values y ty sound.1 (common_sound p f types x y sound.0 sound.1 ty e) g) in
+            (λ ty e g. same_values x ty sound.0 (common_sound p f types x y sound.0 sound.1 ty e) g) (λ ty e g. same_values y ty sound.1 (common_sound p f types x y sound.0 sound.1 ty e) g) in
             record { there = λ v i. r.there v i; back = λ v i. r.back v i }
         same_values (binary at op.And x y) Truths sound ok h =
             let k = two_pass (expr_rules p f x Truths) (expr_rules p f y Truths) h in

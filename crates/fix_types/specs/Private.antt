@@ -2,3 +2,5 @@ pub mod Signals
 pub mod Sound
 pub mod Scopes
 pub mod Answers
+pub mod Plans
+pub mod Choosing

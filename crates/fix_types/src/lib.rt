@@ -8,6 +8,7 @@ mod items;
 mod lookups;
 mod nodes;
 mod operands;
+mod plans;
 mod scope;
 mod signals;
 mod synthesis;

@@ -5,7 +5,11 @@ ghost use Rattle.silage_syntax.specs.Tree.{view_manifest, view_delay};
 ghost use Rattle.fix_types.specs.TypedTree.{view_expr, node as node_of, parts_of};
 ghost use Rattle.fix_types.specs.Translation as typed;
 ghost use Rattle.fix_types.specs.Translation.{one, two, three};
+ghost use Rattle.fix_types.specs.Private.Plans as plans;
+ghost use Rattle.fix_types.specs.Private.Choosing as choosing;
+ghost use Rattle.fix_types.specs.Private.Choosing.{view_pairs};
 
+use crate::plans::Plan;
 use crate::typed::TypedExpr;
 use fix_word::{FixType, Format, Mode, Op, SigType};
 use silage_syntax::Manifest;
@@ -136,4 +140,37 @@ pub(crate) fn shifted(
         ≡ node_of Op.Pass fmt (one (view_expr part)) (Some (view_manifest amount))) }
 {
     Ok(node(Op::Pass, fmt, vec![in alloc; part]?, Some(amount)))
+}
+
+/// The operation of a plan on its parts.
+pub(crate) fn joined(
+    alloc: Global,
+    plan: Plan,
+    left: TypedExpr,
+    right: TypedExpr,
+) -> Result<TypedExpr, AllocError>
+    ensures { IfOk result (λ t. view_expr t ≡ plans.joined plan (view_expr left) (view_expr right)) }
+{
+    if plan.turned {
+        binary(alloc, plan.op, plan.fmt, right, left)
+    } else {
+        binary(alloc, plan.op, plan.fmt, left, right)
+    }
+}
+
+/// The value of the first pair whose condition is true, or else the last.
+pub(crate) fn nested(
+    alloc: Global,
+    fmt: Format,
+    pairs: Vec<(TypedExpr, TypedExpr)>,
+    last: TypedExpr,
+) -> Result<TypedExpr, AllocError>
+    ensures { IfOk result (λ t. view_expr t ≡ choosing.nested fmt (view_pairs pairs.items) (view_expr last)) }
+{
+    let mut pairs = pairs;
+    let mut other = last;
+    while let Some((condition, value)) = pairs.pop() {
+        other = choice(alloc, fmt, condition, value, other)?;
+    }
+    Ok(other)
 }

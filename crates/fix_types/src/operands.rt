@@ -33,7 +33,15 @@ pub(crate) fn literal_word(l: &Lit, wanted: SigType) -> Result<i64, TypeFault>
     ensures word { IfOk result (λ word. word ≡ typed.word_of l.now wanted) }
 {
     match (*l, wanted) {
-        (Lit::Number { neg, digits, places, at }, SigType::Fix(t)) => {
+        (
+            Lit::Number {
+                neg,
+                digits,
+                places,
+                at,
+            },
+            SigType::Fix(t),
+        ) => {
             match literal(neg, digits, places, t.shape) {
                 Ok(word) => Ok(word),
                 Err(LitFault::Range) => Err(TypeFault::Literal(at)),

@@ -3,7 +3,7 @@
 ghost use Rattle.std.specs.Prelude.{◌≡◌, ℕ, List, [], IfOk, OnOk};
 ghost use Rattle.std.specs.Option.{option_or};
 ghost use Rattle.silage_syntax.specs.Tree.{view_func};
-ghost use Rattle.fix_types.specs.Private.Signals.{signal_type, decl_type, type_in};
+ghost use Rattle.fix_types.specs.Private.Signals.{signal_type, gives_type, decl_type, type_in};
 
 use fix_word::SigType;
 use indexmap::IndexMap;
@@ -42,15 +42,25 @@ impl Signals {
         self.types.get(name).copied()
     }
 
+    /// Adds the type of a declaration, unless its name has one.
+    fn declare(&mut self, decl: &Decl) -> Result<(), AllocError>
+        ensures { OnOk result ((name : List ℕ) → type_in self.new name
+            ≡ option_or (type_in self.old name) (gives_type decl.now name)) }
+    {
+        if self.types.get(&decl.name).is_some() {
+            return Ok(());
+        }
+        self.types.insert(decl.name.clone()?, decl.ty)?;
+        Ok(())
+    }
+
     /// Adds the types of declarations. The first of a name decides.
-    fn add(&mut self, decls: &[Decl]) -> Result<(), AllocError>
+    fn declare_all(&mut self, decls: &[Decl]) -> Result<(), AllocError>
         ensures { OnOk result ((name : List ℕ) → type_in self.new name
             ≡ option_or (type_in self.old name) (decl_type decls.now name)) }
     {
         for decl in decls {
-            if self.types.get(&decl.name).is_none() {
-                self.types.insert(decl.name.clone()?, decl.ty)?;
-            }
+            self.declare(decl)?;
         }
         Ok(())
     }
@@ -60,9 +70,9 @@ impl Signals {
         ensures { IfOk result (λ signals. (name : List ℕ) → type_in signals name ≡ signal_type (view_func func.now) name) }
     {
         let mut signals = Signals::new(alloc);
-        signals.add(&func.params)?;
-        signals.add(&func.results)?;
-        signals.add(&func.locals)?;
+        signals.declare_all(&func.params)?;
+        signals.declare_all(&func.results)?;
+        signals.declare_all(&func.locals)?;
         Ok(signals)
     }
 }

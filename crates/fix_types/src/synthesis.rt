@@ -2,9 +2,9 @@
 //! name, so that no part is gone over for more than one expression around it.
 
 ghost use Rattle.std.specs.Prelude.{◌≡◌, IfSome};
-ghost use Rattle.silage_syntax.specs.Tree.{view_expr};
+ghost use Rattle.silage_syntax.specs.Tree.{view_expr, view_arms};
 ghost use Rattle.silage_meaning.specs.Types as meaning;
-ghost use Rattle.fix_types.specs.Private.Scopes.{program_of, function_of, view_arms};
+ghost use Rattle.fix_types.specs.Private.Scopes.{program_of, function_of};
 ghost use Rattle.fix_types.specs.Private.Sound.{IsSound, AreSound, IsSoundType};
 
 use crate::lookups::name_type;
@@ -26,7 +26,10 @@ pub(crate) fn own_type(scope: &Scope, e: &Expr) -> Option<SigType>
         Expr::Negate(_, part) => own_type(scope, part),
         Expr::Not(_, _) => Some(SigType::Bool),
         Expr::Binary(_, op, left, right) => match op {
-            BinOp::Add | BinOp::Sub => common_type(scope, left, right),
+            BinOp::Add | BinOp::Sub => match own_type(scope, left) {
+                Some(ty) => Some(ty),
+                None => own_type(scope, right),
+            },
             BinOp::Mul => None,
             _ => Some(SigType::Bool),
         },
@@ -55,7 +58,6 @@ fn arms_type(scope: &Scope, arms: &[(Expr, Expr)]) -> Option<SigType>
 }
 
 /// The type of both sides of a comparison, and of a sum: the left part's own, or else the right part's.
-#[cycle(types)]
 pub(crate) fn common_type(scope: &Scope, left: &Expr, right: &Expr) -> Option<SigType>
     requires left { IsSound (view_expr left.now) }
     requires right { IsSound (view_expr right.now) }

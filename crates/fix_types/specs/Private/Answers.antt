@@ -1,6 +1,8 @@
 -- What a check answers, by the rules and the typed expression.
 use Rattle.std.specs.Prelude.{◌≡◌, ◌≢◌, List, map, Result, Ok, Err}
-use Rattle.ranked_faults.specs.Rules.{Rules, parts, none, ◌▸◌}
+use Rattle.std.specs.Prelude.{Vec}
+use Rattle.std.specs.Global.{Global}
+use Rattle.ranked_faults.specs.Rules.{Rules, parts}
 use Rattle.ranked_faults.specs.Private.FirstMet.{first}
 use Rattle.fix_word.specs.declared.types.SigType.{SigType}
 use Rattle.silage_syntax.specs.declared.tree.BinOp.{BinOp}
@@ -9,6 +11,7 @@ use Rattle.silage_syntax.specs.Tree.{Expr, Branches, Func, Program}
 use Rattle.fix_types.specs.TypeRules.{expr_rules, branch_rules}
 use Rattle.fix_types.specs.TypedTree.{TypedExpr, view_expr}
 use Rattle.fix_types.specs.Translation.{typed_expr}
+use Rattle.fix_types.specs.Private.Choosing.{view_pairs, typed_pairs}
 use Rattle.fix_types.specs.declared.fault.TypeFault.{TypeFault}
 use Rattle.fix_types.specs.declared.fault.TypeFault.TheVariants.{Memory}
 use Rattle.fix_types.specs.declared.typed.TypedExpr.{TypedExpr as RustExpr}
@@ -27,9 +30,12 @@ Gives rules t (Err fault) = fault ≢ Memory → first rules ≡ Err fault
 abbrev pub Types : Program → Func → Expr → SigType → Result RustExpr TypeFault → Type 0
 Types p f x ty r = Gives (expr_rules p f x ty) (typed_expr p f x ty) r
 
--- a conditional of these branches, against a type
-abbrev pub choice_rules : Program → Func → Branches → (last : Expr) → SigType → Rules TypeFault
-choice_rules p f branches last ty = parts (parts (branch_rules p f branches ty) ▸ expr_rules p f last ty ▸ none)
+-- the call answers typed pairs or the fault that is met first among the branches, or it is out of memory
+abbrev pub TypesPairs : Program → Func → Branches → SigType → Result (Vec (RustExpr × RustExpr) Global) TypeFault
+    → Type 0
+TypesPairs p f branches ty (Ok pairs) =
+    (first (parts (branch_rules p f branches ty)) ≡ Ok tt) × (view_pairs pairs.items ≡ typed_pairs p f ty branches)
+TypesPairs p f branches ty (Err fault) = fault ≢ Memory → first (parts (branch_rules p f branches ty)) ≡ Err fault
 
 -- the operator compares numbers
 abbrev pub IsComparing : BinOp → Type 0

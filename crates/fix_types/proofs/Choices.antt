@@ -1,0 +1,31 @@
+-- A conditional as the list of its branches and its last value.
+use Rattle.std.proofs.Common.{◌≡◌, ◌∙◌, ℕ, List, Vec, Box, Option, Result, refl, sym, ap, ap₂, subst}
+use Rattle.std.specs.Global.{Global}
+use Rattle.std.specs.Option.{option_or}
+use Rattle.fix_word.specs.declared.types.SigType.{SigType}
+use Rattle.silage_syntax.specs.declared.tree.Expr.{Expr as RustExpr, Choose}
+use Rattle.silage_syntax.specs.Tree.{Func, Program, choose, view_expr, view_arms}
+use Rattle.silage_syntax.proofs.Rows.{view_Choose}
+use Rattle.silage_meaning.specs.Types.{own_type, branches_type}
+use Rattle.fix_types.specs.declared.fault.TypeFault.{TypeFault}
+use Rattle.fix_types.specs.declared.typed.TypedExpr.{TypedExpr as RustTyped}
+use Rattle.fix_types.specs.Private.Answers.{Types}
+use Rattle.fix_types.specs.Private.Sound.{IsSound, AreSound}
+
+module _ (e : RustExpr) (at : ℕ) (v : Vec (RustExpr × RustExpr) Global) (b : Box RustExpr Global) (is : e ≡ Choose at v b)
+    (arms : List (RustExpr × RustExpr)) (last : RustExpr) (a : arms ≡ v.items) (l : last ≡ b.value) where
+  choice_is : view_expr e ≡ choose at (view_arms arms) (view_expr last)
+  choice_is = ap view_expr is ∙ view_Choose at v b ∙ ap₂ (λ xs x. choose at (view_arms xs) (view_expr x)) (sym a) (sym l)
+
+  pub arms_sound : IsSound (view_expr e) → AreSound (view_arms arms)
+  arms_sound h = (subst IsSound choice_is h).0
+
+  pub last_sound : IsSound (view_expr e) → IsSound (view_expr last)
+  last_sound h = (subst IsSound choice_is h).1
+
+  module _ (p : Program) (f : Func) where
+    pub choice_type : own_type p f (view_expr e) ≡ option_or (branches_type p f (view_arms arms)) (own_type p f (view_expr last))
+    choice_type = ap (own_type p f) choice_is
+
+    pub choice_given : (ty : SigType) (r : Result RustTyped TypeFault) → Types p f (choose at (view_arms arms) (view_expr last)) ty r → Types p f (view_expr e) ty r
+    choice_given ty r h = subst (λ x. Types p f x ty r) (sym choice_is) h

@@ -1,0 +1,5 @@
+use Rattle.fix_types.proofs.SignalTypes.{HasAdded}
+use Rattle.fix_types.proofs.signals.Signals.declare_all.Given as goal
+
+abbrev pub invariant-loop-decl : goal.invariant-loop-decl
+invariant-loop-decl l = HasAdded l.fn.self l.decls l.decl-index l.self
