@@ -1,5 +1,6 @@
 -- A conditional as the list of its branches and its last value.
-use Rattle.std.proofs.Common.{◌≡◌, ◌∙◌, ℕ, List, Vec, Box, Option, Result, refl, sym, ap, ap₂, subst}
+use Rattle.std.proofs.Common.{◌≡◌, ◌∙◌, ◌+◌, ◌<◌, ◌≤◌, ℕ, List, ◌∷◌, Vec, Box, Option, Some, None, Result, drop, length, get_or, refl, sym, ap, ap₂, subst}
+use Rattle.std.proofs.lemmas.List.{drop_more, drop_all}
 use Rattle.std.specs.Global.{Global}
 use Rattle.std.specs.Option.{option_or}
 use Rattle.fix_word.specs.declared.types.SigType.{SigType}
@@ -29,3 +30,14 @@ module _ (e : RustExpr) (at : ℕ) (v : Vec (RustExpr × RustExpr) Global) (b : 
 
     pub choice_given : (ty : SigType) (r : Result RustTyped TypeFault) → Types p f (choose at (view_arms arms) (view_expr last)) ty r → Types p f (view_expr e) ty r
     choice_given ty r h = subst (λ x. Types p f x ty r) (sym choice_is) h
+
+-- the branches one after another
+module _ (p : Program) (f : Func) (arms : List (RustExpr × RustExpr)) (i : ℕ) (same : branches_type p f (view_arms (drop i arms)) ≡ branches_type p f (view_arms arms)) where
+  pub found_in : (arm : RustExpr × RustExpr) (ty : SigType) → i < length arms → arm ≡ get_or arms i arm → Some ty ≡ own_type p f (view_expr arm.1) → Some ty ≡ branches_type p f (view_arms arms)
+  found_in arm ty within is own =
+      let rest = drop (i + 1) arms in
+      let here : drop i arms ≡ arm ∷ rest = drop_more arms i arm within ∙ ap (λ (x : RustExpr × RustExpr). x ∷ rest) (sym is) in
+      ap (λ (o : Option SigType). option_or o (branches_type p f (view_arms rest))) own ∙ ap (λ (xs : List (RustExpr × RustExpr)). branches_type p f (view_arms xs)) (sym here) ∙ same
+
+  pub none_in : length arms ≤ i → None ≡ branches_type p f (view_arms arms)
+  none_in past = ap (λ (xs : List (RustExpr × RustExpr)). branches_type p f (view_arms xs)) (sym (drop_all i arms past)) ∙ same

@@ -1,11 +1,12 @@
 //! Expressions against the type that is wanted.
 
 ghost use Rattle.silage_syntax.specs.Tree as tree;
-ghost use Rattle.silage_syntax.specs.Tree.{view_expr, view_arms, view_place, view_delay, view_manifest};
+ghost use Rattle.silage_syntax.specs.Tree.{view_expr, view_place, view_delay, view_manifest};
 ghost use Rattle.fix_word.specs.declared.types.SigType.TheVariants.{Fix, Bool as Truths};
 ghost use Rattle.fix_types.specs.Private.Answers.{Types, TypesPairs};
+ghost use Rattle.fix_types.specs.Private.Choosing.{branches_of};
 ghost use Rattle.fix_types.specs.Private.Scopes.{program_of, function_of};
-ghost use Rattle.fix_types.specs.Private.Sound.{IsSound, AreSound, IsSoundType};
+ghost use Rattle.fix_types.specs.Private.Sound.{IsSound, IsSoundType};
 
 use crate::lookups::name_type;
 use crate::nodes::{NO_FORMAT, chosen, joined, nested, one_bit, rounded, shifted, unary, wrapped};
@@ -56,32 +57,38 @@ pub(crate) fn typed(scope: &Scope, e: &Expr, wanted: SigType) -> Result<TypedExp
         }
         Expr::Shift(at, left, part, amount) => shift(scope, *at, *left, part, amount, wanted),
         Expr::Cast(at, ty, part) => cast(scope, *at, *ty, part, wanted),
-        Expr::Choose(_, arms, last) => {
-            let pairs = typed_arms(scope, arms, wanted)?;
+        Expr::Choose(_, _, last) => {
+            let pairs = typed_arms(scope, e, wanted)?;
             let last = typed(scope, last, wanted)?;
             Ok(nested(scope.alloc, chosen(wanted), pairs, last)?)
         }
     }
 }
 
-/// Branches in their order, each condition against `bool` and each value against the wanted type.
+/// The branches of a conditional in their order, each condition against `bool` and each value against the wanted type.
 #[cycle(exprs)]
 fn typed_arms(
     scope: &Scope,
-    arms: &[(Expr, Expr)],
+    e: &Expr,
     wanted: SigType,
 ) -> Result<Vec<(TypedExpr, TypedExpr)>, TypeFault>
-    requires arms { AreSound (view_arms arms.now) }
+    requires sound { IsSound (view_expr e.now) }
     requires wanted { IsSoundType wanted }
-    ensures { TypesPairs (program_of scope.now) (function_of scope.now) (view_arms arms.now) wanted result }
+    ensures { TypesPairs (program_of scope.now) (function_of scope.now) (branches_of (view_expr e.now)) wanted result }
 {
-    let mut pairs = Vec::with_capacity(scope.alloc, arms.len())?;
-    for arm in arms {
-        let condition = typed(scope, &arm.0, SigType::Bool)?;
-        let value = typed(scope, &arm.1, wanted)?;
-        pairs.push((condition, value))?;
+    match e {
+        Expr::Choose(_, arms, _) => {
+            let arms = arms.as_slice();
+            let mut pairs = Vec::with_capacity(scope.alloc, arms.len())?;
+            for arm in arms {
+                let condition = typed(scope, &arm.0, SigType::Bool)?;
+                let value = typed(scope, &arm.1, wanted)?;
+                pairs.push((condition, value))?;
+            }
+            Ok(pairs)
+        }
+        _ => Ok(Vec::new(scope.alloc)),
     }
-    Ok(pairs)
 }
 
 #[cycle(exprs)]

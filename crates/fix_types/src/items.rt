@@ -1,6 +1,23 @@
 //! Items: equations, calls, loops and initial values.
 
-ghost use Rattle.std.specs.Prelude.{◌≡◌, ◌≢◌, map, IfOk};
+ghost use Rattle.std.specs.Prelude.{◌≡◌, ℕ, List, All, Some, map, option_map, option_copied, slice_get};
+ghost use Rattle.ranked_faults.specs.Rules.{parts};
+ghost use Rattle.ranked_faults.specs.Private.FirstMet.{first};
+ghost use Rattle.silage_syntax.specs.Tree as tree;
+ghost use Rattle.silage_syntax.specs.Tree.{view_expr, view_place, view_manifest, view_func};
+ghost use Rattle.silage_syntax.specs.declared.tree.Decl.{Decl as DeclOf};
+ghost use Rattle.silage_meaning.specs.Types as meaning;
+ghost use Rattle.name_check.specs.Meanings as callee_of;
+ghost use Rattle.fix_types.specs.TypeRules.{against, literal_rules, expr_rules};
+ghost use Rattle.fix_types.specs.TypeRules.{argument_rules, place_rules, call_rules, item_rules, items_rules};
+ghost use Rattle.fix_types.specs.Translation as typed;
+ghost use Rattle.fix_types.specs.Translation.{typed_against, initial_word, typed_arguments};
+ghost use Rattle.fix_types.specs.TypedTree.{view_item, view_items};
+ghost use Rattle.fix_types.specs.TypedTree as typed_tree;
+ghost use Rattle.fix_types.specs.Numbers.{IsShort};
+ghost use Rattle.fix_types.specs.Private.Answers.{Gives, GivesAs, GivesItem};
+ghost use Rattle.fix_types.specs.Private.Scopes.{program_of, function_of};
+ghost use Rattle.fix_types.specs.Private.Sound.{IsSound, IsSoundItem, AreSoundItems, IsSoundType};
 
 use crate::expressions::typed;
 use crate::lookups::{function, name_type, position};
@@ -12,16 +29,41 @@ use lists::Name;
 use silage_syntax::{Decl, Expr, Func, Item, Lit, Manifest, Place};
 use std::cmp::min;
 
-/// The right side against the type of the place, which has one by the rules on names.
-fn equation(scope: &Scope, place: &Place, value: &Expr) -> Result<TypedItem, TypeFault> {
-    let value = match name_type(scope, &place.name) {
-        Some(ty) => typed(scope, value, ty)?,
-        None => TypedExpr::Raw(0),
-    };
+/// A right side against the type of the place, which has one by the rules on names.
+fn right_side(scope: &Scope, place: &Place, value: &Expr) -> Result<TypedExpr, TypeFault>
+    requires sound { IsSound (view_expr value.now) }
+    ensures { let p = program_of scope.now in let f = function_of scope.now in let x = view_expr value.now in
+        let ty = meaning.name_type p f (view_place place.now).name in
+        Gives (against (expr_rules p f x) ty) (typed_against (typed.typed_expr p f x) ty) result }
+{
+    match name_type(scope, &place.name) {
+        Some(ty) => typed(scope, value, ty),
+        None => Ok(TypedExpr::Raw(0)),
+    }
+}
+
+fn equation(scope: &Scope, place: &Place, value: &Expr) -> Result<TypedItem, TypeFault>
+    requires sound { IsSound (view_expr value.now) }
+    ensures { GivesItem (program_of scope.now) (function_of scope.now)
+        (tree.equation (view_place place.now) (view_expr value.now)) result }
+{
+    let value = right_side(scope, place, value)?;
     Ok(TypedItem::Equation {
         place: copies::place(scope.alloc, place)?,
         value,
     })
+}
+
+/// The raw word of an initial value in the type of the place.
+fn first_word(scope: &Scope, place: &Place, value: &Lit) -> Result<i64, TypeFault>
+    requires short { IsShort value.now }
+    ensures { let ty = meaning.name_type (program_of scope.now) (function_of scope.now) (view_place place.now).name in
+        GivesAs (λ word. word) (against (literal_rules value.now) ty) (initial_word value.now ty) result }
+{
+    match name_type(scope, &place.name) {
+        Some(ty) => literal_word(value, ty),
+        None => Ok(0),
+    }
 }
 
 fn initial(
@@ -29,11 +71,12 @@ fn initial(
     place: &Place,
     k: &Manifest,
     value: &Lit,
-) -> Result<TypedItem, TypeFault> {
-    let raw = match name_type(scope, &place.name) {
-        Some(ty) => literal_word(value, ty)?,
-        None => 0,
-    };
+) -> Result<TypedItem, TypeFault>
+    requires short { IsShort value.now }
+    ensures { GivesItem (program_of scope.now) (function_of scope.now)
+        (tree.initial (view_place place.now) (view_manifest k.now) value.now) result }
+{
+    let raw = first_word(scope, place, value)?;
     Ok(TypedItem::Initial {
         place: copies::place(scope.alloc, place)?,
         k: copies::manifest(scope.alloc, k)?,
@@ -42,7 +85,14 @@ fn initial(
 }
 
 /// Each argument against the type of its parameter.
-fn arguments(scope: &Scope, params: &[Decl], args: &[Expr]) -> Result<Vec<TypedExpr>, TypeFault> {
+fn arguments(scope: &Scope, params: &[Decl], args: &[Expr]) -> Result<Vec<TypedExpr>, TypeFault>
+    requires params { (k : ℕ) (d : DeclOf) → slice_get params.now k ≡ Some d → IsSoundType d.ty }
+    requires args { All IsSound (map view_expr args.now) }
+    ensures { let p = program_of scope.now in let f = function_of scope.now in
+        GivesAs (λ typed. map typed_tree.view_expr typed.items)
+        (parts (argument_rules p f params.now (map view_expr args.now)))
+        (typed_arguments p f params.now (map view_expr args.now)) result }
+{
     let mut all = Vec::with_capacity(scope.alloc, args.len())?;
     for i in 0..min(params.len(), args.len()) {
         all.push(typed(scope, &args[i], params[i].ty)?)?;
@@ -51,7 +101,10 @@ fn arguments(scope: &Scope, params: &[Decl], args: &[Expr]) -> Result<Vec<TypedE
 }
 
 /// The name of each place against the type of its result.
-fn check_places(scope: &Scope, results: &[Decl], places: &[Place]) -> Result<(), TypeFault> {
+fn check_places(scope: &Scope, results: &[Decl], places: &[Place]) -> Result<(), TypeFault>
+    ensures { result ≡ first (parts (place_rules (program_of scope.now) (function_of scope.now) results.now
+        (map view_place places.now))) }
+{
     for i in 0..min(results.len(), places.len()) {
         let place = &places[i];
         check_name(name_type(scope, &place.name), results[i].ty, place.at)?;
@@ -59,18 +112,44 @@ fn check_places(scope: &Scope, results: &[Decl], places: &[Place]) -> Result<(),
     Ok(())
 }
 
-fn params_of<'a>(callee: Option<&'a Func>) -> &'a [Decl] {
+fn params_of<'a>(callee: Option<&'a Func>) -> &'a [Decl]
+    ensures { result.now ≡ callee_of.params_of (option_map view_func (option_copied callee.entry)) }
+{
     match callee {
         None => &[],
         Some(f) => &f.params,
     }
 }
 
-fn results_of<'a>(callee: Option<&'a Func>) -> &'a [Decl] {
+fn results_of<'a>(callee: Option<&'a Func>) -> &'a [Decl]
+    ensures { result.now ≡ callee_of.results_of (option_map view_func (option_copied callee.entry)) }
+{
     match callee {
         None => &[],
         Some(f) => &f.results,
     }
+}
+
+/// The arguments of a call, once its places are checked behind them.
+fn called(
+    scope: &Scope,
+    callee: Option<&Func>,
+    places: &[Place],
+    args: &[Expr],
+) -> Result<Vec<TypedExpr>, TypeFault>
+    requires params { (k : ℕ) (d : DeclOf)
+        → slice_get (callee_of.params_of (option_map view_func (option_copied callee.entry))) k ≡ Some d
+        → IsSoundType d.ty }
+    requires args { All IsSound (map view_expr args.now) }
+    ensures { let p = program_of scope.now in let f = function_of scope.now in
+        let g = option_map view_func (option_copied callee.entry) in
+        GivesAs (λ typed. map typed_tree.view_expr typed.items)
+        (call_rules p f g (map view_place places.now) (map view_expr args.now))
+        (typed_arguments p f (callee_of.params_of g) (map view_expr args.now)) result }
+{
+    let args = arguments(scope, params_of(callee), args)?;
+    check_places(scope, results_of(callee), places)?;
+    Ok(args)
 }
 
 /// A call: its arguments, then its places.
@@ -80,10 +159,12 @@ fn call(
     func: &Name,
     args: &[Expr],
     at: u32,
-) -> Result<TypedItem, TypeFault> {
-    let callee = function(scope, func);
-    let args = arguments(scope, params_of(callee), args)?;
-    check_places(scope, results_of(callee), places)?;
+) -> Result<TypedItem, TypeFault>
+    requires args { All IsSound (map view_expr args.now) }
+    ensures { GivesItem (program_of scope.now) (function_of scope.now)
+        (tree.call (map view_place places.now) func.now (map view_expr args.now) at) result }
+{
+    let args = called(scope, function(scope, func), places, args)?;
     Ok(TypedItem::Call {
         places: copies::places(scope.alloc, places)?,
         func: position(scope, func),
@@ -93,7 +174,32 @@ fn call(
 }
 
 #[cycle(items)]
-fn typed_item(scope: &Scope, item: &Item) -> Result<TypedItem, TypeFault> {
+fn looped(
+    scope: &Scope,
+    items: &[Item],
+    index: &Name,
+    lo: &Manifest,
+    hi: &Manifest,
+    at: u32,
+) -> Result<TypedItem, TypeFault>
+    requires items { AreSoundItems (tree.view_items items.now) }
+    ensures { GivesItem (program_of scope.now) (function_of scope.now)
+        (tree.loop index.now (view_manifest lo.now) (view_manifest hi.now) (tree.view_items items.now) at) result }
+{
+    let items = typed_items(scope, items)?;
+    Ok(TypedItem::Loop {
+        index: index.clone()?,
+        lo: copies::manifest(scope.alloc, lo)?,
+        hi: copies::manifest(scope.alloc, hi)?,
+        items,
+    })
+}
+
+#[cycle(items)]
+fn typed_item(scope: &Scope, item: &Item) -> Result<TypedItem, TypeFault>
+    requires sound { IsSoundItem (tree.view_item item.now) }
+    ensures { GivesItem (program_of scope.now) (function_of scope.now) (tree.view_item item.now) result }
+{
     match item {
         Item::Equation { place, value } => equation(scope, place, value),
         Item::Call {
@@ -107,22 +213,19 @@ fn typed_item(scope: &Scope, item: &Item) -> Result<TypedItem, TypeFault> {
             lo,
             hi,
             items,
-            at: _,
-        } => {
-            let items = typed_items(scope, items)?;
-            Ok(TypedItem::Loop {
-                index: index.clone()?,
-                lo: copies::manifest(scope.alloc, lo)?,
-                hi: copies::manifest(scope.alloc, hi)?,
-                items,
-            })
-        }
+            at,
+        } => looped(scope, items, index, lo, hi, *at),
         Item::Initial { place, k, value } => initial(scope, place, k, value),
     }
 }
 
 #[cycle(items)]
-pub(crate) fn typed_items(scope: &Scope, items: &[Item]) -> Result<Vec<TypedItem>, TypeFault> {
+pub(crate) fn typed_items(scope: &Scope, items: &[Item]) -> Result<Vec<TypedItem>, TypeFault>
+    requires items { AreSoundItems (tree.view_items items.now) }
+    ensures { let p = program_of scope.now in let f = function_of scope.now in
+        GivesAs (λ all. view_items all.items) (parts (items_rules p f (tree.view_items items.now)))
+        (typed.typed_items p f (tree.view_items items.now)) result }
+{
     let mut all = Vec::with_capacity(scope.alloc, items.len())?;
     for item in items {
         all.push(typed_item(scope, item)?)?;

@@ -2,10 +2,10 @@
 //! name, so that no part is gone over for more than one expression around it.
 
 ghost use Rattle.std.specs.Prelude.{◌≡◌, IfSome};
-ghost use Rattle.silage_syntax.specs.Tree.{view_expr, view_arms};
+ghost use Rattle.silage_syntax.specs.Tree.{view_expr};
 ghost use Rattle.silage_meaning.specs.Types as meaning;
 ghost use Rattle.fix_types.specs.Private.Scopes.{program_of, function_of};
-ghost use Rattle.fix_types.specs.Private.Sound.{IsSound, AreSound, IsSoundType};
+ghost use Rattle.fix_types.specs.Private.Sound.{IsSound, IsSoundType};
 
 use crate::lookups::name_type;
 use crate::scope::Scope;
@@ -13,7 +13,6 @@ use fix_word::SigType;
 use silage_syntax::{BinOp, Expr, Lit};
 
 /// The type of its own of an expression, if it has one.
-#[cycle(types)]
 pub(crate) fn own_type(scope: &Scope, e: &Expr) -> Option<SigType>
     requires sound { IsSound (view_expr e.now) }
     ensures is { result ≡ meaning.own_type (program_of scope.now) (function_of scope.now) (view_expr e.now) }
@@ -35,26 +34,16 @@ pub(crate) fn own_type(scope: &Scope, e: &Expr) -> Option<SigType>
         },
         Expr::Shift(_, _, part, _) => own_type(scope, part),
         Expr::Cast(_, ty, _) => Some(SigType::Fix(*ty)),
-        Expr::Choose(_, arms, last) => match arms_type(scope, arms) {
-            Some(ty) => Some(ty),
-            None => own_type(scope, last),
-        },
-    }
-}
-
-/// The first type that a value of these branches has of its own.
-#[cycle(types)]
-fn arms_type(scope: &Scope, arms: &[(Expr, Expr)]) -> Option<SigType>
-    requires sound { AreSound (view_arms arms.now) }
-    ensures is { result ≡ meaning.branches_type (program_of scope.now) (function_of scope.now) (view_arms arms.now) }
-    ensures sound { IfSome result IsSoundType }
-{
-    for arm in arms {
-        if let Some(ty) = own_type(scope, &arm.1) {
-            return Some(ty);
+        Expr::Choose(_, arms, last) => {
+            let arms = arms.as_slice();
+            for arm in arms {
+                if let Some(ty) = own_type(scope, &arm.1) {
+                    return Some(ty);
+                }
+            }
+            own_type(scope, last)
         }
     }
-    None
 }
 
 /// The type of both sides of a comparison, and of a sum: the left part's own, or else the right part's.

@@ -7,35 +7,43 @@ use Rattle.ranked_faults.specs.Private.FirstMet.{first}
 use Rattle.fix_word.specs.declared.types.SigType.{SigType}
 use Rattle.silage_syntax.specs.declared.tree.BinOp.{BinOp}
 use Rattle.silage_syntax.specs.declared.tree.BinOp.TheVariants as op
-use Rattle.silage_syntax.specs.Tree.{Expr, Branches, Func, Program}
-use Rattle.fix_types.specs.TypeRules.{expr_rules, branch_rules}
-use Rattle.fix_types.specs.TypedTree.{TypedExpr, view_expr}
-use Rattle.fix_types.specs.Translation.{typed_expr}
+use Rattle.silage_syntax.specs.Tree.{Expr, Branches, Item, Func, Program}
+use Rattle.fix_types.specs.TypeRules.{expr_rules, branch_rules, item_rules}
+use Rattle.fix_types.specs.TypedTree.{TypedExpr, view_expr, view_item}
+use Rattle.fix_types.specs.Translation.{typed_expr, typed_item}
 use Rattle.fix_types.specs.Private.Choosing.{view_pairs, typed_pairs}
 use Rattle.fix_types.specs.declared.fault.TypeFault.{TypeFault}
 use Rattle.fix_types.specs.declared.fault.TypeFault.TheVariants.{Memory}
 use Rattle.fix_types.specs.declared.typed.TypedExpr.{TypedExpr as RustExpr}
+use Rattle.fix_types.specs.declared.typed.TypedItem.{TypedItem as RustItem}
 
 -- the call, which takes no memory, answers as a table is met
 abbrev pub Meets : {A : Type 0} → Rules TypeFault → Result A TypeFault → Type 0
 Meets rules (Ok x) = first rules ≡ Ok tt
 Meets rules (Err fault) = first rules ≡ Err fault
 
--- the call answers the typed expression or the fault that is met first, or it is out of memory
+-- the call answers what is seen as t or the fault that is met first, or it is out of memory
+abbrev pub GivesAs : {A B : Type 0} → (A → B) → Rules TypeFault → B → Result A TypeFault → Type 0
+GivesAs view rules t (Ok x) = (first rules ≡ Ok tt) × (view x ≡ t)
+GivesAs view rules t (Err fault) = fault ≢ Memory → first rules ≡ Err fault
+
 abbrev pub Gives : Rules TypeFault → TypedExpr → Result RustExpr TypeFault → Type 0
-Gives rules t (Ok x) = (first rules ≡ Ok tt) × (view_expr x ≡ t)
-Gives rules t (Err fault) = fault ≢ Memory → first rules ≡ Err fault
+Gives rules t r = GivesAs view_expr rules t r
 
 -- the same of an expression against a type
 abbrev pub Types : Program → Func → Expr → SigType → Result RustExpr TypeFault → Type 0
 Types p f x ty r = Gives (expr_rules p f x ty) (typed_expr p f x ty) r
 
--- the call answers typed pairs or the fault that is met first among the branches, or it is out of memory
+-- the same of branches, as pairs of a condition and a value
 abbrev pub TypesPairs : Program → Func → Branches → SigType → Result (Vec (RustExpr × RustExpr) Global) TypeFault
     → Type 0
-TypesPairs p f branches ty (Ok pairs) =
-    (first (parts (branch_rules p f branches ty)) ≡ Ok tt) × (view_pairs pairs.items ≡ typed_pairs p f ty branches)
-TypesPairs p f branches ty (Err fault) = fault ≢ Memory → first (parts (branch_rules p f branches ty)) ≡ Err fault
+TypesPairs p f branches ty r =
+    GivesAs (λ (pairs : Vec (RustExpr × RustExpr) Global). view_pairs pairs.items) (parts (branch_rules p f branches ty))
+    (typed_pairs p f ty branches) r
+
+-- the same of an item
+abbrev pub GivesItem : Program → Func → Item → Result RustItem TypeFault → Type 0
+GivesItem p f x r = GivesAs view_item (item_rules p f x) (typed_item p f x) r
 
 -- the operator compares numbers
 abbrev pub IsComparing : BinOp → Type 0
