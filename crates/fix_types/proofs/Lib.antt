@@ -9,3 +9,4 @@ pub mod NameTypes
 pub mod Choices
 pub mod SignalTypes
 pub mod Given
+pub mod ShortNumbers
