@@ -15,7 +15,7 @@ use Rattle.fix_types.specs.Private.Sound.{IsSound, AreSound}
 
 module _ (e : RustExpr) (at : ℕ) (v : Vec (RustExpr × RustExpr) Global) (b : Box RustExpr Global) (is : e ≡ Choose at v b)
     (arms : List (RustExpr × RustExpr)) (last : RustExpr) (a : arms ≡ v.items) (l : last ≡ b.value) where
-  choice_is : view_expr e ≡ choose at (view_arms arms) (view_expr last)
+  pub choice_is : view_expr e ≡ choose at (view_arms arms) (view_expr last)
   choice_is = ap view_expr is ∙ view_Choose at v b ∙ ap₂ (λ xs x. choose at (view_arms xs) (view_expr x)) (sym a) (sym l)
 
   pub arms_sound : IsSound (view_expr e) → AreSound (view_arms arms)

@@ -10,3 +10,4 @@ pub mod Choices
 pub mod SignalTypes
 pub mod Given
 pub mod ShortNumbers
+pub mod ChoiceTyped
