@@ -43,7 +43,7 @@ module _ (es : Entries) (d : Decl) (q : List ℕ) where
           e ∙ sym (ap (λ (o : Option SigType). option_or o (Some d.ty)) e)
       by false same = nothing (type_in es q)
 
-declared_head : (d : Decl) (ds : List Decl) (q : List ℕ) → decl_type (d ∷ ds) q ≡ option_or (gives_type d q) (decl_type ds q)
+pub declared_head : (d : Decl) (ds : List Decl) (q : List ℕ) → decl_type (d ∷ ds) q ≡ option_or (gives_type d q) (decl_type ds q)
 declared_head d ds q = by (bytes_eq d.name q)
   where
     by : (b : Bool) → option_map (λ (x : Decl). x.ty) (cond b (Some d) (find (λ (x : Decl). bytes_eq x.name q) ds)) ≡ option_or (cond b (Some d.ty) None) (decl_type ds q)
@@ -79,7 +79,7 @@ declared-append (x ∷ xs) ys q =
     declared_head x (xs ++ ys) q ∙ ap (option_or (gives_type x q)) (declared-append xs ys q) ∙ sym (either_assoc (gives_type x q) (decl_type xs q) (decl_type ys q))
     ∙ ap (λ (o : Option SigType). option_or o (decl_type ys q)) (sym (declared_head x xs q))
 
-numbered : (q : List ℕ) (k : ℕ) (ds : List Decl) → option_map (λ (d : ℕ × Decl). d.1.ty) (find (λ (d : ℕ × Decl). bytes_eq d.1.name q) (enumerate_from k ds)) ≡ decl_type ds q
+pub numbered : (q : List ℕ) (k : ℕ) (ds : List Decl) → option_map (λ (d : ℕ × Decl). d.1.ty) (find (λ (d : ℕ × Decl). bytes_eq d.1.name q) (enumerate_from k ds)) ≡ decl_type ds q
 numbered q k [] = refl
 numbered q k (d ∷ ds) = by (bytes_eq d.name q) (numbered q (k + 1) ds)
   where

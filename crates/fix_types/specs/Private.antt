@@ -4,3 +4,4 @@ pub mod Scopes
 pub mod Answers
 pub mod Plans
 pub mod Choosing
+pub mod ItemLists
