@@ -11,3 +11,4 @@ pub mod SignalTypes
 pub mod Given
 pub mod ShortNumbers
 pub mod ChoiceTyped
+pub mod SoundNames
