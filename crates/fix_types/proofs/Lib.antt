@@ -12,3 +12,7 @@ pub mod Given
 pub mod ShortNumbers
 pub mod ChoiceTyped
 pub mod SoundNames
+pub mod TopSteps
+pub mod ItemSteps
+pub mod Kept
+pub mod TypeAnswers

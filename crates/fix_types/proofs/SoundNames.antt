@@ -172,7 +172,7 @@ params_sound tops signals (x ∷ xs) ys h (suc k) d e =
     params_sound tops (signals ++ x.name ∷ []) xs ys (tail_met (rules.decl_rules tops signals x) (rules.signal_rules tops (signals ++ x.name ∷ []) (xs ++ ys)) h) k d e
 
 -- what is found among tables, and among functions, stands among both
-table_found : (q : ConstDef → Bool) (P : ConstDef → Type 0) (ts : List Top) → ((k : ℕ) (t : ConstDef) → slice_get ts k ≡ Some (table t) → P t)
+pub table_found : (q : ConstDef → Bool) (P : ConstDef → Type 0) (ts : List Top) → ((k : ℕ) (t : ConstDef) → slice_get ts k ≡ Some (table t) → P t)
     → (t : ConstDef) → find q (filter_map as_table ts) ≡ Some t → P t
 table_found q P [] h t e = absurd (cc)
 table_found q P (function f ∷ ts) h t e = table_found q P ts (λ k u is. h (suc k) u is) t e

@@ -1,6 +1,6 @@
 //! Items: equations, calls, loops and initial values.
 
-ghost use Rattle.std.specs.Prelude.{◌≡◌, ℕ, List, All, Some, map, option_map, option_copied, slice_get};
+ghost use Rattle.std.specs.Prelude.{◌≡◌, ℕ, List, All, Some, map, option_map, option_copied, slice_get, IfOk};
 ghost use Rattle.ranked_faults.specs.Rules.{parts};
 ghost use Rattle.ranked_faults.specs.Private.FirstMet.{first};
 ghost use Rattle.silage_syntax.specs.Tree as tree;
@@ -9,13 +9,14 @@ ghost use Rattle.silage_syntax.specs.declared.tree.Decl.{Decl as DeclOf};
 ghost use Rattle.silage_meaning.specs.Types as meaning;
 ghost use Rattle.name_check.specs.Meanings as callee_of;
 ghost use Rattle.fix_types.specs.TypeRules.{against, literal_rules, expr_rules};
-ghost use Rattle.fix_types.specs.TypeRules.{argument_rules, place_rules, call_rules, item_rules, items_rules};
+ghost use Rattle.fix_types.specs.TypeRules.{argument_rules, place_rules, call_rules};
 ghost use Rattle.fix_types.specs.Translation as typed;
 ghost use Rattle.fix_types.specs.Translation.{typed_against, initial_word, typed_arguments};
 ghost use Rattle.fix_types.specs.TypedTree.{view_item, view_items};
 ghost use Rattle.fix_types.specs.TypedTree as typed_tree;
 ghost use Rattle.fix_types.specs.Numbers.{IsShort};
-ghost use Rattle.fix_types.specs.Private.Answers.{Gives, GivesAs, GivesItem};
+ghost use Rattle.fix_types.specs.Private.Answers.{Gives, GivesAs, GivesItem, GivesItems};
+ghost use Rattle.fix_types.specs.Private.ItemLists.{items_in};
 ghost use Rattle.fix_types.specs.Private.Scopes.{program_of, function_of};
 ghost use Rattle.fix_types.specs.Private.Sound.{IsSound, IsSoundItem, AreSoundItems, IsSoundType};
 
@@ -27,6 +28,7 @@ use crate::typed::{TypedExpr, TypedItem};
 use crate::{TypeFault, copies};
 use lists::Name;
 use silage_syntax::{Decl, Expr, Func, Item, Lit, Manifest, Place};
+use std::alloc::AllocError;
 use std::cmp::min;
 
 /// A right side against the type of the place, which has one by the rules on names.
@@ -57,8 +59,9 @@ fn equation(scope: &Scope, place: &Place, value: &Expr) -> Result<TypedItem, Typ
 /// The raw word of an initial value in the type of the place.
 fn first_word(scope: &Scope, place: &Place, value: &Lit) -> Result<i64, TypeFault>
     requires short { IsShort value.now }
-    ensures { let ty = meaning.name_type (program_of scope.now) (function_of scope.now) (view_place place.now).name in
-        GivesAs (λ word. word) (against (literal_rules value.now) ty) (initial_word value.now ty) result }
+    ensures { let p = program_of scope.now in let f = function_of scope.now in
+        let ty = meaning.name_type p f (view_place place.now).name in
+        GivesAs (λ word. word) (against (literal_rules value.now) ty) (initial_word p f value.now ty) result }
 {
     match name_type(scope, &place.name) {
         Some(ty) => literal_word(value, ty),
@@ -138,7 +141,7 @@ fn called(
     args: &[Expr],
 ) -> Result<Vec<TypedExpr>, TypeFault>
     requires params { (k : ℕ) (d : DeclOf)
-        → slice_get (callee_of.params_of (option_map view_func (option_copied callee.entry))) k ≡ Some d
+        → slice_get (callee_of.params_of (option_map view_func (option_copied callee))) k ≡ Some d
         → IsSoundType d.ty }
     requires args { All IsSound (map view_expr args.now) }
     ensures { let p = program_of scope.now in let f = function_of scope.now in
@@ -173,20 +176,16 @@ fn call(
     })
 }
 
-#[cycle(items)]
 fn looped(
     scope: &Scope,
-    items: &[Item],
     index: &Name,
     lo: &Manifest,
     hi: &Manifest,
-    at: u32,
-) -> Result<TypedItem, TypeFault>
-    requires items { AreSoundItems (tree.view_items items.now) }
-    ensures { GivesItem (program_of scope.now) (function_of scope.now)
-        (tree.loop index.now (view_manifest lo.now) (view_manifest hi.now) (tree.view_items items.now) at) result }
+    items: Vec<TypedItem>,
+) -> Result<TypedItem, AllocError>
+    ensures { IfOk result (λ x. view_item x
+        ≡ typed_tree.loop index.now (view_manifest lo.now) (view_manifest hi.now) (view_items items.items)) }
 {
-    let items = typed_items(scope, items)?;
     Ok(TypedItem::Loop {
         index: index.clone()?,
         lo: copies::manifest(scope.alloc, lo)?,
@@ -212,19 +211,45 @@ fn typed_item(scope: &Scope, item: &Item) -> Result<TypedItem, TypeFault>
             index,
             lo,
             hi,
-            items,
-            at,
-        } => looped(scope, items, index, lo, hi, *at),
+            items: _,
+            at: _,
+        } => {
+            let items = inner_items(scope, item)?;
+            Ok(looped(scope, index, lo, hi, items)?)
+        }
         Item::Initial { place, k, value } => initial(scope, place, k, value),
     }
 }
 
+/// The items of a loop. Another item has none in it.
 #[cycle(items)]
+fn inner_items(scope: &Scope, item: &Item) -> Result<Vec<TypedItem>, TypeFault>
+    requires sound { IsSoundItem (tree.view_item item.now) }
+    ensures { GivesItems (program_of scope.now) (function_of scope.now) (items_in (tree.view_item item.now)) result }
+{
+    match item {
+        Item::Loop {
+            index: _,
+            lo: _,
+            hi: _,
+            items,
+            at: _,
+        } => {
+            let items = items.as_slice();
+            let mut all = Vec::with_capacity(scope.alloc, items.len())?;
+            for item in items {
+                all.push(typed_item(scope, item)?)?;
+            }
+            Ok(all)
+        }
+        _ => Ok(Vec::new(scope.alloc)),
+    }
+}
+
+/// The items of a function, in their order.
 pub(crate) fn typed_items(scope: &Scope, items: &[Item]) -> Result<Vec<TypedItem>, TypeFault>
     requires items { AreSoundItems (tree.view_items items.now) }
-    ensures { let p = program_of scope.now in let f = function_of scope.now in
-        GivesAs (λ all. view_items all.items) (parts (items_rules p f (tree.view_items items.now)))
-        (typed.typed_items p f (tree.view_items items.now)) result }
+    ensures { GivesItems (program_of scope.now) (function_of scope.now) (tree.view_items items.now) result }
 {
     let mut all = Vec::with_capacity(scope.alloc, items.len())?;
     for item in items {

@@ -15,7 +15,7 @@ mod synthesis;
 mod tops;
 mod typed;
 
-ghost use Rattle.std.specs.Prelude.{◌≡◌, ◌≢◌, IfOk, OnOk, IfErr};
+ghost use Rattle.std.specs.Prelude.{◌≡◌, ◌≢◌, ◌<◌, ◌^◌, length, IfOk, OnOk, IfErr};
 ghost use Rattle.ranked_faults.specs.Ranked.{IsClear, IsFirst, AnswersOk, AnswersFault};
 ghost use Rattle.silage_syntax.specs.Tree.{view};
 ghost use Rattle.name_check.specs.TopNames.{top_names};
@@ -28,11 +28,10 @@ ghost use Rattle.fix_types.specs.TypeFaults.{type_faults};
 ghost use Rattle.fix_types.specs.declared.fault.TypeFault.{TypeFault as FaultType};
 
 pub use fault::TypeFault;
-use lists::List;
 use name_check::Names;
-use silage_syntax::{Program, Top};
+use silage_syntax::Program;
 use std::alloc::Global;
-use tops::{typed_function, typed_table};
+use tops::typed_tops;
 pub use typed::{Typed, TypedConst, TypedExpr, TypedFunc, TypedItem};
 
 /// The typed program, or the first fault of types in source order: an expression's own before those of its parts, and at
@@ -40,6 +39,7 @@ pub use typed::{Typed, TypedConst, TypedExpr, TypedFunc, TypedItem};
 pub fn check_types(alloc: Global, program: &Program, names: &Names) -> Result<Typed, TypeFault>
     requires clear { IsClear (name_faults (view program.now)) }
     requires tops { names.now.tops ≡ top_names (view program.now) }
+    requires few { length (view program.now).tops < 2 ^ 32 }
     requires numbers { AreNumbersShort (view program.now) }
     ensures ok { OnOk result (IsClear (type_faults (view program.now))) }
     ensures fault { IfErr result (λ fault. fault ≢ TypeFault.Memory → IsFirst (type_faults (view program.now)) fault) }
@@ -51,18 +51,5 @@ pub fn check_types(alloc: Global, program: &Program, names: &Names) -> Result<Ty
     ensures each_fault { (fault : FaultType) → IsFirst (type_faults (view program.now)) fault
         → AnswersFault TypeFault.Memory fault result }
 {
-    let mut typed = Typed {
-        consts: List::new(alloc),
-        funcs: List::new(alloc),
-    };
-    for at in 0..program.tops.len() as u32 {
-        match &program.tops[at as usize] {
-            Top::Const(table) => typed.consts.push(typed_table(alloc, table)?)?,
-            Top::Func(func) => {
-                let func = typed_function(alloc, program, &names.tops, at, func)?;
-                typed.funcs.push(func)?;
-            }
-        }
-    }
-    Ok(typed)
+    typed_tops(alloc, program, &names.tops)
 }

@@ -1,18 +1,40 @@
-//! Tables and functions.
+//! Tables and functions, and all of them in order.
+
+ghost use Rattle.std.specs.Prelude.{◌≡◌, ◌≢◌, ◌<◌, ◌^◌, All, IfErr, OnOk, length, map};
+ghost use Rattle.ranked_faults.specs.Rules.{parts, each};
+ghost use Rattle.ranked_faults.specs.Private.FirstMet.{first, MeetsOr};
+ghost use Rattle.fix_word.specs.declared.types.SigType.TheVariants.{Fix};
+ghost use Rattle.silage_syntax.specs.Tree as tree;
+ghost use Rattle.silage_syntax.specs.Tree.{view, view_top};
+ghost use Rattle.name_check.specs.TopNames.{top_names};
+ghost use Rattle.name_check.specs.Private.FirstTops.{IsDistinct};
+ghost use Rattle.fix_types.specs.TypeRules.{literal_rules, table_rules, top_rules, type_rules};
+ghost use Rattle.fix_types.specs.Translation as translation;
+ghost use Rattle.fix_types.specs.Translation.{word_of, typed_func, typed_program};
+ghost use Rattle.fix_types.specs.TypedTree.{view_func, view_typed};
+ghost use Rattle.fix_types.specs.Numbers.{IsShort};
+ghost use Rattle.fix_types.specs.Private.Answers.{GivesAs, AddsTop};
+ghost use Rattle.fix_types.specs.Private.Sound.{IsSoundType, IsSoundTop};
 
 use crate::items::typed_items;
 use crate::operands::literal_word;
 use crate::scope::Scope;
 use crate::signals::Signals;
-use crate::typed::{TypedConst, TypedFunc};
+use crate::typed::{Typed, TypedConst, TypedFunc};
 use crate::{TypeFault, copies};
 use fix_word::{FixType, SigType};
 use lists::List;
 use name_check::NameMap;
-use silage_syntax::{ConstDef, Func, Lit, Program};
+use silage_syntax::{ConstDef, Func, Lit, Program, Top};
 use std::alloc::Global;
 
-fn words(alloc: Global, ty: FixType, numbers: &[Lit]) -> Result<List<i64>, TypeFault> {
+/// The raw words of the numbers of a table.
+fn words(alloc: Global, ty: FixType, numbers: &[Lit]) -> Result<List<i64>, TypeFault>
+    requires type_ { IsSoundType (Fix ty) }
+    requires numbers { All IsShort numbers.now }
+    ensures { GivesAs (λ words. words) (parts (each (λ word. literal_rules word (Fix ty)) numbers.now))
+        (map (λ word. word_of word (Fix ty)) numbers.now) result }
+{
     let mut words = List::with_capacity(alloc, numbers.len())?;
     for number in numbers {
         words.push(literal_word(number, SigType::Fix(ty))?)?;
@@ -20,23 +42,34 @@ fn words(alloc: Global, ty: FixType, numbers: &[Lit]) -> Result<List<i64>, TypeF
     Ok(words)
 }
 
-pub(crate) fn typed_table(alloc: Global, table: &ConstDef) -> Result<TypedConst, TypeFault> {
+fn typed_table(alloc: Global, table: &ConstDef) -> Result<TypedConst, TypeFault>
+    requires type_ { IsSoundType (Fix table.now.ty) }
+    requires numbers { All IsShort table.now.words }
+    ensures { GivesAs (λ table. table) (table_rules table.now) (translation.typed_table table.now) result }
+{
+    let words = words(alloc, table.ty, &table.words)?;
     Ok(TypedConst {
         name: table.name.clone()?,
         dims: List::from_slice(alloc, &table.dims)?,
         ty: table.ty,
-        words: words(alloc, table.ty, &table.words)?,
+        words,
     })
 }
 
 /// The function at this position.
-pub(crate) fn typed_function(
+fn typed_function(
     alloc: Global,
     program: &Program,
     names: &NameMap,
     position: u32,
     func: &Func,
-) -> Result<TypedFunc, TypeFault> {
+) -> Result<TypedFunc, TypeFault>
+    requires named { names.now ≡ top_names (view program.now) }
+    requires apart { IsDistinct (top_names (view program.now)) }
+    requires sound { IsSoundTop (view program.now) (tree.function (tree.view_func func.now)) }
+    ensures { let p = view program.now in let f = tree.view_func func.now in
+        GivesAs view_func (top_rules p (tree.function f)) (typed_func p position f) result }
+{
     let signals = Signals::of(alloc, func)?;
     let scope = Scope {
         alloc,
@@ -53,4 +86,46 @@ pub(crate) fn typed_function(
         locals: copies::decls(alloc, &func.locals)?,
         items: List::from_vec(items),
     })
+}
+
+/// Adds the table or function at this position.
+fn add_top(
+    alloc: Global,
+    program: &Program,
+    names: &NameMap,
+    position: u32,
+    top: &Top,
+    typed: &mut Typed,
+) -> Result<(), TypeFault>
+    requires named { names.now ≡ top_names (view program.now) }
+    requires apart { IsDistinct (top_names (view program.now)) }
+    requires sound { IsSoundTop (view program.now) (view_top top.now) }
+    ensures { AddsTop (view program.now) position (view_top top.now) typed.old typed.new result }
+{
+    match top {
+        Top::Const(table) => typed.consts.push(typed_table(alloc, table)?)?,
+        Top::Func(func) => {
+            let func = typed_function(alloc, program, names, position, func)?;
+            typed.funcs.push(func)?;
+        }
+    }
+    Ok(())
+}
+
+/// The typed tables and functions, in the order of the source.
+pub(crate) fn typed_tops(alloc: Global, program: &Program, names: &NameMap) -> Result<Typed, TypeFault>
+    requires named { names.now ≡ top_names (view program.now) }
+    requires apart { IsDistinct (top_names (view program.now)) }
+    requires few { length (view program.now).tops < 2 ^ 32 }
+    requires sound { All (IsSoundTop (view program.now)) (view program.now).tops }
+    ensures { GivesAs view_typed (type_rules (view program.now)) (typed_program (view program.now)) result }
+{
+    let mut typed = Typed {
+        consts: List::new(alloc),
+        funcs: List::new(alloc),
+    };
+    for at in 0..program.tops.len() as u32 {
+        add_top(alloc, program, names, at, &program.tops[at as usize], &mut typed)?;
+    }
+    Ok(typed)
 }

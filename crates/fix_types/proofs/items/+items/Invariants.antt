@@ -9,8 +9,8 @@ use Rattle.fix_types.specs.Private.Scopes.{program_of, function_of}
 use Rattle.fix_types.specs.Private.Sound.{AreSoundItems}
 use Rattle.fix_types.proofs.items.+items.Given as goal
 
-abbrev pub invariant-typed_items-loop-item : goal.invariant-typed_items-loop-item
-invariant-typed_items-loop-item l = record {
+abbrev pub invariant-inner_items-loop-item : goal.invariant-inner_items-loop-item
+invariant-inner_items-loop-item l = record {
   sound : AreSoundItems (view_items (drop l.item-index l.items));
   met : first (parts (items_rules (program_of l.scope) (function_of l.scope) (view_items (drop l.item-index l.items))))
       ≡ first (parts (items_rules (program_of l.scope) (function_of l.scope) (view_items l.items)));
