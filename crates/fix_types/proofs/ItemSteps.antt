@@ -1,5 +1,5 @@
 -- Items, arguments and places are typed one after another.
-use Rattle.std.proofs.Common.{◌≡◌, ◌≢◌, ◌∙◌, ◌+◌, ◌<◌, ◌≤◌, ◌++◌, ◌∷◌, [], ℕ, List, Vec, Option, Some, Result, Ok, Err, IsErrAnd, min, map, drop, length, get_or, slice_get, refl, sym, ap, subst, append-nil, inl, inr, arith}
+use Rattle.std.proofs.Common.{◌≡◌, ◌≢◌, ◌∙◌, ◌+◌, ◌<◌, ◌≤◌, ◌++◌, ◌∷◌, [], ℕ, List, Vec, Option, Some, None, Result, Ok, Err, IsErrAnd, min, map, drop, length, get_or, slice_get, refl, sym, ap, subst, append-nil, inl, inr, arith}
 use Rattle.std.specs.Prelude.{All}
 use Rattle.std.specs.Global.{Global}
 use Rattle.std.proofs.lemmas.Bool.{cases_lt}
@@ -13,6 +13,8 @@ use Rattle.silage_syntax.specs.declared.tree.Item.{Item as RustItem, Loop}
 use Rattle.silage_syntax.specs.declared.tree.Manifest.{Manifest as RustManifest}
 use Rattle.silage_syntax.specs.declared.tree.Place.{Place as RustPlace}
 use Rattle.silage_syntax.specs.Tree.{Items, no_item, item, loop, Expr, Place, Func, Program, view_expr, view_place, view_manifest, view_item, view_items}
+use Rattle.silage_syntax.specs.Names.{function_named}
+use Rattle.name_check.specs.Meanings.{params_of}
 use Rattle.silage_syntax.proofs.Rows.{view_Loop}
 use Rattle.fix_types.specs.TypeRules.{item_rules, items_rules, argument_rules, place_rules}
 use Rattle.fix_types.specs.TypedTree.{TypedItem, TypedExpr, items_of, view_expr as view_typed, view_item as view_typed_item, view_items as view_typed_items}
@@ -24,7 +26,7 @@ use Rattle.fix_types.specs.declared.typed.TypedExpr.{TypedExpr as RustTyped}
 use Rattle.fix_types.specs.declared.typed.TypedItem.{TypedItem as RustTypedItem}
 use Rattle.fix_types.specs.Private.Answers.{GivesAs, GivesItem, GivesItems}
 use Rattle.fix_types.specs.Private.ItemLists.{typed_list, items_in}
-use Rattle.fix_types.specs.Private.Sound.{IsSoundType, IsSound, IsSoundItem, AreSoundItems}
+use Rattle.fix_types.specs.Private.Sound.{IsSoundType, IsSound, IsSoundItem, AreSoundItems, HasSoundTypes}
 use Rattle.fix_types.proofs.Given.{first_fails, fault_given}
 
 module _ (p : Program) (f : Func) where
@@ -109,4 +111,8 @@ module _ (p : Program) (f : Func) where
 
 pub argument_sound : (xs : List RustExpr) (i : ℕ) (x : RustExpr) → All IsSound (map view_expr xs) → i < length xs → x ≡ get_or xs i x → IsSound (view_expr x)
 argument_sound xs i x all within is =
-    subst (λ (y : Expr). IsSound y) (get_or-map view_expr xs i x (view_expr x) within ∙ ap view_expr (sym is)) (all i (view_expr x) (omega (arith, within, length-map view_expr xs)))
+    subst (λ (y : Expr). IsSound y) (get_or-map view_expr xs i x (view_expr x) within ∙ ap view_expr (sym is)) (all i (view_expr x) (omega (arith, within, length-map xs view_expr)))
+
+pub callee_sound : (p : Program) (f : Func) → HasSoundTypes p f → (name : List ℕ) (o : Option Func) → o ≡ function_named p name → (k : ℕ) (d : Decl) → slice_get (params_of o) k ≡ Some d → IsSoundType d.ty
+callee_sound p f types name None e k d is = absurd (cc)
+callee_sound p f types name (Some g) e k d is = types.callees name g k d (sym e) is

@@ -1,6 +1,6 @@
 //! Items: equations, calls, loops and initial values.
 
-ghost use Rattle.std.specs.Prelude.{◌≡◌, ℕ, List, All, Some, map, option_map, option_copied, slice_get, IfOk};
+ghost use Rattle.std.specs.Prelude.{◌≡◌, ℕ, List, All, Some, map, option_map, option_copied, slice_get, min, IfOk};
 ghost use Rattle.ranked_faults.specs.Rules.{parts};
 ghost use Rattle.ranked_faults.specs.Private.FirstMet.{first};
 ghost use Rattle.silage_syntax.specs.Tree as tree;
@@ -29,7 +29,6 @@ use crate::{TypeFault, copies};
 use lists::Name;
 use silage_syntax::{Decl, Expr, Func, Item, Lit, Manifest, Place};
 use std::alloc::AllocError;
-use std::cmp::min;
 
 /// A right side against the type of the place, which has one by the rules on names.
 fn right_side(scope: &Scope, place: &Place, value: &Expr) -> Result<TypedExpr, TypeFault>
@@ -87,6 +86,12 @@ fn initial(
     })
 }
 
+fn shorter(a: usize, b: usize) -> usize
+    ensures { result ≡ min a b }
+{
+    if a <= b { a } else { b }
+}
+
 /// Each argument against the type of its parameter.
 fn arguments(scope: &Scope, params: &[Decl], args: &[Expr]) -> Result<Vec<TypedExpr>, TypeFault>
     requires params { (k : ℕ) (d : DeclOf) → slice_get params.now k ≡ Some d → IsSoundType d.ty }
@@ -97,7 +102,7 @@ fn arguments(scope: &Scope, params: &[Decl], args: &[Expr]) -> Result<Vec<TypedE
         (typed_arguments p f params.now (map view_expr args.now)) result }
 {
     let mut all = Vec::with_capacity(scope.alloc, args.len())?;
-    for i in 0..min(params.len(), args.len()) {
+    for i in 0..shorter(params.len(), args.len()) {
         all.push(typed(scope, &args[i], params[i].ty)?)?;
     }
     Ok(all)
@@ -108,7 +113,7 @@ fn check_places(scope: &Scope, results: &[Decl], places: &[Place]) -> Result<(),
     ensures { result ≡ first (parts (place_rules (program_of scope.now) (function_of scope.now) results.now
         (map view_place places.now))) }
 {
-    for i in 0..min(results.len(), places.len()) {
+    for i in 0..shorter(results.len(), places.len()) {
         let place = &places[i];
         check_name(name_type(scope, &place.name), results[i].ty, place.at)?;
     }
@@ -176,6 +181,17 @@ fn call(
     })
 }
 
+fn loop_of(index: Name, lo: Manifest, hi: Manifest, items: Vec<TypedItem>) -> TypedItem
+    ensures { view_item result ≡ typed_tree.loop index (view_manifest lo) (view_manifest hi) (view_items items.items) }
+{
+    TypedItem::Loop {
+        index,
+        lo,
+        hi,
+        items,
+    }
+}
+
 fn looped(
     scope: &Scope,
     index: &Name,
@@ -186,12 +202,10 @@ fn looped(
     ensures { IfOk result (λ x. view_item x
         ≡ typed_tree.loop index.now (view_manifest lo.now) (view_manifest hi.now) (view_items items.items)) }
 {
-    Ok(TypedItem::Loop {
-        index: index.clone()?,
-        lo: copies::manifest(scope.alloc, lo)?,
-        hi: copies::manifest(scope.alloc, hi)?,
-        items,
-    })
+    let index = index.clone()?;
+    let lo = copies::manifest(scope.alloc, lo)?;
+    let hi = copies::manifest(scope.alloc, hi)?;
+    Ok(loop_of(index, lo, hi, items))
 }
 
 #[cycle(items)]

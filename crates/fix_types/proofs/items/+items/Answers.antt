@@ -26,3 +26,12 @@ inner_items-returns-after-loop-item t c =
     let f = function_of c.args.scope.now in
     of_items p f c.args.item.now c.in-Loop.index c.in-Loop.lo c.in-Loop.hi c.in-Loop.items c.in-Loop.at c.in-Loop.is c.as_slice-items.result.now c.as_slice-items.ensures.value (Ok c.loop-item.all)
     (items_typed p f c.as_slice-items.result.now c.loop-item.item-index c.loop-item.invariant.met c.loop-item.all c.loop-item-test.false c.loop-item.invariant.typed)
+
+pub inner_items-returns-in_err-typed_item-in-Loop : goal.inner_items-returns-in_err-typed_item-in-Loop
+inner_items-returns-in_err-typed_item-in-Loop t c =
+    let p = program_of c.args.scope.now in
+    let f = function_of c.args.scope.now in
+    let r = c.from_residual-in_err-typed_item-in-Loop.result in
+    of_items p f c.args.item.now c.in-Loop.index c.in-Loop.lo c.in-Loop.hi c.in-Loop.items c.in-Loop.at c.in-Loop.is c.as_slice-items.result.now c.as_slice-items.ensures.value r
+    (item_fails p f c.as_slice-items.result.now c.loop-item.item-index c.loop-item.invariant.met c.item-item.result c.loop-item-test.true c.item-item.is
+    r c.in_err-typed_item-in-Loop.field-0.0 c.from_residual-in_err-typed_item-in-Loop.ensures.1 c.in_err-typed_item-in-Loop.ensures)

@@ -8,15 +8,15 @@ use Rattle.fix_types.proofs.ItemSteps.{argument_sound, arguments_end}
 use Rattle.fix_types.proofs.items.arguments.Goals as goal
 
 pub typed-requires-clause-sound : goal.typed-requires-clause-sound
-typed-requires-clause-sound c = argument_sound c.args.args.now c.loop-i.i c.index-args-i.result c.requires.args (omega arith) c.index-args-i.is
+typed-requires-clause-sound c = argument_sound c.args.args.now c.loop-i.i c.index-args-i.result c.requires.args (omega (arith, c.shorter-i-end.ensures)) c.index-args-i.is
 
 pub typed-requires-clause-wanted : goal.typed-requires-clause-wanted
-typed-requires-clause-wanted c = c.requires.params c.loop-i.i _ (slice_get-get_or c.args.params.now c.loop-i.i c.index-params-i.result (omega arith))
+typed-requires-clause-wanted c = c.requires.params c.loop-i.i _ (slice_get-get_or c.args.params.now c.loop-i.i c.index-params-i.result (omega (arith, c.shorter-i-end.ensures)))
 
 pub returns : goal.returns
 returns c =
     let p = program_of c.args.scope.now in
     let f = function_of c.args.scope.now in
-    let end = arguments_end p f c.args.params.now c.args.args.now c.loop-i.i (omega (arith, c.min-i-end.ensures)) in
+    let end = arguments_end p f c.args.params.now c.args.args.now c.loop-i.i (omega (arith, c.shorter-i-end.ensures)) in
     (sym c.loop-i.invariant.met ∙ ap (λ row. first_in row) end.0,
     sym (append-nil (map view_expr c.loop-i.all.items)) ∙ ap (λ (xs : List TypedExpr). map view_expr c.loop-i.all.items ++ xs) (sym end.1) ∙ c.loop-i.invariant.typed)

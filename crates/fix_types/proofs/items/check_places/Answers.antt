@@ -6,5 +6,5 @@ use Rattle.fix_types.proofs.items.check_places.Goals as goal
 
 pub returns : goal.returns
 returns c =
-    let end = places_end (program_of c.args.scope.now) (function_of c.args.scope.now) c.args.results.now c.args.places.now c.loop-i.i (omega (arith, c.min-i-end.ensures)) in
+    let end = places_end (program_of c.args.scope.now) (function_of c.args.scope.now) c.args.results.now c.args.places.now c.loop-i.i (omega (arith, c.shorter-i-end.ensures)) in
     sym (ap (λ row. first_in row) end) ∙ c.loop-i.invariant
