@@ -1,9 +1,11 @@
 -- The tables and functions are typed one after another.
-use Rattle.std.proofs.Common.{◌≡◌, ◌≢◌, ◌∙◌, ℕ, ◌+◌, ◌<◌, ◌≤◌, List, [], ◌∷◌, ◌++◌, map, filter_map, drop, length, get_or, Result, Ok, Err, IsErrAnd, refl, sym, ap, ap₂, append_assoc, append-nil}
-use Rattle.std.proofs.lemmas.List.{drop_more, drop_all}
+use Rattle.std.proofs.Common.{◌≡◌, ◌≢◌, ◌∙◌, ℕ, ◌+◌, ◌<◌, ◌≤◌, List, [], ◌∷◌, ◌++◌, map, filter_map, drop, length, get_or, Result, Ok, Err, IsErrAnd, refl, sym, ap, ap₂, subst, append_assoc, append-nil, arith}
+use Rattle.std.specs.Prelude.{All}
+use Rattle.std.proofs.lemmas.List.{drop_more, drop_all, drop-map, get_or-map, length-map}
 use Rattle.ranked_faults.specs.Rules.{parts, each}
 use Rattle.ranked_faults.specs.Private.FirstMet.{first, ◌>>◌}
-use Rattle.silage_syntax.specs.Tree.{Top, table, function, Program}
+use Rattle.silage_syntax.specs.declared.tree.Top.{Top as RustTop}
+use Rattle.silage_syntax.specs.Tree.{Top, table, function, Program, view_top}
 use Rattle.silage_syntax.specs.Names.{as_table}
 use Rattle.fix_types.specs.TypeRules.{top_rules, type_rules}
 use Rattle.fix_types.specs.TypedTree.{Typed, TypedFunc, view_typed}
@@ -56,3 +58,13 @@ all_typed p i t past h =
     ap₂ (λ (cs : List TypedConst) (fs : List TypedFunc). record { consts = cs; funcs = fs })
     (sym (append-nil t.consts) ∙ ap (λ (ts : List Top). t.consts ++ map typed_table (filter_map as_table ts)) (sym none) ∙ h.consts)
     (sym (append-nil (view_typed t).funcs) ∙ ap (λ (ts : List Top). (view_typed t).funcs ++ typed_funcs p i ts) (sym none) ∙ h.funcs))
+
+-- the table or function at a position, as the definitions see it
+module _ (ts : List RustTop) (i : ℕ) (x : RustTop) (within : i < length ts) (is : x ≡ get_or ts i x) where
+  pub top_here : drop i (map view_top ts) ≡ view_top x ∷ drop (i + 1) (map view_top ts)
+  top_here =
+      drop-map view_top i ts ∙ ap (map view_top) (drop_more ts i x within ∙ ap (λ (y : RustTop). y ∷ drop (i + 1) ts) (sym is))
+      ∙ ap (λ (rest : List Top). view_top x ∷ rest) (sym (drop-map view_top (i + 1) ts))
+
+  pub top_at_is : (P : Top → Type 0) → All P (map view_top ts) → P (view_top x)
+  top_at_is P all = subst P (get_or-map view_top ts i x (view_top x) within ∙ ap view_top (sym is)) (all i (view_top x) (omega (arith, within, length-map ts view_top)))
