@@ -98,6 +98,8 @@ module _ (p : Program) (f : Func) (branches : Branches) (last : Expr) (ty : SigT
 
     pub choice_typed : (pairs : List (RustExpr × RustExpr)) (l whole : RustExpr) → met ≡ Ok tt → view_pairs pairs ≡ typed_pairs p f ty branches → of_last ≡ Ok tt → view_expr l ≡ typed_expr p f last ty
         → view_expr whole ≡ nested (chosen ty) (view_pairs pairs) (view_expr l) → Types p f (choose at branches last) ty (Ok whole)
-    choice_typed pairs l whole a u b v w =
-        (both_hold met of_last a b, w ∙ ap (λ (q : List (TypedExpr × TypedExpr)). nested (chosen ty) q (view_expr l)) u ∙ ap (nested (chosen ty) (typed_pairs p f ty branches)) v
-        ∙ nested_is p f ty branches (typed_expr p f last ty))
+    choice_typed pairs l whole a u b v w = (
+      both_hold met of_last a b,
+      w ∙ ap (λ (q : List (TypedExpr × TypedExpr)). nested (chosen ty) q (view_expr l)) u ∙ ap (nested (chosen ty) (typed_pairs p f ty branches)) v
+          ∙ nested_is p f ty branches (typed_expr p f last ty),
+    )

@@ -48,9 +48,10 @@ module _ (p : Program) (f : Func) where
     pub items_typed : (all : Vec RustTypedItem Global) → length xs ≤ i → map view_typed_item all.items ++ typed_list p f (view_items (drop i xs)) ≡ typed_list p f (view_items xs)
         → GivesItems p f (view_items xs) (Ok all)
     items_typed all past h =
-        let none : drop i xs ≡ [] = drop_all i xs past in
-        (sym left ∙ ap met none,
-        ap items_of (sym (append-nil (map view_typed_item all.items)) ∙ ap (λ (ys : List RustItem). map view_typed_item all.items ++ typed_list p f (view_items ys)) (sym none) ∙ h) ∙ list_is (view_items xs))
+        let none : drop i xs ≡ [] = drop_all i xs past in (
+          sym left ∙ ap met none,
+          ap items_of (sym (append-nil (map view_typed_item all.items)) ∙ ap (λ (ys : List RustItem). map view_typed_item all.items ++ typed_list p f (view_items ys)) (sym none) ∙ h) ∙ list_is (view_items xs),
+        )
 
   -- the items of a loop
   module _ (x : RustItem) (index : List ℕ) (lo hi : RustManifest) (v : Vec RustItem Global) (at : ℕ) (is : x ≡ Loop index lo hi v at) where
@@ -73,9 +74,10 @@ module _ (p : Program) (f : Func) where
 
     pub loop_typed : (all : List RustTypedItem) (whole : RustTypedItem) → first (parts (items_rules p f (items_in (view_item x)))) ≡ Ok tt → view_typed_items all ≡ typed_items p f (items_in (view_item x))
         → view_typed_item whole ≡ typed.loop index (view_manifest lo) (view_manifest hi) (view_typed_items all) → GivesItem p f (view_item x) (Ok whole)
-    loop_typed all whole passes t w =
-        (ap (λ y. first (item_rules p f y)) loop_is ∙ ap (λ (ys : Items). first (parts (items_rules p f ys))) (sym inner_is) ∙ passes,
-        w ∙ ap (λ ys. typed.loop index (view_manifest lo) (view_manifest hi) ys) (t ∙ ap (typed_items p f) inner_is) ∙ sym (ap (typed_item p f) loop_is))
+    loop_typed all whole passes t w = (
+      ap (λ y. first (item_rules p f y)) loop_is ∙ ap (λ (ys : Items). first (parts (items_rules p f ys))) (sym inner_is) ∙ passes,
+      w ∙ ap (λ ys. typed.loop index (view_manifest lo) (view_manifest hi) ys) (t ∙ ap (typed_items p f) inner_is) ∙ sym (ap (typed_item p f) loop_is),
+    )
 
   no_argument : (ds : List Decl) → argument_rules p f ds [] ≡ none
   no_argument [] = refl

@@ -103,7 +103,7 @@ module _ (p : Program) (clear : IsClear (name_faults p)) (short : AreNumbersShor
   tables = record {
     words = λ name c k l named at.
         table_found (λ (t : ConstDef). bytes_eq t.name name) (λ (t : ConstDef). (m : Lit) → slice_get t.words k ≡ Some m → Passes (literal_rules m (Fix t.ty))) p.tops
-        (λ j t stands m there. each_passes (λ word. literal_rules word (Fix t.ty)) t.words (top_passes j (table t) stands) k m there) c named l at
+        (λ j t stands m there. each_passes (λ word. literal_rules word (Fix t.ty)) t.words (top_passes j (table t) stands) k m there) c named l at;
   }
 
   values_of : (s : Site) (words : Words) (n : ℕ) (v : ℤ) (x : Expr) (ty : SigType) → HasSoundTypes p s.function → IsGood p s.function x ty

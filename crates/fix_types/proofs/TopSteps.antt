@@ -53,11 +53,12 @@ module _ (p : Program) (i : ℕ) (top : Top) (here : drop i p.tops ≡ top ∷ d
 
 pub all_typed : (p : Program) (i : ℕ) (t : RustTyped) → length p.tops ≤ i → HasTyped p i (view_typed t) → GivesAs view_typed (type_rules p) (typed_program p) (Ok t)
 all_typed p i t past h =
-    let none : drop i p.tops ≡ [] = drop_all i p.tops past in
-    (sym h.met ∙ ap (λ (ts : List Top). first (parts (each (top_rules p) ts))) none,
-    ap₂ (λ (cs : List TypedConst) (fs : List TypedFunc). record { consts = cs; funcs = fs })
-    (sym (append-nil t.consts) ∙ ap (λ (ts : List Top). t.consts ++ map typed_table (filter_map as_table ts)) (sym none) ∙ h.consts)
-    (sym (append-nil (view_typed t).funcs) ∙ ap (λ (ts : List Top). (view_typed t).funcs ++ typed_funcs p i ts) (sym none) ∙ h.funcs))
+    let none : drop i p.tops ≡ [] = drop_all i p.tops past in (
+      sym h.met ∙ ap (λ (ts : List Top). first (parts (each (top_rules p) ts))) none,
+      ap₂ (λ (cs : List TypedConst) (fs : List TypedFunc). record { consts = cs; funcs = fs })
+          (sym (append-nil t.consts) ∙ ap (λ (ts : List Top). t.consts ++ map typed_table (filter_map as_table ts)) (sym none) ∙ h.consts)
+          (sym (append-nil (view_typed t).funcs) ∙ ap (λ (ts : List Top). (view_typed t).funcs ++ typed_funcs p i ts) (sym none) ∙ h.funcs),
+    )
 
 -- the table or function at a position, as the definitions see it
 module _ (ts : List RustTop) (i : ℕ) (x : RustTop) (within : i < length ts) (is : x ≡ get_or ts i x) where

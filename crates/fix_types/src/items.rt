@@ -68,12 +68,7 @@ fn first_word(scope: &Scope, place: &Place, value: &Lit) -> Result<i64, TypeFaul
     }
 }
 
-fn initial(
-    scope: &Scope,
-    place: &Place,
-    k: &Manifest,
-    value: &Lit,
-) -> Result<TypedItem, TypeFault>
+fn initial(scope: &Scope, place: &Place, k: &Manifest, value: &Lit) -> Result<TypedItem, TypeFault>
     requires short { IsShort value.now }
     ensures { GivesItem (program_of scope.now) (function_of scope.now)
         (tree.initial (view_place place.now) (view_manifest k.now) value.now) result }

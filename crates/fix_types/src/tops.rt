@@ -113,7 +113,11 @@ fn add_top(
 }
 
 /// The typed tables and functions, in the order of the source.
-pub(crate) fn typed_tops(alloc: Global, program: &Program, names: &NameMap) -> Result<Typed, TypeFault>
+pub(crate) fn typed_tops(
+    alloc: Global,
+    program: &Program,
+    names: &NameMap,
+) -> Result<Typed, TypeFault>
     requires named { names.now ≡ top_names (view program.now) }
     requires apart { IsDistinct (top_names (view program.now)) }
     requires few { length (view program.now).tops < 2 ^ 32 }
@@ -125,7 +129,14 @@ pub(crate) fn typed_tops(alloc: Global, program: &Program, names: &NameMap) -> R
         funcs: List::new(alloc),
     };
     for at in 0..program.tops.len() as u32 {
-        add_top(alloc, program, names, at, &program.tops[at as usize], &mut typed)?;
+        add_top(
+            alloc,
+            program,
+            names,
+            at,
+            &program.tops[at as usize],
+            &mut typed,
+        )?;
     }
     Ok(typed)
 }

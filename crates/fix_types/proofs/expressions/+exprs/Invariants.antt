@@ -14,5 +14,5 @@ invariant-typed_arms-loop-arm l = record {
   met : first (parts (branch_rules (program_of l.scope) (function_of l.scope) (view_arms (drop l.arm-index l.arms)) l.wanted))
       ≡ first (parts (branch_rules (program_of l.scope) (function_of l.scope) (view_arms l.arms) l.wanted));
   typed : view_pairs l.pairs.items ++ typed_pairs (program_of l.scope) (function_of l.scope) l.wanted (view_arms (drop l.arm-index l.arms))
-      ≡ typed_pairs (program_of l.scope) (function_of l.scope) l.wanted (view_arms l.arms)
+      ≡ typed_pairs (program_of l.scope) (function_of l.scope) l.wanted (view_arms l.arms);
 }

@@ -15,5 +15,5 @@ invariant-inner_items-loop-item l = record {
   met : first (parts (items_rules (program_of l.scope) (function_of l.scope) (view_items (drop l.item-index l.items))))
       ≡ first (parts (items_rules (program_of l.scope) (function_of l.scope) (view_items l.items)));
   typed : map view_item l.all.items ++ typed_list (program_of l.scope) (function_of l.scope) (view_items (drop l.item-index l.items))
-      ≡ typed_list (program_of l.scope) (function_of l.scope) (view_items l.items)
+      ≡ typed_list (program_of l.scope) (function_of l.scope) (view_items l.items);
 }

@@ -17,6 +17,7 @@ pub returns : goal.returns
 returns c =
     let p = program_of c.args.scope.now in
     let f = function_of c.args.scope.now in
-    let end = arguments_end p f c.args.params.now c.args.args.now c.loop-i.i (omega (arith, c.shorter-i-end.ensures)) in
-    (sym c.loop-i.invariant.met ∙ ap (λ row. first_in row) end.0,
-    sym (append-nil (map view_expr c.loop-i.all.items)) ∙ ap (λ (xs : List TypedExpr). map view_expr c.loop-i.all.items ++ xs) (sym end.1) ∙ c.loop-i.invariant.typed)
+    let end = arguments_end p f c.args.params.now c.args.args.now c.loop-i.i (omega (arith, c.shorter-i-end.ensures)) in (
+      sym c.loop-i.invariant.met ∙ ap (λ row. first_in row) end.0,
+      sym (append-nil (map view_expr c.loop-i.all.items)) ∙ ap (λ (xs : List TypedExpr). map view_expr c.loop-i.all.items ++ xs) (sym end.1) ∙ c.loop-i.invariant.typed,
+    )

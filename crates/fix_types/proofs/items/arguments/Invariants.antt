@@ -13,5 +13,5 @@ invariant-loop-i l = record {
   met : first (parts (argument_rules (program_of l.scope) (function_of l.scope) (drop l.i l.params) (map view_expr (drop l.i l.args))))
       ≡ first (parts (argument_rules (program_of l.scope) (function_of l.scope) l.params (map view_expr l.args)));
   typed : map view_typed l.all.items ++ typed_arguments (program_of l.scope) (function_of l.scope) (drop l.i l.params) (map view_expr (drop l.i l.args))
-      ≡ typed_arguments (program_of l.scope) (function_of l.scope) l.params (map view_expr l.args)
+      ≡ typed_arguments (program_of l.scope) (function_of l.scope) l.params (map view_expr l.args);
 }

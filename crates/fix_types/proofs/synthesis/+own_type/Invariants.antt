@@ -9,5 +9,5 @@ abbrev pub invariant-loop-arm : goal.invariant-loop-arm
 invariant-loop-arm l = record {
   sound : AreSound (view_arms (drop l.arm-index l.arms));
   same : branches_type (program_of l.scope) (function_of l.scope) (view_arms (drop l.arm-index l.arms))
-      ≡ branches_type (program_of l.scope) (function_of l.scope) (view_arms l.arms)
+      ≡ branches_type (program_of l.scope) (function_of l.scope) (view_arms l.arms);
 }

@@ -11,5 +11,5 @@ invariant-loop-number l = record {
   met : first (parts (each (λ word. literal_rules word (Fix l.ty)) (drop l.number-index l.numbers)))
       ≡ first (parts (each (λ word. literal_rules word (Fix l.ty)) l.numbers));
   typed : l.words ++ map (λ word. word_of word (Fix l.ty)) (drop l.number-index l.numbers)
-      ≡ map (λ word. word_of word (Fix l.ty)) l.numbers
+      ≡ map (λ word. word_of word (Fix l.ty)) l.numbers;
 }
