@@ -3,8 +3,8 @@
 //! - `wrap Q W`: the word of W bits for Q;
 //! - `form Q SHIFT MODE WIDTH`: the word of Q in a format;
 //! - `conv M F1 W F MODE`: the word in the shape (W,F) of the word M with F1 fraction bits;
-//! - `literal SIGN DIGITS PLACES W F`: the word in the shape (W,F) of the literal DIGITS/10^PLACES, whose sign is `+` or
-//!   `-`, or its fault;
+//! - `literal SIGN DIGITS PLACES W F`: the word in the shape (W,F) of the literal DIGITS/10^PLACES, whose sign is `+`
+//!   or `-`, or its fault;
 //! - `apply OP SHIFT MODE WIDTH A B C`: the result of an operation, at three operands of which it reads its own.
 
 ghost use Rattle.std.specs.Prelude.{◌≡◌, ◌<◌, ◌≤◌, ◌^◌, ◌↔◌, IsTrue, IfOk, unsigned_abs};

@@ -50,8 +50,8 @@ use words::check_words;
 /// The most instances of which each is inside the one before: an instance is inside 64 calls at most.
 const MAX_NESTED: u32 = 65;
 
-/// The walk over the instances of a program: the instances and elements on it, or the first fault on it. `undefined` gets
-/// the place in its signal of an element without a definition.
+/// The walk over the instances of a program: the instances and elements on it, or the first fault on it. `undefined`
+/// gets the place in its signal of an element without a definition.
 fn run_plan(
     alloc: Global,
     program: &Program,
@@ -101,8 +101,8 @@ pub fn check_defs(alloc: Global, program: &Program, names: &Names) -> Result<Ele
     check_defs_with(alloc, program, names, &mut undefined)
 }
 
-/// The same as `check_defs`. Where the answer is `NotDefined`, `undefined` gets the row-major place in its declaration of
-/// the element that it is about.
+/// The same as `check_defs`. Where the answer is `NotDefined`, `undefined` gets the row-major place in its declaration
+/// of the element that it is about.
 pub fn check_defs_with(
     alloc: Global,
     program: &Program,
