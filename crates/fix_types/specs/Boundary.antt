@@ -27,7 +27,8 @@ pub data IsExpression (p : Program) (f : Func) : Expr → SigType → Type 0 whe
       → HasItem f.items (equation place x)
       → name_type p f place.name ≡ Some ty
       → IsExpression p f x ty
-  argument : {x : Expr} (places : List Place) (name : List ℕ) (args : List Expr) (at : ℕ) (g : Func) (k : ℕ) (d : Decl)
+  argument : {x : Expr} (places : List Place) (name : List ℕ) (args : List Expr) (at : ℕ)
+      → (g : Func) (k : ℕ) (d : Decl)
       → HasItem f.items (call places name args at)
       → function_named p name ≡ Some g
       → slice_get g.params k ≡ Some d

@@ -87,7 +87,8 @@ typed_cast (Some Truths) X c = untyped
 typed_cast None X c = X (Fix c)
 
 -- a binary operator on these parts, where the fix type t is wanted
-abbrev pub typed_number : BinOp → (left right : Option SigType) → (X Y : SigType → TypedExpr) → FixType → TypedExpr
+abbrev pub typed_number : BinOp → (left right : Option SigType) → (X Y : SigType → TypedExpr) → FixType
+    → TypedExpr
 typed_number op.Add left right X Y t = node does.Add (wrapped t) (two (X (Fix t)) (Y (Fix t))) None
 typed_number op.Sub left right X Y t = node does.Sub (wrapped t) (two (X (Fix t)) (Y (Fix t))) None
 typed_number op.Mul left right X Y t = typed_product left right X Y t
@@ -136,7 +137,8 @@ module _ (p : Program) (f : Func) where
     pub typed_choice : Branches → (wanted : SigType) → (last : TypedExpr) → TypedExpr
     typed_choice no_branch ty last = last
     typed_choice (branch condition x rest) ty last =
-        node does.Sel (chosen ty) (three (typed_expr condition Truths) (typed_expr x ty) (typed_choice rest ty last)) None
+        node does.Sel (chosen ty)
+        (three (typed_expr condition Truths) (typed_expr x ty) (typed_choice rest ty last)) None
 
   -- the arguments of a call, each against the type of its parameter
   abbrev pub typed_arguments : (params : List Decl) → List Expr → List TypedExpr

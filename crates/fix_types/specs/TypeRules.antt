@@ -103,8 +103,8 @@ cast_rules own X c t at = parts (
 abbrev pub both_rules : (X Y : SigType → Rules TypeFault) → SigType → Rules TypeFault
 both_rules X Y ty = parts (X ty ▸ Y ty ▸ none)
 
--- A binary operator where the fix type t is wanted: sums have both parts against it, products have factors with types of
--- their own, and the others give truth values. The factors' types are those of `factor_type`.
+-- A binary operator where the fix type t is wanted: sums have both parts against it, products have factors with types
+-- of their own, and the others give truth values. The factors' types are those of `factor_type`.
 abbrev pub fix_rules : BinOp → (left right : Option SigType) → (X Y : SigType → Rules TypeFault) → (at : ℕ)
     → (t : FixType) → Rules TypeFault
 fix_rules op.Add left right X Y at t = both_rules X Y (Fix t)

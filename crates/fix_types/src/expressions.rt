@@ -154,7 +154,8 @@ fn cast(
 ) -> Result<TypedExpr, TypeFault>
     requires type_ { IsSoundType (Fix ty) }
     requires sound { IsSound (view_expr part.now) }
-    ensures { Types (program_of scope.now) (function_of scope.now) (tree.cast at ty (view_expr part.now)) wanted result }
+    ensures { Types (program_of scope.now) (function_of scope.now) (tree.cast at ty (view_expr part.now))
+        wanted result }
 {
     match wanted {
         SigType::Bool => Err(TypeFault::NotBool(at)),
@@ -173,7 +174,8 @@ fn converted(
 ) -> Result<TypedExpr, TypeFault>
     requires type_ { IsSoundType (Fix ty) }
     requires sound { IsSound (view_expr part.now) }
-    ensures { Types (program_of scope.now) (function_of scope.now) (tree.cast at ty (view_expr part.now)) (Fix t) result }
+    ensures { Types (program_of scope.now) (function_of scope.now) (tree.cast at ty (view_expr part.now))
+        (Fix t) result }
 {
     if !is_same_shape(SigType::Fix(ty), SigType::Fix(t)) {
         return Err(TypeFault::Mismatch(at));

@@ -177,7 +177,8 @@ fn call(
 }
 
 fn loop_of(index: Name, lo: Manifest, hi: Manifest, items: Vec<TypedItem>) -> TypedItem
-    ensures { view_item result ≡ typed_tree.loop index (view_manifest lo) (view_manifest hi) (view_items items.items) }
+    ensures { view_item result
+        ≡ typed_tree.loop index (view_manifest lo) (view_manifest hi) (view_items items.items) }
 {
     TypedItem::Loop {
         index,

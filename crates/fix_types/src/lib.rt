@@ -34,15 +34,16 @@ use std::alloc::Global;
 use tops::typed_tops;
 pub use typed::{Typed, TypedConst, TypedExpr, TypedFunc, TypedItem};
 
-/// The typed program, or the first fault of types in source order: an expression's own before those of its parts, and at
-/// a call the arguments before the places. `docs/LANGUAGE.md`, "Equations", has the typing table.
+/// The typed program, or the first fault of types in source order: an expression's own before those of its parts, and
+/// at a call the arguments before the places. `docs/LANGUAGE.md`, "Equations", has the typing table.
 pub fn check_types(alloc: Global, program: &Program, names: &Names) -> Result<Typed, TypeFault>
     requires clear { IsClear (name_faults (view program.now)) }
     requires tops { names.now.tops ≡ top_names (view program.now) }
     requires few { length (view program.now).tops < 2 ^ 32 }
     requires numbers { AreNumbersShort (view program.now) }
     ensures ok { OnOk result (IsClear (type_faults (view program.now))) }
-    ensures fault { IfErr result (λ fault. fault ≢ TypeFault.Memory → IsFirst (type_faults (view program.now)) fault) }
+    ensures fault { IfErr result (λ fault. fault ≢ TypeFault.Memory
+        → IsFirst (type_faults (view program.now)) fault) }
     ensures typed { IfOk result (λ typed. view_typed typed ≡ typed_program (view program.now)) }
     ensures values { OnOk result (KeepsValues (view program.now)) }
 

@@ -67,7 +67,8 @@ impl Signals {
 
     /// The parameters, results and locals of a function.
     pub fn of(alloc: Global, func: &Func) -> Result<Signals, AllocError>
-        ensures { IfOk result (λ signals. (name : List ℕ) → type_in signals name ≡ signal_type (view_func func.now) name) }
+        ensures { IfOk result (λ signals. (name : List ℕ) → type_in signals name
+            ≡ signal_type (view_func func.now) name) }
     {
         let mut signals = Signals::new(alloc);
         signals.declare_all(&func.params)?;

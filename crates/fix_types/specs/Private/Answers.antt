@@ -36,11 +36,11 @@ abbrev pub Types : Program → Func → Expr → SigType → Result RustExpr Typ
 Types p f x ty r = Gives (expr_rules p f x ty) (typed_expr p f x ty) r
 
 -- the same of branches, as pairs of a condition and a value
-abbrev pub TypesPairs : Program → Func → Branches → SigType → Result (Vec (RustExpr × RustExpr) Global) TypeFault
-    → Type 0
+abbrev pub TypesPairs : Program → Func → Branches → SigType
+    → Result (Vec (RustExpr × RustExpr) Global) TypeFault → Type 0
 TypesPairs p f branches ty r =
-    GivesAs (λ (pairs : Vec (RustExpr × RustExpr) Global). view_pairs pairs.items) (parts (branch_rules p f branches ty))
-    (typed_pairs p f ty branches) r
+    GivesAs (λ (pairs : Vec (RustExpr × RustExpr) Global). view_pairs pairs.items)
+    (parts (branch_rules p f branches ty)) (typed_pairs p f ty branches) r
 
 -- the same of an item
 abbrev pub GivesItem : Program → Func → Item → Result RustItem TypeFault → Type 0

@@ -37,13 +37,16 @@ abbrev pub part_rules : Program → Func → (x y : Expr) → Plan → Rules Typ
 part_rules p f x y plan = parts (expr_rules p f x plan.left ▸ expr_rules p f y plan.right ▸ none)
 
 -- with these rules and this typed expression, the operator is met as its parts are, and is typed as the plan says
-pub record IsPlan (p : Program) (f : Func) (x y : Expr) (rules : Rules TypeFault) (t : TypedExpr) (plan : Plan) : Type 0 where
+pub record IsPlan (p : Program) (f : Func) (x y : Expr) (rules : Rules TypeFault) (t : TypedExpr) (plan : Plan)
+    : Type 0 where
   pub met : first rules ≡ first (part_rules p f x y plan)
   pub typed : t ≡ joined plan (typed_expr p f x plan.left) (typed_expr p f y plan.right)
   pub left : IsSoundType plan.left
   pub right : IsSoundType plan.right
 
 -- the call answers the plan, or the fault of the operator's own
-abbrev pub Plans : Program → Func → (at : ℕ) → BinOp → (x y : Expr) → (wanted : SigType) → Result Plan TypeFault → Type 0
-Plans p f at o x y ty (Ok plan) = IsPlan p f x y (expr_rules p f (binary at o x y) ty) (typed_expr p f (binary at o x y) ty) plan
+abbrev pub Plans : Program → Func → (at : ℕ) → BinOp → (x y : Expr) → (wanted : SigType)
+    → Result Plan TypeFault → Type 0
+Plans p f at o x y ty (Ok plan) =
+    IsPlan p f x y (expr_rules p f (binary at o x y) ty) (typed_expr p f (binary at o x y) ty) plan
 Plans p f at o x y ty (Err fault) = first (expr_rules p f (binary at o x y) ty) ≡ Err fault
