@@ -1,5 +1,5 @@
 -- A conditional as the list of its branches and its last value.
-use Rattle.std.proofs.Common.{◌≡◌, ◌∙◌, ◌+◌, ◌<◌, ◌≤◌, ℕ, List, ◌∷◌, Vec, Box, Option, Some, None, Result, drop, length, get_or, refl, sym, ap, ap₂, subst}
+use Rattle.std.proofs.Common.{◌≡◌, ◌∙◌, ◌+◌, ◌<◌, ◌≤◌, ℕ, List, ◌∷◌, Vec, Box, Option, Some, None, Result, drop, length, get_or, sym, ap, ap₂, subst}
 use Rattle.std.proofs.lemmas.List.{drop_more, drop_all}
 use Rattle.std.specs.Global.{Global}
 use Rattle.std.specs.Option.{option_or}

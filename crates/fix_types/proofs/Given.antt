@@ -1,10 +1,8 @@
 -- How the answer of a call follows from those of the calls in it.
-use Rattle.std.proofs.Common.{◌≡◌, ◌≢◌, ◌∙◌, ℕ, List, [], ◌∷◌, ◌++◌, None, Result, Ok, Err, IsErrAnd, refl, sym, ap, subst}
-use Rattle.std.specs.Prelude.{Vec}
-use Rattle.std.specs.Global.{Global}
+use Rattle.std.proofs.Common.{◌≡◌, ◌≢◌, ◌∙◌, ℕ, List, [], ◌∷◌, ◌++◌, None, Result, Ok, Err, IsErrAnd, refl, sym, ap}
 use Rattle.std.proofs.lemmas.List.{map-append}
-use Rattle.ranked_faults.specs.Rules.{Rules, RuleRow, parts, none, ◌▸◌}
-use Rattle.ranked_faults.specs.Private.FirstMet.{first, first_in, ◌>>◌}
+use Rattle.ranked_faults.specs.Rules.{Rules, parts}
+use Rattle.ranked_faults.specs.Private.FirstMet.{first, ◌>>◌}
 use Rattle.fix_word.specs.declared.types.Format.{Format}
 use Rattle.fix_word.specs.declared.types.SigType.{SigType}
 use Rattle.fix_word.specs.declared.types.SigType.TheVariants.{Bool as Truths}

@@ -4,15 +4,14 @@ use Rattle.std.specs.Prelude.{All}
 use Rattle.std.specs.Global.{Global}
 use Rattle.std.proofs.lemmas.Bool.{cases_lt}
 use Rattle.std.proofs.lemmas.List.{drop_more, drop_all, get_or-map, length-map}
-use Rattle.std.proofs.lemmas.Option.{slice_get-get_or}
-use Rattle.ranked_faults.specs.Rules.{RuleRow, parts, none}
-use Rattle.ranked_faults.specs.Private.FirstMet.{first, first_in, ◌>>◌}
+use Rattle.ranked_faults.specs.Rules.{parts, none}
+use Rattle.ranked_faults.specs.Private.FirstMet.{first}
 use Rattle.silage_syntax.specs.declared.tree.Decl.{Decl}
 use Rattle.silage_syntax.specs.declared.tree.Expr.{Expr as RustExpr}
 use Rattle.silage_syntax.specs.declared.tree.Item.{Item as RustItem, Loop}
 use Rattle.silage_syntax.specs.declared.tree.Manifest.{Manifest as RustManifest}
 use Rattle.silage_syntax.specs.declared.tree.Place.{Place as RustPlace}
-use Rattle.silage_syntax.specs.Tree.{Items, no_item, item, loop, Expr, Place, Func, Program, view_expr, view_place, view_manifest, view_item, view_items}
+use Rattle.silage_syntax.specs.Tree.{Items, no_item, item, loop, Expr, Func, Program, view_expr, view_place, view_manifest, view_item, view_items}
 use Rattle.silage_syntax.specs.Names.{function_named}
 use Rattle.name_check.specs.Meanings.{params_of}
 use Rattle.silage_syntax.proofs.Rows.{view_Loop}
@@ -22,9 +21,8 @@ use Rattle.fix_types.specs.TypedTree as typed
 use Rattle.fix_types.specs.Translation.{typed_item, typed_items, typed_arguments}
 use Rattle.fix_types.specs.declared.fault.TypeFault.{TypeFault}
 use Rattle.fix_types.specs.declared.fault.TypeFault.TheVariants.{Memory}
-use Rattle.fix_types.specs.declared.typed.TypedExpr.{TypedExpr as RustTyped}
 use Rattle.fix_types.specs.declared.typed.TypedItem.{TypedItem as RustTypedItem}
-use Rattle.fix_types.specs.Private.Answers.{GivesAs, GivesItem, GivesItems}
+use Rattle.fix_types.specs.Private.Answers.{GivesItem, GivesItems}
 use Rattle.fix_types.specs.Private.ItemLists.{typed_list, items_in}
 use Rattle.fix_types.specs.Private.Sound.{IsSoundType, IsSound, IsSoundItem, AreSoundItems, HasSoundTypes}
 use Rattle.fix_types.proofs.Given.{first_fails, fault_given}

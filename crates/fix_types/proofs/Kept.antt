@@ -1,6 +1,6 @@
 -- A program without a fault of types keeps its values.
-use Rattle.std.proofs.Common.{◌≡◌, ◌∙◌, refl, sym, ap, subst, ℕ, zero, suc, List, [], ◌∷◌, slice_get, Option, Some, None, Result, Ok, Err, inl, inr, ℤ}
-use Rattle.std.specs.Prelude.{◌↔◌, ◌⊎◌, All, Contains, bytes_eq}
+use Rattle.std.proofs.Common.{◌≡◌, ◌∙◌, refl, sym, ap, subst, ℕ, zero, suc, List, [], ◌∷◌, slice_get, Option, Some, Ok, inl, inr, ℤ}
+use Rattle.std.specs.Prelude.{◌↔◌, bytes_eq}
 use Rattle.std.proofs.lemmas.Option.{slice_get-get_or, get_or_from_slice_get, slice_get_within}
 use Rattle.lists.proofs.Places.{some_once}
 use Rattle.ranked_faults.specs.Ranked.{IsClear}
@@ -12,20 +12,17 @@ use Rattle.fix_word.specs.declared.types.SigType.TheVariants.{Fix}
 use Rattle.silage_syntax.specs.declared.tree.ConstDef.{ConstDef}
 use Rattle.silage_syntax.specs.declared.tree.Decl.{Decl}
 use Rattle.silage_syntax.specs.declared.tree.Lit.{Lit}
-use Rattle.silage_syntax.specs.Tree.{Place, Expr, Item, equation, call, loop, initial, Items, no_item, item, Func, Top, table, function, Program}
-use Rattle.silage_syntax.specs.Names.{table_named, function_named}
+use Rattle.silage_syntax.specs.Tree.{Expr, Item, equation, call, loop, initial, Items, no_item, item, Func, Top, table, function, Program}
 use Rattle.silage_meaning.specs.Instances.{Site}
-use Rattle.silage_meaning.specs.Types.{name_type}
 use Rattle.silage_meaning.specs.Value.{Words, IsValue}
 use Rattle.name_check.specs.NameFaults.{name_faults}
-use Rattle.fix_types.specs.Boundary.{HasItem, HasItemIn, IsExpression, right_side, argument, HasValuesOf, KeepsValues}
+use Rattle.fix_types.specs.Boundary.{HasItem, HasItemIn, IsExpression, right_side, argument, KeepsValues}
 use Rattle.fix_types.specs.Numbers.{AreNumbersShort, IsTopShort}
-use Rattle.fix_types.specs.TypeRules.{literal_rules, expr_rules, against, argument_rules, place_rules, call_rules, item_rules, items_rules, table_rules, top_rules, type_rules}
-use Rattle.fix_types.specs.TypedTree.{TypedExpr}
+use Rattle.fix_types.specs.TypeRules.{literal_rules, expr_rules, against, argument_rules, place_rules, call_rules, item_rules, items_rules, top_rules, type_rules}
 use Rattle.fix_types.specs.TypedValue.{HasTypedValue}
 use Rattle.fix_types.specs.Translation.{typed_expr}
 use Rattle.fix_types.specs.declared.fault.TypeFault.{TypeFault}
-use Rattle.fix_types.specs.Private.Sound.{IsSoundType, IsSound, IsSoundItem, AreSoundItems, HasSoundTypes, IsSoundTop}
+use Rattle.fix_types.specs.Private.Sound.{IsSoundType, IsSound, IsSoundItem, AreSoundItems, HasSoundTypes}
 use Rattle.fix_types.proofs.Literals.{Passes}
 use Rattle.fix_types.proofs.SameValues.{HasGoodTables, same_values}
 use Rattle.fix_types.proofs.SoundNames.{table_found, top_sound}

@@ -1,12 +1,10 @@
 -- The raw word of a literal, and whether it has one.
-use Rattle.std.proofs.Common.{◌≡◌, ◌∙◌, refl, sym, subst, ap, ℕ, Bool, true, false, ℤ, Result, Ok, Err}
-use Rattle.std.specs.Prelude.{List, map, slice_get, option_map, Option, Some, None}
-use Rattle.std.proofs.lemmas.Option.{slice_get-map}
+use Rattle.std.proofs.Common.{◌≡◌, sym, subst, ap, ℕ, Bool, true, false, ℤ, Ok, Err}
 use Rattle.ranked_faults.specs.Rules.{Rules, unless}
 use Rattle.ranked_faults.specs.Private.FirstMet.{first}
 use Rattle.ranked_faults.proofs.TableFaults.{rule_holds}
 use Rattle.fix_word.specs.Words.{IsWord, IsLiteral, IsOutOfRange}
-use Rattle.fix_word.specs.Values.{nearest_of, bit_of}
+use Rattle.fix_word.specs.Values.{nearest_of}
 use Rattle.fix_word.specs.declared.types.FixType.{FixType}
 use Rattle.fix_word.specs.declared.types.SigType.{SigType}
 use Rattle.fix_word.specs.declared.types.SigType.TheVariants.{Fix, Bool as Truths}

@@ -1,8 +1,7 @@
 -- The type that an expression has of its own has an allowed size.
-use Rattle.std.proofs.Common.{◌≡◌, ◌⊎◌, inl, inr, refl, sym, subst, ℕ, List, Option, Some, None}
+use Rattle.std.proofs.Common.{◌≡◌, ◌⊎◌, inl, inr, refl, subst, Option, Some, None}
 use Rattle.std.specs.Option.{option_or}
 use Rattle.lists.proofs.Places.{some_once}
-use Rattle.fix_word.specs.declared.types.FixType.{FixType}
 use Rattle.fix_word.specs.declared.types.SigType.{SigType}
 use Rattle.fix_word.specs.declared.types.SigType.TheVariants.{Fix, Bool as Truths}
 use Rattle.silage_syntax.specs.declared.tree.BinOp.TheVariants as op

@@ -1,14 +1,14 @@
 -- An expression that breaks no rule has the values of its typed expression, and no others.
-use Rattle.std.proofs.Common.{◌≡◌, ◌≢◌, ◌∙◌, refl, sym, subst, ap, ℕ, ◌+◌, List, [], ◌∷◌, map, Option, Some, None, ℤ, pos, ◌+ℤ◌, ◌-ℤ◌, ◌*ℤ◌, neg_ℤ, ◌≤ℤ◌, ◌<ℤ◌, true, false, Result, Ok, Err, ◌⊎◌}
+use Rattle.std.proofs.Common.{◌≡◌, ◌≢◌, ◌∙◌, refl, sym, subst, ap, ℕ, ◌+◌, List, Option, Some, None, ℤ, pos, ◌+ℤ◌, ◌-ℤ◌, ◌*ℤ◌, neg_ℤ, ◌≤ℤ◌, ◌<ℤ◌, true, false, Ok, ◌⊎◌}
 use Rattle.std.specs.Prelude.{slice_get, option_map}
 use Rattle.std.specs.Option.{option_or}
 use Rattle.std.proofs.lemmas.Option.{slice_get-map}
 use Rattle.lists.proofs.Places.{some_once}
 use Rattle.ranked_faults.specs.Rules.{Rules, parts, none, ◌▸◌, unless}
-use Rattle.ranked_faults.specs.Private.FirstMet.{first, first_in, ◌>>◌}
+use Rattle.ranked_faults.specs.Private.FirstMet.{first, ◌>>◌}
 use Rattle.ranked_faults.proofs.TableFaults.{then_parts, rule_holds}
-use Rattle.fix_word.specs.Operations.{IsApply, IsTruth, IsSet, IsChoice}
-use Rattle.fix_word.specs.Words.{IsForm, IsWrap, IsShape}
+use Rattle.fix_word.specs.Operations.{IsApply, IsTruth, IsSet}
+use Rattle.fix_word.specs.Words.{IsForm, IsShape}
 use Rattle.fix_word.specs.declared.types.FixType.{FixType}
 use Rattle.fix_word.specs.declared.types.Format.{Format}
 use Rattle.fix_word.specs.declared.types.SigType.{SigType}
@@ -20,13 +20,12 @@ use Rattle.silage_syntax.specs.declared.tree.ConstDef.{ConstDef}
 use Rattle.silage_syntax.specs.declared.tree.Decl.{Decl}
 use Rattle.silage_syntax.specs.declared.tree.Lit.{Lit}
 use Rattle.silage_syntax.specs.Tree.{Manifest, Place, Expr, literal, read, negate, not, binary, shift, cast, choose, Branches, no_branch, branch, Func, Program}
-use Rattle.silage_syntax.specs.Names.{declared, table_named}
-use Rattle.silage_meaning.specs.Instances.{Site, IsSignal}
-use Rattle.silage_meaning.specs.Types.{HasShapeOf, IsRawWord, name_type, own_type, factor_type, common_type, table_type}
-use Rattle.silage_meaning.specs.Value.{Words, IsValue, IsChosen, IsRead, signal, number, IsEntry, IsWrapped, IsShifted, IsConverted, HaveValues, IsProduct, IsComparison, IsCast}
-use Rattle.fix_types.specs.TypeRules.{is_same_shape, misfit, name_rules, operand_rules, against, part_type, is_no_truth, cast_rules, product_rules, comparison_rules, expr_rules, branch_rules, literal_rules, table_rules}
+use Rattle.silage_syntax.specs.Names.{table_named}
+use Rattle.silage_meaning.specs.Instances.{Site}
+use Rattle.silage_meaning.specs.Types.{HasShapeOf, name_type, own_type, factor_type, common_type, table_type}
+use Rattle.silage_meaning.specs.Value.{Words, IsValue, IsChosen, IsRead, signal, number, IsEntry, IsWrapped, IsConverted, HaveValues, IsProduct, IsComparison, IsCast}
+use Rattle.fix_types.specs.TypeRules.{is_same_shape, misfit, name_rules, part_type, is_no_truth, cast_rules, product_rules, comparison_rules, expr_rules, branch_rules, literal_rules}
 use Rattle.fix_types.specs.TypedTree.{TypedExpr, node}
-use Rattle.fix_types.specs.TypedTree as tree
 use Rattle.fix_types.specs.TypedValue as typed
 use Rattle.fix_types.specs.TypedValue.{HasTypedValue, HasRead}
 use Rattle.fix_types.specs.Translation.{word_of, wrapped, rounded, no_format, chosen, one, two, typed_against, typed_product, typed_cast, typed_expr, typed_choice, one_bit, typed_table}

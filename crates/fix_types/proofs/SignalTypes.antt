@@ -8,7 +8,7 @@ use Rattle.std.proofs.lemmas.Slice.Eq.{bytes_eq-Decides}
 use Rattle.fix_word.specs.declared.types.SigType.{SigType}
 use Rattle.silage_syntax.specs.declared.tree.Decl.{Decl}
 use Rattle.silage_syntax.specs.Tree.{Func}
-use Rattle.silage_syntax.specs.Names.{decls, declared}
+use Rattle.silage_syntax.specs.Names.{decls}
 use Rattle.fix_types.specs.Private.Signals.{type_in, decl_type, signal_type, gives_type}
 
 abbrev Entries : Type 0

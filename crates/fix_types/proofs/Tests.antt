@@ -1,11 +1,10 @@
 -- What the tests of the typing table decide.
-use Rattle.std.proofs.Common.{◌≡◌, refl, sym, ap₂, arith, ℕ, ◌-◌, ◌^◌, ◌&&◌, Bool, true, false, ℤ, pos, neg_ℤ, ◌≤ℤ◌, ◌<ℤ◌}
-use Rattle.std.specs.Prelude.{IsTrue, int_le, int_lt, nat_eq, nat_le}
+use Rattle.std.proofs.Common.{◌≡◌, refl, ap₂, arith, ℕ, ◌-◌, ◌^◌, ◌&&◌, Bool, true, false, ℤ, pos, neg_ℤ, ◌≤ℤ◌, ◌<ℤ◌}
+use Rattle.std.specs.Prelude.{int_le, int_lt, nat_eq, nat_le}
 use Rattle.std.proofs.lemmas.Bool.{eqb-true, leb-true}
 use Rattle.std.proofs.lemmas.Int.{ints}
 use Rattle.fix_word.specs.Words.{IsWord, IsShape}
 use Rattle.fix_word.specs.declared.types.FixType.{FixType}
-use Rattle.fix_word.specs.declared.types.Shape.{Shape}
 use Rattle.fix_word.specs.declared.types.SigType.{SigType}
 use Rattle.fix_word.specs.declared.types.SigType.TheVariants.{Fix, Bool as Truths}
 use Rattle.silage_meaning.specs.Types.{HasShapeOf}

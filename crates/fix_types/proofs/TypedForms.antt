@@ -1,7 +1,7 @@
 -- The formats of typed expressions are those of the values of expressions.
 use Rattle.std.proofs.Common.{◌≡◌, refl, sym, subst, arith, ℕ, zero, suc, ◌^◌, ℤ, pos, negsuc, neg_ℤ, ◌*ℤ◌}
 use Rattle.std.proofs.lemmas.Int.{ints}
-use Rattle.fix_word.specs.Words.{IsWrap, IsForm, IsScaled}
+use Rattle.fix_word.specs.Words.{IsWrap, IsForm}
 use Rattle.fix_word.specs.declared.types.FixType.{FixType}
 use Rattle.fix_word.specs.declared.types.Format.{Format}
 use Rattle.fix_word.specs.declared.types.Mode.{Mode}

@@ -1,5 +1,5 @@
 -- The value of a node, by the values of its parts.
-use Rattle.std.proofs.Common.{◌≡◌, ◌∙◌, refl, sym, subst, ap, ℕ, List, [], ◌∷◌, Option, Some, None, ℤ, pos, ◌*ℤ◌}
+use Rattle.std.proofs.Common.{ℕ, [], ◌∷◌, Some, None, ℤ, pos, ◌*ℤ◌}
 use Rattle.fix_word.specs.Operations.{IsApply}
 use Rattle.fix_word.specs.declared.types.Format.{Format}
 use Rattle.fix_word.specs.declared.operation.Op.{Op}
@@ -8,7 +8,7 @@ use Rattle.silage_syntax.specs.Manifests.{IsAmount}
 use Rattle.silage_meaning.specs.Instances.{Site}
 use Rattle.silage_meaning.specs.Value.{Words}
 use Rattle.fix_types.specs.TypedTree.{TypedExpr, node}
-use Rattle.fix_types.specs.TypedValue.{HasFormat, as_it_is, by_amount, HasTypedValue, HaveTypedValues}
+use Rattle.fix_types.specs.TypedValue.{as_it_is, by_amount, HasTypedValue}
 use Rattle.fix_types.specs.Translation.{one, two, three}
 
 -- a format multiplied by an amount

@@ -1,5 +1,5 @@
 -- The parts of a node and the items of a loop are the lists that they were made of.
-use Rattle.std.proofs.Common.{◌≡◌, List, Vec, Option, refl, ap, ◌∙◌, map}
+use Rattle.std.proofs.Common.{◌≡◌, Vec, Option, refl, ap, ◌∙◌, map}
 use Rattle.std.specs.Global.{Global}
 use mathlib.Core.Former.{Count}
 use Rattle.fix_word.specs.declared.types.Format.{Format}

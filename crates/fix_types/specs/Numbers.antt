@@ -1,12 +1,11 @@
 -- The size of the numbers in a program, which its source's tokens limit.
-use Rattle.std.specs.Prelude.{◌<◌, ◌≤◌, ◌^◌, ℕ, List, All}
-use Rattle.silage_syntax.specs.declared.tree.ConstDef.{ConstDef}
+use Rattle.std.specs.Prelude.{◌<◌, ◌≤◌, ◌^◌, All}
 use Rattle.silage_syntax.specs.declared.tree.Lit.{Lit}
 use Rattle.silage_syntax.specs.declared.tree.Lit.TheVariants.{Number, Truth}
 use Rattle.silage_syntax.specs.Tree.{Expr, literal, read, negate, not, binary, shift, cast, choose}
 use Rattle.silage_syntax.specs.Tree.{Branches, no_branch, branch}
 use Rattle.silage_syntax.specs.Tree.{Item, equation, call, loop, initial, Items, no_item, item}
-use Rattle.silage_syntax.specs.Tree.{Func, Top, table, function, Program}
+use Rattle.silage_syntax.specs.Tree.{Top, table, function, Program}
 
 -- a number has at most 18 digits, of which one is before the point
 abbrev pub IsShort : Lit → Type 0

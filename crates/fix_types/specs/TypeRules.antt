@@ -1,6 +1,6 @@
 -- The typing table: the rules on types, each a test with the fault where it fails. A line is an expression against the
 -- type that is wanted: first the rules of its own, then its parts, each against its type, from left to right.
-use Rattle.std.specs.Prelude.{ℕ, ◌-◌, ◌^◌, ◌&&◌, Bool, true, false, List, [], ◌∷◌, nat_eq, Option, Some, None}
+use Rattle.std.specs.Prelude.{ℕ, ◌-◌, ◌^◌, ◌&&◌, Bool, true, false, List, ◌∷◌, nat_eq, Option, Some, None}
 use Rattle.std.specs.Prelude.{ℤ, pos, neg_ℤ, int_le, int_lt}
 use Rattle.ranked_faults.specs.Rules.{Rules, RuleRow, parts, none, ◌▸◌, unless, each}
 use Rattle.fix_word.specs.Values.{nearest_of}

@@ -1,5 +1,5 @@
 use Rattle.std.proofs.Common.{◌≡◌, map, take}
-use Rattle.silage_syntax.specs.Tree.{view_manifest, view_place}
+use Rattle.silage_syntax.specs.Tree.{view_manifest}
 use Rattle.fix_types.proofs.copies.manifests.Given as goal
 
 abbrev pub invariant-loop-m : goal.invariant-loop-m

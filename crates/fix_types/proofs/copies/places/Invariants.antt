@@ -1,5 +1,5 @@
 use Rattle.std.proofs.Common.{◌≡◌, map, take}
-use Rattle.silage_syntax.specs.Tree.{view_manifest, view_place}
+use Rattle.silage_syntax.specs.Tree.{view_place}
 use Rattle.fix_types.proofs.copies.places.Given as goal
 
 abbrev pub invariant-loop-p : goal.invariant-loop-p

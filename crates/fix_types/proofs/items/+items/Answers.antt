@@ -4,7 +4,7 @@ use Rattle.fix_types.specs.TypedTree.{view_item}
 use Rattle.fix_types.specs.declared.typed.TypedItem.{TypedItem as RustTypedItem}
 use Rattle.fix_types.specs.Private.ItemLists.{typed_list}
 use Rattle.fix_types.specs.Private.Scopes.{program_of, function_of}
-use Rattle.fix_types.proofs.ItemSteps.{item_fails, items_typed, inner_sound, of_items, inner_fails, loop_typed}
+use Rattle.fix_types.proofs.ItemSteps.{item_fails, items_typed, inner_sound, of_items}
 use Rattle.fix_types.proofs.items.+items.Goals as goal
 
 pub typed_item-returns-in-Call : goal.typed_item-returns-in-Call

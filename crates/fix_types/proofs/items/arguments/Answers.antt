@@ -1,6 +1,5 @@
-use Rattle.std.proofs.Common.{◌∙◌, ◌++◌, List, Some, map, sym, ap, append-nil, arith}
+use Rattle.std.proofs.Common.{◌∙◌, ◌++◌, List, map, sym, ap, append-nil, arith}
 use Rattle.std.proofs.lemmas.Option.{slice_get-get_or}
-use Rattle.ranked_faults.specs.Rules.{RuleRow}
 use Rattle.ranked_faults.specs.Private.FirstMet.{first_in}
 use Rattle.fix_types.specs.TypedTree.{TypedExpr, view_expr}
 use Rattle.fix_types.specs.Private.Scopes.{program_of, function_of}

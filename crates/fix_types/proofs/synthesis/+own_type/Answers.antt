@@ -1,4 +1,4 @@
-use Rattle.std.proofs.Common.{◌≡◌, ◌∙◌, refl, sym, ap}
+use Rattle.std.proofs.Common.{◌∙◌, refl, sym, ap}
 use Rattle.std.specs.Option.{option_or}
 use Rattle.silage_syntax.specs.Tree.{view_expr}
 use Rattle.silage_meaning.specs.Types as meaning
