@@ -5,3 +5,4 @@ pub mod Answers
 pub mod Plans
 pub mod Choosing
 pub mod ItemLists
+pub mod FunctionParts

@@ -1,6 +1,6 @@
 //! Tables and functions, and all of them in order.
 
-ghost use Rattle.std.specs.Prelude.{◌≡◌, ◌≢◌, ◌<◌, ◌^◌, All, IfErr, OnOk, length, map};
+ghost use Rattle.std.specs.Prelude.{◌≡◌, ◌≢◌, ◌<◌, ◌^◌, All, IfErr, IfOk, OnOk, length, map};
 ghost use Rattle.ranked_faults.specs.Rules.{parts, each};
 ghost use Rattle.ranked_faults.specs.Private.FirstMet.{first, MeetsOr};
 ghost use Rattle.fix_word.specs.declared.types.SigType.TheVariants.{Fix};
@@ -11,22 +11,23 @@ ghost use Rattle.name_check.specs.Private.FirstTops.{IsDistinct};
 ghost use Rattle.fix_types.specs.TypeRules.{literal_rules, table_rules, top_rules, type_rules};
 ghost use Rattle.fix_types.specs.Translation as translation;
 ghost use Rattle.fix_types.specs.Translation.{word_of, typed_func, typed_program};
-ghost use Rattle.fix_types.specs.TypedTree.{view_func, view_typed};
+ghost use Rattle.fix_types.specs.TypedTree.{view_func, view_items, view_typed};
 ghost use Rattle.fix_types.specs.Numbers.{IsShort};
-ghost use Rattle.fix_types.specs.Private.Answers.{GivesAs, AddsTop};
+ghost use Rattle.fix_types.specs.Private.Answers.{GivesAs, GivesItems, AddsTop};
+ghost use Rattle.fix_types.specs.Private.FunctionParts.{func_with};
 ghost use Rattle.fix_types.specs.Private.Sound.{IsSoundType, IsSoundTop};
 
 use crate::items::typed_items;
 use crate::operands::literal_word;
 use crate::scope::Scope;
 use crate::signals::Signals;
-use crate::typed::{Typed, TypedConst, TypedFunc};
+use crate::typed::{Typed, TypedConst, TypedFunc, TypedItem};
 use crate::{TypeFault, copies};
 use fix_word::{FixType, SigType};
 use lists::List;
 use name_check::NameMap;
 use silage_syntax::{ConstDef, Func, Lit, Program, Top};
-use std::alloc::Global;
+use std::alloc::{AllocError, Global};
 
 /// The raw words of the numbers of a table.
 fn words(alloc: Global, ty: FixType, numbers: &[Lit]) -> Result<List<i64>, TypeFault>
@@ -56,6 +57,48 @@ fn typed_table(alloc: Global, table: &ConstDef) -> Result<TypedConst, TypeFault>
     })
 }
 
+/// The items of a function.
+fn typed_body(
+    alloc: Global,
+    program: &Program,
+    names: &NameMap,
+    func: &Func,
+) -> Result<Vec<TypedItem>, TypeFault>
+    requires named { names.now ≡ top_names (view program.now) }
+    requires apart { IsDistinct (top_names (view program.now)) }
+    requires sound { IsSoundTop (view program.now) (tree.function (tree.view_func func.now)) }
+    ensures { let f = tree.view_func func.now in GivesItems (view program.now) f f.items result }
+{
+    let signals = Signals::of(alloc, func)?;
+    let scope = Scope {
+        alloc,
+        program,
+        names,
+        func,
+        signals: &signals,
+    };
+    typed_items(&scope, &func.items)
+}
+
+/// The function at this position with these items.
+fn with_items(
+    alloc: Global,
+    position: u32,
+    func: &Func,
+    items: Vec<TypedItem>,
+) -> Result<TypedFunc, AllocError>
+    ensures { IfOk result (λ typed. view_func typed
+        ≡ func_with position (tree.view_func func.now) (view_items items.items)) }
+{
+    Ok(TypedFunc {
+        func: position,
+        params: copies::decls(alloc, &func.params)?,
+        results: copies::decls(alloc, &func.results)?,
+        locals: copies::decls(alloc, &func.locals)?,
+        items: List::from_vec(items),
+    })
+}
+
 /// The function at this position.
 fn typed_function(
     alloc: Global,
@@ -70,22 +113,8 @@ fn typed_function(
     ensures { let p = view program.now in let f = tree.view_func func.now in
         GivesAs view_func (top_rules p (tree.function f)) (typed_func p position f) result }
 {
-    let signals = Signals::of(alloc, func)?;
-    let scope = Scope {
-        alloc,
-        program,
-        names,
-        func,
-        signals: &signals,
-    };
-    let items = typed_items(&scope, &func.items)?;
-    Ok(TypedFunc {
-        func: position,
-        params: copies::decls(alloc, &func.params)?,
-        results: copies::decls(alloc, &func.results)?,
-        locals: copies::decls(alloc, &func.locals)?,
-        items: List::from_vec(items),
-    })
+    let items = typed_body(alloc, program, names, func)?;
+    Ok(with_items(alloc, position, func, items)?)
 }
 
 /// Adds the table or function at this position.
