@@ -13,9 +13,11 @@ use Rattle.name_check.specs.NameFaults.{name_faults}
 use Rattle.name_check.specs.declared.fault.NameFault.TheVariants as name
 use Rattle.single_def.specs.ElementFaults.{element_faults}
 use Rattle.single_def.specs.declared.fault.DefFault.TheVariants as def
+use Rattle.fix_types.specs.TypeFaults.{type_faults}
+use Rattle.fix_types.specs.declared.fault.TypeFault.TheVariants as kind
 use Rattle.silc.specs.Limits.{text_limit}
 use Rattle.silc.specs.declared.status.FrontFault.{FrontFault}
-use Rattle.silc.specs.declared.status.FrontFault.TheVariants.{TooLong, Lex, Parse, Name, Def}
+use Rattle.silc.specs.declared.status.FrontFault.TheVariants.{TooLong, Lex, Parse, Name, Def, Kind}
 
 -- the source's tokens are the program, within the limits of the language
 pub record IsRead (source : List ℕ) (program : Program) : Type 0 where
@@ -29,6 +31,7 @@ pub record HasProgram (source : List ℕ) (program : Program) : Type 0 where
   pub read : IsRead source program
   pub names : IsClear (name_faults program)
   pub elements : IsClear (element_faults program)
+  pub types : IsClear (type_faults program)
 
 -- the first fault of the source: the first of a phase, where no phase before it has one
 abbrev pub IsFrontFault : List ℕ → FrontFault → Type 0
@@ -39,6 +42,9 @@ IsFrontFault source (Parse fault) =
 IsFrontFault source (Name fault) = (program : Program) × IsRead source program × IsFirst (name_faults program) fault
 IsFrontFault source (Def fault) =
     (program : Program) × IsRead source program × IsClear (name_faults program) × IsFirst (element_faults program) fault
+IsFrontFault source (Kind fault) =
+    (program : Program) × IsRead source program × IsClear (name_faults program) × IsClear (element_faults program)
+    × IsFirst (type_faults program) fault
 
 -- the fault is one of a source; want of memory is a status of its own
 abbrev pub IsOfSource : FrontFault → Type 0
@@ -46,4 +52,5 @@ IsOfSource (Lex lex.Memory) = ⊥
 IsOfSource (Parse parse.Memory) = ⊥
 IsOfSource (Name name.Memory) = ⊥
 IsOfSource (Def def.Memory) = ⊥
+IsOfSource (Kind kind.Memory) = ⊥
 IsOfSource fault = Unit {0}

@@ -3,10 +3,11 @@ ghost use Rattle.std.specs.Prelude.{◌≡◌, ◌≤◌, length, IfOk, IfErr};
 ghost use Rattle.silage_syntax.specs.Tree.{view};
 ghost use Rattle.silc.specs.Faults.{IsRead, HasProgram};
 ghost use Rattle.silc.specs.Limits.{text_limit};
-ghost use Rattle.silc.specs.Private.Statuses.{of_lex, of_parse, of_names, of_defs, IsFrontError};
+ghost use Rattle.silc.specs.Private.Statuses.{of_lex, of_parse, of_names, of_defs, of_types, IsFrontError};
 
 use crate::status::{Ending, FrontFault, Status};
 use crate::undefined::Undefined;
+use fix_types::{TypeFault, check_types};
 use name_check::{NameFault, check_names};
 use silage_lex::{LexFault, Tokens, lex};
 use silage_parse::{ParseFault, parse};
@@ -104,6 +105,21 @@ fn undefined_in(program: Program, fault: DefFault, place: u32) -> Option<Undefin
     }
 }
 
+fn kind_ending(source: &[u8], fault: TypeFault) -> Ending
+    ensures { result.status ≡ of_types fault }
+{
+    let at = match fault {
+        TypeFault::Mismatch(at) | TypeFault::NeedsCast(at) => at,
+        TypeFault::Literal(at) | TypeFault::NotBool(at) => at,
+        TypeFault::Memory => return Ending::from(Status::Memory),
+    };
+    Ending {
+        status: Status::FrontEnd(FrontFault::Kind(fault)),
+        line: line_of(source, at),
+        undefined: None,
+    }
+}
+
 /// The program that the tokens of a source are.
 fn read_program(alloc: Global, source: &[u8]) -> Result<Program, Ending>
     requires { length source.now ≤ text_limit }
@@ -120,7 +136,7 @@ fn read_program(alloc: Global, source: &[u8]) -> Result<Program, Ending>
     }
 }
 
-/// The program of a source in which each name means something and each element is defined once.
+/// The program of a source in which each name means something, each element is defined once, and the types fit.
 pub(crate) fn program_of(alloc: Global, source: &[u8]) -> Result<Program, Ending>
     requires { length source.now ≤ text_limit }
     ensures ok { IfOk result (λ program. HasProgram source.now (view program)) }
@@ -132,8 +148,11 @@ pub(crate) fn program_of(alloc: Global, source: &[u8]) -> Result<Program, Ending
         Err(fault) => return Err(name_ending(source, fault)),
     };
     let mut undefined = 0;
-    match check_defs_with(alloc, &program, &names, &mut undefined) {
+    if let Err(fault) = check_defs_with(alloc, &program, &names, &mut undefined) {
+        return Err(def_ending(source, program, fault, undefined));
+    }
+    match check_types(alloc, &program, &names) {
         Ok(_) => Ok(program),
-        Err(fault) => Err(def_ending(source, program, fault, undefined)),
+        Err(fault) => Err(kind_ending(source, fault)),
     }
 }

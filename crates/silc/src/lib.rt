@@ -18,6 +18,7 @@ mod status;
 mod undefined;
 
 pub use command::silc;
+pub use fix_types::TypeFault;
 pub use micro_file::FormFault;
 pub use micro_image::{Conflict, ConflictKind};
 pub use name_check::NameFault;

@@ -6,6 +6,7 @@ ghost use Rattle.silc.specs.declared.status.Status.TheVariants.{Memory, Desk, Co
 use crate::undefined::Undefined;
 use cycle_sim::LoadFault;
 use desk_core::Failed;
+use fix_types::TypeFault;
 use micro_file::{CodeFault, FormFault};
 use micro_image::Conflict;
 use name_check::NameFault;
@@ -34,6 +35,9 @@ pub enum FrontFault {
     /// An element is not defined exactly once, a number in an item is not allowed, or there are too many elements.
     #[error(transparent)]
     Def(DefFault),
+    /// An expression is not of the type that is wanted there, or has no type where it needs one.
+    #[error(transparent)]
+    Kind(TypeFault),
 }
 
 /// Why bytes are no microcode.

@@ -1,5 +1,7 @@
 -- The statuses that faults of other crates come to.
 use Rattle.std.specs.Prelude.{List, ℕ}
+use Rattle.fix_types.specs.declared.fault.TypeFault.{TypeFault}
+use Rattle.fix_types.specs.declared.fault.TypeFault.TheVariants as kind
 use Rattle.micro_file.specs.declared.fault.FormFault.{FormFault}
 use Rattle.micro_file.specs.declared.fault.FormFault.TheVariants as form
 use Rattle.name_check.specs.declared.fault.NameFault.{NameFault}
@@ -13,14 +15,14 @@ use Rattle.silage_parse.specs.declared.ParseFault.TheVariants as parse
 use Rattle.single_def.specs.declared.fault.DefFault.{DefFault}
 use Rattle.single_def.specs.declared.fault.DefFault.TheVariants as def
 use Rattle.silc.specs.Faults.{IsFrontFault, IsOfSource}
-use Rattle.silc.specs.declared.status.FrontFault.TheVariants.{Lex, Parse, Name, Def}
+use Rattle.silc.specs.declared.status.FrontFault.TheVariants.{Lex, Parse, Name, Def, Kind}
 use Rattle.silc.specs.declared.status.ImageFault.TheVariants.{File}
 use Rattle.silc.specs.declared.status.SampleFault.TheVariants as sample
 use Rattle.silc.specs.declared.status.Status.{Status}
 use Rattle.silc.specs.declared.status.Status.TheVariants.{Memory, FrontEnd, Image, Samples}
 
--- the status where a source has no tokens, where its tokens are no program, and where the names or the elements of one
--- have a fault
+-- the status where a source has no tokens, where its tokens are no program, and where the names, the elements or the
+-- types of one have a fault
 abbrev pub of_lex : LexFault → Status
 of_lex lex.Memory = Memory
 of_lex fault = FrontEnd (Lex fault)
@@ -36,6 +38,10 @@ of_names fault = FrontEnd (Name fault)
 abbrev pub of_defs : DefFault → Status
 of_defs def.Memory = Memory
 of_defs fault = FrontEnd (Def fault)
+
+abbrev pub of_types : TypeFault → Status
+of_types kind.Memory = Memory
+of_types fault = FrontEnd (Kind fault)
 
 -- the status where microcode is not decoded
 abbrev pub of_form : FormFault → Status
