@@ -1,0 +1,51 @@
+#!/usr/bin/env python3
+"""Computes the coefficients, the samples and the expected rows of this example.
+
+usage: expected.py [--check]
+"""
+import math
+import sys
+from pathlib import Path
+
+FOLDER = Path(__file__).resolve().parent
+sys.path.insert(0, str(FOLDER.parent))
+import fixed  # noqa: E402
+
+SECTIONS, CUTOFF, RATE = 3, 1000, 8000
+
+
+def sections():
+    """Of each section b[0..2] and a[0..1] by the bilinear transform, as raw words of fix<16,14>."""
+    warped = math.tan(math.pi * CUTOFF / RATE)
+    for k in range(SECTIONS):
+        damping = 2 * math.cos(math.pi * (2 * k + 1) / (4 * SECTIONS))
+        scale = 1 / (1 + warped * damping + warped**2)
+        low = warped**2 * scale
+        a = (2 * (warped**2 - 1) * scale, (1 - warped * damping + warped**2) * scale)
+        yield [[fixed.literal(c, 16, 14) for c in part] for part in ((low, 2 * low, low), a)]
+
+
+def section(b, a, words):
+    x1 = x2 = y1 = y2 = 0
+    for x in words:
+        exact = fixed.number(b[0] * x + b[1] * x1 + b[2] * x2 - a[0] * y1 - a[1] * y2, 28)
+        x1, x2, y1, y2 = x, x1, fixed.quantised(exact, 16, 14, fixed.ROUND), y1
+        yield y1
+
+
+def filtered(words):
+    words = [fixed.quantised(fixed.number(word, 15), 16, 14, fixed.ROUND) for word in words]
+    for b, a in sections():
+        words = list(section(b, a, words))
+    return [(word,) for word in words]
+
+
+def samples():
+    """An impulse, a step, tones of 500 and 2,000 Hz, and noise."""
+    tone = [round(20000 * math.sin(2 * math.pi * hertz * n / RATE)) for hertz in (500, 2000) for n in range(80)]
+    return [32767] + [0] * 63 + [-32768] * 64 + tone + fixed.noise(96, 32767, seed=7)
+
+
+if __name__ == "__main__":
+    words = samples()
+    fixed.main(FOLDER, [(word,) for word in words], filtered(words))

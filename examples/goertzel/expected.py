@@ -1,0 +1,53 @@
+#!/usr/bin/env python3
+"""Computes the coefficient, the samples and the expected rows of this example.
+
+usage: expected.py [--check]
+"""
+import math
+import sys
+from pathlib import Path
+
+FOLDER = Path(__file__).resolve().parent
+sys.path.insert(0, str(FOLDER.parent))
+import fixed  # noqa: E402
+
+TONE, RATE, BLOCK, ENOUGH = 697, 8000, 205, 105 << 14
+COEFFICIENT = fixed.literal(2 * math.cos(2 * math.pi * TONE / RATE), 16, 14)
+
+
+def cut(exact, width):
+    return fixed.quantised(exact, width, 14, fixed.ROUND)
+
+
+def power_of(block):
+    """The power of the tone in a block, by the words of the resonator at its last two samples."""
+    last = before = 0
+    for x in block:
+        turned = cut(fixed.number(COEFFICIENT * last, 28), 24)
+        last, before = fixed.wrap(cut(fixed.number(x, 15), 24) + turned - before, 24), last
+    squares = [cut(fixed.number(word * word, 28), 32) for word in (last, before)]
+    both = cut(fixed.number(cut(fixed.number(COEFFICIENT * last, 28), 24) * before, 28), 32)
+    return fixed.wrap(sum(squares) - both, 32)
+
+
+def decided(words):
+    power = 0
+    for n in range(len(words)):
+        if n % BLOCK == BLOCK - 1:
+            power = power_of(words[n + 1 - BLOCK : n + 1])
+        yield int(power > ENOUGH), power
+
+
+def samples():
+    """Blocks of silence, of the tone, of the next key's 770 Hz, of the tone at a twentieth, and of the tone in noise."""
+    parts = [(0, 0, 0), (16000, TONE, 0), (16000, 770, 0), (1600, TONE, 0), (8000, TONE, 6000)]
+    made = []
+    for amplitude, hertz, level in parts:
+        hiss = fixed.noise(BLOCK, level, seed=3)
+        made += [round(amplitude * math.sin(2 * math.pi * hertz * n / RATE)) + hiss[n] for n in range(BLOCK)]
+    return made
+
+
+if __name__ == "__main__":
+    words = samples()
+    fixed.main(FOLDER, [(word,) for word in words], list(decided(words)))
