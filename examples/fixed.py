@@ -52,7 +52,7 @@ def text_of(rows):
 
 
 def main(folder, samples, rows):
-    """Writes the sample file and the expected rows of an example, or with --check compares them with those that stand there."""
+    """Writes the samples and the expected rows of an example, or with --check compares them with those that stand there."""
     made = {"samples.txt": text_of(samples), "expected.txt": text_of(rows)}
     if sys.argv[1:] == ["--check"]:
         wrong = [name for name, text in made.items() if (folder / name).read_text() != text]
