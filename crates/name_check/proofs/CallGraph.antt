@@ -8,9 +8,10 @@ use Rattle.std.proofs.lemmas.Option.{slice_get_within, slice_get-map, get_or_fro
 use Rattle.silage_syntax.specs.declared.tree.Top.{Top as RustTop}
 use Rattle.silage_syntax.specs.Tree.{Top, Program, view_top}
 use Rattle.name_check.specs.TopNames.{top_name, top_names}
-use Rattle.name_check.specs.Calls.{called_by, Calls, Reaches, by_call, by_calls}
-use Rattle.name_check.specs.Private.FirstTops.{HasNoRecursion, IsFirstRecursive}
-use Rattle.name_check.specs.Private.CallLists.{place, places, call_lists, Lists, IsWithin}
+use Rattle.digraph.specs.Arcs.{HasArc, IsWithin, HasNoCycle, IsFirstCyclic}
+use Rattle.digraph.proofs.Arcs.{carried}
+use Rattle.name_check.specs.Calls.{called_by, Calls}
+use Rattle.name_check.specs.Private.CallLists.{place, places, call_lists}
 use Rattle.name_check.proofs.FirstPlaces.{first_place, place_found, top_stands}
 use Rattle.lists.proofs.Places.{none_there, only_there}
 
@@ -48,15 +49,15 @@ module _ (p : Program) where
   callees top = places (top_names p) (called_by top)
 
   -- a call stands in a list, and what stands in a list is a call
-  pub lists_call : (f g : ℕ) → Lists (call_lists p) f g → Calls p f g
+  pub lists_call : (f g : ℕ) → HasArc (call_lists p) f g → Calls p f g
   lists_call f g l =
-      let found = some_mapped callees (slice_get p.tops f) l.callees (sym (slice_get-map callees p.tops f) ∙ l.stands) in
+      let found = some_mapped callees (slice_get p.tops f) l.heads (sym (slice_get-map callees p.tops f) ∙ l.stands) in
       let source = source_of (place (top_names p)) (called_by found.0) g (subst (λ xs. Contains xs g) (sym found.2) l.has) in
       record { caller = found.0; stands = found.1; name = source.0; calls = source.1; callee = first_place (top_names p) source.0 g source.2 }
 
-  pub call_listed : (f g : ℕ) → Calls p f g → Lists (call_lists p) f g
+  pub call_listed : (f g : ℕ) → Calls p f g → HasArc (call_lists p) f g
   call_listed f g k = record {
-    callees = callees k.caller;
+    heads = callees k.caller;
     stands = slice_get-map callees p.tops f ∙ ap (option_map callees) k.stands;
     has = value_in (place (top_names p)) (called_by k.caller) k.name g k.calls (place_found (top_names p) k.name g k.callee);
   }
@@ -70,18 +71,13 @@ module _ (p : Program) where
       let lists = length-map p.tops callees in
       omega arith
 
--- a chain of steps is one of other steps that stand for them
-pub carried : (Step Other : ℕ → ℕ → Type 0) → ((f g : ℕ) → Step f g → Other f g) → (f g : ℕ) → Reaches Step f g → Reaches Other f g
-carried Step Other same f g (by_call step) = by_call (same f g step)
-carried Step Other same f h (by_calls {g = g} step rest) = by_calls (same f g step) (carried Step Other same g h rest)
+pub none_recursive : (p : Program) → HasNoCycle (HasArc (call_lists p)) → HasNoCycle (Calls p)
+none_recursive p none f r = none f (carried (Calls p) (HasArc (call_lists p)) (call_listed p) f f r)
 
-pub none_recursive : (p : Program) → HasNoRecursion (Lists (call_lists p)) → HasNoRecursion (Calls p)
-none_recursive p none f r = none f (carried (Calls p) (Lists (call_lists p)) (call_listed p) f f r)
-
-pub first_recursive_of : (p : Program) (f : ℕ) → IsFirstRecursive (Lists (call_lists p)) f → IsFirstRecursive (Calls p) f
+pub first_recursive_of : (p : Program) (f : ℕ) → IsFirstCyclic (HasArc (call_lists p)) f → IsFirstCyclic (Calls p) f
 first_recursive_of p f h = record {
-  recursive = carried (Lists (call_lists p)) (Calls p) (lists_call p) f f h.recursive;
-  first = λ g r. h.first g (carried (Calls p) (Lists (call_lists p)) (call_listed p) g g r);
+  cyclic = carried (HasArc (call_lists p)) (Calls p) (lists_call p) f f h.cyclic;
+  first = λ g r. h.first g (carried (Calls p) (HasArc (call_lists p)) (call_listed p) g g r);
 }
 
 -- one list more

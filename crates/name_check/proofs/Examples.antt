@@ -11,8 +11,8 @@ use Rattle.silage_syntax.specs.declared.tree.Lit.{Lit}
 use Rattle.silage_syntax.specs.declared.tree.Lit.TheVariants.{Number}
 use Rattle.silage_syntax.specs.Tree.{Manifest, whole, counter, Place, Expr, literal, read, binary, cast, equation, call, loop, initial, Item, no_item, items_of, Top, table, function, Program}
 use Rattle.name_check.specs.Private.FirstTops.{IsDistinct}
-use Rattle.name_check.specs.Calls.{Calls, by_call, by_calls}
-use Rattle.name_check.specs.Private.FirstTops.{HasNoRecursion}
+use Rattle.digraph.specs.Arcs.{HasNoCycle, by_arc, by_arcs}
+use Rattle.name_check.specs.Calls.{Calls}
 use Rattle.name_check.specs.NameRules.{all_top_rules}
 use Rattle.name_check.specs.NameFaults.{name_faults}
 use Rattle.name_check.specs.declared.fault.NameFault.{NameFault}
@@ -182,9 +182,9 @@ unknown_is_first = inside_first (alone (equation (place (codes "y") 45 []) (bare
 abbrev nothing : Program
 nothing = record { tops = [] }
 
-nothing_calls : HasNoRecursion (Calls nothing)
-nothing_calls k (by_call c) = let e = c.stands in absurd (cc)
-nothing_calls k (by_calls c more) = let e = c.stands in absurd (cc)
+nothing_calls : HasNoCycle (Calls nothing)
+nothing_calls k (by_arc c) = let e = c.stands in absurd (cc)
+nothing_calls k (by_arcs c more) = let e = c.stands in absurd (cc)
 
 empty_source : IsFirst (name_faults nothing) NoMain
 empty_source = no_main_first nothing (λ k d. let e = d.here in absurd (cc)) refl nothing_calls refl

@@ -1,7 +1,4 @@
 pub mod ManifestMet
-pub mod WalkSteps
-pub mod JoinSteps
-pub mod WalkEnds
 pub mod FirstPlaces
 pub mod Callees
 pub mod CallGraph

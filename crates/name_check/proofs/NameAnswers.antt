@@ -11,8 +11,9 @@ use Rattle.silage_syntax.specs.Tree.{Top, Program}
 use Rattle.silage_syntax.specs.Names.{main_of}
 use Rattle.name_check.specs.TopNames.{top_at, top_names, IsDuplicate}
 use Rattle.name_check.specs.Private.FirstTops.{IsDistinct, IsFirstDuplicate}
-use Rattle.name_check.specs.Calls.{Calls, Reaches}
-use Rattle.name_check.specs.Private.FirstTops.{HasNoRecursion, IsRecursive}
+use Rattle.digraph.specs.Arcs.{Reaches, HasNoCycle}
+use Rattle.name_check.specs.Calls.{Calls}
+use Rattle.name_check.specs.Private.FirstTops.{IsRecursive}
 use Rattle.name_check.specs.NameRules.{all_top_rules}
 use Rattle.name_check.specs.NameFaults.{faults_of_tops, name_faults}
 use Rattle.name_check.specs.declared.fault.NameFault.{NameFault}
@@ -87,10 +88,10 @@ module _ (p : Program) where
 
       pub recursive_first : (fault : NameFault) → IsRecursive p fault → IsFirst (name_faults p) fault
       recursive_first fault i =
-          let is = tops_first p (λ k. Reaches (Calls p) k k) Recursive i.place i.top fault i.stands i.first.recursive i.first.first i.told in
+          let is = tops_first p (λ k. Reaches (Calls p) k k) Recursive i.place i.top fault i.stands i.first.cyclic i.first.first i.told in
           behind_doubles fault (later_first inside (recursion before no_main before no_faults) fault inside_clear (before_first recursion (no_main before no_faults) fault is))
 
-      module _ (none : HasNoRecursion (Calls p)) where
+      module _ (none : HasNoCycle (Calls p)) where
         recursion_clear : IsClear recursion
         recursion_clear = tops_clear p (λ k. Reaches (Calls p) k k) Recursive none
 

@@ -27,8 +27,3 @@ pub record Calls (p : Program) (f g : ℕ) : Type 0 where
   pub name : List ℕ
   pub calls : Contains (called_by caller) name
   pub callee : IsFirstPlace (top_names p) name g
-
--- one call or more lead from f to g
-pub data Reaches (Step : ℕ → ℕ → Type 0) : ℕ → ℕ → Type 0 where
-  by_call : {f g : ℕ} → Step f g → Reaches Step f g
-  by_calls : {f g h : ℕ} → Step f g → Reaches Step g h → Reaches Step f h

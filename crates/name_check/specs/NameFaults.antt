@@ -5,7 +5,8 @@ use Rattle.ranked_faults.specs.Rules.{faults}
 use Rattle.silage_syntax.specs.Tree.{Func, Top, function, Program}
 use Rattle.silage_syntax.specs.Names.{main_of}
 use Rattle.name_check.specs.TopNames.{top_at, top_names, IsDuplicate}
-use Rattle.name_check.specs.Calls.{Calls, Reaches}
+use Rattle.digraph.specs.Arcs.{Reaches}
+use Rattle.name_check.specs.Calls.{Calls}
 use Rattle.name_check.specs.NameRules.{all_top_rules}
 use Rattle.name_check.specs.declared.fault.NameFault.{NameFault}
 use Rattle.name_check.specs.declared.fault.NameFault.TheVariants.{Twice, Recursive, NoMain}

@@ -2,4 +2,3 @@ pub mod CallLists
 pub mod FirstTops
 pub mod Ranges
 pub mod Views
-pub mod Walk

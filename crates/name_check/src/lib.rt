@@ -2,7 +2,6 @@
 #![tactic(auto)]
 
 mod calls;
-mod components;
 mod context;
 mod declarations;
 mod expressions;

@@ -1,16 +1,16 @@
 //! The first function that can reach itself by calls.
 
-ghost use Rattle.std.specs.Prelude.{◌≡◌, ◌≢◌, ◌++◌, ◌<◌, ◌^◌, ◌↔◌, ℕ, Contains, length, IsTrue, IfOk, OnOk, IfErr};
+ghost use Rattle.std.specs.Prelude.{◌≡◌, ◌≢◌, ◌++◌, ◌<◌, ◌^◌, length, IfOk, OnOk, IfErr};
 ghost use Rattle.silage_syntax.specs.Tree.{view, view_top, view_item, view_items};
 ghost use Rattle.name_check.specs.TopNames.{top_names};
 ghost use Rattle.name_check.specs.Calls.{called, all_called, called_by, Calls};
-ghost use Rattle.name_check.specs.Private.CallLists.{places, call_lists, Lists, IsWithin};
-ghost use Rattle.name_check.specs.Private.FirstTops.{HasNoRecursion, IsRecursionIn, IsRecursive};
-ghost use Rattle.name_check.specs.Private.Walk.{CallsOwnComponent};
+ghost use Rattle.digraph.specs.Arcs.{HasNoCycle};
+ghost use Rattle.name_check.specs.Private.CallLists.{places, call_lists};
+ghost use Rattle.name_check.specs.Private.FirstTops.{IsRecursive};
 
 use crate::NameFault;
-use crate::components::{Mark, components};
 use crate::name_map::{NameMap, top_at};
+use digraph::first_cyclic;
 use lists::List;
 use silage_syntax::{Item, Program, Top};
 use std::alloc::{AllocError, AllocFailed, Global};
@@ -71,36 +71,6 @@ fn calls_of_all(
     Ok(calls)
 }
 
-/// Whether a function calls one of its own component. Then it reaches itself.
-fn is_recursive(marks: &[Mark], function: u32, callees: &[u32]) -> bool
-    requires function { function < length marks.now }
-    requires callees { (g : ℕ) → Contains callees.now g → g < length marks.now }
-    ensures { IsTrue result ↔ CallsOwnComponent marks.now function callees.now }
-{
-    let own = marks[function as usize].component();
-    for callee in callees {
-        if marks[*callee as usize].component() == own {
-            return true;
-        }
-    }
-    false
-}
-
-/// The first function that reaches itself.
-fn first_recursive(alloc: Global, calls: &[List<u32>]) -> Result<Option<u32>, AllocError>
-    requires few { length calls.now < 2 ^ 32 }
-    requires within { IsWithin calls.now }
-    ensures { IfOk result (IsRecursionIn (Lists calls.now)) }
-{
-    let marks = components(alloc, calls)?;
-    for function in 0..calls.len() as u32 {
-        if is_recursive(&marks, function, &calls[function as usize]) {
-            return Ok(Some(function));
-        }
-    }
-    Ok(None)
-}
-
 /// Refuses a program in which a function reaches itself by calls: `Recursive` at the first such function.
 pub(crate) fn check_recursion(
     alloc: Global,
@@ -109,11 +79,11 @@ pub(crate) fn check_recursion(
 ) -> Result<(), NameFault>
     requires few { length (view program.now).tops < 2 ^ 32 }
     requires names { tops.now ≡ top_names (view program.now) }
-    ensures none { OnOk result (HasNoRecursion (Calls (view program.now))) }
+    ensures none { OnOk result (HasNoCycle (Calls (view program.now))) }
     ensures first { IfErr result (λ fault. fault ≢ NameFault.Memory → IsRecursive (view program.now) fault) }
 {
     let calls = calls_of_all(alloc, tops, program)?;
-    match first_recursive(alloc, calls.as_slice())? {
+    match first_cyclic(alloc, calls.as_slice())? {
         None => Ok(()),
         Some(function) => Err(NameFault::Recursive(top_at(&program.tops[function as usize]))),
     }

@@ -1,0 +1,4 @@
+pub mod Arcs
+pub mod WalkSteps
+pub mod JoinSteps
+pub mod WalkEnds
