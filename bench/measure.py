@@ -1,4 +1,5 @@
 """Has silc_show repeat a call on files, and tells how long one turn takes."""
+import os
 import resource
 import subprocess
 import sys
@@ -39,6 +40,16 @@ def best(call, turns, file):
 def seconds_a_turn(call, file, turns):
     """The time of one turn: that of so many turns and one, less that of one."""
     return max(best(call, turns + 1, file) - best(call, 1, file), 1e-9) / turns
+
+
+def peak(call, turns, file):
+    """The most memory that a run takes, in bytes. It is at least that of the script, whose process becomes the program's."""
+    process = subprocess.Popen([PROGRAM, "repeat", call, str(turns), file], stdout=subprocess.DEVNULL)
+    _, status, usage = os.wait4(process.pid, 0)
+    process.returncode = os.waitstatus_to_exitcode(status)
+    if process.returncode:
+        sys.exit(f"{call} ends with {process.returncode}")
+    return usage.ru_maxrss * 1024
 
 
 def peak_of_children():

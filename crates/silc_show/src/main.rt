@@ -14,6 +14,7 @@ mod source;
 mod text;
 mod tokens;
 mod tree;
+mod types;
 mod words;
 
 use crate::page::Page;
@@ -26,7 +27,7 @@ use std::rt::{Env, Files};
 use std::{env, fs};
 
 const USAGE: &str =
-    "usage: silc_show tokens|tree|text|names|elements SRC | manifests|words TABLE | image MIC | rows WIDTHS SAMPLES \
+    "usage: silc_show tokens|tree|text|names|elements|types SRC | manifests|words TABLE | image MIC | rows WIDTHS SAMPLES \
      | repeat CALL TURNS FILE";
 
 const BAD_WORDS: u8 = 2;
@@ -43,6 +44,7 @@ enum Layer {
     Text,
     Names,
     Elements,
+    Types,
     Manifests,
     Words,
     Image,
@@ -55,6 +57,7 @@ fn layer_called(word: &str) -> Option<Layer> {
         "text" => Some(Layer::Text),
         "names" => Some(Layer::Names),
         "elements" => Some(Layer::Elements),
+        "types" => Some(Layer::Types),
         "manifests" => Some(Layer::Manifests),
         "words" => Some(Layer::Words),
         "image" => Some(Layer::Image),
@@ -70,6 +73,7 @@ fn answer(alloc: Global, layer: Layer, bytes: &[u8]) -> Result<Page, Refusal> {
         Layer::Text => text::page(alloc, bytes),
         Layer::Names => names::page(alloc, bytes),
         Layer::Elements => elements::page(alloc, bytes),
+        Layer::Types => types::page(alloc, bytes),
         Layer::Manifests => manifests::page(alloc, bytes),
         Layer::Words => words::page(alloc, bytes),
         Layer::Image => image::page(alloc, bytes),

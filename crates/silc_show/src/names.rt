@@ -1,6 +1,6 @@
 //! The names of a source: where its function `main` stands among the tables and functions, and the names of these.
 
-ghost use Rattle.std.specs.Prelude.{◌≡◌, IfOk, OnOk};
+ghost use Rattle.std.specs.Prelude.{◌≡◌, ◌<◌, ◌^◌, length, IfOk, OnOk};
 ghost use Rattle.ranked_faults.specs.Ranked.{IsClear};
 ghost use Rattle.silage_syntax.specs.Tree.{view};
 ghost use Rattle.name_check.specs.NameFaults.{name_faults, IsMain};
@@ -29,6 +29,7 @@ pub fn names_of(alloc: Global, source: &[u8], program: &Program) -> Result<Names
     ensures clear { OnOk result (IsClear (name_faults (view program.now))) }
     ensures tops { IfOk result (λ names. names.tops ≡ top_names (view program.now)) }
     ensures main { IfOk result (λ names. IsMain (view program.now) names.main) }
+    ensures few { OnOk result (length (view program.now).tops < 2 ^ 32) }
 {
     if program.tops.len() > SOURCE_LIMIT {
         return Err(too_long(alloc));

@@ -1,18 +1,20 @@
 //! One call repeated on one file, for the scripts under `bench/` to measure, and the sum of what its turns give.
 
-ghost use Rattle.std.specs.Prelude.{◌≡◌, length, All, IfOk};
+ghost use Rattle.std.specs.Prelude.{◌≡◌, ◌<◌, ◌^◌, length, All, IfOk};
 ghost use Rattle.cycle_sim.specs.Machine.{IsOperand};
 ghost use Rattle.micro_image.specs.Valid.{IsValid};
 ghost use Rattle.ranked_faults.specs.Ranked.{IsClear};
 ghost use Rattle.silage_syntax.specs.Tree.{view};
 ghost use Rattle.name_check.specs.NameFaults.{name_faults, IsMain};
 ghost use Rattle.name_check.specs.TopNames.{top_names};
+ghost use Rattle.fix_types.specs.Numbers.{AreNumbersShort};
 
 use crate::elements::{elements_of, expanded};
 use crate::image::{bytes_of, image_of};
 use crate::names::names_of;
 use crate::page::Page;
 use crate::source::{Refusal, parsed, program_of, refusal, tokens_of};
+use crate::types::typed;
 use cycle_sim::{Conflict, Machine};
 use micro_image::Image;
 use name_check::Names;
@@ -36,6 +38,8 @@ pub enum Call {
     Names,
     /// From a program and its names to instances and elements: the elements.
     Elements,
+    /// From a program and its names to its typed form: the functions.
+    Types,
     /// From a source to instances and elements: the elements.
     Front,
 }
@@ -49,6 +53,7 @@ pub fn call_named(word: &str) -> Option<Call> {
         "parse" => Some(Call::Parse),
         "names" => Some(Call::Names),
         "elements" => Some(Call::Elements),
+        "types" => Some(Call::Types),
         "front" => Some(Call::Front),
         _ => None,
     }
@@ -172,6 +177,31 @@ fn expand_program(alloc: Global, turns: u32, source: &[u8]) -> Result<u64, Refus
     elements_again(alloc, turns, source, &program, &names)
 }
 
+fn types_again(
+    alloc: Global,
+    turns: u32,
+    source: &[u8],
+    program: &Program,
+    names: &Names,
+) -> Result<u64, Refusal>
+    requires clear { IsClear (name_faults (view program.now)) }
+    requires tops { names.now.tops ≡ top_names (view program.now) }
+    requires few { length (view program.now).tops < 2 ^ 32 }
+    requires numbers { AreNumbersShort (view program.now) }
+{
+    let mut count = 0u64;
+    for _ in 0..turns {
+        count = count.wrapping_add(typed(alloc, source, program, names)?.funcs.len() as u64);
+    }
+    Ok(count)
+}
+
+fn type_program(alloc: Global, turns: u32, source: &[u8]) -> Result<u64, Refusal> {
+    let program = program_of(alloc, source)?;
+    let names = names_of(alloc, source, &program)?;
+    types_again(alloc, turns, source, &program, &names)
+}
+
 fn front_again(alloc: Global, turns: u32, source: &[u8]) -> Result<u64, Refusal> {
     let mut count = 0u64;
     for _ in 0..turns {
@@ -189,6 +219,7 @@ fn sum(alloc: Global, call: Call, turns: u32, bytes: &[u8]) -> Result<u64, Refus
         Call::Parse => parse_again(alloc, turns, bytes),
         Call::Names => names_again(alloc, turns, bytes),
         Call::Elements => expand_program(alloc, turns, bytes),
+        Call::Types => type_program(alloc, turns, bytes),
         Call::Front => front_again(alloc, turns, bytes),
     }
 }

@@ -1,6 +1,12 @@
 //! The tokens and the program of a source, or the fault that is answered in their place.
 
+ghost use Rattle.std.specs.Prelude.{IfOk};
+ghost use Rattle.silage_lex.specs.Tokens.{HasTokens};
+ghost use Rattle.silage_syntax.specs.Tree.{view};
+ghost use Rattle.fix_types.specs.Numbers.{AreNumbersShort};
+
 use crate::page::Page;
+use fix_types::TypeFault;
 use name_check::NameFault;
 use silage_lex::{LexFault, Tokens, lex};
 use silage_parse::{ParseFault, parse};
@@ -76,6 +82,16 @@ pub fn of_elements(alloc: Global, source: &[u8], fault: DefFault) -> Refusal {
     }
 }
 
+pub fn of_types(alloc: Global, source: &[u8], fault: TypeFault) -> Refusal {
+    match fault {
+        TypeFault::Mismatch(at)
+        | TypeFault::NeedsCast(at)
+        | TypeFault::Literal(at)
+        | TypeFault::NotBool(at) => refusal(alloc, &fault, line_of(source, at)),
+        TypeFault::Memory => Page::cut(alloc),
+    }
+}
+
 /// The line at the end of the bytes, from 1.
 fn last_line(bytes: &[u8]) -> u64 {
     let ends = bytes.iter().filter(|byte| **byte == b'\n').count();
@@ -101,7 +117,9 @@ pub fn text_of(alloc: Global, table: &[u8]) -> Result<&str, Refusal> {
     }
 }
 
-pub fn tokens_of(alloc: Global, source: &[u8]) -> Result<Tokens, Refusal> {
+pub fn tokens_of(alloc: Global, source: &[u8]) -> Result<Tokens, Refusal>
+    ensures { IfOk result (HasTokens source.now) }
+{
     if source.len() > SOURCE_LIMIT {
         return Err(too_long(alloc));
     }
@@ -112,7 +130,10 @@ pub fn tokens_of(alloc: Global, source: &[u8]) -> Result<Tokens, Refusal> {
 }
 
 /// The program of the tokens of a source.
-pub fn parsed(alloc: Global, source: &[u8], tokens: &Tokens) -> Result<Program, Refusal> {
+pub fn parsed(alloc: Global, source: &[u8], tokens: &Tokens) -> Result<Program, Refusal>
+    requires { HasTokens source.now tokens.now }
+    ensures { IfOk result (λ program. AreNumbersShort (view program)) }
+{
     if tokens.len() > SOURCE_LIMIT {
         return Err(too_long(alloc));
     }
@@ -122,7 +143,9 @@ pub fn parsed(alloc: Global, source: &[u8], tokens: &Tokens) -> Result<Program, 
     }
 }
 
-pub fn program_of(alloc: Global, source: &[u8]) -> Result<Program, Refusal> {
+pub fn program_of(alloc: Global, source: &[u8]) -> Result<Program, Refusal>
+    ensures { IfOk result (λ program. AreNumbersShort (view program)) }
+{
     let tokens = tokens_of(alloc, source)?;
     parsed(alloc, source, &tokens)
 }

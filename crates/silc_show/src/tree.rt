@@ -18,7 +18,7 @@ fn put_table(page: &mut Page, lead: Lead, table: &ConstDef) {
     }
 }
 
-fn put_decls(page: &mut Page, lead: Lead, decls: &[Decl]) {
+pub fn put_decls(page: &mut Page, lead: Lead, decls: &[Decl]) {
     for decl in decls {
         page.lead(lead);
         page.name("", &decl.name);

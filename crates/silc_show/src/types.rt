@@ -1,0 +1,215 @@
+//! The types of a source: a line for each table, declaration and item of its typed program. An operation stands before
+//! its parts with its format: the shift, which the amount of a source's shift multiplies, the mode and the width.
+
+ghost use Rattle.std.specs.Prelude.{◌≡◌, ◌<◌, ◌^◌, length};
+ghost use Rattle.ranked_faults.specs.Ranked.{IsClear};
+ghost use Rattle.silage_syntax.specs.Tree.{view};
+ghost use Rattle.name_check.specs.NameFaults.{name_faults};
+ghost use Rattle.name_check.specs.TopNames.{top_names};
+ghost use Rattle.fix_types.specs.Numbers.{AreNumbersShort};
+
+use crate::names::names_of;
+use crate::operations::operation_text;
+use crate::page::{Lead, Page, mode_text};
+use crate::source::{Refusal, of_types, program_of};
+use crate::tree::put_decls;
+use fix_types::{Typed, TypedConst, TypedExpr, TypedFunc, TypedItem, check_types};
+use fix_word::{Format, Op};
+use name_check::Names;
+use silage_tree::{MOp, Manifest, Place, Program};
+use std::alloc::Global;
+
+fn sign_text(op: MOp) -> &'static str {
+    match op {
+        MOp::Add => "+",
+        MOp::Sub => "-",
+        MOp::Mul => "*",
+    }
+}
+
+fn put_manifest(page: &mut Page, manifest: &Manifest) {
+    match manifest {
+        Manifest::Whole(value, _) => page.number("", *value),
+        Manifest::Index(name, _) => page.name("", name),
+        Manifest::Negate(_, operand) => {
+            page.text("-");
+            put_manifest(page, operand);
+        }
+        Manifest::Binary(_, op, left, right) => {
+            page.text("(");
+            put_manifest(page, left);
+            page.text(sign_text(*op));
+            put_manifest(page, right);
+            page.text(")");
+        }
+    }
+}
+
+fn put_optional(page: &mut Page, before: &str, manifest: &Option<Manifest>) {
+    if let Some(manifest) = manifest {
+        page.text(before);
+        put_manifest(page, manifest);
+    }
+}
+
+fn put_place(page: &mut Page, place: &Place) {
+    page.name("", &place.name);
+    for sub in &place.subs {
+        page.text("[");
+        put_manifest(page, sub);
+        page.text("]");
+    }
+}
+
+fn put_operation(page: &mut Page, op: Op, format: Format, amount: &Option<Manifest>) {
+    page.text(operation_text(op));
+    page.number("<", format.shift);
+    put_optional(page, "*", amount);
+    page.text(",");
+    page.text(mode_text(format.mode));
+    page.number(",", format.width);
+    page.text(">");
+}
+
+/// What stands before one of several parts.
+fn put_before(page: &mut Page, is_first: bool) {
+    page.text(if is_first { "(" } else { ", " });
+}
+
+fn put_expr(page: &mut Page, expr: &TypedExpr) {
+    match expr {
+        TypedExpr::Raw(word) => page.number("", *word),
+        TypedExpr::Read { place, delay } => {
+            put_place(page, place);
+            put_optional(page, "@", delay);
+        }
+        TypedExpr::Node {
+            op,
+            fmt,
+            parts,
+            amount,
+        } => {
+            put_operation(page, *op, *fmt, amount);
+            let mut is_first = true;
+            for part in parts {
+                put_before(page, is_first);
+                put_expr(page, part);
+                is_first = false;
+            }
+            page.text(")");
+        }
+    }
+}
+
+fn put_call(page: &mut Page, places: &[Place], func: u32, args: &[TypedExpr]) {
+    let mut is_first = true;
+    for place in places {
+        put_before(page, is_first);
+        put_place(page, place);
+        is_first = false;
+    }
+    page.number(") = func ", func);
+    is_first = true;
+    for arg in args {
+        put_before(page, is_first);
+        put_expr(page, arg);
+        is_first = false;
+    }
+    page.text(")");
+}
+
+fn put_item(page: &mut Page, lead: Lead, item: &TypedItem) {
+    page.lead(lead);
+    match item {
+        TypedItem::Equation { place, value } => {
+            put_place(page, place);
+            page.text(" = ");
+            put_expr(page, value);
+            page.end();
+        }
+        TypedItem::Call {
+            places,
+            func,
+            args,
+            at: _,
+        } => {
+            put_call(page, places, *func, args);
+            page.end();
+        }
+        TypedItem::Loop {
+            index,
+            lo,
+            hi,
+            items,
+        } => {
+            page.name("loop ", index);
+            page.text(" ");
+            put_manifest(page, lo);
+            page.text(" .. ");
+            put_manifest(page, hi);
+            page.end();
+            for item in items {
+                put_item(page, lead.below(""), item);
+            }
+        }
+        TypedItem::Initial { place, k, raw } => {
+            put_place(page, place);
+            page.text("@@");
+            put_manifest(page, k);
+            page.number(" = ", *raw);
+            page.end();
+        }
+    }
+}
+
+fn put_table(page: &mut Page, table: &TypedConst) {
+    page.name("const ", &table.name);
+    page.dims(&table.dims);
+    page.fix_type(" : ", table.ty);
+    page.numbers(" =", &table.words);
+    page.end();
+}
+
+fn put_func(page: &mut Page, func: &TypedFunc) {
+    let below = Lead::top().below("");
+    page.number("func ", func.func);
+    page.end();
+    put_decls(page, Lead::top().below("parameter"), &func.params);
+    put_decls(page, Lead::top().below("result"), &func.results);
+    put_decls(page, Lead::top().below("local"), &func.locals);
+    for item in &func.items {
+        put_item(page, below, item);
+    }
+}
+
+/// The typed form of a program with its names.
+pub fn typed(
+    alloc: Global,
+    source: &[u8],
+    program: &Program,
+    names: &Names,
+) -> Result<Typed, Refusal>
+    requires clear { IsClear (name_faults (view program.now)) }
+    requires tops { names.now.tops ≡ top_names (view program.now) }
+    requires few { length (view program.now).tops < 2 ^ 32 }
+    requires numbers { AreNumbersShort (view program.now) }
+{
+    match check_types(alloc, program, names) {
+        Ok(typed) => Ok(typed),
+        Err(fault) => Err(of_types(alloc, source, fault)),
+    }
+}
+
+pub fn page(alloc: Global, source: &[u8]) -> Result<Page, Refusal> {
+    let program = program_of(alloc, source)?;
+    let names = names_of(alloc, source, &program)?;
+    let typed = typed(alloc, source, &program, &names)?;
+    let mut page = Page::new(alloc);
+    for table in &typed.consts {
+        put_table(&mut page, table);
+    }
+    for func in &typed.funcs {
+        put_func(&mut page, func);
+    }
+    Ok(page)
+}
