@@ -1,6 +1,7 @@
 pub mod Bools
 pub mod Determined
 pub mod Samples
+pub mod Along
 pub mod Unique
 pub mod Exists
 pub mod Reach
