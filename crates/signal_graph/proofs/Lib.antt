@@ -6,6 +6,8 @@ pub mod Same
 pub mod OneGraph
 pub mod OnePruned
 pub mod PrunedSolves
+pub mod Members
+pub mod Places
 mod Examples
 mod GraphExamples
 mod SoundExamples
