@@ -8,6 +8,9 @@ pub mod OnePruned
 pub mod PrunedSolves
 pub mod Members
 pub mod Places
+pub mod Numbers
+pub mod Parts
+pub mod Bodies
 mod Examples
 mod GraphExamples
 mod SoundExamples
