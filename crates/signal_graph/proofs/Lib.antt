@@ -11,6 +11,7 @@ pub mod Places
 pub mod Numbers
 pub mod Parts
 pub mod Bodies
+pub mod Targets
 mod Examples
 mod GraphExamples
 mod SoundExamples

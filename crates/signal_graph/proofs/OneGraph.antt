@@ -45,14 +45,14 @@ module _ (p : Program) where
   by_body e t b (read_alias {d = d} a q) is =
       subst (λ (c : Body). ByBody e c t) (sym a.body ∙ is) (subst (λ (z : Bool). ByValue e (read d 0) z t) (sym a.pass) q)
 
-  node_once : (e : ℕ) (t u : Target) → IsNodeOf p e t → IsNodeOf p e u → t ≡ u
+  pub node_once : (e : ℕ) (t u : Target) → IsNodeOf p e t → IsNodeOf p e u → t ≡ u
   node_once e t u (input_node {j = j} h) q = sym (by_body e u (word j) q h)
   node_once e t u (pass_node {x = x} h pass) q = sym (subst (λ (z : Bool). ByValue e x z u) pass (by_body e u (value x) q h))
   node_once e t u (own_node {o = o} {fmt = fmt} {parts = parts} h) q = sym (by_body e u (value (calculation o fmt parts)) q h)
   node_once e t u (word_alias {m = m} a) q = sym (subst (λ (z : Bool). ByValue e (raw m) z u) a.pass (by_body e u (value (raw m)) q a.body))
   node_once e t u (read_alias {d = d} a r) q = node_once d t u r (subst (λ (z : Bool). ByValue e (read d 0) z u) a.pass (by_body e u (value (read d 0)) q a.body))
 
-  number_once : (t : Target) (v w : ℕ) → IsNumber p t v → IsNumber p t w → v ≡ w
+  pub number_once : (t : Target) (v w : ℕ) → IsNumber p t v → IsNumber p t w → v ≡ w
   number_once t v w = some_once (position _ (node_sites p)) v w
 
   edge_once : (e : ℕ) (o : Operand) (a b : Edge) → IsEdgeTo p e o a → IsEdgeTo p e o b → a ≡ b

@@ -8,3 +8,4 @@ pub mod FlatSolves
 pub mod GraphSolves
 pub mod GraphOf
 pub mod Pruned
+pub mod Keeps
