@@ -12,6 +12,7 @@ pub mod Numbers
 pub mod Parts
 pub mod Bodies
 pub mod Targets
+pub mod Fits
 mod Examples
 mod GraphExamples
 mod SoundExamples

@@ -8,7 +8,7 @@ use Rattle.std.proofs.lemmas.List.Elements.{All-contains, All-filter, All-contai
 use Rattle.std.proofs.lemmas.List.FromFn.{length-enumerate_from, get_or-enumerate_from}
 use Rattle.std.proofs.lemmas.List.Quantifiers.{position-Some}
 use Rattle.std.proofs.lemmas.List.Sums.{fails_before_first}
-use Rattle.std.proofs.lemmas.Option.{slice_get-get_or, slice_get_within, get_or_from_slice_get}
+use Rattle.std.proofs.lemmas.Option.{slice_get-get_or, slice_get_within, get_or_from_slice_get, none-some, same_Some}
 
 module _ {A : Type 0} where
   pub in_first : (x : A) (xs : List A) → Contains (x ∷ xs) x
@@ -129,3 +129,12 @@ module _ {A : Type 0} where
       let number : 0 + k ≡ k = omega arith in
       subst (λ (j : ℕ). slice_get xs j ≡ Some i.1) (sym number ∙ ap (λ (j : ℕ × A). j.0) same)
       (slice_get-get_or xs k i.1 below ∙ ap (λ (j : ℕ × A). Some j.1) same)
+
+module _ {A : Type 0} (test : A → Bool) where
+  pub found_member : (xs : List A) (y : A) → find test xs ≡ Some y → Contains xs y
+  found_member [] y h = absurd (none-some y h)
+  found_member (z ∷ zs) y h = by (test z) refl (λ i. found_member zs y i) h
+    where
+      by : (b : Bool) → test z ≡ b → (find test zs ≡ Some y → Contains zs y) → cond b (Some z) (find test zs) ≡ Some y → Contains (z ∷ zs) y
+      by true e rest i = (0, omega arith, same_Some z y i)
+      by false e rest i = in_rest z y zs (rest i)
