@@ -13,6 +13,8 @@ pub mod Parts
 pub mod Bodies
 pub mod Targets
 pub mod Fits
+pub mod Delayed
+pub mod Nodes
 mod Examples
 mod GraphExamples
 mod SoundExamples
