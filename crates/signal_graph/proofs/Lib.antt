@@ -15,6 +15,7 @@ pub mod Targets
 pub mod Fits
 pub mod Delayed
 pub mod Nodes
+pub mod Equal
 mod Examples
 mod GraphExamples
 mod SoundExamples
