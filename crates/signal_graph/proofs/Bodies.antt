@@ -18,7 +18,7 @@ module _ (p : Program) (e : ℕ) where
   pub input_made : (j : ℕ) → (element_of p e).body ≡ word j → made_of p e ≡ input j ∷ []
   input_made j h = ap (λ (b : Body). made_by_body p e its_width b) h
 
-  abbrev with_pass : Expr → Bool → List Made
+  abbrev pub with_pass : Expr → Bool → List Made
   with_pass x b = made_by 0 x ++ (if b then pass its_width x ∷ [] else [])
 
   pub value_made : (x : Expr) (b : Bool) → (element_of p e).body ≡ value x → has_pass p e x ≡ b → made_of p e ≡ with_pass x b

@@ -16,6 +16,8 @@ pub mod Fits
 pub mod Delayed
 pub mod Nodes
 pub mod Equal
+pub mod Agreement
+pub mod Made
 mod Examples
 mod GraphExamples
 mod SoundExamples
