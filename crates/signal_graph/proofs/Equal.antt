@@ -37,7 +37,7 @@ passed : (m : ℤ) (w : ℕ) → 1 ≤ w → IsWord w m → result op.Pass (plai
 passed m w some is = wrap_of_word m w some is
 
 module _ (node_words : Words) (n : ℕ) where
-  no_delay : (v ago : ℕ) (m : ℤ) → ago ≡ 0 → node_words v (pos n) ≡ m → node_words v (pos n -ℤ pos ago) ≡ m
+  pub no_delay : (v ago : ℕ) (m : ℤ) → ago ≡ 0 → node_words v (pos n) ≡ m → node_words v (pos n -ℤ pos ago) ≡ m
   no_delay v ago m none is =
       let now : pos n -ℤ pos ago ≡ pos n = omega (arith, ints) in
       ap (λ (z : ℤ). node_words v z) now ∙ is

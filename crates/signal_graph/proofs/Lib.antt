@@ -18,6 +18,10 @@ pub mod Nodes
 pub mod Equal
 pub mod Agreement
 pub mod Made
+pub mod GraphSound
+pub mod Below
+pub mod GraphLoopless
+pub mod GraphKeeps
 mod Examples
 mod GraphExamples
 mod SoundExamples

@@ -65,12 +65,14 @@ module _ {A : Type 0} where
             (z, record { first = ap (λ (b : Bool). cond b (Some z) (find test zs)) e; member = in_first z zs; passes = e })
         by false e (inl h) rest = absurd (unlike z x h e t)
         by false e (inr i) rest =
-            let (y, is) = rest i in
-            (y, record {
-              first = ap (λ (b : Bool). cond b (Some z) (find test zs)) e ∙ is.first;
-              member = in_rest z y zs is.member;
-              passes = is.passes;
-            })
+            let (y, is) = rest i in (
+              y,
+              record {
+                first = ap (λ (b : Bool). cond b (Some z) (find test zs)) e ∙ is.first;
+                member = in_rest z y zs is.member;
+                passes = is.passes;
+              },
+            )
 
     pub has_position : (xs : List A) (x : A) → Contains xs x → test x ≡ true → (v : ℕ) × (position test xs ≡ Some v)
     has_position xs x (k, lt, h) t = by (cases_lt (position_or_len test xs) (length xs))
@@ -79,7 +81,7 @@ module _ {A : Type 0} where
         by (inl less) = (
           position_or_len test xs,
           cond-true (nat_lt (position_or_len test xs) (length xs)) (Some (position_or_len test xs)) None
-          (lt-ltb (position_or_len test xs) (length xs) less),
+              (lt-ltb (position_or_len test xs) (length xs) less),
         )
         by (inr le) =
             absurd (unlike (slice_index_or xs k x) x h (fails_before_first test xs k x (omega arith)) t)
@@ -113,13 +115,12 @@ module _ {A : Type 0} where
   pub in_enumerate : (xs : List A) (e : ℕ) (x : A) → slice_get xs e ≡ Some x → Contains (enumerate_from 0 xs) (pair e x)
   in_enumerate xs e x h =
       let lt = slice_get_within xs e x h in
-      let number : 0 + e ≡ e = omega arith in
-      (
+      let number : 0 + e ≡ e = omega arith in (
         e,
         omega (arith, length-enumerate_from 0 xs),
         get_or-enumerate_from 0 xs e (e, x) lt
-        ∙ ap (λ (k : ℕ). pair k (slice_index_or xs e x)) number
-        ∙ ap (λ (y : A). pair e y) (get_or_from_slice_get xs e x x h),
+            ∙ ap (λ (k : ℕ). pair k (slice_index_or xs e x)) number
+            ∙ ap (λ (y : A). pair e y) (get_or_from_slice_get xs e x x h),
       )
 
   pub from_enumerate : (xs : List A) (i : ℕ × A) → Contains (enumerate_from 0 xs) i → slice_get xs i.0 ≡ Some i.1

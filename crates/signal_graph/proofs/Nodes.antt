@@ -23,7 +23,7 @@ use Rattle.signal_graph.proofs.Parts.{length_made}
 use Rattle.signal_graph.proofs.Numbers.{number_below, place_node, word_at}
 use Rattle.signal_graph.proofs.Bodies.{its_width, input_made, value_made, pass_made, calculation_made}
 
-length_sites_from : (e k : ℕ) (ms : List Made) → length (sites_from e k ms) ≡ length ms
+pub length_sites_from : (e k : ℕ) (ms : List Made) → length (sites_from e k ms) ≡ length ms
 length_sites_from e k [] = refl
 length_sites_from e k (m ∷ ms) = ap (λ (n : ℕ). suc n) (length_sites_from e (k + 1) ms)
 
@@ -36,7 +36,7 @@ last_inits p e k m last =
 -- what a calculation's node gives
 pub operation_value : (stream : Rows) (words : Words) (n : ℕ) (o : Op) (fmt : Format) (edges : List Edge) (inits : List (ℕ × ℤ)) → IsCalculation (class_of o)
     → node_value stream words n (record { op = o; fmt = node_format (class_of o) fmt; arg = pos 0; edges = edges; inits = inits; width = node_width (class_of o) fmt; ram = 0 })
-        ≡ result o fmt (operand_words words n edges)
+    ≡ result o fmt (operand_words words n edges)
 operation_value stream words n op.Add fmt edges inits is = refl
 operation_value stream words n op.Sub fmt edges inits is = refl
 operation_value stream words n op.Neg fmt edges inits is = refl

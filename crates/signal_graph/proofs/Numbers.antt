@@ -12,7 +12,7 @@ use Rattle.signal_graph.specs.GraphOf.{Made, nothing, constant, input, operation
 use Rattle.signal_graph.proofs.Members.{at_member, member_at, in_filter, from_filter, IsFound, finds, has_position, at_position}
 use Rattle.signal_graph.proofs.Places.{site, made_of, IsPlace, place_in, in_place}
 
-abbrev no_site : Site
+abbrev pub no_site : Site
 no_site = site 0 0 nothing
 
 -- the same word is made there

@@ -40,12 +40,14 @@ module _ (p : Program) where
         let now = now_read e d ago is in
         let body = subst (λ (k : ℕ). (element_of p e).body ≡ value (read d k)) now h in
         let no_pass = subst (λ (k : ℕ). has_pass p e (read d k) ≡ false) now is in
-        let (v, n) = lower d (subst (λ (b : Body). BodyReads b d 0) (sym body) (refl, refl)) in
-        (v, record {
-          target = n.target;
-          node = read_alias (record { body = body; pass = no_pass }) n.node;
-          number = n.number;
-        })
+        let (v, n) = lower d (subst (λ (b : Body). BodyReads b d 0) (sym body) (refl, refl)) in (
+          v,
+          record {
+            target = n.target;
+            node = read_alias (record { body = body; pass = no_pass }) n.node;
+            number = n.number;
+          },
+        )
     by_value (calculation o fmt parts) false h is =
         let k = size (calculation o fmt parts) - 1 in
         let (v, n) = has_place_number p e k (operation o fmt (operands_from 0 parts)) el (calculation_made p e o fmt parts h) (tt {0}) in
