@@ -58,7 +58,7 @@ output_node = record { op = op.Output; fmt = plain 0; arg = pos 0; edges = edge 
 abbrev pub its_graph : Graph
 its_graph = record { nodes = input_node ∷ sum_node ∷ output_node ∷ []; inputs = byte ∷ []; outs = 1 }
 
-abbrev stream : Rows
+abbrev pub stream : Rows
 stream = (pos 1 ∷ []) ∷ (pos 2 ∷ []) ∷ (pos 120 ∷ []) ∷ []
 
 abbrev xs : List ℤ
@@ -68,11 +68,11 @@ xs = pos 1 ∷ pos 2 ∷ pos 120 ∷ []
 abbrev ys : List ℤ
 ys = pos 6 ∷ pos 8 ∷ negsuc 127 ∷ []
 
-abbrev flat_words : Words
+abbrev pub flat_words : Words
 flat_words e (pos n) = slice_index_or (slice_index_or (xs ∷ ys ∷ []) e []) n (pos 0)
 flat_words e (negsuc j) = word_before (element_of accumulator e).inits (j + 1)
 
-abbrev graph_words : Words
+abbrev pub graph_words : Words
 graph_words v (pos n) = slice_index_or (slice_index_or (xs ∷ ys ∷ ys ∷ []) v []) n (pos 0)
 graph_words v (negsuc j) = word_before (node_of its_graph v).inits (j + 1)
 
@@ -93,10 +93,10 @@ flat_present (suc zero) (suc (suc zero)) below inside = refl
 flat_present (suc (suc e)) n below inside = absurd (omega arith)
 flat_present e (suc (suc (suc n))) below inside = absurd (omega arith)
 
-flat_solved : FlatSolves accumulator stream flat_words
+pub flat_solved : FlatSolves accumulator stream flat_words
 flat_solved = record { past = λ e j el lt. refl; present = flat_present }
 
-flat_rows : flat_out accumulator flat_words 3 ≡ (pos 6 ∷ []) ∷ (pos 8 ∷ []) ∷ (negsuc 127 ∷ []) ∷ []
+pub flat_rows : flat_out accumulator flat_words 3 ≡ (pos 6 ∷ []) ∷ (pos 8 ∷ []) ∷ (negsuc 127 ∷ []) ∷ []
 flat_rows = refl
 
 graph_present : (v n : ℕ) → v < 3 → n < 3 → graph_words v (pos n) ≡ node_value stream graph_words n (node_of its_graph v)
@@ -113,7 +113,7 @@ graph_present (suc (suc zero)) (suc (suc zero)) below inside = refl
 graph_present (suc (suc (suc v))) n below inside = absurd (omega arith)
 graph_present v (suc (suc (suc n))) below inside = absurd (omega arith)
 
-graph_solved : GraphSolves its_graph stream graph_words
+pub graph_solved : GraphSolves its_graph stream graph_words
 graph_solved = record { past = λ v j el lt. refl; present = graph_present }
 
 graph_rows : graph_out its_graph graph_words 3 ≡ (pos 6 ∷ []) ∷ (pos 8 ∷ []) ∷ (negsuc 127 ∷ []) ∷ []
@@ -131,5 +131,5 @@ falls_along : (e d : ℕ) → DependsNow (ElementReads accumulator) e d → d < 
 falls_along e d (direct r) = flat_falls e d r
 falls_along e d (by_way_of c r p) = omega (arith, flat_falls e c r, falls_along c d p)
 
-flat_loopless : IsFlatLoopless accumulator
+pub flat_loopless : IsFlatLoopless accumulator
 flat_loopless e el p = let less = falls_along e e p in omega arith

@@ -31,7 +31,7 @@ accumulator_output zero e h =
     (edge 1 0, (node_at 1 2, own_node refl, refl, refl), refl)
 accumulator_output (suc j) e h = absurd (no_more _ e refl h)
 
-accumulator_graph : IsGraphOf accumulator its_graph
+pub accumulator_graph : IsGraphOf accumulator its_graph
 accumulator_graph = record {
   inputs = refl;
   outs = refl;

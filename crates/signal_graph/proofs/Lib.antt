@@ -22,7 +22,11 @@ pub mod GraphSound
 pub mod Below
 pub mod GraphLoopless
 pub mod GraphKeeps
+pub mod Rising
+pub mod PrunedSound
+pub mod PrunedKeeps
 mod Examples
 mod GraphExamples
 mod SoundExamples
 mod PrunedExample
+mod KeepsExample

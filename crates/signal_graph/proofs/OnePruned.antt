@@ -51,7 +51,7 @@ same_rising (x ∷ xs) (y ∷ ys) r s to from =
     let rest = same_rising xs ys (rest_rises x xs r) (rest_rises y ys s) (moved x y xs ys r same to) (moved y x ys xs s (sym same) from) in
     ap (λ (i : ℕ). i ∷ xs) same ∙ ap (λ (is : List ℕ). y ∷ is) rest
 
-kept_once : (g : Graph) (xs ys : List ℕ) → AreUsed g xs → AreUsed g ys → xs ≡ ys
+pub kept_once : (g : Graph) (xs ys : List ℕ) → AreUsed g xs → AreUsed g ys → xs ≡ ys
 kept_once g xs ys a b =
     same_rising xs ys (AllPairs-from_increasing xs a.rise) (AllPairs-from_increasing ys b.rise)
     (λ v h. (b.used v).1 ((a.used v).0 h)) (λ v h. (a.used v).1 ((b.used v).0 h))

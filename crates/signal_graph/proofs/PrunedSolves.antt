@@ -49,28 +49,28 @@ module _ (kept : List ℕ) (words : Words) (n : ℕ) where
       given_kept (class_of old.op) stream old new.edges (operands_kept new.edges old.edges is.edges)
       ∙ ap (λ (node : Node). node_value stream (kept_words kept words) n node) (sym is.node)
 
-used_below : (g : Graph) → IsGraph g → (v : ℕ) → IsUsed g v → v < length g.nodes
+pub used_below : (g : Graph) → IsGraph g → (v : ℕ) → IsUsed g v → v < length g.nodes
 used_below g sound v (output_used below is) = below
 used_below g sound v (read {v = u} ago used there) =
     (edges_allowed g (node_of g u).edges v ago (sound.nodes u no_node (used_below g sound u used)).edges there).node
 
-module _ (g pruned : Graph) (sound : IsGraph g) (is : IsPruned g pruned) (stream : Rows) (words : Words) (solves : GraphSolves g stream words) where
-  same_count : length pruned.nodes ≡ length is.kept
+module _ (g pruned : Graph) (sound : IsGraph g) (is : IsPruned g pruned) where
+  pub same_count : length pruned.nodes ≡ length is.kept
   same_count = length_all_zip (IsRenumbered is.kept) pruned.nodes (map (node_of g) is.kept) is.nodes ∙ length-map is.kept (node_of g)
 
-  renumbered : (v : ℕ) → v < length pruned.nodes → IsRenumbered is.kept (node_of pruned v) (node_of g (slice_index_or is.kept v 0))
+  pub renumbered : (v : ℕ) → v < length pruned.nodes → IsRenumbered is.kept (node_of pruned v) (node_of g (slice_index_or is.kept v 0))
   renumbered v lt =
       let count = same_count in
       subst (λ (node : Node). IsRenumbered is.kept (node_of pruned v) node) (get_or-map (node_of g) is.kept v 0 no_node (omega arith))
       (AllZip-get_or (IsRenumbered is.kept) pruned.nodes (map (node_of g) is.kept) v no_node no_node is.nodes lt)
 
-  inside : (v : ℕ) → v < length pruned.nodes → slice_index_or is.kept v 0 < length g.nodes
+  pub inside : (v : ℕ) → v < length pruned.nodes → slice_index_or is.kept v 0 < length g.nodes
   inside v lt =
       let count = same_count in
       used_below g sound (slice_index_or is.kept v 0) ((is.used.used (slice_index_or is.kept v 0)).0 (v, omega arith, get_or_default is.kept v (slice_index_or is.kept v 0) 0 (omega arith)))
 
-  pub pruned_solves : GraphSolves pruned stream (kept_words is.kept words)
-  pruned_solves = record {
+  pub pruned_solves : (stream : Rows) (words : Words) → GraphSolves g stream words → GraphSolves pruned stream (kept_words is.kept words)
+  pruned_solves stream words solves = record {
     past = λ v j lt less.
         solves.past (slice_index_or is.kept v 0) j (inside v lt) less
         ∙ ap (λ (node : Node). word_before node.inits (j + 1)) (sym (renumbered v lt).node);

@@ -61,7 +61,7 @@ sum_sound = record {
 input_sound : IsElement accumulator (record { ty = byte; body = word 0; inits = [] })
 input_sound = record { ty = shape; body = refl; inits = no_inits _ }
 
-accumulator_sound : IsFlat accumulator
+pub accumulator_sound : IsFlat accumulator
 accumulator_sound = record {
   input_count = (omega arith, omega arith);
   inputs = one IsType byte shape;

@@ -1,5 +1,6 @@
--- What it is for the graph of a flat program to keep its solutions, over each stream of rows in the inputs' types.
-use Rattle.std.specs.Prelude.{◌≡◌, ℕ, ◌<◌, ◌≤◌, true, List, All, length, ℤ, pos, negsuc}
+-- What it is for a graph to keep solutions: those of its flat program, over each stream of rows in the inputs' types,
+-- and those of the graph that it was pruned from.
+use Rattle.std.specs.Prelude.{◌≡◌, ℕ, ◌==◌, ◌<◌, ◌≤◌, true, List, All, length, position, Some, ℤ, pos, negsuc}
 use Rattle.std.specs.List.{AllZip}
 use Rattle.lists.specs.Rows.{Rows}
 use Rattle.recurrences.specs.Kept.{KeepsSolutions}
@@ -10,6 +11,7 @@ use Rattle.signal_graph.specs.Values.{Words}
 use Rattle.signal_graph.specs.FlatSolves.{IsElementNumber, flat_system, flat_out}
 use Rattle.signal_graph.specs.GraphSolves.{IsNodeNumber, graph_system, graph_out}
 use Rattle.signal_graph.specs.GraphOf.{Target, is_delayed, IsNumber, IsNodeOf}
+use Rattle.signal_graph.specs.Pruned.{AreUsed}
 use Rattle.signal_graph.specs.declared.graph.Graph.{Graph}
 
 -- a row has one word for each input, in the range of its type
@@ -49,3 +51,20 @@ pub record KeepsFlatSolutions (p : Program) (g : Graph) : Type 0 where
   pub solutions : (stream : Rows)
       → IsStreamOf p.inputs stream
       → KeepsSolutions (flat_system p stream) (graph_system g stream) (AreEqualWords p g stream)
+
+-- node u is kept where its graph is pruned, and then it is node v
+pub record IsKeptAs (g : Graph) (u v : ℕ) : Type 0 where
+  pub kept : List ℕ
+  pub used : AreUsed g kept
+  pub number : position (λ w. w == u) kept ≡ Some v
+
+-- the words of each node that is kept are equal, and so are the output rows
+pub record AreKeptWords (g pruned : Graph) (stream : Rows) (words kept_words : Words) : Type 0 where
+  pub present : (u v n : ℕ) → IsKeptAs g u v → n < length stream → kept_words v (pos n) ≡ words u (pos n)
+  pub past : (u v j : ℕ) → IsKeptAs g u v → j < max_delay → kept_words v (negsuc j) ≡ words u (negsuc j)
+  pub rows : (count : ℕ) → count ≤ length stream → graph_out pruned kept_words count ≡ graph_out g words count
+
+-- the pruned graph keeps the solutions of the graph
+pub record KeepsGraphSolutions (g pruned : Graph) : Type 0 where
+  pub solutions : (stream : Rows)
+      → KeepsSolutions (graph_system g stream) (graph_system pruned stream) (AreKeptWords g pruned stream)
