@@ -1,6 +1,7 @@
 pub mod Values
 pub mod Tests
 pub mod Ready
+pub mod Numbered
 pub mod OneSolution
 pub mod Same
 pub mod OneGraph

@@ -4,9 +4,9 @@ use Rattle.std.specs.List.{range_with_len}
 use Rattle.lists.specs.Rows.{Rows}
 use Rattle.fix_word.specs.declared.types.SigType.TheVariants as sig
 use Rattle.recurrences.specs.Systems.{System, Solves, IsOneSolution, HasNoDelaylessLoop}
-use Rattle.signal_graph.specs.Rules.{max_delay, word_before}
 use Rattle.signal_graph.specs.Flat.{Element, Program, word}
 use Rattle.signal_graph.specs.Values.{Words, body_value, BodyReads}
+use Rattle.signal_graph.specs.Numbered.{numbered}
 
 -- what stands in the place of an element that is not there
 abbrev pub no_element : Element
@@ -27,16 +27,11 @@ ElementReads p e d ago = BodyReads (element_of p e).body d ago
 abbrev pub IsFlatLoopless : Program → Type 0
 IsFlatLoopless p = HasNoDelaylessLoop (ElementReads p) (IsElementNumber p)
 
--- the equations: an element has its initial values or 0 before sample 0, and then the value of its body
+-- the equations: an element gives the value of its body
 abbrev pub flat_system : Program → Rows → System ℕ ℤ
-flat_system p stream = record {
-  IsElement = IsElementNumber p;
-  past = max_delay;
-  samples = length stream;
-  Starts = λ e j v. v ≡ word_before (element_of p e).inits j;
-  Gives = λ e n words v. v ≡ body_value stream words n (element_of p e).body;
-  Reads = ElementReads p;
-}
+flat_system p stream =
+    numbered (length p.elems) (length stream) (λ e. (element_of p e).inits)
+    (λ e n words. body_value stream words n (element_of p e).body) (ElementReads p)
 
 abbrev pub FlatSolves : Program → Rows → Words → Type 0
 FlatSolves p stream words = Solves (flat_system p stream) words

@@ -4,9 +4,10 @@ use Rattle.std.specs.List.{range_with_len}
 use Rattle.lists.specs.Rows.{Rows}
 use Rattle.fix_word.specs.declared.operation.Op.TheVariants as op
 use Rattle.recurrences.specs.Systems.{System, Solves, IsOneSolution, HasNoDelaylessLoop}
-use Rattle.signal_graph.specs.Rules.{max_delay, plain, word_before}
+use Rattle.signal_graph.specs.Rules.{plain}
 use Rattle.signal_graph.specs.GraphRules.{first_output}
 use Rattle.signal_graph.specs.Values.{Words, node_value, EdgesRead}
+use Rattle.signal_graph.specs.Numbered.{numbered}
 use Rattle.signal_graph.specs.declared.graph.Node.{Node}
 use Rattle.signal_graph.specs.declared.graph.Graph.{Graph}
 
@@ -29,16 +30,11 @@ HasEdge g v u ago = EdgesRead (node_of g v).edges u ago
 abbrev pub IsGraphLoopless : Graph → Type 0
 IsGraphLoopless g = HasNoDelaylessLoop (HasEdge g) (IsNodeNumber g)
 
--- the equations: a node has its initial values or 0 before sample 0, and then what its operation gives
+-- the equations: a node gives what its operation does
 abbrev pub graph_system : Graph → Rows → System ℕ ℤ
-graph_system g stream = record {
-  IsElement = IsNodeNumber g;
-  past = max_delay;
-  samples = length stream;
-  Starts = λ v j w. w ≡ word_before (node_of g v).inits j;
-  Gives = λ v n words w. w ≡ node_value stream words n (node_of g v);
-  Reads = HasEdge g;
-}
+graph_system g stream =
+    numbered (length g.nodes) (length stream) (λ v. (node_of g v).inits)
+    (λ v n words. node_value stream words n (node_of g v)) (HasEdge g)
 
 abbrev pub GraphSolves : Graph → Rows → Words → Type 0
 GraphSolves g stream words = Solves (graph_system g stream) words

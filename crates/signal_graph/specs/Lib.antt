@@ -4,6 +4,7 @@ pub mod Rules
 pub mod FlatRules
 pub mod GraphRules
 pub mod Values
+pub mod Numbered
 pub mod FlatSolves
 pub mod GraphSolves
 pub mod GraphOf
