@@ -10,10 +10,10 @@ use Rattle.signal_graph.specs.GraphSolves.{node_of}
 use Rattle.signal_graph.specs.GraphOf.{Site, constant, input, operation, number, place, element, node_sites, node_at, word_node, IsNumber, IsNodeOf, input_node, pass_node, own_node, read_alias, IsLeastWidth, IsMade, IsOutputOf, IsGraphOf}
 use Rattle.signal_graph.proofs.Examples.{byte, accumulator, edge, its_graph}
 
-some_is : {A : Type 0} (x y : A) → Some x ≡ Some y → x ≡ y
+pub some_is : {A : Type 0} (x y : A) → Some x ≡ Some y → x ≡ y
 some_is x y h = cc
 
-no_more : {A : Type 0} (o : Option A) (y : A) → o ≡ None → o ≡ Some y → ⊥
+pub no_more : {A : Type 0} (o : Option A) (y : A) → o ≡ None → o ≡ Some y → ⊥
 no_more o y e h = cc
 
 -- the node at a place is made as it stands there

@@ -8,6 +8,7 @@ use Rattle.fix_word.specs.declared.operation.Op.TheVariants as op
 use Rattle.signal_graph.specs.Rules.{plain}
 use Rattle.signal_graph.specs.declared.graph.Node.{Node}
 use Rattle.signal_graph.specs.declared.graph.Graph.{Graph}
+use Rattle.signal_graph.specs.FlatSolves.{flat_out}
 use Rattle.signal_graph.specs.GraphSolves.{graph_out}
 use Rattle.signal_graph.specs.GraphOf.{node_at, input_node, own_node}
 use Rattle.signal_graph.specs.Keeps.{IsStreamOf, IsElementNode, AreEqualWords, KeepsFlatSolutions}
@@ -45,6 +46,25 @@ present_words : (e v n : ℕ) → e < 2 → IsElementNode accumulator e v → n 
 present_words zero v n el node lt = ap (λ (u : ℕ). graph_words u (pos n)) (one_node accumulator 0 v 0 node x_node)
 present_words (suc zero) v n el node lt = ap (λ (u : ℕ). graph_words u (pos n)) (one_node accumulator 1 v 1 node sum_node)
 present_words (suc (suc e)) v n el node lt = absurd (omega arith)
+
+past_words : (e v j : ℕ) → e < 2 → IsElementNode accumulator e v → graph_words v (negsuc j) ≡ flat_words e (negsuc j)
+past_words zero v j el node = ap (λ (u : ℕ). graph_words u (negsuc j)) (one_node accumulator 0 v 0 node x_node)
+past_words (suc zero) v j el node = ap (λ (u : ℕ). graph_words u (negsuc j)) (one_node accumulator 1 v 1 node sum_node)
+past_words (suc (suc e)) v j el node = absurd (omega arith)
+
+rows : (count : ℕ) → count ≤ 3 → graph_out its_graph graph_words count ≡ flat_out accumulator flat_words count
+rows zero le = refl
+rows (suc zero) le = refl
+rows (suc (suc zero)) le = refl
+rows (suc (suc (suc zero))) le = refl
+rows (suc (suc (suc (suc n)))) le = absurd (omega arith)
+
+equal : AreEqualWords accumulator its_graph stream flat_words graph_words
+equal = record {
+  present = present_words;
+  past = λ e v j el node is_read lt. past_words e v j el node;
+  rows = rows;
+}
 
 -- the graph of the sum without its initial value
 forgets : Graph

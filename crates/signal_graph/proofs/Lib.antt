@@ -31,3 +31,4 @@ mod GraphExamples
 mod SoundExamples
 mod PrunedExample
 mod KeepsExample
+mod WideExample
