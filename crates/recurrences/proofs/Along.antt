@@ -1,5 +1,5 @@
 -- What each equation hands on holds of every value of a system with heights.
-use Rattle.std.proofs.Common.{◌≡◌, ◌<◌, ◌≤◌, ℕ, zero, suc, subst, arith}
+use Rattle.std.proofs.Common.{◌<◌, ◌≤◌, ℕ, zero, suc, subst, arith}
 use Rattle.std.specs.Prelude.{ℤ, pos, negsuc, ◌-ℤ◌}
 use Rattle.recurrences.specs.Systems.{System}
 use Rattle.recurrences.proofs.Determined.{IsDetermined, HasHeights}

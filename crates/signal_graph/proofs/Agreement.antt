@@ -1,16 +1,16 @@
 -- A solution of a flat program and one of its graph have equal words.
-use Rattle.std.proofs.Common.{◌≡◌, refl, sym, subst, ap, ◌∙◌, arith, ℕ, zero, suc, ◌+◌, ◌-◌, ◌<◌, ◌≤◌, true, List, [], ◌∷◌, length}
-use Rattle.std.specs.Prelude.{ℤ, pos, negsuc, ◌-ℤ◌, slice_get, Some}
+use Rattle.std.proofs.Common.{◌≡◌, refl, sym, subst, ap, ◌∙◌, arith, ℕ, zero, suc, ◌+◌, ◌-◌, ◌<◌, true, List, length}
+use Rattle.std.specs.Prelude.{ℤ, pos, negsuc, ◌-ℤ◌}
 use Rattle.std.proofs.lemmas.Int.{ints}
 use Rattle.lists.specs.Rows.{Rows}
-use Rattle.recurrences.proofs.Along.{HoldsOfReads, along}
+use Rattle.recurrences.proofs.Along.{along}
 use Rattle.fix_word.specs.Words.{IsWord}
-use Rattle.signal_graph.specs.Rules.{width_of, word_before}
+use Rattle.signal_graph.specs.Rules.{word_before}
 use Rattle.signal_graph.specs.Flat.{Expr, raw, read, calculation, Body, word, value, Program, size}
 use Rattle.signal_graph.specs.FlatRules.{IsBodyOf, IsValueOf, IsFlat}
 use Rattle.signal_graph.specs.FlatSolves.{no_element, element_of, ElementReads, flat_system, IsFlatLoopless, FlatSolves}
 use Rattle.signal_graph.specs.GraphSolves.{GraphSolves}
-use Rattle.signal_graph.specs.Values.{Words, value_of, body_value, BodyReads}
+use Rattle.signal_graph.specs.Values.{Words, body_value, BodyReads}
 use Rattle.signal_graph.specs.declared.graph.Graph.{Graph}
 use Rattle.signal_graph.specs.GraphOf.{Target, node_at, is_delayed, IsNumber, IsNodeOf, input_node, pass_node, own_node, word_alias, read_alias, IsGraphOf}
 use Rattle.signal_graph.specs.Keeps.{IsStreamOf, IsElementNode}
@@ -21,7 +21,7 @@ use Rattle.signal_graph.proofs.Bodies.{its_width, value_stands}
 use Rattle.signal_graph.proofs.Fits.{type_bits, present_fits}
 use Rattle.signal_graph.proofs.Delayed.{delayed}
 use Rattle.signal_graph.proofs.Nodes.{inside, at_input, its_inits}
-use Rattle.signal_graph.proofs.Equal.{node_gives, word_equal, ReadsEqual, calculation_equal, operands_equal, pass_equal}
+use Rattle.signal_graph.proofs.Equal.{node_gives, word_equal, calculation_equal, operands_equal, pass_equal}
 
 some_delay : (n ago j : ℕ) → pos n -ℤ pos ago ≡ negsuc j → 0 < ago
 some_delay n zero j h = absurd (omega (arith, ints))

@@ -1,13 +1,12 @@
 -- What stands at the places of an element, by its body.
-use Rattle.std.proofs.Common.{◌≡◌, refl, sym, ap, ◌∙◌, subst, arith, ℕ, ◌+◌, ◌-◌, ◌<◌, Bool, true, false, if◌then◌else◌, List, [], ◌∷◌, ◌++◌, length}
-use Rattle.std.specs.Prelude.{ℤ, slice_get, Option, Some, None}
-use Rattle.std.proofs.lemmas.List.{append-nil}
+use Rattle.std.proofs.Common.{◌≡◌, refl, sym, ap, ◌∙◌, subst, arith, ℕ, ◌+◌, ◌-◌, Bool, true, if◌then◌else◌, List, [], ◌∷◌, ◌++◌, length}
+use Rattle.std.specs.Prelude.{ℤ, slice_get, Some}
 use Rattle.fix_word.specs.declared.operation.Op.{Op}
 use Rattle.fix_word.specs.declared.types.Format.{Format}
 use Rattle.signal_graph.specs.Rules.{width_of}
-use Rattle.signal_graph.specs.Flat.{Expr, raw, read, calculation, Parts, Body, word, value, Program, size}
+use Rattle.signal_graph.specs.Flat.{Expr, raw, calculation, Parts, Body, word, value, Program, size}
 use Rattle.signal_graph.specs.FlatSolves.{element_of}
-use Rattle.signal_graph.specs.GraphOf.{Made, nothing, constant, input, operation, made_by, made_by_body, has_pass, pass, operands_from}
+use Rattle.signal_graph.specs.GraphOf.{Made, constant, input, operation, made_by, made_by_body, has_pass, pass, operands_from}
 use Rattle.signal_graph.proofs.Places.{made_of}
 use Rattle.signal_graph.proofs.Parts.{length_made, at_left, at_right, Stands, calculation_stands}
 

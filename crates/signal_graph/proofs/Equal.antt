@@ -1,36 +1,30 @@
 -- The words of a flat program's solution are those of its graph's.
-use Rattle.std.proofs.Common.{◌≡◌, refl, sym, subst, ap, ◌∙◌, arith, ℕ, zero, suc, ◌+◌, ◌-◌, ◌<◌, ◌≤◌, inl, inr, Bool, true, false, List, [], ◌∷◌, ◌++◌, length}
-use Rattle.std.specs.Prelude.{ℤ, pos, negsuc, ◌-ℤ◌, slice_get, Some, None, slice_index_or}
+use Rattle.std.proofs.Common.{◌≡◌, refl, ap, ◌∙◌, arith, ℕ, ◌+◌, ◌-◌, ◌<◌, ◌≤◌, inl, inr, true, List, [], ◌∷◌, length}
+use Rattle.std.specs.Prelude.{ℤ, pos, ◌-ℤ◌}
 use Rattle.std.specs.List.{AllZip}
 use Rattle.std.proofs.lemmas.Int.{ints}
 use Rattle.std.proofs.lemmas.Bool.{false≢true}
 use Rattle.lists.specs.Rows.{Rows}
-use Rattle.recurrences.proofs.Along.{HoldsOfReads, along}
 use Rattle.fix_word.specs.Words.{IsWord}
-use Rattle.fix_word.specs.Values.{wrap_of}
 use Rattle.fix_word.specs.declared.operation.Op.{Op}
 use Rattle.fix_word.specs.declared.operation.Op.TheVariants as op
 use Rattle.fix_word.specs.declared.types.Format.{Format}
 use Rattle.fix_word.proofs.Wraps.{wrap_of_word}
-use Rattle.signal_graph.specs.Operations.{class_of}
-use Rattle.signal_graph.specs.Rules.{plain, width_of}
-use Rattle.signal_graph.specs.Flat.{Expr, raw, read, calculation, Parts, no_part, part, Body, word, value, Program, size}
-use Rattle.signal_graph.specs.FlatRules.{IsExpr, AreExprs, IsBodyOf, IsFlat}
-use Rattle.signal_graph.specs.FlatSolves.{no_element, element_of, ElementReads, flat_system, IsFlatLoopless, FlatSolves}
+use Rattle.signal_graph.specs.Rules.{plain}
+use Rattle.signal_graph.specs.Flat.{Expr, raw, read, calculation, Parts, no_part, part, value, Program, size}
+use Rattle.signal_graph.specs.FlatRules.{IsExpr, AreExprs}
+use Rattle.signal_graph.specs.FlatSolves.{element_of}
 use Rattle.signal_graph.specs.GraphSolves.{node_of, GraphSolves}
-use Rattle.signal_graph.specs.Values.{Words, operand_words, input_word, result, value_of, values_of, body_value, node_value, Reads, PartsRead, BodyReads}
+use Rattle.signal_graph.specs.Values.{Words, operand_words, result, value_of, values_of, node_value, Reads, PartsRead}
 use Rattle.signal_graph.specs.declared.graph.Edge.{Edge}
 use Rattle.signal_graph.specs.declared.graph.Node.{Node}
 use Rattle.signal_graph.specs.declared.graph.Graph.{Graph}
-use Rattle.signal_graph.specs.GraphOf.{Made, constant, input, operation, element as operand_element, operand_at, operands_from, made_by, made_by_parts, Target, word_node, node_at, is_delayed, has_pass, pass, IsNumber, IsNodeOf, input_node, pass_node, own_node, word_alias, read_alias, IsEdgeTo, IsGraphOf}
-use Rattle.signal_graph.specs.Keeps.{IsStreamOf, IsElementNode}
-use Rattle.signal_graph.proofs.OneSolution.{flat_determined, flat_heights}
+use Rattle.signal_graph.specs.GraphOf.{operation, element as operand_element, operand_at, operands_from, made_by, made_by_parts, Target, word_node, node_at, has_pass, pass, IsNumber, IsEdgeTo, IsGraphOf}
+use Rattle.signal_graph.specs.Keeps.{IsElementNode}
 use Rattle.signal_graph.proofs.Places.{made_of}
 use Rattle.signal_graph.proofs.Parts.{Stands, calculation_stands, parts_stand, first_stands, rest_stands}
-use Rattle.signal_graph.proofs.Bodies.{its_width, value_stands, pass_made}
-use Rattle.signal_graph.proofs.Fits.{type_bits, present_fits}
-use Rattle.signal_graph.proofs.Delayed.{delayed}
-use Rattle.signal_graph.proofs.Nodes.{operation_value, inside, at_place, at_word, at_input, its_inits}
+use Rattle.signal_graph.proofs.Bodies.{its_width, pass_made}
+use Rattle.signal_graph.proofs.Nodes.{operation_value, inside, at_place, at_word}
 
 -- a Pass of a word that fits
 passed : (m : ℤ) (w : ℕ) → 1 ≤ w → IsWord w m → result op.Pass (plain w) (m ∷ []) ≡ m

@@ -1,27 +1,27 @@
 -- The words of a solution are in the width of their element's type.
-use Rattle.std.proofs.Common.{◌≡◌, refl, sym, subst, ap, ◌∙◌, arith, ℕ, zero, suc, ◌+◌, ◌-◌, ◌^◌, ◌<◌, ◌≤◌, inl, inr, Bool, true, false, List, [], ◌∷◌, length}
-use Rattle.std.specs.Prelude.{ℤ, pos, negsuc, ◌-ℤ◌, slice_get, slice_index_or, All, IsSomeAnd, Option, Some, None, find, ◌==◌, Contains}
+use Rattle.std.proofs.Common.{◌≡◌, refl, sym, subst, ap, ◌∙◌, arith, ℕ, zero, suc, ◌+◌, ◌-◌, ◌<◌, inl, inr, Bool, true, false, List, [], ◌∷◌, length}
+use Rattle.std.specs.Prelude.{ℤ, pos, negsuc, ◌-ℤ◌, slice_get, slice_index_or, IsSomeAnd, Option, Some, None, find, ◌==◌}
 use Rattle.std.specs.List.{AllZip}
 use Rattle.std.proofs.lemmas.Int.{ints}
 use Rattle.std.proofs.lemmas.Nat.{pow_pos}
-use Rattle.std.proofs.lemmas.Option.{slice_get-get_or, slice_get_within, none-some, same_Some}
+use Rattle.std.proofs.lemmas.Option.{slice_get-get_or, none-some, same_Some}
 use Rattle.std.proofs.lemmas.List.Elements.{All-contains}
 use Rattle.lists.specs.Rows.{Rows}
-use Rattle.recurrences.proofs.Along.{HoldsOfReads, along}
+use Rattle.recurrences.proofs.Along.{along}
 use Rattle.fix_word.specs.Words.{IsWord, IsFormat}
-use Rattle.fix_word.specs.Values.{form_of, bit_of, truth_of, choice_of, apply_of}
+use Rattle.fix_word.specs.Values.{form_of, bit_of, truth_of, choice_of}
 use Rattle.fix_word.specs.declared.operation.Op.{Op}
 use Rattle.fix_word.specs.declared.operation.Op.TheVariants as op
 use Rattle.fix_word.specs.declared.types.Format.{Format}
 use Rattle.fix_word.specs.declared.types.SigType.{SigType}
 use Rattle.fix_word.specs.declared.types.SigType.TheVariants as sig
 use Rattle.fix_word.proofs.Forms.{form_word}
-use Rattle.signal_graph.specs.Operations.{Class, class_of, IsCalculation, operands}
+use Rattle.signal_graph.specs.Operations.{class_of, IsCalculation, operands}
 use Rattle.signal_graph.specs.Rules.{IsWithin, IsType, IsInType, width_of, AreInits, word_before, word_or_zero}
 use Rattle.signal_graph.specs.Flat.{Expr, raw, read, calculation, Parts, no_part, part, Body, word, value, Element, Program, count}
-use Rattle.signal_graph.specs.FlatRules.{IsFlatFormat, IsCalculationOf, GivesWidth, IsExpr, AreExprs, Fits, ChoicesFit, AllFit, IsBodyOf, IsFlat}
-use Rattle.signal_graph.specs.FlatSolves.{no_element, element_of, ElementReads, flat_system, IsFlatLoopless, FlatSolves}
-use Rattle.signal_graph.specs.Keeps.{IsRowOf, IsStreamOf}
+use Rattle.signal_graph.specs.FlatRules.{IsFlatFormat, GivesWidth, IsExpr, AreExprs, Fits, ChoicesFit, IsBodyOf, IsFlat}
+use Rattle.signal_graph.specs.FlatSolves.{no_element, element_of, flat_system, IsFlatLoopless, FlatSolves}
+use Rattle.signal_graph.specs.Keeps.{IsStreamOf}
 use Rattle.signal_graph.specs.Values.{Words, input_word, operand, result, value_of, values_of, body_value, Reads, PartsRead, BodyReads}
 use Rattle.signal_graph.proofs.OneSolution.{flat_determined, flat_heights}
 use Rattle.signal_graph.proofs.Members.{found_member}

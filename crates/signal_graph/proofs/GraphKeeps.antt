@@ -1,26 +1,23 @@
 -- The graph of a sound flat program without a delay-free loop keeps its solutions.
-use Rattle.std.proofs.Common.{◌≡◌, refl, sym, subst, ap, ◌∙◌, arith, ℕ, zero, suc, ◌+◌, ◌-◌, ◌<◌, ◌≤◌, true, List, [], ◌∷◌, length, map}
-use Rattle.std.specs.Prelude.{ℤ, pos, negsuc, slice_index_or}
+use Rattle.std.proofs.Common.{◌≡◌, sym, ap, ◌∙◌, arith, ℕ, ◌+◌, ◌<◌, ◌≤◌, [], length, map}
+use Rattle.std.specs.Prelude.{pos, slice_index_or}
 use Rattle.std.specs.List.{range_with_len}
 use Rattle.std.proofs.lemmas.Option.{slice_get-get_or}
 use Rattle.std.proofs.lemmas.List.{get_or-map, length-map}
 use Rattle.std.proofs.lemmas.List.FromFn.{fill_by_all, length-map-range_with_len, get_or-map-range_with_len}
-use Rattle.std.proofs.lemmas.List.Elements.{All-get_or}
 use Rattle.lists.specs.Rows.{Rows}
 use Rattle.recurrences.specs.Kept.{KeepsSolutions}
-use Rattle.recurrences.specs.Systems.{IsOneSolution}
 use Rattle.signal_graph.specs.Flat.{Program}
 use Rattle.signal_graph.specs.FlatRules.{IsFlat}
 use Rattle.signal_graph.specs.FlatSolves.{IsElementNumber, flat_system, flat_out, IsFlatLoopless, FlatSolves}
 use Rattle.signal_graph.specs.GraphRules.{first_output}
 use Rattle.signal_graph.specs.GraphSolves.{node_of, graph_system, graph_out, GraphSolves}
 use Rattle.signal_graph.specs.Values.{Words, node_value}
-use Rattle.signal_graph.specs.declared.graph.Edge.{Edge}
 use Rattle.signal_graph.specs.declared.graph.Node.{Node}
 use Rattle.signal_graph.specs.declared.graph.Graph.{Graph}
-use Rattle.signal_graph.specs.GraphOf.{element, node_sites, IsEdgeTo, IsOutputOf, IsGraphOf}
-use Rattle.signal_graph.specs.Keeps.{IsStreamOf, IsElementNode, HasOneNode, AreEqualWords, KeepsFlatSolutions}
-use Rattle.signal_graph.proofs.OneSolution.{flat_solution, flat_once, graph_solution, graph_once}
+use Rattle.signal_graph.specs.GraphOf.{node_sites, IsOutputOf, IsGraphOf}
+use Rattle.signal_graph.specs.Keeps.{IsStreamOf, HasOneNode, AreEqualWords, KeepsFlatSolutions}
+use Rattle.signal_graph.proofs.OneSolution.{flat_solution, graph_solution}
 use Rattle.signal_graph.proofs.Targets.{one_node, element_node}
 use Rattle.signal_graph.proofs.Nodes.{inside}
 use Rattle.signal_graph.proofs.Equal.{no_delay}

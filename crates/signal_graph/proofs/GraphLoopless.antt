@@ -1,15 +1,15 @@
 -- The graph of a flat program without a delay-free loop has none.
-use Rattle.std.proofs.Common.{◌≡◌, refl, sym, subst, ap, ◌∙◌, arith, ℕ, zero, suc, ◌+◌, ◌-◌, ◌*◌, ◌<◌, ◌≤◌, ◌⊎◌, inl, inr, Bool, true, false, if◌then◌else◌, List, [], ◌∷◌, ◌++◌, length}
+use Rattle.std.proofs.Common.{◌≡◌, refl, sym, subst, ap, ◌∙◌, arith, ℕ, ◌+◌, ◌-◌, ◌*◌, ◌<◌, ◌≤◌, ◌⊎◌, inl, inr, List, [], ◌∷◌, length}
 use Rattle.std.specs.Prelude.{slice_get, slice_index_or, sum_by, All, Option, Some, None, ◌==◌}
 use Rattle.std.specs.List.{AllZip}
 use Rattle.std.proofs.lemmas.Bool.{cases_lt, eqb-true, and_parts}
-use Rattle.std.proofs.lemmas.Option.{slice_get-get_or, slice_get_within, slice_get_past, same_Some}
+use Rattle.std.proofs.lemmas.Option.{slice_get-get_or, slice_get_within, slice_get_past}
 use Rattle.std.proofs.lemmas.List.Elements.{All-head, All-tail}
 use Rattle.std.proofs.lemmas.List.Sums.{get_or-le-sum_by}
-use Rattle.recurrences.proofs.Determined.{IsDetermined, HasHeights}
+use Rattle.recurrences.proofs.Determined.{HasHeights}
 use Rattle.recurrences.proofs.Heights.{no_loop}
 use Rattle.signal_graph.specs.Rules.{width_of}
-use Rattle.signal_graph.specs.Flat.{Body, value, read, Element, Program, size_of_body}
+use Rattle.signal_graph.specs.Flat.{Body, Element, Program, size_of_body}
 use Rattle.signal_graph.specs.FlatRules.{IsFlat}
 use Rattle.signal_graph.specs.FlatSolves.{no_element, element_of, ElementReads, flat_system, IsFlatLoopless}
 use Rattle.signal_graph.specs.GraphSolves.{node_of, HasEdge, graph_system, IsGraphLoopless}

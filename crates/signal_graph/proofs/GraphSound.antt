@@ -1,29 +1,29 @@
 -- The graph of a sound flat program is sound.
-use Rattle.std.proofs.Common.{◌≡◌, refl, sym, subst, ap, ◌∙◌, arith, ℕ, zero, suc, ◌+◌, ◌-◌, ◌^◌, ◌<◌, ◌≤◌, ◌⊎◌, inl, inr, Bool, true, false, cond, if◌then◌else◌, List, [], ◌∷◌, ◌++◌, length}
-use Rattle.std.specs.Prelude.{◌≢◌, ℤ, pos, slice_get, slice_index_or, take, filter, flat_map, sum_by, All, IsSomeAnd, Option, Some, None, ◌==◌}
+use Rattle.std.proofs.Common.{◌≡◌, refl, sym, subst, ap, ◌∙◌, arith, ℕ, suc, ◌+◌, ◌-◌, ◌<◌, ◌≤◌, ◌⊎◌, inl, inr, Bool, true, false, if◌then◌else◌, List, [], ◌∷◌, ◌++◌, length}
+use Rattle.std.specs.Prelude.{◌≢◌, ℤ, pos, slice_get, slice_index_or, take, flat_map, sum_by, All, IsSomeAnd, Option, Some, ◌==◌}
 use Rattle.std.specs.List.{AllZip, enumerate_from}
 use Rattle.std.proofs.lemmas.Bool.{cases_lt, eqb-true}
-use Rattle.std.proofs.lemmas.Option.{slice_get-get_or, slice_get_within}
+use Rattle.std.proofs.lemmas.Option.{slice_get-get_or}
 use Rattle.std.proofs.lemmas.List.{length-append, length-take, get_or-take, get_or_default}
 use Rattle.std.proofs.lemmas.List.Elements.{All-nil, All-cons, All-head, All-tail, All-from_get_or}
 use Rattle.std.proofs.lemmas.List.Sums.{length-filter, count_by-le-length, sum_by-cons}
-use Rattle.fix_word.specs.Words.{IsWord, IsFormat}
+use Rattle.fix_word.specs.Words.{IsWord}
 use Rattle.fix_word.specs.declared.operation.Op.{Op}
 use Rattle.fix_word.specs.declared.operation.Op.TheVariants as op
 use Rattle.fix_word.specs.declared.types.Format.{Format}
 use Rattle.fix_word.specs.declared.types.SigType.{SigType}
-use Rattle.signal_graph.specs.Operations.{Class, quantised, truth, choice, class_of, operands, IsCalculation, IsOfGraphs}
-use Rattle.signal_graph.specs.Rules.{max_delay, IsWithin, IsType, IsInType, AreInits, plain, width_of}
-use Rattle.signal_graph.specs.Flat.{Expr, raw, read, calculation, Body, word, value, Element, Program, size, size_of_body}
-use Rattle.signal_graph.specs.FlatRules.{IsFlatFormat, IsCalculationOf, IsFlat}
+use Rattle.signal_graph.specs.Operations.{Class, quantised, truth, choice, class_of, IsCalculation, IsOfGraphs}
+use Rattle.signal_graph.specs.Rules.{max_delay, IsWithin, IsType, AreInits, width_of}
+use Rattle.signal_graph.specs.Flat.{Body, word, value, Element, Program, size, size_of_body}
+use Rattle.signal_graph.specs.FlatRules.{IsFlatFormat, IsFlat}
 use Rattle.signal_graph.specs.FlatSolves.{no_element, element_of}
 use Rattle.signal_graph.specs.GraphRules.{IsNodeFormat, IsArgument, IsEdge, IsNode, first_output, IsOutput, IsGraph}
 use Rattle.signal_graph.specs.GraphSolves.{no_node, node_of}
 use Rattle.signal_graph.specs.declared.graph.Edge.{Edge}
 use Rattle.signal_graph.specs.declared.graph.Node.{Node}
 use Rattle.signal_graph.specs.declared.graph.Graph.{Graph}
-use Rattle.signal_graph.specs.GraphOf.{Operand, number, place, element, Made, nothing, constant, input, operation, made_by, made_by_body, has_pass, pass, Site, sites_from, element_sites, sites, is_made_at, node_sites, Target, word_node, node_at, IsNumber, IsEdgeTo, node_format, node_width, inits_at, IsMade, IsOutputOf, IsGraphOf}
-use Rattle.signal_graph.proofs.Places.{site, made_of, IsPlace}
+use Rattle.signal_graph.specs.GraphOf.{Operand, number, place, element, Made, nothing, constant, input, operation, made_by, made_by_body, has_pass, pass, Site, element_sites, sites, is_made_at, node_sites, word_node, node_at, IsEdgeTo, node_format, node_width, inits_at, IsMade, IsOutputOf, IsGraphOf}
+use Rattle.signal_graph.proofs.Places.{made_of, IsPlace}
 use Rattle.signal_graph.proofs.Parts.{length_made}
 use Rattle.signal_graph.proofs.Numbers.{no_site, node_is_place, number_below}
 use Rattle.signal_graph.proofs.Fits.{type_word}

@@ -1,18 +1,16 @@
 -- The accumulator's graph keeps its solution, with equal words; without the initial value it does not.
-use Rattle.std.proofs.Common.{◌≡◌, refl, sym, ap, ◌∙◌, arith, ℕ, zero, suc, ◌+◌, ◌<◌, ◌≤◌, [], ◌∷◌, List, length}
-use Rattle.std.specs.Prelude.{ℤ, pos, negsuc}
+use Rattle.std.proofs.Common.{◌≡◌, refl, sym, ap, ◌∙◌, arith, ℕ, zero, suc, ◌<◌, ◌≤◌, [], ◌∷◌}
+use Rattle.std.specs.Prelude.{pos, negsuc}
 use Rattle.std.proofs.lemmas.Int.{ints}
-use Rattle.lists.specs.Rows.{Rows}
 use Rattle.fix_word.specs.Words.{IsWord}
 use Rattle.fix_word.specs.declared.operation.Op.TheVariants as op
 use Rattle.signal_graph.specs.Rules.{plain}
-use Rattle.signal_graph.specs.declared.graph.Node.{Node}
 use Rattle.signal_graph.specs.declared.graph.Graph.{Graph}
 use Rattle.signal_graph.specs.FlatSolves.{flat_out}
 use Rattle.signal_graph.specs.GraphSolves.{graph_out}
 use Rattle.signal_graph.specs.GraphOf.{node_at, input_node, own_node}
 use Rattle.signal_graph.specs.Keeps.{IsStreamOf, IsElementNode, AreEqualWords, KeepsFlatSolutions}
-use Rattle.signal_graph.proofs.Examples.{byte, accumulator, edge, input_node as input, output_node, its_graph, stream, flat_words, graph_words, flat_solved, flat_rows, flat_loopless, graph_solved}
+use Rattle.signal_graph.proofs.Examples.{byte, accumulator, edge, input_node as input, output_node, its_graph, stream, flat_words, graph_words, flat_solved, flat_rows, flat_loopless}
 use Rattle.signal_graph.proofs.GraphExamples.{accumulator_graph}
 use Rattle.signal_graph.proofs.SoundExamples.{accumulator_sound}
 use Rattle.signal_graph.proofs.Targets.{one_node}

@@ -1,18 +1,18 @@
 -- What is made at the places of a sound program is sound.
-use Rattle.std.proofs.Common.{◌≡◌, refl, sym, subst, ap, ◌∙◌, arith, ℕ, zero, suc, ◌+◌, ◌-◌, ◌<◌, ◌≤◌, Bool, true, false, List, [], ◌∷◌, ◌++◌, length}
-use Rattle.std.specs.Prelude.{ℤ, pos, slice_get, All, Option, Some, None}
+use Rattle.std.proofs.Common.{◌≡◌, refl, sym, subst, ap, ◌∙◌, arith, ℕ, ◌+◌, ◌-◌, ◌<◌, ◌≤◌, Bool, true, false, List, [], ◌∷◌, length}
+use Rattle.std.specs.Prelude.{slice_get, All, Some}
 use Rattle.std.proofs.lemmas.Int.{ints}
 use Rattle.std.proofs.lemmas.Option.{same_Some, slice_get_within}
 use Rattle.std.proofs.lemmas.List.{length-append}
 use Rattle.std.proofs.lemmas.List.Elements.{All-nil, All-cons, All-append, All-push, All-same, All-contains}
-use Rattle.fix_word.specs.Words.{IsWord, IsFormat}
+use Rattle.fix_word.specs.Words.{IsWord}
 use Rattle.fix_word.specs.declared.operation.Op.{Op}
 use Rattle.fix_word.specs.declared.operation.Op.TheVariants as op
 use Rattle.fix_word.specs.declared.types.Format.{Format}
 use Rattle.signal_graph.specs.Operations.{Class, quantised, truth, choice, class_of, operands}
-use Rattle.signal_graph.specs.Rules.{max_delay, IsWithin, width_of, plain}
+use Rattle.signal_graph.specs.Rules.{max_delay, IsWithin, plain}
 use Rattle.signal_graph.specs.Flat.{Expr, raw, read, calculation, Parts, no_part, part, Body, word, value, Program, size, count}
-use Rattle.signal_graph.specs.FlatRules.{IsCalculationOf, GivesWidth, IsExpr, AreExprs, ChoicesFit, IsBodyOf, IsValueOf, IsFlat}
+use Rattle.signal_graph.specs.FlatRules.{IsCalculationOf, GivesWidth, IsExpr, AreExprs, ChoicesFit, IsBodyOf, IsFlat}
 use Rattle.signal_graph.specs.FlatSolves.{no_element, element_of}
 use Rattle.signal_graph.specs.GraphOf.{Operand, number, place, element, Made, nothing, constant, input, operation, operand_at, operands_from, made_by, made_by_parts, has_pass, pass, Site, node_width}
 use Rattle.signal_graph.proofs.Members.{at_member}

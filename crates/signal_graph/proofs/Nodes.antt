@@ -1,23 +1,21 @@
 -- The nodes of the graph of a flat program.
-use Rattle.std.proofs.Common.{◌≡◌, refl, sym, subst, ap, ◌∙◌, arith, ℕ, zero, suc, ◌+◌, ◌-◌, ◌<◌, Bool, true, false, if◌then◌else◌, List, [], ◌∷◌, ◌++◌, length}
-use Rattle.std.specs.Prelude.{ℤ, pos, slice_get, ◌==◌, Some}
-use Rattle.std.specs.List.{AllZip}
-use Rattle.std.proofs.lemmas.Bool.{eq-eqb, false≢true, both_ways, or_parts}
+use Rattle.std.proofs.Common.{◌≡◌, refl, sym, subst, ap, ◌∙◌, arith, ℕ, suc, ◌+◌, ◌-◌, ◌<◌, Bool, true, false, if◌then◌else◌, List, [], ◌∷◌, length}
+use Rattle.std.specs.Prelude.{ℤ, pos, slice_get, Some}
+use Rattle.std.proofs.lemmas.Bool.{eq-eqb, both_ways, or_parts}
 use Rattle.std.proofs.lemmas.List.{length-append}
 use Rattle.lists.specs.Rows.{Rows}
 use Rattle.fix_word.specs.declared.operation.Op.{Op}
 use Rattle.fix_word.specs.declared.operation.Op.TheVariants as op
 use Rattle.fix_word.specs.declared.types.Format.{Format}
 use Rattle.signal_graph.specs.Operations.{class_of, IsCalculation}
-use Rattle.signal_graph.specs.Rules.{plain}
-use Rattle.signal_graph.specs.Flat.{Expr, raw, read, calculation, Parts, Body, word, value, Program, size}
+use Rattle.signal_graph.specs.Flat.{calculation, word, Program, size}
 use Rattle.signal_graph.specs.FlatSolves.{element_of}
 use Rattle.signal_graph.specs.GraphSolves.{node_of}
-use Rattle.signal_graph.specs.Values.{Words, operand_words, input_word, result, given_by, node_value}
+use Rattle.signal_graph.specs.Values.{Words, operand_words, result, node_value}
 use Rattle.signal_graph.specs.declared.graph.Edge.{Edge}
 use Rattle.signal_graph.specs.declared.graph.Node.{Node}
 use Rattle.signal_graph.specs.declared.graph.Graph.{Graph}
-use Rattle.signal_graph.specs.GraphOf.{Made, constant, input, operation, Operand, operands_from, made_by, Site, sites_from, element_sites, node_sites, Target, word_node, node_at, is_delayed, has_pass, pass, IsNumber, IsNodeOf, input_node, pass_node, own_node, word_alias, read_alias, IsEdgeTo, node_format, node_width, inits_at, IsMade, IsGraphOf}
+use Rattle.signal_graph.specs.GraphOf.{Made, constant, input, operation, operands_from, made_by, Site, sites_from, element_sites, Target, word_node, node_at, is_delayed, pass, IsNumber, IsNodeOf, input_node, pass_node, own_node, word_alias, read_alias, node_format, node_width, inits_at, IsMade, IsGraphOf}
 use Rattle.signal_graph.proofs.Places.{site, made_of}
 use Rattle.signal_graph.proofs.Parts.{length_made}
 use Rattle.signal_graph.proofs.Numbers.{number_below, place_node, word_at}

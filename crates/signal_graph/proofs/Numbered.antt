@@ -1,6 +1,6 @@
 -- Equations of numbered elements have one solution.
 use Rattle.std.proofs.Common.{◌≡◌, refl, sym, ◌∙◌, ℕ, ◌+◌, ◌<◌, ◌≤◌, Bool, true, List}
-use Rattle.std.specs.Prelude.{ℤ, pos, ◌-ℤ◌}
+use Rattle.std.specs.Prelude.{ℤ}
 use Rattle.recurrences.specs.Systems.{System, Solves, IsOneSolution, HasNoDelaylessLoop}
 use Rattle.recurrences.proofs.Determined.{IsDetermined, HasHeights}
 use Rattle.recurrences.proofs.Exists.{solution}

@@ -1,15 +1,12 @@
 -- Which nodes are made at places, and the numbers of targets.
-use Rattle.std.proofs.Common.{◌≡◌, refl, sym, ap, ◌∙◌, subst, ℕ, ◌+◌, ◌<◌, Bool, true, false, List, [], ◌∷◌, length}
-use Rattle.std.specs.Prelude.{ℤ, slice_get, position, find, ◌&&◌, ◌==◌, Contains, Option, Some, None}
-use Rattle.std.specs.Ordering.{int_eq}
+use Rattle.std.proofs.Common.{◌≡◌, refl, sym, ap, ◌∙◌, subst, ℕ, ◌<◌, true, length}
+use Rattle.std.specs.Prelude.{ℤ, slice_get, find, ◌==◌, Option, Some}
 use Rattle.std.proofs.lemmas.Bool.{eqb-true, eq-eqb, and_parts, and_from, false≢true}
 use Rattle.std.proofs.lemmas.Bool.Decides.{Decides-int_eq}
 use Rattle.std.proofs.lemmas.Option.{slice_get_within, same_Some}
-use Rattle.fix_word.specs.declared.operation.Op.{Op}
-use Rattle.fix_word.specs.declared.types.Format.{Format}
 use Rattle.signal_graph.specs.Flat.{Program}
-use Rattle.signal_graph.specs.GraphOf.{Made, nothing, constant, input, operation, Operand, Site, sites, Target, word_node, node_at, is_constant, is_target, is_place, is_made_at, node_sites, IsNumber}
-use Rattle.signal_graph.proofs.Members.{at_member, member_at, in_filter, from_filter, IsFound, finds, has_position, at_position}
+use Rattle.signal_graph.specs.GraphOf.{Made, nothing, constant, input, operation, Site, sites, Target, word_node, node_at, is_constant, is_target, is_place, is_made_at, node_sites, IsNumber}
+use Rattle.signal_graph.proofs.Members.{at_member, in_filter, from_filter, finds, has_position, at_position}
 use Rattle.signal_graph.proofs.Places.{site, made_of, IsPlace, place_in, in_place}
 
 abbrev pub no_site : Site

@@ -1,18 +1,13 @@
 -- What stands at the places of elements, and which nodes are made there.
-use Rattle.std.proofs.Common.{◌≡◌, refl, sym, ap, ◌∙◌, subst, arith, ℕ, zero, suc, ◌+◌, ◌<◌, ◌⊎◌, inl, inr, Bool, true, false, List, [], ◌∷◌, length}
-use Rattle.std.specs.Prelude.{ℤ, slice_get, slice_index_or, position, find, ◌&&◌, ◌==◌, Contains, Option, Some, None}
+use Rattle.std.proofs.Common.{◌≡◌, sym, ap, ◌∙◌, subst, arith, ℕ, zero, suc, ◌+◌, ◌<◌, ◌⊎◌, inl, inr, List, [], ◌∷◌, length}
+use Rattle.std.specs.Prelude.{slice_get, Contains, Some}
 use Rattle.std.specs.List.{enumerate_from}
-use Rattle.std.specs.Ordering.{int_eq}
-use Rattle.std.proofs.lemmas.Bool.{eqb-true, eq-eqb, and_parts, and_from}
-use Rattle.std.proofs.lemmas.Bool.Decides.{Decides-int_eq}
 use Rattle.std.proofs.lemmas.Option.{slice_get-get_or, slice_get_within, get_or_from_slice_get, same_Some, none-some}
-use Rattle.fix_word.specs.declared.operation.Op.{Op}
-use Rattle.fix_word.specs.declared.types.Format.{Format}
 use Rattle.signal_graph.specs.Flat.{Element, Program}
 use Rattle.signal_graph.specs.Rules.{width_of}
 use Rattle.signal_graph.specs.FlatSolves.{no_element, element_of}
-use Rattle.signal_graph.specs.GraphOf.{Made, nothing, constant, input, operation, Site, sites_from, element_sites, sites, made_by_body, Target, word_node, node_at, is_target, is_place, is_made_at, node_sites, IsNumber}
-use Rattle.signal_graph.proofs.Members.{in_first, in_rest, first_or_rest, in_none, at_member, member_at, in_filter, from_filter, IsFound, finds, has_position, at_position, in_flat_map, from_flat_map, in_enumerate, from_enumerate}
+use Rattle.signal_graph.specs.GraphOf.{Made, Site, sites_from, element_sites, sites, made_by_body}
+use Rattle.signal_graph.proofs.Members.{in_rest, first_or_rest, in_none, in_flat_map, from_flat_map, in_enumerate, from_enumerate}
 
 abbrev pub site : (e k : ℕ) → Made → Site
 site e k m = record { element = e; place = k; made = m }

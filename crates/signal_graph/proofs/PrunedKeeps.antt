@@ -1,6 +1,6 @@
 -- A pruned graph keeps the solutions of its graph.
-use Rattle.std.proofs.Common.{◌≡◌, refl, sym, subst, ap, ◌∙◌, arith, ℕ, zero, suc, ◌+◌, ◌-◌, ◌<◌, ◌≤◌, List, [], ◌∷◌, length, map}
-use Rattle.std.specs.Prelude.{ℤ, pos, negsuc, slice_index_or, position, ◌==◌, Some}
+use Rattle.std.proofs.Common.{◌≡◌, sym, subst, ap, ◌∙◌, arith, ℕ, ◌+◌, ◌<◌, ◌≤◌, List, [], length, map}
+use Rattle.std.specs.Prelude.{pos, negsuc, slice_index_or, position, ◌==◌, Some}
 use Rattle.std.specs.List.{range_with_len}
 use Rattle.std.proofs.lemmas.Bool.{eqb-true}
 use Rattle.std.proofs.lemmas.List.FromFn.{fill_by_all, length-map-range_with_len, get_or-map-range_with_len}
@@ -10,14 +10,14 @@ use Rattle.recurrences.specs.Kept.{KeepsSolutions}
 use Rattle.recurrences.specs.Systems.{AreSame}
 use Rattle.signal_graph.specs.declared.graph.Graph.{Graph}
 use Rattle.signal_graph.specs.GraphRules.{first_output, IsGraph}
-use Rattle.signal_graph.specs.GraphSolves.{IsNodeNumber, graph_system, IsGraphLoopless, graph_out, GraphSolves}
+use Rattle.signal_graph.specs.GraphSolves.{graph_system, IsGraphLoopless, graph_out}
 use Rattle.signal_graph.specs.Values.{Words}
-use Rattle.signal_graph.specs.Pruned.{AreUsed, IsPruned}
+use Rattle.signal_graph.specs.Pruned.{IsPruned}
 use Rattle.signal_graph.specs.Keeps.{IsKeptAs, AreKeptWords, KeepsGraphSolutions}
 use Rattle.signal_graph.proofs.OneSolution.{graph_solution, graph_once}
 use Rattle.signal_graph.proofs.OnePruned.{kept_once}
 use Rattle.signal_graph.proofs.PrunedSolves.{kept_words, same_count, pruned_solves}
-use Rattle.signal_graph.proofs.PrunedSound.{old, start, new_outputs, new_first, pruned_is_sound, pruned_is_loopless}
+use Rattle.signal_graph.proofs.PrunedSound.{start, new_outputs, new_first, pruned_is_sound, pruned_is_loopless}
 
 module _ (g pruned : Graph) (sound : IsGraph g) (loopless : IsGraphLoopless g) (is : IsPruned g pruned) where
   -- the new number of a node

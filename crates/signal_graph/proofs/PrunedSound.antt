@@ -1,15 +1,13 @@
 -- A pruned graph is sound, has no delay-free loop, and keeps solutions.
-use Rattle.std.proofs.Common.{◌≡◌, refl, sym, subst, ap, ◌∙◌, arith, ℕ, zero, suc, ◌+◌, ◌-◌, ◌^◌, ◌<◌, ◌≤◌, ◌⊎◌, inl, inr, List, [], ◌∷◌, length, map}
-use Rattle.std.specs.Prelude.{◌≢◌, ℤ, pos, negsuc, slice_get, slice_index_or, take, position, All, IsSomeAnd, Contains, Option, Some, None}
-use Rattle.std.specs.List.{AllZip, range_with_len}
+use Rattle.std.proofs.Common.{◌≡◌, refl, sym, subst, ap, ◌∙◌, arith, ℕ, suc, ◌+◌, ◌-◌, ◌<◌, ◌≤◌, inl, inr, List, [], ◌∷◌, length}
+use Rattle.std.specs.Prelude.{◌≢◌, ℤ, slice_get, slice_index_or, take, All, IsSomeAnd, Contains, Option, Some, None}
+use Rattle.std.specs.List.{AllZip}
 use Rattle.std.proofs.lemmas.Bool.{eqb-true}
-use Rattle.std.proofs.lemmas.Option.{slice_get-get_or, slice_get_within, same_Some, get_or_from_slice_get}
+use Rattle.std.proofs.lemmas.Option.{slice_get-get_or, slice_get_within, get_or_from_slice_get}
 use Rattle.std.proofs.lemmas.List.{get_or_default, length-take, get_or-take}
-use Rattle.std.proofs.lemmas.List.Elements.{All-nil, All-cons, All-head, All-tail, All-from_get_or, All-get_or}
+use Rattle.std.proofs.lemmas.List.Elements.{All-nil, All-cons, All-head, All-tail, All-from_get_or}
 use Rattle.std.proofs.lemmas.List.Kept.{AllPairs-from_increasing}
 use Rattle.std.proofs.lemmas.List.Quantifiers.{position-Some}
-use Rattle.lists.specs.Rows.{Rows}
-use Rattle.recurrences.specs.Kept.{KeepsSolutions}
 use Rattle.recurrences.specs.Systems.{DependsNow, direct, by_way_of}
 use Rattle.fix_word.specs.declared.operation.Op.TheVariants as op
 use Rattle.fix_word.specs.declared.types.SigType.{SigType}
@@ -19,13 +17,12 @@ use Rattle.signal_graph.specs.declared.graph.Edge.{Edge}
 use Rattle.signal_graph.specs.declared.graph.Node.{Node}
 use Rattle.signal_graph.specs.declared.graph.Graph.{Graph}
 use Rattle.signal_graph.specs.GraphRules.{IsArgument, IsEdge, IsNode, first_output, IsOutput, IsGraph}
-use Rattle.signal_graph.specs.GraphSolves.{no_node, node_of, HasEdge, graph_system, IsGraphLoopless, graph_out, GraphSolves}
-use Rattle.signal_graph.specs.Values.{Words, EdgesRead}
-use Rattle.signal_graph.specs.Pruned.{IsUsed, output as output_used, read, AreUsed, IsEdgeOf, IsRenumbered, IsPruned}
+use Rattle.signal_graph.specs.GraphSolves.{no_node, node_of, HasEdge, IsGraphLoopless}
+use Rattle.signal_graph.specs.Values.{EdgesRead}
+use Rattle.signal_graph.specs.Pruned.{output as output_used, IsEdgeOf, IsRenumbered, IsPruned}
 use Rattle.signal_graph.proofs.Values.{edges_allowed}
-use Rattle.signal_graph.proofs.OneSolution.{graph_solution, graph_once}
-use Rattle.signal_graph.proofs.PrunedSolves.{kept_words, used_below, same_count, renumbered, inside, pruned_solves}
-use Rattle.signal_graph.proofs.Rising.{Rises, few, one_place, in_order, last_ones, before_first}
+use Rattle.signal_graph.proofs.PrunedSolves.{same_count, renumbered, inside}
+use Rattle.signal_graph.proofs.Rising.{Rises, few, in_order, last_ones, before_first}
 
 argument_sound : (g h : Graph) (class : Class) (arg : ℤ) → h.inputs ≡ g.inputs → h.outs ≡ g.outs → IsArgument g class arg → IsArgument h class arg
 argument_sound g h input arg inputs outs is = subst (λ (types : List SigType). IsBelow (length types) arg) (sym inputs) is

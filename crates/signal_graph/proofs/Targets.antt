@@ -1,18 +1,15 @@
 -- Each element of a sound program without a delay-free loop has one node.
-use Rattle.std.proofs.Common.{◌≡◌, refl, sym, subst, ap, arith, ℕ, zero, suc, ◌+◌, ◌-◌, ◌<◌, ◌≤◌, Bool, true, false, [], length}
+use Rattle.std.proofs.Common.{◌≡◌, refl, sym, subst, arith, ℕ, zero, suc, ◌-◌, ◌<◌, Bool, true, false, [], length}
 use Rattle.std.specs.Prelude.{slice_get, Some, nat_lt}
 use Rattle.std.proofs.lemmas.Bool.{or_parts, ltb-false}
-use Rattle.fix_word.specs.declared.types.SigType.{SigType}
-use Rattle.recurrences.proofs.Determined.{IsDetermined, HasHeights}
-use Rattle.signal_graph.specs.Flat.{Expr, raw, read, calculation, Parts, Body, word, value, Program, size}
+use Rattle.signal_graph.specs.Flat.{Expr, raw, read, calculation, Body, word, value, Program, size}
 use Rattle.signal_graph.specs.FlatRules.{IsFlat}
-use Rattle.signal_graph.specs.FlatSolves.{element_of, ElementReads, flat_system, IsFlatLoopless}
+use Rattle.signal_graph.specs.FlatSolves.{element_of, ElementReads, IsFlatLoopless}
 use Rattle.signal_graph.specs.Values.{BodyReads}
-use Rattle.signal_graph.specs.GraphOf.{Made, constant, input, operation, operands_from, pass, has_pass, is_delayed, Target, word_node, node_at, IsNumber, IsNodeOf, input_node, pass_node, own_node, word_alias, read_alias}
+use Rattle.signal_graph.specs.GraphOf.{input, operation, operands_from, pass, has_pass, is_delayed, Target, word_node, node_at, IsNumber, input_node, pass_node, own_node, word_alias, read_alias}
 use Rattle.signal_graph.specs.Keeps.{IsElementNode}
 use Rattle.signal_graph.proofs.OneGraph.{node_once, number_once}
 use Rattle.signal_graph.proofs.OneSolution.{flat_determined, flat_heights}
-use Rattle.signal_graph.proofs.Places.{made_of}
 use Rattle.signal_graph.proofs.Numbers.{has_place_number, has_word_number}
 use Rattle.signal_graph.proofs.Bodies.{its_width, input_made, pass_made, calculation_made, word_made}
 

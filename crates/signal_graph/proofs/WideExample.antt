@@ -1,7 +1,7 @@
 -- Why the words of a stream are in their inputs' types. In y = x@1 the element y takes any word x, and its Pass wraps it
 -- to 8 bits, so for the word 300 the solutions differ.
-use Rattle.std.proofs.Common.{◌≡◌, refl, sym, subst, ap, ◌∙◌, arith, ℕ, zero, suc, ◌+◌, ◌<◌, ◌≤◌, [], ◌∷◌, List, length}
-use Rattle.std.specs.Prelude.{ℤ, pos, negsuc, slice_get, slice_index_or, Some, None}
+use Rattle.std.proofs.Common.{◌≡◌, refl, sym, subst, ap, ◌∙◌, arith, ℕ, zero, suc, ◌+◌, ◌<◌, [], ◌∷◌, length}
+use Rattle.std.specs.Prelude.{ℤ, pos, negsuc, slice_get, slice_index_or, Some}
 use Rattle.std.proofs.lemmas.Int.{ints}
 use Rattle.lists.specs.Rows.{Rows}
 use Rattle.recurrences.specs.Kept.{KeepsSolutions}

@@ -1,5 +1,5 @@
 -- What it is to solve the equations of a flat program over a stream of input rows.
-use Rattle.std.specs.Prelude.{◌≡◌, ℕ, ◌<◌, [], map, length, slice_index_or, ℤ, pos}
+use Rattle.std.specs.Prelude.{ℕ, ◌<◌, [], map, length, slice_index_or, ℤ, pos}
 use Rattle.std.specs.List.{range_with_len}
 use Rattle.lists.specs.Rows.{Rows}
 use Rattle.fix_word.specs.declared.types.SigType.TheVariants as sig
