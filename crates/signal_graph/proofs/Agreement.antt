@@ -27,26 +27,33 @@ some_delay : (n ago j : ℕ) → pos n -ℤ pos ago ≡ negsuc j → 0 < ago
 some_delay n zero j h = absurd (omega (arith, ints))
 some_delay n (suc ago) j h = omega arith
 
-module _ (p : Program) (g : Graph) (is : IsGraphOf p g) (sound : IsFlat p) (loopless : IsFlatLoopless p) (stream : Rows) (is_stream : IsStreamOf p.inputs stream) (words node_words : Words) (solves : FlatSolves p stream words) (node_solves : GraphSolves g stream node_words) where
+module _ (p : Program) (g : Graph) (is : IsGraphOf p g) (sound : IsFlat p) (loopless : IsFlatLoopless p) (stream : Rows)
+    (is_stream : IsStreamOf p.inputs stream) (words node_words : Words) (solves : FlatSolves p stream words)
+    (node_solves : GraphSolves g stream node_words) where
   -- the words of an element and its node at a sample, before sample 0 where it is read with a delay
   abbrev EqualAt : ℕ → ℤ → Type 0
   EqualAt e (pos n) = (v : ℕ) → IsElementNode p e v → node_words v (pos n) ≡ words e (pos n)
-  EqualAt e (negsuc j) = is_delayed p e ≡ true → (v : ℕ) → IsElementNode p e v → node_words v (negsuc j) ≡ words e (negsuc j)
+  EqualAt e (negsuc j) =
+      is_delayed p e ≡ true → (v : ℕ) → IsElementNode p e v → node_words v (negsuc j) ≡ words e (negsuc j)
 
   pub past_equal : (e j : ℕ) → e < length p.elems → j < 1023 → EqualAt e (negsuc j)
   past_equal e j el lt is_read v node =
       node_solves.past v j (inside p g is node.target v node.number) lt
-      ∙ ap (λ (inits : List (ℕ × ℤ)). word_before inits (j + 1)) (its_inits p g is e node.target v is_read node.node node.number)
+      ∙ ap (λ (inits : List (ℕ × ℤ)). word_before inits (j + 1))
+      (its_inits p g is e node.target v is_read node.node node.number)
       ∙ sym (solves.past e j el lt)
 
-  at_read : (d : ℕ) (z : ℤ) → EqualAt d z → ((j : ℕ) → z ≡ negsuc j → is_delayed p d ≡ true) → (v : ℕ) → IsElementNode p d v → node_words v z ≡ words d z
+  at_read : (d : ℕ) (z : ℤ) → EqualAt d z → ((j : ℕ) → z ≡ negsuc j → is_delayed p d ≡ true) → (v : ℕ)
+      → IsElementNode p d v → node_words v z ≡ words d z
   at_read d (pos n) equal is_read v node = equal v node
   at_read d (negsuc j) equal is_read v node = equal (is_read j refl) v node
 
   abbrev ReadsAgree : ℕ → (ℕ → ℕ → Type 0) → Type 0
-  ReadsAgree n R = (d ago v : ℕ) → R d ago → IsElementNode p d v → node_words v (pos n -ℤ pos ago) ≡ words d (pos n -ℤ pos ago)
+  ReadsAgree n R =
+      (d ago v : ℕ) → R d ago → IsElementNode p d v → node_words v (pos n -ℤ pos ago) ≡ words d (pos n -ℤ pos ago)
 
-  all_reads : (e n : ℕ) → e < length p.elems → ((d ago : ℕ) → ElementReads p e d ago → EqualAt d (pos n -ℤ pos ago)) → ReadsAgree n (ElementReads p e)
+  all_reads : (e n : ℕ) → e < length p.elems → ((d ago : ℕ) → ElementReads p e d ago → EqualAt d (pos n -ℤ pos ago))
+      → ReadsAgree n (ElementReads p e)
   all_reads e n el holds d ago v r node =
       at_read d (pos n -ℤ pos ago) (holds d ago r) (λ j h. delayed p e d ago el r (some_delay n ago j h)) v node
 
@@ -67,14 +74,17 @@ module _ (p : Program) (g : Graph) (is : IsGraphOf p g) (sound : IsFlat p) (loop
     by_node t v (pass_node {x = x} h passes) number =
         let bits = type_bits (element_of p e).ty (sound.elements e no_element el).ty in
         let fits = present_fits p sound loopless stream is_stream words solves e n el lt in
-        pass_equal p g is stream node_words node_solves words n lt e x v h passes (its_expr x h).sound (its_reads (value x) h) bits.0
+        pass_equal p g is stream node_words node_solves words n lt e x v h passes (its_expr x h).sound
+        (its_reads (value x) h) bits.0
         (subst (λ (m : ℤ). IsWord (its_width p e) m) (its_value (value x) h) fits) number
         ∙ sym (its_value (value x) h)
     by_node t v (own_node {o = o} {fmt = fmt} {parts = parts} h) number =
         let x = calculation o fmt parts in
         let place : size x - 1 ≡ 0 + size x - 1 = omega arith in
-        calculation_equal p g is stream node_words node_solves words n lt e 0 o fmt parts v (value_stands p e x h) (its_expr x h).sound
-        (operands_equal p g is stream node_words node_solves words n lt parts e 0 (parts_stand (made_of p e) 0 o fmt parts (value_stands p e x h)) (its_expr x h).sound.1 (its_reads (value x) h))
+        calculation_equal p g is stream node_words node_solves words n lt e 0 o fmt parts v (value_stands p e x h)
+        (its_expr x h).sound
+        (operands_equal p g is stream node_words node_solves words n lt parts e 0
+        (parts_stand (made_of p e) 0 o fmt parts (value_stands p e x h)) (its_expr x h).sound.1 (its_reads (value x) h))
         (subst (λ (k : ℕ). IsNumber p (node_at e k) v) place number)
         ∙ sym (its_value (value x) h)
     by_node t v (word_alias {m = m} a) number =
@@ -87,5 +97,6 @@ module _ (p : Program) (g : Graph) (is : IsGraphOf p g) (sound : IsFlat p) (loop
 
   pub present_equal : (e n : ℕ) → e < length p.elems → n < length stream → EqualAt e (pos n)
   present_equal =
-      along (flat_system p stream) (flat_determined p sound stream) (flat_heights p sound stream loopless) EqualAt past_equal
+      along (flat_system p stream) (flat_determined p sound stream) (flat_heights p sound stream loopless) EqualAt
+      past_equal
       (λ e n el lt holds v node. by_node e n el lt (all_reads e n el holds) node.target v node.node node.number)

@@ -68,7 +68,8 @@ module _ (R : ℕ → ℕ → Type 0) where
   operand_before (read d ago) l k lt reads = reads d ago (refl, refl)
   operand_before (calculation o fmt parts) l k lt reads = lt
 
-  operands_before : (parts : Parts) (b k : ℕ) → b + size_of_parts parts ≤ k → ((d ago : ℕ) → PartsRead parts d ago → R d ago) → All (IsBefore k) (operands_from b parts)
+  operands_before : (parts : Parts) (b k : ℕ) → b + size_of_parts parts ≤ k
+      → ((d ago : ℕ) → PartsRead parts d ago → R d ago) → All (IsBefore k) (operands_from b parts)
   operands_before no_part b k le reads = All-nil (IsBefore k)
   operands_before (part x rest) b k le reads =
       All-cons (IsBefore k) (operand_at (b + size x - 1) x) (operands_from (b + size x) rest)
@@ -85,15 +86,18 @@ module _ (R : ℕ → ℕ → Type 0) where
         (all_one AreBefore (b + length (made_by_parts b parts)) last
         (operands_before parts b (b + length (made_by_parts b parts)) (omega (arith, length_made_parts b parts)) reads))
 
-    before_parts : (parts : Parts) (b : ℕ) → ((d ago : ℕ) → PartsRead parts d ago → R d ago) → AllFrom AreBefore b (made_by_parts b parts)
+    before_parts : (parts : Parts) (b : ℕ) → ((d ago : ℕ) → PartsRead parts d ago → R d ago)
+        → AllFrom AreBefore b (made_by_parts b parts)
     before_parts no_part b reads = all_none AreBefore b
     before_parts (part x rest) b reads =
-        all_append AreBefore b (made_by b x) (made_by_parts (b + size x) rest) (before_made x b (λ d ago r. reads d ago (inl r)))
+        all_append AreBefore b (made_by b x) (made_by_parts (b + size x) rest)
+        (before_made x b (λ d ago r. reads d ago (inl r)))
         (subst (λ (n : ℕ). AllFrom AreBefore (b + n) (made_by_parts (b + size x) rest)) (sym (length_made b x))
         (before_parts rest (b + size x) (λ d ago r. reads d ago (inr r))))
 
 module _ (p : Program) (e : ℕ) where
-  with_pass_before : (x : Expr) (b : Bool) → (element_of p e).body ≡ value x → AllFrom (AreBefore (ElementReads p e)) 0 (with_pass p e x b)
+  with_pass_before : (x : Expr) (b : Bool) → (element_of p e).body ≡ value x
+      → AllFrom (AreBefore (ElementReads p e)) 0 (with_pass p e x b)
   with_pass_before x true h =
       let R = ElementReads p e in
       let last = pass (its_width p e) x in
@@ -116,7 +120,8 @@ module _ (p : Program) (e : ℕ) where
       subst (λ (ms : List Made). AllFrom (AreBefore (ElementReads p e)) 0 ms) (sym (input_made p e j h))
       (all_one (AreBefore (ElementReads p e)) 0 (input j) (tt {0}))
   body_before (value x) h =
-      subst (λ (ms : List Made). AllFrom (AreBefore (ElementReads p e)) 0 ms) (sym (value_made p e x (has_pass p e x) h refl))
+      subst (λ (ms : List Made). AllFrom (AreBefore (ElementReads p e)) 0 ms)
+      (sym (value_made p e x (has_pass p e x) h refl))
       (with_pass_before x (has_pass p e x) h)
 
   pub all_before : (k : ℕ) (m : Made) → slice_get (made_of p e) k ≡ Some m → AreBefore (ElementReads p e) k m

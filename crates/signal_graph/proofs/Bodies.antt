@@ -20,7 +20,8 @@ module _ (p : Program) (e : ℕ) where
   abbrev pub with_pass : Expr → Bool → List Made
   with_pass x b = made_by 0 x ++ (if b then pass its_width x ∷ [] else [])
 
-  pub value_made : (x : Expr) (b : Bool) → (element_of p e).body ≡ value x → has_pass p e x ≡ b → made_of p e ≡ with_pass x b
+  pub value_made : (x : Expr) (b : Bool) → (element_of p e).body ≡ value x → has_pass p e x ≡ b
+      → made_of p e ≡ with_pass x b
   value_made x b h is = ap (λ (body : Body). made_by_body p e its_width body) h ∙ ap (λ (c : Bool). with_pass x c) is
 
   -- the places of its expression come first
@@ -31,14 +32,17 @@ module _ (p : Program) (e : ℕ) where
       (at_left (made_by 0 x) (if has_pass p e x then pass its_width x ∷ [] else []) i m at))
 
   -- then comes its Pass
-  pub pass_made : (x : Expr) → (element_of p e).body ≡ value x → has_pass p e x ≡ true → slice_get (made_of p e) (size x) ≡ Some (pass its_width x)
+  pub pass_made : (x : Expr) → (element_of p e).body ≡ value x → has_pass p e x ≡ true
+      → slice_get (made_of p e) (size x) ≡ Some (pass its_width x)
   pass_made x h is =
       let place : length (made_by 0 x) + 0 ≡ size x = omega (arith, length_made 0 x) in
       subst (λ (ms : List Made). slice_get ms (size x) ≡ Some (pass its_width x)) (sym (value_made x true h is))
       (subst (λ (i : ℕ). slice_get (with_pass x true) i ≡ Some (pass its_width x)) place
       (at_right (made_by 0 x) (pass its_width x ∷ []) 0 (pass its_width x) refl))
 
-  pub calculation_made : (o : Op) (fmt : Format) (parts : Parts) → (element_of p e).body ≡ value (calculation o fmt parts) → slice_get (made_of p e) (size (calculation o fmt parts) - 1) ≡ Some (operation o fmt (operands_from 0 parts))
+  pub calculation_made : (o : Op) (fmt : Format) (parts : Parts)
+      → (element_of p e).body ≡ value (calculation o fmt parts)
+      → slice_get (made_of p e) (size (calculation o fmt parts) - 1) ≡ Some (operation o fmt (operands_from 0 parts))
   calculation_made o fmt parts h =
       let place : 0 + size (calculation o fmt parts) - 1 ≡ size (calculation o fmt parts) - 1 = omega arith in
       subst (λ (i : ℕ). slice_get (made_of p e) i ≡ Some (operation o fmt (operands_from 0 parts))) place

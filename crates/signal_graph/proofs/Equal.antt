@@ -36,9 +36,11 @@ module _ (node_words : Words) (n : ℕ) where
       let now : pos n -ℤ pos ago ≡ pos n = omega (arith, ints) in
       ap (λ (z : ℤ). node_words v z) now ∙ is
 
-module _ (p : Program) (g : Graph) (is : IsGraphOf p g) (stream : Rows) (node_words : Words) (node_solves : GraphSolves g stream node_words) where
+module _ (p : Program) (g : Graph) (is : IsGraphOf p g) (stream : Rows) (node_words : Words)
+    (node_solves : GraphSolves g stream node_words) where
   -- what a node gives at a sample
-  pub node_gives : (t : Target) (v n : ℕ) (node : Node) → n < length stream → IsNumber p t v → node_of g v ≡ node → node_words v (pos n) ≡ node_value stream node_words n node
+  pub node_gives : (t : Target) (v n : ℕ) (node : Node) → n < length stream → IsNumber p t v → node_of g v ≡ node
+      → node_words v (pos n) ≡ node_value stream node_words n node
   node_gives t v n node lt number same =
       node_solves.present v n (inside p g is t v number) lt ∙ ap (λ (x : Node). node_value stream node_words n x) same
 
@@ -50,22 +52,34 @@ module _ (p : Program) (g : Graph) (is : IsGraphOf p g) (stream : Rows) (node_wo
   module _ (words : Words) (n : ℕ) (lt : n < length stream) where
     -- the words that are read are those of the nodes
     abbrev pub ReadsEqual : (ℕ → ℕ → Type 0) → Type 0
-    ReadsEqual R = (d ago v : ℕ) → R d ago → IsElementNode p d v → node_words v (pos n -ℤ pos ago) ≡ words d (pos n -ℤ pos ago)
+    ReadsEqual R =
+        (d ago v : ℕ) → R d ago → IsElementNode p d v → node_words v (pos n -ℤ pos ago) ≡ words d (pos n -ℤ pos ago)
 
-    pub read_equal : (e d ago : ℕ) (edge : Edge) → IsEdgeTo p e (operand_element d ago) edge → ((v : ℕ) → IsElementNode p d v → node_words v (pos n -ℤ pos ago) ≡ words d (pos n -ℤ pos ago)) → node_words edge.node (pos n -ℤ pos edge.delay) ≡ words d (pos n -ℤ pos ago)
+    pub read_equal : (e d ago : ℕ) (edge : Edge) → IsEdgeTo p e (operand_element d ago) edge
+        → ((v : ℕ) → IsElementNode p d v → node_words v (pos n -ℤ pos ago) ≡ words d (pos n -ℤ pos ago))
+        → node_words edge.node (pos n -ℤ pos edge.delay) ≡ words d (pos n -ℤ pos ago)
     read_equal e d ago edge (t, node, number, delay) equal =
         ap (λ (k : ℕ). node_words edge.node (pos n -ℤ pos k)) delay
         ∙ equal edge.node (record { target = t; node = node; number = number })
 
-    pub calculation_equal : (e k : ℕ) (o : Op) (fmt : Format) (parts : Parts) (v : ℕ) → Stands (made_of p e) k (made_by k (calculation o fmt parts)) → IsExpr p (calculation o fmt parts) → ((edges : List Edge) → AllZip (IsEdgeTo p e) (operands_from k parts) edges → operand_words node_words n edges ≡ values_of words n parts) → IsNumber p (node_at e (k + size (calculation o fmt parts) - 1)) v → node_words v (pos n) ≡ value_of words n (calculation o fmt parts)
+    pub calculation_equal : (e k : ℕ) (o : Op) (fmt : Format) (parts : Parts) (v : ℕ)
+        → Stands (made_of p e) k (made_by k (calculation o fmt parts)) → IsExpr p (calculation o fmt parts)
+        → ((edges : List Edge) → AllZip (IsEdgeTo p e) (operands_from k parts) edges
+        → operand_words node_words n edges ≡ values_of words n parts)
+        → IsNumber p (node_at e (k + size (calculation o fmt parts) - 1)) v
+        → node_words v (pos n) ≡ value_of words n (calculation o fmt parts)
     calculation_equal e k o fmt parts v stands sound operands number =
-        let made = at_place p g is e (k + size (calculation o fmt parts) - 1) v (operation o fmt (operands_from k parts)) number (calculation_stands (made_of p e) k o fmt parts stands) in
+        let made =
+        at_place p g is e (k + size (calculation o fmt parts) - 1) v (operation o fmt (operands_from k parts)) number
+        (calculation_stands (made_of p e) k o fmt parts stands) in
         node_gives (node_at e (k + size (calculation o fmt parts) - 1)) v n _ lt number made.1
         ∙ operation_value stream node_words n o fmt (node_of g v).edges _ sound.0.calculation
         ∙ ap (λ (vs : List ℤ). result o fmt vs) (operands (node_of g v).edges made.0)
 
     mutual
-      pub operand_equal : (x : Expr) (e k : ℕ) → Stands (made_of p e) k (made_by k x) → IsExpr p x → ReadsEqual (Reads x) → (edge : Edge) → IsEdgeTo p e (operand_at (k + size x - 1) x) edge → node_words edge.node (pos n -ℤ pos edge.delay) ≡ value_of words n x
+      pub operand_equal : (x : Expr) (e k : ℕ) → Stands (made_of p e) k (made_by k x) → IsExpr p x
+          → ReadsEqual (Reads x) → (edge : Edge) → IsEdgeTo p e (operand_at (k + size x - 1) x) edge
+          → node_words edge.node (pos n -ℤ pos edge.delay) ≡ value_of words n x
       operand_equal (raw m) e k stands sound reads edge to =
           no_delay node_words n edge.node edge.delay m to.1 (word_equal m edge.node n lt to.0)
       operand_equal (read d ago) e k stands sound reads edge to =
@@ -75,18 +89,24 @@ module _ (p : Program) (g : Graph) (is : IsGraphOf p g) (stream : Rows) (node_wo
           (calculation_equal e k o fmt parts edge.node stands sound
           (operands_equal parts e k (parts_stand (made_of p e) k o fmt parts stands) sound.1 reads) to.0)
 
-      pub operands_equal : (parts : Parts) (e k : ℕ) → Stands (made_of p e) k (made_by_parts k parts) → AreExprs p parts → ReadsEqual (PartsRead parts) → (edges : List Edge) → AllZip (IsEdgeTo p e) (operands_from k parts) edges → operand_words node_words n edges ≡ values_of words n parts
+      pub operands_equal : (parts : Parts) (e k : ℕ) → Stands (made_of p e) k (made_by_parts k parts) → AreExprs p parts
+          → ReadsEqual (PartsRead parts) → (edges : List Edge) → AllZip (IsEdgeTo p e) (operands_from k parts) edges
+          → operand_words node_words n edges ≡ values_of words n parts
       operands_equal no_part e k stands sound reads [] all = refl
       operands_equal no_part e k stands sound reads (edge ∷ edges) all = absurd all
       operands_equal (part x rest) e k stands sound reads [] all = absurd all
       operands_equal (part x rest) e k stands sound reads (edge ∷ edges) all =
           ap (λ (m : ℤ). m ∷ operand_words node_words n edges)
-          (operand_equal x e k (first_stands (made_of p e) k x rest stands) sound.0 (λ d ago v r. reads d ago v (inl r)) edge all.0)
+          (operand_equal x e k (first_stands (made_of p e) k x rest stands) sound.0 (λ d ago v r. reads d ago v (inl r))
+          edge all.0)
           ∙ ap (λ (ms : List ℤ). value_of words n x ∷ ms)
-          (operands_equal rest e (k + size x) (rest_stands (made_of p e) k x rest stands) sound.1 (λ d ago v r. reads d ago v (inr r)) edges all.1)
+          (operands_equal rest e (k + size x) (rest_stands (made_of p e) k x rest stands) sound.1
+          (λ d ago v r. reads d ago v (inr r)) edges all.1)
 
     -- a Pass gives the word of its operand, which fits
-    pub pass_equal : (e : ℕ) (x : Expr) (v : ℕ) → (element_of p e).body ≡ value x → has_pass p e x ≡ true → IsExpr p x → ReadsEqual (Reads x) → 1 ≤ its_width p e → IsWord (its_width p e) (value_of words n x) → IsNumber p (node_at e (size x)) v → node_words v (pos n) ≡ value_of words n x
+    pub pass_equal : (e : ℕ) (x : Expr) (v : ℕ) → (element_of p e).body ≡ value x → has_pass p e x ≡ true → IsExpr p x
+        → ReadsEqual (Reads x) → 1 ≤ its_width p e → IsWord (its_width p e) (value_of words n x)
+        → IsNumber p (node_at e (size x)) v → node_words v (pos n) ≡ value_of words n x
     pass_equal e x v h passes sound reads some fits number =
         let w = its_width p e in
         let made = at_place p g is e (size x) v (pass w x) number (pass_made p e x h passes) in
@@ -94,12 +114,16 @@ module _ (p : Program) (g : Graph) (is : IsGraphOf p g) (stream : Rows) (node_wo
         ∙ ap (λ (vs : List ℤ). result op.Pass (plain w) vs) (one x passes (node_of g v).edges made.0)
         ∙ passed (value_of words n x) w some fits
       where
-        edge_equal : (y : Expr) → has_pass p e y ≡ true → IsExpr p y → ReadsEqual (Reads y) → (edge : Edge) → IsEdgeTo p e (operand_at 0 y) edge → node_words edge.node (pos n -ℤ pos edge.delay) ≡ value_of words n y
-        edge_equal (raw m) b s r edge to = no_delay node_words n edge.node edge.delay m to.1 (word_equal m edge.node n lt to.0)
+        edge_equal : (y : Expr) → has_pass p e y ≡ true → IsExpr p y → ReadsEqual (Reads y) → (edge : Edge)
+            → IsEdgeTo p e (operand_at 0 y) edge → node_words edge.node (pos n -ℤ pos edge.delay) ≡ value_of words n y
+        edge_equal (raw m) b s r edge to =
+            no_delay node_words n edge.node edge.delay m to.1 (word_equal m edge.node n lt to.0)
         edge_equal (read d ago) b s r edge to = read_equal e d ago edge to (λ u node. r d ago u (refl, refl) node)
         edge_equal (calculation o fmt parts) b s r edge to = absurd (false≢true b)
 
-        one : (y : Expr) → has_pass p e x ≡ true → (edges : List Edge) → AllZip (IsEdgeTo p e) (operand_at 0 x ∷ []) edges → operand_words node_words n edges ≡ value_of words n x ∷ []
+        one : (y : Expr) → has_pass p e x ≡ true → (edges : List Edge)
+            → AllZip (IsEdgeTo p e) (operand_at 0 x ∷ []) edges
+            → operand_words node_words n edges ≡ value_of words n x ∷ []
         one y b [] all = absurd all
         one y b (edge ∷ []) all = ap (λ (m : ℤ). m ∷ []) (edge_equal x b sound reads edge all.0)
         one y b (edge ∷ (f ∷ fs)) all = absurd all.1

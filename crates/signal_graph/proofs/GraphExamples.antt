@@ -17,15 +17,20 @@ pub no_more : {A : Type 0} (o : Option A) (y : A) → o ≡ None → o ≡ Some 
 no_more o y e h = cc
 
 -- the node at a place is made as it stands there
-made_here : (s t : Site) (v : ℕ) → Some s ≡ Some t → IsMade accumulator s s.made (node_of its_graph v) → IsMade accumulator t t.made (node_of its_graph v)
+made_here : (s t : Site) (v : ℕ) → Some s ≡ Some t → IsMade accumulator s s.made (node_of its_graph v)
+    → IsMade accumulator t t.made (node_of its_graph v)
 made_here s t v h = subst (λ (u : Site). IsMade accumulator u u.made (node_of its_graph v)) (some_is s t h)
 
-accumulator_made : (v : ℕ) (s : Site) → slice_get (node_sites accumulator) v ≡ Some s → IsMade accumulator s s.made (node_of its_graph v)
+accumulator_made : (v : ℕ) (s : Site) → slice_get (node_sites accumulator) v ≡ Some s
+    → IsMade accumulator s s.made (node_of its_graph v)
 accumulator_made zero s h = made_here _ s 0 h refl
-accumulator_made (suc zero) s h = made_here _ s 1 h (((node_at 0 0, input_node refl, refl, refl), ((node_at 1 2, own_node refl, refl, refl), tt {0})), refl)
+accumulator_made (suc zero) s h =
+    made_here _ s 1 h
+    (((node_at 0 0, input_node refl, refl, refl), ((node_at 1 2, own_node refl, refl, refl), tt {0})), refl)
 accumulator_made (suc (suc v)) s h = absurd (no_more _ s refl h)
 
-accumulator_output : (j e : ℕ) → slice_get accumulator.outs j ≡ Some e → IsOutputOf accumulator its_graph j e (node_of its_graph (length (node_sites accumulator) + j))
+accumulator_output : (j e : ℕ) → slice_get accumulator.outs j ≡ Some e
+    → IsOutputOf accumulator its_graph j e (node_of its_graph (length (node_sites accumulator) + j))
 accumulator_output zero e h =
     subst (λ (i : ℕ). IsOutputOf accumulator its_graph 0 i (node_of its_graph 2)) (some_is 1 e h)
     (edge 1 0, (node_at 1 2, own_node refl, refl, refl), refl)
@@ -50,13 +55,17 @@ shared = record {
       record { ty = byte; body = word 0; inits = [] }
       ∷ of_value (read 0 0)
       ∷ of_value (read 0 0)
-      ∷ of_value (calculation op.Add (plain 8) (part (calculation op.Add (plain 8) (part (read 1 0) (part (raw (pos 3)) no_part))) (part (calculation op.Add (plain 8) (part (read 2 1) (part (raw (pos 3)) no_part))) no_part)))
+      ∷ of_value
+      (calculation op.Add (plain 8)
+      (part (calculation op.Add (plain 8) (part (read 1 0) (part (raw (pos 3)) no_part)))
+      (part (calculation op.Add (plain 8) (part (read 2 1) (part (raw (pos 3)) no_part))) no_part)))
       ∷ [];
   inputs = byte ∷ [];
   outs = 3 ∷ [];
 }
 
-shared_places : map {B = ℕ × ℕ} (λ (s : Site). (s.element, s.place)) (node_sites shared) ≡ (0, 0) ∷ (2, 1) ∷ (3, 1) ∷ (3, 2) ∷ (3, 5) ∷ (3, 6) ∷ []
+shared_places : map {B = ℕ × ℕ} (λ (s : Site). (s.element, s.place)) (node_sites shared)
+    ≡ (0, 0) ∷ (2, 1) ∷ (3, 1) ∷ (3, 2) ∷ (3, 5) ∷ (3, 6) ∷ []
 shared_places = refl
 
 shared_made : map (λ (s : Site). s.made) (node_sites shared) ≡

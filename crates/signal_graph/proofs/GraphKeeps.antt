@@ -27,48 +27,70 @@ use Rattle.signal_graph.proofs.GraphLoopless.{graph_is_loopless}
 
 module _ (p : Program) (g : Graph) (is : IsGraphOf p g) (sound : IsFlat p) (loopless : IsFlatLoopless p) where
   module _ (stream : Rows) (is_stream : IsStreamOf p.inputs stream) where
-    module _ (words node_words : Words) (solves : FlatSolves p stream words) (node_solves : GraphSolves g stream node_words) where
-      output_equal : (j e n : ℕ) → j < length p.outs → e < length p.elems → n < length stream → IsOutputOf p g j e (node_of g (length (node_sites p) + j)) → node_words (length (node_sites p) + j) (pos n) ≡ words e (pos n)
+    module _ (words node_words : Words) (solves : FlatSolves p stream words)
+        (node_solves : GraphSolves g stream node_words) where
+      output_equal : (j e n : ℕ) → j < length p.outs → e < length p.elems → n < length stream
+          → IsOutputOf p g j e (node_of g (length (node_sites p) + j))
+          → node_words (length (node_sites p) + j) (pos n) ≡ words e (pos n)
       output_equal j e n inside el lt (edge, (t, node, rank, delay), same) =
           node_solves.present (length (node_sites p) + j) n (omega (arith, is.count)) lt
           ∙ ap (λ (x : Node). node_value stream node_words n x) same
           ∙ no_delay node_words n edge.node edge.delay (words e (pos n)) delay
-          (present_equal p g is sound loopless stream is_stream words node_words solves node_solves e n el lt edge.node (record { target = t; node = node; number = rank }))
+          (present_equal p g is sound loopless stream is_stream words node_words solves node_solves e n el lt edge.node
+          (record { target = t; node = node; number = rank }))
 
-      row_equal : (n : ℕ) → n < length stream → map (λ j. node_words (first_output g + j) (pos n)) (range_with_len 0 g.outs) ≡ map (λ (e : ℕ). words e (pos n)) p.outs
+      row_equal : (n : ℕ) → n < length stream
+          → map (λ j. node_words (first_output g + j) (pos n)) (range_with_len 0 g.outs)
+          ≡ map (λ (e : ℕ). words e (pos n)) p.outs
       row_equal n lt =
-          sym (fill_by_all (λ j. node_words (first_output g + j) (pos n)) (map (λ (e : ℕ). words e (pos n)) p.outs) g.outs (pos 0) (length-map p.outs (λ (e : ℕ). words e (pos n)) ∙ sym is.outs) at)
+          sym
+          (fill_by_all (λ j. node_words (first_output g + j) (pos n)) (map (λ (e : ℕ). words e (pos n)) p.outs) g.outs
+          (pos 0) (length-map p.outs (λ (e : ℕ). words e (pos n)) ∙ sym is.outs) at)
         where
-          at : (k : ℕ) → k < g.outs → slice_index_or (map (λ (e : ℕ). words e (pos n)) p.outs) k (pos 0) ≡ node_words (first_output g + k) (pos n)
+          at : (k : ℕ) → k < g.outs
+              → slice_index_or (map (λ (e : ℕ). words e (pos n)) p.outs) k (pos 0)
+              ≡ node_words (first_output g + k) (pos n)
           at k below =
               let e = slice_index_or p.outs k 0 in
               let inside : k < length p.outs = omega (arith, is.outs) in
               let first : length (node_sites p) ≡ first_output g = omega (arith, is.count, is.outs) in
               get_or-map (λ (i : ℕ). words i (pos n)) p.outs k 0 (pos 0) inside
-              ∙ sym (output_equal k e n inside (sound.outs k 0 inside) lt (is.outputs k e (slice_get-get_or p.outs k 0 inside)))
+              ∙ sym
+              (output_equal k e n inside (sound.outs k 0 inside) lt
+              (is.outputs k e (slice_get-get_or p.outs k 0 inside)))
               ∙ ap (λ (f : ℕ). node_words (f + k) (pos n)) first
 
       rows_equal : (count : ℕ) → count ≤ length stream → graph_out g node_words count ≡ flat_out p words count
       rows_equal count le =
           fill_by_all (λ n. map (λ (e : ℕ). words e (pos n)) p.outs) (graph_out g node_words count) count []
-          (length-map-range_with_len (λ n. map (λ j. node_words (first_output g + j) (pos n)) (range_with_len 0 g.outs)) 0 count) at
+          (length-map-range_with_len (λ n. map (λ j. node_words (first_output g + j) (pos n)) (range_with_len 0 g.outs))
+          0 count)
+          at
         where
-          at : (k : ℕ) → k < count → slice_index_or (graph_out g node_words count) k [] ≡ map (λ (e : ℕ). words e (pos k)) p.outs
+          at : (k : ℕ) → k < count
+              → slice_index_or (graph_out g node_words count) k [] ≡ map (λ (e : ℕ). words e (pos k)) p.outs
           at k below =
-              get_or-map-range_with_len (λ n. map (λ j. node_words (first_output g + j) (pos n)) (range_with_len 0 g.outs)) 0 count k k [] below (omega arith)
+              get_or-map-range_with_len
+              (λ n. map (λ j. node_words (first_output g + j) (pos n)) (range_with_len 0 g.outs)) 0 count k k [] below
+              (omega arith)
               ∙ row_equal k (omega arith)
 
       equal_words : AreEqualWords p g stream words node_words
       equal_words = record {
-        present = λ e v n el node lt. present_equal p g is sound loopless stream is_stream words node_words solves node_solves e n el lt v node;
-        past = λ e v j el node is_read lt. past_equal p g is sound loopless stream is_stream words node_words solves node_solves e j el lt is_read v node;
+        present =
+            λ e v n el node lt. present_equal p g is sound loopless stream is_stream words node_words solves node_solves
+            e n el lt v node;
+        past =
+            λ e v j el node is_read lt. past_equal p g is sound loopless stream is_stream words node_words solves
+            node_solves e j el lt is_read v node;
         rows = rows_equal;
       }
 
     solutions : KeepsSolutions (flat_system p stream) (graph_system g stream) (AreEqualWords p g stream)
     solutions = record {
       forth = λ words solves.
-          let (node_words, one) = graph_solution g (graph_is_sound p g is sound) stream (graph_is_loopless p sound loopless g is) in
+          let (node_words, one) =
+          graph_solution g (graph_is_sound p g is sound) stream (graph_is_loopless p sound loopless g is) in
           (node_words, one, equal_words words node_words solves one.solves);
       back = λ node_words node_solves.
           let (words, one) = flat_solution p sound stream loopless in
@@ -78,7 +100,12 @@ module _ (p : Program) (g : Graph) (is : IsGraphOf p g) (sound : IsFlat p) (loop
   has_one_node : (e : ℕ) → IsElementNumber p e → HasOneNode p g e
   has_one_node e el =
       let (v, node) = element_node p sound loopless e el in
-      record { node = v; there = inside p g is node.target v node.number; its = node; unique = λ u other. one_node p e u v other node }
+      record {
+        node = v;
+        there = inside p g is node.target v node.number;
+        its = node;
+        unique = λ u other. one_node p e u v other node;
+      }
 
   pub graph_keeps : KeepsFlatSolutions p g
   graph_keeps = record { nodes = has_one_node; solutions = solutions }

@@ -37,7 +37,8 @@ record IsReadAt (R : Operand → Edge → Type 0) (P : Operand → Type 0) (u ag
   pub node : u ≡ edge.node
   pub delay : ago ≡ edge.delay
 
-read_at : (R : Operand → Edge → Type 0) (P : Operand → Type 0) (os : List Operand) (edges : List Edge) (u ago : ℕ) → All P os → AllZip R os edges → EdgesRead edges u ago → IsReadAt R P u ago
+read_at : (R : Operand → Edge → Type 0) (P : Operand → Type 0) (os : List Operand) (edges : List Edge) (u ago : ℕ)
+    → All P os → AllZip R os edges → EdgesRead edges u ago → IsReadAt R P u ago
 read_at R P [] [] u ago fits all r = absurd r
 read_at R P [] (edge ∷ edges) u ago fits all r = absurd all
 read_at R P (o ∷ os) [] u ago fits all r = absurd all
@@ -89,7 +90,8 @@ module _ (p : Program) (sound : IsFlat p) (loopless : IsFlatLoopless p) where
       )
 
   -- the node at place k of element e
-  place_height : (e k v : ℕ) → IsNumber p (node_at e k) v → (node_height v ≤ 1 + base e + k) × (k < room_of_element) × (e < length p.elems)
+  place_height : (e k v : ℕ) → IsNumber p (node_at e k) v
+      → (node_height v ≤ 1 + base e + k) × (k < room_of_element) × (e < length p.elems)
   place_height e k v h =
       let (s, at, is) = at_position (is_target (node_at e k)) (node_sites p) v no_site h in
       let parts = and_parts (s.element == e) (s.place == k) is in
@@ -97,8 +99,10 @@ module _ (p : Program) (sound : IsFlat p) (loopless : IsFlatLoopless p) where
       let place = eqb-true s.place k parts.1 in
       let there = node_is_place p v s at in
       let most : node_height v ≤ 1 + base s.element + s.place =
-      subst (λ (o : Option Site). height_at o ≤ 1 + base s.element + s.place) (sym at) (site_most s.element s.place s.made) in (
-        subst (λ (i : ℕ). node_height v ≤ 1 + base i + k) element (subst (λ (i : ℕ). node_height v ≤ 1 + base s.element + i) place most),
+      subst (λ (o : Option Site). height_at o ≤ 1 + base s.element + s.place) (sym at)
+      (site_most s.element s.place s.made) in (
+        subst (λ (i : ℕ). node_height v ≤ 1 + base i + k) element
+            (subst (λ (i : ℕ). node_height v ≤ 1 + base s.element + i) place most),
         subst (λ (i : ℕ). i < room_of_element) place (place_less s there),
         subst (λ (i : ℕ). i < length p.elems) element there.element,
       )
@@ -109,43 +113,62 @@ module _ (p : Program) (sound : IsFlat p) (loopless : IsFlatLoopless p) where
       ap height_at at ∙ ap (λ (made : Made). site_height s.element s.place made) same
 
   -- the node of an element lies below all of those that read it now
-  element_height : (d : ℕ) (t : Target) (v : ℕ) → d < length p.elems → IsNodeOf p d t → IsNumber p t v → node_height v ≤ base d + room_of_element
+  element_height : (d : ℕ) (t : Target) (v : ℕ) → d < length p.elems → IsNodeOf p d t → IsNumber p t v
+      → node_height v ≤ base d + room_of_element
   element_height d t v el (input_node h) rank = let most = place_height d 0 v rank in omega (arith, most.0, most.1)
-  element_height d t v el (pass_node h passes) rank = let most = place_height d _ v rank in omega (arith, most.0, most.1)
+  element_height d t v el (pass_node h passes) rank =
+      let most = place_height d _ v rank in omega (arith, most.0, most.1)
   element_height d t v el (own_node h) rank = let most = place_height d _ v rank in omega (arith, most.0, most.1)
   element_height d t v el (word_alias {m = m} a) rank = omega (arith, word_height m v rank)
   element_height d t v el (read_alias {d = c} a q) rank =
       let r : ElementReads p d c 0 = subst (λ (b : Body). BodyReads b c 0) (sym a.body) (refl, refl) in
       let there = (flat_determined p sound []).elements d c 0 el r in
-      omega (arith, element_height c t v there q rank, room (heights.height c) (heights.height d) room_of_element (heights.falls d c el r))
+      omega (
+        arith,
+        element_height c t v there q rank,
+        room (heights.height c) (heights.height d) room_of_element (heights.falls d c el r),
+      )
 
-  edge_lower : (e k : ℕ) → e < length p.elems → (o : Operand) (edge : Edge) → IsBefore (ElementReads p e) k o → IsEdgeTo p e o edge → edge.delay ≡ 0 → node_height edge.node < 1 + base e + k
+  edge_lower : (e k : ℕ) → e < length p.elems → (o : Operand) (edge : Edge) → IsBefore (ElementReads p e) k o
+      → IsEdgeTo p e o edge → edge.delay ≡ 0 → node_height edge.node < 1 + base e + k
   edge_lower e k el (number m) edge before to now = omega (arith, word_height m edge.node to.0)
   edge_lower e k el (place l) edge before to now = let most = place_height e l edge.node to.0 in omega (arith, most.0)
   edge_lower e k el (element d ago) edge before (t, node, rank, delay) now =
       let none : ago ≡ 0 = omega arith in
       let r = subst (λ (i : ℕ). ElementReads p e d i) none before in
       let there = (flat_determined p sound []).elements e d 0 el r in
-      omega (arith, element_height d t edge.node there node rank, room (heights.height d) (heights.height e) room_of_element (heights.falls e d el r))
+      omega (
+        arith,
+        element_height d t edge.node there node rank,
+        room (heights.height d) (heights.height e) room_of_element (heights.falls e d el r),
+      )
 
   module _ (g : Graph) (is : IsGraphOf p g) where
-    made_falls : (s : Site) (made : Made) (node : Node) (u : ℕ) → s.element < length p.elems → AreBefore (ElementReads p s.element) s.place made → IsMade p s made node → EdgesRead node.edges u 0 → node_height u < site_height s.element s.place made
+    made_falls : (s : Site) (made : Made) (node : Node) (u : ℕ) → s.element < length p.elems
+        → AreBefore (ElementReads p s.element) s.place made → IsMade p s made node → EdgesRead node.edges u 0
+        → node_height u < site_height s.element s.place made
     made_falls s nothing node u el before is_made r = absurd is_made
     made_falls s (constant m) node u el before is_made r =
         absurd (subst (λ (x : Node). EdgesRead x.edges u 0) is_made.1 r)
     made_falls s (input j) node u el before is_made r = absurd (subst (λ (x : Node). EdgesRead x.edges u 0) is_made r)
     made_falls s (operation o fmt os) node u el before is_made r =
-        let at = read_at (IsEdgeTo p s.element) (IsBefore (ElementReads p s.element) s.place) os node.edges u 0 before is_made.0 r in
+        let at =
+        read_at (IsEdgeTo p s.element) (IsBefore (ElementReads p s.element) s.place) os node.edges u 0 before is_made.0
+        r in
         subst (λ (i : ℕ). node_height i < 1 + base s.element + s.place) (sym at.node)
         (edge_lower s.element s.place el at.operand at.edge at.fits at.to (sym at.delay))
 
-    output_falls : (j e : ℕ) (node : Node) (u : ℕ) → IsOutputOf p g j e node → EdgesRead node.edges u 0 → node_height u < 1 + heights.top * room_of_element
+    output_falls : (j e : ℕ) (node : Node) (u : ℕ) → IsOutputOf p g j e node → EdgesRead node.edges u 0
+        → node_height u < 1 + heights.top * room_of_element
     output_falls j e node u (edge, to, same) r = by (subst (λ (x : Node). EdgesRead x.edges u 0) same r)
       where
         below : node_height edge.node < 1 + heights.top * room_of_element
-        below = site_below (slice_index_or (node_sites p) edge.node no_site) (slice_get-get_or (node_sites p) edge.node no_site (edge_below p e (element e 0) edge to))
+        below =
+            site_below (slice_index_or (node_sites p) edge.node no_site)
+            (slice_get-get_or (node_sites p) edge.node no_site (edge_below p e (element e 0) edge to))
           where
-            site_below : (s : Site) → slice_get (node_sites p) edge.node ≡ Some s → node_height edge.node < 1 + heights.top * room_of_element
+            site_below : (s : Site) → slice_get (node_sites p) edge.node ≡ Some s
+                → node_height edge.node < 1 + heights.top * room_of_element
             site_below s at =
                 let there = node_is_place p edge.node s at in
                 omega (
@@ -169,17 +192,21 @@ module _ (p : Program) (sound : IsFlat p) (loopless : IsFlatLoopless p) where
             let at = slice_get-get_or (node_sites p) v no_site below in
             let there = node_is_place p v s at in
             subst (λ (o : Option Site). node_height u < height_at o) (sym at)
-            (made_falls s s.made (node_of g v) u there.element (all_before p s.element s.place s.made there.made) (is.made v s at) r)
+            (made_falls s s.made (node_of g v) u there.element (all_before p s.element s.place s.made there.made)
+            (is.made v s at) r)
         by (inr above) =
             let j = v - length (node_sites p) in
             let inside : j < length p.outs = omega (arith, is.count) in
             let back : length (node_sites p) + j ≡ v = omega arith in
             let e = slice_index_or p.outs j 0 in
-            let output = subst (λ (i : ℕ). IsOutputOf p g j e (node_of g i)) back (is.outputs j e (slice_get-get_or p.outs j 0 inside)) in
+            let output =
+            subst (λ (i : ℕ). IsOutputOf p g j e (node_of g i)) back
+            (is.outputs j e (slice_get-get_or p.outs j 0 inside)) in
             subst (λ (o : Option Site). node_height u < height_at o) (sym (slice_get_past (node_sites p) v above))
             (output_falls j e (node_of g v) u output r)
 
-    below_top : (o : Option Site) → ((s : Site) → o ≡ Some s → IsPlace p s) → height_at o < 2 + heights.top * room_of_element
+    below_top : (o : Option Site) → ((s : Site) → o ≡ Some s → IsPlace p s)
+        → height_at o < 2 + heights.top * room_of_element
     below_top None are = omega arith
     below_top (Some s) are =
         let there = are s refl in

@@ -46,7 +46,8 @@ of_graphs truth is = tt {0}
 of_graphs choice is = tt {0}
 of_graphs _ is = absurd is
 
-format_sound : (class : Class) (fmt : Format) → IsCalculation class → IsFlatFormat class fmt → IsNodeFormat class (node_format class fmt)
+format_sound : (class : Class) (fmt : Format) → IsCalculation class → IsFlatFormat class fmt
+    → IsNodeFormat class (node_format class fmt)
 format_sound quantised fmt is h = h
 format_sound truth fmt is h = refl
 format_sound choice fmt is h = refl
@@ -58,7 +59,8 @@ no_argument g truth is = refl
 no_argument g choice is = refl
 no_argument g _ is = absurd is
 
-width_sound : (class : Class) (fmt : Format) → IsCalculation class → IsFlatFormat class fmt → IsWithin 1 32 (node_width class fmt)
+width_sound : (class : Class) (fmt : Format) → IsCalculation class → IsFlatFormat class fmt
+    → IsWithin 1 32 (node_width class fmt)
 width_sound quantised fmt is h = (h.narrowest, h.widest)
 width_sound truth fmt is h = (omega arith, omega arith)
 width_sound choice fmt is h = h.width
@@ -76,7 +78,9 @@ module _ (p : Program) where
       by true = omega (arith, length-append (made_by 0 x) (pass width x ∷ []), length_made 0 x)
       by false = omega (arith, length-append (made_by 0 x) [], length_made 0 x)
 
-  sites_most : (n : ℕ) (xs : List Element) → length (flat_map (element_sites p) (enumerate_from n xs)) ≤ sum_by (λ (x : Element). size_of_body x.body) xs + length xs
+  sites_most : (n : ℕ) (xs : List Element)
+      → length (flat_map (element_sites p) (enumerate_from n xs)) ≤ sum_by (λ (x : Element). size_of_body x.body) xs +
+      length xs
   sites_most n [] = omega arith
   sites_most n (x ∷ xs) =
       omega (
@@ -120,13 +124,15 @@ module _ (p : Program) (g : Graph) (is : IsGraphOf p g) (sound : IsFlat p) where
   first_is : first_output g ≡ length (node_sites p)
   first_is = omega (arith, is.count, is.outs)
 
-  its_site : (v : ℕ) → v < length (node_sites p) → slice_get (node_sites p) v ≡ Some (slice_index_or (node_sites p) v no_site)
+  its_site : (v : ℕ) → v < length (node_sites p)
+      → slice_get (node_sites p) v ≡ Some (slice_index_or (node_sites p) v no_site)
   its_site v lt = slice_get-get_or (node_sites p) v no_site lt
 
   its_place : (v : ℕ) → v < length (node_sites p) → IsPlace p (slice_index_or (node_sites p) v no_site)
   its_place v lt = node_is_place p v (slice_index_or (node_sites p) v no_site) (its_site v lt)
 
-  its_made : (v : ℕ) → v < length (node_sites p) → IsMade p (slice_index_or (node_sites p) v no_site) (slice_index_or (node_sites p) v no_site).made (node_of g v)
+  its_made : (v : ℕ) → v < length (node_sites p)
+      → IsMade p (slice_index_or (node_sites p) v no_site) (slice_index_or (node_sites p) v no_site).made (node_of g v)
   its_made v lt = is.made v (slice_index_or (node_sites p) v no_site) (its_site v lt)
 
   other_op : (v : ℕ) → v < length (node_sites p) → (node_of g v).op ≢ op.Output
@@ -141,11 +147,14 @@ module _ (p : Program) (g : Graph) (is : IsGraphOf p g) (sound : IsFlat p) where
   edge_sound e o edge fits to =
       let below = edge_below p e o edge to in
       record {
-        node = some_node edge.node (λ (node : Node). node.op ≢ op.Output) (omega (arith, is.count)) (other_op edge.node below);
+        node =
+            some_node edge.node (λ (node : Node). node.op ≢ op.Output) (omega (arith, is.count))
+            (other_op edge.node below);
         delay = edge_delay p e o edge fits to;
       }
 
-  edges_sound : (e : ℕ) (os : List Operand) (edges : List Edge) → All IsOperand os → AllZip (IsEdgeTo p e) os edges → All (IsEdge g) edges
+  edges_sound : (e : ℕ) (os : List Operand) (edges : List Edge) → All IsOperand os → AllZip (IsEdgeTo p e) os edges
+      → All (IsEdge g) edges
   edges_sound e [] [] fits all = All-nil (IsEdge g)
   edges_sound e [] (edge ∷ edges) fits all = absurd all
   edges_sound e (o ∷ os) [] fits all = absurd all
@@ -154,22 +163,31 @@ module _ (p : Program) (g : Graph) (is : IsGraphOf p g) (sound : IsFlat p) where
       (edges_sound e os edges (All-tail IsOperand o os fits) all.1)
 
   -- initial values at the last place of an element are in its node's width
-  inits_sound : (s : Site) (w : ℕ) → IsPlace p s → (s.place + 1 ≡ length (made_of p s.element) → w ≡ width_of (element_of p s.element).ty) → AreInits (IsWord w) (inits_at p s)
+  inits_sound : (s : Site) (w : ℕ) → IsPlace p s
+      → (s.place + 1 ≡ length (made_of p s.element) → w ≡ width_of (element_of p s.element).ty)
+      → AreInits (IsWord w) (inits_at p s)
   inits_sound s w at last = by (s.place + 1 == length (element_sites p (s.element, element_of p s.element))) refl
     where
-      by : (b : Bool) → (s.place + 1 == length (element_sites p (s.element, element_of p s.element))) ≡ b → AreInits (IsWord w) (if b then (element_of p s.element).inits else [])
+      by : (b : Bool) → (s.place + 1 == length (element_sites p (s.element, element_of p s.element))) ≡ b
+          → AreInits (IsWord w) (if b then (element_of p s.element).inits else [])
       by true h =
           let x = element_of p s.element in
           let are = (sound.elements s.element no_element at.element).inits in
-          let same = last (eqb-true (s.place + 1) (length (element_sites p (s.element, x))) h ∙ length_sites_from s.element 0 (made_of p s.element)) in
+          let same =
+          last
+          (eqb-true (s.place + 1) (length (element_sites p (s.element, x))) h
+          ∙ length_sites_from s.element 0 (made_of p s.element)) in
           record {
             samples = are.samples;
             rise = are.rise;
-            words = λ k d lt. subst (λ (u : ℕ). IsWord u (slice_index_or x.inits k d).1) (sym same) (type_word x.ty (slice_index_or x.inits k d).1 (are.words k d lt));
+            words =
+                λ k d lt. subst (λ (u : ℕ). IsWord u (slice_index_or x.inits k d).1) (sym same)
+                (type_word x.ty (slice_index_or x.inits k d).1 (are.words k d lt));
           }
       by false h = no_inits (IsWord w)
 
-  made_sound : (s : Site) (made : Made) (node : Node) → s.made ≡ made → IsPlace p s → IsSoundMade p made → IsMade p s made node → IsNode g node
+  made_sound : (s : Site) (made : Made) (node : Node) → s.made ≡ made → IsPlace p s → IsSoundMade p made
+      → IsMade p s made node → IsNode g node
   made_sound s nothing node same at fits is_made = absurd is_made
   made_sound s (constant m) node same at fits is_made =
       let least = is_made.0 in
@@ -200,7 +218,10 @@ module _ (p : Program) (g : Graph) (is : IsGraphOf p g) (sound : IsFlat p) where
         arg = no_argument g (class_of o) fits.0.calculation;
         edge_count = sym (zip_length (IsEdgeTo p s.element) os node.edges is_made.0) ∙ fits.0.parts;
         edges = edges_sound s.element os node.edges fits.1 is_made.0;
-        inits = inits_sound s (node_width (class_of o) fmt) at (λ last. last_width p sound s.element at.element s.place o fmt os (at.made ∙ ap (λ (x : Made). Some x) same) last);
+        inits =
+            inits_sound s (node_width (class_of o) fmt) at
+            (λ last. last_width p sound s.element at.element s.place o fmt os
+            (at.made ∙ ap (λ (x : Made). Some x) same) last);
         width = width_sound (class_of o) fmt fits.0.calculation fits.0.fmt;
       })
 
@@ -222,7 +243,8 @@ module _ (p : Program) (g : Graph) (is : IsGraphOf p g) (sound : IsFlat p) where
         width = (node_sound edge.node (edge_below p e (element e 0) edge to)).width;
       })
 
-  its_output : (j : ℕ) → j < length p.outs → IsOutputOf p g j (slice_index_or p.outs j 0) (node_of g (length (node_sites p) + j))
+  its_output : (j : ℕ) → j < length p.outs
+      → IsOutputOf p g j (slice_index_or p.outs j 0) (node_of g (length (node_sites p) + j))
   its_output j lt = is.outputs j (slice_index_or p.outs j 0) (slice_get-get_or p.outs j 0 lt)
 
   all_nodes : (v : ℕ) → v < length g.nodes → IsNode g (node_of g v)
@@ -234,7 +256,9 @@ module _ (p : Program) (g : Graph) (is : IsGraphOf p g) (sound : IsFlat p) where
           let j = v - length (node_sites p) in
           let inside : j < length p.outs = omega (arith, is.count) in
           let back : length (node_sites p) + j ≡ v = omega arith in
-          subst (λ (i : ℕ). IsNode g (node_of g i)) back (output_sound j (slice_index_or p.outs j 0) (node_of g (length (node_sites p) + j)) inside (its_output j inside))
+          subst (λ (i : ℕ). IsNode g (node_of g i)) back
+          (output_sound j (slice_index_or p.outs j 0) (node_of g (length (node_sites p) + j)) inside
+          (its_output j inside))
 
   output_is : (j e : ℕ) (node : Node) → IsOutputOf p g j e node → IsOutput j node
   output_is j e node (edge, to, same) =
@@ -243,7 +267,8 @@ module _ (p : Program) (g : Graph) (is : IsGraphOf p g) (sound : IsFlat p) where
   outputs_are : (j : ℕ) → j < g.outs → IsSomeAnd (slice_get g.nodes (first_output g + j)) (IsOutput j)
   outputs_are j lt =
       let inside : j < length p.outs = omega (arith, is.outs) in
-      let node = output_is j (slice_index_or p.outs j 0) (node_of g (length (node_sites p) + j)) (its_output j inside) in
+      let node =
+      output_is j (slice_index_or p.outs j 0) (node_of g (length (node_sites p) + j)) (its_output j inside) in
       subst (λ (i : ℕ). IsSomeAnd (slice_get g.nodes (i + j)) (IsOutput j)) (sym first_is)
       (some_node (length (node_sites p) + j) (IsOutput j) (omega (arith, is.count)) node)
 

@@ -36,13 +36,16 @@ sum_node : IsElementNode accumulator 1 1
 sum_node = record { target = node_at 1 2; node = own_node refl; number = refl }
 
 -- the solution of the graph that comes from that of the program has its rows
-its_rows : graph_out its_graph ((keeps.solutions stream bytes).forth flat_words flat_solved).0 3 ≡ (pos 6 ∷ []) ∷ (pos 8 ∷ []) ∷ (negsuc 127 ∷ []) ∷ []
+its_rows : graph_out its_graph ((keeps.solutions stream bytes).forth flat_words flat_solved).0 3
+    ≡ (pos 6 ∷ []) ∷ (pos 8 ∷ []) ∷ (negsuc 127 ∷ []) ∷ []
 its_rows = ((keeps.solutions stream bytes).forth flat_words flat_solved).2.rows 3 (omega arith) ∙ flat_rows
 
 -- the words that Examples wrote down are equal
-present_words : (e v n : ℕ) → e < 2 → IsElementNode accumulator e v → n < 3 → graph_words v (pos n) ≡ flat_words e (pos n)
+present_words : (e v n : ℕ) → e < 2 → IsElementNode accumulator e v → n < 3
+    → graph_words v (pos n) ≡ flat_words e (pos n)
 present_words zero v n el node lt = ap (λ (u : ℕ). graph_words u (pos n)) (one_node accumulator 0 v 0 node x_node)
-present_words (suc zero) v n el node lt = ap (λ (u : ℕ). graph_words u (pos n)) (one_node accumulator 1 v 1 node sum_node)
+present_words (suc zero) v n el node lt =
+    ap (λ (u : ℕ). graph_words u (pos n)) (one_node accumulator 1 v 1 node sum_node)
 present_words (suc (suc e)) v n el node lt = absurd (omega arith)
 
 past_words : (e v j : ℕ) → e < 2 → IsElementNode accumulator e v → graph_words v (negsuc j) ≡ flat_words e (negsuc j)
@@ -67,7 +70,10 @@ equal = record {
 -- the graph of the sum without its initial value
 forgets : Graph
 forgets = record {
-  nodes = input ∷ record { op = op.Add; fmt = plain 8; arg = pos 0; edges = edge 0 0 ∷ edge 1 1 ∷ []; inits = []; width = 8; ram = 0 } ∷ output_node ∷ [];
+  nodes =
+      input ∷ record
+      { op = op.Add; fmt = plain 8; arg = pos 0; edges = edge 0 0 ∷ edge 1 1 ∷ []; inits = []; width = 8; ram = 0 } ∷
+      output_node ∷ [];
   inputs = byte ∷ [];
   outs = 1;
 }

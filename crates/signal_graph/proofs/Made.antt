@@ -73,20 +73,23 @@ module _ (p : Program) where
   operands_sound : (parts : Parts) (k : ℕ) → AreExprs p parts → All IsOperand (operands_from k parts)
   operands_sound no_part k are = All-nil IsOperand
   operands_sound (part x rest) k are =
-      All-cons IsOperand (operand_at (k + size x - 1) x) (operands_from (k + size x) rest) (operand_sound x (k + size x - 1) are.0) (operands_sound rest (k + size x) are.1)
+      All-cons IsOperand (operand_at (k + size x - 1) x) (operands_from (k + size x) rest)
+      (operand_sound x (k + size x - 1) are.0) (operands_sound rest (k + size x) are.1)
 
   mutual
     sound_made : (x : Expr) (k : ℕ) → IsExpr p x → All IsSoundMade (made_by k x)
     sound_made (raw m) k is = single (constant m) is
     sound_made (read e ago) k is = single nothing (tt {0})
     sound_made (calculation o fmt parts) k is =
-        All-push IsSoundMade (made_by_parts k parts) (operation o fmt (operands_from k parts)) (sound_parts parts k is.1)
+        All-push IsSoundMade (made_by_parts k parts) (operation o fmt (operands_from k parts))
+        (sound_parts parts k is.1)
         (subst (λ (n : ℕ). IsCalculationOf o fmt n) (sym (count_operands k parts)) is.0, operands_sound parts k is.1)
 
     sound_parts : (parts : Parts) (k : ℕ) → AreExprs p parts → All IsSoundMade (made_by_parts k parts)
     sound_parts no_part k are = All-nil IsSoundMade
     sound_parts (part x rest) k are =
-        All-append IsSoundMade (made_by k x) (made_by_parts (k + size x) rest) (sound_made x k are.0) (sound_parts rest (k + size x) are.1)
+        All-append IsSoundMade (made_by k x) (made_by_parts (k + size x) rest) (sound_made x k are.0)
+        (sound_parts rest (k + size x) are.1)
 
   module _ (sound : IsFlat p) (e : ℕ) (el : e < length p.elems) where
     its_body : (body : Body) → (element_of p e).body ≡ body → IsBodyOf p (element_of p e).ty body
@@ -98,7 +101,10 @@ module _ (p : Program) where
     value_sound : (x : Expr) (b : Bool) → IsExpr p x → All IsSoundMade (with_pass p e x b)
     value_sound x true is =
         All-append IsSoundMade (made_by 0 x) (pass (its_width p e) x ∷ []) (sound_made x 0 is)
-        (single (pass (its_width p e) x) (pass_calculation (its_width p e) its_bits, All-cons IsOperand (operand_at 0 x) [] (operand_sound x 0 is) (All-nil IsOperand)))
+        (single (pass (its_width p e) x) (
+          pass_calculation (its_width p e) its_bits,
+          All-cons IsOperand (operand_at 0 x) [] (operand_sound x 0 is) (All-nil IsOperand),
+        ))
     value_sound x false is = All-append IsSoundMade (made_by 0 x) [] (sound_made x 0 is) (All-nil IsSoundMade)
 
     body_sound : (body : Body) → (element_of p e).body ≡ body → All IsSoundMade (made_of p e)
@@ -113,19 +119,25 @@ module _ (p : Program) where
     all_sound = body_sound (element_of p e).body refl
 
     -- what is made at the last place of an element has its width
-    last_is : (k l : ℕ) (m n : Made) → slice_get (made_of p e) k ≡ Some m → slice_get (made_of p e) l ≡ Some n → k + 1 ≡ length (made_of p e) → l + 1 ≡ length (made_of p e) → m ≡ n
+    last_is : (k l : ℕ) (m n : Made) → slice_get (made_of p e) k ≡ Some m → slice_get (made_of p e) l ≡ Some n
+        → k + 1 ≡ length (made_of p e) → l + 1 ≡ length (made_of p e) → m ≡ n
     last_is k l m n at there last also =
         let same : k ≡ l = omega arith in
         same_Some m n (sym at ∙ ap (λ (i : ℕ). slice_get (made_of p e) i) same ∙ there)
 
-    count_value : (x : Expr) (b : Bool) → (element_of p e).body ≡ value x → has_pass p e x ≡ b → length (made_of p e) ≡ length (with_pass p e x b)
+    count_value : (x : Expr) (b : Bool) → (element_of p e).body ≡ value x → has_pass p e x ≡ b
+        → length (made_of p e) ≡ length (with_pass p e x b)
     count_value x b h is = ap (λ (ms : List Made). length ms) (value_made p e x b h is)
 
-    last_of_value : (x : Expr) (b : Bool) → (element_of p e).body ≡ value x → has_pass p e x ≡ b → (k : ℕ) (o : Op) (fmt : Format) (os : List Operand) → slice_get (made_of p e) k ≡ Some (operation o fmt os) → k + 1 ≡ length (made_of p e) → node_width (class_of o) fmt ≡ its_width p e
+    last_of_value : (x : Expr) (b : Bool) → (element_of p e).body ≡ value x → has_pass p e x ≡ b
+        → (k : ℕ) (o : Op) (fmt : Format) (os : List Operand) → slice_get (made_of p e) k ≡ Some (operation o fmt os)
+        → k + 1 ≡ length (made_of p e) → node_width (class_of o) fmt ≡ its_width p e
     last_of_value x true h is k o fmt os at last =
         let also : size x + 1 ≡ length (made_of p e) =
-        omega (arith, count_value x true h is, length-append (made_by 0 x) (pass (its_width p e) x ∷ []), length_made 0 x) in
-        ap width_made (last_is k (size x) (operation o fmt os) (pass (its_width p e) x) at (pass_made p e x h is) last also)
+        omega
+        (arith, count_value x true h is, length-append (made_by 0 x) (pass (its_width p e) x ∷ []), length_made 0 x) in
+        ap width_made
+        (last_is k (size x) (operation o fmt os) (pass (its_width p e) x) at (pass_made p e x h is) last also)
     last_of_value (raw m) false h is k o fmt os at last =
         let also : 0 + 1 ≡ length (made_of p e) = omega (arith, count_value (raw m) false h is) in
         absurd (differ (constant m) (last_is k 0 (operation o fmt os) (constant m) at (word_made p e m h) last also))
@@ -145,19 +157,29 @@ module _ (p : Program) where
         let x = calculation q f parts in
         let also : size x - 1 + 1 ≡ length (made_of p e) =
         omega (arith, count_value x false h is, length-append (made_by 0 x) [], length_made 0 x) in
-        ap width_made (last_is k (size x - 1) (operation o fmt os) (operation q f (operands_from 0 parts)) at (calculation_made p e q f parts h) last also)
+        ap width_made
+        (last_is k (size x - 1) (operation o fmt os) (operation q f (operands_from 0 parts)) at
+        (calculation_made p e q f parts h) last also)
         ∙ gives_width (class_of q) f (ChoicesFit p parts (its_width p e)) (its_width p e) (its_body (value x) h).fits
 
-    last_of_body : (body : Body) → (element_of p e).body ≡ body → (k : ℕ) (o : Op) (fmt : Format) (os : List Operand) → slice_get (made_of p e) k ≡ Some (operation o fmt os) → k + 1 ≡ length (made_of p e) → node_width (class_of o) fmt ≡ its_width p e
+    last_of_body : (body : Body) → (element_of p e).body ≡ body → (k : ℕ) (o : Op) (fmt : Format) (os : List Operand)
+        → slice_get (made_of p e) k ≡ Some (operation o fmt os) → k + 1 ≡ length (made_of p e)
+        → node_width (class_of o) fmt ≡ its_width p e
     last_of_body (word j) h k o fmt os at last =
-        let also : 0 + 1 ≡ length (made_of p e) = omega (arith, ap (λ (ms : List Made). length ms) (input_made p e j h)) in
-        absurd (differ (last_is k 0 (operation o fmt os) (input j) at (ap (λ (ms : List Made). slice_get ms 0) (input_made p e j h)) last also))
+        let also : 0 + 1 ≡ length (made_of p e) =
+        omega (arith, ap (λ (ms : List Made). length ms) (input_made p e j h)) in
+        absurd
+        (differ
+        (last_is k 0 (operation o fmt os) (input j) at (ap (λ (ms : List Made). slice_get ms 0) (input_made p e j h))
+        last also))
       where
         differ : operation o fmt os ≡ input j → ⊥
         differ same = cc
     last_of_body (value x) h k o fmt os at last = last_of_value x (has_pass p e x) h refl k o fmt os at last
 
-    pub last_width : (k : ℕ) (o : Op) (fmt : Format) (os : List Operand) → slice_get (made_of p e) k ≡ Some (operation o fmt os) → k + 1 ≡ length (made_of p e) → node_width (class_of o) fmt ≡ its_width p e
+    pub last_width : (k : ℕ) (o : Op) (fmt : Format) (os : List Operand)
+        → slice_get (made_of p e) k ≡ Some (operation o fmt os) → k + 1 ≡ length (made_of p e)
+        → node_width (class_of o) fmt ≡ its_width p e
     last_width = last_of_body (element_of p e).body refl
 
   pub place_sound : (sound : IsFlat p) (s : Site) → IsPlace p s → IsSoundMade s.made

@@ -37,7 +37,8 @@ module _ {A : Type 0} where
     in_filter [] x c t = absurd (in_none x c)
     in_filter (y ∷ ys) x c t = by (test y) refl (first_or_rest y x ys c) (λ i. in_filter ys x i t)
       where
-        by : (b : Bool) → test y ≡ b → (y ≡ x) ⊎ Contains ys x → (Contains ys x → Contains (filter test ys) x) → Contains (cond b (y ∷ filter test ys) (filter test ys)) x
+        by : (b : Bool) → test y ≡ b → (y ≡ x) ⊎ Contains ys x → (Contains ys x → Contains (filter test ys) x)
+            → Contains (cond b (y ∷ filter test ys) (filter test ys)) x
         by true e (inl h) rest = (0, omega arith, h)
         by true e (inr i) rest = in_rest y x (filter test ys) (rest i)
         by false e (inl h) rest = absurd (unlike y x h e t)
@@ -59,9 +60,16 @@ module _ {A : Type 0} where
     finds [] x c t = absurd (in_none x c)
     finds (z ∷ zs) x c t = by (test z) refl (first_or_rest z x zs c) (λ i. finds zs x i t)
       where
-        by : (b : Bool) → test z ≡ b → (z ≡ x) ⊎ Contains zs x → (Contains zs x → (y : A) × IsFound zs y) → (y : A) × IsFound (z ∷ zs) y
-        by true e i rest =
-            (z, record { first = ap (λ (b : Bool). cond b (Some z) (find test zs)) e; member = in_first z zs; passes = e })
+        by : (b : Bool) → test z ≡ b → (z ≡ x) ⊎ Contains zs x → (Contains zs x → (y : A) × IsFound zs y)
+            → (y : A) × IsFound (z ∷ zs) y
+        by true e i rest = (
+          z,
+          record {
+            first = ap (λ (b : Bool). cond b (Some z) (find test zs)) e;
+            member = in_first z zs;
+            passes = e;
+          },
+        )
         by false e (inl h) rest = absurd (unlike z x h e t)
         by false e (inr i) rest =
             let (y, is) = rest i in (
@@ -76,7 +84,8 @@ module _ {A : Type 0} where
     pub has_position : (xs : List A) (x : A) → Contains xs x → test x ≡ true → (v : ℕ) × (position test xs ≡ Some v)
     has_position xs x (k, lt, h) t = by (cases_lt (position_or_len test xs) (length xs))
       where
-        by : (position_or_len test xs < length xs) ⊎ (length xs ≤ position_or_len test xs) → (v : ℕ) × (position test xs ≡ Some v)
+        by : (position_or_len test xs < length xs) ⊎ (length xs ≤ position_or_len test xs)
+            → (v : ℕ) × (position test xs ≡ Some v)
         by (inl less) = (
           position_or_len test xs,
           cond-true (nat_lt (position_or_len test xs) (length xs)) (Some (position_or_len test xs)) None
@@ -85,7 +94,8 @@ module _ {A : Type 0} where
         by (inr le) =
             absurd (unlike (slice_index_or xs k x) x h (fails_before_first test xs k x (omega arith)) t)
 
-    pub at_position : (xs : List A) (v : ℕ) (d : A) → position test xs ≡ Some v → (x : A) × (slice_get xs v ≡ Some x) × (test x ≡ true)
+    pub at_position : (xs : List A) (v : ℕ) (d : A) → position test xs ≡ Some v
+        → (x : A) × (slice_get xs v ≡ Some x) × (test x ≡ true)
     at_position xs v d h =
         let at = position-Some test xs v d h in
         (slice_index_or xs v d, slice_get-get_or xs v d at.0, at.1)
@@ -103,7 +113,9 @@ module _ {A B : Type 0} (f : A → List B) where
   from_flat_map [] y c = absurd (in_none y c)
   from_flat_map (z ∷ zs) y c = by (Contains-append_cases (f z) (flat_map f zs) y c) (λ i. from_flat_map zs y i)
     where
-      by : Contains (f z) y ⊎ Contains (flat_map f zs) y → (Contains (flat_map f zs) y → (x : A) × Contains zs x × Contains (f x) y) → (x : A) × Contains (z ∷ zs) x × Contains (f x) y
+      by : Contains (f z) y ⊎ Contains (flat_map f zs) y
+          → (Contains (flat_map f zs) y → (x : A) × Contains zs x × Contains (f x) y)
+          → (x : A) × Contains (z ∷ zs) x × Contains (f x) y
       by (inl i) rest = (z, in_first z zs, i)
       by (inr i) rest = let (x, j, c) = rest i in (x, in_rest z x zs j, c)
 
@@ -135,6 +147,7 @@ module _ {A : Type 0} (test : A → Bool) where
   found_member [] y h = absurd (none-some y h)
   found_member (z ∷ zs) y h = by (test z) refl (λ i. found_member zs y i) h
     where
-      by : (b : Bool) → test z ≡ b → (find test zs ≡ Some y → Contains zs y) → cond b (Some z) (find test zs) ≡ Some y → Contains (z ∷ zs) y
+      by : (b : Bool) → test z ≡ b → (find test zs ≡ Some y → Contains zs y) → cond b (Some z) (find test zs) ≡ Some y
+          → Contains (z ∷ zs) y
       by true e rest i = (0, omega arith, same_Some z y i)
       by false e rest i = in_rest z y zs (rest i)

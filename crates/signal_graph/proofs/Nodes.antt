@@ -25,15 +25,27 @@ pub length_sites_from : (e k : ℕ) (ms : List Made) → length (sites_from e k 
 length_sites_from e k [] = refl
 length_sites_from e k (m ∷ ms) = ap (λ (n : ℕ). suc n) (length_sites_from e (k + 1) ms)
 
-pub last_inits : (p : Program) (e k : ℕ) (m : Made) → k + 1 ≡ length (made_of p e) → inits_at p (site e k m) ≡ (element_of p e).inits
+pub last_inits : (p : Program) (e k : ℕ) (m : Made) → k + 1 ≡ length (made_of p e)
+    → inits_at p (site e k m) ≡ (element_of p e).inits
 last_inits p e k m last =
     let count = length (element_sites p (e, element_of p e)) in
     ap (λ (b : Bool). if b then (element_of p e).inits else [])
     (eq-eqb (k + 1) count (last ∙ sym (length_sites_from e 0 (made_of p e))))
 
 -- what a calculation's node gives
-pub operation_value : (stream : Rows) (words : Words) (n : ℕ) (o : Op) (fmt : Format) (edges : List Edge) (inits : List (ℕ × ℤ)) → IsCalculation (class_of o)
-    → node_value stream words n (record { op = o; fmt = node_format (class_of o) fmt; arg = pos 0; edges = edges; inits = inits; width = node_width (class_of o) fmt; ram = 0 })
+pub operation_value : (stream : Rows) (words : Words) (n : ℕ) (o : Op) (fmt : Format) (edges : List Edge)
+    (inits : List (ℕ × ℤ))
+    → IsCalculation (class_of o)
+    → node_value stream words n
+    (record {
+      op = o;
+      fmt = node_format (class_of o) fmt;
+      arg = pos 0;
+      edges = edges;
+      inits = inits;
+      width = node_width (class_of o) fmt;
+      ram = 0;
+    })
     ≡ result o fmt (operand_words words n edges)
 operation_value stream words n op.Add fmt edges inits is = refl
 operation_value stream words n op.Sub fmt edges inits is = refl
@@ -55,7 +67,8 @@ module _ (p : Program) (g : Graph) (is : IsGraphOf p g) where
   inside t v h = omega (arith, number_below p t v h, is.count)
 
   -- the node at a place of an element
-  pub at_place : (e k v : ℕ) (made : Made) → IsNumber p (node_at e k) v → slice_get (made_of p e) k ≡ Some made → IsMade p (site e k made) made (node_of g v)
+  pub at_place : (e k v : ℕ) (made : Made) → IsNumber p (node_at e k) v → slice_get (made_of p e) k ≡ Some made
+      → IsMade p (site e k made) made (node_of g v)
   at_place e k v made number there = is.made v (site e k made) (place_node p e k v made number there)
 
   -- the node of a raw word
@@ -64,14 +77,18 @@ module _ (p : Program) (g : Graph) (is : IsGraphOf p g) where
       let (s, at, same) = word_at p m v number in
       (s, subst (λ (made : Made). IsMade p s made (node_of g v)) same (is.made v s at))
 
-  pub at_input : (e j v : ℕ) → (element_of p e).body ≡ word j → IsNumber p (node_at e 0) v → IsMade p (site e 0 (input j)) (input j) (node_of g v)
+  pub at_input : (e j v : ℕ) → (element_of p e).body ≡ word j → IsNumber p (node_at e 0) v
+      → IsMade p (site e 0 (input j)) (input j) (node_of g v)
   at_input e j v h number =
-      at_place e 0 v (input j) number (subst (λ (ms : List Made). slice_get ms 0 ≡ Some (input j)) (sym (input_made p e j h)) refl)
+      at_place e 0 v (input j) number
+      (subst (λ (ms : List Made). slice_get ms 0 ≡ Some (input j)) (sym (input_made p e j h)) refl)
 
   -- the node of an element that is read with a delay has its initial values
-  pub its_inits : (e : ℕ) (t : Target) (v : ℕ) → is_delayed p e ≡ true → IsNodeOf p e t → IsNumber p t v → (node_of g v).inits ≡ (element_of p e).inits
+  pub its_inits : (e : ℕ) (t : Target) (v : ℕ) → is_delayed p e ≡ true → IsNodeOf p e t → IsNumber p t v
+      → (node_of g v).inits ≡ (element_of p e).inits
   its_inits e t v delayed (input_node {j = j} h) number =
-      let last : 0 + 1 ≡ length (made_of p e) = subst (λ (ms : List Made). 0 + 1 ≡ length ms) (sym (input_made p e j h)) refl in
+      let last : 0 + 1 ≡ length (made_of p e) =
+      subst (λ (ms : List Made). 0 + 1 ≡ length ms) (sym (input_made p e j h)) refl in
       ap (λ (node : Node). node.inits) (at_input e j v h number) ∙ last_inits p e 0 (input j) last
   its_inits e t v delayed (pass_node {x = x} h passes) number =
       let made = pass (its_width p e) x in
@@ -89,4 +106,5 @@ module _ (p : Program) (g : Graph) (is : IsGraphOf p g) where
       ap (λ (node : Node). node.inits) (at_place e (size x - 1) v made number (calculation_made p e o fmt parts h)).1
       ∙ last_inits p e (size x - 1) made last
   its_inits e t v delayed (word_alias a) number = absurd (both_ways (is_delayed p e) a.pass delayed)
-  its_inits e t v delayed (read_alias a r) number = absurd (both_ways (is_delayed p e) (or_parts false (is_delayed p e) a.pass).1 delayed)
+  its_inits e t v delayed (read_alias a r) number =
+      absurd (both_ways (is_delayed p e) (or_parts false (is_delayed p e) a.pass).1 delayed)

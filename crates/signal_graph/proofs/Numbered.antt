@@ -21,7 +21,8 @@ pub record IsLocal (count : ℕ) (gives : (e n : ℕ) → Words → ℤ) (Reads 
   pub test : (e d : ℕ) → Bool
   pub tests : (e d : ℕ) → (test e d ≡ true → Reads e d 0) × (Reads e d 0 → test e d ≡ true)
 
-module _ (count samples : ℕ) (inits : ℕ → List (ℕ × ℤ)) (gives : (e n : ℕ) → Words → ℤ) (Reads : (e d ago : ℕ) → Type 0) (is : IsLocal count gives Reads) where
+module _ (count samples : ℕ) (inits : ℕ → List (ℕ × ℤ)) (gives : (e n : ℕ) → Words → ℤ) (Reads : (e d ago : ℕ) → Type 0)
+    (is : IsLocal count gives Reads) where
   abbrev system : System ℕ ℤ
   system = numbered count samples inits gives Reads
 

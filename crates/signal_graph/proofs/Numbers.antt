@@ -34,10 +34,13 @@ module _ (p : Program) where
   makes s (operation o fmt operands) h = refl
 
   itself : (s : Site) → is_place s (Some s) ≡ true
-  itself s = and_from (s.element == s.element) (s.place == s.place) (eq-eqb s.element s.element refl) (eq-eqb s.place s.place refl)
+  itself s =
+      and_from (s.element == s.element) (s.place == s.place) (eq-eqb s.element s.element refl)
+      (eq-eqb s.place s.place refl)
 
   -- the first place of a word makes its node
-  first_makes : (m : ℤ) (s : Site) (made : Made) → made ≡ constant m → find (is_target (word_node m)) (sites p) ≡ Some s → is_made_at p s made ≡ true
+  first_makes : (m : ℤ) (s : Site) (made : Made) → made ≡ constant m → find (is_target (word_node m)) (sites p) ≡ Some s
+      → is_made_at p s made ≡ true
   first_makes m s made is first =
       subst (λ (x : Made). is_made_at p s x ≡ true) (sym is)
       (ap (λ (o : Option Site). is_place s o) first ∙ itself s)
@@ -48,10 +51,13 @@ module _ (p : Program) where
 
   -- the number is below that of the first output
   pub number_below : (t : Target) (v : ℕ) → IsNumber p t v → v < length (node_sites p)
-  number_below t v h = let (s, there, is) = at_position (is_target t) (node_sites p) v no_site h in slice_get_within (node_sites p) v s there
+  number_below t v h =
+      let (s, there, is) = at_position (is_target t) (node_sites p) v no_site h in slice_get_within (node_sites p) v s
+      there
 
   -- node v is made at place k of element e
-  pub place_node : (e k v : ℕ) (made : Made) → IsNumber p (node_at e k) v → slice_get (made_of p e) k ≡ Some made → slice_get (node_sites p) v ≡ Some (site e k made)
+  pub place_node : (e k v : ℕ) (made : Made) → IsNumber p (node_at e k) v → slice_get (made_of p e) k ≡ Some made
+      → slice_get (node_sites p) v ≡ Some (site e k made)
   place_node e k v made h there =
       let (s, at, is) = at_position (is_target (node_at e k)) (node_sites p) v no_site h in
       let parts = and_parts (s.element == e) (s.place == k) is in
@@ -67,12 +73,14 @@ module _ (p : Program) where
       ∙ ap (λ (x : Made). Some (site e k x)) (same_Some s.made made (sym here ∙ there))
 
   -- node v is made for the word
-  pub word_at : (m : ℤ) (v : ℕ) → IsNumber p (word_node m) v → (s : Site) × (slice_get (node_sites p) v ≡ Some s) × (s.made ≡ constant m)
+  pub word_at : (m : ℤ) (v : ℕ) → IsNumber p (word_node m) v
+      → (s : Site) × (slice_get (node_sites p) v ≡ Some s) × (s.made ≡ constant m)
   word_at m v h =
       let (s, at, is) = at_position (is_target (word_node m)) (node_sites p) v no_site h in
       (s, at, constant_yes m s.made is)
 
-  pub has_place_number : (e k : ℕ) (made : Made) → e < length p.elems → slice_get (made_of p e) k ≡ Some made → MakesNode made → (v : ℕ) × IsNumber p (node_at e k) v
+  pub has_place_number : (e k : ℕ) (made : Made) → e < length p.elems → slice_get (made_of p e) k ≡ Some made
+      → MakesNode made → (v : ℕ) × IsNumber p (node_at e k) v
   has_place_number e k made el there is =
       let s = site e k made in
       has_position (is_target (node_at e k)) (node_sites p) s
@@ -81,10 +89,13 @@ module _ (p : Program) where
       (makes s made is))
       (itself s)
 
-  pub has_word_number : (e k : ℕ) (m : ℤ) → e < length p.elems → slice_get (made_of p e) k ≡ Some (constant m) → (v : ℕ) × IsNumber p (word_node m) v
+  pub has_word_number : (e k : ℕ) (m : ℤ) → e < length p.elems → slice_get (made_of p e) k ≡ Some (constant m)
+      → (v : ℕ) × IsNumber p (word_node m) v
   has_word_number e k m el there =
       let test = is_target (word_node m) in
-      let (s, found) = finds test (sites p) (site e k (constant m)) (place_in p (site e k (constant m)) (record { element = el; made = there })) ((Decides-int_eq m m).1 refl) in
+      let (s, found) =
+      finds test (sites p) (site e k (constant m))
+      (place_in p (site e k (constant m)) (record { element = el; made = there })) ((Decides-int_eq m m).1 refl) in
       has_position test (node_sites p) s
       (in_filter (λ (t : Site). is_made_at p t t.made) (sites p) s found.member
       (first_makes m s s.made (constant_yes m s.made found.passes) found.first))

@@ -41,16 +41,23 @@ module _ (p : Program) where
       subst (λ (c : Body). ByBody e c t) (sym h ∙ is) (subst (λ (z : Bool). ByValue e x z t) (sym pass) refl)
   by_body e t b (own_node h) is = subst (λ (c : Body). ByBody e c t) (sym h ∙ is) refl
   by_body e t b (word_alias {m = m} a) is =
-      subst (λ (c : Body). ByBody e c t) (sym a.body ∙ is) (subst (λ (z : Bool). ByValue e (raw m) z t) (sym a.pass) refl)
+      subst (λ (c : Body). ByBody e c t) (sym a.body ∙ is)
+      (subst (λ (z : Bool). ByValue e (raw m) z t) (sym a.pass) refl)
   by_body e t b (read_alias {d = d} a q) is =
-      subst (λ (c : Body). ByBody e c t) (sym a.body ∙ is) (subst (λ (z : Bool). ByValue e (read d 0) z t) (sym a.pass) q)
+      subst (λ (c : Body). ByBody e c t) (sym a.body ∙ is)
+      (subst (λ (z : Bool). ByValue e (read d 0) z t) (sym a.pass) q)
 
   pub node_once : (e : ℕ) (t u : Target) → IsNodeOf p e t → IsNodeOf p e u → t ≡ u
   node_once e t u (input_node {j = j} h) q = sym (by_body e u (word j) q h)
-  node_once e t u (pass_node {x = x} h pass) q = sym (subst (λ (z : Bool). ByValue e x z u) pass (by_body e u (value x) q h))
-  node_once e t u (own_node {o = o} {fmt = fmt} {parts = parts} h) q = sym (by_body e u (value (calculation o fmt parts)) q h)
-  node_once e t u (word_alias {m = m} a) q = sym (subst (λ (z : Bool). ByValue e (raw m) z u) a.pass (by_body e u (value (raw m)) q a.body))
-  node_once e t u (read_alias {d = d} a r) q = node_once d t u r (subst (λ (z : Bool). ByValue e (read d 0) z u) a.pass (by_body e u (value (read d 0)) q a.body))
+  node_once e t u (pass_node {x = x} h pass) q =
+      sym (subst (λ (z : Bool). ByValue e x z u) pass (by_body e u (value x) q h))
+  node_once e t u (own_node {o = o} {fmt = fmt} {parts = parts} h) q =
+      sym (by_body e u (value (calculation o fmt parts)) q h)
+  node_once e t u (word_alias {m = m} a) q =
+      sym (subst (λ (z : Bool). ByValue e (raw m) z u) a.pass (by_body e u (value (raw m)) q a.body))
+  node_once e t u (read_alias {d = d} a r) q =
+      node_once d t u r
+      (subst (λ (z : Bool). ByValue e (read d 0) z u) a.pass (by_body e u (value (read d 0)) q a.body))
 
   pub number_once : (t : Target) (v w : ℕ) → IsNumber p t v → IsNumber p t w → v ≡ w
   number_once t v w = some_once (position _ (node_sites p)) v w
@@ -62,7 +69,8 @@ module _ (p : Program) where
       let same = node_once d t u r q in
       same_edge a b (number_once u a.node b.node (subst (λ (z : Target). IsNumber p z a.node) same v) w) (k ∙ sym l)
 
-  edges_once : (e : ℕ) (os : List Operand) (xs ys : List Edge) → AllZip (IsEdgeTo p e) os xs → AllZip (IsEdgeTo p e) os ys → xs ≡ ys
+  edges_once : (e : ℕ) (os : List Operand) (xs ys : List Edge) → AllZip (IsEdgeTo p e) os xs
+      → AllZip (IsEdgeTo p e) os ys → xs ≡ ys
   edges_once e [] [] [] h k = refl
   edges_once e [] (x ∷ xs) ys h k = absurd h
   edges_once e [] [] (y ∷ ys) h k = absurd k
@@ -94,10 +102,12 @@ module _ (p : Program) where
   made_once s nothing a b x y = absurd x
   made_once s (constant m) a b x y = x.1 ∙ ap (constant_of m) (width_once m a.width b.width x.0 y.0) ∙ sym y.1
   made_once s (input j) a b x y = x ∙ sym y
-  made_once s (operation o fmt os) a b x y = x.1 ∙ ap (operation_of s o fmt) (edges_once s.element os a.edges b.edges x.0 y.0) ∙ sym y.1
+  made_once s (operation o fmt os) a b x y =
+      x.1 ∙ ap (operation_of s o fmt) (edges_once s.element os a.edges b.edges x.0 y.0) ∙ sym y.1
 
   abbrev output_of : ℕ → Edge → ℕ → Node
-  output_of j edge w = record { op = op.Output; fmt = plain 0; arg = pos j; edges = edge ∷ []; inits = []; width = w; ram = 0 }
+  output_of j edge w =
+      record { op = op.Output; fmt = plain 0; arg = pos j; edges = edge ∷ []; inits = []; width = w; ram = 0 }
 
   module _ (g h : Graph) (is_g : IsGraphOf p g) (is_h : IsGraphOf p h) where
     made_same : (v : ℕ) → v < length (node_sites p) → node_of g v ≡ node_of h v
@@ -116,9 +126,13 @@ module _ (p : Program) where
         let same = edge_once e (element e 0) x y to_x to_y in
         let width = ap (λ (n : Node). n.width) (made_same x.node (number_below e (element e 0) x to_x)) in
         let width_y = ap (λ (z : Edge). (node_of h z.node).width) same in
-        is_a ∙ ap (output_of j x) (width ∙ width_y) ∙ ap (λ (z : Edge). output_of j z (node_of h y.node).width) same ∙ sym is_b
+        is_a
+        ∙ ap (output_of j x) (width ∙ width_y)
+        ∙ ap (λ (z : Edge). output_of j z (node_of h y.node).width) same
+        ∙ sym is_b
 
-    outputs_same : (j : ℕ) → j < length p.outs → node_of g (length (node_sites p) + j) ≡ node_of h (length (node_sites p) + j)
+    outputs_same : (j : ℕ) → j < length p.outs
+        → node_of g (length (node_sites p) + j) ≡ node_of h (length (node_sites p) + j)
     outputs_same j lt =
         let e = slice_index_or p.outs j 0 in
         let there = slice_get-get_or p.outs j 0 lt in

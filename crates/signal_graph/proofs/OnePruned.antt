@@ -29,26 +29,33 @@ above x v xs rise (k, lt, h) = subst (λ (i : ℕ). x < i) h (rise 0 (suc k) v (
 rest_rises : (x : ℕ) (xs : List ℕ) → Rises (x ∷ xs) → Rises xs
 rest_rises x xs rise i j d lt inside = rise (suc i) (suc j) d (omega arith) (omega arith)
 
-same_first : (x y : ℕ) (xs ys : List ℕ) → Rises (x ∷ xs) → Rises (y ∷ ys) → (x ≡ y) ⊎ Contains xs y → (y ≡ x) ⊎ Contains ys x → x ≡ y
+same_first : (x y : ℕ) (xs ys : List ℕ) → Rises (x ∷ xs) → Rises (y ∷ ys) → (x ≡ y) ⊎ Contains xs y
+    → (y ≡ x) ⊎ Contains ys x → x ≡ y
 same_first x y xs ys r s (inl h) k = h
 same_first x y xs ys r s (inr h) (inl k) = sym k
 same_first x y xs ys r s (inr h) (inr k) = absurd (omega (arith, above x y xs r h, above y x ys s k))
 
 -- what is later in the one list is later in the other
-moved : (x y : ℕ) (xs ys : List ℕ) → Rises (x ∷ xs) → x ≡ y → ((v : ℕ) → Contains (x ∷ xs) v → Contains (y ∷ ys) v) → (v : ℕ) → Contains xs v → Contains ys v
+moved : (x y : ℕ) (xs ys : List ℕ) → Rises (x ∷ xs) → x ≡ y → ((v : ℕ) → Contains (x ∷ xs) v → Contains (y ∷ ys) v)
+    → (v : ℕ) → Contains xs v → Contains ys v
 moved x y xs ys r same to v h = by (first_or_later y v ys (to v (later x v xs h)))
   where
     by : (y ≡ v) ⊎ Contains ys v → Contains ys v
     by (inl e) = absurd (omega (arith, above x v xs r h))
     by (inr k) = k
 
-same_rising : (xs ys : List ℕ) → Rises xs → Rises ys → ((v : ℕ) → Contains xs v → Contains ys v) → ((v : ℕ) → Contains ys v → Contains xs v) → xs ≡ ys
+same_rising : (xs ys : List ℕ) → Rises xs → Rises ys → ((v : ℕ) → Contains xs v → Contains ys v)
+    → ((v : ℕ) → Contains ys v → Contains xs v) → xs ≡ ys
 same_rising [] [] r s to from = refl
 same_rising [] (y ∷ ys) r s to from = absurd (let h = from y (first y ys) in let lt = h.1 in omega arith)
 same_rising (x ∷ xs) [] r s to from = absurd (let h = to x (first x xs) in let lt = h.1 in omega arith)
 same_rising (x ∷ xs) (y ∷ ys) r s to from =
-    let same = same_first x y xs ys r s (first_or_later x y xs (from y (first y ys))) (first_or_later y x ys (to x (first x xs))) in
-    let rest = same_rising xs ys (rest_rises x xs r) (rest_rises y ys s) (moved x y xs ys r same to) (moved y x ys xs s (sym same) from) in
+    let same =
+    same_first x y xs ys r s (first_or_later x y xs (from y (first y ys)))
+    (first_or_later y x ys (to x (first x xs))) in
+    let rest =
+    same_rising xs ys (rest_rises x xs r) (rest_rises y ys s) (moved x y xs ys r same to)
+    (moved y x ys xs s (sym same) from) in
     ap (λ (i : ℕ). i ∷ xs) same ∙ ap (λ (is : List ℕ). y ∷ is) rest
 
 pub kept_once : (g : Graph) (xs ys : List ℕ) → AreUsed g xs → AreUsed g ys → xs ≡ ys
@@ -60,7 +67,8 @@ edge_once : (kept : List ℕ) (a b old : Edge) → IsEdgeOf kept a old → IsEdg
 edge_once kept a b old x y = same_edge a b (some_once _ a.node b.node x.node y.node) (x.delay ∙ sym y.delay)
 
 -- a list that is related to another one, place by place, where each element is determined
-zip_once : {A B : Type 0} (R : A → B → Type 0) → ((a b : A) (old : B) → R a old → R b old → a ≡ b) → (xs ys : List A) (olds : List B) → AllZip R xs olds → AllZip R ys olds → xs ≡ ys
+zip_once : {A B : Type 0} (R : A → B → Type 0) → ((a b : A) (old : B) → R a old → R b old → a ≡ b)
+    → (xs ys : List A) (olds : List B) → AllZip R xs olds → AllZip R ys olds → xs ≡ ys
 zip_once R once [] [] olds h k = refl
 zip_once R once [] (y ∷ ys) [] h k = absurd k
 zip_once R once [] (y ∷ ys) (o ∷ os) h k = absurd h
@@ -71,7 +79,10 @@ zip_once {A} R once (x ∷ xs) (y ∷ ys) (o ∷ os) h k =
 
 node_once : (kept : List ℕ) (a b old : Node) → IsRenumbered kept a old → IsRenumbered kept b old → a ≡ b
 node_once kept a b old x y =
-    x.node ∙ ap (λ (edges : List Edge). record old { edges = edges }) (zip_once (IsEdgeOf kept) (edge_once kept) a.edges b.edges old.edges x.edges y.edges) ∙ sym y.node
+    x.node
+    ∙ ap (λ (edges : List Edge). record old { edges = edges })
+    (zip_once (IsEdgeOf kept) (edge_once kept) a.edges b.edges old.edges x.edges y.edges)
+    ∙ sym y.node
 
 pub one_pruned : (g a b : Graph) → IsPruned g a → IsPruned g b → a ≡ b
 one_pruned g a b x y =

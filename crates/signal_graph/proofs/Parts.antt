@@ -13,19 +13,29 @@ mutual
   length_made k (raw m) = omega arith
   length_made k (read e ago) = omega arith
   length_made k (calculation o fmt parts) =
-      omega (arith, length-append (made_by_parts k parts) (operation o fmt (operands_from k parts) ∷ []), length_made_parts k parts)
+      omega (
+        arith,
+        length-append (made_by_parts k parts) (operation o fmt (operands_from k parts) ∷ []),
+        length_made_parts k parts,
+      )
 
   pub length_made_parts : (k : ℕ) (parts : Parts) → length (made_by_parts k parts) ≡ size_of_parts parts
   length_made_parts k no_part = omega arith
   length_made_parts k (part x rest) =
-      omega (arith, length-append (made_by k x) (made_by_parts (k + size x) rest), length_made k x, length_made_parts (k + size x) rest)
+      omega (
+        arith,
+        length-append (made_by k x) (made_by_parts (k + size x) rest),
+        length_made k x,
+        length_made_parts (k + size x) rest,
+      )
 
 pub at_left : (xs ys : List Made) (i : ℕ) (m : Made) → slice_get xs i ≡ Some m → slice_get (xs ++ ys) i ≡ Some m
 at_left [] ys i m h = absurd (none-some m h)
 at_left (x ∷ xs) ys zero m h = h
 at_left (x ∷ xs) ys (suc i) m h = at_left xs ys i m h
 
-pub at_right : (xs ys : List Made) (i : ℕ) (m : Made) → slice_get ys i ≡ Some m → slice_get (xs ++ ys) (length xs + i) ≡ Some m
+pub at_right : (xs ys : List Made) (i : ℕ) (m : Made) → slice_get ys i ≡ Some m
+    → slice_get (xs ++ ys) (length xs + i) ≡ Some m
 at_right [] ys i m h = let back : 0 + i ≡ i = omega arith in rw back h
 at_right (x ∷ xs) ys i m h =
     let back : suc (length xs) + i ≡ suc (length xs + i) = omega arith in
@@ -38,7 +48,8 @@ Stands whole k ms = (i : ℕ) (m : Made) → slice_get ms i ≡ Some m → slice
 pub stands_left : (whole : List Made) (k : ℕ) (xs ys : List Made) → Stands whole k (xs ++ ys) → Stands whole k xs
 stands_left whole k xs ys h i m at = h i m (at_left xs ys i m at)
 
-pub stands_right : (whole : List Made) (k : ℕ) (xs ys : List Made) (n : ℕ) → length xs ≡ n → Stands whole k (xs ++ ys) → Stands whole (k + n) ys
+pub stands_right : (whole : List Made) (k : ℕ) (xs ys : List Made) (n : ℕ) → length xs ≡ n → Stands whole k (xs ++ ys)
+    → Stands whole (k + n) ys
 stands_right whole k xs ys n count h i m at =
     let place : k + (length xs + i) ≡ k + n + i = omega arith in
     subst (λ (j : ℕ). slice_get whole j ≡ Some m) place (h (length xs + i) m (at_right xs ys i m at))
@@ -49,7 +60,9 @@ stands_first whole k m h =
     subst (λ (j : ℕ). slice_get whole j ≡ Some m) place (h 0 m refl)
 
 -- the calculation stands behind its parts
-pub calculation_stands : (whole : List Made) (k : ℕ) (o : Op) (fmt : Format) (parts : Parts) → Stands whole k (made_by k (calculation o fmt parts)) → slice_get whole (k + size (calculation o fmt parts) - 1) ≡ Some (operation o fmt (operands_from k parts))
+pub calculation_stands : (whole : List Made) (k : ℕ) (o : Op) (fmt : Format) (parts : Parts)
+    → Stands whole k (made_by k (calculation o fmt parts))
+    → slice_get whole (k + size (calculation o fmt parts) - 1) ≡ Some (operation o fmt (operands_from k parts))
 calculation_stands whole k o fmt parts h =
     let last = operation o fmt (operands_from k parts) in
     let place : k + size_of_parts parts ≡ k + (1 + size_of_parts parts) - 1 = omega arith in
@@ -57,13 +70,16 @@ calculation_stands whole k o fmt parts h =
     (stands_first whole (k + size_of_parts parts) last
     (stands_right whole k (made_by_parts k parts) (last ∷ []) (size_of_parts parts) (length_made_parts k parts) h))
 
-pub parts_stand : (whole : List Made) (k : ℕ) (o : Op) (fmt : Format) (parts : Parts) → Stands whole k (made_by k (calculation o fmt parts)) → Stands whole k (made_by_parts k parts)
+pub parts_stand : (whole : List Made) (k : ℕ) (o : Op) (fmt : Format) (parts : Parts)
+    → Stands whole k (made_by k (calculation o fmt parts)) → Stands whole k (made_by_parts k parts)
 parts_stand whole k o fmt parts h =
     stands_left whole k (made_by_parts k parts) (operation o fmt (operands_from k parts) ∷ []) h
 
-pub first_stands : (whole : List Made) (k : ℕ) (x : Expr) (rest : Parts) → Stands whole k (made_by_parts k (part x rest)) → Stands whole k (made_by k x)
+pub first_stands : (whole : List Made) (k : ℕ) (x : Expr) (rest : Parts)
+    → Stands whole k (made_by_parts k (part x rest)) → Stands whole k (made_by k x)
 first_stands whole k x rest h = stands_left whole k (made_by k x) (made_by_parts (k + size x) rest) h
 
-pub rest_stands : (whole : List Made) (k : ℕ) (x : Expr) (rest : Parts) → Stands whole k (made_by_parts k (part x rest)) → Stands whole (k + size x) (made_by_parts (k + size x) rest)
+pub rest_stands : (whole : List Made) (k : ℕ) (x : Expr) (rest : Parts) → Stands whole k (made_by_parts k (part x rest))
+    → Stands whole (k + size x) (made_by_parts (k + size x) rest)
 rest_stands whole k x rest h =
     stands_right whole k (made_by k x) (made_by_parts (k + size x) rest) (size x) (length_made k x) h

@@ -16,7 +16,8 @@ site e k m = record { element = e; place = k; made = m }
 abbrev pub made_of : Program → ℕ → List Made
 made_of p e = made_by_body p e (width_of (element_of p e).ty) (element_of p e).body
 
-in_sites_from : (e k : ℕ) (ms : List Made) (i : ℕ) (m : Made) → slice_get ms i ≡ Some m → Contains (sites_from e k ms) (site e (k + i) m)
+in_sites_from : (e k : ℕ) (ms : List Made) (i : ℕ) (m : Made) → slice_get ms i ≡ Some m
+    → Contains (sites_from e k ms) (site e (k + i) m)
 in_sites_from e k [] i m h = absurd (none-some m h)
 in_sites_from e k (x ∷ xs) zero m h =
     let place : k ≡ k + 0 = omega arith in
@@ -35,9 +36,11 @@ record IsFrom (e k : ℕ) (ms : List Made) (s : Site) : Type 0 where
 
 from_sites_from : (e k : ℕ) (ms : List Made) (s : Site) → Contains (sites_from e k ms) s → IsFrom e k ms s
 from_sites_from e k [] s c = absurd (in_none s c)
-from_sites_from e k (x ∷ xs) s c = by (first_or_rest (site e k x) s (sites_from e (k + 1) xs) c) (λ i. from_sites_from e (k + 1) xs s i)
+from_sites_from e k (x ∷ xs) s c =
+    by (first_or_rest (site e k x) s (sites_from e (k + 1) xs) c) (λ i. from_sites_from e (k + 1) xs s i)
   where
-    by : (site e k x ≡ s) ⊎ Contains (sites_from e (k + 1) xs) s → (Contains (sites_from e (k + 1) xs) s → IsFrom e (k + 1) xs s) → IsFrom e k (x ∷ xs) s
+    by : (site e k x ≡ s) ⊎ Contains (sites_from e (k + 1) xs) s
+        → (Contains (sites_from e (k + 1) xs) s → IsFrom e (k + 1) xs s) → IsFrom e k (x ∷ xs) s
     by (inl h) rest =
         let place : k ≡ s.place = ap (λ (t : Site). t.place) h in
         record {
@@ -79,5 +82,6 @@ in_place p s c =
       made =
           subst (λ (n : ℕ). slice_get (made_of p n) s.place ≡ Some s.made) (sym e)
           (subst (λ (x : Element). slice_get (made_by_body p i.0 (width_of x.ty) x.body) s.place ≡ Some s.made) same
-          (subst (λ (n : ℕ). slice_get (made_by_body p i.0 (width_of i.1.ty) i.1.body) n ≡ Some s.made) place from.made));
+          (subst (λ (n : ℕ). slice_get (made_by_body p i.0 (width_of i.1.ty) i.1.body) n ≡ Some s.made) place
+          from.made));
     }

@@ -17,7 +17,8 @@ abbrev pass_node : Node
 pass_node = record { op = op.Pass; fmt = plain 8; arg = pos 0; edges = edge 0 3 ∷ []; inits = []; width = 8; ram = 0 }
 
 abbrev output_of : ℕ → Node
-output_of k = record { op = op.Output; fmt = plain 0; arg = pos 0; edges = edge k 0 ∷ []; inits = []; width = 8; ram = 0 }
+output_of k =
+    record { op = op.Output; fmt = plain 0; arg = pos 0; edges = edge k 0 ∷ []; inits = []; width = 8; ram = 0 }
 
 abbrev before : Graph
 before = record { nodes = input_node ∷ seven ∷ pass_node ∷ output_of 2 ∷ []; inputs = byte ∷ []; outs = 1 }

@@ -28,30 +28,48 @@ module _ (g pruned : Graph) (sound : IsGraph g) (loopless : IsGraphLoopless g) (
       let at = position-Some (λ w. w == u) is.kept v 0 number in
       (omega (arith, at.0, same_count g pruned sound is), eqb-true (slice_index_or is.kept v 0) u at.1)
 
-  module _ (stream : Rows) (words new_words : Words) (same : AreSame (graph_system pruned stream) new_words (kept_words is.kept words)) where
-    row_equal : (n : ℕ) → n < length stream → map (λ j. new_words (first_output pruned + j) (pos n)) (range_with_len 0 pruned.outs) ≡ map (λ j. words (first_output g + j) (pos n)) (range_with_len 0 g.outs)
+  module _ (stream : Rows) (words new_words : Words)
+      (same : AreSame (graph_system pruned stream) new_words (kept_words is.kept words)) where
+    row_equal : (n : ℕ) → n < length stream
+        → map (λ j. new_words (first_output pruned + j) (pos n)) (range_with_len 0 pruned.outs)
+        ≡ map (λ j. words (first_output g + j) (pos n)) (range_with_len 0 g.outs)
     row_equal n lt =
-        subst (λ (count : ℕ). map (λ j. new_words (first_output pruned + j) (pos n)) (range_with_len 0 count) ≡ map (λ j. words (first_output g + j) (pos n)) (range_with_len 0 g.outs)) (sym is.outs)
-        (fill_by_all (λ j. words (first_output g + j) (pos n)) (map (λ j. new_words (first_output pruned + j) (pos n)) (range_with_len 0 g.outs)) g.outs (pos 0)
+        subst
+        (λ (count : ℕ). map (λ j. new_words (first_output pruned + j) (pos n)) (range_with_len 0 count)
+        ≡ map (λ j. words (first_output g + j) (pos n)) (range_with_len 0 g.outs))
+        (sym is.outs)
+        (fill_by_all (λ j. words (first_output g + j) (pos n))
+        (map (λ j. new_words (first_output pruned + j) (pos n)) (range_with_len 0 g.outs)) g.outs (pos 0)
         (length-map-range_with_len (λ j. new_words (first_output pruned + j) (pos n)) 0 g.outs) at)
       where
-        at : (k : ℕ) → k < g.outs → slice_index_or (map (λ j. new_words (first_output pruned + j) (pos n)) (range_with_len 0 g.outs)) k (pos 0) ≡ words (first_output g + k) (pos n)
+        at : (k : ℕ) → k < g.outs
+            → slice_index_or (map (λ j. new_words (first_output pruned + j) (pos n)) (range_with_len 0 g.outs)) k
+            (pos 0)
+            ≡ words (first_output g + k) (pos n)
         at k below =
             let there = new_outputs g pruned sound is k below in
             let first = new_first g pruned sound is in
-            get_or-map-range_with_len (λ j. new_words (first_output pruned + j) (pos n)) 0 g.outs k k (pos 0) below (omega arith)
+            get_or-map-range_with_len (λ j. new_words (first_output pruned + j) (pos n)) 0 g.outs k k (pos 0) below
+            (omega arith)
             ∙ ap (λ (f : ℕ). new_words (f + k) (pos n)) first
             ∙ same.present (start g pruned sound is + k) n (omega (arith, there.0, same_count g pruned sound is)) lt
             ∙ ap (λ (v : ℕ). words v (pos n)) there.1
 
     rows_equal : (count : ℕ) → count ≤ length stream → graph_out pruned new_words count ≡ graph_out g words count
     rows_equal count le =
-        fill_by_all (λ n. map (λ j. words (first_output g + j) (pos n)) (range_with_len 0 g.outs)) (graph_out pruned new_words count) count []
-        (length-map-range_with_len (λ n. map (λ j. new_words (first_output pruned + j) (pos n)) (range_with_len 0 pruned.outs)) 0 count) at
+        fill_by_all (λ n. map (λ j. words (first_output g + j) (pos n)) (range_with_len 0 g.outs))
+        (graph_out pruned new_words count) count []
+        (length-map-range_with_len
+        (λ n. map (λ j. new_words (first_output pruned + j) (pos n)) (range_with_len 0 pruned.outs)) 0 count)
+        at
       where
-        at : (k : ℕ) → k < count → slice_index_or (graph_out pruned new_words count) k [] ≡ map (λ j. words (first_output g + j) (pos k)) (range_with_len 0 g.outs)
+        at : (k : ℕ) → k < count
+            → slice_index_or (graph_out pruned new_words count) k []
+            ≡ map (λ j. words (first_output g + j) (pos k)) (range_with_len 0 g.outs)
         at k below =
-            get_or-map-range_with_len (λ n. map (λ j. new_words (first_output pruned + j) (pos n)) (range_with_len 0 pruned.outs)) 0 count k k [] below (omega arith)
+            get_or-map-range_with_len
+            (λ n. map (λ j. new_words (first_output pruned + j) (pos n)) (range_with_len 0 pruned.outs)) 0 count k k []
+            below (omega arith)
             ∙ row_equal k (omega arith)
 
     equal_words : AreKeptWords g pruned stream words new_words
@@ -65,9 +83,11 @@ module _ (g pruned : Graph) (sound : IsGraph g) (loopless : IsGraphLoopless g) (
       rows = rows_equal;
     }
 
-  solutions : (stream : Rows) → KeepsSolutions (graph_system g stream) (graph_system pruned stream) (AreKeptWords g pruned stream)
+  solutions : (stream : Rows)
+      → KeepsSolutions (graph_system g stream) (graph_system pruned stream) (AreKeptWords g pruned stream)
   solutions stream =
-      let once = graph_once pruned (pruned_is_sound g pruned sound is) stream (pruned_is_loopless g pruned sound is loopless) in
+      let once =
+      graph_once pruned (pruned_is_sound g pruned sound is) stream (pruned_is_loopless g pruned sound is loopless) in
       record {
         forth = λ words solves.
             let new_words = kept_words is.kept words in

@@ -24,8 +24,10 @@ use Rattle.signal_graph.proofs.Values.{edges_allowed}
 use Rattle.signal_graph.proofs.PrunedSolves.{same_count, renumbered, inside}
 use Rattle.signal_graph.proofs.Rising.{Rises, few, in_order, last_ones, before_first}
 
-argument_sound : (g h : Graph) (class : Class) (arg : ℤ) → h.inputs ≡ g.inputs → h.outs ≡ g.outs → IsArgument g class arg → IsArgument h class arg
-argument_sound g h input arg inputs outs is = subst (λ (types : List SigType). IsBelow (length types) arg) (sym inputs) is
+argument_sound : (g h : Graph) (class : Class) (arg : ℤ) → h.inputs ≡ g.inputs → h.outs ≡ g.outs
+    → IsArgument g class arg → IsArgument h class arg
+argument_sound g h input arg inputs outs is =
+    subst (λ (types : List SigType). IsBelow (length types) arg) (sym inputs) is
 argument_sound g h output arg inputs outs is = subst (λ (n : ℕ). IsBelow n arg) (sym outs) is
 argument_sound g h constant arg inputs outs is = is
 argument_sound g h _ arg inputs outs is = is
@@ -34,16 +36,21 @@ module _ (g : Graph) (sound : IsGraph g) where
   output_at : (j : ℕ) → j < g.outs → IsOutput j (node_of g (first_output g + j))
   output_at j lt = by (slice_get g.nodes (first_output g + j)) refl (sound.outputs j lt)
     where
-      by : (o : Option Node) → slice_get g.nodes (first_output g + j) ≡ o → IsSomeAnd o (IsOutput j) → IsOutput j (node_of g (first_output g + j))
+      by : (o : Option Node) → slice_get g.nodes (first_output g + j) ≡ o → IsSomeAnd o (IsOutput j)
+          → IsOutput j (node_of g (first_output g + j))
       by None h is = absurd is
       by (Some node) h is =
-          subst (λ (x : Node). IsOutput j x) (sym (get_or_from_slice_get g.nodes (first_output g + j) node no_node h)) is
+          subst (λ (x : Node). IsOutput j x) (sym (get_or_from_slice_get g.nodes (first_output g + j) node no_node h))
+          is
 
   -- the outputs are there
   outputs_fit : first_output g + g.outs ≡ length g.nodes
-  outputs_fit = by (slice_get g.nodes (first_output g + (g.outs - 1))) refl (sound.outputs (g.outs - 1) (omega (arith, sound.out_count.0)))
+  outputs_fit =
+      by (slice_get g.nodes (first_output g + (g.outs - 1))) refl
+      (sound.outputs (g.outs - 1) (omega (arith, sound.out_count.0)))
     where
-      by : (o : Option Node) → slice_get g.nodes (first_output g + (g.outs - 1)) ≡ o → IsSomeAnd o (IsOutput (g.outs - 1)) → first_output g + g.outs ≡ length g.nodes
+      by : (o : Option Node) → slice_get g.nodes (first_output g + (g.outs - 1)) ≡ o
+          → IsSomeAnd o (IsOutput (g.outs - 1)) → first_output g + g.outs ≡ length g.nodes
       by None h is = absurd is
       by (Some node) h is =
           omega (arith, sound.out_count.0, slice_get_within g.nodes (first_output g + (g.outs - 1)) node h)
@@ -73,7 +80,8 @@ module _ (g pruned : Graph) (sound : IsGraph g) (is : IsPruned g pruned) where
   outputs_kept v above lt =
       let j = v - first_output g in
       let back : first_output g + j ≡ v = omega arith in
-      let node = subst (λ (i : ℕ). IsOutput j (node_of g i)) back (output_at g sound j (omega (arith, outputs_fit g sound))) in
+      let node =
+      subst (λ (i : ℕ). IsOutput j (node_of g i)) back (output_at g sound j (omega (arith, outputs_fit g sound))) in
       (is.used.used v).1 (output_used lt node.op)
 
   some_output : first_output g < length g.nodes
@@ -91,21 +99,26 @@ module _ (g pruned : Graph) (sound : IsGraph g) (is : IsPruned g pruned) where
 
   pub new_outputs : (j : ℕ) → j < g.outs → (start + j < length is.kept) × (old (start + j) ≡ first_output g + j)
   new_outputs j lt =
-      in_order is.kept rises (first_output g) (length g.nodes) start some_output first_kept.1 start_is outputs_kept old_inside j
+      in_order is.kept rises (first_output g) (length g.nodes) start some_output first_kept.1 start_is outputs_kept
+      old_inside j
       (omega (arith, outputs_fit g sound))
 
   pub new_first : first_output pruned ≡ start
   new_first =
-      let last = last_ones is.kept rises (first_output g) (length g.nodes) start some_output first_kept.1 start_is outputs_kept old_inside in
+      let last =
+      last_ones is.kept rises (first_output g) (length g.nodes) start some_output first_kept.1 start_is outputs_kept
+      old_inside in
       omega (arith, last, outputs_fit g sound, same_count g pruned sound is, is.outs)
 
   node_op : (v : ℕ) → v < length is.kept → (node_of pruned v).op ≡ (node_of g (old v)).op
   node_op v lt = ap (λ (node : Node). node.op) (old_node v lt).node
 
-  some_node : (v : ℕ) (P : Node → Type 0) → v < length pruned.nodes → P (node_of pruned v) → IsSomeAnd (slice_get pruned.nodes v) P
+  some_node : (v : ℕ) (P : Node → Type 0) → v < length pruned.nodes → P (node_of pruned v)
+      → IsSomeAnd (slice_get pruned.nodes v) P
   some_node v P lt h = subst (λ (o : Option Node). IsSomeAnd o P) (sym (slice_get-get_or pruned.nodes v no_node lt)) h
 
-  edge_target : (v : ℕ) → (o : Option Node) → slice_get g.nodes v ≡ o → IsSomeAnd o (λ (node : Node). node.op ≢ op.Output) → (node_of g v).op ≢ op.Output
+  edge_target : (v : ℕ) → (o : Option Node) → slice_get g.nodes v ≡ o
+      → IsSomeAnd o (λ (node : Node). node.op ≢ op.Output) → (node_of g v).op ≢ op.Output
   edge_target v None h there = absurd there
   edge_target v (Some node) h there =
       subst (λ (x : Node). x.op ≢ op.Output) (sym (get_or_from_slice_get g.nodes v node no_node h)) there
@@ -117,12 +130,14 @@ module _ (g pruned : Graph) (sound : IsGraph g) (is : IsPruned g pruned) where
       let source = edge_target edge.node (slice_get g.nodes edge.node) refl fits.node in
       record {
         node =
-            some_node new.node (λ (node : Node). node.op ≢ op.Output) (omega (arith, at.0, same_count g pruned sound is))
+            some_node new.node (λ (node : Node). node.op ≢ op.Output)
+            (omega (arith, at.0, same_count g pruned sound is))
             (λ h. source (ap (λ (i : ℕ). (node_of g i).op) (sym its) ∙ sym (node_op new.node at.0) ∙ h));
         delay = subst (λ (ago : ℕ). ago ≤ max_delay) (sym same.delay) fits.delay;
       }
 
-  edges_sound : (new edges : List Edge) → AllZip (IsEdgeOf is.kept) new edges → All (IsEdge g) edges → All (IsEdge pruned) new
+  edges_sound : (new edges : List Edge) → AllZip (IsEdgeOf is.kept) new edges → All (IsEdge g) edges
+      → All (IsEdge pruned) new
   edges_sound [] [] all fits = All-nil (IsEdge pruned)
   edges_sound [] (e ∷ es) all fits = absurd all
   edges_sound (n ∷ ns) [] all fits = absurd all
@@ -151,7 +166,8 @@ module _ (g pruned : Graph) (sound : IsGraph g) (is : IsPruned g pruned) where
   all_nodes : (v : ℕ) → v < length pruned.nodes → IsNode pruned (node_of pruned v)
   all_nodes v lt =
       let kept : v < length is.kept = omega (arith, same_count g pruned sound is) in
-      node_sound (node_of pruned v) (node_of g (old v)) (old_node v kept) (sound.nodes (old v) no_node (old_inside v kept))
+      node_sound (node_of pruned v) (node_of g (old v)) (old_node v kept)
+      (sound.nodes (old v) no_node (old_inside v kept))
 
   output_is : (j : ℕ) → j < g.outs → IsOutput j (node_of pruned (start + j))
   output_is j lt =
@@ -166,7 +182,8 @@ module _ (g pruned : Graph) (sound : IsGraph g) (is : IsPruned g pruned) where
   outputs_are j lt =
       let below : j < g.outs = omega (arith, is.outs) in
       subst (λ (i : ℕ). IsSomeAnd (slice_get pruned.nodes (i + j)) (IsOutput j)) (sym new_first)
-      (some_node (start + j) (IsOutput j) (omega (arith, (new_outputs j below).0, same_count g pruned sound is)) (output_is j below))
+      (some_node (start + j) (IsOutput j) (omega (arith, (new_outputs j below).0, same_count g pruned sound is))
+      (output_is j below))
 
   others_are : All (λ (node : Node). node.op ≢ op.Output) (take (first_output pruned) pruned.nodes)
   others_are k d lt =
@@ -176,7 +193,9 @@ module _ (g pruned : Graph) (sound : IsGraph g) (is : IsPruned g pruned) where
       let kept : k < length is.kept = omega (arith, same_count g pruned sound is) in
       let same : slice_index_or (take (first_output pruned) pruned.nodes) k d ≡ node_of pruned k =
       get_or-take (first_output pruned) pruned.nodes k d below ∙ get_or_default pruned.nodes k d no_node there in
-      let less = before_first is.kept rises (first_output g) (length g.nodes) start some_output first_kept.1 start_is outputs_kept old_inside k (omega (arith, new_first)) in
+      let less =
+      before_first is.kept rises (first_output g) (length g.nodes) start some_output first_kept.1 start_is outputs_kept
+      old_inside k (omega (arith, new_first)) in
       subst (λ (node : Node). node.op ≢ op.Output) (sym same)
       (λ h. other_op g sound (old k) less (sym (node_op k kept) ∙ h))
 
@@ -185,13 +204,15 @@ module _ (g pruned : Graph) (sound : IsGraph g) (is : IsPruned g pruned) where
     input_count = subst (λ (inputs : List SigType). IsWithin 1 16 (length inputs)) (sym is.inputs) sound.input_count;
     inputs = subst (λ (inputs : List SigType). All IsType inputs) (sym is.inputs) sound.inputs;
     out_count = subst (λ (n : ℕ). IsWithin 1 16 n) (sym is.outs) sound.out_count;
-    node_count = omega (arith, same_count g pruned sound is, few is.kept rises (length g.nodes) old_inside, sound.node_count);
+    node_count =
+        omega (arith, same_count g pruned sound is, few is.kept rises (length g.nodes) old_inside, sound.node_count);
     nodes = All-from_get_or (IsNode pruned) pruned.nodes no_node all_nodes;
     outputs = outputs_are;
     others = others_are;
   }
 
-  old_edge : (new edges : List Edge) (u ago : ℕ) → AllZip (IsEdgeOf is.kept) new edges → EdgesRead new u ago → EdgesRead edges (old u) ago
+  old_edge : (new edges : List Edge) (u ago : ℕ) → AllZip (IsEdgeOf is.kept) new edges → EdgesRead new u ago
+      → EdgesRead edges (old u) ago
   old_edge [] edges u ago all r = absurd r
   old_edge (n ∷ ns) [] u ago all r = absurd all
   old_edge (n ∷ ns) (e ∷ es) u ago all (inl r) =
@@ -204,7 +225,8 @@ module _ (g pruned : Graph) (sound : IsGraph g) (is : IsPruned g pruned) where
       old_edge (node_of pruned v).edges (node_of g (old v)).edges u ago
       (old_node v (omega (arith, same_count g pruned sound is))).edges r
 
-  path_kept : (v u : ℕ) → v < length pruned.nodes → DependsNow (HasEdge pruned) v u → DependsNow (HasEdge g) (old v) (old u)
+  path_kept : (v u : ℕ) → v < length pruned.nodes → DependsNow (HasEdge pruned) v u
+      → DependsNow (HasEdge g) (old v) (old u)
   path_kept v u lt (direct r) = direct (edge_kept v u 0 lt r)
   path_kept v u lt (by_way_of w r path) =
       let there = (edges_allowed pruned (node_of pruned v).edges w 0 (all_nodes v lt).edges r).node in

@@ -52,19 +52,25 @@ module _ (xs : List ℕ) (rises : Rises xs) where
       by (inr (inr more)) = absurd (omega arith)
 
   -- all numbers from first up to n are in the list, the first at this place, and none is above
-  module _ (first n start : ℕ) (some : first < n) (there : start < length xs) (at : slice_index_or xs start 0 ≡ first) (all : (v : ℕ) → first ≤ v → v < n → Contains xs v) (below : (k : ℕ) → k < length xs → slice_index_or xs k 0 < n) where
+  module _ (first n start : ℕ) (some : first < n) (there : start < length xs) (at : slice_index_or xs start 0 ≡ first)
+      (all : (v : ℕ) → first ≤ v → v < n → Contains xs v)
+      (below : (k : ℕ) → k < length xs → slice_index_or xs k 0 < n) where
     pub in_order : (j : ℕ) → first + j < n → (start + j < length xs) × (slice_index_or xs (start + j) 0 ≡ first + j)
     in_order zero lt =
+        let place : first ≡ first + 0 = omega arith in
         let same : start ≡ start + 0 = omega arith in
-        (omega arith, subst (λ (k : ℕ). slice_index_or xs k 0 ≡ first + 0) same (let e : first ≡ first + 0 = omega arith in at ∙ e))
+        (omega arith, subst (λ (k : ℕ). slice_index_or xs k 0 ≡ first + 0) same (at ∙ place))
     in_order (suc j) lt = next (in_order j (omega arith)) (all (first + suc j) (omega arith) lt)
       where
-        next : (start + j < length xs) × (slice_index_or xs (start + j) 0 ≡ first + j) → Contains xs (first + suc j) → (start + suc j < length xs) × (slice_index_or xs (start + suc j) 0 ≡ first + suc j)
+        next : (start + j < length xs) × (slice_index_or xs (start + j) 0 ≡ first + j) → Contains xs (first + suc j)
+            → (start + suc j < length xs) × (slice_index_or xs (start + suc j) 0 ≡ first + suc j)
         next (inside, here) (k, lt, h) =
             let value : slice_index_or xs k 0 ≡ first + suc j = get_or_default xs k 0 (first + suc j) lt ∙ h in
             let above : start + j < k = place_above (start + j) k inside lt (omega arith) in
-            let less : slice_index_or xs (start + j) 0 < slice_index_or xs (start + suc j) 0 = rises (start + j) (start + suc j) 0 (omega arith) (omega arith) in
-            let most : slice_index_or xs (start + suc j) 0 ≤ slice_index_or xs k 0 = not_below (start + suc j) k (omega arith) lt in
+            let less : slice_index_or xs (start + j) 0 < slice_index_or xs (start + suc j) 0 =
+            rises (start + j) (start + suc j) 0 (omega arith) (omega arith) in
+            let most : slice_index_or xs (start + suc j) 0 ≤ slice_index_or xs k 0 =
+            not_below (start + suc j) k (omega arith) lt in
             (omega arith, omega arith)
 
     -- so they are the last ones
@@ -73,7 +79,9 @@ module _ (xs : List ℕ) (rises : Rises xs) where
         let last = in_order (n - first - 1) (omega arith) in
         by (cases_order (start + (n - first)) (length xs)) last.0 last.1
       where
-        by : (start + (n - first) ≡ length xs) ⊎ ((start + (n - first) < length xs) ⊎ (length xs < start + (n - first))) → start + (n - first - 1) < length xs → slice_index_or xs (start + (n - first - 1)) 0 ≡ first + (n - first - 1) → start + (n - first) ≡ length xs
+        by : (start + (n - first) ≡ length xs) ⊎ ((start + (n - first) < length xs) ⊎ (length xs < start + (n - first)))
+            → start + (n - first - 1) < length xs
+            → slice_index_or xs (start + (n - first - 1)) 0 ≡ first + (n - first - 1) → start + (n - first) ≡ length xs
         by (inl same) inside here = same
         by (inr (inl more)) inside here =
             absurd (omega (

@@ -51,7 +51,10 @@ sum_sound = record {
   body = record {
     sound = (
       record { calculation = tt {0}; parts = refl; fmt = format },
-      (record { element = omega arith; delay = omega arith }, (record { element = omega arith; delay = omega arith }, tt {0})),
+      (
+        record { element = omega arith; delay = omega arith },
+        (record { element = omega arith; delay = omega arith }, tt {0}),
+      ),
     );
     fits = refl;
   };
@@ -78,7 +81,8 @@ not_output h = cc
 input_not_output : op.Input ≢ op.Output
 input_not_output h = cc
 
-its_output : (j : ℕ) → j < its_graph.outs → IsSomeAnd (slice_get its_graph.nodes (first_output its_graph + j)) (IsOutput j)
+its_output : (j : ℕ) → j < its_graph.outs
+    → IsSomeAnd (slice_get its_graph.nodes (first_output its_graph + j)) (IsOutput j)
 its_output zero lt = record { op = refl; arg = refl }
 its_output (suc j) lt = absurd (omega arith)
 
@@ -130,7 +134,9 @@ graph_sound = record {
   inputs = one IsType byte shape;
   out_count = (omega arith, omega arith);
   node_count = omega arith;
-  nodes = All-cons (IsNode its_graph) input_node (sum_node ∷ output_node ∷ []) input_node_sound (two (IsNode its_graph) sum_node output_node sum_node_sound output_node_sound);
+  nodes =
+      All-cons (IsNode its_graph) input_node (sum_node ∷ output_node ∷ []) input_node_sound
+      (two (IsNode its_graph) sum_node output_node sum_node_sound output_node_sound);
   outputs = its_output;
   others = two (λ (node : Node). node.op ≢ op.Output) input_node sum_node input_not_output not_output;
 }
@@ -153,5 +159,6 @@ truth_fits : Fits accumulator (calculation op.Lt (plain 0) (part (read 0 0) (par
 truth_fits = refl
 
 -- a choice of the sum and a raw word that fits
-choice_fits : Fits accumulator (calculation op.Sel (plain 8) (part (raw (pos 300)) (part (read 1 0) (part (raw (pos 5)) no_part)))) 8
+choice_fits : Fits accumulator
+    (calculation op.Sel (plain 8) (part (raw (pos 300)) (part (read 1 0) (part (raw (pos 5)) no_part)))) 8
 choice_fits = (refl, (refl, (five, tt {0})))

@@ -25,8 +25,10 @@ module _ (p : Program) where
       let same = node_once p e a.target b.target a.node b.node in
       number_once p b.target v w (subst (λ (t : Target). IsNumber p t v) same a.number) b.number
 
-  module _ (e : ℕ) (el : e < length p.elems) (lower : (d : ℕ) → ElementReads p e d 0 → (v : ℕ) × IsElementNode p d v) where
-    by_value : (x : Expr) (b : Bool) → (element_of p e).body ≡ value x → has_pass p e x ≡ b → (v : ℕ) × IsElementNode p e v
+  module _ (e : ℕ) (el : e < length p.elems)
+      (lower : (d : ℕ) → ElementReads p e d 0 → (v : ℕ) × IsElementNode p d v) where
+    by_value : (x : Expr) (b : Bool) → (element_of p e).body ≡ value x → has_pass p e x ≡ b
+        → (v : ℕ) × IsElementNode p e v
     by_value x true h is =
         let (v, n) = has_place_number p e (size x) (pass (its_width p e) x) el (pass_made p e x h is) (tt {0}) in
         (v, record { target = node_at e (size x); node = pass_node h is; number = n })
@@ -47,7 +49,9 @@ module _ (p : Program) where
         )
     by_value (calculation o fmt parts) false h is =
         let k = size (calculation o fmt parts) - 1 in
-        let (v, n) = has_place_number p e k (operation o fmt (operands_from 0 parts)) el (calculation_made p e o fmt parts h) (tt {0}) in
+        let (v, n) =
+        has_place_number p e k (operation o fmt (operands_from 0 parts)) el (calculation_made p e o fmt parts h)
+        (tt {0}) in
         (v, record { target = node_at e k; node = own_node h; number = n })
 
     by_body : (b : Body) → (element_of p e).body ≡ b → (v : ℕ) × IsElementNode p e v
@@ -58,11 +62,14 @@ module _ (p : Program) where
     by_body (value x) h = by_value x (has_pass p e x) h refl
 
   module _ (sound : IsFlat p) (loopless : IsFlatLoopless p) where
-    within : (h e : ℕ) → e < length p.elems → (flat_heights p sound [] loopless).height e < h → (v : ℕ) × IsElementNode p e v
+    within : (h e : ℕ) → e < length p.elems → (flat_heights p sound [] loopless).height e < h
+        → (v : ℕ) × IsElementNode p e v
     within zero e el less = absurd (omega arith)
     within (suc h) e el less = by_body e el (lower (λ d there low. within h d there low)) (element_of p e).body refl
       where
-        lower : ((d : ℕ) → d < length p.elems → (flat_heights p sound [] loopless).height d < h → (v : ℕ) × IsElementNode p d v) → (d : ℕ) → ElementReads p e d 0 → (v : ℕ) × IsElementNode p d v
+        lower : ((d : ℕ)
+            → d < length p.elems → (flat_heights p sound [] loopless).height d < h → (v : ℕ) × IsElementNode p d v)
+            → (d : ℕ) → ElementReads p e d 0 → (v : ℕ) × IsElementNode p d v
         lower rest d r =
             let falls = (flat_heights p sound [] loopless).falls e d el r in
             rest d ((flat_determined p sound []).elements e d 0 el r) (omega arith)

@@ -35,9 +35,11 @@ mutual
 
   parts_yes : (parts : Parts) (e : ℕ) → parts_test parts e ≡ true → PartsRead parts e 0
   parts_yes no_part e h = absurd (let h' : false ≡ true = h in cc)
-  parts_yes (part x rest) e h = by (or_cases (test x e) (parts_test rest e) h) (λ k. yes_now x e k) (λ k. parts_yes rest e k)
+  parts_yes (part x rest) e h =
+      by (or_cases (test x e) (parts_test rest e) h) (λ k. yes_now x e k) (λ k. parts_yes rest e k)
     where
-      by : (test x e ≡ true) ⊎ (parts_test rest e ≡ true) → (test x e ≡ true → Reads x e 0) → (parts_test rest e ≡ true → PartsRead rest e 0) → PartsRead (part x rest) e 0
+      by : (test x e ≡ true) ⊎ (parts_test rest e ≡ true) → (test x e ≡ true → Reads x e 0)
+          → (parts_test rest e ≡ true → PartsRead rest e 0) → PartsRead (part x rest) e 0
       by (inl k) f g = inl (f k)
       by (inr k) f g = inr (g k)
 
@@ -70,13 +72,16 @@ edges_test (edge ∷ rest) v = is_now edge.node edge.delay v || edges_test rest 
 
 pub edges_yes : (edges : List Edge) (v : ℕ) → edges_test edges v ≡ true → EdgesRead edges v 0
 edges_yes [] v h = absurd (let h' : false ≡ true = h in cc)
-edges_yes (edge ∷ rest) v h = by (or_cases (is_now edge.node edge.delay v) (edges_test rest v) h) (λ k. edges_yes rest v k)
+edges_yes (edge ∷ rest) v h =
+    by (or_cases (is_now edge.node edge.delay v) (edges_test rest v) h) (λ k. edges_yes rest v k)
   where
-    by : (is_now edge.node edge.delay v ≡ true) ⊎ (edges_test rest v ≡ true) → (edges_test rest v ≡ true → EdgesRead rest v 0) → EdgesRead (edge ∷ rest) v 0
+    by : (is_now edge.node edge.delay v ≡ true) ⊎ (edges_test rest v ≡ true)
+        → (edges_test rest v ≡ true → EdgesRead rest v 0) → EdgesRead (edge ∷ rest) v 0
     by (inl k) f = inl (now_yes edge.node edge.delay v k)
     by (inr k) f = inr (f k)
 
 pub edges_no : (edges : List Edge) (v : ℕ) → EdgesRead edges v 0 → edges_test edges v ≡ true
 edges_no [] v h = absurd h
-edges_no (edge ∷ rest) v (inl h) = either (is_now edge.node edge.delay v) (edges_test rest v) (inl (now_no edge.node edge.delay v h))
+edges_no (edge ∷ rest) v (inl h) =
+    either (is_now edge.node edge.delay v) (edges_test rest v) (inl (now_no edge.node edge.delay v h))
 edges_no (edge ∷ rest) v (inr h) = either (is_now edge.node edge.delay v) (edges_test rest v) (inr (edges_no rest v h))

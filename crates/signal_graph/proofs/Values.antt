@@ -30,7 +30,8 @@ module _ (a b : Words) (n : ℕ) where
         ap (λ (v : ℤ). v ∷ values_of a n rest) (value_same x (λ e ago r. agree e ago (inl r)))
         ∙ ap (λ (vs : List ℤ). value_of b n x ∷ vs) (values_same rest (λ e ago r. agree e ago (inr r)))
 
-  pub body_same : (stream : Rows) (body : Body) → Agree a b n (BodyReads body) → body_value stream a n body ≡ body_value stream b n body
+  pub body_same : (stream : Rows) (body : Body) → Agree a b n (BodyReads body)
+      → body_value stream a n body ≡ body_value stream b n body
   body_same stream (word j) agree = refl
   body_same stream (value x) agree = value_same x agree
 
@@ -47,24 +48,30 @@ module _ (p : Program) where
     parts_allowed (part x rest) e ago are (inl r) = read_allowed x e ago are.0 r
     parts_allowed (part x rest) e ago are (inr r) = parts_allowed rest e ago are.1 r
 
-  pub body_allowed : (ty : SigType) (body : Body) (e ago : ℕ) → IsBodyOf p ty body → BodyReads body e ago → IsRead p e ago
+  pub body_allowed : (ty : SigType) (body : Body) (e ago : ℕ) → IsBodyOf p ty body → BodyReads body e ago
+      → IsRead p e ago
   body_allowed ty (word j) e ago is r = absurd r
   body_allowed ty (value x) e ago is r = read_allowed x e ago is.sound r
 
 module _ (a b : Words) (n : ℕ) where
-  pub operands_same : (edges : List Edge) → Agree a b n (EdgesRead edges) → operand_words a n edges ≡ operand_words b n edges
+  pub operands_same : (edges : List Edge) → Agree a b n (EdgesRead edges)
+      → operand_words a n edges ≡ operand_words b n edges
   operands_same [] agree = refl
   operands_same (edge ∷ rest) agree =
       ap (λ (v : ℤ). v ∷ operand_words a n rest) (agree edge.node edge.delay (inl (refl, refl)))
-      ∙ ap (λ (vs : List ℤ). b edge.node (pos n -ℤ pos edge.delay) ∷ vs) (operands_same rest (λ v ago r. agree v ago (inr r)))
+      ∙ ap (λ (vs : List ℤ). b edge.node (pos n -ℤ pos edge.delay) ∷ vs)
+      (operands_same rest (λ v ago r. agree v ago (inr r)))
 
-  given_same : (class : Class) (stream : Rows) (node : Node) → operand_words a n node.edges ≡ operand_words b n node.edges → given_by class stream a n node ≡ given_by class stream b n node
+  given_same : (class : Class) (stream : Rows) (node : Node)
+      → operand_words a n node.edges ≡ operand_words b n node.edges
+      → given_by class stream a n node ≡ given_by class stream b n node
   given_same input stream node h = refl
   given_same output stream node h = ap (λ (vs : List ℤ). operand vs 0) h
   given_same constant stream node h = refl
   given_same _ stream node h = ap (result node.op node.fmt) h
 
-  pub node_same : (stream : Rows) (node : Node) → Agree a b n (EdgesRead node.edges) → node_value stream a n node ≡ node_value stream b n node
+  pub node_same : (stream : Rows) (node : Node) → Agree a b n (EdgesRead node.edges)
+      → node_value stream a n node ≡ node_value stream b n node
   node_same stream node agree = given_same (class_of node.op) stream node (operands_same node.edges agree)
 
 -- a node of the graph, at a delay that is allowed
@@ -81,8 +88,10 @@ edge_in g edge is =
     let (x, h) = there (slice_get g.nodes edge.node) _ is.node in
     record { node = slice_get_within g.nodes edge.node x h; delay = is.delay }
 
-pub edges_allowed : (g : Graph) (edges : List Edge) (v ago : ℕ) → All (IsEdge g) edges → EdgesRead edges v ago → IsEdgeIn g v ago
+pub edges_allowed : (g : Graph) (edges : List Edge) (v ago : ℕ) → All (IsEdge g) edges → EdgesRead edges v ago
+    → IsEdgeIn g v ago
 edges_allowed g [] v ago all r = absurd r
 edges_allowed g (edge ∷ rest) v ago all (inl r) =
-    subst (λ (i : ℕ). IsEdgeIn g i ago) (sym r.0) (subst (λ (i : ℕ). IsEdgeIn g edge.node i) (sym r.1) (edge_in g edge (all 0 edge (omega arith))))
+    subst (λ (i : ℕ). IsEdgeIn g i ago) (sym r.0)
+    (subst (λ (i : ℕ). IsEdgeIn g edge.node i) (sym r.1) (edge_in g edge (all 0 edge (omega arith))))
 edges_allowed g (edge ∷ rest) v ago all (inr r) = edges_allowed g rest v ago (λ k d lt. all (suc k) d (omega arith)) r

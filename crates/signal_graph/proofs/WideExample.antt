@@ -1,5 +1,5 @@
--- Why the words of a stream are in their inputs' types. In y = x@1 the element y takes any word x, and its Pass wraps it
--- to 8 bits, so for the word 300 the solutions differ.
+-- Why the words of a stream are in their inputs' types. In y = x@1 the element y takes any word x, and its Pass wraps
+-- it to 8 bits, so for the word 300 the solutions differ.
 use Rattle.std.proofs.Common.{◌≡◌, refl, sym, subst, ap, ◌∙◌, arith, ℕ, zero, suc, ◌+◌, ◌<◌, [], ◌∷◌, length}
 use Rattle.std.specs.Prelude.{ℤ, pos, negsuc, slice_get, slice_index_or, Some}
 use Rattle.std.proofs.lemmas.Int.{ints}
@@ -21,7 +21,10 @@ use Rattle.signal_graph.proofs.GraphExamples.{some_is, no_more}
 
 abbrev late : Program
 late = record {
-  elems = record { ty = byte; body = word 0; inits = [] } ∷ record { ty = byte; body = value (read 0 1); inits = [] } ∷ [];
+  elems =
+      record { ty = byte; body = word 0; inits = [] }
+      ∷ record { ty = byte; body = value (read 0 1); inits = [] }
+      ∷ [];
   inputs = byte ∷ [];
   outs = 1 ∷ [];
 }
@@ -32,7 +35,8 @@ pass = record { op = op.Pass; fmt = plain 8; arg = pos 0; edges = edge 0 1 ∷ [
 abbrev late_graph : Graph
 late_graph = record { nodes = input ∷ pass ∷ output_node ∷ []; inputs = byte ∷ []; outs = 1 }
 
-made_here : (s t : Site) (v : ℕ) → Some s ≡ Some t → IsMade late s s.made (node_of late_graph v) → IsMade late t t.made (node_of late_graph v)
+made_here : (s t : Site) (v : ℕ) → Some s ≡ Some t → IsMade late s s.made (node_of late_graph v)
+    → IsMade late t t.made (node_of late_graph v)
 made_here s t v h = subst (λ (u : Site). IsMade late u u.made (node_of late_graph v)) (some_is s t h)
 
 late_made : (v : ℕ) (s : Site) → slice_get (node_sites late) v ≡ Some s → IsMade late s s.made (node_of late_graph v)
@@ -40,7 +44,8 @@ late_made zero s h = made_here _ s 0 h refl
 late_made (suc zero) s h = made_here _ s 1 h (((node_at 0 0, input_node refl, refl, refl), tt {0}), refl)
 late_made (suc (suc v)) s h = absurd (no_more _ s refl h)
 
-late_output : (j e : ℕ) → slice_get late.outs j ≡ Some e → IsOutputOf late late_graph j e (node_of late_graph (length (node_sites late) + j))
+late_output : (j e : ℕ) → slice_get late.outs j ≡ Some e
+    → IsOutputOf late late_graph j e (node_of late_graph (length (node_sites late) + j))
 late_output zero e h =
     subst (λ (i : ℕ). IsOutputOf late late_graph 0 i (node_of late_graph 2)) (some_is 1 e h)
     (edge 1 0, (node_at 1 1, pass_node refl refl, refl, refl), refl)
@@ -82,7 +87,8 @@ differ h = omega (arith, ints)
 y_node : IsElementNode late 1 1
 y_node = record { target = node_at 1 1; node = pass_node refl refl; number = refl }
 
-not_kept : KeepsSolutions (flat_system late wide) (graph_system late_graph wide) (AreEqualWords late late_graph wide) → ⊥
+not_kept : KeepsSolutions (flat_system late wide) (graph_system late_graph wide) (AreEqualWords late late_graph wide)
+    → ⊥
 not_kept kept =
     let (node_words, one, equal) = kept.forth words solved in
     let input_word : node_words 0 (pos 0) ≡ pos 300 = one.solves.present 0 0 (omega arith) (omega arith) in
