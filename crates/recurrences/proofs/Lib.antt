@@ -7,4 +7,5 @@ pub mod Exists
 pub mod Reach
 pub mod Heights
 pub mod OneSolution
+pub mod Kept
 mod Examples

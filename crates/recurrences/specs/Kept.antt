@@ -1,8 +1,9 @@
 -- What it is for a system to keep the solutions of another.
 use Rattle.recurrences.specs.Systems.{Signals, System, Solves, IsOneSolution}
 
--- Each solution of the first system gives the one solution of the second, and each solution of the second comes from
--- the one solution of the first, with signals that are equal in this sense.
-pub record KeepsSolutions {E F A : Type 0} (s : System E A) (t : System F A) (AreEqual : Signals E A → Signals F A → Type 0) : Type 0 where
-  pub forth : (x : Signals E A) → Solves s x → (y : Signals F A) × IsOneSolution t y × AreEqual x y
-  pub back : (y : Signals F A) → Solves t y → (x : Signals E A) × IsOneSolution s x × AreEqual x y
+module _ {E F A : Type 0} (s : System E A) (t : System F A) (AreEqual : Signals E A → Signals F A → Type 0) where
+  -- Each solution of the first system gives the one solution of the second, and each solution of the second comes from
+  -- the one solution of the first, with signals that are equal in this sense.
+  pub record KeepsSolutions : Type 0 where
+    pub forth : (x : Signals E A) → Solves s x → (y : Signals F A) × IsOneSolution t y × AreEqual x y
+    pub back : (y : Signals F A) → Solves t y → (x : Signals E A) × IsOneSolution s x × AreEqual x y
