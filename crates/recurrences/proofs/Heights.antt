@@ -18,7 +18,7 @@ bit_most : (a : Bool) → cond a 1 0 ≤ 1
 bit_most true = omega arith
 bit_most false = omega arith
 
-counted_most : (n : ℕ) (p : ℕ → Bool) → counted n p ≤ n
+pub counted_most : (n : ℕ) (p : ℕ → Bool) → counted n p ≤ n
 counted_most zero p = omega arith
 counted_most (suc n) p = omega (arith, bit_most (p n), counted_most n p)
 
@@ -78,7 +78,7 @@ module _ {A : Type 0} (s : System ℕ A) (is : IsDetermined s) (count : ℕ) (al
     not_itself d el true h = absurd (loopless d el (from_test d d h))
     not_itself d el false h = h
 
-    falls : (e d : ℕ) → s.IsElement e → s.Reads e d 0 → counted count (depends d) < counted count (depends e)
+    pub falls : (e d : ℕ) → s.IsElement e → s.Reads e d 0 → counted count (depends d) < counted count (depends e)
     falls e d el r =
         let there = is.elements e d 0 el r in
         counted_lt count (depends d) (depends e)

@@ -3,6 +3,8 @@ pub mod Tests
 pub mod Ready
 pub mod Numbered
 pub mod OneSolution
+pub mod Heights
+pub mod Prefix
 pub mod Same
 pub mod OneGraph
 pub mod OnePruned

@@ -1,0 +1,9 @@
+pub mod Arithmetic
+pub mod Rows
+pub mod Edges
+pub mod Results
+pub mod Steps
+pub mod Evaluations
+pub mod Searches
+pub mod Layouts
+pub mod Beginnings

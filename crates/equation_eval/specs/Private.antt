@@ -1,0 +1,4 @@
+pub mod Masks
+pub mod Rings
+pub mod Order
+pub mod Program

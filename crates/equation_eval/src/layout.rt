@@ -1,0 +1,139 @@
+//! The rings of a graph's nodes, and what they hold before sample 0.
+ghost use Rattle.std.specs.Prelude.{◌≡◌, ℕ, ◌+◌, ◌-◌, ◌*◌, ◌^◌, ◌<◌, ◌≤◌, length, pos, replicate, slice_index_or, IfOk, OnOk};
+ghost use Rattle.std.specs.List.{All};
+ghost use Rattle.fix_word.specs.Words.{IsWord};
+ghost use Rattle.signal_graph.specs.GraphRules.{IsGraph};
+ghost use Rattle.signal_graph.specs.Rules.{IsWithin, word_before};
+ghost use Rattle.equation_eval.specs.declared.memory.TheConstants.{PERIOD};
+ghost use Rattle.equation_eval.specs.Private.Rings.{AreLongest, AreRings, IsLayout, HoldInitials, HoldsWordsBefore, SameOutside, IsRaisedBy, HoldsZeros, with_initial};
+
+use crate::memory::{Mask, PERIOD, Ring, Word};
+use lists::List;
+use signal_graph::{Edge, Graph};
+use std::alloc::{AllocError, Global};
+
+fn no_delays(alloc: Global, count: usize) -> Result<List<u16>, AllocError>
+    ensures { IfOk result (λ list. list ≡ replicate count 0) }
+{
+    let mut list = List::new(alloc);
+    for _ in 0..count {
+        list.push(0)?;
+    }
+    Ok(list)
+}
+
+/// Raises the longest delay of each node that is read to that of the edge.
+fn raise(longest: &mut List<u16>, edges: &List<Edge>)
+    requires nodes { All (λ edge. edge.node < length longest.old) edges.now }
+    requires delays { All (λ edge. edge.delay < PERIOD) edges.now }
+    requires most { All (λ delay. delay < PERIOD) longest.old }
+    ensures { IsRaisedBy edges.now longest.old longest.new }
+{
+    for edge in edges.iter() {
+        let node = edge.node as usize;
+        longest[node] = longest[node].max(edge.delay);
+    }
+}
+
+/// The longest delay with which each node is read.
+fn longest_delays(alloc: Global, graph: &Graph) -> Result<List<u16>, AllocError>
+    requires { IsGraph graph.now }
+    ensures { IfOk result (AreLongest graph.now) }
+{
+    let mut longest = no_delays(alloc, graph.nodes.len())?;
+    for node in graph.nodes.iter() {
+        raise(&mut longest, &node.edges);
+    }
+    Ok(longest)
+}
+
+/// The rings of nodes that are read with these delays at most, one after another, and how many cells they have.
+fn rings_of(alloc: Global, longest: &List<u16>) -> Result<(List<Ring>, u32), AllocError>
+    requires count { length longest.now < 2 ^ 20 }
+    requires delays { All (λ delay. delay < PERIOD) longest.now }
+    ensures count { IfOk result (λ made. length made.0 ≡ length longest.now) }
+    ensures rings { IfOk result (λ made. AreRings longest.now made.0 made.1) }
+    ensures most { IfOk result (λ made. made.1 ≤ PERIOD * length longest.now) }
+{
+    let mut rings = List::new(alloc);
+    let mut base: u32 = 0;
+    for delay in longest.iter() {
+        let mask = Mask::above(*delay);
+        rings.push(Ring { base, mask })?;
+        base = base + u32::from(mask.get()) + 1;
+    }
+    Ok((rings, base))
+}
+
+fn zeros(alloc: Global, count: u32) -> Result<List<Word>, AllocError>
+    ensures { IfOk result (λ list. list ≡ replicate count (pos 0)) }
+{
+    let mut list = List::new(alloc);
+    for _ in 0..count {
+        list.push(Word::new(0))?;
+    }
+    Ok(list)
+}
+
+/// Puts an initial value into a ring, where the ring is that long.
+fn put_initial(memory: &mut List<Word>, ring: &Ring, init: &(u16, i64))
+    requires ring { ring.now.base + ring.now.mask + 1 ≤ length memory.old }
+    requires most { length memory.old ≤ 2 ^ 30 }
+    requires sample { 1 ≤ init.now.0 }
+    requires word { IsWord 32 init.now.1 }
+    ensures { memory.new ≡ with_initial ring.now init.now memory.old }
+{
+    let size = ring.mask.get() + 1;
+    if init.0 < size {
+        memory[ring.base as usize + usize::from(size - init.0)] = Word::new(init.1);
+    }
+}
+
+/// Puts the initial values into a ring that holds zeros, from the last to the first.
+fn put_initials(memory: &mut List<Word>, ring: &Ring, inits: &List<(u16, i64)>)
+    requires ring { ring.now.base + ring.now.mask + 1 ≤ length memory.old }
+    requires most { length memory.old ≤ 2 ^ 30 }
+    requires zeros { HoldsZeros ring.now memory.old }
+    requires samples { All (λ init. IsWithin 1 1023 init.0) inits.now }
+    requires words { All (λ init. IsWord 32 init.1) inits.now }
+    ensures len { length memory.new ≡ length memory.old }
+    ensures initials { HoldsWordsBefore inits.now ring.now memory.new }
+    ensures others { SameOutside ring.now memory.old memory.new }
+{
+    for k in 0..inits.len() {
+        put_initial(memory, ring, &inits[inits.len() - 1 - k]);
+    }
+}
+
+/// What the rings hold before sample 0.
+fn initial_memory(
+    alloc: Global,
+    graph: &Graph,
+    rings: &List<Ring>,
+    cells: u32,
+) -> Result<List<Word>, AllocError>
+    requires graph { IsGraph graph.now }
+    requires rings { IsLayout graph.now rings.now cells }
+    requires most { cells ≤ 2 ^ 30 }
+    ensures len { IfOk result (λ memory. length memory ≡ cells) }
+    ensures initials { IfOk result (HoldInitials (length graph.now.nodes) graph.now rings.now) }
+{
+    let mut memory = zeros(alloc, cells)?;
+    for v in 0..graph.nodes.len() {
+        put_initials(&mut memory, &rings[v], &graph.nodes[v].inits);
+    }
+    Ok(memory)
+}
+
+/// The rings of a graph's nodes and what they hold before sample 0.
+pub fn lay_out(alloc: Global, graph: &Graph) -> Result<(List<Ring>, List<Word>), AllocError>
+    requires { IsGraph graph.now }
+    ensures rings { IfOk result (λ made. IsLayout graph.now made.0 (length made.1)) }
+    ensures most { IfOk result (λ made. length made.1 ≤ 2 ^ 30) }
+    ensures initials { IfOk result (λ made. HoldInitials (length graph.now.nodes) graph.now made.0 made.1) }
+{
+    let longest = longest_delays(alloc, graph)?;
+    let (rings, cells) = rings_of(alloc, &longest)?;
+    let memory = initial_memory(alloc, graph, &rings, cells)?;
+    Ok((rings, memory))
+}

@@ -1,0 +1,11 @@
+//! The evaluator: what the equations of a graph give, sample by sample. Page `docs/GRAPH.md`, "Evaluation".
+#![tactic(auto)]
+
+mod evaluator;
+mod layout;
+mod memory;
+mod order;
+mod program;
+mod run;
+
+pub use evaluator::{EvalFault, Evaluator};

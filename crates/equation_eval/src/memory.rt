@@ -1,0 +1,110 @@
+//! Words, and the rings that keep them for as many samples as they are read.
+ghost use Rattle.std.specs.Prelude.{◌≡◌, ◌+◌, ◌%◌, ◌^◌, ◌<◌, ◌≤◌, unsigned_abs};
+ghost use Rattle.equation_eval.specs.Private.Masks.{IsMask};
+
+use std::marker::Model;
+
+/// How many samples a phase counts before it begins again at 0: the size of the largest ring.
+pub const PERIOD: u16 = 1024;
+
+/// A word of a node: a raw word of magnitude at most 2^39.
+#[derive(Clone, Copy)]
+pub struct Word {
+    value: i64,
+}
+
+impl Model for Word {
+    ghost use Rattle.std.specs.Prelude.{ℤ, ◌≤◌, ◌^◌, unsigned_abs};
+
+    ghost Value = { ℤ };
+
+    ghost view = { λ word. word.value };
+
+    ghost invariant = { λ word. unsigned_abs word.value ≤ 2 ^ 39 };
+
+    ghost inverse = { λ value. record { value = value } };
+}
+
+impl Word {
+    pub fn new(value: i64) -> Word
+        requires { unsigned_abs value ≤ 2 ^ 39 }
+        ensures { result ≡ value }
+    {
+        Word { value }
+    }
+
+    #[inline(always)]
+    pub fn get(self) -> i64
+        ensures value { result ≡ self }
+        ensures bound { unsigned_abs result ≤ 2 ^ 39 }
+    {
+        self.value
+    }
+}
+
+/// One less than the size of a ring, which is a power of two up to `PERIOD`. Contracts see the number.
+#[derive(Clone, Copy)]
+pub struct Mask {
+    bits: u16,
+}
+
+impl Model for Mask {
+    ghost use Rattle.std.specs.Prelude.{ℕ};
+    ghost use Rattle.equation_eval.specs.Private.Masks.{IsMask};
+
+    ghost Value = { ℕ };
+
+    ghost view = { λ mask. mask.bits };
+
+    ghost invariant = { λ mask. IsMask mask.bits };
+
+    ghost inverse = { λ bits. record { bits = bits } };
+}
+
+impl Mask {
+    /// The least mask of a ring that keeps the word of `delay` samples ago.
+    pub fn above(delay: u16) -> Mask
+        requires { delay < PERIOD }
+        ensures covers { delay ≤ result }
+        ensures size { IsMask result }
+    {
+        let mut bits = 0;
+        while bits < delay {
+            bits = 2 * bits + 1;
+        }
+        Mask { bits }
+    }
+
+    pub fn get(self) -> u16
+        ensures value { result ≡ self }
+        ensures most { result < PERIOD }
+    {
+        self.bits
+    }
+
+    /// A time as a number in the ring.
+    #[inline(always)]
+    pub fn wrap(self, time: u16) -> u16
+        ensures value { result ≡ time % (self + 1) }
+        ensures within { result ≤ self }
+    {
+        time & self.bits
+    }
+}
+
+/// Where the words of a node are kept, by the time in samples.
+#[derive(Clone, Copy)]
+pub struct Ring {
+    /// The number of the first cell.
+    pub base: u32,
+    pub mask: Mask,
+}
+
+/// What an operand reads: the word of a ring at a time that many samples after the phase.
+#[derive(Clone, Copy)]
+pub struct Source {
+    pub base: u32,
+    pub mask: Mask,
+    /// A period less the delay.
+    pub later: u16,
+}
