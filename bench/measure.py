@@ -43,7 +43,7 @@ def seconds_a_turn(call, file, turns):
 
 
 def peak(call, turns, file):
-    """The most memory that a run takes, in bytes. It is at least that of the script, whose process becomes the program's."""
+    """The most memory that a run takes, in bytes. It is no less than the script's, which starts the program."""
     process = subprocess.Popen([PROGRAM, "repeat", call, str(turns), file], stdout=subprocess.DEVNULL)
     _, status, usage = os.wait4(process.pid, 0)
     process.returncode = os.waitstatus_to_exitcode(status)

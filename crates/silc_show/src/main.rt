@@ -27,8 +27,8 @@ use std::rt::{Env, Files};
 use std::{env, fs};
 
 const USAGE: &str =
-    "usage: silc_show tokens|tree|text|names|elements|types SRC | manifests|words TABLE | image MIC | rows WIDTHS SAMPLES \
-     | repeat CALL TURNS FILE";
+    "usage: silc_show tokens|tree|text|names|elements|types SRC | manifests|words TABLE | image MIC \
+     | rows WIDTHS SAMPLES | repeat CALL TURNS FILE";
 
 const BAD_WORDS: u8 = 2;
 
