@@ -3,9 +3,8 @@ use Rattle.std.proofs.Common.{◌≡◌, refl, sym, ◌∙◌, ℕ, ◌+◌, ◌
 use Rattle.std.specs.Prelude.{ℤ}
 use Rattle.recurrences.specs.Systems.{System, Solves, IsOneSolution, HasNoDelaylessLoop}
 use Rattle.recurrences.proofs.Determined.{IsDetermined, HasHeights}
-use Rattle.recurrences.proofs.Exists.{solution}
 use Rattle.recurrences.proofs.Heights.{has_heights}
-use Rattle.recurrences.proofs.OneSolution.{one_solution}
+use Rattle.recurrences.proofs.OneSolution.{loopless_solution}
 use Rattle.recurrences.proofs.Unique.{same}
 use Rattle.signal_graph.specs.Rules.{max_delay, word_before}
 use Rattle.signal_graph.specs.Numbered.{numbered}
@@ -43,7 +42,7 @@ module _ (count samples : ℕ) (inits : ℕ → List (ℕ × ℤ)) (gives : (e n
     heights = has_heights system determined count (λ e el. el) is.test is.tests loopless
 
     pub its_solution : (x : Words) × IsOneSolution system x
-    its_solution = (solution system determined heights, one_solution system determined heights)
+    its_solution = loopless_solution system determined count (λ e el. el) is.test is.tests loopless
 
     -- each solution is the one
     pub once : (x : Words) → Solves system x → IsOneSolution system x
