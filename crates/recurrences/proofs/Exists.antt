@@ -5,7 +5,7 @@ use Rattle.recurrences.specs.Systems.{Signals, System, Solves}
 use Rattle.recurrences.proofs.Determined.{IsDetermined, HasHeights}
 use Rattle.recurrences.proofs.Samples.{When, now, earlier, before, when}
 
-room : (m n t : ℕ) → m < n → m * t + t ≤ n * t
+pub room : (m n t : ℕ) → m < n → m * t + t ≤ n * t
 room m n t lt = grind arith
 
 module _ {E A : Type 0} (s : System E A) (is : IsDetermined s) where

@@ -1,10 +1,9 @@
 -- The words of a solution are in the width of their element's type.
-use Rattle.std.proofs.Common.{◌≡◌, refl, sym, subst, ap, ◌∙◌, arith, ℕ, zero, suc, ◌+◌, ◌-◌, ◌<◌, inl, inr, Bool, true, false, List, [], ◌∷◌, length}
+use Rattle.std.proofs.Common.{◌≡◌, refl, sym, subst, ap, ◌∙◌, arith, ℕ, ◌+◌, ◌-◌, ◌<◌, inl, inr, Bool, true, false, List, [], length}
 use Rattle.std.specs.Prelude.{ℤ, pos, negsuc, ◌-ℤ◌, slice_get, slice_index_or, IsSomeAnd, Option, Some, None, find, ◌==◌}
-use Rattle.std.specs.List.{AllZip}
 use Rattle.std.proofs.lemmas.Int.{ints}
 use Rattle.std.proofs.lemmas.Nat.{pow_pos}
-use Rattle.std.proofs.lemmas.Option.{slice_get-get_or, none-some, same_Some}
+use Rattle.std.proofs.lemmas.Option.{slice_get-get_or, same_Some}
 use Rattle.std.proofs.lemmas.List.Elements.{All-contains}
 use Rattle.lists.specs.Rows.{Rows}
 use Rattle.recurrences.proofs.Along.{along}
@@ -24,7 +23,7 @@ use Rattle.signal_graph.specs.FlatSolves.{no_element, element_of, flat_system, I
 use Rattle.signal_graph.specs.Keeps.{IsStreamOf}
 use Rattle.signal_graph.specs.Values.{Words, input_word, operand, result, value_of, values_of, body_value, Reads, PartsRead, BodyReads}
 use Rattle.signal_graph.proofs.OneSolution.{flat_determined, flat_heights}
-use Rattle.signal_graph.proofs.Members.{found_member}
+use Rattle.signal_graph.proofs.Members.{found_member, zip_at}
 
 pub type_bits : (ty : SigType) → IsType ty → IsWithin 1 32 (width_of ty)
 type_bits (sig.Fix t) h = (h.narrowest, h.widest)
@@ -48,13 +47,6 @@ before_fits ty inits k are =
     (λ i h. type_word ty i.1
     (All-contains (λ (j : ℕ × ℤ). IsInType ty j.1) inits i are.words
     (found_member (λ (j : ℕ × ℤ). j.0 == k) inits i h)))
-
-zip_at : {A B : Type 0} (R : A → B → Type 0) (xs : List A) (ys : List B) (i : ℕ) (x : A) (d : B) → AllZip R xs ys
-    → slice_get xs i ≡ Some x → R x (slice_index_or ys i d)
-zip_at R [] ys i x d all h = absurd (none-some x h)
-zip_at R (a ∷ olds) [] i x d all h = absurd all
-zip_at {B = B} R (a ∷ olds) (b ∷ bs) zero x d all h = subst (λ z. R z b) (same_Some a x h) all.0
-zip_at R (a ∷ olds) (b ∷ bs) (suc i) x d all h = zip_at R olds bs i x d all.1 h
 
 -- a word of the stream is in its input's type
 pub input_fits : (inputs : List SigType) (stream : Rows) (n j : ℕ) (ty : SigType) → IsStreamOf inputs stream

@@ -7,6 +7,7 @@ use Rattle.std.proofs.lemmas.Option.{slice_get-get_or, slice_get_within, slice_g
 use Rattle.std.proofs.lemmas.List.Elements.{All-head, All-tail}
 use Rattle.std.proofs.lemmas.List.Sums.{get_or-le-sum_by}
 use Rattle.recurrences.proofs.Determined.{HasHeights}
+use Rattle.recurrences.proofs.Exists.{room}
 use Rattle.recurrences.proofs.Heights.{no_loop}
 use Rattle.signal_graph.specs.Rules.{width_of}
 use Rattle.signal_graph.specs.Flat.{Body, Element, Program, size_of_body}
@@ -24,9 +25,6 @@ use Rattle.signal_graph.proofs.Places.{made_of, IsPlace}
 use Rattle.signal_graph.proofs.Numbers.{no_site, node_is_place, word_at}
 use Rattle.signal_graph.proofs.Below.{IsBefore, AreBefore, all_before}
 use Rattle.signal_graph.proofs.GraphSound.{body_size, edge_below, graph_is_sound}
-
-room : (m n t : ℕ) → m < n → m * t + t ≤ n * t
-room m n t lt = grind arith
 
 -- an edge to a node is one of those to the operands
 record IsReadAt (R : Operand → Edge → Type 0) (P : Operand → Type 0) (u ago : ℕ) : Type 0 where

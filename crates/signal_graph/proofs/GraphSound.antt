@@ -1,5 +1,5 @@
 -- The graph of a sound flat program is sound.
-use Rattle.std.proofs.Common.{◌≡◌, refl, sym, subst, ap, ◌∙◌, arith, ℕ, suc, ◌+◌, ◌-◌, ◌<◌, ◌≤◌, ◌⊎◌, inl, inr, Bool, true, false, if◌then◌else◌, List, [], ◌∷◌, ◌++◌, length}
+use Rattle.std.proofs.Common.{◌≡◌, refl, sym, subst, ap, ◌∙◌, arith, ℕ, ◌+◌, ◌-◌, ◌<◌, ◌≤◌, ◌⊎◌, inl, inr, Bool, true, false, if◌then◌else◌, List, [], ◌∷◌, ◌++◌, length}
 use Rattle.std.specs.Prelude.{◌≢◌, ℤ, pos, slice_get, slice_index_or, take, flat_map, sum_by, All, IsSomeAnd, Option, Some, ◌==◌}
 use Rattle.std.specs.List.{AllZip, enumerate_from}
 use Rattle.std.proofs.lemmas.Bool.{cases_lt, eqb-true}
@@ -23,18 +23,13 @@ use Rattle.signal_graph.specs.declared.graph.Edge.{Edge}
 use Rattle.signal_graph.specs.declared.graph.Node.{Node}
 use Rattle.signal_graph.specs.declared.graph.Graph.{Graph}
 use Rattle.signal_graph.specs.GraphOf.{Operand, number, place, element, Made, nothing, constant, input, operation, made_by, made_by_body, has_pass, pass, Site, element_sites, sites, is_made_at, node_sites, word_node, node_at, IsEdgeTo, node_format, node_width, inits_at, IsMade, IsOutputOf, IsGraphOf}
+use Rattle.signal_graph.proofs.Members.{zip_length}
 use Rattle.signal_graph.proofs.Places.{made_of, IsPlace}
 use Rattle.signal_graph.proofs.Parts.{length_made}
 use Rattle.signal_graph.proofs.Numbers.{no_site, node_is_place, number_below}
 use Rattle.signal_graph.proofs.Fits.{type_word}
 use Rattle.signal_graph.proofs.Nodes.{length_sites_from}
 use Rattle.signal_graph.proofs.Made.{IsOperand, IsSoundMade, its_bits, last_width, place_sound}
-
-zip_length : {A B : Type 0} (R : A → B → Type 0) (xs : List A) (ys : List B) → AllZip R xs ys → length xs ≡ length ys
-zip_length R [] [] all = refl
-zip_length R [] (y ∷ ys) all = absurd all
-zip_length R (x ∷ xs) [] all = absurd all
-zip_length R (x ∷ xs) (y ∷ ys) all = ap (λ (n : ℕ). suc n) (zip_length R xs ys all.1)
 
 -- a calculation is no output
 calculation_op : (o : Op) → IsCalculation (class_of o) → o ≢ op.Output

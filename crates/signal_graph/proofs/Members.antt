@@ -1,7 +1,7 @@
 -- Members of lists: of a filter, of lists joined end to end, of numbered elements, and the first that passes a test.
 use Rattle.std.proofs.Common.{◌≡◌, refl, sym, ap, ◌∙◌, subst, arith, ℕ, zero, suc, ◌+◌, ◌<◌, ◌≤◌, ◌⊎◌, inl, inr, Bool, true, false, cond, List, [], ◌∷◌, ◌++◌, length}
 use Rattle.std.specs.Prelude.{slice_get, slice_index_or, filter, find, flat_map, position, nat_lt, Contains, Some, None}
-use Rattle.std.specs.List.{enumerate_from, position_or_len}
+use Rattle.std.specs.List.{AllZip, enumerate_from, position_or_len}
 use Rattle.std.proofs.lemmas.Bool.{cases_lt, cond-true, lt-ltb, both_ways}
 use Rattle.std.proofs.lemmas.List.Elements.{All-contains, All-filter, All-contains_itself, filter_passes, Contains-append_left, Contains-append_right, Contains-append_cases}
 use Rattle.std.proofs.lemmas.List.FromFn.{length-enumerate_from, get_or-enumerate_from}
@@ -151,3 +151,17 @@ module _ {A : Type 0} (test : A → Bool) where
           → Contains (z ∷ zs) y
       by true e rest i = (0, omega arith, same_Some z y i)
       by false e rest i = in_rest z y zs (rest i)
+
+-- lists that are related place by place
+pub zip_length : {A B : Type 0} (R : A → B → Type 0) (xs : List A) (ys : List B) → AllZip R xs ys → length xs ≡ length ys
+zip_length R [] [] all = refl
+zip_length R [] (y ∷ ys) all = absurd all
+zip_length R (x ∷ xs) [] all = absurd all
+zip_length R (x ∷ xs) (y ∷ ys) all = ap (λ (n : ℕ). suc n) (zip_length R xs ys all.1)
+
+pub zip_at : {A B : Type 0} (R : A → B → Type 0) (xs : List A) (ys : List B) (i : ℕ) (x : A) (d : B) → AllZip R xs ys
+    → slice_get xs i ≡ Some x → R x (slice_index_or ys i d)
+zip_at R [] ys i x d all h = absurd (none-some x h)
+zip_at R (a ∷ olds) [] i x d all h = absurd all
+zip_at {B = B} R (a ∷ olds) (b ∷ bs) zero x d all h = subst (λ z. R z b) (same_Some a x h) all.0
+zip_at R (a ∷ olds) (b ∷ bs) (suc i) x d all h = zip_at R olds bs i x d all.1 h

@@ -1,27 +1,16 @@
 -- A graph has one pruned graph at most.
-use Rattle.std.proofs.Common.{◌≡◌, refl, sym, subst, ap, ◌∙◌, arith, ℕ, zero, suc, ◌<◌, ◌⊎◌, inl, inr, List, [], ◌∷◌, map}
+use Rattle.std.proofs.Common.{◌≡◌, refl, sym, subst, ap, ◌∙◌, arith, ℕ, suc, ◌<◌, ◌⊎◌, inl, inr, List, [], ◌∷◌, map}
 use Rattle.std.specs.Prelude.{Contains}
-use Rattle.std.specs.List.{AllZip, AllPairs}
+use Rattle.std.specs.List.{AllZip}
 use Rattle.std.proofs.lemmas.List.Kept.{AllPairs-from_increasing}
 use Rattle.signal_graph.specs.declared.graph.Edge.{Edge}
 use Rattle.signal_graph.specs.declared.graph.Node.{Node}
 use Rattle.signal_graph.specs.declared.graph.Graph.{Graph}
 use Rattle.signal_graph.specs.GraphSolves.{node_of}
+use Rattle.signal_graph.proofs.Members.{in_first, in_rest, first_or_rest}
+use Rattle.signal_graph.proofs.Rising.{Rises}
 use Rattle.signal_graph.proofs.Same.{some_once, same_edge, same_graph}
 use Rattle.signal_graph.specs.Pruned.{AreUsed, IsEdgeOf, IsRenumbered, IsPruned}
-
-abbrev Rises : List ℕ → Type 0
-Rises xs = AllPairs (λ (x y : ℕ). x < y) xs
-
-first_or_later : (x v : ℕ) (xs : List ℕ) → Contains (x ∷ xs) v → (x ≡ v) ⊎ Contains xs v
-first_or_later x v xs (zero, lt, h) = inl h
-first_or_later x v xs (suc k, lt, h) = inr (k, omega arith, h)
-
-later : (x v : ℕ) (xs : List ℕ) → Contains xs v → Contains (x ∷ xs) v
-later x v xs (k, lt, h) = (suc k, omega arith, h)
-
-first : (x : ℕ) (xs : List ℕ) → Contains (x ∷ xs) x
-first x xs = (0, omega arith, refl)
 
 above : (x v : ℕ) (xs : List ℕ) → Rises (x ∷ xs) → Contains xs v → x < v
 above x v xs rise (k, lt, h) = subst (λ (i : ℕ). x < i) h (rise 0 (suc k) v (omega arith) (omega arith))
@@ -38,7 +27,7 @@ same_first x y xs ys r s (inr h) (inr k) = absurd (omega (arith, above x y xs r 
 -- what is later in the one list is later in the other
 moved : (x y : ℕ) (xs ys : List ℕ) → Rises (x ∷ xs) → x ≡ y → ((v : ℕ) → Contains (x ∷ xs) v → Contains (y ∷ ys) v)
     → (v : ℕ) → Contains xs v → Contains ys v
-moved x y xs ys r same to v h = by (first_or_later y v ys (to v (later x v xs h)))
+moved x y xs ys r same to v h = by (first_or_rest y v ys (to v (in_rest x v xs h)))
   where
     by : (y ≡ v) ⊎ Contains ys v → Contains ys v
     by (inl e) = absurd (omega (arith, above x v xs r h))
@@ -47,12 +36,12 @@ moved x y xs ys r same to v h = by (first_or_later y v ys (to v (later x v xs h)
 same_rising : (xs ys : List ℕ) → Rises xs → Rises ys → ((v : ℕ) → Contains xs v → Contains ys v)
     → ((v : ℕ) → Contains ys v → Contains xs v) → xs ≡ ys
 same_rising [] [] r s to from = refl
-same_rising [] (y ∷ ys) r s to from = absurd (let h = from y (first y ys) in let lt = h.1 in omega arith)
-same_rising (x ∷ xs) [] r s to from = absurd (let h = to x (first x xs) in let lt = h.1 in omega arith)
+same_rising [] (y ∷ ys) r s to from = absurd (let h = from y (in_first y ys) in let lt = h.1 in omega arith)
+same_rising (x ∷ xs) [] r s to from = absurd (let h = to x (in_first x xs) in let lt = h.1 in omega arith)
 same_rising (x ∷ xs) (y ∷ ys) r s to from =
     let same =
-    same_first x y xs ys r s (first_or_later x y xs (from y (first y ys)))
-    (first_or_later y x ys (to x (first x xs))) in
+    same_first x y xs ys r s (first_or_rest x y xs (from y (in_first y ys)))
+    (first_or_rest y x ys (to x (in_first x xs))) in
     let rest =
     same_rising xs ys (rest_rises x xs r) (rest_rises y ys s) (moved x y xs ys r same to)
     (moved y x ys xs s (sym same) from) in

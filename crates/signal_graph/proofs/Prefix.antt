@@ -1,10 +1,10 @@
 -- A solution over a stream solves the graph over each stream that it goes on from.
-use Rattle.std.proofs.Common.{◌≡◌, refl, sym, ap, ◌∙◌, subst, arith, ℕ, ◌+◌, ◌<◌, List, [], ◌∷◌, ◌++◌, length, length-append}
+use Rattle.std.proofs.Common.{◌≡◌, refl, ap, ◌∙◌, arith, ℕ, ◌<◌, List, [], ◌++◌, length, length-append}
 use Rattle.std.specs.Prelude.{ℤ, pos, slice_index_or}
 use Rattle.std.proofs.lemmas.List.{get_or_append_left}
 use Rattle.lists.specs.Rows.{Rows}
 use Rattle.signal_graph.specs.Operations.{Class, input, output, constant, class_of}
-use Rattle.signal_graph.specs.Values.{Words, input_word, given_by, node_value, to_nat}
+use Rattle.signal_graph.specs.Values.{Words, given_by, node_value, to_nat}
 use Rattle.signal_graph.specs.GraphSolves.{node_of, GraphSolves}
 use Rattle.signal_graph.specs.declared.graph.Node.{Node}
 use Rattle.signal_graph.specs.declared.graph.Graph.{Graph}

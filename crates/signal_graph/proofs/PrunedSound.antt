@@ -1,5 +1,5 @@
 -- A pruned graph is sound, has no delay-free loop, and keeps solutions.
-use Rattle.std.proofs.Common.{◌≡◌, refl, sym, subst, ap, ◌∙◌, arith, ℕ, suc, ◌+◌, ◌-◌, ◌<◌, ◌≤◌, inl, inr, List, [], ◌∷◌, length}
+use Rattle.std.proofs.Common.{◌≡◌, refl, sym, subst, ap, ◌∙◌, arith, ℕ, ◌+◌, ◌-◌, ◌<◌, ◌≤◌, inl, inr, List, [], ◌∷◌, length}
 use Rattle.std.specs.Prelude.{◌≢◌, ℤ, slice_get, slice_index_or, take, All, IsSomeAnd, Contains, Option, Some, None}
 use Rattle.std.specs.List.{AllZip}
 use Rattle.std.proofs.lemmas.Bool.{eqb-true}
@@ -20,6 +20,7 @@ use Rattle.signal_graph.specs.GraphRules.{IsArgument, IsEdge, IsNode, first_outp
 use Rattle.signal_graph.specs.GraphSolves.{no_node, node_of, HasEdge, IsGraphLoopless}
 use Rattle.signal_graph.specs.Values.{EdgesRead}
 use Rattle.signal_graph.specs.Pruned.{output as output_used, IsEdgeOf, IsRenumbered, IsPruned}
+use Rattle.signal_graph.proofs.Members.{zip_length}
 use Rattle.signal_graph.proofs.Values.{edges_allowed}
 use Rattle.signal_graph.proofs.PrunedSolves.{same_count, renumbered, inside}
 use Rattle.signal_graph.proofs.Rising.{Rises, few, in_order, last_ones, before_first}
@@ -145,19 +146,13 @@ module _ (g pruned : Graph) (sound : IsGraph g) (is : IsPruned g pruned) where
       All-cons (IsEdge pruned) n ns (edge_sound n e all.0 (All-head (IsEdge g) e es fits))
       (edges_sound ns es all.1 (All-tail (IsEdge g) e es fits))
 
-  edge_count : (new edges : List Edge) → AllZip (IsEdgeOf is.kept) new edges → length new ≡ length edges
-  edge_count [] [] all = refl
-  edge_count [] (e ∷ es) all = absurd all
-  edge_count (n ∷ ns) [] all = absurd all
-  edge_count (n ∷ ns) (e ∷ es) all = ap (λ (k : ℕ). suc k) (edge_count ns es all.1)
-
   node_sound : (new node : Node) → IsRenumbered is.kept new node → IsNode g node → IsNode pruned new
   node_sound new node same fits =
       subst (λ (x : Node). IsNode pruned x) (sym same.node) (record {
         operation = fits.operation;
         fmt = fits.fmt;
         arg = argument_sound g pruned (class_of node.op) node.arg is.inputs is.outs fits.arg;
-        edge_count = edge_count new.edges node.edges same.edges ∙ fits.edge_count;
+        edge_count = zip_length (IsEdgeOf is.kept) new.edges node.edges same.edges ∙ fits.edge_count;
         edges = edges_sound new.edges node.edges same.edges fits.edges;
         inits = fits.inits;
         width = fits.width;
