@@ -1,5 +1,5 @@
 -- What it is to solve the equations of a graph over a stream of input rows.
-use Rattle.std.specs.Prelude.{ℕ, ◌+◌, ◌<◌, [], map, length, slice_index_or, ℤ, pos}
+use Rattle.std.specs.Prelude.{ℕ, ◌+◌, ◌<◌, [], map, length, slice_index_or, List, ℤ, pos}
 use Rattle.std.specs.List.{range_with_len}
 use Rattle.lists.specs.Rows.{Rows}
 use Rattle.fix_word.specs.declared.operation.Op.TheVariants as op
@@ -42,7 +42,10 @@ GraphSolves g stream words = Solves (graph_system g stream) words
 abbrev pub IsOneGraphSolution : Graph → Rows → Words → Type 0
 IsOneGraphSolution g stream words = IsOneSolution (graph_system g stream) words
 
+-- the output row of sample n
+abbrev pub out_row : Graph → Words → (n : ℕ) → List ℤ
+out_row g words n = map (λ j. words (first_output g + j) (pos n)) (range_with_len 0 g.outs)
+
 -- the output rows of the samples 0 to count - 1
 abbrev pub graph_out : Graph → Words → (count : ℕ) → Rows
-graph_out g words count =
-    map (λ n. map (λ j. words (first_output g + j) (pos n)) (range_with_len 0 g.outs)) (range_with_len 0 count)
+graph_out g words count = map (out_row g words) (range_with_len 0 count)
