@@ -1,5 +1,5 @@
 -- The search for an order: a stack of nodes, each of which waits for the one above it.
-use Rattle.std.proofs.Common.{◌≡◌, ◌≢◌, ◌∙◌, refl, sym, ap, subst, arith, ℕ, zero, suc, ◌+◌, ◌-◌, ◌*◌, ◌<◌, ◌≤◌, ◌⊎◌, inl, inr, ⊎_elim, List, [], ◌∷◌, ◌++◌, length, length-append, append_assoc, add-one, Bool, true, false, cond, replicate, get_or-set_same, get_or-set_other}
+use Rattle.std.proofs.Common.{◌≡◌, ◌≢◌, ◌∙◌, refl, sym, ap, subst, arith, ℕ, zero, suc, ◌+◌, ◌-◌, ◌*◌, ◌<◌, ◌≤◌, ◌⊎◌, inl, inr, ⊎_elim, List, [], ◌∷◌, ◌++◌, length, length-append, append_assoc, Bool, true, false, cond, replicate, get_or-set_same, get_or-set_other}
 use Rattle.std.specs.Prelude.{slice_index_or, slice_set, take, All}
 use Rattle.std.specs.List.{Contains, sum_by}
 use Rattle.std.proofs.lemmas.Bool.{cases_lt}
@@ -8,13 +8,13 @@ use Rattle.std.proofs.lemmas.List.Elements.{Contains-push, Contains-append_left}
 use Rattle.std.proofs.lemmas.List.Sums.{sum_by-set}
 use Rattle.std.proofs.Math.Seq.{get_or-append_seam}
 use Rattle.signal_graph.specs.GraphRules.{IsGraph, first_output}
-use Rattle.signal_graph.specs.GraphSolves.{node_of, HasEdge, IsGraphLoopless}
+use Rattle.signal_graph.specs.GraphSolves.{HasEdge, IsGraphLoopless}
 use Rattle.signal_graph.specs.Values.{EdgesRead}
 use Rattle.signal_graph.specs.declared.graph.Edge.{Edge}
 use Rattle.signal_graph.specs.declared.graph.Graph.{Graph}
 use Rattle.signal_graph.proofs.Heights.{height, height_most, height_falls}
 use Rattle.equation_eval.specs.declared.order.Placing.{Placing}
-use Rattle.equation_eval.specs.Private.Order.{IsOrdered, IsOrder, IsPlacing, is_marked, is_placed, Pushes, Places, Visits, Keeps}
+use Rattle.equation_eval.specs.Private.Order.{IsOrdered, IsPlacing, is_marked, is_placed, Visits, Keeps}
 use Rattle.equation_eval.proofs.Edges.{edge_there, edge_read, reads_more}
 use Rattle.equation_eval.specs.Private.Program.{no_edge}
 

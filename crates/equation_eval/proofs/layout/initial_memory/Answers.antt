@@ -1,10 +1,10 @@
-use Rattle.std.proofs.Common.{◌≡◌, ◌∙◌, ◌<◌, arith, ap, ℕ, sym, subst, length, List}
+use Rattle.std.proofs.Common.{◌∙◌, ◌<◌, arith, ℕ, sym, subst, length}
 use Rattle.std.specs.Prelude.{ℤ, slice_index_or}
 use Rattle.fix_word.specs.Words.{IsWord}
 use Rattle.signal_graph.specs.GraphSolves.{no_node, node_of}
 use Rattle.signal_graph.specs.declared.graph.Node.{Node}
 use Rattle.equation_eval.specs.declared.memory.Ring.{Ring}
-use Rattle.equation_eval.specs.Private.Rings.{ring_of, no_ring, HoldsWordsBefore, SameOutside}
+use Rattle.equation_eval.specs.Private.Rings.{ring_of, HoldsWordsBefore, SameOutside}
 use Rattle.equation_eval.proofs.Layouts.{node_read, ring_read, initials_more, zeros_left}
 use Rattle.equation_eval.proofs.Rows.{in_32}
 use Rattle.equation_eval.proofs.layout.initial_memory.Goals as goal

@@ -1,7 +1,7 @@
 use Rattle.std.proofs.Common.{◌≡◌, ◌∙◌, ◌+◌, ◌-◌, ◌≤◌, ◌<◌, ℕ, arith, ap, sym, subst, length, List}
-use Rattle.std.specs.Prelude.{ℤ, pos, slice_index_or, drop}
-use Rattle.equation_eval.specs.Private.Rings.{HoldsWordsBefore, SameOutside, with_initial, held}
-use Rattle.equation_eval.proofs.Layouts.{words_from, with_length, with_others, zeros_before}
+use Rattle.std.specs.Prelude.{ℤ, slice_index_or, drop}
+use Rattle.equation_eval.specs.Private.Rings.{HoldsWordsBefore, held}
+use Rattle.equation_eval.proofs.Layouts.{words_from, with_length, with_others}
 use Rattle.equation_eval.proofs.layout.put_initials.Goals as goal
 
 pub loop-k-preserved : goal.loop-k-preserved

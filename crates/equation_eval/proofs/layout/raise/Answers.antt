@@ -1,4 +1,4 @@
-use Rattle.std.proofs.Common.{◌≡◌, ◌∙◌, ◌<◌, ℕ, arith, sym, subst, length, List}
+use Rattle.std.proofs.Common.{◌<◌, arith, sym, subst, length, List}
 use Rattle.std.specs.Prelude.{All}
 use Rattle.signal_graph.specs.declared.graph.Edge.{Edge}
 use Rattle.equation_eval.specs.Private.Program.{no_edge}

@@ -1,4 +1,4 @@
-use Rattle.std.proofs.Common.{◌≡◌, ◌*◌, ◌≤◌, length, take}
+use Rattle.std.proofs.Common.{◌≡◌, ◌*◌, ◌≤◌, length}
 use Rattle.equation_eval.specs.Private.Rings.{AreRings}
 use Rattle.equation_eval.proofs.layout.rings_of.Given as goal
 
