@@ -10,7 +10,7 @@ use Rattle.single_def.specs.declared.fault.DefFault.{DefFault}
 use Rattle.single_def.specs.declared.fault.DefFault.TheVariants.{Bounds, Delay, Shift, Index}
 use Rattle.single_def.specs.declared.actions.Check.{Check}
 use Rattle.single_def.specs.declared.numbers.Number.{Number}
-use Rattle.single_def.specs.declared.numbers.Number.TheVariants.{Known, Along, Code}
+use Rattle.single_def.specs.declared.numbers.Number.TheVariants.{Known, Code}
 use Rattle.single_def.specs.ElementRules.{Range, is_in, below, shifts, number_rules, subscript_rules, amount_rules, read_rules, readable, expr_rules, branch_rules}
 use Rattle.single_def.specs.Private.Numbers.{number_value}
 use Rattle.single_def.specs.Private.Actions.{Action, check, Found, check_value, check_of, ◌>>=◌}
@@ -32,7 +32,6 @@ value_checked c range (Some v) least most = rw (least, most) (lies_or (is_in ran
 passes_always : (c : Check) (n : Number) (turns : List ℤ) → passes_with c n ≡ true → check_value c (number_value turns n) ≡ Ok tt
 passes_always c (Known (Some v)) turns e = rw e refl
 passes_always c (Known None) turns e = absurd (cc)
-passes_always c (Along level reach l code) turns e = absurd (cc)
 passes_always c (Code code) turns e = absurd (cc)
 
 module _ (inside : (func at : ℕ) → List ℤ → Found → Result Found DefFault) (indices : Indices) where

@@ -13,7 +13,7 @@ use Rattle.silage_syntax.specs.Names.{decls, declared, function_named}
 use Rattle.silage_meaning.specs.Instances.{Step, turns_of}
 use Rattle.single_def.specs.declared.elements.Instance.{Instance}
 use Rattle.single_def.specs.declared.numbers.Number.{Number}
-use Rattle.single_def.specs.declared.numbers.Number.TheVariants.{Known, Along, Code}
+use Rattle.single_def.specs.declared.numbers.Number.TheVariants.{Known, Code}
 use Rattle.single_def.specs.declared.fault.DefFault.{DefFault}
 use Rattle.single_def.specs.declared.fault.DefFault.TheVariants.{Index}
 use Rattle.single_def.specs.Tables.{counts, Table, rules, mark, in_order, enters, Row, nothing, ◌▹◌, each, Context, after, table_rules}
@@ -187,10 +187,8 @@ module _ (p : Program) (f : Func) (number : ℕ) (inside : (func at : ℕ) → L
             no_turns (Known (Some first)) (Known (Some last)) empty context front s h =
                 rw (none_up first last empty) (s, refl, h)
             no_turns (Known None) n empty context front s h = absurd (cc)
-            no_turns (Along level reach l code) n empty context front s h = absurd (cc)
             no_turns (Code code) n empty context front s h = absurd (cc)
             no_turns (Known (Some first)) (Known None) empty context front s h = absurd (cc)
-            no_turns (Known (Some first)) (Along level reach l code) empty context front s h = absurd (cc)
             no_turns (Known (Some first)) (Code code) empty context front s h = absurd (cc)
 
             loop_does : (context : Context) (front : List Instance) (s : State) → Stands p (decls f) context front s

@@ -1,6 +1,7 @@
 pub mod Each
 pub mod Stacks
-mod LineValues
+pub mod LaneValues
+pub mod IdleActions
 pub mod ActionRows
 pub mod TreeRows
 pub mod Callees

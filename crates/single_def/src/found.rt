@@ -6,6 +6,7 @@ ghost use Rattle.single_def.specs.Private.Actions.{Gives, signal_elements, view_
 ghost use Rattle.single_def.specs.Private.States.{found_of};
 
 use crate::actions::{Body, Signal};
+use crate::lanes::Row;
 use crate::{DefFault, Element, Instance};
 use lists::List;
 use std::alloc::{AllocError, Global};
@@ -23,6 +24,8 @@ pub(crate) struct Found {
     pub undefined: u32,
     /// For manifest constants.
     pub stack: Vec<i32>,
+    /// For manifest constants in several turns at once.
+    pub rows: Vec<Row>,
 }
 
 impl Found {
@@ -35,6 +38,7 @@ impl Found {
             elements: List::new(alloc),
             undefined: 0,
             stack: Vec::new(alloc),
+            rows: Vec::new(alloc),
         }
     }
 }

@@ -1,13 +1,14 @@
 //! Instances, from main on: each does the actions of its function.
 
-ghost use Rattle.std.specs.Prelude.{◌≡◌, ◌+ℤ◌, ◌-ℤ◌, ◌≤ℤ◌, ◌∷◌, ◌++◌, [], map, pos, slice_get, option_copied, IfOk};
+ghost use Rattle.std.specs.Prelude.{◌≡◌, ◌+ℤ◌, ◌-ℤ◌, ◌∷◌, ◌++◌, [], map, pos, slice_get, option_copied, IfOk};
 ghost use Rattle.single_def.specs.ElementRules as rules;
 ghost use Rattle.single_def.specs.ElementRules.{count_up};
 ghost use Rattle.single_def.specs.Private.Actions as run;
-ghost use Rattle.single_def.specs.Private.Actions.{Gives, view_action, view_actions, view_body, run_instance};
+ghost use Rattle.single_def.specs.Private.Actions.{Gives, actions_of, view_action, view_actions, view_body, run_instance};
 ghost use Rattle.single_def.specs.Private.States.{found_of, state_of, made_in};
 
 use crate::actions::{Action, Body, Bound};
+use crate::blocks::{Block, all, block_at, turn_at};
 use crate::checks::{bound, place, run_check};
 use crate::found::{Found, count, enter_instance};
 use crate::known::{Known, check_all_defined, define_all, define_place, preset_place};
@@ -44,13 +45,6 @@ fn turn_count(first: i32, last: i32) -> u64
     ensures { result ≡ count_up first last }
 {
     at_least_0(one_more_than(first, last))
-}
-
-fn turn_at(first: i32, last: i32, k: u64) -> i32
-    requires { (first +ℤ pos k) ≤ℤ last }
-    ensures { result ≡ first +ℤ pos k }
-{
-    (i64::from(first) + k as i64) as i32
 }
 
 fn body_at(plan: &[Body], func: u32) -> Option<&Body>
@@ -120,12 +114,13 @@ fn run_actions(
     inside: Inside,
     depth: u32,
     turns: &[i32],
-    actions: &[Action],
+    actions: &[&Action],
     known: &mut Known,
     found: &mut Found,
 ) -> Result<(), DefFault>
     ensures { Gives (state_of known.new found.new) result
-        (run.run_actions (made_in inside.entry) turns.now (view_actions actions.now) (state_of known.old found.old)) }
+        (run.run_actions (made_in inside.entry) turns.now (actions_of (map (λ a. view_action a.now) actions.now))
+        (state_of known.old found.old)) }
 {
     for action in actions {
         run_action(inside, depth, turns, action, known, found)?;
@@ -140,13 +135,13 @@ fn run_turn(
     depth: u32,
     outer: &[i32],
     turn: i32,
-    actions: &[Action],
+    actions: &[&Action],
     at: u32,
     known: &mut Known,
     found: &mut Found,
 ) -> Result<(), DefFault>
     ensures { Gives (state_of known.new found.new) result
-        (run.run_turn (made_in inside.entry) outer.now (view_actions actions.now) at turn
+        (run.run_turn (made_in inside.entry) outer.now (actions_of (map (λ a. view_action a.now) actions.now)) at turn
         (state_of known.old found.old)) }
 {
     if depth == 0 {
@@ -174,17 +169,11 @@ fn run_turns(
         (run.run_turns (made_in inside.entry) outer.now (view_actions actions.now) at first last
         (state_of known.old found.old)) }
 {
+    let mut block = Block::empty(inside.alloc);
     for k in 0..turn_count(first, last) {
-        run_turn(
-            inside,
-            depth,
-            outer,
-            turn_at(first, last, k),
-            actions,
-            at,
-            known,
-            found,
-        )?;
+        let turn = turn_at(first, last, k);
+        block = block_at(inside.alloc, outer, first, last, k, block, actions, &mut found.rows)?;
+        run_turn(inside, depth, outer, turn, &block.actions, at, known, found)?;
     }
     Ok(())
 }
@@ -231,7 +220,8 @@ fn run_body(
         number,
     };
     let mut known = Known::at_first(inside.alloc, body.given, body.count)?;
-    run_actions(within, depth, &[], &body.actions, &mut known, found)?;
+    let actions = all(inside.alloc, &body.actions)?;
+    run_actions(within, depth, &[], &actions, &mut known, found)?;
     check_all_defined(&known, &body.signals, &mut found.undefined)
 }
 

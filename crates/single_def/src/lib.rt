@@ -6,6 +6,7 @@
 #![tactic(auto)]
 
 mod actions;
+mod blocks;
 mod bodies;
 mod checks;
 mod elements;
@@ -14,7 +15,7 @@ mod found;
 mod instances;
 mod items;
 mod known;
-mod lines;
+mod lanes;
 mod lookups;
 mod numbers;
 mod plan;

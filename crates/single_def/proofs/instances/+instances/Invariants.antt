@@ -1,7 +1,8 @@
-use Rattle.std.proofs.Common.{◌≡◌, ◌+◌, ◌-◌, ◌*◌, ◌+ℤ◌, pos, drop}
+use Rattle.std.proofs.Common.{◌≡◌, ◌+◌, ◌-◌, ◌*◌, ◌+ℤ◌, pos, map, drop}
 use Rattle.std.specs.List.{range_with_len}
-use Rattle.single_def.specs.Private.Actions.{view_actions, run_actions, run_turn, run_turns, for_each}
+use Rattle.single_def.specs.Private.Actions.{actions_of, view_action, view_actions, run_actions, run_turn, run_turns, for_each}
 use Rattle.single_def.specs.ElementRules.{count_up}
+use Rattle.single_def.specs.Private.Blocks.{seen, IsBlock}
 use Rattle.single_def.specs.Private.States.{state_of, made_in}
 use Rattle.single_def.proofs.instances.+instances.Given as goal
 
@@ -28,10 +29,11 @@ decreases-enter l = 8 * l.depth + 7
 
 abbrev pub invariant-run_actions-loop-action : goal.invariant-run_actions-loop-action
 invariant-run_actions-loop-action l =
-    run_actions (made_in l.inside) l.turns (view_actions (drop l.action-index l.actions)) (state_of l.known l.found)
-    ≡ run_actions (made_in l.inside) l.turns (view_actions l.actions) (state_of l.fn.known l.fn.found)
+    run_actions (made_in l.inside) l.turns (actions_of (map (λ a. view_action a.now) (drop l.action-index l.actions))) (state_of l.known l.found)
+    ≡ run_actions (made_in l.inside) l.turns (actions_of (map (λ a. view_action a.now) l.actions)) (state_of l.fn.known l.fn.found)
 
 abbrev pub invariant-run_turns-loop-k : goal.invariant-run_turns-loop-k
 invariant-run_turns-loop-k l =
-    for_each (λ k. run_turn (made_in l.inside) l.outer (view_actions l.actions) l.at (l.first +ℤ pos k)) (range_with_len (0 + l.k) (count_up l.first l.last - l.k)) (state_of l.known l.found)
-    ≡ run_turns (made_in l.inside) l.outer (view_actions l.actions) l.at l.first l.last (state_of l.fn.known l.fn.found)
+    (for_each (λ k. run_turn (made_in l.inside) l.outer (view_actions l.actions) l.at (l.first +ℤ pos k)) (range_with_len (0 + l.k) (count_up l.first l.last - l.k)) (state_of l.known l.found)
+    ≡ run_turns (made_in l.inside) l.outer (view_actions l.actions) l.at l.first l.last (state_of l.fn.known l.fn.found))
+    × IsBlock l.outer l.first l.last l.k l.block.until (seen l.block.actions) (map view_action l.actions)
