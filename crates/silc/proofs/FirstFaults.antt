@@ -32,7 +32,7 @@ module _ (source : List ℕ) (program : Program) (read : IsRead source program) 
   def_error clear (def.Delay at) first = (tt, (program, read, clear, first (λ e. cc)))
   def_error clear (def.Shift at) first = (tt, (program, read, clear, first (λ e. cc)))
   def_error clear (def.DefinedTwice at) first = (tt, (program, read, clear, first (λ e. cc)))
-  def_error clear (def.NotDefined at) first = (tt, (program, read, clear, first (λ e. cc)))
+  def_error clear (def.NotDefined at k) first = (tt, (program, read, clear, first (λ e. cc)))
   def_error clear (def.TooLarge at) first = (tt, (program, read, clear, first (λ e. cc)))
   def_error clear def.Memory first = tt
 

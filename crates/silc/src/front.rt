@@ -12,7 +12,7 @@ use name_check::{NameFault, check_names};
 use silage_lex::{LexFault, Tokens, lex};
 use silage_parse::{ParseFault, parse};
 use silage_syntax::Program;
-use single_def::{DefFault, check_defs_with};
+use single_def::{DefFault, check_defs};
 use std::alloc::Global;
 
 /// The line of a place: one more than the ends of lines before it.
@@ -82,25 +82,25 @@ fn name_ending(source: &[u8], fault: NameFault) -> Ending
 }
 
 /// An element without a definition is named in the line of its fault, by the program and its place in its declaration.
-fn def_ending(source: &[u8], program: Program, fault: DefFault, place: u32) -> Ending
+fn def_ending(source: &[u8], program: Program, fault: DefFault) -> Ending
     ensures { result.status ≡ of_defs fault }
 {
     let at = match fault {
         DefFault::Index(at) | DefFault::Bounds(at) | DefFault::Delay(at) => at,
         DefFault::Shift(at) | DefFault::DefinedTwice(at) | DefFault::TooLarge(at) => at,
-        DefFault::NotDefined(at) => at,
+        DefFault::NotDefined { at, .. } => at,
         DefFault::Memory => return Ending::from(Status::Memory),
     };
     Ending {
         status: Status::FrontEnd(FrontFault::Def(fault)),
         line: line_of(source, at),
-        undefined: undefined_in(program, fault, place),
+        undefined: undefined_in(program, fault),
     }
 }
 
-fn undefined_in(program: Program, fault: DefFault, place: u32) -> Option<Undefined> {
+fn undefined_in(program: Program, fault: DefFault) -> Option<Undefined> {
     match fault {
-        DefFault::NotDefined(at) => Some(Undefined { program, at, place }),
+        DefFault::NotDefined { at, place } => Some(Undefined { program, at, place }),
         _ => None,
     }
 }
@@ -147,9 +147,8 @@ pub(crate) fn program_of(alloc: Global, source: &[u8]) -> Result<Program, Ending
         Ok(names) => names,
         Err(fault) => return Err(name_ending(source, fault)),
     };
-    let mut undefined = 0;
-    if let Err(fault) = check_defs_with(alloc, &program, &names, &mut undefined) {
-        return Err(def_ending(source, program, fault, undefined));
+    if let Err(fault) = check_defs(alloc, &program, &names) {
+        return Err(def_ending(source, program, fault));
     }
     match check_types(alloc, &program, &names) {
         Ok(_) => Ok(program),

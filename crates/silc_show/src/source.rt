@@ -76,7 +76,7 @@ pub fn of_elements(alloc: Global, source: &[u8], fault: DefFault) -> Refusal {
         | DefFault::Delay(at)
         | DefFault::Shift(at)
         | DefFault::DefinedTwice(at)
-        | DefFault::NotDefined(at)
+        | DefFault::NotDefined { at, .. }
         | DefFault::TooLarge(at) => refusal(alloc, &fault, line_of(source, at)),
         DefFault::Memory => Page::cut(alloc),
     }

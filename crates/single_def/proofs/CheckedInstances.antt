@@ -122,7 +122,7 @@ module _ (p : Program) (calls : ℕ) (g : Func) (marks : List Mark) (ok : first 
   place_need : (d at n a : ℕ) (context : Context) → first_in (row_rules context (each (λ k. mark (needs d k at)) (range_with_len a n))) ≡ Ok tt → (k : ℕ) → a ≤ k → k < a + n → is_defined context d k ≡ true
   place_need d at zero a context ok k least most = absurd (omega arith)
   place_need d at (suc n) a context ok k least most = elim (cases_eq k a) [
-    | inl same ↦ rw same (rule_holds (is_defined context d a) (NotDefined at) (first_of_two context (mark (needs d a at)) (each (λ k. mark (needs d k at)) (range_with_len (a + 1) n)) ok))
+    | inl same ↦ rw same (rule_holds (is_defined context d a) (NotDefined at a) (first_of_two context (mark (needs d a at)) (each (λ k. mark (needs d k at)) (range_with_len (a + 1) n)) ok))
     | inr other ↦ place_need d at n (a + 1) (after context (mark (needs d a at))) (rest_of_two context (mark (needs d a at)) (each (λ k. mark (needs d k at)) (range_with_len (a + 1) n)) ok) k (omega arith) (omega arith)
   ]
 

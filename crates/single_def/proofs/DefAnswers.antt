@@ -32,7 +32,7 @@ memory_or_not (Bounds at) = inr (λ e. cc)
 memory_or_not (Delay at) = inr (λ e. cc)
 memory_or_not (Shift at) = inr (λ e. cc)
 memory_or_not (DefinedTwice at) = inr (λ e. cc)
-memory_or_not (NotDefined at) = inr (λ e. cc)
+memory_or_not (NotDefined at k) = inr (λ e. cc)
 memory_or_not (TooLarge at) = inr (λ e. cc)
 memory_or_not Memory = inl refl
 

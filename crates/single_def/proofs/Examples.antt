@@ -53,7 +53,7 @@ parameter : met (alone (equation (place (codes "x") 45 []) (bare (codes "x") 49)
 parameter = refl
 
 -- (i : 3 .. 0) :: begin y = x; end;
-empty_loop : met (alone (loop (codes "i") (whole 3 50) (whole 0 55) (items_of (y_is_x 67 ∷ [])) 45 ∷ [])) ≡ Err (NotDefined 24)
+empty_loop : met (alone (loop (codes "i") (whole 3 50) (whole 0 55) (items_of (y_is_x 67 ∷ [])) 45 ∷ [])) ≡ Err (NotDefined 24 0)
 empty_loop = refl
 
 -- var a[4] : fix<8,0>; (i : 0 .. 3) :: begin a[i] = x; end; a[3] = x; y = a[0];

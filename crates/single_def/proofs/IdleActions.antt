@@ -1,10 +1,9 @@
 -- Actions that do nothing in a turn may be left out.
-use Rattle.std.proofs.Common.{◌≡◌, ◌∙◌, ◌+ℤ◌, ℕ, ℤ, pos, List, [], ◌∷◌, ◌++◌, Option, Some, None, Bool, true, false, Result, Ok, Err, refl, sym, ap, int_lt, map, take, length, slice_index_or, ◌<◌, ◌≤◌, ◌≤ℤ◌, ◌+◌, ◌-◌, subst, arith}
+use Rattle.std.proofs.Common.{◌≡◌, ◌∙◌, ◌+ℤ◌, ℕ, ℤ, pos, List, [], ◌∷◌, ◌++◌, Option, Some, None, true, Result, Ok, Err, refl, sym, ap, int_lt, map, take, length, slice_index_or, ◌<◌, ◌≤ℤ◌, ◌+◌, ◌-◌, subst, arith}
 use Rattle.std.proofs.lemmas.List.{take_more}
-use Rattle.std.specs.List.{range_with_len}
 use Rattle.single_def.specs.ElementRules.{count_up}
 use Rattle.single_def.specs.Private.Numbers.{number_value}
-use Rattle.single_def.specs.Private.Actions.{Action, Actions, check, define, define_all, preset, count, enter, repeat, actions_of, Found, State, ◌>>=◌, for_each, count_in, in_found, value_or, run_action, run_actions, run_turn, run_turns}
+use Rattle.single_def.specs.Private.Actions.{Action, Actions, check, define, define_all, preset, count, enter, repeat, actions_of, Found, State, ◌>>=◌, count_in, in_found, value_or, run_action, run_actions, run_turn, run_turns}
 use Rattle.single_def.specs.Private.Blocks.{has_none, idle_action, DoSame, IsBlock}
 use Rattle.single_def.specs.declared.actions.Bound.{Bound}
 use Rattle.single_def.specs.declared.fault.DefFault.{DefFault}

@@ -214,23 +214,22 @@ module _ (ds : List Decl) (known : Known) where
   Bits context = (e j : ℕ) → IsPlace ds e j → slice_get known.defined (first_of ds e + j) ≡ Some (is_defined context e j)
 
   need_is : (context : Context) (d k at : ℕ) (b : Bool) → is_defined context d k ≡ b → slice_get known.defined (first_of ds d + k) ≡ Some b
-      → first (table_rules context (mark (needs d k at))) ≡ is_defined_at known (first_of ds d + k) at
+      → first (table_rules context (mark (needs d k at))) ≡ is_defined_at known (first_of ds d + k) at k
   need_is context d k at true e bit = rw (e, bit) refl
   need_is context d k at false e bit = rw (e, bit) refl
 
   place_needed : (d at n a : ℕ) → ((k : ℕ) → a ≤ k → k < a + n → IsPlace ds d k) → (context : Context) → Bits context
-      → IsNeeded context (each (λ k. mark (needs d k at)) (range_with_len a n)) (for_each (λ n _. is_defined_at known n at) (range_with_len (first_of ds d + a) n) tt)
+      → IsNeeded context (each (λ k. mark (needs d k at)) (range_with_len a n)) (for_each (λ k _. is_defined_at known (first_of ds d + k) at k) (range_with_len a n) tt)
   place_needed d at zero a is context bits = record { holds = refl; load = refl; defined = λ e j. refl; instances = λ number front. refl }
   place_needed d at (suc n) a is context bits =
       let place = is a (omega arith) (omega arith) in
       let rest = place_needed d at n (a + 1) (λ k least most. is k (omega arith) (omega arith)) (after context (mark (needs d a at))) (λ e j other. bits e j other) in
       let own = need_is context d a at (is_defined context d a) refl (bits d a place) in
-      let shift : first_of ds d + a + 1 ≡ first_of ds d + (a + 1) = omega arith in
       let more = sum_by-cons load_of (needs d a at) context.of_program in
       record {
         holds = ap (λ (r : Result (Unit {0}) DefFault). r >> first_in (row_rules (after context (mark (needs d a at))) (each (λ k. mark (needs d k at)) (range_with_len (a + 1) n)))) own
-            ∙ ap (λ (q : Result (Unit {0}) DefFault). is_defined_at known (first_of ds d + a) at >> q) rest.holds
-            ∙ sym (unit_then (is_defined_at known (first_of ds d + a) at) _ (for_each (λ n _. is_defined_at known n at) (range_with_len (first_of ds d + a + 1) n)) (ap (λ m. for_each (λ n _. is_defined_at known n at) (range_with_len m n) tt) shift));
+            ∙ ap (λ (q : Result (Unit {0}) DefFault). is_defined_at known (first_of ds d + a) at a >> q) rest.holds
+            ∙ sym (unit_then (is_defined_at known (first_of ds d + a) at a) _ (for_each (λ k _. is_defined_at known (first_of ds d + k) at k) (range_with_len (a + 1) n)) refl);
         load = rest.load ∙ omega (arith, more);
         defined = rest.defined;
         instances = rest.instances;
@@ -248,12 +247,11 @@ module _ (ds : List Decl) (known : Known) where
       let next : m + element_count x.dims ≡ first_of ds (d + 1) = ap (λ n. n + element_count x.dims) is ∙ sym (step d x here) in
       let rest = all_needed (d + 1) (m + element_count x.dims) xs (λ i y e. subst (λ e. slice_get ds e ≡ Some y) (omega arith) (stand (suc i) y e)) next
       step later (λ e j other. bits e j other ∙ ap Some (sym (own.defined e j))) in
-      let first_is : first_of ds d + 0 ≡ m = omega (arith, is) in
       record {
         holds = ap (λ (r : Result (Unit {0}) DefFault). r >> first_in (row_rules later (each_from (λ d decl. each_place (λ k. needs d k decl.at) decl) (d + 1) xs))) own.holds
-            ∙ ap (λ (q : Result (Unit {0}) DefFault). for_each (λ n _. is_defined_at known n x.at) (range_with_len (first_of ds d + 0) (element_count x.dims)) tt >> q) rest.holds
-            ∙ ap (λ n. for_each (λ n _. is_defined_at known n x.at) (range_with_len n (element_count x.dims)) tt >> all_defined known (signals_from (m + element_count x.dims) xs)) first_is
-            ∙ sym (unit_then (for_each (λ n _. is_defined_at known n x.at) (range_with_len m (element_count x.dims)) tt) _ (for_each (λ s _. are_defined known s) (signals_from (m + element_count x.dims) xs)) refl);
+            ∙ ap (λ (q : Result (Unit {0}) DefFault). for_each (λ k _. is_defined_at known (first_of ds d + k) x.at k) (range_with_len 0 (element_count x.dims)) tt >> q) rest.holds
+            ∙ ap (λ n. for_each (λ k _. is_defined_at known (n + k) x.at k) (range_with_len 0 (element_count x.dims)) tt >> all_defined known (signals_from (m + element_count x.dims) xs)) (sym is)
+            ∙ sym (unit_then (for_each (λ k _. is_defined_at known (m + k) x.at k) (range_with_len 0 (element_count x.dims)) tt) _ (for_each (λ s _. are_defined known s) (signals_from (m + element_count x.dims) xs)) refl);
         load = rest.load ∙ own.load;
         defined = λ e j. rest.defined e j ∙ own.defined e j;
         instances = λ number front. ap (λ f. row_instances number f (each_from (λ d decl. each_place (λ k. needs d k decl.at) decl) (d + 1) xs)) (own.instances number front) ∙ rest.instances number front;

@@ -86,7 +86,7 @@ abbrev pub mark_rules : Context → Mark → Rules DefFault
 mark_rules context (given d k) = parts none
 mark_rules context (defines d k at) = unless (not (is_defined context d k)) (DefinedTwice at)
 mark_rules context (presets d k s at) = unless (not (is_preset context d k s)) (DefinedTwice at)
-mark_rules context (needs d k at) = unless (is_defined context d k) (NotDefined at)
+mark_rules context (needs d k at) = unless (is_defined context d k) (NotDefined at k)
 mark_rules context (counts load at) = unless (nat_le (load_before context + load) max_load) (TooLarge at)
 
 -- the context after a table; the marks of an instance in it are not of the instance around that

@@ -180,5 +180,13 @@ pub(crate) fn block_at<'a>(
     if k < block.until {
         return Ok(block);
     }
-    block_from(alloc, outer, k, turn_at(first, last, k), last, actions, stack)
+    block_from(
+        alloc,
+        outer,
+        k,
+        turn_at(first, last, k),
+        last,
+        actions,
+        stack,
+    )
 }

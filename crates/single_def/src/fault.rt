@@ -24,9 +24,9 @@ pub enum DefFault {
     /// A second definition of an element, or a second initial value for one sample.
     #[error("defined twice")]
     DefinedTwice(u32),
-    /// An element without a definition.
+    /// An element without a definition: the position of its declaration, and its row-major place in that.
     #[error("not defined")]
-    NotDefined(u32),
+    NotDefined { at: u32, place: u32 },
     /// A load above 8,192, an instance inside 65 calls, or more than 16 input or output words.
     #[error("too large")]
     TooLarge(u32),

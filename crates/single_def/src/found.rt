@@ -20,8 +20,6 @@ pub(crate) struct Found {
     pub load: u32,
     pub instances: List<Instance>,
     pub elements: List<Element>,
-    /// The place in its signal of the element that was found without a definition.
-    pub undefined: u32,
     /// For manifest constants.
     pub stack: Vec<i32>,
     /// For manifest constants in several turns at once.
@@ -36,7 +34,6 @@ impl Found {
             load: 0,
             instances: List::new(alloc),
             elements: List::new(alloc),
-            undefined: 0,
             stack: Vec::new(alloc),
             rows: Vec::new(alloc),
         }

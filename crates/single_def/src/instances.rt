@@ -172,7 +172,16 @@ fn run_turns(
     let mut block = Block::empty(inside.alloc);
     for k in 0..turn_count(first, last) {
         let turn = turn_at(first, last, k);
-        block = block_at(inside.alloc, outer, first, last, k, block, actions, &mut found.rows)?;
+        block = block_at(
+            inside.alloc,
+            outer,
+            first,
+            last,
+            k,
+            block,
+            actions,
+            &mut found.rows,
+        )?;
         run_turn(inside, depth, outer, turn, &block.actions, at, known, found)?;
     }
     Ok(())
@@ -222,7 +231,7 @@ fn run_body(
     let mut known = Known::at_first(inside.alloc, body.given, body.count)?;
     let actions = all(inside.alloc, &body.actions)?;
     run_actions(within, depth, &[], &actions, &mut known, found)?;
-    check_all_defined(&known, &body.signals, &mut found.undefined)
+    check_all_defined(&known, &body.signals)
 }
 
 /// An instance of the function at a position among the tops, which a call at `site` makes.

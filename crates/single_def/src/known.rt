@@ -116,37 +116,32 @@ pub(crate) fn preset_place(
 }
 
 /// The element at a number is defined.
-fn check_defined(known: &Known, element: u64, at: u32) -> Result<(), DefFault>
-    ensures { result ≡ run.is_defined_at (known_of known.now) element at }
+fn check_defined(known: &Known, element: u64, at: u32, place: u32) -> Result<(), DefFault>
+    ensures { result ≡ run.is_defined_at (known_of known.now) element at place }
 {
     if element < known.defined.len() as u64 && known.defined[element as usize] {
         Ok(())
     } else {
-        Err(DefFault::NotDefined(at))
+        Err(DefFault::NotDefined { at, place })
     }
 }
 
-/// Each element of a signal is defined. `undefined` gets the place of the first that is not.
-fn check_signal(known: &Known, signal: &Signal, undefined: &mut u32) -> Result<(), DefFault>
+/// Each element of a signal is defined.
+fn check_signal(known: &Known, signal: &Signal) -> Result<(), DefFault>
     ensures { result ≡ are_defined (known_of known.now) signal.now }
 {
     for k in 0..signal.count {
-        *undefined = k;
-        check_defined(known, element_at(signal.first, k), signal.at)?;
+        check_defined(known, element_at(signal.first, k), signal.at, k)?;
     }
     Ok(())
 }
 
-/// Each element of the signals is defined. `undefined` gets the place in its signal of the first that is not.
-pub(crate) fn check_all_defined(
-    known: &Known,
-    signals: &[Signal],
-    undefined: &mut u32,
-) -> Result<(), DefFault>
+/// Each element of the signals is defined.
+pub(crate) fn check_all_defined(known: &Known, signals: &[Signal]) -> Result<(), DefFault>
     ensures { result ≡ all_defined (known_of known.now) signals.now }
 {
     for signal in signals {
-        check_signal(known, signal, undefined)?;
+        check_signal(known, signal)?;
     }
     Ok(())
 }

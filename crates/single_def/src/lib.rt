@@ -51,14 +51,8 @@ use words::check_words;
 /// The most instances of which each is inside the one before: an instance is inside 64 calls at most.
 const MAX_NESTED: u32 = 65;
 
-/// The walk over the instances of a program: the instances and elements on it, or the first fault on it. `undefined`
-/// gets the place in its signal of an element without a definition.
-fn run_plan(
-    alloc: Global,
-    program: &Program,
-    names: &Names,
-    undefined: &mut u32,
-) -> Result<Elements, DefFault>
+/// The walk over the instances of a program: the instances and elements on it, or the first fault on it.
+fn run_plan(alloc: Global, program: &Program, names: &Names) -> Result<Elements, DefFault>
     requires clear { IsClear (name_faults (view program.now)) }
     requires tops { names.now.tops ≡ top_names (view program.now) }
     ensures { GivesValue result (run_program (view program.now) names.now.main) }
@@ -71,9 +65,7 @@ fn run_plan(
         calls: MAX_NESTED,
         number: 0,
     };
-    let entered = enter(inside, u32::MAX, names.main, 0, &[], &mut found);
-    *undefined = found.undefined;
-    entered?;
+    enter(inside, u32::MAX, names.main, 0, &[], &mut found)?;
     Ok(Elements {
         instances: found.instances,
         elements: found.elements,
@@ -98,33 +90,6 @@ pub fn check_defs(alloc: Global, program: &Program, names: &Names) -> Result<Ele
     ensures each_fault { (fault : FaultType) → IsFirst (element_faults (view program.now)) fault
         → AnswersFault DefFault.Memory fault result }
 {
-    let mut undefined = 0;
-    check_defs_with(alloc, program, names, &mut undefined)
-}
-
-/// The same as `check_defs`. Where the answer is `NotDefined`, `undefined` gets the row-major place in its declaration
-/// of the element that it is about.
-pub fn check_defs_with(
-    alloc: Global,
-    program: &Program,
-    names: &Names,
-    undefined: &mut u32,
-) -> Result<Elements, DefFault>
-    requires clear { IsClear (name_faults (view program.now)) }
-    requires tops { names.now.tops ≡ top_names (view program.now) }
-    requires main { IsMain (view program.now) names.now.main }
-    ensures ok { OnOk result (IsClear (element_faults (view program.now))) }
-    ensures fault { IfErr result (λ fault. fault ≢ DefFault.Memory
-        → IsFirst (element_faults (view program.now)) fault) }
-    ensures elements { IfOk result (IsExpansion (view program.now)) }
-    ensures numbering { IfOk result (IsNumbering (view program.now)) }
-    ensures single { OnOk result (HasCallsApart (view program.now) → HasSingleDefinitions (view program.now)) }
-
-    // The first fault decides the answer, unless memory runs out.
-    ensures each_ok { IsClear (element_faults (view program.now)) → AnswersOk DefFault.Memory result }
-    ensures each_fault { (fault : FaultType) → IsFirst (element_faults (view program.now)) fault
-        → AnswersFault DefFault.Memory fault result }
-{
     check_words(program, names.main)?;
-    run_plan(alloc, program, names, undefined)
+    run_plan(alloc, program, names)
 }

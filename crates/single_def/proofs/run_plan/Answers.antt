@@ -12,12 +12,12 @@ bodies-requires-clause-apart c = names_apart (view c.args.program.now) c.require
 pub bodies-requires-clause-sized : goal.bodies-requires-clause-sized
 bodies-requires-clause-sized c = all_sized (view c.args.program.now) c.requires.clear
 
-pub returns-in_err-entered : goal.returns-in_err-entered
-returns-in_err-entered c =
+pub returns-in_err-enter : goal.returns-in_err-enter
+returns-in_err-enter c =
     program_err (view c.args.program.now) c.args.names.now.main c.deref.result.now (found_of c.new-found.result)
-    (ap (map view_body) c.deref.ensures.value ∙ c.in_ok-plan.ensures) c.new-found.ensures _ _ c.from_residual-in_err-entered.ensures.1 c.in_err-entered.ensures
+    (ap (map view_body) c.deref.ensures.value ∙ c.in_ok-plan.ensures) c.new-found.ensures _ _ c.from_residual-in_err-enter.ensures.1 c.in_err-enter.ensures
 
 pub returns : goal.returns
 returns c =
     program_ok (view c.args.program.now) c.args.names.now.main c.deref.result.now (found_of c.new-found.result)
-    (ap (map view_body) c.deref.ensures.value ∙ c.in_ok-plan.ensures) c.new-found.ensures (found_of c.enter-entered.new.found) c.in_ok-entered.ensures
+    (ap (map view_body) c.deref.ensures.value ∙ c.in_ok-plan.ensures) c.new-found.ensures (found_of c.enter.new.found) c.in_ok-enter.ensures

@@ -162,16 +162,17 @@ abbrev pub signal_elements : (number : ℕ) → (decl : ℕ) → List Signal →
 signal_elements number d [] = []
 signal_elements number d (s ∷ signals) = places_of number d s.count ++ signal_elements number (d + 1) signals
 
-abbrev pub defined_or : (at : ℕ) → Option Bool → Result (Unit {0}) DefFault
-defined_or at (Some true) = Ok tt
-defined_or at _ = Err (NotDefined at)
+abbrev pub defined_or : (at place : ℕ) → Option Bool → Result (Unit {0}) DefFault
+defined_or at k (Some true) = Ok tt
+defined_or at k _ = Err (NotDefined at k)
 
-abbrev pub is_defined_at : Known → ℕ → (at : ℕ) → Result (Unit {0}) DefFault
-is_defined_at known n at = defined_or at (slice_get known.defined n)
+-- the element with the number n, at a place of the declaration that stands at this byte
+abbrev pub is_defined_at : Known → (n at place : ℕ) → Result (Unit {0}) DefFault
+is_defined_at known n at k = defined_or at k (slice_get known.defined n)
 
 -- each element of a signal is defined
 abbrev pub are_defined : Known → Signal → Result (Unit {0}) DefFault
-are_defined known s = for_each (λ n _. is_defined_at known n s.at) (range_with_len s.first s.count) tt
+are_defined known s = for_each (λ k _. is_defined_at known (s.first + k) s.at k) (range_with_len 0 s.count) tt
 
 abbrev pub all_defined : Known → List Signal → Result (Unit {0}) DefFault
 all_defined known signals = for_each (λ s _. are_defined known s) signals tt

@@ -1,8 +1,8 @@
 -- Which actions do something in a turn of a loop.
-use Rattle.std.specs.Prelude.{◌≡◌, ◌<◌, ◌≤◌, ◌≤ℤ◌, ◌+ℤ◌, ℕ, ℤ, pos, int_lt, Bool, false, Option, Some, None}
+use Rattle.std.specs.Prelude.{◌≡◌, ◌<◌, ◌≤◌, ◌≤ℤ◌, ◌+ℤ◌, ℕ, ℤ, pos, int_lt, Bool, false, Option, Some}
 use Rattle.std.specs.Prelude.{List, Vec, [], ◌∷◌, ◌++◌, map, Result}
 use Rattle.std.specs.Global.{Global}
-use Rattle.std.proofs.Common.{Bor}
+use Rattle.std.specs.Borrow.{Bor}
 use Rattle.single_def.specs.Private.Numbers.{number_value}
 use Rattle.single_def.specs.Private.Actions.{Action, repeat, view_action, actions_of, Found, State, run_actions}
 use Rattle.single_def.specs.declared.actions.Action.{Action as RustAction}

@@ -17,11 +17,11 @@ returns-in-Err-clause-err c =
     rw c.name_ending.ensures
     (name_error c.args.source.now (view c.in_ok-program.program) c.in_ok-program.ensures.ok c.in-Err.fault c.in-Err.ensures.fault)
 
-pub returns-in-Err-check_defs_with-clause-err : goal.returns-in-Err-check_defs_with-clause-err
-returns-in-Err-check_defs_with-clause-err c =
+pub returns-in-Err-check_defs-clause-err : goal.returns-in-Err-check_defs-clause-err
+returns-in-Err-check_defs-clause-err c =
     rw c.def_ending.ensures
     (def_error c.args.source.now (view c.in_ok-program.program) c.in_ok-program.ensures.ok c.in-Ok.ensures.ok
-    c.in-Err-check_defs_with.fault c.in-Err-check_defs_with.ensures.fault)
+    c.in-Err-check_defs.fault c.in-Err-check_defs.ensures.fault)
 
 pub returns-in-Err-check_types-clause-err : goal.returns-in-Err-check_types-clause-err
 returns-in-Err-check_types-clause-err c =

@@ -1,4 +1,4 @@
-use Rattle.std.proofs.Common.{◌≡◌, ◌∙◌, ◌+◌, ◌++◌, ◌∷◌, [], map, take, sym, ap, subst, List, Bor, IsTrue}
+use Rattle.std.proofs.Common.{◌≡◌, ◌∙◌, ◌++◌, ◌∷◌, [], map, take, sym, ap, subst, List, Bor}
 use Rattle.single_def.specs.declared.actions.Action.{Action as RustAction}
 use Rattle.single_def.specs.Private.Actions.{Action, view_action}
 use Rattle.single_def.specs.Private.Lanes.{turns_at}
@@ -20,7 +20,7 @@ loop-action-preserved c k lt =
     subst (λ (all : List Action). DoSame turns (seen c.if-not-branch.kept.items) all) (sym taken) (elim c.if-not-branch.branch [
       | then-not-branch+in_ok-push w ↦
           let items : seen c.if-not-branch.kept.items ≡ seen c.loop-action.kept.items ++ x ∷ [] =
-              ap (λ v. seen v.items) w.kept-is ∙ ap seen w.in_ok-push.ensures.items ∙ mapped_more (λ (a : Bor RustAction). view_action a.now) c.loop-action.kept.items _ in
+          ap (λ v. seen v.items) w.kept-is ∙ ap seen w.in_ok-push.ensures.items ∙ mapped_more (λ (a : Bor RustAction). view_action a.now) c.loop-action.kept.items _ in
           subst (λ (kept : List Action). DoSame turns kept (some ++ x ∷ [])) (sym items) (kept_too turns (seen c.loop-action.kept.items) some so_far x)
       | else-not-branch w ↦
           let items : seen c.if-not-branch.kept.items ≡ seen c.loop-action.kept.items = ap (λ v. seen v.items) w.kept-is in

@@ -4,7 +4,7 @@ use Rattle.std.proofs.lemmas.Int.{to_z-of_z}
 use Rattle.single_def.specs.declared.actions.Action.{Action as RustAction}
 use Rattle.single_def.specs.Private.Blocks.{seen}
 use Rattle.single_def.proofs.IdleActions.{turn_same, block_after}
-use Rattle.single_def.specs.Private.Actions.{Action, Gives, State, Found, actions_of, view_action, view_actions, view_body, run_actions, run_body, run_turn, run_instance, all_defined}
+use Rattle.single_def.specs.Private.Actions.{Action, Gives, State, Found, actions_of, view_action, view_body, run_actions, run_body, run_turn, run_instance, all_defined}
 use Rattle.single_def.specs.ElementRules.{count_up}
 use Rattle.single_def.specs.Private.States.{known_of, found_of, state_of, made_in}
 use Rattle.single_def.specs.declared.fault.DefFault.{DefFault}
@@ -33,7 +33,7 @@ run_turns-returns-in_err-run_turn t c =
     let less : c.loop-k.k < count = omega (arith, end) in
     let s = state_of c.loop-k.known c.loop-k.found in
     let same = turn_same inside c.args.outer.now c.args.at c.args.first c.args.last c.turn_at-turn.result c.loop-k.k c.in_ok-block.block.until (seen c.in_ok-block.block.actions) all at_k block c.in_ok-block.ensures.more less s
-        ∙ ap (λ (xs : List (Bor RustAction)). run_turn inside c.args.outer.now (actions_of (map (λ (a : Bor RustAction). view_action a.now) xs)) c.args.at c.turn_at-turn.result s) (sym c.deref.ensures.value) in
+    ∙ ap (λ (xs : List (Bor RustAction)). run_turn inside c.args.outer.now (actions_of (map (λ (a : Bor RustAction). view_action a.now) xs)) c.args.at c.turn_at-turn.result s) (sym c.deref.ensures.value) in
     let fails = simp (to_z-of_z, fits) at c.in_err-run_turn.ensures in
     each_gives (λ k. turn (c.args.first +ℤ pos k)) 0 c.loop-k.k count less s _ so_far
     (state_of c.run_turn.new.known c.run_turn.new.found) c.loop-k.k (omega arith) _ _ c.from_residual-in_err-run_turn.ensures.1
@@ -53,11 +53,13 @@ run_turns-loop-k-preserved t c =
     let less : c.loop-k.k < count = omega (arith, end) in
     let s = state_of c.loop-k.known c.loop-k.found in
     let same = turn_same inside c.args.outer.now c.args.at c.args.first c.args.last c.turn_at-turn.result c.loop-k.k c.in_ok-block.block.until (seen c.in_ok-block.block.actions) all at_k block c.in_ok-block.ensures.more less s
-        ∙ ap (λ (xs : List (Bor RustAction)). run_turn inside c.args.outer.now (actions_of (map (λ (a : Bor RustAction). view_action a.now) xs)) c.args.at c.turn_at-turn.result s) (sym c.deref.ensures.value) in
+    ∙ ap (λ (xs : List (Bor RustAction)). run_turn inside c.args.outer.now (actions_of (map (λ (a : Bor RustAction). view_action a.now) xs)) c.args.at c.turn_at-turn.result s) (sym c.deref.ensures.value) in
     let passes = simp (to_z-of_z, fits) at c.in_ok-run_turn.ensures in
-    simp (to_z-of_z, c.ranges.first, c.ranges.last) (each_passes (λ k. turn (c.args.first +ℤ pos k)) 0 c.loop-k.k count less s _ so_far
-    c.loop-k.k (omega arith) (state_of c.run_turn.new.known c.run_turn.new.found) (same ∙ passes),
-    block_after c.args.outer.now c.args.first c.args.last c.loop-k.k c.in_ok-block.block.until (seen c.in_ok-block.block.actions) all block)
+    simp (to_z-of_z, c.ranges.first, c.ranges.last) (
+      each_passes (λ k. turn (c.args.first +ℤ pos k)) 0 c.loop-k.k count less s _ so_far
+          c.loop-k.k (omega arith) (state_of c.run_turn.new.known c.run_turn.new.found) (same ∙ passes),
+      block_after c.args.outer.now c.args.first c.args.last c.loop-k.k c.in_ok-block.block.until (seen c.in_ok-block.block.actions) all block,
+    )
 
 pub enter-returns : goal.enter-returns
 enter-returns t c =

@@ -5,4 +5,4 @@ use Rattle.single_def.specs.Private.States.{known_of}
 use Rattle.single_def.proofs.known.check_signal.Given as goal
 
 abbrev pub invariant-loop-k : goal.invariant-loop-k
-invariant-loop-k l = for_each (λ n _. is_defined_at (known_of l.known) n l.signal.at) (range_with_len (l.signal.first + l.k) (l.signal.count - l.k)) tt ≡ are_defined (known_of l.known) l.signal
+invariant-loop-k l = for_each (λ k _. is_defined_at (known_of l.known) (l.signal.first + k) l.signal.at k) (range_with_len (0 + l.k) (l.signal.count - l.k)) tt ≡ are_defined (known_of l.known) l.signal

@@ -1,7 +1,7 @@
 use Rattle.silage_syntax.specs.Tree.{view}
 use Rattle.single_def.proofs.SoundNames.{all_sized}
 use Rattle.single_def.proofs.DefAnswers.{told_answer, words_fail, walk_answer}
-use Rattle.single_def.proofs.check_defs_with.Goals as goal
+use Rattle.single_def.proofs.check_defs.Goals as goal
 
 pub check_words-requires : goal.check_words-requires
 check_words-requires c = all_sized (view c.args.program.now) c.requires.clear
