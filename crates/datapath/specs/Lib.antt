@@ -1,0 +1,6 @@
+pub mod Values
+pub mod Table
+pub mod Reading
+pub mod Names
+pub mod PathOf
+pub mod Private

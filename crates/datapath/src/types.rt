@@ -1,0 +1,78 @@
+ghost use Rattle.std.specs.Prelude.{◌≡◌};
+ghost use Rattle.datapath.specs.Table.{ports};
+
+use lists::{List, Name};
+
+/// The kinds of functional units.
+#[derive(Clone, Copy, Debug, PartialEq, Eq)]
+pub enum Kind {
+    Input,
+    Output,
+    Rom,
+    Alu,
+    Mul,
+    Sel,
+    Ram,
+    Acu,
+}
+
+impl Kind {
+    /// How many ports a unit of the kind has.
+    pub fn ports(self) -> usize
+        ensures { result ≡ ports self }
+    {
+        match self {
+            Kind::Input | Kind::Rom | Kind::Acu => 0,
+            Kind::Output => 1,
+            Kind::Alu | Kind::Mul | Kind::Ram => 2,
+            Kind::Sel => 3,
+        }
+    }
+}
+
+/// A port of a unit, which has a register file of its own.
+#[derive(Clone, Copy, Debug, PartialEq, Eq)]
+pub struct PortRef {
+    pub unit: u8,
+    pub port: u8,
+}
+
+/// A unit of the datapath.
+#[derive(Drop)]
+pub struct Unit {
+    pub name: Name,
+    pub kind: Kind,
+    /// How many cycles an operation takes: the result of an issue at cycle T is on its buses in cycle T + latency - 1.
+    pub latency: u8,
+    /// How many cycles after an issue the unit can have the next one: its initiation interval.
+    pub gap: u8,
+    /// How many registers the file of each port has.
+    pub files: List<u16>,
+    /// How many cells a ram has; 0 for the other kinds.
+    pub cells: u32,
+    /// The position of the ram that an acu addresses; 0 for the other kinds.
+    pub ram: u8,
+}
+
+/// A bus of the datapath.
+#[derive(Drop)]
+pub struct Bus {
+    pub name: Name,
+    /// The positions of the units that can drive it.
+    pub from: List<u8>,
+    /// The ports whose files it can be written to.
+    pub to: List<PortRef>,
+}
+
+/// The hardware that a program is compiled for. `docs/DATAPATH.md` says what its numbers may be.
+#[derive(Drop)]
+pub struct Datapath {
+    /// Cycles in a sample.
+    pub period: u16,
+    /// The widest word, in bits.
+    pub word: u8,
+    /// The longest delay, in samples, that register files hold; a longer one takes cells of a ram. Always 0 today.
+    pub hold: u8,
+    pub units: List<Unit>,
+    pub buses: List<Bus>,
+}
