@@ -5,3 +5,8 @@ pub mod Dots
 pub mod Document
 pub mod Fresh
 pub mod Rams
+pub mod Kept
+pub mod AllowedUnits
+pub mod AllowedBuses
+pub mod AllowedPath
+pub mod Plain

@@ -2,6 +2,7 @@ ghost use Rattle.std.specs.Prelude.{◌≡◌, IfOk, map};
 ghost use Rattle.toml.specs.View.{table_view};
 ghost use Rattle.datapath.specs.Reading.{Gives};
 ghost use Rattle.datapath.specs.PathOf.{path_at, path_of};
+ghost use Rattle.datapath.specs.Allowed.{IsDatapath};
 
 use crate::arrays::tables_key;
 use crate::buses::all_buses;
@@ -41,7 +42,8 @@ fn path_at(alloc: Global, table: &Table) -> Result<Datapath, PathFault>
 /// TOML, the top table, each unit's table, the units' names, the rams of the acus, each bus.
 #[tactic(auto, unfolding(crate::specs::PathOf::path_of))]
 pub fn read(alloc: Global, text: &[u8]) -> Result<Datapath, PathFault>
-    ensures { Gives result (path_of text.now) }
+    ensures path { Gives result (path_of text.now) }
+    ensures allowed { IfOk result IsDatapath }
 {
     if text.len() > MOST_BYTES {
         return Err(PathFault::TooLong);
