@@ -1,5 +1,5 @@
 -- The buses of a file without a fault are allowed.
-use Rattle.std.proofs.Common.{◌≡◌, ◌≢◌, ℕ, zero, suc, ◌+◌, ◌-◌, ◌*◌, ◌<◌, ◌≤◌, ◌==◌, nat_lt, Bool, true, false, ◌&&◌, List, [], ◌∷◌, ◌++◌, length, map, get_or, Option, Some, None, option_map, Ok, Err, if◌then◌else◌, refl, ap, sym, ◌∙◌, subst, arith}
+use Rattle.std.proofs.Common.{◌≡◌, ℕ, ◌+◌, ◌-◌, ◌<◌, ◌≤◌, ◌==◌, nat_lt, Bool, true, false, ◌&&◌, List, [], ◌∷◌, ◌++◌, length, map, Option, Some, None, option_map, Ok, if◌then◌else◌, refl, sym, subst, arith}
 use Rattle.std.specs.Prelude.{slice_get, IsSomeAnd}
 use Rattle.std.specs.List.{All, list_any, sum_by}
 use Rattle.std.specs.Option.{ok_or}
@@ -19,10 +19,10 @@ use Rattle.datapath.specs.declared.types.Unit as of_unit
 use Rattle.datapath.specs.Values.{is_within, is_name, text}
 use Rattle.datapath.specs.Table as row
 use Rattle.datapath.specs.Table.{ports, bus_keys, most_entries}
-use Rattle.datapath.specs.Reading.{Read, ◌>>=◌, key, only, in_turn}
+use Rattle.datapath.specs.Reading.{key, only, in_turn}
 use Rattle.datapath.specs.Names.{new_name, last_dot, unit_named, driver, sink, count_at, ports_at, port_of, is_port}
 use Rattle.datapath.specs.PathOf.{room_after, bus_in, bus_at}
-use Rattle.datapath.specs.Allowed.{IsWithin, IsDistinct, IsPort, IsBus}
+use Rattle.datapath.specs.Allowed.{IsDistinct, IsPort, IsBus}
 use Rattle.datapath.proofs.Kept.{bind_ok, same_Ok, passes, some_of, turn_keeps, turn_zips, zip_length, distinct_none, distinct_push, key_ok, within_ok}
 use Rattle.datapath.proofs.AllowedUnits.{name_ok, no_default, no_unit, new_distinct}
 

@@ -1,11 +1,11 @@
 -- A file without a fault describes an allowed datapath.
-use Rattle.std.proofs.Common.{◌≡◌, ℕ, [], ◌≤◌, length, Ok, Err, Result, Some, refl, sym, subst, arith}
+use Rattle.std.proofs.Common.{◌≡◌, ℕ, [], length, Ok, Err, Result, sym, subst, arith}
 use Rattle.std.specs.Prelude.{IfOk}
 use Rattle.toml.specs.Data.{Members}
 use Rattle.datapath.specs.declared.fault.Section.TheVariants as section
 use Rattle.datapath.specs.declared.fault.PathFault.{PathFault}
 use Rattle.datapath.specs.declared.types.Datapath.{Datapath}
-use Rattle.datapath.specs.Values.{whole, a_table}
+use Rattle.datapath.specs.Values.{a_table}
 use Rattle.datapath.specs.Table as row
 use Rattle.datapath.specs.Table.{top_keys}
 use Rattle.datapath.specs.Reading.{Gives, key, only, in_turn}

@@ -1,6 +1,6 @@
 -- The units of a file without a fault are allowed.
-use Rattle.std.proofs.Common.{◌≡◌, ◌≢◌, ℕ, suc, zero, pos, negsuc, ◌+◌, ◌<◌, ◌≤◌, Bool, true, false, ◌&&◌, List, [], ◌∷◌, ◌++◌, length, map, codes, get_or, Option, Some, None, Result, Ok, Err, if◌then◌else◌, refl, ap, sym, ◌∙◌, subst, arith}
-use Rattle.std.specs.Prelude.{slice_get, IsSomeAnd, position, option_map, option_and_then}
+use Rattle.std.proofs.Common.{◌≡◌, ◌≢◌, ℕ, suc, zero, pos, negsuc, ◌≤◌, Bool, true, false, ◌&&◌, List, [], ◌∷◌, ◌++◌, length, map, codes, Option, Some, None, Ok, refl, ap, sym, ◌∙◌, subst, arith}
+use Rattle.std.specs.Prelude.{slice_get, IsSomeAnd, option_map, option_and_then}
 use Rattle.std.specs.List.{All, AllZip, list_any}
 use Rattle.std.specs.Option.{ok_or}
 use Rattle.std.specs.Result.{result_ok}
@@ -11,15 +11,14 @@ use Rattle.std.proofs.lemmas.Option.{slice_get-get_or}
 use Rattle.std.proofs.lemmas.Slice.Eq.{bytes_eq-Decides}
 use Rattle.toml.specs.Data.{Data, Members, string, integer, float, boolean, datetime, array, table, get_member}
 use Rattle.datapath.specs.declared.fault.Section.{Section}
-use Rattle.datapath.specs.declared.fault.Section.TheVariants as section
-use Rattle.datapath.specs.declared.fault.PathFault.TheVariants.{Twice, UnknownUnit}
+use Rattle.datapath.specs.declared.fault.PathFault.TheVariants.{UnknownUnit}
 use Rattle.datapath.specs.declared.types.Kind.{Kind}
 use Rattle.datapath.specs.declared.types.Kind.TheVariants.{Input, Output, Rom, Alu, Mul, Sel, Ram, Acu}
 use Rattle.datapath.specs.declared.types.Unit as of_unit
 use Rattle.datapath.specs.Values.{whole, is_within, is_name, name, kind, array_within}
 use Rattle.datapath.specs.Table as row
 use Rattle.datapath.specs.Table.{ports, is_ram, is_acu, unit_keys, no_files}
-use Rattle.datapath.specs.Reading.{Read, ◌>>=◌, found, key, only, where_has, in_turn}
+use Rattle.datapath.specs.Reading.{◌>>=◌, found, key, only, where_has, in_turn}
 use Rattle.datapath.specs.Names.{ram_named}
 use Rattle.datapath.specs.PathOf.{kind_known, is_known_acu, unit_in, unit_at, unit_name_at, ram_in, ram_at, with_ram, with_rams, units_of}
 use Rattle.datapath.specs.Allowed.{IsWithin, IsDistinct, IsUnit}

@@ -1,7 +1,7 @@
 -- Units that get the positions of their rams one after the other.
 use Rattle.std.proofs.Common.{◌≡◌, ℕ, zero, suc, ◌+◌, ◌<◌, ◌≤◌, List, [], ◌∷◌, ◌++◌, length, take, drop, get_or, refl, ap, sym, ◌∙◌, append_assoc, take-append-drop, arith}
 use Rattle.std.proofs.Math.ListN.{set}
-use Rattle.std.proofs.lemmas.List.{drop_more, drop_all, take_more_set, drop-set}
+use Rattle.std.proofs.lemmas.List.{drop_more, drop_all, take_more_set}
 use Rattle.datapath.specs.declared.types.Unit as of_unit
 use Rattle.datapath.specs.PathOf.{with_ram, with_rams}
 

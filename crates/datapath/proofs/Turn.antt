@@ -3,7 +3,7 @@ use Rattle.std.proofs.Common.{Bor, ◌≡◌, ◌≢◌, ℕ, ◌+◌, ◌<◌, 
 use Rattle.std.proofs.lemmas.List.{drop_more, drop_all}
 use Rattle.datapath.specs.declared.fault.PathFault.{PathFault}
 use Rattle.datapath.specs.declared.fault.PathFault.TheVariants.{Memory}
-use Rattle.datapath.specs.Reading.{Read, ◌>>=◌, in_turn}
+use Rattle.datapath.specs.Reading.{Read, in_turn}
 
 -- what a read of a list of texts shows behind its end
 abbrev pub no_text : Bor (List ℕ)

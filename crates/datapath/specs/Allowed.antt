@@ -3,7 +3,6 @@ use Rattle.std.specs.Prelude.{true, ◌≡◌, ◌≢◌, ℕ, ◌<◌, ◌≤�
 use Rattle.std.specs.List.{All, AllPairs, sum_by}
 use Rattle.datapath.specs.declared.types.Bus.{Bus}
 use Rattle.datapath.specs.declared.types.Datapath.{Datapath}
-use Rattle.datapath.specs.declared.types.Kind.{Kind}
 use Rattle.datapath.specs.declared.types.Kind.TheVariants.{Ram, Acu}
 use Rattle.datapath.specs.declared.types.PortRef.{PortRef}
 use Rattle.datapath.specs.declared.types.Unit as of_unit

@@ -1,5 +1,5 @@
 -- Which datapath a file describes, or the first fault that it has: PathOf.
-use Rattle.std.specs.Prelude.{ℕ, ◌-◌, nat_lt, ◌^◌, List, [], ◌∷◌, length, map, codes, Bool, true, false, Option, Some, None, option_map, option_and_then, Result, Ok, Err, if◌then◌else◌}
+use Rattle.std.specs.Prelude.{ℕ, ◌-◌, nat_lt, ◌^◌, List, [], ◌∷◌, length, map, codes, Bool, false, Option, Some, None, option_and_then, Ok, Err, if◌then◌else◌}
 use Rattle.std.specs.List.{sum_by}
 use Rattle.std.specs.Option.{ok_or}
 use Rattle.std.specs.Result.{result_ok}
@@ -50,7 +50,8 @@ is_known_acu None = false
 -- the position of the ram that an acu's table names
 unfoldable pub ram_in : Section → List of_unit.Unit → Members → Read ℕ
 ram_in s units t =
-    where_has (is_known_acu (kind_known t)) (key s t row.ram >>= λ name. ok_or (ram_named units name) (UnknownUnit s)) 0
+    where_has (is_known_acu (kind_known t))
+    (key s t row.ram >>= λ name. ok_or (ram_named units name) (UnknownUnit s)) 0
 
 abbrev pub ram_at : List of_unit.Unit → List ℕ → Members → Read ℕ
 ram_at units before t = ram_in (section.Unit (length before)) units t

@@ -69,7 +69,8 @@ fn ram_key<'a>(section: Section, table: &'a Table) -> Result<&'a str, PathFault>
 
 /// Judges the name of the ram that an acu addresses.
 fn has_ram_key(section: Section, table: &Table, kind: Kind) -> Result<&str, PathFault>
-    ensures { GivesAs (λ name. name.now) result (where_has (is_acu kind) (key section (table_view table.now) row.ram) []) }
+    ensures { GivesAs (λ name. name.now) result
+        (where_has (is_acu kind) (key section (table_view table.now) row.ram) []) }
 {
     match kind {
         Kind::Acu => ram_key(section, table),

@@ -8,6 +8,7 @@ mod manifests;
 mod names;
 mod operations;
 mod page;
+mod path;
 mod repeat;
 mod rows;
 mod source;
@@ -27,7 +28,7 @@ use std::rt::{Env, Files};
 use std::{env, fs};
 
 const USAGE: &str =
-    "usage: silc_show tokens|tree|text|names|elements|types SRC | manifests|words TABLE | image MIC \
+    "usage: silc_show tokens|tree|text|names|elements|types SRC | manifests|words TABLE | image MIC | datapath DP \
      | rows WIDTHS SAMPLES | repeat CALL TURNS FILE";
 
 const BAD_WORDS: u8 = 2;
@@ -36,7 +37,7 @@ fn read<R: Files + AllocGlobal>(rt: &R, file: &str) -> Result<Vec<u8>> {
     fs::read(rt, file).context(format_args!("{file} can't be read"))
 }
 
-/// A layer, which answers for a source, a table or a microcode file.
+/// A layer, which answers for a source, a table, a microcode file or a datapath file.
 #[derive(Clone, Copy)]
 enum Layer {
     Tokens,
@@ -48,6 +49,7 @@ enum Layer {
     Manifests,
     Words,
     Image,
+    Datapath,
 }
 
 fn layer_called(word: &str) -> Option<Layer> {
@@ -61,6 +63,7 @@ fn layer_called(word: &str) -> Option<Layer> {
         "manifests" => Some(Layer::Manifests),
         "words" => Some(Layer::Words),
         "image" => Some(Layer::Image),
+        "datapath" => Some(Layer::Datapath),
         _ => None,
     }
 }
@@ -77,6 +80,7 @@ fn answer(alloc: Global, layer: Layer, bytes: &[u8]) -> Result<Page, Refusal> {
         Layer::Manifests => manifests::page(alloc, bytes),
         Layer::Words => words::page(alloc, bytes),
         Layer::Image => image::page(alloc, bytes),
+        Layer::Datapath => path::page(alloc, bytes),
     }
 }
 

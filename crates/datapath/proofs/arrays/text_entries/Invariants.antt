@@ -1,5 +1,5 @@
 use Rattle.std.proofs.Common.{◌≡◌, take, Ok, map}
-use Rattle.toml.specs.View.{items_view, table_view}
+use Rattle.toml.specs.View.{items_view}
 use Rattle.datapath.specs.Values.{entries, text}
 use Rattle.datapath.proofs.arrays.text_entries.Given as goal
 

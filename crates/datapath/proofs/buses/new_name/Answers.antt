@@ -1,4 +1,4 @@
-use Rattle.std.proofs.Common.{sym, ◌∙◌, refl}
+use Rattle.std.proofs.Common.{refl}
 use Rattle.std.specs.Str.{bytes_eq}
 use Rattle.datapath.proofs.AmongKeys.{list_any-map}
 use Rattle.datapath.proofs.buses.new_name.Goals as goal

@@ -1,4 +1,4 @@
-use Rattle.std.proofs.Common.{◌≡◌, ◌+◌, ◌-◌, ◌<◌, drop, None, refl, arith}
+use Rattle.std.proofs.Common.{◌≡◌, ◌+◌, ◌-◌, drop, None, refl, arith}
 use Rattle.datapath.specs.Names.{last_dot}
 use Rattle.datapath.proofs.Dots.{last_dot_here}
 use Rattle.datapath.proofs.entries.last_dot.Goals as goal

@@ -1,4 +1,4 @@
-use Rattle.std.proofs.Common.{◌≡◌, List, ℕ, Bor, get_or, sym}
+use Rattle.std.proofs.Common.{List, ℕ, Bor, get_or, sym}
 use Rattle.std.proofs.lemmas.List.{get_or_default}
 use Rattle.std.proofs.lemmas.Result.{err_from_is_err_and}
 use Rattle.datapath.specs.Names.{sink}

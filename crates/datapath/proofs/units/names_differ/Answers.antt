@@ -1,4 +1,4 @@
-use Rattle.std.proofs.Common.{◌≡◌, sym, ◌∙◌}
+use Rattle.std.proofs.Common.{sym, ◌∙◌}
 use Rattle.datapath.proofs.Fresh.{names_go_on, names_end, names_done}
 use Rattle.datapath.proofs.units.names_differ.Goals as goal
 

@@ -1,4 +1,4 @@
-use Rattle.std.proofs.Common.{◌≡◌, ◌<◌, ◌≤◌, length, get_or, arith}
+use Rattle.std.proofs.Common.{◌<◌, length, get_or, arith}
 use Rattle.std.proofs.lemmas.List.{get_or_default, length-set}
 use Rattle.datapath.proofs.Rams.{rams_go_on, rams_done}
 use Rattle.datapath.proofs.units.set_rams.Goals as goal

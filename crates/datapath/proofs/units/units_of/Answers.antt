@@ -1,4 +1,3 @@
-use Rattle.std.proofs.Common.{◌≡◌, ◌≤◌, length}
 use Rattle.datapath.proofs.Rams.{length-with_rams}
 use Rattle.datapath.proofs.units.units_of.Goals as goal
 
