@@ -1,0 +1,10 @@
+pub mod Hardware
+pub mod Operands
+pub mod Lowered
+pub mod Assigned
+pub mod Heights
+pub mod ListSchedule
+pub mod Arcs
+pub mod Circle
+pub mod FirstFit
+pub mod IsPlan
