@@ -1,0 +1,9 @@
+mod Tests
+mod OperandTests
+mod AssignedTests
+mod ScheduleTests
+mod RegisterTests
+mod LoweredTests
+mod Rows
+mod PlanTests
+mod WorkedPlans

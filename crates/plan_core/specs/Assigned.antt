@@ -4,7 +4,6 @@ use Rattle.std.specs.Prelude.{◌≡◌, ℕ, ◌<◌, ◌≤◌, ◌==◌, List
 use Rattle.fix_word.specs.declared.operation.Op.{Op}
 use Rattle.fix_word.specs.declared.operation.Op.TheVariants as op
 use Rattle.datapath.specs.declared.types.Datapath.{Datapath}
-use Rattle.datapath.specs.declared.types.PortRef.{PortRef}
 use Rattle.signal_graph.specs.declared.graph.Node.{Node}
 use Rattle.plan_core.specs.Hardware.{kind_of, tie_of, port_of, IsUnit, HasRoute}
 use Rattle.plan_core.specs.Operands.{node_of, Reads}

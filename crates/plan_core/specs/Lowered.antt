@@ -3,7 +3,7 @@
 -- A node that is read with such delays gets a line of cells in a ram, and is followed by new nodes: the address of the
 -- word of this sample and its store, and for each of these delays, rising, an address and a load. The nodes have new
 -- numbers, by this order.
-use Rattle.std.specs.Prelude.{◌≡◌, ℕ, ◌+◌, ◌<◌, ◌≤◌, ◌==◌, nat_lt, cond, List, [], ◌∷◌, ◌++◌, length, take, slice_get, slice_index_or, filter, flat_map, sum_by, All, Contains, Some, pos}
+use Rattle.std.specs.Prelude.{◌≡◌, ℕ, ◌+◌, ◌<◌, ◌≤◌, ◌==◌, nat_lt, cond, List, [], ◌∷◌, length, take, slice_get, slice_index_or, filter, flat_map, sum_by, All, Contains, Some, pos}
 use Rattle.std.specs.List.{enumerate_from, AllZip}
 use Rattle.std.specs.List.Sorted.{IsStrictlyIncreasing}
 use Rattle.fix_word.specs.declared.operation.Op.TheVariants as op

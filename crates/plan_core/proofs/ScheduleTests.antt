@@ -1,0 +1,181 @@
+-- Tests of heights and of the list schedule.
+use Rattle.std.proofs.Common.{◌≡◌, refl, subst, ap, ℕ, ◌+◌, ◌<◌, ◌≤◌, ◌⊎◌, List, length, map, All, Contains, true}
+use Rattle.std.specs.List.{AllPairs}
+use Rattle.datapath.specs.declared.types.PortRef.{PortRef}
+use Rattle.datapath.specs.declared.types.Datapath.{Datapath}
+use Rattle.signal_graph.specs.declared.graph.Node.{Node}
+use Rattle.plan_core.specs.Hardware.{gap_on, port_of, IsRoute}
+use Rattle.plan_core.specs.Operands.{delay_at, Reads}
+use Rattle.plan_core.specs.Assigned.{unit_in}
+use Rattle.plan_core.specs.Heights.{ReadsNow, latency_of, IsHeight, AreHeights, IsPlacedBefore}
+use Rattle.plan_core.specs.ListSchedule.{slot_of, cycle_of, result_at, ends, IsDestination, IsPortBefore, AreDestinations, IsReserved, IsUnitFree, IsFileFree, IsBusFree, IsFreeRoute, AreOperandsThere, CanIssue, IsFirstBus, IsPlaced, IsListSchedule}
+use Rattle.plan_core.specs.declared.schedule.Assigned.{Assigned}
+use Rattle.plan_core.specs.declared.schedule.Transfer.{Transfer}
+use Rattle.plan_core.specs.declared.schedule.Schedule.{Schedule}
+use Rattle.plan_core.proofs.Tests.{Test, passed, lt, le, eq, like, nay, both, either, implies, below, some_below, each_of, contains, all_pairs}
+use Rattle.plan_core.proofs.OperandTests.{same_port, is_route, each_operand, each_consumer, some_consumer}
+
+-- each port that reads node v in the same sample
+abbrev each_consumer_now : {P : ℕ → ℕ → Type 0} (nodes : List Node) (v : ℕ) → ((c q : ℕ) → Test (P c q))
+    → Test ((c q : ℕ) → ReadsNow nodes c q v → P c q)
+each_consumer_now {P} nodes v t =
+    like {P = (c q : ℕ) → Reads nodes c q v → delay_at nodes c q ≡ 0 → P c q}
+    (λ h c q r. h c q r.reads r.now) (λ h c q r e. h c q (record { reads = r; now = e }))
+    (each_consumer nodes v (λ c q. implies (eq (delay_at nodes c q) 0) (λ z. t c q)))
+
+abbrev some_consumer_now : {P : ℕ → ℕ → Type 0} (nodes : List Node) (v : ℕ) → ((c q : ℕ) → Test (P c q))
+    → Test ((c : ℕ) × (q : ℕ) × ReadsNow nodes c q v × P c q)
+some_consumer_now {P} nodes v t =
+    like {P = (c : ℕ) × (q : ℕ) × Reads nodes c q v × ((delay_at nodes c q ≡ 0) × P c q)}
+    (λ h. (h.0, h.1, record { reads = h.2; now = h.3.0 }, h.3.1)) (λ h. (h.0, h.1, h.2.reads, (h.2.now, h.3)))
+    (some_consumer nodes v (λ c q. both (eq (delay_at nodes c q) 0) (t c q)))
+
+module _ (d : Datapath) (a : Assigned) (height : ℕ → ℕ) where
+  abbrev Above : ℕ → Type 0
+  Above v = (c q : ℕ) → ReadsNow a.lowered.nodes c q v → latency_of d a v + height c ≤ height v
+
+  abbrev Reached : ℕ → Type 0
+  Reached v =
+      (height v ≡ latency_of d a v)
+      ⊎ ((c : ℕ) × (q : ℕ) × ReadsNow a.lowered.nodes c q v × (height v ≡ latency_of d a v + height c))
+
+  abbrev pub is_height : (v : ℕ) → Test (IsHeight d a height v)
+  is_height v =
+      like {P = (latency_of d a v ≤ height v) × (Above v × Reached v)}
+      (λ h. record { alone = h.0; above = h.1.0; reached = h.1.1 }) (λ h. (h.alone, (h.above, h.reached)))
+      (both (le (latency_of d a v) (height v))
+      (both (each_consumer_now a.lowered.nodes v (λ c q. le (latency_of d a v + height c) (height v)))
+      (either (eq (height v) (latency_of d a v))
+      (some_consumer_now a.lowered.nodes v (λ c q. eq (height v) (latency_of d a v + height c))))))
+
+  abbrev pub are_heights : Test (AreHeights d a height)
+  are_heights = below (length a.lowered.nodes) (λ v. is_height v)
+
+abbrev placed_before : (height : ℕ → ℕ) (u v : ℕ) → Test (IsPlacedBefore height u v)
+placed_before height u v = either (lt (height v) (height u)) (both (eq (height v) (height u)) (lt u v))
+
+abbrev pub port_before : (p q : PortRef) → Test (IsPortBefore p q)
+port_before p q = either (lt p.unit q.unit) (both (eq p.unit q.unit) (lt p.port q.port))
+
+pub dest_to : (a : Assigned) (v : ℕ) (P : PortRef → Type 0)
+    → ((c q : ℕ) → Reads a.lowered.nodes c q v → P (port_of (unit_in a.units c) q))
+    → (port : PortRef) → IsDestination a v port → P port
+dest_to a v P h port dest =
+    subst P (ap (λ (u : ℕ). port_of u port.port) dest.unit) (h dest.consumer port.port dest.reads)
+
+-- each port that reads node v, as a destination of its result
+abbrev each_destination : {P : PortRef → Type 0} (a : Assigned) (v : ℕ) → ((port : PortRef) → Test (P port))
+    → Test ((port : PortRef) → IsDestination a v port → P port)
+each_destination {P} a v t =
+    like (dest_to a v P) (λ h c q r. h (port_of (unit_in a.units c) q) (record { consumer = c; reads = r; unit = refl }))
+    (each_consumer a.lowered.nodes v (λ c q. t (port_of (unit_in a.units c) q)))
+
+pub dest_from : (a : Assigned) (v : ℕ) (port : PortRef)
+    → (c : ℕ) × (q : ℕ) × Reads a.lowered.nodes c q v × (port_of (unit_in a.units c) q ≡ port) → IsDestination a v port
+dest_from a v port h =
+    subst (λ (p : PortRef). IsDestination a v p) h.3 (record { consumer = h.0; reads = h.2; unit = refl })
+
+pub dest_is : (a : Assigned) (v : ℕ) (port : PortRef) → IsDestination a v port
+    → (c : ℕ) × (q : ℕ) × Reads a.lowered.nodes c q v × (port_of (unit_in a.units c) q ≡ port)
+dest_is a v port dest = (dest.consumer, port.port, dest.reads, ap (λ (u : ℕ). port_of u port.port) dest.unit)
+
+abbrev pub is_destination : (a : Assigned) (v : ℕ) (port : PortRef) → Test (IsDestination a v port)
+is_destination a v port =
+    like (dest_from a v port) (dest_is a v port)
+    (some_consumer a.lowered.nodes v (λ c q. same_port (port_of (unit_in a.units c) q) port))
+
+abbrev Every : Assigned → ℕ → List PortRef → Type 0
+Every a v ports = (c q : ℕ) → Reads a.lowered.nodes c q v → Contains ports (port_of (unit_in a.units c) q)
+
+abbrev are_destinations : (a : Assigned) (v : ℕ) (ports : List PortRef) → Test (AreDestinations a v ports)
+are_destinations a v ports =
+    like {P = AllPairs IsPortBefore ports × (All (IsDestination a v) ports × Every a v ports)}
+    (λ h. record { order = h.0; read = h.1.0; every = h.1.1 }) (λ h. (h.order, (h.read, h.every)))
+    (both (all_pairs ports port_before)
+    (both (each_of ports (is_destination a v))
+    (each_consumer a.lowered.nodes v (λ c q. contains same_port ports (port_of (unit_in a.units c) q)))))
+
+module _ (d : Datapath) (a : Assigned) (s : Schedule) (height : ℕ → ℕ) where
+  abbrev each_reserved : {P : ℕ → Type 0} (v : ℕ) → ((u : ℕ) → Test (P u)) → Test ((u : ℕ) → IsReserved d a s height v u → P u)
+  each_reserved {P} v t =
+      like {P = (u : ℕ) → u < length a.lowered.nodes → IsPlacedBefore height u v → P u}
+      (λ h u r. h u r.node r.before) (λ h u less before. h u (record { node = less; before = before }))
+      (below (length a.lowered.nodes) (λ u. implies (placed_before height u v) (λ z. t u)))
+
+  abbrev unit_free : (v t : ℕ) → Test (IsUnitFree d a s height v t)
+  unit_free v t =
+      each_reserved v (λ u. implies (eq (unit_in a.units u) (unit_in a.units v)) (λ z.
+        either (le (cycle_of s u + gap_on d (unit_in a.units v)) t) (le (t + gap_on d (unit_in a.units v)) (cycle_of s u))))
+
+  abbrev file_free : (v w : ℕ) (port : PortRef) → Test (IsFileFree d a s height v w port)
+  file_free v w port =
+      each_reserved v (λ u. implies (eq (ends d a s u) w) (λ z.
+        each_of (slot_of s u).transfers (λ (transfer : Transfer). nay (same_port transfer.port port))))
+
+  abbrev bus_free : (v w b : ℕ) → Test (IsBusFree d a s height v w b)
+  bus_free v w b =
+      each_reserved v (λ u. implies (eq (ends d a s u) w) (λ z.
+        each_of (slot_of s u).transfers (λ (transfer : Transfer). nay (eq transfer.bus b))))
+
+  abbrev free_route : (v w : ℕ) (port : PortRef) (b : ℕ) → Test (IsFreeRoute d a s height v w port b)
+  free_route v w port b =
+      like {P = IsRoute d (unit_in a.units v) port b × IsBusFree d a s height v w b}
+      (λ h. record { route = h.0; free = h.1 }) (λ h. (h.route, h.free))
+      (both (is_route d (unit_in a.units v) port b) (bus_free v w b))
+
+  abbrev some_free_route : (v w : ℕ) (port : PortRef) → Test ((b : ℕ) × IsFreeRoute d a s height v w port b)
+  some_free_route v w port =
+      like {P = (b : ℕ) × (b < length d.buses) × IsFreeRoute d a s height v w port b}
+      (λ h. (h.0, h.2)) (λ h. (h.0, h.1.route.there, h.1))
+      (some_below (length d.buses) (λ b. free_route v w port b))
+
+  abbrev operands_there : (v t : ℕ) → Test (AreOperandsThere d a s height v t)
+  operands_there v t =
+      like {P = (q x : ℕ) → Reads a.lowered.nodes v q x → delay_at a.lowered.nodes v q ≡ 0 → cycle_of s x + latency_of d a x ≤ t}
+      (λ h q x r. h q x r.reads r.now) (λ h q x r e. h q x (record { reads = r; now = e }))
+      (each_operand a.lowered.nodes v (λ q x. implies (eq (delay_at a.lowered.nodes v q) 0) (λ z. le (cycle_of s x + latency_of d a x) t)))
+
+  abbrev Files : ℕ → ℕ → Type 0
+  Files v t = (port : PortRef) → IsDestination a v port → IsFileFree d a s height v (result_at d a v t) port
+
+  abbrev Buses : ℕ → ℕ → Type 0
+  Buses v t = (port : PortRef) → IsDestination a v port → (b : ℕ) × IsFreeRoute d a s height v (result_at d a v t) port b
+
+  abbrev pub can_issue : (v t : ℕ) → Test (CanIssue d a s height v t)
+  can_issue v t =
+      like {P = AreOperandsThere d a s height v t × ((t + latency_of d a v ≤ d.period) × (IsUnitFree d a s height v t × (Files v t × Buses v t)))}
+      (λ h. record { operands = h.0; period = h.1.0; unit = h.1.1.0; files = h.1.1.1.0; buses = h.1.1.1.1 })
+      (λ h. (h.operands, (h.period, (h.unit, (h.files, h.buses)))))
+      (both (operands_there v t)
+      (both (le (t + latency_of d a v) d.period)
+      (both (unit_free v t)
+      (both (each_destination a v (λ port. file_free v (result_at d a v t) port))
+      (each_destination a v (λ port. some_free_route v (result_at d a v t) port))))))
+
+  abbrev is_first_bus : (v : ℕ) (transfer : Transfer) → Test (IsFirstBus d a s height v transfer)
+  is_first_bus v transfer =
+      like {P = IsFreeRoute d a s height v (ends d a s v) transfer.port transfer.bus × ((b : ℕ) → b < transfer.bus → IsFreeRoute d a s height v (ends d a s v) transfer.port b → ⊥)}
+      (λ h. record { route = h.0; first = h.1 }) (λ h. (h.route, h.first))
+      (both (free_route v (ends d a s v) transfer.port transfer.bus) (below transfer.bus (λ b. nay (free_route v (ends d a s v) transfer.port b))))
+
+  abbrev pub is_placed : (v : ℕ) → Test (IsPlaced d a s height v)
+  is_placed v =
+      like {P = CanIssue d a s height v (cycle_of s v) × (((t : ℕ) → t < cycle_of s v → CanIssue d a s height v t → ⊥) × (AreDestinations a v (map (λ (transfer : Transfer). transfer.port) (slot_of s v).transfers) × All (IsFirstBus d a s height v) (slot_of s v).transfers))}
+      (λ h. record { can = h.0; least = h.1.0; destinations = h.1.1.0; buses = h.1.1.1 }) (λ h. (h.can, (h.least, (h.destinations, h.buses))))
+      (both (can_issue v (cycle_of s v))
+      (both (below (cycle_of s v) (λ t. nay (can_issue v t)))
+      (both (are_destinations a v (map (λ (transfer : Transfer). transfer.port) (slot_of s v).transfers))
+      (each_of (slot_of s v).transfers (is_first_bus v)))))
+
+  abbrev pub are_placed : Test ((v : ℕ) → v < length a.lowered.nodes → IsPlaced d a s height v)
+  are_placed = below (length a.lowered.nodes) (λ v. is_placed v)
+
+-- a schedule, by computing
+pub scheduled : (d : Datapath) (a : Assigned) (s : Schedule) (height : ℕ → ℕ) → (are_heights d a height).passes ≡ true
+    → length s.slots ≡ length a.lowered.nodes → (are_placed d a s height).passes ≡ true → IsListSchedule d a s
+scheduled d a s height e count f = record {
+  height = height;
+  heights = passed (are_heights d a height) e;
+  count = count;
+  placed = passed (are_placed d a s height) f;
+}
