@@ -7,3 +7,4 @@ mod LoweredTests
 mod Rows
 mod PlanTests
 mod WorkedPlans
+mod WorkedRefusals

@@ -1,12 +1,13 @@
 -- Tests of lifetimes, the unroll factor and first fit.
 use Rattle.std.proofs.Common.{◌≡◌, refl, sym, subst, ap, ◌∙◌, arith, ℕ, ◌+◌, ◌-◌, ◌*◌, ◌%◌, ◌<◌, ◌≤◌, ◌⊎◌, inl, inr, List, [], length, slice_index_or, All}
 use Rattle.std.specs.List.{AllPairs}
+use Rattle.datapath.specs.declared.types.PortRef.{PortRef}
 use Rattle.datapath.specs.declared.types.Datapath.{Datapath}
 use Rattle.plan_core.specs.Hardware.{port_of}
 use Rattle.plan_core.specs.Operands.{Reads}
 use Rattle.plan_core.specs.Assigned.{unit_in}
 use Rattle.plan_core.specs.ListSchedule.{ends}
-use Rattle.plan_core.specs.Arcs.{arc_of, ReadsArc, read_cycle, IsCount, IsCovered, IsArc, IsWrittenBefore, IsArcBefore, IsArcs, IsUnroll}
+use Rattle.plan_core.specs.Arcs.{arc_of, ReadsArc, read_cycle, IsCount, IsCovered, IsArc, IsWrittenBefore, IsArcBefore, IsArcFor, IsArcs, IsUnroll}
 use Rattle.plan_core.specs.Circle.{AreApart}
 use Rattle.plan_core.specs.FirstFit.{register_of, IsCopyBefore, IsFree, IsFirstFree, IsFirstFit}
 use Rattle.plan_core.specs.declared.registers.Arc.{Arc}
@@ -90,7 +91,12 @@ module _ (d : Datapath) (a : Assigned) (s : Schedule) where
 
   abbrev Has : List Arc → ℕ → ℕ → ℕ → Type 0
   Has arcs c q v =
-      (k : ℕ) × (k < length arcs) × (((arc_of arcs k).node ≡ v) × ((arc_of arcs k).port ≡ port_of (unit_in a.units c) q))
+      (k : ℕ) × (k < length arcs) × IsArcFor v (port_of (unit_in a.units c) q) (arc_of arcs k)
+
+  abbrev is_arc_for : (v : ℕ) (port : PortRef) (arc : Arc) → Test (IsArcFor v port arc)
+  is_arc_for v port arc =
+      like {P = (arc.node ≡ v) × (arc.port ≡ port)} (λ h. record { node = h.0; port_is = h.1 }) (λ h. (h.node, h.port_is))
+      (both (eq arc.node v) (same_port arc.port port))
 
   abbrev pub are_arcs : (arcs : List Arc) → Test (IsArcs d a s arcs)
   are_arcs arcs =
@@ -98,13 +104,13 @@ module _ (d : Datapath) (a : Assigned) (s : Schedule) where
       (λ h. record {
         order = h.0;
         each = h.1.0;
-        every = λ c q v r. let x = h.1.1 c (consumer_there a.lowered.nodes c q v r) q v r in (x.0, x.1, x.2.0, x.2.1);
+        every = λ c q v r. h.1.1 c (consumer_there a.lowered.nodes c q v r) q v r;
       })
-      (λ h. (h.order, (h.each, λ c less q v r. let x = h.every c q v r in (x.0, x.1, (x.2, x.3)))))
+      (λ h. (h.order, (h.each, λ c less q v r. h.every c q v r)))
       (both (all_pairs arcs arc_before)
       (both (each_of arcs is_arc)
       (below (length a.lowered.nodes) (λ c. each_operand a.lowered.nodes c (λ q v.
-        some_below (length arcs) (λ k. both (eq (arc_of arcs k).node v) (same_port (arc_of arcs k).port (port_of (unit_in a.units c) q))))))))
+        some_below (length arcs) (λ k. is_arc_for v (port_of (unit_in a.units c) q) (arc_of arcs k)))))))
 
 abbrev pub is_unroll : (arcs : List Arc) (unroll : ℕ) → Test (IsUnroll arcs unroll)
 is_unroll arcs unroll =

@@ -83,18 +83,18 @@ filter_path period cells = record {
       ∷ [];
 }
 
-abbrev input_node : Node
+abbrev pub input_node : Node
 input_node = record { op = op.Input; fmt = plain 0; arg = pos 0; edges = []; inits = []; width = 8; ram = 0 }
 
-abbrev constant_node : (word width : ℕ) → Node
+abbrev pub constant_node : (word width : ℕ) → Node
 constant_node word width =
     record { op = op.Const; fmt = plain 0; arg = pos word; edges = []; inits = []; width = width; ram = 0 }
 
-abbrev sum_node : Op → List Edge → List (ℕ × ℤ) → Node
+abbrev pub sum_node : Op → List Edge → List (ℕ × ℤ) → Node
 sum_node o edges inits =
     record { op = o; fmt = plain 8; arg = pos 0; edges = edges; inits = inits; width = 8; ram = 0 }
 
-abbrev output_node : Edge → Node
+abbrev pub output_node : Edge → Node
 output_node from =
     record { op = op.Output; fmt = plain 0; arg = pos 0; edges = from ∷ []; inits = []; width = 8; ram = 0 }
 

@@ -51,8 +51,8 @@ module _ (d : Datapath) (a : Assigned) (height : ℕ → ℕ) where
   abbrev pub are_heights : Test (AreHeights d a height)
   are_heights = below (length a.lowered.nodes) (λ v. is_height v)
 
-abbrev placed_before : (height : ℕ → ℕ) (u v : ℕ) → Test (IsPlacedBefore height u v)
-placed_before height u v = either (lt (height v) (height u)) (both (eq (height v) (height u)) (lt u v))
+abbrev pub placed_before : (height : ℕ → ℕ) (u v : ℕ) → Test (IsPlacedBefore height u v)
+placed_before height u v = either (lt (height v) (height u)) (both (eq (height u) (height v)) (lt u v))
 
 abbrev pub port_before : (p q : PortRef) → Test (IsPortBefore p q)
 port_before p q = either (lt p.unit q.unit) (both (eq p.unit q.unit) (lt p.port q.port))
@@ -96,7 +96,7 @@ are_destinations a v ports =
     (each_consumer a.lowered.nodes v (λ c q. contains same_port ports (port_of (unit_in a.units c) q)))))
 
 module _ (d : Datapath) (a : Assigned) (s : Schedule) (height : ℕ → ℕ) where
-  abbrev each_reserved : {P : ℕ → Type 0} (v : ℕ) → ((u : ℕ) → Test (P u)) → Test ((u : ℕ) → IsReserved d a s height v u → P u)
+  abbrev each_reserved : {P : ℕ → Type 0} (v : ℕ) → ((u : ℕ) → Test (P u)) → Test ((u : ℕ) → IsReserved a height v u → P u)
   each_reserved {P} v t =
       like {P = (u : ℕ) → u < length a.lowered.nodes → IsPlacedBefore height u v → P u}
       (λ h u r. h u r.node r.before) (λ h u less before. h u (record { node = less; before = before }))

@@ -2,6 +2,7 @@
 -- a later sample.
 use Rattle.std.specs.Prelude.{◌≡◌, ℕ, ◌+◌, ◌*◌, ◌<◌, ◌≤◌, ◌⊎◌, List, length, slice_index_or, All}
 use Rattle.std.specs.List.{AllPairs}
+use Rattle.datapath.specs.declared.types.PortRef.{PortRef}
 use Rattle.datapath.specs.declared.types.Datapath.{Datapath}
 use Rattle.plan_core.specs.Hardware.{port_of}
 use Rattle.plan_core.specs.Operands.{delay_at, Reads}
@@ -53,12 +54,17 @@ IsWrittenBefore a b = (a.w < b.w) ⊎ ((a.w ≡ b.w) × (a.node < b.node))
 abbrev pub IsArcBefore : Arc → Arc → Type 0
 IsArcBefore a b = IsPortBefore a.port b.port ⊎ ((a.port ≡ b.port) × IsWrittenBefore a b)
 
+-- the arc is for the words of node v at the port
+pub record IsArcFor (v : ℕ) (port : PortRef) (arc : Arc) : Type 0 where
+  pub node : arc.node ≡ v
+  pub port_is : arc.port ≡ port
+
 -- one lifetime for each node and each port that reads it, in order
 pub record IsArcs (d : Datapath) (a : Assigned) (s : Schedule) (arcs : List Arc) : Type 0 where
   pub order : AllPairs IsArcBefore arcs
   pub each : All (IsArc d a s) arcs
   pub every : (c q v : ℕ) → Reads a.lowered.nodes c q v
-      → (k : ℕ) × (k < length arcs) × ((arc_of arcs k).node ≡ v) × ((arc_of arcs k).port ≡ port_of (unit_in a.units c) q)
+      → (k : ℕ) × (k < length arcs) × IsArcFor v (port_of (unit_in a.units c) q) (arc_of arcs k)
 
 -- the unroll factor: the greatest count of copies, and at least 1
 pub record IsUnroll (arcs : List Arc) (unroll : ℕ) : Type 0 where

@@ -30,4 +30,4 @@ AreHeights d a height = (v : ℕ) → v < length a.lowered.nodes → IsHeight d 
 
 -- node u is placed before node v: by falling height, then by number
 abbrev pub IsPlacedBefore : (ℕ → ℕ) → ℕ → ℕ → Type 0
-IsPlacedBefore height u v = (height v < height u) ⊎ ((height v ≡ height u) × (u < v))
+IsPlacedBefore height u v = (height v < height u) ⊎ ((height u ≡ height v) × (u < v))

@@ -8,3 +8,4 @@ pub mod Arcs
 pub mod Circle
 pub mod FirstFit
 pub mod IsPlan
+pub mod Refusals

@@ -48,28 +48,28 @@ pub record AreDestinations (a : Assigned) (v : ℕ) (ports : List PortRef) : Typ
   pub read : All (IsDestination a v) ports
   pub every : (c q : ℕ) → Reads a.lowered.nodes c q v → Contains ports (port_of (unit_in a.units c) q)
 
-module _ (d : Datapath) (a : Assigned) (s : Schedule) (height : ℕ → ℕ) where
-  -- node u has its place in the reservation table when node v is placed
-  pub record IsReserved (v u : ℕ) : Type 0 where
-    pub node : u < length a.lowered.nodes
-    pub before : IsPlacedBefore height u v
+-- node u is in the reservation table when node v is placed
+pub record IsReserved (a : Assigned) (height : ℕ → ℕ) (v u : ℕ) : Type 0 where
+  pub node : u < length a.lowered.nodes
+  pub before : IsPlacedBefore height u v
 
+module _ (d : Datapath) (a : Assigned) (s : Schedule) (height : ℕ → ℕ) where
   -- no such node of the same unit is issued within the unit's gap of cycle t
   abbrev pub IsUnitFree : (v t : ℕ) → Type 0
   IsUnitFree v t =
-      (u : ℕ) → IsReserved v u → unit_in a.units u ≡ unit_in a.units v
+      (u : ℕ) → IsReserved a height v u → unit_in a.units u ≡ unit_in a.units v
       → (cycle_of s u + gap_on d (unit_in a.units v) ≤ t) ⊎ (t + gap_on d (unit_in a.units v) ≤ cycle_of s u)
 
   -- no such node writes into the register file of the port in cycle w
   abbrev pub IsFileFree : (v w : ℕ) → PortRef → Type 0
   IsFileFree v w port =
-      (u : ℕ) → IsReserved v u → ends d a s u ≡ w
+      (u : ℕ) → IsReserved a height v u → ends d a s u ≡ w
       → All (λ (transfer : Transfer). transfer.port ≢ port) (slot_of s u).transfers
 
   -- no such node is on the bus in cycle w
   abbrev pub IsBusFree : (v w b : ℕ) → Type 0
   IsBusFree v w b =
-      (u : ℕ) → IsReserved v u → ends d a s u ≡ w
+      (u : ℕ) → IsReserved a height v u → ends d a s u ≡ w
       → All (λ (transfer : Transfer). transfer.bus ≢ b) (slot_of s u).transfers
 
   -- bus b takes the result of node v to the port in cycle w: it is a route that is free
