@@ -8,3 +8,4 @@ mod Rows
 mod PlanTests
 mod WorkedPlans
 mod WorkedRefusals
+mod WrongPlans

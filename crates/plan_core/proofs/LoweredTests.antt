@@ -15,7 +15,8 @@ use Rattle.plan_core.proofs.OperandTests.{is_unit, each_consumer, some_consumer}
 abbrev rises : (xs : List ℕ) → Test (IsStrictlyIncreasing xs)
 rises xs =
     like (λ h k less. h k (omega arith) less) (λ h k less next. h k next)
-    (below {P = λ k. k + 1 < length xs → slice_index xs k < slice_index xs (k + 1)} (length xs) (λ k. implies (lt (k + 1) (length xs)) (λ z. lt (slice_index xs k) (slice_index xs (k + 1)))))
+    (below {P = λ k. k + 1 < length xs → slice_index xs k < slice_index xs (k + 1)} (length xs)
+        (λ k. implies (lt (k + 1) (length xs)) (λ z. lt (slice_index xs k) (slice_index xs (k + 1)))))
 
 abbrev is_read_ago : (g : Graph) (v ago : ℕ) → Test (IsReadAgo g v ago)
 is_read_ago g v ago =
@@ -29,12 +30,15 @@ Every g hold v delays =
 
 abbrev pub are_long_delays : (g : Graph) (hold v : ℕ) (delays : List ℕ) → Test (AreLongDelays g hold v delays)
 are_long_delays g hold v delays =
-    like {P = IsStrictlyIncreasing delays × (All (λ (k : ℕ). hold < k) delays × (All (λ (k : ℕ). IsReadAgo g v k) delays × Every g hold v delays))}
-    (λ h. record { rise = h.0; long = h.1.0; read = h.1.1.0; every = h.1.1.1 }) (λ h. (h.rise, (h.long, (h.read, h.every))))
+    like {P = IsStrictlyIncreasing delays × (All (λ (k : ℕ). hold < k) delays
+        × (All (λ (k : ℕ). IsReadAgo g v k) delays × Every g hold v delays))}
+    (λ h. record { rise = h.0; long = h.1.0; read = h.1.1.0; every = h.1.1.1 })
+        (λ h. (h.rise, (h.long, (h.read, h.every))))
     (both (rises delays)
     (both (each_of delays (λ (k : ℕ). lt hold k))
     (both (each_of delays (λ (k : ℕ). is_read_ago g v k))
-    (each_consumer g.nodes v (λ c q. implies (lt hold (delay_at g.nodes c q)) (λ z. contains eq delays (delay_at g.nodes c q)))))))
+    (each_consumer g.nodes v (λ c q. implies (lt hold (delay_at g.nodes c q))
+        (λ z. contains eq delays (delay_at g.nodes c q)))))))
 
 -- the long delays of all nodes
 abbrev pub are_all_long : (g : Graph) (hold : ℕ) (delays : List (List ℕ))
@@ -47,7 +51,8 @@ has_room d lines cells ram =
     (λ h. record { is_ram = h.0; room = h.1 }) (λ h. (h.is_ram, h.room))
     (both (is_unit d kind.Ram ram) (le (used lines ram + cells) (cells_on d ram)))
 
-pub held_edge : (hold : ℕ) (delays : List (List ℕ)) (edge old : Edge) → old.delay ≤ hold → IsNumber delays (own old.node) edge.node
+pub held_edge : (hold : ℕ) (delays : List (List ℕ)) (edge old : Edge) → old.delay ≤ hold
+    → IsNumber delays (own old.node) edge.node
     → edge.delay ≡ old.delay → IsLoweredEdge hold delays edge old
 held_edge hold delays edge old short is same = record { held = λ h. (is, same); loaded = λ h. absurd (omega arith) }
 

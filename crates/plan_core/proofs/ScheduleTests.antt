@@ -67,7 +67,8 @@ dest_to a v P h port dest =
 abbrev each_destination : {P : PortRef → Type 0} (a : Assigned) (v : ℕ) → ((port : PortRef) → Test (P port))
     → Test ((port : PortRef) → IsDestination a v port → P port)
 each_destination {P} a v t =
-    like (dest_to a v P) (λ h c q r. h (port_of (unit_in a.units c) q) (record { consumer = c; reads = r; unit = refl }))
+    like (dest_to a v P) (λ h c q r. h (port_of (unit_in a.units c) q)
+        (record { consumer = c; reads = r; unit = refl }))
     (each_consumer a.lowered.nodes v (λ c q. t (port_of (unit_in a.units c) q)))
 
 pub dest_from : (a : Assigned) (v : ℕ) (port : PortRef)
@@ -96,7 +97,8 @@ are_destinations a v ports =
     (each_consumer a.lowered.nodes v (λ c q. contains same_port ports (port_of (unit_in a.units c) q)))))
 
 module _ (d : Datapath) (a : Assigned) (s : Schedule) (height : ℕ → ℕ) where
-  abbrev each_reserved : {P : ℕ → Type 0} (v : ℕ) → ((u : ℕ) → Test (P u)) → Test ((u : ℕ) → IsReserved a height v u → P u)
+  abbrev each_reserved : {P : ℕ → Type 0} (v : ℕ) → ((u : ℕ) → Test (P u)) → Test ((u : ℕ)
+      → IsReserved a height v u → P u)
   each_reserved {P} v t =
       like {P = (u : ℕ) → u < length a.lowered.nodes → IsPlacedBefore height u v → P u}
       (λ h u r. h u r.node r.before) (λ h u less before. h u (record { node = less; before = before }))
@@ -105,7 +107,8 @@ module _ (d : Datapath) (a : Assigned) (s : Schedule) (height : ℕ → ℕ) whe
   abbrev unit_free : (v t : ℕ) → Test (IsUnitFree d a s height v t)
   unit_free v t =
       each_reserved v (λ u. implies (eq (unit_in a.units u) (unit_in a.units v)) (λ z.
-        either (le (cycle_of s u + gap_on d (unit_in a.units v)) t) (le (t + gap_on d (unit_in a.units v)) (cycle_of s u))))
+        either (le (cycle_of s u + gap_on d (unit_in a.units v)) t)
+            (le (t + gap_on d (unit_in a.units v)) (cycle_of s u))))
 
   abbrev file_free : (v w : ℕ) (port : PortRef) → Test (IsFileFree d a s height v w port)
   file_free v w port =
@@ -131,19 +134,23 @@ module _ (d : Datapath) (a : Assigned) (s : Schedule) (height : ℕ → ℕ) whe
 
   abbrev operands_there : (v t : ℕ) → Test (AreOperandsThere d a s height v t)
   operands_there v t =
-      like {P = (q x : ℕ) → Reads a.lowered.nodes v q x → delay_at a.lowered.nodes v q ≡ 0 → cycle_of s x + latency_of d a x ≤ t}
+      like {P = (q x : ℕ) → Reads a.lowered.nodes v q x → delay_at a.lowered.nodes v q ≡ 0
+          → cycle_of s x + latency_of d a x ≤ t}
       (λ h q x r. h q x r.reads r.now) (λ h q x r e. h q x (record { reads = r; now = e }))
-      (each_operand a.lowered.nodes v (λ q x. implies (eq (delay_at a.lowered.nodes v q) 0) (λ z. le (cycle_of s x + latency_of d a x) t)))
+      (each_operand a.lowered.nodes v (λ q x. implies (eq (delay_at a.lowered.nodes v q) 0)
+          (λ z. le (cycle_of s x + latency_of d a x) t)))
 
   abbrev Files : ℕ → ℕ → Type 0
   Files v t = (port : PortRef) → IsDestination a v port → IsFileFree d a s height v (result_at d a v t) port
 
   abbrev Buses : ℕ → ℕ → Type 0
-  Buses v t = (port : PortRef) → IsDestination a v port → (b : ℕ) × IsFreeRoute d a s height v (result_at d a v t) port b
+  Buses v t = (port : PortRef) → IsDestination a v port → (b : ℕ)
+      × IsFreeRoute d a s height v (result_at d a v t) port b
 
   abbrev pub can_issue : (v t : ℕ) → Test (CanIssue d a s height v t)
   can_issue v t =
-      like {P = AreOperandsThere d a s height v t × ((t + latency_of d a v ≤ d.period) × (IsUnitFree d a s height v t × (Files v t × Buses v t)))}
+      like {P = AreOperandsThere d a s height v t × ((t + latency_of d a v ≤ d.period)
+          × (IsUnitFree d a s height v t × (Files v t × Buses v t)))}
       (λ h. record { operands = h.0; period = h.1.0; unit = h.1.1.0; files = h.1.1.1.0; buses = h.1.1.1.1 })
       (λ h. (h.operands, (h.period, (h.unit, (h.files, h.buses)))))
       (both (operands_there v t)
@@ -154,14 +161,19 @@ module _ (d : Datapath) (a : Assigned) (s : Schedule) (height : ℕ → ℕ) whe
 
   abbrev is_first_bus : (v : ℕ) (transfer : Transfer) → Test (IsFirstBus d a s height v transfer)
   is_first_bus v transfer =
-      like {P = IsFreeRoute d a s height v (ends d a s v) transfer.port transfer.bus × ((b : ℕ) → b < transfer.bus → IsFreeRoute d a s height v (ends d a s v) transfer.port b → ⊥)}
+      like {P = IsFreeRoute d a s height v (ends d a s v) transfer.port transfer.bus × ((b : ℕ) → b < transfer.bus
+          → IsFreeRoute d a s height v (ends d a s v) transfer.port b → ⊥)}
       (λ h. record { route = h.0; first = h.1 }) (λ h. (h.route, h.first))
-      (both (free_route v (ends d a s v) transfer.port transfer.bus) (below transfer.bus (λ b. nay (free_route v (ends d a s v) transfer.port b))))
+      (both (free_route v (ends d a s v) transfer.port transfer.bus)
+          (below transfer.bus (λ b. nay (free_route v (ends d a s v) transfer.port b))))
 
   abbrev pub is_placed : (v : ℕ) → Test (IsPlaced d a s height v)
   is_placed v =
-      like {P = CanIssue d a s height v (cycle_of s v) × (((t : ℕ) → t < cycle_of s v → CanIssue d a s height v t → ⊥) × (AreDestinations a v (map (λ (transfer : Transfer). transfer.port) (slot_of s v).transfers) × All (IsFirstBus d a s height v) (slot_of s v).transfers))}
-      (λ h. record { can = h.0; least = h.1.0; destinations = h.1.1.0; buses = h.1.1.1 }) (λ h. (h.can, (h.least, (h.destinations, h.buses))))
+      like {P = CanIssue d a s height v (cycle_of s v) × (((t : ℕ) → t < cycle_of s v → CanIssue d a s height v t
+          → ⊥) × (AreDestinations a v (map (λ (transfer : Transfer). transfer.port) (slot_of s v).transfers)
+          × All (IsFirstBus d a s height v) (slot_of s v).transfers))}
+      (λ h. record { can = h.0; least = h.1.0; destinations = h.1.1.0; buses = h.1.1.1 })
+          (λ h. (h.can, (h.least, (h.destinations, h.buses))))
       (both (can_issue v (cycle_of s v))
       (both (below (cycle_of s v) (λ t. nay (can_issue v t)))
       (both (are_destinations a v (map (λ (transfer : Transfer). transfer.port) (slot_of s v).transfers))

@@ -39,7 +39,8 @@ needs_four : (d : Datapath) → d.hold ≡ 0 → NeedsLine line_cells d [] 0 4
 needs_four d e = record {
   delays = delays;
   delay_count = refl;
-  all_long = subst (λ (hold : ℕ). (u : ℕ) → u < 3 → AreLongDelays line_cells hold u (slice_index_or delays u [])) (sym e) (passed (are_all_long line_cells 0 delays) refl);
+  all_long = subst (λ (hold : ℕ). (u : ℕ) → u < 3 → AreLongDelays line_cells hold u (slice_index_or delays u []))
+      (sym e) (passed (are_all_long line_cells 0 delays) refl);
   before = λ i v long less is. absurd (omega arith);
   long = 3 ∷ [];
   next = refl;
@@ -100,14 +101,17 @@ no_multiplier = record {
   next = record { there = omega arith; count = refl; before = first_unit (plain_path 0) refl };
   width = omega arith;
   kind = refl;
-  none = none_there 4 (λ u h. h.kind.there) (passed (below 4 (λ u. nay (is_right_unit (plain_path 0) (node_of square.nodes 1) u))) refl);
+  none = none_there 4 (λ u h. h.kind.there) (passed (below 4
+      (λ u. nay (is_right_unit (plain_path 0) (node_of square.nodes 1) u))) refl);
 }
 
 -- a fifth unit, a multiplier, whose second port no bus reaches
 abbrev half_reached : Datapath
 half_reached = record (plain_path 0) {
-  units = (plain_path 0).units ++ record { name = codes "mul"; kind = kind.Mul; latency = 1; gap = 1; files = 4 ∷ 4 ∷ []; cells = 0; ram = 0 } ∷ [];
-  buses = record { name = codes "b0"; from = 0 ∷ 1 ∷ 2 ∷ 4 ∷ []; to = port_of 2 0 ∷ port_of 2 1 ∷ port_of 3 0 ∷ port_of 4 0 ∷ [] } ∷ [];
+  units = (plain_path 0).units ++ record { name = codes "mul"; kind = kind.Mul; latency = 1; gap = 1; files = 4 ∷ 4 ∷
+      []; cells = 0; ram = 0 } ∷ [];
+  buses = record { name = codes "b0"; from = 0 ∷ 1 ∷ 2 ∷ 4 ∷
+      []; to = port_of 2 0 ∷ port_of 2 1 ∷ port_of 3 0 ∷ port_of 4 0 ∷ [] } ∷ [];
 }
 
 no_route : IsWithoutRoute half_reached square (port_of 4 1) 1
@@ -115,7 +119,8 @@ no_route = record {
   units = 0 ∷ [];
   next = record { there = omega arith; count = refl; before = first_unit half_reached refl };
   width = omega arith;
-  none = none_there 5 (λ u h. h.right.kind.there) (passed (below 5 (λ u. nay (is_candidate half_reached square.nodes (0 ∷ []) 1 u))) refl);
+  none = none_there 5 (λ u h. h.right.kind.there) (passed (below 5
+      (λ u. nay (is_candidate half_reached square.nodes (0 ∷ []) 1 u))) refl);
   u = 4;
   right = passed (is_right_unit half_reached (node_of square.nodes 1) 4) refl;
   first = passed (below 4 (λ u. nay (is_right_unit half_reached (node_of square.nodes 1) u))) refl;
@@ -134,8 +139,10 @@ no_route = record {
     earlier : (p : ℕ) → p < 1 → LacksOperand half_reached square (0 ∷ []) 1 4 p → ⊥
     earlier zero less h = by h.lacks
       where
-        by : ((h.operand < 1) × (HasRoute half_reached (unit_in (0 ∷ []) h.operand) (port_of 4 0) → ⊥)) ⊎ ((h.operand ≡ 1) × (HasRoute half_reached 4 (port_of 4 0) → ⊥)) → ⊥
-        by (inl k) = k.1 (subst (λ (x : ℕ). HasRoute half_reached (unit_in (0 ∷ []) x) (port_of 4 0)) h.reads.node (passed (has_route half_reached 0 (port_of 4 0)) refl))
+        by : ((h.operand < 1) × (HasRoute half_reached (unit_in (0 ∷ []) h.operand) (port_of 4 0) → ⊥))
+            ⊎ ((h.operand ≡ 1) × (HasRoute half_reached 4 (port_of 4 0) → ⊥)) → ⊥
+        by (inl k) = k.1 (subst (λ (x : ℕ). HasRoute half_reached (unit_in (0 ∷ []) x) (port_of 4 0)) h.reads.node
+            (passed (has_route half_reached 0 (port_of 4 0)) refl))
         by (inr k) = let same = h.reads.node in let other = k.0 in absurd (omega arith)
     earlier (suc p) less h = absurd (omega arith)
 
@@ -159,15 +166,19 @@ no_cycle = record {
   heights = passed (are_heights short_path increment_plan.assigned its_heights) refl;
   there = omega arith;
   schedule = increment_plan.schedule;
-  before = λ u r. passed (below 4 (λ w. implies (placed_before its_heights w 3) (λ z. is_placed short_path increment_plan.assigned increment_plan.schedule its_heights w))) refl u r.node r.before;
+  before = λ u r. passed (below 4 (λ w. implies (placed_before its_heights w 3)
+      (λ z. is_placed short_path increment_plan.assigned increment_plan.schedule its_heights w))) refl u r.node
+      r.before;
   none = λ t can. let most = can.period in
-    passed (below 3 (λ w. nay (can_issue short_path increment_plan.assigned increment_plan.schedule its_heights 3 w))) refl t (omega arith) can;
+    passed (below 3 (λ w. nay (can_issue short_path increment_plan.assigned increment_plan.schedule its_heights 3
+        w))) refl t (omega arith) can;
 }
 
 -- v - v@1 with one register at the second port of the alu
 abbrev one_register : Datapath
 one_register = record (plain_path 1) {
-  units = take 2 (plain_path 1).units ++ record { name = codes "add"; kind = kind.Alu; latency = 1; gap = 1; files = 8 ∷ 1 ∷ []; cells = 0; ram = 0 } ∷ drop 3 (plain_path 1).units;
+  units = take 2 (plain_path 1).units ++ record { name = codes "add"; kind = kind.Alu; latency = 1; gap = 1; files =
+      8 ∷ 1 ∷ []; cells = 0; ram = 0 } ∷ drop 3 (plain_path 1).units;
 }
 
 no_register : IsWithoutRegister one_register 2 held_difference_plan.arcs (port_of 2 1) 2
@@ -184,10 +195,17 @@ no_register = record {
   node_is = refl;
 }
   where
-    small : (l : ℕ) → l < 3 → (j : ℕ) → j < (arc_of held_difference_plan.arcs l).copies → (l < 2) ⊎ ((l ≡ 2) × (j < 1)) → register_of held_difference_plan.registers.regs l j < file_size one_register (arc_of held_difference_plan.arcs l).port
-    small = passed (below 3 (λ l. below (arc_of held_difference_plan.arcs l).copies (λ j. implies (either (lt l 2) (both (eq l 2) (lt j 1))) (λ z. lt (register_of held_difference_plan.registers.regs l j) (file_size one_register (arc_of held_difference_plan.arcs l).port))))) refl
+    small : (l : ℕ) → l < 3 → (j : ℕ) → j < (arc_of held_difference_plan.arcs l).copies → (l < 2) ⊎ ((l ≡ 2)
+        × (j < 1)) → register_of held_difference_plan.registers.regs l j < file_size one_register
+        (arc_of held_difference_plan.arcs l).port
+    small = passed (below 3 (λ l. below (arc_of held_difference_plan.arcs l).copies
+        (λ j. implies (either (lt l 2) (both (eq l 2) (lt j 1)))
+        (λ z. lt (register_of held_difference_plan.registers.regs l j)
+        (file_size one_register (arc_of held_difference_plan.arcs l).port))))) refl
     within : (l j : ℕ) → (l < 2) ⊎ ((l ≡ 2) × (j < 1)) → l < 3
     within l j (inl h) = omega arith
     within l j (inr h) = let e = h.0 in omega arith
-    earlier : (l j : ℕ) → (l < 2) ⊎ ((l ≡ 2) × (j < 1)) → j < (arc_of held_difference_plan.arcs l).copies → register_of held_difference_plan.registers.regs l j < file_size one_register (arc_of held_difference_plan.arcs l).port
+    earlier : (l j : ℕ) → (l < 2) ⊎ ((l ≡ 2) × (j < 1)) → j < (arc_of held_difference_plan.arcs l).copies
+        → register_of held_difference_plan.registers.regs l j < file_size one_register
+        (arc_of held_difference_plan.arcs l).port
     earlier l j order copy = small l (within l j order) j copy order

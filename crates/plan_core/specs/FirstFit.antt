@@ -1,5 +1,5 @@
--- First-fit colouring of cyclic lifetimes: in each register file, by the cycle of the write, then by node, then by copy,
--- each copy gets the least register in which no copy before it shares a cycle with it.
+-- First-fit colouring of cyclic lifetimes: in each register file, by the cycle of the write, then by node, then by
+-- copy, each copy gets the least register in which no copy before it shares a cycle with it.
 use Rattle.std.specs.Prelude.{◌≡◌, ℕ, ◌<◌, ◌⊎◌, List, [], length, slice_index_or}
 use Rattle.plan_core.specs.Arcs.{arc_of, IsWrittenBefore}
 use Rattle.plan_core.specs.Circle.{AreApart}
