@@ -9,3 +9,5 @@ mod PlanTests
 mod WorkedPlans
 mod WorkedRefusals
 mod WrongPlans
+pub mod Sorted
+pub mod OneAssigned
