@@ -11,3 +11,6 @@ mod WorkedRefusals
 mod WrongPlans
 pub mod Sorted
 pub mod OneAssigned
+pub mod OneArcs
+pub mod OneSchedule
+pub mod OneFit

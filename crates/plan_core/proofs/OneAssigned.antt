@@ -1,10 +1,9 @@
 -- A lowered list has one binding to the units of a datapath at most.
-use Rattle.std.proofs.Common.{◌≡◌, refl, sym, subst, ap, ◌∙◌, arith, ℕ, zero, suc, ◌+◌, ◌<◌, ◌≤◌, ⊎_elim, List, length, take, slice_index_or, count_by, ◌==◌, length-take, get_or-take, ext_get_or}
+use Rattle.std.proofs.Common.{◌≡◌, sym, subst, ap, ◌∙◌, arith, ℕ, zero, suc, ◌<◌, ◌≤◌, ⊎_elim, List, length, take, count_by, ◌==◌, length-take, get_or-take, ext_get_or}
 use Rattle.std.proofs.lemmas.Bool.{cases_lt}
 use Rattle.datapath.specs.declared.types.Datapath.{Datapath}
 use Rattle.signal_graph.specs.declared.graph.Node.{Node}
 use Rattle.plan_core.specs.Hardware.{port_of, HasRoute}
-use Rattle.plan_core.specs.Operands.{node_of, Reads}
 use Rattle.plan_core.specs.Assigned.{unit_in, IsCandidate, load_of, IsUnitFor, AreUnits, IsAssigned}
 use Rattle.plan_core.specs.declared.delay_lines.Lowered.{Lowered}
 use Rattle.plan_core.specs.declared.schedule.Assigned.{Assigned}
@@ -14,7 +13,8 @@ module _ (d : Datapath) (nodes : List Node) where
   abbrev SameBefore : List ℕ → List ℕ → ℕ → Type 0
   SameBefore us ws v = (x : ℕ) → x < v → unit_in us x ≡ unit_in ws x
 
-  candidate-same : (us ws : List ℕ) (v u : ℕ) → SameBefore us ws v → IsCandidate d nodes us v u → IsCandidate d nodes ws v u
+  candidate-same : (us ws : List ℕ) (v u : ℕ) → SameBefore us ws v → IsCandidate d nodes us v u
+      → IsCandidate d nodes ws v u
   candidate-same us ws v u same can = record {
     right = can.right;
     operands = λ q x less r. subst (λ (w : ℕ). HasRoute d w (port_of u q)) (same x less) (can.operands q x less r);
@@ -52,7 +52,8 @@ module _ (d : Datapath) (nodes : List Node) where
       ⊎_elim (λ h. same x h)
       (λ h. let at_v : x ≡ v = omega arith in
         subst (λ (y : ℕ). unit_in us y ≡ unit_in ws y) (sym at_v)
-        (unit-same us ws v same (takes_same us ws v (omega arith) (omega arith) same) (a v (omega arith)) (b v (omega arith))))
+        (unit-same us ws v same (takes_same us ws v (omega arith) (omega arith) same) (a v (omega arith))
+            (b v (omega arith))))
       (cases_lt x v)
 
   pub one_units : (us ws : List ℕ) → AreUnits d nodes us → AreUnits d nodes ws → length us ≡ length ws → us ≡ ws

@@ -1,25 +1,18 @@
 -- Graphs that have no plan, each with the rule that finds no place; and plans that a rule refuses.
-use Rattle.std.proofs.Common.{◌≡◌, refl, sym, subst, arith, ℕ, zero, suc, ◌+◌, ◌<◌, ◌≤◌, ◌⊎◌, inl, inr, List, [], ◌∷◌, ◌++◌, length, take, drop, slice_index_or, codes, true}
-use Rattle.std.specs.Prelude.{Some, slice_get, pos}
+use Rattle.std.proofs.Common.{◌≡◌, refl, sym, subst, arith, ℕ, zero, suc, ◌<◌, ◌⊎◌, inl, inr, List, [], ◌∷◌, ◌++◌, take, drop, slice_index_or, codes, true}
 use Rattle.fix_word.specs.declared.operation.Op.TheVariants as op
 use Rattle.datapath.specs.declared.types.Kind.TheVariants as kind
-use Rattle.datapath.specs.declared.types.Bus.{Bus}
-use Rattle.datapath.specs.declared.types.Unit.{Unit as FunctionalUnit}
 use Rattle.datapath.specs.declared.types.Datapath.{Datapath}
-use Rattle.signal_graph.specs.Rules.{plain}
 use Rattle.signal_graph.specs.declared.graph.Node.{Node}
-use Rattle.signal_graph.specs.declared.graph.Graph.{Graph}
-use Rattle.plan_core.specs.Hardware.{IsUnit, HasRoute, port_of, file_size}
+use Rattle.plan_core.specs.Hardware.{HasRoute, port_of, file_size}
 use Rattle.plan_core.specs.Operands.{node_of}
-use Rattle.plan_core.specs.Lowered.{HasRoom, AreLongDelays}
-use Rattle.plan_core.specs.Assigned.{unit_in, IsRightUnit, IsCandidate, AreUnits}
-use Rattle.plan_core.specs.ListSchedule.{CanIssue}
+use Rattle.plan_core.specs.Lowered.{AreLongDelays}
+use Rattle.plan_core.specs.Assigned.{unit_in, AreUnits}
 use Rattle.plan_core.specs.Arcs.{arc_of}
 use Rattle.plan_core.specs.FirstFit.{register_of}
-use Rattle.plan_core.specs.Refusals.{NeedsLine, IsWithoutRam, IsWithoutCells, IsWithoutAcu, IsNextNode, IsTooWide, IsWithoutUnit, LacksOperand, IsWithoutRoute, IsWithoutCycle, IsWithoutRegister}
-use Rattle.plan_core.specs.declared.delay_lines.Line.{Line}
+use Rattle.plan_core.specs.Refusals.{NeedsLine, IsWithoutRam, IsWithoutCells, IsWithoutAcu, IsTooWide, IsWithoutUnit, LacksOperand, IsWithoutRoute, IsWithoutCycle, IsWithoutRegister}
 use Rattle.plan_core.specs.declared.delay_lines.Lowered.{Lowered}
-use Rattle.plan_core.proofs.Tests.{Test, passed, lt, le, eq, nay, both, either, implies, below, each_of, contains}
+use Rattle.plan_core.proofs.Tests.{passed, lt, le, eq, nay, both, either, implies, below, each_of, contains}
 use Rattle.plan_core.proofs.OperandTests.{is_unit, is_acu_of, has_route}
 use Rattle.plan_core.proofs.AssignedTests.{is_candidate, is_unit_for, is_right_unit}
 use Rattle.plan_core.proofs.LoweredTests.{are_all_long, has_room}

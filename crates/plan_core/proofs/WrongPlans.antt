@@ -1,18 +1,16 @@
 -- Plans that a rule refuses: a worked plan with one thing changed.
-use Rattle.std.proofs.Common.{◌≡◌, refl, ℕ, List, [], ◌∷◌, ◌++◌, slice_index_or, false}
+use Rattle.std.proofs.Common.{refl, ℕ, List, [], ◌∷◌, ◌++◌, slice_index_or}
 use Rattle.fix_word.specs.declared.operation.Op.TheVariants as op
 use Rattle.datapath.specs.declared.types.Datapath.{Datapath}
-use Rattle.signal_graph.specs.declared.graph.Node.{Node}
 use Rattle.plan_core.specs.Hardware.{port_of, no_unit}
 use Rattle.plan_core.specs.Lowered.{AreLongDelays}
 use Rattle.plan_core.specs.Assigned.{IsAssigned}
 use Rattle.plan_core.specs.ListSchedule.{IsPlaced}
 use Rattle.plan_core.specs.Arcs.{IsArc}
 use Rattle.plan_core.specs.FirstFit.{IsFirstFit}
-use Rattle.plan_core.specs.declared.registers.Arc.{Arc}
 use Rattle.plan_core.specs.declared.schedule.Assigned.{Assigned}
 use Rattle.plan_core.specs.declared.schedule.Schedule.{Schedule}
-use Rattle.plan_core.proofs.Tests.{Test, passed, refuted}
+use Rattle.plan_core.proofs.Tests.{passed, refuted}
 use Rattle.plan_core.proofs.AssignedTests.{is_assigned}
 use Rattle.plan_core.proofs.LoweredTests.{are_long_delays}
 use Rattle.plan_core.proofs.ScheduleTests.{is_placed}
