@@ -1,13 +1,14 @@
 -- A list of nodes on units has one list schedule at most.
-use Rattle.std.proofs.Common.{◌≡◌, refl, sym, subst, ap, ap₂, ◌∙◌, arith, ℕ, zero, suc, ◌+◌, ◌<◌, ◌≤◌, ◌⊎◌, inl, inr, ⊎_elim, le_antisymm, List, [], ◌∷◌, length, map, All, Contains, ext_get_or}
+use Rattle.std.proofs.Common.{◌≡◌, refl, sym, subst, subst₂, ap, ap₂, ◌∙◌, arith, ℕ, zero, suc, ◌+◌, ◌<◌, ◌≤◌, ◌⊎◌, inl, inr, ⊎_elim, le_antisymm, List, [], ◌∷◌, length, map, All, Contains, ext_get_or}
 use Rattle.std.proofs.lemmas.Bool.{cases_lt}
 use Rattle.datapath.specs.declared.types.PortRef.{PortRef}
 use Rattle.datapath.specs.declared.types.Datapath.{Datapath}
-use Rattle.plan_core.specs.Hardware.{latency_on, gap_on}
+use Rattle.plan_core.specs.Hardware.{latency_on}
 use Rattle.plan_core.specs.Operands.{Reads}
 use Rattle.plan_core.specs.Assigned.{unit_in}
 use Rattle.plan_core.specs.Heights.{ReadsNow, latency_of, AreHeights, IsPlacedBefore}
-use Rattle.plan_core.specs.ListSchedule.{no_slot, slot_of, cycle_of, result_at, ends, IsDestination, IsPortBefore, AreDestinations, IsReserved, IsFreeRoute, CanIssue, IsFirstBus, IsPlaced, IsListSchedule}
+use Rattle.plan_core.specs.Reservations.{result_on, IsFreeRoute, Fits, IsFirstBus}
+use Rattle.plan_core.specs.ListSchedule.{no_slot, slot_of, cycle_of, ends, IsDestination, IsPortBefore, AreDestinations, IsEarlier, IsTakenBefore, CanIssue, IsPlaced, IsListSchedule}
 use Rattle.plan_core.specs.declared.schedule.Assigned.{Assigned}
 use Rattle.plan_core.specs.declared.schedule.Transfer.{Transfer}
 use Rattle.plan_core.specs.declared.schedule.Slot.{Slot}
@@ -76,7 +77,7 @@ module _ (d : Datapath) (a : Assigned) (live : (u : ℕ) → 1 ≤ latency_on d 
 
   -- node u is placed before node v by the one heights where it is by the others
   reserved-same : (g h : ℕ → ℕ) → AreHeights d a g → AreHeights d a h → (v u : ℕ) → v < length a.lowered.nodes
-      → IsReserved a h v u → IsReserved a g v u
+      → IsEarlier a h v u → IsEarlier a g v u
   reserved-same g h gs hs v u there r =
       let at_u = one_height g h gs hs u r.node in let at_v = one_height g h gs hs v there in
       record { node = r.node; before = by at_u at_v r.before }
@@ -88,7 +89,7 @@ module _ (d : Datapath) (a : Assigned) (live : (u : ℕ) → 1 ≤ latency_on d 
   -- an operand of the same sample is placed before its consumer
   operand-reserved : (h : ℕ → ℕ) → AreHeights d a h → (v q x : ℕ) → x < length a.lowered.nodes
       → ReadsNow a.lowered.nodes v q x
-      → IsReserved a h v x
+      → IsEarlier a h v x
   operand-reserved h hs v q x there r =
       let above = (hs x there).above v q r in let positive = live (unit_in a.units x) in
       record { node = there; before = inl (omega arith) }
@@ -96,30 +97,35 @@ module _ (d : Datapath) (a : Assigned) (live : (u : ℕ) → 1 ≤ latency_on d 
   module _ (inside : (v q x : ℕ) → Reads a.lowered.nodes v q x
       → x < length a.lowered.nodes) (s z : Schedule) (g h : ℕ
       → ℕ) (gs : AreHeights d a g) (hs : AreHeights d a h) (v : ℕ) (there : v < length a.lowered.nodes)
-      (agree : (u : ℕ) → IsReserved a h v u → slot_of s u ≡ slot_of z u) where
-    at_g : (u : ℕ) → IsReserved a h v u → IsReserved a g v u
-    at_g u r = reserved-same g h gs hs v u there r
+      (agree : (u : ℕ) → IsEarlier a h v u → slot_of s u ≡ slot_of z u) where
+    -- what is taken in the second schedule is taken in the first one
+    taken-back : (u : ℕ) (slot : Slot) → IsTakenBefore a z h v u slot → IsTakenBefore a s g v u slot
+    taken-back u slot t = record {
+      x = t.x;
+      earlier = reserved-same g h gs hs v t.x there t.earlier;
+      unit = t.unit;
+      its_slot = agree t.x t.earlier ∙ t.its_slot;
+    }
 
-    ends-back : (u w : ℕ) → IsReserved a h v u → ends d a z u ≡ w → ends d a s u ≡ w
-    ends-back u w r e = ap (λ (slot : Slot). result_at d a u slot.cycle) (agree u r) ∙ e
+    free-same : (u w : ℕ) (port : PortRef) (b : ℕ) → IsFreeRoute d (IsTakenBefore a s g v) u w port b
+        → IsFreeRoute d (IsTakenBefore a z h v) u w port b
+    free-same u w port b f = record { route = f.route; free = λ x slot t. f.free x slot (taken-back x slot t) }
 
-    free-same : (w : ℕ) (port : PortRef) (b : ℕ) → IsFreeRoute d a s g v w port b → IsFreeRoute d a z h v w port b
-    free-same w port b f = record {
-      route = f.route;
-      free = λ u r e. subst (λ (slot : Slot). All (λ (t : Transfer). t.bus ≡ b
-          → ⊥) slot.transfers) (agree u r) (f.free u (at_g u r) (ends-back u w r e));
+    fits-same : (u t : ℕ) → Fits d (IsTakenBefore a s g v) (IsDestination a v) u t
+        → Fits d (IsTakenBefore a z h v) (IsDestination a v) u t
+    fits-same u t f = record {
+      period = f.period;
+      unit = λ slot x. f.unit slot (taken-back u slot x);
+      files = λ port dest w slot x. f.files port dest w slot (taken-back w slot x);
+      buses = λ port dest. let x = f.buses port dest in (x.0, free-same u (result_on d u t) port x.0 x.1);
     }
 
     can-same : (t : ℕ) → CanIssue d a s g v t → CanIssue d a z h v t
     can-same t c = record {
-      operands = λ q x r. subst (λ (slot : Slot). slot.cycle + latency_of d a x ≤ t)
-          (agree x (operand-reserved h hs v q x (inside v q x r.reads) r)) (c.operands q x r);
-      period = c.period;
-      unit = λ u r e. subst (λ (slot : Slot). (slot.cycle + gap_on d (unit_in a.units v) ≤ t)
-          ⊎ (t + gap_on d (unit_in a.units v) ≤ slot.cycle)) (agree u r) (c.unit u (at_g u r) e);
-      files = λ port dest u r e. subst (λ (slot : Slot). All (λ (x : Transfer). x.port ≡ port
-          → ⊥) slot.transfers) (agree u r) (c.files port dest u (at_g u r) (ends-back u (result_at d a v t) r e));
-      buses = λ port dest. let x = c.buses port dest in (x.0, free-same (result_at d a v t) port x.0 x.1);
+      operands = λ q x r.
+        subst (λ (slot : Slot). slot.cycle + latency_of d a x ≤ t)
+        (agree x (operand-reserved h hs v q x (inside v q x r.reads) r)) (c.operands q x r);
+      fits = fits-same (unit_in a.units v) t c.fits;
     }
 
   dest-in : (v : ℕ) (ps qs : List PortRef) → AreDestinations a v ps → AreDestinations a v qs → (p : PortRef)
@@ -137,7 +143,13 @@ module _ (d : Datapath) (a : Assigned) (live : (u : ℕ) → 1 ≤ latency_on d 
       → x < length a.lowered.nodes) (s z : Schedule) (g h : ℕ
       → ℕ) (gs : AreHeights d a g) (hs : AreHeights d a h) (placed_s : (v : ℕ) → v < length a.lowered.nodes
       → IsPlaced d a s g v) (placed_z : (v : ℕ) → v < length a.lowered.nodes → IsPlaced d a z h v) where
-    slot-same : (v : ℕ) → v < length a.lowered.nodes → ((u : ℕ) → IsReserved a g v u → slot_of s u ≡ slot_of z u)
+    abbrev First_s : ℕ → ℕ → Transfer → Type 0
+    First_s v w x = IsFirstBus d (IsTakenBefore a s g v) (unit_in a.units v) w x
+
+    abbrev First_z : ℕ → ℕ → Transfer → Type 0
+    First_z v w x = IsFirstBus d (IsTakenBefore a z h v) (unit_in a.units v) w x
+
+    slot-same : (v : ℕ) → v < length a.lowered.nodes → ((u : ℕ) → IsEarlier a g v u → slot_of s u ≡ slot_of z u)
         → slot_of s v ≡ slot_of z v
     slot-same v there agree =
         let ps = placed_s v there in let pz = placed_z v there in
@@ -148,34 +160,34 @@ module _ (d : Datapath) (a : Assigned) (live : (u : ℕ) → 1 ≤ latency_on d 
             (λ less. ps.least (cycle_of z v) less (from (cycle_of z v) pz.can)) in
         let ports = one_destinations v (map (λ (t : Transfer). t.port) (slot_of s v).transfers)
             (map (λ (t : Transfer). t.port) (slot_of z v).transfers) ps.destinations pz.destinations in
-        let end = ap (λ (t : ℕ). result_at d a v t) cycle in
-        let transfers = same_by_key (λ (t : Transfer). t.port) (IsFirstBus d a s g v) (IsFirstBus d a z h v)
-            (bus-same end) (slot_of s v).transfers (slot_of z v).transfers ports ps.buses pz.buses in
+        let end = ap (λ (t : ℕ). result_on d (unit_in a.units v) t) cycle in
+        let transfers =
+          same_by_key (λ (t : Transfer). t.port) (First_s v (ends d a s v)) (First_z v (ends d a z v))
+              (bus-same (ends d a s v) (ends d a z v) end)
+          (slot_of s v).transfers (slot_of z v).transfers ports ps.buses pz.buses in
         ap₂ (λ (c : ℕ) (ts : List Transfer). record { cycle = c; transfers = ts }) cycle transfers
       where
-        agree_h : (u : ℕ) → IsReserved a h v u → slot_of s u ≡ slot_of z u
+        agree_h : (u : ℕ) → IsEarlier a h v u → slot_of s u ≡ slot_of z u
         agree_h u r = agree u (reserved-same g h gs hs v u there r)
-        agree_back : (u : ℕ) → IsReserved a g v u → slot_of z u ≡ slot_of s u
+        agree_back : (u : ℕ) → IsEarlier a g v u → slot_of z u ≡ slot_of s u
         agree_back u r = sym (agree u r)
-        forth : (w : ℕ) (port : PortRef) (b : ℕ) → IsFreeRoute d a s g v w port b → IsFreeRoute d a z h v w port b
-        forth w port b f = free-same inside s z g h gs hs v there agree_h w port b f
-        back : (w : ℕ) (port : PortRef) (b : ℕ) → IsFreeRoute d a z h v w port b → IsFreeRoute d a s g v w port b
-        back w port b f = free-same inside z s h g hs gs v there agree_back w port b f
-        moved : (w x : ℕ) (p q : PortRef) (b : ℕ) → w ≡ x → p ≡ q → IsFreeRoute d a s g v w p b
-            → IsFreeRoute d a z h v x q b
-        moved w x p q b ew ep f = subst (λ (r : PortRef). IsFreeRoute d a z h v x r b) ep
-            (subst (λ (y : ℕ). IsFreeRoute d a z h v y p b) ew (forth w p b f))
-        moved_back : (w x : ℕ) (p q : PortRef) (b : ℕ) → x ≡ w → q ≡ p → IsFreeRoute d a z h v w p b
-            → IsFreeRoute d a s g v x q b
-        moved_back w x p q b ew ep f = back x q b (subst (λ (r : PortRef). IsFreeRoute d a z h v x r b) (sym ep)
-            (subst (λ (y : ℕ). IsFreeRoute d a z h v y p b) (sym ew) f))
-        bus-same : ends d a s v ≡ ends d a z v → (x y : Transfer) → x.port ≡ y.port → IsFirstBus d a s g v x
-            → IsFirstBus d a z h v y → x ≡ y
-        bus-same end x y port fx fy =
+        forth : (w x : ℕ) (p q : PortRef) (b : ℕ) → w ≡ x → p ≡ q
+            → IsFreeRoute d (IsTakenBefore a s g v) (unit_in a.units v) w p b
+            → IsFreeRoute d (IsTakenBefore a z h v) (unit_in a.units v) x q b
+        forth w x p q b ew ep f =
+            subst₂ (λ (y : ℕ) (r : PortRef). IsFreeRoute d (IsTakenBefore a z h v) (unit_in a.units v) y r b) ew ep
+            (free-same inside s z g h gs hs v there agree_h (unit_in a.units v) w p b f)
+        back : (w x : ℕ) (p q : PortRef) (b : ℕ) → w ≡ x → p ≡ q
+            → IsFreeRoute d (IsTakenBefore a z h v) (unit_in a.units v) w p b
+            → IsFreeRoute d (IsTakenBefore a s g v) (unit_in a.units v) x q b
+        back w x p q b ew ep f =
+            subst₂ (λ (y : ℕ) (r : PortRef). IsFreeRoute d (IsTakenBefore a s g v) (unit_in a.units v) y r b) ew ep
+            (free-same inside z s h g hs gs v there agree_back (unit_in a.units v) w p b f)
+        bus-same : (w e : ℕ) → w ≡ e → (x y : Transfer) → x.port ≡ y.port → First_s v w x → First_z v e y → x ≡ y
+        bus-same w e end x y port fx fy =
             let bus = neither_less x.bus y.bus
-              (λ less. fy.first x.bus less (moved (ends d a s v) (ends d a z v) x.port y.port x.bus end port fx.route))
-              (λ less. fx.first y.bus less (moved_back (ends d a z v)
-                  (ends d a s v) y.port x.port y.bus end port fy.route)) in
+              (λ less. fy.first x.bus less (forth w e x.port y.port x.bus end port fx.route))
+              (λ less. fx.first y.bus less (back e w y.port x.port y.bus (sym end) (sym port) fy.route)) in
             ap₂ (λ (p : PortRef) (b : ℕ). record { port = p; bus = b }) port bus
 
     -- by falling height, and at one height by number

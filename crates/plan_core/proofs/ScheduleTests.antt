@@ -1,14 +1,16 @@
 -- Tests of heights and of the list schedule.
-use Rattle.std.proofs.Common.{◌≡◌, refl, subst, ap, ℕ, ◌+◌, ◌<◌, ◌≤◌, ◌⊎◌, List, length, map, All, Contains, true}
+use Rattle.std.proofs.Common.{◌≡◌, refl, subst, subst₂, ap, ℕ, ◌+◌, ◌<◌, ◌≤◌, ◌⊎◌, List, length, map, All, Contains, true}
 use Rattle.std.specs.List.{AllPairs}
 use Rattle.datapath.specs.declared.types.PortRef.{PortRef}
 use Rattle.datapath.specs.declared.types.Datapath.{Datapath}
 use Rattle.signal_graph.specs.declared.graph.Node.{Node}
-use Rattle.plan_core.specs.Hardware.{gap_on, port_of, IsRoute}
+use Rattle.plan_core.specs.Hardware.{latency_on, gap_on, port_of, IsRoute}
 use Rattle.plan_core.specs.Operands.{delay_at, Reads}
 use Rattle.plan_core.specs.Assigned.{unit_in}
 use Rattle.plan_core.specs.Heights.{ReadsNow, latency_of, IsHeight, AreHeights, IsPlacedBefore}
-use Rattle.plan_core.specs.ListSchedule.{slot_of, cycle_of, result_at, ends, IsDestination, IsPortBefore, AreDestinations, IsReserved, IsUnitFree, IsFileFree, IsBusFree, IsFreeRoute, AreOperandsThere, CanIssue, IsFirstBus, IsPlaced, IsListSchedule}
+use Rattle.plan_core.specs.Reservations.{result_on, IsUnitFree, IsFileFree, IsBusFree, IsFreeRoute, Fits, IsFirstBus}
+use Rattle.plan_core.specs.ListSchedule.{slot_of, cycle_of, ends, IsDestination, IsPortBefore, AreDestinations, IsTakenBefore, AreOperandsThere, CanIssue, IsPlaced, IsListSchedule}
+use Rattle.plan_core.specs.declared.schedule.Slot.{Slot}
 use Rattle.plan_core.specs.declared.schedule.Assigned.{Assigned}
 use Rattle.plan_core.specs.declared.schedule.Transfer.{Transfer}
 use Rattle.plan_core.specs.declared.schedule.Schedule.{Schedule}
@@ -96,41 +98,59 @@ are_destinations a v ports =
     (both (each_of ports (is_destination a v))
     (each_consumer a.lowered.nodes v (λ c q. contains same_port ports (port_of (unit_in a.units c) q)))))
 
+pub taken_to : (a : Assigned) (s : Schedule) (height : ℕ → ℕ) (v : ℕ) (P : ℕ → Slot → Type 0)
+    → ((x : ℕ) → x < length a.lowered.nodes → IsPlacedBefore height x v → P (unit_in a.units x) (slot_of s x))
+    → (u : ℕ) (slot : Slot) → IsTakenBefore a s height v u slot → P u slot
+taken_to a s height v P h u slot t = subst₂ P t.unit t.its_slot (h t.x t.earlier.node t.earlier.before)
+
 module _ (d : Datapath) (a : Assigned) (s : Schedule) (height : ℕ → ℕ) where
-  abbrev each_reserved : {P : ℕ → Type 0} (v : ℕ) → ((u : ℕ) → Test (P u)) → Test ((u : ℕ)
-      → IsReserved a height v u → P u)
-  each_reserved {P} v t =
-      like {P = (u : ℕ) → u < length a.lowered.nodes → IsPlacedBefore height u v → P u}
-      (λ h u r. h u r.node r.before) (λ h u less before. h u (record { node = less; before = before }))
-      (below (length a.lowered.nodes) (λ u. implies (placed_before height u v) (λ z. t u)))
+  -- each operation in the reservation table
+  abbrev each_taken : {P : ℕ → Slot → Type 0} (v : ℕ) → ((u : ℕ) (slot : Slot) → Test (P u slot))
+      → Test ((u : ℕ) (slot : Slot) → IsTakenBefore a s height v u slot → P u slot)
+  each_taken {P} v t =
+      like
+      (taken_to a s height v P)
+      (λ h x there before. h (unit_in a.units x) (slot_of s x) (record {
+        x = x;
+        earlier = record { node = there; before = before };
+        unit = refl;
+        its_slot = refl;
+      }))
+      (below (length a.lowered.nodes) (λ x. implies (placed_before height x v)
+          (λ z. t (unit_in a.units x) (slot_of s x))))
 
-  abbrev unit_free : (v t : ℕ) → Test (IsUnitFree d a s height v t)
-  unit_free v t =
-      each_reserved v (λ u. implies (eq (unit_in a.units u) (unit_in a.units v)) (λ z.
-        either (le (cycle_of s u + gap_on d (unit_in a.units v)) t)
-            (le (t + gap_on d (unit_in a.units v)) (cycle_of s u))))
+  abbrev unit_free : (v u t : ℕ) → Test (IsUnitFree d (IsTakenBefore a s height v) u t)
+  unit_free v u t =
+      like {P = (w : ℕ) (slot : Slot) → IsTakenBefore a s height v w slot → w ≡ u → (slot.cycle + gap_on d u ≤ t)
+          ⊎ (t + gap_on d u ≤ slot.cycle)}
+      (λ h slot taken. h u slot taken refl)
+      (λ h w slot taken e. h slot (subst (λ (y : ℕ). IsTakenBefore a s height v y slot) e taken))
+      (each_taken v (λ w slot. implies (eq w u) (λ z. either (le (slot.cycle + gap_on d u) t)
+          (le (t + gap_on d u) slot.cycle))))
 
-  abbrev file_free : (v w : ℕ) (port : PortRef) → Test (IsFileFree d a s height v w port)
+  abbrev file_free : (v w : ℕ) (port : PortRef) → Test (IsFileFree d (IsTakenBefore a s height v) w port)
   file_free v w port =
-      each_reserved v (λ u. implies (eq (ends d a s u) w) (λ z.
-        each_of (slot_of s u).transfers (λ (transfer : Transfer). nay (same_port transfer.port port))))
+      each_taken v (λ u slot. implies (eq (result_on d u slot.cycle) w) (λ z.
+        each_of slot.transfers (λ (transfer : Transfer). nay (same_port transfer.port port))))
 
-  abbrev bus_free : (v w b : ℕ) → Test (IsBusFree d a s height v w b)
+  abbrev bus_free : (v w b : ℕ) → Test (IsBusFree d (IsTakenBefore a s height v) w b)
   bus_free v w b =
-      each_reserved v (λ u. implies (eq (ends d a s u) w) (λ z.
-        each_of (slot_of s u).transfers (λ (transfer : Transfer). nay (eq transfer.bus b))))
+      each_taken v (λ u slot. implies (eq (result_on d u slot.cycle) w) (λ z.
+        each_of slot.transfers (λ (transfer : Transfer). nay (eq transfer.bus b))))
 
-  abbrev free_route : (v w : ℕ) (port : PortRef) (b : ℕ) → Test (IsFreeRoute d a s height v w port b)
-  free_route v w port b =
-      like {P = IsRoute d (unit_in a.units v) port b × IsBusFree d a s height v w b}
+  abbrev free_route : (v u w : ℕ) (port : PortRef) (b : ℕ) → Test
+      (IsFreeRoute d (IsTakenBefore a s height v) u w port b)
+  free_route v u w port b =
+      like {P = IsRoute d u port b × IsBusFree d (IsTakenBefore a s height v) w b}
       (λ h. record { route = h.0; free = h.1 }) (λ h. (h.route, h.free))
-      (both (is_route d (unit_in a.units v) port b) (bus_free v w b))
+      (both (is_route d u port b) (bus_free v w b))
 
-  abbrev some_free_route : (v w : ℕ) (port : PortRef) → Test ((b : ℕ) × IsFreeRoute d a s height v w port b)
-  some_free_route v w port =
-      like {P = (b : ℕ) × (b < length d.buses) × IsFreeRoute d a s height v w port b}
+  abbrev some_free_route : (v u w : ℕ) (port : PortRef)
+      → Test ((b : ℕ) × IsFreeRoute d (IsTakenBefore a s height v) u w port b)
+  some_free_route v u w port =
+      like {P = (b : ℕ) × (b < length d.buses) × IsFreeRoute d (IsTakenBefore a s height v) u w port b}
       (λ h. (h.0, h.2)) (λ h. (h.0, h.1.route.there, h.1))
-      (some_below (length d.buses) (λ b. free_route v w port b))
+      (some_below (length d.buses) (λ b. free_route v u w port b))
 
   abbrev operands_there : (v t : ℕ) → Test (AreOperandsThere d a s height v t)
   operands_there v t =
@@ -140,44 +160,54 @@ module _ (d : Datapath) (a : Assigned) (s : Schedule) (height : ℕ → ℕ) whe
       (each_operand a.lowered.nodes v (λ q x. implies (eq (delay_at a.lowered.nodes v q) 0)
           (λ z. le (cycle_of s x + latency_of d a x) t)))
 
-  abbrev Files : ℕ → ℕ → Type 0
-  Files v t = (port : PortRef) → IsDestination a v port → IsFileFree d a s height v (result_at d a v t) port
+  abbrev Files : ℕ → ℕ → ℕ → Type 0
+  Files v u t = (port : PortRef) → IsDestination a v port → IsFileFree d (IsTakenBefore a s height v)
+      (result_on d u t) port
 
-  abbrev Buses : ℕ → ℕ → Type 0
-  Buses v t = (port : PortRef) → IsDestination a v port → (b : ℕ)
-      × IsFreeRoute d a s height v (result_at d a v t) port b
+  abbrev Buses : ℕ → ℕ → ℕ → Type 0
+  Buses v u t =
+      (port : PortRef) → IsDestination a v port
+      → (b : ℕ) × IsFreeRoute d (IsTakenBefore a s height v) u (result_on d u t) port b
+
+  abbrev fits : (v u t : ℕ) → Test (Fits d (IsTakenBefore a s height v) (IsDestination a v) u t)
+  fits v u t =
+      like {P = (t + latency_on d u ≤ d.period) × (IsUnitFree d (IsTakenBefore a s height v) u t × (Files v u t
+          × Buses v u t))}
+      (λ h. record { period = h.0; unit = h.1.0; files = h.1.1.0; buses = h.1.1.1 })
+      (λ h. (h.period, (h.unit, (h.files, h.buses))))
+      (both (le (t + latency_on d u) d.period)
+      (both (unit_free v u t)
+      (both (each_destination a v (λ port. file_free v (result_on d u t) port))
+      (each_destination a v (λ port. some_free_route v u (result_on d u t) port)))))
 
   abbrev pub can_issue : (v t : ℕ) → Test (CanIssue d a s height v t)
   can_issue v t =
-      like {P = AreOperandsThere d a s height v t × ((t + latency_of d a v ≤ d.period)
-          × (IsUnitFree d a s height v t × (Files v t × Buses v t)))}
-      (λ h. record { operands = h.0; period = h.1.0; unit = h.1.1.0; files = h.1.1.1.0; buses = h.1.1.1.1 })
-      (λ h. (h.operands, (h.period, (h.unit, (h.files, h.buses)))))
-      (both (operands_there v t)
-      (both (le (t + latency_of d a v) d.period)
-      (both (unit_free v t)
-      (both (each_destination a v (λ port. file_free v (result_at d a v t) port))
-      (each_destination a v (λ port. some_free_route v (result_at d a v t) port))))))
+      like {P = AreOperandsThere d a s height v t × Fits d (IsTakenBefore a s height v) (IsDestination a v)
+          (unit_in a.units v) t}
+      (λ h. record { operands = h.0; fits = h.1 }) (λ h. (h.operands, h.fits))
+      (both (operands_there v t) (fits v (unit_in a.units v) t))
 
-  abbrev is_first_bus : (v : ℕ) (transfer : Transfer) → Test (IsFirstBus d a s height v transfer)
-  is_first_bus v transfer =
-      like {P = IsFreeRoute d a s height v (ends d a s v) transfer.port transfer.bus × ((b : ℕ) → b < transfer.bus
-          → IsFreeRoute d a s height v (ends d a s v) transfer.port b → ⊥)}
+  abbrev is_first_bus : (v u w : ℕ) (transfer : Transfer) → Test
+      (IsFirstBus d (IsTakenBefore a s height v) u w transfer)
+  is_first_bus v u w transfer =
+      like {P = IsFreeRoute d (IsTakenBefore a s height v) u w transfer.port transfer.bus × ((b : ℕ)
+          → b < transfer.bus → IsFreeRoute d (IsTakenBefore a s height v) u w transfer.port b → ⊥)}
       (λ h. record { route = h.0; first = h.1 }) (λ h. (h.route, h.first))
-      (both (free_route v (ends d a s v) transfer.port transfer.bus)
-          (below transfer.bus (λ b. nay (free_route v (ends d a s v) transfer.port b))))
+      (both (free_route v u w transfer.port transfer.bus) (below transfer.bus
+          (λ b. nay (free_route v u w transfer.port b))))
 
   abbrev pub is_placed : (v : ℕ) → Test (IsPlaced d a s height v)
   is_placed v =
       like {P = CanIssue d a s height v (cycle_of s v) × (((t : ℕ) → t < cycle_of s v → CanIssue d a s height v t
           → ⊥) × (AreDestinations a v (map (λ (transfer : Transfer). transfer.port) (slot_of s v).transfers)
-          × All (IsFirstBus d a s height v) (slot_of s v).transfers))}
+          × All (IsFirstBus d (IsTakenBefore a s height v) (unit_in a.units v) (ends d a s v))
+          (slot_of s v).transfers))}
       (λ h. record { can = h.0; least = h.1.0; destinations = h.1.1.0; buses = h.1.1.1 })
           (λ h. (h.can, (h.least, (h.destinations, h.buses))))
       (both (can_issue v (cycle_of s v))
       (both (below (cycle_of s v) (λ t. nay (can_issue v t)))
       (both (are_destinations a v (map (λ (transfer : Transfer). transfer.port) (slot_of s v).transfers))
-      (each_of (slot_of s v).transfers (is_first_bus v)))))
+      (each_of (slot_of s v).transfers (is_first_bus v (unit_in a.units v) (ends d a s v))))))
 
   abbrev pub are_placed : Test ((v : ℕ) → v < length a.lowered.nodes → IsPlaced d a s height v)
   are_placed = below (length a.lowered.nodes) (λ v. is_placed v)

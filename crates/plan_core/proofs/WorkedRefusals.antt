@@ -162,7 +162,7 @@ no_cycle = record {
   before = λ u r. passed (below 4 (λ w. implies (placed_before its_heights w 3)
       (λ z. is_placed short_path increment_plan.assigned increment_plan.schedule its_heights w))) refl u r.node
       r.before;
-  none = λ t can. let most = can.period in
+  none = λ t can. let most = can.fits.period in
     passed (below 3 (λ w. nay (can_issue short_path increment_plan.assigned increment_plan.schedule its_heights 3
         w))) refl t (omega arith) can;
 }

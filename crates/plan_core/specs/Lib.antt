@@ -3,6 +3,7 @@ pub mod Operands
 pub mod Lowered
 pub mod Assigned
 pub mod Heights
+pub mod Reservations
 pub mod ListSchedule
 pub mod Arcs
 pub mod Circle

@@ -10,7 +10,7 @@ use Rattle.plan_core.specs.Operands.{node_of, Reads}
 use Rattle.plan_core.specs.Lowered.{AreLongDelays, AreLines, HasRoom, stored}
 use Rattle.plan_core.specs.Assigned.{unit_in, IsRightUnit, IsCandidate, AreUnits}
 use Rattle.plan_core.specs.Heights.{AreHeights}
-use Rattle.plan_core.specs.ListSchedule.{IsReserved, CanIssue, IsPlaced}
+use Rattle.plan_core.specs.ListSchedule.{IsEarlier, CanIssue, IsPlaced}
 use Rattle.plan_core.specs.Arcs.{arc_of}
 use Rattle.plan_core.specs.FirstFit.{register_of, IsFirstFit}
 use Rattle.plan_core.specs.declared.delay_lines.Line.{Line}
@@ -124,7 +124,7 @@ pub record IsWithoutCycle (d : Datapath) (a : Assigned) (v : ℕ) : Type 0 where
   pub heights : AreHeights d a height
   pub there : v < length a.lowered.nodes
   pub schedule : Schedule
-  pub before : (u : ℕ) → IsReserved a height v u → IsPlaced d a schedule height u
+  pub before : (u : ℕ) → IsEarlier a height v u → IsPlaced d a schedule height u
   pub none : (t : ℕ) → CanIssue d a schedule height v t → ⊥
 
 -- Copy i of arc k has no register in its file: by first fit it would get one past the file's end, and the copies of
