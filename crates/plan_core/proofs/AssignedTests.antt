@@ -2,18 +2,18 @@
 use Rattle.std.proofs.Common.{◌≡◌, refl, ℕ, ◌<◌, ◌≤◌, List, length}
 use Rattle.datapath.specs.declared.types.Datapath.{Datapath}
 use Rattle.signal_graph.specs.declared.graph.Node.{Node}
-use Rattle.plan_core.specs.Hardware.{kind_of, port_of, IsUnit, HasRoute}
+use Rattle.plan_core.specs.Hardware.{kind_of, port_of, IsOfKind, HasRoute}
 use Rattle.plan_core.specs.Operands.{node_of, Reads}
 use Rattle.plan_core.specs.Assigned.{unit_in, IsForRam, IsRightUnit, IsCandidate, load_of, IsUnitFor, AreUnits, IsAssigned}
 use Rattle.plan_core.specs.declared.schedule.Assigned.{Assigned}
 use Rattle.plan_core.proofs.Tests.{Test, lt, le, eq, like, both, implies, below}
-use Rattle.plan_core.proofs.OperandTests.{is_unit, is_for_ram, has_route, each_operand, each_consumer, read_too}
+use Rattle.plan_core.proofs.OperandTests.{is_of_kind, is_for_ram, has_route, each_operand, each_consumer, read_too}
 
 abbrev pub is_right_unit : (d : Datapath) (node : Node) (u : ℕ) → Test (IsRightUnit d node u)
 is_right_unit d node u =
-    like {P = IsUnit d (kind_of node.op) u × IsForRam d node.op node.ram u}
+    like {P = IsOfKind d (kind_of node.op) u × IsForRam d node.op node.ram u}
     (λ h. record { kind = h.0; ram = h.1 }) (λ h. (h.kind, h.ram))
-    (both (is_unit d (kind_of node.op) u) (is_for_ram d node.op node.ram u))
+    (both (is_of_kind d (kind_of node.op) u) (is_for_ram d node.op node.ram u))
 
 module _ (d : Datapath) (nodes : List Node) (units : List ℕ) where
   abbrev Operands : ℕ → ℕ → Type 0

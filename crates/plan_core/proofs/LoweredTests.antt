@@ -5,12 +5,12 @@ use Rattle.datapath.specs.declared.types.Kind.TheVariants as kind
 use Rattle.datapath.specs.declared.types.Datapath.{Datapath}
 use Rattle.signal_graph.specs.declared.graph.Edge.{Edge}
 use Rattle.signal_graph.specs.declared.graph.Graph.{Graph}
-use Rattle.plan_core.specs.Hardware.{IsUnit, cells_on}
+use Rattle.plan_core.specs.Hardware.{IsOfKind, cells_on}
 use Rattle.plan_core.specs.Operands.{delay_at, Reads}
 use Rattle.plan_core.specs.Lowered.{IsReadAgo, AreLongDelays, own, load, IsNumber, used, HasRoom, IsLoweredEdge}
 use Rattle.plan_core.specs.declared.delay_lines.Line.{Line}
 use Rattle.plan_core.proofs.Tests.{Test, lt, le, eq, like, both, implies, below, each_of, contains}
-use Rattle.plan_core.proofs.OperandTests.{is_unit, each_consumer, some_consumer}
+use Rattle.plan_core.proofs.OperandTests.{is_of_kind, each_consumer, some_consumer}
 
 abbrev rises : (xs : List ℕ) → Test (IsStrictlyIncreasing xs)
 rises xs =
@@ -47,9 +47,9 @@ are_all_long g hold delays = below (length g.nodes) (λ v. are_long_delays g hol
 
 abbrev pub has_room : (d : Datapath) (lines : List Line) (cells ram : ℕ) → Test (HasRoom d lines cells ram)
 has_room d lines cells ram =
-    like {P = IsUnit d kind.Ram ram × (used lines ram + cells ≤ cells_on d ram)}
+    like {P = IsOfKind d kind.Ram ram × (used lines ram + cells ≤ cells_on d ram)}
     (λ h. record { is_ram = h.0; room = h.1 }) (λ h. (h.is_ram, h.room))
-    (both (is_unit d kind.Ram ram) (le (used lines ram + cells) (cells_on d ram)))
+    (both (is_of_kind d kind.Ram ram) (le (used lines ram + cells) (cells_on d ram)))
 
 pub held_edge : (hold : ℕ) (delays : List (List ℕ)) (edge old : Edge) → old.delay ≤ hold
     → IsNumber delays (own old.node) edge.node

@@ -1,9 +1,12 @@
 -- A list of nodes on units has one list schedule at most.
 use Rattle.std.proofs.Common.{◌≡◌, refl, sym, subst, subst₂, ap, ap₂, ◌∙◌, arith, ℕ, zero, suc, ◌+◌, ◌<◌, ◌≤◌, ◌⊎◌, inl, inr, ⊎_elim, le_antisymm, List, [], ◌∷◌, length, map, All, Contains, ext_get_or}
 use Rattle.std.proofs.lemmas.Bool.{cases_lt}
+use Rattle.std.proofs.lemmas.List.{get_or_past}
+use Rattle.datapath.specs.Allowed.{IsDatapath}
 use Rattle.datapath.specs.declared.types.PortRef.{PortRef}
+use Rattle.datapath.specs.declared.types.Unit.{Unit as FunctionalUnit}
 use Rattle.datapath.specs.declared.types.Datapath.{Datapath}
-use Rattle.plan_core.specs.Hardware.{latency_on}
+use Rattle.plan_core.specs.Hardware.{no_unit, unit_of, latency_on}
 use Rattle.plan_core.specs.Operands.{Reads}
 use Rattle.plan_core.specs.Assigned.{unit_in}
 use Rattle.plan_core.specs.Heights.{ReadsNow, latency_of, AreHeights, IsPlacedBefore}
@@ -21,6 +24,15 @@ use Rattle.plan_core.proofs.OneArcs.{ports_one_way}
 pub neither_less : (m n : ℕ) → (m < n → ⊥) → (n < m → ⊥) → m ≡ n
 neither_less m n up down =
     ⊎_elim (λ h. absurd (up h)) (λ h. ⊎_elim (λ k. absurd (down k)) (λ k. omega arith) (cases_lt n m)) (cases_lt m n)
+
+-- an operation takes a cycle at least
+pub live_of : (d : Datapath) → IsDatapath d → (u : ℕ) → 1 ≤ latency_on d u
+live_of d is u =
+    ⊎_elim (λ h. (is.units u no_unit h).latency.0) (λ h. past (get_or_past d.units u no_unit h))
+        (cases_lt u (length d.units))
+  where
+    past : unit_of d u ≡ no_unit → 1 ≤ latency_on d u
+    past e = let same = ap (λ (x : FunctionalUnit). x.latency) e in omega arith
 
 -- the nodes from 0 to n - 1 have a greatest height at most
 bounded : (n : ℕ) (g : ℕ → ℕ) → (b : ℕ) × ((v : ℕ) → v < n → g v ≤ b)

@@ -10,7 +10,7 @@ use Rattle.datapath.specs.declared.types.PortRef.{PortRef}
 use Rattle.datapath.specs.declared.types.Datapath.{Datapath}
 use Rattle.signal_graph.specs.GraphSolves.{no_node}
 use Rattle.signal_graph.specs.declared.graph.Node.{Node}
-use Rattle.plan_core.specs.Hardware.{unit_of, tie_of, no_bus, IsUnit, IsAcuOf, IsRoute, HasRoute}
+use Rattle.plan_core.specs.Hardware.{unit_of, tie_of, no_bus, IsOfKind, IsAcuOf, IsRoute, HasRoute}
 use Rattle.plan_core.specs.Operands.{node_of, edge_of, Reads}
 use Rattle.plan_core.specs.Assigned.{IsForRam}
 use Rattle.plan_core.proofs.Tests.{Test, trivial, lt, eq, like, both, implies, below, some_below, contains}
@@ -60,16 +60,16 @@ same_port p q =
     like (port_from p q) (λ e. (ap (λ (r : PortRef). r.unit) e, ap (λ (r : PortRef). r.port) e))
     (both (eq p.unit q.unit) (eq p.port q.port))
 
-abbrev pub is_unit : (d : Datapath) (k : Kind) (u : ℕ) → Test (IsUnit d k u)
-is_unit d k u =
+abbrev pub is_of_kind : (d : Datapath) (k : Kind) (u : ℕ) → Test (IsOfKind d k u)
+is_of_kind d k u =
     like {P = (u < length d.units) × ((unit_of d u).kind ≡ k)} (λ h. record { there = h.0; kind = h.1 })
         (λ h. (h.there, h.kind))
     (both (lt u (length d.units)) (same_kind (unit_of d u).kind k))
 
 abbrev pub is_acu_of : (d : Datapath) (ram u : ℕ) → Test (IsAcuOf d ram u)
 is_acu_of d ram u =
-    like {P = IsUnit d kind.Acu u × (tie_of d u ≡ ram)} (λ h. record { acu = h.0; tie = h.1 }) (λ h. (h.acu, h.tie))
-    (both (is_unit d kind.Acu u) (eq (tie_of d u) ram))
+    like {P = IsOfKind d kind.Acu u × (tie_of d u ≡ ram)} (λ h. record { acu = h.0; tie = h.1 }) (λ h. (h.acu, h.tie))
+    (both (is_of_kind d kind.Acu u) (eq (tie_of d u) ram))
 
 abbrev pub is_route : (d : Datapath) (u : ℕ) (port : PortRef) (b : ℕ) → Test (IsRoute d u port b)
 is_route d u port b =

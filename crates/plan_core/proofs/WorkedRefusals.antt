@@ -13,7 +13,7 @@ use Rattle.plan_core.specs.FirstFit.{register_of}
 use Rattle.plan_core.specs.Refusals.{NeedsLine, IsWithoutRam, IsWithoutCells, IsWithoutAcu, IsTooWide, IsWithoutUnit, LacksOperand, IsWithoutRoute, IsWithoutCycle, IsWithoutRegister}
 use Rattle.plan_core.specs.declared.delay_lines.Lowered.{Lowered}
 use Rattle.plan_core.proofs.Tests.{passed, lt, le, eq, nay, both, either, implies, below, each_of, contains}
-use Rattle.plan_core.proofs.OperandTests.{is_unit, is_acu_of, has_route}
+use Rattle.plan_core.proofs.OperandTests.{is_of_kind, is_acu_of, has_route}
 use Rattle.plan_core.proofs.AssignedTests.{is_candidate, is_unit_for, is_right_unit}
 use Rattle.plan_core.proofs.LoweredTests.{are_all_long, has_room}
 use Rattle.plan_core.proofs.ScheduleTests.{are_heights, can_issue, is_placed, placed_before}
@@ -48,7 +48,7 @@ no_ram : IsWithoutRam line_cells (plain_path 0) 0
 no_ram = record {
   cells = 4;
   needs = needs_four (plain_path 0) refl;
-  none = none_there 4 (λ u h. h.there) (passed (below 4 (λ u. nay (is_unit (plain_path 0) kind.Ram u))) refl);
+  none = none_there 4 (λ u h. h.there) (passed (below 4 (λ u. nay (is_of_kind (plain_path 0) kind.Ram u))) refl);
 }
 
 -- the ram has three cells
@@ -57,7 +57,7 @@ no_cells = record {
   lines = [];
   cells = 4;
   needs = needs_four (filter_path 32 3) refl;
-  some = (5, passed (is_unit (filter_path 32 3) kind.Ram 5) refl);
+  some = (5, passed (is_of_kind (filter_path 32 3) kind.Ram 5) refl);
   none = none_there 8 (λ u h. h.is_ram.there) (passed (below 8 (λ u. nay (has_room (filter_path 32 3) [] 4 u))) refl);
 }
 

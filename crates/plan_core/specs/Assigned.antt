@@ -5,7 +5,7 @@ use Rattle.fix_word.specs.declared.operation.Op.{Op}
 use Rattle.fix_word.specs.declared.operation.Op.TheVariants as op
 use Rattle.datapath.specs.declared.types.Datapath.{Datapath}
 use Rattle.signal_graph.specs.declared.graph.Node.{Node}
-use Rattle.plan_core.specs.Hardware.{kind_of, tie_of, port_of, IsUnit, HasRoute}
+use Rattle.plan_core.specs.Hardware.{kind_of, tie_of, port_of, IsOfKind, HasRoute}
 use Rattle.plan_core.specs.Operands.{node_of, Reads}
 use Rattle.plan_core.specs.declared.schedule.Assigned.{Assigned}
 
@@ -22,7 +22,7 @@ IsForRam d _ ram u = Unit {0}
 
 -- unit u is of the right kind for the node
 pub record IsRightUnit (d : Datapath) (node : Node) (u : ℕ) : Type 0 where
-  pub kind : IsUnit d (kind_of node.op) u
+  pub kind : IsOfKind d (kind_of node.op) u
   pub ram : IsForRam d node.op node.ram u
 
 -- the units are those of the first nodes, of which v is one or the next

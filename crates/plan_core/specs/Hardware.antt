@@ -64,13 +64,13 @@ abbrev pub port_of : (unit port : ℕ) → PortRef
 port_of unit port = record { unit = unit; port = port }
 
 -- the unit is there and of this kind
-pub record IsUnit (d : Datapath) (unit_kind : Kind) (u : ℕ) : Type 0 where
+pub record IsOfKind (d : Datapath) (unit_kind : Kind) (u : ℕ) : Type 0 where
   pub there : u < length d.units
   pub kind : (unit_of d u).kind ≡ unit_kind
 
 -- unit u is an acu that addresses this ram
 pub record IsAcuOf (d : Datapath) (ram u : ℕ) : Type 0 where
-  pub acu : IsUnit d kind.Acu u
+  pub acu : IsOfKind d kind.Acu u
   pub tie : tie_of d u ≡ ram
 
 -- bus b is a route from unit u to the port: the unit can drive it, and the port's file can take from it

@@ -13,7 +13,7 @@ use Rattle.signal_graph.specs.Rules.{plain}
 use Rattle.signal_graph.specs.declared.graph.Edge.{Edge}
 use Rattle.signal_graph.specs.declared.graph.Node.{Node}
 use Rattle.signal_graph.specs.declared.graph.Graph.{Graph}
-use Rattle.plan_core.specs.Hardware.{IsUnit, IsAcuOf, cells_on}
+use Rattle.plan_core.specs.Hardware.{IsOfKind, IsAcuOf, cells_on}
 use Rattle.plan_core.specs.Operands.{node_of, delay_at, Reads}
 use Rattle.plan_core.specs.declared.delay_lines.Line.{Line}
 use Rattle.plan_core.specs.declared.delay_lines.Lowered.{Lowered}
@@ -75,7 +75,7 @@ used lines ram = sum_by (λ (line : Line). cond (line.ram == ram) (line.depth + 
 
 -- there is a ram, and after these lines it has so many cells left
 pub record HasRoom (d : Datapath) (lines : List Line) (cells ram : ℕ) : Type 0 where
-  pub is_ram : IsUnit d kind.Ram ram
+  pub is_ram : IsOfKind d kind.Ram ram
   pub room : used lines ram + cells ≤ cells_on d ram
 
 -- the line is the next one after these, for node v with these long delays: in the first ram with room, at its next

@@ -5,7 +5,7 @@ use Rattle.datapath.specs.declared.types.Kind.TheVariants as kind
 use Rattle.datapath.specs.declared.types.PortRef.{PortRef}
 use Rattle.datapath.specs.declared.types.Datapath.{Datapath}
 use Rattle.signal_graph.specs.declared.graph.Graph.{Graph}
-use Rattle.plan_core.specs.Hardware.{kind_of, port_of, file_size, IsUnit, IsAcuOf, HasRoute}
+use Rattle.plan_core.specs.Hardware.{kind_of, port_of, file_size, IsOfKind, IsAcuOf, HasRoute}
 use Rattle.plan_core.specs.Operands.{node_of, Reads}
 use Rattle.plan_core.specs.Lowered.{AreLongDelays, AreLines, HasRoom, stored}
 use Rattle.plan_core.specs.Assigned.{unit_in, IsRightUnit, IsCandidate, AreUnits}
@@ -36,14 +36,14 @@ pub record NeedsLine (g : Graph) (d : Datapath) (lines : List Line) (v cells : �
 pub record IsWithoutRam (g : Graph) (d : Datapath) (v : ℕ) : Type 0 where
   pub cells : ℕ
   pub needs : NeedsLine g d [] v cells
-  pub none : (ram : ℕ) → IsUnit d kind.Ram ram → ⊥
+  pub none : (ram : ℕ) → IsOfKind d kind.Ram ram → ⊥
 
 -- there is one, but none has room for its line
 pub record IsWithoutCells (g : Graph) (d : Datapath) (v : ℕ) : Type 0 where
   pub lines : List Line
   pub cells : ℕ
   pub needs : NeedsLine g d lines v cells
-  pub some : (ram : ℕ) × IsUnit d kind.Ram ram
+  pub some : (ram : ℕ) × IsOfKind d kind.Ram ram
   pub none : (ram : ℕ) → HasRoom d lines cells ram → ⊥
 
 -- the first ram with room is this one, and no acu addresses it
