@@ -50,7 +50,7 @@ module _ (d : Datapath) (nodes : List Node) (units : List ℕ) where
   Fewest v u =
       (w : ℕ) → w < length d.units → IsCandidate d nodes units v w
       → (load_of d nodes units v u ≤ load_of d nodes units v w)
-          × (load_of d nodes units v w ≡ load_of d nodes units v u → u ≤ w)
+      × (load_of d nodes units v w ≡ load_of d nodes units v u → u ≤ w)
 
   abbrev pub is_unit_for : (v u : ℕ) → Test (IsUnitFor d nodes units v u)
   is_unit_for v u =
@@ -65,12 +65,12 @@ module _ (d : Datapath) (nodes : List Node) (units : List ℕ) where
       (both (le (node_of nodes v).width d.word)
       (both (is_candidate v u)
       (below (length d.units) (λ w. implies (is_candidate v w)
-          (λ z. both (le (load_of d nodes units v u) (load_of d nodes units v w))
-          (implies (eq (load_of d nodes units v w) (load_of d nodes units v u)) (λ y. le u w)))))))
+      (λ z. both (le (load_of d nodes units v u) (load_of d nodes units v w))
+      (implies (eq (load_of d nodes units v w) (load_of d nodes units v u)) (λ y. le u w)))))))
 
 abbrev pub is_assigned : (d : Datapath) (a : Assigned) → Test (IsAssigned d a)
 is_assigned d a =
     like {P = (length a.units ≡ length a.lowered.nodes) × AreUnits d a.lowered.nodes a.units}
     (λ h. record { count = h.0; units = h.1 }) (λ h. (h.count, h.units))
     (both (eq (length a.units) (length a.lowered.nodes)) (below (length a.units)
-        (λ v. is_unit_for d a.lowered.nodes a.units v (unit_in a.units v))))
+    (λ v. is_unit_for d a.lowered.nodes a.units v (unit_in a.units v))))

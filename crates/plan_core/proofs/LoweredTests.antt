@@ -16,7 +16,7 @@ abbrev rises : (xs : List ℕ) → Test (IsStrictlyIncreasing xs)
 rises xs =
     like (λ h k less. h k (omega arith) less) (λ h k less next. h k next)
     (below {P = λ k. k + 1 < length xs → slice_index xs k < slice_index xs (k + 1)} (length xs)
-        (λ k. implies (lt (k + 1) (length xs)) (λ z. lt (slice_index xs k) (slice_index xs (k + 1)))))
+    (λ k. implies (lt (k + 1) (length xs)) (λ z. lt (slice_index xs k) (slice_index xs (k + 1)))))
 
 abbrev is_read_ago : (g : Graph) (v ago : ℕ) → Test (IsReadAgo g v ago)
 is_read_ago g v ago =
@@ -31,14 +31,14 @@ Every g hold v delays =
 abbrev pub are_long_delays : (g : Graph) (hold v : ℕ) (delays : List ℕ) → Test (AreLongDelays g hold v delays)
 are_long_delays g hold v delays =
     like {P = IsStrictlyIncreasing delays × (All (λ (k : ℕ). hold < k) delays
-        × (All (λ (k : ℕ). IsReadAgo g v k) delays × Every g hold v delays))}
+    × (All (λ (k : ℕ). IsReadAgo g v k) delays × Every g hold v delays))}
     (λ h. record { rise = h.0; long = h.1.0; read = h.1.1.0; every = h.1.1.1 })
-        (λ h. (h.rise, (h.long, (h.read, h.every))))
+    (λ h. (h.rise, (h.long, (h.read, h.every))))
     (both (rises delays)
     (both (each_of delays (λ (k : ℕ). lt hold k))
     (both (each_of delays (λ (k : ℕ). is_read_ago g v k))
     (each_consumer g.nodes v (λ c q. implies (lt hold (delay_at g.nodes c q))
-        (λ z. contains eq delays (delay_at g.nodes c q)))))))
+    (λ z. contains eq delays (delay_at g.nodes c q)))))))
 
 -- the long delays of all nodes
 abbrev pub are_all_long : (g : Graph) (hold : ℕ) (delays : List (List ℕ))

@@ -74,9 +74,9 @@ module _ (d : Datapath) (a : Assigned) (s : Schedule) where
       let reader = at.read.1 in
       let other = k.every at.read.0 x.port.port x.node reader.reads in
       let port : port_of (unit_in a.units at.read.0) x.port.port ≡ x.port = ap
-          (λ (u : ℕ). port_of u x.port.port) reader.unit in
+      (λ (u : ℕ). port_of u x.port.port) reader.unit in
       let same = one_arc (arc_of ys other.0) x other.2.node (other.2.port_is ∙ port)
-          (k.each other.0 no_arc other.1) at in
+      (k.each other.0 no_arc other.1) at in
       (other.0, other.1, get_or_default ys other.0 x no_arc other.1 ∙ same)
 
   pub one_arcs : (xs ys : List Arc) → IsArcs d a s xs → IsArcs d a s ys → xs ≡ ys

@@ -51,9 +51,9 @@ module _ (d : Datapath) (nodes : List Node) where
       let same = units-below us ws a b e v (omega arith) in
       ⊎_elim (λ h. same x h)
       (λ h. let at_v : x ≡ v = omega arith in
-        subst (λ (y : ℕ). unit_in us y ≡ unit_in ws y) (sym at_v)
-        (unit-same us ws v same (takes_same us ws v (omega arith) (omega arith) same) (a v (omega arith))
-            (b v (omega arith))))
+      subst (λ (y : ℕ). unit_in us y ≡ unit_in ws y) (sym at_v)
+      (unit-same us ws v same (takes_same us ws v (omega arith) (omega arith) same) (a v (omega arith))
+      (b v (omega arith))))
       (cases_lt x v)
 
   pub one_units : (us ws : List ℕ) → AreUnits d nodes us → AreUnits d nodes ws → length us ≡ length ws → us ≡ ws

@@ -27,16 +27,16 @@ module _ (period unroll : ℕ) (arcs : List Arc) (order : AllPairs IsArcBefore a
       → IsCopyBefore (arc_of arcs k) i (arc_of arcs l) j → (k < l) ⊎ ((k ≡ l) × (i < j))
   comes_first k i l j k_there l_there port (inl h) =
       ⊎_elim (λ less. inl less) (λ not_less. ⊎_elim (λ more. absurd
-          (written_one_way (arc_of arcs k) (arc_of arcs l) h (not_later k l k_there port more)))
-          (λ same. let e : k ≡ l = omega arith in absurd (alone k l e h)) (cases_lt l k)) (cases_lt k l)
+      (written_one_way (arc_of arcs k) (arc_of arcs l) h (not_later k l k_there port more)))
+      (λ same. let e : k ≡ l = omega arith in absurd (alone k l e h)) (cases_lt l k)) (cases_lt k l)
     where
       alone : (k l : ℕ) → k ≡ l → IsWrittenBefore (arc_of arcs k) (arc_of arcs l) → ⊥
       alone k l e h = never_same (arc_of arcs k) (arc_of arcs l) h (ap (λ (x : ℕ). (arc_of arcs x).w) e)
           (ap (λ (x : ℕ). (arc_of arcs x).node) e)
   comes_first k i l j k_there l_there port (inr h) =
       ⊎_elim (λ less. inl less) (λ not_less. ⊎_elim (λ more. absurd
-          (never_same (arc_of arcs l) (arc_of arcs k) (not_later k l k_there port more) (sym h.0) (sym h.1)))
-          (λ same. inr (omega arith, h.2)) (cases_lt l k)) (cases_lt k l)
+      (never_same (arc_of arcs l) (arc_of arcs k) (not_later k l k_there port more) (sym h.0) (sym h.1)))
+      (λ same. inr (omega arith, h.2)) (cases_lt l k)) (cases_lt k l)
 
   -- the two choices agree on the copies before copy j of arc l
   abbrev Agree : List (List ℕ) → List (List ℕ) → ℕ → ℕ → Type 0
@@ -60,12 +60,12 @@ module _ (period unroll : ℕ) (arcs : List Arc) (order : AllPairs IsArcBefore a
 
   register-same : (rs qs : List (List ℕ)) (l j : ℕ) → l < length arcs → Agree rs qs l j
       → IsFirstFree period unroll arcs rs l j → IsFirstFree period unroll arcs qs l j
-          → register_of rs l j ≡ register_of qs l j
+      → register_of rs l j ≡ register_of qs l j
   register-same rs qs l j there agree r q =
       neither_less (register_of rs l j) (register_of qs l j)
       (λ less. q.least (register_of rs l j) less (free-same rs qs l j (register_of rs l j) there agree r.free))
       (λ less. r.least (register_of qs l j) less (free-same qs rs l j (register_of qs l j) there
-          (agree-back rs qs l j agree) q.free))
+      (agree-back rs qs l j agree) q.free))
 
   module _ (rs qs : List (List ℕ)) (fit_r : IsFirstFit period unroll arcs rs)
       (fit_q : IsFirstFit period unroll arcs qs) where
@@ -83,6 +83,7 @@ module _ (period unroll : ℕ) (arcs : List Arc) (order : AllPairs IsArcBefore a
         at_l rest k i e low i_copy =
             subst (λ (x : ℕ). register_of rs x i ≡ register_of qs x i) (sym e)
             (rest i (omega arith) (subst (λ (x : ℕ). i < (arc_of arcs x).copies) e i_copy))
+
         agree : ((i : ℕ) → i < m → i < (arc_of arcs l).copies → register_of rs l i ≡ register_of qs l i)
             → Agree rs qs l j
         agree rest k i k_there i_copy (inl h) = arcs_before k i k_there h i_copy
@@ -93,7 +94,7 @@ module _ (period unroll : ℕ) (arcs : List Arc) (order : AllPairs IsArcBefore a
     arcs-same zero l j less there copy = absurd (omega arith)
     arcs-same (suc m) l j less there copy =
         copies-same l there (λ k i k_there low i_copy. arcs-same m k i (omega arith) k_there i_copy) (suc j) j
-            (omega arith) copy
+        (omega arith) copy
 
     pub one_fit : rs ≡ qs
     one_fit =
@@ -104,5 +105,5 @@ module _ (period unroll : ℕ) (arcs : List Arc) (order : AllPairs IsArcBefore a
         of_arc k there =
             let copies = fit_r.copies k there in
             ext_get_or 0 (slice_index_or rs k []) (slice_index_or qs k [])
-                (fit_r.copies k there ∙ sym (fit_q.copies k there))
+            (fit_r.copies k there ∙ sym (fit_q.copies k there))
             (λ i less. arcs-same (suc k) k i (omega arith) there (omega arith))

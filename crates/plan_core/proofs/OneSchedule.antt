@@ -29,7 +29,7 @@ neither_less m n up down =
 pub live_of : (d : Datapath) → IsDatapath d → (u : ℕ) → 1 ≤ latency_on d u
 live_of d is u =
     ⊎_elim (λ h. (is.units u no_unit h).latency.0) (λ h. past (get_or_past d.units u no_unit h))
-        (cases_lt u (length d.units))
+    (cases_lt u (length d.units))
   where
     past : unit_of d u ≡ no_unit → 1 ≤ latency_on d u
     past e = let same = ap (λ (x : FunctionalUnit). x.latency) e in omega arith
@@ -56,11 +56,12 @@ same_by_key {A} {K} key P Q once (x ∷ xs) (y ∷ ys) e h k =
     let tails = rest (key x) (key y) (map key xs) (map key ys) e in
     let same = once x y heads (h 0 x (omega arith)) (k 0 y (omega arith)) in
     let others = same_by_key key P Q once xs ys tails (λ i d less. h (suc i) d (omega arith))
-        (λ i d less. k (suc i) d (omega arith)) in
+    (λ i d less. k (suc i) d (omega arith)) in
     ap₂ (λ (z : A) (zs : List A). z ∷ zs) same others
   where
     first : (p q : K) (ps qs : List K) → p ∷ ps ≡ q ∷ qs → p ≡ q
     first p q ps qs e = cc
+
     rest : (p q : K) (ps qs : List K) → p ∷ ps ≡ q ∷ qs → ps ≡ qs
     rest p q ps qs e = cc
 
@@ -85,7 +86,7 @@ module _ (d : Datapath) (a : Assigned) (live : (u : ℕ) → 1 ≤ latency_on d 
       → g v ≡ h v
   one_height g h gs hs v there =
       le_antisymm (height-below g h gs hs (g v) v there (omega arith))
-          (height-below h g hs gs (h v) v there (omega arith))
+      (height-below h g hs gs (h v) v there (omega arith))
 
   -- node u is placed before node v by the one heights where it is by the others
   reserved-same : (g h : ℕ → ℕ) → AreHeights d a g → AreHeights d a h → (v u : ℕ) → v < length a.lowered.nodes
@@ -135,8 +136,8 @@ module _ (d : Datapath) (a : Assigned) (live : (u : ℕ) → 1 ≤ latency_on d 
     can-same : (t : ℕ) → CanIssue d a s g v t → CanIssue d a z h v t
     can-same t c = record {
       operands = λ q x r.
-        subst (λ (slot : Slot). slot.cycle + latency_of d a x ≤ t)
-        (agree x (operand-reserved h hs v q x (inside v q x r.reads) r)) (c.operands q x r);
+          subst (λ (slot : Slot). slot.cycle + latency_of d a x ≤ t)
+          (agree x (operand-reserved h hs v q x (inside v q x r.reads) r)) (c.operands q x r);
       fits = fits-same (unit_in a.units v) t c.fits;
     }
 
@@ -144,12 +145,12 @@ module _ (d : Datapath) (a : Assigned) (live : (u : ℕ) → 1 ≤ latency_on d 
       → Contains ps p → Contains qs p
   dest-in v ps qs x y p (i, less, is) =
       dest_to a v (λ (r : PortRef). Contains qs r) y.every p
-          (subst (λ (r : PortRef). IsDestination a v r) is (x.read i p less))
+      (subst (λ (r : PortRef). IsDestination a v r) is (x.read i p less))
 
   one_destinations : (v : ℕ) (ps qs : List PortRef) → AreDestinations a v ps → AreDestinations a v qs → ps ≡ qs
   one_destinations v ps qs x y =
       same_order IsPortBefore ports_one_way ps qs x.order y.order (λ p. dest-in v ps qs x y p)
-          (λ p. dest-in v qs ps y x p)
+      (λ p. dest-in v qs ps y x p)
 
   module _ (inside : (v q x : ℕ) → Reads a.lowered.nodes v q x
       → x < length a.lowered.nodes) (s z : Schedule) (g h : ℕ
@@ -168,38 +169,42 @@ module _ (d : Datapath) (a : Assigned) (live : (u : ℕ) → 1 ≤ latency_on d 
         let to = λ (t : ℕ) (c : CanIssue d a s g v t). can-same inside s z g h gs hs v there agree_h t c in
         let from = λ (t : ℕ) (c : CanIssue d a z h v t). can-same inside z s h g hs gs v there agree_back t c in
         let cycle = neither_less (cycle_of s v) (cycle_of z v)
-            (λ less. pz.least (cycle_of s v) less (to (cycle_of s v) ps.can))
-            (λ less. ps.least (cycle_of z v) less (from (cycle_of z v) pz.can)) in
+        (λ less. pz.least (cycle_of s v) less (to (cycle_of s v) ps.can))
+        (λ less. ps.least (cycle_of z v) less (from (cycle_of z v) pz.can)) in
         let ports = one_destinations v (map (λ (t : Transfer). t.port) (slot_of s v).transfers)
-            (map (λ (t : Transfer). t.port) (slot_of z v).transfers) ps.destinations pz.destinations in
+        (map (λ (t : Transfer). t.port) (slot_of z v).transfers) ps.destinations pz.destinations in
         let end = ap (λ (t : ℕ). result_on d (unit_in a.units v) t) cycle in
         let transfers =
-          same_by_key (λ (t : Transfer). t.port) (First_s v (ends d a s v)) (First_z v (ends d a z v))
-              (bus-same (ends d a s v) (ends d a z v) end)
-          (slot_of s v).transfers (slot_of z v).transfers ports ps.buses pz.buses in
+        same_by_key (λ (t : Transfer). t.port) (First_s v (ends d a s v)) (First_z v (ends d a z v))
+        (bus-same (ends d a s v) (ends d a z v) end)
+        (slot_of s v).transfers (slot_of z v).transfers ports ps.buses pz.buses in
         ap₂ (λ (c : ℕ) (ts : List Transfer). record { cycle = c; transfers = ts }) cycle transfers
       where
         agree_h : (u : ℕ) → IsEarlier a h v u → slot_of s u ≡ slot_of z u
         agree_h u r = agree u (reserved-same g h gs hs v u there r)
+
         agree_back : (u : ℕ) → IsEarlier a g v u → slot_of z u ≡ slot_of s u
         agree_back u r = sym (agree u r)
+
         forth : (w x : ℕ) (p q : PortRef) (b : ℕ) → w ≡ x → p ≡ q
             → IsFreeRoute d (IsTakenBefore a s g v) (unit_in a.units v) w p b
             → IsFreeRoute d (IsTakenBefore a z h v) (unit_in a.units v) x q b
         forth w x p q b ew ep f =
             subst₂ (λ (y : ℕ) (r : PortRef). IsFreeRoute d (IsTakenBefore a z h v) (unit_in a.units v) y r b) ew ep
             (free-same inside s z g h gs hs v there agree_h (unit_in a.units v) w p b f)
+
         back : (w x : ℕ) (p q : PortRef) (b : ℕ) → w ≡ x → p ≡ q
             → IsFreeRoute d (IsTakenBefore a z h v) (unit_in a.units v) w p b
             → IsFreeRoute d (IsTakenBefore a s g v) (unit_in a.units v) x q b
         back w x p q b ew ep f =
             subst₂ (λ (y : ℕ) (r : PortRef). IsFreeRoute d (IsTakenBefore a s g v) (unit_in a.units v) y r b) ew ep
             (free-same inside z s h g hs gs v there agree_back (unit_in a.units v) w p b f)
+
         bus-same : (w e : ℕ) → w ≡ e → (x y : Transfer) → x.port ≡ y.port → First_s v w x → First_z v e y → x ≡ y
         bus-same w e end x y port fx fy =
             let bus = neither_less x.bus y.bus
-              (λ less. fy.first x.bus less (forth w e x.port y.port x.bus end port fx.route))
-              (λ less. fx.first y.bus less (back e w y.port x.port y.bus (sym end) (sym port) fy.route)) in
+            (λ less. fy.first x.bus less (forth w e x.port y.port x.bus end port fx.route))
+            (λ less. fx.first y.bus less (back e w y.port x.port y.bus (sym end) (sym port) fy.route)) in
             ap₂ (λ (p : PortRef) (b : ℕ). record { port = p; bus = b }) port bus
 
     -- by falling height, and at one height by number
@@ -228,5 +233,5 @@ module _ (d : Datapath) (a : Assigned) (live : (u : ℕ) → 1 ≤ latency_on d 
   one_schedule inside s z x y =
       let count = x.count in
       let slots = ext_get_or no_slot s.slots z.slots (x.count ∙ sym y.count)
-          (λ v less. one_slot inside s z x.height y.height x.heights y.heights x.placed y.placed v (omega arith)) in
+      (λ v less. one_slot inside s z x.height y.height x.heights y.heights x.placed y.placed v (omega arith)) in
       ap (λ (xs : List Slot). record { slots = xs }) slots

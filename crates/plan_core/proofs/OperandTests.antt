@@ -63,7 +63,7 @@ same_port p q =
 abbrev pub is_of_kind : (d : Datapath) (k : Kind) (u : ℕ) → Test (IsOfKind d k u)
 is_of_kind d k u =
     like {P = (u < length d.units) × ((unit_of d u).kind ≡ k)} (λ h. record { there = h.0; kind = h.1 })
-        (λ h. (h.there, h.kind))
+    (λ h. (h.there, h.kind))
     (both (lt u (length d.units)) (same_kind (unit_of d u).kind k))
 
 abbrev pub is_acu_of : (d : Datapath) (ram u : ℕ) → Test (IsAcuOf d ram u)
@@ -75,15 +75,15 @@ abbrev pub is_route : (d : Datapath) (u : ℕ) (port : PortRef) (b : ℕ) → Te
 is_route d u port b =
     like
     {P = (b < length d.buses) × (Contains (slice_index_or d.buses b no_bus).from u
-        × Contains (slice_index_or d.buses b no_bus).to port)}
+    × Contains (slice_index_or d.buses b no_bus).to port)}
     (λ h. record { there = h.0; driver = h.1.0; taker = h.1.1 }) (λ h. (h.there, (h.driver, h.taker)))
     (both (lt b (length d.buses)) (both (contains eq (slice_index_or d.buses b no_bus).from u)
-        (contains same_port (slice_index_or d.buses b no_bus).to port)))
+    (contains same_port (slice_index_or d.buses b no_bus).to port)))
 
 abbrev pub has_route : (d : Datapath) (u : ℕ) (port : PortRef) → Test (HasRoute d u port)
 has_route d u port =
     like (λ h. (h.0, h.2)) (λ h. (h.0, h.1.there, h.1)) (some_below {P = λ b. IsRoute d u port b} (length d.buses)
-        (λ b. is_route d u port b))
+    (λ b. is_route d u port b))
 
 abbrev pub is_for_ram : (d : Datapath) (o : Op) (ram u : ℕ) → Test (IsForRam d o ram u)
 is_for_ram d op.Load ram u = eq u ram
@@ -94,7 +94,7 @@ is_for_ram d _ ram u = trivial
 none_past : (nodes : List Node) (c q : ℕ) → length nodes ≤ c → q < length (node_of nodes c).edges → ⊥
 none_past nodes c q past h =
     let none : length (node_of nodes c).edges ≡ 0 = ap (λ (n : Node). length n.edges)
-        (get_or_past nodes c no_node past) in omega arith
+    (get_or_past nodes c no_node past) in omega arith
 
 pub consumer_there : (nodes : List Node) (c q v : ℕ) → Reads nodes c q v → c < length nodes
 consumer_there nodes c q v r =
@@ -116,7 +116,7 @@ abbrev pub each_operand : {P : ℕ → ℕ → Type 0} (nodes : List Node) (c : 
     → Test ((q x : ℕ) → Reads nodes c q x → P q x)
 each_operand {P} nodes c t =
     like (operands_to nodes c P) (λ h q less. h q (edge_of (node_of nodes c) q).node
-        (record { port = less; node = refl }))
+    (record { port = less; node = refl }))
     (below (length (node_of nodes c).edges) (λ q. t q (edge_of (node_of nodes c) q).node))
 
 pub read_too : (nodes : List Node) (c q x v : ℕ) → x ≡ v → Reads nodes c q x → Reads nodes c q v
@@ -139,4 +139,4 @@ some_consumer {P} nodes v t =
     (λ h. (h.0, h.2.0, h.2.2.0, h.2.2.1))
     (λ h. (h.0, consumer_there nodes h.0 h.1 v h.2, (h.1, h.2.port, (h.2, h.3))))
     (some_below (length nodes) (λ c. some_below (length (node_of nodes c).edges)
-        (λ q. both (reads nodes c q v) (t c q))))
+    (λ q. both (reads nodes c q v) (t c q))))

@@ -17,12 +17,12 @@ use Rattle.plan_core.proofs.RegisterTests.{are_arcs, is_unroll, is_first_fit}
 abbrev Sizes : Datapath → List Arc → List (List ℕ) → Type 0
 Sizes d arcs regs =
     (k : ℕ) → k < length arcs → (i : ℕ) → i < (arc_of arcs k).copies
-        → register_of regs k i < file_size d (arc_of arcs k).port
+    → register_of regs k i < file_size d (arc_of arcs k).port
 
 abbrev pub are_in_files : (d : Datapath) (arcs : List Arc) (regs : List (List ℕ)) → Test (Sizes d arcs regs)
 are_in_files d arcs regs =
     below (length arcs) (λ k. below (arc_of arcs k).copies (λ i. lt (register_of regs k i)
-        (file_size d (arc_of arcs k).port)))
+    (file_size d (arc_of arcs k).port)))
 
 pub planned : (g : Graph) (d : Datapath) (p : Plan) (height : ℕ → ℕ)
     → IsLowered g d p.assigned.lowered

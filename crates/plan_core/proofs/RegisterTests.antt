@@ -23,6 +23,7 @@ is_count n =
   where
     to : (n ≡ 1) ⊎ ((n ≡ 2) ⊎ (n ≡ 4)) → IsCount n
     to h = h
+
     from : IsCount n → (n ≡ 1) ⊎ ((n ≡ 2) ⊎ (n ≡ 4))
     from h = h
 
@@ -48,7 +49,7 @@ module _ (d : Datapath) (a : Assigned) (s : Schedule) where
   abbrev Least : Arc → Type 0
   Least arc =
       (IsCovered d arc 1 → arc.copies ≤ 1) × ((IsCovered d arc 2 → arc.copies ≤ 2) × (IsCovered d arc 4
-          → arc.copies ≤ 4))
+      → arc.copies ≤ 4))
 
   pub least_to : (arc : Arc) → Least arc → (copies : ℕ) → IsCount copies → IsCovered d arc copies → arc.copies ≤ copies
   least_to arc h copies (inl e) cover = subst (λ (n : ℕ). IsCovered d arc n → arc.copies ≤ n) (sym e) h.0 cover
@@ -66,7 +67,7 @@ module _ (d : Datapath) (a : Assigned) (s : Schedule) where
   abbrev pub is_arc : (arc : Arc) → Test (IsArc d a s arc)
   is_arc arc =
       like {P = (arc.w ≡ ends d a s arc.node) × (Last arc × (Read arc × (IsCount arc.copies
-          × (IsCovered d arc arc.copies × Least arc))))}
+      × (IsCovered d arc arc.copies × Least arc))))}
       (λ h. record {
         written = h.0;
         last = λ c r. h.1.0 c (consumer_there a.lowered.nodes c arc.port.port arc.node r.reads) r;
@@ -80,17 +81,20 @@ module _ (d : Datapath) (a : Assigned) (s : Schedule) where
         (
           λ c less r. h.last c r,
           (
-            (h.read.0, consumer_there a.lowered.nodes h.read.0 arc.port.port arc.node h.read.1.reads,
-                (h.read.1, h.read.2)),
+            (
+              h.read.0,
+              consumer_there a.lowered.nodes h.read.0 arc.port.port arc.node h.read.1.reads,
+              (h.read.1, h.read.2),
+            ),
             (h.count, (h.covered, (h.least 1 (inl refl), (h.least 2 (inr (inl refl)), h.least 4 (inr (inr refl)))))),
           ),
         ),
       ))
       (both (eq arc.w (ends d a s arc.node))
       (both (below (length a.lowered.nodes) (λ c. implies (reads_arc arc c)
-          (λ z. le (read_cycle d a s c arc.port.port) arc.r)))
+      (λ z. le (read_cycle d a s c arc.port.port) arc.r)))
       (both (some_below (length a.lowered.nodes) (λ c. both (reads_arc arc c)
-          (eq arc.r (read_cycle d a s c arc.port.port))))
+      (eq arc.r (read_cycle d a s c arc.port.port))))
       (both (is_count arc.copies)
       (both (covered arc arc.copies) (least arc))))))
 
@@ -101,13 +105,13 @@ module _ (d : Datapath) (a : Assigned) (s : Schedule) where
   abbrev is_arc_for : (v : ℕ) (port : PortRef) (arc : Arc) → Test (IsArcFor v port arc)
   is_arc_for v port arc =
       like {P = (arc.node ≡ v) × (arc.port ≡ port)} (λ h. record { node = h.0; port_is = h.1 })
-          (λ h. (h.node, h.port_is))
+      (λ h. (h.node, h.port_is))
       (both (eq arc.node v) (same_port arc.port port))
 
   abbrev pub are_arcs : (arcs : List Arc) → Test (IsArcs d a s arcs)
   are_arcs arcs =
       like {P = AllPairs IsArcBefore arcs × (All (IsArc d a s) arcs × ((c : ℕ) → c < length a.lowered.nodes
-          → (q v : ℕ) → Reads a.lowered.nodes c q v → Has arcs c q v))}
+      → (q v : ℕ) → Reads a.lowered.nodes c q v → Has arcs c q v))}
       (λ h. record {
         order = h.0;
         each = h.1.0;
@@ -117,12 +121,12 @@ module _ (d : Datapath) (a : Assigned) (s : Schedule) where
       (both (all_pairs arcs arc_before)
       (both (each_of arcs is_arc)
       (below (length a.lowered.nodes) (λ c. each_operand a.lowered.nodes c (λ q v.
-        some_below (length arcs) (λ k. is_arc_for v (port_of (unit_in a.units c) q) (arc_of arcs k)))))))
+      some_below (length arcs) (λ k. is_arc_for v (port_of (unit_in a.units c) q) (arc_of arcs k)))))))
 
 abbrev pub is_unroll : (arcs : List Arc) (unroll : ℕ) → Test (IsUnroll arcs unroll)
 is_unroll arcs unroll =
     like {P = (1 ≤ unroll) × (All (λ (arc : Arc). arc.copies ≤ unroll) arcs × ((unroll ≡ 1) ⊎ ((k : ℕ)
-        × (k < length arcs) × ((arc_of arcs k).copies ≡ unroll))))}
+    × (k < length arcs) × ((arc_of arcs k).copies ≡ unroll))))}
     (λ h. record { some = h.0; most = h.1.0; reached = h.1.1 }) (λ h. (h.some, (h.most, h.reached)))
     (both (le 1 unroll)
     (both (each_of arcs (λ (arc : Arc). le arc.copies unroll))
@@ -146,12 +150,12 @@ module _ (period unroll : ℕ) where
   pub apart_from : (a : Arc) (i : ℕ) (b : Arc) (j : ℕ) → NeverMeet a i b j → AreApart period unroll a i b j
   apart_from a i b j h = record {
     none = λ x o p.
-      let at_o = place_in a.w a.r (o.sample * period) o.cycle o.after o.upto in
-      let at_p = place_in b.w b.r (p.sample * period) p.cycle p.after p.upto in
-      h o.sample o.sample_in o.in_turn p.sample p.sample_in p.in_turn
-      (o.cycle - (a.w + o.sample * period) - 1) at_o.0 (p.cycle - (b.w + p.sample * period) - 1) at_p.0
-      (ap (λ (z : ℕ). z % (unroll * period)) at_o.1 ∙ sym o.place ∙ p.place ∙ sym
-          (ap (λ (z : ℕ). z % (unroll * period)) at_p.1));
+        let at_o = place_in a.w a.r (o.sample * period) o.cycle o.after o.upto in
+        let at_p = place_in b.w b.r (p.sample * period) p.cycle p.after p.upto in
+        h o.sample o.sample_in o.in_turn p.sample p.sample_in p.in_turn
+        (o.cycle - (a.w + o.sample * period) - 1) at_o.0 (p.cycle - (b.w + p.sample * period) - 1) at_p.0
+        (ap (λ (z : ℕ). z % (unroll * period)) at_o.1 ∙ sym o.place ∙ p.place ∙ sym
+        (ap (λ (z : ℕ). z % (unroll * period)) at_p.1));
   }
 
   pub lives : (w r q c : ℕ) → c < r - w → (w + q < w + q + 1 + c) × (w + q + 1 + c ≤ r + q)
@@ -183,9 +187,9 @@ module _ (period unroll : ℕ) where
   are_apart a i b j =
       like (apart_from a i b j) (meet_from a i b j)
       (below unroll (λ n. implies (eq (n % a.copies) i) (λ z.
-        below unroll (λ m. implies (eq (m % b.copies) j) (λ y.
-        below (a.r - a.w) (λ c. below (b.r - b.w) (λ e.
-        nay (eq (living a n c % (unroll * period)) (living b m e % (unroll * period))))))))))
+      below unroll (λ m. implies (eq (m % b.copies) j) (λ y.
+      below (a.r - a.w) (λ c. below (b.r - b.w) (λ e.
+      nay (eq (living a n c % (unroll * period)) (living b m e % (unroll * period))))))))))
 
   abbrev copy_before : (a : Arc) (i : ℕ) (b : Arc) (j : ℕ) → Test (IsCopyBefore a i b j)
   copy_before a i b j =
@@ -195,6 +199,7 @@ module _ (period unroll : ℕ) where
       to : IsWrittenBefore a b ⊎ ((a.w ≡ b.w) × ((a.node ≡ b.node) × (i < j))) → IsCopyBefore a i b j
       to (inl h) = inl h
       to (inr h) = inr (h.0, h.1.0, h.1.1)
+
       from : IsCopyBefore a i b j → IsWrittenBefore a b ⊎ ((a.w ≡ b.w) × ((a.node ≡ b.node) × (i < j)))
       from (inl h) = inl h
       from (inr h) = inr (h.0, (h.1, h.2))
@@ -203,29 +208,35 @@ module _ (period unroll : ℕ) where
     abbrev pub is_free : (l j register : ℕ) → Test (IsFree period unroll arcs regs l j register)
     is_free l j register =
         like {P = (k : ℕ) → k < length arcs → (i : ℕ) → i < (arc_of arcs k).copies
-            → (arc_of arcs k).port ≡ (arc_of arcs l).port → IsCopyBefore (arc_of arcs k) i (arc_of arcs l) j
-            → register_of regs k i ≡ register → AreApart period unroll (arc_of arcs k) i (arc_of arcs l) j}
+        → (arc_of arcs k).port ≡ (arc_of arcs l).port → IsCopyBefore (arc_of arcs k) i (arc_of arcs l) j
+        → register_of regs k i ≡ register → AreApart period unroll (arc_of arcs k) i (arc_of arcs l) j}
         (λ h k i x. h k x.there i x.copy x.file x.before x.its_register)
-        (λ h k there i copy file before same. h k i (record { there = there; copy = copy; file = file; before =
-            before; its_register = same }))
+        (λ h k there i copy file before same. h k i (record {
+          there = there;
+          copy = copy;
+          file = file;
+          before =
+              before;
+          its_register = same;
+        }))
         (below (length arcs) (λ k. below (arc_of arcs k).copies (λ i.
-          implies (same_port (arc_of arcs k).port (arc_of arcs l).port) (λ z.
-          implies (copy_before (arc_of arcs k) i (arc_of arcs l) j) (λ y.
-          implies (eq (register_of regs k i) register) (λ x. are_apart (arc_of arcs k) i (arc_of arcs l) j))))))
+        implies (same_port (arc_of arcs k).port (arc_of arcs l).port) (λ z.
+        implies (copy_before (arc_of arcs k) i (arc_of arcs l) j) (λ y.
+        implies (eq (register_of regs k i) register) (λ x. are_apart (arc_of arcs k) i (arc_of arcs l) j))))))
 
     abbrev pub is_first_free : (l j : ℕ) → Test (IsFirstFree period unroll arcs regs l j)
     is_first_free l j =
         like {P = IsFree period unroll arcs regs l j (register_of regs l j) × ((register : ℕ)
-            → register < register_of regs l j → IsFree period unroll arcs regs l j register → ⊥)}
+        → register < register_of regs l j → IsFree period unroll arcs regs l j register → ⊥)}
         (λ h. record { free = h.0; least = h.1 }) (λ h. (h.free, h.least))
         (both (is_free l j (register_of regs l j)) (below (register_of regs l j)
-            (λ register. nay (is_free l j register))))
+        (λ register. nay (is_free l j register))))
 
     abbrev pub is_first_fit : Test (IsFirstFit period unroll arcs regs)
     is_first_fit =
         like {P = (length regs ≡ length arcs) × (((k : ℕ) → k < length arcs
-            → length (slice_index_or regs k []) ≡ (arc_of arcs k).copies) × ((k : ℕ) → k < length arcs → (i : ℕ)
-            → i < (arc_of arcs k).copies → IsFirstFree period unroll arcs regs k i))}
+        → length (slice_index_or regs k []) ≡ (arc_of arcs k).copies) × ((k : ℕ) → k < length arcs → (i : ℕ)
+        → i < (arc_of arcs k).copies → IsFirstFree period unroll arcs regs k i))}
         (λ h. record { count = h.0; copies = h.1.0; each = λ k i less copy. h.1.1 k less i copy })
         (λ h. (h.count, (h.copies, λ k less i copy. h.each k i less copy)))
         (both (eq (length regs) (length arcs))

@@ -55,7 +55,7 @@ plain_path hold = record {
 abbrev filter_ports : List PortRef
 filter_ports =
     port_of 2 0 ∷ port_of 2 1 ∷ port_of 3 0 ∷ port_of 3 1 ∷ port_of 4 0 ∷ port_of 4 1 ∷ port_of 4 2 ∷ port_of 5 1 ∷
-        port_of 7 0 ∷ []
+    port_of 7 0 ∷ []
 
 -- eight units, each with a bus of its own, and a ram of these cells
 abbrev pub filter_path : (period cells : ℕ) → Datapath
@@ -69,8 +69,16 @@ filter_path period cells = record {
       ∷ unit_named (codes "add") kind.Alu (256 ∷ 256 ∷ [])
       ∷ record { name = codes "mul"; kind = kind.Mul; latency = 2; gap = 1; files = 256 ∷ 256 ∷ []; cells = 0; ram = 0 }
       ∷ unit_named (codes "pick") kind.Sel (64 ∷ 64 ∷ 64 ∷ [])
-      ∷ record { name = codes "mem"; kind = kind.Ram; latency = 1; gap = 1; files = 256 ∷ 256 ∷
-          []; cells = cells; ram = 0 }
+      ∷ record {
+        name = codes "mem";
+        kind = kind.Ram;
+        latency = 1;
+        gap = 1;
+        files = 256 ∷ 256 ∷
+            [];
+        cells = cells;
+        ram = 0;
+      }
       ∷ record { name = codes "adr"; kind = kind.Acu; latency = 1; gap = 1; files = []; cells = 0; ram = 5 }
       ∷ unit_named (codes "outp") kind.Output (16 ∷ [])
       ∷ [];
@@ -213,6 +221,6 @@ abbrev pub line_cells_plan : Plan
 line_cells_plan =
     plan line_cells_nodes (its_line ∷ []) (0 ∷ 6 ∷ 5 ∷ 6 ∷ 5 ∷ 2 ∷ 7 ∷ [])
     (at 0 (over 0 5 1 ∷ []) ∷ at 1 (over 6 5 0 ∷ []) ∷ at 2 [] ∷ at 0 (over 6 5 0 ∷ []) ∷ at 1
-        (over 5 2 0 ∷ []) ∷ at 2 (over 2 7 0 ∷ []) ∷ at 3 [] ∷ [])
+    (over 5 2 0 ∷ []) ∷ at 2 (over 2 7 0 ∷ []) ∷ at 3 [] ∷ [])
     (life 4 2 0 1 2 1 ∷ life 3 5 0 0 1 1 ∷ life 1 5 0 1 2 1 ∷ life 0 5 1 0 2 1 ∷ life 5 7 0 2 3 1 ∷ [])
     ((0 ∷ []) ∷ (0 ∷ []) ∷ (0 ∷ []) ∷ (0 ∷ []) ∷ (0 ∷ []) ∷ []) 1

@@ -70,7 +70,7 @@ abbrev each_destination : {P : PortRef → Type 0} (a : Assigned) (v : ℕ) → 
     → Test ((port : PortRef) → IsDestination a v port → P port)
 each_destination {P} a v t =
     like (dest_to a v P) (λ h c q r. h (port_of (unit_in a.units c) q)
-        (record { consumer = c; reads = r; unit = refl }))
+    (record { consumer = c; reads = r; unit = refl }))
     (each_consumer a.lowered.nodes v (λ c q. t (port_of (unit_in a.units c) q)))
 
 pub dest_from : (a : Assigned) (v : ℕ) (port : PortRef)
@@ -117,26 +117,26 @@ module _ (d : Datapath) (a : Assigned) (s : Schedule) (height : ℕ → ℕ) whe
         its_slot = refl;
       }))
       (below (length a.lowered.nodes) (λ x. implies (placed_before height x v)
-          (λ z. t (unit_in a.units x) (slot_of s x))))
+      (λ z. t (unit_in a.units x) (slot_of s x))))
 
   abbrev unit_free : (v u t : ℕ) → Test (IsUnitFree d (IsTakenBefore a s height v) u t)
   unit_free v u t =
       like {P = (w : ℕ) (slot : Slot) → IsTakenBefore a s height v w slot → w ≡ u → (slot.cycle + gap_on d u ≤ t)
-          ⊎ (t + gap_on d u ≤ slot.cycle)}
+      ⊎ (t + gap_on d u ≤ slot.cycle)}
       (λ h slot taken. h u slot taken refl)
       (λ h w slot taken e. h slot (subst (λ (y : ℕ). IsTakenBefore a s height v y slot) e taken))
       (each_taken v (λ w slot. implies (eq w u) (λ z. either (le (slot.cycle + gap_on d u) t)
-          (le (t + gap_on d u) slot.cycle))))
+      (le (t + gap_on d u) slot.cycle))))
 
   abbrev file_free : (v w : ℕ) (port : PortRef) → Test (IsFileFree d (IsTakenBefore a s height v) w port)
   file_free v w port =
       each_taken v (λ u slot. implies (eq (result_on d u slot.cycle) w) (λ z.
-        each_of slot.transfers (λ (transfer : Transfer). nay (same_port transfer.port port))))
+      each_of slot.transfers (λ (transfer : Transfer). nay (same_port transfer.port port))))
 
   abbrev bus_free : (v w b : ℕ) → Test (IsBusFree d (IsTakenBefore a s height v) w b)
   bus_free v w b =
       each_taken v (λ u slot. implies (eq (result_on d u slot.cycle) w) (λ z.
-        each_of slot.transfers (λ (transfer : Transfer). nay (eq transfer.bus b))))
+      each_of slot.transfers (λ (transfer : Transfer). nay (eq transfer.bus b))))
 
   abbrev free_route : (v u w : ℕ) (port : PortRef) (b : ℕ) → Test
       (IsFreeRoute d (IsTakenBefore a s height v) u w port b)
@@ -155,10 +155,10 @@ module _ (d : Datapath) (a : Assigned) (s : Schedule) (height : ℕ → ℕ) whe
   abbrev operands_there : (v t : ℕ) → Test (AreOperandsThere d a s height v t)
   operands_there v t =
       like {P = (q x : ℕ) → Reads a.lowered.nodes v q x → delay_at a.lowered.nodes v q ≡ 0
-          → cycle_of s x + latency_of d a x ≤ t}
+      → cycle_of s x + latency_of d a x ≤ t}
       (λ h q x r. h q x r.reads r.now) (λ h q x r e. h q x (record { reads = r; now = e }))
       (each_operand a.lowered.nodes v (λ q x. implies (eq (delay_at a.lowered.nodes v q) 0)
-          (λ z. le (cycle_of s x + latency_of d a x) t)))
+      (λ z. le (cycle_of s x + latency_of d a x) t)))
 
   abbrev Files : ℕ → ℕ → ℕ → Type 0
   Files v u t = (port : PortRef) → IsDestination a v port → IsFileFree d (IsTakenBefore a s height v)
@@ -172,7 +172,7 @@ module _ (d : Datapath) (a : Assigned) (s : Schedule) (height : ℕ → ℕ) whe
   abbrev fits : (v u t : ℕ) → Test (Fits d (IsTakenBefore a s height v) (IsDestination a v) u t)
   fits v u t =
       like {P = (t + latency_on d u ≤ d.period) × (IsUnitFree d (IsTakenBefore a s height v) u t × (Files v u t
-          × Buses v u t))}
+      × Buses v u t))}
       (λ h. record { period = h.0; unit = h.1.0; files = h.1.1.0; buses = h.1.1.1 })
       (λ h. (h.period, (h.unit, (h.files, h.buses))))
       (both (le (t + latency_on d u) d.period)
@@ -183,7 +183,7 @@ module _ (d : Datapath) (a : Assigned) (s : Schedule) (height : ℕ → ℕ) whe
   abbrev pub can_issue : (v t : ℕ) → Test (CanIssue d a s height v t)
   can_issue v t =
       like {P = AreOperandsThere d a s height v t × Fits d (IsTakenBefore a s height v) (IsDestination a v)
-          (unit_in a.units v) t}
+      (unit_in a.units v) t}
       (λ h. record { operands = h.0; fits = h.1 }) (λ h. (h.operands, h.fits))
       (both (operands_there v t) (fits v (unit_in a.units v) t))
 
@@ -191,19 +191,19 @@ module _ (d : Datapath) (a : Assigned) (s : Schedule) (height : ℕ → ℕ) whe
       (IsFirstBus d (IsTakenBefore a s height v) u w transfer)
   is_first_bus v u w transfer =
       like {P = IsFreeRoute d (IsTakenBefore a s height v) u w transfer.port transfer.bus × ((b : ℕ)
-          → b < transfer.bus → IsFreeRoute d (IsTakenBefore a s height v) u w transfer.port b → ⊥)}
+      → b < transfer.bus → IsFreeRoute d (IsTakenBefore a s height v) u w transfer.port b → ⊥)}
       (λ h. record { route = h.0; first = h.1 }) (λ h. (h.route, h.first))
       (both (free_route v u w transfer.port transfer.bus) (below transfer.bus
-          (λ b. nay (free_route v u w transfer.port b))))
+      (λ b. nay (free_route v u w transfer.port b))))
 
   abbrev pub is_placed : (v : ℕ) → Test (IsPlaced d a s height v)
   is_placed v =
       like {P = CanIssue d a s height v (cycle_of s v) × (((t : ℕ) → t < cycle_of s v → CanIssue d a s height v t
-          → ⊥) × (AreDestinations a v (map (λ (transfer : Transfer). transfer.port) (slot_of s v).transfers)
-          × All (IsFirstBus d (IsTakenBefore a s height v) (unit_in a.units v) (ends d a s v))
-          (slot_of s v).transfers))}
+      → ⊥) × (AreDestinations a v (map (λ (transfer : Transfer). transfer.port) (slot_of s v).transfers)
+      × All (IsFirstBus d (IsTakenBefore a s height v) (unit_in a.units v) (ends d a s v))
+      (slot_of s v).transfers))}
       (λ h. record { can = h.0; least = h.1.0; destinations = h.1.1.0; buses = h.1.1.1 })
-          (λ h. (h.can, (h.least, (h.destinations, h.buses))))
+      (λ h. (h.can, (h.least, (h.destinations, h.buses))))
       (both (can_issue v (cycle_of s v))
       (both (below (cycle_of s v) (λ t. nay (can_issue v t)))
       (both (are_destinations a v (map (λ (transfer : Transfer). transfer.port) (slot_of s v).transfers))

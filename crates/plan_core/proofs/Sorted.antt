@@ -32,7 +32,7 @@ module _ {A : Type 0} (R : A → A → Type 0) (never_both : (x y : A) → R x y
       by : (y ≡ v) ⊎ Contains ys v → Contains ys v
       by (inl e) =
           let twice = subst (λ (z : A). R x z) (sym (same ∙ e)) (before x v xs r h) in absurd
-              (never_both x x twice twice)
+          (never_both x x twice twice)
       by (inr k) = k
 
   pub same_order : (xs ys : List A) → AllPairs R xs → AllPairs R ys → ((v : A) → Contains xs v → Contains ys v)
@@ -42,7 +42,7 @@ module _ {A : Type 0} (R : A → A → Type 0) (never_both : (x y : A) → R x y
   same_order (x ∷ xs) [] r s to from = absurd (let h = to x (in_head x xs) in let less = h.1 in omega arith)
   same_order (x ∷ xs) (y ∷ ys) r s to from =
       let same = same_head x y xs ys r s (head_or_tail x y xs (from y (in_head y ys)))
-          (head_or_tail y x ys (to x (in_head x xs))) in
+      (head_or_tail y x ys (to x (in_head x xs))) in
       let rest = same_order xs ys (tail_order x xs r) (tail_order y ys s) (moved x y xs ys r same to)
-          (moved y x ys xs s (sym same) from) in
+      (moved y x ys xs s (sym same) from) in
       ap (λ (z : A). z ∷ xs) same ∙ ap (λ (zs : List A). y ∷ zs) rest

@@ -55,7 +55,7 @@ if_decides false f d e = (λ h p. absurd (true≢false (sym (d.1 p))), λ g. ref
 abbrev pub implies : {P Q : Type 0} → Test P → (Unit {0} → Test Q) → Test (P → Q)
 implies t u =
     test_of (if_passes t.passes (λ x. (u x).passes)) (if_decides t.passes (λ x. (u x).passes) t.decides
-        (u (tt {0})).decides)
+    (u (tt {0})).decides)
 
 abbrev all_below : ℕ → (ℕ → Bool) → Bool
 all_below zero f = true
@@ -69,19 +69,19 @@ abbrev pub below : {P : ℕ → Type 0} (n : ℕ) → ((k : ℕ) → Test (P k))
 below {P} n t =
     test_of (all_below n (λ k. (t k).passes))
     (Decides-below_and (λ k. (t k).passes) P (λ m. all_below m (λ k. (t k).passes)) (λ k. (t k).decides) refl
-        (λ m. refl) n)
+    (λ m. refl) n)
 
 abbrev pub some_below : {P : ℕ → Type 0} (n : ℕ) → ((k : ℕ) → Test (P k)) → Test ((k : ℕ) × (k < n) × P k)
 some_below {P} n t =
     test_of (any_below n (λ k. (t k).passes))
     (Decides-below_or (λ k. (t k).passes) P (λ m. any_below m (λ k. (t k).passes)) (λ k. (t k).decides) refl
-        (λ m. refl) n)
+    (λ m. refl) n)
 
 abbrev pub each_of : {X : Type 0} {P : X → Type 0} (xs : List X) → ((x : X) → Test (P x)) → Test (All P xs)
 each_of {X} {P} xs t =
     test_of (list_all (λ (x : X). (t x).passes) xs)
     (Decides-by_and (λ (x : X). (t x).passes) P (list_all (λ (x : X). (t x).passes)) (λ x. (t x).decides) refl
-        (λ x ys. refl) xs)
+    (λ x ys. refl) xs)
 
 abbrev pub contains : {X : Type 0} (same : (x y : X) → Test (x ≡ y)) (xs : List X) (x : X) → Test (Contains xs x)
 contains same xs x = some_below (length xs) (λ k. same (slice_index_or xs k x) x)
@@ -100,5 +100,5 @@ abbrev pub all_pairs : {X : Type 0} {R : X → X → Type 0} (xs : List X) → (
 all_pairs {R} [] t = test_of true (λ e. no_pairs R, λ h. refl)
 all_pairs {R} (x ∷ xs) t =
     like {P = All (R x) xs × AllPairs R xs} (λ h. AllPairs-cons R x xs h.0 h.1)
-        (λ h. (head_pairs R x xs h, tail_pairs R x xs h))
+    (λ h. (head_pairs R x xs h, tail_pairs R x xs h))
     (both (each_of xs (t x)) (all_pairs xs t))

@@ -178,7 +178,7 @@ some_is x y h = cc
 line_cells_lines : AreLines (filter_path 32 4) delays (its_line ∷ [])
 line_cells_lines zero v long less is =
     subst (λ (x : ℕ × List ℕ). IsNextLine (filter_path 32 4) delays [] x.0 x.1 its_line)
-        (some_is (0, 3 ∷ []) (v, long) is) next_line
+    (some_is (0, 3 ∷ []) (v, long) is) next_line
 line_cells_lines (suc i) v long less is = absurd (omega arith)
 
 line_is : IsLineOf line_cells (filter_path 32 4) line_cells_plan.assigned.lowered delays 0 its_line

@@ -101,10 +101,22 @@ no_multiplier = record {
 -- a fifth unit, a multiplier, whose second port no bus reaches
 abbrev half_reached : Datapath
 half_reached = record (plain_path 0) {
-  units = (plain_path 0).units ++ record { name = codes "mul"; kind = kind.Mul; latency = 1; gap = 1; files = 4 ∷ 4 ∷
-      []; cells = 0; ram = 0 } ∷ [];
-  buses = record { name = codes "b0"; from = 0 ∷ 1 ∷ 2 ∷ 4 ∷
-      []; to = port_of 2 0 ∷ port_of 2 1 ∷ port_of 3 0 ∷ port_of 4 0 ∷ [] } ∷ [];
+  units = (plain_path 0).units ++ record {
+    name = codes "mul";
+    kind = kind.Mul;
+    latency = 1;
+    gap = 1;
+    files = 4 ∷ 4 ∷
+        [];
+    cells = 0;
+    ram = 0;
+  } ∷ [];
+  buses = record {
+    name = codes "b0";
+    from = 0 ∷ 1 ∷ 2 ∷ 4 ∷
+        [];
+    to = port_of 2 0 ∷ port_of 2 1 ∷ port_of 3 0 ∷ port_of 4 0 ∷ [];
+  } ∷ [];
 }
 
 no_route : IsWithoutRoute half_reached square (port_of 4 1) 1
@@ -163,15 +175,23 @@ no_cycle = record {
       (λ z. is_placed short_path increment_plan.assigned increment_plan.schedule its_heights w))) refl u r.node
       r.before;
   none = λ t can. let most = can.fits.period in
-    passed (below 3 (λ w. nay (can_issue short_path increment_plan.assigned increment_plan.schedule its_heights 3
-        w))) refl t (omega arith) can;
+      passed (below 3 (λ w. nay (can_issue short_path increment_plan.assigned increment_plan.schedule its_heights 3
+      w))) refl t (omega arith) can;
 }
 
 -- v - v@1 with one register at the second port of the alu
 abbrev one_register : Datapath
 one_register = record (plain_path 1) {
-  units = take 2 (plain_path 1).units ++ record { name = codes "add"; kind = kind.Alu; latency = 1; gap = 1; files =
-      8 ∷ 1 ∷ []; cells = 0; ram = 0 } ∷ drop 3 (plain_path 1).units;
+  units = take 2 (plain_path 1).units ++ record {
+    name = codes "add";
+    kind = kind.Alu;
+    latency = 1;
+    gap = 1;
+    files =
+        8 ∷ 1 ∷ [];
+    cells = 0;
+    ram = 0;
+  } ∷ drop 3 (plain_path 1).units;
 }
 
 no_register : IsWithoutRegister one_register 2 held_difference_plan.arcs (port_of 2 1) 2
@@ -195,9 +215,11 @@ no_register = record {
         (λ j. implies (either (lt l 2) (both (eq l 2) (lt j 1)))
         (λ z. lt (register_of held_difference_plan.registers.regs l j)
         (file_size one_register (arc_of held_difference_plan.arcs l).port))))) refl
+
     within : (l j : ℕ) → (l < 2) ⊎ ((l ≡ 2) × (j < 1)) → l < 3
     within l j (inl h) = omega arith
     within l j (inr h) = let e = h.0 in omega arith
+
     earlier : (l j : ℕ) → (l < 2) ⊎ ((l ≡ 2) × (j < 1)) → j < (arc_of held_difference_plan.arcs l).copies
         → register_of held_difference_plan.registers.regs l j < file_size one_register
         (arc_of held_difference_plan.arcs l).port

@@ -25,8 +25,12 @@ unheld = refuted (are_long_delays accumulator 0 1 []) refl
 abbrev two_alus : Datapath
 two_alus = record (plain_path 0) {
   units = (plain_path 0).units ++ slice_index_or (plain_path 0).units 2 no_unit ∷ [];
-  buses = record { name = []; from = 0 ∷ 1 ∷ 2 ∷ 4 ∷ []; to = port_of 2 0 ∷ port_of 2 1 ∷ port_of 3 0 ∷ port_of 4 0 ∷
-      port_of 4 1 ∷ [] } ∷ [];
+  buses = record {
+    name = [];
+    from = 0 ∷ 1 ∷ 2 ∷ 4 ∷ [];
+    to = port_of 2 0 ∷ port_of 2 1 ∷ port_of 3 0 ∷ port_of 4 0 ∷
+        port_of 4 1 ∷ [];
+  } ∷ [];
 }
 
 abbrev additions : List ℕ → Assigned
