@@ -4,7 +4,7 @@ use Rattle.std.specs.Prelude.{pos, slice_index_or}
 use Rattle.std.specs.List.{range_with_len}
 use Rattle.std.proofs.lemmas.Option.{slice_get-get_or}
 use Rattle.std.proofs.lemmas.List.{get_or-map, length-map}
-use Rattle.std.proofs.lemmas.List.FromFn.{fill_by_all, length-map-range_with_len, get_or-map-range_with_len}
+use Rattle.std.proofs.lemmas.List.FromFn.{fill_by_all}
 use Rattle.lists.specs.Rows.{Rows}
 use Rattle.recurrences.specs.Kept.{KeepsSolutions}
 use Rattle.signal_graph.specs.Flat.{Program}
@@ -21,6 +21,7 @@ use Rattle.signal_graph.proofs.OneSolution.{flat_solution, graph_solution}
 use Rattle.signal_graph.proofs.Targets.{one_node, element_node}
 use Rattle.signal_graph.proofs.Nodes.{inside}
 use Rattle.signal_graph.proofs.Equal.{no_delay}
+use Rattle.signal_graph.proofs.Ranges.{range_same}
 use Rattle.signal_graph.proofs.Agreement.{past_equal, present_equal}
 use Rattle.signal_graph.proofs.GraphSound.{graph_is_sound}
 use Rattle.signal_graph.proofs.GraphLoopless.{graph_is_loopless}
@@ -62,18 +63,9 @@ module _ (p : Program) (g : Graph) (is : IsGraphOf p g) (sound : IsFlat p) (loop
 
       rows_equal : (count : ℕ) → count ≤ length stream → graph_out g node_words count ≡ flat_out p words count
       rows_equal count le =
-          fill_by_all (λ n. map (λ (e : ℕ). words e (pos n)) p.outs) (graph_out g node_words count) count []
-          (length-map-range_with_len (λ n. map (λ j. node_words (first_output g + j) (pos n)) (range_with_len 0 g.outs))
-          0 count)
-          at
-        where
-          at : (k : ℕ) → k < count
-              → slice_index_or (graph_out g node_words count) k [] ≡ map (λ (e : ℕ). words e (pos k)) p.outs
-          at k below =
-              get_or-map-range_with_len
-              (λ n. map (λ j. node_words (first_output g + j) (pos n)) (range_with_len 0 g.outs)) 0 count k k [] below
-              (omega arith)
-              ∙ row_equal k (omega arith)
+          range_same (λ n. map (λ j. node_words (first_output g + j) (pos n)) (range_with_len 0 g.outs))
+          (λ n. map (λ (e : ℕ). words e (pos n)) p.outs) count []
+          (λ n lt. row_equal n (omega arith))
 
       equal_words : AreEqualWords p g stream words node_words
       equal_words = record {

@@ -24,10 +24,12 @@ pub mod Made
 pub mod GraphSound
 pub mod Below
 pub mod GraphLoopless
+pub mod Ranges
 pub mod GraphKeeps
 pub mod Rising
 pub mod PrunedSound
 pub mod PrunedKeeps
+pub mod AnySolutions
 mod Examples
 mod GraphExamples
 mod SoundExamples

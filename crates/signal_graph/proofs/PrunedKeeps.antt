@@ -10,10 +10,11 @@ use Rattle.recurrences.specs.Kept.{KeepsSolutions}
 use Rattle.recurrences.specs.Systems.{AreSame}
 use Rattle.signal_graph.specs.declared.graph.Graph.{Graph}
 use Rattle.signal_graph.specs.GraphRules.{first_output, IsGraph}
-use Rattle.signal_graph.specs.GraphSolves.{graph_system, IsGraphLoopless, graph_out}
+use Rattle.signal_graph.specs.GraphSolves.{graph_system, IsGraphLoopless, graph_out, GraphSolves}
 use Rattle.signal_graph.specs.Values.{Words}
 use Rattle.signal_graph.specs.Pruned.{IsPruned}
 use Rattle.signal_graph.specs.Keeps.{IsKeptAs, AreKeptWords, KeepsGraphSolutions}
+use Rattle.signal_graph.proofs.Ranges.{range_same}
 use Rattle.signal_graph.proofs.OneSolution.{graph_solution, graph_once}
 use Rattle.signal_graph.proofs.OnePruned.{kept_once}
 use Rattle.signal_graph.proofs.PrunedSolves.{kept_words, same_count, pruned_solves}
@@ -30,47 +31,28 @@ module _ (g pruned : Graph) (sound : IsGraph g) (loopless : IsGraphLoopless g) (
 
   module _ (stream : Rows) (words new_words : Words)
       (same : AreSame (graph_system pruned stream) new_words (kept_words is.kept words)) where
+    output_equal : (j n : ℕ) → j < g.outs → n < length stream
+        → new_words (first_output pruned + j) (pos n) ≡ words (first_output g + j) (pos n)
+    output_equal j n below lt =
+        let there = new_outputs g pruned sound is j below in
+        let first = new_first g pruned sound is in
+        ap (λ (f : ℕ). new_words (f + j) (pos n)) first
+        ∙ same.present (start g pruned sound is + j) n (omega (arith, there.0, same_count g pruned sound is)) lt
+        ∙ ap (λ (v : ℕ). words v (pos n)) there.1
+
     row_equal : (n : ℕ) → n < length stream
         → map (λ j. new_words (first_output pruned + j) (pos n)) (range_with_len 0 pruned.outs)
         ≡ map (λ j. words (first_output g + j) (pos n)) (range_with_len 0 g.outs)
     row_equal n lt =
-        subst
-        (λ (count : ℕ). map (λ j. new_words (first_output pruned + j) (pos n)) (range_with_len 0 count)
-        ≡ map (λ j. words (first_output g + j) (pos n)) (range_with_len 0 g.outs))
-        (sym is.outs)
-        (fill_by_all (λ j. words (first_output g + j) (pos n))
-        (map (λ j. new_words (first_output pruned + j) (pos n)) (range_with_len 0 g.outs)) g.outs (pos 0)
-        (length-map-range_with_len (λ j. new_words (first_output pruned + j) (pos n)) 0 g.outs) at)
-      where
-        at : (k : ℕ) → k < g.outs
-            → slice_index_or (map (λ j. new_words (first_output pruned + j) (pos n)) (range_with_len 0 g.outs)) k
-            (pos 0)
-            ≡ words (first_output g + k) (pos n)
-        at k below =
-            let there = new_outputs g pruned sound is k below in
-            let first = new_first g pruned sound is in
-            get_or-map-range_with_len (λ j. new_words (first_output pruned + j) (pos n)) 0 g.outs k k (pos 0) below
-            (omega arith)
-            ∙ ap (λ (f : ℕ). new_words (f + k) (pos n)) first
-            ∙ same.present (start g pruned sound is + k) n (omega (arith, there.0, same_count g pruned sound is)) lt
-            ∙ ap (λ (v : ℕ). words v (pos n)) there.1
+        ap (λ (count : ℕ). map (λ j. new_words (first_output pruned + j) (pos n)) (range_with_len 0 count)) is.outs
+        ∙ range_same (λ j. new_words (first_output pruned + j) (pos n)) (λ j. words (first_output g + j) (pos n)) g.outs
+        (pos 0) (λ j below. output_equal j n below lt)
 
     rows_equal : (count : ℕ) → count ≤ length stream → graph_out pruned new_words count ≡ graph_out g words count
     rows_equal count le =
-        fill_by_all (λ n. map (λ j. words (first_output g + j) (pos n)) (range_with_len 0 g.outs))
-        (graph_out pruned new_words count) count []
-        (length-map-range_with_len
-        (λ n. map (λ j. new_words (first_output pruned + j) (pos n)) (range_with_len 0 pruned.outs)) 0 count)
-        at
-      where
-        at : (k : ℕ) → k < count
-            → slice_index_or (graph_out pruned new_words count) k []
-            ≡ map (λ j. words (first_output g + j) (pos k)) (range_with_len 0 g.outs)
-        at k below =
-            get_or-map-range_with_len
-            (λ n. map (λ j. new_words (first_output pruned + j) (pos n)) (range_with_len 0 pruned.outs)) 0 count k k []
-            below (omega arith)
-            ∙ row_equal k (omega arith)
+        range_same (λ n. map (λ j. new_words (first_output pruned + j) (pos n)) (range_with_len 0 pruned.outs))
+        (λ n. map (λ j. words (first_output g + j) (pos n)) (range_with_len 0 g.outs)) count []
+        (λ n lt. row_equal n (omega arith))
 
     equal_words : AreKeptWords g pruned stream words new_words
     equal_words = record {
@@ -98,6 +80,15 @@ module _ (g pruned : Graph) (sound : IsGraph g) (loopless : IsGraphLoopless g) (
             let kept = once (kept_words is.kept words) (pruned_solves g pruned sound is stream words one.solves) in
             (words, one, equal_words stream words new_words (kept.unique new_words new_solves));
       }
+
+  -- any solution of the graph and any of the pruned graph
+  pub any_kept : (stream : Rows) (words new_words : Words)
+      → GraphSolves g stream words → GraphSolves pruned stream new_words → AreKeptWords g pruned stream words new_words
+  any_kept stream words new_words solves new_solves =
+      let once =
+      graph_once pruned (pruned_is_sound g pruned sound is) stream (pruned_is_loopless g pruned sound is loopless) in
+      let kept = once (kept_words is.kept words) (pruned_solves g pruned sound is stream words solves) in
+      equal_words stream words new_words (kept.unique new_words new_solves)
 
   pub pruned_keeps : KeepsGraphSolutions g pruned
   pruned_keeps = record { solutions = solutions }

@@ -45,7 +45,7 @@ module _ (g : Graph) (sound : IsGraph g) where
           is
 
   -- the outputs are there
-  outputs_fit : first_output g + g.outs ≡ length g.nodes
+  pub outputs_fit : first_output g + g.outs ≡ length g.nodes
   outputs_fit =
       by (slice_get g.nodes (first_output g + (g.outs - 1))) refl
       (sound.outputs (g.outs - 1) (omega (arith, sound.out_count.0)))
