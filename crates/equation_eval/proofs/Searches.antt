@@ -36,9 +36,11 @@ missing placed = cond placed 0 1
 
 -- what is left to do: each node has to get its place, and from a node at most as many steps lead down as its height
 pub remaining : Graph → List ℕ → Placing → ℕ
-remaining g stack placing = sum_by missing placing.placed * (length g.nodes + 2) + height g (nth stack (length stack - 1))
+remaining g stack placing = sum_by missing placing.placed * (length g.nodes + 2) + height g
+    (nth stack (length stack - 1))
 
-missing_less : (placed : List Bool) (v : ℕ) → v < length placed → is_marked placed v ≡ false → sum_by missing (slice_set placed v true) + 1 ≡ sum_by missing placed
+missing_less : (placed : List Bool) (v : ℕ) → v < length placed → is_marked placed v ≡ false
+    → sum_by missing (slice_set placed v true) + 1 ≡ sum_by missing placed
 missing_less placed v lt is =
     ap (λ (b : Bool). sum_by missing (slice_set placed v true) + missing b) (sym is)
     ∙ sum_by-set missing placed v true false lt ∙ nothing (sum_by missing placed)
@@ -63,20 +65,29 @@ module _ (stack : List ℕ) (v : ℕ) where
   top = get_or-append_seam stack v [] 0
 
   last : nth (stack ++ v ∷ []) (length (stack ++ v ∷ []) - 1) ≡ v
-  last = let at : length (stack ++ v ∷ []) - 1 ≡ length stack = omega (arith, len) in ap (nth (stack ++ v ∷ [])) at ∙ top
+  last = let at : length (stack ++ v ∷ []) - 1 ≡ length stack = omega (arith, len) in ap (nth (stack ++ v ∷ [])) at
+      ∙ top
 
-ordered_more : (g : Graph) (order given : List ℕ) (v : ℕ) → IsOrdered g given order → v < first_output g → ((u : ℕ) → HasEdge g v u 0 → Contains (given ++ order) u) → IsOrdered g given (order ++ v ∷ [])
-ordered_more g [] given v is lt ready = (lt, λ u r. subst (λ (all : List ℕ). Contains all u) (append-nil given) (ready u r), tt)
-ordered_more g (w ∷ rest) given v is lt ready =
-    (is.0, is.1, ordered_more g rest (given ++ w ∷ []) v is.2 lt (λ u r. subst (λ (all : List ℕ). Contains all u) (sym (append_assoc given (w ∷ []) rest)) (ready u r)))
+ordered_more : (g : Graph) (order given : List ℕ) (v : ℕ) → IsOrdered g given order → v < first_output g
+    → ((u : ℕ) → HasEdge g v u 0 → Contains (given ++ order) u) → IsOrdered g given (order ++ v ∷ [])
+ordered_more g [] given v is lt ready =
+    (lt, λ u r. subst (λ (all : List ℕ). Contains all u) (append-nil given) (ready u r), tt)
+ordered_more g (w ∷ rest) given v is lt ready = (
+  is.0,
+  is.1,
+  ordered_more g rest (given ++ w ∷ []) v is.2 lt
+      (λ u r. subst (λ (all : List ℕ). Contains all u) (sym (append_assoc given (w ∷ []) rest)) (ready u r)),
+)
 
 module _ (g : Graph) (sound : IsGraph g) (loopless : IsGraphLoopless g) (root : ℕ) (old : Placing) where
-  pub started : (placing : Placing) → IsPlacing g placing → root < first_output g → is_placed placing root ≡ false → Keeps old placing → IsSearch g root old (root ∷ []) placing
+  pub started : (placing : Placing) → IsPlacing g placing → root < first_output g → is_placed placing root ≡ false
+      → Keeps old placing → IsSearch g root old (root ∷ []) placing
   started placing is lt unplaced keeps = record {
     is_placing = is;
     keeps = keeps;
     nodes = λ i inside. subst (λ (k : ℕ). nth (root ∷ []) k < first_output g) (sym (only i inside)) lt;
-    unplaced = λ i inside. subst (λ (k : ℕ). is_placed placing (nth (root ∷ []) k) ≡ false) (sym (only i inside)) unplaced;
+    unplaced = λ i inside. subst (λ (k : ℕ). is_placed placing (nth (root ∷ []) k) ≡ false)
+        (sym (only i inside)) unplaced;
     falls = λ i j less inside. absurd (omega arith);
     bottom = λ some. refl;
     done = λ none. absurd (omega arith);
@@ -98,7 +109,8 @@ module _ (g : Graph) (sound : IsGraph g) (loopless : IsGraphLoopless g) (root : 
     lower : (i : ℕ) → i < length stack → height g v < height g (nth stack i)
     lower i lt =
         subst (λ (w : ℕ). height g w < height g (nth stack i)) (top stack v)
-        (subst (λ (w : ℕ). height g (nth (stack ++ v ∷ []) (length stack)) < height g w) (below stack v i lt) (is.falls i (length stack) lt inside))
+        (subst (λ (w : ℕ). height g (nth (stack ++ v ∷ []) (length stack)) < height g w) (below stack v i lt)
+        (is.falls i (length stack) lt inside))
 
     -- an operand on the stack
     module _ (u : ℕ) (r : HasEdge g v u 0) (unplaced : is_placed placing u ≡ false) where
@@ -109,12 +121,15 @@ module _ (g : Graph) (sound : IsGraph g) (loopless : IsGraphLoopless g) (root : 
       lower_u = height_falls g sound loopless v u (omega (arith, node_there)) r
 
       low : (i : ℕ) → i < length st → (i < length stack) ⊎ (length stack ≤ i) → height g u < height g (nth st i)
-      low i lt (inl less) = let h = lower i less in subst (λ (w : ℕ). height g u < height g w) (sym (below stack v i less)) (omega (arith, lower_u, h))
+      low i lt (inl less) = let h = lower i less in
+          subst (λ (w : ℕ). height g u < height g w) (sym (below stack v i less)) (omega (arith, lower_u, h))
       low i lt (inr le) =
           let at : length stack ≡ i = omega (arith, len stack v) in
-          subst (λ (k : ℕ). height g u < height g (nth st k)) at (subst (λ (w : ℕ). height g u < height g w) (sym (top stack v)) lower_u)
+          subst (λ (k : ℕ). height g u < height g (nth st k)) at
+          (subst (λ (w : ℕ). height g u < height g w) (sym (top stack v)) lower_u)
 
-      each : (P : ℕ → Type 0) → ((i : ℕ) → i < length st → P (nth st i)) → P u → (i : ℕ) → i < length (st ++ u ∷ []) → P (nth (st ++ u ∷ []) i)
+      each : (P : ℕ → Type 0) → ((i : ℕ) → i < length st → P (nth st i)) → P u → (i : ℕ) → i < length (st ++ u ∷ [])
+          → P (nth (st ++ u ∷ []) i)
       each P all here i lt = by (cases_lt i (length st))
         where
           by : (i < length st) ⊎ (length st ≤ i) → P (nth (st ++ u ∷ []) i)
@@ -123,7 +138,8 @@ module _ (g : Graph) (sound : IsGraph g) (loopless : IsGraphLoopless g) (root : 
               let at : length st ≡ i = omega (arith, len st u) in
               subst (λ (k : ℕ). P (nth (st ++ u ∷ []) k)) at (subst P (sym (top st u)) here)
 
-      falls_on : (i j : ℕ) → i < j → j < length (st ++ u ∷ []) → (j < length st) ⊎ (length st ≤ j) → height g (nth (st ++ u ∷ []) j) < height g (nth (st ++ u ∷ []) i)
+      falls_on : (i j : ℕ) → i < j → j < length (st ++ u ∷ []) → (j < length st) ⊎ (length st ≤ j)
+          → height g (nth (st ++ u ∷ []) j) < height g (nth (st ++ u ∷ []) i)
       falls_on i j less lt (inl early) =
           let i_in : i < length st = omega arith in
           subst (λ (w : ℕ). height g w < height g (nth (st ++ u ∷ []) i)) (sym (below st u j early))
@@ -133,13 +149,15 @@ module _ (g : Graph) (sound : IsGraph g) (loopless : IsGraphLoopless g) (root : 
           let i_in : i < length st = omega arith in
           subst (λ (k : ℕ). height g (nth (st ++ u ∷ []) k) < height g (nth (st ++ u ∷ []) i)) at
           (subst (λ (w : ℕ). height g w < height g (nth (st ++ u ∷ []) i)) (sym (top st u))
-          (subst (λ (w : ℕ). height g u < height g w) (sym (below st u i i_in)) (low i i_in (cases_lt i (length stack)))))
+          (subst (λ (w : ℕ). height g u < height g w) (sym (below st u i i_in))
+          (low i i_in (cases_lt i (length stack)))))
 
       pushed : IsSearch g root old (st ++ u ∷ []) placing
       pushed = record {
         is_placing = is.is_placing;
         keeps = is.keeps;
-        nodes = each (λ (w : ℕ). w < first_output g) is.nodes (edge_there g sound v u 0 (omega (arith, node_there)) r).node;
+        nodes = each (λ (w : ℕ). w < first_output g) is.nodes
+            (edge_there g sound v u 0 (omega (arith, node_there)) r).node;
         unplaced = each (λ (w : ℕ). is_placed placing w ≡ false) is.unplaced unplaced;
         falls = λ i j less lt. falls_on i j less lt (cases_lt j (length st));
         bottom = λ some. below st u 0 (omega (arith, len stack v)) ∙ is.bottom (omega (arith, len stack v));
@@ -150,7 +168,8 @@ module _ (g : Graph) (sound : IsGraph g) (loopless : IsGraphLoopless g) (root : 
       unfolding remaining
       pushed_less =
           let less : height g (nth (st ++ u ∷ []) (length (st ++ u ∷ []) - 1)) < height g (nth st (length st - 1)) =
-          subst (λ (w : ℕ). height g w < height g (nth st (length st - 1))) (sym (last st u)) (subst (λ (w : ℕ). height g u < height g w) (sym (last stack v)) lower_u) in
+          subst (λ (w : ℕ). height g w < height g (nth st (length st - 1))) (sym (last st u))
+          (subst (λ (w : ℕ). height g u < height g w) (sym (last stack v)) lower_u) in
           omega arith
 
     -- v with its place
@@ -168,56 +187,77 @@ module _ (g : Graph) (sound : IsGraph g) (loopless : IsGraphLoopless g) (root : 
       same_at w ne = get_or-set_other placing.placed v w true false ne
 
       marked : (w : ℕ) → is_placed next w ≡ true → (w < v) ⊎ (v ≤ w) → (v < w) ⊎ (w ≤ v) → Contains next.order w
-      marked w h (inl less) b = Contains-append_left placing.order (v ∷ []) w (is.is_placing.marked w (sym (same_at w (λ same. omega arith)) ∙ h))
-      marked w h (inr le) (inl more) = Contains-append_left placing.order (v ∷ []) w (is.is_placing.marked w (sym (same_at w (λ same. omega arith)) ∙ h))
-      marked w h (inr le) (inr ge) = let same : v ≡ w = omega arith in subst (λ (x : ℕ). Contains next.order x) same (Contains-push placing.order v)
+      marked w h (inl less) b = Contains-append_left placing.order (v ∷ []) w
+          (is.is_placing.marked w (sym (same_at w (λ same. omega arith)) ∙ h))
+      marked w h (inr le) (inl more) =
+          Contains-append_left placing.order (v ∷ []) w
+          (is.is_placing.marked w (sym (same_at w (λ same. omega arith)) ∙ h))
+      marked w h (inr le) (inr ge) = let same : v ≡ w = omega arith in
+          subst (λ (x : ℕ). Contains next.order x) same (Contains-push placing.order v)
 
       is_placing_next : IsPlacing g next
       is_placing_next = record {
         count = length-set placing.placed v true ∙ is.is_placing.count;
-        ordered = ordered_more g placing.order [] v is.is_placing.ordered node_there (λ u r. is.is_placing.marked u (ready u r));
+        ordered = ordered_more g placing.order [] v is.is_placing.ordered node_there
+            (λ u r. is.is_placing.marked u (ready u r));
         marked = λ w h. marked w h (cases_lt w v) (cases_lt v w);
       }
 
       kept : (w : ℕ) → is_placed placing w ≡ true → is_placed next w ≡ true
-      kept w h = same_at w (λ same. absurd (let no : false ≡ true = sym open' ∙ ap (is_placed placing) (sym same) ∙ h in cc)) ∙ h
+      kept w h = same_at w (λ same. absurd (let no : false ≡ true = sym open' ∙ ap (is_placed placing) (sym same)
+          ∙ h in cc)) ∙ h
 
       root_done : length stack ≡ 0 → is_placed next root ≡ true
       root_done none =
-          let first : root ≡ v = sym (is.bottom (omega (arith, len stack v))) ∙ ap (nth (stack ++ v ∷ [])) (sym none) ∙ top stack v in
+          let first : root ≡ v = sym (is.bottom (omega (arith, len stack v))) ∙ ap (nth (stack ++ v ∷ [])) (sym none)
+          ∙ top stack v in
           ap (is_placed next) first ∙ now
 
       placed_search : IsSearch g root old stack next
       placed_search = record {
         is_placing = is_placing_next;
         keeps = λ w h. kept w (is.keeps w h);
-        nodes = λ i lt. subst (λ (w : ℕ). w < first_output g) (below stack v i lt) (is.nodes i (omega (arith, len stack v)));
-        unplaced = λ i lt. same_at (nth stack i) (λ same. absurd (let less = lower i lt in let e : height g (nth stack i) ≡ height g v = ap (height g) same in omega arith))
-            ∙ subst (λ (w : ℕ). is_placed placing w ≡ false) (below stack v i lt) (is.unplaced i (omega (arith, len stack v)));
+        nodes = λ i lt. subst (λ (w : ℕ). w < first_output g) (below stack v i lt)
+            (is.nodes i (omega (arith, len stack v)));
+        unplaced = λ i lt. same_at (nth stack i)
+            (λ same. absurd (let less = lower i lt in let e : height g (nth stack i) ≡ height g v =
+            ap (height g) same in omega arith))
+            ∙ subst (λ (w : ℕ). is_placed placing w ≡ false) (below stack v i lt)
+            (is.unplaced i (omega (arith, len stack v)));
         falls = λ i j less lt.
             subst (λ (w : ℕ). height g w < height g (nth stack i)) (below stack v j lt)
-            (subst (λ (w : ℕ). height g (nth (stack ++ v ∷ []) j) < height g w) (below stack v i (omega arith)) (is.falls i j less (omega (arith, len stack v))));
+            (subst (λ (w : ℕ). height g (nth (stack ++ v ∷ []) j) < height g w) (below stack v i (omega arith))
+            (is.falls i j less (omega (arith, len stack v))));
         bottom = λ some. sym (below stack v 0 some) ∙ is.bottom (omega (arith, len stack v));
         done = root_done;
       }
 
       placed_less : remaining g stack next < remaining g (stack ++ v ∷ []) placing
       unfolding remaining
-      placed_less = fewer (sum_by missing next.placed) (sum_by missing placing.placed) (length g.nodes) (height g (nth stack (length stack - 1))) (height g (nth (stack ++ v ∷ []) (length (stack ++ v ∷ []) - 1))) (missing_less placing.placed v there open') (height_most g (nth stack (length stack - 1)))
+      placed_less = fewer (sum_by missing next.placed) (sum_by missing placing.placed) (length g.nodes)
+          (height g (nth stack (length stack - 1))) (height g (nth (stack ++ v ∷ []) (length (stack ++ v ∷ []) - 1)))
+          (missing_less placing.placed v there open') (height_most g (nth stack (length stack - 1)))
 
     -- a step of the search goes on with it, and leaves less to do
-    pub visited : (new_stack : List ℕ) (new : Placing) → Visits g v stack placing new_stack new → IsSearch g root old new_stack new × (remaining g new_stack new < remaining g (stack ++ v ∷ []) placing)
+    pub visited : (new_stack : List ℕ) (new : Placing) → Visits g v stack placing new_stack new
+        → IsSearch g root old new_stack new × (remaining g new_stack new < remaining g (stack ++ v ∷ []) placing)
     visited new_stack new (inl h) =
-        subst (λ (s : List ℕ). IsSearch g root old s new × (remaining g s new < remaining g (stack ++ v ∷ []) placing)) (sym h.pushed)
-        (subst (λ (p : Placing). IsSearch g root old ((stack ++ v ∷ []) ++ h.operand ∷ []) p × (remaining g ((stack ++ v ∷ []) ++ h.operand ∷ []) p < remaining g (stack ++ v ∷ []) placing)) (sym h.placing)
+        subst (λ (s : List ℕ). IsSearch g root old s new ×
+        (remaining g s new < remaining g (stack ++ v ∷ []) placing)) (sym h.pushed)
+        (subst (λ (p : Placing). IsSearch g root old ((stack ++ v ∷ []) ++ h.operand ∷ []) p ×
+        (remaining g ((stack ++ v ∷ []) ++ h.operand ∷ []) p < remaining g (stack ++ v ∷ []) placing))
+        (sym h.placing)
         (pushed h.operand h.read h.unplaced, pushed_less h.operand h.read h.unplaced))
     visited new_stack new (inr h) =
-        subst (λ (s : List ℕ). IsSearch g root old s new × (remaining g s new < remaining g (stack ++ v ∷ []) placing)) (sym h.same)
-        (subst (λ (p : Placing). IsSearch g root old stack p × (remaining g stack p < remaining g (stack ++ v ∷ []) placing)) (sym h.placing)
+        subst (λ (s : List ℕ). IsSearch g root old s new ×
+        (remaining g s new < remaining g (stack ++ v ∷ []) placing)) (sym h.same)
+        (subst (λ (p : Placing). IsSearch g root old stack p ×
+        (remaining g stack p < remaining g (stack ++ v ∷ []) placing)) (sym h.placing)
         (placed_search h.ready, placed_less h.ready))
 
 -- before the search
-pub nothing_placed : (g : Graph) (placed : List Bool) → placed ≡ replicate (length g.nodes) false → IsPlacing g (record { order = []; placed = placed })
+pub nothing_placed : (g : Graph) (placed : List Bool) → placed ≡ replicate (length g.nodes) false
+    → IsPlacing g (record { order = []; placed = placed })
 nothing_placed g placed is = record {
   count = ap length is ∙ length-replicate (length g.nodes) false;
   ordered = tt;
@@ -230,19 +270,24 @@ nothing_placed g placed is = record {
     none (suc n) (suc v) h = none n v h
 
 -- what is read at an edge
-module _ (edges items : List Edge) (same : items ≡ edges) (placed : List Bool) (nodes : All (λ edge. edge.node < length placed) edges) (i : ℕ) (lt : i < length items) where
+module _ (edges items : List Edge) (same : items ≡ edges) (placed : List Bool)
+    (nodes : All (λ edge. edge.node < length placed) edges) (i : ℕ) (lt : i < length items) where
   abbrev here : Edge
   here = slice_index_or items i no_edge
 
   pub read_now : here.delay ≡ 0 → EdgesRead edges here.node 0
-  read_now now = subst (λ (es : List Edge). EdgesRead es here.node 0) same (subst (λ (k : ℕ). EdgesRead items here.node k) now (edge_read items i lt))
+  read_now now = subst (λ (es : List Edge). EdgesRead es here.node 0) same
+      (subst (λ (k : ℕ). EdgesRead items here.node k) now (edge_read items i lt))
 
   pub mark_is : (mark : Bool) → mark ≡ slice_index_or placed here.node mark → is_marked placed here.node ≡ mark
   mark_is mark is =
-      let inside : here.node < length placed = subst (λ (es : List Edge). All (λ edge. edge.node < length placed) es) (sym same) nodes i no_edge lt in
+      let inside : here.node < length placed =
+      subst (λ (es : List Edge). All (λ edge. edge.node < length placed) es) (sym same) nodes i no_edge lt in
       sym (is ∙ get_or_default placed here.node mark false inside)
 
   -- one edge more
-  pub marks_more : ((u : ℕ) → EdgesRead (take i items) u 0 → is_marked placed u ≡ true) → (here.delay ≡ 0 → is_marked placed here.node ≡ true) → (u : ℕ) → EdgesRead (take (i + 1) items) u 0 → is_marked placed u ≡ true
+  pub marks_more : ((u : ℕ) → EdgesRead (take i items) u 0 → is_marked placed u ≡ true)
+      → (here.delay ≡ 0 → is_marked placed here.node ≡ true) → (u : ℕ) → EdgesRead (take (i + 1) items) u 0
+      → is_marked placed u ≡ true
   marks_more before now u r =
       ⊎_elim (λ h. before u h) (λ h. ap (is_marked placed) h.0 ∙ now (sym h.1)) (reads_more items i no_edge u 0 lt r)

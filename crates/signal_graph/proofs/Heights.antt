@@ -22,7 +22,9 @@ pub height_most : (g : Graph) (v : ℕ) → height g v ≤ length g.nodes
 unfolding height
 height_most g v = counted_most (length g.nodes) _
 
-pub height_falls : (g : Graph) → IsGraph g → IsGraphLoopless g → (v u : ℕ) → v < length g.nodes → HasEdge g v u 0 → height g u < height g v
+pub height_falls : (g : Graph) → IsGraph g → IsGraphLoopless g → (v u : ℕ) → v < length g.nodes → HasEdge g v u 0
+    → height g u < height g v
 unfolding height
 height_falls g sound loopless v u el r =
-    falls (graph_system g []) (graph_determined g sound []) (length g.nodes) (λ v el. el) (reads_now g) (tests g) loopless v u el r
+    falls (graph_system g []) (graph_determined g sound []) (length g.nodes) (λ v el. el) (reads_now g)
+        (tests g) loopless v u el r

@@ -10,8 +10,10 @@ use Rattle.signal_graph.specs.declared.graph.Node.{Node}
 use Rattle.signal_graph.specs.declared.graph.Graph.{Graph}
 
 module _ (stream more : Rows) (words : Words) (n : ℕ) (within : n < length stream) where
-  given_before : (class : Class) (node : Node) → given_by class (stream ++ more) words n node ≡ given_by class stream words n node
-  given_before input node = ap (λ (row : List ℤ). slice_index_or row (to_nat node.arg) (pos 0)) (get_or_append_left stream more [] n within)
+  given_before : (class : Class) (node : Node)
+      → given_by class (stream ++ more) words n node ≡ given_by class stream words n node
+  given_before input node = ap (λ (row : List ℤ). slice_index_or row (to_nat node.arg) (pos 0))
+      (get_or_append_left stream more [] n within)
   given_before output node = refl
   given_before constant node = refl
   given_before _ node = refl
@@ -19,7 +21,8 @@ module _ (stream more : Rows) (words : Words) (n : ℕ) (within : n < length str
   pub value_before : (node : Node) → node_value (stream ++ more) words n node ≡ node_value stream words n node
   value_before node = given_before (class_of node.op) node
 
-pub solves_before : (g : Graph) (stream more : Rows) (words : Words) → GraphSolves g (stream ++ more) words → GraphSolves g stream words
+pub solves_before : (g : Graph) (stream more : Rows) (words : Words) → GraphSolves g (stream ++ more) words
+    → GraphSolves g stream words
 solves_before g stream more words solves = record {
   past = solves.past;
   present = λ v n el lt.

@@ -31,7 +31,8 @@ pub record IsPlacing (g : Graph) (placing : Placing) : Type 0 where
   pub marked : (v : ℕ) → is_placed placing v ≡ true → Contains placing.order v
 
 -- an operand of v, of the same sample, that has no place goes onto the stack
-pub record Pushes (g : Graph) (v : ℕ) (stack : List ℕ) (old : Placing) (new_stack : List ℕ) (new : Placing) : Type 0 where
+pub record Pushes (g : Graph) (v : ℕ) (stack : List ℕ) (old : Placing) (new_stack : List ℕ)
+    (new : Placing) : Type 0 where
   pub operand : ℕ
   pub read : HasEdge g v operand 0
   pub unplaced : is_placed old operand ≡ false
@@ -39,7 +40,8 @@ pub record Pushes (g : Graph) (v : ℕ) (stack : List ℕ) (old : Placing) (new_
   pub placing : new ≡ old
 
 -- v gets its place
-pub record Places (g : Graph) (v : ℕ) (stack : List ℕ) (old : Placing) (new_stack : List ℕ) (new : Placing) : Type 0 where
+pub record Places (g : Graph) (v : ℕ) (stack : List ℕ) (old : Placing) (new_stack : List ℕ)
+    (new : Placing) : Type 0 where
   pub ready : (u : ℕ) → HasEdge g v u 0 → is_placed old u ≡ true
   pub same : new_stack ≡ stack
   pub placing : new ≡ record { order = old.order ++ v ∷ []; placed = slice_set old.placed v true }

@@ -8,14 +8,20 @@ program_of-requires-clause-order c = order_nodes c.args.graph.now c.in_ok-order.
 pub invariant_of-result : goal.invariant_of-result
 invariant_of-result c = (
   lit< tt,
-  can_run c.args.graph.now c.requires.graph c.in_ok-rings.rings (length c.in_ok-rings.memory) c.in_ok-rings.ensures.rings c.in_ok-order.order c.in_ok-inputs.inputs c.in_ok-program.program c.in_ok-outputs.outputs
-      (c.in_ok-inputs.ensures ∙ c.as_slice.ensures) c.in_ok-program.ensures c.in_ok-outputs.ensures c.in_ok-order.ensures c.in_ok-rings.ensures.most,
+  can_run c.args.graph.now c.requires.graph c.in_ok-rings.rings
+      (length c.in_ok-rings.memory) c.in_ok-rings.ensures.rings c.in_ok-order.order c.in_ok-inputs.inputs
+      c.in_ok-program.program c.in_ok-outputs.outputs
+      (c.in_ok-inputs.ensures ∙ c.as_slice.ensures) c.in_ok-program.ensures c.in_ok-outputs.ensures
+      c.in_ok-order.ensures c.in_ok-rings.ensures.most,
 )
 
 pub returns-clause-stands : goal.returns-clause-stands
 returns-clause-stands c =
-    stands_before c.args.graph.now c.requires.graph c.in_ok-rings.rings c.in_ok-rings.memory c.in_ok-rings.ensures.rings c.in_ok-rings.ensures.initials
-    c.in_ok-order.order c.in_ok-inputs.inputs c.in_ok-program.program c.in_ok-outputs.outputs c.in_ok-order.ensures c.in_ok-program.ensures c.in_ok-outputs.ensures
+    stands_before c.args.graph.now c.requires.graph c.in_ok-rings.rings c.in_ok-rings.memory
+    c.in_ok-rings.ensures.rings c.in_ok-rings.ensures.initials
+    c.in_ok-order.order c.in_ok-inputs.inputs c.in_ok-program.program c.in_ok-outputs.outputs c.in_ok-order.ensures
+    c.in_ok-program.ensures c.in_ok-outputs.ensures
 
 pub returns-clause-outs : goal.returns-clause-outs
-returns-clause-outs c = output_count c.args.graph.now c.requires.graph c.in_ok-rings.rings (length c.in_ok-rings.memory) c.in_ok-rings.ensures.rings c.in_ok-outputs.outputs c.in_ok-outputs.ensures
+returns-clause-outs c = output_count c.args.graph.now c.requires.graph c.in_ok-rings.rings
+    (length c.in_ok-rings.memory) c.in_ok-rings.ensures.rings c.in_ok-outputs.outputs c.in_ok-outputs.ensures

@@ -15,7 +15,9 @@ put_initials-requires-clause-words c k d lt =
     let is = node_read c.args.graph.now c.loop-v.v c.index-in-loop-v.result.now v c.index-in-loop-v.ensures in
     let node = c.requires.graph.nodes c.loop-v.v no_node v in
     subst (λ (n : Node). (k : ℕ) (d : ℕ × ℤ) → k < length n.inits → IsWord 32 (slice_index_or n.inits k d).1) (sym is)
-    (λ k d lt. in_32 (node_of c.args.graph.now c.loop-v.v).width (slice_index_or (node_of c.args.graph.now c.loop-v.v).inits k d).1 node.width.1 (node.inits.words k d lt)) k d lt
+    (λ k d lt. in_32 (node_of c.args.graph.now c.loop-v.v).width
+    (slice_index_or (node_of c.args.graph.now c.loop-v.v).inits k d).1 node.width.1 (node.inits.words k d lt)) k d
+    lt
 
 pub loop-v-preserved : goal.loop-v-preserved
 loop-v-preserved c =
@@ -25,10 +27,16 @@ loop-v-preserved c =
     let node = node_read g c.loop-v.v c.index-in-loop-v.result.now v c.index-in-loop-v.ensures in
     let ring = ring_read rings c.loop-v.v c.index.result.now (omega (arith, c.requires.rings.count)) c.index.ensures in
     let own = subst (λ (n : Node). HoldsWordsBefore n.inits (ring_of rings c.loop-v.v) c.put_initials.new.memory) node
-    (subst (λ (r : Ring). HoldsWordsBefore c.index-in-loop-v.result.now.inits r c.put_initials.new.memory) ring c.put_initials.ensures.initials) in
-    let others = subst (λ (r : Ring). SameOutside r c.loop-v.memory c.put_initials.new.memory) ring c.put_initials.ensures.others in
+    (subst (λ (r : Ring). HoldsWordsBefore c.index-in-loop-v.result.now.inits r c.put_initials.new.memory) ring
+    c.put_initials.ensures.initials) in
+    let others = subst (λ (r : Ring). SameOutside r c.loop-v.memory c.put_initials.new.memory) ring
+    c.put_initials.ensures.others in
     record {
       len = c.put_initials.ensures.len ∙ c.loop-v.invariant.len;
-      initials = initials_more g c.requires.rings.longest rings c.args.cells c.requires.rings.are_rings c.requires.rings.count c.loop-v.v v c.loop-v.memory c.put_initials.new.memory own others c.loop-v.invariant.initials;
-      zeros = zeros_left g c.requires.rings.longest rings c.args.cells c.requires.rings.are_rings c.requires.rings.count c.loop-v.v v c.loop-v.memory c.put_initials.new.memory own others c.loop-v.invariant.zeros;
+      initials = initials_more g c.requires.rings.longest rings c.args.cells c.requires.rings.are_rings
+          c.requires.rings.count c.loop-v.v v c.loop-v.memory c.put_initials.new.memory own others
+          c.loop-v.invariant.initials;
+      zeros = zeros_left g c.requires.rings.longest rings c.args.cells c.requires.rings.are_rings
+          c.requires.rings.count c.loop-v.v v c.loop-v.memory c.put_initials.new.memory own others
+          c.loop-v.invariant.zeros;
     }

@@ -5,4 +5,5 @@ pub returns-clause-one_solution : goal.returns-clause-one_solution
 returns-clause-one_solution c stream = graph_solution c.args.graph.now c.requires.graph stream c.requires.loopless
 
 pub returns-in_err-made-clause-one_solution : goal.returns-in_err-made-clause-one_solution
-returns-in_err-made-clause-one_solution c stream = graph_solution c.args.graph.now c.requires.graph stream c.requires.loopless
+returns-in_err-made-clause-one_solution c stream =
+    graph_solution c.args.graph.now c.requires.graph stream c.requires.loopless

@@ -13,12 +13,17 @@ run-requires-clause-row c =
 
 pub returns-clause-stands : goal.returns-clause-stands
 returns-clause-stands c =
-    let old = shown c.self.inside.inputs c.self.inside.program c.self.inside.outputs c.self.inside.phase c.self.inside.memory in
-    subst (λ (e : Snapshot). RanRow e (shown c.self.inside.inputs c.self.inside.program c.self.inside.outputs c.next_phase-self-inside.result c.run.new.memory) c.args.row.now) c.self.view_is
-    (ran old c.args.row.now c.run.new.memory c.run.ensures.value c.next_phase-self-inside.result c.run.ensures.len c.next_phase-self-inside.ensures)
+    let old = shown c.self.inside.inputs c.self.inside.program c.self.inside.outputs c.self.inside.phase
+    c.self.inside.memory in
+    subst (λ (e : Snapshot). RanRow e
+    (shown c.self.inside.inputs c.self.inside.program c.self.inside.outputs c.next_phase-self-inside.result
+    c.run.new.memory) c.args.row.now) c.self.view_is
+    (ran old c.args.row.now c.run.new.memory c.run.ensures.value c.next_phase-self-inside.result c.run.ensures.len
+    c.next_phase-self-inside.ensures)
 
 pub returns-clause-puts : goal.returns-clause-puts
 returns-clause-puts c =
-    let old = shown c.self.inside.inputs c.self.inside.program c.self.inside.outputs c.self.inside.phase c.self.inside.memory in
+    let old = shown c.self.inside.inputs c.self.inside.program c.self.inside.outputs c.self.inside.phase
+    c.self.inside.memory in
     subst (λ (e : Snapshot). IsOutputRow e c.args.row.now c.put_outputs.new.put) c.self.view_is
     (put_row old c.args.row.now c.run.new.memory c.run.ensures.value c.put_outputs.new.put c.put_outputs.ensures)

@@ -3,4 +3,5 @@ use Rattle.equation_eval.proofs.Arithmetic.{masked}
 use Rattle.equation_eval.proofs.memory.Mask.wrap.Goals as goal
 
 pub returns-clause-value : goal.returns-clause-value
-returns-clause-value c = masked c.args.time c.self.inside.bits c.self.invariant ∙ ap (λ (mask : ℕ). c.args.time % (mask + 1)) c.self.view_is
+returns-clause-value c = masked c.args.time c.self.inside.bits c.self.invariant
+    ∙ ap (λ (mask : ℕ). c.args.time % (mask + 1)) c.self.view_is
