@@ -2,7 +2,7 @@
 //!
 //! A loop without turns adds nothing to the load, so very many of them may be inside thousands of turns.
 
-ghost use Rattle.std.specs.Prelude.{◌≡◌, ◌+◌, ◌<◌, ◌^◌, ◌+ℤ◌, ◌≤ℤ◌, ℕ, pos, [], ◌∷◌, ◌++◌, map, true, int_lt, IsTrue, IfOk};
+ghost use Rattle.std.specs.Prelude.{◌≡◌, ◌+◌, ◌<◌, ◌≤◌, ◌^◌, ◌+ℤ◌, ◌≤ℤ◌, ℕ, pos, [], ◌∷◌, ◌++◌, map, true, int_lt, IsTrue, IfOk};
 ghost use Rattle.single_def.specs.Private.Actions.{view_action};
 ghost use Rattle.single_def.specs.Private.Lanes.{at, turns_at};
 ghost use Rattle.single_def.specs.Private.Blocks.{seen, idle_action, DoSame, IsBlock};
@@ -31,14 +31,15 @@ impl<'a> Block<'a> {
     }
 }
 
-/// So few turns are not worked out at once.
-const FEW: i64 = 4;
+/// Fewer turns are not worked out at once.
+const FEW: usize = 2;
 
 /// Whether the left number is below the right one in each turn.
-fn is_below(left: &Row, right: &Row) -> bool
-    ensures { IsTrue result → (k : ℕ) → k < 16 → int_lt (at left.now k) (at right.now k) ≡ true }
+fn is_below(count: usize, left: &Row, right: &Row) -> bool
+    requires { count ≤ 16 }
+    ensures { IsTrue result → (k : ℕ) → k < count → int_lt (at left.now k) (at right.now k) ≡ true }
 {
-    for k in 0..LANES {
+    for k in 0..count {
         if left[k] >= right[k] {
             return false;
         }
@@ -48,7 +49,8 @@ fn is_below(left: &Row, right: &Row) -> bool
 
 /// Whether an action is a loop that has no turn in any of these turns.
 fn is_idle(lanes: Lanes, action: &Action, stack: &mut Vec<Row>) -> Result<bool, AllocError>
-    ensures { IfOk result (λ idle. IsTrue idle → (k : ℕ) → k < 16
+    requires { lanes.count ≤ 16 }
+    ensures { IfOk result (λ idle. IsTrue idle → (k : ℕ) → k < lanes.entry.count
         → idle_action (turns_at lanes.entry k) (view_action action.now) ≡ true) }
 {
     let (lo, hi) = match action {
@@ -61,7 +63,7 @@ fn is_idle(lanes: Lanes, action: &Action, stack: &mut Vec<Row>) -> Result<bool, 
     };
     match number_row(lanes, hi, stack)? {
         None => Ok(false),
-        Some(last) => Ok(is_below(&last, &first)),
+        Some(last) => Ok(is_below(lanes.count, &last, &first)),
     }
 }
 
@@ -72,7 +74,8 @@ fn busy<'a>(
     actions: &'a [Action],
     stack: &mut Vec<Row>,
 ) -> Result<Vec<&'a Action>, AllocError>
-    ensures { IfOk result (λ kept. (k : ℕ) → k < 16
+    requires { lanes.count ≤ 16 }
+    ensures { IfOk result (λ kept. (k : ℕ) → k < lanes.entry.count
         → DoSame (turns_at lanes.entry k) (seen kept) (map view_action actions.now)) }
 {
     let mut kept = Vec::new(alloc);
@@ -127,6 +130,17 @@ pub(crate) fn turn_at(first: i32, last: i32, k: u64) -> i32
     (i64::from(first) + k as i64) as i32
 }
 
+/// How many turns there are from one on, or 16 if that is less.
+fn turns_left(turn: i32, last: i32) -> usize
+    ensures few { result ≤ 16 }
+    ensures all { (j : ℕ) → j < 16 → (turn +ℤ pos j) ≤ℤ last → j < result }
+{
+    match usize::try_from(i64::from(last) - i64::from(turn) + 1) {
+        Ok(left) => left.min(LANES),
+        Err(_) => 0,
+    }
+}
+
 /// A block that begins with the turn `k`, whose index is `turn`.
 fn block_from<'a>(
     alloc: Global,
@@ -144,7 +158,8 @@ fn block_from<'a>(
         (map view_action actions.now)) }
 {
     let until = k + LANES as u64;
-    if i64::from(last) - i64::from(turn) < FEW {
+    let count = turns_left(turn, last);
+    if count < FEW {
         return Ok(Block {
             until,
             actions: all(alloc, actions)?,
@@ -153,6 +168,7 @@ fn block_from<'a>(
     let lanes = Lanes {
         outer,
         indices: &index_row(turn, last),
+        count,
     };
     Ok(Block {
         until,

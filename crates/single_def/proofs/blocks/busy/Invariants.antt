@@ -6,5 +6,5 @@ use Rattle.single_def.proofs.blocks.busy.Given as goal
 
 abbrev pub invariant-loop-action : goal.invariant-loop-action
 invariant-loop-action l =
-    (k : ℕ) → k < 16
+    (k : ℕ) → k < l.lanes.count
     → DoSame (turns_at l.lanes k) (map (λ a. view_action a.now) l.kept.items) (map view_action (take l.action-index l.actions))
