@@ -29,7 +29,8 @@ use Rattle.datapath.proofs.AllowedUnits.{name_ok, no_default, no_unit, new_disti
 unit_there : (units : List of_unit.Unit) (n : List ℕ) (k : ℕ) → unit_named units n ≡ Some k → k < length units
 unit_there units n k h = (position-Some (λ unit. bytes_eq n unit.name) units k no_unit h).0
 
-driver_ok : (s : Section) (units : List of_unit.Unit) (before : List ℕ) (n : List ℕ) (k : ℕ) → driver s units before n ≡ Ok k
+driver_ok : (s : Section) (units : List of_unit.Unit) (before : List ℕ) (n : List ℕ) (k : ℕ)
+    → driver s units before n ≡ Ok k
     → (k < length units) × (list_any (λ other. other == k) before ≡ false)
 unfolding driver
 driver_ok s units before n k h =
@@ -46,28 +47,36 @@ pub drivers_ok : (s : Section) (units : List of_unit.Unit) (names : List (List �
     → in_turn (driver s units) [] names ≡ Ok out → AreDrivers units out
 drivers_ok s units names out h =
     turn_keeps (driver s units) (AreDrivers units) (λ before n k so_far e.
-    let (there, new) = driver_ok s units before n k e in
-    (All-push (λ unit. unit < length units) before k so_far.0 there, distinct_push (λ other. other == k) before k (λ x is. eq-eqb x k is) new so_far.1))
+    let (there, new) = driver_ok s units before n k e in (
+      All-push (λ unit. unit < length units) before k so_far.0 there,
+      distinct_push (λ other. other == k) before k
+          (λ x is. eq-eqb x k is) new so_far.1,
+    ))
     names [] out (All-nil (λ unit. unit < length units), distinct_none) h
 
-below : (a b : Bool) (n p count : ℕ) → ◌≡◌ {A = Option ℕ} (if a && b then Some n else None) (Some p) → (b ≡ true → n < count) → p < count
+below : (a b : Bool) (n p count : ℕ) → ◌≡◌ {A = Option ℕ} (if a && b then Some n else None) (Some p)
+    → (b ≡ true → n < count) → p < count
 below true true n p count h f = let same : n ≡ p = cc in subst (λ k. k < count) same (f refl)
 below true false n p count h f = absurd (cc)
 below false b n p count h f = absurd (cc)
 
 port_below : (count : ℕ) (digits : List ℕ) (p : ℕ) → port_of count digits ≡ Some p → p < count
 port_below count [] p h = absurd (cc)
-port_below count (b ∷ []) p h = below (is_within 48 57 b) (nat_lt (b - 48) count) (b - 48) p count h (λ e. grind (arith, nat_tests))
+port_below count (b ∷ []) p h = below (is_within 48 57 b) (nat_lt (b - 48) count) (b - 48) p count h
+    (λ e. grind (arith, nat_tests))
 port_below count (b ∷ c ∷ cs) p h = absurd (cc)
 
-port_there : (o : Option of_unit.Unit) (p : ℕ) → p < count_at (option_map (λ unit. ports unit.kind) o) → IsSomeAnd o (λ unit. p < ports unit.kind)
+port_there : (o : Option of_unit.Unit) (p : ℕ) → p < count_at (option_map (λ unit. ports unit.kind) o)
+    → IsSomeAnd o (λ unit. p < ports unit.kind)
 port_there None p h = absurd (omega arith)
 port_there (Some unit) p h = h
 
 same_port : (p q : PortRef) → q ≡ p → is_port p q ≡ true
-same_port p q is = subst (λ r. is_port p r ≡ true) (sym is) (rw (eq-eqb p.unit p.unit refl, eq-eqb p.port p.port refl) refl)
+same_port p q is = subst (λ r. is_port p r ≡ true) (sym is)
+    (rw (eq-eqb p.unit p.unit refl, eq-eqb p.port p.port refl) refl)
 
-sink_ok : (s : Section) (units : List of_unit.Unit) (before : List PortRef) (n : List ℕ) (p : PortRef) → sink s units before n ≡ Ok p
+sink_ok : (s : Section) (units : List of_unit.Unit) (before : List PortRef) (n : List ℕ) (p : PortRef)
+    → sink s units before n ≡ Ok p
     → IsPort units p × (list_any (is_port p) before ≡ false)
 unfolding sink
 sink_ok s units before n p h =
@@ -75,8 +84,12 @@ sink_ok s units before n p h =
     let (unit, ue, h2) = bind_ok (ok_or (unit_named units parts.0) (UnknownUnit s)) _ p h1 in
     let (port, re, h3) = bind_ok (ok_or (port_of (ports_at units unit) parts.1) (UnknownPort s)) _ p h2 in
     let (new, is) = passes _ (record { unit = unit; port = port }) p _ h3 in
-    subst (λ q. IsPort units q × (list_any (is_port q) before ≡ false)) is
-    (port_there (slice_get units unit) port (port_below (ports_at units unit) parts.1 port (some_of (port_of (ports_at units unit) parts.1) (UnknownPort s) port re)), new)
+    subst (λ q. IsPort units q × (list_any (is_port q) before ≡ false)) is (
+      port_there (slice_get units unit) port
+          (port_below (ports_at units unit) parts.1 port
+          (some_of (port_of (ports_at units unit) parts.1) (UnknownPort s) port re)),
+      new,
+    )
 
 -- ports that a bus can be written to
 abbrev pub AreSinks : List of_unit.Unit → List PortRef → Type 0
@@ -86,8 +99,11 @@ pub sinks_ok : (s : Section) (units : List of_unit.Unit) (names : List (List ℕ
     → in_turn (sink s units) [] names ≡ Ok out → AreSinks units out
 sinks_ok s units names out h =
     turn_keeps (sink s units) (AreSinks units) (λ before n p so_far e.
-    let (there, new) = sink_ok s units before n p e in
-    (All-push (IsPort units) before p so_far.0 there, distinct_push (is_port p) before p (λ x is. same_port p x is) new so_far.1))
+    let (there, new) = sink_ok s units before n p e in (
+      All-push (IsPort units) before p so_far.0 there,
+      distinct_push (is_port p) before p (λ x is. same_port p x is)
+          new so_far.1,
+    ))
     names [] out (All-nil (IsPort units), distinct_none) h
 
 -- a bus behind others
@@ -96,7 +112,8 @@ record IsNext (units : List of_unit.Unit) (before : List Bus) (bus : Bus) : Type
   pub new : list_any (bytes_eq bus.name) (map (λ b. b.name) before) ≡ false
   pub room : length bus.to ≤ room_after before
 
-bus_ok : (s : Section) (units : List of_unit.Unit) (before : List Bus) (t : Members) (bus : Bus) → bus_in s units before t ≡ Ok bus
+bus_ok : (s : Section) (units : List of_unit.Unit) (before : List Bus) (t : Members) (bus : Bus)
+    → bus_in s units before t ≡ Ok bus
     → IsNext units before bus
 unfolding bus_in
 bus_ok s units before t bus h =
@@ -110,8 +127,10 @@ bus_ok s units before t bus h =
     let same : record { name = n; from = ds; to = ps } ≡ bus = same_Ok _ _ h7 in
     let drivers = drivers_ok s units from ds de in
     let sinks = sinks_ok s units to ps pe in
-    let count : length ps ≡ length to = zip_length (λ x y. Unit {0}) to ps (turn_zips (sink s units) (λ x y. Unit {0}) (λ before x y e. tt) to ps pe) in
-    let few : length to ≤ room_after before = key_ok s t (row.to (room_after before)) to te (λ xs. length xs ≤ room_after before)
+    let count : length ps ≡ length to = zip_length (λ x y. Unit {0}) to ps
+    (turn_zips (sink s units) (λ x y. Unit {0}) (λ before x y e. tt) to ps pe) in
+    let few : length to ≤ room_after before = key_ok s t (row.to (room_after before)) to te
+    (λ xs. length xs ≤ room_after before)
     (λ d xs e. (within_ok 0 (room_after before) text d xs e).0.1) (no_default (λ xs. length xs ≤ room_after before)) in
     subst (IsNext units before) same (record {
       allowed = record {
@@ -130,10 +149,13 @@ pub record AreBuses (units : List of_unit.Unit) (buses : List Bus) : Type 0 wher
   pub distinct : IsDistinct (map (λ bus. bus.name) buses)
   pub entries : sum_by (λ bus. length bus.to) buses ≤ most_entries
 
-one_more : (units : List of_unit.Unit) (before : List Bus) (bus : Bus) → AreBuses units before → IsNext units before bus → AreBuses units (before ++ bus ∷ [])
+one_more : (units : List of_unit.Unit) (before : List Bus) (bus : Bus) → AreBuses units before
+    → IsNext units before bus → AreBuses units (before ++ bus ∷ [])
 one_more units before bus so_far next =
-    let names : map (λ b. b.name) (before ++ bus ∷ []) ≡ map (λ b. b.name) before ++ bus.name ∷ [] = map-append (λ b. b.name) before (bus ∷ []) in
-    let total : sum_by (λ b. length b.to) (before ++ bus ∷ []) ≡ sum_by (λ b. length b.to) before + (0 + length bus.to) = sum_by-append (λ b. length b.to) before (bus ∷ []) in
+    let names : map (λ b. b.name) (before ++ bus ∷ []) ≡ map (λ b. b.name) before ++ bus.name ∷ [] = map-append
+    (λ b. b.name) before (bus ∷ []) in
+    let total : sum_by (λ b. length b.to) (before ++ bus ∷ []) ≡ sum_by (λ b. length b.to) before +
+    (0 + length bus.to) = sum_by-append (λ b. length b.to) before (bus ∷ []) in
     let some = so_far.entries in
     let room = next.room in
     record {
@@ -142,10 +164,13 @@ one_more units before bus so_far next =
       entries = rw total (omega arith);
     }
 
-pub buses_ok : (units : List of_unit.Unit) (tables : List Members) (out : List Bus) → in_turn (bus_at units) [] tables ≡ Ok out
+pub buses_ok : (units : List of_unit.Unit) (tables : List Members) (out : List Bus)
+    → in_turn (bus_at units) [] tables ≡ Ok out
     → AreBuses units out × (length out ≡ length tables)
 buses_ok units tables out h = (
-  turn_keeps (bus_at units) (AreBuses units) (λ before t bus so_far e. one_more units before bus so_far (bus_ok _ units before t bus e)) tables [] out
+  turn_keeps (bus_at units) (AreBuses units)
+      (λ before t bus so_far e. one_more units before bus so_far (bus_ok _ units before t bus e)) tables [] out
       (record { allowed = All-nil (IsBus units); distinct = distinct_none; entries = omega arith }) h,
-  zip_length (λ x y. Unit {0}) tables out (turn_zips (bus_at units) (λ x y. Unit {0}) (λ before x y e. tt) tables out h),
+  zip_length (λ x y. Unit {0}) tables out
+      (turn_zips (bus_at units) (λ x y. Unit {0}) (λ before x y e. tt) tables out h),
 )

@@ -29,15 +29,20 @@ path_ok t d h =
     let (bus, be, h6) = bind_ok (key section.Top t row.bus) _ d h5 in
     let (units, used, h7) = bind_ok (units_of unit) _ d h6 in
     let (buses, bse, h8) = bind_ok (in_turn (bus_at units) [] bus) _ d h7 in
-    let same : record { period = period; word = word; hold = hold; units = units; buses = buses } ≡ d = same_Ok _ _ h8 in
+    let same : record { period = period; word = word; hold = hold; units = units; buses = buses } ≡ d = same_Ok _ _ h8
+    in
     let of_units = units_ok unit units used in
     let of_buses = buses_ok units bus buses bse in
-    let tables : IsWithin 1 32 (length unit) = key_ok section.Top t row.unit unit ue (λ ts. IsWithin 1 32 (length ts)) (λ d ts e. (within_ok 1 32 a_table d ts e).0) (no_default (λ ts. IsWithin 1 32 (length ts))) in
-    let more : IsWithin 1 32 (length bus) = key_ok section.Top t row.bus bus be (λ ts. IsWithin 1 32 (length ts)) (λ d ts e. (within_ok 1 32 a_table d ts e).0) (no_default (λ ts. IsWithin 1 32 (length ts))) in
+    let tables : IsWithin 1 32 (length unit) = key_ok section.Top t row.unit unit ue (λ ts. IsWithin 1 32 (length ts))
+    (λ d ts e. (within_ok 1 32 a_table d ts e).0) (no_default (λ ts. IsWithin 1 32 (length ts))) in
+    let more : IsWithin 1 32 (length bus) = key_ok section.Top t row.bus bus be (λ ts. IsWithin 1 32 (length ts))
+    (λ d ts e. (within_ok 1 32 a_table d ts e).0) (no_default (λ ts. IsWithin 1 32 (length ts))) in
     subst IsDatapath same (record {
-      period = key_ok section.Top t row.period period pe (IsWithin 1 4096) (whole_ok 1 4096) (no_default (IsWithin 1 4096));
+      period = key_ok section.Top t row.period period pe (IsWithin 1 4096) (whole_ok 1 4096)
+          (no_default (IsWithin 1 4096));
       word = key_ok section.Top t row.word word we (IsWithin 8 32) (whole_ok 8 32) (no_default (IsWithin 8 32));
-      hold = key_ok section.Top t row.hold hold he (λ n. n ≡ 0) (λ d n e. no_hold n (whole_ok 0 0 d n e)) (λ n e. sym (some_same 0 n e));
+      hold = key_ok section.Top t row.hold hold he (λ n. n ≡ 0) (λ d n e. no_hold n (whole_ok 0 0 d n e))
+          (λ n e. sym (some_same 0 n e));
       unit_count = rw of_units.count_is tables;
       units = of_units.allowed;
       unit_names = of_units.distinct;

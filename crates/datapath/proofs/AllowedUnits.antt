@@ -86,13 +86,18 @@ is_acu_no Ram other = refl
 abbrev AreFiles : ℕ → List ℕ → Type 0
 AreFiles ports sizes = (length sizes ≡ ports) × All (IsWithin 1 256) sizes
 
-files_value : (ports : ℕ) (d : Data) (sizes : List ℕ) → array_within ports ports (whole 1 256) d ≡ Ok sizes → AreFiles ports sizes
+files_value : (ports : ℕ) (d : Data) (sizes : List ℕ) → array_within ports ports (whole 1 256) d ≡ Ok sizes
+    → AreFiles ports sizes
 files_value ports d sizes h =
-    let (count, all) = within_ok ports ports (whole 1 256) d sizes h in
-    ((let low = count.0 in let high = count.1 in omega arith), array_ok (whole 1 256) (IsWithin 1 256) (whole_ok 1 256) d sizes all)
+    let (count, all) = within_ok ports ports (whole 1 256) d sizes h in (
+      (let low = count.0 in let high = count.1 in omega arith),
+      array_ok (whole 1 256) (IsWithin 1 256)
+          (whole_ok 1 256) d sizes all,
+    )
 
 files_default : (ports : ℕ) (sizes : List ℕ) → no_files ports ≡ Some sizes → AreFiles ports sizes
-files_default zero sizes h = let none : [] ≡ sizes = some_same [] sizes h in subst (AreFiles zero) none (refl, All-nil (IsWithin 1 256))
+files_default zero sizes h = let none : [] ≡ sizes = some_same [] sizes h in subst (AreFiles zero) none
+    (refl, All-nil (IsWithin 1 256))
 files_default (suc n) sizes h = absurd (cc)
 
 known_of : (s : Section) (o : Option Data) (k : Kind) → found s None (option_map kind o) ≡ Ok k
@@ -138,15 +143,21 @@ read_ok s t u h =
     let (fs, fe, h6) = bind_ok (key s t (row.files (ports kd))) _ u h5 in
     let (cs, ce, h7) = bind_ok (where_has (is_ram kd) (key s t row.cells) 0) _ u h6 in
     let (r, re, h8) = bind_ok (where_has (is_acu kd) (key s t row.ram) []) _ u h7 in
-    let same : record { name = n; kind = kd; latency = l; gap = g; files = fs; cells = cs; ram = 0 } ≡ u = same_Ok _ _ h8 in
+    let same : record { name = n; kind = kd; latency = l; gap = g; files = fs; cells = cs; ram = 0 } ≡ u = same_Ok _ _
+    h8 in
     let cells = has_row (is_ram kd) (key s t row.cells) 0 cs ce in
     subst (IsRead t) same (record {
       known = kind_found s t kd kde;
       name = key_ok s t row.name n ne (λ m. is_name m ≡ true) name_ok (no_default (λ m. is_name m ≡ true));
       latency = key_ok s t row.latency l le (IsWithin 1 8) (whole_ok 1 8) (one_within 8 (omega arith));
-      gap = key_ok s t (row.gap l) g ge (IsGap l) (λ d y e. IsGap-from_within l y (whole_ok 1 l d y e)) (λ y e. IsGap-one l y (some_same 1 y e)) (key_ok s t row.latency l le (λ m. 1 ≤ m) (λ d y e. (whole_ok 1 8 d y e).0) (λ y e. (one_within 8 (omega arith) y e).0));
-      files = key_ok s t (row.files (ports kd)) fs fe (AreFiles (ports kd)) (files_value (ports kd)) (files_default (ports kd));
-      cells = λ is. key_ok s t row.cells cs (cells.0 (ap is_ram is)) (IsWithin 1 65536) (whole_ok 1 65536) (no_default (IsWithin 1 65536));
+      gap = key_ok s t (row.gap l) g ge (IsGap l) (λ d y e. IsGap-from_within l y (whole_ok 1 l d y e))
+          (λ y e. IsGap-one l y (some_same 1 y e))
+          (key_ok s t row.latency l le (λ m. 1 ≤ m) (λ d y e. (whole_ok 1 8 d y e).0)
+          (λ y e. (one_within 8 (omega arith) y e).0));
+      files = key_ok s t (row.files (ports kd)) fs fe (AreFiles (ports kd)) (files_value (ports kd))
+          (files_default (ports kd));
+      cells = λ is. key_ok s t row.cells cs (cells.0 (ap is_ram is)) (IsWithin 1 65536) (whole_ok 1 65536)
+          (no_default (IsWithin 1 65536));
       no_cells = λ other. cells.1 (is_ram_no kd other);
     })
 
@@ -170,29 +181,35 @@ ram_there units n r h =
 abbrev IsTied : List of_unit.Unit → Option Kind → ℕ → Type 0
 IsTied units known r = (known ≡ Some Acu → IsRamAt units r) × ((k : Kind) → known ≡ Some k → k ≢ Acu → r ≡ 0)
 
-tied_ok : (s : Section) (units : List of_unit.Unit) (t : Members) (r : ℕ) → ram_in s units t ≡ Ok r → IsTied units (kind_known t) r
+tied_ok : (s : Section) (units : List of_unit.Unit) (t : Members) (r : ℕ) → ram_in s units t ≡ Ok r
+    → IsTied units (kind_known t) r
 unfolding ram_in
 tied_ok s units t r h =
-    let tied = has_row (is_known_acu (kind_known t)) (key s t row.ram >>= λ name. ok_or (ram_named units name) (UnknownUnit s)) 0 r h in (
-      λ is. let (n, ne, named) = bind_ok (key s t row.ram) _ r (tied.0 (ap is_known_acu is)) in ram_there units n r (some_of _ _ r named),
+    let tied = has_row (is_known_acu (kind_known t))
+    (key s t row.ram >>= λ name. ok_or (ram_named units name) (UnknownUnit s)) 0 r h in (
+      λ is. let (n, ne, named) = bind_ok (key s t row.ram) _ r (tied.0 (ap is_known_acu is)) in ram_there units n r
+          (some_of _ _ r named),
       λ k is other. tied.1 (ap is_known_acu is ∙ is_acu_no k other),
     )
 
-with_rams_kind : (units : List of_unit.Unit) (rams : List ℕ) (r : ℕ) → IsRamAt units r → IsRamAt (with_rams units rams) r
+with_rams_kind : (units : List of_unit.Unit) (rams : List ℕ) (r : ℕ) → IsRamAt units r
+    → IsRamAt (with_rams units rams) r
 unfolding with_rams
 with_rams_kind units [] r h = h
 with_rams_kind [] (ram ∷ rams) r h = h
 with_rams_kind (u ∷ units) (ram ∷ rams) zero h = h
 with_rams_kind (u ∷ units) (ram ∷ rams) (suc r) h = with_rams_kind units rams r h
 
-pub with_rams_names : (units : List of_unit.Unit) (rams : List ℕ) → map (λ unit. unit.name) (with_rams units rams) ≡ map (λ unit. unit.name) units
+pub with_rams_names : (units : List of_unit.Unit) (rams : List ℕ)
+    → map (λ unit. unit.name) (with_rams units rams) ≡ map (λ unit. unit.name) units
 unfolding with_rams
 with_rams_names units [] = refl
 with_rams_names [] (ram ∷ rams) = refl
 with_rams_names (u ∷ units) (ram ∷ rams) = ap (λ ns. u.name ∷ ns) (with_rams_names units rams)
 
 module _ (units all : List of_unit.Unit) (keeps : (r : ℕ) → IsRamAt units r → IsRamAt all r) where
-  allowed_one : (t : Members) (u : of_unit.Unit) (r : ℕ) → IsRead t u → IsTied units (kind_known t) r → IsUnit all (with_ram u r)
+  allowed_one : (t : Members) (u : of_unit.Unit) (r : ℕ) → IsRead t u → IsTied units (kind_known t) r
+      → IsUnit all (with_ram u r)
   allowed_one t u r read tied = record {
     name = read.name;
     latency = read.latency;
@@ -214,17 +231,20 @@ module _ (units all : List of_unit.Unit) (keeps : (r : ℕ) → IsRamAt units r 
   allowed_each (t ∷ ts) [] rs reads ties = absurd reads
   allowed_each (t ∷ ts) (u ∷ us) [] reads ties = absurd ties
   allowed_each (t ∷ ts) (u ∷ us) (r ∷ rs) reads ties =
-      All-cons (IsUnit all) (with_ram u r) (with_rams us rs) (allowed_one t u r reads.0 ties.0) (allowed_each ts us rs reads.1 ties.1)
+      All-cons (IsUnit all) (with_ram u r) (with_rams us rs) (allowed_one t u r reads.0 ties.0)
+      (allowed_each ts us rs reads.1 ties.1)
 
 finds_same : (n x : List ℕ) → x ≡ n → bytes_eq n x ≡ true
 finds_same n x is = (bytes_eq-Decides n x).1 (sym is)
 
-pub new_distinct : (before : List (List ℕ)) (n : List ℕ) → list_any (bytes_eq n) before ≡ false → IsDistinct before → IsDistinct (before ++ n ∷ [])
+pub new_distinct : (before : List (List ℕ)) (n : List ℕ) → list_any (bytes_eq n) before ≡ false → IsDistinct before
+    → IsDistinct (before ++ n ∷ [])
 new_distinct before n none pairs = distinct_push (bytes_eq n) before n (finds_same n) none pairs
 
 names_distinct : (names out : List (List ℕ)) → in_turn unit_name_at [] names ≡ Ok out → IsDistinct names
 names_distinct names out h =
-    let same : out ≡ names = zip_same names out (turn_zips unit_name_at (λ x y. x ≡ y) (λ before x y e. (passes _ x y _ e).1) names out h) in
+    let same : out ≡ names = zip_same names out
+    (turn_zips unit_name_at (λ x y. x ≡ y) (λ before x y e. (passes _ x y _ e).1) names out h) in
     subst IsDistinct same
     (turn_keeps unit_name_at IsDistinct (λ before x y pairs e.
     let (none, is) = passes _ x y _ e in
@@ -235,16 +255,19 @@ pub record AreUnits (count : ℕ) (units : List of_unit.Unit) : Type 0 where
   pub allowed : All (IsUnit units) units
   pub distinct : IsDistinct (map (λ unit. unit.name) units)
 
-pub units_ok : (tables : List Members) (out : List of_unit.Unit) → units_of tables ≡ Ok out → AreUnits (length tables) out
+pub units_ok : (tables : List Members) (out : List of_unit.Unit) → units_of tables ≡ Ok out
+    → AreUnits (length tables) out
 unfolding units_of
 units_ok tables out h =
     let (units, ue, h1) = bind_ok (in_turn unit_at [] tables) _ out h in
     let (names, ne, h2) = bind_ok (in_turn unit_name_at [] (map (λ unit. unit.name) units)) _ out h1 in
     let (rams, re, h3) = bind_ok (in_turn (ram_at units) [] tables) _ out h2 in
     let same : with_rams units rams ≡ out = same_Ok _ _ h3 in
-    let reads : AllZip IsRead tables units = turn_zips unit_at IsRead (λ before t u e. read_ok _ t u e) tables units ue in
+    let reads : AllZip IsRead tables units = turn_zips unit_at IsRead (λ before t u e. read_ok _ t u e) tables units
+    ue in
     let ties : AllZip (λ t r. IsTied units (kind_known t) r) tables rams =
-    turn_zips (ram_at units) (λ t r. IsTied units (kind_known t) r) (λ before t r e. tied_ok _ units t r e) tables rams re in
+    turn_zips (ram_at units) (λ t r. IsTied units (kind_known t) r) (λ before t r e. tied_ok _ units t r e) tables
+    rams re in
     subst (AreUnits (length tables)) same (record {
       count_is = length-with_rams units rams ∙ zip_length IsRead tables units reads;
       allowed = allowed_each units (with_rams units rams) (with_rams_kind units rams) tables units rams reads ties;

@@ -65,7 +65,8 @@ module _ {A B : Type 0} (one : List B → A → Read B) where
       → (xs : List A) (out : List B) → in_turn one [] xs ≡ Ok out → AllZip R xs out
   turn_zips R each xs out h = let (new, is, all) = zips_from R each xs [] out h in subst (AllZip R xs) (sym is) all
 
-pub zip_length : {A B : Type 0} (R : A → B → Type 0) (xs : List A) (ys : List B) → AllZip R xs ys → length ys ≡ length xs
+pub zip_length : {A B : Type 0} (R : A → B → Type 0) (xs : List A) (ys : List B) → AllZip R xs ys
+    → length ys ≡ length xs
 zip_length R [] [] all = refl
 zip_length R [] (y ∷ ys) all = absurd all
 zip_length R (x ∷ xs) [] all = absurd all
@@ -94,7 +95,8 @@ All-cons P x xs here rest (suc k) d within = rest k d (omega arith)
 pub within : (least most n : ℕ) → is_within least most n ≡ true → IsWithin least most n
 within least most n h = (grind (arith, nat_tests), grind (arith, nat_tests))
 
-pub if_within : {A : Type 0} (b : Bool) (x y : A) → ◌≡◌ {A = Result A Misfit} (if b then Ok x else Err misfit.Range) (Ok y)
+pub if_within : {A : Type 0} (b : Bool) (x y : A)
+    → ◌≡◌ {A = Result A Misfit} (if b then Ok x else Err misfit.Range) (Ok y)
     → (b ≡ true) × (x ≡ y)
 if_within true x y h = (refl, (cc))
 if_within false x y h = absurd (cc)

@@ -15,19 +15,25 @@ drop_next_set [] i u lt = absurd (omega arith)
 drop_next_set (x ∷ units) zero u lt = refl
 drop_next_set (x ∷ units) (suc i) u lt = drop_next_set units i u (omega arith)
 
-pub rams_go_on : (units : List of_unit.Unit) (rams : List ℕ) (i : ℕ) (u : of_unit.Unit) (r : ℕ) (total : List of_unit.Unit) → i < length units → i < length rams
-    → u ≡ get_or units i u → r ≡ get_or rams i r → rams_left units rams i ≡ total → rams_left (set units i (with_ram u r)) rams (i + 1) ≡ total
+pub rams_go_on : (units : List of_unit.Unit) (rams : List ℕ) (i : ℕ) (u : of_unit.Unit) (r : ℕ)
+    (total : List of_unit.Unit) → i < length units → i < length rams
+    → u ≡ get_or units i u → r ≡ get_or rams i r → rams_left units rams i ≡ total → rams_left
+    (set units i (with_ram u r)) rams (i + 1) ≡ total
 unfolding with_rams
 rams_go_on units rams i u r total lt lt' is is' so_far =
-    let before : rams_left units rams i ≡ take i units ++ with_ram u r ∷ with_rams (drop (i + 1) units) (drop (i + 1) rams) =
+    let before : rams_left units rams i ≡ take i units ++ with_ram u r ∷ with_rams (drop (i + 1) units)
+    (drop (i + 1) rams) =
     rw (drop_more units i u lt, ← is, drop_more rams i r lt', ← is') refl in
-    let after : rams_left (set units i (with_ram u r)) rams (i + 1) ≡ take i units ++ with_ram u r ∷ with_rams (drop (i + 1) units) (drop (i + 1) rams) =
+    let after : rams_left (set units i (with_ram u r)) rams (i + 1) ≡ take i units ++ with_ram u r ∷ with_rams
+    (drop (i + 1) units) (drop (i + 1) rams) =
     let next : i + 1 ≡ suc i = omega arith in
-    let same : drop (i + 1) (set units i (with_ram u r)) ≡ drop (i + 1) units = rw next (drop_next_set units i (with_ram u r) lt) in
+    let same : drop (i + 1) (set units i (with_ram u r)) ≡ drop (i + 1) units = rw next
+    (drop_next_set units i (with_ram u r) lt) in
     rw (take_more_set units i (with_ram u r) lt, same) (append_assoc (take i units) (with_ram u r ∷ []) _) in
     after ∙ sym before ∙ so_far
 
-pub rams_done : (units : List of_unit.Unit) (rams : List ℕ) (i : ℕ) (total : List of_unit.Unit) → length rams ≤ i → rams_left units rams i ≡ total → units ≡ total
+pub rams_done : (units : List of_unit.Unit) (rams : List ℕ) (i : ℕ) (total : List of_unit.Unit) → length rams ≤ i
+    → rams_left units rams i ≡ total → units ≡ total
 unfolding with_rams
 rams_done units rams i total le so_far =
     let none : drop i rams ≡ [] = drop_all i rams le in

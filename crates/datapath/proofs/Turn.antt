@@ -23,7 +23,8 @@ module _ {X A B : Type 0} (one : List B → A → Read B) (view : X → A) where
       rw (drop_more xs i x lt, ← is, good) refl in
       sym step ∙ so_far
 
-  pub turn_ends : (xs : List X) (i : ℕ) (x : X) (e : PathFault) (before : List B) (total : Read (List B)) → i < length xs
+  pub turn_ends : (xs : List X) (i : ℕ) (x : X) (e : PathFault) (before : List B) (total : Read (List B))
+      → i < length xs
       → x ≡ get_or xs i x → (e ≢ Memory → one before (view x) ≡ Err e) → rest_of xs i before ≡ total
       → e ≢ Memory → total ≡ Err e
   unfolding in_turn

@@ -5,4 +5,5 @@ use Rattle.datapath.proofs.ArrayEntries.{so_far}
 use Rattle.datapath.proofs.arrays.sizes.Given as goal
 
 abbrev pub invariant-loop-value : goal.invariant-loop-value
-invariant-loop-value l = entries (whole 1 256) (items_view (take l.value-index l.value-items)) ≡ so_far l.in_range l.sizes
+invariant-loop-value l = entries (whole 1 256) (items_view (take l.value-index l.value-items)) ≡ so_far l.in_range
+    l.sizes

@@ -4,4 +4,5 @@ use Rattle.datapath.specs.Values.{entries, a_table}
 use Rattle.datapath.proofs.arrays.table_entries.Given as goal
 
 abbrev pub invariant-loop-value : goal.invariant-loop-value
-invariant-loop-value l = entries a_table (items_view (take l.value-index l.value-items)) ≡ Ok (map (λ t. table_view t.now) l.tables)
+invariant-loop-value l = entries a_table (items_view (take l.value-index l.value-items)) ≡ Ok
+    (map (λ t. table_view t.now) l.tables)

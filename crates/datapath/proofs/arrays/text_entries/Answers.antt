@@ -10,10 +10,12 @@ pub returns-in-None : goal.returns-in-None
 returns-in-None c =
     let bad : text (view c.value-item.result) ≡ Err WrongKind = rw (← c.as_str.ensures, c.in-None.is) refl in
     rw (← c.deref-value-items.ensures.value)
-    (sym (stops text c.deref-value-items.result.now c.loop-value.value-index c.value-item.result c.loop-value-test.true c.value-item.is bad))
+    (sym (stops text c.deref-value-items.result.now c.loop-value.value-index c.value-item.result
+    c.loop-value-test.true c.value-item.is bad))
 
 pub loop-value-preserved : goal.loop-value-preserved
 loop-value-preserved c =
     let good : text (view c.value-item.result) ≡ Ok c.in-Some.text.now = rw (← c.as_str.ensures, c.in-Some.is) refl in
-    goes_on text c.deref-value-items.result.now c.loop-value.value-index c.value-item.result _ _ c.loop-value-test.true c.value-item.is c.loop-value.invariant
+    goes_on text c.deref-value-items.result.now c.loop-value.value-index c.value-item.result _ _
+    c.loop-value-test.true c.value-item.is c.loop-value.invariant
     (rw (good, c.in_ok-push-in-Some.ensures.ok) (ap (λ (ms : List (List ℕ)). Ok ms) (simp map-append)))

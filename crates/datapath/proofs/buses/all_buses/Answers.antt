@@ -15,12 +15,20 @@ pub returns-in_err-bus : goal.returns-in_err-bus
 returns-in_err-bus c =
     let p = err_from_is_err_and c.from_residual.result c.from_residual.ensures.1 in
     rw (p.1, p.2)
-    (turn_ends (bus_at c.args.units.now) members c.args.tables.now c.loop-table.table-index c.table-item.result c.in_err-bus.field-0.0 c.loop-table.buses _ c.loop-table-test.true c.table-item.is (rw (c.len.ensures, c.as_slice.ensures) at c.in_err-bus.ensures) c.loop-table.invariant.0)
+    (turn_ends (bus_at c.args.units.now) members c.args.tables.now c.loop-table.table-index c.table-item.result
+    c.in_err-bus.field-0.0 c.loop-table.buses _ c.loop-table-test.true c.table-item.is
+    (rw (c.len.ensures, c.as_slice.ensures) at c.in_err-bus.ensures) c.loop-table.invariant.0)
 
 pub loop-table-preserved : goal.loop-table-preserved
 loop-table-preserved c =
-    rw c.in_ok-push.ensures.ok
-    (turn_goes_on (bus_at c.args.units.now) members c.args.tables.now c.loop-table.table-index c.table-item.result _ c.loop-table.buses _ c.loop-table-test.true c.table-item.is (rw (c.len.ensures, c.as_slice.ensures) at c.in_ok-bus.ensures) c.loop-table.invariant.0, length_push c.loop-table.buses _ ∙ ap (λ n. n + 1) c.loop-table.invariant.1)
+    rw c.in_ok-push.ensures.ok (
+      turn_goes_on (bus_at c.args.units.now) members c.args.tables.now c.loop-table.table-index c.table-item.result _
+          c.loop-table.buses _ c.loop-table-test.true c.table-item.is
+          (rw (c.len.ensures, c.as_slice.ensures) at c.in_ok-bus.ensures) c.loop-table.invariant.0,
+      length_push
+          c.loop-table.buses _ ∙ ap (λ n. n + 1) c.loop-table.invariant.1,
+    )
 
 pub returns : goal.returns
-returns c = turn_done (bus_at c.args.units.now) members c.args.tables.now c.loop-table.table-index c.loop-table.buses _ c.loop-table-test.false c.loop-table.invariant.0
+returns c = turn_done (bus_at c.args.units.now) members c.args.tables.now c.loop-table.table-index c.loop-table.buses
+    _ c.loop-table-test.false c.loop-table.invariant.0

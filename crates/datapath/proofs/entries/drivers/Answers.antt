@@ -15,7 +15,9 @@ returns-in_err-unit c =
     let i = c.loop-name.name-index in
     let same = get_or_default names i no_text (get_or names i no_text) c.loop-name-test.true in
     rw (p.1, p.2)
-    (turn_ends (driver c.args.section c.args.units.now) text_of names i (get_or names i no_text) c.in_err-unit.field-0.0 c.loop-name.drivers _ c.loop-name-test.true same (λ _. sym (rw c.as_slice.ensures at c.in_err-unit.ensures)) c.loop-name.invariant)
+    (turn_ends (driver c.args.section c.args.units.now) text_of names i (get_or names i no_text)
+    c.in_err-unit.field-0.0 c.loop-name.drivers _ c.loop-name-test.true same
+    (λ _. sym (rw c.as_slice.ensures at c.in_err-unit.ensures)) c.loop-name.invariant)
 
 pub loop-name-preserved : goal.loop-name-preserved
 loop-name-preserved c =
@@ -23,7 +25,10 @@ loop-name-preserved c =
     let i = c.loop-name.name-index in
     let same = get_or_default names i no_text (get_or names i no_text) c.loop-name-test.true in
     rw c.in_ok-push.ensures.ok
-    (turn_goes_on (driver c.args.section c.args.units.now) text_of names i (get_or names i no_text) c.in_ok-unit.unit c.loop-name.drivers _ c.loop-name-test.true same (sym (rw c.as_slice.ensures at c.in_ok-unit.ensures)) c.loop-name.invariant)
+    (turn_goes_on (driver c.args.section c.args.units.now) text_of names i (get_or names i no_text) c.in_ok-unit.unit
+    c.loop-name.drivers _ c.loop-name-test.true same (sym (rw c.as_slice.ensures at c.in_ok-unit.ensures))
+    c.loop-name.invariant)
 
 pub returns : goal.returns
-returns c = turn_done (driver c.args.section c.args.units.now) text_of c.args.names.now c.loop-name.name-index c.loop-name.drivers _ c.loop-name-test.false c.loop-name.invariant
+returns c = turn_done (driver c.args.section c.args.units.now) text_of c.args.names.now c.loop-name.name-index
+    c.loop-name.drivers _ c.loop-name-test.false c.loop-name.invariant

@@ -7,4 +7,5 @@ abbrev pub invariant-loop-key : goal.invariant-loop-key
 invariant-loop-key l =
     (goal.iterator-loop-key).can_next l.key-iterator ×
     (goal.iterator-loop-key).is_finite l.key-iterator ×
-    (keys_among (map (λ k. k.now) l.names) (members_view l.key-iterator) ≡ keys_among (map (λ k. k.now) l.names) (table_view l.table))
+    (keys_among (map (λ k. k.now) l.names) (members_view l.key-iterator) ≡ keys_among (map (λ k. k.now) l.names)
+    (table_view l.table))

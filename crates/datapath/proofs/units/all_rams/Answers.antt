@@ -15,12 +15,19 @@ pub returns-in_err-ram-clause-value : goal.returns-in_err-ram-clause-value
 returns-in_err-ram-clause-value c =
     let p = err_from_is_err_and c.from_residual.result c.from_residual.ensures.1 in
     rw (p.1, p.2)
-    (turn_ends (ram_at c.args.units.now) members c.args.tables.now c.loop-table.table-index c.table-item.result c.in_err-ram.field-0.0 c.loop-table.rams _ c.loop-table-test.true c.table-item.is (rw c.len.ensures at c.in_err-ram.ensures) c.loop-table.invariant.0)
+    (turn_ends (ram_at c.args.units.now) members c.args.tables.now c.loop-table.table-index c.table-item.result
+    c.in_err-ram.field-0.0 c.loop-table.rams _ c.loop-table-test.true c.table-item.is
+    (rw c.len.ensures at c.in_err-ram.ensures) c.loop-table.invariant.0)
 
 pub loop-table-preserved : goal.loop-table-preserved
 loop-table-preserved c =
-    rw c.in_ok-push.ensures.ok
-    (turn_goes_on (ram_at c.args.units.now) members c.args.tables.now c.loop-table.table-index c.table-item.result _ c.loop-table.rams _ c.loop-table-test.true c.table-item.is (rw c.len.ensures at c.in_ok-ram.ensures) c.loop-table.invariant.0, length_push c.loop-table.rams _ ∙ ap (λ n. n + 1) c.loop-table.invariant.1)
+    rw c.in_ok-push.ensures.ok (
+      turn_goes_on (ram_at c.args.units.now) members c.args.tables.now c.loop-table.table-index c.table-item.result _
+          c.loop-table.rams _ c.loop-table-test.true c.table-item.is (rw c.len.ensures at c.in_ok-ram.ensures)
+          c.loop-table.invariant.0,
+      length_push c.loop-table.rams _ ∙ ap (λ n. n + 1) c.loop-table.invariant.1,
+    )
 
 pub returns-clause-value : goal.returns-clause-value
-returns-clause-value c = turn_done (ram_at c.args.units.now) members c.args.tables.now c.loop-table.table-index c.loop-table.rams _ c.loop-table-test.false c.loop-table.invariant.0
+returns-clause-value c = turn_done (ram_at c.args.units.now) members c.args.tables.now c.loop-table.table-index
+    c.loop-table.rams _ c.loop-table-test.false c.loop-table.invariant.0

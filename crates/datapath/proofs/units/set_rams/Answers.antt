@@ -9,8 +9,13 @@ loop-place-preserved c =
     let rams = c.args.rams.now in
     let i = c.loop-place.place in
     let few = c.loop-place.invariant.0 in
-    let within : i < length units = omega arith in
-    (rw (length-set units i _) few, rams_go_on units rams i c.index_mut.result.now (get_or rams i 0) _ within c.loop-place-test.true c.index_mut.ensures.value (get_or_default rams i 0 (get_or rams i 0) c.loop-place-test.true) c.loop-place.invariant.1)
+    let within : i < length units = omega arith in (
+      rw (length-set units i _) few,
+      rams_go_on units rams i c.index_mut.result.now (get_or rams i 0) _ within
+          c.loop-place-test.true c.index_mut.ensures.value
+          (get_or_default rams i 0 (get_or rams i 0) c.loop-place-test.true) c.loop-place.invariant.1,
+    )
 
 pub returns : goal.returns
-returns c = rams_done c.loop-place.units c.args.rams.now c.loop-place.place _ c.loop-place-test.false c.loop-place.invariant.1
+returns c = rams_done c.loop-place.units c.args.rams.now c.loop-place.place _ c.loop-place-test.false
+    c.loop-place.invariant.1
