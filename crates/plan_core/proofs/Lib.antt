@@ -14,3 +14,4 @@ pub mod OneAssigned
 pub mod OneArcs
 pub mod OneSchedule
 pub mod OneFit
+pub mod OneLowered

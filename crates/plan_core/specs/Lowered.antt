@@ -36,7 +36,7 @@ pub record AreLongDelays (g : Graph) (hold v : ℕ) (delays : List ℕ) : Type 0
 pub data Origin : Type 0 where
   -- node v of the graph
   own : (v : ℕ) → Origin
-  -- the address of the cell with the word of node v this many samples ago, where the store has 0
+  -- the address of the cell with the word of node v this many samples ago; the store has that of 0 samples ago
   address : (v ago : ℕ) → Origin
   -- the store of the word of node v
   store : (v : ℕ) → Origin
