@@ -1,0 +1,4 @@
+pub mod Numbers
+pub mod FlatOf
+pub mod Kept
+pub mod Checked
