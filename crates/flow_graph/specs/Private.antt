@@ -1,2 +1,4 @@
 pub mod Rows
 pub mod ReadsNow
+pub mod Sites
+pub mod Delayed

@@ -1,8 +1,10 @@
 //! The graph of a flat program, or its first delay-free loop. Page `docs/GRAPH.md`, "The graph of a flat program".
 #![tactic(auto)]
 
+mod delays;
 mod fault;
 mod loops;
 mod reads;
+mod sites;
 
 pub use fault::GraphFault;

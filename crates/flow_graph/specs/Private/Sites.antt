@@ -1,0 +1,40 @@
+-- The places of elements as the code has them.
+use Rattle.std.specs.Prelude.{◌≡◌, ℕ, ◌+◌, ◌-◌, List, [], ◌∷◌, ◌++◌, map, length}
+use Rattle.signal_graph.specs.Flat.{Expr, Parts, size}
+use Rattle.signal_graph.specs.GraphOf.{Operand, number, place, element, Made, nothing, constant, input, operation, operand_at, operands_from, made_by, made_by_parts, Site, sites_from}
+use Rattle.flow_graph.specs.declared.sites.Operand.{Operand as CodeOperand}
+use Rattle.flow_graph.specs.declared.sites.Operand.TheVariants as is
+use Rattle.flow_graph.specs.declared.sites.Made.{Made as CodeMade}
+use Rattle.flow_graph.specs.declared.sites.Made.TheVariants as makes
+use Rattle.flow_graph.specs.declared.sites.Site.{Site as CodeSite}
+
+abbrev pub view_operand : CodeOperand → Operand
+view_operand (is.Number m) = number m
+view_operand (is.Place k) = place k
+view_operand (is.Element e ago) = element e ago
+
+abbrev pub view_made : CodeMade → Made
+view_made makes.Nothing = nothing
+view_made (makes.Constant m) = constant m
+view_made (makes.Input j) = input j
+view_made (makes.Operation o fmt operands) = operation o fmt (map view_operand operands)
+
+abbrev pub view_site : CodeSite → Site
+view_site s = record { element = s.elem; place = s.place; made = view_made s.made }
+
+-- what is made at more places of element e, whose places begin at start
+pub record Extends (old : List CodeSite) (e start : ℕ) (made : List Made) (new : List CodeSite) : Type 0 where
+  pub is : map view_site new ≡ map view_site old ++ sites_from e (length old - start) made
+
+abbrev pub AddsSite : List CodeSite → (e start : ℕ) → Made → List CodeSite → Type 0
+AddsSite old e start made new = Extends old e start (made ∷ []) new
+
+-- the places of an expression, and the operand that it is
+pub record AddsPlaces (old : List CodeSite) (e start : ℕ) (x : Expr) (new : List CodeSite) (o : CodeOperand) : Type 0 where
+  pub sites : Extends old e start (made_by (length old - start) x) new
+  pub operand : view_operand o ≡ operand_at (length old - start + size x - 1) x
+
+-- the places of parts, and the operands that they are
+pub record AddsParts (old : List CodeSite) (e start : ℕ) (parts : Parts) (new : List CodeSite) (os : List CodeOperand) : Type 0 where
+  pub sites : Extends old e start (made_by_parts (length old - start) parts) new
+  pub operands : map view_operand os ≡ operands_from (length old - start) parts
