@@ -1,7 +1,6 @@
 -- Marks of elements that are read with a delay, one read after another.
 use Rattle.std.proofs.Common.{◌≡◌, ℕ, ◌+◌, ◌<◌, ◌≤◌, ◌||◌, Bool, true, false, List, [], ◌∷◌, ◌++◌, length, get_or, take, replicate, refl, sym, ap, ap₂, subst, ◌∙◌, map, arith}
 use Rattle.std.specs.Prelude.{◌==◌, nat_lt, ◌&&◌}
-use Rattle.std.proofs.Math.ListN.{set}
 use Rattle.std.proofs.lemmas.List.{length-set, length-map, get_or-set_same, get_or-set_other, take_more, take_all, map-append, length-replicate, get_or-replicate}
 use Rattle.std.proofs.lemmas.Bool.{cases_eq, eq-eqb, eqb-true}
 use Rattle.signal_graph.specs.declared.flat.FlatExpr.{FlatExpr}
@@ -19,16 +18,6 @@ or_assoc : (a b c : Bool) → ((a || b) || c) ≡ (a || (b || c))
 or_assoc true b c = refl
 or_assoc false b c = refl
 
-or_true : (b : Bool) → (b || true) ≡ true
-or_true true = refl
-or_true false = refl
-
-pub marks_none : (old : List Bool) (test : ℕ → Bool) → ((e : ℕ) → test e ≡ false) → Marks old test old
-marks_none old test none = record {
-  size = refl;
-  at = λ e within. sym (or_false (get_or old e false)) ∙ ap (λ b. get_or old e false || b) (sym (none e));
-}
-
 pub marks_then : (old mid new : List Bool) (f g h : ℕ → Bool) → ((e : ℕ) → (f e || g e) ≡ h e) → Marks old f mid → Marks mid g new → Marks old h new
 marks_then old mid new f g h both a b = record {
   size = b.size ∙ a.size;
@@ -38,23 +27,6 @@ marks_then old mid new f g h both a b = record {
 
 pub marks_as : (old new : List Bool) (f g : ℕ → Bool) → ((e : ℕ) → f e ≡ g e) → Marks old f new → Marks old g new
 marks_as old new f g same a = record { size = a.size; at = λ e within. a.at e within ∙ ap (λ x. get_or old e false || x) (same e) }
-
-other_eq : (d e : ℕ) (b : Bool) → (d == e) ≡ b → (d ≡ e → ⊥) → (d == e) ≡ false
-other_eq d e true is other = absurd (other (eqb-true d e is))
-other_eq d e false is other = is
-
-pub marks_one : (old : List Bool) (d : ℕ) → d < length old → Marks old (λ e. d == e) (set old d true)
-marks_one old d within = record {
-  size = length-set old d true;
-  at = λ e inside. elim (cases_eq d e) [
-    | inl same ↦
-        (subst (λ (k : ℕ). get_or (set old d true) k false ≡ (get_or old k false || (d == k))) same
-          (get_or-set_same old d true false within ∙ sym (or_true (get_or old d false)) ∙ ap (λ b. get_or old d false || b) (sym (eq-eqb d d refl))))
-    | inr other ↦
-        (get_or-set_other old d e true false (λ s. other (sym s)) ∙ sym (or_false (get_or old e false))
-          ∙ ap (λ b. get_or old e false || b) (sym (other_eq d e (d == e) refl other)))
-  ];
-}
 
 parts_delay_more : (e : ℕ) (xs : List Expr) (x : Expr) → (parts_delay e (parts_of xs) || delays e x) ≡ parts_delay e (parts_of (xs ++ x ∷ []))
 parts_delay_more e [] x = sym (or_false (delays e x))
@@ -78,11 +50,5 @@ elems_delay_more e xs i x within is =
     ∙ ap (are_delayed e)
       (sym (ap (map view_elem) (take_more xs i x within ∙ ap (λ z. take i xs ++ z ∷ []) (sym is)) ∙ map-append view_elem (take i xs) (x ∷ [])))
 
-pub tells : (xs : List FlatElem) (i : ℕ) (p : Program) (table : List Bool) → length xs ≤ i → p.elems ≡ map view_elem xs
-    → Marks (replicate (length xs) false) (λ e. are_delayed e (map view_elem (take i xs))) table → TellsDelayed p table
-tells xs i p table past is h = record {
-  size = h.size ∙ length-replicate (length xs) false ∙ sym (ap length is ∙ length-map xs view_elem);
-  at = λ e within. (let below : e < length xs = let n = ap length is ∙ length-map xs view_elem in omega arith in
-      h.at e (let n = length-replicate (length xs) false in omega arith) ∙ ap (λ b. b || are_delayed e (map view_elem (take i xs))) (get_or-replicate (length xs) e false false below)
-      ∙ ap (are_delayed e) (ap (map view_elem) (take_all i xs past) ∙ sym is));
-}
+pub marks_from : (old same new : List Bool) (f : ℕ → Bool) → old ≡ same → Marks old f new → Marks same f new
+marks_from old same new f is = subst (λ (xs : List Bool). Marks xs f new) is

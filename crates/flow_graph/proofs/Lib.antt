@@ -5,3 +5,4 @@ pub mod FirstLoops
 pub mod SiteLists
 pub mod SiteSteps
 pub mod DelayMarks
+pub mod AllSites

@@ -1,13 +1,19 @@
 //! The places of elements, with what is made there. Page `docs/GRAPH.md`, "The graph of a flat program".
 
-ghost use Rattle.std.specs.Prelude.{◌≡◌, ◌≤◌, ◌++◌, ◌-◌, [], ◌∷◌, length, map, IfOk, OnOk};
-ghost use Rattle.signal_graph.specs.Flat.{view_expr};
+ghost use Rattle.std.specs.Prelude.{◌≡◌, ◌≤◌, ◌++◌, ◌-◌, [], ◌∷◌, ◌<◌, ◌^◌, length, map, IfOk, OnOk};
+ghost use Rattle.fix_word.specs.declared.operation.Op.TheVariants as op;
+ghost use Rattle.signal_graph.specs.Rules.{width_of, plain};
+ghost use Rattle.signal_graph.specs.Flat as flat_program;
+ghost use Rattle.signal_graph.specs.Flat.{view, view_expr, view_body};
+ghost use Rattle.signal_graph.specs.GraphOf as place_of;
+ghost use Rattle.signal_graph.specs.GraphOf.{sites};
 ghost use Rattle.flow_graph.specs.Private.Rows.{view_exprs};
-ghost use Rattle.flow_graph.specs.Private.Sites.{view_made, AddsSite, AddsPlaces, AddsParts};
+ghost use Rattle.flow_graph.specs.Private.Delayed.{TellsDelayed};
+ghost use Rattle.flow_graph.specs.Private.Sites.{view_operand, view_made, view_site, Extends, AddsSite, AddsPlaces, AddsParts, passes, made_of};
 
-use fix_word::{Format, Op};
+use fix_word::{Format, Mode, Op, SigType};
 use lists::List;
-use signal_graph::FlatExpr;
+use signal_graph::{FlatBody, FlatElem, FlatExpr, FlatProgram};
 use std::alloc::{AllocError, AllocFailed, Global};
 
 /// What an operand of a node names.
@@ -115,4 +121,109 @@ fn add_parts(
         operands.push(operand)?;
     }
     Ok(operands)
+}
+
+/// Whether a Pass follows the value of an element that is read with a delay or not.
+fn has_pass(value: &FlatExpr, is_delayed: bool) -> bool
+    ensures { result ≡ passes is_delayed (view_expr value.now) }
+{
+    match value {
+        FlatExpr::Raw(_) => is_delayed,
+        FlatExpr::Read { delay, .. } => *delay > 0 || is_delayed,
+        FlatExpr::Node { .. } => false,
+    }
+}
+
+/// The bits of a type's words.
+fn bits(ty: SigType) -> u8
+    ensures { result ≡ width_of ty }
+{
+    match ty {
+        SigType::Fix(ty) => ty.shape.w,
+        SigType::Bool => 2,
+    }
+}
+
+/// Adds the place of a Pass.
+fn add_pass(
+    alloc: Global,
+    sites: &mut List<Site>,
+    elem: u32,
+    start: usize,
+    width: u8,
+    operand: Operand,
+) -> Result<(), AllocError>
+    requires { start ≤ length sites.old }
+    ensures { OnOk result (AddsSite sites.old elem start
+        (place_of.operation op.Pass (plain width) (view_operand operand ∷ [])) sites.new) }
+{
+    let mut operands = List::new(alloc);
+    operands.push(operand)?;
+    let made = Made::Operation {
+        op: Op::Pass,
+        fmt: Format {
+            shift: 0,
+            mode: Mode::Trunc,
+            width,
+        },
+        operands,
+    };
+    add_site(sites, elem, start, made)
+}
+
+/// Adds the places of an element with this value.
+fn add_value(
+    alloc: Global,
+    sites: &mut List<Site>,
+    elem: u32,
+    ty: SigType,
+    value: &FlatExpr,
+    is_delayed: bool,
+) -> Result<(), AllocError>
+    ensures { OnOk result (Extends sites.old elem (length sites.old)
+        (made_of is_delayed (width_of ty) (flat_program.value (view_expr value.now))) sites.new) }
+{
+    let start = sites.len();
+    let operand = add_places(alloc, sites, elem, start, value)?;
+    if has_pass(value, is_delayed) {
+        add_pass(alloc, sites, elem, start, bits(ty), operand)?;
+    }
+    Ok(())
+}
+
+/// Adds the places of an element.
+fn add_element(
+    alloc: Global,
+    sites: &mut List<Site>,
+    elem: u32,
+    element: &FlatElem,
+    is_delayed: bool,
+) -> Result<(), AllocError>
+    ensures { OnOk result (Extends sites.old elem (length sites.old)
+        (made_of is_delayed (width_of element.now.ty) (view_body element.now.body)) sites.new) }
+{
+    match &element.body {
+        FlatBody::Word(word) => {
+            let start = sites.len();
+            add_site(sites, elem, start, Made::Input(*word))
+        }
+        FlatBody::Value(value) => add_value(alloc, sites, elem, element.ty, value, is_delayed),
+    }
+}
+
+/// The places of all elements. The table says which are read with a delay.
+pub(crate) fn sites_of(
+    alloc: Global,
+    flat: &FlatProgram,
+    delayed: &[bool],
+) -> Result<List<Site>, AllocError>
+    requires few { length (view flat.now).elems < 2 ^ 32 }
+    requires delayed { TellsDelayed (view flat.now) delayed.now }
+    ensures { IfOk result (λ list. map view_site list ≡ sites (view flat.now)) }
+{
+    let mut list = List::new(alloc);
+    for elem in 0..flat.elems.len() {
+        add_element(alloc, &mut list, elem as u32, &flat.elems[elem], delayed[elem])?;
+    }
+    Ok(list)
 }

@@ -1,7 +1,7 @@
 -- The places of elements as the code has them.
-use Rattle.std.specs.Prelude.{◌≡◌, ℕ, ◌+◌, ◌-◌, List, [], ◌∷◌, ◌++◌, map, length}
-use Rattle.signal_graph.specs.Flat.{Expr, Parts, size}
-use Rattle.signal_graph.specs.GraphOf.{Operand, number, place, element, Made, nothing, constant, input, operation, operand_at, operands_from, made_by, made_by_parts, Site, sites_from}
+use Rattle.std.specs.Prelude.{◌≡◌, ℕ, ◌+◌, ◌-◌, nat_lt, ◌||◌, Bool, false, if◌then◌else◌, List, [], ◌∷◌, ◌++◌, map, length}
+use Rattle.signal_graph.specs.Flat.{Expr, raw, read, calculation, Parts, Body, word, value, size}
+use Rattle.signal_graph.specs.GraphOf.{Operand, number, place, element, Made, nothing, constant, input, operation, operand_at, operands_from, made_by, made_by_parts, pass, Site, sites_from}
 use Rattle.flow_graph.specs.declared.sites.Operand.{Operand as CodeOperand}
 use Rattle.flow_graph.specs.declared.sites.Operand.TheVariants as is
 use Rattle.flow_graph.specs.declared.sites.Made.{Made as CodeMade}
@@ -38,3 +38,14 @@ pub record AddsPlaces (old : List CodeSite) (e start : ℕ) (x : Expr) (new : Li
 pub record AddsParts (old : List CodeSite) (e start : ℕ) (parts : Parts) (new : List CodeSite) (os : List CodeOperand) : Type 0 where
   pub sites : Extends old e start (made_by_parts (length old - start) parts) new
   pub operands : map view_operand os ≡ operands_from (length old - start) parts
+
+-- whether a Pass follows the value of an element that is read with a delay or not
+abbrev pub passes : Bool → Expr → Bool
+passes is_delayed (raw m) = is_delayed
+passes is_delayed (read d ago) = nat_lt 0 ago || is_delayed
+passes is_delayed (calculation o fmt parts) = false
+
+-- what is made at the places of such an element
+abbrev pub made_of : Bool → (width : ℕ) → Body → List Made
+made_of is_delayed width (word j) = input j ∷ []
+made_of is_delayed width (value x) = made_by 0 x ++ (if passes is_delayed x then pass width x ∷ [] else [])
