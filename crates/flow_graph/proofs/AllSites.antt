@@ -1,6 +1,8 @@
 -- The places of all elements, one element after another.
 use Rattle.std.proofs.Common.{◌≡◌, ℕ, ◌+◌, ◌-◌, ◌<◌, ◌≤◌, Bool, List, [], ◌∷◌, ◌++◌, length, get_or, take, refl, sym, ap, subst, ◌∙◌, map, arith}
+use Rattle.std.specs.Prelude.{slice_get, option_map, Some}
 use Rattle.std.specs.List.{enumerate_from, flat_map}
+use Rattle.std.proofs.lemmas.Option.{slice_get-map, slice_get_read}
 use Rattle.std.proofs.lemmas.Grind.{flat_map-append}
 use Rattle.std.proofs.lemmas.List.{append-nil, take_more, take_all, length-map}
 use Rattle.std.proofs.lemmas.List.FromFn.{length-enumerate_from, get_or-enumerate_from}
@@ -42,3 +44,6 @@ sites_more p old new i x d within is told h more =
 
 pub sites_all : (p : Program) (now : List CodeSite) (i : ℕ) → length p.elems ≤ i → map view_site now ≡ sites_of_first p i → map view_site now ≡ sites p
 sites_all p now i past h = h ∙ ap (flat_map (element_sites p)) (take_all i (enumerate_from 0 p.elems) (let n = length-enumerate_from 0 p.elems in omega arith))
+
+pub site_at : (sites : List CodeSite) (i : ℕ) (x : CodeSite) → i < length sites → x ≡ get_or sites i x → slice_get (map view_site sites) i ≡ Some (view_site x)
+site_at sites i x within is = slice_get-map view_site sites i ∙ ap (option_map view_site) (slice_get_read sites (length sites) i x refl within is)

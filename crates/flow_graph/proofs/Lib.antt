@@ -6,3 +6,5 @@ pub mod SiteLists
 pub mod SiteSteps
 pub mod DelayMarks
 pub mod AllSites
+pub mod Positions
+pub mod NumberSteps

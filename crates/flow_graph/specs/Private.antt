@@ -2,3 +2,5 @@ pub mod Rows
 pub mod ReadsNow
 pub mod Sites
 pub mod Delayed
+pub mod Words
+pub mod Nodes

@@ -4,7 +4,9 @@
 mod delays;
 mod fault;
 mod loops;
+mod numbers;
 mod reads;
 mod sites;
+mod words;
 
 pub use fault::GraphFault;
