@@ -8,3 +8,4 @@ pub mod DelayMarks
 pub mod AllSites
 pub mod Positions
 pub mod NumberSteps
+pub mod FirstSites

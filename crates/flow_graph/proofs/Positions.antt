@@ -26,7 +26,7 @@ module _ {X : Type 0} (p : X → Bool) where
   from_other n [] y fails = ap (λ b. cond {A = Option ℕ} b (Some n) None) fails
   from_other n (x ∷ xs) y fails = ap (λ o. cond (p x) (Some n) o) (from_other (n + 1) xs y fails)
 
-  as_from : (xs : List X) → position p xs ≡ position_from p 0 xs
+  pub as_from : (xs : List X) → position p xs ≡ position_from p 0 xs
   as_from xs = position_from-zero p xs
 
   pub position_left : (v : ℕ) (xs ys : List X) → position p xs ≡ Some v → position p (xs ++ ys) ≡ Some v
