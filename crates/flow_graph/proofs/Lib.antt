@@ -9,3 +9,5 @@ pub mod AllSites
 pub mod Positions
 pub mod NumberSteps
 pub mod FirstSites
+pub mod AliasSteps
+pub mod LastSteps

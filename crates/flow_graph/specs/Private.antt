@@ -4,3 +4,5 @@ pub mod Sites
 pub mod Delayed
 pub mod Words
 pub mod Nodes
+pub mod Aliases
+pub mod LastPlaces

@@ -1,7 +1,9 @@
 //! The graph of a flat program, or its first delay-free loop. Page `docs/GRAPH.md`, "The graph of a flat program".
 #![tactic(auto)]
 
+mod aliases;
 mod delays;
+mod elements;
 mod fault;
 mod loops;
 mod numbers;
