@@ -11,3 +11,4 @@ pub mod NumberSteps
 pub mod FirstSites
 pub mod AliasSteps
 pub mod LastSteps
+pub mod AliasHeights

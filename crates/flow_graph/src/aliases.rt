@@ -6,7 +6,7 @@ ghost use Rattle.signal_graph.specs.FlatRules.{IsFlat};
 ghost use Rattle.signal_graph.specs.FlatSolves.{IsFlatLoopless};
 ghost use Rattle.signal_graph.specs.Flat.{Program};
 ghost use Rattle.flow_graph.specs.Private.Delayed.{TellsDelayed};
-ghost use Rattle.flow_graph.specs.Private.Aliases.{alias, IsInside, Jumps, AreEnds};
+ghost use Rattle.flow_graph.specs.Private.Aliases.{alias, IsInside, Jumps, AreAliases, AreEnds};
 
 use signal_graph::{FlatBody, FlatElem, FlatExpr, FlatProgram};
 use std::alloc::{AllocError, AllocFailed, Global};
@@ -51,4 +51,36 @@ fn lead_to_ends(leads: &mut [u32])
         double(leads);
         far *= 2;
     }
+}
+
+/// For each element the one that it reads where it is an alias, and itself for any other.
+fn aliases_of(alloc: Global, flat: &FlatProgram, delayed: &[bool]) -> Result<Vec<u32>, AllocError>
+    requires few { length (view flat.now).elems < 2 ^ 32 }
+    requires delayed { TellsDelayed (view flat.now) delayed.now }
+    ensures { IfOk result (λ aliases. AreAliases (view flat.now) aliases.items) }
+{
+    let mut aliases = Vec::new(alloc);
+    for elem in 0..flat.elems.len() {
+        aliases.push(alias_of(elem as u32, &flat.elems[elem], delayed[elem]))?;
+    }
+    Ok(aliases)
+}
+
+/// For each element the one whose node it has, at the end of its chain of aliases. The table says which are read with a
+/// delay.
+pub(crate) fn ends_of_aliases(
+    alloc: Global,
+    flat: &FlatProgram,
+    delayed: &[bool],
+) -> Result<Vec<u32>, AllocError>
+    requires sound { IsFlat (view flat.now) }
+    requires loopless { IsFlatLoopless (view flat.now) }
+    requires delayed { TellsDelayed (view flat.now) delayed.now }
+    ensures size { IfOk result (λ ends. length ends.items ≡ length (view flat.now).elems) }
+    ensures inside { IfOk result (λ ends. IsInside ends.items) }
+    ensures ends { IfOk result (λ ends. AreEnds (view flat.now) ends.items) }
+{
+    let mut ends = aliases_of(alloc, flat, delayed)?;
+    lead_to_ends(&mut ends);
+    Ok(ends)
 }

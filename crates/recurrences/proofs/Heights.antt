@@ -92,3 +92,8 @@ module _ {A : Type 0} (s : System ℕ A) (is : IsDetermined s) (count : ℕ) (al
       falls = falls;
       below = λ e el. omega (arith, counted_most count (depends e));
     }
+
+    -- no height is above the number of elements
+    pub few_below : (e : ℕ) → s.IsElement e → has_heights.height e ≤ count
+    unfolding has_heights
+    few_below e el = counted_most count (depends e)

@@ -1,7 +1,8 @@
 -- Aliases, one after another: where the chain of an element ends.
 use Rattle.std.specs.Prelude.{◌≡◌, ℕ, ◌+◌, ◌<◌, ◌≤◌, ◌⊎◌, nat_lt, ◌||◌, Bool, if◌then◌else◌, List, length, slice_index_or}
 use Rattle.signal_graph.specs.Flat.{raw, read, calculation, Body, word, value, Program}
-use Rattle.signal_graph.specs.GraphOf.{Target, IsAlias, IsNodeOf}
+use Rattle.signal_graph.specs.FlatSolves.{element_of}
+use Rattle.signal_graph.specs.GraphOf.{Target, is_delayed, IsAlias, IsNodeOf}
 
 -- the element that an alias reads, and itself for any other
 abbrev pub alias : Bool → ℕ → Body → ℕ
@@ -29,6 +30,12 @@ pub record JumpsTo (p : Program) (height : ℕ → ℕ) (far e d : ℕ) : Type 0
 
 pub record Jumps (p : Program) (height : ℕ → ℕ) (far : ℕ) (leads : List ℕ) : Type 0 where
   pub at : (e : ℕ) → e < length leads → JumpsTo p height far e (slice_index_or leads e 0)
+
+-- each element leads to the one that it reads where it is an alias, and to itself where not
+pub record AreAliases (p : Program) (aliases : List ℕ) : Type 0 where
+  pub size : length aliases ≡ length p.elems
+  pub at : (e : ℕ) → e < length p.elems
+      → slice_index_or aliases e 0 ≡ alias (is_delayed p e) e (element_of p e).body
 
 -- each element leads to the end of its chain
 pub record AreEnds (p : Program) (leads : List ℕ) : Type 0 where
