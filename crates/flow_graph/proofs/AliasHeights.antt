@@ -20,7 +20,7 @@ not_above : (ago : ℕ) → nat_lt 0 ago ≡ false → ago ≡ 0
 not_above ago h = elim (cases_lt 0 ago) [ inl above ↦ absurd (grind (arith, h, above)) | inr none ↦ omega arith ]
 
 module _ (p : Program) (sound : IsFlat p) (loopless : IsFlatLoopless p) where
-  heights : HasHeights (flat_system p [])
+  pub heights : HasHeights (flat_system p [])
   heights =
       has_heights (flat_system p []) (flat_determined p sound []) (length p.elems) (λ e el. el)
       (λ e d. body_test (element_of p e).body d)
