@@ -37,7 +37,7 @@ pub exprs_delay_more : (e : ℕ) (xs : List FlatExpr) (i : ℕ) (x : FlatExpr) �
 exprs_delay_more e xs i x within is =
     parts_delay_more e (map view_expr (take i xs)) (view_expr x)
     ∙ ap (λ ys. parts_delay e (parts_of ys))
-      (sym (ap (map view_expr) (take_more xs i x within ∙ ap (λ z. take i xs ++ z ∷ []) (sym is)) ∙ map-append view_expr (take i xs) (x ∷ [])))
+    (sym (ap (map view_expr) (take_more xs i x within ∙ ap (λ z. take i xs ++ z ∷ []) (sym is)) ∙ map-append view_expr (take i xs) (x ∷ [])))
 
 are_delayed_more : (e : ℕ) (xs : List Element) (x : Element) → (are_delayed e xs || body_delays e x.body) ≡ are_delayed e (xs ++ x ∷ [])
 are_delayed_more e [] x = sym (or_false (body_delays e x.body))
@@ -48,7 +48,7 @@ pub elems_delay_more : (e : ℕ) (xs : List FlatElem) (i : ℕ) (x : FlatElem) �
 elems_delay_more e xs i x within is =
     are_delayed_more e (map view_elem (take i xs)) (view_elem x)
     ∙ ap (are_delayed e)
-      (sym (ap (map view_elem) (take_more xs i x within ∙ ap (λ z. take i xs ++ z ∷ []) (sym is)) ∙ map-append view_elem (take i xs) (x ∷ [])))
+    (sym (ap (map view_elem) (take_more xs i x within ∙ ap (λ z. take i xs ++ z ∷ []) (sym is)) ∙ map-append view_elem (take i xs) (x ∷ [])))
 
 pub marks_from : (old same new : List Bool) (f : ℕ → Bool) → old ≡ same → Marks old f new → Marks same f new
 marks_from old same new f is = subst (λ (xs : List Bool). Marks xs f new) is

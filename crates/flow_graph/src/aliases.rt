@@ -31,7 +31,8 @@ fn alias_of(elem: u32, element: &FlatElem, is_delayed: bool) -> u32
 fn double(leads: &mut [u32])
     requires { IsInside leads.old }
     ensures inside { IsInside leads.new }
-    ensures doubled { (p : Program) → (height : ℕ → ℕ) → (far : ℕ) → Jumps p height far leads.old → Jumps p height (far + far) leads.new }
+    ensures doubled { (p : Program) → (height : ℕ → ℕ) → (far : ℕ) → Jumps p height far leads.old
+        → Jumps p height (far + far) leads.new }
 {
     for elem in 0..leads.len() {
         leads[elem] = leads[leads[elem] as usize];

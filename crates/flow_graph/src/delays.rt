@@ -54,10 +54,7 @@ fn mark_body_reads(delayed: &mut [bool], body: &FlatBody)
 }
 
 /// For each element whether one reads it with a delay.
-pub(crate) fn delayed_elements(
-    alloc: Global,
-    flat: &FlatProgram,
-) -> Result<Vec<bool>, AllocError>
+pub(crate) fn delayed_elements(alloc: Global, flat: &FlatProgram) -> Result<Vec<bool>, AllocError>
     ensures { IfOk result (λ delayed. TellsDelayed (view flat.now) delayed.items) }
 {
     let mut delayed = vec![in alloc; false; flat.elems.len()]?;

@@ -16,7 +16,8 @@ fn last_numbers(
     elements: usize,
 ) -> Result<Vec<u32>, AllocError>
     requires size { length numbers.now ≡ length sites.now }
-    requires within { (i : ℕ) → (s : Place) → slice_get (map view_site sites.now) i ≡ Some s → s.element < elements }
+    requires within { (i : ℕ) → (s : Place) → slice_get (map view_site sites.now) i ≡ Some s
+        → s.element < elements }
     ensures { IfOk result (λ last. AreLast (map view_site sites.now) numbers.now elements last.items) }
 {
     let mut last = vec![in alloc; 0; elements]?;

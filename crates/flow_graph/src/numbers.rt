@@ -21,7 +21,8 @@ impl Numbering {
     /// The number of the node of a word, which is the next one where the word is new.
     fn number_word(&mut self, word: i64) -> Result<u32, AllocError>
         requires { self.old.count + 1 < 2 ^ 32 }
-        ensures { IfOk result (GivesNumber self.old.words self.old.count (constant word) self.new.words self.new.count) }
+        ensures { IfOk result (GivesNumber self.old.words self.old.count (constant word)
+            self.new.words self.new.count) }
     {
         if let Some(number) = self.words.get(word) {
             return Ok(number);

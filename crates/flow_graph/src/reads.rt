@@ -49,10 +49,7 @@ fn reads_of_body(alloc: Global, body: &FlatBody) -> Result<List<u32>, AllocError
 }
 
 /// For each element the elements that it reads without a delay.
-pub(crate) fn reads_of_all(
-    alloc: Global,
-    flat: &FlatProgram,
-) -> Result<List<List<u32>>, AllocError>
+pub(crate) fn reads_of_all(alloc: Global, flat: &FlatProgram) -> Result<List<List<u32>>, AllocError>
     ensures { IfOk result (λ lists. lists ≡ read_lists (view flat.now)) }
 {
     let mut lists = List::new(alloc);

@@ -51,12 +51,7 @@ pub(crate) struct Site {
 }
 
 /// Adds a place of an element whose places begin at `start`.
-fn add_site(
-    sites: &mut List<Site>,
-    elem: u32,
-    start: usize,
-    made: Made,
-) -> Result<(), AllocError>
+fn add_site(sites: &mut List<Site>, elem: u32, start: usize, made: Made) -> Result<(), AllocError>
     requires { start ≤ length sites.old }
     ensures { OnOk result (AddsSite sites.old elem start (view_made made) sites.new) }
 {
@@ -223,7 +218,13 @@ pub(crate) fn sites_of(
 {
     let mut list = List::new(alloc);
     for elem in 0..flat.elems.len() {
-        add_element(alloc, &mut list, elem as u32, &flat.elems[elem], delayed[elem])?;
+        add_element(
+            alloc,
+            &mut list,
+            elem as u32,
+            &flat.elems[elem],
+            delayed[elem],
+        )?;
     }
     Ok(list)
 }

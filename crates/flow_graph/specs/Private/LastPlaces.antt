@@ -4,7 +4,8 @@ use Rattle.signal_graph.specs.GraphOf.{Site}
 
 -- among the first n places no later one is of the same element
 abbrev pub IsLastPlace : List Site → (n j : ℕ) → Site → Type 0
-IsLastPlace all n j s = (k : ℕ) (t : Site) → k < n → slice_get all k ≡ Some t → t.element ≡ s.element → k ≤ j
+IsLastPlace all n j s =
+    (k : ℕ) (t : Site) → k < n → slice_get all k ≡ Some t → t.element ≡ s.element → k ≤ j
 
 -- for each element the number of its last place among the first n
 pub record LastUpTo (all : List Site) (numbers : List ℕ) (elements n : ℕ) (last : List ℕ) : Type 0 where

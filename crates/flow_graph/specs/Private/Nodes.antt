@@ -22,7 +22,7 @@ nodes_from nodes (s ∷ rest) = nodes_from (with_site nodes s) rest
 abbrev pub nodes_of : List Site → List Site
 nodes_of places = nodes_from [] places
 
--- these many nodes there are, and these are the numbers of words
+-- there are so many nodes, and the words have these numbers
 pub record IsCounted (nodes : List Site) (words : List (ℤ × ℕ)) (count : ℕ) : Type 0 where
   pub size : count ≡ length nodes
   pub met : (m : ℤ) → number_in words m ≡ word_position m nodes
@@ -33,9 +33,12 @@ IsPlaceNumber nodes s (constant m) number = word_position m (with_site nodes s) 
 IsPlaceNumber nodes s _ number = number ≡ length nodes
 
 -- the place where this is made has the number
-pub record Numbers (words : List (ℤ × ℕ)) (count : ℕ) (made : Made) (words' : List (ℤ × ℕ)) (count' number : ℕ) : Type 0 where
-  pub counted : (nodes : List Site) (s : Site) → s.made ≡ made → IsCounted nodes words count → IsCounted (with_site nodes s) words' count'
-  pub gives : (nodes : List Site) (s : Site) → s.made ≡ made → IsCounted nodes words count → IsPlaceNumber nodes s made number
+pub record Numbers (words : List (ℤ × ℕ)) (count : ℕ) (made : Made) (words' : List (ℤ × ℕ)) (count' number : ℕ)
+    : Type 0 where
+  pub counted : (nodes : List Site) (s : Site) → s.made ≡ made → IsCounted nodes words count
+      → IsCounted (with_site nodes s) words' count'
+  pub gives : (nodes : List Site) (s : Site) → s.made ≡ made → IsCounted nodes words count
+      → IsPlaceNumber nodes s made number
   pub few : count' ≤ count + 1
 
 -- the numbers of the nodes of all places, and of words

@@ -30,12 +30,14 @@ abbrev pub AddsSite : List CodeSite → (e start : ℕ) → Made → List CodeSi
 AddsSite old e start made new = Extends old e start (made ∷ []) new
 
 -- the places of an expression, and the operand that it is
-pub record AddsPlaces (old : List CodeSite) (e start : ℕ) (x : Expr) (new : List CodeSite) (o : CodeOperand) : Type 0 where
+pub record AddsPlaces (old : List CodeSite) (e start : ℕ) (x : Expr) (new : List CodeSite) (o : CodeOperand)
+    : Type 0 where
   pub sites : Extends old e start (made_by (length old - start) x) new
   pub operand : view_operand o ≡ operand_at (length old - start + size x - 1) x
 
 -- the places of parts, and the operands that they are
-pub record AddsParts (old : List CodeSite) (e start : ℕ) (parts : Parts) (new : List CodeSite) (os : List CodeOperand) : Type 0 where
+pub record AddsParts (old : List CodeSite) (e start : ℕ) (parts : Parts) (new : List CodeSite) (os : List CodeOperand)
+    : Type 0 where
   pub sites : Extends old e start (made_by_parts (length old - start) parts) new
   pub operands : map view_operand os ≡ operands_from (length old - start) parts
 

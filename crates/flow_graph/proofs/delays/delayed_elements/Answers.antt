@@ -3,7 +3,7 @@ use Rattle.std.proofs.lemmas.List.{with_items_is}
 use Rattle.signal_graph.specs.Flat.{view_elem, view_body}
 use Rattle.signal_graph.specs.GraphOf.{are_delayed, body_delays}
 use Rattle.flow_graph.specs.Private.Delayed.{Marks}
-use Rattle.flow_graph.proofs.DelayMarks.{marks_then, marks_from, elems_delay_more, tells}
+use Rattle.flow_graph.proofs.DelayMarks.{marks_then, marks_from, elems_delay_more}
 use Rattle.flow_graph.proofs.delays.delayed_elements.Goals as goal
 
 pub loop-element-preserved : goal.loop-element-preserved

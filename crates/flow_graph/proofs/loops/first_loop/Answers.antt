@@ -15,5 +15,5 @@ pub returns : goal.returns
 returns c =
     if_ok (IsCycleIn (HasArc c.as_slice.result.now)) (IsLoopIn (view c.args.flat.now))
     (λ o h. loop_in (view c.args.flat.now) c.requires o
-        (subst (λ (lists : List (List ℕ)). IsCycleIn (HasArc lists) o) (c.as_slice.ensures ∙ c.in_ok-reads.ensures) h))
+    (subst (λ (lists : List (List ℕ)). IsCycleIn (HasArc lists) o) (c.as_slice.ensures ∙ c.in_ok-reads.ensures) h))
     c.first_cyclic.result c.first_cyclic.ensures
