@@ -1,7 +1,7 @@
-use Rattle.std.proofs.Common.{◌≡◌, ◌≤◌, ◌<◌, ℕ, List, length, sym, subst, ap, arith}
-use Rattle.std.proofs.lemmas.List.{with_items_is, length-map}
-use Rattle.signal_graph.specs.Flat.{view, view_elem}
-use Rattle.flow_graph.specs.Private.Aliases.{IsInside, Jumps, AreAliases, AreEnds}
+use Rattle.std.proofs.Common.{◌≡◌, ℕ, List, length, sym, subst, ap, arith}
+use Rattle.std.proofs.lemmas.List.{with_items_is}
+use Rattle.signal_graph.specs.Flat.{view}
+use Rattle.flow_graph.specs.Private.Aliases.{IsInside, Jumps, AreEnds}
 use Rattle.flow_graph.proofs.AliasHeights.{height, height_most, aliases_inside, aliases_jump}
 use Rattle.flow_graph.proofs.aliases.ends_of_aliases.Goals as goal
 

@@ -1,4 +1,4 @@
-use Rattle.std.proofs.Common.{ℕ, ◌≡◌, ◌<◌, ◌≤◌, ◌+◌, ◌-◌, length}
+use Rattle.std.proofs.Common.{ℕ, ◌<◌, ◌≤◌, ◌+◌, ◌-◌, length}
 use Rattle.signal_graph.specs.Flat.{Program}
 use Rattle.flow_graph.specs.Private.Aliases.{IsInside, Jumps}
 use Rattle.flow_graph.proofs.aliases.lead_to_ends.Given as goal

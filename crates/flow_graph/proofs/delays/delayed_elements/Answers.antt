@@ -1,4 +1,4 @@
-use Rattle.std.proofs.Common.{◌≡◌, ◌<◌, ◌+◌, ap, sym, subst, ◌∙◌, take, map, replicate, length, false, arith, List, Bool, ℕ}
+use Rattle.std.proofs.Common.{◌+◌, sym, subst, take, map, replicate, length, false, arith, List, Bool, ℕ}
 use Rattle.std.proofs.lemmas.List.{with_items_is}
 use Rattle.signal_graph.specs.Flat.{view_elem, view_body}
 use Rattle.signal_graph.specs.GraphOf.{are_delayed, body_delays}

@@ -1,5 +1,5 @@
 -- An operation has the places of its parts, and then its own.
-use Rattle.std.proofs.Common.{◌≡◌, ◌-◌, ap, sym, subst, ◌∙◌, arith, length, take, map, List}
+use Rattle.std.proofs.Common.{◌-◌, ap, sym, subst, ◌∙◌, arith, take, map, List}
 use Rattle.std.proofs.lemmas.List.{take_all}
 use Rattle.signal_graph.specs.declared.flat.FlatExpr.{FlatExpr}
 use Rattle.signal_graph.specs.Flat.{view_expr, Expr, calculation}
@@ -8,7 +8,7 @@ use Rattle.flow_graph.specs.Private.Rows.{parts_of, view_exprs}
 use Rattle.flow_graph.specs.Private.Sites.{AddsParts, AddsPlaces}
 use Rattle.flow_graph.proofs.Rows.{view_Node}
 use Rattle.flow_graph.proofs.SiteLists.{exprs_more}
-use Rattle.flow_graph.proofs.SiteSteps.{parts_none, parts_length, part_more, placed_length, calculated}
+use Rattle.flow_graph.proofs.SiteSteps.{parts_none, part_more, placed_length, calculated}
 use Rattle.flow_graph.proofs.sites.+places.Goals as goal
 
 pub add_parts-loop-part-init : goal.add_parts-loop-part-init
