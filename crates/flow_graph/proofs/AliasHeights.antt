@@ -1,7 +1,6 @@
 -- An alias leads to an element that is less high, and the end of its chain is an element with the same node.
-use Rattle.std.proofs.Common.{◌≡◌, ℕ, ◌+◌, ◌<◌, ◌≤◌, ◌⊎◌, inl, inr, Bool, true, false, List, [], length, get_or, refl, sym, ap, subst, ◌∙◌, arith}
+use Rattle.std.proofs.Common.{◌≡◌, ℕ, ◌<◌, ◌≤◌, inl, inr, Bool, true, false, List, [], length, refl, sym, ap, subst, ◌∙◌, arith}
 use Rattle.std.specs.Prelude.{nat_lt, ◌||◌, if◌then◌else◌}
-use borrow.Author.Tests.{ltb-true}
 use Rattle.std.proofs.lemmas.Bool.{cases_lt}
 use Rattle.recurrences.proofs.Determined.{HasHeights}
 use Rattle.recurrences.proofs.Heights.{has_heights, few_below}
@@ -9,11 +8,11 @@ use Rattle.signal_graph.specs.Flat.{raw, read, calculation, Body, word, value, P
 use Rattle.signal_graph.specs.FlatRules.{IsFlat}
 use Rattle.signal_graph.specs.FlatSolves.{no_element, element_of, ElementReads, flat_system, IsFlatLoopless}
 use Rattle.signal_graph.specs.Values.{BodyReads}
-use Rattle.signal_graph.specs.GraphOf.{Target, is_delayed, has_pass, IsAlias, IsNodeOf, read_alias}
+use Rattle.signal_graph.specs.GraphOf.{is_delayed, has_pass, IsAlias, read_alias}
 use Rattle.signal_graph.proofs.Values.{body_allowed}
 use Rattle.signal_graph.proofs.Tests.{body_test, body_yes, body_no}
 use Rattle.signal_graph.proofs.OneSolution.{flat_determined}
-use Rattle.flow_graph.specs.Private.Aliases.{alias, IsNamed, IsEnd, IsInside, JumpsTo, Jumps, AreAliases}
+use Rattle.flow_graph.specs.Private.Aliases.{alias, IsEnd, IsInside, JumpsTo, Jumps, AreAliases}
 
 -- no number is below 0
 not_above : (ago : ℕ) → nat_lt 0 ago ≡ false → ago ≡ 0

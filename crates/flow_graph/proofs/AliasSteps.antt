@@ -1,10 +1,10 @@
 -- Chains of aliases, followed twice as far at a time.
-use Rattle.std.proofs.Common.{◌≡◌, ℕ, ◌+◌, ◌<◌, ◌≤◌, ◌⊎◌, inl, inr, List, length, get_or, sym, ap, subst, ◌∙◌, arith}
+use Rattle.std.proofs.Common.{◌≡◌, ℕ, ◌+◌, ◌<◌, ◌≤◌, inl, inr, List, length, get_or, sym, subst, ◌∙◌, arith}
 use Rattle.std.proofs.Math.ListN.{set}
 use Rattle.std.proofs.lemmas.Bool.{cases_eq, cases_lt}
 use Rattle.std.proofs.lemmas.List.{length-set, get_or-set_same, get_or-set_other}
 use Rattle.signal_graph.specs.Flat.{Program}
-use Rattle.flow_graph.specs.Private.Aliases.{IsNamed, IsEnd, IsInside, JumpsTo, Jumps, AreEnds}
+use Rattle.flow_graph.specs.Private.Aliases.{IsEnd, IsInside, JumpsTo}
 
 module _ (p : Program) (height : ℕ → ℕ) (far : ℕ) where
   jumps_on : (e d c : ℕ) → JumpsTo p height far e d → JumpsTo p height far d c → JumpsTo p height (far + far) e c
@@ -32,9 +32,6 @@ module _ (p : Program) (height : ℕ → ℕ) (far : ℕ) where
     pub done : (e : ℕ) → e < n → e < length leads → JumpsTo p height (far + far) e (get_or leads e 0)
     pub rest : (e : ℕ) → n ≤ e → e < length leads → JumpsTo p height far e (get_or leads e 0)
 
-  pub none_doubled : (leads : List ℕ) → Jumps p height far leads → DoubledTo 0 leads
-  none_doubled leads h = record { done = λ e below within. absurd (omega arith); rest = λ e above within. h.at e within }
-
   pub one_doubled : (n : ℕ) (leads : List ℕ) → IsInside leads → n < length leads → DoubledTo n leads
       → DoubledTo (n + 1) (set leads n (get_or leads (get_or leads n 0) 0))
   one_doubled n leads inside within h =
@@ -53,9 +50,6 @@ module _ (p : Program) (height : ℕ → ℕ) (far : ℕ) where
             subst (λ (k : ℕ). JumpsTo p height far e k) (sym (get_or-set_other leads n e c 0 other)) (h.rest e (omega arith) (omega arith)));
       }
 
-  pub all_doubled : (n : ℕ) (leads : List ℕ) → length leads ≤ n → DoubledTo n leads → Jumps p height (far + far) leads
-  all_doubled n leads past h = record { at = λ e within. h.done e (omega arith) within }
-
 pub inside_set : (leads : List ℕ) (n : ℕ) → IsInside leads → n < length leads → IsInside (set leads n (get_or leads (get_or leads n 0) 0))
 inside_set leads n inside within e e_within =
     let c = get_or leads (get_or leads n 0) 0 in
@@ -65,9 +59,3 @@ inside_set leads n inside within e e_within =
       | inl is ↦ subst (λ (k : ℕ). get_or (set leads n c) k 0 < length (set leads n c)) (sym is) (let same = get_or-set_same leads n c 0 within in omega arith)
       | inr other ↦ (let same = get_or-set_other leads n e c 0 other in let old = inside e (omega arith) in omega arith)
     ]
-
-pub far_enough : (p : Program) (height : ℕ → ℕ) (far : ℕ) (leads : List ℕ) → length leads < far → ((e : ℕ) → e < length leads → height e ≤ length leads) → Jumps p height far leads → AreEnds p leads
-far_enough p height far leads long low h = record {
-  named = λ e within. (h.at e within).named;
-  ends = λ e within. elim (h.at e within).falls [ inl ends ↦ ends | inr falls ↦ absurd (let most = low e within in omega arith) ];
-}

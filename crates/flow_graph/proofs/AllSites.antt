@@ -1,13 +1,12 @@
 -- The places of all elements, one element after another.
-use Rattle.std.proofs.Common.{◌≡◌, ℕ, ◌+◌, ◌-◌, ◌<◌, ◌≤◌, Bool, List, [], ◌∷◌, ◌++◌, length, get_or, take, refl, sym, ap, subst, ◌∙◌, map, arith}
+use Rattle.std.proofs.Common.{◌≡◌, ℕ, ◌+◌, ◌-◌, ◌<◌, ◌≤◌, Bool, List, [], ◌∷◌, ◌++◌, length, get_or, take, refl, sym, ap, ◌∙◌, map, arith}
 use Rattle.std.specs.Prelude.{slice_get, option_map, Some}
 use Rattle.std.specs.List.{enumerate_from, flat_map}
 use Rattle.std.proofs.lemmas.Option.{slice_get-map, slice_get_read}
 use Rattle.std.proofs.lemmas.Grind.{flat_map-append}
-use Rattle.std.proofs.lemmas.List.{append-nil, take_more, take_all, length-map}
+use Rattle.std.proofs.lemmas.List.{append-nil, take_more, take_all}
 use Rattle.std.proofs.lemmas.List.FromFn.{length-enumerate_from, get_or-enumerate_from}
 use Rattle.signal_graph.specs.Flat.{raw, read, calculation, Body, word, value, Element, Program}
-use Rattle.signal_graph.specs.FlatSolves.{no_element}
 use Rattle.signal_graph.specs.Rules.{width_of}
 use Rattle.signal_graph.specs.GraphOf.{is_delayed, made_by_body, Site, sites_from, element_sites, sites}
 use Rattle.flow_graph.specs.declared.sites.Site.{Site as CodeSite}

@@ -1,14 +1,12 @@
 -- Marks of elements that are read with a delay, one read after another.
-use Rattle.std.proofs.Common.{◌≡◌, ℕ, ◌+◌, ◌<◌, ◌≤◌, ◌||◌, Bool, true, false, List, [], ◌∷◌, ◌++◌, length, get_or, take, replicate, refl, sym, ap, ap₂, subst, ◌∙◌, map, arith}
-use Rattle.std.specs.Prelude.{◌==◌, nat_lt, ◌&&◌}
-use Rattle.std.proofs.lemmas.List.{length-set, length-map, get_or-set_same, get_or-set_other, take_more, take_all, map-append, length-replicate, get_or-replicate}
-use Rattle.std.proofs.lemmas.Bool.{cases_eq, eq-eqb, eqb-true}
+use Rattle.std.proofs.Common.{◌≡◌, ℕ, ◌+◌, ◌<◌, ◌||◌, Bool, true, false, List, [], ◌∷◌, ◌++◌, length, get_or, take, refl, sym, ap, subst, ◌∙◌, map, arith}
+use Rattle.std.proofs.lemmas.List.{take_more, map-append}
 use Rattle.signal_graph.specs.declared.flat.FlatExpr.{FlatExpr}
 use Rattle.signal_graph.specs.declared.flat.FlatElem.{FlatElem}
-use Rattle.signal_graph.specs.Flat.{Expr, Parts, no_part, part, Element, Program, view_expr, view_elem, view_body}
-use Rattle.signal_graph.specs.GraphOf.{delays, parts_delay, body_delays, are_delayed, is_delayed}
+use Rattle.signal_graph.specs.Flat.{Expr, Element, view_expr, view_elem, view_body}
+use Rattle.signal_graph.specs.GraphOf.{delays, parts_delay, body_delays, are_delayed}
 use Rattle.flow_graph.specs.Private.Rows.{parts_of, view_exprs}
-use Rattle.flow_graph.specs.Private.Delayed.{Marks, TellsDelayed}
+use Rattle.flow_graph.specs.Private.Delayed.{Marks}
 
 or_false : (b : Bool) → (b || false) ≡ b
 or_false true = refl

@@ -1,15 +1,15 @@
 -- A cycle in the lists of what elements read without a delay is a loop of the program.
-use Rattle.std.proofs.Common.{◌≡◌, ℕ, ◌<◌, ◌≤◌, ◌^◌, List, Option, Some, None, length, get_or, refl, sym, ap, subst, ◌∙◌, map, arith}
-use Rattle.std.specs.Prelude.{Contains, slice_get, option_map, slice_index_or}
+use Rattle.std.proofs.Common.{◌≡◌, ℕ, ◌<◌, List, Option, Some, None, length, sym, ap, subst, ◌∙◌, arith}
+use Rattle.std.specs.Prelude.{Contains, slice_get, option_map}
 use Rattle.std.proofs.lemmas.List.{length-map}
-use Rattle.std.proofs.lemmas.Option.{slice_get_within, slice_get-map, slice_get-get_or, get_or_from_slice_get}
+use Rattle.std.proofs.lemmas.Option.{slice_get_within, slice_get-map, slice_get-get_or}
 use Rattle.recurrences.specs.Systems.{DependsNow, direct, by_way_of}
-use Rattle.digraph.specs.Arcs.{HasArc, IsWithin, Reaches, by_arc, by_arcs, HasNoCycle, IsFirstCyclic, IsCycleIn}
+use Rattle.digraph.specs.Arcs.{HasArc, IsWithin, Reaches, by_arc, by_arcs, IsCycleIn}
 use Rattle.signal_graph.specs.Flat.{Element, Program}
 use Rattle.signal_graph.specs.FlatRules.{IsFlat}
-use Rattle.signal_graph.specs.FlatSolves.{no_element, element_of, ElementReads, IsFlatLoopless}
+use Rattle.signal_graph.specs.FlatSolves.{no_element, element_of, ElementReads}
 use Rattle.signal_graph.proofs.Values.{body_allowed}
-use Rattle.flow_graph.specs.Loops.{IsFirstLoop, IsLoopIn}
+use Rattle.flow_graph.specs.Loops.{IsLoopIn}
 use Rattle.flow_graph.specs.Private.ReadsNow.{body_reads_now, read_lists}
 use Rattle.flow_graph.proofs.ReadLists.{listed_body_read, body_read_listed}
 

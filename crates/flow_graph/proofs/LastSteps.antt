@@ -1,15 +1,12 @@
 -- The number of a place takes the place of that before it of the same element.
-use Rattle.std.proofs.Common.{◌≡◌, ℕ, ◌+◌, ◌<◌, ◌≤◌, inl, inr, List, Some, length, get_or, refl, sym, ap, subst, ◌∙◌, arith}
+use Rattle.std.proofs.Common.{◌≡◌, ℕ, ◌+◌, ◌<◌, inl, inr, List, Some, get_or, sym, ap, subst, ◌∙◌, arith}
 use Rattle.std.specs.Prelude.{slice_get}
 use Rattle.std.proofs.Math.ListN.{set}
 use Rattle.std.proofs.lemmas.Bool.{cases_eq}
 use Rattle.std.proofs.lemmas.List.{length-set, get_or-set_same, get_or-set_other}
 use Rattle.lists.proofs.Places.{some_once}
 use Rattle.signal_graph.specs.GraphOf.{Site}
-use Rattle.flow_graph.specs.Private.LastPlaces.{IsLastPlace, LastUpTo}
-
-pub none_last : (all : List Site) (numbers last : List ℕ) (elements : ℕ) → length last ≡ elements → LastUpTo all numbers elements 0 last
-none_last all numbers last elements size = record { size = size; at = λ j s below. absurd (omega arith) }
+use Rattle.flow_graph.specs.Private.LastPlaces.{LastUpTo}
 
 pub one_last : (all : List Site) (numbers last : List ℕ) (elements n : ℕ) (s : Site) → slice_get all n ≡ Some s → s.element < elements → LastUpTo all numbers elements n last
     → LastUpTo all numbers elements (n + 1) (set last s.element (get_or numbers n 0))

@@ -8,7 +8,7 @@ use Rattle.std.proofs.lemmas.Bool.{cases_eq}
 use Rattle.std.proofs.lemmas.Bool.Decides.{Decides-int_eq}
 use Rattle.std.proofs.lemmas.Option.{slice_get_within, get_or_from_slice_get}
 use Rattle.lists.proofs.Places.{some_once}
-use Rattle.signal_graph.specs.GraphOf.{Made, nothing, constant, Site, word_node, is_target, is_constant}
+use Rattle.signal_graph.specs.GraphOf.{Made, constant, Site, word_node, is_target, is_constant}
 use Rattle.flow_graph.specs.Private.Words.{number_in, number_if}
 use Rattle.flow_graph.specs.Private.Nodes.{word_position, is_made_after, with_site, nodes_from, nodes_of, IsCounted, IsPlaceNumber, Numbers, AreNumbers}
 use Rattle.flow_graph.proofs.Positions.{position_end, position_other}

@@ -1,5 +1,5 @@
 -- The parts of an operation as a tree holds them are the list that they were made of.
-use Rattle.std.proofs.Common.{◌≡◌, ℕ, List, Vec, refl, ap, ◌∙◌, map}
+use Rattle.std.proofs.Common.{◌≡◌, Vec, refl, ap, ◌∙◌, map}
 use Rattle.std.specs.Global.{Global}
 use mathlib.Core.Former.{Count}
 use Rattle.fix_word.specs.declared.operation.Op.{Op}

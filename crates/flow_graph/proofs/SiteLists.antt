@@ -1,11 +1,11 @@
 -- What is made at the places of expressions, one part after another.
-use Rattle.std.proofs.Common.{◌≡◌, ℕ, zero, suc, ◌+◌, ◌-◌, ◌<◌, ◌≤◌, List, [], ◌∷◌, ◌++◌, length, get_or, take, refl, sym, ap, ap₂, subst, ◌∙◌, map, arith, add_assoc}
-use Rattle.std.proofs.lemmas.List.{append-nil, take_more, take_all, map-append, length-map, length-append}
+use Rattle.std.proofs.Common.{◌≡◌, ℕ, ◌+◌, ◌-◌, ◌<◌, List, [], ◌∷◌, ◌++◌, length, get_or, take, refl, sym, ap, ◌∙◌, map, arith}
+use Rattle.std.proofs.lemmas.List.{append-nil, take_more, map-append, length-append}
 use mathlib.Core.List.{append_assoc}
 use Rattle.signal_graph.specs.declared.flat.FlatExpr.{FlatExpr}
 use Rattle.signal_graph.specs.Flat.{Expr, raw, read, calculation, Parts, no_part, part, size, size_of_parts, view_expr}
-use Rattle.signal_graph.specs.GraphOf.{Operand, Made, operation, operand_at, operands_from, made_by, made_by_parts, Site, sites_from}
-use Rattle.flow_graph.specs.Private.Rows.{parts_of, view_exprs}
+use Rattle.signal_graph.specs.GraphOf.{Made, operation, operand_at, operands_from, made_by, made_by_parts, sites_from}
+use Rattle.flow_graph.specs.Private.Rows.{parts_of}
 
 -- as many places as an expression has raw words, reads and calculations
 mutual
@@ -36,10 +36,6 @@ sites_append e k (x ∷ xs) ys =
     (sites_append e (k + 1) xs ys ∙ ap (λ n. sites_from e (k + 1) xs ++ sites_from e n ys) (omega arith))
 
 -- one part more
-pub size_more : (xs : List Expr) (x : Expr) → size_of_parts (parts_of (xs ++ x ∷ [])) ≡ size_of_parts (parts_of xs) + size x
-size_more [] x = omega arith
-size_more (y ∷ ys) x = let rest = size_more ys x in omega arith
-
 pub made_more : (k : ℕ) (xs : List Expr) (x : Expr)
     → made_by_parts k (parts_of (xs ++ x ∷ [])) ≡ made_by_parts k (parts_of xs) ++ made_by (k + size_of_parts (parts_of xs)) x
 made_more k [] x = append-nil (made_by k x) ∙ ap (λ n. made_by n x) (omega arith)

@@ -1,5 +1,5 @@
 -- The places of an expression are added one part after another.
-use Rattle.std.proofs.Common.{◌≡◌, ℕ, ◌+◌, ◌-◌, ◌<◌, ◌≤◌, List, [], ◌∷◌, ◌++◌, length, refl, sym, ap, ap₂, subst, ◌∙◌, map, arith}
+use Rattle.std.proofs.Common.{◌≡◌, ℕ, ◌+◌, ◌-◌, ◌≤◌, List, [], ◌∷◌, ◌++◌, length, refl, sym, ap, ap₂, subst, ◌∙◌, map, arith}
 use Rattle.std.proofs.lemmas.List.{append-nil, map-append, length-map, length-append}
 use mathlib.Core.List.{append_assoc}
 use Rattle.fix_word.specs.declared.operation.Op.{Op}

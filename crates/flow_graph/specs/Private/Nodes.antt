@@ -1,5 +1,5 @@
 -- The nodes that are made at the first places, in order.
-use Rattle.std.specs.Prelude.{◌≡◌, ℕ, ℤ, ◌+◌, ◌≤◌, ◌<◌, Bool, true, false, if◌then◌else◌, List, [], ◌∷◌, ◌++◌, length, take, slice_get, slice_index_or, position, Option, Some, is_none}
+use Rattle.std.specs.Prelude.{◌≡◌, ℕ, ℤ, ◌+◌, ◌≤◌, Bool, true, false, if◌then◌else◌, List, [], ◌∷◌, ◌++◌, length, take, slice_get, slice_index_or, position, Option, Some, is_none}
 use Rattle.signal_graph.specs.GraphOf.{Made, nothing, constant, Site, word_node, is_target}
 use Rattle.flow_graph.specs.Private.Words.{number_in}
 

@@ -1,5 +1,5 @@
 -- A cycle in the lists of reads is a loop.
-use Rattle.std.proofs.Common.{◌∙◌, sym, subst, ℕ, List, Option}
+use Rattle.std.proofs.Common.{◌∙◌, sym, subst, ℕ, List}
 use Rattle.signal_graph.specs.Flat.{view}
 use Rattle.digraph.specs.Arcs.{HasArc, IsWithin, IsCycleIn}
 use Rattle.flow_graph.specs.Loops.{IsLoopIn}

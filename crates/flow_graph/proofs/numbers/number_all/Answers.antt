@@ -1,4 +1,4 @@
-use Rattle.std.proofs.Common.{map, length, arith}
+use Rattle.std.proofs.Common.{arith}
 use Rattle.std.proofs.lemmas.List.{length-map}
 use Rattle.flow_graph.specs.Private.Sites.{view_site}
 use Rattle.flow_graph.proofs.AllSites.{site_at}

@@ -1,4 +1,4 @@
-use Rattle.std.proofs.Common.{ap, sym, ◌∙◌, arith, length, ◌≤◌, map}
+use Rattle.std.proofs.Common.{ap, sym, ◌∙◌, map}
 use Rattle.std.proofs.lemmas.Simd.{map-map}
 use Rattle.signal_graph.specs.Flat.{Element, view_elem, view_body}
 use Rattle.flow_graph.specs.Private.ReadsNow.{body_reads_now}
