@@ -129,7 +129,7 @@ module _ (arcs : List (List ℕ)) where
   falls marks a f g component number (by_arc step) here there = let d = a.done f component g here step in let same = some_closed d.closed there in let low = d.falls in omega arith
   falls marks a f h component number (by_arcs {w = g} step rest) here there = let d = a.done f component g here step in let low = d.falls in let more = falls marks a g h d.number number rest d.closed there in omega arith
 
-  -- a vertex with an arc into its own component reaches itself
+  -- who arcs a vertex of the same component reaches itself
   pub same_component : (marks : List Mark) (f g component : ℕ) → AreComponents arcs marks → HasArc arcs f g → IsMark marks f (Closed component) → IsMark marks g (Closed component) → Reaches (HasArc arcs) f f
   same_component marks f g component a step here there =
       let d = a.done f component g here step in
@@ -149,7 +149,7 @@ module _ (arcs : List (List ℕ)) where
       let same : d.number ≡ component = omega arith in
       (g, step, subst (λ (n : ℕ). IsMark marks g (Closed n)) same d.closed)
 
-  -- where the arcs of a vertex lead, by the marks of all
+  -- what a vertex arcs, by the marks of all
   module _ (marks : List Mark) (f : ℕ) (heads : List ℕ) (a : AreComponents arcs marks) (stands : slice_get arcs f ≡ Some heads) where
     number_of : (g component : ℕ) → IsMark marks g (Closed component) → component_of (get_or marks g New) ≡ Some component
     number_of g component is = ap component_of (get_or_from_slice_get marks g (Closed component) New is)

@@ -361,7 +361,7 @@ module _ (arcs : List (List ℕ)) where
       less = met_less;
     }
 
-  -- what the calls that write this answer
+  -- what the arcs that write this answer
   pub meets_if_ok : {T E : Type 0} (s : State) (marks : List Mark) (actives waiting : List ℕ) (groups : List Group) (g : ℕ) (heads : List ℕ) (r : Result T E)
       → slice_get arcs g ≡ Some heads → IsWalk arcs (Some g) s → IsDue arcs s g → IsMark s.marks g New
       → marks ≡ set s.marks g (Active (length s.active)) → actives ≡ s.active ++ g ∷ [] → waiting ≡ (if is_ok r then s.pending ++ heads else s.pending)
@@ -377,7 +377,7 @@ module _ (arcs : List (List ℕ)) where
       let mark : IsMark marks g (Active i) = subst (λ (ms : List Mark). IsMark ms g (Active i)) (sym m) (at_set_same s.marks g (Active i) (slice_get_within s.marks g New new)) in
       new_not_active marks g i is mark
 
-  -- an arc leads back to an active vertex
+  -- a arc leads back to an active vertex
   module _ (s : State) (g place : ℕ) (groups : List Group) (mark : IsMark s.marks g (Active place)) (w : IsWalk arcs (Some g) s) (led : IsDue arcs s g) (keeps : KeepsGroups s.groups place groups) where
     abbrev joined : State
     joined = record { marks = s.marks; active = s.active; pending = s.pending; groups = groups; closed = s.closed }

@@ -1,4 +1,4 @@
-//! The strongly connected components of a graph: vertices that reach each other along arcs.
+//! The strongly connected components of the arc graph: vertices that reach each other by arcs.
 
 ghost use Rattle.std.specs.Prelude.{◌≡◌, ◌<◌, ◌≤◌, ◌^◌, ◌↔◌, [], None, Some, length, slice_get, Contains, IsTrue, IfOk, OnOk, IfSome, IfNone};
 ghost use Rattle.std.specs.List.{AllPairs};
@@ -48,7 +48,7 @@ struct Group {
 #[derive(Drop)]
 struct Walk {
     marks: Vec<Mark>,
-    /// Vertices in the order in which the walk met them. Each reaches those after it.
+    /// Functions in the order in which the walk met them. Each reaches those after it.
     active: Vec<u32>,
     /// The heads of their arcs that the walk has not followed.
     pending: Vec<u32>,
@@ -119,7 +119,7 @@ impl Walk {
         self.pending.extend_from_slice(&arcs[vertex as usize])
     }
 
-    /// Follows an arc of the last group.
+    /// Follows a arc of the last group.
     fn follow(&mut self, arcs: &[List<u32>], head: u32) -> Result<(), AllocError>
         requires walk { IsWalk arcs.now (Some head) (state_of self.old) }
         requires due { IsDue arcs.now (state_of self.old) head }
@@ -151,7 +151,7 @@ impl Walk {
         self.groups.pop();
     }
 
-    /// The head of an arc of the last group, which is followed next.
+    /// The head of a arc of the last group, which is followed next.
     fn next_head(&mut self, arcs: &[List<u32>], group: Group) -> Option<u32>
         requires walk { IsWalk arcs.now None (state_of self.old) }
         requires last { IsLast self.old.groups.items group }

@@ -1,4 +1,4 @@
--- A depth-first walk along arcs, which finds the strongly connected components of a graph.
+-- A depth-first walk along arcs, which finds the strongly connected components of the arc graph.
 use Rattle.std.specs.Prelude.{◌≡◌, ◌⊎◌, ℕ, ◌+◌, ◌-◌, ◌*◌, ◌<◌, ◌≤◌, Bool, true, false, List, [], Contains, length, count_by, sum_by, replicate, slice_get, slice_index_or, Option, Some, None}
 use Rattle.std.specs.List.{AllPairs}
 use Rattle.digraph.specs.Arcs.{Reaches}
@@ -56,7 +56,7 @@ pub record LastBeginsAfter (groups : List Group) (position : ℕ) : Type 0 where
 abbrev pub IsNotEarlier : List Group → (i j : ℕ) → Type 0
 IsNotEarlier groups i j = (group : Group) → Contains groups group → group.active ≤ i → group.active ≤ j
 
--- the arc to g from the active vertex at position i has been followed, or it is pending in a group that is not
+-- the arc of g by the active vertex at position i has been followed, or it is pending in a group that is not
 -- earlier, or due
 pub data IsHandled (due : Option ℕ) (s : State) (i g : ℕ) : Type 0 where
   closed : {component : ℕ} → IsMark s.marks g (Closed component) → IsHandled due s i g
@@ -65,7 +65,7 @@ pub data IsHandled (due : Option ℕ) (s : State) (i g : ℕ) : Type 0 where
       → ((group : Group) → Contains s.groups group → group.active ≤ i → group.pending ≤ q) → IsHandled due s i g
   due : due ≡ Some g → IsHandled due s i g
 
--- a pending arc at position q comes from an active vertex of the same group
+-- a pending arc at position q is one of an active vertex of the same group
 pub record IsPending (arcs : List (List ℕ)) (s : State) (q g : ℕ) : Type 0 where
   pub position : ℕ
   pub tail : ℕ
@@ -91,7 +91,7 @@ component_of New = None
 component_of (Active i) = None
 component_of (Closed component) = Some component
 
--- the walk stands here, but for an arc of one vertex that is due to be followed
+-- the walk stands here, but for a arc of one vertex that is due to be followed
 pub record IsWalk (arcs : List (List ℕ)) (due : Option ℕ) (s : State) : Type 0 where
   pub inside : IsWithin arcs
   pub size : length s.marks ≡ length arcs

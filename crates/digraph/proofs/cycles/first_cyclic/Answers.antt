@@ -1,4 +1,4 @@
--- The first vertex with an arc into its own component is the first that reaches itself.
+-- The first vertex that arcs one of its own component is the first that reaches itself.
 use Rattle.std.proofs.Common.{◌≡◌, Some, length, ap, ◌∙◌, sym, subst, refl, arith}
 use Rattle.std.specs.Prelude.{slice_get}
 use Rattle.std.proofs.lemmas.Option.{slice_get_read}
