@@ -12,3 +12,5 @@ pub mod FirstSites
 pub mod AliasSteps
 pub mod LastSteps
 pub mod AliasHeights
+pub mod Searches
+pub mod NewNumbers

@@ -6,3 +6,4 @@ pub mod Words
 pub mod Nodes
 pub mod Aliases
 pub mod LastPlaces
+pub mod Pruning

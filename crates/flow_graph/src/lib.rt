@@ -7,8 +7,10 @@ mod elements;
 mod fault;
 mod loops;
 mod numbers;
+mod pruning;
 mod reads;
 mod sites;
 mod words;
 
 pub use fault::GraphFault;
+pub use pruning::{PruneFault, prune};
