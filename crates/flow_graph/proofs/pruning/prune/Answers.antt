@@ -10,8 +10,8 @@ nodes_of-requires-clause-numbers c =
 
 pub returns-clause-pruned : goal.returns-clause-pruned
 returns-clause-pruned c =
-    is_pruned c.args.graph.now c.in_ok-marks.marks c.in_ok-marks.ensures c.in_ok-numbers.numbers c.in_ok-numbers.ensures _
-    c.in_ok-nodes_of.ensures (c.in_ok-from_slice.ensures ∙ c.as_slice.ensures) refl
+    is_pruned c.args.graph.now c.in_ok-marks.marks c.in_ok-marks.ensures c.in_ok-numbers.numbers
+    c.in_ok-numbers.ensures _ c.in_ok-nodes_of.ensures (c.in_ok-from_slice.ensures ∙ c.as_slice.ensures) refl
 
 pub returns-clause-sound : goal.returns-clause-sound
 returns-clause-sound c = pruned_is_sound c.args.graph.now _ c.requires.sound (returns-clause-pruned c)
