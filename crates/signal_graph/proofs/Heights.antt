@@ -27,4 +27,4 @@ pub height_falls : (g : Graph) → IsGraph g → IsGraphLoopless g → (v u : �
 unfolding height
 height_falls g sound loopless v u el r =
     falls (graph_system g []) (graph_determined g sound []) (length g.nodes) (λ v el. el) (reads_now g)
-        (tests g) loopless v u el r
+    (tests g) loopless v u el r
