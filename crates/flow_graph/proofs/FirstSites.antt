@@ -31,13 +31,13 @@ abbrev pub AreRising : (e k : ℕ) → List Site → Type 0
 AreRising e k [] = Unit {0}
 AreRising e k (s ∷ rest) = IsFrom e k s × AreRising s.element (s.place + 1) rest
 
-below_more : (t s : Site) (e k : ℕ) → IsBelow t e k → IsFrom e k s → IsBelow t s.element (s.place + 1)
+pub below_more : (t s : Site) (e k : ℕ) → IsBelow t e k → IsFrom e k s → IsBelow t s.element (s.place + 1)
 below_more t s e k (inl a) (inl b) = inl (omega arith)
 below_more t s e k (inl a) (inr b) = inl (let same = b.0 in omega arith)
 below_more t s e k (inr a) (inl b) = inl (let same = a.0 in omega arith)
 below_more t s e k (inr a) (inr b) = inr (a.0 ∙ b.0, let p = a.1 in let q = b.1 in omega arith)
 
-all_below : (ts : List Site) (s : Site) (e k : ℕ) → AreBelow ts e k → IsFrom e k s → AreBelow (ts ++ s ∷ []) s.element (s.place + 1)
+pub all_below : (ts : List Site) (s : Site) (e k : ℕ) → AreBelow ts e k → IsFrom e k s → AreBelow (ts ++ s ∷ []) s.element (s.place + 1)
 all_below [] s e k h from = (inr (refl, omega arith), tt {0})
 all_below (t ∷ ts) s e k h from = (below_more t s e k h.0 from, all_below ts s e k h.1 from)
 
@@ -155,7 +155,7 @@ module _ (p : Program) where
   made_rise e k [] ys h = later ys e k h
   made_rise e k (m ∷ ms) ys h = (inr (refl, omega arith), made_rise e (k + 1) ms ys h)
 
-  elements_rise : (n : ℕ) (xs : List Element) → AreRising n 0 (flat_map (element_sites p) (enumerate_from n xs))
+  pub elements_rise : (n : ℕ) (xs : List Element) → AreRising n 0 (flat_map (element_sites p) (enumerate_from n xs))
   elements_rise n [] = tt {0}
   elements_rise n (x ∷ xs) = made_rise n 0 (made_by_body p n (width_of x.ty) x.body) (flat_map (element_sites p) (enumerate_from (n + 1) xs)) (elements_rise (n + 1) xs)
 

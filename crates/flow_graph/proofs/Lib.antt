@@ -14,3 +14,5 @@ pub mod LastSteps
 pub mod AliasHeights
 pub mod Searches
 pub mod NewNumbers
+pub mod PlaceNumbers
+pub mod ElementNumbers

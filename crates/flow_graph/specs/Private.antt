@@ -7,3 +7,4 @@ pub mod Nodes
 pub mod Aliases
 pub mod LastPlaces
 pub mod Pruning
+pub mod ElementNodes
