@@ -33,7 +33,7 @@ all_from (y ∷ ys) e k rising (suc i) s h =
     from_later y s e k rising.0 (all_from ys y.element (y.place + 1) rising.1 i s h)
 
 -- a later place is a higher one
-later_above : (ys : List Site) (e k : ℕ) → AreRising e k ys → (i j : ℕ) (s t : Site) → i < j → slice_get ys i ≡ Some s
+pub later_above : (ys : List Site) (e k : ℕ) → AreRising e k ys → (i j : ℕ) (s t : Site) → i < j → slice_get ys i ≡ Some s
     → slice_get ys j ≡ Some t → IsFrom s.element (s.place + 1) t
 later_above [] e k rising i j s t less h g = absurd (none-some s h)
 later_above (y ∷ ys) e k rising i zero s t less h g = absurd (omega arith)

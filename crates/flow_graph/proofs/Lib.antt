@@ -16,3 +16,5 @@ pub mod Searches
 pub mod NewNumbers
 pub mod PlaceNumbers
 pub mod ElementNumbers
+pub mod OperandPlaces
+pub mod ElementPlaces

@@ -8,3 +8,4 @@ pub mod Aliases
 pub mod LastPlaces
 pub mod Pruning
 pub mod ElementNodes
+pub mod Edges

@@ -3,6 +3,7 @@
 
 mod aliases;
 mod delays;
+mod edges;
 mod elements;
 mod fault;
 mod loops;
@@ -10,6 +11,7 @@ mod numbers;
 mod pruning;
 mod reads;
 mod sites;
+mod widths;
 mod words;
 
 pub use fault::GraphFault;
