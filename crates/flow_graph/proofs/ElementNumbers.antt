@@ -15,10 +15,11 @@ use Rattle.signal_graph.proofs.Bodies.{its_width, with_pass, input_made, value_m
 use Rattle.signal_graph.proofs.Targets.{now_read}
 use Rattle.flow_graph.specs.Private.Aliases.{IsEnd, IsInside, AreEnds}
 use Rattle.flow_graph.specs.Private.LastPlaces.{IsLastPlace, AreLast}
+use Rattle.flow_graph.specs.Private.NodesBy.{IsSomething}
 use Rattle.flow_graph.specs.Private.Nodes.{AreNumbers}
 use Rattle.flow_graph.specs.Private.ElementNodes.{AreElementNumbers}
 use Rattle.flow_graph.proofs.FirstSites.{IsFrom, AreRising, elements_rise}
-use Rattle.flow_graph.proofs.PlaceNumbers.{target_at, IsSomething, place_number}
+use Rattle.flow_graph.proofs.PlaceNumbers.{target_at, place_number}
 
 from_later : (y s : Site) (e k : ℕ) → IsFrom e k y → IsFrom y.element (y.place + 1) s → IsFrom e k s
 from_later y s e k (inl a) (inl b) = inl (omega arith)

@@ -18,3 +18,5 @@ pub mod PlaceNumbers
 pub mod ElementNumbers
 pub mod OperandPlaces
 pub mod ElementPlaces
+pub mod PlaceEdges
+pub mod NodeSteps

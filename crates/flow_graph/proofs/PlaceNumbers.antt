@@ -10,6 +10,7 @@ use Rattle.signal_graph.specs.Flat.{Program}
 use Rattle.signal_graph.specs.GraphOf.{Made, nothing, constant, input, operation, Site, sites, Target, word_node, node_at, is_target, node_sites, IsNumber}
 use Rattle.flow_graph.specs.Private.Words.{number_in}
 use Rattle.flow_graph.specs.Private.Nodes.{word_position, is_made_after, with_site, nodes_from, nodes_of, IsPlaceNumber, AreNumbers}
+use Rattle.flow_graph.specs.Private.NodesBy.{IsSomething}
 use Rattle.flow_graph.proofs.Positions.{as_from, position_left, position_end}
 use Rattle.flow_graph.proofs.NumberSteps.{grown}
 use Rattle.flow_graph.proofs.FirstSites.{IsBelow, IsFrom, AreBelow, AreRising, below_more, all_below, elements_rise, nodes_are}
@@ -95,10 +96,6 @@ split (x ∷ xs) (suc i) s h = let (rest, is) = split xs i s h in (rest, ap (λ 
 abbrev pub target_at : (e k : ℕ) → Made → Target
 target_at e k (constant m) = word_node m
 target_at e k _ = node_at e k
-
-abbrev pub IsSomething : Made → Type 0
-IsSomething nothing = ⊥
-IsSomething _ = Unit {0}
 
 module _ (p : Program) (numbers : List ℕ) (words : List (ℤ × ℕ)) (are : AreNumbers (sites p) numbers words) where
   pub word_number : (m : ℤ) (v : ℕ) → number_in words m ≡ Some v → IsNumber p (word_node m) v

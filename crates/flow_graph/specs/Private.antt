@@ -9,3 +9,4 @@ pub mod LastPlaces
 pub mod Pruning
 pub mod ElementNodes
 pub mod Edges
+pub mod NodesBy

@@ -7,6 +7,7 @@ mod edges;
 mod elements;
 mod fault;
 mod loops;
+mod nodes;
 mod numbers;
 mod pruning;
 mod reads;

@@ -130,7 +130,7 @@ fn has_pass(value: &FlatExpr, is_delayed: bool) -> bool
 }
 
 /// The bits of a type's words.
-fn bits(ty: SigType) -> u8
+pub(crate) fn bits(ty: SigType) -> u8
     ensures { result ≡ width_of ty }
 {
     match ty {
