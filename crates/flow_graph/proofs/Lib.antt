@@ -20,3 +20,4 @@ pub mod OperandPlaces
 pub mod ElementPlaces
 pub mod PlaceEdges
 pub mod NodeSteps
+pub mod OutputSteps

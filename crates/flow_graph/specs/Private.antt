@@ -10,3 +10,4 @@ pub mod Pruning
 pub mod ElementNodes
 pub mod Edges
 pub mod NodesBy
+pub mod Outputs

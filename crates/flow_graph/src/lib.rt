@@ -10,6 +10,7 @@ mod loops;
 mod nodes;
 mod numbers;
 mod pruning;
+mod outputs;
 mod reads;
 mod sites;
 mod widths;
