@@ -76,6 +76,11 @@ module _ (p : Program) where
   pub few_sites : length (sites p) ≤ sum_by (λ (x : Element). size_of_body x.body) p.elems + length p.elems
   few_sites = sites_most 0 p.elems
 
+  pub outs_there : IsFlat p → (j e : ℕ) → slice_get p.outs j ≡ Some e → e < length p.elems
+  outs_there sound j e at =
+      subst (λ (d : ℕ). d < length p.elems) (get_or_from_slice_get p.outs j e 0 at)
+      (sound.outs j 0 (slice_get_within p.outs j e at))
+
   module _ (nodes : List Node) (made : AreMade p nodes) (elements : List ℕ) (numbers : AreElementNumbers p elements) where
     pub count_nodes : length (node_sites p) ≡ length nodes
     count_nodes = zip_length (λ (s : Site) (node : Node). IsMade p s s.made node) (node_sites p) nodes made

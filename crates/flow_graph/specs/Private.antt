@@ -11,3 +11,4 @@ pub mod ElementNodes
 pub mod Edges
 pub mod NodesBy
 pub mod Outputs
+pub mod GraphNodes

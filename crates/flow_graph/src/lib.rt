@@ -6,6 +6,7 @@ mod delays;
 mod edges;
 mod elements;
 mod fault;
+mod graph;
 mod loops;
 mod nodes;
 mod numbers;
@@ -18,3 +19,4 @@ mod words;
 
 pub use fault::GraphFault;
 pub use pruning::{PruneFault, prune};
+pub use graph::build;

@@ -1,0 +1,91 @@
+//! The graph of a flat program.
+
+ghost use Rattle.std.specs.Prelude.{◌≡◌, ◌⊎◌, ℕ, map, Err, IfOk, OnOk};
+ghost use Rattle.signal_graph.specs.Flat.{view};
+ghost use Rattle.signal_graph.specs.FlatRules.{IsFlat};
+ghost use Rattle.signal_graph.specs.FlatSolves.{IsFlatLoopless};
+ghost use Rattle.signal_graph.specs.GraphOf.{sites, IsGraphOf};
+ghost use Rattle.signal_graph.specs.GraphRules.{IsGraph};
+ghost use Rattle.signal_graph.specs.GraphSolves.{IsGraphLoopless};
+ghost use Rattle.signal_graph.specs.Keeps.{KeepsFlatSolutions};
+ghost use Rattle.flow_graph.specs.declared.fault.GraphFault.TheVariants.{Loop, Memory};
+ghost use Rattle.flow_graph.specs.Loops.{IsFirstLoop};
+ghost use Rattle.flow_graph.specs.Private.Delayed.{TellsDelayed};
+ghost use Rattle.flow_graph.specs.Private.GraphNodes.{AreGraphNodes};
+ghost use Rattle.flow_graph.specs.Private.Sites.{view_site};
+
+use crate::delays::delayed_elements;
+use crate::elements::element_numbers;
+use crate::fault::GraphFault;
+use crate::loops::first_loop;
+use crate::nodes::nodes_of_places;
+use crate::numbers::number_all;
+use crate::outputs::add_outputs;
+use crate::sites::{sites_of, Site};
+use lists::List;
+use signal_graph::{FlatProgram, Graph, Node};
+use std::alloc::{AllocError, Global};
+
+/// The nodes of the graph: those that are made at places, and those of output words.
+fn all_nodes(
+    alloc: Global,
+    flat: &FlatProgram,
+    delayed: &[bool],
+    places: &[Site],
+) -> Result<List<Node>, AllocError>
+    requires sound { IsFlat (view flat.now) }
+    requires loopless { IsFlatLoopless (view flat.now) }
+    requires delayed { TellsDelayed (view flat.now) delayed.now }
+    requires places { map view_site places.now ≡ sites (view flat.now) }
+    ensures { IfOk result (AreGraphNodes (view flat.now)) }
+{
+    let numbers = number_all(alloc, places)?;
+    let elements = element_numbers(alloc, flat, delayed, places, numbers.places.as_slice())?;
+    let mut nodes = nodes_of_places(
+        alloc,
+        flat,
+        places,
+        &numbers.words,
+        numbers.places.as_slice(),
+        &elements,
+    )?;
+    add_outputs(alloc, &mut nodes, flat.outs.as_slice(), &elements)?;
+    Ok(nodes)
+}
+
+/// The graph of a flat program without a delay-free loop.
+fn graph_of(alloc: Global, flat: &FlatProgram) -> Result<Graph, AllocError>
+    requires sound { IsFlat (view flat.now) }
+    requires loopless { IsFlatLoopless (view flat.now) }
+    ensures { IfOk result (IsGraphOf (view flat.now)) }
+{
+    let delayed = delayed_elements(alloc, flat)?;
+    let places = sites_of(alloc, flat, &delayed)?;
+    let nodes = all_nodes(alloc, flat, &delayed, places.as_slice())?;
+    let inputs = List::from_slice(alloc, flat.inputs.as_slice())?;
+    Ok(Graph {
+        nodes,
+        inputs,
+        outs: flat.outs.len() as u8,
+    })
+}
+
+/// The graph of a flat program: a node for each operation and input, each word that is read as a constant, each Pass
+/// and each output word. Page `docs/GRAPH.md`, "The graph of a flat program". Fails with the first element that depends
+/// on itself without a delay, if there is one, or where memory runs out.
+pub fn build(alloc: Global, flat: &FlatProgram) -> Result<Graph, GraphFault>
+    requires { IsFlat (view flat.now) }
+    ensures no_loop { OnOk result (IsFlatLoopless (view flat.now)) }
+    ensures graph { IfOk result (IsGraphOf (view flat.now)) }
+    ensures sound { IfOk result IsGraph }
+    ensures loopless { IfOk result IsGraphLoopless }
+    ensures keeps { IfOk result (KeepsFlatSolutions (view flat.now)) }
+    ensures fault { (e : ℕ) → result ≡ Err (Loop e) → IsFirstLoop (view flat.now) e }
+    // A loop is always found, unless memory runs out.
+    ensures found { (e : ℕ) → IsFirstLoop (view flat.now) e → (result ≡ Err (Loop e)) ⊎ (result ≡ Err Memory) }
+{
+    if let Some(elem) = first_loop(alloc, flat)? {
+        return Err(GraphFault::Loop(elem));
+    }
+    Ok(graph_of(alloc, flat)?)
+}
