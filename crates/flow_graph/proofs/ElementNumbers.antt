@@ -1,5 +1,5 @@
 -- The number of the last place of the end of an element's chain of aliases is that of the element's node.
-use Rattle.std.proofs.Common.{◌≡◌, ℕ, zero, suc, ◌+◌, ◌-◌, ◌<◌, ◌≤◌, inl, inr, Bool, true, false, List, [], ◌∷◌, ◌++◌, Some, length, map, refl, sym, ap, subst, ◌∙◌, arith}
+use Rattle.std.proofs.Common.{◌≡◌, ℕ, zero, suc, ◌+◌, ◌-◌, ◌<◌, inl, inr, Bool, true, false, List, [], ◌∷◌, Some, length, map, refl, sym, ap, subst, ◌∙◌, arith}
 use Rattle.std.specs.Prelude.{ℤ, slice_get, slice_index_or}
 use Rattle.std.proofs.lemmas.Bool.{cases_lt}
 use Rattle.std.proofs.lemmas.List.{length-append, length-map, get_or-map}
@@ -11,7 +11,7 @@ use Rattle.signal_graph.specs.Keeps.{IsElementNode}
 use Rattle.signal_graph.proofs.Members.{at_member, member_at}
 use Rattle.signal_graph.proofs.Places.{site, made_of, place_in, in_place}
 use Rattle.signal_graph.proofs.Parts.{length_made}
-use Rattle.signal_graph.proofs.Bodies.{its_width, with_pass, input_made, value_made, pass_made, calculation_made, word_made}
+use Rattle.signal_graph.proofs.Bodies.{its_width, input_made, value_made, pass_made, calculation_made, word_made}
 use Rattle.signal_graph.proofs.Targets.{now_read}
 use Rattle.flow_graph.specs.Private.Aliases.{IsEnd, IsInside, AreEnds}
 use Rattle.flow_graph.specs.Private.LastPlaces.{IsLastPlace, AreLast}

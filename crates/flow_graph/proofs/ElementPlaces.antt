@@ -1,5 +1,5 @@
 -- The places of an element stand one behind another.
-use Rattle.std.proofs.Common.{◌≡◌, refl, sym, ap, subst, ◌∙◌, ℕ, zero, suc, ◌+◌, ◌-◌, ◌<◌, ◌≤◌, inl, inr, List, [], ◌∷◌, ◌++◌, length, arith}
+use Rattle.std.proofs.Common.{◌≡◌, refl, sym, ap, subst, ◌∙◌, ℕ, zero, suc, ◌+◌, ◌-◌, ◌≤◌, inl, inr, List, [], ◌∷◌, ◌++◌, length, arith}
 use Rattle.std.specs.Prelude.{slice_get, Some, flat_map}
 use Rattle.std.specs.List.{enumerate_from}
 use Rattle.std.proofs.lemmas.Bool.{cases_order}
@@ -9,7 +9,7 @@ use Rattle.signal_graph.specs.FlatSolves.{no_element, element_of}
 use Rattle.signal_graph.specs.GraphOf.{Made, Site, sites_from, element_sites, sites}
 use Rattle.signal_graph.proofs.Members.{at_member}
 use Rattle.signal_graph.proofs.Places.{site, made_of, in_place}
-use Rattle.flow_graph.proofs.FirstSites.{IsFrom, elements_rise}
+use Rattle.flow_graph.proofs.FirstSites.{elements_rise}
 use Rattle.flow_graph.proofs.ElementNumbers.{later_above}
 
 module _ {A : Type 0} where
@@ -93,12 +93,12 @@ module _ (p : Program) where
       let e = s.element in
       let (first, are) = stand 0 p.elems e (element_of p e) (slice_get-get_or p.elems e no_element is.element) in
       let there : (k : ℕ) (m : Made) → slice_get (made_of p e) k ≡ Some m
-          → slice_get (sites p) (first + k) ≡ Some (site e k m) =
+      → slice_get (sites p) (first + k) ≡ Some (site e k m) =
       λ k m h. (let none : 0 + e ≡ e = omega arith in
-          let place : 0 + k ≡ k = omega arith in
-          are k (site e k m)
-          (subst (λ (j : ℕ). slice_get (element_sites p (j, element_of p e)) k ≡ Some (site e k m)) (sym none)
-          (in_order e 0 (made_of p e) k m h ∙ ap (λ (j : ℕ). Some (site e j m)) place))) in
+      let place : 0 + k ≡ k = omega arith in
+      are k (site e k m)
+      (subst (λ (j : ℕ). slice_get (element_sites p (j, element_of p e)) k ≡ Some (site e k m)) (sym none)
+      (in_order e 0 (made_of p e) k m h ∙ ap (λ (j : ℕ). Some (site e j m)) place))) in
       let same : i ≡ first + s.place =
       one_index i (first + s.place) s (site e s.place s.made) refl refl at (there s.place s.made is.made) in
       record {

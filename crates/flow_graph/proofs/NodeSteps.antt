@@ -1,6 +1,6 @@
 -- The nodes that are made place after place.
 use Rattle.std.proofs.Common.{◌≡◌, refl, sym, ap, subst, ◌∙◌, ℕ, ◌+◌, ◌-◌, ◌<◌, ◌≤◌, inl, inr, Bool, true, false, List, [], ◌∷◌, ◌++◌, Option, Some, None, length, take, map, arith}
-use Rattle.std.specs.Prelude.{ℤ, pos, ◌==◌, not, is_none, slice_get, slice_index_or, All}
+use Rattle.std.specs.Prelude.{ℤ, pos, ◌==◌, not, is_none, slice_get, slice_index_or}
 use Rattle.std.specs.List.{AllZip}
 use Rattle.std.proofs.lemmas.Bool.{cases_lt, eqb-true, eq-eqb}
 use Rattle.std.proofs.lemmas.Bool.Decides.{Decides-int_eq}
@@ -15,7 +15,7 @@ use Rattle.signal_graph.specs.Rules.{width_of, plain}
 use Rattle.signal_graph.specs.Flat.{Program}
 use Rattle.signal_graph.specs.FlatRules.{IsFlat}
 use Rattle.signal_graph.specs.FlatSolves.{element_of}
-use Rattle.signal_graph.specs.GraphOf.{Operand, Made, nothing, constant, input, operation, Site, sites, node_sites, element_sites, word_node, is_target, is_constant, node_format, node_width, inits_at, IsEdgeTo, IsMade}
+use Rattle.signal_graph.specs.GraphOf.{Operand, Made, nothing, constant, input, operation, Site, sites, element_sites, word_node, is_target, is_constant, node_format, node_width, inits_at, IsEdgeTo, IsMade}
 use Rattle.signal_graph.specs.declared.graph.Edge.{Edge}
 use Rattle.signal_graph.specs.declared.graph.Node.{Node}
 use Rattle.signal_graph.proofs.Members.{at_member, zip_length}
@@ -36,8 +36,8 @@ use Rattle.flow_graph.proofs.Positions.{position_end}
 pub same_node : (o : Op) (arg : ℤ) (f g : Format) (es fs : List Edge) (is js : List (ℕ × ℤ)) (w u : ℕ) → f ≡ g → es ≡ fs
     → is ≡ js → w ≡ u
     → (let a : Node = record { op = o; fmt = f; arg = arg; edges = es; inits = is; width = w; ram = 0 } in
-        let b : Node = record { op = o; fmt = g; arg = arg; edges = fs; inits = js; width = u; ram = 0 } in
-        a ≡ b)
+    let b : Node = record { op = o; fmt = g; arg = arg; edges = fs; inits = js; width = u; ram = 0 } in
+    a ≡ b)
 same_node o arg f g es fs is js w u fmt edges inits width =
     let node : Format → List Edge → List (ℕ × ℤ) → ℕ → Node =
     λ f es is w. record { op = o; fmt = f; arg = arg; edges = es; inits = is; width = w; ram = 0 } in
@@ -214,8 +214,7 @@ module _ (p : Program) (i : ℕ) (s : Site) (at : slice_get (sites p) i ≡ Some
             (width_of (element_of p s.element).ty) refl refl its wide
         by (operation o fmt os) is h =
             let edges : node.edges ≡ map (edge_by words places elements (i - s.place)) os =
-            ap (λ (n : Node). n.edges) h in
-            (
+            ap (λ (n : Node). n.edges) h in (
               subst (λ (es : List Edge). AllZip (IsEdgeTo p s.element) os es) (sym edges) (edges_lead p sound places words are elements all i s at o fmt os is),
               h
                   ∙ same_node o (pos 0) (node_format (class_of o) fmt) (node_format (class_of o) fmt)

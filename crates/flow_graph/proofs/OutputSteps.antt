@@ -1,5 +1,5 @@
 -- The nodes of output words are added one after another, and then the graph is that of the program.
-use Rattle.std.proofs.Common.{◌≡◌, refl, sym, ap, subst, ◌∙◌, ℕ, ◌+◌, ◌<◌, ◌≤◌, inl, inr, Bool, true, false, List, [], ◌∷◌, ◌++◌, length, if◌then◌else◌, arith}
+use Rattle.std.proofs.Common.{◌≡◌, refl, sym, ap, subst, ◌∙◌, ℕ, ◌+◌, ◌<◌, ◌≤◌, inl, inr, List, [], ◌∷◌, ◌++◌, length, arith}
 use Rattle.std.specs.Prelude.{slice_get, slice_index_or, flat_map, sum_by, Some}
 use Rattle.std.specs.List.{enumerate_from}
 use Rattle.std.proofs.lemmas.Bool.{cases_eq}
@@ -109,8 +109,7 @@ module _ (p : Program) where
               let v = slice_index_or elements e 0 in
               let lt = slice_get_within p.outs j e at in
               let here : node_of g (length (node_sites p) + j) ≡ node_of g (length nodes + j) =
-              ap (λ (n : ℕ). node_of g (n + j)) count_nodes in
-              (
+              ap (λ (n : ℕ). node_of g (n + j)) count_nodes in (
                 record { node = v; delay = 0 },
                 (is.target, is.node, is.number, refl),
                 here ∙ all.outputs j e lt at

@@ -11,13 +11,7 @@ use signal_graph::Edge;
 use std::alloc::{AllocError, AllocFailed, Global};
 
 /// The edge of an operand of a node of an element whose places begin at `first`.
-fn edge_of(
-    operand: Operand,
-    first: usize,
-    words: &Words,
-    places: &[u32],
-    elements: &[u32],
-) -> Edge
+fn edge_of(operand: Operand, first: usize, words: &Words, places: &[u32], elements: &[u32]) -> Edge
     requires { HasNumber words.now places.now elements.now first (view_operand operand) }
     ensures { result ≡ edge_by words.now places.now elements.now first (view_operand operand) }
 {

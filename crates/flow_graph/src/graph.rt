@@ -21,7 +21,7 @@ use crate::loops::first_loop;
 use crate::nodes::nodes_of_places;
 use crate::numbers::number_all;
 use crate::outputs::add_outputs;
-use crate::sites::{sites_of, Site};
+use crate::sites::{Site, sites_of};
 use lists::List;
 use signal_graph::{FlatProgram, Graph, Node};
 use std::alloc::{AllocError, Global};

@@ -16,7 +16,7 @@ ghost use Rattle.flow_graph.specs.Private.NodesBy.{CanBeMade, IsNodeBy, is_made_
 ghost use Rattle.flow_graph.specs.Private.Sites.{view_made, view_site};
 
 use crate::edges::edges_of;
-use crate::sites::{bits, Made, Site};
+use crate::sites::{Made, Site, bits};
 use crate::widths::least_width;
 use crate::words::Words;
 use fix_word::{Format, Mode, Op};
@@ -75,7 +75,11 @@ fn constant_node(alloc: Global, word: i64) -> Node
 }
 
 /// The initial values of the node at a place: the element's at its last place.
-fn inits_of(alloc: Global, element: &FlatElem, is_last: bool) -> Result<List<(u16, i64)>, AllocError>
+fn inits_of(
+    alloc: Global,
+    element: &FlatElem,
+    is_last: bool,
+) -> Result<List<(u16, i64)>, AllocError>
     ensures { IfOk result (λ inits. inits ≡ (if is_last then element.now.inits else [])) }
 {
     if is_last {
@@ -167,7 +171,9 @@ fn node_at(
     let element = &flat.elems[site.elem as usize];
     let is_last = is_end(sites, index + 1, site.elem);
     let first = index - site.place;
-    node_of(alloc, element, &site.made, is_last, first, words, places, elements)
+    node_of(
+        alloc, element, &site.made, is_last, first, words, places, elements,
+    )
 }
 
 /// The nodes that are made at all places.

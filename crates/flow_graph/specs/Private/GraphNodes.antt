@@ -2,7 +2,6 @@
 use Rattle.std.specs.Prelude.{List, length}
 use Rattle.signal_graph.specs.Flat.{Program}
 use Rattle.signal_graph.specs.GraphOf.{IsGraphOf}
-use Rattle.signal_graph.specs.declared.graph.Graph.{Graph}
 use Rattle.signal_graph.specs.declared.graph.Node.{Node}
 
 abbrev pub AreGraphNodes : Program → List Node → Type 0

@@ -1,5 +1,5 @@
-use Rattle.std.proofs.Common.{◌≡◌, ◌<◌, ◌∙◌, ℕ, List, Some, length, map, sym, ap, subst, arith}
-use Rattle.std.specs.Prelude.{Contains, slice_get, slice_index}
+use Rattle.std.proofs.Common.{◌≡◌, ◌∙◌, ℕ, List, Some, map, sym, ap, subst, arith}
+use Rattle.std.specs.Prelude.{slice_get, slice_index}
 use Rattle.signal_graph.specs.Flat.{view}
 use Rattle.signal_graph.specs.GraphOf.{Site as Place}
 use Rattle.signal_graph.proofs.Members.{at_member}

@@ -1,4 +1,4 @@
-use Rattle.std.proofs.Common.{◌≡◌, ◌<◌, ◌+◌, ◌∙◌, ℕ, Bool, List, [], Option, Some, length, map, sym, ap, subst, if◌then◌else◌, arith}
+use Rattle.std.proofs.Common.{◌≡◌, ◌<◌, ◌+◌, ◌∙◌, Bool, List, [], Option, Some, length, sym, ap, subst, if◌then◌else◌, arith}
 use Rattle.std.specs.Prelude.{slice_get, option_map, ◌==◌}
 use Rattle.std.proofs.lemmas.List.{length-map, get_or-map}
 use Rattle.std.proofs.lemmas.Option.{slice_get-map}
@@ -9,9 +9,8 @@ use Rattle.signal_graph.specs.Rules.{width_of}
 use Rattle.signal_graph.specs.GraphOf.{Site as Place, sites, element_sites, IsMade, inits_at}
 use Rattle.signal_graph.proofs.Members.{at_member}
 use Rattle.signal_graph.proofs.Places.{in_place}
-use Rattle.flow_graph.specs.Private.Edges.{edge_by}
-use Rattle.flow_graph.specs.Private.NodesBy.{IsNodeBy, IsMadeAt, is_end_before}
-use Rattle.flow_graph.specs.Private.Sites.{view_made, view_site}
+use Rattle.flow_graph.specs.Private.NodesBy.{IsMadeAt, is_end_before}
+use Rattle.flow_graph.specs.Private.Sites.{view_site}
 use Rattle.flow_graph.proofs.Adding.{if_ok}
 use Rattle.flow_graph.proofs.AllSites.{site_at}
 use Rattle.flow_graph.proofs.ElementPlaces.{among}
