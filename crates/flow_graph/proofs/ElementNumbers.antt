@@ -34,8 +34,8 @@ all_from (y ∷ ys) e k rising (suc i) s h =
     from_later y s e k rising.0 (all_from ys y.element (y.place + 1) rising.1 i s h)
 
 -- a later place is a higher one
-pub later_above : (ys : List Site) (e k : ℕ) → AreRising e k ys → (i j : ℕ) (s t : Site) → i < j → slice_get ys i ≡ Some s
-    → slice_get ys j ≡ Some t → IsFrom s.element (s.place + 1) t
+pub later_above : (ys : List Site) (e k : ℕ) → AreRising e k ys → (i j : ℕ) (s t : Site) → i < j
+    → slice_get ys i ≡ Some s → slice_get ys j ≡ Some t → IsFrom s.element (s.place + 1) t
 later_above [] e k rising i j s t less h g = absurd (none-some s h)
 later_above (y ∷ ys) e k rising i zero s t less h g = absurd (omega arith)
 later_above (y ∷ ys) e k rising zero (suc j) s t less h g =
@@ -65,8 +65,8 @@ module _ (p : Program) where
     pub last : k + 1 ≡ length (made_of p e)
     pub some : IsSomething made
 
-  module _ (numbers : List ℕ) (words : List (ℤ × ℕ)) (are : AreNumbers (sites p) numbers words) (last : List ℕ) (count : ℕ)
-      (ends : AreLast (sites p) numbers count last) where
+  module _ (numbers : List ℕ) (words : List (ℤ × ℕ)) (are : AreNumbers (sites p) numbers words) (last : List ℕ)
+      (count : ℕ) (ends : AreLast (sites p) numbers count last) where
     by_place : (e k : ℕ) (made : Made) → e < length p.elems → IsEndPlace e k made
         → IsNumber p (target_at e k made) (slice_index_or last e 0)
     by_place e k made el is =

@@ -44,8 +44,8 @@ same_node o arg f g es fs is js w u fmt edges inits width =
     ap (λ f. node f es is w) fmt ∙ ap (λ es. node g es is w) edges ∙ ap (λ is. node g fs is w) inits
     ∙ ap (λ w. node g fs js w) width
 
-pub operation_by : (width : ℕ) (inits : List (ℕ × ℤ)) (edge : Operand → Edge) (o : Op) (fmt : Format) (os : List Operand)
-    (made : Made) (f : Format) (es : List Edge) (is : List (ℕ × ℤ)) (w : ℕ)
+pub operation_by : (width : ℕ) (inits : List (ℕ × ℤ)) (edge : Operand → Edge) (o : Op) (fmt : Format)
+    (os : List Operand) (made : Made) (f : Format) (es : List Edge) (is : List (ℕ × ℤ)) (w : ℕ)
     → made ≡ operation o fmt os → f ≡ node_format (class_of o) fmt → es ≡ map edge os → is ≡ inits
     → w ≡ node_width (class_of o) fmt
     → IsNodeBy width inits edge made
@@ -55,8 +55,8 @@ operation_by width inits edge o fmt os made f es is w same a b c d =
     (λ (m : Made). IsNodeBy width inits edge m
     (record { op = o; fmt = f; arg = pos 0; edges = es; inits = is; width = w; ram = 0 }))
     (sym same)
-    (same_node o (pos 0) f (node_format (class_of o) fmt) es (map edge os) is inits w (node_width (class_of o) fmt) a b c
-    d)
+    (same_node o (pos 0) f (node_format (class_of o) fmt) es (map edge os) is inits w (node_width (class_of o) fmt)
+    a b c d)
 
 zip_push : {A B : Type 0} (S : A → B → Type 0) (xs : List A) (ys : List B) (x : A) (y : B) → AllZip S xs ys → S x y
     → AllZip S (xs ++ x ∷ []) (ys ++ y ∷ [])
@@ -82,7 +82,8 @@ same_test nodes s (constant m) v is h = by (word_position m nodes) refl
     by : (o : Option ℕ) → word_position m nodes ≡ o → (v == length nodes) ≡ is_none (word_position m nodes)
     by None e =
         let more = grown nodes s (constant m) is (ap (λ (o : Option ℕ). is_none o) e) in
-        let here = position_end (is_target (word_node m)) nodes s e (ap (is_constant m) is ∙ (Decides-int_eq m m).1 refl) in
+        let sure = ap (is_constant m) is ∙ (Decides-int_eq m m).1 refl in
+        let here = position_end (is_target (word_node m)) nodes s e sure in
         let same : v ≡ length nodes = same_Some v (length nodes) (sym h ∙ ap (word_position m) more ∙ here) in
         eq-eqb v (length nodes) same ∙ sym (ap (λ (o : Option ℕ). is_none o) e)
     by (Some w) e =
@@ -103,7 +104,8 @@ module _ (p : Program) (i : ℕ) (s : Site) (at : slice_get (sites p) i ≡ Some
   R t node = IsMade p t t.made node
 
   module _ (places : List ℕ) (words : List (ℤ × ℕ)) (are : AreNumbers (sites p) places words) (nodes : List Node)
-      (h : AreMadeUpTo p i nodes) (b : Bool) (is : b ≡ is_made_by (slice_index_or places i 0) (length nodes) s.made) where
+      (h : AreMadeUpTo p i nodes) (b : Bool)
+      (is : b ≡ is_made_by (slice_index_or places i 0) (length nodes) s.made) where
     tested : is_made_after (nodes_of (take i (sites p))) s.made ≡ b
     tested =
         let count = zip_length R (nodes_of (take i (sites p))) nodes h in
@@ -215,14 +217,16 @@ module _ (p : Program) (i : ℕ) (s : Site) (at : slice_get (sites p) i ≡ Some
         by (operation o fmt os) is h =
             let edges : node.edges ≡ map (edge_by words places elements (i - s.place)) os =
             ap (λ (n : Node). n.edges) h in (
-              subst (λ (es : List Edge). AllZip (IsEdgeTo p s.element) os es) (sym edges) (edges_lead p sound places words are elements all i s at o fmt os is),
+              subst (λ (es : List Edge). AllZip (IsEdgeTo p s.element) os es) (sym edges)
+                  (edges_lead p sound places words are elements all i s at o fmt os is),
               h
                   ∙ same_node o (pos 0) (node_format (class_of o) fmt) (node_format (class_of o) fmt)
                   (map (edge_by words places elements (i - s.place)) os) node.edges inits (inits_at p s)
                   (node_width (class_of o) fmt) (node_width (class_of o) fmt) refl (sym edges) its refl,
             )
 
-pub all_made : (p : Program) (n : ℕ) (nodes : List Node) → length (sites p) ≤ n → AreMadeUpTo p n nodes → AreMade p nodes
+pub all_made : (p : Program) (n : ℕ) (nodes : List Node) → length (sites p) ≤ n → AreMadeUpTo p n nodes
+    → AreMade p nodes
 all_made p n nodes end h =
     subst (λ (ns : List Site). AllZip (λ (s : Site) (node : Node). IsMade p s s.made node) ns nodes)
     (ap nodes_of (take_all n (sites p) end) ∙ nodes_are p) h

@@ -31,7 +31,7 @@ no_outputs old elements outs = record {
 
 pub one_output : (old now new : List Node) (elements outs : List ℕ) (k d : ℕ) (node : Node) → slice_get outs k ≡ Some d
     → slice_index_or elements d 0 < length old
-    → node ≡ output_node k (slice_index_or elements d 0) (slice_index_or now (slice_index_or elements d 0) no_node).width
+    → (let v = slice_index_or elements d 0 in node ≡ output_node k v (slice_index_or now v no_node).width)
     → new ≡ now ++ node ∷ [] → AddsOutputs old elements outs k now → AddsOutputs old elements outs (k + 1) new
 one_output old now new elements outs k d node here low is push h =
     let size = h.size in
@@ -45,12 +45,14 @@ one_output old now new elements outs k d node here low is push h =
             (let element : d ≡ e = some_once here (subst (λ (i : ℕ). slice_get outs i ≡ Some e) same at) in
             let v = slice_index_or elements d 0 in
             let last : slice_index_or new (length old + k) no_node ≡ node =
-            ap (λ xs. slice_index_or xs (length old + k) no_node) push ∙ get_or_push now node no_node (length old + k) h.size in
-            let whole : slice_index_or new (length old + k) no_node ≡ output_node k v (slice_index_or old v no_node).width =
+            ap (λ xs. slice_index_or xs (length old + k) no_node) push
+            ∙ get_or_push now node no_node (length old + k) h.size in
+            let whole : slice_index_or new (length old + k) no_node
+            ≡ output_node k v (slice_index_or old v no_node).width =
             last ∙ is ∙ ap (λ (n : Node). output_node k v n.width) (h.before v low) in
             let P : ℕ → ℕ → Type 0 = λ i c.
-            slice_index_or new (length old + i) no_node
-            ≡ output_node i (slice_index_or elements c 0) (slice_index_or old (slice_index_or elements c 0) no_node).width in
+            (let u = slice_index_or elements c 0 in
+            slice_index_or new (length old + i) no_node ≡ output_node i u (slice_index_or old u no_node).width) in
             subst (λ i. P i e) (sym same) (subst (λ c. P k c) element whole))
         | inr other ↦
             (let less : j < k = omega arith in
@@ -81,7 +83,8 @@ module _ (p : Program) where
       subst (λ (d : ℕ). d < length p.elems) (get_or_from_slice_get p.outs j e 0 at)
       (sound.outs j 0 (slice_get_within p.outs j e at))
 
-  module _ (nodes : List Node) (made : AreMade p nodes) (elements : List ℕ) (numbers : AreElementNumbers p elements) where
+  module _ (nodes : List Node) (made : AreMade p nodes) (elements : List ℕ)
+      (numbers : AreElementNumbers p elements) where
     pub count_nodes : length (node_sites p) ≡ length nodes
     count_nodes = zip_length (λ (s : Site) (node : Node). IsMade p s s.made node) (node_sites p) nodes made
 

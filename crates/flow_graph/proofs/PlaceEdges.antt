@@ -37,8 +37,8 @@ own_number p e k v (input j) makes h = h
 own_number p e k v (operation o fmt os) makes h = h
 
 module _ (p : Program) (sound : IsFlat p) (places : List ℕ) (words : List (ℤ × ℕ))
-    (are : AreNumbers (sites p) places words) (elements : List ℕ) (all : AreElementNumbers p elements) (i : ℕ) (s : Site)
-    (at : slice_get (sites p) i ≡ Some s) where
+    (are : AreNumbers (sites p) places words) (elements : List ℕ) (all : AreElementNumbers p elements) (i : ℕ)
+    (s : Site) (at : slice_get (sites p) i ≡ Some s) where
   abbrev edge : Operand → Edge
   edge = edge_by words places elements (i - s.place)
 

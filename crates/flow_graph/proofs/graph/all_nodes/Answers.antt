@@ -30,13 +30,15 @@ add_outputs-requires-clause-nodes c j e at =
     let p = view c.args.flat.now in
     let there = outs_there p c.requires.sound j e
     (subst (λ (xs : List ℕ). slice_get xs j ≡ Some e) c.as_slice-3.ensures at) in
-    let numbers = subst (λ (xs : List ℕ). AreElementNumbers p xs) (sym c.deref-2.ensures.value) c.in_ok-elements.ensures in
+    let numbers =
+    subst (λ (xs : List ℕ). AreElementNumbers p xs) (sym c.deref-2.ensures.value) c.in_ok-elements.ensures in
     element_below p c.in_ok-nodes.nodes c.in_ok-nodes.ensures c.deref-2.result.now numbers e there
 
 pub returns : goal.returns
 returns c =
     let p = view c.args.flat.now in
-    let numbers = subst (λ (xs : List ℕ). AreElementNumbers p xs) (sym c.deref-2.ensures.value) c.in_ok-elements.ensures in
+    let numbers =
+    subst (λ (xs : List ℕ). AreElementNumbers p xs) (sym c.deref-2.ensures.value) c.in_ok-elements.ensures in
     let outs : AddsOutputs c.in_ok-nodes.nodes c.deref-2.result.now p.outs (length p.outs) c.add_outputs.new.nodes =
     subst (λ (xs : List ℕ). AddsOutputs c.in_ok-nodes.nodes c.deref-2.result.now xs (length xs) c.add_outputs.new.nodes)
     c.as_slice-3.ensures c.in_ok-add_outputs.ensures in

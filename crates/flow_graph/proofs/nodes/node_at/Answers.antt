@@ -64,11 +64,16 @@ returns c =
     ap view_elem c.index-element.ensures
     ∙ sym (get_or-map view_elem c.args.flat.now.elems s.element c.index-element.result.now no_element within) in
     let next : option_map view_site (slice_get c.args.sites.now (i + 1)) ≡ slice_get (sites p) (i + 1) =
-    sym (slice_get-map view_site c.args.sites.now (i + 1)) ∙ ap (λ (xs : List Place). slice_get xs (i + 1)) c.requires.sites in
-    let ends = c.is_end-is_last.ensures ∙ ap (λ (o : Option Place). is_end_before o s.element) next ∙ last_test p i s at in
+    sym (slice_get-map view_site c.args.sites.now (i + 1))
+    ∙ ap (λ (xs : List Place). slice_get xs (i + 1)) c.requires.sites in
+    let ends =
+    c.is_end-is_last.ensures ∙ ap (λ (o : Option Place). is_end_before o s.element) next ∙ last_test p i s at in
     let inits : (if c.is_end-is_last.result then c.index-element.result.now.inits else []) ≡ inits_at p s =
     ap (λ (b : Bool). if b then c.index-element.result.now.inits else []) ends
-    ∙ ap (λ (x : Element). if s.place + 1 == length (element_sites p (s.element, element_of p s.element)) then x.inits else []) its_element in
+    ∙ ap
+    (λ (x : Element). if s.place + 1 == length (element_sites p (s.element, element_of p s.element)) then x.inits
+    else [])
+    its_element in
     let wide : width_of c.index-element.result.now.ty ≡ width_of (element_of p s.element).ty =
     ap (λ (x : Element). width_of x.ty) its_element in
     if_ok _ (IsMadeAt p i)
