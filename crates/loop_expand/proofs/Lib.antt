@@ -12,6 +12,8 @@ pub mod OnceTables
 pub mod Kept
 pub mod ProgramSystem
 pub mod FlatFits
+pub mod TypedReads
+pub mod FlatLoops
 pub mod Expanded
 pub mod OwnPositions
 mod Examples
