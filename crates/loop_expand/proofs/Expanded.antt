@@ -31,7 +31,7 @@ use Rattle.loop_expand.proofs.OnceTables.{distinct_numbers}
 use Rattle.loop_expand.proofs.Kept.{keeps_solutions}
 
 module _ (p : Program) (checked : IsChecked p) where
-  main_there : (f : Func) × (main_of p ≡ Some f)
+  pub main_there : (f : Func) × (main_of p ≡ Some f)
   main_there = by (main_of p) refl
     where
       by : (o : Option Func) → main_of p ≡ o → (f : Func) × (main_of p ≡ Some f)
@@ -45,7 +45,7 @@ module _ (p : Program) (checked : IsChecked p) where
       (then_parts (first (table_rules (at_entry []) (instance_table p max_nested f))) (Ok tt) (then_parts (first (word_rules f)) _ of_main).1).0
 
   module _ (es : Elements) (made : IsExpansion p es) where
-    numbering : IsNumbering p es
+    pub numbering : IsNumbering p es
     numbering = let m = main_there in is_numbering p (names_apart p checked.names) m.0 m.1 es made (main_ok m.0 m.1)
 
     module _ (f : flat.Program) (is : IsFlatOf p es f) (stream : Rows) (rows : IsStream p stream) where

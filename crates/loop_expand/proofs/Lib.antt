@@ -14,6 +14,9 @@ pub mod ProgramSystem
 pub mod FlatFits
 pub mod TypedReads
 pub mod FlatLoops
+pub mod PassedItems
+pub mod FlatTypes
+pub mod FlatInits
 pub mod Expanded
 pub mod OwnPositions
 mod Examples
