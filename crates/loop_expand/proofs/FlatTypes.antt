@@ -35,7 +35,7 @@ pub record IsAllowed (d : Decl) : Type 0 where
   pub dims : are_dims d.dims ≡ true
   pub ty : IsSoundType d.ty
 
-both_hold : (a b : Bool) → a && b ≡ true → (a ≡ true) × (b ≡ true)
+pub both_hold : (a b : Bool) → a && b ≡ true → (a ≡ true) × (b ≡ true)
 both_hold true b e = (refl, e)
 both_hold false b e = absurd (cc)
 
@@ -60,7 +60,7 @@ top_allowed p (t ∷ tops) e zero f at n d there =
 top_allowed p (t ∷ tops) e (suc k) f at n d there =
     top_allowed p tops (then_parts (first (top_rules p t)) (first_in (each (top_rules p) tops)) e).1 k f at n d there
 
-is_type : (ty : SigType) → IsSoundType ty → IsType ty
+pub is_type : (ty : SigType) → IsSoundType ty → IsType ty
 is_type (Fix t) ok = sound_shape t ok
 is_type Truths ok = tt
 

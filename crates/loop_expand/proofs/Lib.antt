@@ -18,5 +18,8 @@ pub mod PassedItems
 pub mod FlatTypes
 pub mod FlatInits
 pub mod Expanded
+pub mod SomeSignals
+pub mod FlatWords
+pub mod FlatElements
 pub mod OwnPositions
 mod Examples

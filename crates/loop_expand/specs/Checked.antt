@@ -1,5 +1,5 @@
 -- What the checks say of a program.
-use Rattle.std.specs.Prelude.{◌≡◌, ℕ, List, [], ◌∷◌, ◌++◌, slice_get, Some}
+use Rattle.std.specs.Prelude.{◌≡◌, ℕ, ◌≤◌, List, [], ◌∷◌, ◌++◌, length, slice_get, Some}
 use Rattle.ranked_faults.specs.Ranked.{IsClear}
 use Rattle.silage_syntax.specs.Tree.{Item, equation, call, loop, initial, Items, no_item, item, Func, function, Program}
 use Rattle.silage_meaning.specs.Instances.{HasCallsApart}
@@ -28,6 +28,11 @@ AreDistinct xs = (i j x : ℕ) → slice_get xs i ≡ Some x → slice_get xs j 
 abbrev pub HasOwnPositions : Program → Type 0
 HasOwnPositions p = (k : ℕ) (f : Func) → slice_get p.tops k ≡ Some (function f) → AreDistinct (calls_in f.items)
 
+-- each function has a parameter and a result, as the grammar asks
+abbrev pub HasParametersAndResults : Program → Type 0
+HasParametersAndResults p =
+    (k : ℕ) (f : Func) → slice_get p.tops k ≡ Some (function f) → (1 ≤ length f.params) × (1 ≤ length f.results)
+
 -- it has no fault of names, elements or types, and was read from a source
 pub record IsChecked (p : Program) : Type 0 where
   pub names : IsClear (name_faults p)
@@ -36,3 +41,4 @@ pub record IsChecked (p : Program) : Type 0 where
   pub numbers : AreNumbersShort p
   pub calls : HasCallsApart p
   pub positions : HasOwnPositions p
+  pub signals : HasParametersAndResults p
