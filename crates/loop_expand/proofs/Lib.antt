@@ -21,5 +21,6 @@ pub mod Expanded
 pub mod SomeSignals
 pub mod FlatWords
 pub mod FlatElements
+pub mod FlatCount
 pub mod OwnPositions
 mod Examples
