@@ -22,5 +22,7 @@ pub mod SomeSignals
 pub mod FlatWords
 pub mod FlatElements
 pub mod FlatCount
+pub mod SoundFlat
+pub mod FlatSizes
 pub mod OwnPositions
 mod Examples
