@@ -1,7 +1,6 @@
 -- A program without a fault of elements has at most as many elements as its load.
-use Rattle.std.proofs.Common.{◌≡◌, refl, sym, subst, ◌∙◌, ap, ap₂, arith, ℕ, zero, suc, ◌+◌, ◌≤◌, List, [], ◌∷◌, ◌++◌, map, length, length-append, slice_get, codes, sum_by, inl, inr, Option, Some, None, Ok, ℤ}
+use Rattle.std.proofs.Common.{◌≡◌, refl, sym, subst, ◌∙◌, ap, ap₂, arith, ℕ, zero, suc, ◌+◌, ◌≤◌, List, [], ◌∷◌, ◌++◌, length, length-append, slice_get, codes, sum_by, Option, Some, None, Ok, ℤ}
 use Rattle.std.specs.Prelude.{nat_le}
-use Rattle.std.specs.List.{range_with_len}
 use Rattle.std.proofs.lemmas.Bool.{leb-true}
 use Rattle.std.proofs.lemmas.List.FromFn.{length-map-range_with_len}
 use Rattle.std.proofs.lemmas.List.Sums.{sum_by-cons}
@@ -176,9 +175,9 @@ module _ (p : Program) where
         let rest = in_order given_row ▹ in_order the_items ▹ in_order needs_row ▹ nothing in
         let parts = then_parts (first (table_rules context (mark count))) (first_in (row_rules (after context (mark count)) rest)) ok in
         let pays : PaysRow rest =
-            row_pays (in_order given_row) (in_order the_items ▹ in_order needs_row ▹ nothing) (none_pays (in_order given_row) (none_each_from _ (λ d decl. none_places (given d) decl) 0 f.params))
-            (row_pays (in_order the_items) (in_order needs_row ▹ nothing) (items_pay f calls (λ k. instance_pays calls k) f.items [])
-            (row_pays (in_order needs_row) nothing (none_pays (in_order needs_row) (none_each_from _ (λ d decl. none_places (λ k. needs d k decl.at) decl) 0 (decls f))) end_pays)) in
+        row_pays (in_order given_row) (in_order the_items ▹ in_order needs_row ▹ nothing) (none_pays (in_order given_row) (none_each_from _ (λ d decl. none_places (given d) decl) 0 f.params))
+        (row_pays (in_order the_items) (in_order needs_row ▹ nothing) (items_pay f calls (λ k. instance_pays calls k) f.items [])
+        (row_pays (in_order needs_row) nothing (none_pays (in_order needs_row) (none_each_from _ (λ d decl. none_places (λ k. needs d k decl.at) decl) 0 (decls f))) end_pays)) in
         let all = pays number front (after context (mark count)) parts.1 in
         let sum = sum_by-cons load_of count context.of_program in
         omega arith
@@ -195,7 +194,7 @@ module _ (p : Program) (checked : IsChecked p) (es : Elements) (made : IsExpansi
   few_instances =
       let m = main_there p checked in
       let ok : first (table_rules (at_entry []) (main_table p (Some m.0))) ≡ Ok tt =
-          subst (λ o. first (table_rules (at_entry []) (main_table p o)) ≡ Ok tt) m.1 (clear_first (element_rules p) checked.elements) in
+      subst (λ o. first (table_rules (at_entry []) (main_table p o)) ≡ Ok tt) m.1 (clear_first (element_rules p) checked.elements) in
       let pays = program_pays p (names_apart p checked.names) m.0 m.1 0 [] (at_entry []) ok in
       let low = within (at_entry []) (main_table p (Some m.0)) (omega arith) ok in
       let few : size p (instances_after 0 [] (main_table p (Some m.0))) ≤ max_load = omega arith in

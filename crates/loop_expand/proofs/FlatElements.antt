@@ -1,5 +1,5 @@
 -- The elements of the flat program of a checked program are sound.
-use Rattle.std.proofs.Common.{◌≡◌, refl, sym, subst, ◌∙◌, ap, arith, ℕ, ◌<◌, length, slice_get, slice_index_or, Some}
+use Rattle.std.proofs.Common.{◌≡◌, refl, sym, subst, ◌∙◌, ap, arith, ℕ, slice_get, slice_index_or, Some}
 use Rattle.std.specs.Prelude.{All}
 use Rattle.std.proofs.lemmas.Option.{slice_get-get_or}
 use Rattle.fix_word.specs.declared.types.SigType.{SigType}

@@ -1,6 +1,6 @@
 -- The initial values of an element of a checked program are allowed.
-use Rattle.std.proofs.Common.{◌≡◌, refl, sym, subst, ◌∙◌, ap, arith, ℕ, Bool, true, false, List, slice_get, Some, ℤ}
-use Rattle.std.specs.Prelude.{pos, Contains}
+use Rattle.std.proofs.Common.{◌≡◌, sym, subst, ◌∙◌, ap, arith, ℕ, true, false, List, slice_get, Some, ℤ}
+use Rattle.std.specs.Prelude.{Contains}
 use Rattle.std.proofs.lemmas.Int.{ints}
 use Rattle.std.proofs.lemmas.List.Elements.{All-weaker, All-contains_itself}
 use Rattle.fix_word.specs.declared.types.SigType.{SigType}

@@ -1,5 +1,5 @@
 -- A flat program has a delay-free loop where its program has one.
-use Rattle.std.proofs.Common.{◌≡◌, refl, sym, subst, ◌∙◌, ap, ap₂, arith, ℕ, ◌<◌, ◌↔◌, inl, inr, length, slice_get, Option, Some, None}
+use Rattle.std.proofs.Common.{◌≡◌, refl, sym, subst, ◌∙◌, ap, ap₂, arith, ℕ, ◌<◌, ◌↔◌, inl, inr, length, Option, Some, None}
 use Rattle.std.proofs.lemmas.Option.{slice_get-get_or}
 use Rattle.lists.proofs.Places.{some_once}
 use Rattle.recurrences.specs.Systems as systems
@@ -8,7 +8,6 @@ use Rattle.silage_syntax.specs.declared.tree.Decl.{Decl}
 use Rattle.silage_syntax.specs.Tree.{Manifest, Place, equation, Program}
 use Rattle.silage_syntax.specs.Names.{IsOffset}
 use Rattle.silage_meaning.specs.Instances.{Element, element, IsElement, Site}
-use Rattle.silage_meaning.specs.Types.{name_type}
 use Rattle.silage_meaning.specs.Solves.{Source, word, value, same, number, IsDefined, input, equated, argument, array, table, result, array_result}
 use Rattle.silage_meaning.specs.Rules.{HasSingleDefinitions, ReadsAt, reads_at, SourceReads, NeedsNow, DependsNow, direct, by_way_of, HasNoDelaylessLoop}
 use Rattle.silage_meaning.proofs.Values.{place_once, looks_back_once}

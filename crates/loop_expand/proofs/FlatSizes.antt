@@ -7,6 +7,7 @@ use Rattle.silage_syntax.specs.declared.tree.BinOp.{BinOp}
 use Rattle.silage_syntax.specs.declared.tree.BinOp.TheVariants as op
 use Rattle.silage_syntax.specs.Tree.{Manifest, Place, Expr, literal, read, negate, not, binary, shift, cast, choose, Branches, no_branch, branch, Func, Program}
 use Rattle.silage_meaning.specs.Instances.{Site}
+use Rattle.silage_meaning.specs.Solves.{Source, word, value, same, number}
 use Rattle.silage_meaning.specs.Types.{own_type, factor_type, common_type}
 use Rattle.single_def.specs.declared.elements.Elements.{Elements}
 use Rattle.single_def.specs.ElementRules.{weight, branches_weight}
@@ -14,8 +15,8 @@ use Rattle.fix_types.specs.TypedTree as typed
 use Rattle.fix_types.specs.TypedTree.{TypedExpr}
 use Rattle.fix_types.specs.Translation.{typed_against, typed_product, typed_cast, typed_number, typed_truth, typed_expr, typed_choice}
 use Rattle.signal_graph.specs.Flat as flat
-use Rattle.signal_graph.specs.Flat.{size, size_of_parts}
-use Rattle.loop_expand.specs.FlatOf.{IsFlatRead, of_signal, of_table, IsFlatExpr, AreFlatParts}
+use Rattle.signal_graph.specs.Flat.{size, size_of_parts, size_of_body}
+use Rattle.loop_expand.specs.FlatOf.{IsFlatRead, of_signal, of_table, IsFlatExpr, AreFlatParts, IsBodyOf}
 
 -- how many raw words, reads and operations a typed expression has
 abbrev mutual
@@ -96,7 +97,7 @@ module _ (p : Program) (f : Func) where
         omega arith
     light (binary at o x y) Truths =
         let a = truth_light o x y (λ ty. light x ty) (λ ty. light y ty) (typed_against (typed_expr p f x) (common_type p f x y)) (typed_against (typed_expr p f y) (common_type p f x y))
-            (against_light x (λ ty. light x ty) (common_type p f x y)) (against_light y (λ ty. light y ty) (common_type p f x y)) in
+        (against_light x (λ ty. light x ty) (common_type p f x y)) (against_light y (λ ty. light y ty) (common_type p f x y)) in
         omega arith
 
     choice_light : (branches : Branches) (ty : SigType) (last : TypedExpr) → typed_size (typed_choice p f branches ty last) ≤ typed_size last + 3 * branches_weight branches
@@ -110,7 +111,7 @@ module _ (p : Program) (f : Func) where
 -- a flat expression is as large as its typed one
 module _ (p : Program) (es : Elements) (s : Site) where
   read_size : (place : Place) (delay : Option Manifest) (y : flat.Expr) → IsFlatRead p es s place delay y → size y ≡ 1
-  read_size place delay _ (of_signal d k ago number decl is back number_is) = refl
+  read_size place delay _ (of_signal d k ago n decl is back number_is) = refl
   read_size place delay _ (of_table k c v undeclared named placed undelayed is) = refl
 
   mutual
@@ -129,3 +130,15 @@ module _ (p : Program) (es : Elements) (s : Site) where
       let same = same_size (typed_expr p s.function x ty) y is in
       let most = light p s.function x ty in
       omega arith
+
+-- the weight of the expression that defines an element, if one does
+abbrev pub source_weight : Source → ℕ
+source_weight (value s x ty) = weight x
+source_weight _ = 0
+
+-- a body's size is at most 1, and 3 for each unit of weight of what defines the element
+pub body_size : (p : Program) (es : Elements) (source : Source) (body : flat.Body) → IsBodyOf p es source body → size_of_body body ≤ 1 + 3 * source_weight source
+body_size p es (word j) body b = subst (λ (z : flat.Body). size_of_body z ≤ 1) (sym b) (omega arith)
+body_size p es (value s x ty) body (y, is, b) = subst (λ (z : flat.Body). size_of_body z ≤ 1 + 3 * weight x) (sym b) (size_by_weight p es s x ty y is)
+body_size p es (same e theirs ours) body (k, is, b) = subst (λ (z : flat.Body). size_of_body z ≤ 1) (sym b) (omega arith)
+body_size p es (number c k ty) body (v, is, b) = subst (λ (z : flat.Body). size_of_body z ≤ 1) (sym b) (omega arith)

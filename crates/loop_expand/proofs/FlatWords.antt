@@ -1,5 +1,5 @@
 -- The input and output words of a checked program: their types, and how many there are.
-use Rattle.std.proofs.Common.{◌≡◌, refl, sym, subst, ◌∙◌, ap, ap₂, arith, ℕ, zero, suc, ◌+◌, ◌<◌, ◌≤◌, ◌&&◌, Bool, true, false, List, [], ◌∷◌, ◌++◌, length, length-append, slice_get, Option, Some, None, Ok}
+use Rattle.std.proofs.Common.{◌≡◌, refl, sym, subst, ◌∙◌, ap, ap₂, arith, ℕ, suc, ◌+◌, ◌<◌, ◌≤◌, ◌&&◌, true, List, [], ◌∷◌, ◌++◌, length, length-append, slice_get, Some, Ok}
 use Rattle.std.specs.Prelude.{All, replicate, nat_le}
 use Rattle.std.specs.List.{AllZip, list_all}
 use Rattle.std.proofs.lemmas.Bool.{leb-true}
@@ -10,16 +10,15 @@ use Rattle.std.proofs.lemmas.Nat.{column_fits}
 use Rattle.std.proofs.lemmas.Option.{slice_get_within}
 use Rattle.ranked_faults.specs.Private.FirstMet.{first}
 use Rattle.ranked_faults.proofs.TableFaults.{then_parts, rule_holds}
-use Rattle.fix_word.specs.declared.types.SigType.{SigType}
 use Rattle.silage_syntax.specs.declared.tree.Decl.{Decl}
 use Rattle.silage_syntax.specs.Tree.{Func, Program}
-use Rattle.silage_syntax.specs.Names.{decls, element_count, main_of}
+use Rattle.silage_syntax.specs.Names.{element_count, main_of}
 use Rattle.silage_meaning.specs.Instances.{main, main_is, Element, IsInstance, outputs}
 use Rattle.silage_meaning.specs.Types.{word_types}
 use Rattle.silage_meaning.specs.Solves.{input_types, output_types, types_of}
 use Rattle.silage_meaning.proofs.InputRows.{outputs_length}
 use Rattle.silage_meaning.proofs.Outputs.{in_first, in_second}
-use Rattle.name_check.specs.Meanings.{is_dim, are_dims, most_elements}
+use Rattle.name_check.specs.Meanings.{is_dim, most_elements}
 use Rattle.single_def.specs.declared.fault.DefFault.TheVariants.{TooLarge}
 use Rattle.single_def.specs.declared.elements.Elements.{Elements}
 use Rattle.single_def.specs.Tables.{at_entry, table_rules}
@@ -75,7 +74,7 @@ module _ (p : Program) (checked : IsChecked p) where
       let all : first (element_rules p) ≡ Ok tt = clear_first (element_rules p) checked.elements in
       let of_main : first (table_rules (at_entry []) (main_table p (Some f))) ≡ Ok tt = subst (λ o. first (table_rules (at_entry []) (main_table p o)) ≡ Ok tt) is all in
       let b = both_hold (nat_le (elements_of f.params) 16) (nat_le (elements_of f.results) 16)
-          (rule_holds (nat_le (elements_of f.params) 16 && nat_le (elements_of f.results) 16) (TooLarge f.at) (then_parts (first (word_rules f)) _ of_main).0) in
+      (rule_holds (nat_le (elements_of f.params) 16 && nat_le (elements_of f.results) 16) (TooLarge f.at) (then_parts (first (word_rules f)) _ of_main).0) in
       (leb-true _ _ b.0, leb-true _ _ b.1)
 
   record MainWords (f : Func) : Type 0 where

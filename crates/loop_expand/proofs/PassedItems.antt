@@ -1,5 +1,5 @@
 -- An item that occurs in a program without a fault of elements passes the rules of its table.
-use Rattle.std.proofs.Common.{◌≡◌, refl, sym, subst, ◌∙◌, ap, ap₂, arith, ℕ, zero, suc, ◌≤◌, ◌&&◌, Bool, true, false, inl, inr, List, [], ◌∷◌, ◌++◌, Option, Some, None, Ok, ℤ}
+use Rattle.std.proofs.Common.{◌≡◌, refl, sym, subst, ◌∙◌, ap, arith, ℕ, ◌≤◌, ◌&&◌, Bool, true, false, inl, inr, List, [], ◌∷◌, ◌++◌, Option, Some, None, Ok, ℤ}
 use Rattle.std.specs.Prelude.{pos, ◌≤ℤ◌, int_le}
 use Rattle.std.specs.Option.{option_map_or}
 use Rattle.std.proofs.lemmas.Int.{ints}
@@ -12,7 +12,7 @@ use Rattle.silage_syntax.specs.declared.tree.Lit.{Lit}
 use Rattle.silage_syntax.specs.Tree.{Manifest, Place, Item, equation, call, loop, initial, Items, no_item, item, Func, Program}
 use Rattle.silage_syntax.specs.Manifests.{Indices, manifest_value}
 use Rattle.silage_syntax.specs.Names.{declared}
-use Rattle.silage_meaning.specs.Instances.{Instance, Occurs, OccursIn, IsInstance, Site, IsItemAt, IsSignal}
+use Rattle.silage_meaning.specs.Instances.{Occurs, OccursIn, Site, IsItemAt, IsSignal}
 use Rattle.single_def.specs.declared.fault.DefFault.TheVariants.{Delay}
 use Rattle.single_def.specs.ElementFaults.{element_faults}
 use Rattle.single_def.specs.Tables.{Table, rules, mark, in_order, Row, nothing, ◌▹◌, each, counts, Context, after, table_rules, row_rules}

@@ -1,5 +1,5 @@
 -- Each function of a program that was read from a source has a parameter and a result.
-use Rattle.std.proofs.Common.{◌≡◌, refl, subst, ap, arith, ℕ, zero, suc, ◌≤◌, List, [], ◌∷◌, length, slice_get, Option, Some}
+use Rattle.std.proofs.Common.{◌≡◌, refl, subst, arith, ℕ, zero, suc, ◌≤◌, List, length, slice_get, Some}
 use Rattle.lists.proofs.Places.{some_once}
 use Rattle.silage_lex.specs.declared.Token.{Token}
 use Rattle.silage_syntax.specs.declared.tree.Decl.{Decl}

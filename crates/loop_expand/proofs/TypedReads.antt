@@ -1,14 +1,12 @@
 -- A typed expression reads what its expression reads.
-use Rattle.std.proofs.Common.{◌≡◌, refl, ℕ, ◌⊎◌, inl, inr, ◌↔◌, Option, Some, None}
+use Rattle.std.proofs.Common.{ℕ, ◌⊎◌, inl, inr, Option, Some, None}
 use Rattle.ranked_faults.specs.Rules.{parts, none, ◌▸◌, unless}
 use Rattle.ranked_faults.specs.Private.FirstMet.{first}
 use Rattle.ranked_faults.proofs.TableFaults.{then_parts}
 use Rattle.fix_word.specs.declared.types.FixType.{FixType}
 use Rattle.fix_word.specs.declared.types.SigType.{SigType}
 use Rattle.fix_word.specs.declared.types.SigType.TheVariants.{Fix, Bool as Truths}
-use Rattle.fix_word.specs.declared.operation.Op.TheVariants as does
 use Rattle.silage_syntax.specs.declared.tree.BinOp.TheVariants as op
-use Rattle.silage_syntax.specs.declared.tree.Lit.{Lit}
 use Rattle.silage_syntax.specs.Tree.{Expr, literal, read, negate, not, binary, shift, cast, choose, Branches, no_branch, branch, Program}
 use Rattle.silage_meaning.specs.Instances.{Element, Site}
 use Rattle.silage_meaning.specs.Types.{own_type, factor_type, common_type}
