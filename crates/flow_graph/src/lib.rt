@@ -10,13 +10,13 @@ mod graph;
 mod loops;
 mod nodes;
 mod numbers;
-mod pruning;
 mod outputs;
+mod pruning;
 mod reads;
 mod sites;
 mod widths;
 mod words;
 
 pub use fault::GraphFault;
-pub use pruning::{PruneFault, prune};
 pub use graph::build;
+pub use pruning::{PruneFault, prune};
