@@ -29,7 +29,7 @@ use Rattle.loop_expand.proofs.Expanded.{main_there}
 
 -- The load only grows, and stays at most 8,192 where no rule is broken.
 mutual
-  grows : (context : Context) (T : Table) → load_before context ≤ load_before (after context T)
+  pub grows : (context : Context) (T : Table) → load_before context ≤ load_before (after context T)
   grows context (rules R) = omega arith
   grows context (mark m) = let sum = sum_by-cons load_of m context.of_program in omega arith
   grows context (in_order row) = row_grows context row
@@ -50,7 +50,7 @@ mark_within context (counts load at) low ok =
     omega arith
 
 mutual
-  within : (context : Context) (T : Table) → load_before context ≤ max_load → first (table_rules context T) ≡ Ok tt → load_before (after context T) ≤ max_load
+  pub within : (context : Context) (T : Table) → load_before context ≤ max_load → first (table_rules context T) ≡ Ok tt → load_before (after context T) ≤ max_load
   within context (rules R) low ok = low
   within context (mark m) low ok = mark_within context m low ok
   within context (in_order row) low ok = row_within context row low ok

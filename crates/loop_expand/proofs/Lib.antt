@@ -24,5 +24,6 @@ pub mod FlatElements
 pub mod FlatCount
 pub mod SoundFlat
 pub mod FlatSizes
+pub mod Charges
 pub mod OwnPositions
 mod Examples
