@@ -377,7 +377,7 @@ module _ (arcs : List (List ℕ)) where
       let mark : IsMark marks g (Active i) = subst (λ (ms : List Mark). IsMark ms g (Active i)) (sym m) (at_set_same s.marks g (Active i) (slice_get_within s.marks g New new)) in
       new_not_active marks g i is mark
 
-  -- a arc leads back to an active vertex
+  -- an arc leads back to an active vertex
   module _ (s : State) (g place : ℕ) (groups : List Group) (mark : IsMark s.marks g (Active place)) (w : IsWalk arcs (Some g) s) (led : IsDue arcs s g) (keeps : KeepsGroups s.groups place groups) where
     abbrev joined : State
     joined = record { marks = s.marks; active = s.active; pending = s.pending; groups = groups; closed = s.closed }

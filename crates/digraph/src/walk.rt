@@ -119,7 +119,7 @@ impl Walk {
         self.pending.extend_from_slice(&arcs[vertex as usize])
     }
 
-    /// Follows a arc of the last group.
+    /// Follows an arc of the last group.
     fn follow(&mut self, arcs: &[List<u32>], head: u32) -> Result<(), AllocError>
         requires walk { IsWalk arcs.now (Some head) (state_of self.old) }
         requires due { IsDue arcs.now (state_of self.old) head }
@@ -151,7 +151,7 @@ impl Walk {
         self.groups.pop();
     }
 
-    /// The head of a arc of the last group, which is followed next.
+    /// The head of an arc of the last group, which is followed next.
     fn next_head(&mut self, arcs: &[List<u32>], group: Group) -> Option<u32>
         requires walk { IsWalk arcs.now None (state_of self.old) }
         requires last { IsLast self.old.groups.items group }

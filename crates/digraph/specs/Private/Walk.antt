@@ -91,7 +91,7 @@ component_of New = None
 component_of (Active i) = None
 component_of (Closed component) = Some component
 
--- the walk stands here, but for a arc of one vertex that is due to be followed
+-- the walk stands here, but for an arc of one vertex that is due to be followed
 pub record IsWalk (arcs : List (List ℕ)) (due : Option ℕ) (s : State) : Type 0 where
   pub inside : IsWithin arcs
   pub size : length s.marks ≡ length arcs

@@ -1,4 +1,4 @@
--- What a arc does hangs on the head's mark.
+-- What an arc does hangs on the head's mark.
 use Rattle.std.proofs.Common.{arith}
 use Rattle.digraph.specs.Private.Walk.{state_of}
 use Rattle.digraph.specs.declared.walk.Mark.TheVariants.{New, Active, Closed}

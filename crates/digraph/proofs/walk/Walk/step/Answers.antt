@@ -1,4 +1,4 @@
--- A arc is followed, or the last group is closed.
+-- An arc is followed, or the last group is closed.
 use Rattle.std.proofs.Common.{◌≡◌, length, ap, arith}
 use Rattle.digraph.specs.Private.Walk.{state_of}
 use Rattle.digraph.proofs.WalkSteps.{next_on, last_within}
