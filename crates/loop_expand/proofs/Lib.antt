@@ -26,4 +26,7 @@ pub mod SoundFlat
 pub mod FlatSizes
 pub mod Charges
 pub mod OwnPositions
+pub mod OwnPlaces
+pub mod OwnCharges
+pub mod SmallFlat
 mod Examples
