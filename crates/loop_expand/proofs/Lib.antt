@@ -29,4 +29,6 @@ pub mod OwnPositions
 pub mod OwnPlaces
 pub mod OwnCharges
 pub mod SmallFlat
+pub mod SourceChecked
+pub mod ProgramKeeps
 mod Examples

@@ -2,3 +2,4 @@ pub mod Numbers
 pub mod FlatOf
 pub mod Kept
 pub mod Checked
+pub mod KeepsProgram
