@@ -31,4 +31,5 @@ pub mod OwnCharges
 pub mod SmallFlat
 pub mod SourceChecked
 pub mod ProgramKeeps
+pub mod PutRows
 mod Examples

@@ -15,7 +15,8 @@ pub record HasPlace (amounts : List ℕ) (Takes : (place : ℕ) → Type 0) (siz
 
 -- the places of the things behind the first, where the amount at its place is spent
 others_place : (amounts : List ℕ) (Takes : ℕ → ℕ → Type 0) → ((k l place : ℕ) → Takes k place → Takes l place → k ≡ l)
-    → (first : ℕ) → Takes 0 first → (k size : ℕ) → HasPlace amounts (Takes (suc k)) size → HasPlace (set amounts first 0) (Takes (suc k)) size
+    → (first : ℕ) → Takes 0 first → (k size : ℕ) → HasPlace amounts (Takes (suc k)) size
+    → HasPlace (set amounts first 0) (Takes (suc k)) size
 others_place amounts Takes apart first taken k size h = record {
   place = h.place;
   amount = h.amount;
@@ -28,21 +29,28 @@ others_place amounts Takes apart first taken k size h = record {
     other same = let e = apart 0 (suc k) first taken (subst (Takes (suc k)) same h.takes) in omega arith
 
 module _ {A : Type 0} (size : A → ℕ) where
-  pub sum_by_places : (xs : List A) (amounts : List ℕ) (Takes : ℕ → ℕ → Type 0) → ((k l place : ℕ) → Takes k place → Takes l place → k ≡ l)
+  pub sum_by_places : (xs : List A) (amounts : List ℕ) (Takes : ℕ → ℕ → Type 0)
+      → ((k l place : ℕ) → Takes k place → Takes l place → k ≡ l)
       → ((k : ℕ) (x : A) → slice_get xs k ≡ Some x → (size x ≤ 1) ⊎ HasPlace amounts (Takes k) (size x))
       → sum_by size xs ≤ length xs + 3 * sum_by (λ (n : ℕ). n) amounts
   sum_by_places [] amounts Takes apart has = omega arith
   sum_by_places (x ∷ xs) amounts Takes apart has = elim (has 0 x refl) [
     | inl small ↦
         let cons = sum_by-cons size x xs in
-        let rest = sum_by_places xs amounts (λ k place. Takes (suc k) place) (λ k l place a b. let e = apart (suc k) (suc l) place a b in omega arith) (λ k y e. has (suc k) y e) in
+        let rest = sum_by_places xs amounts (λ k place. Takes (suc k) place)
+        (λ k l place a b. let e = apart (suc k) (suc l) place a b in omega arith) (λ k y e. has (suc k) y e) in
         omega arith
     | inr own ↦
         let cons = sum_by-cons size x xs in
-        let spent = sum_by-set (λ (n : ℕ). n) amounts own.place 0 0 (slice_get_within amounts own.place own.amount own.there) in
+        let spent = sum_by-set (λ (n : ℕ). n) amounts own.place 0 0
+        (slice_get_within amounts own.place own.amount own.there) in
         let at = get_or_from_slice_get amounts own.place own.amount 0 own.there in
-        let rest = sum_by_places xs (set amounts own.place 0) (λ k place. Takes (suc k) place) (λ k l place a b. let e = apart (suc k) (suc l) place a b in omega arith)
-        (λ k y e. elim (has (suc k) y e) [ inl small ↦ inl small | inr h ↦ inr (others_place amounts Takes apart own.place own.takes k (size y) h) ]) in
+        let rest = sum_by_places xs (set amounts own.place 0) (λ k place. Takes (suc k) place)
+        (λ k l place a b. let e = apart (suc k) (suc l) place a b in omega arith)
+        (λ k y e. elim (has (suc k) y e) [
+          | inl small ↦ inl small
+          | inr h ↦ inr (others_place amounts Takes apart own.place own.takes k (size y) h)
+        ]) in
         let most = own.most in
         omega arith
   ]

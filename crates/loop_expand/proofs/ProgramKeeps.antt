@@ -38,7 +38,7 @@ use Rattle.signal_graph.proofs.OneSolution.{flat_once}
 use Rattle.signal_graph.proofs.PrunedKeeps.{pruned_keeps}
 use Rattle.loop_expand.specs.Checked.{IsChecked}
 use Rattle.loop_expand.specs.FlatOf.{IsFlatOf}
-use Rattle.loop_expand.specs.Kept.{program_system}
+use Rattle.loop_expand.specs.Kept.{program_system, HaveSameWords}
 use Rattle.loop_expand.specs.KeepsProgram.{AreEqualWords, KeepsElementSolutions, HaveEqualRows, KeepsProgramSolutions}
 use Rattle.loop_expand.specs.Numbers.{IsNumberOf}
 use Rattle.loop_expand.proofs.Expanded.{expanded_keeps, program_solution}
@@ -47,7 +47,8 @@ use Rattle.loop_expand.proofs.SmallFlat.{flat_is_sound}
 
 -- solutions that are equal in one sense are equal in each that follows from it
 keeps_weaker : {E F A : Type 0} (s : System E A) (t : System F A) (First Second : Signals E A → Signals F A → Type 0)
-    → ((x : Signals E A) (y : Signals F A) → First x y → Second x y) → KeepsSolutions s t First → KeepsSolutions s t Second
+    → ((x : Signals E A) (y : Signals F A) → First x y → Second x y) → KeepsSolutions s t First
+    → KeepsSolutions s t Second
 keeps_weaker s t First Second follows keeps = record {
   forth = λ x solves. let (y, one, equal) = keeps.forth x solves in (y, one, follows x y equal);
   back = λ y solves. let (x, one, equal) = keeps.back y solves in (x, one, follows x y equal);
@@ -62,7 +63,8 @@ in_type_back : (ty : SigType) (word : ℤ) → graphs.IsInType ty word → meani
 in_type_back (Fix t) word is = is
 in_type_back Truths word is = is
 
-zip_weaker : {A B : Type 0} (R S : A → B → Type 0) → ((x : A) (y : B) → R x y → S x y) → (xs : List A) (ys : List B) → AllZip R xs ys → AllZip S xs ys
+zip_weaker : {A B : Type 0} (R S : A → B → Type 0) → ((x : A) (y : B) → R x y → S x y) → (xs : List A) (ys : List B)
+    → AllZip R xs ys → AllZip S xs ys
 zip_weaker R S follows [] [] h = tt
 zip_weaker R S follows [] (y ∷ ys) h = absurd h
 zip_weaker R S follows (x ∷ xs) [] h = absurd h
@@ -71,8 +73,10 @@ zip_weaker R S follows (x ∷ xs) (y ∷ ys) h = (follows x y h.0, zip_weaker R 
 -- the valid rows of a program are those of its input types
 pub rows_are : (p : Program) (stream : Rows) → IsStream p stream ↔ IsStreamOf (input_types p) stream
 rows_are p stream = (
-  All-weaker (AllZip meaning.IsInType (input_types p)) (IsRowOf (input_types p)) (zip_weaker meaning.IsInType graphs.IsInType in_type (input_types p)) stream,
-  All-weaker (IsRowOf (input_types p)) (AllZip meaning.IsInType (input_types p)) (zip_weaker graphs.IsInType meaning.IsInType in_type_back (input_types p)) stream,
+  All-weaker (AllZip meaning.IsInType (input_types p)) (IsRowOf (input_types p))
+      (zip_weaker meaning.IsInType graphs.IsInType in_type (input_types p)) stream,
+  All-weaker (IsRowOf (input_types p)) (AllZip meaning.IsInType (input_types p))
+      (zip_weaker graphs.IsInType meaning.IsInType in_type_back (input_types p)) stream,
 )
 
 -- One solution of a program is one of its system.
@@ -80,27 +84,38 @@ module _ (p : Program) (stream : Rows) (words : Words) where
   one_system : IsOneSolution p stream words → systems.IsOneSolution (program_system p stream) words
   one_system one = record { solves = (solves_system p stream words).0 one.solves; unique = unique }
     where
-      unique : (others : Words) → systems.Solves (program_system p stream) others → systems.AreSame (program_system p stream) others words
+      unique : (others : Words) → systems.Solves (program_system p stream) others
+          → systems.AreSame (program_system p stream) others words
       unique others solves =
           let same = one.unique others ((solves_system p stream others).1 solves) in
           record {
-            past = λ e j is less. same e (negsuc j) is (record { first = omega (arith, ints); last = omega (arith, ints) });
-            present = λ e n is inside. same e (pos n) is (record { first = omega (arith, ints); last = omega (arith, ints) });
+            past = λ e j is less.
+                same e (negsuc j) is (record { first = omega (arith, ints); last = omega (arith, ints) });
+            present = λ e n is inside.
+                same e (pos n) is (record { first = omega (arith, ints); last = omega (arith, ints) });
           }
 
   -- each solution is the one
   once : (w : Words) × IsOneSolution p stream w → Solves p stream words → IsOneSolution p stream words
   once (w, one) solves = record {
     solves = solves;
-    unique = λ others theirs e n is sample. one.unique others theirs e n is sample ∙ sym (one.unique words solves e n is sample);
+    unique = λ others theirs e n is sample.
+        one.unique others theirs e n is sample ∙ sym (one.unique words solves e n is sample);
   }
 
-module _ (p : Program) (checked : IsChecked p) (es : Elements) (made : IsExpansion p es) (f : flat.Program) (flat_of : IsFlatOf p es f) (loopless : IsFlatLoopless f) where
+module _ (p : Program) (checked : IsChecked p) (es : Elements) (made : IsExpansion p es) (f : flat.Program)
+    (flat_of : IsFlatOf p es f) (loopless : IsFlatLoopless f) where
   sound : IsFlat f
   sound = flat_is_sound p checked es made f flat_of
 
   only_one : (stream : Rows) → IsStream p stream → (words : Words) × IsOneSolution p stream words
   only_one stream rows = program_solution p checked es made f flat_of stream rows sound loopless
+
+  equal : (stream : Rows) → IsStream p stream → (words : Words) (others : numbered.Words)
+      → HaveSameWords es stream words others → AreEqualWords p es f stream words others
+  equal stream rows words others same =
+      let keeps = expanded_keeps p checked es made f flat_of stream rows in
+      record { elements = same; rows = sym (keeps.outputs words others same) }
 
   -- the flat program keeps the solutions of the program
   pub flat_keeps : KeepsElementSolutions p es f
@@ -109,10 +124,11 @@ module _ (p : Program) (checked : IsChecked p) (es : Elements) (made : IsExpansi
       record {
         forth = λ words solves.
             let (others, theirs, same) = keeps.there words ((solves_system p stream words).1 solves) in
-            (others, flat_once f sound stream loopless others theirs, record { elements = same; rows = sym (keeps.outputs words others same) });
+            (others, flat_once f sound stream loopless others theirs, equal stream rows words others same);
         back = λ others theirs.
             let (words, solves, same) = keeps.back others theirs in
-            (words, one_system p stream words (once p stream words (only_one stream rows) solves), record { elements = same; rows = sym (keeps.outputs words others same) });
+            let one = once p stream words (only_one stream rows) solves in
+            (words, one_system p stream words one, equal stream rows words others same);
       }
 
   module _ (g : Graph) (graph_of : IsGraphOf f g) (h : Graph) (pruned : IsPruned g h) where
@@ -127,18 +143,29 @@ module _ (p : Program) (checked : IsChecked p) (es : Elements) (made : IsExpansi
 
     module _ (stream : Rows) (rows : IsStream p stream) where
       through : KeepsSolutions (program_system p stream) (graph_system h stream)
-          (AreEqualThrough (AreEqualThrough (AreEqualWords p es f stream) (AreEqualNodes f g stream)) (AreKeptWords g h stream))
+          (AreEqualThrough (AreEqualThrough (AreEqualWords p es f stream) (AreEqualNodes f g stream))
+          (AreKeptWords g h stream))
       through =
-          let of_inputs = subst (λ (inputs : List SigType). IsStreamOf inputs stream) (sym flat_of.inputs) ((rows_are p stream).0 rows) in
-          let first = keeps_through (program_system p stream) (flat_system f stream) (graph_system g stream) (AreEqualWords p es f stream) (AreEqualNodes f g stream)
+          let of_inputs =
+          subst (λ (inputs : List SigType). IsStreamOf inputs stream) (sym flat_of.inputs)
+          ((rows_are p stream).0 rows) in
+          let first =
+          keeps_through (program_system p stream) (flat_system f stream) (graph_system g stream)
+          (AreEqualWords p es f stream) (AreEqualNodes f g stream)
           (flat_keeps stream rows) ((graph_keeps f g graph_of sound loopless).solutions stream of_inputs) in
-          let prunes = pruned_keeps g h (graph_is_sound f g graph_of sound) (graph_is_loopless f sound loopless g graph_of) pruned in
-          keeps_through (program_system p stream) (graph_system g stream) (graph_system h stream) (AreEqualThrough (AreEqualWords p es f stream) (AreEqualNodes f g stream)) (AreKeptWords g h stream)
+          let prunes =
+          pruned_keeps g h (graph_is_sound f g graph_of sound)
+          (graph_is_loopless f sound loopless g graph_of) pruned in
+          keeps_through (program_system p stream) (graph_system g stream) (graph_system h stream)
+          (AreEqualThrough (AreEqualWords p es f stream) (AreEqualNodes f g stream)) (AreKeptWords g h stream)
           first (prunes.solutions stream)
 
-      equal_rows : (words : Words) (others : numbered.Words) → AreEqualThrough (AreEqualThrough (AreEqualWords p es f stream) (AreEqualNodes f g stream)) (AreKeptWords g h stream) words others
+      equal_rows : (words : Words) (others : numbered.Words)
+          → AreEqualThrough (AreEqualThrough (AreEqualWords p es f stream) (AreEqualNodes f g stream))
+          (AreKeptWords g h stream) words others
           → HaveEqualRows p h stream words others
-      equal_rows words others (nodes, (elements, a, b), c) = c.rows (length stream) (omega arith) ∙ b.rows (length stream) (omega arith) ∙ a.rows
+      equal_rows words others (nodes, (elements, a, b), c) =
+          c.rows (length stream) (omega arith) ∙ b.rows (length stream) (omega arith) ∙ a.rows
 
     -- its pruned graph keeps the solutions of the program
     pub program_keeps : KeepsProgramSolutions p h
@@ -146,12 +173,14 @@ module _ (p : Program) (checked : IsChecked p) (es : Elements) (made : IsExpansi
       inputs = same_inputs;
       outs = same_outs;
       one_solution = only_one;
-      solutions = λ stream rows. keeps_weaker (program_system p stream) (graph_system h stream) _ (HaveEqualRows p h stream) (equal_rows stream rows) (through stream rows);
+      solutions = λ stream rows. keeps_weaker (program_system p stream) (graph_system h stream) _
+          (HaveEqualRows p h stream) (equal_rows stream rows) (through stream rows);
     }
 
 -- Where a graph keeps the solutions of a program, any two have equal rows.
 module _ (p : Program) (g : Graph) (sound : IsGraph g) (keeps : KeepsProgramSolutions p g) where
-  pub any_rows : (stream : Rows) → IsStream p stream → (words : Words) (others : numbered.Words) → Solves p stream words → GraphSolves g stream others
+  pub any_rows : (stream : Rows) → IsStream p stream → (words : Words) (others : numbered.Words)
+      → Solves p stream words → GraphSolves g stream others
       → graph_out g others (length stream) ≡ out p words (length stream)
   any_rows stream rows words others solves theirs =
       let (its, one, equal) = (keeps.solutions stream rows).forth words ((solves_system p stream words).0 solves) in

@@ -29,7 +29,8 @@ use Rattle.loop_expand.proofs.OwnCharges.{program_charges, IsChargedFor, charged
 use Rattle.loop_expand.proofs.OwnPlaces.{HasPlace, sum_by_places}
 use Rattle.loop_expand.proofs.SoundFlat.{IsSmall, flat_sound, one_solution}
 
-module _ (p : Program) (checked : IsChecked p) (es : Elements) (made : IsExpansion p es) (f : flat.Program) (flat_of : IsFlatOf p es f) where
+module _ (p : Program) (checked : IsChecked p) (es : Elements) (made : IsExpansion p es) (f : flat.Program)
+    (flat_of : IsFlatOf p es f) where
   module _ (g : Func) (is_main : main_of p ≡ Some g) where
     abbrev charges : List Charge
     charges = program_charges p checked g is_main
@@ -43,9 +44,12 @@ module _ (p : Program) (checked : IsChecked p) (es : Elements) (made : IsExpansi
 
     for_one : (k l place : ℕ) → IsFor k place → IsFor l place → k ≡ l
     for_one k l place (c, there, is) (d, too, also) =
-        distinct_numbers p checked es made d.of k l (subst (λ (z : Charge). IsNumberOf es k z.of) (some_once there too) is) also
+        distinct_numbers p checked es made d.of k l
+        (subst (λ (z : Charge). IsNumberOf es k z.of) (some_once there too) is) also
 
-    by_charge : (k : ℕ) (e : Element) → IsNumberOf es k e → (source : Source) → IsChargedFor p checked g is_main e source → (size : ℕ) → size ≤ 1 + 3 * source_weight source → (size ≤ 1) ⊎ HasPlace amounts (IsFor k) size
+    by_charge : (k : ℕ) (e : Element) → IsNumberOf es k e → (source : Source)
+        → IsChargedFor p checked g is_main e source → (size : ℕ) → size ≤ 1 + 3 * source_weight source
+        → (size ≤ 1) ⊎ HasPlace amounts (IsFor k) size
     by_charge k e is (word j) has size most = inl most
     by_charge k e is (same other theirs ours) has size most = inl most
     by_charge k e is (number c j ty) has size most = inl most
@@ -54,16 +58,21 @@ module _ (p : Program) (checked : IsChecked p) (es : Elements) (made : IsExpansi
         inr (record {
           place = at.0;
           amount = weight x;
-          there = slice_get-map (λ (c : Charge). c.amount) charges at.0 ∙ ap (λ (o : Option Charge). option_map (λ (c : Charge). c.amount) o) at.1;
+          there = slice_get-map (λ (c : Charge). c.amount) charges at.0
+              ∙ ap (λ (o : Option Charge). option_map (λ (c : Charge). c.amount) o) at.1;
           takes = (charge e (weight x), at.1, is);
           most = most;
         })
 
-    sized : (k : ℕ) (x : flat.Element) → slice_get f.elems k ≡ Some x → (size_of_body x.body ≤ 1) ⊎ HasPlace amounts (IsFor k) (size_of_body x.body)
+    sized : (k : ℕ) (x : flat.Element) → slice_get f.elems k ≡ Some x
+        → (size_of_body x.body ≤ 1) ⊎ HasPlace amounts (IsFor k) (size_of_body x.body)
     sized k x there =
-        let s = stands p es (numbering p checked es made) k (let count = flat_of.count in let less = slice_get_within f.elems k x there in omega arith) in
+        let s =
+        stands p es (numbering p checked es made) k
+        (let count = flat_of.count in let less = slice_get_within f.elems k x there in omega arith) in
         let it = flat_of.elements k s.of x s.number there in
-        by_charge k s.of s.number it.source (charged_for p checked g is_main s.of it.source it.defined) (size_of_body x.body) (body_size p es it.source x.body it.body)
+        by_charge k s.of s.number it.source (charged_for p checked g is_main s.of it.source it.defined)
+        (size_of_body x.body) (body_size p es it.source x.body it.body)
 
     small_by : IsSmall f
     small_by =
@@ -82,5 +91,6 @@ module _ (p : Program) (checked : IsChecked p) (es : Elements) (made : IsExpansi
   flat_is_sound = flat_sound p checked es made f flat_of flat_small
 
   -- so a checked program without a delay-free loop has exactly one solution
-  pub has_one_solution : HasNoDelaylessLoop p → (stream : Rows) → IsStream p stream → (words : Words) × IsOneSolution p stream words
+  pub has_one_solution : HasNoDelaylessLoop p → (stream : Rows) → IsStream p stream
+      → (words : Words) × IsOneSolution p stream words
   has_one_solution loopless stream rows = one_solution p checked es made f flat_of flat_small loopless stream rows
