@@ -23,13 +23,13 @@ pub mod FlatWords
 pub mod FlatElements
 pub mod FlatCount
 pub mod SoundFlat
-pub mod FlatSizes
-pub mod Charges
-pub mod OwnPositions
 pub mod OwnPlaces
 pub mod OwnCharges
 pub mod SmallFlat
 pub mod SourceChecked
 pub mod ProgramKeeps
 pub mod PutRows
+pub mod FlatSizes
+pub mod Charges
+pub mod OwnPositions
 mod Examples
