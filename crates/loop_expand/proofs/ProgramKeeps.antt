@@ -14,7 +14,7 @@ use Rattle.fix_word.specs.declared.types.SigType.TheVariants.{Fix, Bool as Truth
 use Rattle.silage_syntax.specs.Tree.{Program}
 use Rattle.silage_meaning.specs.Types as meaning
 use Rattle.silage_meaning.specs.Value.{Words}
-use Rattle.silage_meaning.specs.Solves.{Solves, IsStream, IsOneSolution, input_types, output_types, out}
+use Rattle.silage_meaning.specs.Solves.{Solves, IsRow, IsStream, IsOneSolution, input_types, output_types, out}
 use Rattle.silage_meaning.proofs.InputRows.{outputs_length}
 use Rattle.single_def.specs.declared.elements.Elements.{Elements}
 use Rattle.single_def.specs.Expansion.{IsExpansion}
@@ -71,12 +71,16 @@ zip_weaker R S follows (x ∷ xs) [] h = absurd h
 zip_weaker R S follows (x ∷ xs) (y ∷ ys) h = (follows x y h.0, zip_weaker R S follows xs ys h.1)
 
 -- the valid rows of a program are those of its input types
+pub row_is : (p : Program) (row : List ℤ) → IsRow p row ↔ IsRowOf (input_types p) row
+row_is p row = (
+  zip_weaker meaning.IsInType graphs.IsInType in_type (input_types p) row,
+  zip_weaker graphs.IsInType meaning.IsInType in_type_back (input_types p) row,
+)
+
 pub rows_are : (p : Program) (stream : Rows) → IsStream p stream ↔ IsStreamOf (input_types p) stream
 rows_are p stream = (
-  All-weaker (AllZip meaning.IsInType (input_types p)) (IsRowOf (input_types p))
-      (zip_weaker meaning.IsInType graphs.IsInType in_type (input_types p)) stream,
-  All-weaker (IsRowOf (input_types p)) (AllZip meaning.IsInType (input_types p))
-      (zip_weaker graphs.IsInType meaning.IsInType in_type_back (input_types p)) stream,
+  All-weaker (IsRow p) (IsRowOf (input_types p)) (λ row. (row_is p row).0) stream,
+  All-weaker (IsRowOf (input_types p)) (IsRow p) (λ row. (row_is p row).1) stream,
 )
 
 -- One solution of a program is one of its system.
