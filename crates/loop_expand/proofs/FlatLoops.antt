@@ -139,7 +139,7 @@ module _ (p : Program) (checked : IsChecked p) (es : Elements) (numbering : IsNu
       let sources : source ≡ at.source = one.only source defined ∙ sym (one.only at.source at.defined) in
       body_on p es checked distinct c l 0 of e at.source (element_of f k).body at.defined at.body (subst (λ (z : Source). SourceReads z c 0) sources reads)
 
-  depends_back : (k l : ℕ) → systems.DependsNow (ElementReads f) k l → (e c : Element) → IsNumberOf es k e → IsNumberOf es l c → DependsNow p e c
+  pub depends_back : (k l : ℕ) → systems.DependsNow (ElementReads f) k l → (e c : Element) → IsNumberOf es k e → IsNumberOf es l c → DependsNow p e c
   depends_back k l (systems.direct h) e c is of =
       let r = needs_back k l e is h in
       direct (subst (λ (z : Element). NeedsNow p e z) (element_once es l r.of c r.number_is of) r.reads)
@@ -147,7 +147,7 @@ module _ (p : Program) (checked : IsChecked p) (es : Elements) (numbering : IsNu
       let r = needs_back k m e is h in
       by_way_of r.of r.reads (depends_back m l rest r.of c r.number_is of)
 
-  depends_on : (e c : Element) → DependsNow p e c → (k l : ℕ) → IsNumberOf es k e → IsNumberOf es l c → systems.DependsNow (ElementReads f) k l
+  pub depends_on : (e c : Element) → DependsNow p e c → (k l : ℕ) → IsNumberOf es k e → IsNumberOf es l c → systems.DependsNow (ElementReads f) k l
   depends_on e c (direct h) k l is of = systems.direct (needs_on k l e c is of h)
   depends_on e c (by_way_of d h rest) k l is of =
       let there : IsElement p d = (source_there p e h.0 h.1 d 0 h.2).0 in

@@ -1,4 +1,5 @@
 pub mod Numbers
+pub mod FirstLoop
 pub mod KeepsProgram
 pub mod FlatOf
 pub mod Kept
