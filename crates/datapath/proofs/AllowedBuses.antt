@@ -14,7 +14,7 @@ use Rattle.toml.specs.Data.{Members}
 use Rattle.datapath.specs.declared.fault.Section.{Section}
 use Rattle.datapath.specs.declared.fault.PathFault.TheVariants.{UnknownUnit, UnknownPort}
 use Rattle.datapath.specs.declared.types.Bus.{Bus}
-use Rattle.datapath.specs.declared.types.PortRef.{PortRef}
+use Rattle.operations.specs.declared.units.PortRef.{PortRef}
 use Rattle.datapath.specs.declared.types.Unit as of_unit
 use Rattle.datapath.specs.Values.{is_within, is_name, text}
 use Rattle.datapath.specs.Table as row

@@ -12,8 +12,8 @@ use Rattle.std.proofs.lemmas.Slice.Eq.{bytes_eq-Decides}
 use Rattle.toml.specs.Data.{Data, Members, string, integer, float, boolean, datetime, array, table, get_member}
 use Rattle.datapath.specs.declared.fault.Section.{Section}
 use Rattle.datapath.specs.declared.fault.PathFault.TheVariants.{UnknownUnit}
-use Rattle.datapath.specs.declared.types.Kind.{Kind}
-use Rattle.datapath.specs.declared.types.Kind.TheVariants.{Input, Output, Rom, Alu, Mul, Sel, Ram, Acu}
+use Rattle.operations.specs.declared.units.Kind.{Kind}
+use Rattle.operations.specs.declared.units.Kind.TheVariants.{Input, Output, Rom, Alu, Mul, Sel, Ram, Acu}
 use Rattle.datapath.specs.declared.types.Unit as of_unit
 use Rattle.datapath.specs.Values.{whole, is_within, is_name, name, kind, array_within}
 use Rattle.datapath.specs.Table as row

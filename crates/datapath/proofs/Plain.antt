@@ -4,7 +4,7 @@ use Rattle.std.specs.Str.{is_utf8, chars}
 use Rattle.toml.proofs.OnLiterals.{toml_on_literals}
 use Rattle.datapath.specs.declared.fault.PathFault.TheVariants.{UnknownPort}
 use Rattle.datapath.specs.declared.fault.Section.TheVariants as section
-use Rattle.datapath.specs.declared.types.Kind.TheVariants.{Input, Rom, Alu, Output}
+use Rattle.operations.specs.declared.units.Kind.TheVariants.{Input, Rom, Alu, Output}
 use Rattle.datapath.specs.Reading.{key, only, in_turn}
 use Rattle.datapath.specs.Names.{driver, sink}
 use Rattle.datapath.specs.PathOf.{kind_known, unit_in, ram_in, with_rams, units_of, bus_in, path_at, path_of}

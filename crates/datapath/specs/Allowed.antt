@@ -1,17 +1,14 @@
 -- A datapath whose numbers are those that a file may have.
 use Rattle.std.specs.Prelude.{true, ◌≡◌, ◌≢◌, ℕ, ◌<◌, ◌≤◌, List, length, map, slice_get, IsSomeAnd}
 use Rattle.std.specs.List.{All, AllPairs, sum_by}
+pub use Rattle.operations.specs.Ranges.{IsWithin}
 use Rattle.datapath.specs.declared.types.Bus.{Bus}
 use Rattle.datapath.specs.declared.types.Datapath.{Datapath}
-use Rattle.datapath.specs.declared.types.Kind.TheVariants.{Ram, Acu}
-use Rattle.datapath.specs.declared.types.PortRef.{PortRef}
+use Rattle.operations.specs.declared.units.Kind.TheVariants.{Ram, Acu}
+use Rattle.operations.specs.declared.units.PortRef.{PortRef}
 use Rattle.datapath.specs.declared.types.Unit as of_unit
 use Rattle.datapath.specs.Values.{is_name}
 use Rattle.datapath.specs.Table.{ports, most_entries}
-
--- low ≤ n ≤ high
-abbrev pub IsWithin : ℕ → ℕ → ℕ → Type 0
-IsWithin low high n = (low ≤ n) × (n ≤ high)
 
 -- no two are the same
 abbrev pub IsDistinct : {A : Type 0} → List A → Type 0

@@ -6,7 +6,7 @@ use Rattle.std.specs.Str.{bytes_eq}
 use Rattle.datapath.specs.declared.fault.Section.{Section}
 use Rattle.datapath.specs.declared.fault.PathFault.TheVariants.{UnknownUnit, UnknownPort, Twice}
 use Rattle.datapath.specs.declared.types.Unit as of_unit
-use Rattle.datapath.specs.declared.types.PortRef.{PortRef}
+use Rattle.operations.specs.declared.units.PortRef.{PortRef}
 use Rattle.datapath.specs.Values.{is_within}
 use Rattle.datapath.specs.Table.{ports, is_ram}
 use Rattle.datapath.specs.Reading.{Read, ◌>>=◌}

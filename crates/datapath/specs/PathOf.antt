@@ -11,7 +11,7 @@ use Rattle.datapath.specs.declared.fault.Section.TheVariants as section
 use Rattle.datapath.specs.declared.fault.PathFault.TheVariants.{TooLong, NotToml, UnknownUnit}
 use Rattle.datapath.specs.declared.types.Bus.{Bus}
 use Rattle.datapath.specs.declared.types.Datapath.{Datapath}
-use Rattle.datapath.specs.declared.types.Kind.{Kind}
+use Rattle.operations.specs.declared.units.Kind.{Kind}
 use Rattle.datapath.specs.declared.types.Unit as of_unit
 use Rattle.datapath.specs.Table as row
 use Rattle.datapath.specs.Table.{ports, is_ram, is_acu, top_keys, unit_keys, bus_keys, most_entries}

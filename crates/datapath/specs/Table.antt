@@ -1,8 +1,9 @@
 -- The format: the keys of each table of the file, a row a key.
 use Rattle.std.specs.Prelude.{ℕ, zero, suc, List, [], ◌∷◌, codes, Bool, true, false, Option, Some, None}
 use Rattle.toml.specs.Data.{Members}
-use Rattle.datapath.specs.declared.types.Kind.{Kind}
-use Rattle.datapath.specs.declared.types.Kind.TheVariants.{Input, Output, Rom, Alu, Mul, Sel, Ram, Acu}
+use Rattle.operations.specs.declared.units.Kind.{Kind}
+use Rattle.operations.specs.declared.units.Kind.TheVariants.{Ram, Acu}
+pub use Rattle.operations.specs.Units.{ports}
 use Rattle.datapath.specs.Values.{Judge, whole, text, name as a_name, kind as a_kind, a_table, array_of, array_within}
 
 -- a key, what its value may be, and what stands for it where it is missing
@@ -17,17 +18,6 @@ row key value default = record { key = key; value = value; default = default }
 -- nothing stands for it
 abbrev pub required : {A : Type 0} → Option A
 required = None
-
--- how many ports a unit of the kind has
-abbrev pub ports : Kind → ℕ
-ports Input = 0
-ports Output = 1
-ports Rom = 0
-ports Alu = 2
-ports Mul = 2
-ports Sel = 3
-ports Ram = 2
-ports Acu = 0
 
 -- The top table.
 

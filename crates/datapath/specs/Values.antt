@@ -6,8 +6,8 @@ use Rattle.std.specs.Str.{bytes_eq}
 use Rattle.toml.specs.Data.{Data, Items, no_items, item, Members, string, integer, array, as_str, as_table}
 use Rattle.datapath.specs.declared.fault.Misfit.{Misfit}
 use Rattle.datapath.specs.declared.fault.Misfit.TheVariants.{WrongKind, Range}
-use Rattle.datapath.specs.declared.types.Kind.{Kind}
-use Rattle.datapath.specs.declared.types.Kind.TheVariants.{Input, Output, Rom, Alu, Mul, Sel, Ram, Acu}
+use Rattle.operations.specs.declared.units.Kind.{Kind}
+use Rattle.operations.specs.declared.units.Kind.TheVariants.{Input, Output, Rom, Alu, Mul, Sel, Ram, Acu}
 
 -- a value of the file, taken for what its key wants, or why it is not that
 abbrev pub Judge : Type 0 → Type 0

@@ -11,9 +11,9 @@ ghost use Rattle.datapath.specs.declared.fault.Section.TheVariants as section;
 
 use crate::fault::{Misfit, PathFault, Section};
 use crate::keys::{member, settle};
-use crate::types::Kind;
 use crate::values::as_whole;
 use lists::List;
+use operations::Kind;
 use std::alloc::{AllocError, Global};
 use toml::value::Array;
 use toml::{Table, Value};

@@ -7,8 +7,9 @@ ghost use Rattle.datapath.specs.Reading.{Gives, in_turn};
 ghost use Rattle.datapath.specs.Private.Answers.{texts};
 
 use crate::fault::{PathFault, Section};
-use crate::types::{Kind, PortRef, Unit};
+use crate::types::Unit;
 use lists::List;
+use operations::{Kind, PortRef};
 use std::alloc::Global;
 
 /// The position of the unit of the name.

@@ -15,5 +15,6 @@ mod units;
 mod values;
 
 pub use fault::{PathFault, Section};
+pub use operations::{Kind, PortRef};
 pub use reader::read;
-pub use types::{Bus, Datapath, Kind, PortRef, Unit};
+pub use types::{Bus, Datapath, Unit};

@@ -1,41 +1,5 @@
-ghost use Rattle.std.specs.Prelude.{◌≡◌};
-ghost use Rattle.datapath.specs.Table.{ports};
-
 use lists::{List, Name};
-
-/// The kinds of functional units.
-#[derive(Clone, Copy, Debug, PartialEq, Eq)]
-pub enum Kind {
-    Input,
-    Output,
-    Rom,
-    Alu,
-    Mul,
-    Sel,
-    Ram,
-    Acu,
-}
-
-impl Kind {
-    /// How many ports a unit of the kind has.
-    pub fn ports(self) -> usize
-        ensures { result ≡ ports self }
-    {
-        match self {
-            Kind::Input | Kind::Rom | Kind::Acu => 0,
-            Kind::Output => 1,
-            Kind::Alu | Kind::Mul | Kind::Ram => 2,
-            Kind::Sel => 3,
-        }
-    }
-}
-
-/// A port of a unit, which has a register file of its own.
-#[derive(Clone, Copy, Debug, PartialEq, Eq)]
-pub struct PortRef {
-    pub unit: u8,
-    pub port: u8,
-}
+use operations::{Kind, PortRef};
 
 /// A unit of the datapath.
 #[derive(Drop)]

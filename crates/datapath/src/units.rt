@@ -14,9 +14,10 @@ use crate::arrays::files_key;
 use crate::entries::ram_named;
 use crate::fault::{PathFault, Section};
 use crate::keys::{member, only_keys, whole_key};
-use crate::types::{Kind, Unit};
+use crate::types::Unit;
 use crate::values::{as_kind, kind_key, name_key};
 use lists::List;
+use operations::Kind;
 use std::alloc::Global;
 use toml::Table;
 

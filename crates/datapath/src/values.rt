@@ -9,8 +9,8 @@ ghost use Rattle.datapath.specs.Reading.{Gives, judged, key};
 
 use crate::fault::{Misfit, PathFault, Section};
 use crate::keys::{member, settle};
-use crate::types::Kind;
 use lists::Name;
+use operations::Kind;
 use std::alloc::Global;
 use toml::{Table, Value};
 

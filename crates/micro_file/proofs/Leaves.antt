@@ -17,8 +17,8 @@ use Rattle.fix_word.specs.declared.types.Mode.{Mode}
 use Rattle.fix_word.specs.declared.types.Mode.TheVariants.{Trunc, Round}
 use Rattle.fix_word.specs.declared.operation.Op.{Op}
 use Rattle.fix_word.specs.declared.operation.Op.TheVariants as op
-use Rattle.micro_image.specs.declared.image.Kind.{Kind}
-use Rattle.micro_image.specs.declared.image.Kind.TheVariants as kind
+use Rattle.operations.specs.declared.units.Kind.{Kind}
+use Rattle.operations.specs.declared.units.Kind.TheVariants as kind
 use Rattle.micro_image.specs.Operations.{opcode}
 use Rattle.micro_image.specs.Spells.{two_bytes, four_bytes, eight_bytes, kind_byte, mode_byte}
 use Rattle.micro_image.specs.Valid.{IsWithin}

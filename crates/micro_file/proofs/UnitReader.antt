@@ -7,8 +7,8 @@ use Rattle.std.specs.List.{All, flat_map}
 use Rattle.std.proofs.lemmas.List.{append-nil}
 use Rattle.std.proofs.lemmas.List.Elements.{All-nil}
 use Rattle.fix_word.specs.Words.{IsWord}
-use Rattle.micro_image.specs.declared.image.Kind.{Kind}
-use Rattle.micro_image.specs.declared.image.Kind.TheVariants as kind
+use Rattle.operations.specs.declared.units.Kind.{Kind}
+use Rattle.operations.specs.declared.units.Kind.TheVariants as kind
 use Rattle.micro_image.specs.declared.image.UnitDesc.{UnitDesc}
 use Rattle.micro_image.specs.Spells.{four_bytes, eight_bytes, kind_byte, spelled_file, spelled_memory, spelled_unit}
 use Rattle.micro_image.specs.Valid.{IsWithin, IsFile, IsUnit, ports}

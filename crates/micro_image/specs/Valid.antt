@@ -1,46 +1,27 @@
 -- A valid image: each field is allowed, one fact for each row of the microcode file's table.
-use Rattle.std.specs.Prelude.{Bool, true, false, ◌≡◌, ◌≢◌, ℕ, ◌*◌, ◌<◌, ◌≤◌, ◌⊎◌, List, [], length, ℤ, pos, negsuc, map, slice_get, IsSomeAnd}
+use Rattle.std.specs.Prelude.{Bool, true, false, ◌≡◌, ◌≢◌, ℕ, ◌*◌, ◌<◌, ◌≤◌, ◌⊎◌, List, [], length, ℤ, pos, map, slice_get, IsSomeAnd}
 use Rattle.std.specs.List.{All, AllAdjacentBelow}
 use Rattle.std.specs.List.Sorted.{IsStrictlyIncreasing}
 use Rattle.fix_word.specs.Words.{IsWord, IsFormat}
 use Rattle.fix_word.specs.declared.types.Format.{Format}
-use Rattle.fix_word.specs.declared.types.Mode.TheVariants.{Trunc}
 use Rattle.fix_word.specs.declared.operation.Op.{Op}
+use Rattle.operations.specs.declared.units.Kind.TheVariants as kind
+use Rattle.operations.specs.declared.units.PortRef.{PortRef}
+pub use Rattle.operations.specs.Ranges.{IsWithin, IsBelow}
+pub use Rattle.operations.specs.Units.{ports}
+use Rattle.operations.specs.Operations.{plain}
 use Rattle.micro_image.specs.declared.image.Enable.{Enable}
 use Rattle.micro_image.specs.declared.image.Image.{Image}
 use Rattle.micro_image.specs.declared.image.Issue.{Issue}
-use Rattle.micro_image.specs.declared.image.Kind.{Kind}
-use Rattle.micro_image.specs.declared.image.Kind.TheVariants as kind
-use Rattle.micro_image.specs.declared.image.PortRef.{PortRef}
 use Rattle.micro_image.specs.declared.image.Take.{Take}
 use Rattle.micro_image.specs.declared.image.UnitDesc.{UnitDesc}
 use Rattle.micro_image.specs.declared.image.Word.{Word}
 use Rattle.micro_image.specs.Fields.{nth}
 use Rattle.micro_image.specs.Operations.{Argument, nothing, input_word, output_word, raw_word, offset, operation, kind_of, reads, is_formatted}
 
--- low ≤ n ≤ high
-abbrev pub IsWithin : ℕ → ℕ → ℕ → Type 0
-IsWithin low high n = (low ≤ n) × (n ≤ high)
-
--- 0 ≤ z < n
-abbrev pub IsBelow : ℕ → ℤ → Type 0
-IsBelow n (pos k) = k < n
-IsBelow n (negsuc k) = ⊥
-
--- how many ports a unit of the kind has
-abbrev pub ports : Kind → ℕ
-ports kind.Input = 0
-ports kind.Output = 1
-ports kind.Rom = 0
-ports kind.Alu = 2
-ports kind.Mul = 2
-ports kind.Sel = 3
-ports kind.Ram = 2
-ports kind.Acu = 0
-
 -- shift 0, trunc and width 0
 abbrev pub IsNoFormat : Format → Type 0
-IsNoFormat fmt = fmt ≡ record { shift = pos 0; mode = Trunc; width = 0 }
+IsNoFormat fmt = fmt ≡ plain 0
 
 -- a format where there is to be one, and else none
 abbrev pub IsFormatWhere : Bool → Format → Type 0

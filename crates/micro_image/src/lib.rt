@@ -7,8 +7,7 @@
 
 mod conflict;
 mod image;
-mod operation;
 
 pub use conflict::{Conflict, ConflictKind};
-pub use image::{Enable, Image, Issue, Kind, PortRef, Take, UnitDesc, Word};
-pub use operation::{is_formatted, reads};
+pub use image::{Enable, Image, Issue, Take, UnitDesc, Word};
+pub use operations::{Kind, PortRef, is_formatted, reads};

@@ -1,7 +1,7 @@
 -- Tests of long delays and of delay lines.
 use Rattle.std.proofs.Common.{◌≡◌, arith, ℕ, ◌+◌, ◌<◌, ◌≤◌, List, [], length, slice_index, slice_index_or, All, Contains}
 use Rattle.std.specs.List.Sorted.{IsStrictlyIncreasing}
-use Rattle.datapath.specs.declared.types.Kind.TheVariants as kind
+use Rattle.operations.specs.declared.units.Kind.TheVariants as kind
 use Rattle.datapath.specs.declared.types.Datapath.{Datapath}
 use Rattle.signal_graph.specs.declared.graph.Edge.{Edge}
 use Rattle.signal_graph.specs.declared.graph.Graph.{Graph}

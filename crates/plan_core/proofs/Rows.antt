@@ -6,9 +6,9 @@ use Rattle.fix_word.specs.declared.operation.Op.TheVariants as op
 use Rattle.fix_word.specs.declared.types.Mode.TheVariants.{Trunc}
 use Rattle.fix_word.specs.declared.types.SigType.{SigType}
 use Rattle.fix_word.specs.declared.types.SigType.TheVariants as sig
-use Rattle.datapath.specs.declared.types.Kind.{Kind}
-use Rattle.datapath.specs.declared.types.Kind.TheVariants as kind
-use Rattle.datapath.specs.declared.types.PortRef.{PortRef}
+use Rattle.operations.specs.declared.units.Kind.{Kind}
+use Rattle.operations.specs.declared.units.Kind.TheVariants as kind
+use Rattle.operations.specs.declared.units.PortRef.{PortRef}
 use Rattle.datapath.specs.declared.types.Unit.{Unit as FunctionalUnit}
 use Rattle.datapath.specs.declared.types.Bus.{Bus}
 use Rattle.datapath.specs.declared.types.Datapath.{Datapath}

@@ -1,7 +1,7 @@
 -- Tests of heights and of the list schedule.
 use Rattle.std.proofs.Common.{◌≡◌, refl, subst, subst₂, ap, ℕ, ◌+◌, ◌<◌, ◌≤◌, ◌⊎◌, List, length, map, All, Contains, true}
 use Rattle.std.specs.List.{AllPairs}
-use Rattle.datapath.specs.declared.types.PortRef.{PortRef}
+use Rattle.operations.specs.declared.units.PortRef.{PortRef}
 use Rattle.datapath.specs.declared.types.Datapath.{Datapath}
 use Rattle.signal_graph.specs.declared.graph.Node.{Node}
 use Rattle.plan_core.specs.Hardware.{latency_on, gap_on, port_of, IsRoute}

@@ -1,7 +1,7 @@
 -- Graphs that have no plan, each with the rule that finds no place; and plans that a rule refuses.
 use Rattle.std.proofs.Common.{◌≡◌, refl, sym, subst, arith, ℕ, zero, suc, ◌<◌, ◌⊎◌, inl, inr, List, [], ◌∷◌, ◌++◌, take, drop, slice_index_or, codes, true}
 use Rattle.fix_word.specs.declared.operation.Op.TheVariants as op
-use Rattle.datapath.specs.declared.types.Kind.TheVariants as kind
+use Rattle.operations.specs.declared.units.Kind.TheVariants as kind
 use Rattle.datapath.specs.declared.types.Datapath.{Datapath}
 use Rattle.signal_graph.specs.declared.graph.Node.{Node}
 use Rattle.plan_core.specs.Hardware.{HasRoute, port_of, file_size}

@@ -1,35 +1,12 @@
 -- What a plan needs of a datapath: its units, and the routes between them.
 use Rattle.std.specs.Prelude.{◌≡◌, ℕ, ◌<◌, [], length, slice_index_or, Contains}
-use Rattle.fix_word.specs.declared.operation.Op.{Op}
-use Rattle.fix_word.specs.declared.operation.Op.TheVariants as op
-use Rattle.datapath.specs.declared.types.Kind.{Kind}
-use Rattle.datapath.specs.declared.types.Kind.TheVariants as kind
-use Rattle.datapath.specs.declared.types.PortRef.{PortRef}
+use Rattle.operations.specs.declared.units.Kind.{Kind}
+use Rattle.operations.specs.declared.units.Kind.TheVariants as kind
+use Rattle.operations.specs.declared.units.PortRef.{PortRef}
+pub use Rattle.operations.specs.Operations.{kind_of}
 use Rattle.datapath.specs.declared.types.Unit.{Unit as FunctionalUnit}
 use Rattle.datapath.specs.declared.types.Bus.{Bus}
 use Rattle.datapath.specs.declared.types.Datapath.{Datapath}
-
--- the kind of the units that do an operation
-abbrev pub kind_of : Op → Kind
-kind_of op.Input = kind.Input
-kind_of op.Output = kind.Output
-kind_of op.Const = kind.Rom
-kind_of op.Add = kind.Alu
-kind_of op.Sub = kind.Alu
-kind_of op.Neg = kind.Alu
-kind_of op.Pass = kind.Alu
-kind_of op.Lt = kind.Alu
-kind_of op.Le = kind.Alu
-kind_of op.Eq = kind.Alu
-kind_of op.Ne = kind.Alu
-kind_of op.And = kind.Alu
-kind_of op.Or = kind.Alu
-kind_of op.Not = kind.Alu
-kind_of op.Mul = kind.Mul
-kind_of op.Sel = kind.Sel
-kind_of op.Load = kind.Ram
-kind_of op.Store = kind.Ram
-kind_of op.Addr = kind.Acu
 
 -- what stands in the place of a unit or a bus that is not there
 abbrev pub no_unit : FunctionalUnit

@@ -8,7 +8,7 @@ use Rattle.std.specs.List.{enumerate_from, AllZip}
 use Rattle.std.specs.List.Sorted.{IsStrictlyIncreasing}
 use Rattle.fix_word.specs.declared.operation.Op.TheVariants as op
 use Rattle.datapath.specs.declared.types.Datapath.{Datapath}
-use Rattle.datapath.specs.declared.types.Kind.TheVariants as kind
+use Rattle.operations.specs.declared.units.Kind.TheVariants as kind
 use Rattle.signal_graph.specs.Rules.{plain}
 use Rattle.signal_graph.specs.declared.graph.Edge.{Edge}
 use Rattle.signal_graph.specs.declared.graph.Node.{Node}

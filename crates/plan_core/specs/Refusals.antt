@@ -1,8 +1,8 @@
 -- Where a graph has no plan on a datapath: the first node, or copy of a lifetime, at which a rule finds no place.
 use Rattle.std.specs.Prelude.{◌≡◌, ℕ, ◌+◌, ◌<◌, ◌≤◌, ◌⊎◌, List, [], length, slice_get, slice_index_or, All, Contains, Some}
-use Rattle.datapath.specs.declared.types.Kind.{Kind}
-use Rattle.datapath.specs.declared.types.Kind.TheVariants as kind
-use Rattle.datapath.specs.declared.types.PortRef.{PortRef}
+use Rattle.operations.specs.declared.units.Kind.{Kind}
+use Rattle.operations.specs.declared.units.Kind.TheVariants as kind
+use Rattle.operations.specs.declared.units.PortRef.{PortRef}
 use Rattle.datapath.specs.declared.types.Datapath.{Datapath}
 use Rattle.signal_graph.specs.declared.graph.Graph.{Graph}
 use Rattle.plan_core.specs.Hardware.{kind_of, port_of, file_size, IsOfKind, IsAcuOf, HasRoute}

@@ -1,7 +1,7 @@
 -- The reservation table of a schedule: the operations that are placed so far take their units, register files and
 -- buses.
 use Rattle.std.specs.Prelude.{◌≡◌, ◌≢◌, ℕ, ◌+◌, ◌-◌, ◌<◌, ◌≤◌, ◌⊎◌, All}
-use Rattle.datapath.specs.declared.types.PortRef.{PortRef}
+use Rattle.operations.specs.declared.units.PortRef.{PortRef}
 use Rattle.datapath.specs.declared.types.Datapath.{Datapath}
 use Rattle.plan_core.specs.Hardware.{latency_on, gap_on, IsRoute}
 use Rattle.plan_core.specs.declared.schedule.Transfer.{Transfer}

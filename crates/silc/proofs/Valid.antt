@@ -12,8 +12,8 @@ use Rattle.micro_image.specs.Operations.{kind_of, reads}
 use Rattle.micro_image.specs.Valid.{IsFile, IsUnit, IsIssue, IsEnable, IsTake, IsWordOf, IsValid, IsFormatFor, IsArgument, AreRegisters, EnableBefore, TakeBefore, ports}
 use Rattle.micro_image.specs.declared.image.Enable.{Enable}
 use Rattle.micro_image.specs.declared.image.Issue.{Issue}
-use Rattle.micro_image.specs.declared.image.Kind.{Kind}
-use Rattle.micro_image.specs.declared.image.Kind.TheVariants as kind
+use Rattle.operations.specs.declared.units.Kind.{Kind}
+use Rattle.operations.specs.declared.units.Kind.TheVariants as kind
 use Rattle.micro_image.specs.declared.image.Take.{Take}
 use Rattle.micro_image.specs.declared.image.UnitDesc.{UnitDesc}
 use Rattle.silage_syntax.specs.Tree.{Program}

@@ -1,8 +1,8 @@
 -- The units of a file.
 use Rattle.std.specs.Prelude.{ℕ, List, [], ◌∷◌, slice_get, Option, Some, None, Bool, true, false, ◌&&◌, ℤ}
 use Rattle.std.specs.Int.{w16, w32}
-use Rattle.micro_image.specs.declared.image.Kind.{Kind}
-use Rattle.micro_image.specs.declared.image.Kind.TheVariants as kind
+use Rattle.operations.specs.declared.units.Kind.{Kind}
+use Rattle.operations.specs.declared.units.Kind.TheVariants as kind
 use Rattle.micro_image.specs.declared.image.UnitDesc.{UnitDesc}
 use Rattle.micro_image.specs.Valid.{ports}
 use Rattle.micro_file.specs.declared.reader.TheConstants.{KINDS}

@@ -1,11 +1,11 @@
 ghost use Rattle.std.specs.Prelude.{◌≡◌};
-ghost use Rattle.micro_image.specs.Operations.{is_formatted as is_formatted_in, reads as reads_in};
+ghost use Rattle.operations.specs.Operations.{is_formatted as is_formatted_in, operands};
 
 use fix_word::Op;
 
-/// How many ports an operation reads, from port 0 on.
+/// How many ports an operation reads, from port 0 on: one for each operand.
 pub fn reads(op: Op) -> usize
-    ensures { result ≡ reads_in op }
+    ensures { result ≡ operands op }
 {
     match op {
         Op::Input | Op::Const | Op::Addr => 0,
@@ -16,7 +16,7 @@ pub fn reads(op: Op) -> usize
     }
 }
 
-/// Whether an operation brings its exact result to a word by the issue's format.
+/// Whether an operation brings its exact result to a word by a format.
 pub fn is_formatted(op: Op) -> bool
     ensures { result ≡ is_formatted_in op }
 {
