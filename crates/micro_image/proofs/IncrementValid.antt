@@ -2,12 +2,15 @@
 use Rattle.std.proofs.Common.{◌≡◌, ◌≢◌, ◌<◌, ◌≤◌, refl, sym, ap, ◌∙◌, arith, ℕ, List, [], ◌∷◌, length, replicate, ℤ, pos, inl}
 use Rattle.std.proofs.lemmas.List.Elements.{All-replicate}
 use Rattle.std.proofs.lemmas.Int.{ints}
-use Rattle.std.proofs.lemmas.List.{get_or-replicate, length-replicate}
+use Rattle.std.proofs.lemmas.List.{get_or-replicate, length-map, length-replicate}
 use Rattle.std.specs.List.{All}
 use Rattle.fix_word.specs.Words.{IsWord, IsFormat}
 use Rattle.fix_word.specs.declared.types.Mode.TheVariants.{Trunc}
 use Rattle.operations.specs.declared.units.Kind.{Kind}
 use Rattle.operations.specs.declared.units.Kind.TheVariants as kind
+use Rattle.micro_image.specs.declared.image.Enable.{Enable}
+use Rattle.micro_image.specs.declared.image.Issue.{Issue}
+use Rattle.micro_image.specs.declared.image.Take.{Take}
 use Rattle.micro_image.specs.Fields.{no_word, nth}
 use Rattle.micro_image.specs.Valid.{ports, IsValid, IsUnit, IsFile, IsWordOf, IsIssue, IsEnable, IsTake, AreRegisters}
 use Rattle.micro_image.specs.Spells.{Spells}
@@ -63,65 +66,54 @@ first_registers count size some = record {
 plain_format : IsFormat (record { shift = pos 0; mode = Trunc; width = 8 })
 plain_format = record { lowest = omega (arith, ints); highest = omega (arith, ints); narrowest = omega arith; widest = omega arith }
 
-valid_fetch : IsWordOf increment fetch
-valid_fetch = record {
-  issues = All-from_Each (IsIssue increment) (more (record { does = refl; fmt = refl; arg = omega arith; regs = first_registers 0 1 (omega arith) }) none);
-  issues_rise = λ k below. absurd (omega (arith, below));
-  enable_count = omega arith;
-  enables = All-from_Each (IsEnable increment) (more (record { unit = omega arith; bus = omega arith }) none);
-  enables_rise = λ k d below. absurd (omega (arith, below));
-  take_count = omega arith;
-  takes = All-from_Each (IsTake increment) (more (record { register = omega arith; bus = omega arith }) none);
-  takes_rise = λ k d below. absurd (omega (arith, below));
+-- a word that has at most one issue, one drive and one take, so that none has another before it
+short_word : (issues : List Issue) (enables : List Enable) (takes : List Take)
+    → length issues ≤ 1 → Each (IsIssue increment) issues
+    → length enables ≤ 1 → Each (IsEnable increment) enables
+    → length takes ≤ 1 → Each (IsTake increment) takes
+    → IsWordOf increment (record { issues = issues; enables = enables; takes = takes })
+short_word issues enables takes one_issue are_issues one_enable are_enables one_take are_takes = record {
+  issues = All-from_Each (IsIssue increment) are_issues;
+  issues_rise = λ k below. absurd (omega (arith, below, one_issue, length-map issues (λ issue. issue.unit)));
+  enable_count = omega (arith, one_enable);
+  enables = All-from_Each (IsEnable increment) are_enables;
+  enables_rise = λ k d below. absurd (omega (arith, below, one_enable));
+  take_count = omega (arith, one_take);
+  takes = All-from_Each (IsTake increment) are_takes;
+  takes_rise = λ k d below. absurd (omega (arith, below, one_take));
 }
+
+-- a word with one issue, whose result goes over the bus to a register
+moving_word : (issue : Issue) (enable : Enable) (take : Take) → IsIssue increment issue → IsEnable increment enable
+    → IsTake increment take
+    → IsWordOf increment (record { issues = issue ∷ []; enables = enable ∷ []; takes = take ∷ [] })
+moving_word issue enable take is_issue is_enable is_take =
+    short_word (issue ∷ []) (enable ∷ []) (take ∷ []) (omega arith) (more is_issue none) (omega arith)
+    (more is_enable none) (omega arith) (more is_take none)
+
+valid_fetch : IsWordOf increment fetch
+valid_fetch =
+    moving_word _ _ _ (record { does = refl; fmt = refl; arg = omega arith; regs = first_registers 0 1 (omega arith) })
+    (record { unit = omega arith; bus = omega arith }) (record { register = omega arith; bus = omega arith })
 
 valid_one : IsWordOf increment one
-valid_one = record {
-  issues = All-from_Each (IsIssue increment) (more (record { does = refl; fmt = refl; arg = one_word; regs = first_registers 0 1 (omega arith) }) none);
-  issues_rise = λ k below. absurd (omega (arith, below));
-  enable_count = omega arith;
-  enables = All-from_Each (IsEnable increment) (more (record { unit = omega arith; bus = omega arith }) none);
-  enables_rise = λ k d below. absurd (omega (arith, below));
-  take_count = omega arith;
-  takes = All-from_Each (IsTake increment) (more (record { register = omega arith; bus = omega arith }) none);
-  takes_rise = λ k d below. absurd (omega (arith, below));
-}
+valid_one =
+    moving_word _ _ _ (record { does = refl; fmt = refl; arg = one_word; regs = first_registers 0 1 (omega arith) })
+    (record { unit = omega arith; bus = omega arith }) (record { register = omega arith; bus = omega arith })
 
 valid_sum : IsWordOf increment sum
-valid_sum = record {
-  issues = All-from_Each (IsIssue increment) (more (record { does = refl; fmt = plain_format; arg = refl; regs = first_registers 2 8 (omega arith) }) none);
-  issues_rise = λ k below. absurd (omega (arith, below));
-  enable_count = omega arith;
-  enables = All-from_Each (IsEnable increment) (more (record { unit = omega arith; bus = omega arith }) none);
-  enables_rise = λ k d below. absurd (omega (arith, below));
-  take_count = omega arith;
-  takes = All-from_Each (IsTake increment) (more (record { register = omega arith; bus = omega arith }) none);
-  takes_rise = λ k d below. absurd (omega (arith, below));
-}
+valid_sum =
+    moving_word _ _ _ (record { does = refl; fmt = plain_format; arg = refl; regs = first_registers 2 8 (omega arith) })
+    (record { unit = omega arith; bus = omega arith }) (record { register = omega arith; bus = omega arith })
 
 valid_put : IsWordOf increment put
-valid_put = record {
-  issues = All-from_Each (IsIssue increment) (more (record { does = refl; fmt = refl; arg = omega arith; regs = first_registers 1 2 (omega arith) }) none);
-  issues_rise = λ k below. absurd (omega (arith, below));
-  enable_count = omega arith;
-  enables = All-from_Each (IsEnable increment) none;
-  enables_rise = λ k d below. absurd (omega (arith, below));
-  take_count = omega arith;
-  takes = All-from_Each (IsTake increment) none;
-  takes_rise = λ k d below. absurd (omega (arith, below));
-}
+valid_put =
+    short_word _ [] [] (omega arith)
+    (more (record { does = refl; fmt = refl; arg = omega arith; regs = first_registers 1 2 (omega arith) }) none)
+    (omega arith) none (omega arith) none
 
 valid_empty : IsWordOf increment no_word
-valid_empty = record {
-  issues = All-from_Each (IsIssue increment) none;
-  issues_rise = λ k below. absurd (omega (arith, below));
-  enable_count = omega arith;
-  enables = All-from_Each (IsEnable increment) none;
-  enables_rise = λ k d below. absurd (omega (arith, below));
-  take_count = omega arith;
-  takes = All-from_Each (IsTake increment) none;
-  takes_rise = λ k d below. absurd (omega (arith, below));
-}
+valid_empty = short_word [] [] [] (omega arith) none (omega arith) none (omega arith) none
 
 -- each field of the image is allowed
 pub increment-valid : IsValid increment
