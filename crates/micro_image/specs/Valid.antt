@@ -1,15 +1,15 @@
 -- A valid image: each field is allowed, one fact for each row of the microcode file's table.
-use Rattle.std.specs.Prelude.{Bool, true, false, ◌≡◌, ◌≢◌, ℕ, ◌*◌, ◌<◌, ◌≤◌, ◌⊎◌, List, [], length, ℤ, pos, map, slice_get, IsSomeAnd}
+use Rattle.std.specs.Prelude.{◌≡◌, ◌≢◌, ℕ, ◌*◌, ◌<◌, ◌≤◌, ◌⊎◌, List, [], length, ℤ, pos, map, slice_get, IsSomeAnd}
 use Rattle.std.specs.List.{All, AllAdjacentBelow}
 use Rattle.std.specs.List.Sorted.{IsStrictlyIncreasing}
-use Rattle.fix_word.specs.Words.{IsWord, IsFormat}
+use Rattle.fix_word.specs.Words.{IsWord}
 use Rattle.fix_word.specs.declared.types.Format.{Format}
 use Rattle.fix_word.specs.declared.operation.Op.{Op}
 use Rattle.operations.specs.declared.units.Kind.TheVariants as kind
 use Rattle.operations.specs.declared.units.PortRef.{PortRef}
 pub use Rattle.operations.specs.Ranges.{IsWithin, IsBelow}
 pub use Rattle.operations.specs.Units.{ports}
-use Rattle.operations.specs.Operations.{plain}
+pub use Rattle.operations.specs.Operations.{IsNoFormat, IsFormatWhere}
 use Rattle.micro_image.specs.declared.image.Enable.{Enable}
 use Rattle.micro_image.specs.declared.image.Image.{Image}
 use Rattle.micro_image.specs.declared.image.Issue.{Issue}
@@ -18,15 +18,6 @@ use Rattle.micro_image.specs.declared.image.UnitDesc.{UnitDesc}
 use Rattle.micro_image.specs.declared.image.Word.{Word}
 use Rattle.micro_image.specs.Fields.{nth}
 use Rattle.micro_image.specs.Operations.{Argument, nothing, input_word, output_word, raw_word, offset, operation, kind_of, reads, is_formatted}
-
--- shift 0, trunc and width 0
-abbrev pub IsNoFormat : Format → Type 0
-IsNoFormat fmt = fmt ≡ plain 0
-
--- a format where there is to be one, and else none
-abbrev pub IsFormatWhere : Bool → Format → Type 0
-IsFormatWhere true = IsFormat
-IsFormatWhere false = IsNoFormat
 
 -- the format of an issue: the formatted operations have one
 abbrev pub IsFormatFor : Op → Format → Type 0

@@ -1,5 +1,6 @@
 -- The operations, a row each: which kind of functional unit does one, how many operands it has, and what it gives.
-use Rattle.std.specs.Prelude.{ℕ, pos, Bool, true, false}
+use Rattle.std.specs.Prelude.{◌≡◌, ℕ, pos, Bool, true, false}
+use Rattle.fix_word.specs.Words.{IsFormat}
 use Rattle.fix_word.specs.declared.types.Format.{Format}
 use Rattle.fix_word.specs.declared.types.Mode.TheVariants.{Trunc}
 use Rattle.fix_word.specs.declared.operation.Op.{Op}
@@ -70,3 +71,12 @@ is_formatted o = is_quantised (class_of o)
 -- shift 0, trunc and this width
 abbrev pub plain : ℕ → Format
 plain width = record { shift = pos 0; mode = Trunc; width = width }
+
+-- shift 0, trunc and width 0
+abbrev pub IsNoFormat : Format → Type 0
+IsNoFormat fmt = fmt ≡ plain 0
+
+-- a format where there is to be one, and else none
+abbrev pub IsFormatWhere : Bool → Format → Type 0
+IsFormatWhere true = IsFormat
+IsFormatWhere false = IsNoFormat

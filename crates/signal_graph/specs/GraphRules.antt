@@ -1,18 +1,18 @@
 -- A sound graph, one fact for each rule.
 use Rattle.std.specs.Prelude.{◌≡◌, ◌≢◌, ℕ, ◌+◌, ◌-◌, ◌^◌, ◌<◌, ◌≤◌, length, take, slice_get, All, IsSomeAnd, ℤ, pos}
-use Rattle.fix_word.specs.Words.{IsWord, IsFormat}
+use Rattle.fix_word.specs.Words.{IsWord}
 use Rattle.fix_word.specs.declared.types.Format.{Format}
 use Rattle.fix_word.specs.declared.operation.Op.TheVariants as op
-use Rattle.signal_graph.specs.Operations.{Class, input, output, constant, quantised, operands, class_of, IsOfGraphs}
-use Rattle.signal_graph.specs.Rules.{max_delay, IsWithin, IsBelow, IsType, plain, AreInits}
+use Rattle.operations.specs.Operations.{is_quantised, IsFormatWhere}
+use Rattle.signal_graph.specs.Operations.{Class, input, output, constant, operands, class_of, IsOfGraphs}
+use Rattle.signal_graph.specs.Rules.{max_delay, IsWithin, IsBelow, IsType, AreInits}
 use Rattle.signal_graph.specs.declared.graph.Edge.{Edge}
 use Rattle.signal_graph.specs.declared.graph.Node.{Node}
 use Rattle.signal_graph.specs.declared.graph.Graph.{Graph}
 
 -- the format of a node
 abbrev pub IsNodeFormat : Class → Format → Type 0
-IsNodeFormat quantised fmt = IsFormat fmt
-IsNodeFormat _ fmt = fmt ≡ plain 0
+IsNodeFormat class = IsFormatWhere (is_quantised class)
 
 -- the argument of a node
 abbrev pub IsArgument : Graph → Class → ℤ → Type 0

@@ -1,24 +1,15 @@
 -- Rules that flat programs and graphs share: types, formats, initial values.
-use Rattle.std.specs.Prelude.{ℕ, ◌≤◌, ◌<◌, ◌==◌, List, map, All, find, Option, Some, None, ℤ, pos, negsuc, ◌≤ℤ◌}
+use Rattle.std.specs.Prelude.{ℕ, ◌==◌, List, map, All, find, Option, Some, None, ℤ, pos, ◌≤ℤ◌}
 use Rattle.std.specs.List.Sorted.{IsStrictlyIncreasing}
 use Rattle.fix_word.specs.Words.{IsWord, IsShape}
-use Rattle.fix_word.specs.declared.types.Format.{Format}
-use Rattle.fix_word.specs.declared.types.Mode.TheVariants.{Trunc}
 use Rattle.fix_word.specs.declared.types.SigType.{SigType}
 use Rattle.fix_word.specs.declared.types.SigType.TheVariants as sig
+pub use Rattle.operations.specs.Ranges.{IsWithin, IsBelow}
+pub use Rattle.operations.specs.Operations.{plain}
 
 -- the most that a delay may be, in samples
 abbrev pub max_delay : ℕ
 max_delay = 1023
-
--- low ≤ n ≤ high
-abbrev pub IsWithin : ℕ → ℕ → ℕ → Type 0
-IsWithin low high n = (low ≤ n) × (n ≤ high)
-
--- 0 ≤ z < n
-abbrev pub IsBelow : ℕ → ℤ → Type 0
-IsBelow n (pos k) = k < n
-IsBelow n (negsuc k) = ⊥
 
 -- the shape of a fixed-point type is allowed
 abbrev pub IsType : SigType → Type 0
@@ -34,10 +25,6 @@ width_of sig.Bool = 2
 abbrev pub IsInType : SigType → ℤ → Type 0
 IsInType (sig.Fix t) word = IsWord t.shape.w word
 IsInType sig.Bool word = (pos 0 ≤ℤ word) × (word ≤ℤ pos 1)
-
--- shift 0, trunc and this width
-abbrev pub plain : ℕ → Format
-plain width = record { shift = pos 0; mode = Trunc; width = width }
 
 -- initial values, each with the k of its sample -k
 pub record AreInits (IsAllowed : ℤ → Type 0) (inits : List (ℕ × ℤ)) : Type 0 where

@@ -1,10 +1,11 @@
 -- The values of expressions and of nodes, over the words of elements and of nodes.
-use Rattle.std.specs.Prelude.{◌≡◌, ℕ, ◌⊎◌, List, [], ◌∷◌, map, slice_index_or, ℤ, pos, negsuc, ◌-ℤ◌}
+use Rattle.std.specs.Prelude.{◌≡◌, ℕ, ◌⊎◌, List, [], ◌∷◌, map, slice_index_or, ℤ, pos, ◌-ℤ◌}
 use Rattle.recurrences.specs.Systems.{Signals}
 use Rattle.lists.specs.Rows.{Rows}
 use Rattle.fix_word.specs.Values.{apply_of}
 use Rattle.fix_word.specs.declared.operation.Op.{Op}
 use Rattle.fix_word.specs.declared.types.Format.{Format}
+pub use Rattle.operations.specs.Ranges.{to_nat}
 use Rattle.signal_graph.specs.Operations.{Class, input, output, constant, class_of}
 use Rattle.signal_graph.specs.declared.graph.Edge.{Edge}
 use Rattle.signal_graph.specs.declared.graph.Node.{Node}
@@ -61,11 +62,6 @@ BodyReads (value x) e ago = Reads x e ago
 -- the words of operands at sample n
 abbrev pub operand_words : Words → ℕ → List Edge → List ℤ
 operand_words words n edges = map (λ (edge : Edge). words edge.node (pos n -ℤ pos edge.delay)) edges
-
--- a number that is the number of a word, as a whole number
-abbrev pub to_nat : ℤ → ℕ
-to_nat (pos n) = n
-to_nat (negsuc n) = 0
 
 -- the word that a node gives at sample n
 abbrev pub given_by : Class → Rows → Words → ℕ → Node → ℤ
