@@ -4,6 +4,7 @@ use Rattle.std.specs.Prelude.{slice_get, Some, flat_map}
 use Rattle.std.specs.List.{enumerate_from}
 use Rattle.std.proofs.lemmas.Bool.{cases_order}
 use Rattle.std.proofs.lemmas.Option.{none-some, same_Some, slice_get-get_or}
+use Rattle.lists.proofs.Places.{at_left, at_right}
 use Rattle.signal_graph.specs.Flat.{Element, Program}
 use Rattle.signal_graph.specs.FlatSolves.{no_element, element_of}
 use Rattle.signal_graph.specs.GraphOf.{Made, Site, sites_from, element_sites, sites}
@@ -11,18 +12,6 @@ use Rattle.signal_graph.proofs.Members.{at_member}
 use Rattle.signal_graph.proofs.Places.{site, made_of, in_place}
 use Rattle.flow_graph.proofs.FirstSites.{elements_rise}
 use Rattle.flow_graph.proofs.ElementNumbers.{later_above}
-
-module _ {A : Type 0} where
-  at_left : (xs ys : List A) (i : ℕ) (m : A) → slice_get xs i ≡ Some m → slice_get (xs ++ ys) i ≡ Some m
-  at_left [] ys i m h = absurd (none-some m h)
-  at_left (x ∷ xs) ys zero m h = h
-  at_left (x ∷ xs) ys (suc i) m h = at_left xs ys i m h
-
-  at_right : (xs ys : List A) (i : ℕ) (m : A) → slice_get ys i ≡ Some m → slice_get (xs ++ ys) (length xs + i) ≡ Some m
-  at_right [] ys i m h = let back : 0 + i ≡ i = omega arith in rw back h
-  at_right (x ∷ xs) ys i m h =
-      let back : suc (length xs) + i ≡ suc (length xs + i) = omega arith in
-      rw back (at_right xs ys i m h)
 
 in_order : (e k : ℕ) (ms : List Made) (i : ℕ) (m : Made) → slice_get ms i ≡ Some m
     → slice_get (sites_from e k ms) i ≡ Some (site e (k + i) m)
@@ -61,7 +50,8 @@ module _ (p : Program) where
             let next : n + suc e ≡ n + 1 + e = omega arith in
             let there = are k s (subst (λ (j : ℕ). slice_get (element_sites p (j, x)) k ≡ Some s) next at) in
             rw back
-            (at_right here (flat_map (element_sites p) (enumerate_from (n + 1) ys)) (first + k) s there)),
+            (at_right here (flat_map (element_sites p) (enumerate_from (n + 1) ys)) (length here + (first + k)) (first + k) s refl
+            there)),
       )
 
   -- a place is met once

@@ -1,8 +1,7 @@
 -- Where solutions are kept, any two have equal words; and solutions that are the same have the same output rows.
-use Rattle.std.proofs.Common.{◌≡◌, ap, ◌∙◌, sym, arith, ℕ, ◌+◌, ◌-◌, ◌<◌, ◌≤◌, [], length, map}
-use Rattle.std.specs.Prelude.{ℤ, pos, negsuc, position, ◌==◌, Some}
+use Rattle.std.proofs.Common.{◌≡◌, ◌∙◌, arith, ℕ, ◌+◌, ◌<◌, ◌≤◌, [], length, map}
+use Rattle.std.specs.Prelude.{pos}
 use Rattle.std.specs.List.{range_with_len}
-use Rattle.std.proofs.lemmas.List.Quantifiers.{position-Some}
 use Rattle.lists.specs.Rows.{Rows}
 use Rattle.recurrences.specs.Systems.{AreSame}
 use Rattle.signal_graph.specs.Flat.{Program}

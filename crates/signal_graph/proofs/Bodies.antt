@@ -1,6 +1,7 @@
 -- What stands at the places of an element, by its body.
 use Rattle.std.proofs.Common.{◌≡◌, refl, sym, ap, ◌∙◌, subst, arith, ℕ, ◌+◌, ◌-◌, Bool, true, if◌then◌else◌, List, [], ◌∷◌, ◌++◌, length}
 use Rattle.std.specs.Prelude.{ℤ, slice_get, Some}
+use Rattle.lists.proofs.Places.{at_left, at_right}
 use Rattle.fix_word.specs.declared.operation.Op.{Op}
 use Rattle.fix_word.specs.declared.types.Format.{Format}
 use Rattle.signal_graph.specs.Rules.{width_of}
@@ -8,7 +9,7 @@ use Rattle.signal_graph.specs.Flat.{Expr, raw, calculation, Parts, Body, word, v
 use Rattle.signal_graph.specs.FlatSolves.{element_of}
 use Rattle.signal_graph.specs.GraphOf.{Made, constant, input, operation, made_by, made_by_body, has_pass, pass, operands_from}
 use Rattle.signal_graph.proofs.Places.{made_of}
-use Rattle.signal_graph.proofs.Parts.{length_made, at_left, at_right, Stands, calculation_stands}
+use Rattle.signal_graph.proofs.Parts.{length_made, Stands, calculation_stands}
 
 module _ (p : Program) (e : ℕ) where
   abbrev pub its_width : ℕ
@@ -38,7 +39,7 @@ module _ (p : Program) (e : ℕ) where
       let place : length (made_by 0 x) + 0 ≡ size x = omega (arith, length_made 0 x) in
       subst (λ (ms : List Made). slice_get ms (size x) ≡ Some (pass its_width x)) (sym (value_made x true h is))
       (subst (λ (i : ℕ). slice_get (with_pass x true) i ≡ Some (pass its_width x)) place
-      (at_right (made_by 0 x) (pass its_width x ∷ []) 0 (pass its_width x) refl))
+      (at_right (made_by 0 x) (pass its_width x ∷ []) (length (made_by 0 x) + 0) 0 (pass its_width x) refl refl))
 
   pub calculation_made : (o : Op) (fmt : Format) (parts : Parts)
       → (element_of p e).body ≡ value (calculation o fmt parts)

@@ -8,6 +8,7 @@ use Rattle.std.proofs.lemmas.List.FromFn.{length-enumerate_from, get_or-enumerat
 use Rattle.std.proofs.lemmas.List.Quantifiers.{position-Some}
 use Rattle.std.proofs.lemmas.List.Sums.{fails_before_first}
 use Rattle.std.proofs.lemmas.Option.{slice_get-get_or, slice_get_within, get_or_from_slice_get, none-some, same_Some}
+pub use Rattle.lists.proofs.Places.{contains_at as at_member, place_of as member_at}
 
 module _ {A : Type 0} where
   pub in_first : (x : A) (xs : List A) → Contains (x ∷ xs) x
@@ -22,12 +23,6 @@ module _ {A : Type 0} where
 
   pub in_none : (v : A) → Contains [] v → ⊥
   in_none v (k, lt, h) = omega arith
-
-  pub at_member : (xs : List A) (k : ℕ) (x : A) → slice_get xs k ≡ Some x → Contains xs x
-  at_member xs k x h = (k, slice_get_within xs k x h, get_or_from_slice_get xs k x x h)
-
-  pub member_at : (xs : List A) (x : A) → Contains xs x → (k : ℕ) × (slice_get xs k ≡ Some x)
-  member_at xs x (k, lt, h) = (k, slice_get-get_or xs k x lt ∙ ap (λ (y : A). Some y) h)
 
   module _ (test : A → Bool) where
     unlike : (x y : A) → x ≡ y → test x ≡ false → test y ≡ true → ⊥

@@ -1,8 +1,8 @@
 -- What stands at the places of the parts of an expression.
-use Rattle.std.proofs.Common.{◌≡◌, refl, subst, arith, ℕ, zero, suc, ◌+◌, ◌-◌, List, [], ◌∷◌, ◌++◌, length}
+use Rattle.std.proofs.Common.{◌≡◌, refl, subst, arith, ℕ, ◌+◌, ◌-◌, List, [], ◌∷◌, ◌++◌, length}
 use Rattle.std.specs.Prelude.{slice_get, Some}
 use Rattle.std.proofs.lemmas.List.{length-append}
-use Rattle.std.proofs.lemmas.Option.{none-some}
+use Rattle.lists.proofs.Places.{at_left, at_right}
 use Rattle.fix_word.specs.declared.operation.Op.{Op}
 use Rattle.fix_word.specs.declared.types.Format.{Format}
 use Rattle.signal_graph.specs.Flat.{Expr, raw, read, calculation, Parts, no_part, part, size, size_of_parts}
@@ -29,18 +29,6 @@ mutual
         length_made_parts (k + size x) rest,
       )
 
-pub at_left : (xs ys : List Made) (i : ℕ) (m : Made) → slice_get xs i ≡ Some m → slice_get (xs ++ ys) i ≡ Some m
-at_left [] ys i m h = absurd (none-some m h)
-at_left (x ∷ xs) ys zero m h = h
-at_left (x ∷ xs) ys (suc i) m h = at_left xs ys i m h
-
-pub at_right : (xs ys : List Made) (i : ℕ) (m : Made) → slice_get ys i ≡ Some m
-    → slice_get (xs ++ ys) (length xs + i) ≡ Some m
-at_right [] ys i m h = let back : 0 + i ≡ i = omega arith in rw back h
-at_right (x ∷ xs) ys i m h =
-    let back : suc (length xs) + i ≡ suc (length xs + i) = omega arith in
-    rw back (at_right xs ys i m h)
-
 -- all of the second list is in the first one, from index k on
 abbrev pub Stands : (whole : List Made) (k : ℕ) → List Made → Type 0
 Stands whole k ms = (i : ℕ) (m : Made) → slice_get ms i ≡ Some m → slice_get whole (k + i) ≡ Some m
@@ -52,7 +40,7 @@ pub stands_right : (whole : List Made) (k : ℕ) (xs ys : List Made) (n : ℕ) �
     → Stands whole (k + n) ys
 stands_right whole k xs ys n count h i m at =
     let place : k + (length xs + i) ≡ k + n + i = omega arith in
-    subst (λ (j : ℕ). slice_get whole j ≡ Some m) place (h (length xs + i) m (at_right xs ys i m at))
+    subst (λ (j : ℕ). slice_get whole j ≡ Some m) place (h (length xs + i) m (at_right xs ys (length xs + i) i m refl at))
 
 pub stands_first : (whole : List Made) (k : ℕ) (m : Made) → Stands whole k (m ∷ []) → slice_get whole k ≡ Some m
 stands_first whole k m h =

@@ -1,9 +1,8 @@
 -- A pruned graph keeps the solutions of its graph.
-use Rattle.std.proofs.Common.{◌≡◌, sym, subst, ap, ◌∙◌, arith, ℕ, ◌+◌, ◌<◌, ◌≤◌, List, [], length, map}
+use Rattle.std.proofs.Common.{◌≡◌, subst, ap, ◌∙◌, arith, ℕ, ◌+◌, ◌<◌, ◌≤◌, List, [], length, map}
 use Rattle.std.specs.Prelude.{pos, negsuc, slice_index_or, position, ◌==◌, Some}
 use Rattle.std.specs.List.{range_with_len}
 use Rattle.std.proofs.lemmas.Bool.{eqb-true}
-use Rattle.std.proofs.lemmas.List.FromFn.{fill_by_all, length-map-range_with_len, get_or-map-range_with_len}
 use Rattle.std.proofs.lemmas.List.Quantifiers.{position-Some}
 use Rattle.lists.specs.Rows.{Rows}
 use Rattle.recurrences.specs.Kept.{KeepsSolutions}
