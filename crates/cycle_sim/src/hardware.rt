@@ -1,10 +1,10 @@
 //! What changes from cycle to cycle: the time, what the places hold, and the values in flight.
-ghost use Rattle.std.specs.Prelude.{◌≡◌, ◌+◌, ◌*◌, ◌%◌, ◌<◌, ◌≤◌, ◌^◌, length, unsigned_abs};
+ghost use Rattle.std.specs.Prelude.{◌≡◌, ◌+◌, ◌*◌, ◌%◌, ◌<◌, ◌≤◌, ◌^◌, length};
 ghost use Rattle.cycle_sim.specs.declared.hardware.TheConstants.{SLOTS};
 
 use lists::List;
 use micro_image::Image;
-use std::marker::Model;
+use operations::Operand;
 
 /// The most units that an image has.
 pub const UNITS: u8 = 32;
@@ -24,40 +24,6 @@ pub const REGISTER_ROOM: u16 = 32 * UNIT_ROOM;
 
 /// How many slots there are for values in flight: one for each unit in each cycle in which what is in flight may end.
 pub const SLOTS: usize = 256;
-
-/// What a register, a cell, a latch or a slot holds: a raw word of magnitude at most 2^39.
-#[derive(Clone, Copy)]
-pub struct Operand {
-    value: i64,
-}
-
-impl Model for Operand {
-    ghost use Rattle.std.specs.Prelude.{ℤ, ◌≤◌, ◌^◌, unsigned_abs};
-
-    ghost Value = { ℤ };
-
-    ghost view = { λ operand. operand.value };
-
-    ghost invariant = { λ operand. unsigned_abs operand.value ≤ 2 ^ 39 };
-
-    ghost inverse = { λ value. record { value = value } };
-}
-
-impl Operand {
-    pub fn new(value: i64) -> Operand
-        requires { unsigned_abs value ≤ 2 ^ 39 }
-        ensures { result ≡ value }
-    {
-        Operand { value }
-    }
-
-    pub fn get(self) -> i64
-        ensures value { result ≡ self }
-        ensures bound { unsigned_abs result ≤ 2 ^ 39 }
-    {
-        self.value
-    }
-}
 
 /// The number of the cycle that comes, and where it stands.
 #[derive(Clone, Copy)]
