@@ -9,4 +9,5 @@ pub mod Kept
 pub mod AllowedUnits
 pub mod AllowedBuses
 pub mod AllowedPath
+pub mod NeverMemory
 pub mod Plain

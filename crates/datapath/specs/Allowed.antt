@@ -1,5 +1,5 @@
 -- A datapath whose numbers are those that a file may have.
-use Rattle.std.specs.Prelude.{true, ◌≡◌, ◌≢◌, ℕ, ◌<◌, ◌≤◌, List, length, map, slice_get, IsSomeAnd}
+use Rattle.std.specs.Prelude.{true, ◌≡◌, ◌≢◌, ◌<◌, ◌≤◌, List, length, map, slice_get, IsSomeAnd}
 use Rattle.std.specs.List.{All, AllPairs, sum_by}
 pub use Rattle.operations.specs.Ranges.{IsWithin}
 use Rattle.datapath.specs.declared.types.Bus.{Bus}
