@@ -9,12 +9,13 @@ ghost use Rattle.signal_graph.specs.Values.{Words};
 ghost use Rattle.equation_eval.specs.Evaluation.{Stands, RanRow, IsOutputRow};
 
 use crate::layout::lay_out;
-use crate::memory::{PERIOD, Source, Word};
+use crate::memory::{PERIOD, Source};
 use crate::order::order_of;
 use crate::program::{Instruction, outputs_of, program_of};
 use crate::run::{put_outputs, run};
 use fix_word::SigType;
 use lists::List;
+use operations::Operand;
 use signal_graph::Graph;
 use std::alloc::{AllocError, Global};
 use std::marker::Model;
@@ -28,7 +29,7 @@ pub struct Evaluator {
     program: List<Instruction>,
     outputs: List<Source>,
     phase: u16,
-    memory: List<Word>,
+    memory: List<Operand>,
 }
 
 impl Model for Evaluator {

@@ -7,8 +7,9 @@ ghost use Rattle.signal_graph.specs.Rules.{IsWithin, word_before};
 ghost use Rattle.equation_eval.specs.declared.memory.TheConstants.{PERIOD};
 ghost use Rattle.equation_eval.specs.Private.Rings.{AreLongest, AreRings, IsLayout, HoldInitials, HoldsWordsBefore, SameOutside, IsRaisedBy, HoldsZeros, with_initial};
 
-use crate::memory::{Mask, PERIOD, Ring, Word};
+use crate::memory::{Mask, PERIOD, Ring};
 use lists::List;
+use operations::Operand;
 use signal_graph::{Edge, Graph};
 use std::alloc::{AllocError, Global};
 
@@ -65,18 +66,18 @@ fn rings_of(alloc: Global, longest: &List<u16>) -> Result<(List<Ring>, u32), All
     Ok((rings, base))
 }
 
-fn zeros(alloc: Global, count: u32) -> Result<List<Word>, AllocError>
+fn zeros(alloc: Global, count: u32) -> Result<List<Operand>, AllocError>
     ensures { IfOk result (λ list. list ≡ replicate count (pos 0)) }
 {
     let mut list = List::new(alloc);
     for _ in 0..count {
-        list.push(Word::new(0))?;
+        list.push(Operand::new(0))?;
     }
     Ok(list)
 }
 
 /// Puts an initial value into a ring, where the ring is that long.
-fn put_initial(memory: &mut List<Word>, ring: &Ring, init: &(u16, i64))
+fn put_initial(memory: &mut List<Operand>, ring: &Ring, init: &(u16, i64))
     requires ring { ring.now.base + ring.now.mask + 1 ≤ length memory.old }
     requires most { length memory.old ≤ 2 ^ 30 }
     requires sample { 1 ≤ init.now.0 }
@@ -85,12 +86,12 @@ fn put_initial(memory: &mut List<Word>, ring: &Ring, init: &(u16, i64))
 {
     let size = ring.mask.get() + 1;
     if init.0 < size {
-        memory[ring.base as usize + usize::from(size - init.0)] = Word::new(init.1);
+        memory[ring.base as usize + usize::from(size - init.0)] = Operand::new(init.1);
     }
 }
 
 /// Puts the initial values into a ring that holds zeros, from the last to the first.
-fn put_initials(memory: &mut List<Word>, ring: &Ring, inits: &List<(u16, i64)>)
+fn put_initials(memory: &mut List<Operand>, ring: &Ring, inits: &List<(u16, i64)>)
     requires ring { ring.now.base + ring.now.mask + 1 ≤ length memory.old }
     requires most { length memory.old ≤ 2 ^ 30 }
     requires zeros { HoldsZeros ring.now memory.old }
@@ -111,7 +112,7 @@ fn initial_memory(
     graph: &Graph,
     rings: &List<Ring>,
     cells: u32,
-) -> Result<List<Word>, AllocError>
+) -> Result<List<Operand>, AllocError>
     requires graph { IsGraph graph.now }
     requires rings { IsLayout graph.now rings.now cells }
     requires most { cells ≤ 2 ^ 30 }
@@ -126,7 +127,7 @@ fn initial_memory(
 }
 
 /// The rings of a graph's nodes and what they hold before sample 0.
-pub fn lay_out(alloc: Global, graph: &Graph) -> Result<(List<Ring>, List<Word>), AllocError>
+pub fn lay_out(alloc: Global, graph: &Graph) -> Result<(List<Ring>, List<Operand>), AllocError>
     requires { IsGraph graph.now }
     ensures rings { IfOk result (λ made. IsLayout graph.now made.0 (length made.1)) }
     ensures most { IfOk result (λ made. length made.1 ≤ 2 ^ 30) }

@@ -1,46 +1,11 @@
-//! Words, and the rings that keep them for as many samples as they are read.
-ghost use Rattle.std.specs.Prelude.{◌≡◌, ◌+◌, ◌%◌, ◌^◌, ◌<◌, ◌≤◌, unsigned_abs};
+//! The rings that keep the words of nodes for as many samples as they are read.
+ghost use Rattle.std.specs.Prelude.{◌≡◌, ◌+◌, ◌%◌, ◌<◌, ◌≤◌};
 ghost use Rattle.equation_eval.specs.Private.Masks.{IsMask};
 
 use std::marker::Model;
 
 /// How many samples a phase counts before it begins again at 0: the size of the largest ring.
 pub const PERIOD: u16 = 1024;
-
-/// A word of a node: a raw word of magnitude at most 2^39.
-#[derive(Clone, Copy)]
-pub struct Word {
-    value: i64,
-}
-
-impl Model for Word {
-    ghost use Rattle.std.specs.Prelude.{ℤ, ◌≤◌, ◌^◌, unsigned_abs};
-
-    ghost Value = { ℤ };
-
-    ghost view = { λ word. word.value };
-
-    ghost invariant = { λ word. unsigned_abs word.value ≤ 2 ^ 39 };
-
-    ghost inverse = { λ value. record { value = value } };
-}
-
-impl Word {
-    pub fn new(value: i64) -> Word
-        requires { unsigned_abs value ≤ 2 ^ 39 }
-        ensures { result ≡ value }
-    {
-        Word { value }
-    }
-
-    #[inline(always)]
-    pub fn get(self) -> i64
-        ensures value { result ≡ self }
-        ensures bound { unsigned_abs result ≤ 2 ^ 39 }
-    {
-        self.value
-    }
-}
 
 /// One less than the size of a ring, which is a power of two up to `PERIOD`. Contracts see the number.
 #[derive(Clone, Copy)]
