@@ -1,5 +1,5 @@
 -- The operations, a row each: which kind of functional unit does one, how many operands it has, and what it gives.
-use Rattle.std.specs.Prelude.{◌≡◌, ℕ, pos, Bool, true, false}
+use Rattle.std.specs.Prelude.{◌≡◌, ℕ, ◌≤◌, ◌^◌, ℤ, pos, unsigned_abs, Bool, true, false}
 use Rattle.fix_word.specs.Words.{IsFormat}
 use Rattle.fix_word.specs.declared.types.Format.{Format}
 use Rattle.fix_word.specs.declared.types.Mode.TheVariants.{Trunc}
@@ -80,3 +80,7 @@ IsNoFormat fmt = fmt ≡ plain 0
 abbrev pub IsFormatWhere : Bool → Format → Type 0
 IsFormatWhere true = IsFormat
 IsFormatWhere false = IsNoFormat
+
+-- a raw word of magnitude at most 2 ^ 39
+abbrev pub IsOperand : ℤ → Type 0
+IsOperand z = unsigned_abs z ≤ 2 ^ 39

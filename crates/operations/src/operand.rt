@@ -1,4 +1,5 @@
-ghost use Rattle.std.specs.Prelude.{◌≡◌, ◌≤◌, ◌^◌, unsigned_abs};
+ghost use Rattle.std.specs.Prelude.{◌≡◌};
+ghost use Rattle.operations.specs.Operations.{IsOperand};
 
 use std::marker::Model;
 
@@ -9,20 +10,21 @@ pub struct Operand {
 }
 
 impl Model for Operand {
-    ghost use Rattle.std.specs.Prelude.{ℤ, ◌≤◌, ◌^◌, unsigned_abs};
+    ghost use Rattle.std.specs.Prelude.{ℤ};
+    ghost use Rattle.operations.specs.Operations.{IsOperand};
 
     ghost Value = { ℤ };
 
     ghost view = { λ operand. operand.value };
 
-    ghost invariant = { λ operand. unsigned_abs operand.value ≤ 2 ^ 39 };
+    ghost invariant = { λ operand. IsOperand operand.value };
 
     ghost inverse = { λ value. record { value = value } };
 }
 
 impl Operand {
     pub fn new(value: i64) -> Operand
-        requires { unsigned_abs value ≤ 2 ^ 39 }
+        requires { IsOperand value }
         ensures { result ≡ value }
     {
         Operand { value }
@@ -31,7 +33,7 @@ impl Operand {
     #[inline(always)]
     pub fn get(self) -> i64
         ensures value { result ≡ self }
-        ensures bound { unsigned_abs result ≤ 2 ^ 39 }
+        ensures bound { IsOperand result }
     {
         self.value
     }
