@@ -1,18 +1,19 @@
 -- The search for an order: a stack of nodes, each of which waits for the one above it.
-use Rattle.std.proofs.Common.{◌≡◌, ◌≢◌, ◌∙◌, refl, sym, ap, subst, arith, ℕ, zero, suc, ◌+◌, ◌-◌, ◌*◌, ◌<◌, ◌≤◌, ◌⊎◌, inl, inr, ⊎_elim, List, [], ◌∷◌, ◌++◌, length, length-append, append_assoc, Bool, true, false, cond, replicate, get_or-set_same, get_or-set_other}
+use Rattle.std.proofs.Common.{◌≡◌, ◌≢◌, ◌∙◌, refl, sym, ap, subst, arith, ℕ, zero, suc, ◌+◌, ◌-◌, ◌*◌, ◌<◌, ◌≤◌, ◌⊎◌, inl, inr, ⊎_elim, List, [], ◌∷◌, ◌++◌, length, length-append, append_assoc, Bool, true, false, replicate, get_or-set_same, get_or-set_other}
 use Rattle.std.specs.Prelude.{slice_index_or, slice_set, take, All}
 use Rattle.std.specs.List.{Contains, sum_by}
 use Rattle.std.proofs.lemmas.Bool.{cases_lt}
 use Rattle.std.proofs.lemmas.List.{get_or_default, append-nil, length-replicate, length-set, get_or_append_left}
 use Rattle.std.proofs.lemmas.List.Elements.{Contains-push, Contains-append_left}
-use Rattle.std.proofs.lemmas.List.Sums.{sum_by-set}
 use Rattle.std.proofs.Math.Seq.{get_or-append_seam}
 use Rattle.signal_graph.specs.GraphRules.{IsGraph, first_output}
 use Rattle.signal_graph.specs.GraphSolves.{HasEdge, IsGraphLoopless}
 use Rattle.signal_graph.specs.Values.{EdgesRead}
 use Rattle.signal_graph.specs.declared.graph.Edge.{Edge}
 use Rattle.signal_graph.specs.declared.graph.Graph.{Graph}
+use Rattle.signal_graph.specs.Private.Marks.{missing}
 use Rattle.signal_graph.proofs.Heights.{height, height_most, height_falls}
+use Rattle.signal_graph.proofs.Marks.{missing_less}
 use Rattle.equation_eval.specs.declared.order.Placing.{Placing}
 use Rattle.equation_eval.specs.Private.Order.{IsOrdered, IsPlacing, is_marked, is_placed, Visits, Keeps}
 use Rattle.equation_eval.proofs.Edges.{edge_there, edge_read, reads_more}
@@ -31,22 +32,10 @@ pub record IsSearch (g : Graph) (root : ℕ) (old : Placing) (stack : List ℕ) 
   pub bottom : 0 < length stack → nth stack 0 ≡ root
   pub done : length stack ≡ 0 → is_placed placing root ≡ true
 
-abbrev missing : Bool → ℕ
-missing placed = cond placed 0 1
-
 -- what is left to do: each node has to get its place, and from a node at most as many steps lead down as its height
 pub remaining : Graph → List ℕ → Placing → ℕ
 remaining g stack placing = sum_by missing placing.placed * (length g.nodes + 2) + height g
     (nth stack (length stack - 1))
-
-missing_less : (placed : List Bool) (v : ℕ) → v < length placed → is_marked placed v ≡ false
-    → sum_by missing (slice_set placed v true) + 1 ≡ sum_by missing placed
-missing_less placed v lt is =
-    ap (λ (b : Bool). sum_by missing (slice_set placed v true) + missing b) (sym is)
-    ∙ sum_by-set missing placed v true false lt ∙ nothing (sum_by missing placed)
-  where
-    nothing : (n : ℕ) → n + 0 ≡ n
-    nothing n = omega arith
 
 fewer : (a b c h k : ℕ) → a + 1 ≡ b → h ≤ c → a * (c + 2) + h < b * (c + 2) + k
 fewer a b c h k is le =

@@ -1,11 +1,9 @@
 -- A search back from the outputs finds the nodes that are used.
 use Rattle.std.proofs.Common.{◌≡◌, ◌≢◌, ◌∙◌, refl, sym, ap, subst, arith, ℕ, ◌+◌, ◌<◌, ◌≤◌, ◌⊎◌, inl, inr, List, [], ◌∷◌, ◌++◌, length, Bool, true, false, get_or-set_same, get_or-set_other}
 use Rattle.std.specs.Prelude.{slice_index_or, slice_set, Contains, if◌then◌else◌}
-use Rattle.std.specs.List.{sum_by}
 use Rattle.std.proofs.lemmas.Bool.{cases_lt, cases_eq}
 use Rattle.std.proofs.lemmas.List.{get_or_default, length-set, length_push, get_or_append_left, get_or_push}
 use Rattle.std.proofs.lemmas.List.Elements.{Contains-push, Contains-append_left}
-use Rattle.std.proofs.lemmas.List.Sums.{sum_by-set}
 use Rattle.fix_word.specs.declared.operation.Op.TheVariants as op
 use Rattle.signal_graph.specs.GraphRules.{IsGraph}
 use Rattle.signal_graph.specs.GraphSolves.{no_node, node_of, HasEdge}
@@ -14,9 +12,10 @@ use Rattle.signal_graph.specs.Pruned.{IsUsed, output, read}
 use Rattle.signal_graph.specs.declared.graph.Edge.{Edge}
 use Rattle.signal_graph.specs.declared.graph.Node.{Node}
 use Rattle.signal_graph.specs.declared.graph.Graph.{Graph}
+use Rattle.signal_graph.proofs.Marks.{missing_less}
 use Rattle.signal_graph.proofs.Values.{edges_allowed}
 use Rattle.flow_graph.specs.declared.pruning.Search.{Search}
-use Rattle.flow_graph.specs.Private.Pruning.{is_marked, reached, all_reached, missing, IsUsedNode, IsSearch, HasOutputs, AreUsedMarks}
+use Rattle.flow_graph.specs.Private.Pruning.{is_marked, reached, all_reached, IsUsedNode, IsSearch, HasOutputs, AreUsedMarks}
 
 abbrev nth : List ℕ → ℕ → ℕ
 nth found i = slice_index_or found i 0
@@ -36,15 +35,6 @@ grows_on s t u a b = record {
   longer = omega (arith, a.longer, b.longer);
   same = λ i lt. b.same i (omega (arith, a.longer)) ∙ a.same i lt;
 }
-
-missing_less : (marks : List Bool) (v : ℕ) → v < length marks → is_marked marks v ≡ false
-    → sum_by missing (slice_set marks v true) + 1 ≡ sum_by missing marks
-missing_less marks v lt is =
-    ap (λ (b : Bool). sum_by missing (slice_set marks v true) + missing b) (sym is)
-    ∙ sum_by-set missing marks v true false lt ∙ nothing (sum_by missing marks)
-  where
-    nothing : (n : ℕ) → n + 0 ≡ n
-    nothing n = omega arith
 
 -- the search goes on with node v
 pub record GoesOn (g : Graph) (followed : ℕ) (s t : Search) (v : ℕ) : Type 0 where

@@ -30,6 +30,7 @@ pub mod Rising
 pub mod PrunedSound
 pub mod PrunedKeeps
 pub mod AnySolutions
+pub mod Marks
 mod Examples
 mod GraphExamples
 mod SoundExamples

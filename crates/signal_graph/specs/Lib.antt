@@ -10,3 +10,4 @@ pub mod GraphSolves
 pub mod GraphOf
 pub mod Pruned
 pub mod Keeps
+pub mod Private

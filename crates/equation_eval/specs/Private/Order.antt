@@ -1,6 +1,7 @@
 -- Orders in which each node comes behind those that it reads without a delay.
-use Rattle.std.specs.Prelude.{◌≡◌, ℕ, ◌<◌, ◌⊎◌, List, [], ◌∷◌, ◌++◌, length, slice_index_or, slice_set, Bool, true, false}
+use Rattle.std.specs.Prelude.{◌≡◌, ℕ, ◌<◌, ◌⊎◌, List, [], ◌∷◌, ◌++◌, length, slice_set, Bool, true, false}
 use Rattle.std.specs.List.{Contains}
+pub use Rattle.signal_graph.specs.Private.Marks.{is_marked}
 use Rattle.signal_graph.specs.GraphRules.{first_output}
 use Rattle.signal_graph.specs.GraphSolves.{HasEdge}
 use Rattle.signal_graph.specs.declared.graph.Graph.{Graph}
@@ -16,10 +17,6 @@ IsOrdered g given (v ∷ rest) =
 pub record IsOrder (g : Graph) (order : List ℕ) : Type 0 where
   pub ordered : IsOrdered g [] order
   pub all : (v : ℕ) → v < first_output g → Contains order v
-
--- whether node v is marked
-abbrev pub is_marked : List Bool → ℕ → Bool
-is_marked placed v = slice_index_or placed v false
 
 abbrev pub is_placed : Placing → ℕ → Bool
 is_placed placing v = is_marked placing.placed v

@@ -1,17 +1,14 @@
 -- The search for the nodes that are used, and the nodes with their new numbers.
-use Rattle.std.specs.Prelude.{◌≡◌, ℕ, ◌+◌, ◌<◌, ◌≤◌, ◌↔◌, if◌then◌else◌, List, [], ◌∷◌, ◌++◌, map, length, slice_index_or, slice_set, Bool, true, false, Contains}
+use Rattle.std.specs.Prelude.{◌≡◌, ℕ, ◌+◌, ◌<◌, ◌≤◌, ◌↔◌, if◌then◌else◌, List, [], ◌∷◌, ◌++◌, map, length, slice_index_or, slice_set, Bool, true, Contains}
 use Rattle.std.specs.List.{sum_by}
 use Rattle.fix_word.specs.declared.operation.Op.TheVariants as op
+pub use Rattle.signal_graph.specs.Private.Marks.{is_marked, missing}
 use Rattle.signal_graph.specs.declared.graph.Edge.{Edge}
 use Rattle.signal_graph.specs.declared.graph.Node.{Node}
 use Rattle.signal_graph.specs.declared.graph.Graph.{Graph}
 use Rattle.signal_graph.specs.GraphSolves.{IsNodeNumber, node_of, HasEdge}
 use Rattle.signal_graph.specs.Pruned.{IsUsed}
 use Rattle.flow_graph.specs.declared.pruning.Search.{Search}
-
--- whether node v is marked
-abbrev pub is_marked : List Bool → ℕ → Bool
-is_marked marks v = slice_index_or marks v false
 
 -- the search with node v
 abbrev pub reached : Search → ℕ → Search
@@ -27,10 +24,6 @@ all_reached s (edge ∷ rest) = all_reached (reached s edge.node) rest
 pub record IsUsedNode (g : Graph) (v : ℕ) : Type 0 where
   pub there : IsNodeNumber g v
   pub used : IsUsed g v
-
--- a node that is not marked counts
-abbrev pub missing : Bool → ℕ
-missing mark = if mark then 0 else 1
 
 -- The nodes that are marked are those that were found. All are used, and what the first ones read is marked.
 pub record IsSearch (g : Graph) (followed : ℕ) (s : Search) : Type 0 where
