@@ -4,30 +4,17 @@
 ghost use Rattle.std.specs.Prelude.{IfOk};
 ghost use Rattle.micro_image.specs.Valid.{IsValid};
 
-use crate::operations::operation_text;
+use crate::operation_names::{kind_text, operation_text};
 use crate::page::{Page, mode_text};
 use crate::source::{Refusal, refusal, too_long};
 use fix_word::Format;
 use lists::Bytes;
 use micro_file::{CodeFault, FormFault, decode, encode};
-use micro_image::{Enable, Image, Issue, Kind, Take, UnitDesc, Word};
+use micro_image::{Enable, Image, Issue, Take, UnitDesc, Word};
 use std::alloc::Global;
 
 /// A microcode file has at most this many bytes.
 const MICROCODE_LIMIT: usize = 1 << 26;
-
-fn kind_text(kind: Kind) -> &'static str {
-    match kind {
-        Kind::Input => " in",
-        Kind::Output => " out",
-        Kind::Rom => " rom",
-        Kind::Alu => " alu",
-        Kind::Mul => " mul",
-        Kind::Sel => " sel",
-        Kind::Ram => " ram",
-        Kind::Acu => " acu",
-    }
-}
 
 fn put_unit(page: &mut Page, number: usize, unit: &UnitDesc) {
     page.number("unit ", number);

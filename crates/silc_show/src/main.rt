@@ -6,7 +6,7 @@ mod expressions;
 mod image;
 mod manifests;
 mod names;
-mod operations;
+mod operation_names;
 mod page;
 mod path;
 mod repeat;

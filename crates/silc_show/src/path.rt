@@ -1,22 +1,10 @@
 //! The datapath of a datapath file: a line for its numbers, for each unit and for each bus, units and buses in order.
 
+use crate::operation_names::kind_text;
 use crate::page::Page;
 use crate::source::Refusal;
-use datapath::{Bus, Datapath, Kind, PathFault, PortRef, Unit, read};
+use datapath::{Bus, Datapath, PathFault, PortRef, Unit, read};
 use std::alloc::Global;
-
-fn kind_text(kind: Kind) -> &'static str {
-    match kind {
-        Kind::Input => " in",
-        Kind::Output => " out",
-        Kind::Rom => " rom",
-        Kind::Alu => " alu",
-        Kind::Mul => " mul",
-        Kind::Sel => " sel",
-        Kind::Ram => " ram",
-        Kind::Acu => " acu",
-    }
-}
 
 fn put_unit(page: &mut Page, number: usize, unit: &Unit) {
     page.number("unit ", number);

@@ -9,7 +9,7 @@ ghost use Rattle.name_check.specs.TopNames.{top_names};
 ghost use Rattle.fix_types.specs.Numbers.{AreNumbersShort};
 
 use crate::names::names_of;
-use crate::operations::operation_text;
+use crate::operation_names::operation_text;
 use crate::page::{Lead, Page, mode_text};
 use crate::source::{Refusal, of_types, program_of};
 use crate::tree::put_decls;

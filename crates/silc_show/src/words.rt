@@ -11,7 +11,7 @@ ghost use Rattle.std.specs.Prelude.{◌≡◌, ◌<◌, ◌≤◌, ◌^◌, ◌�
 ghost use Rattle.fix_word.specs.Operations.{IsReady};
 ghost use Rattle.fix_word.specs.Words.{IsFormat, IsShape};
 
-use crate::operations::operation_named;
+use crate::operation_names::operation_named;
 use crate::page::Page;
 use crate::source::{Refusal, text_of};
 use fix_word::{Format, LitFault, Mode, Op, Shape, apply, conv, form, literal, wrap};

@@ -1,6 +1,7 @@
-//! The operations of a processor by their names.
+//! The operations of a processor, and the kinds of its units, by their names.
 
 use fix_word::Op;
+use operations::Kind;
 
 const OPERATIONS: [Op; 19] = [
     Op::Input,
@@ -55,4 +56,18 @@ pub fn operation_named(text: &str) -> Option<Op> {
         }
     }
     None
+}
+
+/// The name that a datapath file has for a kind, behind a blank.
+pub fn kind_text(kind: Kind) -> &'static str {
+    match kind {
+        Kind::Input => " in",
+        Kind::Output => " out",
+        Kind::Rom => " rom",
+        Kind::Alu => " alu",
+        Kind::Mul => " mul",
+        Kind::Sel => " sel",
+        Kind::Ram => " ram",
+        Kind::Acu => " acu",
+    }
 }
