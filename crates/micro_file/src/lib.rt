@@ -13,3 +13,4 @@ mod words;
 pub use decoder::decode;
 pub use encoder::encode;
 pub use fault::{CodeFault, FormFault};
+pub use reader::OPERATIONS;

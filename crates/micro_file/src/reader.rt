@@ -22,7 +22,7 @@ pub(crate) const KINDS: [Kind; 8] = [
 ];
 
 /// The operations in the order of their opcodes.
-pub(crate) const OPERATIONS: [Op; 19] = [
+pub const OPERATIONS: [Op; 19] = [
     Op::Input,
     Op::Output,
     Op::Const,

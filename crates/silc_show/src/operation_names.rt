@@ -1,29 +1,8 @@
 //! The operations of a processor, and the kinds of its units, by their names.
 
 use fix_word::Op;
+use micro_file::OPERATIONS;
 use operations::Kind;
-
-const OPERATIONS: [Op; 19] = [
-    Op::Input,
-    Op::Output,
-    Op::Const,
-    Op::Add,
-    Op::Sub,
-    Op::Neg,
-    Op::Pass,
-    Op::Lt,
-    Op::Le,
-    Op::Eq,
-    Op::Ne,
-    Op::And,
-    Op::Or,
-    Op::Not,
-    Op::Mul,
-    Op::Sel,
-    Op::Load,
-    Op::Store,
-    Op::Addr,
-];
 
 pub fn operation_text(op: Op) -> &'static str {
     match op {
