@@ -1,0 +1,7 @@
+pub mod SetSteps
+pub mod RouteSteps
+pub mod MissingSteps
+pub mod CandidateSteps
+pub mod Prefixes
+pub mod BindingSteps
+pub mod OneFault

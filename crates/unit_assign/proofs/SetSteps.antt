@@ -1,0 +1,55 @@
+-- Which units are in a set that is made of others.
+use Rattle.std.proofs.Common.{◌≡◌, ◌≢◌, ◌↔◌, ◌⊎◌, ◌∙◌, sym, arith, inl, inr, ⊎_elim, ℕ, ◌*◌, ◌%◌, ◌^◌, ◌<◌, max, bit_and, bit_or, w32}
+use Rattle.std.proofs.lemmas.Bool.{cases_eq}
+use Rattle.std.proofs.lemmas.Nat.Bits.{bit_at_or, bit_at_and, bit_at-lt, bit_at_set_same, bit_at_set_other, bit_at-zero, bit_at_ones}
+use Rattle.std.specs.Int.{bit_at}
+use Rattle.unit_assign.specs.Private.UnitSets.{Has, no_units, all_units}
+use Rattle.unit_assign.specs.declared.unit_set.UnitSet.{UnitSet}
+
+max_one : (x y m : ℕ) → m ≡ max x y → x < 2 → y < 2 → m ≡ 1 → (x ≡ 1) ⊎ (y ≡ 1)
+max_one x y m is a b one = ⊎_elim (λ e. inl e) (λ e. inr (omega arith)) (cases_eq x 1)
+
+pub has_union : (a b : UnitSet) (u : ℕ) → Has (record { bits = bit_or a.bits b.bits }) u ↔ (Has a u ⊎ Has b u)
+has_union a b u =
+    let is = bit_at_or a.bits b.bits u in
+    let la = bit_at-lt a.bits u in
+    let lb = bit_at-lt b.bits u in (
+      λ h. ⊎_elim (λ e. inl (record { bit = e })) (λ e. inr (record { bit = e }))
+          (max_one (bit_at a.bits u) (bit_at b.bits u) _ is la lb h.bit),
+      λ h. ⊎_elim (λ (x : Has a u). record { bit = omega (arith, x.bit, is, la, lb) })
+          (λ (x : Has b u). record { bit = omega (arith, x.bit, is, la, lb) }) h,
+    )
+
+pub has_intersection : (a b : UnitSet) (u : ℕ) → Has (record { bits = bit_and a.bits b.bits }) u ↔ (Has a u × Has b u)
+has_intersection a b u =
+    let is = bit_at_and a.bits b.bits u in
+    let la = bit_at-lt a.bits u in
+    let lb = bit_at-lt b.bits u in (
+      λ h. (record { bit = omega (arith, h.bit, is, la, lb) }, record { bit = omega (arith, h.bit, is, la, lb) }),
+      λ h. record { bit = omega (arith, h.0.bit, h.1.bit, is, la, lb) },
+    )
+
+pub has_with : (set : UnitSet) (unit u : ℕ) → unit < 32
+    → Has (record { bits = bit_or set.bits (1 * 2 ^ unit % 4294967296) }) u ↔ (Has set u ⊎ (u ≡ unit))
+has_with set unit u within =
+    ⊎_elim
+    (λ (e : u ≡ unit). (
+      λ h. inr e,
+      λ h. record { bit = rw e (bit_at_set_same w32 set.bits unit within) },
+    ))
+    (λ (other : u ≢ unit).
+    let same = bit_at_set_other w32 set.bits unit within u other in (
+      λ h. inl (record { bit = sym same ∙ h.bit }),
+      λ h. ⊎_elim (λ (x : Has set u). record { bit = same ∙ x.bit }) (λ (e : u ≡ unit). absurd (other e)) h,
+    ))
+    (cases_eq u unit)
+
+pub has_none : (u : ℕ) → Has no_units u → ⊥
+has_none u h = let e = bit_at-zero u in omega (arith, h.bit, e)
+
+pub has_all : (u : ℕ) → u < 32 → Has all_units u
+has_all u less = record { bit = bit_at_ones 32 u less }
+
+pub has_or_not : (set : UnitSet) (u : ℕ) → Has set u ⊎ (Has set u → ⊥)
+has_or_not set u =
+    ⊎_elim (λ e. inl (record { bit = e })) (λ no. inr (λ (h : Has set u). no h.bit)) (cases_eq (bit_at set.bits u) 1)

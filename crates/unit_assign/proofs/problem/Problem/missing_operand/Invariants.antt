@@ -1,0 +1,7 @@
+use Rattle.std.proofs.Common.{ℕ, ◌<◌}
+use Rattle.plan_core.specs.Refusals.{LacksOperand}
+use Rattle.unit_assign.proofs.problem.Problem.missing_operand.Given as goal
+
+abbrev pub invariant-loop-port : goal.invariant-loop-port
+invariant-loop-port l =
+    (q : ℕ) → q < l.port → LacksOperand l.self.datapath.now l.self.lowered.now l.units l.v l.unit q → ⊥

@@ -1,0 +1,4 @@
+pub mod UnitSets
+pub mod Drivers
+pub mod Missing
+pub mod Bindings

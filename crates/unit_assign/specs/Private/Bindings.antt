@@ -1,0 +1,55 @@
+-- The units of the first nodes, and the choice of the next one.
+use Rattle.std.specs.Prelude.{◌≡◌, ℕ, ◌<◌, ◌≤◌, ◌==◌, ◌↔◌, Option, Some, None, if◌then◌else◌, nat_le, List, length, slice_index_or, count_by}
+use Rattle.datapath.specs.declared.types.Datapath.{Datapath}
+use Rattle.signal_graph.specs.declared.graph.Node.{Node}
+use Rattle.plan_core.specs.Hardware.{port_of, HasRoute}
+use Rattle.plan_core.specs.Operands.{Reads}
+use Rattle.plan_core.specs.Assigned.{unit_in, IsCandidate, load_of, AreUnits}
+use Rattle.unit_assign.specs.Private.UnitSets.{Has, set_at}
+use Rattle.unit_assign.specs.declared.binding.Binding.{Binding}
+use Rattle.unit_assign.specs.declared.unit_set.UnitSet.{UnitSet}
+
+-- how many nodes are bound to unit u
+abbrev pub load_in : List ℕ → ℕ → ℕ
+load_in loads u = slice_index_or loads u 0
+
+module _ (d : Datapath) (nodes : List Node) where
+  -- of the first n nodes, each that reads node x has a route from unit u
+  abbrev pub IsAllowed : List ℕ → (n x u : ℕ) → Type 0
+  IsAllowed units n x u = (c q : ℕ) → c < n → Reads nodes c q x → HasRoute d u (port_of (unit_in units c) q)
+
+  pub record AreAllowed (units : List ℕ) (n : ℕ) (sets : List UnitSet) : Type 0 where
+    pub count : length sets ≡ length nodes
+    pub allowed : (x u : ℕ) → x < length nodes → u < length d.units → Has (set_at sets x) u ↔ IsAllowed units n x u
+
+  -- where node v, on this unit, reads a node at one of its first k ports, the units stay that have a route to the port
+  pub record IsNarrowed (v unit k : ℕ) (old new : List UnitSet) : Type 0 where
+    pub count : length new ≡ length old
+    pub sets : (x u : ℕ) → x < length old
+        → Has (set_at new x) u
+        ↔ (Has (set_at old x) u × ((q : ℕ) → q < k → Reads nodes v q x → HasRoute d u (port_of unit q)))
+
+  -- the counts and the sets are those of the units
+  pub record IsBinding (binding : Binding) : Type 0 where
+    pub count : length binding.units ≤ length nodes
+    pub units : AreUnits d nodes binding.units
+    pub load_count : length binding.loads ≡ length d.units
+    pub loads : (u : ℕ) → u < length d.units → load_in binding.loads u ≡ count_by (λ (w : ℕ). w == u) binding.units
+    pub sets : AreAllowed binding.units (length binding.units) binding.allowed
+
+  -- of the candidates below n, unit u is the first with the fewest nodes
+  pub record IsBestOf (units : List ℕ) (v n u : ℕ) : Type 0 where
+    pub below : u < n
+    pub candidate : IsCandidate d nodes units v u
+    pub fewest : (w : ℕ) → w < n → IsCandidate d nodes units v w → load_of d nodes units v u ≤ load_of d nodes units v w
+    pub first : (w : ℕ) → w < n → IsCandidate d nodes units v w
+        → load_of d nodes units v w ≡ load_of d nodes units v u → u ≤ w
+
+  abbrev pub IsBest : (units : List ℕ) (v n : ℕ) → Option ℕ → Type 0
+  IsBest units v n None = (u : ℕ) → u < n → IsCandidate d nodes units v u → ⊥
+  IsBest units v n (Some u) = IsBestOf units v n u
+
+-- of two units the one with fewer nodes, or the first
+abbrev pub lighter_of : List ℕ → Option ℕ → ℕ → ℕ
+lighter_of loads None unit = unit
+lighter_of loads (Some first) unit = if nat_le (load_in loads first) (load_in loads unit) then first else unit

@@ -1,0 +1,109 @@
+//! The units of the nodes that are bound so far, and what the next ones need to know of them.
+
+ghost use Rattle.std.specs.Prelude.{◌≡◌, ◌<◌, ◌+◌, length, replicate, IfOk, IfSome, OnOk};
+ghost use Rattle.plan_core.specs.Operands.{node_of};
+ghost use Rattle.plan_core.specs.Assigned.{IsUnitFor};
+ghost use Rattle.unit_assign.specs.Private.UnitSets.{all_units};
+ghost use Rattle.unit_assign.specs.Private.Drivers.{IsProblem};
+ghost use Rattle.unit_assign.specs.Private.Bindings.{IsBinding, IsNarrowed, lighter_of};
+
+use crate::problem::Problem;
+use crate::unit_set::UnitSet;
+use lists::List;
+use std::alloc::{AllocError, AllocFailed, Global};
+
+/// The units of the first nodes.
+#[derive(Drop)]
+pub(crate) struct Binding {
+    pub units: List<u8>,
+    /// For each unit, how many nodes are bound to it.
+    pub loads: List<u32>,
+    /// For each node of the graph, the units from which a bus leads to each consumer that is bound.
+    pub allowed: List<UnitSet>,
+}
+
+impl Binding {
+    /// Of two candidates the one with fewer nodes, or the first.
+    pub(crate) fn lighter(&self, best: Option<u8>, unit: u8) -> u8
+        requires unit { unit < length self.now.loads }
+        requires best { IfSome best (λ first. first < length self.now.loads) }
+        ensures { result ≡ lighter_of self.now.loads best unit }
+    {
+        match best {
+            Some(first) if self.loads[usize::from(first)] <= self.loads[usize::from(unit)] => first,
+            _ => unit,
+        }
+    }
+
+    /// Binds the next node to the unit.
+    pub(crate) fn bind(
+        &mut self,
+        problem: &Problem,
+        v: usize,
+        unit: u8,
+    ) -> Result<(), AllocFailed<u8>>
+        requires problem { IsProblem problem.now.datapath.now problem.now.lowered.now problem.now.drivers.now }
+        requires count { length self.old.units ≡ v }
+        requires node { v < length problem.now.lowered.now.nodes }
+        requires binding { IsBinding problem.now.datapath.now problem.now.lowered.now.nodes self.old }
+        requires unit { IsUnitFor problem.now.datapath.now problem.now.lowered.now.nodes self.old.units v unit }
+        ensures binding { OnOk result
+            (IsBinding problem.now.datapath.now problem.now.lowered.now.nodes self.new) }
+        ensures count { OnOk result (length self.new.units ≡ v + 1) }
+    {
+        self.units.push(unit)?;
+        self.loads[usize::from(unit)] += 1;
+        narrow(problem, v, unit, &mut self.allowed);
+        Ok(())
+    }
+}
+
+/// Keeps for each operand of node v, on this unit, the units that have a route to the port that reads it.
+fn narrow(problem: &Problem, v: usize, unit: u8, allowed: &mut List<UnitSet>)
+    requires problem { IsProblem problem.now.datapath.now problem.now.lowered.now problem.now.drivers.now }
+    requires node { v < length problem.now.lowered.now.nodes }
+    requires unit { unit < length problem.now.datapath.now.units }
+    requires count { length allowed.old ≡ length problem.now.lowered.now.nodes }
+    ensures { IsNarrowed problem.now.datapath.now problem.now.lowered.now.nodes v unit
+        (length (node_of problem.now.lowered.now.nodes v).edges) allowed.old allowed.new }
+{
+    for (port, edge) in problem.lowered.nodes[v].edges.iter().enumerate() {
+        let operand = edge.node as usize;
+        let narrowed = allowed[operand].intersection(problem.drivers(unit, port));
+        allowed[operand] = narrowed;
+    }
+}
+
+fn no_loads(alloc: Global, count: usize) -> Result<List<u32>, AllocError>
+    ensures { IfOk result (λ loads. loads ≡ replicate count 0) }
+{
+    let mut loads = List::with_capacity(alloc, count)?;
+    for _ in 0..count {
+        loads.push(0)?;
+    }
+    Ok(loads)
+}
+
+fn all_allowed(alloc: Global, count: usize) -> Result<List<UnitSet>, AllocError>
+    ensures { IfOk result (λ sets. sets ≡ replicate count all_units) }
+{
+    let mut allowed = List::with_capacity(alloc, count)?;
+    for _ in 0..count {
+        allowed.push(UnitSet::full())?;
+    }
+    Ok(allowed)
+}
+
+/// Nothing is bound.
+pub(crate) fn no_binding(alloc: Global, problem: &Problem) -> Result<Binding, AllocError>
+    requires { IsProblem problem.now.datapath.now problem.now.lowered.now problem.now.drivers.now }
+    ensures binding { IfOk result (IsBinding problem.now.datapath.now problem.now.lowered.now.nodes) }
+    ensures count { IfOk result (λ binding. length binding.units ≡ 0) }
+{
+    let count = problem.lowered.nodes.len();
+    Ok(Binding {
+        units: List::with_capacity(alloc, count)?,
+        loads: no_loads(alloc, problem.datapath.units.len())?,
+        allowed: all_allowed(alloc, count)?,
+    })
+}

@@ -1,0 +1,13 @@
+//! The binding of the nodes of a graph to the functional units of a datapath, in which each node goes to the unit with
+//! the fewest nodes so far. Page `docs/PLANNING.md`, "Units".
+#![tactic(auto)]
+
+mod binding;
+mod drivers;
+mod fault;
+mod problem;
+mod unit_set;
+mod units;
+
+pub use fault::UnitFault;
+pub use units::assign;

@@ -1,0 +1,271 @@
+//! Which units a node can be bound to.
+
+ghost use Rattle.std.specs.Prelude.{◌≡◌, ◌<◌, ◌≤◌, ◌↔◌, ◌⊎◌, ℕ, length, slice_index_or, IsTrue, IfOk, IfErr, MatchOption};
+ghost use Rattle.plan_core.specs.Hardware.{kind_of, port_of, HasRoute, IsOfKind};
+ghost use Rattle.plan_core.specs.Operands.{node_of, Reads};
+ghost use Rattle.plan_core.specs.Assigned.{IsForRam, IsRightUnit, IsCandidate, IsUnitFor};
+ghost use Rattle.plan_core.specs.Refusals.{IsNextNode, LacksOperand, LacksConsumer, IsOperandWithout, IsConsumerWithout};
+ghost use Rattle.unit_assign.specs.Faults.{IsUnitFault};
+ghost use Rattle.unit_assign.specs.Private.UnitSets.{Has};
+ghost use Rattle.unit_assign.specs.Private.Drivers.{most_ports, IsProblem};
+ghost use Rattle.unit_assign.specs.Private.Missing.{LacksFrom, IsFirstPort, IsFirstConsumer, IsFirstRight};
+ghost use Rattle.unit_assign.specs.Private.Bindings.{IsBinding, IsBest};
+
+use crate::binding::Binding;
+use crate::drivers::place_of;
+use crate::fault::UnitFault;
+use crate::unit_set::UnitSet;
+use datapath::{Datapath, Kind, PortRef};
+use fix_word::Op;
+use lists::List;
+use plan_core::Lowered;
+use signal_graph::{Edge, Node};
+
+/// A graph that is to be bound to the units of a datapath.
+#[derive(Clone, Copy)]
+pub(crate) struct Problem<'a> {
+    pub datapath: &'a Datapath,
+    pub lowered: &'a Lowered,
+    /// For each port of each unit, at its place, the units from which a bus leads to it.
+    pub drivers: &'a List<UnitSet>,
+}
+
+/// The kind of the units that do an operation.
+pub(crate) fn operation_kind(op: Op) -> Kind
+    ensures { result ≡ kind_of op }
+{
+    match op {
+        Op::Input => Kind::Input,
+        Op::Output => Kind::Output,
+        Op::Const => Kind::Rom,
+        Op::Add | Op::Sub | Op::Neg | Op::Pass => Kind::Alu,
+        Op::Lt | Op::Le | Op::Eq | Op::Ne => Kind::Alu,
+        Op::And | Op::Or | Op::Not => Kind::Alu,
+        Op::Mul => Kind::Mul,
+        Op::Sel => Kind::Sel,
+        Op::Load | Op::Store => Kind::Ram,
+        Op::Addr => Kind::Acu,
+    }
+}
+
+/// Whether a unit that is of the right kind for an operation is meant for its ram.
+fn is_for_ram(datapath: &Datapath, node: &Node, unit: u8) -> bool
+    requires { unit < length datapath.now.units }
+    ensures { IsTrue result ↔ IsForRam datapath.now node.now.op node.now.ram unit }
+{
+    match node.op {
+        Op::Load | Op::Store => unit == node.ram,
+        Op::Addr => datapath.units[usize::from(unit)].ram == node.ram,
+        _ => true,
+    }
+}
+
+/// Whether the unit is of the right kind for the node.
+fn is_right(datapath: &Datapath, node: &Node, unit: u8) -> bool
+    requires { unit < length datapath.now.units }
+    ensures { IsTrue result ↔ IsRightUnit datapath.now node.now unit }
+{
+    datapath.units[usize::from(unit)].kind == operation_kind(node.op)
+        && is_for_ram(datapath, node, unit)
+}
+
+impl Problem<'_> {
+    /// The units from which a bus leads to the port.
+    pub(crate) fn drivers(&self, unit: u8, port: usize) -> UnitSet
+        requires problem { IsProblem self.now.datapath.now self.now.lowered.now self.now.drivers.now }
+        requires unit { unit < length self.now.datapath.now.units }
+        requires port { port < most_ports }
+        ensures { (u : ℕ) → Has result u ↔ HasRoute self.now.datapath.now u (port_of unit port) }
+    {
+        self.drivers[place_of(unit, port)]
+    }
+
+    fn has_route(&self, from: u8, unit: u8, port: usize) -> bool
+        requires problem { IsProblem self.now.datapath.now self.now.lowered.now self.now.drivers.now }
+        requires from { from < length self.now.datapath.now.units }
+        requires unit { unit < length self.now.datapath.now.units }
+        requires port { port < most_ports }
+        ensures { IsTrue result ↔ HasRoute self.now.datapath.now from (port_of unit port) }
+    {
+        self.drivers(unit, port).contains(from)
+    }
+
+    /// Whether node v on this unit has no route for an operand.
+    fn lacks_operand(&self, units: &[u8], v: usize, unit: u8, port: usize, edge: Edge) -> bool
+        requires problem { IsProblem self.now.datapath.now self.now.lowered.now self.now.drivers.now }
+        requires next { IsNextNode self.now.datapath.now self.now.lowered.now units.now v }
+        requires unit { unit < length self.now.datapath.now.units }
+        requires port { port < most_ports }
+        ensures { IsTrue result ↔ LacksFrom self.now.datapath.now self.now.lowered.now units.now v unit port edge.node }
+    {
+        let operand = edge.node as usize;
+        if operand < v {
+            !self.has_route(units[operand], unit, port)
+        } else {
+            operand == v && !self.has_route(unit, unit, port)
+        }
+    }
+
+    /// The first port at which node v on this unit has no route for its operand.
+    fn missing_operand(&self, units: &[u8], v: usize, unit: u8) -> Option<u8>
+        requires problem { IsProblem self.now.datapath.now self.now.lowered.now self.now.drivers.now }
+        requires next { IsNextNode self.now.datapath.now self.now.lowered.now units.now v }
+        requires unit { unit < length self.now.datapath.now.units }
+        ensures { MatchOption result
+            ((q : ℕ) → LacksOperand self.now.datapath.now self.now.lowered.now units.now v unit q → ⊥)
+            (λ q. IsOperandWithout self.now.datapath.now self.now.lowered.now units.now v unit (port_of unit q)) }
+    {
+        for (port, edge) in self.lowered.nodes[v].edges.iter().enumerate() {
+            if self.lacks_operand(units, v, unit, port, *edge) {
+                return Some(port as u8);
+            }
+        }
+        None
+    }
+
+    /// The first port of node c at which it reads node v without a route from this unit.
+    fn missing_port(&self, units: &[u8], v: usize, unit: u8, c: usize) -> Option<u8>
+        requires problem { IsProblem self.now.datapath.now self.now.lowered.now self.now.drivers.now }
+        requires next { IsNextNode self.now.datapath.now self.now.lowered.now units.now v }
+        requires unit { unit < length self.now.datapath.now.units }
+        requires before { c < v }
+        ensures { MatchOption result
+            ((q : ℕ) → LacksConsumer self.now.datapath.now self.now.lowered.now units.now v unit c q → ⊥)
+            (IsFirstPort self.now.datapath.now self.now.lowered.now units.now v unit c) }
+    {
+        for (port, edge) in self.lowered.nodes[c].edges.iter().enumerate() {
+            if edge.node as usize == v && !self.has_route(unit, units[c], port) {
+                return Some(port as u8);
+            }
+        }
+        None
+    }
+
+    /// The port of the first consumer, of those that are bound, to which node v on this unit has no route.
+    fn missing_consumer(&self, units: &[u8], v: usize, unit: u8) -> Option<PortRef>
+        requires problem { IsProblem self.now.datapath.now self.now.lowered.now self.now.drivers.now }
+        requires next { IsNextNode self.now.datapath.now self.now.lowered.now units.now v }
+        requires unit { unit < length self.now.datapath.now.units }
+        ensures { MatchOption result
+            ((c q : ℕ) → LacksConsumer self.now.datapath.now self.now.lowered.now units.now v unit c q → ⊥)
+            (IsFirstConsumer self.now.datapath.now self.now.lowered.now units.now v unit) }
+    {
+        for c in 0..v {
+            if let Some(port) = self.missing_port(units, v, unit, c) {
+                return Some(PortRef {
+                    unit: units[c],
+                    port,
+                });
+            }
+        }
+        None
+    }
+
+    /// Whether node v can be on this unit.
+    fn is_candidate(&self, binding: &Binding, v: usize, unit: u8) -> bool
+        requires problem { IsProblem self.now.datapath.now self.now.lowered.now self.now.drivers.now }
+        requires next { IsNextNode self.now.datapath.now self.now.lowered.now binding.now.units v }
+        requires binding { IsBinding self.now.datapath.now self.now.lowered.now.nodes binding.now }
+        requires unit { unit < length self.now.datapath.now.units }
+        ensures { IsTrue result
+            ↔ IsCandidate self.now.datapath.now self.now.lowered.now.nodes binding.now.units v unit }
+    {
+        is_right(self.datapath, &self.lowered.nodes[v], unit)
+            && binding.allowed[v].contains(unit)
+            && self
+                .missing_operand(binding.units.as_slice(), v, unit)
+                .is_none()
+    }
+
+    /// The first of the candidates with the fewest nodes.
+    fn best_candidate(&self, binding: &Binding, v: usize) -> Option<u8>
+        requires problem { IsProblem self.now.datapath.now self.now.lowered.now self.now.drivers.now }
+        requires next { IsNextNode self.now.datapath.now self.now.lowered.now binding.now.units v }
+        requires binding { IsBinding self.now.datapath.now self.now.lowered.now.nodes binding.now }
+        ensures { let count = length self.now.datapath.now.units in
+            IsBest self.now.datapath.now self.now.lowered.now.nodes binding.now.units v count result }
+    {
+        let mut best = None;
+        for number in 0..self.datapath.units.len() {
+            let unit = number as u8;
+            if self.is_candidate(binding, v, unit) {
+                best = Some(binding.lighter(best, unit));
+            }
+        }
+        best
+    }
+
+    fn first_right(&self, v: usize) -> Option<u8>
+        requires problem { IsProblem self.now.datapath.now self.now.lowered.now self.now.drivers.now }
+        requires node { v < length self.now.lowered.now.nodes }
+        ensures { MatchOption result
+            ((u : ℕ) → IsRightUnit self.now.datapath.now (node_of self.now.lowered.now.nodes v) u → ⊥)
+            (IsFirstRight self.now.datapath.now (node_of self.now.lowered.now.nodes v)) }
+    {
+        for number in 0..self.datapath.units.len() {
+            let unit = number as u8;
+            if is_right(self.datapath, &self.lowered.nodes[v], unit) {
+                return Some(unit);
+            }
+        }
+        None
+    }
+
+    /// The port of the first missing route of node v on this unit, which is no candidate.
+    fn missing_route(&self, units: &[u8], v: usize, unit: u8) -> PortRef
+        requires problem { IsProblem self.now.datapath.now self.now.lowered.now self.now.drivers.now }
+        requires next { IsNextNode self.now.datapath.now self.now.lowered.now units.now v }
+        requires right { IsRightUnit self.now.datapath.now (node_of self.now.lowered.now.nodes v) unit }
+        requires none { IsCandidate self.now.datapath.now self.now.lowered.now.nodes units.now v unit → ⊥ }
+        ensures { IsOperandWithout self.now.datapath.now self.now.lowered.now units.now v unit result
+            ⊎ IsConsumerWithout self.now.datapath.now self.now.lowered.now units.now v unit result }
+    {
+        if let Some(port) = self.missing_operand(units, v, unit) {
+            return PortRef { unit, port };
+        }
+        match self.missing_consumer(units, v, unit) {
+            Some(port) => port,
+            None => unreachable!(),
+        }
+    }
+
+    /// Why node v has no candidate.
+    fn refusal(&self, units: &[u8], v: usize) -> UnitFault
+        requires problem { IsProblem self.now.datapath.now self.now.lowered.now self.now.drivers.now }
+        requires next { IsNextNode self.now.datapath.now self.now.lowered.now units.now v }
+        requires width { (node_of self.now.lowered.now.nodes v).width ≤ self.now.datapath.now.word }
+        requires none { (u : ℕ) → IsCandidate self.now.datapath.now self.now.lowered.now.nodes units.now v u → ⊥ }
+        ensures { IsUnitFault self.now.datapath.now self.now.lowered.now result }
+    {
+        let node = v as u32;
+        let Some(unit) = self.first_right(v) else {
+            return UnitFault::NoUnit {
+                kind: operation_kind(self.lowered.nodes[v].op),
+                node,
+            };
+        };
+        let port = self.missing_route(units, v, unit);
+        UnitFault::NoRoute {
+            unit: port.unit,
+            port: port.port,
+            node,
+        }
+    }
+
+    /// The unit of node v, which is the next one.
+    pub(crate) fn unit_for(&self, binding: &Binding, v: usize) -> Result<u8, UnitFault>
+        requires problem { IsProblem self.now.datapath.now self.now.lowered.now self.now.drivers.now }
+        requires next { IsNextNode self.now.datapath.now self.now.lowered.now binding.now.units v }
+        requires binding { IsBinding self.now.datapath.now self.now.lowered.now.nodes binding.now }
+        ensures unit { IfOk result (IsUnitFor self.now.datapath.now self.now.lowered.now.nodes binding.now.units v) }
+        ensures fault { IfErr result (IsUnitFault self.now.datapath.now self.now.lowered.now) }
+    {
+        if self.lowered.nodes[v].width > self.datapath.word {
+            return Err(UnitFault::TooWide(v as u32));
+        }
+        match self.best_candidate(binding, v) {
+            Some(unit) => Ok(unit),
+            None => Err(self.refusal(binding.units.as_slice(), v)),
+        }
+    }
+}

@@ -1,0 +1,120 @@
+//! The units of all nodes.
+
+ghost use Rattle.std.specs.Prelude.{◌≡◌, ◌⊎◌, ℕ, length, Ok, Err, IfOk, IfErr, OnOk};
+ghost use Rattle.datapath.specs.Allowed.{IsDatapath};
+ghost use Rattle.plan_core.specs.Assigned.{AreUnits, IsAssigned};
+ghost use Rattle.plan_core.specs.declared.schedule.Assigned.{Assigned};
+ghost use Rattle.unit_assign.specs.Wired.{IsWired};
+ghost use Rattle.unit_assign.specs.Faults.{IsUnitFault};
+ghost use Rattle.unit_assign.specs.Private.Drivers.{IsProblem};
+ghost use Rattle.unit_assign.specs.Private.Bindings.{IsBinding};
+ghost use Rattle.unit_assign.specs.declared.fault.UnitFault.{UnitFault};
+ghost use Rattle.unit_assign.specs.declared.fault.UnitFault.TheVariants.{Memory};
+
+use crate::binding::{Binding, no_binding};
+use crate::drivers::all_drivers;
+use crate::fault::UnitFault;
+use crate::problem::Problem;
+use datapath::Datapath;
+use lists::List;
+use plan_core::{Assigned, Lowered};
+use signal_graph::Node;
+use std::alloc::{AllocError, Global};
+
+fn copy_of(alloc: Global, node: &Node) -> Result<Node, AllocError>
+    ensures { IfOk result (λ copy. copy ≡ node.now) }
+{
+    Ok(Node {
+        op: node.op,
+        fmt: node.fmt,
+        arg: node.arg,
+        edges: List::from_slice(alloc, node.edges.as_slice())?,
+        inits: List::from_slice(alloc, node.inits.as_slice())?,
+        width: node.width,
+        ram: node.ram,
+    })
+}
+
+fn copies_of(alloc: Global, nodes: &List<Node>) -> Result<List<Node>, AllocError>
+    ensures { IfOk result (λ copies. copies ≡ nodes.now) }
+{
+    let mut copies = List::with_capacity(alloc, nodes.len())?;
+    for node in nodes.iter() {
+        copies.push(copy_of(alloc, node)?)?;
+    }
+    Ok(copies)
+}
+
+/// A copy of the graph, with the units of its nodes.
+fn assigned(alloc: Global, lowered: &Lowered, units: List<u8>) -> Result<Assigned, AllocError>
+    ensures lowered { IfOk result (λ assigned. assigned.lowered ≡ lowered.now) }
+    ensures units { IfOk result (λ assigned. assigned.units ≡ units) }
+{
+    let lowered = Lowered {
+        nodes: copies_of(alloc, &lowered.nodes)?,
+        lines: List::from_slice(alloc, lowered.lines.as_slice())?,
+    };
+    Ok(Assigned { lowered, units })
+}
+
+/// Binds the nodes in the order of their numbers.
+fn bind_all(problem: &Problem, binding: &mut Binding) -> Result<(), UnitFault>
+    requires problem { IsProblem problem.now.datapath.now problem.now.lowered.now problem.now.drivers.now }
+    requires none { length binding.old.units ≡ 0 }
+    requires binding { IsBinding problem.now.datapath.now problem.now.lowered.now.nodes binding.old }
+    ensures count { OnOk result (length binding.new.units ≡ length problem.now.lowered.now.nodes) }
+    ensures units { OnOk result
+        (AreUnits problem.now.datapath.now problem.now.lowered.now.nodes binding.new.units) }
+    ensures fault { IfErr result
+        (λ fault. (fault ≡ Memory) ⊎ IsUnitFault problem.now.datapath.now problem.now.lowered.now fault) }
+{
+    for v in 0..problem.lowered.nodes.len() {
+        let unit = problem.unit_for(binding, v)?;
+        binding.bind(problem, v, unit)?;
+    }
+    Ok(())
+}
+
+/// The units of the nodes, in their order.
+fn units_of(alloc: Global, lowered: &Lowered, datapath: &Datapath) -> Result<List<u8>, UnitFault>
+    requires datapath { IsDatapath datapath.now }
+    requires wired { IsWired lowered.now }
+    ensures count { IfOk result (λ units. length units ≡ length lowered.now.nodes) }
+    ensures units { IfOk result (AreUnits datapath.now lowered.now.nodes) }
+    ensures fault { IfErr result (λ fault. (fault ≡ Memory) ⊎ IsUnitFault datapath.now lowered.now fault) }
+{
+    let drivers = all_drivers(alloc, datapath)?;
+    let problem = Problem {
+        datapath,
+        lowered,
+        drivers: &drivers,
+    };
+    let mut binding = no_binding(alloc, &problem)?;
+    bind_all(&problem, &mut binding)?;
+    Ok(binding.units)
+}
+
+/// Binds each node to a functional unit: of the units of the right kind that have all routes, the first with the fewest
+/// nodes so far. Takes time in proportion to nodes and edges. Page `docs/PLANNING.md`, "Units".
+///
+/// # Errors
+///
+/// At the first node without a unit: `TooWide` where it has more bits than a word of the datapath; else `NoUnit` where
+/// no unit is of the right kind; else `NoRoute` with the first route that is missing on the first unit of the right
+/// kind. `Memory` where no memory is left.
+pub fn assign(alloc: Global, lowered: &Lowered, datapath: &Datapath) -> Result<Assigned, UnitFault>
+    requires datapath { IsDatapath datapath.now }
+    requires wired { IsWired lowered.now }
+    ensures lowered { IfOk result (λ assigned. assigned.lowered ≡ lowered.now) }
+    ensures assigned { IfOk result (IsAssigned datapath.now) }
+    ensures fault { IfErr result (λ fault. (fault ≡ Memory) ⊎ IsUnitFault datapath.now lowered.now fault) }
+    // The one binding is always found, unless memory runs out.
+    ensures found { (a : Assigned) → a.lowered ≡ lowered.now → IsAssigned datapath.now a
+        → (result ≡ Ok a) ⊎ (result ≡ Err Memory) }
+    // So is the first fault.
+    ensures refused { (fault : UnitFault) → IsUnitFault datapath.now lowered.now fault
+        → (result ≡ Err fault) ⊎ (result ≡ Err Memory) }
+{
+    let units = units_of(alloc, lowered, datapath)?;
+    Ok(assigned(alloc, lowered, units)?)
+}
