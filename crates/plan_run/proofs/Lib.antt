@@ -1,0 +1,16 @@
+pub mod Samples
+pub mod Spans
+pub mod Lines
+pub mod Slots
+pub mod LiveWords
+pub mod Meanings
+pub mod ReadsRight
+pub mod Elements
+pub mod Writes
+pub mod Contents
+pub mod Clear
+pub mod FromImage
+pub mod Whole
+pub mod SoundLowered
+pub mod FromRules
+pub mod Origins

@@ -1,0 +1,54 @@
+-- What an issue comes to is what its node gives, where its registers hold the node's operands.
+use Rattle.std.proofs.Common.{◌≡◌, ℕ, ◌<◌, refl, ap, ap₂, ◌∙◌, arith, List, [], ℤ, pos}
+use Rattle.lists.specs.Rows.{Rows}
+use Rattle.fix_word.specs.Values.{apply_of}
+use Rattle.fix_word.specs.declared.operation.Op.{Op}
+use Rattle.fix_word.specs.declared.operation.Op.TheVariants as op
+use Rattle.operations.specs.Operations.{operands}
+use Rattle.operations.specs.Ranges.{to_nat}
+use Rattle.signal_graph.specs.declared.graph.Node.{Node}
+use Rattle.micro_image.specs.declared.image.Image.{Image}
+use Rattle.micro_image.specs.declared.image.Issue.{Issue}
+use Rattle.micro_image.specs.Fields.{nth}
+use Rattle.micro_image.specs.Log.{Entry, operand, value_by}
+use Rattle.plan_run.specs.Private.Solution.{meaning_by, IsOfGraph}
+
+-- no port past the last operand counts
+pub meaning-operands : (o : Op) (node : Node) (stream : Rows) (n : ℕ) (f g : ℕ → ℤ)
+    → IsOfGraph o
+    → ((q : ℕ) → q < operands o → f q ≡ g q)
+    → meaning_by o node stream n f ≡ meaning_by o node stream n g
+meaning-operands op.Input node stream n f g of same = refl
+meaning-operands op.Const node stream n f g of same = refl
+meaning-operands op.Output node stream n f g of same = same 0 (omega arith)
+meaning-operands op.Neg node stream n f g of same =
+    ap (λ a. apply_of op.Neg node.fmt a (pos 0) (pos 0)) (same 0 (omega arith))
+meaning-operands op.Pass node stream n f g of same =
+    ap (λ a. apply_of op.Pass node.fmt a (pos 0) (pos 0)) (same 0 (omega arith))
+meaning-operands op.Not node stream n f g of same =
+    ap (λ a. apply_of op.Not node.fmt a (pos 0) (pos 0)) (same 0 (omega arith))
+meaning-operands op.Sel node stream n f g of same =
+    ap₂ (λ a b. apply_of op.Sel node.fmt a b (f 2)) (same 0 (omega arith)) (same 1 (omega arith))
+    ∙ ap (λ c. apply_of op.Sel node.fmt (g 0) (g 1) c) (same 2 (omega arith))
+meaning-operands op.Load node stream n f g of same = absurd of
+meaning-operands op.Store node stream n f g of same = absurd of
+meaning-operands op.Addr node stream n f g of same = absurd of
+meaning-operands o node stream n f g of same =
+    ap₂ (λ a b. apply_of o node.fmt a b (pos 0)) (same 0 (omega arith)) (same 1 (omega arith))
+
+-- the value of an issue by the node's meaning
+pub value-meaning : (o : Op) (image : Image) (z stream : Rows) (log : List Entry) (t n : ℕ) (issue : Issue) (node : Node)
+    → IsOfGraph o
+    → nth z t [] ≡ nth stream n []
+    → issue.arg ≡ node.arg
+    → issue.fmt ≡ node.fmt
+    → value_by o image z log t issue ≡ meaning_by o node stream n (operand image log t issue)
+value-meaning op.Input image z stream log t n issue node of row arg fmt =
+    ap₂ (λ r a. nth r (to_nat a) (pos 0)) row arg
+value-meaning op.Const image z stream log t n issue node of row arg fmt = arg
+value-meaning op.Output image z stream log t n issue node of row arg fmt = refl
+value-meaning op.Load image z stream log t n issue node of row arg fmt = absurd of
+value-meaning op.Store image z stream log t n issue node of row arg fmt = absurd of
+value-meaning op.Addr image z stream log t n issue node of row arg fmt = absurd of
+value-meaning o image z stream log t n issue node of row arg fmt =
+    ap (λ f. apply_of o f (operand image log t issue 0) (operand image log t issue 1) (operand image log t issue 2)) fmt

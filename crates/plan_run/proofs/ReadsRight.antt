@@ -1,0 +1,302 @@
+-- Each read finds its instance: the register that an issue names holds the word of its operand at the sample that is
+-- read. So an issue comes to the word of its node.
+use Rattle.std.proofs.Common.{◌≡◌, ℕ, ◌+◌, ◌-◌, ◌*◌, ◌/◌, ◌<◌, ◌≤◌, refl, sym, ap, ap₂, ◌∙◌, arith, List, [], length, ℤ, pos, true, false, Some, None, subst, if◌then◌else◌}
+use Rattle.std.specs.Int.{int_rem_euclid}
+use Rattle.std.specs.Prelude.{◌-ℤ◌}
+use Rattle.std.proofs.Math.Nat.{add-mul, mul-le-mul_right}
+use Rattle.std.proofs.lemmas.Nat.{div-mul-add}
+use Rattle.lists.specs.Rows.{Rows}
+use Rattle.fix_word.specs.declared.operation.Op.{Op}
+use Rattle.fix_word.specs.declared.operation.Op.TheVariants as op
+use Rattle.operations.specs.Operations.{operands}
+use Rattle.operations.specs.Ranges.{to_nat}
+use Rattle.datapath.specs.declared.types.Datapath.{Datapath}
+use Rattle.plan_core.specs.Hardware.{latency_on, gap_on, cells_on, tie_of, port_of}
+use Rattle.plan_core.specs.declared.plan.Plan.{Plan}
+use Rattle.micro_image.specs.declared.image.Image.{Image}
+use Rattle.micro_image.specs.declared.image.Issue.{Issue}
+use Rattle.micro_image.specs.Fields.{nth, unit_of, sample_of, issue_at, began, ending}
+use Rattle.micro_image.specs.Log.{Place, Register, Cell, Entry, content, Log, Content, operand, value, value_by, given, result_by}
+use Rattle.micro_image.specs.Operations.{gives}
+use Rattle.micro_image.proofs.LogLaws.{content-old}
+use Rattle.plan_run.specs.Parts.{nodes_of, lines_of, node_at, edge_at, unit_at, cycle_at, arc_at, line_at, ReadsThrough, ends_at}
+use Rattle.plan_run.specs.Private.Samples.{past}
+use Rattle.plan_run.specs.Private.Cells.{cell_in}
+use Rattle.plan_run.specs.Private.Memory.{store_of, HasAddress, LoadsFrom, StoresTo}
+use Rattle.plan_run.specs.Private.Solution.{Counted, LoweredSolves, IsOfGraph, meaning_by, operand_in}
+use Rattle.plan_run.specs.Private.Feasible.{IsFeasible, IsFeasibleLine}
+use Rattle.plan_run.specs.Private.Executes.{Executes, IsIssueIn, register_in}
+use Rattle.plan_run.proofs.Lines.{addr-cell, cell-from, load-cell}
+use Rattle.plan_run.proofs.LiveWords.{LiveWord, in_register, in_cell, place_of, written_at, wanted_to, word_of, below_period}
+use Rattle.plan_run.proofs.Meanings.{meaning-operands, value-meaning}
+use Rattle.plan_run.proofs.Slots.{Right}
+
+-- samples of so many samples ago
+back : (n ago : ℕ) → ago < past → past + n ≡ past + n - ago + ago
+back n ago small = omega arith
+
+back_now : (n ago : ℕ) → ago ≡ 0 → past + n - ago ≡ past + n
+back_now n ago now = omega arith
+
+back_of : (m ago : ℕ) → ago ≤ m → m ≡ m - ago + ago
+back_of m ago le = omega arith
+
+some_operand : {m n : ℕ} (q : ℕ) → m ≡ n → q < n → q < m
+some_operand q e below = omega (arith, e, below)
+
+pub not_store : (o : Op) → gives o ≡ true → o ≡ op.Store → ⊥
+not_store o result e = let none : gives o ≡ false = ap gives e in absurd (cc)
+
+module _ (d : Datapath) (p : Plan) (words : Counted) (plan : IsFeasible d p) (image : Image) (z stream : Rows)
+    (runs : Executes d p image) (solves : LoweredSolves d p stream words)
+    (rows : (n c : ℕ) → c < d.period → nth z (n * d.period + c) [] ≡ nth stream n []) where
+  -- up to cycle t each place holds what is wanted of it
+  abbrev pub AllRight : ℕ → Type 0
+  AllRight t =
+      Right (place_of d p words) (written_at d p words) (wanted_to d p words) (word_of d p words) (past * d.period)
+      (length stream * d.period) (Content image z) t
+
+  place_read : (v n q k : ℕ) (issue : Issue)
+      → IsIssueIn p v n issue
+      → ReadsThrough p v q k
+      → Register issue.unit q (nth issue.regs q 0)
+      ≡ Register (arc_at p k).port.unit (arc_at p k).port.port (register_in p k (past + n - (edge_at p v q).delay))
+  place_read v n q k issue is through =
+      let unit : issue.unit ≡ (arc_at p k).port.unit = is.unit ∙ sym (ap (λ port. port.unit) through.port) in
+      let port : q ≡ (arc_at p k).port.port = sym (ap (λ port. port.port) through.port) in
+      let reg : nth issue.regs q 0 ≡ register_in p k (past + n - (edge_at p v q).delay) = is.regs q k through in
+      cc
+
+  -- each read finds its instance
+  pub reads : (t v n q : ℕ) (issue : Issue)
+      → AllRight t
+      → v < length (nodes_of p)
+      → q < length (node_at p v).edges
+      → IsIssueIn p v n issue
+      → n * d.period + cycle_at p v ≤ t
+      → operand image (Log image z t) (n * d.period + cycle_at p v) issue q ≡ operand_in words (node_at p v) n q
+  reads t v n q issue right in-v in-q is below =
+      let through = plan.read v q in-v in-q in
+      let k : ℕ = through.0 in
+      let ago : ℕ = (edge_at p v q).delay in
+      let m : ℕ = past + n - ago in
+      let within = plan.read_in v q k in-v through.1 in
+      let small : ago < past = (plan.edges v q in-v in-q).1 in
+      let live : LiveWord p = in_register k m through.1.there in
+      let time : (past + n) * d.period ≡ m * d.period + ago * d.period =
+      ap (λ n. n * d.period) (back n ago small) ∙ add-mul m ago d.period in
+      let whole : (past + n) * d.period ≡ past * d.period + n * d.period = add-mul past n d.period in
+      content-old image z _ _ t below
+      ∙ ap (λ place. Content image z place (n * d.period + cycle_at p v)) (place_read v n q k issue is through.1)
+      ∙ right live (n * d.period + cycle_at p v) below (omega (arith, within.0, time, whole))
+      (omega (arith, within.1, time, whole))
+      ∙ ap (λ u. words u m) (sym through.1.reads.node)
+
+  in_period : (v : ℕ) → v < length (nodes_of p) → cycle_at p v < d.period
+  in_period v in-v =
+      let fits : cycle_at p v + latency_on d (unit_at p v) ≤ d.period = plan.fits v in-v in
+      let gap : 0 < gap_on d (unit_at p v) = (plan.gaps (unit_at p v)).0 in
+      let latency : gap_on d (unit_at p v) ≤ latency_on d (unit_at p v) = (plan.gaps (unit_at p v)).1 in
+      omega arith
+
+  edges_of : (v : ℕ) (o : Op) → v < length (nodes_of p) → (node_at p v).op ≡ o → length (node_at p v).edges ≡ operands o
+  edges_of v o in-v e = plan.operand_count v in-v ∙ ap operands e
+
+  -- the address of a load or a store is that of its cell
+  pub address_right : (t v n ram offset : ℕ) (issue : Issue)
+      → AllRight t
+      → v < length (nodes_of p)
+      → n < length stream
+      → 0 < length (node_at p v).edges
+      → IsIssueIn p v n issue
+      → HasAddress d p v ram offset
+      → 0 < cells_on d ram
+      → n * d.period + cycle_at p v ≤ t
+      → operand image (Log image z t) (n * d.period + cycle_at p v) issue 0
+      ≡ pos (cell_in (cells_on d ram) past offset (past + n))
+  address_right t v n ram offset issue right in-v in-n some is has cells below =
+      let a : ℕ = (edge_at p v 0).node in
+      let in-a : a < length (nodes_of p) = (plan.edges v 0 in-v some).0 in
+      reads t v n 0 issue right in-v some is below
+      ∙ ap (words a) (back_now n (edge_at p v 0).delay has.now)
+      ∙ solves.address a n in-a in-n has.is_address
+      ∙ ap₂ (λ c u. int_rem_euclid (c -ℤ pos n) (pos (cells_on d u))) has.argument has.tied
+      ∙ addr-cell (cells_on d ram) offset n cells
+      ∙ ap pos (sym (cell-from (cells_on d ram) past offset n cells))
+
+  sample_is : (n c : ℕ) → c < d.period → sample_of image (n * d.period + c) ≡ n
+  sample_is n c below = ap (λ q. (n * d.period + c) / q) runs.period ∙ div-mul-add n d.period c below
+
+  load_right : (t v n l ago : ℕ) (issue : Issue)
+      → AllRight t
+      → v < length (nodes_of p)
+      → n < length stream
+      → (node_at p v).op ≡ op.Load
+      → LoadsFrom d p v l ago
+      → words v (past + n) ≡ words (line_at p l).node (past + n - ago)
+      → IsIssueIn p v n issue
+      → n * d.period + cycle_at p v ≤ t
+      → value_by op.Load image z (Log image z t) (n * d.period + cycle_at p v) issue ≡ words v (past + n)
+  load_right t v n l ago issue right in-v in-n is-load loads old is below =
+      let line : IsFeasibleLine d p l = plan.lines l loads.there in
+      let offset : ℕ = (line_at p l).offset in
+      let ram : ℕ = (line_at p l).ram in
+      let m : ℕ = past + n - ago in
+      let deep : (line_at p l).depth < past = line.depth in
+      let depth : ago ≤ (line_at p l).depth = loads.depth in
+      let room : offset + (line_at p l).depth < cells_on d ram = line.room in
+      let e : past + n ≡ m + ago = back_of (past + n) ago (omega arith) in
+      let cells : 0 < cells_on d ram = omega arith in
+      let time : (past + n) * d.period ≡ m * d.period + ago * d.period =
+      ap (λ n. n * d.period) e ∙ add-mul m ago d.period in
+      let whole : (past + n) * d.period ≡ past * d.period + n * d.period = add-mul past n d.period in
+      let kept : (past + n) * d.period ≤ (m + (line_at p l).depth) * d.period =
+      mul-le-mul_right d.period (omega arith) in
+      let one : 1 * d.period ≤ ago * d.period = mul-le-mul_right d.period loads.before in
+      let end : ends_at d p (store_of (line_at p l)) < d.period =
+      below_period d p words plan (store_of (line_at p l)) line.store in
+      let cycle : cycle_at p v < d.period = in_period v in-v in
+      let address : operand image (Log image z t) (n * d.period + cycle_at p v) issue 0
+      ≡ pos (cell_in (cells_on d ram) past (offset + ago) (past + n)) =
+      address_right t v n ram (offset + ago) issue right in-v in-n
+      (some_operand 0 (edges_of v op.Load in-v is-load) (omega arith)) is loads.address cells below in
+      let cell : cell_in (cells_on d ram) past (offset + ago) (past + n) ≡ cell_in (cells_on d ram) past offset m =
+      ap (cell_in (cells_on d ram) past (offset + ago)) e
+      ∙ load-cell (cells_on d ram) past offset ago m cells (omega arith) in
+      ap₂ (λ u a. content image (Log image z t) (Cell u (to_nat a)) (n * d.period + cycle_at p v))
+      (is.unit ∙ loads.unit) (address ∙ ap pos cell)
+      ∙ content-old image z (place_of d p words (in_cell l m loads.there)) (n * d.period + cycle_at p v) t below
+      ∙ right (in_cell l m loads.there) (n * d.period + cycle_at p v) below (omega arith) (omega arith)
+      ∙ sym old
+
+  addr_right : (log : List Entry) (v n : ℕ) (issue : Issue)
+      → v < length (nodes_of p)
+      → n < length stream
+      → (node_at p v).op ≡ op.Addr
+      → IsIssueIn p v n issue
+      → value_by op.Addr image z log (n * d.period + cycle_at p v) issue ≡ words v (past + n)
+  addr_right log v n issue in-v in-n is-addr is =
+      ap₂ (λ a m. int_rem_euclid (a -ℤ pos m) (pos (length (unit_of image (unit_of image issue.unit).ram).cells)))
+      is.arg (sample_is n (cycle_at p v) (in_period v in-v))
+      ∙ ap (λ c. int_rem_euclid ((node_at p v).arg -ℤ pos n) (pos c))
+      (runs.cells (unit_of image issue.unit).ram
+      ∙ ap (cells_on d) (runs.ram issue.unit ∙ ap (tie_of d) is.unit))
+      ∙ sym (solves.address v n in-v in-n is-addr)
+
+  plain_right : (o : Op) (t v n : ℕ) (issue : Issue)
+      → IsOfGraph o
+      → (node_at p v).op ≡ o
+      → AllRight t
+      → v < length (nodes_of p)
+      → n < length stream
+      → IsIssueIn p v n issue
+      → n * d.period + cycle_at p v ≤ t
+      → value_by o image z (Log image z t) (n * d.period + cycle_at p v) issue ≡ words v (past + n)
+  plain_right o t v n issue of e right in-v in-n is below =
+      value-meaning o image z stream (Log image z t) (n * d.period + cycle_at p v) n issue (node_at p v) of
+      (rows n (cycle_at p v) (in_period v in-v)) is.arg is.fmt
+      ∙ meaning-operands o (node_at p v) stream n _ _ of
+      (λ q in-q. reads t v n q issue right in-v (some_operand q (edges_of v o in-v e) in-q) is below)
+      ∙ sym (solves.now v n in-v in-n (subst IsOfGraph (sym e) of)
+      ∙ ap (λ o. meaning_by o (node_at p v) stream n (operand_in words (node_at p v) n)) e)
+
+  right_by : (o : Op) (t v n : ℕ) (issue : Issue)
+      → (node_at p v).op ≡ o
+      → (o ≡ op.Store → ⊥)
+      → AllRight t
+      → v < length (nodes_of p)
+      → n < length stream
+      → IsIssueIn p v n issue
+      → n * d.period + cycle_at p v ≤ t
+      → value_by o image z (Log image z t) (n * d.period + cycle_at p v) issue ≡ words v (past + n)
+  right_by op.Load t v n issue e never right in-v in-n is below =
+      let loads = solves.load v n in-v in-n e in
+      load_right t v n loads.0 loads.1 issue right in-v in-n e loads.2 loads.3 is below
+  right_by op.Store t v n issue e never right in-v in-n is below = absurd (never refl)
+  right_by op.Addr t v n issue e never right in-v in-n is below = addr_right (Log image z t) v n issue in-v in-n e is
+  right_by o t v n issue e never right in-v in-n is below =
+      plain_right o t v n issue (tt {0}) e right in-v in-n is below
+
+  -- an issue comes to the word of its node
+  pub issue_right : (t v n : ℕ) (issue : Issue)
+      → AllRight t
+      → v < length (nodes_of p)
+      → n < length stream
+      → ((node_at p v).op ≡ op.Store → ⊥)
+      → IsIssueIn p v n issue
+      → n * d.period + cycle_at p v ≤ t
+      → value image z (Log image z t) (n * d.period + cycle_at p v) issue ≡ words v (past + n)
+  unfolding value
+  issue_right t v n issue right in-v in-n never is below =
+      ap (λ o. value_by o image z (Log image z t) (n * d.period + cycle_at p v) issue) is.op
+      ∙ right_by (node_at p v).op t v n issue refl never right in-v in-n is below
+
+  -- a store writes the word of its line's node
+  pub store_right : (t v n l : ℕ) (issue : Issue)
+      → AllRight t
+      → v < length (nodes_of p)
+      → n < length stream
+      → StoresTo d p v l
+      → IsIssueIn p v n issue
+      → n * d.period + cycle_at p v ≤ t
+      → value image z (Log image z t) (n * d.period + cycle_at p v) issue ≡ words (line_at p l).node (past + n)
+  unfolding value
+  store_right t v n l issue right in-v in-n stores is below =
+      ap (λ o. value_by o image z (Log image z t) (n * d.period + cycle_at p v) issue) (is.op ∙ stores.is_store)
+      ∙ reads t v n 1 issue right in-v (some_operand 1 (edges_of v op.Store in-v stores.is_store) (omega arith)) is below
+      ∙ ap₂ words stores.value (back_now n (edge_at p v 1).delay stores.now)
+
+  -- into the line's cell
+  pub store_place : (t v n l : ℕ) (issue : Issue)
+      → AllRight t
+      → v < length (nodes_of p)
+      → n < length stream
+      → (stores : StoresTo d p v l)
+      → IsIssueIn p v n issue
+      → n * d.period + cycle_at p v ≤ t
+      → Cell issue.unit (to_nat (operand image (Log image z t) (n * d.period + cycle_at p v) issue 0))
+      ≡ place_of d p words (in_cell l (past + n) stores.there)
+  store_place t v n l issue right in-v in-n stores is below =
+      let room : (line_at p l).offset + (line_at p l).depth < cells_on d (line_at p l).ram =
+      (plan.lines l stores.there).room in
+      ap₂ (λ u a. Cell u (to_nat a)) (is.unit ∙ stores.unit)
+      (address_right t v n (line_at p l).ram (line_at p l).offset issue right in-v in-n
+      (some_operand 0 (edges_of v op.Store in-v stores.is_store) (omega arith)) is stores.address (omega arith) below)
+
+  ending_is : (t u c b : ℕ) → t ≡ c + b → (unit_of image u).latency - 1 ≡ b → ending image t u ≡ issue_at image c u
+  ending_is t u c b e f = rw f (rw e (grind arith))
+
+  began_is : (t u c b : ℕ) → t ≡ c + b → (unit_of image u).latency - 1 ≡ b → began image t u ≡ c
+  began_is t u c b e f = omega (arith, e, f)
+
+  -- the issue of a node ends in the cycle of its result
+  pub ends_then : (v n : ℕ) (issue : Issue)
+      → issue_at image (n * d.period + cycle_at p v) (unit_at p v) ≡ Some issue
+      → ending image (n * d.period + ends_at d p v) (unit_at p v) ≡ Some issue
+  ends_then v n issue at =
+      ending_is (n * d.period + ends_at d p v) (unit_at p v) (n * d.period + cycle_at p v)
+      (latency_on d (unit_at p v) - 1) (omega arith) (ap (λ l. l - 1) (runs.latency (unit_at p v)))
+      ∙ at
+
+  pub began_then : (v n : ℕ) → began image (n * d.period + ends_at d p v) (unit_at p v) ≡ n * d.period + cycle_at p v
+  began_then v n =
+      began_is (n * d.period + ends_at d p v) (unit_at p v) (n * d.period + cycle_at p v)
+      (latency_on d (unit_at p v) - 1) (omega arith) (ap (λ l. l - 1) (runs.latency (unit_at p v)))
+
+  -- in that cycle its unit has the word of the node for its result
+  pub result_right : (v n : ℕ)
+      → AllRight (n * d.period + ends_at d p v)
+      → v < length (nodes_of p)
+      → n < length stream
+      → gives (node_at p v).op ≡ true
+      → result_by image z (Log image z (n * d.period + ends_at d p v)) (n * d.period + ends_at d p v) (unit_at p v)
+      ≡ Some (words v (past + n))
+  result_right v n right in-v in-n result =
+      let issue = (runs.issue v n in-v).0 in
+      let at = (runs.issue v n in-v).1 in
+      let is = (runs.issue v n in-v).2 in
+      let t : ℕ = n * d.period + ends_at d p v in
+      ap₂ (λ b e. given image z (Log image z t) b e) (began_then v n) (ends_then v n issue at)
+      ∙ ap (λ g. if g then Some (value image z (Log image z t) (n * d.period + cycle_at p v) issue) else None)
+      (ap gives is.op ∙ result)
+      ∙ ap Some (issue_right t v n issue right in-v in-n (λ e. not_store (node_at p v).op result e) is (omega arith))

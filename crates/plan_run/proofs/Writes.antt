@@ -1,0 +1,266 @@
+-- What a cycle of the run writes is the live words that are written then, and all places hold what is wanted of them.
+use Rattle.std.proofs.Common.{◌≡◌, ℕ, zero, suc, ◌+◌, ◌-◌, ◌*◌, ◌/◌, ◌%◌, ◌<◌, ◌≤◌, nat_le, ◌==◌, refl, sym, ap, ap₂, ◌∙◌, arith, List, [], ◌∷◌, length, ℤ, Bool, true, false, Option, Some, None, subst, if◌then◌else◌}
+use Rattle.std.specs.List.{Contains, find, flat_map, range_with_len}
+use Rattle.std.proofs.Math.Nat.{mod-lt, add-mul, mul-le-mul_right, mod-mod_of_dvd, dvd_of_mod-eq-zero, add-mod, zero-add, mod-mod}
+use Rattle.lists.specs.Rows.{Rows}
+use Rattle.fix_word.specs.declared.operation.Op.{Op}
+use Rattle.fix_word.specs.declared.operation.Op.TheVariants as op
+use Rattle.operations.specs.Ranges.{to_nat}
+use Rattle.operations.specs.declared.units.PortRef.{PortRef}
+use Rattle.datapath.specs.declared.types.Datapath.{Datapath}
+use Rattle.plan_core.specs.Hardware.{latency_on, gap_on}
+use Rattle.plan_core.specs.declared.plan.Plan.{Plan}
+use Rattle.micro_image.specs.declared.image.Enable.{Enable}
+use Rattle.micro_image.specs.declared.image.Issue.{Issue}
+use Rattle.micro_image.specs.declared.image.Take.{Take}
+use Rattle.micro_image.specs.declared.image.Image.{Image}
+use Rattle.micro_image.specs.Fields.{nth, unit_of, word_at, issue_at, driver_at, began, ending}
+use Rattle.micro_image.specs.Log.{Place, Register, Latch, Cell, Entry, same_place, Log, Content, operand, value, entries_by, entry_of, taken, taken_from, written, written_of, written_by, result_by}
+use Rattle.micro_image.proofs.Each.{In, here, In-append_left, In-append_right, In-flat_map, In-from_Contains, Each, none, more, Each-then, Each-append, Each-flat_map}
+use Rattle.micro_image.proofs.LogLaws.{content-unwritten}
+use Rattle.micro_image.proofs.LogWrites.{content-written}
+use Rattle.plan_run.specs.Parts.{nodes_of, lines_of, node_at, unit_at, cycle_at, arc_at, line_at, register_at, ends_at}
+use Rattle.plan_run.specs.Private.Samples.{past}
+use Rattle.plan_run.specs.Private.Memory.{store_of, StoresTo}
+use Rattle.plan_run.specs.Private.Solution.{Counted, LoweredSolves}
+use Rattle.plan_run.specs.Private.Feasible.{IsFeasible, IsFeasibleArc, IsFeasibleLine}
+use Rattle.plan_run.specs.Private.Executes.{Executes, IsIssueIn, IsTakeIn, register_in}
+use Rattle.plan_run.proofs.Elements.{Contains-from_In, In-range_of}
+use Rattle.plan_run.proofs.Samples.{split, sample_upto, below_count, one_more}
+use Rattle.plan_run.proofs.Slots.{Keeps, right}
+use Rattle.plan_run.proofs.LiveWords.{LiveWord, in_register, in_cell, in_latch, place_of, written_at, wanted_to, word_of, below_period, words_apart, lives, preloaded}
+use Rattle.plan_run.proofs.ReadsRight.{AllRight, issue_right, store_right, store_place, ends_then, began_then, result_right}
+
+-- places that test as one are one
+pub same_sound : (a b : Place) → same_place a b ≡ true → a ≡ b
+same_sound (Register u p r) (Register v q s) h = grind (arith, h)
+same_sound (Register u p r) (Cell v c) h = absurd (cc)
+same_sound (Register u p r) (Latch j) h = absurd (cc)
+same_sound (Cell u c) (Register v q s) h = absurd (cc)
+same_sound (Cell u c) (Cell v d) h = grind (arith, h)
+same_sound (Cell u c) (Latch j) h = absurd (cc)
+same_sound (Latch j) (Register v q s) h = absurd (cc)
+same_sound (Latch j) (Cell v d) h = absurd (cc)
+same_sound (Latch j) (Latch k) h = grind (arith, h)
+
+pub same_self : (a : Place) → same_place a a ≡ true
+same_self (Register u p r) = grind arith
+same_self (Cell u c) = grind arith
+same_self (Latch j) = grind arith
+
+pub not_same : (a b : Place) (same : Bool) → same_place a b ≡ same → (a ≡ b → ⊥) → same_place a b ≡ false
+not_same a b true is other = absurd (other (same_sound a b is))
+not_same a b false is other = is
+
+-- `past` counts as 0 where copies are counted
+pub in_turn : (copies unroll n : ℕ)
+    → unroll % copies ≡ 0
+    → past % unroll ≡ 0
+    → (past + n) % copies ≡ n % copies
+in_turn copies unroll n divides turns =
+    let none : past % copies ≡ 0 =
+    sym (mod-mod_of_dvd copies past (dvd_of_mod-eq-zero copies divides)) ∙ ap (λ m. m % copies) turns ∙ grind arith in
+    add-mod past n copies
+    ∙ ap (λ m. (m + n % copies) % copies) none
+    ∙ ap (λ m. m % copies) (zero-add (n % copies))
+    ∙ mod-mod n copies
+
+pub from_past : (s : ℕ) → past ≤ s → s ≡ past + (s - past)
+from_past s from = omega arith
+
+one_of : {A : Type 0} (P : A → Type 0) {xs ys : List A} → xs ≡ ys → Each P ys → Each P xs
+one_of P e each = subst (Each P) (sym e) each
+
+pub in_one : {A : Type 0} (x : A) (xs : List A) → xs ≡ x ∷ [] → In x xs
+in_one x xs e = subst (In x) (sym e) here
+
+pub some_same : {A : Type 0} (a b : A) (o : Option A) → o ≡ Some a → o ≡ Some b → a ≡ b
+some_same a b o e f = cc
+
+output_no_store : (o : Op) → o ≡ op.Output → o ≡ op.Store → ⊥
+output_no_store o e f = absurd (cc)
+
+module _ (d : Datapath) (p : Plan) (words : Counted) (plan : IsFeasible d p) (image : Image) (z stream : Rows)
+    (runs : Executes d p image) (solves : LoweredSolves d p stream words)
+    (rows : (n c : ℕ) → c < d.period → nth z (n * d.period + c) [] ≡ nth stream n []) where
+  abbrev RightAt : ℕ → Type 0
+  RightAt t = AllRight d p words plan image z stream runs solves rows t
+
+  -- the write of cycle t is of a live word that is written then
+  pub record IsOfWord (t : ℕ) (e : Entry) : Type 0 where
+    pub live : LiveWord p
+    pub starts : written_at d p words live ≡ past * d.period + t
+    pub place : e.place ≡ place_of d p words live
+    pub value : e.value ≡ word_of d p words live
+
+  taken_is : (log : List Entry) (t : ℕ) (take : Take) (driver : Enable) (v : ℤ)
+      → driver_at image t take.bus ≡ Some driver
+      → result_by image z log t driver.unit ≡ Some v
+      → taken image z log t take
+      ≡ record { place = Register take.port.unit take.port.port take.reg; cycle = t; unit = driver.unit; value = v } ∷ []
+  taken_is log t take driver v drives result =
+      ap (taken_from image z log t take) drives
+      ∙ ap (entry_of (Register take.port.unit take.port.port take.reg) t driver.unit) result
+
+  -- the write of a take
+  pub taken_word : (k n t : ℕ) (take : Take) (there : k < length p.arcs)
+      → n < length stream
+      → t ≡ n * d.period + ends_at d p (arc_at p k).node
+      → RightAt t
+      → IsTakeIn p image k n t take
+      → (u : ℕ) × (taken image z (Log image z t) t take
+      ≡ record { place = place_of d p words (in_register k (past + n) there); cycle = t; unit = u; value = words (arc_at p k).node (past + n) } ∷ [])
+  taken_word k n t take in-k in-n at right is =
+      let driver = is.driver.0 in
+      let arc : IsFeasibleArc d p k = plan.arcs k in-k in
+      let result : result_by image z (Log image z t) t driver.unit ≡ Some (words (arc_at p k).node (past + n)) =
+      ap (result_by image z (Log image z t) t) is.driver.2
+      ∙ subst
+      (λ t. result_by image z (Log image z t) t (unit_at p (arc_at p k).node) ≡ Some (words (arc_at p k).node (past + n)))
+      (sym at)
+      (result_right d p words plan image z stream runs solves rows (arc_at p k).node n (subst RightAt at right) arc.node
+      in-n arc.result) in
+      let reg : take.reg ≡ register_in p k (past + n) =
+      is.reg ∙ ap (register_at p k) (sym (in_turn (arc_at p k).copies p.unroll n arc.lifetime.turns plan.turns)) in
+      let place : Register take.port.unit take.port.port take.reg ≡ place_of d p words (in_register k (past + n) in-k) =
+      ap₂ (λ (port : PortRef) (r : ℕ). Register port.unit port.port r) is.port reg in (
+        driver.unit,
+        taken_is (Log image z t) t take driver _ is.driver.1 result
+            ∙ ap (λ place. record { place = place; cycle = t; unit = driver.unit; value = words (arc_at p k).node (past + n) } ∷ [])
+            place,
+      )
+
+  start_of : (w n t : ℕ) → t ≡ n * d.period + w → w + (past + n) * d.period ≡ past * d.period + t
+  start_of w n t at =
+      let whole : (past + n) * d.period ≡ past * d.period + n * d.period = add-mul past n d.period in omega arith
+
+  take_each : (t : ℕ) (take : Take)
+      → t < length stream * d.period
+      → RightAt t
+      → In take (word_at image t).takes
+      → Each (IsOfWord t) (taken image z (Log image z t) t take)
+  take_each t take below right in-word =
+      let n : ℕ = t / d.period in
+      let in-n : n < length stream = below_count n d.period t (length stream) (omega (arith, split t d.period)) below in
+      let only = runs.take_only n (t % d.period) take (mod-lt t plan.period)
+      (subst (λ t. Contains (word_at image t).takes take) (split t d.period) (Contains-from_In in-word)) in
+      let k : ℕ = only.0 in
+      let in-k : k < length p.arcs = only.1 in
+      let at : t ≡ n * d.period + (arc_at p k).w =
+      split t d.period ∙ ap (λ c. n * d.period + c) (sym only.2) in
+      let at' : t ≡ n * d.period + ends_at d p (arc_at p k).node =
+      at ∙ ap (λ c. n * d.period + c) (plan.arcs k in-k).written in
+      let is : IsTakeIn p image k n t take =
+      subst (λ t. IsTakeIn p image k n t take) (sym (split t d.period)) only.3 in
+      let made = taken_word k n t take in-k in-n at' right is in
+      one_of (IsOfWord t) made.1
+      (more (record {
+        live = in_register k (past + n) in-k;
+        starts = start_of (arc_at p k).w n t at;
+        place = refl;
+        value = refl;
+      }) none)
+
+  written_each_by : (o : Op) (log : List Entry) (t b : ℕ) (issue : Issue) (P : Entry → Type 0)
+      → (o ≡ op.Output → P (record { place = Latch (to_nat issue.arg); cycle = t; unit = issue.unit; value = value image z log b issue }))
+      → (o ≡ op.Store → P (record { place = Cell issue.unit (to_nat (operand image log b issue 0)); cycle = t; unit = issue.unit; value = value image z log b issue }))
+      → Each P (written_by o image z log t b issue)
+  written_each_by op.Output log t b issue P latch cell = more (latch refl) none
+  written_each_by op.Store log t b issue P latch cell = more (cell refl) none
+  written_each_by _ log t b issue P latch cell = none
+
+  -- an issue that ends in cycle t is that of node v in sample n
+  pub record EndsAs (t u : ℕ) (issue : Issue) (v n : ℕ) : Type 0 where
+    pub node : v < length (nodes_of p)
+    pub unit : unit_at p v ≡ u
+    pub at : t ≡ n * d.period + ends_at d p v
+    pub is : IsIssueIn p v n issue
+    pub begun : began image t u ≡ n * d.period + cycle_at p v
+
+  ends_as : (t u : ℕ) (issue : Issue)
+      → ending image t u ≡ Some issue
+      → (v : ℕ) × (n : ℕ) × EndsAs t u issue v n
+  ends_as t u issue e = by (nat_le back t) refl e
+    where
+      back : ℕ
+      back = (unit_of image u).latency - 1
+
+      by : (b : Bool)
+          → nat_le back t ≡ b
+          → (if b then issue_at image (t - back) u else None) ≡ Some issue
+          → (v : ℕ) × (n : ℕ) × EndsAs t u issue v n
+      by false le at = absurd (cc)
+      by true le at =
+          let from : back ≤ t = grind (arith, le) in
+          let b : ℕ = t - back in
+          let n : ℕ = b / d.period in
+          let only = runs.issue_only n (b % d.period) u issue (mod-lt b plan.period)
+          (ap (λ b. issue_at image b u) (sym (split b d.period)) ∙ at) in
+          let v : ℕ = only.0 in
+          let in-v : v < length (nodes_of p) = only.1 in
+          let unit : unit_at p v ≡ u = only.2 in
+          let begun : b ≡ n * d.period + cycle_at p v =
+          split b d.period ∙ ap (λ c. n * d.period + c) (sym only.3) in
+          let latency : back ≡ latency_on d (unit_at p v) - 1 =
+          ap (λ l. l - 1) (runs.latency u) ∙ ap (λ u. latency_on d u - 1) (sym unit) in
+          let its = runs.issue v n in-v in
+          let same : its.0 ≡ issue =
+          some_same its.0 issue (issue_at image b u) (ap₂ (issue_at image) begun (sym unit) ∙ its.1) at in (
+            v,
+            n,
+            record {
+              node = in-v;
+              unit = unit;
+              at = omega arith;
+              is = subst (IsIssueIn p v n) same its.2;
+              begun = begun;
+            },
+          )
+
+  written_each : (t u : ℕ) (e : Option Issue)
+      → t < length stream * d.period
+      → RightAt t
+      → ending image t u ≡ e
+      → Each (IsOfWord t) (written_of image z (Log image z t) t (began image t u) e)
+  written_each t u None below right e = none
+  written_each t u (Some issue) below right e =
+      let ends = ends_as t u issue e in
+      let v : ℕ = ends.0 in
+      let n : ℕ = ends.1 in
+      let as' : EndsAs t u issue v n = ends.2 in
+      let in-v : v < length (nodes_of p) = as'.node in
+      let at : t ≡ n * d.period + ends_at d p v = as'.at in
+      let is : IsIssueIn p v n issue = as'.is in
+      let in-n : n < length stream = below_count n d.period t (length stream) (omega arith) below in
+      written_each_by issue.op (Log image z t) t (began image t u) issue (IsOfWord t)
+      (λ output. record {
+        live = in_latch v (past + n) in-v (sym is.op ∙ output) (omega arith);
+        starts = start_of (ends_at d p v) n t at;
+        place = ap (λ a. Latch (to_nat a)) is.arg;
+        value = ap (λ b. value image z (Log image z t) b issue) as'.begun
+            ∙ issue_right d p words plan image z stream runs solves rows t v n issue right in-v in-n
+            (output_no_store (node_at p v).op (sym is.op ∙ output)) is (omega arith);
+      })
+      (λ store.
+      let stores = plan.stores v in-v (sym is.op ∙ store) in
+      let l : ℕ = stores.0 in
+      let to : StoresTo d p v l = stores.1 in
+      record {
+        live = in_cell l (past + n) to.there;
+        starts = ap (λ v. ends_at d p v + (past + n) * d.period) to.its_number ∙ start_of (ends_at d p v) n t at;
+        place = ap (λ b. Cell issue.unit (to_nat (operand image (Log image z t) b issue 0))) as'.begun
+            ∙ store_place d p words plan image z stream runs solves rows t v n l issue right in-v in-n to is (omega arith);
+        value = ap (λ b. value image z (Log image z t) b issue) as'.begun
+            ∙ store_right d p words plan image z stream runs solves rows t v n l issue right in-v in-n to is (omega arith);
+      })
+
+  -- each write of a cycle is of a live word that is written then
+  pub writes_of_words : (t : ℕ)
+      → t < length stream * d.period
+      → RightAt t
+      → Each (IsOfWord t) (entries_by image z (Log image z t) t)
+  unfolding entries_by
+  writes_of_words t below right =
+      Each-append
+      (Each-flat_map (IsOfWord t) (taken image z (Log image z t) t) (word_at image t).takes (λ take in-word. take_each t take below right in-word))
+      (Each-flat_map (IsOfWord t) (written image z (Log image z t) t) (range_with_len 0 (length image.units)) (λ u in-units. written_each t u (ending image t u) below right refl))

@@ -1,0 +1,4 @@
+pub mod Parts
+pub mod ImageOf
+pub mod Run
+pub mod Private

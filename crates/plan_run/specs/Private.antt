@@ -1,0 +1,7 @@
+pub mod Samples
+pub mod Circle
+pub mod Cells
+pub mod Memory
+pub mod Solution
+pub mod Feasible
+pub mod Executes

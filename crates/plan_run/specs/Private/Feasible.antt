@@ -1,0 +1,105 @@
+-- A feasible plan: the facts that a run of its image rests on. None of them says that a choice is the least or the
+-- first, so that plans by other rules meet them too.
+use Rattle.std.specs.Prelude.{◌≡◌, ℕ, ◌+◌, ◌*◌, ◌%◌, ◌<◌, ◌≤◌, ◌⊎◌, true, length, Contains}
+use Rattle.fix_word.specs.declared.operation.Op.TheVariants as op
+use Rattle.operations.specs.Operations.{operands}
+use Rattle.operations.specs.Ranges.{to_nat}
+use Rattle.datapath.specs.declared.types.Datapath.{Datapath}
+use Rattle.plan_core.specs.Hardware.{latency_on, gap_on, cells_on}
+use Rattle.plan_core.specs.Circle.{AreApart}
+use Rattle.plan_core.specs.declared.schedule.Transfer.{Transfer}
+use Rattle.plan_core.specs.declared.plan.Plan.{Plan}
+use Rattle.micro_image.specs.Operations.{gives}
+use Rattle.plan_run.specs.Parts.{nodes_of, lines_of, node_at, edge_at, unit_at, cycle_at, transfers_at, arc_at, line_at, register_at, ReadsThrough, IsTransferOf, ends_at}
+use Rattle.plan_run.specs.Private.Samples.{past}
+use Rattle.plan_run.specs.Private.Circle.{IsLifetime}
+use Rattle.plan_run.specs.Private.Cells.{AreDisjoint}
+use Rattle.plan_run.specs.Private.Memory.{LoadsFrom, StoresTo, store_of}
+
+-- lifetime k, of the words of a node
+pub record IsFeasibleArc (d : Datapath) (p : Plan) (k : ℕ) : Type 0 where
+  pub lifetime : IsLifetime d.period p.unroll (arc_at p k)
+  pub written : (arc_at p k).w ≡ ends_at d p (arc_at p k).node
+  pub node : (arc_at p k).node < length (nodes_of p)
+  pub result : gives (node_at p (arc_at p k).node).op ≡ true
+  pub transfer : (t : Transfer) × IsTransferOf p k t
+
+-- line l has its cells in its ram, and a node that writes it
+pub record IsFeasibleLine (d : Datapath) (p : Plan) (l : ℕ) : Type 0 where
+  pub node : (line_at p l).node < length (nodes_of p)
+  pub store : store_of (line_at p l) < length (nodes_of p)
+  pub stores : StoresTo d p (store_of (line_at p l)) l
+  pub room : (line_at p l).offset + (line_at p l).depth < cells_on d (line_at p l).ram
+  pub some : 0 < (line_at p l).depth
+  pub depth : (line_at p l).depth < past
+
+pub record IsFeasible (d : Datapath) (p : Plan) : Type 0 where
+  pub period : 0 < d.period
+  pub unroll : 0 < p.unroll
+  pub turns : past % p.unroll ≡ 0
+  pub gaps : (u : ℕ) → (0 < gap_on d u) × (gap_on d u ≤ latency_on d u)
+  pub operand_count : (v : ℕ) → v < length (nodes_of p) → length (node_at p v).edges ≡ operands (node_at p v).op
+  pub edges : (v q : ℕ)
+      → v < length (nodes_of p) → q < length (node_at p v).edges
+      → ((edge_at p v q).node < length (nodes_of p)) × ((edge_at p v q).delay < past)
+  pub outputs : (u v : ℕ)
+      → u < length (nodes_of p) → v < length (nodes_of p)
+      → (node_at p u).op ≡ op.Output → (node_at p v).op ≡ op.Output
+      → to_nat (node_at p u).arg ≡ to_nat (node_at p v).arg
+      → u ≡ v
+  pub units : (v : ℕ) → v < length (nodes_of p) → unit_at p v < length d.units
+  -- each operation ends in the period
+  pub fits : (v : ℕ) → v < length (nodes_of p) → cycle_at p v + latency_on d (unit_at p v) ≤ d.period
+  -- two nodes on one unit are issued its gap apart
+  pub unit_free : (u v : ℕ)
+      → u < length (nodes_of p) → v < length (nodes_of p)
+      → unit_at p u ≡ unit_at p v
+      → cycle_at p u ≤ cycle_at p v → cycle_at p v < cycle_at p u + gap_on d (unit_at p u)
+      → u ≡ v
+  -- a bus has the result of one node in a cycle
+  pub bus_free : (u v : ℕ) (s t : Transfer)
+      → u < length (nodes_of p) → v < length (nodes_of p)
+      → Contains (transfers_at p u) s → Contains (transfers_at p v) t
+      → ends_at d p u ≡ ends_at d p v → s.bus ≡ t.bus
+      → u ≡ v
+  -- one transfer of a result goes to a register file
+  pub transfer_once : (v : ℕ) (s t : Transfer)
+      → v < length (nodes_of p)
+      → Contains (transfers_at p v) s → Contains (transfers_at p v) t → s.port ≡ t.port
+      → s.bus ≡ t.bus
+  -- a node with a transfer has a result
+  pub transfers : (v : ℕ) (t : Transfer)
+      → v < length (nodes_of p) → Contains (transfers_at p v) t
+      → gives (node_at p v).op ≡ true
+  pub arcs : (k : ℕ) → k < length p.arcs → IsFeasibleArc d p k
+  -- a register file is written once in a cycle
+  pub file_free : (j k : ℕ)
+      → j < length p.arcs → k < length p.arcs
+      → (arc_at p j).port ≡ (arc_at p k).port → (arc_at p j).w ≡ (arc_at p k).w
+      → j ≡ k
+  pub ports : (k : ℕ) → k < length p.arcs → (arc_at p k).port.port < 4
+  -- each operand is read through a lifetime, behind the write and not behind its end
+  pub read : (v q : ℕ)
+      → v < length (nodes_of p) → q < length (node_at p v).edges
+      → (k : ℕ) × ReadsThrough p v q k
+  pub read_in : (v q k : ℕ)
+      → v < length (nodes_of p) → ReadsThrough p v q k
+      → ((arc_at p k).w < cycle_at p v + (edge_at p v q).delay * d.period)
+      × (cycle_at p v + (edge_at p v q).delay * d.period ≤ (arc_at p k).r)
+  -- two copies in one register are one, or share no cycle of the circle
+  pub registers : (j k a b : ℕ)
+      → j < length p.arcs → k < length p.arcs
+      → a < (arc_at p j).copies → b < (arc_at p k).copies
+      → (arc_at p j).port ≡ (arc_at p k).port → register_at p j a ≡ register_at p k b
+      → ((j ≡ k) × (a ≡ b)) ⊎ AreApart d.period p.unroll (arc_at p j) a (arc_at p k) b
+  pub lines : (l : ℕ) → l < length (lines_of p) → IsFeasibleLine d p l
+  pub lines_apart : (l m : ℕ)
+      → l < length (lines_of p) → m < length (lines_of p)
+      → (line_at p l).ram ≡ (line_at p m).ram
+      → (l ≡ m) ⊎ AreDisjoint (line_at p l) (line_at p m)
+  pub loads : (v : ℕ)
+      → v < length (nodes_of p) → (node_at p v).op ≡ op.Load
+      → (l : ℕ) × (ago : ℕ) × LoadsFrom d p v l ago
+  pub stores : (v : ℕ)
+      → v < length (nodes_of p) → (node_at p v).op ≡ op.Store
+      → (l : ℕ) × StoresTo d p v l
