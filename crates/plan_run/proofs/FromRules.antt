@@ -56,7 +56,7 @@ copy_order : (w v n m i j : ℕ)
 copy_order w v n m i j = grind arith
 
 -- what holds of each element holds of one
-all_at : {A : Type 0} (P : A → Type 0) (xs : List A) (x : A) → All P xs → Contains xs x → P x
+pub all_at : {A : Type 0} (P : A → Type 0) (xs : List A) (x : A) → All P xs → Contains xs x → P x
 all_at P xs x all at = subst P at.2 (all at.0 x at.1)
 
 -- what stands in a list of images is the image of an element
@@ -129,7 +129,7 @@ few_operands op.Load = omega arith
 few_operands _ = omega arith
 
 -- a node that reads is there
-reader_there : (p : Plan) (c q v : ℕ) → Reads (nodes_of p) c q v → c < length (nodes_of p)
+pub reader_there : (p : Plan) (c q v : ℕ) → Reads (nodes_of p) c q v → c < length (nodes_of p)
 reader_there p c q v reads =
     ⊎_elim
     (λ (there : c < length (nodes_of p)). there)

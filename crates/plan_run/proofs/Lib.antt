@@ -14,3 +14,4 @@ pub mod Whole
 pub mod SoundLowered
 pub mod FromRules
 pub mod Origins
+pub mod FromLowered
