@@ -45,12 +45,12 @@ gives_result op.Addr of other = absurd of
 gives_result _ of other = refl
 
 -- the number of operands stands in two tables
-same_operands : (o : Op) → graph_operands o ≡ operands o
+pub same_operands : (o : Op) → graph_operands o ≡ operands o
 same_operands op.Input = refl
 same_operands _ = refl
 
 -- a node of the graph that reads is there
-graph_reader : (g : Graph) (c q : ℕ) → q < length (node_of g.nodes c).edges → c < length g.nodes
+pub graph_reader : (g : Graph) (c q : ℕ) → q < length (node_of g.nodes c).edges → c < length g.nodes
 graph_reader g c q port =
     ⊎_elim
     (λ (there : c < length g.nodes). there)
@@ -92,7 +92,7 @@ used_above (x ∷ xs) (suc l) (suc m) ram less below is =
     let same : (line_of (x ∷ xs) (suc l)).depth ≡ (line_of xs l).depth = refl in
     omega (arith, rest, same, used_first x xs l ram, used_first x xs m ram)
 
-some_is : {A : Type 0} (P : A → Type 0) (o : Option A) (x : A) → o ≡ Some x → IsSomeAnd o P → P x
+pub some_is : {A : Type 0} (P : A → Type 0) (o : Option A) (x : A) → o ≡ Some x → IsSomeAnd o P → P x
 some_is P o x e h = subst (λ o. IsSomeAnd o P) e h
 
 in_take : {A : Type 0} (xs : List A) (n k : ℕ) (default : A)
@@ -106,7 +106,7 @@ in_take (x ∷ xs) (suc n) (suc k) default less below =
     let rest = in_take xs n k default (omega (arith, less)) (omega (arith, below)) in
     (suc rest.0, omega (arith, rest.1), rest.2)
 
-none_past : {A : Type 0} (xs : List A) (k : ℕ) → length xs ≤ k → slice_get xs k ≡ None
+pub none_past : {A : Type 0} (xs : List A) (k : ℕ) → length xs ≤ k → slice_get xs k ≡ None
 none_past [] k le = refl
 none_past (x ∷ xs) zero le = absurd (omega (arith, le))
 none_past (x ∷ xs) (suc k) le = none_past xs k (omega (arith, le))
@@ -217,17 +217,17 @@ module _ (g : Graph) (d : Datapath) (p : Plan) (sound : IsGraph g) (lowered : Is
       subst (AreLongDelays g d.hold v) (get_or_from_slice_get lowered.delays v long [] is)
       (lowered.long v (omega (arith, slice_get_within lowered.delays v long is, lowered.delay_count)))
 
-  graph_node : (v : ℕ) → v < length g.nodes → IsNode g (node_of g.nodes v)
+  pub graph_node : (v : ℕ) → v < length g.nodes → IsNode g (node_of g.nodes v)
   graph_node v in-v = sound.nodes v _ in-v
 
-  graph_edge : (c q : ℕ)
+  pub graph_edge : (c q : ℕ)
       → c < length g.nodes
       → q < length (node_of g.nodes c).edges
       → IsEdge g (edge_of (node_of g.nodes c) q)
   graph_edge c q in-c in-q = (graph_node c in-c).edges q no_edge in-q
 
   -- what an edge of the graph leads to is there and no output
-  edge_node : (c q : ℕ)
+  pub edge_node : (c q : ℕ)
       → c < length g.nodes
       → q < length (node_of g.nodes c).edges
       → ((edge_of (node_of g.nodes c) q).node < length g.nodes)
@@ -327,7 +327,7 @@ module _ (g : Graph) (d : Datapath) (p : Plan) (sound : IsGraph g) (lowered : Is
       same_own : {l : ℕ} (is : IsLineFor l) → IsNumber lowered.delays (own v) (line_at p l).node → is.v ≡ v
       same_own is number = own_same is.v v (sym is.next.node ∙ number)
 
-  own_edge : (v i q : ℕ) (number : IsNumber lowered.delays (own v) i)
+  pub own_edge : (v i q : ℕ) (number : IsNumber lowered.delays (own v) i)
       → q < length (node_at p i).edges
       → IsLoweredEdge d.hold lowered.delays (edge_at p i q) (edge_of (node_of g.nodes v) q)
   own_edge v i q number in-q =

@@ -15,3 +15,5 @@ pub mod SoundLowered
 pub mod FromRules
 pub mod Origins
 pub mod FromLowered
+pub mod LoweredSolution
+pub mod RunsSolution

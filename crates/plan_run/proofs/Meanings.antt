@@ -52,3 +52,13 @@ value-meaning op.Store image z stream log t n issue node of row arg fmt = absurd
 value-meaning op.Addr image z stream log t n issue node of row arg fmt = absurd of
 value-meaning o image z stream log t n issue node of row arg fmt =
     ap (λ f. apply_of o f (operand image log t issue 0) (operand image log t issue 1) (operand image log t issue 2)) fmt
+
+-- of a node, the format and the argument count
+pub meaning-node : (o : Op) (node other : Node) (stream : Rows) (n : ℕ) (f : ℕ → ℤ)
+    → node.fmt ≡ other.fmt
+    → node.arg ≡ other.arg
+    → meaning_by o node stream n f ≡ meaning_by o other stream n f
+meaning-node op.Input node other stream n f fmt arg = ap (λ a. nth (nth stream n []) (to_nat a) (pos 0)) arg
+meaning-node op.Const node other stream n f fmt arg = arg
+meaning-node op.Output node other stream n f fmt arg = refl
+meaning-node o node other stream n f fmt arg = ap (λ fmt. apply_of o fmt (f 0) (f 1) (f 2)) fmt

@@ -1,0 +1,109 @@
+-- The image of a plan runs the solution of its graph.
+use Rattle.std.proofs.Common.{◌≡◌, ℕ, ◌+◌, ◌-◌, ◌<◌, ◌≤◌, refl, sym, ap, ap₂, ◌∙◌, arith, subst, ⊎_elim, [], length, map, All, Some}
+use Rattle.std.specs.Prelude.{slice_get, pos, IsSomeAnd}
+use Rattle.std.proofs.lemmas.Bool.{cases_lt}
+use Rattle.std.specs.List.{range_with_len}
+use Rattle.std.proofs.lemmas.Option.{slice_get-get_or}
+use Rattle.lists.specs.Rows.{Rows}
+use Rattle.fix_word.specs.declared.operation.Op.TheVariants as op
+use Rattle.operations.specs.Ranges.{to_nat}
+use Rattle.datapath.specs.Allowed.{IsUnit, IsDatapath}
+use Rattle.datapath.specs.declared.types.Datapath.{Datapath}
+use Rattle.signal_graph.specs.GraphRules.{IsGraph, IsOutput, first_output}
+use Rattle.signal_graph.specs.GraphSolves.{GraphSolves, graph_out, no_node}
+use Rattle.signal_graph.specs.Values.{Words}
+use Rattle.signal_graph.specs.declared.graph.Node.{Node}
+use Rattle.signal_graph.specs.declared.graph.Graph.{Graph}
+use Rattle.plan_core.specs.IsPlan.{IsPlan}
+use Rattle.plan_core.specs.Operands.{node_of}
+use Rattle.plan_core.specs.Lowered.{own, IsNumber, IsOwn}
+use Rattle.plan_core.specs.declared.plan.Plan.{Plan}
+use Rattle.micro_image.specs.Run.{IsRunOut}
+use Rattle.micro_image.specs.declared.image.Image.{Image}
+use Rattle.micro_image.proofs.Lists.{map-same, In-range}
+use Rattle.plan_run.specs.Parts.{nodes_of, node_at}
+use Rattle.plan_run.specs.ImageOf.{IsImageOf}
+use Rattle.plan_run.specs.Run.{RunsSolution}
+use Rattle.plan_run.specs.Private.Samples.{past}
+use Rattle.plan_run.specs.Private.Solution.{Counted}
+use Rattle.plan_run.specs.Private.Feasible.{IsFeasible}
+use Rattle.plan_run.proofs.FromImage.{executes}
+use Rattle.plan_run.proofs.FromLowered.{sound_lowered, sound_lines, made_as, number_below, some_is, none_past}
+use Rattle.plan_run.proofs.FromRules.{feasible, gaps_of}
+use Rattle.plan_run.proofs.LoweredSolution.{lowered_words, lowered_solves, word_is, late, now_is}
+use Rattle.plan_run.proofs.Origins.{first_of, own_number}
+use Rattle.plan_run.proofs.Whole.{IsOutputNode, counted_out, runs_out}
+
+module _ (g : Graph) (d : Datapath) (p : Plan) (sound : IsGraph g) (period : 1 ≤ d.period)
+    (units : All (IsUnit d.units) d.units) (plan : IsPlan g d p) where
+  -- a plan is feasible
+  pub plan_feasible : IsFeasible d p
+  plan_feasible =
+      feasible d p (sound_lowered g d p sound plan.lowered plan.assigned) (gaps_of d units) plan.assigned plan.schedule
+      plan.arcs plan.unroll plan.registers (omega (arith, period))
+      (sound_lines g d p sound plan.lowered plan.assigned)
+
+  -- the node of output word j in the graph, and in the lowered list
+  output_in : (j : ℕ) → j < g.outs → first_output g + j < length g.nodes
+  output_in j in-j =
+      by (first_output g + j) (sound.outputs j in-j)
+    where
+      by : (v : ℕ) → IsSomeAnd (slice_get g.nodes v) (IsOutput j) → v < length g.nodes
+      by v some =
+          ⊎_elim (λ (below : v < length g.nodes). below)
+          (λ (past' : length g.nodes ≤ v). absurd (subst (λ o. IsSomeAnd o (IsOutput j)) (none_past g.nodes v past') some))
+          (cases_lt v (length g.nodes))
+
+  abbrev out_node : ℕ → ℕ
+  out_node j = first_of plan.lowered.delays (first_output g + j)
+
+  out_number : (j : ℕ) → j < g.outs → IsNumber plan.lowered.delays (own (first_output g + j)) (out_node j)
+  out_number j in-j =
+      own_number plan.lowered.delays (first_output g + j) _
+      (slice_get-get_or plan.lowered.delays (first_output g + j) []
+      (omega (arith, output_in j in-j, plan.lowered.delay_count)))
+
+  output_at : (j : ℕ) → j < g.outs → IsOutput j (node_of g.nodes (first_output g + j))
+  output_at j in-j =
+      some_is (IsOutput j) (slice_get g.nodes (first_output g + j)) (node_of g.nodes (first_output g + j))
+      (slice_get-get_or g.nodes (first_output g + j) no_node (output_in j in-j)) (sound.outputs j in-j)
+
+  output_node : (j : ℕ) → j < g.outs → IsOutputNode p j (out_node j)
+  output_node j in-j =
+      let number = out_number j in-j in
+      let out = output_at j in-j in
+      let made : IsOwn g d p.assigned.lowered plan.lowered.delays (first_output g + j) (node_at p (out_node j)) =
+      made_as g d p sound plan.lowered plan.assigned (own (first_output g + j)) (out_node j) number in
+      record {
+        there = number_below g d p sound plan.lowered plan.assigned (own (first_output g + j)) (out_node j) number;
+        op = ap (λ (node : Node). node.op) made.rest ∙ out.op;
+        arg = ap (λ (node : Node). to_nat node.arg) made.rest ∙ ap to_nat out.arg;
+      }
+
+  -- the output rows by numbers of samples are those of the graph
+  rows_are : (stream : Rows) (words : Words) (solves : GraphSolves g stream words)
+      → counted_out (lowered_words g d p sound plan.lowered plan.assigned stream words solves) out_node g.outs (length stream)
+      ≡ graph_out g words (length stream)
+  rows_are stream words solves =
+      map-same _ _ (range_with_len 0 (length stream)) (λ n in-n.
+      map-same _ _ (range_with_len 0 g.outs) (λ j in-j.
+      word_is g d p sound plan.lowered plan.assigned stream words solves (own (first_output g + j)) (out_node j) (past + n)
+      (out_number j (below_of j (In-range 0 g.outs j in-j)))
+      ∙ late _ _ n
+      ∙ ap (λ m. words (first_output g + j) (pos m)) (now_is n)))
+    where
+      below_of : (j : ℕ) → (0 ≤ j) × (j < 0 + g.outs) → j < g.outs
+      below_of j h = omega (arith, h.1)
+
+  -- the image of a plan runs the solution
+  pub image_runs_solution : (image : Image) → IsImageOf d p image → RunsSolution g image
+  image_runs_solution image of stream words solves =
+      let outs : image.outs ≡ g.outs = of.outs ∙ plan.outs in
+      subst (IsRunOut image stream)
+      (ap (λ outs. counted_out (lowered_words g d p sound plan.lowered plan.assigned stream words solves) out_node outs
+      (length stream)) outs
+      ∙ rows_are stream words solves)
+      (runs_out d p (lowered_words g d p sound plan.lowered plan.assigned stream words solves) image stream out_node
+      plan_feasible (executes d p plan_feasible image of)
+      (lowered_solves g d p sound plan.lowered plan.assigned stream words solves)
+      (λ j in-j. output_node j (omega (arith, in-j, outs))))
