@@ -1,0 +1,11 @@
+pub mod Bits
+pub mod Loops
+pub mod Blocked
+pub mod RowReads
+pub mod FirstOpens
+pub mod FirstRoutes
+pub mod Taken
+pub mod Standing
+pub mod Growing
+pub mod Tables
+pub mod FreshRows

@@ -1,0 +1,94 @@
+-- Sets of buses that are filled and emptied one by one.
+use Rattle.std.proofs.Common.{◌≡◌, ◌≢◌, ◌∙◌, ℕ, ◌+◌, ◌-◌, ◌^◌, ◌<◌, ◌⊎◌, ◌↔◌, arith, ap, sym, subst, ⊎_elim, inl, inr, slice_index, bit_and}
+use Rattle.std.specs.Int.{bit_at}
+use Rattle.std.proofs.lemmas.Bool.{cases_eq}
+use Rattle.std.proofs.lemmas.Nat.Bits.{bit_at_and, bit_at_ones, bit_at-lt}
+use Rattle.bus_alloc.specs.Sets.{bus_bit, TakesFirst}
+use Rattle.bus_alloc.specs.Private.Rows.{IsBusOpen, bus_words}
+use Rattle.bus_alloc.specs.declared.buses.BusSet.{BusSet}
+use Rattle.bus_alloc.specs.declared.rows.Rows.{Rows}
+
+-- the set has the buses below k for which P holds
+pub record IsSetUpTo (P : ℕ → Type 0) (k : ℕ) (set : BusSet) : Type 0 where
+  pub sound : (b : ℕ) → bus_bit set b ≡ 1 → P b
+  pub complete : (b : ℕ) → b < k → P b → bus_bit set b ≡ 1
+
+pub begins : (P : ℕ → Type 0) (set : BusSet) → ((b : ℕ) → bus_bit set b ≡ 0) → IsSetUpTo P 0 set
+begins P set none = record { sound = λ b is. absurd (omega (arith, none b)); complete = λ b less. absurd (omega arith) }
+
+pub inserts : (P : ℕ → Type 0) (k : ℕ) (old new : BusSet) → IsSetUpTo P k old → P k → bus_bit new k ≡ 1
+    → ((b : ℕ) → b ≢ k → bus_bit new b ≡ bus_bit old b) → IsSetUpTo P (k + 1) new
+inserts P k old new so_far here same others = record {
+  sound = λ b is. ⊎_elim (λ e. subst P (sym e) here) (λ differ. so_far.sound b (sym (others b differ) ∙ is))
+      (cases_eq b k);
+  complete = λ b less holds.
+      ⊎_elim (λ e. subst (λ (x : ℕ). bus_bit new x ≡ 1) (sym e) same)
+      (λ differ. others b differ ∙ so_far.complete b (omega arith) holds) (cases_eq b k);
+}
+
+pub skips : (P : ℕ → Type 0) (k : ℕ) (set : BusSet) → IsSetUpTo P k set → ¬ P k → IsSetUpTo P (k + 1) set
+skips P k set so_far not_here = record {
+  sound = so_far.sound;
+  complete = λ b less holds.
+      ⊎_elim (λ e. absurd (not_here (subst P e holds))) (λ differ. so_far.complete b (omega arith) holds) (cases_eq b
+      k);
+}
+
+-- Of the buses that were in the set, those that are not left are read: a bit of `all` is 0 exactly where that of one of
+-- them is.
+pub record IsReadSoFar (rows : Rows) (buses : BusSet) (index : ℕ) (left : BusSet) (all : ℕ) : Type 0 where
+  pub within : (b : ℕ) → bus_bit left b ≡ 1 → bus_bit buses b ≡ 1
+  pub sound : (i : ℕ) → i < 64 → bit_at all i ≡ 0 → IsBusOpen rows buses index i
+  pub complete : (b i : ℕ) → bus_bit buses b ≡ 1 → bit_at (slice_index (bus_words rows b) index) i ≡ 0
+      → (bus_bit left b ≡ 1) ⊎ (bit_at all i ≡ 0)
+
+pub reads_none : (rows : Rows) (buses : BusSet) (index : ℕ) → IsReadSoFar rows buses index buses (2 ^ 64 - 1)
+reads_none rows buses index = record {
+  within = λ b there. there;
+  sound = λ i small zero_bit. absurd (omega (arith, zero_bit, bit_at_ones 64 i small));
+  complete = λ b i there open_bit. inl there;
+}
+
+pub reads_bus : (rows : Rows) (buses : BusSet) (index : ℕ) (left : BusSet) (all b : ℕ) (rest : BusSet) (word : ℕ)
+    → IsReadSoFar rows buses index left all → TakesFirst left b rest → word ≡ slice_index (bus_words rows b) index
+    → IsReadSoFar rows buses index rest (bit_and all word)
+reads_bus rows buses index left all b rest word so_far takes is = record {
+  within = λ c there. so_far.within c (left_has c there);
+  sound = λ i small zero_bit. ⊎_elim (λ all_zero. so_far.sound i small all_zero)
+      (λ word_zero. record {
+        b = b;
+        number = takes.number;
+        there = so_far.within b takes.there;
+        open_bit = ap (λ (w : ℕ). bit_at w i) (sym is) ∙ word_zero;
+      }) (zero_of i zero_bit);
+  complete = λ c i there open_bit. ⊎_elim
+      (λ e. inr (zero_in i (inr (ap (λ (w : ℕ). bit_at w i) (is ∙ ap (λ (x : ℕ). slice_index (bus_words rows x)
+      index) (sym e)) ∙ open_bit))))
+      (λ differ. ⊎_elim (λ was. inl (takes.others c differ ∙ was)) (λ zero. inr (zero_in i (inl zero)))
+      (so_far.complete c i there open_bit))
+      (cases_eq c b);
+}
+  where
+    left_has : (c : ℕ) → bus_bit rest c ≡ 1 → bus_bit left c ≡ 1
+    left_has c there = ⊎_elim (λ e. absurd (taken c e there)) (λ differ. sym (takes.others c differ) ∙ there)
+        (cases_eq c b)
+      where
+        taken : (c : ℕ) → c ≡ b → bus_bit rest c ≡ 1 → ⊥
+        taken c e there = let at : bus_bit rest b ≡ 1 = subst (λ (x : ℕ). bus_bit rest x ≡ 1) e there in omega
+            (arith, at, takes.taken)
+
+    zero_of : (i : ℕ) → bit_at (bit_and all word) i ≡ 0 → (bit_at all i ≡ 0) ⊎ (bit_at word i ≡ 0)
+    zero_of i zero_bit = grind (arith, bit_at_and all word i, bit_at-lt all i, bit_at-lt word i)
+
+    zero_in : (i : ℕ) → (bit_at all i ≡ 0) ⊎ (bit_at word i ≡ 0) → bit_at (bit_and all word) i ≡ 0
+    zero_in i either = grind (arith, bit_at_and all word i, bit_at-lt all i, bit_at-lt word i)
+
+-- all are read
+pub reads_all : (rows : Rows) (buses : BusSet) (index : ℕ) (left : BusSet) (all i : ℕ) → IsReadSoFar rows buses index
+    left all
+    → ((b : ℕ) → bus_bit left b ≡ 0) → i < 64 → (bit_at all i ≡ 0) ↔ IsBusOpen rows buses index i
+reads_all rows buses index left all i read none small = (
+  read.sound i small,
+  λ is. ⊎_elim (λ there. absurd (omega (arith, there, none is.b))) (λ zero. zero) (read.complete is.b i is.there
+      is.open_bit),
+)

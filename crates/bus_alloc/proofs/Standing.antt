@@ -1,0 +1,118 @@
+-- What a table that stands for operations says of them.
+use Rattle.std.proofs.Common.{◌≡◌, ℕ, ◌+◌, ◌/◌, ◌%◌, ◌<◌, ◌≤◌, List, length, get_or, arith}
+use Rattle.std.specs.Prelude.{Contains}
+use Rattle.std.specs.List.{All}
+use Rattle.std.proofs.lemmas.List.Elements.{All-contains, Contains-get_or}
+use Rattle.operations.specs.declared.units.PortRef.{PortRef}
+use Rattle.datapath.specs.declared.types.Datapath.{Datapath}
+use Rattle.plan_core.specs.Hardware.{latency_on, no_unit, IsRoute}
+use Rattle.plan_core.specs.Reservations.{result_on, IsFreeRoute, IsFirstBus}
+use Rattle.plan_core.specs.declared.schedule.Transfer.{Transfer}
+use Rattle.bus_alloc.specs.Sets.{mark, bus_bit}
+use Rattle.bus_alloc.specs.Private.Rows.{IsPortIn, IsPortOpen, IsOpen, unit_row, file_row, bus_words}
+use Rattle.bus_alloc.specs.Private.Taking.{IsRouteFree, IsFirstTransfer}
+use Rattle.bus_alloc.specs.Stands.{Placed, IsTaken, IsFileRow, Stands, FitsAt}
+use Rattle.bus_alloc.specs.declared.rows.Rows.{Rows}
+
+module _ (d : Datapath) (placed : List Placed) (rows : Rows) (s : Stands d placed rows) where
+  -- an operation takes 1 to 8 cycles, and the next may begin after 1 to as many
+  pub latency_some : (u : ℕ) → u < length rows.units → 1 ≤ latency_on d u
+  latency_some u within = let h : u < length d.units = omega (arith, s.units) in (s.path.units u no_unit h).latency.0
+
+  pub ends_in : (u t : ℕ) → u < length rows.units → t + latency_on d u ≤ d.period → result_on d u t < d.period
+  ends_in u t within fits = omega (arith, latency_some u within)
+
+  file_at : (port : PortRef) → IsPortIn rows port → IsFileRow d placed port (file_row rows port)
+  file_at port is_in = let h : port.unit < length d.units = omega (arith, s.units, is_in.0) in s.file port.unit
+      port.port h is_in.1
+
+  module _ (u : ℕ) (within : u < length rows.units) where
+    unit_within : u < length d.units
+    unit_within = omega (arith, s.units)
+
+    -- a route of the rows is one of the datapath
+    route_of : (port : PortRef) (b : ℕ) → IsPortIn rows port → bus_bit (unit_row rows u).drives b ≡ 1
+        → bus_bit (file_row rows port).sources b ≡ 1 → IsRoute d u port b
+    route_of port b is_in drive source =
+        let can = ((s.unit u unit_within).drives b).0 drive in
+        let leads = ((file_at port is_in).sources b).0 source in
+        record { there = can.there; driver = can.driver; taker = leads.taker }
+
+    few_buses : (b : ℕ) → b < length d.buses → b < 32
+    few_buses b less = omega (arith, s.path.bus_count.1)
+
+    free_route : (port : PortRef) (w b : ℕ) → IsPortIn rows port → w < d.period → b < 32
+        → bus_bit (unit_row rows u).drives b ≡ 1 → bus_bit (file_row rows port).sources b ≡ 1
+        → mark (bus_words rows b) w ≡ 0 → IsFreeRoute d (IsTaken placed) u w port b
+    free_route port w b is_in before number drive source free = record {
+      route = route_of port b is_in drive source;
+      free = (s.bus b w number before).0 free;
+    }
+
+    route_free : (port : PortRef) (w b : ℕ) → IsPortIn rows port → w < d.period
+        → IsFreeRoute d (IsTaken placed) u w port b → IsRouteFree rows u port w b
+    route_free port w b is_in before free = record {
+      number = few_buses b free.route.there;
+      drive = ((s.unit u unit_within).drives b).1 (record { there = free.route.there; driver = free.route.driver });
+      source = ((file_at port is_in).sources b).1 (record { there = free.route.there; taker = free.route.taker });
+      free = (s.bus b w (few_buses b free.route.there) before).1 free.free;
+    }
+
+    pub first_bus_of : (w : ℕ) (transfer : Transfer) → IsPortIn rows transfer.port → w < d.period
+        → IsFirstTransfer rows u w transfer → IsFirstBus d (IsTaken placed) u w transfer
+    first_bus_of w transfer is_in before is = record {
+      route = free_route transfer.port w transfer.bus is_in before is.route.number is.route.drive is.route.source
+          is.route.free;
+      first = λ b less free. is.first b less (route_free transfer.port w b is_in before free);
+    }
+
+    module _ (t : ℕ) (dests : List PortRef) (ports : All (IsPortIn rows) dests) where
+      pub open_fits : t + latency_on d u ≤ d.period → IsOpen rows u dests (result_on d u t) → FitsAt d placed u t dests
+      open_fits ends is_open = record {
+        period = ends;
+        unit = ((s.unit u unit_within).busy t ends).0 is_open.unit;
+        files = λ port is_to. ((file_at port (is_in port is_to)).written w before).0 (at port is_to).file;
+        buses = λ port is_to.
+            let bus = (at port is_to).bus in
+            (bus.b, free_route port w bus.b (is_in port is_to) before bus.number bus.drive bus.source bus.open_bit);
+      }
+        where
+          w : ℕ
+          w = result_on d u t
+
+          before : w < d.period
+          before = ends_in u t within ends
+
+          is_in : (port : PortRef) → Contains dests port → IsPortIn rows port
+          is_in port is_to = All-contains (IsPortIn rows) dests port ports is_to
+
+          at : (port : PortRef) → Contains dests port → IsPortOpen rows u port (w / 64) (w % 64)
+          at port is_to = All-contains (λ p. IsPortOpen rows u p (w / 64) (w % 64)) dests port is_open.ports is_to
+
+      pub fits_open : FitsAt d placed u t dests → IsOpen rows u dests (result_on d u t)
+      fits_open fits = record {
+        unit = ((s.unit u unit_within).busy t fits.period).1 fits.unit;
+        ports = λ k p less. at (get_or dests k p) (Contains-get_or dests k p less) (ports k p less);
+      }
+        where
+          w : ℕ
+          w = result_on d u t
+
+          before : w < d.period
+          before = ends_in u t within fits.period
+
+          at : (port : PortRef) → Contains dests port → IsPortIn rows port → IsPortOpen rows u port (w / 64) (w % 64)
+          at port is_to is_in =
+              let route = fits.buses port is_to in
+              let free = route_free port w route.0 is_in before route.1 in
+              record {
+                file = ((file_at port is_in).written w before).1 (fits.files port is_to);
+                bus = record {
+                  b = route.0;
+                  number = free.number;
+                  drive = free.drive;
+                  source = free.source;
+                  open_bit
+                      = free.free;
+                };
+              }

@@ -1,0 +1,61 @@
+//! Sets of cycles of a sample.
+
+ghost use Rattle.std.specs.Prelude.{◌≡◌, ◌≢◌, ◌<◌, ◌≤◌, ◌⊎◌, ℕ, length, slice_index, IsTrue, ◌↔◌};
+ghost use Rattle.bus_alloc.specs.Sets.{mark};
+
+/// A period has at most this many cycles.
+pub const MOST_CYCLES: u16 = 4096;
+/// How many cycles a word of a set has a bit for.
+pub const WORD_CYCLES: u16 = 64;
+/// How many words a set has.
+const WORDS: usize = 64;
+
+/// A set of cycles of a sample, with a bit for each.
+#[derive(Clone, Copy)]
+pub struct CycleSet {
+    words: [u64; WORDS],
+    ghost full: { length words ≡ 64 },
+}
+
+impl CycleSet {
+    pub fn new() -> CycleSet
+        ensures { (cycle : ℕ) → mark result.words cycle ≡ 0 }
+    {
+        CycleSet { words: [0; WORDS] }
+    }
+
+    /// The word with the bits of 64 cycles.
+    pub fn word(&self, index: u16) -> u64
+        requires { index < 64 }
+        ensures { result ≡ slice_index self.now.words index }
+    {
+        self.words[index as usize]
+    }
+
+    pub fn contains(&self, cycle: u16) -> bool
+        requires { cycle < 4096 }
+        ensures { IsTrue result ↔ (mark self.now.words cycle ≡ 1) }
+    {
+        self.words[(cycle / WORD_CYCLES) as usize] & (1 << (cycle % WORD_CYCLES)) != 0
+    }
+
+    pub fn insert(&mut self, cycle: u16)
+        requires { cycle < 4096 }
+        ensures same { mark self.new.words cycle ≡ 1 }
+        ensures others { (c : ℕ) → c ≢ cycle → mark self.new.words c ≡ mark self.old.words c }
+    {
+        self.words[(cycle / WORD_CYCLES) as usize] |= 1 << (cycle % WORD_CYCLES);
+    }
+
+    /// Inserts the cycles from the first on, up to the end.
+    pub fn insert_all(&mut self, first: u16, end: u16)
+        requires order { first ≤ end }
+        requires end { end ≤ 4096 }
+        ensures inside { (c : ℕ) → first ≤ c → c < end → mark self.new.words c ≡ 1 }
+        ensures outside { (c : ℕ) → (c < first) ⊎ (end ≤ c) → mark self.new.words c ≡ mark self.old.words c }
+    {
+        for cycle in first..end {
+            self.insert(cycle);
+        }
+    }
+}

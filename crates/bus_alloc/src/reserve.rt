@@ -1,0 +1,110 @@
+//! Takes units, register files and buses in a reservation table.
+
+ghost use Rattle.std.specs.Prelude.{◌≡◌, ◌+◌, ◌<◌, ◌≤◌, ◌/◌, ◌%◌, length, map, IfOk};
+ghost use Rattle.std.specs.List.{All};
+ghost use Rattle.bus_alloc.specs.Private.Rows.{AreRows, IsPortIn, IsPortOpen, IsOpen, unit_row};
+ghost use Rattle.bus_alloc.specs.Private.Taking.{IsFirstRoute, IsFirstTransfer, IsTransferIn, TakesUnit, TakesTransfer, TakesTransfers, TakesAll};
+
+use crate::cycles::MOST_CYCLES;
+use crate::rows::{Rows, file_number};
+use datapath::PortRef;
+use lists::List;
+use plan_core::{Transfer, Transfers};
+use std::alloc::{AllocError, Global};
+
+impl Rows {
+    /// The first free bus from the unit to the port in the cycle.
+    fn first_bus(&self, unit: u8, port: PortRef, cycle: u16) -> u8
+        requires rows { AreRows self.now }
+        requires unit { unit < length self.now.units }
+        requires port { IsPortIn self.now port }
+        requires cycle { cycle < 4096 }
+        requires is_open { IsPortOpen self.now unit port (cycle / 64) (cycle % 64) }
+        ensures { IsFirstRoute self.now unit port cycle result }
+    {
+        let file = &self.files[file_number(port)];
+        let mut left = self.units[unit as usize].drives.and(file.sources);
+        while let Some(bus) = left.pop_first() {
+            if !self.buses[bus as usize].contains(cycle) {
+                return bus;
+            }
+        }
+        unreachable!()
+    }
+
+    /// The transfers of a result of the unit in the cycle, each over the first free bus.
+    pub fn transfers(
+        &self,
+        alloc: Global,
+        unit: u8,
+        cycle: u16,
+        dests: &[PortRef],
+    ) -> Result<Transfers, AllocError>
+        requires rows { AreRows self.now }
+        requires unit { unit < length self.now.units }
+        requires ports { All (IsPortIn self.now) dests.now }
+        requires cycle { cycle < 4096 }
+        requires is_open { IsOpen self.now unit dests.now cycle }
+        ensures ports { IfOk result (λ transfers. map (λ transfer. transfer.port) transfers ≡ dests.now) }
+        ensures buses { IfOk result (λ transfers. All (IsFirstTransfer self.now unit cycle) transfers) }
+    {
+        let mut transfers = List::with_capacity(alloc, dests.len())?;
+        for port in dests {
+            let bus = self.first_bus(unit, *port, cycle);
+            transfers.push(Transfer { port: *port, bus })?;
+        }
+        Ok(transfers)
+    }
+
+    /// Takes the unit for an operation that ends in the cycle.
+    fn take_unit(&mut self, unit: u8, cycle: u16)
+        requires rows { AreRows self.old }
+        requires unit { unit < length self.old.units }
+        requires cycle { cycle < 4096 }
+        requires late { (unit_row self.old unit).latency ≤ cycle + 1 }
+        ensures { TakesUnit self.old unit cycle self.new }
+    {
+        let row = &mut self.units[unit as usize];
+        let gap = u16::from(row.gap);
+        let end = (cycle + gap).min(MOST_CYCLES);
+        row.busy.insert_all(cycle + 1 - gap, end);
+    }
+
+    /// Takes the register file and the bus of a transfer in the cycle.
+    fn take_transfer(&mut self, transfer: Transfer, cycle: u16)
+        requires rows { AreRows self.old }
+        requires transfer { IsTransferIn self.old transfer }
+        requires cycle { cycle < 4096 }
+        ensures { TakesTransfer self.old transfer cycle self.new }
+    {
+        let file = &mut self.files[file_number(transfer.port)];
+        file.written.insert(cycle);
+        let bus = &mut self.buses[transfer.bus as usize];
+        bus.insert(cycle);
+    }
+
+    /// Takes the register files and the buses of the transfers in the cycle.
+    fn take_transfers(&mut self, transfers: &[Transfer], cycle: u16)
+        requires rows { AreRows self.old }
+        requires transfers { All (IsTransferIn self.old) transfers.now }
+        requires cycle { cycle < 4096 }
+        ensures { TakesTransfers self.old transfers.now cycle self.new }
+    {
+        for transfer in transfers {
+            self.take_transfer(*transfer, cycle);
+        }
+    }
+
+    /// Takes all that an operation needs that ends in the cycle.
+    pub fn reserve(&mut self, unit: u8, cycle: u16, transfers: &[Transfer])
+        requires rows { AreRows self.old }
+        requires unit { unit < length self.old.units }
+        requires cycle { cycle < 4096 }
+        requires late { (unit_row self.old unit).latency ≤ cycle + 1 }
+        requires transfers { All (IsTransferIn self.old) transfers.now }
+        ensures { TakesAll self.old unit cycle transfers.now self.new }
+    {
+        self.take_unit(unit, cycle);
+        self.take_transfers(transfers, cycle);
+    }
+}
