@@ -33,4 +33,14 @@ pub mod PutRows
 pub mod FlatSizes
 pub mod Charges
 pub mod OwnPositions
+pub mod FlatReads
+pub mod FactSteps
+pub mod ReadableExprs
+pub mod FlatMade
+pub mod ProgramFacts
+pub mod PresetsOnce
+pub mod SiteFacts
+pub mod Rows
+pub mod FactsPut
+pub mod InstanceNumbers
 mod Examples

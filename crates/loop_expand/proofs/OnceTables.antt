@@ -284,7 +284,7 @@ module _ (p : Program) (checked : IsChecked p) where
       named_distinct name k named = checked.positions (position_of p name) k (top_named p name k (names_apart p checked.names) named)
 
   module _ (es : Elements) (made : IsExpansion p es) where
-    spread : (o : Option Func) → main_of p ≡ o → Spread es.instances 0 1 (length es.instances) (λ s. Unit {0})
+    pub spread : (o : Option Func) → main_of p ≡ o → Spread es.instances 0 1 (length es.instances) (λ s. Unit {0})
     spread None is = record {
       parent = λ n i low high e. let none : es.instances ≡ [] = made.instances ∙ ap (λ o. instances_after 0 [] (main_table p o)) is in absurd (omega (arith, ap length none));
       once = λ m n i j low high low' high' e f g h. let none : es.instances ≡ [] = made.instances ∙ ap (λ o. instances_after 0 [] (main_table p o)) is in absurd (omega (arith, ap length none));

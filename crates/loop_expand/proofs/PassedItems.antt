@@ -61,7 +61,7 @@ module _ (p : Program) (g : Func) (inside : Func → Table) where
         item_passed items (outer ++ (index, turn) ∷ []) (after one.context (mark (counts 1 at)))
         (back_passes one.context (mark (counts 1 at)) (items_row p g inside (outer ++ (index, turn) ∷ []) items) one.ok) x indices h
 
-    item_passed : (items : Items) (outer : Indices) (context : Context) → first_in (row_rules context (items_row p g inside outer items)) ≡ Ok tt → (x : Item) (indices : Indices) → Occurs items outer x indices → IsPassed (TableOf indices x)
+    pub item_passed : (items : Items) (outer : Indices) (context : Context) → first_in (row_rules context (items_row p g inside outer items)) ≡ Ok tt → (x : Item) (indices : Indices) → Occurs items outer x indices → IsPassed (TableOf indices x)
     item_passed no_item outer context ok x indices h = absurd h
     item_passed (item y rest) outer context ok x indices (inl h) =
         inside_passed y outer context (front_passes context (TableOf outer y) (items_row p g inside outer rest) ok) x indices h

@@ -4,3 +4,5 @@ pub mod KeepsProgram
 pub mod FlatOf
 pub mod Kept
 pub mod Checked
+pub mod Expanded
+pub mod Private

@@ -1,3 +1,19 @@
-//! The flat program of a program: its calls and loops expanded. What it is stands in `specs/`, and that it has the
-//! solutions of the program in `proofs/`. There is no code yet. Page `docs/GRAPH.md`, "Expansion".
+//! The flat program of a program: its calls and loops expanded. Page `docs/GRAPH.md`, "Expansion".
 #![tactic(auto)]
+
+mod amounts;
+mod calls;
+mod elements;
+mod expressions;
+mod fault;
+mod functions;
+mod initials;
+mod instances;
+mod item_facts;
+mod lookups;
+mod program;
+mod scope;
+mod turns;
+
+pub use fault::ExpandFault;
+pub use program::expand;

@@ -1,0 +1,246 @@
+-- How facts are put into elements, one after another.
+use Rattle.std.proofs.Common.{◌≡◌, refl, sym, ◌∙◌, ap, ap₂, append_assoc, zero-add, arith, ℕ, zero, suc, ◌+◌, ◌-◌, ◌<◌, ◌≤◌, ◌⊎◌, ◌++◌, inl, inr, true, false, List, [], ◌∷◌, map, length, drop, take, get_or, Option, Some, None, Result, Ok, Err, OnOk, slice_get, slice_index_or, ℤ, pos}
+use Rattle.std.specs.Prelude.{nat_eq, nat_lt, slice_set}
+use Rattle.std.proofs.lemmas.Bool.Decides.{eqb_tells, leb_tells}
+use Rattle.std.proofs.lemmas.List.FromFn.{map-range_with_len_more}
+use Rattle.std.proofs.lemmas.List.{length-drop, map-append, take_all}
+use Rattle.std.proofs.lemmas.List.Sums.{sum_by-cons}
+use Rattle.std.proofs.lemmas.Option.{slice_get_within}
+use Rattle.std.specs.List.{range_with_len}
+use Rattle.single_def.specs.ElementRules.{elements_of}
+use Rattle.single_def.proofs.Each.{range_next}
+use Rattle.silage_syntax.specs.declared.tree.Decl.{Decl}
+use Rattle.silage_syntax.specs.Names.{element_count}
+use Rattle.fix_types.specs.TypedTree as typed
+use Rattle.signal_graph.specs.Flat as flat
+use Rattle.fix_types.specs.declared.typed.TypedConst.{TypedConst}
+use Rattle.fix_types.specs.declared.typed.TypedExpr.{TypedExpr}
+use Rattle.fix_types.specs.declared.typed.TypedItem.{TypedItem}
+use Rattle.single_def.specs.declared.elements.Instance.{Instance}
+use Rattle.signal_graph.specs.declared.flat.FlatElem.{FlatElem}
+use Rattle.signal_graph.specs.declared.flat.FlatExpr.{FlatExpr}
+use Rattle.silage_syntax.specs.Manifests.{Indices}
+use Rattle.loop_expand.specs.Private.Elements.{view_elems, inserted, changed, with_fact, with_facts, Puts}
+use Rattle.loop_expand.specs.Private.Facts.{Fact, joined, flat_of, flat_parts, item_facts, items_facts, facts_in, facts_from}
+use Rattle.loop_expand.specs.Private.Rows.{parts_of, parts_after, view_exprs, typed_exprs}
+use Rattle.loop_expand.specs.Private.Scopes.{Signal, Body, Scope, signals_from, decls_of, body_for, body_of}
+
+abbrev Lt : ℕ → ℕ → Type 0
+Lt m n = ((nat_lt m n ≡ true) × (m < n)) ⊎ ((nat_lt m n ≡ false) × (n ≤ m))
+
+lt_tells : (m n : ℕ) → Lt m n
+lt_tells m n = elim (leb_tells (suc m) n) [ inl h ↦ inl (h.0, (let less = h.1 in omega arith)) | inr h ↦ inr (h.0, (let more = h.1 in omega arith)) ]
+
+pub facts-append : (fs gs : List Fact) (xs : List flat.Element) → with_facts (fs ++ gs) xs ≡ with_facts gs (with_facts fs xs)
+facts-append [] gs xs = refl
+facts-append (f ∷ fs) gs xs = facts-append fs gs (with_fact f xs)
+
+-- facts in a row, each for a number
+pub next_fact : (F : ℕ → Fact) (count k : ℕ) (xs ys whole : List flat.Element) → k < count → ys ≡ with_fact (F k) xs
+    → with_facts (map F (range_with_len (0 + k) (count - k))) xs ≡ whole → with_facts (map F (range_with_len (0 + (k + 1)) (count - (k + 1)))) ys ≡ whole
+next_fact F count k xs ys whole less step so_far =
+    let first : 0 + k ≡ k = omega arith in
+    ap (with_facts (map F (range_with_len (0 + (k + 1)) (count - (k + 1))))) (step ∙ ap (λ (n : ℕ). with_fact (F n) xs) (sym first))
+    ∙ sym (ap (λ (ns : List ℕ). with_facts (map F ns) xs) (range_next 0 k count less)) ∙ so_far
+
+-- a range has no number left at its end
+pub range_end : (k count : ℕ) → count ≤ k → range_with_len (0 + k) (count - k) ≡ []
+range_end k count past = let none : count - k ≡ 0 = omega arith in rw none refl
+
+-- the facts of things in a row, each for a number
+pub next_joined : {A : Type 0} (F : A → List Fact) (G : ℕ → A) (count k : ℕ) (xs ys whole : List flat.Element) → k < count → ys ≡ with_facts (F (G k)) xs
+    → with_facts (joined F (map G (range_with_len (0 + k) (count - k)))) xs ≡ whole → with_facts (joined F (map G (range_with_len (0 + (k + 1)) (count - (k + 1))))) ys ≡ whole
+next_joined F G count k xs ys whole less step so_far =
+    let first : 0 + k ≡ k = omega arith in
+    let rest = joined F (map G (range_with_len (0 + (k + 1)) (count - (k + 1)))) in
+    ap (with_facts rest) (step ∙ ap (λ (n : ℕ). with_facts (F (G n)) xs) (sym first))
+    ∙ sym (facts-append (F (G (0 + k))) rest xs)
+    ∙ sym (ap (λ (ns : List ℕ). with_facts (joined F (map G ns)) xs) (range_next 0 k count less)) ∙ so_far
+
+-- A change of the element at a number, and none past the end.
+pub changed_at : (F : flat.Element → flat.Element) (n : ℕ) (xs : List FlatElem) (x y : FlatElem) → n < length xs → flat.view_elem y ≡ F (flat.view_elem (get_or xs n x)) → view_elems (slice_set xs n y) ≡ changed F n (view_elems xs)
+changed_at F n [] x y less is = absurd (omega arith)
+changed_at F zero (z ∷ xs) x y less is = ap (λ (e : flat.Element). e ∷ view_elems xs) is
+changed_at F (suc n) (z ∷ xs) x y less is = ap (λ (es : List flat.Element). flat.view_elem z ∷ es) (changed_at F n xs x y (omega arith) is)
+
+pub changed_past : (F : flat.Element → flat.Element) (n : ℕ) (xs : List FlatElem) → length xs ≤ n → view_elems xs ≡ changed F n (view_elems xs)
+changed_past F n [] past = refl
+changed_past F zero (z ∷ xs) past = absurd (omega arith)
+changed_past F (suc n) (z ∷ xs) past = ap (λ (es : List flat.Element). flat.view_elem z ∷ es) (changed_past F n xs (omega arith))
+
+-- Initial values: one is put behind those before it.
+pub present : (sample k : ℕ) (word : ℤ) (is : List (ℕ × ℤ)) (x : ℕ × ℤ) → slice_get is k ≡ Some x → x.0 ≡ sample → take k is ++ inserted sample word (drop k is) ≡ is
+present sample k word [] x e same = absurd (cc e)
+present sample zero word (i ∷ is) x e same = by (lt_tells i.0 sample) (eqb_tells i.0 sample)
+  where
+    here : i.0 ≡ sample
+    here = let it : i ≡ x = cc e in ap (λ (j : ℕ × ℤ). j.0) it ∙ same
+
+    by : Lt i.0 sample → ((nat_eq i.0 sample ≡ true) × (i.0 ≡ sample)) ⊎ ((nat_eq i.0 sample ≡ false) × (i.0 ≡ sample → ⊥)) → inserted sample word (i ∷ is) ≡ i ∷ is
+    by (inl l) g = let less = l.1 in absurd (omega (arith, here))
+    by (inr l) (inl g) = rw (l.0, g.0) refl
+    by (inr l) (inr g) = absurd (g.1 here)
+present sample (suc k) word (i ∷ is) x e same = ap (λ (js : List (ℕ × ℤ)). i ∷ js) (present sample k word is x e same)
+
+pub absent : (sample k : ℕ) (word : ℤ) (is : List (ℕ × ℤ)) → ((x : ℕ × ℤ) → slice_get is k ≡ Some x → sample < x.0) → take k is ++ inserted sample word (drop k is) ≡ take k is ++ (sample, word) ∷ drop k is
+absent sample k word [] above = in_none k
+  where
+    in_none : (k : ℕ) → take k [] ++ inserted sample word (drop k []) ≡ take k [] ++ (sample, word) ∷ drop k []
+    in_none zero = refl
+    in_none (suc k) = refl
+absent sample zero word (i ∷ is) above = by (lt_tells i.0 sample) (eqb_tells i.0 sample)
+  where
+    over : sample < i.0
+    over = above i refl
+
+    by : Lt i.0 sample → ((nat_eq i.0 sample ≡ true) × (i.0 ≡ sample)) ⊎ ((nat_eq i.0 sample ≡ false) × (i.0 ≡ sample → ⊥)) → inserted sample word (i ∷ is) ≡ (sample, word) ∷ i ∷ is
+    by (inl l) g = let less = l.1 in absurd (omega (arith, over))
+    by (inr l) (inl g) = let same = g.1 in absurd (omega (arith, over))
+    by (inr l) (inr g) = rw (l.0, g.0) refl
+absent sample (suc k) word (i ∷ is) above = ap (λ (js : List (ℕ × ℤ)). i ∷ js) (absent sample k word is above)
+
+-- Parts behind others.
+pub parts_more : (xs : List flat.Expr) (y : flat.Expr) (rest : flat.Parts) → parts_after (xs ++ y ∷ []) rest ≡ parts_after xs (flat.part y rest)
+parts_more [] y rest = refl
+parts_more (x ∷ xs) y rest = ap (flat.part x) (parts_more xs y rest)
+
+pub parts_end : (xs : List flat.Expr) → parts_after xs flat.no_part ≡ parts_of xs
+parts_end [] = refl
+parts_end (x ∷ xs) = ap (flat.part x) (parts_end xs)
+
+-- Signals of declarations one behind the other.
+pub signals-append : (n : ℕ) (ds es : List Decl) → signals_from n (ds ++ es) ≡ signals_from n ds ++ signals_from (n + elements_of ds) es
+signals-append n [] es = ap (λ (m : ℕ). signals_from m es) (omega arith)
+signals-append n (d ∷ ds) es =
+    let sum = sum_by-cons (λ (d : Decl). element_count d.dims) d ds in
+    let next : n + element_count d.dims + elements_of ds ≡ n + elements_of (d ∷ ds) = omega arith in
+    ap (λ (ss : List Signal). record { decl = d; first = n } ∷ ss) (signals-append (n + element_count d.dims) ds es ∙ ap (λ (m : ℕ). signals_from (n + element_count d.dims) ds ++ signals_from m es) next)
+
+pub range_more : (a n : ℕ) → range_with_len a (n + 1) ≡ range_with_len a n ++ (a + n) ∷ []
+range_more a n = sym (map-same (range_with_len a (n + 1))) ∙ map-range_with_len_more (λ (k : ℕ). k) a n (a + n) refl ∙ ap (λ (ks : List ℕ). ks ++ (a + n) ∷ []) (map-same (range_with_len a n))
+  where
+    map-same : (ks : List ℕ) → map (λ (k : ℕ). k) ks ≡ ks
+    map-same [] = refl
+    map-same (k ∷ ks) = ap (λ (l : List ℕ). k ∷ l) (map-same ks)
+
+pub index_none : (xs : List ℤ) (k : ℕ) → None ≡ slice_get xs k → pos 0 ≡ slice_index_or xs k (pos 0)
+index_none [] k e = refl
+index_none (x ∷ xs) zero e = absurd (cc e)
+index_none (x ∷ xs) (suc k) e = index_none xs k e
+
+pub no_value : (o : Option ℤ) → ((v : ℤ) → o ≡ Some v → ⊥) → None ≡ o
+no_value None none = refl
+no_value (Some v) none = absurd (none v refl)
+
+pub on_ok : {A E : Type 0} (r : Result A E) {P Q : Type 0} → (P → Q) → OnOk r P → OnOk r Q
+on_ok (Ok x) f h = f h
+on_ok (Err e) f h = h
+
+-- facts behind others
+pub puts_then : (fs gs : List Fact) (old mid new : List FlatElem) → Puts fs old mid → Puts gs mid new → Puts (fs ++ gs) old new
+puts_then fs gs old mid new a b = b ∙ ap (with_facts gs) a ∙ sym (facts-append fs gs (view_elems old))
+
+elements-append : (ds es : List Decl) → elements_of (ds ++ es) ≡ elements_of ds + elements_of es
+elements-append [] es = sym (zero-add (elements_of es))
+elements-append (d ∷ ds) es =
+    let all = sum_by-cons (λ (d : Decl). element_count d.dims) d (ds ++ es) in
+    let some = sum_by-cons (λ (d : Decl). element_count d.dims) d ds in
+    let rest = elements-append ds es in
+    omega arith
+
+abbrev body : typed.TypedFunc → List Signal → List Signal → ℕ → Body
+body f signals results size = record { of = f; signals = signals; results = results; size = size }
+
+body_same : (f : typed.TypedFunc) (a b r s : List Signal) (m n : ℕ) → a ≡ b → r ≡ s → m ≡ n → body f a r m ≡ body f b s n
+body_same f a b r s m n e g h = cc
+
+-- the signals of a function: parameters, then results, then locals
+pub body_made : (f : typed.TypedFunc) (none a b c r : List Signal) (first next size : ℕ) → none ≡ [] → a ≡ none ++ signals_from 0 f.params → first ≡ 0 + elements_of f.params → r ≡ none ++ signals_from first f.results
+    → b ≡ a ++ signals_from first f.results → next ≡ first + elements_of f.results → c ≡ b ++ signals_from next f.locals → size ≡ next + elements_of f.locals → body f c r size ≡ body_for f
+body_made f none a b c r first next size empty is_a is_first is_r is_b is_next is_c is_size =
+    let start : first ≡ elements_of f.params = omega arith in
+    let sum = elements-append f.params (f.results ++ f.locals) in
+    let rest = elements-append f.results f.locals in
+    body_same f c (signals_from 0 (decls_of f)) r (signals_from (elements_of f.params) f.results) size (elements_of (decls_of f))
+    (is_c ∙ ap₂ (λ (xs : List Signal) (m : ℕ). xs ++ signals_from m f.locals) (is_b ∙ ap₂ (λ (xs : List Signal) (m : ℕ). xs ++ signals_from m f.results) (is_a ∙ ap (λ (xs : List Signal). xs ++ signals_from 0 f.params) empty) is_first) (is_next ∙ ap (λ (m : ℕ). m + elements_of f.results) is_first)
+    ∙ append_assoc (signals_from 0 f.params) (signals_from (0 + elements_of f.params) f.results) (signals_from (0 + elements_of f.params + elements_of f.results) f.locals)
+    ∙ ap (λ (xs : List Signal). signals_from 0 f.params ++ xs) (sym (signals-append (0 + elements_of f.params) f.results f.locals))
+    ∙ sym (signals-append 0 f.params (f.results ++ f.locals)))
+    (is_r ∙ ap₂ (λ (xs : List Signal) (m : ℕ). xs ++ signals_from m f.results) empty start)
+    (omega arith)
+
+-- An item of a list, and what is behind it.
+pub drop_item : {A : Type 0} (xs : List A) (i : ℕ) (x : A) → i < length xs → x ≡ get_or xs i x → drop i xs ≡ x ∷ drop (i + 1) xs
+drop_item [] i x less e = absurd (omega arith)
+drop_item {A} (y ∷ xs) zero x less e = ap (λ (z : A). z ∷ xs) (sym e)
+drop_item (y ∷ xs) (suc i) x less e =
+    let next : suc i + 1 ≡ suc (i + 1) = omega arith in
+    drop_item xs i x (omega arith) e ∙ ap (λ (n : ℕ). x ∷ drop n (y ∷ xs)) (sym next)
+
+pub drop_end : {A : Type 0} (xs : List A) (i : ℕ) → length xs ≤ i → drop i xs ≡ []
+drop_end [] zero past = refl
+drop_end [] (suc i) past = refl
+drop_end (x ∷ xs) zero past = absurd (omega arith)
+drop_end (x ∷ xs) (suc i) past = drop_end xs i (omega arith)
+
+pub first_rest : {A : Type 0} (xs : List A) (x : A) → 1 ≤ length xs → x ≡ get_or xs 0 x → xs ≡ x ∷ take (length xs - 1) (drop 1 xs)
+first_rest {A} xs x some e =
+    let long = length-drop 1 xs in
+    drop_item xs 0 x (omega arith) e ∙ ap (λ (ys : List A). x ∷ ys) (sym (take_all (length xs - 1) (drop 1 xs) (omega arith)))
+
+item_is : {A : Type 0} (xs : List A) (k : ℕ) (x d : A) → slice_get xs k ≡ Some x → d ≡ get_or xs k d → d ≡ x
+item_is [] k x d e is = absurd (cc e)
+item_is (y ∷ xs) zero x d e is = let same : y ≡ x = cc e in is ∙ same
+item_is (y ∷ xs) (suc k) x d e is = item_is xs k x d e is
+
+pub above_by : (xs : List (ℕ × ℤ)) (k sample : ℕ) (d : ℕ × ℤ) → d ≡ get_or xs k d → (d.0 ≡ sample → ⊥) → ((x : ℕ × ℤ) → slice_get xs k ≡ Some x → sample ≤ x.0) → (x : ℕ × ℤ) → slice_get xs k ≡ Some x → sample < x.0
+above_by xs k sample d is other least x e =
+    let same : d.0 ≡ x.0 = ap (λ (i : ℕ × ℤ). i.0) (item_is xs k x d e is) in
+    let low = least x e in
+    elim (leb_tells (suc sample) x.0) [ inl h ↦ (let less = h.1 in omega arith) | inr h ↦ (let more = h.1 in absurd (other (omega arith))) ]
+
+pub none_by : (xs : List (ℕ × ℤ)) (k sample : ℕ) → length xs ≤ k → (x : ℕ × ℤ) → slice_get xs k ≡ Some x → sample < x.0
+none_by xs k sample past x e = let less = slice_get_within xs k x e in absurd (omega arith)
+
+pub insert_is : (sample k : ℕ) (word : ℤ) (inits items made : List (ℕ × ℤ)) → items ≡ inits → inserted sample word items ≡ take k items ++ inserted sample word (drop k items) → ((x : ℕ × ℤ) → slice_get items k ≡ Some x → sample < x.0)
+    → made ≡ take k items ++ (sample, word) ∷ drop k items → made ≡ inserted sample word inits
+insert_is sample k word inits items made same before above is =
+    is ∙ sym (absent sample k word items above) ∙ sym before ∙ ap (inserted sample word) same
+
+-- Parts that are made one behind the other.
+module _ (c : Scope) (indices : Indices) (parts : List TypedExpr) (whole : flat.Parts) where
+  pub flats_more : (flats new : List FlatExpr) (y : FlatExpr) (i : ℕ) (x : TypedExpr) → i < length parts → x ≡ get_or parts i x → flat.view_expr y ≡ flat_of c indices (typed.view_expr x) → new ≡ flats ++ y ∷ []
+      → parts_after (map flat.view_expr flats) (flat_parts c indices (typed_exprs (drop i parts))) ≡ whole → parts_after (map flat.view_expr new) (flat_parts c indices (typed_exprs (drop (i + 1) parts))) ≡ whole
+  flats_more flats new y i x less is made more so_far =
+      let rest = flat_parts c indices (typed_exprs (drop (i + 1) parts)) in
+      ap (λ (ys : List flat.Expr). parts_after ys rest) (ap (map flat.view_expr) more ∙ map-append flat.view_expr flats (y ∷ []))
+      ∙ parts_more (map flat.view_expr flats) (flat.view_expr y) rest
+      ∙ ap (λ (z : flat.Expr). parts_after (map flat.view_expr flats) (flat.part z rest)) made
+      ∙ sym (ap (λ (xs : List TypedExpr). parts_after (map flat.view_expr flats) (flat_parts c indices (typed_exprs xs))) (drop_item parts i x less is)) ∙ so_far
+
+  pub flats_end : (flats : List FlatExpr) (i : ℕ) → length parts ≤ i → parts_after (map flat.view_expr flats) (flat_parts c indices (typed_exprs (drop i parts))) ≡ whole → view_exprs flats ≡ whole
+  flats_end flats i past so_far =
+      sym (parts_end (map flat.view_expr flats))
+      ∙ sym (ap (λ (xs : List TypedExpr). parts_after (map flat.view_expr flats) (flat_parts c indices (typed_exprs xs))) (drop_end parts i past)) ∙ so_far
+
+-- Items one behind the other.
+pub items_more : (c : Scope) (indices : Indices) (items : List TypedItem) (i : ℕ) (x : TypedItem) (old new : List FlatElem) (whole : List flat.Element) → i < length items → x ≡ get_or items i x
+    → Puts (item_facts c indices (typed.view_item x)) old new → with_facts (items_facts c indices (typed.view_items (drop i items))) (view_elems old) ≡ whole
+    → with_facts (items_facts c indices (typed.view_items (drop (i + 1) items))) (view_elems new) ≡ whole
+items_more c indices items i x old new whole less is puts so_far =
+    let rest = items_facts c indices (typed.view_items (drop (i + 1) items)) in
+    ap (with_facts rest) puts ∙ sym (facts-append (item_facts c indices (typed.view_item x)) rest (view_elems old))
+    ∙ sym (ap (λ (ys : List TypedItem). with_facts (items_facts c indices (typed.view_items ys)) (view_elems old)) (drop_item items i x less is)) ∙ so_far
+
+pub items_end : (c : Scope) (indices : Indices) (items : List TypedItem) (i : ℕ) (elems : List FlatElem) (whole : List flat.Element) → length items ≤ i → with_facts (items_facts c indices (typed.view_items (drop i items))) (view_elems elems) ≡ whole → view_elems elems ≡ whole
+items_end c indices items i elems whole past so_far =
+    sym (ap (λ (ys : List TypedItem). with_facts (items_facts c indices (typed.view_items ys)) (view_elems elems)) (drop_end items i past)) ∙ so_far
+
+-- Instances one behind the other.
+pub instances_more : (tables : List TypedConst) (bodies : List Body) (all : List Instance) (firsts : List ℕ) (is : List Instance) (n : ℕ) (x : Instance) (old new : List FlatElem) (whole : List flat.Element) → n < length is → x ≡ get_or is n x
+    → Puts (facts_in tables bodies all firsts n (body_of bodies x.func)) old new → with_facts (facts_from tables bodies all firsts n (drop n is)) (view_elems old) ≡ whole
+    → with_facts (facts_from tables bodies all firsts (n + 1) (drop (n + 1) is)) (view_elems new) ≡ whole
+instances_more tables bodies all firsts is n x old new whole less at puts so_far =
+    let rest = facts_from tables bodies all firsts (n + 1) (drop (n + 1) is) in
+    ap (with_facts rest) puts ∙ sym (facts-append (facts_in tables bodies all firsts n (body_of bodies x.func)) rest (view_elems old))
+    ∙ sym (ap (λ (ys : List Instance). with_facts (facts_from tables bodies all firsts n ys) (view_elems old)) (drop_item is n x less at)) ∙ so_far

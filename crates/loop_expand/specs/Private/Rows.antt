@@ -1,0 +1,21 @@
+-- The parts of an operation as lists.
+use Rattle.std.specs.Prelude.{List, [], ◌∷◌, map}
+use Rattle.fix_types.specs.TypedTree as typed
+use Rattle.fix_types.specs.declared.typed.TypedExpr.{TypedExpr}
+use Rattle.signal_graph.specs.declared.flat.FlatExpr.{FlatExpr}
+use Rattle.signal_graph.specs.Flat.{Expr, Parts, no_part, part, view_expr}
+
+abbrev pub parts_of : List Expr → Parts
+parts_of [] = no_part
+parts_of (x ∷ xs) = part x (parts_of xs)
+
+abbrev pub view_exprs : List FlatExpr → Parts
+view_exprs xs = parts_of (map view_expr xs)
+
+abbrev pub typed_exprs : List TypedExpr → typed.Parts
+typed_exprs xs = typed.parts_of (map typed.view_expr xs)
+
+-- parts behind others
+abbrev pub parts_after : List Expr → Parts → Parts
+parts_after [] rest = rest
+parts_after (x ∷ xs) rest = part x (parts_after xs rest)

@@ -1,0 +1,109 @@
+//! Expressions, with reads, shifts and delays worked out in the turns of the loops around them.
+
+ghost use Rattle.std.specs.Prelude.{◌≡◌, map, IfOk};
+ghost use Rattle.silage_syntax.specs.Tree.{view_place, view_delay};
+ghost use Rattle.fix_types.specs.TypedTree as typed;
+ghost use Rattle.signal_graph.specs.Flat.{view_expr, calculation};
+ghost use Rattle.loop_expand.specs.Private.Scopes.{view_scope};
+ghost use Rattle.loop_expand.specs.Private.Facts as is;
+ghost use Rattle.loop_expand.specs.Private.Rows.{parts_of, view_exprs, typed_exprs};
+
+use crate::amounts::{delay, format, offset, sum};
+use crate::lookups::{signal, table};
+use crate::scope::Scope;
+use fix_types::{TypedConst, TypedExpr};
+use fix_word::{Format, Op};
+use name_check::Env;
+use signal_graph::FlatExpr;
+use silage_syntax::{Manifest, Place};
+use std::alloc::AllocError;
+
+/// The number of the element that a place names, if it is one of a signal.
+pub(crate) fn number_at(scope: &Scope, env: &Env, place: &Place) -> Result<Option<u32>, AllocError>
+    ensures { IfOk result (λ n. n ≡ is.number_at (view_scope scope.now) env.now (view_place place.now)) }
+{
+    match signal(scope.signals, &place.name) {
+        None => Ok(None),
+        Some(signal) => {
+            let first = sum(scope.first, signal.first)?;
+            let offset = offset(env, &signal.decl.dims, &place.subs)?;
+            Ok(Some(sum(first, offset)?))
+        }
+    }
+}
+
+/// A number of a table.
+pub(crate) fn word_at(table: &TypedConst, k: u32) -> i64
+    ensures { result ≡ is.word_at table.now k }
+{
+    match table.words.get(k as usize) {
+        Some(word) => *word,
+        None => 0,
+    }
+}
+
+/// The number of a table that a place names.
+fn entry_at(scope: &Scope, env: &Env, place: &Place) -> Result<i64, AllocError>
+    ensures { IfOk result (λ word. word ≡ is.entry_at (view_scope scope.now) env.now (view_place place.now)) }
+{
+    match table(scope.tables, &place.name) {
+        None => Ok(0),
+        Some(table) => Ok(word_at(table, offset(env, &table.dims, &place.subs)?)),
+    }
+}
+
+/// A read of a signal, or a number of a table.
+fn read(
+    scope: &Scope,
+    env: &Env,
+    place: &Place,
+    ago: &Option<Manifest>,
+) -> Result<FlatExpr, AllocError>
+    ensures { IfOk result (λ x. view_expr x
+        ≡ is.flat_of (view_scope scope.now) env.now (typed.read (view_place place.now) (view_delay ago.now))) }
+{
+    match number_at(scope, env, place)? {
+        Some(elem) => Ok(FlatExpr::Read {
+            elem,
+            delay: delay(env, ago)?,
+        }),
+        None => Ok(FlatExpr::Raw(entry_at(scope, env, place)?)),
+    }
+}
+
+fn calculation(op: Op, fmt: Format, parts: Vec<FlatExpr>) -> FlatExpr
+    ensures { view_expr result ≡ calculation op fmt (view_exprs parts.items) }
+{
+    FlatExpr::Node { op, fmt, parts }
+}
+
+#[cycle(exprs)]
+pub(crate) fn flat(scope: &Scope, env: &Env, x: &TypedExpr) -> Result<FlatExpr, AllocError>
+    ensures { IfOk result (λ y. view_expr y ≡ is.flat_of (view_scope scope.now) env.now (typed.view_expr x.now)) }
+{
+    match x {
+        TypedExpr::Raw(word) => Ok(FlatExpr::Raw(*word)),
+        TypedExpr::Read { place, delay } => read(scope, env, place, delay),
+        TypedExpr::Node {
+            op,
+            fmt,
+            parts,
+            amount,
+        } => {
+            let fmt = format(env, *fmt, amount)?;
+            Ok(calculation(*op, fmt, flat_parts(scope, env, parts)?))
+        }
+    }
+}
+
+#[cycle(exprs)]
+fn flat_parts(scope: &Scope, env: &Env, parts: &[TypedExpr]) -> Result<Vec<FlatExpr>, AllocError>
+    ensures { IfOk result (λ ys. view_exprs ys.items
+        ≡ is.flat_parts (view_scope scope.now) env.now (typed_exprs parts.now)) }
+{
+    let mut flats = Vec::with_capacity(scope.alloc, parts.len())?;
+    for part in parts {
+        flats.push(flat(scope, env, part)?)?;
+    }
+    Ok(flats)
+}
