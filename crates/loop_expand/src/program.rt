@@ -8,6 +8,7 @@ ghost use Rattle.silage_meaning.specs.Solves.{IsStream};
 ghost use Rattle.single_def.specs.ElementRules.{elements_of};
 ghost use Rattle.fix_types.specs.TypedTree.{view_func, view_typed};
 ghost use Rattle.signal_graph.specs.Flat.{view};
+ghost use Rattle.signal_graph.specs.FlatRules.{IsFlat};
 ghost use Rattle.signal_graph.specs.FlatSolves.{IsFlatLoopless};
 ghost use Rattle.loop_expand.specs.Expanded.{AreOf, AreOfOneProgram};
 ghost use Rattle.loop_expand.specs.FlatOf.{IsFlatOf};
@@ -139,6 +140,7 @@ pub fn expand(alloc: Global, typed: &Typed, elements: &Elements) -> Result<FlatP
         → IsStream p stream → KeepsSolutions p elements.now (view f) stream) }
     ensures loops { IfOk result (λ f. (p : Program) → AreOf p typed.now elements.now
         → HasNoDelaylessLoop p ↔ IsFlatLoopless (view f)) }
+    ensures sound { IfOk result (λ f. IsFlat (view f)) }
 {
     Ok(flat_program(alloc, typed, &elements.instances)?)
 }

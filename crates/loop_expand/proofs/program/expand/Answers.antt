@@ -13,6 +13,7 @@ use Rattle.loop_expand.specs.Private.Expansions.{flat_by}
 use Rattle.loop_expand.proofs.Expanded.{expanded_keeps}
 use Rattle.loop_expand.proofs.FlatMade.{is_flat_of}
 use Rattle.loop_expand.proofs.InstanceNumbers.{apart_instances}
+use Rattle.loop_expand.proofs.SmallFlat.{flat_is_sound}
 use Rattle.loop_expand.proofs.SoundFlat.{flat_loopless}
 use Rattle.loop_expand.proofs.program.expand.Goals as goal
 
@@ -35,4 +36,10 @@ returns-clause-keeps c = λ p stream of rows.
 pub returns-clause-loops : goal.returns-clause-loops
 returns-clause-loops c = λ p of.
     flat_loopless p of.checked c.args.elements.now of.elements (flat.view c.in_ok-flat_program.field-0)
+    (flat_of p c.args.typed.now c.args.elements.now of c.deref.result.now (flat.view c.in_ok-flat_program.field-0) c.deref.ensures c.in_ok-flat_program.ensures)
+
+pub returns-clause-sound : goal.returns-clause-sound
+returns-clause-sound c =
+    let (p, of) = c.requires in
+    flat_is_sound p of.checked c.args.elements.now of.elements (flat.view c.in_ok-flat_program.field-0)
     (flat_of p c.args.typed.now c.args.elements.now of c.deref.result.now (flat.view c.in_ok-flat_program.field-0) c.deref.ensures c.in_ok-flat_program.ensures)
