@@ -34,3 +34,4 @@ pub mod SingleDefinitions
 pub mod DefAnswers
 pub mod MainTops
 pub mod Examples
+pub mod SubscriptPlaces

@@ -3,4 +3,5 @@ pub mod ElementRules
 pub mod ElementFaults
 pub mod Expansion
 pub mod Numbering
+pub mod Subscripts
 pub mod Private

@@ -21,6 +21,7 @@ mod numbers;
 mod plan;
 mod scope;
 mod sizes;
+mod subscripts;
 mod weights;
 mod words;
 
@@ -46,6 +47,7 @@ use instances::{Inside, enter};
 use name_check::Names;
 use silage_syntax::Program;
 use std::alloc::Global;
+pub use subscripts::{Subscripts, subscripts_at};
 use words::check_words;
 
 /// The most instances of which each is inside the one before: an instance is inside 64 calls at most.
