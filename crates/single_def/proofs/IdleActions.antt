@@ -1,64 +1,94 @@
--- Actions that do nothing in a turn may be left out.
-use Rattle.std.proofs.Common.{◌≡◌, ◌∙◌, ◌+ℤ◌, ℕ, ℤ, pos, List, [], ◌∷◌, ◌++◌, Option, Some, None, true, Result, Ok, Err, refl, sym, ap, int_lt, map, take, length, slice_index_or, ◌<◌, ◌≤ℤ◌, ◌+◌, ◌-◌, subst, arith}
+-- What is done of actions in a turn: those that do nothing may be left out, and of a loop those that do nothing in its turns.
+use Rattle.std.proofs.Common.{◌≡◌, ◌∙◌, ◌+ℤ◌, ℕ, zero, suc, ℤ, pos, List, [], ◌∷◌, ◌++◌, Result, Ok, Err, refl, sym, ap, map, take, length, slice_index_or, ◌<◌, ◌≤◌, ◌≤ℤ◌, ◌+◌, ◌-◌, subst, arith}
+use Rattle.std.specs.List.{range_with_len}
 use Rattle.std.proofs.lemmas.List.{take_more}
 use Rattle.single_def.specs.ElementRules.{count_up}
-use Rattle.single_def.specs.Private.Numbers.{number_value}
-use Rattle.single_def.specs.Private.Actions.{Action, Actions, check, define, define_all, preset, count, enter, repeat, actions_of, Found, State, ◌>>=◌, count_in, in_found, value_or, run_action, run_actions, run_turn, run_turns}
-use Rattle.single_def.specs.Private.Blocks.{has_none, idle_action, DoSame, IsBlock}
+use Rattle.single_def.specs.Private.Actions.{Action, repeat, actions_of, Found, State, ◌>>=◌, for_each, count_in, in_found, run_action, run_actions, run_turn, run_turns}
+use Rattle.single_def.specs.Private.Ahead.{DoSame, IsAmong, Reaches}
+use Rattle.single_def.specs.Private.Blocks.{IsBlock}
 use Rattle.single_def.specs.declared.actions.Bound.{Bound}
 use Rattle.single_def.specs.declared.fault.DefFault.{DefFault}
 
-none_up : (first last : ℤ) → int_lt last first ≡ true → count_up first last ≡ 0
-none_up first last e = grind arith
+abbrev Inside : Type 0
+Inside = (func at : ℕ) → List ℤ → Found → Result Found DefFault
 
-module _ (inside : (func at : ℕ) → List ℤ → Found → Result Found DefFault) (turns : List ℤ) where
-  no_turns : (first last : ℤ) (actions : Actions) (at : ℕ) (s : State) → int_lt last first ≡ true → run_turns inside turns actions at first last s ≡ Ok s
-  no_turns first last actions at s e = rw (none_up first last e) refl
+then_ok : (r : Result State DefFault) → r >>= (λ s. Ok s) ≡ r
+then_ok (Ok s) = refl
+then_ok (Err e) = refl
 
-  by_bounds : (lo hi : Bound) (actions : Actions) (at : ℕ) (s : State) (first last : Option ℤ) → has_none first last ≡ true
-      → (value_or lo.at first >>= λ f. value_or hi.at last >>= λ l. run_turns inside turns actions at f l s) ≡ Ok s
-  by_bounds lo hi actions at s (Some first) (Some last) e = no_turns first last actions at s e
-  by_bounds lo hi actions at s (Some first) None e = absurd (cc)
-  by_bounds lo hi actions at s None last e = absurd (cc)
+then_then : (r : Result State DefFault) (f g : State → Result State DefFault) → (r >>= f) >>= g ≡ r >>= (λ s. f s >>= g)
+then_then (Ok s) f g = refl
+then_then (Err e) f g = refl
 
-  idle : (x : Action) → idle_action turns x ≡ true → (s : State) → run_action inside turns x s ≡ Ok s
-  idle (repeat lo hi actions at) e s = by_bounds lo hi actions at s (number_value turns lo.number) (number_value turns hi.number) e
-  idle (check c) e s = absurd (cc)
-  idle (define first subs at) e s = absurd (cc)
-  idle (define_all first n at) e s = absurd (cc)
-  idle (preset first subs sample at) e s = absurd (cc)
-  idle (count load at) e s = absurd (cc)
-  idle (enter func at) e s = absurd (cc)
+then_same : (r : Result State DefFault) (f g : State → Result State DefFault) → ((s : State) → f s ≡ g s) → r >>= f ≡ r >>= g
+then_same (Ok s) f g e = e s
+then_same (Err e) f g h = refl
 
-  then_ok : (r : Result State DefFault) → r >>= (λ s. Ok s) ≡ r
-  then_ok (Ok s) = refl
-  then_ok (Err e) = refl
-
-  then_then : (r : Result State DefFault) (f g : State → Result State DefFault) → (r >>= f) >>= g ≡ r >>= (λ s. f s >>= g)
-  then_then (Ok s) f g = refl
-  then_then (Err e) f g = refl
-
-  then_same : (r : Result State DefFault) (f g : State → Result State DefFault) → ((s : State) → f s ≡ g s) → r >>= f ≡ r >>= g
-  then_same (Ok s) f g e = e s
-  then_same (Err e) f g h = refl
-
-  -- one more action, behind the others
-  one_more : (xs : List Action) (x : Action) (s : State) → run_actions inside turns (actions_of (xs ++ x ∷ [])) s ≡ run_actions inside turns (actions_of xs) s >>= run_action inside turns x
-  one_more [] x s = then_ok (run_action inside turns x s)
-  one_more (y ∷ xs) x s =
-      then_same (run_action inside turns y s) _ _ (one_more xs x)
-      ∙ sym (then_then (run_action inside turns y s) (run_actions inside turns (actions_of xs)) (run_action inside turns x))
+-- one more action, behind the others
+one_more : (inside : Inside) (turns : List ℤ) (xs : List Action) (x : Action) (s : State)
+    → run_actions inside turns (actions_of (xs ++ x ∷ [])) s ≡ run_actions inside turns (actions_of xs) s >>= run_action inside turns x
+one_more inside turns [] x s = then_ok (run_action inside turns x s)
+one_more inside turns (y ∷ xs) x s =
+    then_same (run_action inside turns y s) _ _ (one_more inside turns xs x)
+    ∙ sym (then_then (run_action inside turns y s) (run_actions inside turns (actions_of xs)) (run_action inside turns x))
 
 module _ (turns : List ℤ) (kept some : List Action) (same : DoSame turns kept some) (x : Action) where
-  pub kept_too : DoSame turns (kept ++ x ∷ []) (some ++ x ∷ [])
-  kept_too inside s = one_more inside turns kept x s ∙ ap (λ r. r >>= run_action inside turns x) (same inside s) ∙ sym (one_more inside turns some x s)
+  pub kept_too : (y : Action) → ((inside : (func at : ℕ) → List ℤ → Found → Result Found DefFault) (s : State) → run_action inside turns y s ≡ run_action inside turns x s)
+      → DoSame turns (kept ++ y ∷ []) (some ++ x ∷ [])
+  kept_too y e inside s =
+      one_more inside turns kept y s ∙ then_same (run_actions inside turns (actions_of kept) s) _ _ (e inside)
+      ∙ ap (λ r. r >>= run_action inside turns x) (same inside s) ∙ sym (one_more inside turns some x s)
 
-  pub left_out : idle_action turns x ≡ true → DoSame turns kept (some ++ x ∷ [])
+  pub left_out : ((inside : (func at : ℕ) → List ℤ → Found → Result Found DefFault) (s : State) → run_action inside turns x s ≡ Ok s) → DoSame turns kept (some ++ x ∷ [])
   left_out e inside s =
       same inside s
       ∙ sym (one_more inside turns some x s
-      ∙ then_same inside turns (run_actions inside turns (actions_of some) s) _ _ (idle inside turns x e)
-      ∙ then_ok inside turns (run_actions inside turns (actions_of some) s))
+      ∙ then_same (run_actions inside turns (actions_of some) s) _ _ (e inside)
+      ∙ then_ok (run_actions inside turns (actions_of some) s))
+
+within : (first last : ℤ) (k : ℕ) → k < count_up first last → (first +ℤ pos k) ≤ℤ last
+within first last k less = grind arith
+
+-- a loop with the ones does what it does with all, if each of its turns does
+module _ (inside : Inside) (turns : List ℤ) (at : ℕ) (first last : ℤ) (kept all : List Action)
+    (same : (j : ℕ) → (first +ℤ pos j) ≤ℤ last → DoSame (turns ++ (first +ℤ pos j) ∷ []) kept all) where
+  abbrev turn : List Action → ℕ → State → Result State DefFault
+  turn xs k = run_turn inside turns (actions_of xs) at (first +ℤ pos k)
+
+  each_same : (n a : ℕ) → a + n ≤ count_up first last → (s : State) → for_each (turn kept) (range_with_len a n) s ≡ for_each (turn all) (range_with_len a n) s
+  each_same zero a le s = refl
+  each_same (suc n) a le s =
+      ap (λ r. r >>= for_each (turn kept) (range_with_len (a + 1) n))
+      (then_same (in_found s (count_in 1 at)) _ _ (same a (within first last a (omega arith)) inside))
+      ∙ then_same (turn all a s) _ _ (each_same n (a + 1) (omega arith))
+
+  turns_same : (s : State) → run_turns inside turns (actions_of kept) at first last s ≡ run_turns inside turns (actions_of all) at first last s
+  turns_same s = each_same (count_up first last) 0 (omega arith) s
+
+module _ (outer : List ℤ) (count : ℕ) (groups : List (List (List ℤ))) (lo hi : Bound) (at : ℕ) (turns : List ℤ) (reached : Reaches outer count groups lo.number hi.number turns) where
+  pub loop_same : (kept all : List Action) → ((ts : List ℤ) → IsAmong outer count groups ts → DoSame ts kept all)
+      → (inside : (func at : ℕ) → List ℤ → Found → Result Found DefFault) (s : State)
+      → run_action inside turns (repeat lo hi (actions_of kept) at) s ≡ run_action inside turns (repeat lo hi (actions_of all) at) s
+  loop_same kept all same inside s =
+      let (first, last, from, to, each) = reached in
+      rw (from, to) (turns_same inside turns at first last kept all (λ j inside. same _ (each j inside)) s)
+
+  no_turns : (n : ℕ) (inside : Inside) (all : List Action) (first : ℤ) (s : State) → n ≡ 0 → for_each (λ k. run_turn inside turns (actions_of all) at (first +ℤ pos k)) (range_with_len 0 n) s ≡ Ok s
+  no_turns zero inside all first s e = refl
+  no_turns (suc n) inside all first s e = absurd (omega arith)
+
+  pub loop_idle : (all : List Action) → length groups ≡ 0 → (inside : (func at : ℕ) → List ℤ → Found → Result Found DefFault) (s : State)
+      → run_action inside turns (repeat lo hi (actions_of all) at) s ≡ Ok s
+  loop_idle all empty inside s =
+      let (first, last, from, to, each) = reached in
+      rw (from, to) (no_turns (count_up first last) inside all first s (none first last each))
+    where
+      none : (first last : ℤ) → ((j : ℕ) → (first +ℤ pos j) ≤ℤ last → IsAmong outer count groups (turns ++ (first +ℤ pos j) ∷ [])) → count_up first last ≡ 0
+      none first last each = by (count_up first last) refl
+        where
+          by : (n : ℕ) → count_up first last ≡ n → count_up first last ≡ 0
+          by zero e = e
+          by (suc n) e = let (i, k, less, lt, is) = each 0 (within first last 0 (omega arith)) in absurd (omega (arith, less, empty))
 
 module _ {A B : Type 0} (f : A → B) where
   pub mapped_more : (xs : List A) (x : A) → map f (xs ++ x ∷ []) ≡ map f xs ++ f x ∷ []
@@ -75,15 +105,12 @@ later outer first last turn k until kept all is h j from before inside =
     let same : turn +ℤ pos (j - k) ≡ first +ℤ pos j = grind arith in
     subst (λ (z : ℤ). DoSame (outer ++ z ∷ []) kept all) same (h (j - k) (omega arith) (subst (λ (z : ℤ). z ≤ℤ last) (sym same) inside))
 
-within : (first last : ℤ) (k : ℕ) → k < count_up first last → (first +ℤ pos k) ≤ℤ last
-within first last k less = grind arith
-
 -- a turn with the ones is the turn with all
 pub turn_same : (inside : (func at : ℕ) → List ℤ → Found → Result Found DefFault) (outer : List ℤ) (at : ℕ) (first last turn : ℤ) (k until : ℕ) (kept all : List Action)
     → turn ≡ first +ℤ pos k → IsBlock outer first last k until kept all → k < until → k < count_up first last
     → (s : State) → run_turn inside outer (actions_of all) at (first +ℤ pos k) s ≡ run_turn inside outer (actions_of kept) at turn s
 turn_same inside outer at first last turn k until kept all is block more less s =
-    sym (then_same inside outer (in_found s (count_in 1 at)) _ _ (block k (omega arith) more (within first last k less) inside))
+    sym (then_same (in_found s (count_in 1 at)) _ _ (block k (omega arith) more (within first last k less) inside))
     ∙ ap (λ z. run_turn inside outer (actions_of kept) at z s) (sym is)
 
 pub block_after : (outer : List ℤ) (first last : ℤ) (k until : ℕ) (kept all : List Action) → IsBlock outer first last k until kept all → IsBlock outer first last (k + 1) until kept all

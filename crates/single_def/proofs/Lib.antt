@@ -2,6 +2,9 @@ pub mod Each
 pub mod Stacks
 pub mod LaneValues
 pub mod IdleActions
+pub mod Groups
+pub mod PartRows
+pub mod AheadParts
 pub mod ActionRows
 pub mod TreeRows
 pub mod Callees

@@ -1,6 +1,8 @@
 pub mod Numbers
 pub mod Lanes
 pub mod Actions
+pub mod Parts
+pub mod Ahead
 pub mod Blocks
 pub mod States
 pub mod Plans

@@ -1,22 +1,25 @@
-//! Which actions do something in several turns of a loop.
-//!
-//! A loop without turns adds nothing to the load, so very many of them may be inside thousands of turns.
+//! What is done of actions in several turns of a loop, one after another.
 
-ghost use Rattle.std.specs.Prelude.{◌≡◌, ◌+◌, ◌<◌, ◌≤◌, ◌^◌, ◌+ℤ◌, ◌≤ℤ◌, ℕ, pos, [], ◌∷◌, ◌++◌, map, true, int_lt, IsTrue, IfOk};
+ghost use Rattle.std.specs.Prelude.{◌≡◌, ◌+◌, ◌<◌, ◌≤◌, ◌^◌, ◌+ℤ◌, ◌≤ℤ◌, ℕ, pos, [], ◌∷◌, ◌++◌, map, IfOk};
 ghost use Rattle.single_def.specs.Private.Actions.{view_action};
-ghost use Rattle.single_def.specs.Private.Lanes.{at, turns_at};
-ghost use Rattle.single_def.specs.Private.Blocks.{seen, idle_action, DoSame, IsBlock};
+ghost use Rattle.single_def.specs.Private.Lanes.{at};
+ghost use Rattle.single_def.specs.Private.Parts.{seen};
+ghost use Rattle.single_def.specs.Private.Ahead.{DoSame};
+ghost use Rattle.single_def.specs.Private.Blocks.{IsBlock};
 
 use crate::actions::Action;
-use crate::lanes::{LANES, Lanes, Row, number_row};
+use crate::ahead::{Turns, busy, turn_after};
+use crate::lanes::{LANES, Row};
+use crate::parts::{Part, all};
+use lists::List;
 use std::alloc::{AllocError, Global};
 
-/// Turns of a loop, and the actions that do something in them.
+/// Turns of a loop, and what is done in them.
 #[derive(Drop)]
 pub(crate) struct Block<'a> {
     /// The first turn after them, counted from 0.
     pub until: u64,
-    pub actions: Vec<&'a Action>,
+    pub parts: Vec<Part<'a>>,
 }
 
 impl<'a> Block<'a> {
@@ -26,90 +29,13 @@ impl<'a> Block<'a> {
     {
         Block {
             until: 0,
-            actions: Vec::new(alloc),
+            parts: Vec::new(alloc),
         }
     }
 }
 
-/// Fewer turns are not worked out at once.
+/// Fewer turns are not looked at before.
 const FEW: usize = 2;
-
-/// Whether the left number is below the right one in each turn.
-fn is_below(count: usize, left: &Row, right: &Row) -> bool
-    requires { count ≤ 16 }
-    ensures { IsTrue result → (k : ℕ) → k < count → int_lt (at left.now k) (at right.now k) ≡ true }
-{
-    for k in 0..count {
-        if left[k] >= right[k] {
-            return false;
-        }
-    }
-    true
-}
-
-/// Whether an action is a loop that has no turn in any of these turns.
-fn is_idle(lanes: Lanes, action: &Action, stack: &mut Vec<Row>) -> Result<bool, AllocError>
-    requires { lanes.count ≤ 16 }
-    ensures { IfOk result (λ idle. IsTrue idle → (k : ℕ) → k < lanes.entry.count
-        → idle_action (turns_at lanes.entry k) (view_action action.now) ≡ true) }
-{
-    let (lo, hi) = match action {
-        Action::Repeat { lo, hi, .. } => (&lo.number, &hi.number),
-        _ => return Ok(false),
-    };
-    let first = match number_row(lanes, lo, stack)? {
-        None => return Ok(false),
-        Some(row) => row,
-    };
-    match number_row(lanes, hi, stack)? {
-        None => Ok(false),
-        Some(last) => Ok(is_below(lanes.count, &last, &first)),
-    }
-}
-
-/// The actions but for loops that have no turn in any of these turns.
-fn busy<'a>(
-    alloc: Global,
-    lanes: Lanes,
-    actions: &'a [Action],
-    stack: &mut Vec<Row>,
-) -> Result<Vec<&'a Action>, AllocError>
-    requires { lanes.count ≤ 16 }
-    ensures { IfOk result (λ kept. (k : ℕ) → k < lanes.entry.count
-        → DoSame (turns_at lanes.entry k) (seen kept) (map view_action actions.now)) }
-{
-    let mut kept = Vec::new(alloc);
-    for action in actions {
-        if !is_idle(lanes, action, stack)? {
-            kept.push(action)?;
-        }
-    }
-    Ok(kept)
-}
-
-/// All of the actions.
-pub(crate) fn all<'a>(alloc: Global, actions: &'a [Action]) -> Result<Vec<&'a Action>, AllocError>
-    ensures { IfOk result (λ all. seen all ≡ map view_action actions.now) }
-{
-    let mut all = Vec::with_capacity(alloc, actions.len())?;
-    for action in actions {
-        all.push(action)?;
-    }
-    Ok(all)
-}
-
-/// The index of the turn so many turns later, or the last one.
-fn turn_after(turn: i32, k: usize, last: i32) -> i32
-    requires { k < 16 }
-    ensures { (turn +ℤ pos k) ≤ℤ last → result ≡ turn +ℤ pos k }
-{
-    let index = i64::from(turn) + k as i64;
-    if index <= i64::from(last) {
-        index as i32
-    } else {
-        last
-    }
-}
 
 /// The indices of turns one after another.
 fn index_row(turn: i32, last: i32) -> Row
@@ -154,7 +80,7 @@ fn block_from<'a>(
     requires { k < 2 ^ 33 }
     ensures more { IfOk result (λ block. k < block.until) }
     ensures same { IfOk result (λ block. (j : ℕ) → k + j < block.until → (turn +ℤ pos j) ≤ℤ last
-        → DoSame (outer.now ++ (turn +ℤ pos j) ∷ []) (seen block.actions)
+        → DoSame (outer.now ++ (turn +ℤ pos j) ∷ []) (seen block.parts)
         (map view_action actions.now)) }
 {
     let until = k + LANES as u64;
@@ -162,17 +88,18 @@ fn block_from<'a>(
     if count < FEW {
         return Ok(Block {
             until,
-            actions: all(alloc, actions)?,
+            parts: all(alloc, actions)?,
         });
     }
-    let lanes = Lanes {
+    let group = List::from_slice(alloc, &[index_row(turn, last)])?;
+    let turns = Turns {
         outer,
-        indices: &index_row(turn, last),
+        groups: &[group],
         count,
     };
     Ok(Block {
         until,
-        actions: busy(alloc, lanes, actions, stack)?,
+        parts: busy(alloc, turns, actions, stack)?,
     })
 }
 
@@ -188,9 +115,9 @@ pub(crate) fn block_at<'a>(
     stack: &mut Vec<Row>,
 ) -> Result<Block<'a>, AllocError>
     requires inside { (first +ℤ pos k) ≤ℤ last }
-    requires block { IsBlock outer.now first last k block.until (seen block.actions) (map view_action actions.now) }
+    requires block { IsBlock outer.now first last k block.until (seen block.parts) (map view_action actions.now) }
     ensures more { IfOk result (λ next. k < next.until) }
-    ensures block { IfOk result (λ next. IsBlock outer.now first last k next.until (seen next.actions)
+    ensures block { IfOk result (λ next. IsBlock outer.now first last k next.until (seen next.parts)
         (map view_action actions.now)) }
 {
     if k < block.until {

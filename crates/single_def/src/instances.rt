@@ -5,13 +5,15 @@ ghost use Rattle.single_def.specs.ElementRules as rules;
 ghost use Rattle.single_def.specs.ElementRules.{count_up};
 ghost use Rattle.single_def.specs.Private.Actions as run;
 ghost use Rattle.single_def.specs.Private.Actions.{Gives, actions_of, view_action, view_actions, view_body, run_instance};
+ghost use Rattle.single_def.specs.Private.Parts.{view_part};
 ghost use Rattle.single_def.specs.Private.States.{found_of, state_of, made_in};
 
 use crate::actions::{Action, Body, Bound};
-use crate::blocks::{Block, all, block_at, turn_at};
+use crate::blocks::{Block, block_at, turn_at};
 use crate::checks::{bound, place, run_check};
 use crate::found::{Found, count, enter_instance};
 use crate::known::{Known, check_all_defined, define_all, define_place, preset_place};
+use crate::parts::{Part, all};
 use crate::{DefFault, Instance};
 use lists::List;
 use std::alloc::{AllocError, Global};
@@ -109,39 +111,60 @@ fn run_action(
     }
 }
 
+/// What is done of an action.
 #[cycle(instances)]
-fn run_actions(
+fn run_part(
     inside: Inside,
     depth: u32,
     turns: &[i32],
-    actions: &[&Action],
+    part: &Part,
     known: &mut Known,
     found: &mut Found,
 ) -> Result<(), DefFault>
     ensures { Gives (state_of known.new found.new) result
-        (run.run_actions (made_in inside.entry) turns.now (actions_of (map (λ a. view_action a.now) actions.now))
+        (run.run_action (made_in inside.entry) turns.now (view_part part.now) (state_of known.old found.old)) }
+{
+    match part {
+        Part::Whole(action) => run_action(inside, depth, turns, action, known, found),
+        Part::Loop { lo, hi, parts, at } => {
+            run_part_loop(inside, depth, turns, lo, hi, parts, *at, known, found)
+        }
+    }
+}
+
+#[cycle(instances)]
+fn run_parts(
+    inside: Inside,
+    depth: u32,
+    turns: &[i32],
+    parts: &[Part],
+    known: &mut Known,
+    found: &mut Found,
+) -> Result<(), DefFault>
+    ensures { Gives (state_of known.new found.new) result
+        (run.run_actions (made_in inside.entry) turns.now (actions_of (map view_part parts.now))
         (state_of known.old found.old)) }
 {
-    for action in actions {
-        run_action(inside, depth, turns, action, known, found)?;
+    for part in parts {
+        run_part(inside, depth, turns, part, known, found)?;
     }
     Ok(())
 }
 
-/// Actions in one turn of a loop.
+/// What is done in one turn of a loop.
 #[cycle(instances)]
 fn run_turn(
     inside: Inside,
     depth: u32,
     outer: &[i32],
     turn: i32,
-    actions: &[&Action],
+    parts: &[Part],
     at: u32,
     known: &mut Known,
     found: &mut Found,
 ) -> Result<(), DefFault>
     ensures { Gives (state_of known.new found.new) result
-        (run.run_turn (made_in inside.entry) outer.now (actions_of (map (λ a. view_action a.now) actions.now)) at turn
+        (run.run_turn (made_in inside.entry) outer.now (actions_of (map view_part parts.now)) at turn
         (state_of known.old found.old)) }
 {
     if depth == 0 {
@@ -149,7 +172,52 @@ fn run_turn(
     }
     count(found, 1, at)?;
     let turns = with_turn(inside.alloc, outer, turn)?;
-    run_actions(inside, depth - 1, &turns, actions, known, found)
+    run_parts(inside, depth - 1, &turns, parts, known, found)
+}
+
+/// What is done in each turn of a loop with these bounds.
+#[cycle(instances)]
+fn run_part_turns(
+    inside: Inside,
+    depth: u32,
+    outer: &[i32],
+    first: i32,
+    last: i32,
+    parts: &[Part],
+    at: u32,
+    known: &mut Known,
+    found: &mut Found,
+) -> Result<(), DefFault>
+    ensures { Gives (state_of known.new found.new) result
+        (run.run_turns (made_in inside.entry) outer.now (actions_of (map view_part parts.now)) at first last
+        (state_of known.old found.old)) }
+{
+    for k in 0..turn_count(first, last) {
+        let turn = turn_at(first, last, k);
+        run_turn(inside, depth, outer, turn, parts, at, known, found)?;
+    }
+    Ok(())
+}
+
+#[cycle(instances)]
+fn run_part_loop(
+    inside: Inside,
+    depth: u32,
+    outer: &[i32],
+    lo: &Bound,
+    hi: &Bound,
+    parts: &[Part],
+    at: u32,
+    known: &mut Known,
+    found: &mut Found,
+) -> Result<(), DefFault>
+    ensures { Gives (state_of known.new found.new) result
+        (run.run_loop (made_in inside.entry) outer.now lo.now hi.now (actions_of (map view_part parts.now)) at
+        (state_of known.old found.old)) }
+{
+    let first = bound(lo, outer, &mut found.stack)?;
+    let last = bound(hi, outer, &mut found.stack)?;
+    run_part_turns(inside, depth, outer, first, last, parts, at, known, found)
 }
 
 /// Actions in each turn of a loop with these bounds.
@@ -182,7 +250,7 @@ fn run_turns(
             actions,
             &mut found.rows,
         )?;
-        run_turn(inside, depth, outer, turn, &block.actions, at, known, found)?;
+        run_turn(inside, depth, outer, turn, &block.parts, at, known, found)?;
     }
     Ok(())
 }
@@ -229,8 +297,8 @@ fn run_body(
         number,
     };
     let mut known = Known::at_first(inside.alloc, body.given, body.count)?;
-    let actions = all(inside.alloc, &body.actions)?;
-    run_actions(within, depth, &[], &actions, &mut known, found)?;
+    let parts = all(inside.alloc, &body.actions)?;
+    run_parts(within, depth, &[], &parts, &mut known, found)?;
     check_all_defined(&known, &body.signals)
 }
 

@@ -6,6 +6,7 @@
 #![tactic(auto)]
 
 mod actions;
+mod ahead;
 mod blocks;
 mod bodies;
 mod checks;
@@ -18,6 +19,7 @@ mod known;
 mod lanes;
 mod lookups;
 mod numbers;
+mod parts;
 mod plan;
 mod scope;
 mod sizes;

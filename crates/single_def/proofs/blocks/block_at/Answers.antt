@@ -3,14 +3,16 @@ use mir.Val.{SFits}
 use Rattle.std.proofs.lemmas.Int.{to_z-of_z}
 use Rattle.single_def.specs.declared.blocks.Block.{Block}
 use Rattle.single_def.specs.Private.Actions.{Action, view_action}
-use Rattle.single_def.specs.Private.Blocks.{seen, DoSame, IsBlock}
+use Rattle.single_def.specs.Private.Parts.{seen}
+use Rattle.single_def.specs.Private.Ahead.{DoSame}
+use Rattle.single_def.specs.Private.Blocks.{IsBlock}
 use Rattle.single_def.proofs.IdleActions.{later}
 use Rattle.single_def.proofs.blocks.block_at.Goals as goal
 
 later_ok : {E : Type 0} (outer : List ℤ) (first last turn : ℤ) (k : ℕ) (all : List Action) → turn ≡ first +ℤ pos k → (r : Result Block E)
-    → IfOk r (λ b. (j : ℕ) → k + j < b.until → (turn +ℤ pos j) ≤ℤ last → DoSame (outer ++ (turn +ℤ pos j) ∷ []) (seen b.actions) all)
-    → IfOk r (λ b. IsBlock outer first last k b.until (seen b.actions) all)
-later_ok outer first last turn k all is (Ok b) h = later outer first last turn k b.until (seen b.actions) all is h
+    → IfOk r (λ b. (j : ℕ) → k + j < b.until → (turn +ℤ pos j) ≤ℤ last → DoSame (outer ++ (turn +ℤ pos j) ∷ []) (seen b.parts) all)
+    → IfOk r (λ b. IsBlock outer first last k b.until (seen b.parts) all)
+later_ok outer first last turn k all is (Ok b) h = later outer first last turn k b.until (seen b.parts) all is h
 later_ok outer first last turn k all is (Err e) h = tt
 
 pub returns-clause-block : goal.returns-clause-block

@@ -1,8 +1,9 @@
-use Rattle.std.proofs.Common.{◌∙◌, ◌+ℤ◌, ◌-◌, [], pos, arith, rules, w32, sym, ap, subst, map, List, Bor, Result, ◌<◌}
+use Rattle.std.proofs.Common.{◌∙◌, ◌+ℤ◌, ◌-◌, [], pos, arith, rules, w32, sym, ap, subst, map, List, Result, ◌<◌}
 use mir.Val.{SFits}
 use Rattle.std.proofs.lemmas.Int.{to_z-of_z}
 use Rattle.single_def.specs.declared.actions.Action.{Action as RustAction}
-use Rattle.single_def.specs.Private.Blocks.{seen}
+use Rattle.single_def.specs.Private.Parts.{seen, view_part}
+use Rattle.single_def.specs.declared.parts.Part.{Part}
 use Rattle.single_def.proofs.IdleActions.{turn_same, block_after}
 use Rattle.single_def.specs.Private.Actions.{Action, Gives, State, Found, actions_of, view_action, view_body, run_actions, run_body, run_turn, run_instance, all_defined}
 use Rattle.single_def.specs.ElementRules.{count_up}
@@ -10,6 +11,7 @@ use Rattle.single_def.specs.Private.States.{known_of, found_of, state_of, made_i
 use Rattle.single_def.specs.declared.fault.DefFault.{DefFault}
 use Rattle.single_def.proofs.Each.{each_passes, each_gives}
 use Rattle.single_def.proofs.ActionRows.{repeat_is}
+use Rattle.single_def.proofs.PartRows.{part_is}
 use Rattle.single_def.proofs.Entering.{body_err, body_ok, enter_is}
 use Rattle.single_def.proofs.instances.+instances.Goals as goal
 
@@ -32,8 +34,8 @@ run_turns-returns-in_err-run_turn t c =
     let count = count_up c.args.first c.args.last in
     let less : c.loop-k.k < count = omega (arith, end) in
     let s = state_of c.loop-k.known c.loop-k.found in
-    let same = turn_same inside c.args.outer.now c.args.at c.args.first c.args.last c.turn_at-turn.result c.loop-k.k c.in_ok-block.block.until (seen c.in_ok-block.block.actions) all at_k block c.in_ok-block.ensures.more less s
-    ∙ ap (λ (xs : List (Bor RustAction)). run_turn inside c.args.outer.now (actions_of (map (λ (a : Bor RustAction). view_action a.now) xs)) c.args.at c.turn_at-turn.result s) (sym c.deref.ensures.value) in
+    let same = turn_same inside c.args.outer.now c.args.at c.args.first c.args.last c.turn_at-turn.result c.loop-k.k c.in_ok-block.block.until (seen c.in_ok-block.block.parts) all at_k block c.in_ok-block.ensures.more less s
+    ∙ ap (λ (xs : List Part). run_turn inside c.args.outer.now (actions_of (map view_part xs)) c.args.at c.turn_at-turn.result s) (sym c.deref.ensures.value) in
     let fails = simp (to_z-of_z, fits) at c.in_err-run_turn.ensures in
     each_gives (λ k. turn (c.args.first +ℤ pos k)) 0 c.loop-k.k count less s _ so_far
     (state_of c.run_turn.new.known c.run_turn.new.found) c.loop-k.k (omega arith) _ _ c.from_residual-in_err-run_turn.ensures.1
@@ -52,13 +54,13 @@ run_turns-loop-k-preserved t c =
     let count = count_up c.args.first c.args.last in
     let less : c.loop-k.k < count = omega (arith, end) in
     let s = state_of c.loop-k.known c.loop-k.found in
-    let same = turn_same inside c.args.outer.now c.args.at c.args.first c.args.last c.turn_at-turn.result c.loop-k.k c.in_ok-block.block.until (seen c.in_ok-block.block.actions) all at_k block c.in_ok-block.ensures.more less s
-    ∙ ap (λ (xs : List (Bor RustAction)). run_turn inside c.args.outer.now (actions_of (map (λ (a : Bor RustAction). view_action a.now) xs)) c.args.at c.turn_at-turn.result s) (sym c.deref.ensures.value) in
+    let same = turn_same inside c.args.outer.now c.args.at c.args.first c.args.last c.turn_at-turn.result c.loop-k.k c.in_ok-block.block.until (seen c.in_ok-block.block.parts) all at_k block c.in_ok-block.ensures.more less s
+    ∙ ap (λ (xs : List Part). run_turn inside c.args.outer.now (actions_of (map view_part xs)) c.args.at c.turn_at-turn.result s) (sym c.deref.ensures.value) in
     let passes = simp (to_z-of_z, fits) at c.in_ok-run_turn.ensures in
     simp (to_z-of_z, c.ranges.first, c.ranges.last) (
       each_passes (λ k. turn (c.args.first +ℤ pos k)) 0 c.loop-k.k count less s _ so_far
           c.loop-k.k (omega arith) (state_of c.run_turn.new.known c.run_turn.new.found) (same ∙ passes),
-      block_after c.args.outer.now c.args.first c.args.last c.loop-k.k c.in_ok-block.block.until (seen c.in_ok-block.block.actions) all block,
+      block_after c.args.outer.now c.args.first c.args.last c.loop-k.k c.in_ok-block.block.until (seen c.in_ok-block.block.parts) all block,
     )
 
 pub enter-returns : goal.enter-returns
@@ -68,19 +70,55 @@ enter-returns t c =
     let same = ap (λ turns. run_body (run_instance (map view_body plan) (c.args.inside.calls - 1)) (view_body c.in-Some.body.now) c.args.func c.args.inside.number c.args.site turns (found_of c.args.found.now)) (sym c.in_ok-from_slice.ensures) in
     subst (λ (r : Result Found DefFault). Gives (found_of c.run_body.new.found) c.run_body.result r) (sym (more ∙ same)) c.run_body.ensures
 
-pub run_body-returns-in_err-run_actions : goal.run_body-returns-in_err-run_actions
-run_body-returns-in_err-run_actions t c =
+pub run_body-returns-in_err-run_parts : goal.run_body-returns-in_err-run_parts
+run_body-returns-in_err-run_parts t c =
     let inside = run_instance (map view_body c.args.inside.plan.now) c.args.inside.calls in
-    let all = ap (λ (xs : List (Bor RustAction)). map (λ (a : Bor RustAction). view_action a.now) xs) c.deref-2.ensures.value ∙ c.in_ok-actions.ensures ∙ ap (λ (xs : List RustAction). map view_action xs) c.deref.ensures.value in
+    let all = ap (λ (xs : List Part). map view_part xs) c.deref-2.ensures.value ∙ c.in_ok-parts.ensures ∙ ap (λ (xs : List RustAction). map view_action xs) c.deref.ensures.value in
     body_err inside (view_body c.args.body.now) c.args.instance.func c.args.instance.parent c.args.instance.site c.args.instance.turns (found_of c.args.found.now) (found_of c.enter_instance.new.found) (known_of c.in_ok-known.known) c.in_ok-number.number
-    c.in_ok-number.ensures.found c.in_ok-number.ensures.number c.in_ok-known.ensures _ _ _ c.from_residual-in_err-run_actions.ensures.1
-    (λ n. ap (λ (actions : List Action). run_actions (inside c.in_ok-number.number) [] (actions_of actions) (state_of c.in_ok-known.known c.enter_instance.new.found)) (sym all) ∙ c.in_err-run_actions.ensures n)
+    c.in_ok-number.ensures.found c.in_ok-number.ensures.number c.in_ok-known.ensures _ _ _ c.from_residual-in_err-run_parts.ensures.1
+    (λ n. ap (λ (actions : List Action). run_actions (inside c.in_ok-number.number) [] (actions_of actions) (state_of c.in_ok-known.known c.enter_instance.new.found)) (sym all) ∙ c.in_err-run_parts.ensures n)
 
 pub run_body-returns : goal.run_body-returns
 run_body-returns t c =
     let inside = run_instance (map view_body c.args.inside.plan.now) c.args.inside.calls in
-    let all = ap (λ (xs : List (Bor RustAction)). map (λ (a : Bor RustAction). view_action a.now) xs) c.deref-2.ensures.value ∙ c.in_ok-actions.ensures ∙ ap (λ (xs : List RustAction). map view_action xs) c.deref.ensures.value in
+    let all = ap (λ (xs : List Part). map view_part xs) c.deref-2.ensures.value ∙ c.in_ok-parts.ensures ∙ ap (λ (xs : List RustAction). map view_action xs) c.deref.ensures.value in
     body_ok inside (view_body c.args.body.now) c.args.instance.func c.args.instance.parent c.args.instance.site c.args.instance.turns (found_of c.args.found.now) (found_of c.enter_instance.new.found) (known_of c.in_ok-known.known) c.in_ok-number.number
-    c.in_ok-number.ensures.found c.in_ok-number.ensures.number c.in_ok-known.ensures (state_of c.run_actions.new.known c.run_actions.new.found) c.check_all_defined.result
-    (ap (λ (actions : List Action). run_actions (inside c.in_ok-number.number) [] (actions_of actions) (state_of c.in_ok-known.known c.enter_instance.new.found)) (sym all) ∙ c.in_ok-run_actions.ensures)
-    (c.check_all_defined.ensures ∙ ap (all_defined (known_of c.run_actions.new.known)) c.deref-3.ensures)
+    c.in_ok-number.ensures.found c.in_ok-number.ensures.number c.in_ok-known.ensures (state_of c.run_parts.new.known c.run_parts.new.found) c.check_all_defined.result
+    (ap (λ (actions : List Action). run_actions (inside c.in_ok-number.number) [] (actions_of actions) (state_of c.in_ok-known.known c.enter_instance.new.found)) (sym all) ∙ c.in_ok-run_parts.ensures)
+    (c.check_all_defined.ensures ∙ ap (all_defined (known_of c.run_parts.new.known)) c.deref-3.ensures)
+
+pub run_part-returns-in-Loop : goal.run_part-returns-in-Loop
+run_part-returns-in-Loop t c =
+    subst (λ (r : Result State DefFault). Gives (state_of c.run_part_loop.new.known c.run_part_loop.new.found) c.run_part_loop.result r)
+    (sym (part_is (made_in c.args.inside) c.args.turns.now c.args.part.now c.in-Loop.lo c.in-Loop.hi c.in-Loop.parts c.in-Loop.at c.in-Loop.is c.deref.result.now c.deref.ensures.value _))
+    c.run_part_loop.ensures
+
+pub run_part_turns-returns-in_err-run_turn : goal.run_part_turns-returns-in_err-run_turn
+run_part_turns-returns-in_err-run_turn t c =
+    let turn = run_turn (made_in c.args.inside) c.args.outer.now (actions_of (map view_part c.args.parts.now)) c.args.at in
+    let end = simp (to_z-of_z, c.ranges.first, c.ranges.last) at c.turn_count-k-end.ensures in
+    let so_far = simp (to_z-of_z, c.ranges.first, c.ranges.last) at c.loop-k.invariant in
+    let at_k = simp (to_z-of_z, c.ranges.first) at c.turn_at-turn.ensures in
+    let fits : SFits w32 c.turn_at-turn.result = search rules in
+    let count = count_up c.args.first c.args.last in
+    let less : c.loop-k.k < count = omega (arith, end) in
+    let s = state_of c.loop-k.known c.loop-k.found in
+    let fails = simp (to_z-of_z, fits) at c.in_err-run_turn.ensures in
+    each_gives (λ k. turn (c.args.first +ℤ pos k)) 0 c.loop-k.k count less s _ so_far
+    (state_of c.run_turn.new.known c.run_turn.new.found) c.loop-k.k (omega arith) _ _ c.from_residual.ensures.1
+    (λ n. ap (λ z. turn z s) (sym at_k) ∙ fails n)
+
+pub run_part_turns-loop-k-preserved : goal.run_part_turns-loop-k-preserved
+run_part_turns-loop-k-preserved t c =
+    let turn = run_turn (made_in c.args.inside) c.args.outer.now (actions_of (map view_part c.args.parts.now)) c.args.at in
+    let end = simp (to_z-of_z, c.ranges.first, c.ranges.last) at c.turn_count-k-end.ensures in
+    let so_far = simp (to_z-of_z, c.ranges.first, c.ranges.last) at c.loop-k.invariant in
+    let at_k = simp (to_z-of_z, c.ranges.first) at c.turn_at-turn.ensures in
+    let fits : SFits w32 c.turn_at-turn.result = search rules in
+    let count = count_up c.args.first c.args.last in
+    let less : c.loop-k.k < count = omega (arith, end) in
+    let s = state_of c.loop-k.known c.loop-k.found in
+    let passes = simp (to_z-of_z, fits) at c.in_ok-run_turn.ensures in
+    simp (to_z-of_z, c.ranges.first, c.ranges.last)
+    (each_passes (λ k. turn (c.args.first +ℤ pos k)) 0 c.loop-k.k count less s _ so_far
+    c.loop-k.k (omega arith) (state_of c.run_turn.new.known c.run_turn.new.found) (ap (λ z. turn z s) (sym at_k) ∙ passes))

@@ -1,4 +1,4 @@
-use Rattle.std.proofs.Common.{◌≡◌, ℕ, List, Some, arith, sym, ap, rules}
+use Rattle.std.proofs.Common.{Some, arith, sym, ap, rules}
 use Rattle.single_def.proofs.SubscriptPlaces.{in_rows, only_picked}
 use Rattle.single_def.proofs.subscripts.in_rows.Goals as goal
 
