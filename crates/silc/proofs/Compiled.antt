@@ -1,12 +1,10 @@
 -- Microcode that spells the image of a source's serial plan is compiled from the source.
 use Rattle.std.proofs.Common.{◌≡◌, ◌≤◌, ◌^◌, lit≤, refl, sym, subst, ◌∙◌, arith, ap, length, ℕ, List}
 use Rattle.std.specs.Fmt.{digits}
-use Rattle.silage_lex.specs.declared.Token.{Token}
-use Rattle.silage_lex.proofs.OneReading.{tokens_once}
-use Rattle.silage_syntax.specs.Grammar.{Derives}
 use Rattle.silage_syntax.specs.Tree.{Program}
 use Rattle.silc.specs.Form.{HasForm}
-use Rattle.silc.specs.Faults.{HasProgram}
+use Rattle.front_end.specs.Faults.{HasProgram}
+use Rattle.front_end.proofs.OneAnswer.{one_program}
 use Rattle.desk_core.specs.View.{Content}
 use Rattle.silc.specs.Headline.{IsAccepted, IsCompiled, IsNotTaken, SpellsOnly}
 use Rattle.silc.specs.Plain.{plain_lines, plain_text}
@@ -16,12 +14,6 @@ use Rattle.silc.specs.declared.compile.Input.TheVariants.{Whole, TooLong}
 use Rattle.silc.specs.Serial.{serial_image}
 use Rattle.silc.specs.declared.one_line.OneLine.{OneLine}
 use Rattle.silc.proofs.Run.{runs-the-solution}
-
--- a source has one program at most
-pub one_program : (source : List ℕ) (program other : Program) → HasProgram source program → HasProgram source other → other ≡ program
-one_program source program other a b =
-    let same : b.read.tokens ≡ a.read.tokens = tokens_once source b.read.tokens a.read.tokens b.read.lexed a.read.lexed in
-    a.read.parsed.is.only other (subst (λ (ts : List Token). Derives ts other) same b.read.parsed.is.derives)
 
 pub accepted : (source datapath : List ℕ) (program : Program) (form : OneLine) → HasProgram source program → HasForm program form
     → datapath ≡ plain_text → IsAccepted source datapath program form

@@ -1,6 +1,4 @@
 pub mod Forms
-pub mod Counts
-pub mod FirstFaults
 pub mod Valid
 pub mod Cycles
 pub mod Writes

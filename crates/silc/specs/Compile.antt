@@ -4,10 +4,10 @@ use Rattle.desk_core.specs.View.{Name, Content, Files, View}
 use Rattle.desk_core.specs.Desk.{IfSpecified, WhereSpecified, ReadFaultsRose, IsPut, content_of}
 use Rattle.desk_core.specs.Whole.{IsUnchangedButInput}
 use Rattle.silc.specs.Endings.{IsRejected, IsNotWritten, IsFinished}
-use Rattle.silc.specs.Faults.{IsFrontFault, IsOfSource}
+use Rattle.front_end.specs.Faults.{IsFrontFault, IsOfSource}
 use Rattle.silc.specs.Headline.{IsCompiled, IsNotTaken}
 use Rattle.silc.specs.Limits.{text_limit}
-use Rattle.silc.specs.declared.status.FrontFault.{FrontFault}
+use Rattle.front_end.specs.declared.fault.FrontFault.{FrontFault}
 use Rattle.silc.specs.declared.status.Status.{Status}
 use Rattle.silc.specs.declared.status.Status.TheVariants.{Done, Memory, Desk, FrontEnd, NotBuilt}
 

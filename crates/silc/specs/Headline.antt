@@ -8,7 +8,7 @@ use Rattle.silage_syntax.specs.Tree.{Program}
 use Rattle.silage_meaning.specs.Value.{Words}
 use Rattle.silage_meaning.specs.Solves.{IsStream, IsOneSolution, out}
 use Rattle.silc.specs.Form.{HasForm}
-use Rattle.silc.specs.Faults.{HasProgram}
+use Rattle.front_end.specs.Faults.{HasProgram}
 use Rattle.silc.specs.Plain.{plain_period, plain_text}
 use Rattle.silc.specs.Serial.{serial_image}
 use Rattle.silc.specs.declared.one_line.OneLine.{OneLine}

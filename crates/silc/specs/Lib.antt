@@ -2,7 +2,6 @@ pub mod Limits
 pub mod Status
 pub mod Plain
 pub mod Form
-pub mod Faults
 pub mod Serial
 pub mod Headline
 pub mod Command

@@ -11,9 +11,9 @@ ghost use Rattle.silc.specs.declared.sim.Kept.TheVariants.{Nothing};
 use crate::compile::compile;
 use crate::sim::{Kept, sim};
 use crate::status::{Ending, Status};
-use crate::undefined::Element;
 use arrayvec::ArrayString;
 use desk_core::Desk;
+use front_end::Element;
 use std::alloc::Global;
 use std::fmt::{self, Write};
 
@@ -83,9 +83,9 @@ fn write_error(piece: &mut Piece, ending: &Ending) -> fmt::Result {
 }
 
 /// The element that the error names, where it names one.
-fn undefined_element(ending: &Ending) -> Option<Element<'_>> {
-    match &ending.undefined {
-        Some(undefined) => undefined.element(),
+fn named_element(ending: &Ending) -> Option<Element<'_>> {
+    match &ending.element {
+        Some(named) => named.element(),
         None => None,
     }
 }
@@ -110,7 +110,7 @@ fn report<D: Desk>(desk: &mut D, ending: &Ending)
 {
     let mut piece = Piece::new();
     let _ = write_error(&mut piece, ending);
-    if let Some(element) = undefined_element(ending) {
+    if let Some(element) = named_element(ending) {
         let _ = piece.write_str(" ");
         desk.complain(piece.as_bytes());
         desk.complain(element.decl.name.as_slice());

@@ -8,12 +8,12 @@ ghost use Rattle.silc.specs.Limits.{text_limit};
 ghost use Rattle.silc.specs.Private.Compiling.{IsInput, IsShort, IsPlain, IsInputError, IsMicrocode, IsNoMicrocode, IsMade};
 ghost use Rattle.silc.specs.Private.Reading.{OnlyReads};
 
-use crate::front::program_of;
 use crate::one_line::one_line;
 use crate::plain::plain_datapath;
 use crate::serial::serial_image;
-use crate::status::{Ending, FrontFault, Status};
+use crate::status::{Ending, Status};
 use desk_core::{Desk, ReadFault, read_whole, write_whole};
+use front_end::{FrontFault, accept};
 use lists::Bytes;
 use micro_file::encode;
 use std::alloc::Global;
@@ -64,8 +64,8 @@ fn microcode(alloc: Global, source: &Input, datapath: &Input) -> Result<Bytes, E
     let Input::Whole(source) = source else {
         return Err(Ending::from(Status::FrontEnd(FrontFault::TooLong)));
     };
-    let program = program_of(alloc, source.as_slice())?;
-    let Some(form) = one_line(&program) else {
+    let accepted = accept(alloc, source.as_slice())?;
+    let Some(form) = one_line(&accepted.program) else {
         return Err(Ending::from(Status::NotBuilt));
     };
     if !is_plain(datapath) {

@@ -1,44 +1,16 @@
 ghost use Rattle.std.specs.Prelude.{◌≡◌, None};
 ghost use Rattle.silc.specs.Status.{code_of};
-ghost use Rattle.silc.specs.Private.Statuses.{of_form, of_rows};
+ghost use Rattle.silc.specs.Private.Statuses.{of_front, of_form, of_rows};
 ghost use Rattle.silc.specs.declared.status.Status.TheVariants.{Memory, Desk, Conflict as in_conflict};
 
-use crate::undefined::Undefined;
 use cycle_sim::LoadFault;
 use desk_core::Failed;
-use fix_types::TypeFault;
+use front_end::{FrontError, FrontFault, NamedElement, Rejection};
 use micro_file::{CodeFault, FormFault};
 use micro_image::Conflict;
-use name_check::NameFault;
 use sample_io::RowsReadFault;
-use silage_lex::LexFault;
-use silage_parse::ParseFault;
-use single_def::DefFault;
 use std::alloc::AllocError;
 use thiserror::Error;
-
-/// Why a source has no program. Want of memory is a status of its own and never comes in here.
-#[derive(Clone, Copy, Debug, PartialEq, Eq, Error)]
-pub enum FrontFault {
-    /// There are more than 2^20 bytes.
-    #[error("source too long")]
-    TooLong,
-    /// The bytes are no tokens.
-    #[error(transparent)]
-    Lex(LexFault),
-    /// The tokens are no program.
-    #[error(transparent)]
-    Parse(ParseFault),
-    /// The names of the program mean nothing, or one has no main.
-    #[error(transparent)]
-    Name(NameFault),
-    /// An element is not defined exactly once, a number in an item is not allowed, or there are too many elements.
-    #[error(transparent)]
-    Def(DefFault),
-    /// An expression is not of the type that is wanted there, or has no type where it needs one.
-    #[error(transparent)]
-    Kind(TypeFault),
-}
 
 /// Why bytes are no microcode.
 #[derive(Clone, Copy, Debug, PartialEq, Eq, Error)]
@@ -132,6 +104,17 @@ impl From<Failed> for Status {
     }
 }
 
+impl From<FrontError> for Status {
+    ghost from_gives = { λ error status. status ≡ of_front error };
+
+    fn from(error: FrontError) -> Self {
+        match error {
+            FrontError::Fault(fault) => Status::FrontEnd(fault),
+            FrontError::Memory => Status::Memory,
+        }
+    }
+}
+
 impl From<FormFault> for Status {
     ghost from_gives = { λ fault status. status ≡ of_form fault };
 
@@ -171,23 +154,23 @@ pub(crate) struct Ending {
     pub status: Status,
     /// From 1.
     pub line: Option<u64>,
-    pub undefined: Option<Undefined>,
+    pub element: Option<NamedElement>,
 }
 
 impl From<Status> for Ending {
-    ghost from_gives = { λ status ending. ending ≡ record { status = status; line = None; undefined = None } };
+    ghost from_gives = { λ status ending. ending ≡ record { status = status; line = None; element = None } };
 
     fn from(status: Status) -> Self {
         Ending {
             status,
             line: None,
-            undefined: None,
+            element: None,
         }
     }
 }
 
 impl From<AllocError> for Ending {
-    ghost from_gives = { λ _ ending. ending ≡ record { status = Memory; line = None; undefined = None } };
+    ghost from_gives = { λ _ ending. ending ≡ record { status = Memory; line = None; element = None } };
 
     fn from(error: AllocError) -> Self {
         Ending::from(Status::from(error))
@@ -195,7 +178,7 @@ impl From<AllocError> for Ending {
 }
 
 impl From<CodeFault> for Ending {
-    ghost from_gives = { λ _ ending. ending ≡ record { status = Memory; line = None; undefined = None } };
+    ghost from_gives = { λ _ ending. ending ≡ record { status = Memory; line = None; element = None } };
 
     fn from(fault: CodeFault) -> Self {
         Ending::from(Status::from(fault))
@@ -203,10 +186,22 @@ impl From<CodeFault> for Ending {
 }
 
 impl From<Failed> for Ending {
-    ghost from_gives = { λ _ ending. ending ≡ record { status = Desk; line = None; undefined = None } };
+    ghost from_gives = { λ _ ending. ending ≡ record { status = Desk; line = None; element = None } };
 
     fn from(failed: Failed) -> Self {
         Ending::from(Status::from(failed))
+    }
+}
+
+impl From<Rejection> for Ending {
+    ghost from_gives = { λ rejection ending. ending.status ≡ of_front rejection.error };
+
+    fn from(rejection: Rejection) -> Self {
+        Ending {
+            status: Status::from(rejection.error),
+            line: rejection.line,
+            element: rejection.element,
+        }
     }
 }
 

@@ -4,7 +4,7 @@ use Rattle.desk_core.specs.View.{Name, Content, View}
 use Rattle.desk_core.specs.Desk.{WhereSpecified, ReadFaultsRose}
 use Rattle.desk_core.specs.Whole.{IsReadThrough}
 use Rattle.silc.specs.Compile.{AreCompiled}
-use Rattle.silc.specs.Faults.{IsFrontFault, IsOfSource}
+use Rattle.front_end.specs.Faults.{IsFrontFault, IsOfSource}
 use Rattle.silc.specs.Headline.{IsCompiled, IsNotTaken}
 use Rattle.silc.specs.Limits.{text_limit}
 use Rattle.silc.specs.Plain.{plain_text}

@@ -5,7 +5,7 @@ use Rattle.micro_image.specs.Spells.{Spells}
 use Rattle.micro_image.specs.Valid.{IsValid}
 use Rattle.micro_file.proofs.Unique.{Spells-unique}
 use Rattle.silage_syntax.specs.Tree.{view}
-use Rattle.silc.specs.Faults.{HasProgram}
+use Rattle.front_end.specs.Faults.{HasProgram}
 use Rattle.silc.specs.Headline.{SpellsOnly}
 use Rattle.silc.specs.Plain.{plain_text}
 use Rattle.silc.specs.Private.Compiling.{IsInput}
@@ -24,21 +24,21 @@ only : (bytes : Content) (image other : Image) → image ≡ other → Spells by
 only bytes image other e h = record { spells = subst (λ (x : Image). Spells bytes x) e h; unique = λ another is. sym (Spells-unique bytes other another (subst (λ (x : Image). Spells bytes x) e h) is) }
 
 pub encode-requires : goal.encode-requires
-encode-requires c = subst (λ (x : Image). IsValid x) (sym c.in_ok-image.ensures) (serial-valid (view c.in_ok-program.program) c.in-Some.form c.in-Some.ensures)
+encode-requires c = subst (λ (x : Image). IsValid x) (sym c.in_ok-image.ensures) (serial-valid (view c.in_ok-accepted.accepted.program) c.in-Some.form c.in-Some.ensures)
 
 pub returns-in_default-one_line-clause-err : goal.returns-in_default-one_line-clause-err
 returns-in_default-one_line-clause-err c =
     rw c.from-in_default-one_line.ensures
     (λ s d hs hd.
     let source : c.as_slice.result.now ≡ s = c.as_slice.ensures ∙ whole s c.in-Whole.source c.args.source.now c.in-Whole.is hs in
-    no_form s d (view c.in_ok-program.program) (subst (λ (x : Content). HasProgram x (view c.in_ok-program.program)) source c.in_ok-program.ensures.ok) c.in_default-one_line.ensures)
+    no_form s d (view c.in_ok-accepted.accepted.program) (subst (λ (x : Content). HasProgram x (view c.in_ok-accepted.accepted.program)) source c.in_ok-accepted.ensures.ok) c.in_default-one_line.ensures)
 
 pub returns-clause-ok : goal.returns-clause-ok
 returns-clause-ok c = λ s d hs hd.
     let source : c.as_slice.result.now ≡ s = c.as_slice.ensures ∙ whole s c.in-Whole.source c.args.source.now c.in-Whole.is hs in
     let plain : d ≡ plain_text = plain_input d c.args.datapath.now hd (c.if-not-is_plain.ensures.0 refl) in
-    compiled s d c.in_ok-encode.field-0 (view c.in_ok-program.program) c.in-Some.form
-    (subst (λ (x : Content). HasProgram x (view c.in_ok-program.program)) source c.in_ok-program.ensures.ok) c.in-Some.ensures plain
+    compiled s d c.in_ok-encode.field-0 (view c.in_ok-accepted.accepted.program) c.in-Some.form
+    (subst (λ (x : Content). HasProgram x (view c.in_ok-accepted.accepted.program)) source c.in_ok-accepted.ensures.ok) c.in-Some.ensures plain
     (only c.in_ok-encode.field-0 c.in_ok-image.image (serial_image c.in-Some.form) c.in_ok-image.ensures c.in_ok-encode.ensures.spelled)
 
 pub returns-then-not-is_plain-clause-err : goal.returns-then-not-is_plain-clause-err
@@ -46,6 +46,6 @@ returns-then-not-is_plain-clause-err c =
     rw c.from-then-not-is_plain.ensures
     (λ s d hs hd.
     let source : c.as_slice.result.now ≡ s = c.as_slice.ensures ∙ whole s c.in-Whole.source c.args.source.now c.in-Whole.is hs in
-    not_plain s d (view c.in_ok-program.program) c.args.datapath.now
-    (subst (λ (x : Content). HasProgram x (view c.in_ok-program.program)) source c.in_ok-program.ensures.ok) hd
+    not_plain s d (view c.in_ok-accepted.accepted.program) c.args.datapath.now
+    (subst (λ (x : Content). HasProgram x (view c.in_ok-accepted.accepted.program)) source c.in_ok-accepted.ensures.ok) hd
     (λ plain. let e = c.if-not-is_plain.ensures.1 plain in cc))

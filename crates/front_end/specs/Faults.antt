@@ -1,6 +1,6 @@
--- The faults of a source: which one is the first over all phases, and when a source is accepted. A phase's own faults
+-- The faults of a source: which one is the first over all phases, and when a source has a program. A phase's own faults
 -- are defined in the crate of that phase.
-use Rattle.std.specs.Prelude.{ℕ, ◌≤◌, ◌<◌, List, length}
+use Rattle.std.specs.Prelude.{ℕ, ◌^◌, ◌≤◌, ◌<◌, List, length}
 use Rattle.ranked_faults.specs.Ranked.{IsClear, IsFirst}
 use Rattle.silage_lex.specs.Tokens.{HasTokens}
 use Rattle.silage_lex.specs.Faults.{HasFault as HasLexFault}
@@ -15,13 +15,16 @@ use Rattle.single_def.specs.ElementFaults.{element_faults}
 use Rattle.single_def.specs.declared.fault.DefFault.TheVariants as def
 use Rattle.fix_types.specs.TypeFaults.{type_faults}
 use Rattle.fix_types.specs.declared.fault.TypeFault.TheVariants as kind
-use Rattle.silc.specs.Limits.{text_limit}
-use Rattle.silc.specs.declared.status.FrontFault.{FrontFault}
-use Rattle.silc.specs.declared.status.FrontFault.TheVariants.{TooLong, Lex, Parse, Name, Def, Kind}
+use Rattle.front_end.specs.declared.fault.FrontFault.{FrontFault}
+use Rattle.front_end.specs.declared.fault.FrontFault.TheVariants.{TooLong, Lex, Parse, Name, Def, Kind}
+
+-- the most bytes of a source
+abbrev pub source_limit : ℕ
+source_limit = 2 ^ 20
 
 -- the source's tokens are the program, within the limits of the language
 pub record IsRead (source : List ℕ) (program : Program) : Type 0 where
-  pub size : length source ≤ text_limit
+  pub size : length source ≤ source_limit
   pub tokens : List Token
   pub lexed : HasTokens source tokens
   pub parsed : IsWithin tokens program
@@ -35,10 +38,10 @@ pub record HasProgram (source : List ℕ) (program : Program) : Type 0 where
 
 -- the first fault of the source: the first of a phase, where no phase before it has one
 abbrev pub IsFrontFault : List ℕ → FrontFault → Type 0
-IsFrontFault source TooLong = text_limit < length source
-IsFrontFault source (Lex fault) = (length source ≤ text_limit) × HasLexFault source fault
+IsFrontFault source TooLong = source_limit < length source
+IsFrontFault source (Lex fault) = (length source ≤ source_limit) × HasLexFault source fault
 IsFrontFault source (Parse fault) =
-    (length source ≤ text_limit) × (tokens : List Token) × HasTokens source tokens × HasParseFault tokens fault
+    (length source ≤ source_limit) × (tokens : List Token) × HasTokens source tokens × HasParseFault tokens fault
 IsFrontFault source (Name fault) = (program : Program) × IsRead source program × IsFirst (name_faults program) fault
 IsFrontFault source (Def fault) =
     (program : Program) × IsRead source program × IsClear (name_faults program) × IsFirst (element_faults program) fault
@@ -46,7 +49,7 @@ IsFrontFault source (Kind fault) =
     (program : Program) × IsRead source program × IsClear (name_faults program) × IsClear (element_faults program)
     × IsFirst (type_faults program) fault
 
--- the fault is one of a source; want of memory is a status of its own
+-- the fault is one of a source; want of memory is an error of its own
 abbrev pub IsOfSource : FrontFault → Type 0
 IsOfSource (Lex lex.Memory) = ⊥
 IsOfSource (Parse parse.Memory) = ⊥

@@ -5,7 +5,7 @@ use Rattle.fix_types.proofs.ShortNumbers.{short_numbers as short_numbers_of_toke
 use Rattle.name_check.proofs.FewTops.{few_tops as few_tops_of_tokens}
 use Rattle.silage_lex.proofs.FewTokens.{few_tokens}
 use Rattle.silage_syntax.specs.Tree.{Program}
-use Rattle.silc.specs.Faults.{IsRead}
+use Rattle.front_end.specs.Faults.{IsRead}
 
 pub few_tops : (source : List ℕ) (program : Program) → IsRead source program → length program.tops ≤ length source
 few_tops source program h =

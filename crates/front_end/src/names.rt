@@ -1,10 +1,12 @@
-//! The element of a program that has no definition, for the line of that fault.
+//! The element that a fault is about, by which the text of the fault names it.
+
+ghost use Rattle.std.specs.Prelude.{◌≡◌, IfSome};
 
 use silage_syntax::{Decl, Func, Program, Top};
 
 /// A program, and an element of it: by the byte at which its declaration stands, and its row-major place in that.
 #[derive(Drop)]
-pub(crate) struct Undefined {
+pub struct NamedElement {
     pub program: Program,
     pub at: u32,
     pub place: u32,
@@ -12,14 +14,17 @@ pub(crate) struct Undefined {
 
 /// An element, by its row-major place in its declaration.
 #[derive(Clone, Copy)]
-pub(crate) struct Element<'a> {
+pub struct Element<'a> {
     pub decl: &'a Decl,
     pub place: u32,
 }
 
-impl Undefined {
-    /// The element, with its declaration.
-    pub(crate) fn element(&self) -> Option<Element<'_>> {
+impl NamedElement {
+    /// The element, with its declaration; none where no signal is declared at that byte.
+    pub fn element(&self) -> Option<Element<'_>>
+        ensures declared { IfSome result (λ found. found.decl.now.at ≡ self.now.at) }
+        ensures place { IfSome result (λ found. found.place ≡ self.now.place) }
+    {
         for top in self.program.tops.as_slice() {
             if let Top::Func(func) = top
                 && let Some(decl) = declared_at(func, self.at)
@@ -35,7 +40,9 @@ impl Undefined {
 }
 
 /// The signal of the function that is declared at this byte.
-fn declared_at(func: &Func, at: u32) -> Option<&Decl> {
+fn declared_at(func: &Func, at: u32) -> Option<&Decl>
+    ensures { IfSome result (λ decl. decl.now.at ≡ at) }
+{
     func.params
         .iter()
         .chain(func.results.iter())

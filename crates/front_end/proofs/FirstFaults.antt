@@ -1,0 +1,59 @@
+-- The first fault of names, of elements or of types is the first that the checks find, and then the first of the source.
+use Rattle.std.proofs.Common.{◌≢◌, ℕ, List}
+use Rattle.ranked_faults.specs.Ranked.{IsClear, IsFirst}
+use Rattle.silage_syntax.specs.Tree.{Program}
+use Rattle.name_check.specs.NameFaults.{name_faults}
+use Rattle.name_check.specs.declared.fault.NameFault.{NameFault}
+use Rattle.name_check.specs.declared.fault.NameFault.TheVariants as name
+use Rattle.single_def.specs.ElementFaults.{element_faults}
+use Rattle.single_def.specs.declared.fault.DefFault.{DefFault}
+use Rattle.single_def.specs.declared.fault.DefFault.TheVariants as def
+use Rattle.fix_types.specs.TypeFaults.{type_faults}
+use Rattle.fix_types.specs.declared.fault.TypeFault.{TypeFault}
+use Rattle.fix_types.specs.declared.fault.TypeFault.TheVariants as kind
+use Rattle.front_end.specs.Answers.{IsFrontError}
+use Rattle.front_end.specs.Faults.{IsRead}
+use Rattle.front_end.specs.Private.Checks.{IsCheckError}
+use Rattle.front_end.specs.Private.Errors.{of_names, of_defs, of_types}
+use Rattle.front_end.specs.declared.fault.FrontError.{FrontError}
+use Rattle.front_end.specs.declared.fault.FrontError.TheVariants.{Fault, Memory}
+use Rattle.front_end.specs.declared.fault.FrontFault.TheVariants.{TooLong, Lex, Parse, Name, Def, Kind}
+
+module _ (program : Program) where
+  pub name_error : (fault : NameFault) → (fault ≢ name.Memory → IsFirst (name_faults program) fault) → IsCheckError program (of_names fault)
+  name_error (name.Unknown at) first = (tt, first (λ e. cc))
+  name_error (name.Twice at) first = (tt, first (λ e. cc))
+  name_error (name.Recursive at) first = (tt, first (λ e. cc))
+  name_error name.NoMain first = (tt, first (λ e. cc))
+  name_error (name.Arity at) first = (tt, first (λ e. cc))
+  name_error (name.Size at) first = (tt, first (λ e. cc))
+  name_error name.Memory first = tt
+
+  pub def_error : IsClear (name_faults program) → (fault : DefFault) → (fault ≢ def.Memory → IsFirst (element_faults program) fault)
+      → IsCheckError program (of_defs fault)
+  def_error clear (def.Index at) first = (tt, (clear, first (λ e. cc)))
+  def_error clear (def.Bounds at) first = (tt, (clear, first (λ e. cc)))
+  def_error clear (def.Delay at) first = (tt, (clear, first (λ e. cc)))
+  def_error clear (def.Shift at) first = (tt, (clear, first (λ e. cc)))
+  def_error clear (def.DefinedTwice at) first = (tt, (clear, first (λ e. cc)))
+  def_error clear (def.NotDefined at k) first = (tt, (clear, first (λ e. cc)))
+  def_error clear (def.TooLarge at) first = (tt, (clear, first (λ e. cc)))
+  def_error clear def.Memory first = tt
+
+  pub type_error : IsClear (name_faults program) → IsClear (element_faults program) → (fault : TypeFault)
+      → (fault ≢ kind.Memory → IsFirst (type_faults program) fault) → IsCheckError program (of_types fault)
+  type_error names elements (kind.Mismatch at) first = (tt, (names, elements, first (λ e. cc)))
+  type_error names elements (kind.NeedsCast at) first = (tt, (names, elements, first (λ e. cc)))
+  type_error names elements (kind.Literal at) first = (tt, (names, elements, first (λ e. cc)))
+  type_error names elements (kind.NotBool at) first = (tt, (names, elements, first (λ e. cc)))
+  type_error names elements kind.Memory first = tt
+
+  -- what the checks find first in the program of a source is the source's first fault
+  pub source_error : (source : List ℕ) → IsRead source program → (error : FrontError) → IsCheckError program error → IsFrontError source error
+  source_error source read (Fault TooLong) h = absurd h.1
+  source_error source read (Fault (Lex f)) h = absurd h.1
+  source_error source read (Fault (Parse f)) h = absurd h.1
+  source_error source read (Fault (Name f)) h = (h.0, (program, read, h.1))
+  source_error source read (Fault (Def f)) h = (h.0, (program, read, h.1.0, h.1.1))
+  source_error source read (Fault (Kind f)) h = (h.0, (program, read, h.1.0, h.1.1, h.1.2))
+  source_error source read Memory h = tt

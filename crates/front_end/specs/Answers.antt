@@ -1,0 +1,24 @@
+-- What `accept` answers for a source.
+use Rattle.std.specs.Prelude.{◌≡◌, ◌⊎◌, ℕ, List, Result, Ok, Err}
+use Rattle.silage_syntax.specs.Tree.{Program, view}
+use Rattle.front_end.specs.Faults.{IsFrontFault, IsOfSource}
+use Rattle.front_end.specs.declared.fault.FrontError.{FrontError}
+use Rattle.front_end.specs.declared.fault.FrontError.TheVariants.{Fault, Memory}
+use Rattle.front_end.specs.declared.fault.FrontFault.{FrontFault}
+use Rattle.front_end.specs.declared.acceptance.Accepted.{Accepted}
+use Rattle.front_end.specs.declared.rejection.Rejection.{Rejection}
+
+-- the source has the fault of the error, or there was no memory
+abbrev pub IsFrontError : List ℕ → FrontError → Type 0
+IsFrontError source (Fault fault) = IsOfSource fault × IsFrontFault source fault
+IsFrontError source Memory = Unit {0}
+
+-- the call answers this program, or there is no memory
+abbrev pub AnswersProgram : Program → Result Accepted Rejection → Type 0
+AnswersProgram program (Ok accepted) = view accepted.program ≡ program
+AnswersProgram program (Err rejection) = rejection.error ≡ Memory
+
+-- the call answers this fault, or there is no memory
+abbrev pub AnswersFault : FrontFault → Result Accepted Rejection → Type 0
+AnswersFault fault (Ok accepted) = ⊥
+AnswersFault fault (Err rejection) = (rejection.error ≡ Fault fault) ⊎ (rejection.error ≡ Memory)

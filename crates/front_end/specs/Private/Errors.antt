@@ -1,0 +1,34 @@
+-- The error that the fault of a phase comes to.
+use Rattle.fix_types.specs.declared.fault.TypeFault.{TypeFault}
+use Rattle.fix_types.specs.declared.fault.TypeFault.TheVariants as kind
+use Rattle.name_check.specs.declared.fault.NameFault.{NameFault}
+use Rattle.name_check.specs.declared.fault.NameFault.TheVariants as name
+use Rattle.silage_lex.specs.declared.LexFault.{LexFault}
+use Rattle.silage_lex.specs.declared.LexFault.TheVariants as lex
+use Rattle.silage_parse.specs.declared.ParseFault.{ParseFault}
+use Rattle.silage_parse.specs.declared.ParseFault.TheVariants as parse
+use Rattle.single_def.specs.declared.fault.DefFault.{DefFault}
+use Rattle.single_def.specs.declared.fault.DefFault.TheVariants as def
+use Rattle.front_end.specs.declared.fault.FrontError.{FrontError}
+use Rattle.front_end.specs.declared.fault.FrontError.TheVariants.{Fault, Memory}
+use Rattle.front_end.specs.declared.fault.FrontFault.TheVariants.{Lex, Parse, Name, Def, Kind}
+
+abbrev pub of_lex : LexFault → FrontError
+of_lex lex.Memory = Memory
+of_lex fault = Fault (Lex fault)
+
+abbrev pub of_parse : ParseFault → FrontError
+of_parse parse.Memory = Memory
+of_parse fault = Fault (Parse fault)
+
+abbrev pub of_names : NameFault → FrontError
+of_names name.Memory = Memory
+of_names fault = Fault (Name fault)
+
+abbrev pub of_defs : DefFault → FrontError
+of_defs def.Memory = Memory
+of_defs fault = Fault (Def fault)
+
+abbrev pub of_types : TypeFault → FrontError
+of_types kind.Memory = Memory
+of_types fault = Fault (Kind fault)

@@ -1,0 +1,21 @@
+//! The front end: from the bytes of a source to its program, or to its first fault and the place of it.
+//!
+//! `accept` is the one call. In `specs/`, `Faults` says which fault of a source is the first over all phases and which
+//! program it has where there is none, and `Answers` what the call answers. The faults of a phase stand with its crate.
+#![tactic(auto)]
+
+mod acceptance;
+mod fault;
+mod lines;
+mod names;
+mod rejection;
+
+pub use acceptance::{Accepted, accept};
+pub use fault::{FrontError, FrontFault};
+pub use fix_types::TypeFault;
+pub use name_check::NameFault;
+pub use names::{Element, NamedElement};
+pub use rejection::Rejection;
+pub use silage_lex::LexFault;
+pub use silage_parse::ParseFault;
+pub use single_def::DefFault;
