@@ -1,4 +1,4 @@
--- The first fault of names, of elements or of types is the first that the checks find, and then the first of the source.
+-- The first fault of a phase is the first of its program, and then the first of the source.
 use Rattle.std.proofs.Common.{◌≢◌, ℕ, List}
 use Rattle.ranked_faults.specs.Ranked.{IsClear, IsFirst}
 use Rattle.silage_syntax.specs.Tree.{Program}
@@ -13,11 +13,11 @@ use Rattle.fix_types.specs.declared.fault.TypeFault.{TypeFault}
 use Rattle.fix_types.specs.declared.fault.TypeFault.TheVariants as kind
 use Rattle.front_end.specs.Answers.{IsFrontError}
 use Rattle.front_end.specs.Faults.{IsRead}
-use Rattle.front_end.specs.Private.Checks.{IsCheckError}
+use Rattle.front_end.specs.Private.Checks.{HasNoFault, IsCheckError, IsGraphError}
 use Rattle.front_end.specs.Private.Errors.{of_names, of_defs, of_types}
 use Rattle.front_end.specs.declared.fault.FrontError.{FrontError}
 use Rattle.front_end.specs.declared.fault.FrontError.TheVariants.{Fault, Memory}
-use Rattle.front_end.specs.declared.fault.FrontFault.TheVariants.{TooLong, Lex, Parse, Name, Def, Kind}
+use Rattle.front_end.specs.declared.fault.FrontFault.TheVariants.{TooLong, Lex, Parse, Name, Def, Kind, Loop}
 
 module _ (program : Program) where
   pub name_error : (fault : NameFault) → (fault ≢ name.Memory → IsFirst (name_faults program) fault) → IsCheckError program (of_names fault)
@@ -48,7 +48,17 @@ module _ (program : Program) where
   type_error names elements (kind.NotBool at) first = (tt, (names, elements, first (λ e. cc)))
   type_error names elements kind.Memory first = tt
 
-  -- what the checks find first in the program of a source is the source's first fault
+  pub graph_error : HasNoFault program → (error : FrontError) → IsGraphError program error → IsCheckError program error
+  graph_error none (Fault (Loop elem)) h = (tt, (none.names, none.elements, none.types, h))
+  graph_error none (Fault TooLong) h = absurd h
+  graph_error none (Fault (Lex f)) h = absurd h
+  graph_error none (Fault (Parse f)) h = absurd h
+  graph_error none (Fault (Name f)) h = absurd h
+  graph_error none (Fault (Def f)) h = absurd h
+  graph_error none (Fault (Kind f)) h = absurd h
+  graph_error none Memory h = tt
+
+  -- the first fault of the program of a source is the source's
   pub source_error : (source : List ℕ) → IsRead source program → (error : FrontError) → IsCheckError program error → IsFrontError source error
   source_error source read (Fault TooLong) h = absurd h.1
   source_error source read (Fault (Lex f)) h = absurd h.1
@@ -56,4 +66,5 @@ module _ (program : Program) where
   source_error source read (Fault (Name f)) h = (h.0, (program, read, h.1))
   source_error source read (Fault (Def f)) h = (h.0, (program, read, h.1.0, h.1.1))
   source_error source read (Fault (Kind f)) h = (h.0, (program, read, h.1.0, h.1.1, h.1.2))
+  source_error source read (Fault (Loop e)) h = (h.0, (program, read, h.1.0, h.1.1, h.1.2, h.1.3))
   source_error source read Memory h = tt

@@ -1,3 +1,6 @@
 pub mod Counts
 pub mod FirstFaults
 pub mod OneAnswer
+pub mod FlatLoops
+pub mod FirstLoops
+pub mod Graphs

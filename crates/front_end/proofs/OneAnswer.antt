@@ -21,40 +21,55 @@ use Rattle.fix_types.specs.TypeFaults.{type_faults}
 use Rattle.fix_types.specs.TypeRules.{type_rules}
 use Rattle.front_end.specs.Answers.{IsFrontError}
 use Rattle.front_end.specs.Faults.{source_limit, IsRead, HasProgram, IsFrontFault}
-use Rattle.front_end.specs.Private.Checks.{HasNoFault, IsFound}
+use Rattle.front_end.specs.Loops.{IsFirstLoop}
+use Rattle.front_end.specs.Private.Checks.{HasNoFault, IsFirstFault}
+use Rattle.front_end.proofs.Counts.{checked}
+use Rattle.front_end.proofs.FirstLoops.{none_in_loop}
 use Rattle.front_end.specs.declared.fault.FrontError.{FrontError}
 use Rattle.front_end.specs.declared.fault.FrontError.TheVariants.{Fault, Memory}
 use Rattle.front_end.specs.declared.fault.FrontFault.{FrontFault}
-use Rattle.front_end.specs.declared.fault.FrontFault.TheVariants.{TooLong, Lex, Parse, Name, Def, Kind}
+use Rattle.front_end.specs.declared.fault.FrontFault.TheVariants.{TooLong, Lex, Parse, Name, Def, Kind, Loop}
 
 not_both : {F : Type 0} (H : FaultSet F) (fault : F) → IsClear H → IsFirst H fault → ⊥
 not_both H fault clear first = clear first.rank fault first.here
 
-module _ (program : Program) where
-  none_found : HasNoFault program → (fault : FrontFault) → IsFound program fault → ⊥
-  none_found none TooLong h = h
-  none_found none (Lex f) h = h
-  none_found none (Parse f) h = h
-  none_found none (Name f) h = not_both (name_faults program) f none.names h
-  none_found none (Def f) h = not_both (element_faults program) f none.elements h.1
-  none_found none (Kind f) h = not_both (type_faults program) f none.types h.2
+-- a program has one first element in a delay-free loop at most
+one_loop : (program : Program) (k l : ℕ) → IsFirstLoop program k → IsFirstLoop program l → k ≡ l
+one_loop program k l a b = omega (arith, a.first l b.loop, b.first k a.loop)
 
-  found_once : (f g : FrontFault) → IsFound program f → IsFound program g → f ≡ g
-  found_once (Name f) (Name g) a b = ap Name (one_first (name_faults program) f g (names_single program) a b)
-  found_once (Name f) (Def g) a b = absurd (not_both (name_faults program) f b.0 a)
-  found_once (Name f) (Kind g) a b = absurd (not_both (name_faults program) f b.0 a)
-  found_once (Def f) (Name g) a b = absurd (not_both (name_faults program) g a.0 b)
-  found_once (Def f) (Def g) a b = ap Def (one_first (element_faults program) f g (single_faults (element_rules program)) a.1 b.1)
-  found_once (Def f) (Kind g) a b = absurd (not_both (element_faults program) f b.1 a.1)
-  found_once (Kind f) (Name g) a b = absurd (not_both (name_faults program) g a.0 b)
-  found_once (Kind f) (Def g) a b = absurd (not_both (element_faults program) g a.1 b.1)
-  found_once (Kind f) (Kind g) a b = ap Kind (one_first (type_faults program) f g (single_faults (type_rules program)) a.2 b.2)
-  found_once TooLong g a b = absurd a
-  found_once (Lex f) g a b = absurd a
-  found_once (Parse f) g a b = absurd a
-  found_once f TooLong a b = absurd b
-  found_once f (Lex g) a b = absurd b
-  found_once f (Parse g) a b = absurd b
+module _ (program : Program) where
+  none_first : HasNoFault program → (fault : FrontFault) → IsFirstFault program fault → (elem : ℕ) × (fault ≡ Loop elem)
+  none_first none TooLong h = absurd h
+  none_first none (Lex f) h = absurd h
+  none_first none (Parse f) h = absurd h
+  none_first none (Name f) h = absurd (not_both (name_faults program) f none.names h)
+  none_first none (Def f) h = absurd (not_both (element_faults program) f none.elements h.1)
+  none_first none (Kind f) h = absurd (not_both (type_faults program) f none.types h.2)
+  none_first none (Loop e) h = (e, refl)
+
+  first_once : (f g : FrontFault) → IsFirstFault program f → IsFirstFault program g → f ≡ g
+  first_once (Name f) (Name g) a b = ap Name (one_first (name_faults program) f g (names_single program) a b)
+  first_once (Name f) (Def g) a b = absurd (not_both (name_faults program) f b.0 a)
+  first_once (Name f) (Kind g) a b = absurd (not_both (name_faults program) f b.0 a)
+  first_once (Name f) (Loop g) a b = absurd (not_both (name_faults program) f b.0 a)
+  first_once (Def f) (Name g) a b = absurd (not_both (name_faults program) g a.0 b)
+  first_once (Def f) (Def g) a b = ap Def (one_first (element_faults program) f g (single_faults (element_rules program)) a.1 b.1)
+  first_once (Def f) (Kind g) a b = absurd (not_both (element_faults program) f b.1 a.1)
+  first_once (Def f) (Loop g) a b = absurd (not_both (element_faults program) f b.1 a.1)
+  first_once (Kind f) (Name g) a b = absurd (not_both (name_faults program) g a.0 b)
+  first_once (Kind f) (Def g) a b = absurd (not_both (element_faults program) g a.1 b.1)
+  first_once (Kind f) (Kind g) a b = ap Kind (one_first (type_faults program) f g (single_faults (type_rules program)) a.2 b.2)
+  first_once (Kind f) (Loop g) a b = absurd (not_both (type_faults program) f b.2 a.2)
+  first_once (Loop e) (Name g) a b = absurd (not_both (name_faults program) g a.0 b)
+  first_once (Loop e) (Def g) a b = absurd (not_both (element_faults program) g a.1 b.1)
+  first_once (Loop e) (Kind g) a b = absurd (not_both (type_faults program) g a.2 b.2)
+  first_once (Loop e) (Loop l) a b = ap Loop (one_loop program e l a.3 b.3)
+  first_once TooLong g a b = absurd a
+  first_once (Lex f) g a b = absurd a
+  first_once (Parse f) g a b = absurd a
+  first_once f TooLong a b = absurd b
+  first_once f (Lex g) a b = absurd b
+  first_once f (Parse g) a b = absurd b
 
 module _ (source : List ℕ) where
   one_read : (p q : Program) → IsRead source p → IsRead source q → p ≡ q
@@ -76,7 +91,7 @@ module _ (source : List ℕ) where
     in_size : source_limit < length source → IsIn TooLong
     in_bytes : {f : LexFault} → length source ≤ source_limit → HasLexFault source f → IsIn (Lex f)
     in_tokens : {f : ParseFault} (tokens : List Token) → length source ≤ source_limit → HasTokens source tokens → HasParseFault tokens f → IsIn (Parse f)
-    in_program : {f : FrontFault} (program : Program) → IsRead source program → IsFound program f → IsIn f
+    in_program : {f : FrontFault} (program : Program) → IsRead source program → IsFirstFault program f → IsIn f
 
   where_is : (f : FrontFault) → IsFrontFault source f → IsIn f
   where_is TooLong h = in_size h
@@ -85,6 +100,7 @@ module _ (source : List ℕ) where
   where_is (Name f) h = in_program h.0 h.1 h.2
   where_is (Def f) h = in_program h.0 h.1 (h.2, h.3)
   where_is (Kind f) h = in_program h.0 h.1 (h.2, h.3, h.4)
+  where_is (Loop e) h = in_program h.0 h.1 (h.2, h.3, h.4, h.5)
 
   no_long_read : source_limit < length source → (p : Program) → IsRead source p → ⊥
   no_long_read long p read = let short = read.size in omega arith
@@ -107,15 +123,21 @@ module _ (source : List ℕ) where
   one_in _ _ (in_program p read k) (in_bytes {f = g} b h) = absurd (tokens_no_fault source read.tokens g read.lexed h)
   one_in _ _ (in_program p read k) (in_tokens {f = g} us b u h) = absurd (read_no_parse_fault p g read us u h)
   one_in f g (in_program p read k) (in_program q other h) =
-      found_once q f g (subst (λ (r : Program). IsFound r f) (one_read p q read other) k) h
+      first_once q f g (subst (λ (r : Program). IsFirstFault r f) (one_read p q read other) k) h
+
+  clear_program : (p : Program) → HasProgram source p → (f : FrontFault) → IsFirstFault p f → ⊥
+  clear_program p has f first =
+      let none : HasNoFault p = record { names = has.names; elements = has.elements; types = has.types } in
+      let loop = none_first p none f first in
+      let is : IsFirstFault p (Loop loop.0) = subst (IsFirstFault p) loop.1 first in
+      none_in_loop p (checked source p has.read none) has.loops loop.0 is.3.loop
 
   none_in : (p : Program) → HasProgram source p → (f : FrontFault) → IsIn f → ⊥
   none_in p has _ (in_size a) = no_long_read a p has.read
   none_in p has _ (in_bytes {f = f} a k) = tokens_no_fault source has.read.tokens f has.read.lexed k
   none_in p has _ (in_tokens {f = f} ts a t k) = read_no_parse_fault p f has.read ts t k
   none_in p has f (in_program q read k) =
-      none_found p (record { names = has.names; elements = has.elements; types = has.types }) f
-      (subst (λ (r : Program). IsFound r f) (one_read q p read has.read) k)
+      clear_program p has f (subst (λ (r : Program). IsFirstFault r f) (one_read q p read has.read) k)
 
   -- so where the call answers an error of the source, it answers each
   pub program_error : (error : FrontError) → IsFrontError source error → (program : Program) → HasProgram source program → error ≡ Memory

@@ -7,6 +7,7 @@ use Rattle.silage_lex.specs.Faults.{HasFault as HasLexFault}
 use Rattle.silage_lex.specs.declared.Token.{Token}
 use Rattle.silage_lex.specs.declared.LexFault.TheVariants as lex
 use Rattle.silage_syntax.specs.Tree.{Program}
+use Rattle.silage_meaning.specs.Rules.{HasNoDelaylessLoop}
 use Rattle.silage_parse.specs.Answers.{IsWithin, HasFault as HasParseFault}
 use Rattle.silage_parse.specs.declared.ParseFault.TheVariants as parse
 use Rattle.name_check.specs.NameFaults.{name_faults}
@@ -15,8 +16,9 @@ use Rattle.single_def.specs.ElementFaults.{element_faults}
 use Rattle.single_def.specs.declared.fault.DefFault.TheVariants as def
 use Rattle.fix_types.specs.TypeFaults.{type_faults}
 use Rattle.fix_types.specs.declared.fault.TypeFault.TheVariants as kind
+use Rattle.front_end.specs.Loops.{IsFirstLoop}
 use Rattle.front_end.specs.declared.fault.FrontFault.{FrontFault}
-use Rattle.front_end.specs.declared.fault.FrontFault.TheVariants.{TooLong, Lex, Parse, Name, Def, Kind}
+use Rattle.front_end.specs.declared.fault.FrontFault.TheVariants.{TooLong, Lex, Parse, Name, Def, Kind, Loop}
 
 -- the most bytes of a source
 abbrev pub source_limit : ℕ
@@ -35,6 +37,7 @@ pub record HasProgram (source : List ℕ) (program : Program) : Type 0 where
   pub names : IsClear (name_faults program)
   pub elements : IsClear (element_faults program)
   pub types : IsClear (type_faults program)
+  pub loops : HasNoDelaylessLoop program
 
 -- the first fault of the source: the first of a phase, where no phase before it has one
 abbrev pub IsFrontFault : List ℕ → FrontFault → Type 0
@@ -48,6 +51,9 @@ IsFrontFault source (Def fault) =
 IsFrontFault source (Kind fault) =
     (program : Program) × IsRead source program × IsClear (name_faults program) × IsClear (element_faults program)
     × IsFirst (type_faults program) fault
+IsFrontFault source (Loop elem) =
+    (program : Program) × IsRead source program × IsClear (name_faults program) × IsClear (element_faults program)
+    × IsClear (type_faults program) × IsFirstLoop program elem
 
 -- the fault is one of a source; want of memory is an error of its own
 abbrev pub IsOfSource : FrontFault → Type 0

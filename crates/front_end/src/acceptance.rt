@@ -1,21 +1,22 @@
-//! From the bytes of a source to its program.
+//! From the bytes of a source to its program and its graph.
 
-ghost use Rattle.std.specs.Prelude.{◌≤◌, ◌<◌, ◌^◌, length, IfOk, IfErr, OnOk};
+ghost use Rattle.std.specs.Prelude.{◌≤◌, length, IfOk, IfErr};
 ghost use Rattle.silage_syntax.specs.Tree.{Program as Tree, view};
-ghost use Rattle.fix_types.specs.Numbers.{AreNumbersShort};
+ghost use Rattle.signal_graph.specs.GraphRules.{IsGraph};
+ghost use Rattle.signal_graph.specs.GraphSolves.{IsGraphLoopless};
+ghost use Rattle.loop_expand.specs.KeepsProgram.{KeepsProgramSolutions};
 ghost use Rattle.front_end.specs.Answers.{IsFrontError, AnswersProgram, AnswersFault};
 ghost use Rattle.front_end.specs.Faults.{source_limit, IsRead, HasProgram, IsFrontFault};
-ghost use Rattle.front_end.specs.Private.Checks.{HasNoFault, IsCheckError};
+ghost use Rattle.front_end.specs.GraphOf.{IsProgramGraph};
 ghost use Rattle.front_end.specs.declared.fault.FrontFault.{FrontFault as FaultType};
 
-use crate::fault::{FrontError, FrontFault};
-use crate::rejection::{Rejection, check_rejection, lex_rejection, parse_rejection};
-use fix_types::check_types;
-use name_check::check_names;
+use crate::checks::checked_graph;
+use crate::fault::FrontFault;
+use crate::rejection::{Rejection, lex_rejection, parse_rejection, reject};
+use signal_graph::Graph;
 use silage_lex::lex;
 use silage_parse::parse;
 use silage_syntax::Program;
-use single_def::check_defs;
 use std::alloc::Global;
 
 /// The most bytes of a source.
@@ -25,6 +26,8 @@ const SOURCE_LIMIT: usize = 1 << 20;
 #[derive(Drop)]
 pub struct Accepted {
     pub program: Program,
+    /// The graph of its flat program, without the nodes from which no output is reached.
+    pub graph: Graph,
 }
 
 /// The program that the tokens of a source are.
@@ -43,24 +46,15 @@ fn read_program(alloc: Global, source: &[u8]) -> Result<Program, Rejection>
     }
 }
 
-/// Checks the names of a program, then its elements, then its types.
-fn check(alloc: Global, program: &Program) -> Result<(), FrontError>
-    requires few { length (view program.now).tops < 2 ^ 32 }
-    requires numbers { AreNumbersShort (view program.now) }
-    ensures ok { OnOk result (HasNoFault (view program.now)) }
-    ensures err { IfErr result (IsCheckError (view program.now)) }
-{
-    let names = check_names(alloc, program)?;
-    check_defs(alloc, program, &names)?;
-    check_types(alloc, program, &names)?;
-    Ok(())
-}
-
-/// The program of a source in which each name means something, each element is defined once, and the types fit. Fails
-/// with the first fault of the source, if it has one, or where memory runs out. Page `docs/LANGUAGE.md`, "What is no
-/// program".
+/// The program of a source in which each name means something, each element is defined once, the types fit and no
+/// element depends on itself without a delay; and the program's graph. Fails with the first fault of the source, if it
+/// has one, or where memory runs out. Pages `docs/LANGUAGE.md`, "What is no program", and `docs/GRAPH.md`.
 pub fn accept(alloc: Global, source: &[u8]) -> Result<Accepted, Rejection>
     ensures ok { IfOk result (λ accepted. HasProgram source.now (view accepted.program)) }
+    ensures graph { IfOk result (λ accepted. IsProgramGraph (view accepted.program) accepted.graph) }
+    ensures sound { IfOk result (λ accepted. IsGraph accepted.graph) }
+    ensures loopless { IfOk result (λ accepted. IsGraphLoopless accepted.graph) }
+    ensures keeps { IfOk result (λ accepted. KeepsProgramSolutions (view accepted.program) accepted.graph) }
     ensures err { IfErr result (λ rejection. IsFrontError source.now rejection.error) }
 
     // What the source has is what the call answers, unless memory runs out.
@@ -71,8 +65,8 @@ pub fn accept(alloc: Global, source: &[u8]) -> Result<Accepted, Rejection>
         return Err(Rejection::from(FrontFault::TooLong));
     }
     let program = read_program(alloc, source)?;
-    match check(alloc, &program) {
-        Ok(()) => Ok(Accepted { program }),
-        Err(error) => Err(check_rejection(source, program, error)),
+    match checked_graph(alloc, &program) {
+        Ok(graph) => Ok(Accepted { program, graph }),
+        Err(finding) => Err(reject(source, program, finding)),
     }
 }

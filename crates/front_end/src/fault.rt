@@ -1,9 +1,12 @@
 //! Why a source has no program.
 
 ghost use Rattle.std.specs.Prelude.{◌≡◌};
-ghost use Rattle.front_end.specs.Private.Errors.{of_lex, of_parse, of_names, of_defs, of_types};
+ghost use Rattle.front_end.specs.declared.fault.FrontError.TheVariants.{Memory};
+ghost use Rattle.front_end.specs.Private.Errors.{of_lex, of_parse, of_names, of_defs, of_types, of_build};
 
 use fix_types::TypeFault;
+use flow_graph::{GraphFault, PruneFault};
+use loop_expand::ExpandFault;
 use name_check::NameFault;
 use silage_lex::LexFault;
 use silage_parse::ParseFault;
@@ -31,6 +34,9 @@ pub enum FrontFault {
     /// An expression is not of the type that is wanted there, or has no type where it needs one.
     #[error(transparent)]
     Kind(TypeFault),
+    /// The first element that depends on itself without a delay, by its number in the expansion of the program.
+    #[error("loop")]
+    Loop { elem: u32 },
 }
 
 /// Why the front end gives no program.
@@ -96,5 +102,32 @@ impl From<TypeFault> for FrontError {
             TypeFault::Memory => FrontError::Memory,
             fault => FrontError::Fault(FrontFault::Kind(fault)),
         }
+    }
+}
+
+impl From<ExpandFault> for FrontError {
+    ghost from_gives = { λ _ error. error ≡ Memory };
+
+    fn from(_: ExpandFault) -> Self {
+        FrontError::Memory
+    }
+}
+
+impl From<GraphFault> for FrontError {
+    ghost from_gives = { λ fault error. error ≡ of_build fault };
+
+    fn from(fault: GraphFault) -> Self {
+        match fault {
+            GraphFault::Loop(elem) => FrontError::Fault(FrontFault::Loop { elem }),
+            GraphFault::Memory => FrontError::Memory,
+        }
+    }
+}
+
+impl From<PruneFault> for FrontError {
+    ghost from_gives = { λ _ error. error ≡ Memory };
+
+    fn from(_: PruneFault) -> Self {
+        FrontError::Memory
     }
 }

@@ -5,7 +5,9 @@
 #![tactic(auto)]
 
 mod acceptance;
+mod checks;
 mod fault;
+mod graph;
 mod lines;
 mod names;
 mod rejection;

@@ -3,6 +3,14 @@
 ghost use Rattle.std.specs.Prelude.{◌≡◌, IfSome};
 
 use silage_syntax::{Decl, Func, Program, Top};
+use single_def::Elements;
+
+/// An element: the byte at which its declaration stands, and its row-major place in that.
+#[derive(Clone, Copy)]
+pub(crate) struct ElementPlace {
+    pub at: u32,
+    pub place: u32,
+}
 
 /// A program, and an element of it: by the byte at which its declaration stands, and its row-major place in that.
 #[derive(Drop)]
@@ -48,4 +56,31 @@ fn declared_at(func: &Func, at: u32) -> Option<&Decl>
         .chain(func.results.iter())
         .chain(func.locals.iter())
         .find(|decl| decl.at == at)
+}
+
+/// The place of the element with this number in the expansion of the program.
+pub(crate) fn numbered_element(
+    program: &Program,
+    elements: &Elements,
+    number: u32,
+) -> Option<ElementPlace> {
+    let element = elements.elements.get(number as usize)?;
+    let instance = elements.instances.get(element.inst as usize)?;
+    let Top::Func(func) = program.tops.get(instance.func as usize)? else {
+        return None;
+    };
+    let decl = declaration(func, element.decl as usize)?;
+    Some(ElementPlace {
+        at: decl.at,
+        place: element.place,
+    })
+}
+
+/// The declaration with this position among the parameters, results and locals.
+fn declaration(func: &Func, position: usize) -> Option<&Decl> {
+    func.params
+        .iter()
+        .chain(func.results.iter())
+        .chain(func.locals.iter())
+        .nth(position)
 }

@@ -4,9 +4,10 @@ ghost use Rattle.std.specs.Prelude.{◌≡◌, None};
 ghost use Rattle.front_end.specs.declared.fault.FrontError.TheVariants.{Fault};
 ghost use Rattle.front_end.specs.Private.Errors.{of_lex, of_parse};
 
+use crate::checks::Finding;
 use crate::fault::{FrontError, FrontFault};
 use crate::lines::{line_at, line_of};
-use crate::names::NamedElement;
+use crate::names::{ElementPlace, NamedElement};
 use fix_types::TypeFault;
 use name_check::NameFault;
 use silage_lex::{LexFault, Tokens};
@@ -94,9 +95,12 @@ fn kind_place(fault: TypeFault) -> Option<u32> {
     }
 }
 
-/// The byte at which a fault of a program is.
-fn place_of(error: FrontError) -> Option<u32> {
-    match error {
+/// The byte at which a fault of a program is: the declaration of the element that it is about, where it is about one.
+fn place_of(finding: Finding) -> Option<u32> {
+    if let Some(element) = finding.element {
+        return Some(element.at);
+    }
+    match finding.error {
         FrontError::Fault(FrontFault::Name(fault)) => name_place(fault),
         FrontError::Fault(FrontFault::Def(fault)) => def_place(fault),
         FrontError::Fault(FrontFault::Kind(fault)) => kind_place(fault),
@@ -104,23 +108,18 @@ fn place_of(error: FrontError) -> Option<u32> {
     }
 }
 
-/// An element without a definition is the one that its fault is about.
-fn element_of(program: Program, error: FrontError) -> Option<NamedElement> {
-    match error {
-        FrontError::Fault(FrontFault::Def(DefFault::NotDefined { at, place })) => {
-            Some(NamedElement { program, at, place })
-        }
-        _ => None,
-    }
+fn named(program: Program, element: Option<ElementPlace>) -> Option<NamedElement> {
+    let ElementPlace { at, place } = element?;
+    Some(NamedElement { program, at, place })
 }
 
-/// The rejection of a program for what the checks found in it.
-pub(crate) fn check_rejection(source: &[u8], program: Program, error: FrontError) -> Rejection
-    ensures { result.error ≡ error }
+/// The rejection of a program.
+pub(crate) fn reject(source: &[u8], program: Program, finding: Finding) -> Rejection
+    ensures { result.error ≡ finding.error }
 {
     Rejection {
-        error,
-        line: place_of(error).and_then(|at| line_of(source, at)),
-        element: element_of(program, error),
+        error: finding.error,
+        line: place_of(finding).and_then(|at| line_of(source, at)),
+        element: named(program, finding.element),
     }
 }

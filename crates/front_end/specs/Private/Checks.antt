@@ -1,14 +1,26 @@
--- What the checks find in a program that was read.
+-- What the checks and the graph say of a program that was read.
+use Rattle.std.specs.Prelude.{ℕ, List}
 use Rattle.ranked_faults.specs.Ranked.{IsClear, IsFirst}
 use Rattle.silage_syntax.specs.Tree.{Program}
+use Rattle.silage_meaning.specs.Rules.{HasNoDelaylessLoop}
 use Rattle.name_check.specs.NameFaults.{name_faults}
 use Rattle.single_def.specs.ElementFaults.{element_faults}
 use Rattle.fix_types.specs.TypeFaults.{type_faults}
-use Rattle.front_end.specs.Faults.{IsOfSource}
+use Rattle.signal_graph.specs.GraphRules.{IsGraph}
+use Rattle.signal_graph.specs.GraphSolves.{IsGraphLoopless}
+use Rattle.signal_graph.specs.declared.graph.Graph.{Graph}
+use Rattle.loop_expand.specs.KeepsProgram.{KeepsProgramSolutions}
+use Rattle.front_end.specs.Faults.{IsRead, IsOfSource}
+use Rattle.front_end.specs.GraphOf.{IsProgramGraph}
+use Rattle.front_end.specs.Loops.{IsFirstLoop}
 use Rattle.front_end.specs.declared.fault.FrontError.{FrontError}
 use Rattle.front_end.specs.declared.fault.FrontError.TheVariants.{Fault, Memory}
 use Rattle.front_end.specs.declared.fault.FrontFault.{FrontFault}
-use Rattle.front_end.specs.declared.fault.FrontFault.TheVariants.{Name, Def, Kind}
+use Rattle.front_end.specs.declared.fault.FrontFault.TheVariants.{Name, Def, Kind, Loop}
+
+-- some source is this program
+abbrev pub HasSource : Program → Type 0
+HasSource program = (source : List ℕ) × IsRead source program
 
 -- no check finds a fault
 pub record HasNoFault (program : Program) : Type 0 where
@@ -16,15 +28,32 @@ pub record HasNoFault (program : Program) : Type 0 where
   pub elements : IsClear (element_faults program)
   pub types : IsClear (type_faults program)
 
--- the fault is the first that the checks find
-abbrev pub IsFound : Program → FrontFault → Type 0
-IsFound program (Name fault) = IsFirst (name_faults program) fault
-IsFound program (Def fault) = IsClear (name_faults program) × IsFirst (element_faults program) fault
-IsFound program (Kind fault) =
+-- the fault is the first of the program
+abbrev pub IsFirstFault : Program → FrontFault → Type 0
+IsFirstFault program (Name fault) = IsFirst (name_faults program) fault
+IsFirstFault program (Def fault) = IsClear (name_faults program) × IsFirst (element_faults program) fault
+IsFirstFault program (Kind fault) =
     IsClear (name_faults program) × IsClear (element_faults program) × IsFirst (type_faults program) fault
-IsFound program _ = ⊥
+IsFirstFault program (Loop elem) =
+    IsClear (name_faults program) × IsClear (element_faults program) × IsClear (type_faults program)
+    × IsFirstLoop program elem
+IsFirstFault program _ = ⊥
 
--- the checks find the fault of the error, or there was no memory
+-- the program has the fault of the error, or there was no memory
 abbrev pub IsCheckError : Program → FrontError → Type 0
-IsCheckError program (Fault fault) = IsOfSource fault × IsFound program fault
+IsCheckError program (Fault fault) = IsOfSource fault × IsFirstFault program fault
 IsCheckError program Memory = Unit {0}
+
+-- the program has no delay-free loop, and this is its graph
+pub record IsGraphFor (program : Program) (graph : Graph) : Type 0 where
+  pub loops : HasNoDelaylessLoop program
+  pub made : IsProgramGraph program graph
+  pub sound : IsGraph graph
+  pub loopless : IsGraphLoopless graph
+  pub keeps : KeepsProgramSolutions program graph
+
+-- the program has this first delay-free loop, or there was no memory
+abbrev pub IsGraphError : Program → FrontError → Type 0
+IsGraphError program (Fault (Loop elem)) = IsFirstLoop program elem
+IsGraphError program (Fault _) = ⊥
+IsGraphError program Memory = Unit {0}

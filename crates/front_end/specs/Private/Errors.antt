@@ -1,6 +1,8 @@
 -- The error that the fault of a phase comes to.
 use Rattle.fix_types.specs.declared.fault.TypeFault.{TypeFault}
 use Rattle.fix_types.specs.declared.fault.TypeFault.TheVariants as kind
+use Rattle.flow_graph.specs.declared.fault.GraphFault.{GraphFault}
+use Rattle.flow_graph.specs.declared.fault.GraphFault.TheVariants as graph
 use Rattle.name_check.specs.declared.fault.NameFault.{NameFault}
 use Rattle.name_check.specs.declared.fault.NameFault.TheVariants as name
 use Rattle.silage_lex.specs.declared.LexFault.{LexFault}
@@ -11,7 +13,7 @@ use Rattle.single_def.specs.declared.fault.DefFault.{DefFault}
 use Rattle.single_def.specs.declared.fault.DefFault.TheVariants as def
 use Rattle.front_end.specs.declared.fault.FrontError.{FrontError}
 use Rattle.front_end.specs.declared.fault.FrontError.TheVariants.{Fault, Memory}
-use Rattle.front_end.specs.declared.fault.FrontFault.TheVariants.{Lex, Parse, Name, Def, Kind}
+use Rattle.front_end.specs.declared.fault.FrontFault.TheVariants.{Lex, Parse, Name, Def, Kind, Loop}
 
 abbrev pub of_lex : LexFault → FrontError
 of_lex lex.Memory = Memory
@@ -32,3 +34,7 @@ of_defs fault = Fault (Def fault)
 abbrev pub of_types : TypeFault → FrontError
 of_types kind.Memory = Memory
 of_types fault = Fault (Kind fault)
+
+abbrev pub of_build : GraphFault → FrontError
+of_build (graph.Loop elem) = Fault (Loop elem)
+of_build graph.Memory = Memory

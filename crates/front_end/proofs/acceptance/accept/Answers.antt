@@ -1,15 +1,17 @@
-use Rattle.std.proofs.Common.{arith, List, ℕ}
+use Rattle.std.proofs.Common.{List, ℕ}
 use Rattle.std.proofs.lemmas.Result.{err_from_is_err_and}
 use Rattle.silage_syntax.specs.Tree.{Program, view}
+use Rattle.signal_graph.specs.declared.graph.Graph.{Graph}
 use Rattle.front_end.specs.Faults.{IsRead, HasProgram}
-use Rattle.front_end.specs.Private.Checks.{HasNoFault}
-use Rattle.front_end.proofs.Counts.{few_tops, short_numbers}
+use Rattle.front_end.specs.Private.Checks.{HasNoFault, IsGraphFor}
 use Rattle.front_end.proofs.FirstFaults.{source_error}
 use Rattle.front_end.proofs.OneAnswer.{one_program, program_error, fault_error, no_fault}
 use Rattle.front_end.proofs.acceptance.accept.Goals as goal
 
-has_program : (source : List ℕ) (program : Program) → IsRead source program → HasNoFault program → HasProgram source program
-has_program source program read none = record { read = read; names = none.names; elements = none.elements; types = none.types }
+has_program : (source : List ℕ) (program : Program) (graph : Graph) → IsRead source program → HasNoFault program → IsGraphFor program graph
+    → HasProgram source program
+has_program source program graph read none is =
+    record { read = read; names = none.names; elements = none.elements; types = none.types; loops = is.loops }
 
 pub returns-in_err-program-clause-each_program : goal.returns-in_err-program-clause-each_program
 returns-in_err-program-clause-each_program c =
@@ -23,34 +25,44 @@ returns-in_err-program-clause-each_fault c =
     rw (p.1, p.2)
     (λ fault has. fault_error c.args.source.now c.in_err-program.field-0.0.error c.in_err-program.ensures.err fault has)
 
-pub check-requires-clause-few : goal.check-requires-clause-few
-check-requires-clause-few c =
-    let read = c.in_ok-program.ensures.ok in
-    omega (arith, read.size, few_tops c.args.source.now (view c.in_ok-program.program) read)
+pub checked_graph-requires : goal.checked_graph-requires
+checked_graph-requires c = (c.args.source.now, c.in_ok-program.ensures.ok)
 
-pub check-requires-clause-numbers : goal.check-requires-clause-numbers
-check-requires-clause-numbers c = short_numbers c.args.source.now (view c.in_ok-program.program) c.in_ok-program.ensures.ok
+pub returns-in-Ok-clause-ok : goal.returns-in-Ok-clause-ok
+returns-in-Ok-clause-ok c =
+    has_program c.args.source.now (view c.in_ok-program.program) c.in-Ok.graph c.in_ok-program.ensures.ok c.in-Ok.ensures.ok
+    c.in-Ok.ensures.graph
 
 pub returns-in-Ok-clause-each_program : goal.returns-in-Ok-clause-each_program
 returns-in-Ok-clause-each_program c = λ program has.
     one_program c.args.source.now program (view c.in_ok-program.program) has
-    (has_program c.args.source.now (view c.in_ok-program.program) c.in_ok-program.ensures.ok c.in-Ok.ensures.ok)
+    (has_program c.args.source.now (view c.in_ok-program.program) c.in-Ok.graph c.in_ok-program.ensures.ok c.in-Ok.ensures.ok
+    c.in-Ok.ensures.graph)
 
 pub returns-in-Ok-clause-each_fault : goal.returns-in-Ok-clause-each_fault
 returns-in-Ok-clause-each_fault c = λ fault has.
     no_fault c.args.source.now (view c.in_ok-program.program)
-    (has_program c.args.source.now (view c.in_ok-program.program) c.in_ok-program.ensures.ok c.in-Ok.ensures.ok) fault has
+    (has_program c.args.source.now (view c.in_ok-program.program) c.in-Ok.graph c.in_ok-program.ensures.ok c.in-Ok.ensures.ok
+    c.in-Ok.ensures.graph)
+    fault has
+
+pub returns-in-Err-clause-err : goal.returns-in-Err-clause-err
+returns-in-Err-clause-err c =
+    rw c.reject.ensures
+    (source_error (view c.in_ok-program.program) c.args.source.now c.in_ok-program.ensures.ok c.in-Err.finding.error c.in-Err.ensures.err)
 
 pub returns-in-Err-clause-each_program : goal.returns-in-Err-clause-each_program
 returns-in-Err-clause-each_program c =
-    rw c.check_rejection.ensures
+    rw c.reject.ensures
     (λ program has.
-    program_error c.args.source.now c.in-Err.error
-    (source_error (view c.in_ok-program.program) c.args.source.now c.in_ok-program.ensures.ok c.in-Err.error c.in-Err.ensures.err) program has)
+    program_error c.args.source.now c.in-Err.finding.error
+    (source_error (view c.in_ok-program.program) c.args.source.now c.in_ok-program.ensures.ok c.in-Err.finding.error c.in-Err.ensures.err)
+    program has)
 
 pub returns-in-Err-clause-each_fault : goal.returns-in-Err-clause-each_fault
 returns-in-Err-clause-each_fault c =
-    rw c.check_rejection.ensures
+    rw c.reject.ensures
     (λ fault has.
-    fault_error c.args.source.now c.in-Err.error
-    (source_error (view c.in_ok-program.program) c.args.source.now c.in_ok-program.ensures.ok c.in-Err.error c.in-Err.ensures.err) fault has)
+    fault_error c.args.source.now c.in-Err.finding.error
+    (source_error (view c.in_ok-program.program) c.args.source.now c.in_ok-program.ensures.ok c.in-Err.finding.error c.in-Err.ensures.err)
+    fault has)

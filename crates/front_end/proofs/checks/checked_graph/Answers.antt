@@ -1,0 +1,31 @@
+use Rattle.silage_syntax.specs.Tree.{view}
+use Rattle.front_end.proofs.Counts.{checked}
+use Rattle.front_end.proofs.FirstFaults.{graph_error}
+use Rattle.front_end.proofs.checks.checked_graph.Goals as goal
+
+pub graph_of-requires : goal.graph_of-requires
+graph_of-requires c = (
+  view c.args.program.now,
+  record {
+    checked = checked c.requires.0 (view c.args.program.now) c.requires.1 c.in_ok-checked.ensures.ok;
+    program = c.in_ok-checked.ensures.typed;
+    elements = c.in_ok-checked.ensures.elements;
+  },
+)
+
+pub returns-in-Ok-clause-graph : goal.returns-in-Ok-clause-graph
+returns-in-Ok-clause-graph c =
+    c.in-Ok.ensures.ok (view c.args.program.now) (record {
+      checked = checked c.requires.0 (view c.args.program.now) c.requires.1 c.in_ok-checked.ensures.ok;
+      program = c.in_ok-checked.ensures.typed;
+      elements = c.in_ok-checked.ensures.elements;
+    })
+
+pub returns-clause-err : goal.returns-clause-err
+returns-clause-err c =
+    graph_error (view c.args.program.now) c.in_ok-checked.ensures.ok c.in-Err.error
+    (c.in-Err.ensures.err (view c.args.program.now) (record {
+      checked = checked c.requires.0 (view c.args.program.now) c.requires.1 c.in_ok-checked.ensures.ok;
+      program = c.in_ok-checked.ensures.typed;
+      elements = c.in_ok-checked.ensures.elements;
+    }))

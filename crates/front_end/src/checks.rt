@@ -1,0 +1,86 @@
+//! The checks of a program that was read, and its graph.
+
+ghost use Rattle.std.specs.Prelude.{◌≡◌, IfOk, IfErr, OnOk};
+ghost use Rattle.silage_syntax.specs.Tree.{view};
+ghost use Rattle.single_def.specs.Expansion.{IsExpansion};
+ghost use Rattle.fix_types.specs.Translation.{typed_program};
+ghost use Rattle.fix_types.specs.TypedTree.{view_typed};
+ghost use Rattle.front_end.specs.Private.Checks.{HasSource, HasNoFault, IsCheckError, IsGraphFor};
+
+use crate::fault::{FrontError, FrontFault};
+use crate::graph::graph_of;
+use crate::names::{ElementPlace, numbered_element};
+use fix_types::{Typed, check_types};
+use name_check::check_names;
+use signal_graph::Graph;
+use silage_syntax::Program;
+use single_def::{DefFault, Elements, check_defs};
+use std::alloc::Global;
+
+/// What the checks give of a program.
+#[derive(Drop)]
+struct Checked {
+    elements: Elements,
+    typed: Typed,
+}
+
+/// Why a program is rejected, and the element that the fault is about, where it is about one.
+#[derive(Clone, Copy)]
+pub(crate) struct Finding {
+    pub error: FrontError,
+    pub element: Option<ElementPlace>,
+}
+
+impl From<FrontError> for Finding {
+    ghost from_gives = { λ error finding. finding.error ≡ error };
+
+    /// Of the checks' faults, only that an element has no definition is about an element.
+    fn from(error: FrontError) -> Self {
+        let element = match error {
+            FrontError::Fault(FrontFault::Def(DefFault::NotDefined { at, place })) => {
+                Some(ElementPlace { at, place })
+            }
+            _ => None,
+        };
+        Finding { error, element }
+    }
+}
+
+/// Checks the names of a program, then its elements, then its types.
+fn check(alloc: Global, program: &Program) -> Result<Checked, FrontError>
+    requires { HasSource (view program.now) }
+    ensures ok { OnOk result (HasNoFault (view program.now)) }
+    ensures elements { IfOk result (λ checked. IsExpansion (view program.now) checked.elements) }
+    ensures typed { IfOk result (λ checked. view_typed checked.typed ≡ typed_program (view program.now)) }
+    ensures err { IfErr result (IsCheckError (view program.now)) }
+{
+    let names = check_names(alloc, program)?;
+    let elements = check_defs(alloc, program, &names)?;
+    let typed = check_types(alloc, program, &names)?;
+    Ok(Checked { elements, typed })
+}
+
+/// The element that a delay-free loop is about.
+fn looped(program: &Program, elements: &Elements, error: FrontError) -> Option<ElementPlace> {
+    match error {
+        FrontError::Fault(FrontFault::Loop { elem }) => numbered_element(program, elements, elem),
+        _ => None,
+    }
+}
+
+/// Checks a program, then makes its graph.
+pub(crate) fn checked_graph(alloc: Global, program: &Program) -> Result<Graph, Finding>
+    requires { HasSource (view program.now) }
+    ensures ok { OnOk result (HasNoFault (view program.now)) }
+    ensures graph { IfOk result (IsGraphFor (view program.now)) }
+    ensures err { IfErr result (λ finding. IsCheckError (view program.now) finding.error) }
+{
+    let checked = check(alloc, program)?;
+    match graph_of(alloc, &checked.typed, &checked.elements) {
+        Ok(graph) => Ok(graph),
+        Err(error) => Err(Finding {
+            error,
+            element: looped(program, &checked.elements, error),
+        }),
+    }
+}
