@@ -16,7 +16,7 @@ use Rattle.loop_expand.proofs.Numbers.{stands, below, element_once}
 use Rattle.loop_expand.proofs.OnceTables.{distinct_numbers}
 use Rattle.flow_graph.specs.Loops as graph
 use Rattle.front_end.specs.Loops.{IsInLoop, IsFirstLoop}
-use Rattle.front_end.proofs.FlatLoops.{depends_back, depends_on}
+use Rattle.loop_expand.proofs.FlatLoops.{depends_back, depends_on}
 
 -- a program has one expansion
 one_expansion : (p : Program) (a b : Elements) → IsExpansion p a → IsExpansion p b → a ≡ b

@@ -14,7 +14,6 @@ pub mod ProgramSystem
 pub mod FlatFits
 pub mod TypedReads
 pub mod FlatLoops
-pub mod FirstLoops
 pub mod PassedItems
 pub mod FlatTypes
 pub mod FlatInits

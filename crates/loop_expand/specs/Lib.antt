@@ -1,5 +1,4 @@
 pub mod Numbers
-pub mod FirstLoop
 pub mod KeepsProgram
 pub mod FlatOf
 pub mod Kept
