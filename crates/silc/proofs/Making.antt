@@ -8,11 +8,11 @@ use Rattle.desk_core.proofs.WholeLemmas.{through_from}
 use Rattle.silc.specs.Compile.{IsDone, IsUnread, IsCutShort, IsCompileError, IsAnswer}
 use Rattle.silc.specs.Endings.{IsNotWritten}
 use Rattle.silc.specs.Limits.{text_limit}
-use Rattle.silc.specs.Private.Compiling.{IsInput, IsNoMicrocode, IsMade}
-use Rattle.silc.specs.Private.Reading.{OnlyReads}
-use Rattle.silc.specs.declared.compile.Input.{Input}
+use Rattle.silc.specs.Private.Compiling.{IsNoMicrocode, IsMade}
+use Rattle.silc.specs.Private.Reading.{OnlyReads, IsInput}
+use Rattle.silc.specs.declared.files.Input.{Input}
 use Rattle.silc.specs.declared.status.Status.{Status}
-use Rattle.silc.specs.declared.status.Status.TheVariants.{Done, Memory, Words, Desk, FrontEnd, Image, Samples, Conflict, NotBuilt}
+use Rattle.silc.specs.declared.status.Status.TheVariants.{Done, Memory, Words, Desk, FrontEnd, Path, Image, Samples, Conflict, NotBuilt}
 use Rattle.silc.proofs.Endings.{reads_both, unchanged_still, specified_still, rejected_still, finished_still, not_written_still}
 
 -- why no microcode is made of what was read is why `compile` ends
@@ -27,6 +27,16 @@ module _ (src datapath : Name) (old mid new : View) (first : OnlyReads src src o
       unchanged = (reads_both src datapath old mid new first second).unchanged;
       read = through_from datapath text_limit old mid new first.unchanged.files read;
       why = λ files is. h.1 (content_of (files src)) (source_is files is);
+    },
+  )
+  not_made (Path fault) h = (
+    h.0,
+    record {
+      unchanged = (reads_both src datapath old mid new first second).unchanged;
+      read = through_from datapath text_limit old mid new first.unchanged.files read;
+      why = λ files is.
+          let found = h.1 (content_of (files src)) (content_of (files datapath)) (source_is files is) (path_is files (first.unchanged.files ∙ is)) in
+          record { accepted = found.0; described = found.1 };
     },
   )
   not_made NotBuilt h = record {
@@ -71,6 +81,7 @@ module _ (src datapath out : Name) (old mid new : View) (same : IsUnchanged mid 
   reported Words h = h
   reported Desk h = ⊎_elim (λ early. inl (unread_still early)) (λ late. inr (cut_short_still late)) h
   reported (FrontEnd fault) h = (h.0, rejected_still old mid new same datapath text_limit _ h.1)
+  reported (Path fault) h = (h.0, rejected_still old mid new same datapath text_limit _ h.1)
   reported (Image fault) h = h
   reported (Samples fault) h = h
   reported (Conflict conflict) h = h

@@ -1,9 +1,6 @@
 -- How a machine runs a stream sample by sample, and how the parts of `sim` make up its answer.
-use Rattle.std.specs.declared.alloc.Global.{Global}
-use Rattle.std.proofs.Common.{None, ◌≡◌, sym, ap, ap₂, subst, ◌∙◌, arith, inl, inr, ⊎_elim, ℕ, ◌+◌, ◌*◌, ◌%◌, ◌<◌, ◌≤◌, ◌^◌, List, [], ◌∷◌, ◌++◌, length, replicate, drop, ℤ, length-append, Result, Ok, Err, get_or, IfOk, IfErr}
-use Rattle.std.specs.Prelude.{String}
+use Rattle.std.proofs.Common.{None, ◌≡◌, sym, ap, ap₂, subst, ◌∙◌, arith, inl, inr, ⊎_elim, ℕ, ◌+◌, ◌*◌, ◌%◌, ◌<◌, ◌≤◌, ◌^◌, List, [], ◌∷◌, ◌++◌, length, replicate, drop, ℤ, length-append, get_or}
 use Rattle.std.proofs.Math.Nat.{mul-mod_left, mul-lt-mul_of_pos_right}
-use Rattle.std.proofs.lemmas.Grind.{flat_map-append}
 use Rattle.std.proofs.lemmas.List.{append-nil}
 use Rattle.lists.specs.Rows.{Rows}
 use Rattle.cycle_sim.specs.Machine.{Snapshot, state_of, IsAtSample, IsFirstOfSample}
@@ -22,23 +19,20 @@ use Rattle.sample_io.specs.declared.RowList.{RowList}
 use Rattle.sample_io.specs.Samples.{printed, printed_row, stream_of}
 use Rattle.silc.specs.declared.sim.Kept.{Kept}
 use Rattle.silc.specs.declared.status.Status.{Status}
-use Rattle.silc.specs.declared.status.Status.TheVariants.{Done, Memory, Words, Desk, FrontEnd, Image as bad_image, Samples as bad_samples, Conflict as in_conflict, NotBuilt}
-use Rattle.silc.specs.Command.{IsCommand, IsCompile, IsSim}
-use Rattle.silc.specs.Compile.{IsAnswer}
+use Rattle.silc.specs.declared.status.Status.TheVariants.{Done, Memory, Words, Desk, FrontEnd, Path, Image as bad_image, Samples as bad_samples, Conflict as in_conflict, NotBuilt}
 use Rattle.silc.specs.Endings.{IsNotWritten, IsFinished}
 use Rattle.silc.specs.Limits.{microcode_limit, samples_limit}
 use Rattle.silc.specs.Private.Reading.{OnlyReads}
-use Rattle.silc.specs.Private.Running.{IsLoaded, IsStreamRead, IsRunError, IsMadeRun}
-use Rattle.silc.specs.Sim.{HasRun, IsFirstConflict, HasStream, IsSimUnread, IsSimError, IsSimulated, IsSimCutShort, IsSimAnswer}
+use Rattle.silc.specs.Private.Running.{IsLoaded, IsRunError, IsMadeRun}
+use Rattle.silc.specs.Private.SampleRows.{AreRowsRead}
+use Rattle.silc.specs.Sim.{channels_of, HasRun, IsFirstConflict, HasStream, IsSimUnread, IsSimError, IsSimulated, IsSimCutShort, IsSimAnswer}
 use Rattle.silc.proofs.Endings.{reads_both, unchanged_still, specified_still, rejected_still, finished_still, not_written_still}
-use Rattle.silc.proofs.Samples.{first_rows, first_more, stream_parts}
+use Rattle.silc.proofs.Printing.{printed_more}
+use Rattle.silc.proofs.RowLists.{first_rows, first_more, stream_parts}
 
 -- one more row, for a whole period
 spread_row : (period : ℕ) (stream : Rows) (row : List ℤ) → spread period (stream ++ row ∷ []) ≡ spread period stream ++ replicate period row
 spread_row period stream row = spread-append period stream (row ∷ []) ∙ ap (λ cycles. spread period stream ++ cycles) (append-nil (replicate period row))
-
-printed_more : (rows : Rows) (row : List ℤ) → printed (rows ++ row ∷ []) ≡ printed rows ++ printed_row row
-printed_more rows row = flat_map-append printed_row rows (row ∷ []) ∙ ap (λ text. printed rows ++ text) (append-nil (printed_row row))
 
 one_more : (period : ℕ) (stream : Rows) → length (spread period stream) + period ≡ (length stream + 1) * period
 one_more period stream = omega (arith, length-spread period stream)
@@ -101,6 +95,7 @@ error_before image stream later all (bad_image fault) e h = absurd h
 error_before image stream later all (bad_samples fault) e h = absurd h
 error_before image stream later all (in_conflict conflict) e h = subst (λ rows. IsFirstConflict image rows conflict) e (conflict_before image stream later conflict h)
 error_before image stream later all (FrontEnd fault) e h = absurd h
+error_before image stream later all (Path fault) e h = absurd h
 error_before image stream later all NotBuilt e h = absurd h
 
 -- the machine's own image ran
@@ -126,7 +121,7 @@ module _ (mic samples : Name) (old mid new : View) (machine : Snapshot) (first :
   both : OnlyReads mic samples old new
   both = reads_both mic samples old mid new first second
 
-  module _ (list : RowList) (stream : IsStreamRead samples machine.image mid new list) where
+  module _ (list : RowList) (stream : AreRowsRead samples (channels_of machine.image) mid new list) where
     has_stream : WhereSpecified old (HasStream mic samples machine.image (stream_of list))
     has_stream files is =
         record { microcode = loaded.specified files is; samples_are = stream.specified files (first.unchanged.files ∙ is) }
@@ -152,6 +147,7 @@ module _ (mic samples : Name) (old mid new : View) (machine : Snapshot) (first :
     run_error (bad_image fault) h = absurd h
     run_error (bad_samples fault) h = absurd h
     run_error (FrontEnd fault) h = absurd h
+    run_error (Path fault) h = absurd h
     run_error NotBuilt h = absurd h
 
 -- OUT was written
@@ -221,21 +217,5 @@ module _ (mic samples out : Name) (old mid new : View) (same : IsUnchanged mid n
   sim_reported kept (bad_samples fault) h = rejected_still old mid new same samples samples_limit _ h
   sim_reported kept (in_conflict conflict) h = rejected_still old mid new same samples samples_limit _ h
   sim_reported kept (FrontEnd fault) h = h
+  sim_reported kept (Path fault) h = h
   sim_reported kept NotBuilt h = h
-
--- a command that is done has closed OUT
-pub done_closed : (words : List (String Global)) (old new : View) (kept : Kept) (status : Status) → status ≡ Done → IsCommand words
-    → ((src datapath out : Name) → IsCompile words src datapath out → IsAnswer src datapath out old new status)
-    → ((mic samples out : Name) → IsSim words mic samples out → IsSimAnswer mic samples out old new kept status) → HasOutput None new
-done_closed words old new kept status done (first, second, out, inl form) compile sim =
-    (subst (λ (s : Status). IsAnswer first second out old new s) done (compile first second out form)).0.closed
-done_closed words old new kept status done (first, second, out, inr form) compile sim =
-    (subst (λ (s : Status). IsSimAnswer first second out old new kept s) done (sim first second out form)).2.finished.closed
-
-pub if_ok : {T E : Type 0} (r : Result T E) (P Q : T → Type 0) → ((x : T) → P x → Q x) → IfOk r P → IfOk r Q
-if_ok (Ok x) P Q f h = f x h
-if_ok (Err e) P Q f h = tt
-
-pub if_err : {T E : Type 0} (r : Result T E) (P Q : E → Type 0) → ((e : E) → P e → Q e) → IfErr r P → IfErr r Q
-if_err (Ok x) P Q f h = tt
-if_err (Err e) P Q f h = f e h

@@ -25,9 +25,14 @@ IsCompile = IsFileCommand (codes "compile")
 abbrev pub IsSim : List (String Global) → Name → Name → Name → Type 0
 IsSim = IsFileCommand (codes "sim")
 
+-- the words are `eval SRC SAMPLES OUT`
+abbrev pub IsEval : List (String Global) → Name → Name → Name → Type 0
+IsEval = IsFileCommand (codes "eval")
+
 -- the words are one of the commands, on these files
 abbrev pub IsCommandOn : List (String Global) → Name → Name → Name → Type 0
-IsCommandOn words first second out = IsCompile words first second out ⊎ IsSim words first second out
+IsCommandOn words first second out =
+    IsCompile words first second out ⊎ IsSim words first second out ⊎ IsEval words first second out
 
 -- the words are one of the commands
 abbrev pub IsCommand : List (String Global) → Type 0

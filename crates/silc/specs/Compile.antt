@@ -1,15 +1,18 @@
 -- When each status comes of `compile SRC DP OUT`, and what it leaves.
-use Rattle.std.specs.Prelude.{◌⊎◌}
+use Rattle.std.specs.Prelude.{◌≡◌, ◌⊎◌, Err}
+use Rattle.datapath.specs.PathOf.{path_of}
+use Rattle.datapath.specs.declared.fault.PathFault.{PathFault}
+use Rattle.datapath.specs.declared.fault.PathFault.TheVariants as path
 use Rattle.desk_core.specs.View.{Name, Content, Files, View}
 use Rattle.desk_core.specs.Desk.{IfSpecified, WhereSpecified, ReadFaultsRose, IsPut, content_of}
 use Rattle.desk_core.specs.Whole.{IsUnchangedButInput}
 use Rattle.silc.specs.Endings.{IsRejected, IsNotWritten, IsFinished}
-use Rattle.front_end.specs.Faults.{IsFrontFault, IsOfSource}
+use Rattle.front_end.specs.Faults.{IsOfSource}
 use Rattle.silc.specs.Headline.{IsCompiled, IsNotTaken}
 use Rattle.silc.specs.Limits.{text_limit}
-use Rattle.front_end.specs.declared.fault.FrontFault.{FrontFault}
+use Rattle.silc.specs.Sources.{IsAcceptedSource, HasFrontFault}
 use Rattle.silc.specs.declared.status.Status.{Status}
-use Rattle.silc.specs.declared.status.Status.TheVariants.{Done, Memory, Desk, FrontEnd, NotBuilt}
+use Rattle.silc.specs.declared.status.Status.TheVariants.{Done, Memory, Desk, FrontEnd, Path, NotBuilt}
 
 -- the microcode is compiled from the source and the datapath in the files
 abbrev pub AreCompiled : Name → Name → Content → Files → Type 0
@@ -32,10 +35,17 @@ pub record IsUnread (src datapath : Name) (old new : View) : Type 0 where
   pub unchanged : IsUnchangedButInput old new
   pub rose : ReadFaultsRose src old new ⊎ ReadFaultsRose datapath old new
 
--- the source has the fault; it has a program, but is not compiled over the datapath today
-abbrev pub HasFrontFault : Name → FrontFault → Files → Type 0
-HasFrontFault src fault files = IsFrontFault (content_of (files src)) fault
+-- the source has a program, and the datapath the fault
+pub record HasPathFault (src datapath : Name) (fault : PathFault) (files : Files) : Type 0 where
+  pub accepted : IsAcceptedSource (content_of (files src))
+  pub described : path_of (content_of (files datapath)) ≡ Err fault
 
+-- the fault is one of a datapath; want of memory is a status of its own
+abbrev pub IsOfPath : PathFault → Type 0
+IsOfPath path.Memory = ⊥
+IsOfPath fault = Unit {0}
+
+-- the source has a program and the datapath is one, but the program is not compiled over the datapath today
 abbrev pub AreNotTaken : Name → Name → Files → Type 0
 AreNotTaken src datapath files = IsNotTaken (content_of (files src)) (content_of (files datapath))
 
@@ -45,6 +55,8 @@ IsCompileError src datapath old new Memory = IsUnchangedButInput old new
 IsCompileError src datapath old new Desk = IsUnread src datapath old new
 IsCompileError src datapath old new (FrontEnd fault) =
     IsOfSource fault × IsRejected datapath text_limit (HasFrontFault src fault) old new
+IsCompileError src datapath old new (Path fault) =
+    IsOfPath fault × IsRejected datapath text_limit (HasPathFault src datapath fault) old new
 IsCompileError src datapath old new NotBuilt = IsRejected datapath text_limit (AreNotTaken src datapath) old new
 IsCompileError src datapath old new _ = ⊥
 

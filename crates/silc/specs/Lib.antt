@@ -6,6 +6,9 @@ pub mod Serial
 pub mod Headline
 pub mod Command
 pub mod Endings
+pub mod Samples
+pub mod Sources
 pub mod Compile
 pub mod Sim
+pub mod Eval
 pub mod Private

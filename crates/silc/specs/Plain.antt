@@ -1,38 +1,38 @@
 -- PLAIN, the datapath that programs are compiled for today: an input unit, a rom, an alu and an output unit on one bus.
-use Rattle.std.specs.Prelude.{ℕ, List, [], ◌∷◌, ◌++◌, codes}
-use Rattle.std.specs.Fmt.{decimal}
-use Rattle.std.specs.List.{flat_map}
+use Rattle.std.specs.Prelude.{ℕ, List, [], ◌∷◌, codes}
+use Rattle.datapath.specs.declared.types.Bus.{Bus}
+use Rattle.datapath.specs.declared.types.Datapath.{Datapath}
+use Rattle.datapath.specs.declared.types.Kind.{Kind}
+use Rattle.datapath.specs.declared.types.Kind.TheVariants.{Input, Output, Rom, Alu}
+use Rattle.datapath.specs.declared.types.PortRef.{PortRef}
+use Rattle.datapath.specs.declared.types.Unit as of_unit
 
 -- how many cycles a sample has
 abbrev pub plain_period : ℕ
 plain_period = 16
 
--- the lines of its file
-unfoldable pub plain_lines : List (List ℕ)
-plain_lines =
-    (codes "period = " ++ decimal plain_period)
-    ∷ codes "word = 16"
-    ∷ codes "hold = 0"
-    ∷ codes "[[unit]]"
-    ∷ codes "name = \"inp\""
-    ∷ codes "kind = \"in\""
-    ∷ codes "[[unit]]"
-    ∷ codes "name = \"rom\""
-    ∷ codes "kind = \"rom\""
-    ∷ codes "[[unit]]"
-    ∷ codes "name = \"add\""
-    ∷ codes "kind = \"alu\""
-    ∷ codes "files = [8, 8]"
-    ∷ codes "[[unit]]"
-    ∷ codes "name = \"outp\""
-    ∷ codes "kind = \"out\""
-    ∷ codes "files = [2]"
-    ∷ codes "[[bus]]"
-    ∷ codes "name = \"b0\""
-    ∷ codes "from = [\"inp\", \"rom\", \"add\"]"
-    ∷ codes "to = [\"add.0\", \"add.1\", \"outp.0\"]"
+-- a unit of one cycle
+abbrev pub plain_unit : (name : List ℕ) → Kind → (files : List ℕ) → of_unit.Unit
+plain_unit name kind files =
+    record { name = name; kind = kind; latency = 1; gap = 1; files = files; cells = 0; ram = 0 }
+
+abbrev pub plain_units : List of_unit.Unit
+plain_units =
+    plain_unit (codes "inp") Input []
+    ∷ plain_unit (codes "rom") Rom []
+    ∷ plain_unit (codes "add") Alu (8 ∷ 8 ∷ [])
+    ∷ plain_unit (codes "outp") Output (2 ∷ [])
     ∷ []
 
--- its file: LF ends each line
-unfoldable pub plain_text : List ℕ
-plain_text = flat_map (λ line. line ++ codes "\n") plain_lines
+abbrev pub port : (unit number : ℕ) → PortRef
+port unit number = record { unit = unit; port = number }
+
+abbrev pub plain_ports : List PortRef
+plain_ports = port 2 0 ∷ port 2 1 ∷ port 3 0 ∷ []
+
+-- from all units with a result to all ports
+abbrev pub plain_bus : Bus
+plain_bus = record { name = codes "b0"; from = 0 ∷ 1 ∷ 2 ∷ []; to = plain_ports }
+
+abbrev pub plain_datapath : Datapath
+plain_datapath = record { period = plain_period; word = 16; hold = 0; units = plain_units; buses = plain_bus ∷ [] }

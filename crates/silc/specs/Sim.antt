@@ -13,15 +13,15 @@ use Rattle.micro_image.specs.Run.{Stands, IsRunOut, spread}
 use Rattle.micro_image.specs.Spells.{Spells}
 use Rattle.sample_io.specs.declared.channel.Channel.{Channel}
 use Rattle.sample_io.specs.Channels.{channel_of}
-use Rattle.sample_io.specs.Samples.{RowsOf, IsFirstBadPlace, printed}
+use Rattle.sample_io.specs.Samples.{printed}
 use Rattle.silc.specs.Endings.{IsRejected, IsNotWritten, IsFinished}
 use Rattle.silc.specs.Limits.{microcode_limit, samples_limit}
+use Rattle.silc.specs.Samples.{AreSamples, IsSampleFault}
 use Rattle.silc.specs.declared.sim.Kept.{Kept}
 use Rattle.silc.specs.declared.sim.Kept.TheVariants.{One}
 use Rattle.silc.specs.declared.status.ImageFault.{ImageFault}
 use Rattle.silc.specs.declared.status.ImageFault.TheVariants as image_fault
 use Rattle.silc.specs.declared.status.SampleFault.{SampleFault}
-use Rattle.silc.specs.declared.status.SampleFault.TheVariants as sample_fault
 use Rattle.silc.specs.declared.status.Status.{Status}
 use Rattle.silc.specs.declared.status.Status.TheVariants as status
 
@@ -33,11 +33,6 @@ channels_of image = map channel_of image.inputs
 pub record IsMicrocodeOf (content : Content) (image : Image) : Type 0 where
   pub within : length content ≤ microcode_limit
   pub spells : Spells content image
-
--- the bytes are within the limit, and are the rows of a stream for the image
-pub record AreSamplesFor (image : Image) (content : Content) (stream : Rows) : Type 0 where
-  pub within : length content ≤ samples_limit
-  pub rows : RowsOf content (channels_of image) stream
 
 -- The image ran the stream without a conflict; the machine is in the image's state after it, with each row for a whole
 -- period, and the text is the rows that the run put.
@@ -69,12 +64,6 @@ abbrev pub IsOfMicrocode : ImageFault → Type 0
 IsOfMicrocode (image_fault.File form.Memory) = ⊥
 IsOfMicrocode fault = Unit {0}
 
--- why the bytes are no samples for the image
-abbrev pub IsSampleFault : Image → Content → SampleFault → Type 0
-IsSampleFault image content sample_fault.TooLong = samples_limit < length content
-IsSampleFault image content (sample_fault.Row line at) =
-    (length content ≤ samples_limit) × IsFirstBadPlace content (channels_of image) (record { line = line; at = at })
-
 -- MIC has the image
 abbrev pub HasImage : Name → Files → Image → Type 0
 HasImage mic files image = IsMicrocodeOf (content_of (files mic)) image
@@ -86,7 +75,7 @@ HasSomeImage mic files = (image : Image) × HasImage mic files image
 -- MIC has the image, and SAMPLES the stream for it
 pub record HasStream (mic samples : Name) (image : Image) (stream : Rows) (files : Files) : Type 0 where
   pub microcode : HasImage mic files image
-  pub samples_are : AreSamplesFor image (content_of (files samples)) stream
+  pub samples_are : AreSamples (channels_of image) (content_of (files samples)) stream
 
 -- MIC is no microcode
 abbrev pub HasImageFault : Name → ImageFault → Files → Type 0
@@ -95,7 +84,7 @@ HasImageFault mic fault files = IsImageFault (content_of (files mic)) fault
 -- MIC has an image, and SAMPLES has no stream for it
 abbrev pub HasSampleFault : Name → Name → SampleFault → Files → Type 0
 HasSampleFault mic samples fault files =
-    (image : Image) × HasImage mic files image × IsSampleFault image (content_of (files samples)) fault
+    (image : Image) × HasImage mic files image × IsSampleFault (channels_of image) (content_of (files samples)) fault
 
 -- MIC's image has a conflict in its run over the stream of SAMPLES
 abbrev pub HasConflict : Name → Name → Conflict → Files → Type 0

@@ -2,13 +2,15 @@
 ghost use Rattle.std.specs.Prelude.{◌≡◌, ◌≢◌, MatchOption, None};
 ghost use Rattle.desk_core.specs.View.{Name};
 ghost use Rattle.desk_core.specs.Desk.{FaultsNeverFall, IsUnchanged, IfSpecified, HasOutput};
-ghost use Rattle.silc.specs.Command.{IsFileCommand, IsCommand, IsCommandOn, IsCompile, IsSim};
+ghost use Rattle.silc.specs.Command.{IsFileCommand, IsCommand, IsCommandOn, IsCompile, IsSim, IsEval};
 ghost use Rattle.silc.specs.Compile.{IsDone, IsAnswer};
 ghost use Rattle.silc.specs.Endings.{UsesOnly};
+ghost use Rattle.silc.specs.Eval.{IsEvalDone, IsEvalAnswer};
 ghost use Rattle.silc.specs.Sim.{IsSimDone, IsSimAnswer};
 ghost use Rattle.silc.specs.declared.sim.Kept.TheVariants.{Nothing};
 
 use crate::compile::compile;
+use crate::eval::eval;
 use crate::sim::{Kept, sim};
 use crate::status::{Ending, Status};
 use arrayvec::ArrayString;
@@ -54,18 +56,24 @@ fn run<D: Desk>(alloc: Global, words: &[String], desk: &mut D, kept: &mut Kept) 
         → IsAnswer src datapath out (D.view desk.old) (D.view desk.new) result.status }
     ensures sim_answer { (mic samples out : Name) → IsSim words.now mic samples out
         → IsSimAnswer mic samples out (D.view desk.old) (D.view desk.new) kept.new result.status }
+    ensures eval_answer { (src samples out : Name) → IsEval words.now src samples out
+        → IsEvalAnswer src samples out (D.view desk.old) (D.view desk.new) result.status }
     ensures only { (first second out : Name) → IsCommandOn words.now first second out
         → UsesOnly first second out (D.view desk.old) (D.view desk.new) }
     ensures nothing { result.status ≡ Status.Words → IsUnchanged (D.view desk.old) (D.view desk.new) }
     ensures nothing_kept { result.status ≢ Status.Done → kept.new ≡ Nothing }
     ensures compile_keeps_nothing { (src datapath out : Name) → IsCompile words.now src datapath out
         → kept.new ≡ Nothing }
+    ensures eval_keeps_nothing { (src samples out : Name) → IsEval words.now src samples out → kept.new ≡ Nothing }
 {
     if let Some(found) = command_of("compile", words) {
         return compile(alloc, desk, found.first, found.second, found.output);
     }
     if let Some(found) = command_of("sim", words) {
         return Ending::from(sim(alloc, desk, found.first, found.second, found.output, kept));
+    }
+    if let Some(found) = command_of("eval", words) {
+        return eval(alloc, desk, found.first, found.second, found.output);
     }
     Ending::from(Status::Words)
 }
@@ -126,6 +134,7 @@ fn report<D: Desk>(desk: &mut D, ending: &Ending)
 /// `compile SRC DP OUT` reads a source and a datapath, and writes its microcode to OUT.
 /// `sim MIC SAMPLES OUT` reads microcode and samples, and writes the rows that the microcode puts to OUT. Where it is
 /// done, it keeps the machine that ran them.
+/// `eval SRC SAMPLES OUT` reads a source and samples, and writes the output rows of the source's equations to OUT.
 pub fn silc<D: Desk>(alloc: Global, words: &[String], desk: &mut D, kept: &mut Kept) -> Status
     requires { kept.old ≡ Nothing }
     ensures faults { FaultsNeverFall (D.view desk.old) (D.view desk.new) }
@@ -138,6 +147,10 @@ pub fn silc<D: Desk>(alloc: Global, words: &[String], desk: &mut D, kept: &mut K
     ensures simulated { result ≡ Status.Done → (mic samples out : Name) → IsSim words.now mic samples out
         → IsSimDone mic samples out (D.view desk.old) (D.view desk.new) kept.new }
 
+    // What `eval` writes where it is done: the output rows of the one solution of the source's equations.
+    ensures one_solution { result ≡ Status.Done → (src samples out : Name) → IsEval words.now src samples out
+        → IsEvalDone src samples out (D.view desk.old) (D.view desk.new) }
+
     // OUT is closed where a command is done.
     ensures closed { result ≡ Status.Done → HasOutput None (D.view desk.new) }
 
@@ -147,6 +160,8 @@ pub fn silc<D: Desk>(alloc: Global, words: &[String], desk: &mut D, kept: &mut K
         → IsAnswer src datapath out (D.view desk.old) (D.view desk.new) result }
     ensures sim_answer { (mic samples out : Name) → IsSim words.now mic samples out
         → IsSimAnswer mic samples out (D.view desk.old) (D.view desk.new) kept.new result }
+    ensures eval_answer { (src samples out : Name) → IsEval words.now src samples out
+        → IsEvalAnswer src samples out (D.view desk.old) (D.view desk.new) result }
 
     // What a command leaves alone.
     ensures only { (first second out : Name) → IsCommandOn words.now first second out
@@ -155,6 +170,7 @@ pub fn silc<D: Desk>(alloc: Global, words: &[String], desk: &mut D, kept: &mut K
     ensures nothing_kept { result ≢ Status.Done → kept.new ≡ Nothing }
     ensures compile_keeps_nothing { (src datapath out : Name) → IsCompile words.now src datapath out
         → kept.new ≡ Nothing }
+    ensures eval_keeps_nothing { (src samples out : Name) → IsEval words.now src samples out → kept.new ≡ Nothing }
 {
     let ending = run(alloc, words, desk, kept);
     if ending.status == Status::Done {

@@ -1,57 +1,31 @@
 //! `compile SRC DP OUT`: from the bytes of a source and a datapath to the bytes of the microcode.
-ghost use Rattle.std.specs.Prelude.{◌≢◌, ◌↔◌, IsTrue, OnOk, IfOk, IfErr};
-ghost use Rattle.desk_core.specs.Desk.{FaultsNeverFall, WhereSpecified, content_of};
-ghost use Rattle.desk_core.specs.Whole.{IsReadThrough};
+ghost use Rattle.std.specs.Prelude.{◌≢◌, IfOk, IfErr};
+ghost use Rattle.desk_core.specs.Desk.{FaultsNeverFall};
 ghost use Rattle.silc.specs.Compile.{IsCompileError, IsAnswer};
 ghost use Rattle.silc.specs.Endings.{UsesOnly};
-ghost use Rattle.silc.specs.Limits.{text_limit};
-ghost use Rattle.silc.specs.Private.Compiling.{IsInput, IsShort, IsPlain, IsInputError, IsMicrocode, IsNoMicrocode, IsMade};
-ghost use Rattle.silc.specs.Private.Reading.{OnlyReads};
+ghost use Rattle.silc.specs.Private.Compiling.{IsPathIn, IsNoPath, IsMicrocode, IsNoMicrocode, IsMade};
+ghost use Rattle.silc.specs.Private.Reading.{OnlyReads, IsShort};
 
+use crate::files::{Input, read_input};
 use crate::one_line::one_line;
-use crate::plain::plain_datapath;
+use crate::plain::is_plain;
 use crate::serial::serial_image;
 use crate::status::{Ending, Status};
-use desk_core::{Desk, ReadFault, read_whole, write_whole};
+use datapath::{Datapath, PathFault};
+use desk_core::{Desk, write_whole};
 use front_end::{FrontFault, accept};
 use lists::Bytes;
 use micro_file::encode;
 use std::alloc::Global;
 
-/// The most bytes of a source, and of a datapath.
-const TEXT_LIMIT: u64 = 1 << 20;
-
-/// A source or a datapath, as it was read.
-#[derive(Drop)]
-pub enum Input {
-    Whole(Bytes),
-    TooLong,
-}
-
-/// Reads a source or a datapath whole. One that is too long is rejected later, when its own check comes.
-fn read_input<D: Desk>(alloc: Global, desk: &mut D, name: &str) -> Result<Input, Status>
-    ensures reads { OnlyReads name.now name.now (D.view desk.old) (D.view desk.new) }
-    ensures through { OnOk result (IsReadThrough name.now text_limit (D.view desk.old) (D.view desk.new)) }
-    ensures short { IfOk result IsShort }
-    ensures ok { IfOk result (λ found.
-        WhereSpecified (D.view desk.old) (λ files. IsInput (content_of (files name.now)) found)) }
-    ensures err { IfErr result (IsInputError name.now (D.view desk.old) (D.view desk.new)) }
+/// The datapath that the input describes.
+fn datapath_in(alloc: Global, input: &Input) -> Result<Datapath, Status>
+    ensures ok { IfOk result (IsPathIn input.now) }
+    ensures err { IfErr result (IsNoPath input.now) }
 {
-    match read_whole(alloc, desk, name, TEXT_LIMIT) {
-        Ok(bytes) => Ok(Input::Whole(bytes)),
-        Err(ReadFault::TooLong) => Ok(Input::TooLong),
-        Err(ReadFault::Desk) => Err(Status::Desk),
-        Err(ReadFault::Memory) => Err(Status::Memory),
-    }
-}
-
-/// Whether the datapath is PLAIN.
-fn is_plain(datapath: &Input) -> bool
-    ensures { IsTrue result ↔ IsPlain datapath.now }
-{
-    match datapath {
-        Input::Whole(bytes) => bytes.as_slice() == plain_datapath(),
-        Input::TooLong => false,
+    match input {
+        Input::Whole(bytes) => Ok(datapath::read(alloc, bytes.as_slice())?),
+        Input::TooLong => Err(Status::Path(PathFault::TooLong)),
     }
 }
 
@@ -65,10 +39,11 @@ fn microcode(alloc: Global, source: &Input, datapath: &Input) -> Result<Bytes, E
         return Err(Ending::from(Status::FrontEnd(FrontFault::TooLong)));
     };
     let accepted = accept(alloc, source.as_slice())?;
+    let path = datapath_in(alloc, datapath)?;
     let Some(form) = one_line(&accepted.program) else {
         return Err(Ending::from(Status::NotBuilt));
     };
-    if !is_plain(datapath) {
+    if !is_plain(&path) {
         return Err(Ending::from(Status::NotBuilt));
     }
     let image = serial_image(alloc, &form)?;

@@ -1,5 +1,5 @@
 //! `sim MIC SAMPLES OUT`: from the bytes of microcode and samples to the rows that the microcode puts.
-ghost use Rattle.std.specs.Prelude.{◌≡◌, ◌≢◌, ◌<◌, ◌≤◌, ◌^◌, [], ◌∷◌, ◌++◌, length, map, slice_index_or, Err, IfOk, IfErr, OnOk};
+ghost use Rattle.std.specs.Prelude.{◌≡◌, ◌≢◌, ◌<◌, ◌≤◌, ◌^◌, [], ◌∷◌, ◌++◌, length, map, Err, IfOk, IfErr, OnOk};
 ghost use Rattle.std.specs.List.{All};
 ghost use Rattle.lists.specs.Rows.{Rows};
 ghost use Rattle.cycle_sim.specs.Machine.{IsOperand};
@@ -10,30 +10,24 @@ ghost use Rattle.sample_io.specs.Channels.{IsChannel, channel_of};
 ghost use Rattle.sample_io.specs.Samples.{stream_of};
 ghost use Rattle.silc.specs.Endings.{UsesOnly};
 ghost use Rattle.silc.specs.Limits.{microcode_limit};
-ghost use Rattle.silc.specs.Sim.{HasRun, IsSimError, IsSimAnswer};
+ghost use Rattle.silc.specs.Sim.{channels_of, HasRun, IsSimError, IsSimAnswer};
 ghost use Rattle.silc.specs.Private.Reading.{OnlyReads};
-ghost use Rattle.silc.specs.Private.Running.{IsReadError, IsMachineOf, IsNoMachine, IsLoaded, IsLoadError, IsStreamRead, IsStreamError, IsFresh, IsInput, IsRunError, IsMadeRun};
+ghost use Rattle.silc.specs.Private.Running.{IsMachineOf, IsNoMachine, IsLoaded, IsLoadError, IsFresh, AreImageRows, IsRunError, IsMadeRun};
+ghost use Rattle.silc.specs.Private.SampleRows.{AreRowsRead, IsRowsError};
 ghost use Rattle.silc.specs.declared.sim.Kept.TheVariants.{Nothing};
 
-use crate::status::{ImageFault, SampleFault, Status};
+use crate::files::read_file;
+use crate::samples::{ROW_WORDS, add_row, read_samples, row, row_count};
+use crate::status::{ImageFault, Status};
 use cycle_sim::Machine;
-use desk_core::{Desk, ReadFault, read_whole, write_whole};
+use desk_core::{Desk, write_whole};
 use lists::{Bytes, List};
 use micro_file::decode;
-use sample_io::{Channel, RowList, put_row, read_rows};
+use sample_io::{Channel, RowList};
 use std::alloc::{AllocError, Global};
 
 /// The most bytes of microcode.
 const MICROCODE_LIMIT: u64 = 1 << 26;
-
-/// The most bytes of samples.
-const SAMPLES_LIMIT: u64 = 1 << 20;
-
-/// The most output words of a machine.
-const OUTS: usize = 16;
-
-/// The most bytes of a printed row.
-const LINE: usize = 21 * OUTS + 1;
 
 /// What a command keeps for its caller.
 #[derive(Drop)]
@@ -48,30 +42,6 @@ pub enum Kept {
 struct Run {
     machine: Machine,
     text: Bytes,
-}
-
-/// Reads a file whole. `too_long` is the status where it has more bytes than the limit.
-fn read_file<D: Desk>(
-    alloc: Global,
-    desk: &mut D,
-    name: &str,
-    limit: u64,
-    too_long: Status,
-) -> Result<Bytes, Status>
-    requires { limit < 2 ^ 60 }
-    ensures reads { OnlyReads name.now name.now (D.view desk.old) (D.view desk.new) }
-    ensures through { OnOk result (IsReadThrough name.now limit (D.view desk.old) (D.view desk.new)) }
-    ensures within { IfOk result (λ bytes. length bytes ≤ limit) }
-    ensures content { IfOk result (λ bytes.
-        WhereSpecified (D.view desk.old) (λ files. bytes ≡ content_of (files name.now))) }
-    ensures err { IfErr result (IsReadError name.now limit too_long (D.view desk.old) (D.view desk.new)) }
-{
-    match read_whole(alloc, desk, name, limit) {
-        Ok(bytes) => Ok(bytes),
-        Err(ReadFault::TooLong) => Err(too_long),
-        Err(ReadFault::Desk) => Err(Status::Desk),
-        Err(ReadFault::Memory) => Err(Status::Memory),
-    }
 }
 
 /// The machine of the image that the bytes spell.
@@ -117,13 +87,14 @@ fn read_stream<D: Desk>(
 ) -> Result<RowList, Status>
     requires { IsValid machine.now.image }
     ensures reads { OnlyReads name.now name.now (D.view desk.old) (D.view desk.new) }
-    ensures ok { IfOk result (IsStreamRead name.now machine.now.image (D.view desk.old) (D.view desk.new)) }
-    ensures err { IfErr result (IsStreamError name.now machine.now.image (D.view desk.old) (D.view desk.new)) }
+    ensures ok { IfOk result
+        (AreRowsRead name.now (channels_of machine.now.image) (D.view desk.old) (D.view desk.new)) }
+    ensures rows { IfOk result (AreImageRows machine.now.image) }
+    ensures err { IfErr result
+        (IsRowsError name.now (channels_of machine.now.image) (D.view desk.old) (D.view desk.new)) }
 {
-    let too_long = Status::Samples(SampleFault::TooLong);
-    let samples = read_file(alloc, desk, name, SAMPLES_LIMIT, too_long)?;
     let channels = input_channels(alloc, machine.inputs())?;
-    Ok(read_rows(alloc, &samples, &channels)?)
+    read_samples(alloc, desk, name, &channels)
 }
 
 /// Runs a sample, and adds the row that it puts to the text.
@@ -138,37 +109,21 @@ fn run_row(machine: &mut Machine, row: &[i64], text: &mut Bytes) -> Result<(), S
     ensures err { (stream : Rows) → HasRun machine.old.image stream machine.old text.old
         → IfErr result (IsRunError machine.old.image (stream ++ row.now ∷ [])) }
 {
-    let mut words = [0i64; OUTS];
+    let mut words = [0i64; ROW_WORDS];
     let put = &mut words[..machine.outs()];
     machine.sample(row, put)?;
-    let mut line = [0u8; LINE];
-    let size = put_row(put, &mut line);
-    text.extend_from_slice(&line[..size])?;
-    Ok(())
-}
-
-/// Row n of the list.
-fn row(list: &RowList, n: usize) -> &[i64]
-    requires width { list.now.width ≤ 16 }
-    requires few { length (stream_of list.now) < 2 ^ 48 }
-    requires there { n < length (stream_of list.now) }
-    ensures { result.now ≡ slice_index_or (stream_of list.now) n [] }
-{
-    let width = usize::from(list.width);
-    let (_, rows) = list.words.split_at(n * width);
-    let (row, _) = rows.split_at(width);
-    row
+    Ok(add_row(text, put)?)
 }
 
 /// Runs the rows of the list, one a sample.
 fn run_rows(alloc: Global, mut machine: Machine, list: &RowList) -> Result<Run, Status>
     requires fresh { IsFresh machine }
-    requires input { IsInput machine.image list.now }
+    requires rows { AreImageRows machine.image list.now }
     ensures ok { IfOk result (λ run. HasRun machine.image (stream_of list.now) run.machine run.text) }
     ensures err { IfErr result (IsRunError machine.image (stream_of list.now)) }
 {
     let mut text = Bytes::new(alloc);
-    for n in 0..list.words.len() / usize::from(list.width) {
+    for n in 0..row_count(list) {
         run_row(&mut machine, row(list, n), &mut text)?;
     }
     Ok(Run { machine, text })

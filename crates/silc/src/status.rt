@@ -1,10 +1,12 @@
 ghost use Rattle.std.specs.Prelude.{◌≡◌, None};
 ghost use Rattle.silc.specs.Status.{code_of};
-ghost use Rattle.silc.specs.Private.Statuses.{of_front, of_form, of_rows};
+ghost use Rattle.silc.specs.Private.Statuses.{of_front, of_path, of_form, of_rows};
 ghost use Rattle.silc.specs.declared.status.Status.TheVariants.{Memory, Desk, Conflict as in_conflict};
 
 use cycle_sim::LoadFault;
+use datapath::PathFault;
 use desk_core::Failed;
+use equation_eval::EvalFault;
 use front_end::{FrontError, FrontFault, NamedElement, Rejection};
 use micro_file::{CodeFault, FormFault};
 use micro_image::Conflict;
@@ -58,6 +60,9 @@ pub enum Status {
     /// The source has no program.
     #[error(transparent)]
     FrontEnd(FrontFault),
+    /// The file describes no datapath.
+    #[error(transparent)]
+    Path(PathFault),
     /// The microcode is too long or spells no image.
     #[error(transparent)]
     Image(ImageFault),
@@ -112,6 +117,25 @@ impl From<FrontError> for Status {
             FrontError::Fault(fault) => Status::FrontEnd(fault),
             FrontError::Memory => Status::Memory,
         }
+    }
+}
+
+impl From<PathFault> for Status {
+    ghost from_gives = { λ fault status. status ≡ of_path fault };
+
+    fn from(fault: PathFault) -> Self {
+        match fault {
+            PathFault::Memory => Status::Memory,
+            fault => Status::Path(fault),
+        }
+    }
+}
+
+impl From<EvalFault> for Status {
+    ghost from_gives = { λ _ status. status ≡ Memory };
+
+    fn from(_: EvalFault) -> Self {
+        Status::Memory
     }
 }
 
@@ -185,6 +209,14 @@ impl From<CodeFault> for Ending {
     }
 }
 
+impl From<EvalFault> for Ending {
+    ghost from_gives = { λ _ ending. ending ≡ record { status = Memory; line = None; element = None } };
+
+    fn from(fault: EvalFault) -> Self {
+        Ending::from(Status::from(fault))
+    }
+}
+
 impl From<Failed> for Ending {
     ghost from_gives = { λ _ ending. ending ≡ record { status = Desk; line = None; element = None } };
 
@@ -215,6 +247,7 @@ pub fn code(status: &Status) -> u8
         Status::Words => 2,
         Status::Desk => 3,
         Status::FrontEnd(_) => 4,
+        Status::Path(_) => 5,
         Status::Image(_) => 10,
         Status::Samples(_) => 11,
         Status::Conflict(_) => 12,

@@ -1,10 +1,34 @@
 use desk_core::{Desk, Failed, MemDesk};
 use lists::Bytes;
-use silc::{FrontFault, Kept, LexFault, Status, plain_datapath, silc};
+use silc::{FrontFault, Kept, LexFault, Status, silc};
 use std::alloc::Global;
 use std::test::Fail;
 
 const SOURCE: &[u8] = b"func main(x : fix<8,0>) y : fix<8,0> = begin y = x + 1; end;";
+
+/// The file of the datapath PLAIN.
+const PLAIN: &[u8] = b"period = 16
+word = 16
+hold = 0
+[[unit]]
+name = \"inp\"
+kind = \"in\"
+[[unit]]
+name = \"rom\"
+kind = \"rom\"
+[[unit]]
+name = \"add\"
+kind = \"alu\"
+files = [8, 8]
+[[unit]]
+name = \"outp\"
+kind = \"out\"
+files = [2]
+[[bus]]
+name = \"b0\"
+from = [\"inp\", \"rom\", \"add\"]
+to = [\"add.0\", \"add.1\", \"outp.0\"]
+";
 
 /// How many bytes its microcode has.
 const SIZE: usize = 328;
@@ -23,7 +47,7 @@ fn list(alloc: Global, words: &[&str]) -> Result<Vec<String>, Fail> {
 fn desk_with(alloc: Global, piece: usize, source: &[u8]) -> Result<MemDesk, Fail> {
     let mut desk = MemDesk::new(alloc, piece.max(1));
     desk.put("SRC", source)?;
-    desk.put("DP", plain_datapath())?;
+    desk.put("DP", PLAIN)?;
     Ok(desk)
 }
 

@@ -1,38 +1,29 @@
--- What is read of the inputs of `compile`, and the microcode that is made of them.
-use Rattle.std.specs.Prelude.{◌≡◌, ◌<◌, ◌≤◌, length}
+-- The microcode that `compile` makes of its inputs.
+use Rattle.std.specs.Prelude.{◌≡◌, Ok, Err}
 use Rattle.desk_core.specs.View.{Name, Content, View}
-use Rattle.desk_core.specs.Desk.{WhereSpecified, ReadFaultsRose}
+use Rattle.desk_core.specs.Desk.{WhereSpecified}
 use Rattle.desk_core.specs.Whole.{IsReadThrough}
-use Rattle.silc.specs.Compile.{AreCompiled}
+use Rattle.datapath.specs.PathOf.{path_of}
+use Rattle.datapath.specs.declared.types.Datapath.{Datapath}
+use Rattle.silc.specs.Compile.{AreCompiled, IsOfPath}
 use Rattle.front_end.specs.Faults.{IsFrontFault, IsOfSource}
 use Rattle.silc.specs.Headline.{IsCompiled, IsNotTaken}
 use Rattle.silc.specs.Limits.{text_limit}
-use Rattle.silc.specs.Plain.{plain_text}
-use Rattle.silc.specs.declared.compile.Input.{Input}
-use Rattle.silc.specs.declared.compile.Input.TheVariants.{Whole, TooLong}
+use Rattle.silc.specs.Private.Reading.{IsInput}
+use Rattle.silc.specs.Sources.{IsAcceptedSource}
+use Rattle.silc.specs.declared.files.Input.{Input}
 use Rattle.silc.specs.declared.status.Status.{Status}
-use Rattle.silc.specs.declared.status.Status.TheVariants.{Memory, Desk, FrontEnd, NotBuilt}
+use Rattle.silc.specs.declared.status.Status.TheVariants.{Memory, FrontEnd, Path, NotBuilt}
 
--- the input is all of the content, which is within the limit, or it is too long
-abbrev pub IsInput : Content → Input → Type 0
-IsInput content (Whole bytes) = bytes ≡ content
-IsInput content TooLong = text_limit < length content
+-- the input describes the datapath
+abbrev pub IsPathIn : Input → Datapath → Type 0
+IsPathIn input path = (d : Content) → IsInput d input → path_of d ≡ Ok path
 
--- an input that was read whole is within the limit
-abbrev pub IsShort : Input → Type 0
-IsShort (Whole bytes) = length bytes ≤ text_limit
-IsShort TooLong = Unit {0}
-
--- the input is PLAIN
-abbrev pub IsPlain : Input → Type 0
-IsPlain (Whole bytes) = bytes ≡ plain_text
-IsPlain TooLong = ⊥
-
--- why an input was not read
-abbrev pub IsInputError : Name → View → View → Status → Type 0
-IsInputError name old new Memory = Unit {0}
-IsInputError name old new Desk = ReadFaultsRose name old new
-IsInputError name old new _ = ⊥
+-- why the input describes none
+abbrev pub IsNoPath : Input → Status → Type 0
+IsNoPath input Memory = Unit {0}
+IsNoPath input (Path fault) = IsOfPath fault × ((d : Content) → IsInput d input → path_of d ≡ Err fault)
+IsNoPath input _ = ⊥
 
 -- the microcode is compiled from what the inputs are
 abbrev pub IsMicrocode : Input → Input → Content → Type 0
@@ -44,6 +35,9 @@ abbrev pub IsNoMicrocode : Input → Input → Status → Type 0
 IsNoMicrocode source datapath Memory = Unit {0}
 IsNoMicrocode source datapath (FrontEnd fault) =
     IsOfSource fault × ((s : Content) → IsInput s source → IsFrontFault s fault)
+IsNoMicrocode source datapath (Path fault) =
+    IsOfPath fault
+    × ((s d : Content) → IsInput s source → IsInput d datapath → IsAcceptedSource s × (path_of d ≡ Err fault))
 IsNoMicrocode source datapath NotBuilt = (s d : Content) → IsInput s source → IsInput d datapath → IsNotTaken s d
 IsNoMicrocode source datapath _ = ⊥
 

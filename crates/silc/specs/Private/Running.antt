@@ -4,34 +4,22 @@ use Rattle.std.specs.List.{All}
 use Rattle.lists.specs.Rows.{Rows}
 use Rattle.cycle_sim.specs.Machine.{IsOperand, Snapshot, state_of}
 use Rattle.desk_core.specs.View.{Name, Content, View}
-use Rattle.desk_core.specs.Desk.{WhereSpecified, ReadFaultsRose, content_of}
-use Rattle.desk_core.specs.Whole.{IsAbove, IsReadThrough}
+use Rattle.desk_core.specs.Desk.{WhereSpecified, ReadFaultsRose}
+use Rattle.desk_core.specs.Whole.{IsReadThrough}
 use Rattle.micro_file.specs.declared.fault.FormFault.TheVariants as form
 use Rattle.micro_image.specs.declared.image.Image.{Image}
 use Rattle.micro_image.specs.Run.{Stands}
 use Rattle.micro_image.specs.Spells.{Spells}
-use Rattle.micro_image.specs.Valid.{IsValid, IsWithin}
+use Rattle.micro_image.specs.Valid.{IsValid}
 use Rattle.sample_io.specs.declared.RowList.{RowList}
 use Rattle.sample_io.specs.Samples.{stream_of}
 use Rattle.silc.specs.Limits.{microcode_limit, samples_limit}
-use Rattle.silc.specs.Sim.{AreSamplesFor, HasRun, IsFirstConflict, SpellsNone, IsSampleFault, HasImage, HasImageFault, HasStream}
+use Rattle.silc.specs.Private.SampleRows.{HasRowWidth}
+use Rattle.silc.specs.Sim.{HasRun, IsFirstConflict, SpellsNone, HasImage, HasImageFault, HasStream}
 use Rattle.silc.specs.declared.status.ImageFault.{ImageFault}
 use Rattle.silc.specs.declared.status.ImageFault.TheVariants as image_fault
-use Rattle.silc.specs.declared.status.SampleFault.{SampleFault}
 use Rattle.silc.specs.declared.status.Status.{Status}
 use Rattle.silc.specs.declared.status.Status.TheVariants as status
-
--- the file was read through, and has more bytes than the limit
-pub record IsTooLong (name : Name) (limit : ℕ) (old new : View) : Type 0 where
-  pub read : IsReadThrough name limit old new
-  pub above : IsAbove limit name old
-
--- why a file was not read whole; `too_long` is the status where it has more bytes than the limit
-abbrev pub IsReadError : Name → ℕ → Status → View → View → Status → Type 0
-IsReadError name limit too_long old new error =
-    (error ≡ status.Memory)
-    ⊎ ((error ≡ status.Desk) × ReadFaultsRose name old new)
-    ⊎ ((error ≡ too_long) × IsTooLong name limit old new)
 
 -- a machine before the first cycle of a valid image
 pub record IsFresh (machine : Snapshot) : Type 0 where
@@ -76,28 +64,10 @@ pub record IsInputRow (image : Image) (row : List ℤ) : Type 0 where
   pub words : All IsOperand row
 
 -- the list holds a stream that the image can run
-pub record IsInput (image : Image) (list : RowList) : Type 0 where
-  pub width : IsWithin 1 16 list.width
+pub record AreImageRows (image : Image) (list : RowList) : Type 0 where
+  pub width : HasRowWidth list
   pub rows : All (IsInputRow image) (stream_of list)
   pub few : length (stream_of list) < 2 ^ 48
-
--- the stream for the image that SAMPLES has, which was read through
-pub record IsStreamRead (samples : Name) (image : Image) (old new : View) (list : RowList) : Type 0 where
-  pub read : IsReadThrough samples samples_limit old new
-  pub input : IsInput image list
-  pub specified : WhereSpecified old (λ files. AreSamplesFor image (content_of (files samples)) (stream_of list))
-
--- SAMPLES was read through, and has no stream for the image
-pub record IsBadSamples (samples : Name) (image : Image) (fault : SampleFault) (old new : View) : Type 0 where
-  pub read : IsReadThrough samples samples_limit old new
-  pub why : WhereSpecified old (λ files. IsSampleFault image (content_of (files samples)) fault)
-
--- why no stream for the image was read
-abbrev pub IsStreamError : Name → Image → View → View → Status → Type 0
-IsStreamError samples image old new (status.Memory) = Unit {0}
-IsStreamError samples image old new (status.Desk) = ReadFaultsRose samples old new
-IsStreamError samples image old new (status.Samples fault) = IsBadSamples samples image fault old new
-IsStreamError samples image old new _ = ⊥
 
 -- why an image did not run the stream to its end
 abbrev pub IsRunError : Image → Rows → Status → Type 0

@@ -1,4 +1,6 @@
 -- The statuses that faults of other crates come to.
+use Rattle.datapath.specs.declared.fault.PathFault.{PathFault}
+use Rattle.datapath.specs.declared.fault.PathFault.TheVariants as path
 use Rattle.front_end.specs.declared.fault.FrontError.{FrontError}
 use Rattle.front_end.specs.declared.fault.FrontError.TheVariants.{Fault}
 use Rattle.front_end.specs.declared.fault.FrontError.TheVariants as front
@@ -9,12 +11,17 @@ use Rattle.sample_io.specs.declared.RowsReadFault.TheVariants as rows
 use Rattle.silc.specs.declared.status.ImageFault.TheVariants.{File}
 use Rattle.silc.specs.declared.status.SampleFault.TheVariants as sample
 use Rattle.silc.specs.declared.status.Status.{Status}
-use Rattle.silc.specs.declared.status.Status.TheVariants.{Memory, FrontEnd, Image, Samples}
+use Rattle.silc.specs.declared.status.Status.TheVariants.{Memory, FrontEnd, Path, Image, Samples}
 
 -- the status where a source has no program
 abbrev pub of_front : FrontError → Status
 of_front (Fault fault) = FrontEnd fault
 of_front front.Memory = Memory
+
+-- the status where a file describes no datapath
+abbrev pub of_path : PathFault → Status
+of_path path.Memory = Memory
+of_path fault = Path fault
 
 -- the status where microcode is not decoded
 abbrev pub of_form : FormFault → Status

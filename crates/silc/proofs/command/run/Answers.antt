@@ -5,3 +5,6 @@ returns-clause-answer g c = λ src datapath out form. absurd (c.in_default.ensur
 
 pub returns-clause-sim_answer : goal.returns-clause-sim_answer
 returns-clause-sim_answer g c = λ mic samples out form. absurd (c.in_default-command_of.ensures mic samples out form)
+
+pub returns-clause-eval_answer : goal.returns-clause-eval_answer
+returns-clause-eval_answer g c = λ src samples out form. absurd (c.in_default-command_of-2.ensures src samples out form)

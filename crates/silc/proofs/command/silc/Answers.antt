@@ -1,10 +1,13 @@
 use Rattle.std.proofs.Common.{subst, sym, ◌∙◌}
 use Rattle.silc.specs.Compile.{IsAnswer}
+use Rattle.silc.specs.Eval.{IsEvalAnswer}
 use Rattle.silc.specs.Sim.{IsSimAnswer}
 use Rattle.silc.specs.declared.status.Status.{Status}
 use Rattle.silc.proofs.Endings.{uses_still}
 use Rattle.silc.proofs.Making.{reported}
-use Rattle.silc.proofs.Simulating.{sim_reported, done_closed}
+use Rattle.silc.proofs.Closed.{done_closed}
+use Rattle.silc.proofs.Simulating.{sim_reported}
+use Rattle.silc.proofs.Solving.{eval_reported}
 use Rattle.silc.proofs.command.silc.Goals as goal
 
 pub returns-clause-answer : goal.returns-clause-answer
@@ -19,6 +22,13 @@ returns-clause-sim_answer g c =
     sim_reported mic samples out (g.D.Desk.view c.args.desk.now) (g.D.Desk.view c.run-ending.new.desk) (g.D.Desk.view c.report.new.desk)
     c.report.ensures.unchanged c.report.ensures.faults c.run-ending.ensures.faults c.run-ending.new.kept c.run-ending.result.status
     (c.run-ending.ensures.sim_answer mic samples out form)
+
+pub returns-clause-eval_answer : goal.returns-clause-eval_answer
+returns-clause-eval_answer g c =
+    λ src samples out form.
+    eval_reported src samples out (g.D.Desk.view c.args.desk.now) (g.D.Desk.view c.run-ending.new.desk) (g.D.Desk.view c.report.new.desk)
+    c.report.ensures.unchanged c.report.ensures.faults c.run-ending.ensures.faults c.run-ending.result.status
+    (c.run-ending.ensures.eval_answer src samples out form)
 
 pub returns-clause-only : goal.returns-clause-only
 returns-clause-only g c =
@@ -38,7 +48,13 @@ returns-then-eq-clause-simulated g c =
     subst (λ (s : Status). IsSimAnswer mic samples out (g.D.Desk.view c.args.desk.now) (g.D.Desk.view c.run-ending.new.desk) c.run-ending.new.kept s) done
     (c.run-ending.ensures.sim_answer mic samples out form)
 
+pub returns-then-eq-clause-one_solution : goal.returns-then-eq-clause-one_solution
+returns-then-eq-clause-one_solution g c =
+    λ done src samples out form.
+    subst (λ (s : Status). IsEvalAnswer src samples out (g.D.Desk.view c.args.desk.now) (g.D.Desk.view c.run-ending.new.desk) s) done
+    (c.run-ending.ensures.eval_answer src samples out form)
+
 pub returns-then-eq-clause-closed : goal.returns-then-eq-clause-closed
 returns-then-eq-clause-closed g c = λ done.
     done_closed c.args.words.now (g.D.Desk.view c.args.desk.now) (g.D.Desk.view c.run-ending.new.desk) c.run-ending.new.kept c.run-ending.result.status done
-    (c.run-ending.ensures.words (λ words. let e = sym done ∙ words in cc)) c.run-ending.ensures.answer c.run-ending.ensures.sim_answer
+    (c.run-ending.ensures.words (λ words. let e = sym done ∙ words in cc)) c.run-ending.ensures.answer c.run-ending.ensures.sim_answer c.run-ending.ensures.eval_answer

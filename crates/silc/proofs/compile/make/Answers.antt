@@ -1,5 +1,5 @@
 use Rattle.silc.proofs.Making.{not_made}
-use Rattle.silc.proofs.Simulating.{if_err}
+use Rattle.silc.proofs.Results.{if_err}
 use Rattle.silc.proofs.compile.make.Goals as goal
 
 pub returns-clause-err : goal.returns-clause-err

@@ -1,4 +1,4 @@
-use Rattle.std.proofs.Common.{inr, ◌++◌, ◌∙◌, ap}
+use Rattle.std.proofs.Common.{inr}
 use Rattle.std.proofs.lemmas.Result.{err_from_is_err_and}
 use Rattle.silc.proofs.Simulating.{at_sample, ran_more, conflict_in_row}
 use Rattle.silc.proofs.sim.run_row.Goals as goal
@@ -14,6 +14,6 @@ returns-in_err-sample-clause-err c = λ stream ran.
 
 pub returns-clause-ok : goal.returns-clause-ok
 returns-clause-ok c = λ stream ran.
-    ran_more c.args.machine.now.image stream c.args.row.now c.sample.new.put c.args.machine.now c.sample.new.self c.args.text.now c.extend_from_slice.new.self
+    ran_more c.args.machine.now.image stream c.args.row.now c.sample.new.put c.args.machine.now c.sample.new.self c.args.text.now c.add_row.new.text
     ran c.in_ok-sample.ensures.image (c.in_ok-sample.ensures.stands _ ran.stands) (c.in_ok-sample.ensures.puts _ ran.stands)
-    (c.in_ok-extend_from_slice.ensures.ok ∙ ap (λ line. c.args.text.now ++ line) c.put_row-size.ensures.line)
+    c.in_ok-add_row.ensures

@@ -1,5 +1,5 @@
 use Rattle.silc.specs.Sim.{HasRun}
-use Rattle.silc.proofs.Samples.{first_rows}
+use Rattle.silc.proofs.RowLists.{first_rows}
 use Rattle.silc.proofs.sim.run_rows.Given as goal
 
 abbrev pub invariant-loop-n : goal.invariant-loop-n

@@ -1,4 +1,5 @@
-use Rattle.silc.proofs.Simulating.{made_run, run_error, if_ok, if_err}
+use Rattle.silc.proofs.Results.{if_ok, if_err}
+use Rattle.silc.proofs.Simulating.{made_run, run_error}
 use Rattle.silc.proofs.sim.simulate.Goals as goal
 
 pub returns-clause-ok : goal.returns-clause-ok

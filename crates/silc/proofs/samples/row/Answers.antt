@@ -1,6 +1,6 @@
 use Rattle.std.proofs.Common.{arith, ◌*◌, ◌≤◌, length}
-use Rattle.silc.proofs.Samples.{row_within, row_room, row_split}
-use Rattle.silc.proofs.sim.row.Goals as goal
+use Rattle.silc.proofs.RowLists.{row_within, row_room, row_split}
+use Rattle.silc.proofs.samples.row.Goals as goal
 
 pub split_at-requires : goal.split_at-requires
 split_at-requires c =

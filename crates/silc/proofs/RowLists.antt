@@ -1,5 +1,5 @@
 -- The rows of a list as a stream, and what their channels say of them.
-use Rattle.std.proofs.Common.{◌≡◌, refl, sym, ap, ap₂, subst, ◌∙◌, arith, ⊎_elim, inl, inr, ℕ, ◌+◌, ◌-◌, ◌*◌, ◌/◌, ◌<◌, ◌≤◌, List, [], ◌∷◌, ◌++◌, length, map, get_or, take, drop, ℤ, pos, negsuc, mul-le-mul_right, length-append, length-drop, take-append-drop}
+use Rattle.std.proofs.Common.{◌≡◌, refl, sym, ap, subst, ◌∙◌, arith, ⊎_elim, inl, inr, ℕ, ◌+◌, ◌-◌, ◌*◌, ◌/◌, ◌<◌, ◌≤◌, List, [], ◌∷◌, ◌++◌, length, map, get_or, take, drop, ℤ, pos, negsuc, mul-le-mul_right, length-append, length-drop, take-append-drop}
 use Rattle.std.specs.List.{All, range_with_len}
 use Rattle.std.proofs.Math.Nat.{div-mul-le_self}
 use Rattle.std.proofs.lemmas.Int.{ints}
@@ -11,16 +11,17 @@ use Rattle.cycle_sim.specs.Machine.{IsOperand}
 use Rattle.desk_core.specs.View.{Name, Content, View}
 use Rattle.desk_core.specs.Desk.{WhereSpecified, content_of}
 use Rattle.desk_core.specs.Whole.{IsReadThrough}
-use Rattle.micro_image.specs.Valid.{IsValid, IsWithin}
+use Rattle.micro_image.specs.Valid.{IsValid}
 use Rattle.micro_image.specs.declared.image.Image.{Image}
 use Rattle.sample_io.specs.declared.channel.Channel.{Channel}
 use Rattle.sample_io.specs.declared.RowList.{RowList}
-use Rattle.sample_io.specs.Channels.{IsInChannel, IsChannel, IsRow, IsStream, channel_of}
+use Rattle.sample_io.specs.Channels.{IsInChannel, IsChannel, AreChannels, IsRow, IsStream, channel_of}
 use Rattle.sample_io.specs.Samples.{IsLine, Lines, RowsOf, row_of, stream_of}
 use Rattle.sample_io.proofs.Streams.{RowsOf-stream}
 use Rattle.silc.specs.Limits.{samples_limit}
 use Rattle.silc.specs.Sim.{channels_of}
-use Rattle.silc.specs.Private.Running.{IsInputRow, IsStreamRead}
+use Rattle.silc.specs.Private.Running.{IsInputRow, AreImageRows}
+use Rattle.silc.specs.Private.SampleRows.{AreRowsRead}
 
 -- the first n rows of a list
 abbrev pub first_rows : RowList → ℕ → Rows
@@ -28,10 +29,6 @@ first_rows list n = map (row_of list) (range_with_len 0 n)
 
 pub rows_count : (list : RowList) → length (stream_of list) ≡ length list.words / list.width
 rows_count list = length-map-range_with_len (row_of list) 0 (length list.words / list.width)
-
--- a number below the count of rows is a row's
-pub is_below : (list : RowList) (n words width : ℕ) → words ≡ length list.words → width ≡ list.width → n < words / width → n < length (stream_of list)
-is_below list n words width e f h = omega (arith, h, (let end : words / width ≡ length (stream_of list) = ap₂ ◌/◌ e f ∙ sym (rows_count list) in end))
 
 -- a row of the list lies within its words
 pub row_within : (list : RowList) (n : ℕ) → n < length (stream_of list) → (n + 1) * list.width ≤ length list.words
@@ -97,31 +94,36 @@ row_count [] (word ∷ row) h = absurd h
 row_count (channel ∷ channels) [] h = absurd h
 row_count (channel ∷ channels) (word ∷ row) h = let same = row_count channels row h.1 in omega (arith, same)
 
--- the rows of the image's channels are rows that it can run
-pub input_rows : (image : Image) (rows : Rows) → All IsChannel (channels_of image) → IsStream (channels_of image) rows → All (IsInputRow image) rows
-input_rows image rows all stream =
-    All-weaker (IsRow (channels_of image)) (IsInputRow image) (λ row is. record { count = row_count (channels_of image) row is ∙ length-map image.inputs channel_of; words = row_words (channels_of image) row all is }) rows stream
+-- a valid image has channels for its input words
+pub image_channels : (image : Image) (channels : List Channel) → IsValid image → channels ≡ channels_of image → All IsChannel channels → AreChannels channels
+image_channels image channels valid are each =
+    let count : length channels ≡ length image.inputs = ap length are ∙ length-map image.inputs channel_of in
+    record { some = omega (arith, count, valid.input_count.0); few = omega (arith, count, valid.input_count.1); each = each }
 
--- the stream of a sample file that was read
-pub stream_read : (samples : Name) (image : Image) (old new : View) (bytes : Content) (channels : List Channel) (list : RowList)
-    → IsValid image → channels ≡ channels_of image → All IsChannel channels
-    → length bytes ≤ samples_limit → IsReadThrough samples samples_limit old new
+-- the rows of a sample file that was read
+pub rows_read : (samples : Name) (old new : View) (bytes : Content) (channels : List Channel) (list : RowList)
+    → AreChannels channels → length bytes ≤ samples_limit → IsReadThrough samples samples_limit old new
     → WhereSpecified old (λ files. bytes ≡ content_of (files samples))
     → RowsOf bytes channels (stream_of list) → list.width ≡ length channels
-    → IsStreamRead samples image old new list
-stream_read samples image old new bytes channels list valid are each within through specified read same =
-    let count : list.width ≡ length image.inputs = same ∙ ap length are ∙ length-map image.inputs channel_of in
-    let width : IsWithin 1 16 list.width = (omega (arith, count, valid.input_count.0), omega (arith, count, valid.input_count.1)) in
-    let rows : RowsOf bytes (channels_of image) (stream_of list) = subst (λ cs. RowsOf bytes cs (stream_of list)) are read in
-    record {
-      read = through;
-      input = record {
-        width = width;
-        rows = input_rows image (stream_of list) (subst (All IsChannel) are each) (RowsOf-stream bytes (channels_of image) (stream_of list) rows);
-        few = omega (arith, within, rows_few bytes (channels_of image) (stream_of list) rows);
-      };
-      specified = λ files is. record {
-        within = subst (λ b. length b ≤ samples_limit) (specified files is) within;
-        rows = subst (λ b. RowsOf b (channels_of image) (stream_of list)) (specified files is) rows;
-      };
-    }
+    → AreRowsRead samples channels old new list
+rows_read samples old new bytes channels list are within through specified read same = record {
+  read = through;
+  width = (omega (arith, same, are.some), omega (arith, same, are.few));
+  stream = RowsOf-stream bytes channels (stream_of list) read;
+  few = omega (arith, within, rows_few bytes channels (stream_of list) read);
+  specified = λ files is. record {
+    within = subst (λ b. length b ≤ samples_limit) (specified files is) within;
+    rows = subst (λ b. RowsOf b channels (stream_of list)) (specified files is) read;
+  };
+}
+
+-- the rows of the image's channels are rows that it can run
+pub image_rows : (samples : Name) (image : Image) (old new : View) (channels : List Channel) (list : RowList) → channels ≡ channels_of image → All IsChannel channels
+    → AreRowsRead samples channels old new list → AreImageRows image list
+image_rows samples image old new channels list are each read = record {
+  width = read.width;
+  rows = All-weaker (IsRow channels) (IsInputRow image)
+      (λ row is. record { count = row_count channels row is ∙ ap length are ∙ length-map image.inputs channel_of; words = row_words channels row each is })
+      (stream_of list) read.stream;
+  few = read.few;
+}
