@@ -1,5 +1,5 @@
 -- No cycle of the run has a conflict.
-use Rattle.std.proofs.Common.{◌≡◌, ℕ, ◌+◌, ◌-◌, ◌*◌, ◌/◌, ◌%◌, ◌<◌, ◌≤◌, ◌==◌, refl, sym, ap, ap₂, ◌∙◌, arith, ⊎_elim, ◌⊎◌, inl, inr, List, [], length, ℤ, pos, true, Option, Some, None, subst}
+use Rattle.std.proofs.Common.{◌≡◌, ℕ, ◌+◌, ◌-◌, ◌*◌, ◌/◌, ◌%◌, ◌<◌, ◌≤◌, ◌==◌, refl, sym, ap, ap₂, ◌∙◌, arith, ⊎_elim, ◌⊎◌, inl, inr, [], length, ℤ, pos, true, Option, Some, None, subst}
 use Rattle.std.specs.List.{Contains, count_by}
 use Rattle.std.specs.Option.{IsSome, IsNone, is_some}
 use Rattle.std.proofs.lemmas.Bool.{cases_lt}
@@ -11,7 +11,6 @@ use Rattle.operations.specs.Operations.{operands}
 use Rattle.operations.specs.declared.units.PortRef.{PortRef}
 use Rattle.datapath.specs.declared.types.Datapath.{Datapath}
 use Rattle.plan_core.specs.Hardware.{latency_on, gap_on, cells_on}
-use Rattle.plan_core.specs.declared.schedule.Transfer.{Transfer}
 use Rattle.plan_core.specs.declared.plan.Plan.{Plan}
 use Rattle.micro_image.specs.declared.conflict.ConflictKind.TheVariants.{Busy, TwoDrivers, FileTwice, NoDriver, NoResult, Address}
 use Rattle.micro_image.specs.declared.image.Enable.{Enable}
@@ -22,15 +21,15 @@ use Rattle.micro_image.specs.Conflict.{IsClear, IsMemory, IsOutside, file_of}
 use Rattle.micro_image.specs.Fields.{nth, unit_of, word_at, issue_at}
 use Rattle.micro_image.specs.Log.{Log, Result, result_by, operand}
 use Rattle.micro_image.proofs.Each.{In}
-use Rattle.plan_run.specs.Parts.{nodes_of, node_at, unit_at, cycle_at, arc_at, line_at, register_at, transfers_at, ends_at, IsTransferOf}
+use Rattle.plan_run.specs.Parts.{nodes_of, node_at, unit_at, cycle_at, arc_at, line_at, ends_at, IsTransferOf}
 use Rattle.plan_run.specs.Private.Samples.{past}
 use Rattle.plan_run.specs.Private.Cells.{cell_in}
 use Rattle.plan_run.specs.Private.Memory.{HasAddress, LoadsFrom, StoresTo}
 use Rattle.plan_run.specs.Private.Solution.{Counted, LoweredSolves}
-use Rattle.plan_run.specs.Private.Feasible.{IsFeasible, IsFeasibleLine}
+use Rattle.plan_run.specs.Private.Feasible.{IsFeasible}
 use Rattle.plan_run.specs.Private.Executes.{Executes, IsIssueIn, IsTakeIn, IsEnableOf, register_in}
 use Rattle.plan_run.proofs.Elements.{Contains-from_In, passing, two, two_related, find_count}
-use Rattle.plan_run.proofs.Samples.{split, one_more, below_count, sample_below}
+use Rattle.plan_run.proofs.Samples.{split, one_more, below_count}
 use Rattle.plan_run.proofs.LiveWords.{port_eq}
 use Rattle.plan_run.proofs.ReadsRight.{AllRight, address_right, result_right}
 use Rattle.plan_run.proofs.Writes.{some_same}

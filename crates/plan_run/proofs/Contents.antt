@@ -1,26 +1,24 @@
 -- All places hold what is wanted of them: each live word that is written in a cycle is there from the next cycle on,
 -- until it is read for the last time.
-use Rattle.std.proofs.Common.{◌≡◌, ℕ, suc, ◌+◌, ◌-◌, ◌*◌, ◌<◌, ◌≤◌, refl, sym, ap, ap₂, ◌∙◌, arith, List, [], ◌∷◌, length, true, Some, subst}
+use Rattle.std.proofs.Common.{◌≡◌, ℕ, suc, ◌+◌, ◌-◌, ◌*◌, ◌<◌, ◌≤◌, refl, sym, ap, ◌∙◌, arith, [], ◌∷◌, length, true, Some, subst}
 use Rattle.std.specs.List.{Contains, flat_map, range_with_len}
 use Rattle.std.proofs.Math.Nat.{add-mul, mul-le-mul_right}
 use Rattle.lists.specs.Rows.{Rows}
-use Rattle.fix_word.specs.declared.operation.Op.{Op}
 use Rattle.fix_word.specs.declared.operation.Op.TheVariants as op
 use Rattle.operations.specs.Ranges.{to_nat}
 use Rattle.datapath.specs.declared.types.Datapath.{Datapath}
-use Rattle.plan_core.specs.Hardware.{latency_on, gap_on}
 use Rattle.plan_core.specs.declared.plan.Plan.{Plan}
 use Rattle.micro_image.specs.declared.image.Issue.{Issue}
 use Rattle.micro_image.specs.declared.image.Take.{Take}
 use Rattle.micro_image.specs.declared.image.Image.{Image}
 use Rattle.micro_image.specs.Fields.{nth, word_at, began, ending}
 use Rattle.micro_image.specs.Log.{Place, Latch, Cell, Entry, same_place, Log, Content, operand, value, entries_by, taken, written, written_of, written_by}
-use Rattle.micro_image.proofs.Each.{In, In-append_left, In-append_right, In-flat_map, In-from_Contains, Each, Each-then}
+use Rattle.micro_image.proofs.Each.{In, In-append_left, In-append_right, In-flat_map, In-from_Contains, Each-then}
 use Rattle.micro_image.proofs.LogLaws.{content-unwritten}
 use Rattle.micro_image.proofs.LogWrites.{content-written}
 use Rattle.plan_run.specs.Parts.{nodes_of, lines_of, node_at, unit_at, cycle_at, arc_at, line_at, ends_at}
 use Rattle.plan_run.specs.Private.Samples.{past}
-use Rattle.plan_run.specs.Private.Memory.{store_of, StoresTo}
+use Rattle.plan_run.specs.Private.Memory.{store_of}
 use Rattle.plan_run.specs.Private.Solution.{Counted, LoweredSolves}
 use Rattle.plan_run.specs.Private.Feasible.{IsFeasible, IsFeasibleLine}
 use Rattle.plan_run.specs.Private.Executes.{Executes, IsIssueIn, IsTakeIn}
@@ -29,7 +27,7 @@ use Rattle.plan_run.proofs.Samples.{one_more, sample_upto, below_count}
 use Rattle.plan_run.proofs.Slots.{Keeps, right}
 use Rattle.plan_run.proofs.LiveWords.{LiveWord, in_register, in_cell, in_latch, place_of, written_at, wanted_to, word_of, below_period, words_apart, lives, preloaded}
 use Rattle.plan_run.proofs.ReadsRight.{AllRight, store_place, ends_then, began_then}
-use Rattle.plan_run.proofs.Writes.{IsOfWord, writes_of_words, taken_word, same_sound, same_self, not_same, from_past, in_one}
+use Rattle.plan_run.proofs.Writes.{writes_of_words, taken_word, same_sound, same_self, not_same, from_past, in_one}
 
 module _ (d : Datapath) (p : Plan) (words : Counted) (plan : IsFeasible d p) (image : Image) (z stream : Rows)
     (runs : Executes d p image) (solves : LoweredSolves d p stream words)

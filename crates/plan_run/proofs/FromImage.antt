@@ -1,5 +1,5 @@
 -- The image of a feasible plan does at each cycle of the run what the plan has there.
-use Rattle.std.proofs.Common.{◌≡◌, ℕ, zero, suc, ◌+◌, ◌-◌, ◌*◌, ◌/◌, ◌%◌, ◌<◌, ◌≤◌, ◌==◌, refl, sym, ap, ap₂, ◌∙◌, arith, ⊎_elim, length, List, [], ◌∷◌, slice_index_or, Some, true, subst}
+use Rattle.std.proofs.Common.{◌≡◌, ℕ, ◌+◌, ◌-◌, ◌*◌, ◌/◌, ◌%◌, ◌<◌, ◌≤◌, ◌==◌, refl, sym, ap, ap₂, ◌∙◌, arith, ⊎_elim, length, List, slice_index_or, Some, true, subst}
 use Rattle.std.specs.List.{Contains, AllPairs}
 use Rattle.std.proofs.lemmas.Bool.{cases_lt}
 use Rattle.std.proofs.Math.Nat.{mod-lt, mul-le-mul_right, add-mul, mod-add-mod, mul-add-mod_self_right, mod-eq_of_lt, mod-mod_of_dvd, dvd_of_mod-eq-zero}
@@ -17,8 +17,8 @@ use Rattle.micro_image.specs.Log.{Register, initial}
 use Rattle.micro_image.specs.Valid.{EnableBefore, TakeBefore}
 use Rattle.micro_image.proofs.Each.{In-from_Contains}
 use Rattle.signal_graph.specs.Rules.{word_before}
-use Rattle.plan_run.specs.Parts.{nodes_of, node_at, edge_at, unit_at, cycle_at, transfers_at, arc_at, line_at, register_at, ReadsThrough, IsTransferOf, ends_at, IsCopy}
-use Rattle.plan_run.specs.ImageOf.{IsUnitOf, IsIssueOf, IsWordOf, IsImageOf, enable_of, take_of}
+use Rattle.plan_run.specs.Parts.{nodes_of, node_at, edge_at, unit_at, cycle_at, arc_at, line_at, register_at, IsTransferOf, ends_at, IsCopy}
+use Rattle.plan_run.specs.ImageOf.{IsIssueOf, IsWordOf, IsImageOf, enable_of, take_of}
 use Rattle.plan_run.specs.Private.Samples.{past}
 use Rattle.plan_run.specs.Private.Feasible.{IsFeasible}
 use Rattle.plan_run.specs.Private.Executes.{Executes, IsIssueIn, IsTakeIn, IsEnableOf, register_in}
@@ -71,7 +71,7 @@ back_to : (n ago : ℕ) → ago < past → past + n - ago + ago ≡ past + n
 back_to n ago small = omega arith
 
 -- the copy that holds the word of so many samples before sample n
-copy_read : (n unroll copies ago : ℕ)
+pub copy_read : (n unroll copies ago : ℕ)
     → 0 < copies
     → unroll % copies ≡ 0
     → past % unroll ≡ 0

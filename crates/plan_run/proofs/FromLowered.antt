@@ -1,12 +1,12 @@
 -- The lowered list of a sound graph is sound, and its delay lines are.
-use Rattle.std.proofs.Common.{◌≡◌, ◌≢◌, ℕ, zero, suc, ◌+◌, ◌-◌, ◌*◌, ◌<◌, ◌≤◌, ◌==◌, nat_lt, cond, ◌⊎◌, inl, inr, ⊎_elim, refl, sym, ap, ap₂, ◌∙◌, subst, arith, List, [], ◌∷◌, length, slice_index_or, All, Contains, Bool, true, false, pos, ℤ}
+use Rattle.std.proofs.Common.{◌≡◌, ◌≢◌, ℕ, zero, suc, ◌+◌, ◌-◌, ◌<◌, ◌≤◌, ◌==◌, nat_lt, cond, ◌⊎◌, inl, inr, ⊎_elim, refl, sym, ap, ◌∙◌, subst, arith, List, [], ◌∷◌, length, slice_index_or, Contains, Bool, true, false, pos}
 use Rattle.std.specs.Prelude.{slice_get, filter, take, Option, Some, None, IsSomeAnd}
 use Rattle.std.specs.List.{enumerate_from, AllZip}
-use Rattle.std.proofs.lemmas.Bool.{cases_lt, cases_order, cases_eq}
+use Rattle.std.proofs.lemmas.Bool.{cases_lt, cases_order}
 use Rattle.std.proofs.lemmas.Option.{slice_get_within, slice_get-get_or, get_or_from_slice_get, same_Some, none-some}
 use Rattle.std.proofs.lemmas.List.Sums.{sum_by-cons}
-use Rattle.lists.proofs.Places.{contains_at, place_of}
-use Rattle.signal_graph.proofs.Members.{from_enumerate, from_filter, in_filter, in_enumerate, zip_length, zip_at}
+use Rattle.lists.proofs.Places.{contains_at}
+use Rattle.signal_graph.proofs.Members.{from_enumerate, from_filter, zip_length, zip_at}
 use Rattle.fix_word.specs.declared.operation.Op.{Op}
 use Rattle.fix_word.specs.declared.operation.Op.TheVariants as op
 use Rattle.operations.specs.Operations.{operands}
@@ -14,16 +14,14 @@ use Rattle.operations.specs.Ranges.{to_nat}
 use Rattle.datapath.specs.declared.types.Datapath.{Datapath}
 use Rattle.signal_graph.specs.GraphRules.{IsGraph, IsNode, IsEdge, IsOutput, first_output}
 use Rattle.signal_graph.specs.Operations.{IsOfGraphs, class_of, operands as graph_operands}
-use Rattle.signal_graph.specs.Rules.{max_delay}
 use Rattle.signal_graph.specs.declared.graph.Edge.{Edge}
 use Rattle.signal_graph.specs.declared.graph.Node.{Node}
 use Rattle.signal_graph.specs.declared.graph.Graph.{Graph}
-use Rattle.plan_core.specs.Hardware.{cells_on, tie_of}
-use Rattle.plan_core.specs.Operands.{node_of, edge_of, delay_at, no_edge, Reads}
+use Rattle.plan_core.specs.Hardware.{tie_of}
+use Rattle.plan_core.specs.Operands.{node_of, edge_of, no_edge}
 use Rattle.plan_core.specs.Assigned.{IsAssigned, IsForRam}
-use Rattle.plan_core.specs.Lowered.{Origin, own, address, store, load, origins, stored, used, line_of, no_line, IsNumber, IsReadAgo, AreLongDelays, IsNextLine, IsLoweredEdge, IsLineOf, IsOwn, IsAddress, IsStore, IsLoad, IsMade, IsLowered, address_node, store_node, load_node}
+use Rattle.plan_core.specs.Lowered.{Origin, own, address, store, load, origins, stored, used, line_of, no_line, IsNumber, IsReadAgo, AreLongDelays, IsNextLine, IsLoweredEdge, IsLineOf, IsOwn, IsAddress, IsStore, IsLoad, IsMade, IsLowered}
 use Rattle.plan_core.specs.declared.delay_lines.Line.{Line}
-use Rattle.plan_core.specs.declared.delay_lines.Lowered.{Lowered}
 use Rattle.plan_core.specs.declared.plan.Plan.{Plan}
 use Rattle.micro_image.specs.Operations.{gives}
 use Rattle.plan_run.specs.Parts.{nodes_of, lines_of, node_at, edge_at, unit_at, line_at}
@@ -32,8 +30,8 @@ use Rattle.plan_run.specs.Private.Cells.{AreDisjoint}
 use Rattle.plan_run.specs.Private.Memory.{store_of, HasAddress, LoadsFrom, StoresTo}
 use Rattle.plan_run.specs.Private.Feasible.{IsFeasibleLine}
 use Rattle.plan_run.proofs.Elements.{nth_past, default_any}
-use Rattle.plan_run.proofs.FromRules.{all_at, reader_there}
-use Rattle.plan_run.proofs.Origins.{IsNumbered, first_of, numbered, own_number, own_once, store_number, store_once}
+use Rattle.plan_run.proofs.FromRules.{all_at}
+use Rattle.plan_run.proofs.Origins.{IsNumbered, first_of, numbered, own_once, store_number, store_once}
 use Rattle.plan_run.proofs.SoundLowered.{IsSoundLowered, AreSoundLines}
 
 -- an operation of graphs but Output has a result

@@ -1,5 +1,5 @@
 -- A plan by the rules is feasible.
-use Rattle.std.proofs.Common.{◌≡◌, ◌≢◌, ℕ, ◌+◌, ◌-◌, ◌*◌, ◌%◌, ◌<◌, ◌≤◌, refl, sym, ap, ◌∙◌, arith, ⊎_elim, ◌⊎◌, inl, inr, List, [], length, slice_index_or, map, All, Contains, true, subst}
+use Rattle.std.proofs.Common.{◌≡◌, ◌≢◌, ℕ, ◌+◌, ◌*◌, ◌%◌, ◌<◌, ◌≤◌, refl, sym, ap, ◌∙◌, arith, ⊎_elim, ◌⊎◌, inl, inr, List, length, slice_index_or, map, All, Contains, true, subst}
 use Rattle.std.specs.List.{AllPairs}
 use Rattle.std.proofs.lemmas.Bool.{cases_eq, cases_lt, cases_order}
 use Rattle.std.proofs.lemmas.List.{get_or-map, length-map}
@@ -11,12 +11,12 @@ use Rattle.operations.specs.declared.units.PortRef.{PortRef}
 use Rattle.datapath.specs.declared.types.Datapath.{Datapath}
 use Rattle.datapath.specs.Allowed.{IsUnit}
 use Rattle.plan_core.specs.Hardware.{latency_on, gap_on, unit_of, no_unit, port_of}
-use Rattle.plan_core.specs.Operands.{node_of, Reads}
+use Rattle.plan_core.specs.Operands.{Reads}
 use Rattle.plan_core.specs.Assigned.{IsAssigned}
-use Rattle.plan_core.specs.Heights.{IsPlacedBefore, ReadsNow}
-use Rattle.plan_core.specs.Reservations.{result_on, IsFirstBus}
+use Rattle.plan_core.specs.Heights.{IsPlacedBefore}
+use Rattle.plan_core.specs.Reservations.{IsFirstBus}
 use Rattle.plan_core.specs.ListSchedule.{slot_of, IsListSchedule, IsDestination, IsPortBefore, IsTakenBefore, IsPlaced}
-use Rattle.plan_core.specs.Arcs.{IsArcs, IsArc, IsArcFor, IsArcBefore, IsWrittenBefore, IsCount, IsUnroll, ReadsArc, read_cycle}
+use Rattle.plan_core.specs.Arcs.{IsArcs, IsArc, IsArcBefore, IsCount, IsUnroll, ReadsArc, read_cycle}
 use Rattle.plan_core.specs.Circle.{AreApart}
 use Rattle.plan_core.specs.FirstFit.{IsFirstFit, IsCopyBefore}
 use Rattle.plan_core.specs.declared.schedule.Transfer.{Transfer}
@@ -152,6 +152,19 @@ gaps_of d units u =
     let latency : latency_on d u ≡ 1 = ap (λ unit. unit.latency) e in
     (omega (arith, gap), omega (arith, gap, latency)))
     (cases_lt u (length d.units))
+
+-- the unroll factor is a count of copies
+pub count_of_unroll : (d : Datapath) (p : Plan)
+    → IsArcs d p.assigned p.schedule p.arcs
+    → IsUnroll p.arcs p.unroll
+    → IsCount p.unroll
+count_of_unroll d p arcs unrolled =
+    ⊎_elim
+    (λ (one : p.unroll ≡ 1). inl one)
+    (λ (is : (k : ℕ) × (k < length p.arcs) × ((arc_at p k).copies ≡ p.unroll)).
+    let arc : IsArc d p.assigned p.schedule (arc_at p is.0) = arcs.each is.0 _ is.1 in
+    subst IsCount is.2 arc.count)
+    unrolled.reached
 
 module _ (d : Datapath) (p : Plan) (lowered : IsSoundLowered d p)
     (gaps : (u : ℕ) → (0 < gap_on d u) × (gap_on d u ≤ latency_on d u))
@@ -436,13 +449,6 @@ module _ (d : Datapath) (p : Plan) (lowered : IsSoundLowered d p)
     reads = by.reads;
   }
 
-  count_of_unroll : IsCount p.unroll
-  count_of_unroll =
-      ⊎_elim (λ (one : p.unroll ≡ 1). inl one)
-      (λ (is : (k : ℕ) × (k < length p.arcs) × ((arc_at p k).copies ≡ p.unroll)).
-      subst IsCount is.2 (arc is.0 is.1).count)
-      unrolled.reached
-
   lifetime : (k : ℕ) → k < length p.arcs → IsLifetime d.period p.unroll (arc_at p k)
   lifetime k in-k =
       let its = arc k in-k in
@@ -450,7 +456,7 @@ module _ (d : Datapath) (p : Plan) (lowered : IsSoundLowered d p)
       let u : ℕ = (arc_at p k).node in
       record {
         some = some_count (arc_at p k).copies its.count;
-        turns = divides (arc_at p k).copies p.unroll its.count count_of_unroll (unrolled.most k _ in-k);
+        turns = divides (arc_at p k).copies p.unroll its.count (count_of_unroll d p arcs unrolled) (unrolled.most k _ in-k);
         written = omega (arith, its.written, fits u (arc_node k in-k), gaps (unit_at p u));
         lives = subst (λ r. (arc_at p k).w < r) (sym read.2)
             (behind read.0 (arc_at p k).port.port k
@@ -497,8 +503,8 @@ module _ (d : Datapath) (p : Plan) (lowered : IsSoundLowered d p)
   pub feasible : 0 < d.period → AreSoundLines d p → IsFeasible d p
   feasible period lines = record {
     period = period;
-    unroll = some_count p.unroll count_of_unroll;
-    turns = divides_past p.unroll count_of_unroll;
+    unroll = some_count p.unroll (count_of_unroll d p arcs unrolled);
+    turns = divides_past p.unroll (count_of_unroll d p arcs unrolled);
     gaps = gaps;
     operand_count = lowered.operand_count;
     edges = lowered.edges;

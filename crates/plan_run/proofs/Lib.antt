@@ -17,3 +17,5 @@ pub mod Origins
 pub mod FromLowered
 pub mod LoweredSolution
 pub mod RunsSolution
+pub mod ValidWords
+pub mod Valid

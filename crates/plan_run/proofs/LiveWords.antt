@@ -1,6 +1,6 @@
 -- The words that a run keeps in registers, cells and latches: no two are wanted in one place in one cycle.
 use Rattle.std.proofs.Common.{◌≡◌, ℕ, ◌+◌, ◌-◌, ◌*◌, ◌%◌, ◌<◌, ◌≤◌, refl, sym, ap, ap₂, ◌∙◌, arith, ⊎_elim, length, ℤ, subst}
-use Rattle.std.proofs.lemmas.Bool.{cases_lt, cases_order}
+use Rattle.std.proofs.lemmas.Bool.{cases_order}
 use Rattle.std.proofs.Math.Nat.{mod-lt, mul-le-mul_right}
 use Rattle.lists.specs.Rows.{Rows}
 use Rattle.fix_word.specs.declared.operation.Op.TheVariants as op
@@ -8,7 +8,6 @@ use Rattle.operations.specs.Ranges.{to_nat}
 use Rattle.operations.specs.declared.units.PortRef.{PortRef}
 use Rattle.datapath.specs.declared.types.Datapath.{Datapath}
 use Rattle.plan_core.specs.Hardware.{latency_on, gap_on, cells_on, port_of}
-use Rattle.plan_core.specs.declared.delay_lines.Line.{Line}
 use Rattle.plan_core.specs.declared.plan.Plan.{Plan}
 use Rattle.micro_image.specs.declared.image.Image.{Image}
 use Rattle.micro_image.specs.Log.{Place, Register, Latch, Cell, initial, Content}
@@ -18,7 +17,7 @@ use Rattle.plan_run.specs.Private.Circle.{IsLifetime}
 use Rattle.plan_run.specs.Private.Cells.{cell_in, AreDisjoint}
 use Rattle.plan_run.specs.Private.Memory.{store_of}
 use Rattle.plan_run.specs.Private.Solution.{Counted, LoweredSolves}
-use Rattle.plan_run.specs.Private.Feasible.{IsFeasible, IsFeasibleArc, IsFeasibleLine}
+use Rattle.plan_run.specs.Private.Feasible.{IsFeasible, IsFeasibleLine}
 use Rattle.plan_run.specs.Private.Executes.{Executes, register_in}
 use Rattle.plan_run.proofs.Lines.{cells-apart, past-cell, line_end}
 use Rattle.plan_run.proofs.Samples.{one_more, sample_below, sample_upto}

@@ -1,5 +1,5 @@
 -- A solution of a graph gives one of its lowered list.
-use Rattle.std.proofs.Common.{◌≡◌, ◌≢◌, ℕ, zero, suc, ◌+◌, ◌-◌, ◌*◌, ◌<◌, ◌≤◌, nat_lt, if◌then◌else◌, ◌⊎◌, inl, inr, ⊎_elim, refl, sym, ap, ap₂, ◌∙◌, subst, arith, List, [], ◌∷◌, length, slice_index_or, map, Bool, true, false, ℤ, pos, negsuc}
+use Rattle.std.proofs.Common.{◌≡◌, ℕ, ◌+◌, ◌-◌, ◌<◌, ◌≤◌, nat_lt, if◌then◌else◌, ⊎_elim, refl, sym, ap, ◌∙◌, subst, arith, List, [], length, ℤ, pos, negsuc}
 use Rattle.std.specs.Prelude.{slice_get, Option, Some, None, ◌-ℤ◌}
 use Rattle.std.specs.Int.{int_rem_euclid}
 use Rattle.std.proofs.lemmas.Bool.{cases_lt}
@@ -8,14 +8,12 @@ use Rattle.std.proofs.lemmas.List.{get_or-map}
 use Rattle.lists.specs.Rows.{Rows}
 use Rattle.fix_word.specs.declared.operation.Op.{Op}
 use Rattle.fix_word.specs.declared.operation.Op.TheVariants as op
-use Rattle.operations.specs.Operations.{operands}
-use Rattle.operations.specs.Ranges.{to_nat}
 use Rattle.datapath.specs.declared.types.Datapath.{Datapath}
-use Rattle.signal_graph.specs.GraphRules.{IsGraph, IsEdge}
+use Rattle.signal_graph.specs.GraphRules.{IsGraph}
 use Rattle.signal_graph.specs.GraphSolves.{GraphSolves}
 use Rattle.signal_graph.specs.Operations.{IsOfGraphs, class_of}
 use Rattle.signal_graph.specs.Rules.{max_delay, word_before}
-use Rattle.signal_graph.specs.Values.{Words, operand, operand_words, node_value, given_by}
+use Rattle.signal_graph.specs.Values.{Words, operand, operand_words, given_by}
 use Rattle.signal_graph.specs.declared.graph.Edge.{Edge}
 use Rattle.signal_graph.specs.declared.graph.Node.{Node}
 use Rattle.signal_graph.specs.declared.graph.Graph.{Graph}
@@ -28,7 +26,7 @@ use Rattle.plan_run.specs.Parts.{nodes_of, node_at, edge_at, unit_at, line_at}
 use Rattle.plan_run.specs.Private.Samples.{past}
 use Rattle.plan_run.specs.Private.Memory.{LoadsFrom}
 use Rattle.plan_run.specs.Private.Solution.{Counted, LoweredSolves, IsOfGraph, meaning, meaning_by, operand_in}
-use Rattle.plan_run.proofs.FromLowered.{made_at, made_as, number_below, own_below, own_op, own_count, own_edge, graph_node, graph_edge, edge_node, same_operands, address_op, load_op, store_op, load_of, loads_from}
+use Rattle.plan_run.proofs.FromLowered.{made_at, made_as, own_below, own_op, own_count, own_edge, graph_node, graph_edge, edge_node, same_operands, address_op, load_op, store_op, load_of, loads_from}
 use Rattle.plan_run.proofs.Meanings.{meaning-operands, meaning-node}
 
 -- the word of node v of the graph at a number of a sample

@@ -1,12 +1,12 @@
 -- Which node of a lowered list has which number.
-use Rattle.std.proofs.Common.{◌≡◌, ℕ, zero, suc, ◌+◌, ◌<◌, ◌≤◌, ◌⊎◌, inl, inr, ⊎_elim, refl, sym, ap, ap₂, ◌∙◌, subst, arith, List, [], ◌∷◌, ◌++◌, length, Contains}
+use Rattle.std.proofs.Common.{◌≡◌, ℕ, zero, suc, ◌+◌, ◌<◌, ◌⊎◌, inl, inr, ⊎_elim, refl, sym, ap, ap₂, ◌∙◌, subst, arith, List, [], ◌∷◌, ◌++◌, length, Contains}
 use Rattle.std.specs.Prelude.{slice_get, flat_map, take, Option, Some}
 use Rattle.std.specs.List.{enumerate_from}
-use Rattle.std.proofs.lemmas.Option.{slice_get_within, same_Some, none-some}
+use Rattle.std.proofs.lemmas.Option.{same_Some, none-some}
 use Rattle.std.proofs.lemmas.List.{length-append}
-use Rattle.lists.proofs.Places.{at_left, at_right, at_append, contains_at, place_of}
-use Rattle.signal_graph.proofs.Members.{from_enumerate, first_or_rest, from_flat_map, in_enumerate}
-use Rattle.plan_core.specs.Lowered.{Origin, own, address, store, load, origins_of, origins, IsNumber}
+use Rattle.lists.proofs.Places.{at_left, at_right, at_append, contains_at}
+use Rattle.signal_graph.proofs.Members.{from_enumerate, first_or_rest, from_flat_map}
+use Rattle.plan_core.specs.Lowered.{Origin, own, address, store, load, origins_of, IsNumber}
 
 -- where the piece of element i begins
 abbrev pub start_of : {A B : Type 0} → (A → List B) → List A → ℕ → ℕ

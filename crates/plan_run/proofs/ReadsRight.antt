@@ -1,6 +1,6 @@
 -- Each read finds its instance: the register that an issue names holds the word of its operand at the sample that is
 -- read. So an issue comes to the word of its node.
-use Rattle.std.proofs.Common.{◌≡◌, ℕ, ◌+◌, ◌-◌, ◌*◌, ◌/◌, ◌<◌, ◌≤◌, refl, sym, ap, ap₂, ◌∙◌, arith, List, [], length, ℤ, pos, true, false, Some, None, subst, if◌then◌else◌}
+use Rattle.std.proofs.Common.{◌≡◌, ℕ, ◌+◌, ◌-◌, ◌*◌, ◌/◌, ◌<◌, ◌≤◌, refl, sym, ap, ap₂, ◌∙◌, arith, List, [], length, pos, true, false, Some, None, subst, if◌then◌else◌}
 use Rattle.std.specs.Int.{int_rem_euclid}
 use Rattle.std.specs.Prelude.{◌-ℤ◌}
 use Rattle.std.proofs.Math.Nat.{add-mul, mul-le-mul_right}
@@ -11,15 +11,15 @@ use Rattle.fix_word.specs.declared.operation.Op.TheVariants as op
 use Rattle.operations.specs.Operations.{operands}
 use Rattle.operations.specs.Ranges.{to_nat}
 use Rattle.datapath.specs.declared.types.Datapath.{Datapath}
-use Rattle.plan_core.specs.Hardware.{latency_on, gap_on, cells_on, tie_of, port_of}
+use Rattle.plan_core.specs.Hardware.{latency_on, gap_on, cells_on, tie_of}
 use Rattle.plan_core.specs.declared.plan.Plan.{Plan}
 use Rattle.micro_image.specs.declared.image.Image.{Image}
 use Rattle.micro_image.specs.declared.image.Issue.{Issue}
 use Rattle.micro_image.specs.Fields.{nth, unit_of, sample_of, issue_at, began, ending}
-use Rattle.micro_image.specs.Log.{Place, Register, Cell, Entry, content, Log, Content, operand, value, value_by, given, result_by}
+use Rattle.micro_image.specs.Log.{Register, Cell, Entry, content, Log, Content, operand, value, value_by, given, result_by}
 use Rattle.micro_image.specs.Operations.{gives}
 use Rattle.micro_image.proofs.LogLaws.{content-old}
-use Rattle.plan_run.specs.Parts.{nodes_of, lines_of, node_at, edge_at, unit_at, cycle_at, arc_at, line_at, ReadsThrough, ends_at}
+use Rattle.plan_run.specs.Parts.{nodes_of, node_at, edge_at, unit_at, cycle_at, arc_at, line_at, ReadsThrough, ends_at}
 use Rattle.plan_run.specs.Private.Samples.{past}
 use Rattle.plan_run.specs.Private.Cells.{cell_in}
 use Rattle.plan_run.specs.Private.Memory.{store_of, HasAddress, LoadsFrom, StoresTo}

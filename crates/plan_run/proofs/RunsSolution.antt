@@ -1,13 +1,12 @@
 -- The image of a plan runs the solution of its graph.
-use Rattle.std.proofs.Common.{◌≡◌, ℕ, ◌+◌, ◌-◌, ◌<◌, ◌≤◌, refl, sym, ap, ap₂, ◌∙◌, arith, subst, ⊎_elim, [], length, map, All, Some}
+use Rattle.std.proofs.Common.{◌≡◌, ℕ, ◌+◌, ◌<◌, ◌≤◌, ap, ◌∙◌, arith, subst, ⊎_elim, [], length, All}
 use Rattle.std.specs.Prelude.{slice_get, pos, IsSomeAnd}
 use Rattle.std.proofs.lemmas.Bool.{cases_lt}
 use Rattle.std.specs.List.{range_with_len}
 use Rattle.std.proofs.lemmas.Option.{slice_get-get_or}
 use Rattle.lists.specs.Rows.{Rows}
-use Rattle.fix_word.specs.declared.operation.Op.TheVariants as op
 use Rattle.operations.specs.Ranges.{to_nat}
-use Rattle.datapath.specs.Allowed.{IsUnit, IsDatapath}
+use Rattle.plan_run.specs.Machine.{IsMachine}
 use Rattle.datapath.specs.declared.types.Datapath.{Datapath}
 use Rattle.signal_graph.specs.GraphRules.{IsGraph, IsOutput, first_output}
 use Rattle.signal_graph.specs.GraphSolves.{GraphSolves, graph_out, no_node}
@@ -21,11 +20,10 @@ use Rattle.plan_core.specs.declared.plan.Plan.{Plan}
 use Rattle.micro_image.specs.Run.{IsRunOut}
 use Rattle.micro_image.specs.declared.image.Image.{Image}
 use Rattle.micro_image.proofs.Lists.{map-same, In-range}
-use Rattle.plan_run.specs.Parts.{nodes_of, node_at}
+use Rattle.plan_run.specs.Parts.{node_at}
 use Rattle.plan_run.specs.ImageOf.{IsImageOf}
 use Rattle.plan_run.specs.Run.{RunsSolution}
 use Rattle.plan_run.specs.Private.Samples.{past}
-use Rattle.plan_run.specs.Private.Solution.{Counted}
 use Rattle.plan_run.specs.Private.Feasible.{IsFeasible}
 use Rattle.plan_run.proofs.FromImage.{executes}
 use Rattle.plan_run.proofs.FromLowered.{sound_lowered, sound_lines, made_as, number_below, some_is, none_past}
@@ -34,13 +32,12 @@ use Rattle.plan_run.proofs.LoweredSolution.{lowered_words, lowered_solves, word_
 use Rattle.plan_run.proofs.Origins.{first_of, own_number}
 use Rattle.plan_run.proofs.Whole.{IsOutputNode, counted_out, runs_out}
 
-module _ (g : Graph) (d : Datapath) (p : Plan) (sound : IsGraph g) (period : 1 ≤ d.period)
-    (units : All (IsUnit d.units) d.units) (plan : IsPlan g d p) where
+module _ (g : Graph) (d : Datapath) (p : Plan) (sound : IsGraph g) (machine : IsMachine d) (plan : IsPlan g d p) where
   -- a plan is feasible
   pub plan_feasible : IsFeasible d p
   plan_feasible =
-      feasible d p (sound_lowered g d p sound plan.lowered plan.assigned) (gaps_of d units) plan.assigned plan.schedule
-      plan.arcs plan.unroll plan.registers (omega (arith, period))
+      feasible d p (sound_lowered g d p sound plan.lowered plan.assigned) (gaps_of d machine.units) plan.assigned plan.schedule
+      plan.arcs plan.unroll plan.registers (omega (arith, machine.period.0))
       (sound_lines g d p sound plan.lowered plan.assigned)
 
   -- the node of output word j in the graph, and in the lowered list

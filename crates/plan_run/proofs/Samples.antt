@@ -2,7 +2,6 @@
 use Rattle.std.proofs.Common.{◌≡◌, ℕ, ◌+◌, ◌*◌, ◌/◌, ◌%◌, ◌<◌, ◌≤◌, sym, arith, ⊎_elim}
 use Rattle.std.proofs.lemmas.Bool.{cases_lt}
 use Rattle.std.proofs.Math.Nat.{mul-le-mul_right, div-add-mod'}
-use Rattle.plan_run.specs.Private.Samples.{past}
 
 -- a cycle of the run is one of its sample
 pub split : (t q : ℕ) → t ≡ t / q * q + t % q

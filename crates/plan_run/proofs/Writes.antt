@@ -1,35 +1,33 @@
 -- What a cycle of the run writes is the live words that are written then, and all places hold what is wanted of them.
-use Rattle.std.proofs.Common.{◌≡◌, ℕ, zero, suc, ◌+◌, ◌-◌, ◌*◌, ◌/◌, ◌%◌, ◌<◌, ◌≤◌, nat_le, ◌==◌, refl, sym, ap, ap₂, ◌∙◌, arith, List, [], ◌∷◌, length, ℤ, Bool, true, false, Option, Some, None, subst, if◌then◌else◌}
-use Rattle.std.specs.List.{Contains, find, flat_map, range_with_len}
-use Rattle.std.proofs.Math.Nat.{mod-lt, add-mul, mul-le-mul_right, mod-mod_of_dvd, dvd_of_mod-eq-zero, add-mod, zero-add, mod-mod}
+use Rattle.std.proofs.Common.{◌≡◌, ℕ, ◌+◌, ◌-◌, ◌*◌, ◌/◌, ◌%◌, ◌<◌, ◌≤◌, nat_le, refl, sym, ap, ap₂, ◌∙◌, arith, List, [], ◌∷◌, length, ℤ, Bool, true, false, Option, Some, None, subst, if◌then◌else◌}
+use Rattle.std.specs.List.{Contains, range_with_len}
+use Rattle.std.proofs.Math.Nat.{mod-lt, add-mul, mod-mod_of_dvd, dvd_of_mod-eq-zero, add-mod, zero-add, mod-mod}
 use Rattle.lists.specs.Rows.{Rows}
 use Rattle.fix_word.specs.declared.operation.Op.{Op}
 use Rattle.fix_word.specs.declared.operation.Op.TheVariants as op
 use Rattle.operations.specs.Ranges.{to_nat}
 use Rattle.operations.specs.declared.units.PortRef.{PortRef}
 use Rattle.datapath.specs.declared.types.Datapath.{Datapath}
-use Rattle.plan_core.specs.Hardware.{latency_on, gap_on}
+use Rattle.plan_core.specs.Hardware.{latency_on}
 use Rattle.plan_core.specs.declared.plan.Plan.{Plan}
 use Rattle.micro_image.specs.declared.image.Enable.{Enable}
 use Rattle.micro_image.specs.declared.image.Issue.{Issue}
 use Rattle.micro_image.specs.declared.image.Take.{Take}
 use Rattle.micro_image.specs.declared.image.Image.{Image}
 use Rattle.micro_image.specs.Fields.{nth, unit_of, word_at, issue_at, driver_at, began, ending}
-use Rattle.micro_image.specs.Log.{Place, Register, Latch, Cell, Entry, same_place, Log, Content, operand, value, entries_by, entry_of, taken, taken_from, written, written_of, written_by, result_by}
-use Rattle.micro_image.proofs.Each.{In, here, In-append_left, In-append_right, In-flat_map, In-from_Contains, Each, none, more, Each-then, Each-append, Each-flat_map}
-use Rattle.micro_image.proofs.LogLaws.{content-unwritten}
-use Rattle.micro_image.proofs.LogWrites.{content-written}
-use Rattle.plan_run.specs.Parts.{nodes_of, lines_of, node_at, unit_at, cycle_at, arc_at, line_at, register_at, ends_at}
+use Rattle.micro_image.specs.Log.{Place, Register, Latch, Cell, Entry, same_place, Log, operand, value, entries_by, entry_of, taken, taken_from, written, written_of, written_by, result_by}
+use Rattle.micro_image.proofs.Each.{In, here, Each, none, more, Each-append, Each-flat_map}
+use Rattle.plan_run.specs.Parts.{nodes_of, node_at, unit_at, cycle_at, arc_at, register_at, ends_at}
 use Rattle.plan_run.specs.Private.Samples.{past}
-use Rattle.plan_run.specs.Private.Memory.{store_of, StoresTo}
+use Rattle.plan_run.specs.Private.Memory.{StoresTo}
 use Rattle.plan_run.specs.Private.Solution.{Counted, LoweredSolves}
-use Rattle.plan_run.specs.Private.Feasible.{IsFeasible, IsFeasibleArc, IsFeasibleLine}
+use Rattle.plan_run.specs.Private.Feasible.{IsFeasible, IsFeasibleArc}
 use Rattle.plan_run.specs.Private.Executes.{Executes, IsIssueIn, IsTakeIn, register_in}
-use Rattle.plan_run.proofs.Elements.{Contains-from_In, In-range_of}
-use Rattle.plan_run.proofs.Samples.{split, sample_upto, below_count, one_more}
-use Rattle.plan_run.proofs.Slots.{Keeps, right}
-use Rattle.plan_run.proofs.LiveWords.{LiveWord, in_register, in_cell, in_latch, place_of, written_at, wanted_to, word_of, below_period, words_apart, lives, preloaded}
-use Rattle.plan_run.proofs.ReadsRight.{AllRight, issue_right, store_right, store_place, ends_then, began_then, result_right}
+use Rattle.plan_run.proofs.Elements.{Contains-from_In}
+use Rattle.plan_run.proofs.Samples.{split, below_count}
+use Rattle.plan_run.proofs.Slots.{right}
+use Rattle.plan_run.proofs.LiveWords.{LiveWord, in_register, in_cell, in_latch, place_of, written_at, word_of}
+use Rattle.plan_run.proofs.ReadsRight.{AllRight, issue_right, store_right, store_place, result_right}
 
 -- places that test as one are one
 pub same_sound : (a b : Place) → same_place a b ≡ true → a ≡ b

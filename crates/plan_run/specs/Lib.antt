@@ -1,4 +1,5 @@
 pub mod Parts
+pub mod Machine
 pub mod ImageOf
 pub mod Run
 pub mod Private

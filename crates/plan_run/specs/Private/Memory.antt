@@ -5,7 +5,7 @@ use Rattle.datapath.specs.declared.types.Datapath.{Datapath}
 use Rattle.plan_core.specs.Hardware.{tie_of}
 use Rattle.plan_core.specs.declared.delay_lines.Line.{Line}
 use Rattle.plan_core.specs.declared.plan.Plan.{Plan}
-use Rattle.plan_run.specs.Parts.{nodes_of, lines_of, node_at, edge_at, unit_at, line_at}
+use Rattle.plan_run.specs.Parts.{lines_of, node_at, edge_at, unit_at, line_at}
 
 -- the number of the node that writes the line: behind the node whose words it keeps are an address and the store
 abbrev pub store_of : Line → ℕ
