@@ -19,3 +19,4 @@ pub mod LoweredSolution
 pub mod RunsSolution
 pub mod ValidWords
 pub mod Valid
+pub mod Accumulator
