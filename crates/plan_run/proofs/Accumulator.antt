@@ -1,9 +1,7 @@
 -- An example: the image of the accumulator y = y@1 + x with y@@1 = 5, whose delay a register holds.
-use Rattle.std.proofs.Common.{◌≡◌, ℕ, zero, suc, ◌+◌, ◌*◌, ◌%◌, ◌<◌, ◌≤◌, refl, sym, ap, ◌∙◌, subst, arith, List, [], ◌∷◌, length, slice_index_or, replicate, map, All, Contains, codes, ℤ, pos, inl}
+use Rattle.std.proofs.Common.{◌≡◌, ℕ, zero, suc, ◌+◌, ◌*◌, ◌<◌, ◌≤◌, refl, sym, ap, ◌∙◌, subst, arith, List, [], ◌∷◌, length, slice_index_or, replicate, map, Contains, codes, ℤ, pos, inl}
 use Rattle.std.specs.List.{AllPairs}
-use Rattle.lists.specs.Rows.{Rows}
 use Rattle.lists.proofs.Places.{only_there}
-use Rattle.fix_word.specs.declared.operation.Op.{Op}
 use Rattle.fix_word.specs.declared.operation.Op.TheVariants as op
 use Rattle.fix_word.specs.declared.types.Mode.TheVariants.{Trunc}
 use Rattle.fix_word.specs.declared.types.SigType.{SigType}
@@ -13,7 +11,6 @@ use Rattle.operations.specs.Operations.{plain}
 use Rattle.operations.specs.declared.units.Kind.{Kind}
 use Rattle.operations.specs.declared.units.Kind.TheVariants as kind
 use Rattle.operations.specs.declared.units.PortRef.{PortRef}
-use Rattle.datapath.specs.declared.types.Bus.{Bus}
 use Rattle.datapath.specs.declared.types.Datapath.{Datapath}
 use Rattle.datapath.specs.declared.types.Unit.{Unit as FunctionalUnit}
 use Rattle.signal_graph.specs.Rules.{word_before}
@@ -35,9 +32,9 @@ use Rattle.micro_image.specs.Fields.{nth, no_word, unit_of}
 use Rattle.micro_image.specs.Log.{Register, Cell, initial, entries_by, value}
 use Rattle.micro_image.specs.Run.{row_of}
 use Rattle.micro_image.specs.Valid.{EnableBefore, TakeBefore}
-use Rattle.plan_run.specs.Parts.{nodes_of, node_at, unit_at, cycle_at, transfers_at, arc_at, register_at, ReadsThrough, IsTransferOf, ends_at, IsCopy}
+use Rattle.plan_run.specs.Parts.{nodes_of, node_at, unit_at, cycle_at, transfers_at, arc_at, register_at, IsTransferOf, ends_at}
 use Rattle.plan_run.proofs.LiveWords.{port_eq}
-use Rattle.plan_run.specs.ImageOf.{IsUnitOf, IsIssueOf, IsWordOf, IsImageOf, IsPreloadOf, IsCellPreload, StartsWith, enable_of, take_of}
+use Rattle.plan_run.specs.ImageOf.{IsUnitOf, IsIssueOf, IsWordOf, IsImageOf, IsPreloadOf, StartsWith, enable_of, take_of}
 
 abbrev unit_named : List ℕ → Kind → List ℕ → FunctionalUnit
 unit_named name kind files =

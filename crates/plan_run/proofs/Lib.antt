@@ -20,3 +20,4 @@ pub mod RunsSolution
 pub mod ValidWords
 pub mod Valid
 pub mod Accumulator
+pub mod AccumulatorRuns

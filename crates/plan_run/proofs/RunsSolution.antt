@@ -1,5 +1,5 @@
 -- The image of a plan runs the solution of its graph.
-use Rattle.std.proofs.Common.{◌≡◌, ℕ, ◌+◌, ◌<◌, ◌≤◌, ap, ◌∙◌, arith, subst, ⊎_elim, [], length, All}
+use Rattle.std.proofs.Common.{◌≡◌, ℕ, ◌+◌, ◌<◌, ◌≤◌, ap, ◌∙◌, arith, subst, ⊎_elim, [], length}
 use Rattle.std.specs.Prelude.{slice_get, pos, IsSomeAnd}
 use Rattle.std.proofs.lemmas.Bool.{cases_lt}
 use Rattle.std.specs.List.{range_with_len}

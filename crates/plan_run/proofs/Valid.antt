@@ -1,10 +1,9 @@
 -- The image of a plan is a valid image.
-use Rattle.std.proofs.Common.{◌≡◌, ◌≢◌, ℕ, zero, suc, ◌+◌, ◌-◌, ◌*◌, ◌/◌, ◌%◌, ◌^◌, ◌<◌, ◌≤◌, ◌==◌, ◌⊎◌, inl, inr, ⊎_elim, refl, sym, ap, ◌∙◌, subst, arith, Bool, true, false, List, [], ◌∷◌, length, slice_index_or, map, All, Option, Some, None, ℤ, pos}
+use Rattle.std.proofs.Common.{◌≡◌, ℕ, zero, suc, ◌+◌, ◌-◌, ◌*◌, ◌/◌, ◌%◌, ◌^◌, ◌<◌, ◌≤◌, ◌==◌, ◌⊎◌, inl, inr, ⊎_elim, refl, sym, ap, ◌∙◌, subst, arith, Bool, true, false, List, [], ◌∷◌, length, slice_index_or, map, All, Option, Some, None, ℤ, pos}
 use Rattle.std.specs.Prelude.{slice_get, find, IsSomeAnd, neg_ℤ, ◌≤ℤ◌, ◌<ℤ◌, int_le, int_lt}
-use Rattle.std.proofs.lemmas.Bool.{cases_lt}
 use Rattle.std.proofs.lemmas.Int.{ints}
-use Rattle.std.proofs.lemmas.List.{length-map, get_or-map}
-use Rattle.std.proofs.lemmas.Option.{slice_get_within, slice_get-get_or}
+use Rattle.std.proofs.lemmas.List.{get_or-map}
+use Rattle.std.proofs.lemmas.Option.{slice_get-get_or}
 use Rattle.std.proofs.Math.Nat.{mod-lt}
 use Rattle.std.proofs.Math.Pow.{pow_mono}
 use Rattle.fix_word.specs.Words.{IsWord}
@@ -32,7 +31,7 @@ use Rattle.micro_image.specs.declared.image.Image.{Image}
 use Rattle.micro_image.specs.Fields.{nth, no_word, unit_of as described}
 use Rattle.micro_image.specs.Log.{Register, Cell, initial}
 use Rattle.micro_image.specs.Valid as valid
-use Rattle.plan_run.specs.Parts.{nodes_of, lines_of, node_at, arc_at, line_at}
+use Rattle.plan_run.specs.Parts.{nodes_of, node_at, arc_at, line_at}
 use Rattle.plan_run.specs.Machine.{IsMachine}
 use Rattle.plan_run.specs.ImageOf.{IsUnitOf, IsWordOf, IsImageOf, IsPreloadOf, IsCellPreload, width_of}
 use Rattle.plan_run.specs.Private.Feasible.{IsFeasible}

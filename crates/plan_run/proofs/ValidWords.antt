@@ -1,6 +1,6 @@
 -- The microwords of the image of a plan are valid.
-use Rattle.std.proofs.Common.{◌≡◌, ◌≢◌, ℕ, zero, suc, ◌+◌, ◌-◌, ◌*◌, ◌/◌, ◌%◌, ◌<◌, ◌≤◌, ◌⊎◌, inl, inr, ⊎_elim, refl, sym, ap, ap₂, ◌∙◌, subst, arith, List, [], ◌∷◌, length, slice_index_or, map, All, Contains, ℤ, pos}
-use Rattle.std.specs.Prelude.{slice_get, Some, IsSomeAnd}
+use Rattle.std.proofs.Common.{◌≡◌, ℕ, zero, suc, ◌+◌, ◌-◌, ◌*◌, ◌%◌, ◌<◌, ◌≤◌, inl, inr, ⊎_elim, refl, sym, ap, ap₂, ◌∙◌, subst, arith, List, [], ◌∷◌, length, slice_index_or, map, All, Contains, ℤ, pos}
+use Rattle.std.specs.Prelude.{slice_get, IsSomeAnd}
 use Rattle.std.specs.List.{AllPairs, AllAdjacentBelow}
 use Rattle.std.specs.List.Sorted.{IsStrictlyIncreasing}
 use Rattle.std.proofs.lemmas.Bool.{cases_lt}
@@ -10,7 +10,6 @@ use Rattle.std.proofs.Math.Nat.{mod-lt, mod-eq_of_lt}
 use Rattle.fix_word.specs.declared.types.Format.{Format}
 use Rattle.fix_word.specs.declared.operation.Op.{Op}
 use Rattle.fix_word.specs.declared.operation.Op.TheVariants as op
-use Rattle.operations.specs.declared.units.Kind.TheVariants as kind
 use Rattle.operations.specs.declared.units.PortRef.{PortRef}
 use Rattle.datapath.specs.Allowed as path
 use Rattle.datapath.specs.declared.types.Datapath.{Datapath}
@@ -30,24 +29,22 @@ use Rattle.plan_core.specs.declared.plan.Plan.{Plan}
 use Rattle.micro_image.specs.declared.image.Enable.{Enable}
 use Rattle.micro_image.specs.declared.image.Issue.{Issue}
 use Rattle.micro_image.specs.declared.image.Take.{Take}
-use Rattle.micro_image.specs.declared.image.UnitDesc.{UnitDesc}
 use Rattle.micro_image.specs.declared.image.Word.{Word}
 use Rattle.micro_image.specs.declared.image.Image.{Image}
-use Rattle.micro_image.specs.Fields.{nth, no_word, unit_of as described}
+use Rattle.micro_image.specs.Fields.{nth, unit_of as described}
 use Rattle.micro_image.specs.Operations.{kind_of, reads}
 use Rattle.micro_image.specs.Valid as valid
 use Rattle.plan_run.specs.Parts.{nodes_of, lines_of, node_at, edge_at, unit_at, transfers_at, arc_at, line_at, register_at, IsTransferOf, IsCopy, ends_at}
 use Rattle.plan_run.specs.Machine.{IsMachine}
-use Rattle.plan_run.specs.ImageOf.{IsUnitOf, IsIssueOf, IsWordOf, IsImageOf, enable_of, take_of}
+use Rattle.plan_run.specs.ImageOf.{IsUnitOf, IsIssueOf, IsWordOf, IsImageOf, take_of}
 use Rattle.plan_run.specs.Private.Samples.{past}
 use Rattle.plan_run.specs.Private.Feasible.{IsFeasible, IsFeasibleLine}
 use Rattle.plan_run.proofs.Elements.{default_any, nth_past}
 use Rattle.plan_run.proofs.FromImage.{copy_read}
-use Rattle.plan_run.proofs.FromLowered.{made_at, made_as, own_below, graph_node, own_op, address_op, store_op, load_op, line_is, line_for}
+use Rattle.plan_run.proofs.FromLowered.{made_at, made_as, own_below, graph_node, line_is, line_for}
 use Rattle.plan_run.proofs.FromRules.{all_at}
 use Rattle.plan_run.proofs.Origins.{numbered}
 use Rattle.plan_run.proofs.RunsSolution.{plan_feasible}
-use Rattle.plan_run.proofs.Samples.{below_count, split}
 
 -- Lists that rise.
 
