@@ -220,7 +220,8 @@ IssuedBy c issue = (v : ℕ) × (v < length (nodes_of plan)) × (cycle_at plan v
 abbrev Enables : Word → ℕ → ℕ → Type 0
 Enables word c v =
     (transfer : Transfer)
-    → ends_at path plan v ≡ c → Contains (transfers_at plan v) transfer → Contains word.enables (enable_of plan v transfer)
+    → ends_at path plan v ≡ c → Contains (transfers_at plan v) transfer
+    → Contains word.enables (enable_of plan v transfer)
 
 abbrev EnabledBy : ℕ → Enable → Type 0
 EnabledBy c enable =
@@ -252,7 +253,8 @@ fetch_word = record {
   issue_only = λ issue among. alone (IssuedBy 0) (issue_of 0 0 []) issue among
       (0, omega arith, refl, is_issue 0 0 0 [] refl refl (λ q. refl));
   enable = λ v transfer in-v e among. three (Enables fetch 0) v in-v
-      (λ transfer e among. alone (λ t. Contains fetch.enables (enable_of plan 0 t)) (over 2 1) transfer among (one_in _))
+      (λ transfer e among.
+      alone (λ t. Contains fetch.enables (enable_of plan 0 t)) (over 2 1) transfer among (one_in _))
       (λ transfer e. absurd (omega (arith, e))) (λ transfer e. absurd (omega (arith, e))) transfer e among;
   enable_only = λ enable among. alone (EnabledBy 0) (record { unit = 0; bus = 0 }) enable among
       (0, over 2 1, omega arith, refl, one_in _, refl);
@@ -283,13 +285,15 @@ sum_word = record {
   enable_only = λ enable among. alone (EnabledBy 1) (record { unit = 2; bus = 0 }) enable among
       (1, over 2 0, omega arith, refl, (0, omega arith, refl), refl);
   take = λ k transfer of w. three (Takes sum 1) k of.there
-      (λ transfer of w. one_of (λ t. t.port ≡ port_of 2 0 → Contains sum.takes (take_of plan 0 t 0)) (over 2 0) (over 3 0)
-      transfer of.among
+      (λ transfer of w.
+      one_of (λ t. t.port ≡ port_of 2 0 → Contains sum.takes (take_of plan 0 t 0)) (over 2 0) (over 3 0) transfer
+      of.among
       (λ port. (0, omega arith, refl)) (λ port. ports_differ 3 0 2 0 port (λ u q. omega (arith, u))) of.port)
       (λ transfer of w. absurd (omega (arith, w)))
-      (λ transfer of w. one_of (λ t. t.port ≡ port_of 3 0 → Contains sum.takes (take_of plan 2 t 0)) (over 2 0) (over 3 0)
-      transfer of.among
-      (λ port. ports_differ 2 0 3 0 port (λ u q. omega (arith, u))) (λ port. (1, omega arith, refl)) of.port) transfer of w;
+      (λ transfer of w.
+      one_of (λ t. t.port ≡ port_of 3 0 → Contains sum.takes (take_of plan 2 t 0)) (over 2 0) (over 3 0) transfer
+      of.among (λ port. ports_differ 2 0 3 0 port (λ u q. omega (arith, u))) (λ port. (1, omega arith, refl)) of.port)
+      transfer of w;
   take_only = λ take among. one_of (TakenBy 1) (take_from 2 0) (take_from 3 0) take among
       (0, over 2 0, record { there = omega arith; among = (0, omega arith, refl); port = refl }, refl, refl)
       (2, over 3 0, record { there = omega arith; among = (1, omega arith, refl); port = refl }, refl, refl);
@@ -453,6 +457,7 @@ is_image = record {
 }
 
 -- for the samples 1, 2 and 3 the latch holds 6, 8 and 11
-pub rows_are : map (row_of image ((pos 1 ∷ []) ∷ (pos 2 ∷ []) ∷ (pos 3 ∷ []) ∷ [])) (0 ∷ 1 ∷ 2 ∷ []) ≡ (pos 6 ∷ []) ∷ (pos 8 ∷ []) ∷ (pos 11 ∷ []) ∷ []
+pub rows_are : map (row_of image ((pos 1 ∷ []) ∷ (pos 2 ∷ []) ∷ (pos 3 ∷ []) ∷ [])) (0 ∷ 1 ∷ 2 ∷ [])
+    ≡ (pos 6 ∷ []) ∷ (pos 8 ∷ []) ∷ (pos 11 ∷ []) ∷ []
 unfolding entries_by value wrap_of
 rows_are = refl

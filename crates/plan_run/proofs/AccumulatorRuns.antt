@@ -34,7 +34,8 @@ five : AreInits (IsWord 8) ((1, pos 5) ∷ [])
 five = record {
   samples = All-from_Each (λ (i : ℕ × ℤ). IsWithin 1 1023 i.0) (more (omega arith, omega arith) none);
   rise = λ k below. absurd (omega (arith, below));
-  words = All-from_Each (λ (i : ℕ × ℤ). IsWord 8 i.1) (more (record { low = omega (arith, ints); high = omega (arith, ints) }) none);
+  words = All-from_Each (λ (i : ℕ × ℤ). IsWord 8 i.1)
+      (more (record { low = omega (arith, ints); high = omega (arith, ints) }) none);
 }
 
 input_node : IsNode accumulator (slice_index_or accumulator.nodes 0 no_node)
@@ -86,7 +87,8 @@ is_graph = record {
   node_count = omega arith;
   nodes = All-from_Each (IsNode accumulator) (more input_node (more sum_node (more output_node none)));
   outputs = λ j in-j. only_output j in-j;
-  others = All-from_Each (λ (node : Node). node.op ≢ op.Output) (more (λ e. absurd (cc)) (more (λ e. absurd (cc)) none));
+  others = All-from_Each (λ (node : Node). node.op ≢ op.Output)
+      (more (λ e. absurd (cc)) (more (λ e. absurd (cc)) none));
 }
   where
     only_output : (j : ℕ) → j < 1 → IsSomeAnd (slice_get accumulator.nodes (first_output accumulator + j)) (IsOutput j)

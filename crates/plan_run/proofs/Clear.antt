@@ -303,14 +303,15 @@ module _ (d : Datapath) (p : Plan) (words : Counted) (plan : IsFeasible d p) (im
       let is : IsIssueIn p v n issue = subst (IsIssueIn p v n) same its.2 in
       let in-n : n < length stream = below_count n d.period t (length stream) (omega (arith, split t d.period)) below in
       let out' : IsOutside (length (unit_of image (unit_at p v)).cells) (operand image (Log image z t) t issue 0) =
-      subst (λ u. IsOutside (length (unit_of image u).cells) (operand image (Log image z t) t issue 0)) (sym as'.unit) out in
+      subst (λ u. IsOutside (length (unit_of image u).cells) (operand image (Log image z t) t issue 0)) (sym as'.unit)
+      out in
       ⊎_elim
       (λ (o : issue.op ≡ op.Load).
       let e : (node_at p v).op ≡ op.Load = sym is.op ∙ o in
       let l = plan.loads v as'.there e in
       let loads : LoadsFrom d p v l.0 l.1 = l.2 in
-      address_inside t v n (line_at p l.0).ram ((line_at p l.0).offset + l.1) issue as'.there in-n (omega arith) as'.at is
-      (some_edges v op.Load as'.there e (omega arith)) loads.address loads.unit (some_cells l.0 loads.there) out')
+      address_inside t v n (line_at p l.0).ram ((line_at p l.0).offset + l.1) issue as'.there in-n (omega arith) as'.at
+      is (some_edges v op.Load as'.there e (omega arith)) loads.address loads.unit (some_cells l.0 loads.there) out')
       (λ (o : issue.op ≡ op.Store).
       let e : (node_at p v).op ≡ op.Store = sym is.op ∙ o in
       let l = plan.stores v as'.there e in

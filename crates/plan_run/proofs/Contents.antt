@@ -207,9 +207,9 @@ module _ (d : Datapath) (p : Plan) (words : Counted) (plan : IsFeasible d p) (im
   keeps = record {
     apart = words_apart d p words plan;
     lives = lives d p words plan;
-    first = preloaded d p words plan image z stream runs solves;
+    preloaded = preloaded d p words plan image z stream runs solves;
     kept = unwritten;
-    put = written_right;
+    written = written_right;
   }
 
   -- at each cycle of the run each place holds what is wanted of it

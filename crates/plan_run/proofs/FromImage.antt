@@ -303,7 +303,8 @@ module _ (d : Datapath) (p : Plan) (plan : IsFeasible d p) (image : Image) (is :
   pub executes : Executes d p image
   executes = record {
     period = is.period;
-    latency = λ u. unit_fact (λ (unit : UnitDesc). unit.latency) (latency_on d) u (λ u below. (is.units u below).latency)
+    latency = λ u. unit_fact (λ (unit : UnitDesc). unit.latency) (latency_on d) u
+        (λ u below. (is.units u below).latency)
         (λ u le. ap (λ unit. unit.latency) (no_unit_at u le) ∙ sym (ap (λ unit. unit.latency) (no_path_unit u le)));
     gap = λ u. unit_fact (λ unit. unit.gap) (gap_on d) u (λ u below. (is.units u below).gap)
         (λ u le. ap (λ unit. unit.gap) (no_unit_at u le) ∙ sym (ap (λ unit. unit.gap) (no_path_unit u le)));
@@ -321,5 +322,6 @@ module _ (d : Datapath) (p : Plan) (plan : IsFeasible d p) (image : Image) (is :
     takes_differ = λ t. pairs_then (word_at image t).takes takes_differ (word_any t).takes_rise;
     first = preload;
     first_cells = λ l ago in-l before depth.
-        is.starts.cell (line_at p l).ram ((line_at p l).offset + ago) l ago (record { there = in-l; before = before; lives = depth; ram_is = refl; cell_is = refl });
+        is.starts.cell (line_at p l).ram ((line_at p l).offset + ago) l ago
+        (record { there = in-l; before = before; lives = depth; ram_is = refl; cell_is = refl });
   }

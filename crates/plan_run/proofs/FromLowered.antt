@@ -20,7 +20,7 @@ use Rattle.signal_graph.specs.declared.graph.Graph.{Graph}
 use Rattle.plan_core.specs.Hardware.{tie_of}
 use Rattle.plan_core.specs.Operands.{node_of, edge_of, no_edge}
 use Rattle.plan_core.specs.Assigned.{IsAssigned, IsForRam}
-use Rattle.plan_core.specs.Lowered.{Origin, own, address, store, load, origins, stored, used, line_of, no_line, IsNumber, IsReadAgo, AreLongDelays, IsNextLine, IsLoweredEdge, IsLineOf, IsOwn, IsAddress, IsStore, IsLoad, IsMade, IsLowered}
+use Rattle.plan_core.specs.Lowered.{Origin, own, address, store, load, origins, stored, used, line_of, no_line, IsNumber, IsReadAgo, AreLongDelays, IsNextLine, IsLoweredEdge, IsLineOf, IsOwn, IsAddress, IsStore, IsLoad, IsMade, IsLowered, edge_now}
 use Rattle.plan_core.specs.declared.delay_lines.Line.{Line}
 use Rattle.plan_core.specs.declared.plan.Plan.{Plan}
 use Rattle.micro_image.specs.Operations.{gives}
@@ -33,6 +33,9 @@ use Rattle.plan_run.proofs.Elements.{nth_past, default_any}
 use Rattle.plan_run.proofs.FromRules.{all_at}
 use Rattle.plan_run.proofs.Origins.{IsNumbered, first_of, numbered, own_once, store_number, store_once}
 use Rattle.plan_run.proofs.SoundLowered.{IsSoundLowered, AreSoundLines}
+
+abbrev NoOutput : Node → Type 0
+NoOutput node = node.op ≢ op.Output
 
 -- an operation of graphs but Output has a result
 gives_result : (o : Op) → IsOfGraphs (class_of o) → o ≢ op.Output → gives o ≡ true
@@ -177,13 +180,15 @@ module _ (g : Graph) (d : Datapath) (p : Plan) (sound : IsGraph g) (lowered : Is
     pub made : IsMade g d p.assigned.lowered lowered.delays origin (node_at p i)
 
   origin_count : length (origins lowered.delays) ≡ length (nodes_of p)
-  origin_count = zip_length (IsMade g d p.assigned.lowered lowered.delays) (origins lowered.delays) (nodes_of p) lowered.nodes
+  origin_count =
+      zip_length (IsMade g d p.assigned.lowered lowered.delays) (origins lowered.delays) (nodes_of p) lowered.nodes
 
   pub made_as : (o : Origin) (i : ℕ)
       → IsNumber lowered.delays o i
       → IsMade g d p.assigned.lowered lowered.delays o (node_at p i)
   made_as o i number =
-      zip_at (IsMade g d p.assigned.lowered lowered.delays) (origins lowered.delays) (nodes_of p) i o _ lowered.nodes number
+      zip_at (IsMade g d p.assigned.lowered lowered.delays) (origins lowered.delays) (nodes_of p) i o _ lowered.nodes
+      number
 
   pub number_below : (o : Origin) (i : ℕ) → IsNumber lowered.delays o i → i < length (nodes_of p)
   number_below o i number = omega (arith, slice_get_within (origins lowered.delays) i o number, origin_count)
@@ -243,9 +248,11 @@ module _ (g : Graph) (d : Datapath) (p : Plan) (sound : IsGraph g) (lowered : Is
               → (v < length g.nodes) ⊎ (length g.nodes ≤ v)
               → IsSomeAnd (slice_get g.nodes v) (λ (node : Node). node.op ≢ op.Output)
               → (v < length g.nodes) × ((node_of g.nodes v).op ≢ op.Output)
-          there v (inl below) some =
-              (below, some_is (λ (node : Node). node.op ≢ op.Output) (slice_get g.nodes v) (node_of g.nodes v) (slice_get-get_or g.nodes v _ below) some)
-          there v (inr past') some = absurd (subst (λ o. IsSomeAnd o (λ (node : Node). node.op ≢ op.Output)) (none_past g.nodes v past') some)
+          there v (inl below) some = (
+            below,
+            some_is NoOutput (slice_get g.nodes v) (node_of g.nodes v) (slice_get-get_or g.nodes v _ below) some,
+          )
+          there v (inr past') some = absurd (subst (λ o. IsSomeAnd o NoOutput) (none_past g.nodes v past') some)
 
   -- a node that is read has a result in the lowered list
   own_result : (v i : ℕ)
@@ -259,7 +266,8 @@ module _ (g : Graph) (d : Datapath) (p : Plan) (sound : IsGraph g) (lowered : Is
 
   pub address_op : (v ago i : ℕ) → IsNumber lowered.delays (address v ago) i → (node_at p i).op ≡ op.Addr
   address_op v ago i number =
-      let made : IsAddress g d p.assigned.lowered lowered.delays v ago (node_at p i) = made_as (address v ago) i number in
+      let made : IsAddress g d p.assigned.lowered lowered.delays v ago (node_at p i) =
+      made_as (address v ago) i number in
       ap (λ (node : Node). node.op) made.is
 
   pub load_op : (v ago i : ℕ) → IsNumber lowered.delays (load v ago) i → (node_at p i).op ≡ op.Load
@@ -288,7 +296,8 @@ module _ (g : Graph) (d : Datapath) (p : Plan) (sound : IsGraph g) (lowered : Is
       let x : ℕ × List ℕ = slice_index_or (stored lowered.delays) l (0, []) in
       let at : slice_get (stored lowered.delays) l ≡ Some x =
       slice_get-get_or (stored lowered.delays) l (0, []) (omega (arith, in-l, lowered.line_count)) in
-      let among = from_filter has_long (enumerate_from 0 lowered.delays) x (contains_at (stored lowered.delays) l x at) in
+      let among =
+      from_filter has_long (enumerate_from 0 lowered.delays) x (contains_at (stored lowered.delays) l x at) in
       record {
         v = x.0;
         long = x.1;
@@ -304,7 +313,8 @@ module _ (g : Graph) (d : Datapath) (p : Plan) (sound : IsGraph g) (lowered : Is
       → (is-m : IsLineFor m)
       → is-l.v ≡ is-m.v
       → l ≡ m
-  line_once v l m is-l is-m same = stored_once lowered.delays l m (is-l.v, is-l.long) (is-m.v, is-m.long) is-l.stored_at is-m.stored_at same
+  line_once v l m is-l is-m same =
+      stored_once lowered.delays l m (is-l.v, is-l.long) (is-m.v, is-m.long) is-l.stored_at is-m.stored_at same
 
   -- the line of node v is the one that is said to be
   pub line_is : (v : ℕ) (line : Line)
@@ -347,7 +357,8 @@ module _ (g : Graph) (d : Datapath) (p : Plan) (sound : IsGraph g) (lowered : Is
 
   address_edges : (v ago i : ℕ) → IsNumber lowered.delays (address v ago) i → (node_at p i).edges ≡ []
   address_edges v ago i number =
-      let made : IsAddress g d p.assigned.lowered lowered.delays v ago (node_at p i) = made_as (address v ago) i number in
+      let made : IsAddress g d p.assigned.lowered lowered.delays v ago (node_at p i) =
+      made_as (address v ago) i number in
       ap (λ (node : Node). node.edges) made.is
 
   operand_count : (i : ℕ) → i < length (nodes_of p) → length (node_at p i).edges ≡ operands (node_at p i).op
@@ -391,7 +402,8 @@ module _ (g : Graph) (d : Datapath) (p : Plan) (sound : IsGraph g) (lowered : Is
       let reads = all_at (λ k. IsReadAgo g is.v k) is.long (line_at p l).depth long.read is.next.depth in
       own_result is.v (line_at p l).node is.next.node
       (subst (λ v. (node_of g.nodes v).op ≢ op.Output) reads.reads.node
-      (edge_node reads.consumer reads.port (graph_reader g reads.consumer reads.port reads.reads.port) reads.reads.port).1)
+      (edge_node reads.consumer reads.port (graph_reader g reads.consumer reads.port reads.reads.port)
+      reads.reads.port).1)
 
   line_number : (v : ℕ) (line : Line)
       → IsLineOf g d p.assigned.lowered lowered.delays v line
@@ -525,8 +537,9 @@ module _ (g : Graph) (d : Datapath) (p : Plan) (sound : IsGraph g) (lowered : Is
     where
       not_before : (v < first_output g) ⊎ (first_output g ≤ v) → first_output g ≤ v
       not_before (inr le) = le
-      not_before (inl less) = absurd (all_at (λ (node : Node). node.op ≢ op.Output) (take (first_output g) g.nodes) (node_of g.nodes v)
-          sound.others (in_take g.nodes (first_output g) v _ less in-v) is)
+      not_before (inl less) =
+          absurd (all_at NoOutput (take (first_output g) g.nodes) (node_of g.nodes v) sound.others
+          (in_take g.nodes (first_output g) v _ less in-v) is)
 
   outputs : (i j : ℕ)
       → i < length (nodes_of p)
@@ -573,13 +586,14 @@ module _ (g : Graph) (d : Datapath) (p : Plan) (sound : IsGraph g) (lowered : Is
   -- the address of node v so many samples ago, by line l
   has_address : (v ago l i at : ℕ)
       → (node_at p i).edges ≡ record { node = at; delay = 0 } ∷ []
-      ⊎ ((value : ℕ) × ((node_at p i).edges ≡ record { node = at; delay = 0 } ∷ record { node = value; delay = 0 } ∷ []))
+      ⊎ ((value : ℕ) × ((node_at p i).edges ≡ edge_now at ∷ edge_now value ∷ []))
       → IsNumber lowered.delays (address v ago) at
       → l < length (lines_of p)
       → ((is : IsLineFor l) → is.v ≡ v)
       → HasAddress d p i (line_at p l).ram ((line_at p l).offset + ago)
   has_address v ago l i at edges number in-l its =
-      let made : IsAddress g d p.assigned.lowered lowered.delays v ago (node_at p at) = made_as (address v ago) at number in
+      let made : IsAddress g d p.assigned.lowered lowered.delays v ago (node_at p at) =
+      made_as (address v ago) at number in
       let is = line_is v made.line made.its_line in
       let one : l ≡ is.0 = line_once v l is.0 (line_for l in-l) (line_for is.0 is.1)
       (its (line_for l in-l) ∙ sym (is.3 (line_for is.0 is.1))) in
@@ -598,7 +612,7 @@ module _ (g : Graph) (d : Datapath) (p : Plan) (sound : IsGraph g) (lowered : Is
       }
     where
       first_edge : (node_at p i).edges ≡ record { node = at; delay = 0 } ∷ []
-          ⊎ ((value : ℕ) × ((node_at p i).edges ≡ record { node = at; delay = 0 } ∷ record { node = value; delay = 0 } ∷ []))
+          ⊎ ((value : ℕ) × ((node_at p i).edges ≡ edge_now at ∷ edge_now value ∷ []))
           → edge_at p i 0 ≡ record { node = at; delay = 0 }
       first_edge (inl e) = ap (λ edges. slice_index_or edges 0 no_edge) e
       first_edge (inr e) = ap (λ edges. slice_index_or edges 0 no_edge) e.1
@@ -653,7 +667,8 @@ module _ (g : Graph) (d : Datapath) (p : Plan) (sound : IsGraph g) (lowered : Is
       let long = are_long for.v for.long for.delays_are in
       let depth = for.next.depth in
       let reads = all_at (λ k. IsReadAgo g for.v k) for.long (line_at p l).depth long.read depth in
-      let above : d.hold < (line_at p l).depth = all_at (λ k. d.hold < k) for.long (line_at p l).depth long.long depth in
+      let above : d.hold < (line_at p l).depth =
+      all_at (λ k. d.hold < k) for.long (line_at p l).depth long.long depth in
       let c : ℕ = reads.consumer in
       let in-c : c < length g.nodes = graph_reader g c reads.port reads.reads.port in
       let number = stored_node l in-l for in
@@ -709,7 +724,8 @@ module _ (g : Graph) (d : Datapath) (p : Plan) (sound : IsGraph g) (lowered : Is
       let its : for.v ≡ v = is.3 for in
       let node : v ≡ at.v = at.belongs.node in
       let long : at.long ≡ for.long =
-      same_Some at.long for.long (sym at.delays_are ∙ ap (slice_get lowered.delays) (sym node ∙ sym its) ∙ for.delays_are) in
+      same_Some at.long for.long
+      (sym at.delays_are ∙ ap (slice_get lowered.delays) (sym node ∙ sym its) ∙ for.delays_are) in
       let among : Contains for.long ago = subst (λ long. Contains long ago) long at.belongs.is_in in
       let above : d.hold < ago =
       all_at (λ k. d.hold < k) for.long ago (are_long for.v for.long for.delays_are).long among in (

@@ -456,11 +456,13 @@ module _ (d : Datapath) (p : Plan) (lowered : IsSoundLowered d p)
       let u : ℕ = (arc_at p k).node in
       record {
         some = some_count (arc_at p k).copies its.count;
-        turns = divides (arc_at p k).copies p.unroll its.count (count_of_unroll d p arcs unrolled) (unrolled.most k _ in-k);
+        turns = divides (arc_at p k).copies p.unroll its.count (count_of_unroll d p arcs unrolled)
+            (unrolled.most k _ in-k);
         written = omega (arith, its.written, fits u (arc_node k in-k), gaps (unit_at p u));
         lives = subst (λ r. (arc_at p k).w < r) (sym read.2)
             (behind read.0 (arc_at p k).port.port k
-            (reader_there p read.0 (arc_at p k).port.port (arc_at p k).node read.1.reads) (through_arc k read.0 in-k read.1));
+            (reader_there p read.0 (arc_at p k).port.port (arc_at p k).node read.1.reads)
+            (through_arc k read.0 in-k read.1));
         covered = its.covered;
       }
 

@@ -127,7 +127,10 @@ module _ (g : Graph) (d : Datapath) (p : Plan) (sound : IsGraph g) (lowered : Is
   no_inits : (inits : List (ℕ × ℤ)) (k : ℕ) → inits ≡ [] → pos 0 ≡ word_before inits k
   no_inits inits k e = sym (ap (λ inits. word_before inits k) e)
 
-  before : (i s : ℕ) → i < length (nodes_of p) → s < past → lowered_words i s ≡ word_before (node_at p i).inits (past - s)
+  before : (i s : ℕ)
+      → i < length (nodes_of p)
+      → s < past
+      → lowered_words i s ≡ word_before (node_at p i).inits (past - s)
   before i s in-i below =
       let made = made_at g d p sound lowered assigned i in-i in
       word_is made.origin i s made.number ∙ by made.origin made.number

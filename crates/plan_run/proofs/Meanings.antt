@@ -37,7 +37,8 @@ meaning-operands o node stream n f g of same =
     ap₂ (λ a b. apply_of o node.fmt a b (pos 0)) (same 0 (omega arith)) (same 1 (omega arith))
 
 -- the value of an issue by the node's meaning
-pub value-meaning : (o : Op) (image : Image) (z stream : Rows) (log : List Entry) (t n : ℕ) (issue : Issue) (node : Node)
+pub value-meaning : (o : Op) (image : Image) (z stream : Rows) (log : List Entry) (t n : ℕ)
+    → (issue : Issue) (node : Node)
     → IsOfGraph o
     → nth z t [] ≡ nth stream n []
     → issue.arg ≡ node.arg

@@ -243,7 +243,8 @@ module _ (d : Datapath) (p : Plan) (words : Counted) (plan : IsFeasible d p) (im
   unfolding value
   store_right t v n l issue right in-v in-n stores is below =
       ap (λ o. value_by o image z (Log image z t) (n * d.period + cycle_at p v) issue) (is.op ∙ stores.is_store)
-      ∙ reads t v n 1 issue right in-v (some_operand 1 (edges_of v op.Store in-v stores.is_store) (omega arith)) is below
+      ∙ reads t v n 1 issue right in-v (some_operand 1 (edges_of v op.Store in-v stores.is_store) (omega arith)) is
+      below
       ∙ ap₂ words stores.value (back_now n (edge_at p v 1).delay stores.now)
 
   -- into the line's cell

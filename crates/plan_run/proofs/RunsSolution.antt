@@ -36,8 +36,8 @@ module _ (g : Graph) (d : Datapath) (p : Plan) (sound : IsGraph g) (machine : Is
   -- a plan is feasible
   pub plan_feasible : IsFeasible d p
   plan_feasible =
-      feasible d p (sound_lowered g d p sound plan.lowered plan.assigned) (gaps_of d machine.units) plan.assigned plan.schedule
-      plan.arcs plan.unroll plan.registers (omega (arith, machine.period.0))
+      feasible d p (sound_lowered g d p sound plan.lowered plan.assigned) (gaps_of d machine.units) plan.assigned
+      plan.schedule plan.arcs plan.unroll plan.registers (omega (arith, machine.period.0))
       (sound_lines g d p sound plan.lowered plan.assigned)
 
   -- the node of output word j in the graph, and in the lowered list
@@ -48,7 +48,8 @@ module _ (g : Graph) (d : Datapath) (p : Plan) (sound : IsGraph g) (machine : Is
       by : (v : ℕ) → IsSomeAnd (slice_get g.nodes v) (IsOutput j) → v < length g.nodes
       by v some =
           ⊎_elim (λ (below : v < length g.nodes). below)
-          (λ (past' : length g.nodes ≤ v). absurd (subst (λ o. IsSomeAnd o (IsOutput j)) (none_past g.nodes v past') some))
+          (λ (past' : length g.nodes ≤ v).
+          absurd (subst (λ o. IsSomeAnd o (IsOutput j)) (none_past g.nodes v past') some))
           (cases_lt v (length g.nodes))
 
   abbrev out_node : ℕ → ℕ
@@ -79,13 +80,14 @@ module _ (g : Graph) (d : Datapath) (p : Plan) (sound : IsGraph g) (machine : Is
 
   -- the output rows by numbers of samples are those of the graph
   rows_are : (stream : Rows) (words : Words) (solves : GraphSolves g stream words)
-      → counted_out (lowered_words g d p sound plan.lowered plan.assigned stream words solves) out_node g.outs (length stream)
+      → counted_out (lowered_words g d p sound plan.lowered plan.assigned stream words solves) out_node g.outs
+      (length stream)
       ≡ graph_out g words (length stream)
   rows_are stream words solves =
       map-same _ _ (range_with_len 0 (length stream)) (λ n in-n.
       map-same _ _ (range_with_len 0 g.outs) (λ j in-j.
-      word_is g d p sound plan.lowered plan.assigned stream words solves (own (first_output g + j)) (out_node j) (past + n)
-      (out_number j (below_of j (In-range 0 g.outs j in-j)))
+      word_is g d p sound plan.lowered plan.assigned stream words solves (own (first_output g + j)) (out_node j)
+      (past + n) (out_number j (below_of j (In-range 0 g.outs j in-j)))
       ∙ late _ _ n
       ∙ ap (λ m. words (first_output g + j) (pos m)) (now_is n)))
     where

@@ -146,7 +146,8 @@ module _ (g : Graph) (d : Datapath) (p : Plan) (sound : IsGraph g) (machine : Is
       ⊎_elim
       (λ word. word)
       (λ never.
-      absurd (never (subst (IsWord 32) (sym (is.starts.other_register port reg (λ k i ago (of : IsPreloadOf d p port reg k i ago).
+      absurd (never (subst (IsWord 32)
+      (sym (is.starts.other_register port reg (λ k i ago (of : IsPreloadOf d p port reg k i ago).
       never (subst (IsWord 32) (sym (is.starts.register port reg k i ago of))
       (word_of_node (arc_at p k).node ago (feasible.arcs k of.preload.there).node)))))
       zero_word)))
@@ -157,7 +158,8 @@ module _ (g : Graph) (d : Datapath) (p : Plan) (sound : IsGraph g) (machine : Is
       ⊎_elim
       (λ word. word)
       (λ never.
-      absurd (never (subst (IsWord 32) (sym (is.starts.other_cell ram cell (λ l ago (of : IsCellPreload p ram cell l ago).
+      absurd (never (subst (IsWord 32)
+      (sym (is.starts.other_cell ram cell (λ l ago (of : IsCellPreload p ram cell l ago).
       never (subst (IsWord 32) (sym (is.starts.cell ram cell l ago of))
       (word_of_node (line_at p l).node ago (feasible.lines l of.there).node)))))
       zero_word)))
@@ -243,7 +245,9 @@ module _ (g : Graph) (d : Datapath) (p : Plan) (sound : IsGraph g) (machine : Is
       product : (u q : ℕ) → image.unroll ≡ u → image.period ≡ q → u * q ≡ image.period * image.unroll
       product u q e f = grind (arith, e, f)
 
-      word : (x : ℕ) (default : Word) → x < length image.words → valid.IsWordOf image (slice_index_or image.words x default)
+      word : (x : ℕ) (default : Word)
+          → x < length image.words
+          → valid.IsWordOf image (slice_index_or image.words x default)
       word x default below =
           let n : ℕ = x / d.period in
           let c : ℕ = x % d.period in

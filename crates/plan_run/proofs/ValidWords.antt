@@ -71,18 +71,20 @@ few f n (x ∷ xs) rise below =
 adjacent : {A : Type 0} (R : A → A → Type 0) (xs : List A) → AllPairs R xs → AllAdjacentBelow R xs (length xs)
 adjacent R xs pairs k default below = pairs k (k + 1) default (omega arith) below
 
+abbrev number : Issue → ℕ
+number issue = issue.unit
+
 rising_units : (issues : List Issue)
     → AllPairs (λ (a b : Issue). a.unit < b.unit) issues
     → IsStrictlyIncreasing (map (λ issue. issue.unit) issues)
 rising_units [] rise k below = absurd (omega (arith, below))
 rising_units (first ∷ issues) rise k below =
-    let count : length (map (λ (issue : Issue). issue.unit) (first ∷ issues)) ≡ length (first ∷ issues) =
-    length-map (first ∷ issues) (λ (issue : Issue). issue.unit) in
+    let count : length (map number (first ∷ issues)) ≡ length (first ∷ issues) = length-map (first ∷ issues) number in
     let step = rise k (k + 1) first (omega arith) (omega (arith, below, count)) in
-    let here = get_or-map (λ (issue : Issue). issue.unit) (first ∷ issues) k first 0 (omega (arith, below, count)) in
-    let next = get_or-map (λ (issue : Issue). issue.unit) (first ∷ issues) (k + 1) first 0 (omega (arith, below, count)) in
-    let rises : slice_index_or (map (λ (issue : Issue). issue.unit) (first ∷ issues)) k 0
-    < slice_index_or (map (λ (issue : Issue). issue.unit) (first ∷ issues)) (k + 1) 0 = omega (arith, step, here, next) in
+    let here = get_or-map number (first ∷ issues) k first 0 (omega (arith, below, count)) in
+    let next = get_or-map number (first ∷ issues) (k + 1) first 0 (omega (arith, below, count)) in
+    let rises : slice_index_or (map number (first ∷ issues)) k 0
+    < slice_index_or (map number (first ∷ issues)) (k + 1) 0 = omega (arith, step, here, next) in
     rises
 
 -- what holds of the element at an index holds of what is there
@@ -154,7 +156,10 @@ module _ (g : Graph) (d : Datapath) (p : Plan) (sound : IsGraph g) (machine : Is
   outs_are = is.outs ∙ plan.outs
 
   -- an offset of an address is within its ram
-  small_offset : (l ago : ℕ) → l < length (lines_of p) → ago ≤ (line_at p l).depth → (line_at p l).offset + ago < valid.offsets
+  small_offset : (l ago : ℕ)
+      → l < length (lines_of p)
+      → ago ≤ (line_at p l).depth
+      → (line_at p l).offset + ago < valid.offsets
   small_offset l ago in-l le =
       let line : IsFeasibleLine d p l = feasible.lines l in-l in
       let room : (line_at p l).offset + (line_at p l).depth < cells_on d (line_at p l).ram = line.room in
@@ -165,7 +170,8 @@ module _ (g : Graph) (d : Datapath) (p : Plan) (sound : IsGraph g) (machine : Is
       omega (arith, le, room, cells.1)
 
   made_format : (v : ℕ) → v < length (nodes_of p) → valid.IsFormatFor (node_at p v).op (node_at p v).fmt
-  made_format i in-i = by (made_at g d p sound plan.lowered plan.assigned i in-i).origin (made_at g d p sound plan.lowered plan.assigned i in-i).number
+  made_format i in-i =
+      let at = made_at g d p sound plan.lowered plan.assigned i in-i in by at.origin at.number
     where
       by : (o : Origin) → IsNumber plan.lowered.delays o i → valid.IsFormatFor (node_at p i).op (node_at p i).fmt
       by (own v) number =
@@ -192,7 +198,8 @@ module _ (g : Graph) (d : Datapath) (p : Plan) (sound : IsGraph g) (machine : Is
   made_argument : (i : ℕ)
       → i < length (nodes_of p)
       → valid.IsArgument (node_at p i).op (length g.inputs) g.outs (node_at p i).arg
-  made_argument i in-i = by (made_at g d p sound plan.lowered plan.assigned i in-i).origin (made_at g d p sound plan.lowered plan.assigned i in-i).number
+  made_argument i in-i =
+      let at = made_at g d p sound plan.lowered plan.assigned i in-i in by at.origin at.number
     where
       by : (o : Origin)
           → IsNumber plan.lowered.delays o i
@@ -225,7 +232,8 @@ module _ (g : Graph) (d : Datapath) (p : Plan) (sound : IsGraph g) (machine : Is
           origin.belongs.is_in.1 in
           argument_by _ op.Addr (length g.inputs) g.outs _ _ (ap (λ (node : Node). node.op) made.is)
           (ap (λ (node : Node). node.arg) made.is)
-          (subst (λ (line : Line). valid.IsBelow valid.offsets (pos (line.offset + ago))) at.2 (small_offset l ago at.1 le))
+          (subst (λ (line : Line). valid.IsBelow valid.offsets (pos (line.offset + ago))) at.2
+          (small_offset l ago at.1 le))
       by (store v) number =
           let made : IsStore g d p.assigned.lowered plan.lowered.delays v (node_at p i) =
           made_as g d p sound plan.lowered plan.assigned (store v) i number in
@@ -338,7 +346,8 @@ module _ (g : Graph) (d : Datapath) (p : Plan) (sound : IsGraph g) (machine : Is
       → Contains (transfers_at p v) transfer
       → transfer.bus < length d.buses
   bus_there v transfer in-v among =
-      let first : IsFirstBus d (IsTakenBefore p.assigned p.schedule plan.schedule.height v) (unit_at p v) (ends_at d p v) transfer =
+      let first : IsFirstBus d (IsTakenBefore p.assigned p.schedule plan.schedule.height v) (unit_at p v)
+      (ends_at d p v) transfer =
       all_at (IsFirstBus d (IsTakenBefore p.assigned p.schedule plan.schedule.height v) (unit_at p v) (ends_at d p v))
       (transfers_at p v) transfer (plan.schedule.placed v in-v).buses among in
       first.route.route.there
@@ -355,7 +364,8 @@ module _ (g : Graph) (d : Datapath) (p : Plan) (sound : IsGraph g) (machine : Is
     issues_rise = rising_units word.issues of.issues_rise;
     enable_count = few (λ (e : Enable). 32 * e.unit + e.bus) 1024 word.enables
         (λ j k default less below.
-        enable_number _ _ (of.enables_rise j k default less below) (enable_small j default (omega (arith, less, below))).1)
+        enable_number _ _ (of.enables_rise j k default less below)
+        (enable_small j default (omega (arith, less, below))).1)
         (λ k default below.
         let small = enable_small k default below in
         omega (arith, small.0, small.1));
@@ -388,7 +398,12 @@ module _ (g : Graph) (d : Datapath) (p : Plan) (sound : IsGraph g) (machine : Is
           let e : Enable = slice_index_or word.enables k default in
           let only = of.enable_only e (k, below, default_any word.enables k e default below) in (
             omega (arith, ap (λ (e : Enable). e.unit) only.5, feasible.units only.0 only.2, machine.unit_count.1),
-            omega (arith, ap (λ (e : Enable). e.bus) only.5, bus_there only.0 only.1 only.2 only.4, machine.bus_count.1),
+            omega (
+              arith,
+              ap (λ (e : Enable). e.bus) only.5,
+              bus_there only.0 only.1 only.2 only.4,
+              machine.bus_count.1,
+            ),
           )
 
       -- the take at an index, with its lifetime and its transfer
@@ -431,12 +446,18 @@ module _ (g : Graph) (d : Datapath) (p : Plan) (sound : IsGraph g) (machine : Is
               ⊎_elim
               (λ (there : u < length d.units). there)
               (λ (past' : length d.units ≤ u).
-              absurd (omega (arith, some, ap (λ unit. slice_index_or unit.files q 0) (nth_past d.units u no_unit past'))))
+              absurd (omega (
+                arith,
+                some,
+                ap (λ unit. slice_index_or unit.files q 0)
+                    (nth_past d.units u no_unit past'),
+              )))
               (cases_lt u (length d.units))
 
       take_small : (k : ℕ) (default : Take)
           → k < length word.takes
-          → ((slice_index_or word.takes k default).port.unit < 32) × ((slice_index_or word.takes k default).port.port < 4)
+          → ((slice_index_or word.takes k default).port.unit < 32)
+          × ((slice_index_or word.takes k default).port.port < 4)
       take_small k default below =
           let at = taken k default below in
           let port = port_is k default below in (

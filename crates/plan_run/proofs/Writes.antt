@@ -75,6 +75,10 @@ in_one x xs e = subst (In x) (sym e) here
 pub some_same : {A : Type 0} (a b : A) (o : Option A) → o ≡ Some a → o ≡ Some b → a ≡ b
 some_same a b o e f = cc
 
+-- a write of a cycle, from a unit
+abbrev pub write : Place → (cycle unit : ℕ) → ℤ → Entry
+write place cycle unit value = record { place = place; cycle = cycle; unit = unit; value = value }
+
 output_no_store : (o : Op) → o ≡ op.Output → o ≡ op.Store → ⊥
 output_no_store o e f = absurd (cc)
 
@@ -95,7 +99,7 @@ module _ (d : Datapath) (p : Plan) (words : Counted) (plan : IsFeasible d p) (im
       → driver_at image t take.bus ≡ Some driver
       → result_by image z log t driver.unit ≡ Some v
       → taken image z log t take
-      ≡ record { place = Register take.port.unit take.port.port take.reg; cycle = t; unit = driver.unit; value = v } ∷ []
+      ≡ write (Register take.port.unit take.port.port take.reg) t driver.unit v ∷ []
   taken_is log t take driver v drives result =
       ap (taken_from image z log t take) drives
       ∙ ap (entry_of (Register take.port.unit take.port.port take.reg) t driver.unit) result
@@ -107,14 +111,15 @@ module _ (d : Datapath) (p : Plan) (words : Counted) (plan : IsFeasible d p) (im
       → RightAt t
       → IsTakeIn p image k n t take
       → (u : ℕ) × (taken image z (Log image z t) t take
-      ≡ record { place = place_of d p words (in_register k (past + n) there); cycle = t; unit = u; value = words (arc_at p k).node (past + n) } ∷ [])
+      ≡ write (place_of d p words (in_register k (past + n) there)) t u (words (arc_at p k).node (past + n)) ∷ [])
   taken_word k n t take in-k in-n at right is =
       let driver = is.driver.0 in
       let arc : IsFeasibleArc d p k = plan.arcs k in-k in
       let result : result_by image z (Log image z t) t driver.unit ≡ Some (words (arc_at p k).node (past + n)) =
       ap (result_by image z (Log image z t) t) is.driver.2
       ∙ subst
-      (λ t. result_by image z (Log image z t) t (unit_at p (arc_at p k).node) ≡ Some (words (arc_at p k).node (past + n)))
+      (λ t. result_by image z (Log image z t) t (unit_at p (arc_at p k).node)
+      ≡ Some (words (arc_at p k).node (past + n)))
       (sym at)
       (result_right d p words plan image z stream runs solves rows (arc_at p k).node n (subst RightAt at right) arc.node
       in-n arc.result) in
@@ -124,8 +129,7 @@ module _ (d : Datapath) (p : Plan) (words : Counted) (plan : IsFeasible d p) (im
       ap₂ (λ (port : PortRef) (r : ℕ). Register port.unit port.port r) is.port reg in (
         driver.unit,
         taken_is (Log image z t) t take driver _ is.driver.1 result
-            ∙ ap (λ place. record { place = place; cycle = t; unit = driver.unit; value = words (arc_at p k).node (past + n) } ∷ [])
-            place,
+            ∙ ap (λ place. write place t driver.unit (words (arc_at p k).node (past + n)) ∷ []) place,
       )
 
   start_of : (w n t : ℕ) → t ≡ n * d.period + w → w + (past + n) * d.period ≡ past * d.period + t
@@ -160,8 +164,9 @@ module _ (d : Datapath) (p : Plan) (words : Counted) (plan : IsFeasible d p) (im
       }) none)
 
   written_each_by : (o : Op) (log : List Entry) (t b : ℕ) (issue : Issue) (P : Entry → Type 0)
-      → (o ≡ op.Output → P (record { place = Latch (to_nat issue.arg); cycle = t; unit = issue.unit; value = value image z log b issue }))
-      → (o ≡ op.Store → P (record { place = Cell issue.unit (to_nat (operand image log b issue 0)); cycle = t; unit = issue.unit; value = value image z log b issue }))
+      → (o ≡ op.Output → P (write (Latch (to_nat issue.arg)) t issue.unit (value image z log b issue)))
+      → (o ≡ op.Store
+      → P (write (Cell issue.unit (to_nat (operand image log b issue 0))) t issue.unit (value image z log b issue)))
       → Each P (written_by o image z log t b issue)
   written_each_by op.Output log t b issue P latch cell = more (latch refl) none
   written_each_by op.Store log t b issue P latch cell = more (cell refl) none
@@ -247,9 +252,11 @@ module _ (d : Datapath) (p : Plan) (words : Counted) (plan : IsFeasible d p) (im
         live = in_cell l (past + n) to.there;
         starts = ap (λ v. ends_at d p v + (past + n) * d.period) to.its_number ∙ start_of (ends_at d p v) n t at;
         place = ap (λ b. Cell issue.unit (to_nat (operand image (Log image z t) b issue 0))) as'.begun
-            ∙ store_place d p words plan image z stream runs solves rows t v n l issue right in-v in-n to is (omega arith);
+            ∙ store_place d p words plan image z stream runs solves rows t v n l issue right in-v in-n to is
+            (omega arith);
         value = ap (λ b. value image z (Log image z t) b issue) as'.begun
-            ∙ store_right d p words plan image z stream runs solves rows t v n l issue right in-v in-n to is (omega arith);
+            ∙ store_right d p words plan image z stream runs solves rows t v n l issue right in-v in-n to is
+            (omega arith);
       })
 
   -- each write of a cycle is of a live word that is written then
@@ -260,5 +267,7 @@ module _ (d : Datapath) (p : Plan) (words : Counted) (plan : IsFeasible d p) (im
   unfolding entries_by
   writes_of_words t below right =
       Each-append
-      (Each-flat_map (IsOfWord t) (taken image z (Log image z t) t) (word_at image t).takes (λ take in-word. take_each t take below right in-word))
-      (Each-flat_map (IsOfWord t) (written image z (Log image z t) t) (range_with_len 0 (length image.units)) (λ u in-units. written_each t u (ending image t u) below right refl))
+      (Each-flat_map (IsOfWord t) (taken image z (Log image z t) t) (word_at image t).takes
+      (λ take in-word. take_each t take below right in-word))
+      (Each-flat_map (IsOfWord t) (written image z (Log image z t) t) (range_with_len 0 (length image.units))
+      (λ u in-units. written_each t u (ending image t u) below right refl))
