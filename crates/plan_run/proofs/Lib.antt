@@ -19,5 +19,6 @@ pub mod LoweredSolution
 pub mod RunsSolution
 pub mod ValidWords
 pub mod Valid
+pub mod OneImage
 pub mod Accumulator
 pub mod AccumulatorRuns
