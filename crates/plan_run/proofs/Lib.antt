@@ -20,5 +20,6 @@ pub mod RunsSolution
 pub mod ValidWords
 pub mod Valid
 pub mod OneImage
+pub mod Instances
 pub mod Accumulator
 pub mod AccumulatorRuns

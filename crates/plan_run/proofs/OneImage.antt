@@ -128,7 +128,8 @@ module _ (d : Datapath) (p : Plan) (plan : IsFeasible d p) where
   one_issue v n a b in-v in-n is-a is-b =
       issue_from a b (is-a.unit ∙ sym is-b.unit) (is-a.op ∙ sym is-b.op) (is-a.fmt ∙ sym is-b.fmt)
       (is-a.arg ∙ sym is-b.arg)
-      (ext_get_or 0 a.regs b.regs (is-a.count ∙ sym is-b.count) (λ q below. same q (cases_lt q (length (node_at p v).edges))))
+      (ext_get_or 0 a.regs b.regs (is-a.count ∙ sym is-b.count)
+      (λ q below. same q (cases_lt q (length (node_at p v).edges))))
     where
       same : (q : ℕ)
           → (q < length (node_at p v).edges) ⊎ (length (node_at p v).edges ≤ q)
@@ -180,8 +181,8 @@ module _ (d : Datapath) (p : Plan) (plan : IsFeasible d p) where
       → a ≡ b
   one_word n c a b in-n is-a is-b =
       word_from a b
-      (same_order (λ (x y : Issue). x.unit < y.unit) never_both_issues a.issues b.issues is-a.issues_rise is-b.issues_rise
-      (issue_in n c a b in-n is-a is-b) (issue_in n c b a in-n is-b is-a))
+      (same_order (λ (x y : Issue). x.unit < y.unit) never_both_issues a.issues b.issues is-a.issues_rise
+      is-b.issues_rise (issue_in n c a b in-n is-a is-b) (issue_in n c b a in-n is-b is-a))
       (same_order EnableBefore never_both_enables a.enables b.enables is-a.enables_rise is-b.enables_rise
       (enable_in n c a b is-a is-b) (enable_in n c b a is-b is-a))
       (same_order TakeBefore never_both_takes a.takes b.takes is-a.takes_rise is-b.takes_rise

@@ -56,7 +56,7 @@ module _ (d : Datapath) (p : Plan) (words : Counted) (plan : IsFeasible d p) (im
       Right (place_of d p words) (written_at d p words) (wanted_to d p words) (word_of d p words) (past * d.period)
       (length stream * d.period) (Content image z) t
 
-  place_read : (v n q k : ℕ) (issue : Issue)
+  pub place_read : (v n q k : ℕ) (issue : Issue)
       → IsIssueIn p v n issue
       → ReadsThrough p v q k
       → Register issue.unit q (nth issue.regs q 0)
@@ -92,7 +92,7 @@ module _ (d : Datapath) (p : Plan) (words : Counted) (plan : IsFeasible d p) (im
       (omega (arith, within.1, time, whole))
       ∙ ap (λ u. words u m) (sym through.1.reads.node)
 
-  in_period : (v : ℕ) → v < length (nodes_of p) → cycle_at p v < d.period
+  pub in_period : (v : ℕ) → v < length (nodes_of p) → cycle_at p v < d.period
   in_period v in-v =
       let fits : cycle_at p v + latency_on d (unit_at p v) ≤ d.period = plan.fits v in-v in
       let gap : 0 < gap_on d (unit_at p v) = (plan.gaps (unit_at p v)).0 in

@@ -37,6 +37,26 @@ counted_out words out outs count =
 below_of : (low n k : ℕ) → (low ≤ k) × (k < low + n) → low ≡ 0 → k < n
 below_of low n k h e = omega (arith, h.1, e)
 
+-- each cycle of a sample has its row
+pub sample_rows : (d : Datapath) (image : Image) (stream : Rows)
+    → image.period ≡ d.period
+    → (n c : ℕ)
+    → c < d.period
+    → nth (spread image.period stream) (n * d.period + c) [] ≡ nth stream n []
+sample_rows d image stream period n c below =
+    ⊎_elim
+    (λ (in-n : n < length stream).
+    ap (λ q. nth (spread q stream) (n * d.period + c) []) period ∙ nth-spread d.period stream n c in-n below)
+    (λ (le : length stream ≤ n).
+    nth_past (spread image.period stream) (n * d.period + c) []
+    (let whole : length stream * d.period ≤ n * d.period = mul-le-mul_right d.period le in
+    omega (arith, whole, long))
+    ∙ sym (nth_past stream n [] le))
+    (cases_lt n (length stream))
+  where
+    long : length (spread image.period stream) ≡ length stream * d.period
+    long = length-spread image.period stream ∙ ap (λ q. length stream * q) period
+
 pub runs_out : (d : Datapath) (p : Plan) (words : Counted) (image : Image) (stream : Rows) (out : ℕ → ℕ)
     → IsFeasible d p
     → Executes d p image
@@ -55,23 +75,8 @@ runs_out d p words image stream out plan runs solves outs = record {
     z : Rows
     z = spread image.period stream
 
-    no_row : (n : ℕ) → length stream ≤ n → nth stream n [] ≡ []
-    no_row n le = nth_past stream n [] le
-
     rows : (n c : ℕ) → c < d.period → nth z (n * d.period + c) [] ≡ nth stream n []
-    rows n c below =
-        ⊎_elim
-        (λ (in-n : n < length stream).
-        ap (λ q. nth (spread q stream) (n * d.period + c) []) runs.period ∙ nth-spread d.period stream n c in-n below)
-        (λ (le : length stream ≤ n).
-        nth_past z (n * d.period + c) []
-        (let whole : length stream * d.period ≤ n * d.period = mul-le-mul_right d.period le in
-        omega (arith, whole, length_z))
-        ∙ sym (no_row n le))
-        (cases_lt n (length stream))
-      where
-        length_z : length z ≡ length stream * d.period
-        length_z = length-spread image.period stream ∙ ap (λ q. length stream * q) runs.period
+    rows = sample_rows d image stream runs.period
 
     latch : (n j : ℕ)
         → n < length stream
