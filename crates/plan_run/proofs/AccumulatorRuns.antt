@@ -135,7 +135,7 @@ is_machine = record {
 
 -- what the theorem says of it
 pub runs_solution : IsPlan accumulator path plan → RunsSolution accumulator image
-runs_solution planned = image_runs_solution accumulator path plan is_graph is_machine planned image is_image
+runs_solution planned = image_runs_solution accumulator path plan image is_graph is_machine planned is_image
 
 pub is_valid : IsPlan accumulator path plan → IsValid image
-is_valid planned = image_valid accumulator path plan is_graph is_machine planned image is_image
+is_valid planned = image_valid accumulator path plan image is_graph is_machine planned is_image

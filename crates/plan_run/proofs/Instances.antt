@@ -1,5 +1,5 @@
 -- Each read finds its instance: the newest write below a read is that of the word that it wants.
-use Rattle.std.proofs.Common.{◌≡◌, ℕ, suc, ◌+◌, ◌-◌, ◌*◌, ◌<◌, ◌≤◌, ◌&&◌, nat_lt, refl, sym, ap, ◌∙◌, arith, ⊎_elim, List, [], ◌++◌, length, Option, Some, None, Bool, true, false, if◌then◌else◌, subst, ◌⊎◌, inl, inr}
+use Rattle.std.proofs.Common.{◌≡◌, ℕ, suc, ◌+◌, ◌-◌, ◌*◌, ◌<◌, ◌≤◌, nat_lt, refl, sym, ap, ◌∙◌, arith, ⊎_elim, List, [], ◌++◌, length, Option, Some, None, Bool, true, false, if◌then◌else◌, subst, ◌⊎◌, inl, inr}
 use Rattle.std.proofs.Math.Nat.{add-mul, mul-le-mul_right}
 use Rattle.std.proofs.lemmas.Bool.{cases_lt}
 use Rattle.lists.specs.Rows.{Rows}
@@ -11,18 +11,18 @@ use Rattle.plan_core.specs.declared.plan.Plan.{Plan}
 use Rattle.micro_image.specs.declared.image.Issue.{Issue}
 use Rattle.micro_image.specs.declared.image.Image.{Image}
 use Rattle.micro_image.specs.Fields.{nth, issue_at}
-use Rattle.micro_image.specs.Log.{Place, Register, Entry, same_place, stamp_le, newest, Log, entries_by}
+use Rattle.micro_image.specs.Log.{Place, Entry, same_place, stamp_le, newest, Log, entries_by}
 use Rattle.micro_image.specs.Run.{spread}
 use Rattle.micro_image.proofs.Each.{In, In-append_left, In-append_right, In-append_cases, Each, Each-at, Each-then}
 use Rattle.micro_image.proofs.LogLaws.{IsOfCycle, IsBefore, IsElsewhere, entries-of_cycle, Log-before}
 use Rattle.micro_image.proofs.Newest.{is_of, IsNewest, unwritten, greatest, newest-greatest}
-use Rattle.plan_run.specs.Parts.{nodes_of, node_at, edge_at, unit_at, cycle_at, arc_at, ReadsThrough, ends_at}
+use Rattle.plan_run.specs.Parts.{nodes_of, node_at, edge_at, unit_at, cycle_at, arc_at, ends_at}
 use Rattle.plan_run.specs.Machine.{IsMachine}
 use Rattle.plan_run.specs.ImageOf.{IsImageOf}
 use Rattle.plan_run.specs.Instances.{found_write, IsInstance, FindsInstances}
 use Rattle.plan_run.specs.Private.Samples.{past}
 use Rattle.plan_run.specs.Private.Solution.{Counted, LoweredSolves}
-use Rattle.plan_run.specs.Private.Feasible.{IsFeasible}
+use Rattle.plan_run.specs.Private.Feasible.{IsFeasible, IsFeasiblePlan}
 use Rattle.plan_run.specs.Private.Executes.{Executes, IsIssueIn}
 use Rattle.plan_run.proofs.Contents.{all_right, is_written}
 use Rattle.plan_run.proofs.FromImage.{executes}
@@ -32,7 +32,7 @@ use Rattle.plan_run.proofs.ReadsRight.{place_read, in_period}
 use Rattle.plan_run.proofs.RunsSolution.{plan_feasible}
 use Rattle.plan_run.proofs.Slots.{Right, Keeps, right}
 use Rattle.plan_run.proofs.Whole.{sample_rows}
-use Rattle.plan_run.proofs.Writes.{IsOfWord, writes_of_words, same_self, not_same, some_same}
+use Rattle.plan_run.proofs.Writes.{writes_of_words, same_self, not_same, some_same}
 
 abbrev cycle_of : Option Entry → Option ℕ
 cycle_of None = None
@@ -202,7 +202,8 @@ module _ (d : Datapath) (p : Plan) (words : Counted) (plan : IsFeasible d p) (im
 
       early : n < ago → w < past * d.period
       early less =
-          let le : (past + n - ago + 1) * d.period ≤ past * d.period = mul-le-mul_right d.period (omega (arith, less, small)) in
+          let le : (past + n - ago + 1) * d.period ≤ past * d.period =
+          mul-le-mul_right d.period (omega (arith, less, small)) in
           let next : (past + n - ago + 1) * d.period ≡ (past + n - ago) * d.period + d.period = grind arith in
           omega (arith, at, ends, le, next)
 
@@ -256,12 +257,29 @@ module _ (d : Datapath) (p : Plan) (words : Counted) (plan : IsFeasible d p) (im
       (written_at d p words (in_register k m through.1.there)) small
       (ap (λ w. w + m * d.period) (arc.written ∙ ap (ends_at d p) node))
       ends
-      (ap (λ place. newest_cycle place t) (place_read d p words plan image z stream runs solves rows v n q k issue is through.1)
+      (ap (λ place. newest_cycle place t)
+      (place_read d p words plan image z stream runs solves rows v n q k issue is through.1)
       ∙ newest_is t (omega (arith, last, next, cycle)) (in_register k m through.1.there) t (omega arith)
       (omega (arith, within.0, time, whole)) (omega (arith, within.1, time, whole)))
     where
       back : (n ago : ℕ) → ago < past → past + n ≡ past + n - ago + ago
       back n ago small = omega (arith, small)
+
+-- in the image of a feasible plan each read finds its instance
+feasible_finds : (g : Graph) (d : Datapath) (p : Plan) (image : Image)
+    → IsGraph g
+    → IsFeasiblePlan g d p
+    → IsImageOf d p image
+    → FindsInstances g d p image
+feasible_finds g d p image sound plan of stream words v q n issue solves in-v in-q in-n at =
+    let runs = executes d p plan.feasible image of in
+    let its = runs.issue v n in-v in
+    let same : its.0 ≡ issue =
+    some_same its.0 issue (issue_at image (n * d.period + cycle_at p v) (unit_at p v)) its.1 at in
+    read_finds d p (lowered_words g d p sound plan.lowered plan.assigned stream words solves) plan.feasible image
+    (spread image.period stream) stream runs
+    (lowered_solves g d p sound plan.lowered plan.assigned stream words solves)
+    (sample_rows d image stream runs.period) v q n issue in-v in-q in-n (subst (IsIssueIn p v n) same its.2)
 
 -- in the image of a plan each read finds its instance
 pub finds_instances : (g : Graph) (d : Datapath) (p : Plan) (image : Image)
@@ -270,13 +288,5 @@ pub finds_instances : (g : Graph) (d : Datapath) (p : Plan) (image : Image)
     → IsPlan g d p
     → IsImageOf d p image
     → FindsInstances g d p image
-finds_instances g d p image sound machine plan of stream words v q n issue solves in-v in-q in-n at =
-    let feasible = plan_feasible g d p sound machine plan in
-    let runs = executes d p feasible image of in
-    let its = runs.issue v n in-v in
-    let same : its.0 ≡ issue =
-    some_same its.0 issue (issue_at image (n * d.period + cycle_at p v) (unit_at p v)) its.1 at in
-    read_finds d p (lowered_words g d p sound plan.lowered plan.assigned stream words solves) feasible image
-    (spread image.period stream) stream runs
-    (lowered_solves g d p sound plan.lowered plan.assigned stream words solves)
-    (sample_rows d image stream runs.period) v q n issue in-v in-q in-n (subst (IsIssueIn p v n) same its.2)
+finds_instances g d p image sound machine plan of =
+    feasible_finds g d p image sound (plan_feasible g d p sound machine plan) of

@@ -2,12 +2,11 @@
 use Rattle.std.proofs.Common.{◌≡◌, ℕ, ◌+◌, ◌-◌, ◌*◌, ◌%◌, ◌<◌, ◌≤◌, refl, sym, ap, ◌∙◌, arith, ⊎_elim, ◌⊎◌, inl, inr, pos}
 use Rattle.std.specs.Int.{int_rem_euclid}
 use Rattle.std.specs.Prelude.{◌-ℤ◌, ◌+ℤ◌}
-use Rattle.std.proofs.lemmas.Bool.{cases_lt}
 use Rattle.std.proofs.lemmas.Int.{int_rem_euclid_is, ints}
-use Rattle.std.proofs.Math.Nat.{mod-add-mod, add-mul-mod_self_right, mod-eq_of_lt, mul-le-mul_right, mul-le-mul_left, add-mul}
+use Rattle.std.proofs.Math.Nat.{mod-add-mod, add-mul-mod_self_right, mod-eq_of_lt, mul-le-mul_left, add-mul}
 use Rattle.plan_core.specs.declared.delay_lines.Line.{Line}
 use Rattle.plan_run.specs.Private.Cells.{cell_in, AreDisjoint}
-use Rattle.plan_run.proofs.Samples.{one_more, sample_upto}
+use Rattle.plan_run.proofs.Samples.{sample_upto}
 
 -- m cells, of which sample number s uses one less with each sample; sample 0 has the number `base`
 

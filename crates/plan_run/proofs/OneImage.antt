@@ -22,7 +22,7 @@ use Rattle.micro_image.specs.declared.image.Image.{Image}
 use Rattle.micro_image.specs.Fields.{nth, no_word, no_unit, unit_of}
 use Rattle.micro_image.specs.Log.{Register, Cell, initial}
 use Rattle.micro_image.specs.Valid.{EnableBefore, TakeBefore}
-use Rattle.plan_run.specs.Parts.{nodes_of, node_at, edge_at, unit_at, arc_at, IsCopy}
+use Rattle.plan_run.specs.Parts.{nodes_of, node_at, edge_at, arc_at, IsCopy}
 use Rattle.plan_run.specs.ImageOf.{IsUnitOf, IsIssueOf, IsWordOf, IsImageOf, IsPreloadOf, IsCellPreload, StartsWith}
 use Rattle.plan_run.specs.Private.Samples.{past}
 use Rattle.plan_run.specs.Private.Feasible.{IsFeasible}
@@ -222,42 +222,42 @@ file_long xs ys q e below below' =
     ∙ ap (λ sizes. slice_index_or sizes q 0) e
     ∙ get_or-map length ys q [] 0 below'
 
-module _ (d : Datapath) (p : Plan) (plan : IsFeasible d p) (a b : Image) (is-a : IsImageOf d p a) (is-b : IsImageOf d p b)
-  where
-    one_unit : (u : ℕ) → u < length d.units → unit_of a u ≡ unit_of b u
-    one_unit u below =
-        let x : IsUnitOf d u (unit_of a u) = is-a.units u below in
-        let y : IsUnitOf d u (unit_of b u) = is-b.units u below in
-        let sizes : map length (unit_of a u).files ≡ map length (unit_of b u).files = x.files ∙ sym y.files in
-        let count : length (unit_of a u).files ≡ length (unit_of b u).files =
-        sym (length-map (unit_of a u).files length) ∙ ap length sizes ∙ length-map (unit_of b u).files length in
-        unit_from (unit_of a u) (unit_of b u) (x.kind ∙ sym y.kind) (x.latency ∙ sym y.latency) (x.gap ∙ sym y.gap)
-        (ext_get_or [] (unit_of a u).files (unit_of b u).files count (λ q in-q.
-        ext_get_or (pos 0) (nth (unit_of a u).files q []) (nth (unit_of b u).files q [])
-        (file_long (unit_of a u).files (unit_of b u).files q sizes in-q (omega (arith, in-q, count)))
-        (λ r in-r. one_register d p a b is-a.starts is-b.starts (port_of u q) r)))
-        (ext_get_or (pos 0) (unit_of a u).cells (unit_of b u).cells (x.cells ∙ sym y.cells)
-        (λ c in-c. one_cell d p a b is-a.starts is-b.starts u c))
-        (x.ram ∙ sym y.ram)
+module _ (d : Datapath) (p : Plan) (plan : IsFeasible d p) (a b : Image)
+    (is-a : IsImageOf d p a) (is-b : IsImageOf d p b) where
+  one_unit : (u : ℕ) → u < length d.units → unit_of a u ≡ unit_of b u
+  one_unit u below =
+      let x : IsUnitOf d u (unit_of a u) = is-a.units u below in
+      let y : IsUnitOf d u (unit_of b u) = is-b.units u below in
+      let sizes : map length (unit_of a u).files ≡ map length (unit_of b u).files = x.files ∙ sym y.files in
+      let count : length (unit_of a u).files ≡ length (unit_of b u).files =
+      sym (length-map (unit_of a u).files length) ∙ ap length sizes ∙ length-map (unit_of b u).files length in
+      unit_from (unit_of a u) (unit_of b u) (x.kind ∙ sym y.kind) (x.latency ∙ sym y.latency) (x.gap ∙ sym y.gap)
+      (ext_get_or [] (unit_of a u).files (unit_of b u).files count (λ q in-q.
+      ext_get_or (pos 0) (nth (unit_of a u).files q []) (nth (unit_of b u).files q [])
+      (file_long (unit_of a u).files (unit_of b u).files q sizes in-q (omega (arith, in-q, count)))
+      (λ r in-r. one_register d p a b is-a.starts is-b.starts (port_of u q) r)))
+      (ext_get_or (pos 0) (unit_of a u).cells (unit_of b u).cells (x.cells ∙ sym y.cells)
+      (λ c in-c. one_cell d p a b is-a.starts is-b.starts u c))
+      (x.ram ∙ sym y.ram)
 
-    word_here : (x : ℕ) → x < p.unroll * d.period → nth a.words x no_word ≡ nth b.words x no_word
-    word_here x below =
-        let n : ℕ = x / d.period in
-        let c : ℕ = x % d.period in
-        let at : x ≡ n * d.period + c = split x d.period in
-        let in-n : n < p.unroll = below_count n d.period x p.unroll (omega (arith, at)) below in
-        let in-c : c < d.period = mod-lt x plan.period in
-        ap (λ x. nth a.words x no_word) at
-        ∙ one_word d p plan n c _ _ in-n (is-a.words n c in-n in-c) (is-b.words n c in-n in-c)
-        ∙ sym (ap (λ x. nth b.words x no_word) at)
+  word_here : (x : ℕ) → x < p.unroll * d.period → nth a.words x no_word ≡ nth b.words x no_word
+  word_here x below =
+      let n : ℕ = x / d.period in
+      let c : ℕ = x % d.period in
+      let at : x ≡ n * d.period + c = split x d.period in
+      let in-n : n < p.unroll = below_count n d.period x p.unroll (omega (arith, at)) below in
+      let in-c : c < d.period = mod-lt x plan.period in
+      ap (λ x. nth a.words x no_word) at
+      ∙ one_word d p plan n c _ _ in-n (is-a.words n c in-n in-c) (is-b.words n c in-n in-c)
+      ∙ sym (ap (λ x. nth b.words x no_word) at)
 
-    -- the image of a plan is the only one
-    pub one_image : a ≡ b
-    one_image =
-        image_from a b (is-a.period ∙ sym is-b.period) (is-a.unroll ∙ sym is-b.unroll) (is-a.inputs ∙ sym is-b.inputs)
-        (is-a.outs ∙ sym is-b.outs)
-        (ext_get_or no_unit a.units b.units (is-a.unit_count ∙ sym is-b.unit_count)
-        (λ u below. one_unit u (omega (arith, below, is-a.unit_count))))
-        (is-a.buses ∙ sym is-b.buses)
-        (ext_get_or no_word a.words b.words (is-a.word_count ∙ sym is-b.word_count)
-        (λ x below. word_here x (omega (arith, below, is-a.word_count))))
+  -- the image of a plan is the only one
+  pub one_image : a ≡ b
+  one_image =
+      image_from a b (is-a.period ∙ sym is-b.period) (is-a.unroll ∙ sym is-b.unroll) (is-a.inputs ∙ sym is-b.inputs)
+      (is-a.outs ∙ sym is-b.outs)
+      (ext_get_or no_unit a.units b.units (is-a.unit_count ∙ sym is-b.unit_count)
+      (λ u below. one_unit u (omega (arith, below, is-a.unit_count))))
+      (is-a.buses ∙ sym is-b.buses)
+      (ext_get_or no_word a.words b.words (is-a.word_count ∙ sym is-b.word_count)
+      (λ x below. word_here x (omega (arith, below, is-a.word_count))))

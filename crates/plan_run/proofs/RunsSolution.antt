@@ -1,5 +1,5 @@
 -- The image of a plan runs the solution of its graph.
-use Rattle.std.proofs.Common.{◌≡◌, ℕ, ◌+◌, ◌<◌, ◌≤◌, ap, ◌∙◌, arith, subst, ⊎_elim, [], length}
+use Rattle.std.proofs.Common.{◌≡◌, ℕ, ◌+◌, ◌<◌, ◌≤◌, ap, ◌∙◌, arith, subst, ⊎_elim, [], length, sym}
 use Rattle.std.specs.Prelude.{slice_get, pos, IsSomeAnd}
 use Rattle.std.proofs.lemmas.Bool.{cases_lt}
 use Rattle.std.specs.List.{range_with_len}
@@ -20,26 +20,65 @@ use Rattle.plan_core.specs.declared.plan.Plan.{Plan}
 use Rattle.micro_image.specs.Run.{IsRunOut}
 use Rattle.micro_image.specs.declared.image.Image.{Image}
 use Rattle.micro_image.proofs.Lists.{map-same, In-range}
-use Rattle.plan_run.specs.Parts.{node_at}
+use Rattle.plan_run.specs.Parts.{node_at, arc_at, register_at}
 use Rattle.plan_run.specs.ImageOf.{IsImageOf}
 use Rattle.plan_run.specs.Run.{RunsSolution}
 use Rattle.plan_run.specs.Private.Samples.{past}
-use Rattle.plan_run.specs.Private.Feasible.{IsFeasible}
+use Rattle.plan_run.specs.PrivateRegisters.{IsPrivatePlan}
+use Rattle.plan_run.specs.Private.Feasible.{IsFeasiblePlan}
+use Rattle.plan_core.specs.Arcs.{no_arc}
+use Rattle.plan_core.specs.Hardware.{file_size}
 use Rattle.plan_run.proofs.FromImage.{executes}
 use Rattle.plan_run.proofs.FromLowered.{sound_lowered, sound_lines, made_as, number_below, some_is, none_past}
-use Rattle.plan_run.proofs.FromRules.{feasible, gaps_of}
+use Rattle.plan_run.proofs.FromRules.{feasible, gaps_of, count_of_unroll, first_fit_apart, private_apart}
+use Rattle.plan_run.proofs.SoundLowered.{IsSoundLowered}
 use Rattle.plan_run.proofs.LoweredSolution.{lowered_words, lowered_solves, word_is, late, now_is}
 use Rattle.plan_run.proofs.Origins.{first_of, own_number}
 use Rattle.plan_run.proofs.Whole.{IsOutputNode, counted_out, runs_out}
 
-module _ (g : Graph) (d : Datapath) (p : Plan) (sound : IsGraph g) (machine : IsMachine d) (plan : IsPlan g d p) where
-  -- a plan is feasible
-  pub plan_feasible : IsFeasible d p
-  plan_feasible =
-      feasible d p (sound_lowered g d p sound plan.lowered plan.assigned) (gaps_of d machine.units) plan.assigned
-      plan.schedule plan.arcs plan.unroll plan.registers (omega (arith, machine.period.0))
-      (sound_lines g d p sound plan.lowered plan.assigned)
+-- a plan by the rules is feasible
+pub plan_feasible : (g : Graph) (d : Datapath) (p : Plan)
+    → IsGraph g
+    → IsMachine d
+    → IsPlan g d p
+    → IsFeasiblePlan g d p
+plan_feasible g d p sound machine plan = record {
+  lowered = plan.lowered;
+  assigned = plan.assigned;
+  feasible = feasible d p rules (gaps_of d machine.units) plan.assigned plan.schedule plan.arcs plan.unroll
+      (omega (arith, machine.period.0)) (sound_lines g d p sound plan.lowered plan.assigned)
+      (first_fit_apart d p rules (gaps_of d machine.units) plan.assigned plan.schedule plan.arcs plan.unroll
+      plan.registers);
+  unroll = count_of_unroll d p plan.arcs plan.unroll;
+  sizes = plan.sizes;
+  inputs = plan.inputs;
+  outs = plan.outs;
+}
+  where
+    rules : IsSoundLowered d p
+    rules = sound_lowered g d p sound plan.lowered plan.assigned
 
+-- and so is one with private registers
+pub private_feasible : (g : Graph) (d : Datapath) (p : Plan)
+    → IsGraph g
+    → IsMachine d
+    → IsPrivatePlan g d p
+    → IsFeasiblePlan g d p
+private_feasible g d p sound machine plan = record {
+  lowered = plan.lowered;
+  assigned = plan.assigned;
+  feasible = feasible d p (sound_lowered g d p sound plan.lowered plan.assigned) (gaps_of d machine.units)
+      plan.assigned plan.schedule plan.arcs plan.unroll (omega (arith, machine.period.0))
+      (sound_lines g d p sound plan.lowered plan.assigned) (private_apart d p plan.registers);
+  unroll = count_of_unroll d p plan.arcs plan.unroll;
+  sizes = λ k i in-k in-i.
+      let first : i ≡ 0 = omega (arith, in-i, plan.registers.copies k no_arc in-k) in
+      subst (λ i. register_at p k i < file_size d (arc_at p k).port) (sym first) (plan.sizes k in-k);
+  inputs = plan.inputs;
+  outs = plan.outs;
+}
+
+module _ (g : Graph) (d : Datapath) (p : Plan) (sound : IsGraph g) (plan : IsFeasiblePlan g d p) where
   -- the node of output word j in the graph, and in the lowered list
   output_in : (j : ℕ) → j < g.outs → first_output g + j < length g.nodes
   output_in j in-j =
@@ -94,15 +133,35 @@ module _ (g : Graph) (d : Datapath) (p : Plan) (sound : IsGraph g) (machine : Is
       below_of : (j : ℕ) → (0 ≤ j) × (j < 0 + g.outs) → j < g.outs
       below_of j h = omega (arith, h.1)
 
-  -- the image of a plan runs the solution
-  pub image_runs_solution : (image : Image) → IsImageOf d p image → RunsSolution g image
-  image_runs_solution image of stream words solves =
+  -- the image of a feasible plan runs the solution
+  pub feasible_runs : (image : Image) → IsImageOf d p image → RunsSolution g image
+  feasible_runs image of stream words solves =
       let outs : image.outs ≡ g.outs = of.outs ∙ plan.outs in
       subst (IsRunOut image stream)
       (ap (λ outs. counted_out (lowered_words g d p sound plan.lowered plan.assigned stream words solves) out_node outs
       (length stream)) outs
       ∙ rows_are stream words solves)
       (runs_out d p (lowered_words g d p sound plan.lowered plan.assigned stream words solves) image stream out_node
-      plan_feasible (executes d p plan_feasible image of)
+      plan.feasible (executes d p plan.feasible image of)
       (lowered_solves g d p sound plan.lowered plan.assigned stream words solves)
       (λ j in-j. output_node j (omega (arith, in-j, outs))))
+
+-- the image of a plan runs the solution of the graph
+pub image_runs_solution : (g : Graph) (d : Datapath) (p : Plan) (image : Image)
+    → IsGraph g
+    → IsMachine d
+    → IsPlan g d p
+    → IsImageOf d p image
+    → RunsSolution g image
+image_runs_solution g d p image sound machine plan of =
+    feasible_runs g d p sound (plan_feasible g d p sound machine plan) image of
+
+-- and so does the image of a plan with private registers
+pub private_image_runs_solution : (g : Graph) (d : Datapath) (p : Plan) (image : Image)
+    → IsGraph g
+    → IsMachine d
+    → IsPrivatePlan g d p
+    → IsImageOf d p image
+    → RunsSolution g image
+private_image_runs_solution g d p image sound machine plan of =
+    feasible_runs g d p sound (private_feasible g d p sound machine plan) image of

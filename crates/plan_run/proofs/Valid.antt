@@ -32,13 +32,14 @@ use Rattle.micro_image.specs.Fields.{nth, no_word, unit_of as described}
 use Rattle.micro_image.specs.Log.{Register, Cell, initial}
 use Rattle.micro_image.specs.Valid as valid
 use Rattle.plan_run.specs.Parts.{nodes_of, node_at, arc_at, line_at}
+use Rattle.plan_run.specs.PrivateRegisters.{IsPrivatePlan}
 use Rattle.plan_run.specs.Machine.{IsMachine}
 use Rattle.plan_run.specs.ImageOf.{IsUnitOf, IsWordOf, IsImageOf, IsPreloadOf, IsCellPreload, width_of}
-use Rattle.plan_run.specs.Private.Feasible.{IsFeasible}
+use Rattle.plan_run.specs.Private.Feasible.{IsFeasible, IsFeasiblePlan}
 use Rattle.plan_run.proofs.Elements.{default_any}
 use Rattle.plan_run.proofs.FromLowered.{made_at, made_as, own_below, graph_node}
-use Rattle.plan_run.proofs.FromRules.{all_at, count_of_unroll}
-use Rattle.plan_run.proofs.RunsSolution.{plan_feasible}
+use Rattle.plan_run.proofs.FromRules.{all_at}
+use Rattle.plan_run.proofs.RunsSolution.{plan_feasible, private_feasible}
 use Rattle.plan_run.proofs.Samples.{below_count, split}
 use Rattle.plan_run.proofs.ValidWords.{valid_word, file_count, file_length, inputs_are, outs_are}
 
@@ -107,10 +108,10 @@ some_is_at P (x ∷ xs) zero default h = (omega arith, h)
 some_is_at P (x ∷ xs) (suc k) default h =
     let rest = some_is_at P xs k default h in (omega (arith, rest.0), rest.1)
 
-module _ (g : Graph) (d : Datapath) (p : Plan) (sound : IsGraph g) (machine : IsMachine d) (plan : IsPlan g d p)
+module _ (g : Graph) (d : Datapath) (p : Plan) (sound : IsGraph g) (machine : IsMachine d) (plan : IsFeasiblePlan g d p)
     (image : Image) (is : IsImageOf d p image) where
   feasible : IsFeasible d p
-  feasible = plan_feasible g d p sound machine plan
+  feasible = plan.feasible
 
   no_inits : (inits : List (ℕ × ℤ)) (k : ℕ) → inits ≡ [] → IsWord 32 (word_before inits k)
   no_inits inits k e = subst (λ inits. IsWord 32 (word_before inits k)) (sym e) zero_word
@@ -217,15 +218,11 @@ module _ (g : Graph) (d : Datapath) (p : Plan) (sound : IsGraph g) (machine : Is
                 (register_word (port_of u q) r);
           })
 
-  unroll_is : IsCount p.unroll
-  unroll_is =
-      count_of_unroll d p plan.arcs plan.unroll
-
-  -- the image of a plan is one that a microcode file can hold
-  pub image_valid : valid.IsValid image
-  image_valid = record {
+  -- the image of a feasible plan is one that a microcode file can hold
+  pub feasible_valid : valid.IsValid image
+  feasible_valid = record {
     period = subst (valid.IsWithin 1 4096) (sym is.period) machine.period;
-    unroll = subst IsCount (sym is.unroll) unroll_is;
+    unroll = subst IsCount (sym is.unroll) plan.unroll;
     input_count = subst (valid.IsWithin 1 16) (sym (inputs_are g d p sound machine plan image is)) sound.input_count;
     inputs = λ k default below.
         let in-k : k < length g.inputs = omega (arith, below, inputs_are g d p sound machine plan image is) in
@@ -259,3 +256,23 @@ module _ (g : Graph) (d : Datapath) (p : Plan) (sound : IsGraph g) (machine : Is
           subst (valid.IsWordOf image)
           (ap (λ x. nth image.words x no_word) (sym at) ∙ default_any image.words x no_word default below)
           (valid_word g d p sound machine plan image is n c _ in-n of)
+
+-- the image of a plan is one that a microcode file can hold
+pub image_valid : (g : Graph) (d : Datapath) (p : Plan) (image : Image)
+    → IsGraph g
+    → IsMachine d
+    → IsPlan g d p
+    → IsImageOf d p image
+    → valid.IsValid image
+image_valid g d p image sound machine plan of =
+    feasible_valid g d p sound machine (plan_feasible g d p sound machine plan) image of
+
+-- and so is that of a plan with private registers
+pub private_image_valid : (g : Graph) (d : Datapath) (p : Plan) (image : Image)
+    → IsGraph g
+    → IsMachine d
+    → IsPrivatePlan g d p
+    → IsImageOf d p image
+    → valid.IsValid image
+private_image_valid g d p image sound machine plan of =
+    feasible_valid g d p sound machine (private_feasible g d p sound machine plan) image of

@@ -19,9 +19,6 @@ use Rattle.signal_graph.specs.declared.graph.Node.{Node}
 use Rattle.signal_graph.specs.declared.graph.Graph.{Graph}
 use Rattle.plan_core.specs.Hardware.{unit_of, no_unit, file_size, cells_on, port_of}
 use Rattle.plan_core.specs.Operands.{node_of}
-use Rattle.plan_core.specs.Reservations.{IsFirstBus}
-use Rattle.plan_core.specs.ListSchedule.{IsTakenBefore}
-use Rattle.plan_core.specs.IsPlan.{IsPlan}
 use Rattle.plan_core.specs.Lowered.{Origin, own, address, store, load, IsNumber, IsOwn, IsAddress, IsStore, IsLoad}
 use Rattle.plan_core.specs.declared.delay_lines.Line.{Line}
 use Rattle.plan_core.specs.declared.schedule.Transfer.{Transfer}
@@ -34,17 +31,16 @@ use Rattle.micro_image.specs.declared.image.Image.{Image}
 use Rattle.micro_image.specs.Fields.{nth, unit_of as described}
 use Rattle.micro_image.specs.Operations.{kind_of, reads}
 use Rattle.micro_image.specs.Valid as valid
-use Rattle.plan_run.specs.Parts.{nodes_of, lines_of, node_at, edge_at, unit_at, transfers_at, arc_at, line_at, register_at, IsTransferOf, IsCopy, ends_at}
+use Rattle.plan_run.specs.Parts.{nodes_of, lines_of, node_at, edge_at, unit_at, arc_at, line_at, register_at, IsTransferOf, IsCopy}
 use Rattle.plan_run.specs.Machine.{IsMachine}
 use Rattle.plan_run.specs.ImageOf.{IsUnitOf, IsIssueOf, IsWordOf, IsImageOf, take_of}
 use Rattle.plan_run.specs.Private.Samples.{past}
-use Rattle.plan_run.specs.Private.Feasible.{IsFeasible, IsFeasibleLine}
+use Rattle.plan_run.specs.Private.Feasible.{IsFeasible, IsFeasibleLine, IsFeasiblePlan}
 use Rattle.plan_run.proofs.Elements.{default_any, nth_past}
 use Rattle.plan_run.proofs.FromImage.{copy_read}
 use Rattle.plan_run.proofs.FromLowered.{made_at, made_as, own_below, graph_node, line_is, line_for}
 use Rattle.plan_run.proofs.FromRules.{all_at}
 use Rattle.plan_run.proofs.Origins.{numbered}
-use Rattle.plan_run.proofs.RunsSolution.{plan_feasible}
 
 -- Lists that rise.
 
@@ -143,10 +139,10 @@ take_number a b (inr (unit, inr (port, rest))) small once =
     let same = once (ap₂ (λ u q. port_of u q) unit port) in
     absurd (omega (arith, rest, same.0, same.1))
 
-module _ (g : Graph) (d : Datapath) (p : Plan) (sound : IsGraph g) (machine : IsMachine d) (plan : IsPlan g d p)
+module _ (g : Graph) (d : Datapath) (p : Plan) (sound : IsGraph g) (machine : IsMachine d) (plan : IsFeasiblePlan g d p)
     (image : Image) (is : IsImageOf d p image) where
   feasible : IsFeasible d p
-  feasible = plan_feasible g d p sound machine plan
+  feasible = plan.feasible
 
   pub inputs_are : length image.inputs ≡ length g.inputs
   inputs_are =
@@ -340,18 +336,6 @@ module _ (g : Graph) (d : Datapath) (p : Plan) (sound : IsGraph g) (machine : Is
           omega (arith, none, some, size))
           (cases_lt q (length (node_at p v).edges))
 
-  -- the bus of a transfer is there
-  bus_there : (v : ℕ) (transfer : Transfer)
-      → v < length (nodes_of p)
-      → Contains (transfers_at p v) transfer
-      → transfer.bus < length d.buses
-  bus_there v transfer in-v among =
-      let first : IsFirstBus d (IsTakenBefore p.assigned p.schedule plan.schedule.height v) (unit_at p v)
-      (ends_at d p v) transfer =
-      all_at (IsFirstBus d (IsTakenBefore p.assigned p.schedule plan.schedule.height v) (unit_at p v) (ends_at d p v))
-      (transfers_at p v) transfer (plan.schedule.placed v in-v).buses among in
-      first.route.route.there
-
   pub valid_word : (n c : ℕ) (word : Word)
       → n < p.unroll
       → IsWordOf d p n c word
@@ -374,7 +358,7 @@ module _ (g : Graph) (d : Datapath) (p : Plan) (sound : IsGraph g) (machine : Is
         let only = of.enable_only e (k, below, default_any word.enables k e default below) in
         record {
           unit = omega (arith, ap (λ (e : Enable). e.unit) only.5, in_image _ (feasible.units only.0 only.2));
-          bus = omega (arith, ap (λ (e : Enable). e.bus) only.5, bus_there only.0 only.1 only.2 only.4, is.buses);
+          bus = omega (arith, ap (λ (e : Enable). e.bus) only.5, feasible.buses only.0 only.1 only.2 only.4, is.buses);
         };
     enables_rise = adjacent valid.EnableBefore word.enables of.enables_rise;
     take_count = few_takes (few (λ (take : Take). 4 * take.port.unit + take.port.port) 128 word.takes
@@ -401,7 +385,7 @@ module _ (g : Graph) (d : Datapath) (p : Plan) (sound : IsGraph g) (machine : Is
             omega (
               arith,
               ap (λ (e : Enable). e.bus) only.5,
-              bus_there only.0 only.1 only.2 only.4,
+              feasible.buses only.0 only.1 only.2 only.4,
               machine.bus_count.1,
             ),
           )
@@ -507,7 +491,7 @@ module _ (g : Graph) (d : Datapath) (p : Plan) (sound : IsGraph g) (machine : Is
             bus = omega (
               arith,
               ap (λ (take : Take). take.bus) at.4,
-              bus_there (arc_at p j).node at.1 (feasible.arcs j at.2.there).node at.2.among,
+              feasible.buses (arc_at p j).node at.1 (feasible.arcs j at.2.there).node at.2.among,
               is.buses,
             );
           }

@@ -17,8 +17,8 @@ use Rattle.plan_run.specs.Parts.{nodes_of, node_at, edge_at, unit_at, cycle_at, 
 abbrev pub found_write : Image → Rows → (t : ℕ) → Issue → (q : ℕ) → Option Entry
 found_write image z t issue q = newest (Register issue.unit q (nth issue.regs q 0)) t (Log image z t)
 
--- It is the write of the result of node u of this many samples before sample n. Where that is before sample 0 there is no
--- write, and the register still has the word with which it started.
+-- It is the write of the result of node u of this many samples before sample n. Where that is before sample 0 there is
+-- no write, and the register still has the word with which it started.
 abbrev pub IsInstance : Datapath → Plan → (u n ago : ℕ) → Option Entry → Type 0
 IsInstance d p u n ago None = n < ago
 IsInstance d p u n ago (Some e) = (ago ≤ n) × (e.cycle ≡ (n - ago) * d.period + ends_at d p u)

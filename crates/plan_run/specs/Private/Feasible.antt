@@ -5,7 +5,11 @@ use Rattle.fix_word.specs.declared.operation.Op.TheVariants as op
 use Rattle.operations.specs.Operations.{operands}
 use Rattle.operations.specs.Ranges.{to_nat}
 use Rattle.datapath.specs.declared.types.Datapath.{Datapath}
-use Rattle.plan_core.specs.Hardware.{latency_on, gap_on, cells_on}
+use Rattle.signal_graph.specs.declared.graph.Graph.{Graph}
+use Rattle.plan_core.specs.Hardware.{latency_on, gap_on, cells_on, file_size}
+use Rattle.plan_core.specs.Lowered.{IsLowered}
+use Rattle.plan_core.specs.Assigned.{IsAssigned}
+use Rattle.plan_core.specs.Arcs.{IsCount}
 use Rattle.plan_core.specs.Circle.{AreApart}
 use Rattle.plan_core.specs.declared.schedule.Transfer.{Transfer}
 use Rattle.plan_core.specs.declared.plan.Plan.{Plan}
@@ -33,6 +37,15 @@ pub record IsFeasibleLine (d : Datapath) (p : Plan) (l : ℕ) : Type 0 where
   pub some : 0 < (line_at p l).depth
   pub depth : (line_at p l).depth < past
 
+-- two copies in one register are one, or share no cycle of the circle
+abbrev pub AreRegistersApart : Datapath → Plan → Type 0
+AreRegistersApart d p =
+    (j k a b : ℕ)
+    → j < length p.arcs → k < length p.arcs
+    → a < (arc_at p j).copies → b < (arc_at p k).copies
+    → (arc_at p j).port ≡ (arc_at p k).port → register_at p j a ≡ register_at p k b
+    → ((j ≡ k) × (a ≡ b)) ⊎ AreApart d.period p.unroll (arc_at p j) a (arc_at p k) b
+
 pub record IsFeasible (d : Datapath) (p : Plan) : Type 0 where
   pub period : 0 < d.period
   pub unroll : 0 < p.unroll
@@ -48,6 +61,9 @@ pub record IsFeasible (d : Datapath) (p : Plan) : Type 0 where
       → to_nat (node_at p u).arg ≡ to_nat (node_at p v).arg
       → u ≡ v
   pub units : (v : ℕ) → v < length (nodes_of p) → unit_at p v < length d.units
+  pub buses : (v : ℕ) (t : Transfer)
+      → v < length (nodes_of p) → Contains (transfers_at p v) t
+      → t.bus < length d.buses
   -- each operation ends in the period
   pub fits : (v : ℕ) → v < length (nodes_of p) → cycle_at p v + latency_on d (unit_at p v) ≤ d.period
   -- two nodes on one unit are issued its gap apart
@@ -86,12 +102,7 @@ pub record IsFeasible (d : Datapath) (p : Plan) : Type 0 where
       → v < length (nodes_of p) → ReadsThrough p v q k
       → ((arc_at p k).w < cycle_at p v + (edge_at p v q).delay * d.period)
       × (cycle_at p v + (edge_at p v q).delay * d.period ≤ (arc_at p k).r)
-  -- two copies in one register are one, or share no cycle of the circle
-  pub registers : (j k a b : ℕ)
-      → j < length p.arcs → k < length p.arcs
-      → a < (arc_at p j).copies → b < (arc_at p k).copies
-      → (arc_at p j).port ≡ (arc_at p k).port → register_at p j a ≡ register_at p k b
-      → ((j ≡ k) × (a ≡ b)) ⊎ AreApart d.period p.unroll (arc_at p j) a (arc_at p k) b
+  pub registers : AreRegistersApart d p
   pub lines : (l : ℕ) → l < length (lines_of p) → IsFeasibleLine d p l
   pub lines_apart : (l m : ℕ)
       → l < length (lines_of p) → m < length (lines_of p)
@@ -103,3 +114,14 @@ pub record IsFeasible (d : Datapath) (p : Plan) : Type 0 where
   pub stores : (v : ℕ)
       → v < length (nodes_of p) → (node_at p v).op ≡ op.Store
       → (l : ℕ) × StoresTo d p v l
+
+-- a feasible plan of the graph, whose registers are in their files
+pub record IsFeasiblePlan (g : Graph) (d : Datapath) (p : Plan) : Type 0 where
+  pub lowered : IsLowered g d p.assigned.lowered
+  pub assigned : IsAssigned d p.assigned
+  pub feasible : IsFeasible d p
+  pub unroll : IsCount p.unroll
+  pub sizes : (k i : ℕ) → k < length p.arcs → i < (arc_at p k).copies
+      → register_at p k i < file_size d (arc_at p k).port
+  pub inputs : p.inputs ≡ g.inputs
+  pub outs : p.outs ≡ g.outs
