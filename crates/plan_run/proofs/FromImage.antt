@@ -86,7 +86,7 @@ copy_read n unroll copies ago some divides turns small = record {
 }
 
 -- the copy that holds the word of sample number s at the start
-copy_before : (s unroll copies : ℕ)
+pub copy_before : (s unroll copies : ℕ)
     → 0 < copies
     → unroll % copies ≡ 0
     → past % unroll ≡ 0

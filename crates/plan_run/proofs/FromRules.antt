@@ -82,7 +82,7 @@ count_above f (x ∷ xs) (suc j) (suc k) default less below passes =
     count_first f x (take j xs) (take k xs)
     (count_above f xs j k default (omega (arith, less)) (omega (arith, below)) passes)
 
-same_file : (a b : PortRef) → a ≡ b → is_port a b ≡ true
+pub same_file : (a b : PortRef) → a ≡ b → is_port a b ≡ true
 same_file a b e = grind (arith, ap (λ (port : PortRef). port.unit) e, ap (λ (port : PortRef). port.port) e)
 
 -- private registers are apart
@@ -154,7 +154,7 @@ pub all_at : {A : Type 0} (P : A → Type 0) (xs : List A) (x : A) → All P xs 
 all_at P xs x all at = subst P at.2 (all at.0 x at.1)
 
 -- what stands in a list of images is the image of an element
-in_map : {A B : Type 0} (f : A → B) (xs : List A) (y : B) (default : A)
+pub in_map : {A B : Type 0} (f : A → B) (xs : List A) (y : B) (default : A)
     → Contains (map f xs) y
     → (x : A) × Contains xs x × (f x ≡ y)
 in_map f xs y default (k, below, is) =

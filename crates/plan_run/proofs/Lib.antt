@@ -21,5 +21,8 @@ pub mod ValidWords
 pub mod Valid
 pub mod OneImage
 pub mod Instances
+pub mod Choices
+pub mod SomeWord
+pub mod SomeImage
 pub mod Accumulator
 pub mod AccumulatorRuns

@@ -14,7 +14,7 @@ enough : (m s : ℕ) → 0 < m → s ≤ s * m
 enough m s some = let one : s * 1 ≤ s * m = mul-le-mul_left s some in omega (arith, one)
 
 -- a number that is added to both sides drops out
-cancel : (m a b k : ℕ)
+pub cancel : (m a b k : ℕ)
     → 0 < m
     → (a + k) % m ≡ (b + k) % m
     → a % m ≡ b % m

@@ -78,7 +78,7 @@ module _ (d : Datapath) (p : Plan) (words : Counted) (plan : IsFeasible d p) whe
       omega arith
 
   -- two words of lifetimes that are wanted in one register in one cycle are one
-  registers_apart : (j k s n t : ℕ)
+  pub registers_apart : (j k s n t : ℕ)
       → j < length p.arcs
       → k < length p.arcs
       → (arc_at p j).port ≡ (arc_at p k).port
