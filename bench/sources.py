@@ -11,3 +11,29 @@ def chain(load):
         "s[i] = s[i - 1] + (h[0] * x - h[1] * z@1) - (s[i - 1] >> 3);\nend;\n"
         f"y = s[{count - 1}];\nend;\n"
     )
+
+
+def taps(count):
+    return (
+        f"func main(x : fix<16,14>) y : fix<16,15> = begin\nvar s[{count + 1}] : fix<16,15>;\ns[0] = 0.0;\n"
+        f"(i : 0 .. {count - 1}) :: begin s[i + 1] = s[i] + x * x@i; end;\ny = s[{count}];\nend;\n"
+    )
+
+
+def filter16():
+    half = (0.00390625, -0.0078125, 0.015625, -0.03125, 0.0625, -0.125, 0.25, 0.5)
+    coefficients = ", ".join(map(str, half + half[::-1]))
+    return (
+        f"const h[16] : fix<16,15> = ({coefficients});\n"
+        "func main(x : fix<16,14>) y : fix<16,15> = begin\nvar s[17] : fix<16,15>;\ns[0] = 0.0;\n"
+        "(i : 0 .. 15) :: begin s[i + 1] = s[i] + h[i] * x@i; end;\ny = s[16];\nend;\n"
+    )
+
+
+def biquads(count):
+    return (
+        "func biquad(x : fix<16,8>) y : fix<16,8> = begin\n"
+        "y = 0.5 * x + 0.25 * x@1 + 0.125 * x@2 - 0.25 * y@1 - 0.125 * y@2;\nend;\n"
+        f"func main(x : fix<16,8>) y : fix<16,8> = begin\nvar s[{count + 1}] : fix<16,8>;\ns[0] = x;\n"
+        f"(i : 0 .. {count - 1}) :: begin s[i + 1] = biquad(s[i]); end;\ny = s[{count}];\nend;\n"
+    )

@@ -5,9 +5,8 @@ ghost use Rattle.std.specs.Prelude.{IfOk};
 ghost use Rattle.micro_image.specs.Valid.{IsValid};
 
 use crate::operation_names::{kind_text, operation_text};
-use crate::page::{Page, mode_text};
+use crate::page::Page;
 use crate::source::{Refusal, refusal, too_long};
-use fix_word::Format;
 use lists::Bytes;
 use micro_file::{CodeFault, FormFault, decode, encode};
 use micro_image::{Enable, Image, Issue, Take, UnitDesc, Word};
@@ -33,18 +32,11 @@ fn put_unit(page: &mut Page, number: usize, unit: &UnitDesc) {
     }
 }
 
-fn put_format(page: &mut Page, format: Format) {
-    page.number(" shift ", format.shift);
-    page.text(" ");
-    page.text(mode_text(format.mode));
-    page.number(" width ", format.width);
-}
-
 fn put_issue(page: &mut Page, issue: &Issue) {
     page.number("  issue unit ", issue.unit);
     page.text(" ");
     page.text(operation_text(issue.op));
-    put_format(page, issue.fmt);
+    page.format(issue.fmt);
     page.number(" argument ", issue.arg);
     page.numbers(" registers", &issue.regs);
     page.end();

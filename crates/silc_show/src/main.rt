@@ -3,6 +3,7 @@
 
 mod elements;
 mod expressions;
+mod graph;
 mod image;
 mod manifests;
 mod names;
@@ -28,7 +29,7 @@ use std::rt::{Env, Files};
 use std::{env, fs};
 
 const USAGE: &str =
-    "usage: silc_show tokens|tree|text|names|elements|types SRC | manifests|words TABLE | image MIC | datapath DP \
+    "usage: silc_show tokens|tree|text|names|elements|types|graph SRC | manifests|words TABLE | image MIC | datapath DP \
      | rows WIDTHS SAMPLES | repeat CALL TURNS FILE";
 
 const BAD_WORDS: u8 = 2;
@@ -46,6 +47,7 @@ enum Layer {
     Names,
     Elements,
     Types,
+    Graph,
     Manifests,
     Words,
     Image,
@@ -60,6 +62,7 @@ fn layer_called(word: &str) -> Option<Layer> {
         "names" => Some(Layer::Names),
         "elements" => Some(Layer::Elements),
         "types" => Some(Layer::Types),
+        "graph" => Some(Layer::Graph),
         "manifests" => Some(Layer::Manifests),
         "words" => Some(Layer::Words),
         "image" => Some(Layer::Image),
@@ -77,6 +80,7 @@ fn answer(alloc: Global, layer: Layer, bytes: &[u8]) -> Result<Page, Refusal> {
         Layer::Names => names::page(alloc, bytes),
         Layer::Elements => elements::page(alloc, bytes),
         Layer::Types => types::page(alloc, bytes),
+        Layer::Graph => graph::page(alloc, bytes),
         Layer::Manifests => manifests::page(alloc, bytes),
         Layer::Words => words::page(alloc, bytes),
         Layer::Image => image::page(alloc, bytes),

@@ -1,7 +1,7 @@
 //! The lines that a layer answers, and how their words are put: each after the text that stands before it.
 
 use anyhow::{Result, bail};
-use fix_word::{FixType, Mode, SigType};
+use fix_word::{FixType, Format, Mode, SigType};
 use itoa::{Buffer, Integer};
 use lists::{List, Name};
 use std::alloc::Global;
@@ -132,6 +132,13 @@ impl Page {
         self.text(",");
         self.text(mode_text(ty.mode));
         self.text(">");
+    }
+
+    pub fn format(&mut self, format: Format) {
+        self.number(" shift ", format.shift);
+        self.text(" ");
+        self.text(mode_text(format.mode));
+        self.number(" width ", format.width);
     }
 
     pub fn sig_type(&mut self, before: &str, ty: SigType) {

@@ -1,21 +1,26 @@
 //! One call repeated on one file, for the scripts under `bench/` to measure, and the sum of what its turns give.
 
-ghost use Rattle.std.specs.Prelude.{◌≡◌, ◌<◌, ◌^◌, length, All, IfOk};
+ghost use Rattle.std.specs.Prelude.{◌≡◌, ◌<◌, ◌^◌, ℤ, pos, length, All, IfOk};
+ghost use Rattle.std.specs.List.{AllZip};
 ghost use Rattle.cycle_sim.specs.Machine.{IsOperand};
 ghost use Rattle.micro_image.specs.Valid.{IsValid};
 ghost use Rattle.ranked_faults.specs.Ranked.{IsClear};
+ghost use Rattle.signal_graph.specs.Rules.{IsInType};
 ghost use Rattle.silage_syntax.specs.Tree.{view};
 ghost use Rattle.name_check.specs.NameFaults.{name_faults, IsMain};
 ghost use Rattle.name_check.specs.TopNames.{top_names};
 ghost use Rattle.fix_types.specs.Numbers.{AreNumbersShort};
 
 use crate::elements::{elements_of, expanded};
+use crate::graph::graph_of;
 use crate::image::{bytes_of, image_of};
 use crate::names::names_of;
 use crate::page::Page;
 use crate::source::{Refusal, parsed, program_of, refusal, tokens_of};
 use crate::types::typed;
 use cycle_sim::{Conflict, Machine};
+use equation_eval::{EvalFault, Evaluator};
+use fix_word::SigType;
 use micro_image::Image;
 use name_check::Names;
 use silage_tree::Program;
@@ -42,6 +47,10 @@ pub enum Call {
     Types,
     /// From a source to instances and elements: the elements.
     Front,
+    /// From a source to its graph: the nodes.
+    Graph,
+    /// One sample a turn, with 0 for each input word: the output words of the last one that are 0.
+    Step,
 }
 
 pub fn call_named(word: &str) -> Option<Call> {
@@ -55,6 +64,8 @@ pub fn call_named(word: &str) -> Option<Call> {
         "elements" => Some(Call::Elements),
         "types" => Some(Call::Types),
         "front" => Some(Call::Front),
+        "graph" => Some(Call::Graph),
+        "step" => Some(Call::Step),
         _ => None,
     }
 }
@@ -210,6 +221,63 @@ fn front_again(alloc: Global, turns: u32, source: &[u8]) -> Result<u64, Refusal>
     Ok(count)
 }
 
+fn graph_again(alloc: Global, turns: u32, source: &[u8]) -> Result<u64, Refusal> {
+    let mut count = 0u64;
+    for _ in 0..turns {
+        count = count.wrapping_add(graph_of(alloc, source)?.nodes.len() as u64);
+    }
+    Ok(count)
+}
+
+fn evaluator_of(alloc: Global, source: &[u8]) -> Result<Evaluator, Refusal> {
+    let graph = graph_of(alloc, source)?;
+    match Evaluator::new(alloc, &graph) {
+        Ok(evaluator) => Ok(evaluator),
+        Err(EvalFault::Memory) => Err(Page::cut(alloc)),
+    }
+}
+
+/// This many zeros.
+fn zeros(alloc: Global, count: usize) -> Result<Vec<i64>, AllocError>
+    ensures count { IfOk result (λ row. length row.items ≡ count) }
+    ensures each { IfOk result (λ row. All (λ (z : ℤ). z ≡ pos 0) row.items) }
+{
+    vec![in alloc; 0i64; count]
+}
+
+/// 0 for each word, which is in the range of each type.
+#[tactic(auto, using(crate::proofs::ZeroRows::zeros_fit))]
+fn zero_row(alloc: Global, types: &[SigType]) -> Result<Vec<i64>, AllocError>
+    ensures { IfOk result (λ row. AllZip IsInType types.now row.items) }
+{
+    zeros(alloc, types.len())
+}
+
+fn step_again(evaluator: &mut Evaluator, turns: u32, row: &[i64], put: &mut [i64])
+    requires row { AllZip IsInType evaluator.old.inputs row.now }
+    requires put { length put.old ≡ length evaluator.old.outputs }
+{
+    for _turn in 0..turns {
+        evaluator.step(row, put);
+    }
+}
+
+fn step_rows(alloc: Global, turns: u32, evaluator: &mut Evaluator) -> Result<u64, AllocError> {
+    let row = zero_row(alloc, evaluator.inputs())?;
+    let mut put = zeros(alloc, evaluator.outs())?;
+    step_again(evaluator, turns, &row, &mut put);
+    let zeros = put.iter().filter(|word| **word == 0).count();
+    Ok(zeros as u64)
+}
+
+fn step_source(alloc: Global, turns: u32, source: &[u8]) -> Result<u64, Refusal> {
+    let mut evaluator = evaluator_of(alloc, source)?;
+    match step_rows(alloc, turns, &mut evaluator) {
+        Ok(word) => Ok(word),
+        Err(_) => Err(Page::cut(alloc)),
+    }
+}
+
 fn sum(alloc: Global, call: Call, turns: u32, bytes: &[u8]) -> Result<u64, Refusal> {
     match call {
         Call::Decode => decode_again(alloc, turns, bytes),
@@ -221,6 +289,8 @@ fn sum(alloc: Global, call: Call, turns: u32, bytes: &[u8]) -> Result<u64, Refus
         Call::Elements => expand_program(alloc, turns, bytes),
         Call::Types => type_program(alloc, turns, bytes),
         Call::Front => front_again(alloc, turns, bytes),
+        Call::Graph => graph_again(alloc, turns, bytes),
+        Call::Step => step_source(alloc, turns, bytes),
     }
 }
 

@@ -1,0 +1,72 @@
+//! The graph of a source, without the nodes from which no output is reached: a line for the type of each input word and
+//! one for each node.
+
+ghost use Rattle.std.specs.Prelude.{IfOk};
+ghost use Rattle.signal_graph.specs.GraphRules.{IsGraph};
+ghost use Rattle.signal_graph.specs.GraphSolves.{IsGraphLoopless};
+
+use crate::operation_names::operation_text;
+use crate::page::Page;
+use crate::source::{Refusal, refusal};
+use front_end::{FrontError, Rejection, accept};
+use signal_graph::{Graph, Node};
+use std::alloc::Global;
+
+fn rejected(alloc: Global, rejection: &Rejection) -> Refusal {
+    match rejection.error {
+        FrontError::Fault(fault) => refusal(alloc, &fault, rejection.line),
+        FrontError::Memory => Page::cut(alloc),
+    }
+}
+
+pub fn graph_of(alloc: Global, source: &[u8]) -> Result<Graph, Refusal>
+    ensures sound { IfOk result IsGraph }
+    ensures loopless { IfOk result IsGraphLoopless }
+{
+    match accept(alloc, source) {
+        Ok(accepted) => Ok(accepted.graph),
+        Err(rejection) => Err(rejected(alloc, &rejection)),
+    }
+}
+
+fn put_operands(page: &mut Page, node: &Node) {
+    page.text(" operands");
+    for edge in &node.edges {
+        page.number(" ", edge.node);
+        if edge.delay > 0 {
+            page.number("@", edge.delay);
+        }
+    }
+}
+
+fn put_initial_values(page: &mut Page, node: &Node) {
+    for (delay, word) in &node.inits {
+        page.number(" initial @", *delay);
+        page.number(" ", *word);
+    }
+}
+
+fn put_node(page: &mut Page, number: usize, node: &Node) {
+    page.number("node ", number);
+    page.text(" ");
+    page.text(operation_text(node.op));
+    page.format(node.fmt);
+    page.number(" argument ", node.arg);
+    page.number(" bits ", node.width);
+    put_operands(page, node);
+    put_initial_values(page, node);
+    page.end();
+}
+
+pub fn page(alloc: Global, source: &[u8]) -> Result<Page, Refusal> {
+    let graph = graph_of(alloc, source)?;
+    let mut page = Page::new(alloc);
+    for ty in &graph.inputs {
+        page.sig_type("input ", *ty);
+        page.end();
+    }
+    for (number, node) in graph.nodes.iter().enumerate() {
+        put_node(&mut page, number, node);
+    }
+    Ok(page)
+}
