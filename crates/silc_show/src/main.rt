@@ -29,8 +29,8 @@ use std::rt::{Env, Files};
 use std::{env, fs};
 
 const USAGE: &str =
-    "usage: silc_show tokens|tree|text|names|elements|types|graph SRC | manifests|words TABLE | image MIC | datapath DP \
-     | rows WIDTHS SAMPLES | repeat CALL TURNS FILE";
+    "usage: silc_show tokens|tree|text|names|elements|types|graph SRC | manifests|words TABLE | image MIC \
+     | datapath DP | rows WIDTHS SAMPLES | repeat CALL TURNS FILE";
 
 const BAD_WORDS: u8 = 2;
 
