@@ -33,36 +33,44 @@ pub record IsGathered {A : Type 0} (Q : ℕ → Type 0) (f : ℕ → List A) (n 
 pub gather : {A : Type 0} (Q : ℕ → Type 0) (f : ℕ → List A) (n : ℕ)
     → ((k : ℕ) → Q k ⊎ (Q k → ⊥))
     → (xs : List A) × IsGathered Q f n xs
-gather Q f zero cases =
-    ([], record {
-      all = λ k a below. absurd (omega (arith, below));
-      only = λ a among. absurd (omega (arith, among.1));
-    })
+gather Q f zero cases = (
+  [],
+  record {
+    all = λ k a below. absurd (omega (arith, below));
+    only = λ a among. absurd (omega (arith, among.1));
+  },
+)
 gather Q f (suc n) cases =
     let rest = gather Q f n cases in
     ⊎_elim
-    (λ (has : Q n). (f n ++ rest.0, record {
-      all = λ k a below q among.
-          ⊎_elim
-          (λ (less : k < n). Contains-append_right (f n) rest.0 a (rest.1.all k a less q among))
-          (λ (from : n ≤ k).
-          Contains-append_left (f n) rest.0 a
-          (subst (λ k. Contains (f k) a) {x = k} {y = n} (omega (arith, below, from)) among))
-          (cases_lt k n);
-      only = λ a among.
-          ⊎_elim
-          (λ here. (n, omega arith, has, here))
-          (λ there. let of = rest.1.only a there in (of.0, omega (arith, of.1), of.2, of.3))
-          (Contains-append_cases (f n) rest.0 a among);
-    }))
-    (λ never. (rest.0, record {
-      all = λ k a below q among.
-          ⊎_elim
-          (λ (less : k < n). rest.1.all k a less q among)
-          (λ (from : n ≤ k). absurd (never (subst Q {x = k} {y = n} (omega (arith, below, from)) q)))
-          (cases_lt k n);
-      only = λ a among. let of = rest.1.only a among in (of.0, omega (arith, of.1), of.2, of.3);
-    }))
+    (λ (has : Q n). (
+      f n ++ rest.0,
+      record {
+        all = λ k a below q among.
+            ⊎_elim
+            (λ (less : k < n). Contains-append_right (f n) rest.0 a (rest.1.all k a less q among))
+            (λ (from : n ≤ k).
+            Contains-append_left (f n) rest.0 a
+            (subst (λ k. Contains (f k) a) {x = k} {y = n} (omega (arith, below, from)) among))
+            (cases_lt k n);
+        only = λ a among.
+            ⊎_elim
+            (λ here. (n, omega arith, has, here))
+            (λ there. let of = rest.1.only a there in (of.0, omega (arith, of.1), of.2, of.3))
+            (Contains-append_cases (f n) rest.0 a among);
+      },
+    ))
+    (λ never. (
+      rest.0,
+      record {
+        all = λ k a below q among.
+            ⊎_elim
+            (λ (less : k < n). rest.1.all k a less q among)
+            (λ (from : n ≤ k). absurd (never (subst Q {x = k} {y = n} (omega (arith, below, from)) q)))
+            (cases_lt k n);
+        only = λ a among. let of = rest.1.only a among in (of.0, omega (arith, of.1), of.2, of.3);
+      },
+    ))
     (cases n)
 
 -- what holds of each element by membership holds of all
@@ -88,57 +96,68 @@ module _ {A : Type 0} (R : A → A → Type 0) (through : (x y z : A) → R x y 
       → AllPairs R ys
       → ((y : A) → Contains ys y → (R x y ⊎ R y x) ⊎ (x ≡ y))
       → (zs : List A) × IsInserted x ys zs
-  insert x [] order cases =
-      (x ∷ [], record {
-        order = λ j k default less below. absurd (omega (arith, less, below));
-        new = in_head x [];
-        old = λ z among. absurd (omega (arith, among.1));
-        only = λ z among. head_or_tail x z [] among;
-      })
+  insert x [] order cases = (
+    x ∷ [],
+    record {
+      order = λ j k default less below. absurd (omega (arith, less, below));
+      new = in_head x [];
+      old = λ z among. absurd (omega (arith, among.1));
+      only = λ z among. head_or_tail x z [] among;
+    },
+  )
   insert x (y ∷ ys) order cases =
       let rest = insert x ys (tail_order y ys order) (λ z among. cases z (in_tail y z ys among)) in
       ⊎_elim
       (λ apart.
       ⊎_elim
-      (λ (before : R x y). (x ∷ y ∷ ys, record {
-        order = AllPairs-cons R x (y ∷ ys)
-            (all_from (R x) (y ∷ ys) (λ z among.
-            ⊎_elim
-            (λ (same : y ≡ z). subst (R x) same before)
-            (λ later. through x y z before (head_before y ys order z later))
-            (head_or_tail y z ys among)))
-            order;
-        new = in_head x (y ∷ ys);
-        old = λ z among. in_tail x z (y ∷ ys) among;
-        only = λ z among. head_or_tail x z (y ∷ ys) among;
-      }))
-      (λ (after : R y x). (y ∷ rest.0, record {
-        order = AllPairs-cons R y rest.0
-            (all_from (R y) rest.0 (λ z among.
-            ⊎_elim
-            (λ (same : x ≡ z). subst (R y) same after)
-            (λ old. head_before y ys order z old)
-            (rest.1.only z among)))
-            rest.1.order;
-        new = in_tail y x rest.0 rest.1.new;
-        old = λ z among.
-            ⊎_elim
-            (λ (same : y ≡ z). subst (Contains (y ∷ rest.0)) same (in_head y rest.0))
-            (λ later. in_tail y z rest.0 (rest.1.old z later))
-            (head_or_tail y z ys among);
-        only = λ z among.
-            ⊎_elim
-            (λ (same : y ≡ z). inr (subst (Contains (y ∷ ys)) same (in_head y ys)))
-            (λ later. ⊎_elim (λ new. inl new) (λ old. inr (in_tail y z ys old)) (rest.1.only z later))
-            (head_or_tail y z rest.0 among);
-      }))
+      (λ (before : R x y). (
+        x ∷ y ∷ ys,
+        record {
+          order = AllPairs-cons R x (y ∷ ys)
+              (all_from (R x) (y ∷ ys) (λ z among.
+              ⊎_elim
+              (λ (same : y ≡ z). subst (R x) same before)
+              (λ later. through x y z before (head_before y ys order z later))
+              (head_or_tail y z ys among)))
+              order;
+          new = in_head x (y ∷ ys);
+          old = λ z among. in_tail x z (y ∷ ys) among;
+          only = λ z among. head_or_tail x z (y ∷ ys) among;
+        },
+      ))
+      (λ (after : R y x). (
+        y ∷ rest.0,
+        record {
+          order = AllPairs-cons R y rest.0
+              (all_from (R y) rest.0 (λ z among.
+              ⊎_elim
+              (λ (same : x ≡ z). subst (R y) same after)
+              (λ old. head_before y ys order z old)
+              (rest.1.only z among)))
+              rest.1.order;
+          new = in_tail y x rest.0 rest.1.new;
+          old = λ z among.
+              ⊎_elim
+              (λ (same : y ≡ z). subst (Contains (y ∷ rest.0)) same (in_head y rest.0))
+              (λ later. in_tail y z rest.0 (rest.1.old z later))
+              (head_or_tail y z ys among);
+          only = λ z among.
+              ⊎_elim
+              (λ (same : y ≡ z). inr (subst (Contains (y ∷ ys)) same (in_head y ys)))
+              (λ later. ⊎_elim (λ new. inl new) (λ old. inr (in_tail y z ys old)) (rest.1.only z later))
+              (head_or_tail y z rest.0 among);
+        },
+      ))
       apart)
-      (λ (same : x ≡ y). (y ∷ ys, record {
-        order = order;
-        new = subst (Contains (y ∷ ys)) (sym same) (in_head y ys);
-        old = λ z among. among;
-        only = λ z among. inr among;
-      }))
+      (λ (same : x ≡ y). (
+        y ∷ ys,
+        record {
+          order = order;
+          new = subst (Contains (y ∷ ys)) (sym same) (in_head y ys);
+          old = λ z among. among;
+          only = λ z among. inr among;
+        },
+      ))
       (cases y (in_head y ys))
 
   -- the elements in order, each once
@@ -150,26 +169,30 @@ module _ {A : Type 0} (R : A → A → Type 0) (through : (x y z : A) → R x y 
   pub in_order : (xs : List A)
       → ((x y : A) → Contains xs x → Contains xs y → (R x y ⊎ R y x) ⊎ (x ≡ y))
       → (ys : List A) × IsInOrder xs ys
-  in_order [] cases =
-      ([], record {
-        order = λ j k default less below. absurd (omega (arith, below));
-        all = λ z among. among;
-        only = λ z among. among;
-      })
+  in_order [] cases = (
+    [],
+    record {
+      order = λ j k default less below. absurd (omega (arith, below));
+      all = λ z among. among;
+      only = λ z among. among;
+    },
+  )
   in_order (x ∷ xs) cases =
       let rest = in_order xs (λ y z in-y in-z. cases y z (in_tail x y xs in-y) (in_tail x z xs in-z)) in
       let put = insert x rest.0 rest.1.order
-      (λ y among. cases x y (in_head x xs) (in_tail x y xs (rest.1.only y among))) in
-      (put.0, record {
-        order = put.1.order;
-        all = λ z among.
-            ⊎_elim
-            (λ (same : x ≡ z). subst (Contains put.0) same put.1.new)
-            (λ later. put.1.old z (rest.1.all z later))
-            (head_or_tail x z xs among);
-        only = λ z among.
-            ⊎_elim
-            (λ (same : x ≡ z). subst (Contains (x ∷ xs)) same (in_head x xs))
-            (λ later. in_tail x z xs (rest.1.only z later))
-            (put.1.only z among);
-      })
+      (λ y among. cases x y (in_head x xs) (in_tail x y xs (rest.1.only y among))) in (
+        put.0,
+        record {
+          order = put.1.order;
+          all = λ z among.
+              ⊎_elim
+              (λ (same : x ≡ z). subst (Contains put.0) same put.1.new)
+              (λ later. put.1.old z (rest.1.all z later))
+              (head_or_tail x z xs among);
+          only = λ z among.
+              ⊎_elim
+              (λ (same : x ≡ z). subst (Contains (x ∷ xs)) same (in_head x xs))
+              (λ later. in_tail x z xs (rest.1.only z later))
+              (put.1.only z among);
+        },
+      )

@@ -165,15 +165,14 @@ module _ (g : Graph) (d : Datapath) (p : Plan) (machine : IsMachine d) (plan : I
     alive : (k ago : ℕ)
         → HasAgo k ago
         → ((arc_at p k).w + (past - ago) * d.period < past * d.period)
-            × (past * d.period ≤ (arc_at p k).r + (past - ago) * d.period)
+        × (past * d.period ≤ (arc_at p k).r + (past - ago) * d.period)
     alive k ago of =
         let small : ago < past = few_ago k ago of.preload.there of.preload.lives in
         let le : (past - ago + 1) * d.period ≤ past * d.period =
         mul-le-mul_right d.period (omega (arith, small, of.preload.before)) in
         let whole : (past - ago + ago) * d.period ≡ (past - ago) * d.period + ago * d.period =
         add-mul (past - ago) ago d.period in
-        let sum : (past - ago + ago) * d.period ≡ past * d.period = ap (λ n. n * d.period) (again ago small) in
-        (
+        let sum : (past - ago + ago) * d.period ≡ past * d.period = ap (λ n. n * d.period) (again ago small) in (
           omega (arith, le, one_more (past - ago) d.period, (life_of k of.preload.there).written),
           omega (arith, whole, sum, of.preload.lives),
         )
@@ -198,8 +197,12 @@ module _ (g : Graph) (d : Datapath) (p : Plan) (machine : IsMachine d) (plan : I
         let one = registers_apart d p (λ v s. pos 0) feasible j k (past - a) (past - b) (past * d.period)
         of.preload.there by.preload.there (of.port_is ∙ sym by.port_is) (of.reg_is ∙ sym by.reg_is) x.0 x.1 y.0 y.1 in
         let ago : a ≡ b =
-        omega (arith, one.1, few_ago j a of.preload.there of.preload.lives,
-        few_ago k b by.preload.there by.preload.lives) in
+        omega (
+          arith,
+          one.1,
+          few_ago j a of.preload.there of.preload.lives,
+          few_ago k b by.preload.there by.preload.lives,
+        ) in
         ap₂ (λ k ago. word_before (node_at p (arc_at p k).node).inits ago) one.0 ago
 
     some_start : (z : ℤ) × IsStart z
@@ -207,14 +210,20 @@ module _ (g : Graph) (d : Datapath) (p : Plan) (machine : IsMachine d) (plan : I
       where
         by : ((k : ℕ) × (k < length p.arcs) × HasArc k) ⊎ ((k : ℕ) → k < length p.arcs → HasArc k → ⊥)
             → (z : ℤ) × IsStart z
-        by (inl (k, in-k, (ago, below, of))) = (word_before (node_at p (arc_at p k).node).inits ago, record {
-          preload = λ j i b is. same_word k j ago b of (has_ago j i b is);
-          none = λ never. absurd (never k (turn k ago) ago of);
-        })
-        by (inr none) = (pos 0, record {
-          preload = λ k i ago is. absurd (none k is.preload.there (ago, within k i ago is, has_ago k i ago is));
-          none = λ never. refl;
-        })
+        by (inl (k, in-k, (ago, below, of))) = (
+          word_before (node_at p (arc_at p k).node).inits ago,
+          record {
+            preload = λ j i b is. same_word k j ago b of (has_ago j i b is);
+            none = λ never. absurd (never k (turn k ago) ago of);
+          },
+        )
+        by (inr none) = (
+          pos 0,
+          record {
+            preload = λ k i ago is. absurd (none k is.preload.there (ago, within k i ago is, has_ago k i ago is));
+            none = λ never. refl;
+          },
+        )
 
   -- what a cell starts with
   pub record IsCellStart (ram cell : ℕ) (z : ℤ) : Type 0 where
@@ -284,14 +293,20 @@ module _ (g : Graph) (d : Datapath) (p : Plan) (machine : IsMachine d) (plan : I
       where
         by : ((l : ℕ) × (l < length (lines_of p)) × HasLine l) ⊎ ((l : ℕ) → l < length (lines_of p) → HasLine l → ⊥)
             → (z : ℤ) × IsCellStart ram cell z
-        by (inl (l, in-l, (ago, below, of))) = (word_before (node_at p (line_at p l).node).inits ago, record {
-          preload = λ m b is. same_cell l m ago b of is;
-          none = λ never. absurd (never l ago of);
-        })
-        by (inr none) = (pos 0, record {
-          preload = λ l ago is. absurd (none l is.there (ago, omega (arith, is.lives), is));
-          none = λ never. refl;
-        })
+        by (inl (l, in-l, (ago, below, of))) = (
+          word_before (node_at p (line_at p l).node).inits ago,
+          record {
+            preload = λ m b is. same_cell l m ago b of is;
+            none = λ never. absurd (never l ago of);
+          },
+        )
+        by (inr none) = (
+          pos 0,
+          record {
+            preload = λ l ago is. absurd (none l is.there (ago, omega (arith, is.lives), is));
+            none = λ never. refl;
+          },
+        )
 
   -- a register file of the image
   pub record IsFileOf (u q : ℕ) (file : List ℤ) : Type 0 where
@@ -313,29 +328,31 @@ module _ (g : Graph) (d : Datapath) (p : Plan) (machine : IsMachine d) (plan : I
   some_unit : (u : ℕ) → (unit : UnitDesc) × IsMadeUnit u unit
   some_unit u =
       let files = choose (IsFileOf u) (length (unit_of d u).files) [] (λ q below. some_file u q) in
-      let cells = choose (λ c z. IsCellStart u c z) (unit_of d u).cells (pos 0) (λ c below. some_cell_start u c) in
-      (record {
-        kind = (unit_of d u).kind;
-        latency = (unit_of d u).latency;
-        gap = (unit_of d u).gap;
-        files = files.0;
-        cells = cells.0;
-        ram = (unit_of d u).ram;
-      }, record {
-        is = record {
-          kind = refl;
-          latency = refl;
-          gap = refl;
-          files = ext_get_or 0 (map length files.0) (unit_of d u).files (length-map files.0 length ∙ files.1)
-              (λ q below.
-              let in-q : q < length files.0 = omega (arith, below, length-map files.0 length) in
-              get_or-map length files.0 q [] 0 in-q ∙ (files.2 q (omega (arith, in-q, files.1))).size);
-          cells = cells.1;
-          ram = refl;
-        };
-        files = λ q below. files.2 q (omega (arith, below, files.1));
-        cells = λ c below. cells.2 c (omega (arith, below, cells.1));
-      })
+      let cells = choose (λ c z. IsCellStart u c z) (unit_of d u).cells (pos 0) (λ c below. some_cell_start u c) in (
+        record {
+          kind = (unit_of d u).kind;
+          latency = (unit_of d u).latency;
+          gap = (unit_of d u).gap;
+          files = files.0;
+          cells = cells.0;
+          ram = (unit_of d u).ram;
+        },
+        record {
+          is = record {
+            kind = refl;
+            latency = refl;
+            gap = refl;
+            files = ext_get_or 0 (map length files.0) (unit_of d u).files (length-map files.0 length ∙ files.1)
+                (λ q below.
+                let in-q : q < length files.0 = omega (arith, below, length-map files.0 length) in
+                get_or-map length files.0 q [] 0 in-q ∙ (files.2 q (omega (arith, in-q, files.1))).size);
+            cells = cells.1;
+            ram = refl;
+          };
+          files = λ q below. files.2 q (omega (arith, below, files.1));
+          cells = λ c below. cells.2 c (omega (arith, below, cells.1));
+        },
+      )
 
   -- the word at an index
   abbrev IsWordAt : ℕ → Word → Type 0
@@ -346,11 +363,13 @@ module _ (g : Graph) (d : Datapath) (p : Plan) (machine : IsMachine d) (plan : I
       let n' : ℕ = x / d.period in
       let in-n' : n' < p.unroll =
       below_count n' d.period x p.unroll (omega (arith, split x d.period)) below in
-      let made = some_word g d p machine plan n' (x % d.period) in-n' in
-      (made.0, λ n c in-n in-c at.
-      let sample : n' ≡ n = ap (λ x. x / d.period) at ∙ div-mul-add n d.period c in-c in
-      let cycle : x % d.period ≡ c = ap (λ x. x % d.period) at ∙ mod-mul-add n d.period c in-c in
-      subst (λ n. IsWordOf d p n c made.0) sample (subst (λ c. IsWordOf d p n' c made.0) cycle made.1))
+      let made = some_word g d p machine plan n' (x % d.period) in-n' in (
+        made.0,
+        λ n c in-n in-c at.
+            let sample : n' ≡ n = ap (λ x. x / d.period) at ∙ div-mul-add n d.period c in-c in
+            let cycle : x % d.period ≡ c = ap (λ x. x % d.period) at ∙ mod-mul-add n d.period c in-c in
+            subst (λ n. IsWordOf d p n c made.0) sample (subst (λ c. IsWordOf d p n' c made.0) cycle made.1),
+      )
 
   module _ (units : List UnitDesc) (count : length units ≡ length d.units)
       (each : (u : ℕ) → u < length d.units → IsMadeUnit u (nth units u no_desc)) where
@@ -362,18 +381,20 @@ module _ (g : Graph) (d : Datapath) (p : Plan) (machine : IsMachine d) (plan : I
     there_of : (u q : ℕ)
         → 0 < slice_index_or (unit_of d u).files q 0
         → (u < length d.units) × (q < length (unit_of d u).files)
-    there_of u q some =
-        (
-          ⊎_elim (λ (there : u < length d.units). there)
-              (λ (past' : length d.units ≤ u).
-              absurd (omega (arith, some,
-              ap (λ unit. slice_index_or unit.files q 0) (nth_past d.units u no_unit past'))))
-              (cases_lt u (length d.units)),
-          ⊎_elim (λ (there : q < length (unit_of d u).files). there)
-              (λ (past' : length (unit_of d u).files ≤ q).
-              absurd (omega (arith, some, nth_past (unit_of d u).files q 0 past')))
-              (cases_lt q (length (unit_of d u).files)),
-        )
+    there_of u q some = (
+      ⊎_elim (λ (there : u < length d.units). there)
+          (λ (past' : length d.units ≤ u).
+          absurd (omega (
+            arith,
+            some,
+            ap (λ unit. slice_index_or unit.files q 0) (nth_past d.units u no_unit past'),
+          )))
+          (cases_lt u (length d.units)),
+      ⊎_elim (λ (there : q < length (unit_of d u).files). there)
+          (λ (past' : length (unit_of d u).files ≤ q).
+          absurd (omega (arith, some, nth_past (unit_of d u).files q 0 past')))
+          (cases_lt q (length (unit_of d u).files)),
+    )
 
     start_at : (u q r : ℕ)
         → u < length d.units
@@ -396,7 +417,7 @@ module _ (g : Graph) (d : Datapath) (p : Plan) (machine : IsMachine d) (plan : I
 
     no_register : (u q r : ℕ)
         → ((u < length d.units) → (q < length (unit_of d u).files)
-            → r < slice_index_or (unit_of d u).files q 0 → ⊥)
+        → r < slice_index_or (unit_of d u).files q 0 → ⊥)
         → nth (nth (nth units u no_desc).files q []) r (pos 0) ≡ pos 0
     no_register u q r never =
         ⊎_elim
@@ -426,8 +447,7 @@ module _ (g : Graph) (d : Datapath) (p : Plan) (machine : IsMachine d) (plan : I
         let room : (line_at p l).offset + (line_at p l).depth < (unit_of d (line_at p l).ram).cells =
         (feasible.lines l of.there).room in
         let below : c < (unit_of d u).cells =
-        subst (λ u. c < (unit_of d u).cells) of.ram_is (omega (arith, of.cell_is, of.lives, room)) in
-        (
+        subst (λ u. c < (unit_of d u).cells) of.ram_is (omega (arith, of.cell_is, of.lives, room)) in (
           ⊎_elim (λ (there : u < length d.units). there)
               (λ (past' : length d.units ≤ u).
               absurd (omega (arith, below, ap (λ unit. unit.cells) (nth_past d.units u no_unit past'))))
@@ -453,7 +473,7 @@ module _ (g : Graph) (d : Datapath) (p : Plan) (machine : IsMachine d) (plan : I
 
     register_cases : (u q r : ℕ)
         → ((u < length d.units) × (q < length (unit_of d u).files) × (r < slice_index_or (unit_of d u).files q 0))
-            ⊎ (nth (nth (nth units u no_desc).files q []) r (pos 0) ≡ pos 0)
+        ⊎ (nth (nth (nth units u no_desc).files q []) r (pos 0) ≡ pos 0)
     register_cases u q r =
         ⊎_elim
         (λ (in-r : r < slice_index_or (unit_of d u).files q 0).
@@ -478,49 +498,51 @@ module _ (g : Graph) (d : Datapath) (p : Plan) (machine : IsMachine d) (plan : I
   pub some_image : (image : Image) × IsImageOf d p image
   some_image =
       let units = choose IsMadeUnit (length d.units) no_desc (λ u below. some_unit u) in
-      let words = choose IsWordAt (p.unroll * d.period) no_word some_word_at in
-      (record {
-        period = d.period;
-        unroll = p.unroll;
-        inputs = map width_of p.inputs;
-        outs = p.outs;
-        units = units.0;
-        buses = length d.buses;
-        words = words.0;
-      }, record {
-        period = refl;
-        unroll = refl;
-        inputs = refl;
-        outs = refl;
-        buses = refl;
-        unit_count = units.1;
-        units = λ u below. (units.2 u below).is;
-        starts = record {
-          register = λ port reg k i ago of.
-              let in-r = preload_in units.0 units.1 units.2 port.unit port.port reg k i ago of in
-              let there = there_of units.0 units.1 units.2 port.unit port.port (omega (arith, in-r)) in
-              (start_at units.0 units.1 units.2 port.unit port.port reg there.0 there.1 in-r).preload k i ago of;
-          other_register = λ port reg none.
-              ⊎_elim
-              (λ there. (start_at units.0 units.1 units.2 port.unit port.port reg there.0 there.1 there.2).none none)
-              (λ zero_there. zero_there)
-              (register_cases units.0 units.1 units.2 port.unit port.port reg);
-          cell = λ ram cell l ago of.
-              let there = cell_in units.0 units.1 units.2 ram cell l ago of in
-              let made = units.2 ram there.0 in
-              (made.cells cell (omega (arith, there.1, made.is.cells))).preload l ago of;
-          other_cell = λ ram cell none.
-              ⊎_elim
-              (λ there.
-              let made = units.2 ram there.0 in
-              (made.cells cell (omega (arith, there.1, made.is.cells))).none none)
-              (λ zero_there. zero_there)
-              (cell_there units.0 units.1 units.2 ram cell);
-        };
-        word_count = words.1;
-        words = λ n c in-n in-c.
-            words.2 (n * d.period + c) (in_range n c in-n in-c) n c in-n in-c refl;
-      })
+      let words = choose IsWordAt (p.unroll * d.period) no_word some_word_at in (
+        record {
+          period = d.period;
+          unroll = p.unroll;
+          inputs = map width_of p.inputs;
+          outs = p.outs;
+          units = units.0;
+          buses = length d.buses;
+          words = words.0;
+        },
+        record {
+          period = refl;
+          unroll = refl;
+          inputs = refl;
+          outs = refl;
+          buses = refl;
+          unit_count = units.1;
+          units = λ u below. (units.2 u below).is;
+          starts = record {
+            register = λ port reg k i ago of.
+                let in-r = preload_in units.0 units.1 units.2 port.unit port.port reg k i ago of in
+                let there = there_of units.0 units.1 units.2 port.unit port.port (omega (arith, in-r)) in
+                (start_at units.0 units.1 units.2 port.unit port.port reg there.0 there.1 in-r).preload k i ago of;
+            other_register = λ port reg none.
+                ⊎_elim
+                (λ there. (start_at units.0 units.1 units.2 port.unit port.port reg there.0 there.1 there.2).none none)
+                (λ zero_there. zero_there)
+                (register_cases units.0 units.1 units.2 port.unit port.port reg);
+            cell = λ ram cell l ago of.
+                let there = cell_in units.0 units.1 units.2 ram cell l ago of in
+                let made = units.2 ram there.0 in
+                (made.cells cell (omega (arith, there.1, made.is.cells))).preload l ago of;
+            other_cell = λ ram cell none.
+                ⊎_elim
+                (λ there.
+                let made = units.2 ram there.0 in
+                (made.cells cell (omega (arith, there.1, made.is.cells))).none none)
+                (λ zero_there. zero_there)
+                (cell_there units.0 units.1 units.2 ram cell);
+          };
+          word_count = words.1;
+          words = λ n c in-n in-c.
+              words.2 (n * d.period + c) (in_range n c in-n in-c) n c in-n in-c refl;
+        },
+      )
     where
       in_range : (n c : ℕ) → n < p.unroll → c < d.period → n * d.period + c < p.unroll * d.period
       in_range n c in-n in-c =

@@ -150,11 +150,13 @@ module _ (g : Graph) (d : Datapath) (p : Plan) (machine : IsMachine d) (plan : I
   some_register v n q in-v in-n = by (cases_lt q (length (node_at p v).edges))
     where
       by : (q < length (node_at p v).edges) ⊎ (length (node_at p v).edges ≤ q) → (r : ℕ) × IsRegisterFor v n q r
-      by (inr unread) =
-          (0, record {
-            read = λ k i through copy. absurd (omega (arith, unread, through.reads.port));
-            unread = λ _. refl;
-          })
+      by (inr unread) = (
+        0,
+        record {
+          read = λ k i through copy. absurd (omega (arith, unread, through.reads.port));
+          unread = λ _. refl;
+        },
+      )
       by (inl read) =
           let through = feasible.read v q in-v read in
           let k : ℕ = through.0 in
@@ -163,15 +165,17 @@ module _ (g : Graph) (d : Datapath) (p : Plan) (machine : IsMachine d) (plan : I
           let copy : IsCopy (arc_at p k).copies n (edge_at p v q).delay i =
           subst (λ m. IsCopy (arc_at p k).copies m (edge_at p v q).delay i) (mod-eq_of_lt in-n)
           (copy_read n p.unroll (arc_at p k).copies (edge_at p v q).delay life.some life.turns feasible.turns
-          (feasible.edges v q in-v read).1) in
-          (register_at p k i, record {
-            read = λ j a by-j copy-j.
-                let same : k ≡ j = one_through v q k j through.1 by-j in
-                ap₂ (register_at p) same
-                (copy_once (arc_at p j).copies n (edge_at p v q).delay i a
-                (subst (λ k. IsCopy (arc_at p k).copies n (edge_at p v q).delay i) same copy) copy-j);
-            unread = λ unread. absurd (omega (arith, read, unread));
-          })
+          (feasible.edges v q in-v read).1) in (
+            register_at p k i,
+            record {
+              read = λ j a by-j copy-j.
+                  let same : k ≡ j = one_through v q k j through.1 by-j in
+                  ap₂ (register_at p) same
+                  (copy_once (arc_at p j).copies n (edge_at p v q).delay i a
+                  (subst (λ k. IsCopy (arc_at p k).copies n (edge_at p v q).delay i) same copy) copy-j);
+              unread = λ unread. absurd (omega (arith, read, unread));
+            },
+          )
 
   some_issue : (v n : ℕ)
       → v < length (nodes_of p)
@@ -184,27 +188,29 @@ module _ (g : Graph) (d : Datapath) (p : Plan) (machine : IsMachine d) (plan : I
       let kind = (plan.assigned.units v (omega (arith, in-v, plan.assigned.count))).candidate.right.kind.kind in
       let regs = choose (IsRegisterFor v n) (length (unit_of d u).files) 0 (λ q in-q. some_register v n q in-v in-n) in
       let edges : length (node_at p v).edges ≤ length (unit_of d u).files =
-      omega (arith, feasible.operand_count v in-v, enough_ports (node_at p v).op, unit.file_count, ap ports kind) in
-      (record {
-        unit = u;
-        op = (node_at p v).op;
-        fmt = (node_at p v).fmt;
-        arg = (node_at p v).arg;
-        regs = regs.0;
-      }, record {
-        unit = refl;
-        op = refl;
-        fmt = refl;
-        arg = refl;
-        count = regs.1;
-        read = λ q k i through copy.
-            (regs.2 q (omega (arith, edges, through.reads.port))).read k i through copy;
-        unread = λ q unread.
-            ⊎_elim
-            (λ (in-q : q < length (unit_of d u).files). (regs.2 q in-q).unread unread)
-            (λ (past' : length (unit_of d u).files ≤ q). nth_past regs.0 q 0 (omega (arith, past', regs.1)))
-            (cases_lt q (length (unit_of d u).files));
-      })
+      omega (arith, feasible.operand_count v in-v, enough_ports (node_at p v).op, unit.file_count, ap ports kind) in (
+        record {
+          unit = u;
+          op = (node_at p v).op;
+          fmt = (node_at p v).fmt;
+          arg = (node_at p v).arg;
+          regs = regs.0;
+        },
+        record {
+          unit = refl;
+          op = refl;
+          fmt = refl;
+          arg = refl;
+          count = regs.1;
+          read = λ q k i through copy.
+              (regs.2 q (omega (arith, edges, through.reads.port))).read k i through copy;
+          unread = λ q unread.
+              ⊎_elim
+              (λ (in-q : q < length (unit_of d u).files). (regs.2 q in-q).unread unread)
+              (λ (past' : length (unit_of d u).files ≤ q). nth_past regs.0 q 0 (omega (arith, past', regs.1)))
+              (cases_lt q (length (unit_of d u).files));
+        },
+      )
 
   cycle_cases : (c v : ℕ) → (cycle_at p v ≡ c) ⊎ (cycle_at p v ≡ c → ⊥)
   cycle_cases c v = cases_eq (cycle_at p v) c
@@ -243,19 +249,20 @@ module _ (g : Graph) (d : Datapath) (p : Plan) (machine : IsMachine d) (plan : I
       let made = gather (λ v. cycle_at p v ≡ c) (λ v. slice_index_or each.0 v no_issue ∷ []) (length (nodes_of p))
       (cycle_cases c) in
       let sorted = in_order (λ (a b : Issue). a.unit < b.unit) units_through made.0
-      (λ a b in-a in-b. cases each.0 (λ v in-v. each.2 v in-v) a b (made.1.only a in-a) (made.1.only b in-b)) in
-      (sorted.0, record {
-        all = λ v in-v at.
-            (
-              slice_index_or each.0 v no_issue,
-              sorted.1.all _ (made.1.all v _ in-v at (one_in _)),
-              each.2 v in-v,
-            );
-        only = λ issue among.
-            let of = made.1.only issue (sorted.1.only issue among) in
-            (of.0, of.1, of.2, subst (IsIssueOf d p of.0 n) (is_one _ issue of.3) (each.2 of.0 of.1));
-        order = sorted.1.order;
-      })
+      (λ a b in-a in-b. cases each.0 (λ v in-v. each.2 v in-v) a b (made.1.only a in-a) (made.1.only b in-b)) in (
+        sorted.0,
+        record {
+          all = λ v in-v at. (
+            slice_index_or each.0 v no_issue,
+            sorted.1.all _ (made.1.all v _ in-v at (one_in _)),
+            each.2 v in-v,
+          );
+          only = λ issue among.
+              let of = made.1.only issue (sorted.1.only issue among) in
+              (of.0, of.1, of.2, subst (IsIssueOf d p of.0 n) (is_one _ issue of.3) (each.2 of.0 of.1));
+          order = sorted.1.order;
+        },
+      )
     where
       cases : (issues : List Issue)
           → ((v : ℕ) → v < length (nodes_of p) → IsIssueOf d p v n (slice_index_or issues v no_issue))
@@ -291,8 +298,7 @@ module _ (g : Graph) (d : Datapath) (p : Plan) (machine : IsMachine d) (plan : I
   take_from k n take in-k among =
       let t = in_map (λ t. take_of p k t n) (filter (to_file k) (transfers_at p (arc_at p k).node)) take no_transfer
       among in
-      let from = from_filter (to_file k) (transfers_at p (arc_at p k).node) t.0 t.1 in
-      (
+      let from = from_filter (to_file k) (transfers_at p (arc_at p k).node) t.0 t.1 in (
         t.0,
         record { there = in-k; among = from.0; port = port_is t.0.port (arc_at p k).port from.1 },
         sym t.2,
@@ -308,28 +314,30 @@ module _ (g : Graph) (d : Datapath) (p : Plan) (machine : IsMachine d) (plan : I
       let takes = gather (λ k. (arc_at p k).w ≡ c)
       (λ k. map (λ t. take_of p k t n) (filter (to_file k) (transfers_at p (arc_at p k).node))) (length p.arcs)
       (λ k. cases_eq (arc_at p k).w c) in
-      let sorted_takes = in_order TakeBefore takes_through takes.0 (λ a b in-a in-b. take_cases a b) in
-      (record { issues = issues.0; enables = sorted_enables.0; takes = sorted_takes.0 }, record {
-        issue = issues.1.all;
-        issue_only = issues.1.only;
-        enable = λ v t in-v at among.
-            sorted_enables.1.all (enable_of p v t)
-            (enables.1.all v (enable_of p v t) in-v at (in_mapped (enable_of p v) (transfers_at p v) t among));
-        enable_only = λ enable among.
-            let of = enables.1.only enable (sorted_enables.1.only enable among) in
-            let t = in_map (enable_of p of.0) (transfers_at p of.0) enable no_transfer of.3 in
-            (of.0, t.0, of.1, of.2, t.1, sym t.2);
-        take = λ k t is at.
-            sorted_takes.1.all (take_of p k t n)
-            (takes.1.all k (take_of p k t n) is.there at
-            (in_mapped (λ t. take_of p k t n) (filter (to_file k) (transfers_at p (arc_at p k).node)) t
-            (in_filter (to_file k) (transfers_at p (arc_at p k).node) t is.among
-            (same_file t.port (arc_at p k).port is.port))));
-        take_only = λ take among.
-            let of = takes.1.only take (sorted_takes.1.only take among) in
-            let t = take_from of.0 n take of.1 of.3 in
-            (of.0, t.0, t.1, of.2, t.2);
-        issues_rise = issues.1.order;
-        enables_rise = sorted_enables.1.order;
-        takes_rise = sorted_takes.1.order;
-      })
+      let sorted_takes = in_order TakeBefore takes_through takes.0 (λ a b in-a in-b. take_cases a b) in (
+        record { issues = issues.0; enables = sorted_enables.0; takes = sorted_takes.0 },
+        record {
+          issue = issues.1.all;
+          issue_only = issues.1.only;
+          enable = λ v t in-v at among.
+              sorted_enables.1.all (enable_of p v t)
+              (enables.1.all v (enable_of p v t) in-v at (in_mapped (enable_of p v) (transfers_at p v) t among));
+          enable_only = λ enable among.
+              let of = enables.1.only enable (sorted_enables.1.only enable among) in
+              let t = in_map (enable_of p of.0) (transfers_at p of.0) enable no_transfer of.3 in
+              (of.0, t.0, of.1, of.2, t.1, sym t.2);
+          take = λ k t is at.
+              sorted_takes.1.all (take_of p k t n)
+              (takes.1.all k (take_of p k t n) is.there at
+              (in_mapped (λ t. take_of p k t n) (filter (to_file k) (transfers_at p (arc_at p k).node)) t
+              (in_filter (to_file k) (transfers_at p (arc_at p k).node) t is.among
+              (same_file t.port (arc_at p k).port is.port))));
+          take_only = λ take among.
+              let of = takes.1.only take (sorted_takes.1.only take among) in
+              let t = take_from of.0 n take of.1 of.3 in
+              (of.0, t.0, t.1, of.2, t.2);
+          issues_rise = issues.1.order;
+          enables_rise = sorted_enables.1.order;
+          takes_rise = sorted_takes.1.order;
+        },
+      )
