@@ -1,0 +1,1 @@
+"""The pictures of tools/draw, a module each, and what they share."""

@@ -1,0 +1,54 @@
+"""An SVG picture that is made line by line, and its colours."""
+from html import escape
+
+# Colours that a colour-blind reader can tell apart (those of Okabe and Ito, and tints of them).
+BLACK, BLUE, ORANGE, GREY, FAINT, PAPER = "#222222", "#0072b2", "#d55e00", "#999999", "#dddddd", "#ffffff"
+SKY, YELLOW, AMBER, GREEN = "#b5dcf5", "#f8f2a8", "#f3bd77", "#8ccbb2"
+FILLS = {"in": SKY, "out": SKY, "rom": YELLOW, "alu": AMBER, "mul": AMBER, "sel": AMBER, "ram": GREEN, "acu": GREEN}
+FONT = "font-family='DejaVu Sans, Arial, sans-serif'"
+COLUMN, MARGIN, GAP, LABELS = 46, 24, 22, 64
+# How wide a character is at most in the mean, as a share of the size of its text.
+CHARACTER = 0.62
+
+
+def fitting(words, width, size):
+    """The words, or so much of their beginning as fits into a width."""
+    most = max(1, int(width / (CHARACTER * size)))
+    return words if len(words) <= most else words[: most - 1] + "…"
+
+
+def size_in(words, width, most):
+    """The size at which the words fit into a width, up to the most that is wanted."""
+    return min(most, int(width / (CHARACTER * len(words))))
+
+
+class Picture:
+    """An SVG picture that is made line by line."""
+
+    def __init__(self, width, height, title):
+        size = f"width='{width}' height='{height}'"
+        self.lines = [f"<svg xmlns='http://www.w3.org/2000/svg' viewBox='0 0 {width} {height}' {size}>",
+                      f"<title>{escape(title)}</title>", f"<rect {size} fill='{PAPER}'/>"]
+
+    def text(self, x, y, words, size=12, colour=BLACK, anchor="middle"):
+        self.lines.append(f"<text x='{x:g}' y='{y:g}' font-size='{size}' fill='{colour}' text-anchor='{anchor}' {FONT}>"
+                          f"{escape(words)}</text>")
+
+    def box(self, x, y, width, height, fill, colour=BLACK, title=""):
+        named = f"><title>{escape(title)}</title></rect>" if title else "/>"
+        self.lines.append(f"<rect x='{x:g}' y='{y:g}' width='{width:g}' height='{height:g}' rx='3' fill='{fill}' "
+                          f"stroke='{colour}'{named}")
+
+    def line(self, x1, y1, x2, y2, colour=BLACK, width=1.5):
+        self.lines.append(f"<line x1='{x1:g}' y1='{y1:g}' x2='{x2:g}' y2='{y2:g}' stroke='{colour}' "
+                          f"stroke-width='{width}'/>")
+
+    def dot(self, x, y, colour):
+        self.lines.append(f"<circle cx='{x:g}' cy='{y:g}' r='4' fill='{colour}'/>")
+
+    def arrow(self, x, y, down, colour):
+        tip, base = (y, y - 7) if down else (y, y + 7)
+        self.lines.append(f"<path d='M{x - 4:g} {base:g} L{x + 4:g} {base:g} L{x:g} {tip:g} Z' fill='{colour}'/>")
+
+    def whole(self):
+        return "\n".join([*self.lines, "</svg>"])

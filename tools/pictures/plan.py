@@ -1,0 +1,150 @@
+"""The text of `silc schedule`, as a plan of nodes."""
+from dataclasses import dataclass, field
+
+KINDS = {"input": "in", "output": "out", "const": "rom", "mul": "mul", "sel": "sel", "load": "ram", "store": "ram",
+         "addr": "acu", **dict.fromkeys("add sub neg pass lt le eq ne and or not".split(), "alu")}
+OPERANDS = {"input": 0, "output": 1, "const": 0, "addr": 0, "neg": 1, "pass": 1, "not": 1, "load": 1, "sel": 3}
+WITH_ARGUMENT, FORMATTED = ("input", "output", "const", "addr"), ("add", "sub", "neg", "pass", "mul")
+
+
+@dataclass
+class Transfer:
+    """One destination of a result: a register file, the bus to it, and the registers that the copies have in turn."""
+    file: str
+    bus: str
+    registers: list
+
+
+@dataclass
+class Node:
+    number: int
+    cycle: int
+    unit: str
+    op: str
+    argument: int | None = None
+    operands: list = field(default_factory=list)
+    transfers: list = field(default_factory=list)
+
+    def words(self):
+        """What the node does, as the text has it: the operation, its argument and its operands."""
+        reads = [f"{node}@{delay}" if delay else f"{node}" for node, delay in self.operands]
+        return " ".join([self.op, *([] if self.argument is None else [f"{self.argument}"]), *reads])
+
+
+@dataclass
+class Plan:
+    """A plan, with the latency of each unit that it uses."""
+    period: int
+    unroll: int
+    nodes: list
+    latency: dict
+
+    def written(self, node):
+        """The cycle in which a node's result is there."""
+        return node.cycle + self.latency[node.unit] - 1
+
+
+class Line:
+    """The words of a line, and where the reading stands."""
+
+    def __init__(self, text):
+        self.words, self.at = text.split(), 0
+
+    def more(self):
+        return self.at < len(self.words)
+
+    def word(self, *wanted):
+        """The next word, which has to be one of those that are wanted, where there are some."""
+        found = self.words[self.at] if self.more() else "the end of the line"
+        if wanted and found not in wanted or not self.more():
+            raise ValueError(f"{found} in the place of {' or '.join(wanted) or 'a word'}")
+        self.at += 1
+        return found
+
+    def number(self, name):
+        self.word(name)
+        return int(self.word())
+
+
+def node_of(text):
+    line = Line(text)
+    node = Node(line.number("node"), line.number("cycle"), "", "")
+    line.word("unit")
+    node.unit = line.word()
+    line.word("op")
+    node.op = line.word(*KINDS)
+    if node.op in WITH_ARGUMENT:
+        node.argument = int(line.word())
+    for _ in range(OPERANDS.get(node.op, 2)):
+        operand, _, delay = line.word().partition("@")
+        node.operands.append((int(operand), int(delay or 0)))
+    if node.op in FORMATTED:
+        line.number("fmt")
+        line.word("trunc", "round")
+        line.word()
+    while line.more():
+        line.word("to")
+        file = line.word()
+        line.word("bus")
+        bus = line.word()
+        line.word("regs")
+        node.transfers.append(Transfer(file, bus, [int(register) for register in line.word().split(",")]))
+    return node
+
+
+def check(plan):
+    """Each node has its place in the period, reads nodes that are there, and goes where it is read."""
+    for number, node in enumerate(plan.nodes):
+        if node.number != number:
+            raise ValueError(f"line {number + 2}: node {node.number} in the place of node {number}")
+        if not 0 <= node.cycle <= plan.written(node) < plan.period:
+            raise ValueError(f"line {number + 2}: node {number} is not done in the period")
+        if any(not 0 <= operand < len(plan.nodes) for operand, _ in node.operands):
+            raise ValueError(f"line {number + 2}: node {number} reads a node that is not there")
+    read = readings(plan)
+    for node in plan.nodes:
+        for transfer in node.transfers:
+            if (node.number, transfer.file) not in read:
+                raise ValueError(f"node {node.number} goes to {transfer.file}, where nothing reads it")
+
+
+def latencies(nodes, datapath):
+    """The latency of each unit, by the datapath file; without one, 1."""
+    if datapath is None:
+        return {node.unit: 1 for node in nodes}
+    known = {unit["name"]: unit.get("latency", 1) for unit in datapath["unit"]}
+    for node in nodes:
+        if node.unit not in known:
+            raise ValueError(f"the datapath has no unit {node.unit}")
+    return known
+
+
+def plan_of(text, datapath=None):
+    """The plan that a text of `silc schedule` prints, on the units of a datapath file that has been read."""
+    lines = text.splitlines()
+    if not lines:
+        raise ValueError("the text is empty")
+    nodes = []
+    for number, line in enumerate(lines):
+        try:
+            if number:
+                nodes.append(node_of(line))
+            else:
+                head = Line(line)
+                period, unroll, count = head.number("period"), head.number("unroll"), head.number("nodes")
+        except ValueError as fault:
+            raise ValueError(f"line {number + 1}: {fault}") from fault
+    if count != len(nodes):
+        raise ValueError(f"line 1: {count} nodes, and {len(nodes)} lines of nodes")
+    plan = Plan(period, unroll, nodes, latencies(nodes, datapath))
+    check(plan)
+    return plan
+
+
+def readings(plan):
+    """Of each node and port the cycles of its reads, counted from the start of the sample in which it is written."""
+    made = {}
+    for reader in plan.nodes:
+        for port, (node, delay) in enumerate(reader.operands):
+            made.setdefault((node, f"{reader.unit}.{port}"), []).append(reader.cycle + delay * plan.period)
+    return made
