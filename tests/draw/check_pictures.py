@@ -1,0 +1,157 @@
+#!/usr/bin/env python3
+"""Whether the pictures of tools/draw show what the texts of schedules say: it reads both, and knows nothing of the layout.
+
+A picture's columns are found by the numbers above them, and its bars by their titles.
+"""
+import re
+import subprocess
+import sys
+import xml.etree.ElementTree as Xml
+from pathlib import Path
+
+HERE = Path(__file__).resolve().parent
+ROOT = HERE.parent.parent
+SVG = "{http://www.w3.org/2000/svg}"
+NODE = re.compile(r"node (\d+) cycle (\d+) unit (\S+) op (\S+)((?: -?\d+(?:@\d+)?)*)")
+TRANSFER = re.compile(r" to (\S+) bus (\S+) regs (\S+)")
+WITHOUT_OPERANDS = ("input", "const", "addr")
+# The texts, each with its datapath file and the latencies above 1 there.
+TEXTS = [("increment", "increment", {}), ("biquad", "biquad", {"mul": 2}), ("held", None, {}), ("long", "long", {"mul": 8}),
+         ("long", None, {})]
+
+
+class Faults(list):
+    def unless(self, holds, words):
+        if not holds:
+            self.append(words)
+
+
+def found(name, ending):
+    """A file of the docs, or else one beside this script."""
+    file = ROOT / "docs" / "pictures" / f"{name}.{ending}"
+    return file if file.exists() else HERE / f"{name}.{ending}"
+
+
+def drawn(*words):
+    done = subprocess.run([ROOT / "tools" / "draw", *words], capture_output=True, text=True, check=True)
+    return Xml.fromstring(done.stdout)
+
+
+def number(shape, *names):
+    return [float(shape.get(name)) for name in names]
+
+
+def centres(picture):
+    """Of each cycle with a number, the middle of its column and how far down the number stands."""
+    texts = [shape for shape in picture.iter(SVG + "text") if shape.get("font-size") == "10" and shape.text.isdigit()]
+    tops = {shape.get("y") for shape in picture.iter(SVG + "text") if shape.text == "cycle"}
+    return [(int(shape.text), *number(shape, "x", "y")) for shape in texts if shape.get("y") in tops]
+
+
+def bars(picture):
+    """The shapes with a title: the title, and the cycles that each covers as numbers of columns."""
+    columns = centres(picture)
+    (one, x1, _), (two, x2, _) = columns[:2]
+    step = (x2 - x1) / (two - one)
+    for shape in picture.iter(SVG + "rect"):
+        title = shape.find(SVG + "title")
+        if title is not None:
+            x, y, width, height = number(shape, "x", "y", "width", "height")
+            above = max(top for _, _, top in columns if top < y)
+            cycle, centre, _ = next(column for column in columns if column[2] == above)
+            first = cycle + (x - centre) / step + 0.5
+            yield title.text, first, first + width / step, (x, y, width, height)
+
+
+def covered(shown):
+    """The cycles that the bars with one title cover, from the first to the one behind the last."""
+    made = {}
+    for title, first, end, _ in shown:
+        made.setdefault(title, []).extend(range(round(first), round(end)))
+    return {title: sorted(cycles) for title, cycles in made.items()}
+
+
+def overlaps(shown):
+    boxes = [box for *_, box in shown]
+    return [(a, b) for k, a in enumerate(boxes) for b in boxes[:k]
+            if a[0] < b[0] + b[2] and b[0] < a[0] + a[2] and a[1] < b[1] + b[3] and b[1] < a[1] + a[3]]
+
+
+def is_inside(picture):
+    """Whether all that is written stands in the picture, by the width that its letters have at most."""
+    width, height = number(picture, "width", "height")
+    for shape in picture.iter(SVG + "text"):
+        (x, y), wide = number(shape, "x", "y"), 0.62 * float(shape.get("font-size")) * len(shape.text or "")
+        left = x - {"start": 0, "middle": wide / 2, "end": wide}[shape.get("text-anchor")]
+        if left < 0 or left + wide > width or not 0 < y < height:
+            return False
+    return True
+
+
+def check_schedule(text, latency, picture, faults):
+    shown = list(bars(picture))
+    cycles = covered(shown)
+    wanted = {}
+    for line in text.splitlines()[1:]:
+        node, cycle, unit, op, operands = NODE.match(line).groups()
+        last = int(cycle) + latency.get(unit, 1) - 1
+        when = f"cycle {cycle}" if last == int(cycle) else f"cycles {cycle} to {last}"
+        wanted[f"node {node}: {op}{operands}, on {unit} in {when}"] = list(range(int(cycle), last + 1))
+        taken = {}
+        for file, bus, registers in TRANSFER.findall(line):
+            taken.setdefault(bus, []).append(f"{file} register {registers}")
+        for bus, files in taken.items():
+            wanted[f"node {node} over {bus} in cycle {last} to {', '.join(files)}"] = [last]
+    faults.unless(set(cycles) == set(wanted), f"bars {set(cycles) ^ set(wanted)}")
+    faults.unless(all(cycles.get(title) == wanted[title] for title in wanted), "a bar covers other cycles")
+    faults.unless(not overlaps(shown), "bars on one another")
+    faults.unless(is_inside(picture), "words outside the picture")
+
+
+def lives(text, latency):
+    """Of each register, node and sample the cycles of its word, counted from the start of sample 0."""
+    period, unroll = map(int, re.match(r"period (\d+) unroll (\d+)", text).groups())
+    nodes = [(NODE.match(line).groups(), TRANSFER.findall(line)) for line in text.splitlines()[1:]]
+    for (node, cycle, unit, *_), transfers in nodes:
+        write = int(cycle) + latency.get(unit, 1) - 1
+        for file, _, registers in transfers:
+            last = 0
+            for (_, at, reader, op, operands), _ in nodes:
+                words = operands.split()[1 if op in (*WITHOUT_OPERANDS, "output") else 0 :]
+                for port, word in enumerate(words):
+                    read, _, delay = word.partition("@")
+                    if read == node and f"{reader}.{port}" == file:
+                        last = max(last, int(at) + int(delay or 0) * period)
+            copies = registers.split(",")
+            for sample in range(unroll):
+                shift = sample * period
+                yield node, file, copies[sample % len(copies)], write + 1 + shift, last + shift, period * unroll
+
+
+def check_lifetimes(text, latency, picture, faults):
+    shown = list(bars(picture))
+    wanted = {f"node {node} in {file} register {register}, cycles {first} to {last}":
+              sorted(cycle % circle for cycle in range(first, last + 1))
+              for node, file, register, first, last, circle in lives(text, latency)}
+    faults.unless(covered(shown) == wanted, f"lives {set(covered(shown)) ^ set(wanted)}")
+    faults.unless(not overlaps(shown), "two words in one register")
+    faults.unless(is_inside(picture), "words outside the picture")
+
+
+def main():
+    failed = 0
+    for name, datapath, latency in TEXTS:
+        file = found(name, "schedule")
+        words = [file, *([found(datapath, "toml")] if datapath and datapath != "increment" else [])]
+        for subject, check in (("schedule", check_schedule), ("lifetimes", check_lifetimes)):
+            faults = Faults()
+            check(file.read_text(), latency if datapath else {}, drawn(subject, *words), faults)
+            for fault in faults:
+                print(f"{subject} {name}: {fault}")
+            failed += bool(faults)
+    print(f"pictures: {2 * len(TEXTS) - failed} show what their texts say, and {failed} do not")
+    return 1 if failed else 0
+
+
+if __name__ == "__main__":
+    sys.exit(main())
