@@ -1,8 +1,9 @@
 #!/usr/bin/env python3
-"""Whether the pictures of tools/draw show what the texts of schedules say: it reads both, and knows nothing of the layout.
+"""Whether the pictures of tools/draw show what the texts of schedules say, and the responses of filters that are known.
 
-A picture's columns are found by the numbers above them, and its bars by their titles.
+It knows nothing of the layout: columns and axes are found by the numbers beside them, bars and curves by their titles.
 """
+import math
 import re
 import subprocess
 import sys
@@ -16,7 +17,7 @@ NODE = re.compile(r"node (\d+) cycle (\d+) unit (\S+) op (\S+)((?: -?\d+(?:@\d+)
 TRANSFER = re.compile(r" to (\S+) bus (\S+) regs (\S+)")
 WITHOUT_OPERANDS = ("input", "const", "addr")
 # The texts, each with its datapath file and the latencies above 1 there.
-TEXTS = [("increment", "increment", {}), ("biquad", "biquad", {"mul": 2}), ("held", None, {}), ("long", "long", {"mul": 8}),
+TEXTS = [("increment", None, {}), ("biquad", "biquad", {"mul": 2}), ("held", None, {}), ("long", "long", {"mul": 8}),
          ("long", None, {})]
 
 
@@ -32,8 +33,8 @@ def found(name, ending):
     return file if file.exists() else HERE / f"{name}.{ending}"
 
 
-def drawn(*words):
-    done = subprocess.run([ROOT / "tools" / "draw", *words], capture_output=True, text=True, check=True)
+def drawn(*words, given=""):
+    done = subprocess.run([ROOT / "tools" / "draw", *words], input=given, capture_output=True, text=True, check=True)
     return Xml.fromstring(done.stdout)
 
 
@@ -138,19 +139,61 @@ def check_lifetimes(text, latency, picture, faults):
     faults.unless(is_inside(picture), "words outside the picture")
 
 
+def scale(marks):
+    """The line through the places of an axis' numbers: a place to its number."""
+    (one, at), (two, to) = min(marks), max(marks)
+    return lambda place: one + (place - at) * (two - one) / (to - at)
+
+
+def check_response(picture, known, faults):
+    """Each point of each curve is on the one that is known, but for a tenth of a decibel and what is below the axis."""
+    texts = [shape for shape in picture.iter(SVG + "text") if shape.get("font-size") == "10"]
+    across = scale([(math.log(float(t.text)), *number(t, "x")) for t in texts if t.get("text-anchor") == "middle"])
+    levels = [(int(t.text), float(t.get("y")) - 4) for t in texts if t.get("text-anchor") == "end"]
+    down, lowest = scale(levels), min(levels)[0]
+    curves = [shape.get("d") for shape in picture.iter(SVG + "path") if shape.find(SVG + "title") is not None]
+    faults.unless(len(curves) == 2, f"{len(curves)} curves")
+    for curve in curves:
+        points = [tuple(map(float, point.split())) for point in curve[1:].split(" L")]
+        for x, y in points:
+            wanted = max(20 * math.log10(max(known(math.exp(across(x))), 1e-9)), lowest)
+            if abs(down(y) - wanted) > 0.1 + (0.02 * abs(wanted) if wanted < -20 else 0):
+                faults.append(f"{down(y):.2f} dB in the place of {wanted:.2f}")
+                break
+    faults.unless(is_inside(picture), "words outside the picture")
+
+
+# Filters whose response is known: rows on an impulse, the word for a gain of 1, the design, the magnitude.
+RESPONSES = {
+    "sum of two": ("1\n1\n", "1", "1,1", lambda share: 2 * math.cos(math.pi * share)),
+    "one pole": ("".join(f"{2**30 >> k},0\n" for k in range(31)), str(2**30), "1;-0.5",
+                 lambda share: 1 / math.sqrt(1.25 - math.cos(2 * math.pi * share))),
+    "delay": ("0\n0\n-5\n", "10", "0,0,-0.5", lambda share: 0.5),
+}
+
+
+def judged(name, check, *given):
+    """Whether a picture is as it should be; what is wrong is printed."""
+    faults = Faults()
+    check(*given, faults)
+    for fault in faults:
+        print(f"{name}: {fault}")
+    return not faults
+
+
 def main():
-    failed = 0
+    right = []
     for name, datapath, latency in TEXTS:
         file = found(name, "schedule")
-        words = [file, *([found(datapath, "toml")] if datapath and datapath != "increment" else [])]
+        words = [file, *([found(datapath, "toml")] if datapath else [])]
         for subject, check in (("schedule", check_schedule), ("lifetimes", check_lifetimes)):
-            faults = Faults()
-            check(file.read_text(), latency if datapath else {}, drawn(subject, *words), faults)
-            for fault in faults:
-                print(f"{subject} {name}: {fault}")
-            failed += bool(faults)
-    print(f"pictures: {2 * len(TEXTS) - failed} show what their texts say, and {failed} do not")
-    return 1 if failed else 0
+            picture = drawn(subject, *words)
+            right.append(judged(f"{subject} {name}", check, file.read_text(), latency if datapath else {}, picture))
+    for name, (rows, unit, design, known) in RESPONSES.items():
+        picture = drawn("response", "-", unit, design, given=rows)
+        right.append(judged(f"response {name}", check_response, picture, known))
+    print(f"pictures: {right.count(True)} show what they should, and {right.count(False)} do not")
+    return 1 if False in right else 0
 
 
 if __name__ == "__main__":

@@ -43,6 +43,12 @@ class Picture:
         self.lines.append(f"<line x1='{x1:g}' y1='{y1:g}' x2='{x2:g}' y2='{y2:g}' stroke='{colour}' "
                           f"stroke-width='{width}'/>")
 
+    def curve(self, points, colour, width, dashes="", title=""):
+        path = " L".join(f"{x:.1f} {y:.1f}" for x, y in points)
+        named = f"><title>{escape(title)}</title></path>" if title else "/>"
+        self.lines.append(f"<path d='M{path}' fill='none' stroke='{colour}' stroke-width='{width}' "
+                          f"stroke-dasharray='{dashes or 'none'}'{named}")
+
     def dot(self, x, y, colour):
         self.lines.append(f"<circle cx='{x:g}' cy='{y:g}' r='4' fill='{colour}'/>")
 
