@@ -51,8 +51,21 @@ def text_of(rows):
     return "".join(",".join(map(str, row)) + "\n" for row in rows)
 
 
-def main(folder, samples, rows):
-    """Writes the samples and the expected rows of an example, or with --check compares them with those that stand there."""
+def ratio(words, reals):
+    """How many decibels the words are above their difference from real numbers, both in units of the last bit."""
+    noise_power = sum((word - real) ** 2 for word, real in zip(words, reals, strict=True))
+    return 10 * math.log10(sum(real**2 for real in reals) / noise_power)
+
+
+def main(folder, samples, rows, compared):
+    """Writes the samples and the expected rows of an example, or with --check compares them with those that stand there.
+
+    With --ratio it prints the signal-to-noise ratio in decibels of the words against the real numbers that `compared`
+    gives.
+    """
+    if sys.argv[1:] == ["--ratio"]:
+        print(f"{ratio(*compared()):.1f}")
+        return
     made = {"samples.txt": text_of(samples), "expected.txt": text_of(rows)}
     if sys.argv[1:] == ["--check"]:
         wrong = [name for name, text in made.items() if (folder / name).read_text() != text]
@@ -60,7 +73,7 @@ def main(folder, samples, rows):
             print(f"{folder.name}: {name} is not what this script computes", file=sys.stderr)
         sys.exit(1 if wrong else 0)
     if sys.argv[1:]:
-        sys.exit("usage: expected.py [--check]")
+        sys.exit("usage: expected.py [--check | --ratio]")
     for name, text in made.items():
         (folder / name).write_text(text)
 

@@ -1,7 +1,7 @@
 #!/usr/bin/env python3
 """Computes the coefficients, the samples and the expected rows of this example.
 
-usage: expected.py [--check]
+usage: expected.py [--check | --ratio]
 """
 import math
 import sys
@@ -14,30 +14,48 @@ import fixed  # noqa: E402
 SECTIONS, CUTOFF, RATE = 3, 1000, 8000
 
 
-def sections():
-    """Of each section b[0..2] and a[0..1] by the bilinear transform, as raw words of fix<16,14>."""
+def design():
+    """Of each section b[0..2] and a[0..1] by the bilinear transform."""
     warped = math.tan(math.pi * CUTOFF / RATE)
     for k in range(SECTIONS):
         damping = 2 * math.cos(math.pi * (2 * k + 1) / (4 * SECTIONS))
         scale = 1 / (1 + warped * damping + warped**2)
         low = warped**2 * scale
         a = (2 * (warped**2 - 1) * scale, (1 - warped * damping + warped**2) * scale)
-        yield [[fixed.literal(c, 16, 14) for c in part] for part in ((low, 2 * low, low), a)]
+        yield (low, 2 * low, low), a
 
 
-def section(b, a, words):
+def sections():
+    """The same as raw words of fix<16,14>."""
+    for parts in design():
+        yield [[fixed.literal(c, 16, 14) for c in part] for part in parts]
+
+
+def rounded(exact):
+    return fixed.quantised(fixed.number(exact, 28), 16, 14, fixed.ROUND)
+
+
+def section(b, a, words, result):
     x1 = x2 = y1 = y2 = 0
     for x in words:
-        exact = fixed.number(b[0] * x + b[1] * x1 + b[2] * x2 - a[0] * y1 - a[1] * y2, 28)
-        x1, x2, y1, y2 = x, x1, fixed.quantised(exact, 16, 14, fixed.ROUND), y1
-        yield y1
+        y = result(b[0] * x + b[1] * x1 + b[2] * x2 - a[0] * y1 - a[1] * y2)
+        x1, x2, y1, y2 = x, x1, y, y1
+        yield y
 
 
 def filtered(words):
     words = [fixed.quantised(fixed.number(word, 15), 16, 14, fixed.ROUND) for word in words]
     for b, a in sections():
-        words = list(section(b, a, words))
-    return [(word,) for word in words]
+        words = list(section(b, a, words, rounded))
+    return words
+
+
+def real(words):
+    """The output of the design, in units of its last bit."""
+    words = [word / 2 for word in words]
+    for b, a in design():
+        words = list(section(b, a, words, lambda exact: exact))
+    return words
 
 
 def samples():
@@ -48,4 +66,5 @@ def samples():
 
 if __name__ == "__main__":
     words = samples()
-    fixed.main(FOLDER, [(word,) for word in words], filtered(words))
+    rows = filtered(words)
+    fixed.main(FOLDER, [(word,) for word in words], [(word,) for word in rows], lambda: (rows, real(words)))

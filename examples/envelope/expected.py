@@ -1,7 +1,7 @@
 #!/usr/bin/env python3
 """Computes the samples and the expected rows of this example.
 
-usage: expected.py [--check]
+usage: expected.py [--check | --ratio]
 """
 import math
 import sys
@@ -27,6 +27,14 @@ def followed(words):
         yield out, is_over
 
 
+def design(words):
+    """The levels in real numbers, in units of the last bit."""
+    level = 0.0
+    for x in words:
+        level += (abs(x) - level) * (0.25 if abs(x) > level else 0.005)
+        yield level
+
+
 def samples():
     """Silence, a loud tone, a soft tone, the two ends of the range, silence."""
     loud = [round(30000 * math.sin(2 * math.pi * n / 16)) for n in range(96)]
@@ -36,4 +44,5 @@ def samples():
 
 if __name__ == "__main__":
     words = samples()
-    fixed.main(FOLDER, [(word,) for word in words], list(followed(words)))
+    rows = list(followed(words))
+    fixed.main(FOLDER, [(word,) for word in words], rows, lambda: ([level for level, _ in rows], list(design(words))))

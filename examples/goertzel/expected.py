@@ -1,7 +1,7 @@
 #!/usr/bin/env python3
 """Computes the coefficient, the samples and the expected rows of this example.
 
-usage: expected.py [--check]
+usage: expected.py [--check | --ratio]
 """
 import math
 import sys
@@ -30,6 +30,13 @@ def power_of(block):
     return fixed.wrap(sum(squares) - both, 32)
 
 
+def real_power_of(block):
+    """The same by a Fourier sum in real numbers, in units of the last bit."""
+    parts = [sum(x / 2**15 * wave(2 * math.pi * TONE * n / RATE) for n, x in enumerate(block))
+             for wave in (math.cos, math.sin)]
+    return (parts[0] ** 2 + parts[1] ** 2) * 2**14
+
+
 def decided(words):
     power = 0
     for n in range(len(words)):
@@ -50,4 +57,6 @@ def samples():
 
 if __name__ == "__main__":
     words = samples()
-    fixed.main(FOLDER, [(word,) for word in words], list(decided(words)))
+    blocks = [words[start : start + BLOCK] for start in range(0, len(words), BLOCK)]
+    fixed.main(FOLDER, [(word,) for word in words], list(decided(words)),
+               lambda: ([power_of(block) for block in blocks], [real_power_of(block) for block in blocks]))

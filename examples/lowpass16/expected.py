@@ -1,7 +1,7 @@
 #!/usr/bin/env python3
 """Computes the coefficients, the samples and the expected rows of this example.
 
-usage: expected.py [--check]
+usage: expected.py [--check | --ratio]
 """
 import math
 import sys
@@ -14,21 +14,27 @@ import fixed  # noqa: E402
 TAPS, CUTOFF, RATE = 16, 1000, 8000
 
 
-def coefficients():
-    """A sinc of the cutoff under a Hamming window, scaled to a sum of 1, as raw words of fix<16,15>."""
+def design():
+    """A sinc of the cutoff under a Hamming window, scaled to a sum of 1."""
     middle, share = (TAPS - 1) / 2, CUTOFF / RATE
     taps = []
     for k in range(TAPS):
         window = 0.54 - 0.46 * math.cos(2 * math.pi * k / (TAPS - 1))
         taps.append(window * math.sin(2 * math.pi * share * (k - middle)) / (math.pi * (k - middle)))
-    return [fixed.literal(tap / sum(taps), 16, 15) for tap in taps]
+    return [tap / sum(taps) for tap in taps]
 
 
-def filtered(taps, words):
+def coefficients():
+    return [fixed.literal(tap, 16, 15) for tap in design()]
+
+
+def sums(taps, words):
     past = [0] * (TAPS - 1) + words
-    for n in range(len(words)):
-        exact = sum(fixed.number(tap * past[n + TAPS - 1 - k], 30) for k, tap in enumerate(taps))
-        yield (fixed.quantised(exact, 16, 15, fixed.ROUND),)
+    return [sum(tap * past[n + TAPS - 1 - k] for k, tap in enumerate(taps)) for n in range(len(words))]
+
+
+def filtered(words):
+    return [fixed.quantised(fixed.number(exact, 30), 16, 15, fixed.ROUND) for exact in sums(coefficients(), words)]
 
 
 def samples():
@@ -39,4 +45,5 @@ def samples():
 
 if __name__ == "__main__":
     words = samples()
-    fixed.main(FOLDER, [(word,) for word in words], list(filtered(coefficients(), words)))
+    rows = filtered(words)
+    fixed.main(FOLDER, [(word,) for word in words], [(word,) for word in rows], lambda: (rows, sums(design(), words)))

@@ -1,7 +1,7 @@
 #!/usr/bin/env python3
 """Computes the samples and the expected rows of this example.
 
-usage: expected.py [--check]
+usage: expected.py [--check | --ratio]
 """
 import math
 import sys
@@ -23,6 +23,13 @@ def compressed(sample):
     return fixed.wrap(byte ^ 255, 8)
 
 
+def expanded(code):
+    """The sample in the middle of those that have a code."""
+    byte = code % 256 ^ 255
+    size = ((byte & 15) * 2 + BIAS << (byte >> 4 & 7)) - BIAS
+    return -size if byte & 128 else size
+
+
 def samples():
     """Each border of a segment with the samples beside it, both ends, a tone that decays, and noise."""
     borders = [sign * ((1 << k) - BIAS + d) for k in range(6, 14) for d in (-1, 0, 1) for sign in (1, -1)]
@@ -33,4 +40,5 @@ def samples():
 
 if __name__ == "__main__":
     words = samples()
-    fixed.main(FOLDER, [(word,) for word in words], [(compressed(word),) for word in words])
+    rows = [(compressed(word),) for word in words]
+    fixed.main(FOLDER, [(word,) for word in words], rows, lambda: ([expanded(code) for (code,) in rows], words))
