@@ -1,0 +1,81 @@
+#!/usr/bin/env python3
+"""Whether the grammars in editor/ have the words and symbols of the language, and give each part of the examples a colour.
+
+usage: tests/check_editor.py
+"""
+import json
+import re
+import sys
+from pathlib import Path
+
+ROOT = Path(__file__).resolve().parent.parent
+TEXTS = ROOT / "crates" / "silage_lex" / "specs" / "Texts.antt"
+GRAMMAR = ROOT / "editor" / "vscode" / "syntaxes" / "silc.tmLanguage.json"
+VIM = ROOT / "editor" / "vim" / "syntax" / "silc.vim"
+
+
+def texts(name):
+    """A list of texts by its definition."""
+    body = re.search(rf"\n{name} =\n(.*?)∷ \[\]", TEXTS.read_text(), re.S)[1]
+    return re.findall(r'codes "([^"]+)"', body)
+
+
+def rules(grammar):
+    """The patterns of a grammar in their order, as scopes with what they match."""
+    waiting, made = list(grammar["patterns"]), []
+    while waiting:
+        rule = waiting.pop(0)
+        if "include" in rule:
+            waiting.insert(0, grammar["repository"][rule["include"][1:]])
+        elif "patterns" in rule:
+            waiting[:0] = rule["patterns"]
+        elif "begin" in rule:
+            made.append((rule["name"], re.compile(f"{rule['begin']}.*?{rule['end']}", re.S)))
+        else:
+            made.append((rule.get("name", "captures"), re.compile(rule["match"])))
+    return made
+
+
+def coloured(text, patterns):
+    """What the grammar makes of a text: scopes and parts, with an empty scope for a part that no pattern matches."""
+    place, made = 0, []
+    while place < len(text):
+        found = [(match.start(), number, match) for number, (_, pattern) in enumerate(patterns)
+                 if (match := pattern.search(text, place))]
+        start, number, match = min(found, default=(len(text), 0, None))
+        if text[place:start].strip():
+            made.append(("", text[place:start].strip()))
+        if match:
+            made.append((patterns[number][0], match[0]))
+        place = match.end() if match else len(text)
+    return made
+
+
+def vim_words():
+    lines = re.findall(r"^syntax keyword (?!silcTodo)\S+ (.*)$", VIM.read_text(), re.M)
+    return {word for line in lines for word in line.split()}
+
+
+def main():
+    words, symbols = texts("reserved_words"), texts("symbols")
+    patterns = rules(json.loads(GRAMMAR.read_text()))
+    faults = []
+    for word in words:
+        if [scope for scope, _ in coloured(word, patterns)] == ["variable.other.silc"]:
+            faults.append(f"{word} is a name in the grammar")
+    for symbol in symbols:
+        if [part for scope, part in coloured(symbol, patterns) if scope] != [symbol]:
+            faults.append(f"{symbol} is no symbol in the grammar")
+    if vim_words() != set(words):
+        faults.append(f"Vim's words differ: {sorted(vim_words() ^ set(words))}")
+    for source in sorted(ROOT.glob("examples/*/*.sil")):
+        for scope, part in coloured(source.read_text(), patterns):
+            if scope in ("", "invalid.illegal.silc"):
+                faults.append(f"{source.name}: {part!r} has no colour")
+    for fault in faults:
+        print(fault)
+    return 1 if faults else 0
+
+
+if __name__ == "__main__":
+    sys.exit(main())
