@@ -109,13 +109,17 @@ def check(plan):
 
 
 def latencies(nodes, datapath):
-    """The latency of each unit, by the datapath file; without one, 1."""
+    """The latency of each unit, by the datapath file, which has all that the nodes name; without one, 1."""
     if datapath is None:
         return {node.unit: 1 for node in nodes}
     known = {unit["name"]: unit.get("latency", 1) for unit in datapath["unit"]}
+    buses = {bus["name"] for bus in datapath["bus"]}
+    ports = {f"{unit['name']}.{port}" for unit in datapath["unit"] for port in range(len(unit.get("files", [])))}
     for node in nodes:
-        if node.unit not in known:
-            raise ValueError(f"the datapath has no unit {node.unit}")
+        transfers = [named for to in node.transfers for named in (("bus", to.bus, buses), ("port", to.file, ports))]
+        for what, name, there in [("unit", node.unit, known), *transfers]:
+            if name not in there:
+                raise ValueError(f"the datapath has no {what} {name}")
     return known
 
 
