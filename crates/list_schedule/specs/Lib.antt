@@ -1,0 +1,2 @@
+pub mod Schedulable
+pub mod Faults
