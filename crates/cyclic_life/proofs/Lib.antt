@@ -1,0 +1,6 @@
+pub mod LastReads
+pub mod ReadOrder
+pub mod Placements
+pub mod Counts
+pub mod ArcsOfReads
+pub mod CopiesOne

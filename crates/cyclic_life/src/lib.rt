@@ -2,8 +2,11 @@
 //! written to its last read. Page `docs/PLANNING.md`, "Lifetimes".
 #![tactic(auto)]
 
-mod arcs;
 mod fault;
+mod life;
+mod merge;
+mod placement;
+mod read;
 
-pub use arcs::arcs;
 pub use fault::ArcFault;
+pub use life::arcs;

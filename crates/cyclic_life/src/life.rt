@@ -7,12 +7,16 @@ ghost use Rattle.plan_core.specs.Arcs.{IsArcs};
 ghost use Rattle.cyclic_life.specs.Held.{IsHeld};
 
 use crate::fault::ArcFault;
+use crate::merge::lifetimes;
+use crate::placement::Placement;
+use crate::read::sort;
 use datapath::Datapath;
 use plan_core::{Arcs, Assigned, Schedule};
 use std::alloc::Global;
 
 /// For each node and each port that reads it the lifetime of the node's words there, in cycles, by unit, port, the cycle
-/// of the write, then node. Page `docs/PLANNING.md`, "Lifetimes".
+/// of the write, then node. Takes time in proportion to the edges and the logarithm of their number. Page
+/// `docs/PLANNING.md`, "Lifetimes".
 ///
 /// # Errors
 ///
@@ -28,5 +32,12 @@ pub fn arcs(
     requires schedule { IsListSchedule datapath.now assigned.now schedule.now }
     ensures { IfOk result (IsArcs datapath.now assigned.now schedule.now) }
 {
-    Err(ArcFault::Memory)
+    let placement = Placement {
+        datapath,
+        assigned,
+        schedule,
+    };
+    let mut reads = placement.reads(alloc)?;
+    sort(&mut reads);
+    Ok(lifetimes(alloc, reads.as_slice(), datapath.period)?)
 }

@@ -1,0 +1,37 @@
+use Rattle.std.proofs.Common.{◌≡◌, ◌∙◌, ◌<◌, sym, ap, subst, List}
+use Rattle.std.specs.Prelude.{map, All}
+use Rattle.plan_core.specs.Arcs.{IsArcs}
+use Rattle.plan_core.specs.declared.registers.Arc.{Arc}
+use Rattle.cyclic_life.specs.Private.Reads.{arc_to, lasts}
+use Rattle.cyclic_life.specs.declared.read.Read.{Read}
+use Rattle.cyclic_life.proofs.Placements.{placement}
+use Rattle.cyclic_life.proofs.ArcsOfReads.{reads_written, reads_permuted, arcs_are}
+use Rattle.cyclic_life.proofs.life.arcs.Goals as goal
+
+pub reads-requires : goal.reads-requires
+reads-requires c =
+    placement c.args.datapath.now c.args.assigned.now c.args.schedule.now c.requires.datapath c.requires.held
+    c.requires.schedule
+
+pub lifetimes-requires-clause-w : goal.lifetimes-requires-clause-w
+lifetimes-requires-clause-w c =
+    let d = c.args.datapath.now in
+    let a = c.args.assigned.now in
+    let s = c.args.schedule.now in
+    let sorted = c.sort.new.reads.items in
+    subst (λ (reads : List Read). All (λ (read : Read). read.w < 4096) reads) (sym c.as_slice.ensures.value)
+    (reads_written d a s (placement d a s c.requires.datapath c.requires.held c.requires.schedule) sorted
+    (reads_permuted d a s c.in_ok-reads.reads.items sorted c.sort.ensures.permutation c.in_ok-reads.ensures))
+
+pub returns : goal.returns
+returns c =
+    let d = c.args.datapath.now in
+    let a = c.args.assigned.now in
+    let s = c.args.schedule.now in
+    let sorted = c.sort.new.reads.items in
+    subst (λ (arcs : List Arc). IsArcs d a s arcs)
+    (sym (c.in_ok-lifetimes.ensures
+    ∙ ap (λ (reads : List Read). map (arc_to d.period) (lasts reads)) c.as_slice.ensures.value))
+    (arcs_are d a s (placement d a s c.requires.datapath c.requires.held c.requires.schedule) sorted
+    (reads_permuted d a s c.in_ok-reads.reads.items sorted c.sort.ensures.permutation c.in_ok-reads.ensures)
+    c.sort.ensures.order)
