@@ -81,8 +81,8 @@ lasts_greatest (x ∷ y ∷ ys) order =
     let more : All (IsGreatest (x ∷ y ∷ ys)) (lasts (y ∷ ys)) =
     λ k d there.
     let z : Read = get_or (lasts (y ∷ ys)) k d in
-    All-cons (λ (u : Read). is_alike u z ≡ true → u.r ≤ z.r) x (y ∷ ys) (alike_later x _ (lasts_keep (IsUpTo x) (y ∷ ys) from_x k d there))
-    (rest k d there)
+    All-cons (λ (u : Read). is_alike u z ≡ true → u.r ≤ z.r) x (y ∷ ys)
+    (alike_later x _ (lasts_keep (IsUpTo x) (y ∷ ys) from_x k d there)) (rest k d there)
     in
     chosen (All (IsGreatest (x ∷ y ∷ ys))) (is_alike x y) (lasts (y ∷ ys)) (x ∷ lasts (y ∷ ys)) (λ _. more)
     (λ unlike.
@@ -108,7 +108,11 @@ every_more : (x y : Read) (ys : List Read) → HasLast (y ∷ ys) y → All (Has
 every_more x y ys of_y rest true is =
     let same : lasts (x ∷ y ∷ ys) ≡ lasts (y ∷ ys) = rw is in
     let more : (z : Read) → HasLast (y ∷ ys) z → HasLast (x ∷ y ∷ ys) z =
-    λ z h. record { last = h.last; there = subst (λ (l : List Read). Contains l h.last) (sym same) h.there; alike = h.alike }
+    λ z h. record {
+      last = h.last;
+      there = subst (λ (l : List Read). Contains l h.last) (sym same) h.there;
+      alike = h.alike;
+    }
     in
     All-cons (HasLast (x ∷ y ∷ ys)) x (y ∷ ys)
     (more x (record { last = of_y.last; there = of_y.there; alike = alike_chain x y of_y.last is of_y.alike }))

@@ -96,8 +96,8 @@ placement d a s is held schedule =
       ends_within = λ v there. (schedule.placed v there).can.fits.period;
       ports = λ c there.
           let few = operands_few (node_of nodes c).op in
-          let count = All-get_or (λ (node : Node). length node.edges ≡ operands node.op) nodes c no_node there held.edge_count
-          in
+          let count =
+          All-get_or (λ (node : Node). length node.edges ≡ operands node.op) nodes c no_node there held.edge_count in
           omega arith;
       operands = λ c q v reads.
           subst (λ (u : ℕ). u < length nodes) reads.node
@@ -112,7 +112,8 @@ module _ (d : Datapath) (a : Assigned) (s : Schedule) where
       → e ≡ slice_index_or n.edges q e → (e.node < length a.lowered.nodes) × (e.delay ≤ 3)
   read_edge placed c q n e there port n_is e_is =
       let edge = edge_is a.lowered.nodes c q n e there port n_is e_is in
-      let reads : Reads a.lowered.nodes c q e.node = record { port = port; node = sym (ap (λ (x : Edge). x.node) edge) } in (
+      let node = sym (ap (λ (x : Edge). x.node) edge) in
+      let reads : Reads a.lowered.nodes c q e.node = record { port = port; node = node } in (
         placed.operands c q e.node reads,
         subst (λ (x : Edge). x.delay ≤ 3) (sym edge) (placed.delays c q e.node reads),
       )
@@ -137,8 +138,8 @@ module _ (d : Datapath) (a : Assigned) (s : Schedule) where
     });
     every = λ e p u place reads_u.
         let old = λ (before_it : (e < c) ⊎ ((e ≡ c) × (p < q))).
-        Contains-append_left reads (read_of d a s c q v ∷ []) (read_of d a s e p u) (before.every e p u before_it reads_u)
-        in
+        Contains-append_left reads (read_of d a s c q v ∷ []) (read_of d a s e p u)
+        (before.every e p u before_it reads_u) in
         ⊎_elim (λ (less : e < c). old (inl less))
         (λ (here : (e ≡ c) × (p < q + 1)).
         ⊎_elim (λ (below : p < q). old (inr (here.0, below)))

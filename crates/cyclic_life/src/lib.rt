@@ -1,5 +1,5 @@
-//! The lifetimes of words in register files: for each node and each port that reads it, from the cycle in which a word is
-//! written to its last read. Page `docs/PLANNING.md`, "Lifetimes".
+//! The lifetimes of words in register files: for each node and each port that reads it, from the cycle in which a word
+//! is written to its last read. Page `docs/PLANNING.md`, "Lifetimes".
 #![tactic(auto)]
 
 mod fault;

@@ -14,8 +14,8 @@ use datapath::Datapath;
 use plan_core::{Arcs, Assigned, Schedule};
 use std::alloc::Global;
 
-/// For each node and each port that reads it the lifetime of the node's words there, in cycles, by unit, port, the cycle
-/// of the write, then node. Takes time in proportion to the edges and the logarithm of their number. Page
+/// For each node and each port that reads it the lifetime of the node's words there, in cycles, by unit, port, the
+/// cycle of the write, then node. Takes time in proportion to the edges and the logarithm of their number. Page
 /// `docs/PLANNING.md`, "Lifetimes".
 ///
 /// # Errors

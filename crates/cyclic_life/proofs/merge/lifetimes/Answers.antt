@@ -18,7 +18,8 @@ loop-index-preserved c =
           taken_last arc reads c.loop-index.index no_read c.loop-index.arcs c.if-is_last.arcs (map arc (lasts reads))
           w.if-is_last.ensures c.loop-index.invariant is
       | else-is_last w ↦
-          subst (λ (l : List Arc). l ++ map arc (lasts (drop (c.loop-index.index + 1) reads)) ≡ map arc (lasts reads)) (sym w.arcs-is)
+          let left = map arc (lasts (drop (c.loop-index.index + 1) reads)) in
+          subst (λ (l : List Arc). l ++ left ≡ map arc (lasts reads)) (sym w.arcs-is)
           (passed arc reads c.loop-index.index no_read c.loop-index.arcs (map arc (lasts reads)) w.if-is_last.ensures
           c.loop-index.invariant)
     ]
