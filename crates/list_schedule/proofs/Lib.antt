@@ -1,0 +1,9 @@
+pub mod Problems
+pub mod Searches
+pub mod Raising
+pub mod Agreeing
+pub mod Ranks
+pub mod PortSets
+pub mod Readers
+pub mod Placings
+pub mod OneFault

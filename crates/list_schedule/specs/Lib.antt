@@ -1,2 +1,3 @@
 pub mod Schedulable
 pub mod Faults
+pub mod Private

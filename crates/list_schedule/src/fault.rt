@@ -1,5 +1,6 @@
 //! Why a node has no cycle.
 
+use bus_alloc::TableFault;
 use std::alloc::{AllocError, AllocFailed};
 use thiserror::Error;
 
@@ -32,6 +33,17 @@ impl From<AllocError> for PeriodFault {
     ghost from_gives = { λ _ fault. fault ≡ Memory };
 
     fn from(_: AllocError) -> PeriodFault {
+        PeriodFault::Memory
+    }
+}
+
+impl From<TableFault> for PeriodFault {
+    ghost use Rattle.std.specs.Prelude.{◌≡◌};
+    ghost use Rattle.list_schedule.specs.declared.fault.PeriodFault.TheVariants.{Memory};
+
+    ghost from_gives = { λ _ fault. fault ≡ Memory };
+
+    fn from(_: TableFault) -> PeriodFault {
         PeriodFault::Memory
     }
 }

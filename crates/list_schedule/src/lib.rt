@@ -2,8 +2,15 @@
 //! and its result can be transferred to every port that reads it. Page `docs/PLANNING.md`, "Cycles".
 #![tactic(auto)]
 
+mod destinations;
 mod fault;
-mod schedule;
+mod heights;
+mod order;
+mod placing;
+mod ports;
+mod problem;
+mod scheduler;
+mod search;
 
 pub use fault::PeriodFault;
-pub use schedule::schedule;
+pub use scheduler::schedule;

@@ -9,7 +9,11 @@ ghost use Rattle.list_schedule.specs.Faults.{IsPeriodFault};
 ghost use Rattle.list_schedule.specs.declared.fault.PeriodFault as of_fault;
 ghost use Rattle.list_schedule.specs.declared.fault.PeriodFault.TheVariants.{Memory};
 
+use crate::destinations::readers_of;
 use crate::fault::PeriodFault;
+use crate::order::placing_order;
+use crate::placing::slots_of;
+use crate::problem::Problem;
 use datapath::Datapath;
 use plan_core::{Assigned, Schedule};
 use std::alloc::Global;
@@ -37,5 +41,9 @@ pub fn schedule(
     ensures refused { (fault : of_fault.PeriodFault) → IsPeriodFault datapath.now assigned.now fault
         → (result ≡ Err fault) ⊎ (result ≡ Err Memory) }
 {
-    Err(PeriodFault::Memory)
+    let problem = Problem { datapath, assigned };
+    let order = placing_order(alloc, &problem)?;
+    let readers = readers_of(alloc, &problem)?;
+    let slots = slots_of(alloc, &problem, &order, &readers)?;
+    Ok(Schedule { slots })
 }

@@ -1,0 +1,83 @@
+-- A graph has one schedule or one fault, and not both.
+use Rattle.std.proofs.Common.{◌≡◌, ◌⊎◌, ◌∙◌, sym, ap, subst, refl, inl, inr, ⊎_elim, ℕ, ◌<◌, ◌≤◌, List, length, Result, Ok, Err}
+use Rattle.datapath.specs.Allowed.{IsDatapath}
+use Rattle.datapath.specs.declared.types.Datapath.{Datapath}
+use Rattle.plan_core.specs.Hardware.{latency_on}
+use Rattle.plan_core.specs.Operands.{Reads}
+use Rattle.plan_core.specs.Heights.{AreHeights}
+use Rattle.plan_core.specs.ListSchedule.{cycle_of, IsEarlier, IsPlaced, IsListSchedule}
+use Rattle.plan_core.specs.Refusals.{IsWithoutCycle}
+use Rattle.plan_core.specs.declared.schedule.Assigned.{Assigned}
+use Rattle.plan_core.specs.declared.schedule.Schedule.{Schedule}
+use Rattle.plan_core.proofs.OneSchedule.{one_schedule, live_of}
+use Rattle.list_schedule.specs.Private.Problem.{IsProblem}
+use Rattle.list_schedule.specs.Faults.{IsPeriodFault}
+use Rattle.list_schedule.specs.declared.fault.PeriodFault.{PeriodFault}
+use Rattle.list_schedule.specs.declared.fault.PeriodFault.TheVariants.{Period, Memory}
+use Rattle.list_schedule.proofs.Agreeing.{earlier_trans, one_first, earlier_same, can_same, one_slot}
+use Rattle.list_schedule.proofs.Problems.{operand_in}
+
+module _ (d : Datapath) (a : Assigned) (is : IsProblem d a) where
+  live : (u : ℕ) → 1 ≤ latency_on d u
+  live u = live_of d is.path u
+
+  inside : (v q x : ℕ) → Reads a.lowered.nodes v q x → x < length a.lowered.nodes
+  inside v q x r = operand_in d a is v q x r
+
+  -- the node without a cycle has no place in another schedule in which the nodes before it have theirs
+  refuted : (v : ℕ) → IsWithoutCycle d a v → (z : Schedule) (h : ℕ → ℕ) → AreHeights d a h
+      → ((u : ℕ) → IsEarlier a h v u → IsPlaced d a z h u) → IsPlaced d a z h v → ⊥
+  refuted v w z h hs before here =
+      let agree = λ (u : ℕ) (r : IsEarlier a h v u).
+      one_slot d a live inside z w.schedule h w.height hs w.heights (IsEarlier a h v)
+      (λ x y has e. earlier_trans a h v x y has e) (λ x there has. before x has)
+      (λ x there has. w.before x (earlier_same d a live w.height h w.heights hs v x w.there has)) u r.node r in
+      w.none (cycle_of z v)
+      (can_same d a live inside z w.schedule h w.height hs w.heights v w.there
+      (λ u r. agree u (earlier_same d a live h w.height hs w.heights v u w.there r)) (cycle_of z v) here.can)
+
+  pub scheduled_or_not : (s : Schedule) → IsListSchedule d a s → (fault : PeriodFault) → IsPeriodFault d a fault → ⊥
+  scheduled_or_not s x (Period v) w =
+      refuted v w s x.height x.heights (λ u r. x.placed u r.node) (x.placed v w.there)
+  scheduled_or_not s x Memory w = w
+
+  same-node : (v u : ℕ) → IsWithoutCycle d a v → IsWithoutCycle d a u → v ≡ u
+  same-node v u x y =
+      ⊎_elim (λ first. absurd (earlier-refuted v u x y (record { node = x.there; before = first })))
+      (λ rest. ⊎_elim (λ same. same)
+      (λ second. absurd (earlier-refuted u v y x
+      (earlier_same d a live x.height y.height x.heights y.heights v u x.there
+      (record { node = y.there; before = second })))) rest)
+      (one_first a y.height v u)
+    where
+      earlier-refuted : (v u : ℕ) → IsWithoutCycle d a v → (y : IsWithoutCycle d a u) → IsEarlier a y.height u v → ⊥
+      earlier-refuted v u x y r =
+          refuted v x y.schedule y.height y.heights (λ w e. y.before w (earlier_trans a y.height u v w r e))
+          (y.before v r)
+
+  pub one_fault : (f g : PeriodFault) → IsPeriodFault d a f → IsPeriodFault d a g → f ≡ g
+  one_fault (Period v) (Period u) x y = ap Period (same-node v u x y)
+  one_fault (Period v) Memory x y = absurd y
+  one_fault Memory g x y = absurd x
+
+  module _ (r : Result Schedule PeriodFault) where
+    pub ok_found : (s : Schedule) → r ≡ Ok s → IsListSchedule d a s → (z : Schedule) → IsListSchedule d a z
+        → (r ≡ Ok z) ⊎ (r ≡ Err Memory)
+    ok_found s same s_is z z_is =
+        inl (same ∙ ap (λ (x : Schedule). Ok x) (one_schedule d a live inside s z s_is z_is))
+
+    pub ok_refused : (s : Schedule) → IsListSchedule d a s → (fault : PeriodFault) → IsPeriodFault d a fault
+        → (r ≡ Err fault) ⊎ (r ≡ Err Memory)
+    ok_refused s s_is fault h = absurd (scheduled_or_not s s_is fault h)
+
+    pub err_found : (f : PeriodFault) → r ≡ Err f → (f ≡ Memory) ⊎ IsPeriodFault d a f → (z : Schedule)
+        → IsListSchedule d a z → (r ≡ Ok z) ⊎ (r ≡ Err Memory)
+    err_found f same why z z_is =
+        ⊎_elim (λ (e : f ≡ Memory). inr (same ∙ ap (λ (x : PeriodFault). Err x) e))
+        (λ (h : IsPeriodFault d a f). absurd (scheduled_or_not z z_is f h)) why
+
+    pub err_refused : (f : PeriodFault) → r ≡ Err f → (f ≡ Memory) ⊎ IsPeriodFault d a f → (fault : PeriodFault)
+        → IsPeriodFault d a fault → (r ≡ Err fault) ⊎ (r ≡ Err Memory)
+    err_refused f same why fault h =
+        ⊎_elim (λ (e : f ≡ Memory). inr (same ∙ ap (λ (x : PeriodFault). Err x) e))
+        (λ (g : IsPeriodFault d a f). inl (same ∙ ap (λ (x : PeriodFault). Err x) (one_fault f fault g h))) why

@@ -1,0 +1,424 @@
+-- The nodes that are placed so far, and one more.
+use Rattle.std.proofs.Common.{◌≡◌, ◌≢◌, ◌∙◌, ◌↔◌, refl, sym, ap, subst, arith, ℕ, ◌+◌, ◌-◌, ◌<◌, ◌≤◌, ◌⊎◌, inl, inr, ⊎_elim, List, [], ◌∷◌, ◌++◌, length, map, max, All, Contains, replicate, get_or-set_same, get_or-set_other, Option, Some, None}
+use Rattle.std.specs.Prelude.{slice_index_or, slice_set, Bool, if◌then◌else◌}
+use Rattle.std.specs.Ordering.{nat_cmp, ord_max}
+use Rattle.std.proofs.lemmas.Bool.{cases_lt, cases_eq}
+use Rattle.std.proofs.lemmas.List.{get_or-replicate, get_or_past, get_or_read, length-replicate, length-set}
+use Rattle.std.proofs.lemmas.List.Elements.{Contains-push, Contains-push_cases, Contains-append_left}
+use Rattle.operations.specs.declared.units.PortRef.{PortRef}
+use Rattle.datapath.specs.declared.types.Datapath.{Datapath}
+use Rattle.plan_core.specs.Hardware.{latency_on}
+use Rattle.plan_core.specs.Operands.{node_of, edge_of, delay_at, Reads}
+use Rattle.plan_core.specs.Assigned.{unit_in}
+use Rattle.plan_core.specs.Heights.{ReadsNow, latency_of, IsPlacedBefore}
+use Rattle.plan_core.specs.Reservations.{result_on, IsFreeRoute, Fits, IsFirstBus}
+use Rattle.plan_core.specs.ListSchedule.{no_slot, slot_of, IsDestination, AreDestinations, IsEarlier, IsTakenBefore, CanIssue, IsPlaced, IsListSchedule}
+use Rattle.plan_core.specs.Refusals.{IsWithoutCycle}
+use Rattle.plan_core.specs.declared.schedule.Assigned.{Assigned}
+use Rattle.plan_core.specs.declared.schedule.Transfer.{Transfer}
+use Rattle.plan_core.specs.declared.schedule.Slot.{Slot}
+use Rattle.plan_core.specs.declared.schedule.Schedule.{Schedule}
+use Rattle.plan_core.proofs.OneSchedule.{live_of}
+use Rattle.bus_alloc.specs.Private.Rows.{IsPortIn}
+use Rattle.bus_alloc.specs.Stands.{Placed, IsTaken, Stands, FitsAt, FitsIn, AnswersFirstFit, AreTransfers, Takes}
+use Rattle.bus_alloc.specs.declared.rows.Rows.{Rows}
+use Rattle.list_schedule.specs.Private.Problem.{IsProblem}
+use Rattle.list_schedule.specs.Private.Order.{node_at, IsOrderOf}
+use Rattle.list_schedule.specs.Private.Placing.{slot_at, of_slots, IsReadyAt, IsFirstReady, HasTable, IsOpenAt, IsShutAt, IsFirstOpenAt, IsFirstOpen, Places, HasNoCycle, ArePlaced}
+use Rattle.list_schedule.specs.declared.order.Rank.{Rank}
+use Rattle.list_schedule.specs.declared.placing.Placing.{Placing}
+use Rattle.list_schedule.specs.Faults.{IsPeriodFault}
+use Rattle.list_schedule.specs.declared.fault.PeriodFault.{PeriodFault}
+use Rattle.list_schedule.specs.declared.fault.PeriodFault.TheVariants.{Period, Memory}
+use Rattle.list_schedule.specs.Private.Ports.{Has, no_ports}
+use Rattle.list_schedule.specs.Private.Destinations.{AreReaders, IsReadBefore, IsReaderSet}
+use Rattle.list_schedule.specs.declared.ports.PortSet.{PortSet}
+use Rattle.list_schedule.proofs.Problems.{consumer_in, operand_in, edges_few, unit_there, short}
+use Rattle.list_schedule.proofs.Ranks.{is_less, not_less}
+use Rattle.list_schedule.proofs.Agreeing.{operand_earlier, placed_same, IsPlacedIn, placed_in}
+
+-- the greater of two numbers, as the code has it
+pub greater : (x y : ℕ) → ord_max nat_cmp x y ≡ max x y
+greater x y =
+    ⊎_elim
+    (λ (less : y < x).
+    let e : ord_max nat_cmp x y ≡ x = ap (λ (b : Bool). if b then x else y) (is_less y x less) in omega arith)
+    (λ (not : x ≤ y).
+    let e : ord_max nat_cmp x y ≡ y = ap (λ (b : Bool). if b then x else y) (not_less y x not) in omega arith)
+    (cases_lt y x)
+
+-- the first cycle at which the operands at the first k ports are there
+pub record IsReadyUpTo (d : Datapath) (a : Assigned) (slots : List Slot) (v k t : ℕ) : Type 0 where
+  pub ready : (q x : ℕ) → q < k → ReadsNow a.lowered.nodes v q x → (slot_at slots x).cycle + latency_of d a x ≤ t
+  pub first : (c : ℕ) → IsReadyAt d a slots v c → t ≤ c
+  pub small : t ≤ 4104
+
+module _ (d : Datapath) (a : Assigned) (slots : List Slot) (v : ℕ) where
+  module _ (k t : ℕ) (before : IsReadyUpTo d a slots v k t) where
+    pub ready_past : (delay_at a.lowered.nodes v k ≡ 0 → ⊥) → IsReadyUpTo d a slots v (k + 1) t
+    ready_past late = record {
+      ready = λ q x less r.
+          ⊎_elim (λ (early : q < k). before.ready q x early r)
+          (λ (past : k ≤ q).
+          let at : q ≡ k = omega arith in
+          absurd (late (sym (ap (delay_at a.lowered.nodes v) at) ∙ r.now)))
+          (cases_lt q k);
+      first = before.first;
+      small = before.small;
+    }
+
+    pub ready_more : (x u : ℕ) → ReadsNow a.lowered.nodes v k x → u ≡ max t ((slot_at slots x).cycle + latency_of d a x)
+        → (slot_at slots x).cycle ≤ 4096 → latency_of d a x ≤ 8 → IsReadyUpTo d a slots v (k + 1) u
+    ready_more x u reads is early few = record {
+      ready = λ q y less r.
+          ⊎_elim (λ (b : q < k). let z = before.ready q y b r in omega arith)
+          (λ (past : k ≤ q).
+          let at : q ≡ k = omega arith in
+          let same : y ≡ x = sym r.reads.node ∙ ap (λ (p : ℕ). (edge_of (node_of a.lowered.nodes v) p).node) at
+          ∙ reads.reads.node in
+          subst (λ (w : ℕ). (slot_at slots w).cycle + latency_of d a w ≤ u) (sym same) (omega arith))
+          (cases_lt q k);
+      first = λ c h. (let z = before.first c h in let y = h k x reads in omega arith);
+      small = let z = before.small in omega arith;
+    }
+
+module _ (d : Datapath) (a : Assigned) (is : IsProblem d a) where
+  live : (u : ℕ) → 1 ≤ latency_on d u
+  live u = live_of d is.path u
+
+  inside : (v q x : ℕ) → Reads a.lowered.nodes v q x → x < length a.lowered.nodes
+  inside v q x r = operand_in d a is v q x r
+
+  -- the unit and the ports of a node are in the table
+  module _ (v : ℕ) (there : v < length a.lowered.nodes) (ports : List PortRef) (dests : AreDestinations a v ports)
+      (p : Placing) (table : HasTable d a p) where
+    port_known : (port : PortRef) → IsDestination a v port → IsPortIn p.table port
+    port_known port h =
+        let c = consumer_in a.lowered.nodes h.consumer port.port v h.reads in
+        let n = table.stands.units in
+        let u = unit_there d a is h.consumer c in
+        let e = h.unit in
+        let few = edges_few d a is h.consumer c in
+        let q = h.reads.port in
+        (omega arith, omega arith)
+
+    pub ports_known : All (IsPortIn p.table) ports
+    ports_known i port less = port_known _ (dests.read i port less)
+
+    pub first_found : (from : ℕ) (answer : Option ℕ) → IsFirstReady d a p.slots v from
+        → AnswersFirstFit p.table (unit_in a.units v) ports from answer
+        → IsFirstOpen d a p.slots p.table v ports answer
+    first_found from answer ready answers = by answer answers
+      where
+        by : (answer : Option ℕ) → AnswersFirstFit p.table (unit_in a.units v) ports from answer
+            → IsFirstOpen d a p.slots p.table v ports answer
+        by None found = λ t placed stands h fits. found d placed stands t (ready.first t h) fits
+        by (Some t) found = record {
+          is_open = record {
+            ready = λ q x r.
+                (let b = ready.ready q x r in let after = (found d table.placed table.stands).after in omega arith);
+            fits = λ placed stands. (found d placed stands).fits;
+          };
+          first = λ c less placed stands h fits. (found d placed stands).first c (ready.first c h) less fits;
+        }
+
+    pub fits_in : (t : ℕ) → IsFirstOpenAt d a p.slots p.table v ports t → FitsIn p.table (unit_in a.units v) t ports
+    fits_in t h = record {
+      path = d;
+      placed = table.placed;
+      stands = table.stands;
+      fits = h.is_open.fits table.placed table.stands;
+    }
+
+  not_before : (h : ℕ → ℕ) (x y : ℕ) → x ≡ y → IsPlacedBefore h x y → ⊥
+  not_before h x y e (inl l) = let f = ap h e in absurd (omega arith)
+  not_before h x y e (inr l) = let i = l.1 in absurd (omega arith)
+
+  not_both : (h : ℕ → ℕ) (x y : ℕ) → IsPlacedBefore h x y → IsPlacedBefore h y x → ⊥
+  not_both h x y (inl l) (inl m) = absurd (omega arith)
+  not_both h x y (inl l) (inr m) = let e = m.0 in absurd (omega arith)
+  not_both h x y (inr l) (inl m) = let e = l.0 in absurd (omega arith)
+  not_both h x y (inr l) (inr m) = let i = l.1 in let j = m.1 in absurd (omega arith)
+
+  module _ (ranks : List Rank) (k : ℕ) (p : Placing) (b : ArePlaced d a ranks k p) where
+    -- the nodes before node j of the order are those that are placed before it
+    earlier_index : (j : ℕ) → j < length ranks → (x : ℕ) → IsEarlier a b.height (node_at ranks j) x
+        → (i : ℕ) × (i < j) × (node_at ranks i ≡ x)
+    earlier_index j within x e =
+        let at = b.order.every x e.node in
+        ⊎_elim (λ (less : at.0 < j). (at.0, less, at.2))
+        (λ (past : j ≤ at.0). absurd (⊎_elim
+        (λ (more : j < at.0). not_both b.height x (node_at ranks j) e.before
+        (subst (IsPlacedBefore b.height (node_at ranks j)) at.2 (b.order.before j at.0 more at.1)))
+        (λ (same : at.0 ≤ j).
+        let i_is : at.0 ≡ j = omega arith in
+        not_before b.height x (node_at ranks j) (sym at.2 ∙ ap (node_at ranks) i_is) e.before)
+        (cases_lt j at.0)))
+        (cases_lt at.0 j)
+
+    index_earlier : (i j : ℕ) → i < j → j < length ranks → IsEarlier a b.height (node_at ranks j) (node_at ranks i)
+    index_earlier i j less within =
+        record { node = b.order.there i (omega arith); before = b.order.before i j less within }
+
+    module _ (within : k < length ranks) where
+      abbrev v : ℕ
+      v = node_at ranks k
+
+      pub next_there : node_at ranks k < length a.lowered.nodes
+      next_there = b.order.there k within
+
+      -- in a schedule in which the nodes before have the same slots
+      module _ (z : Schedule) (agree : (x : ℕ) → IsEarlier a b.height v x → slot_at p.slots x ≡ slot_of z x) where
+        taken : (u : ℕ) (slot : Slot) → IsTakenBefore a z b.height v u slot → IsTaken b.placed u slot
+        taken u slot t =
+            let at = earlier_index k within t.x t.earlier in
+            let there = b.taken_to at.0 at.1 in
+            let unit : unit_in a.units (node_at ranks at.0) ≡ u = ap (unit_in a.units) at.2 ∙ t.unit in
+            let its : slot_at p.slots (node_at ranks at.0) ≡ slot =
+            ap (slot_at p.slots) at.2 ∙ agree t.x t.earlier ∙ t.its_slot in
+            subst (λ (w : ℕ). IsTaken b.placed w slot) unit
+            (subst (IsTaken b.placed (unit_in a.units (node_at ranks at.0))) its there)
+
+        taken_back : (u : ℕ) (slot : Slot) → IsTaken b.placed u slot → IsTakenBefore a z b.height v u slot
+        taken_back u slot t =
+            let at = b.taken_from u slot t in
+            let e = index_earlier at.0 k at.1 within in
+            record {
+              x = node_at ranks at.0;
+              earlier = e;
+              unit = at.2;
+              its_slot = sym (agree (node_at ranks at.0) e) ∙ at.3;
+            }
+
+        route_from : (u w : ℕ) (port : PortRef) (c : ℕ) → IsFreeRoute d (IsTaken b.placed) u w port c
+            → IsFreeRoute d (IsTakenBefore a z b.height v) u w port c
+        route_from u w port c f = record { route = f.route; free = λ x slot t. f.free x slot (taken x slot t) }
+
+        route_to : (u w : ℕ) (port : PortRef) (c : ℕ) → IsFreeRoute d (IsTakenBefore a z b.height v) u w port c
+            → IsFreeRoute d (IsTaken b.placed) u w port c
+        route_to u w port c f = record { route = f.route; free = λ x slot t. f.free x slot (taken_back x slot t) }
+
+        bus_from : (u w : ℕ) (x : Transfer) → IsFirstBus d (IsTaken b.placed) u w x
+            → IsFirstBus d (IsTakenBefore a z b.height v) u w x
+        bus_from u w x f = record {
+          route = route_from u w x.port x.bus f.route;
+          first = λ c less r. f.first c less (route_to u w x.port c r);
+        }
+
+        module _ (ports : List PortRef) (dests : AreDestinations a v ports) where
+          dest_in : (port : PortRef) → IsDestination a v port → Contains ports port
+          dest_in port h =
+              subst (Contains ports) (ap (λ (u : ℕ). record { unit = u; port = port.port }) h.unit)
+              (dests.every h.consumer port.port h.reads)
+
+          in_dest : (port : PortRef) → Contains ports port → IsDestination a v port
+          in_dest port h = subst (IsDestination a v) h.2 (dests.read h.0 port h.1)
+
+          fits_from : (u t : ℕ) → FitsAt d b.placed u t ports
+              → Fits d (IsTakenBefore a z b.height v) (IsDestination a v) u t
+          fits_from u t f = record {
+            period = f.period;
+            unit = λ slot x. f.unit slot (taken u slot x);
+            files = λ port h w slot x. f.files port (dest_in port h) w slot (taken w slot x);
+            buses = λ port h. let x = f.buses port (dest_in port h) in
+                (x.0, route_from u (result_on d u t) port x.0 x.1);
+          }
+
+          fits_to : (u t : ℕ) → Fits d (IsTakenBefore a z b.height v) (IsDestination a v) u t
+              → FitsAt d b.placed u t ports
+          fits_to u t f = record {
+            period = f.period;
+            unit = λ slot x. f.unit slot (taken_back u slot x);
+            files = λ port h w slot x. f.files port (in_dest port h) w slot (taken_back w slot x);
+            buses = λ port h. let x = f.buses port (in_dest port h) in
+                (x.0, route_to u (result_on d u t) port x.0 x.1);
+          }
+
+          operand_same : (q x : ℕ) → ReadsNow a.lowered.nodes v q x → slot_at p.slots x ≡ slot_of z x
+          operand_same q x r =
+              agree x (operand_earlier d a live b.height b.heights v q x (inside v q x r.reads) r)
+
+          can_from : (t : ℕ) → IsOpenAt d a p.slots p.table v ports t → CanIssue d a z b.height v t
+          can_from t o = record {
+            operands = λ q x r.
+                subst (λ (slot : Slot). slot.cycle + latency_of d a x ≤ t) (operand_same q x r) (o.ready q x r);
+            fits = fits_from (unit_in a.units v) t (o.fits b.placed b.stands);
+          }
+
+          cannot : (t : ℕ) → IsShutAt d a p.slots p.table v ports t → CanIssue d a z b.height v t → ⊥
+          cannot t shut c =
+              shut b.placed b.stands
+              (λ q x r. subst (λ (slot : Slot). slot.cycle + latency_of d a x ≤ t) (sym (operand_same q x r))
+              (c.operands q x r))
+              (fits_to (unit_in a.units v) t c.fits)
+
+      pub stopped : HasNoCycle d a v p → IsWithoutCycle d a v
+      stopped none = record {
+        height = b.height;
+        heights = b.heights;
+        there = next_there;
+        schedule = of_slots p.slots;
+        before = λ u e.
+            let at = earlier_index k within u e in
+            subst (IsPlaced d a (of_slots p.slots) b.height) at.2 (b.each at.0 at.1);
+        none = λ t c. cannot (of_slots p.slots) (λ x e. refl) none.ports none.destinations t (none.none t) c;
+      }
+
+      module _ (new : Placing) (places : Places d a v p new) where
+        slot_here : slot_at new.slots v ≡ places.slot
+        slot_here =
+            ap (λ (xs : List Slot). slot_at xs v) places.slots
+            ∙ get_or-set_same p.slots v places.slot no_slot (let c = b.count in let t = next_there in omega arith)
+
+        slot_else : (x : ℕ) → x ≢ v → slot_at p.slots x ≡ slot_at new.slots x
+        slot_else x other =
+            sym (ap (λ (xs : List Slot). slot_at xs x) places.slots
+            ∙ get_or-set_other p.slots v x places.slot no_slot other)
+
+        index_else : (j : ℕ) → j < k → node_at ranks j ≢ v
+        index_else j less = λ e. not_before b.height (node_at ranks j) v e (b.order.before j k less within)
+
+        agrees : (j : ℕ) → j < k + 1 → (x : ℕ) → IsEarlier a b.height (node_at ranks j) x
+            → slot_at p.slots x ≡ slot_at new.slots x
+        agrees j less x e =
+            let at = earlier_index j (omega arith) x e in
+            let low = at.1 in
+            slot_else x (λ same. index_else at.0 (omega arith) (at.2 ∙ same))
+
+        abbrev z : Schedule
+        z = of_slots new.slots
+
+        t_small : places.slot.cycle ≤ 4096
+        t_small =
+            let f = (places.cycle.is_open.fits b.placed b.stands).period in
+            let m = is.path.period.1 in omega arith
+
+        here : IsPlaced d a z b.height v
+        here =
+            let agree = agrees k (omega arith) in
+            let u = unit_in a.units v in
+            let moves = places.transfers d b.placed b.stands in
+            placed_in d a z b.height v places.slot (sym slot_here) (record {
+              can = can_from z agree places.ports places.destinations places.slot.cycle places.cycle.is_open;
+              least = λ t less c. cannot z agree places.ports places.destinations t (places.cycle.first t less) c;
+              destinations = subst (AreDestinations a v) (sym moves.ports) places.destinations;
+              buses = λ i x less. bus_from z agree u (result_on d u places.slot.cycle) _ (moves.buses i x less);
+            })
+
+        each_more : (j : ℕ) → j < k + 1 → IsPlaced d a z b.height (node_at ranks j)
+        each_more j less =
+            ⊎_elim
+            (λ (early : j < k).
+            placed_same d a live inside (of_slots p.slots) z b.height b.heights (node_at ranks j)
+            (b.order.there j (omega arith)) (agrees j less) (slot_else (node_at ranks j) (index_else j early))
+            (b.each j early))
+            (λ (past : k ≤ j).
+            let at : k ≡ j = omega arith in
+            subst (λ (i : ℕ). IsPlaced d a z b.height (node_at ranks i)) at here)
+            (cases_lt j k)
+
+        abbrev one_more : Placed
+        one_more = record { unit = unit_in a.units v; slot = places.slot }
+
+        from_more : (u : ℕ) (slot : Slot) → IsTaken (b.placed ++ one_more ∷ []) u slot
+            → (j : ℕ) × (j < k + 1) × (unit_in a.units (node_at ranks j) ≡ u)
+            × (slot_at new.slots (node_at ranks j) ≡ slot)
+        from_more u slot t =
+            ⊎_elim
+            (λ (old : IsTaken b.placed u slot).
+            let at = b.taken_from u slot old in
+            let less = at.1 in
+            (at.0, omega arith, at.2, sym (slot_else (node_at ranks at.0) (index_else at.0 at.1)) ∙ at.3))
+            (λ (same : one_more ≡ record { unit = u; slot = slot }).
+            (k, omega arith, ap (λ (x : Placed). x.unit) same, slot_here ∙ ap (λ (x : Placed). x.slot) same))
+            (Contains-push_cases b.placed one_more (record { unit = u; slot = slot }) t)
+
+        to_more : (j : ℕ) → j < k + 1
+            → IsTaken (b.placed ++ one_more ∷ []) (unit_in a.units (node_at ranks j))
+            (slot_at new.slots (node_at ranks j))
+        to_more j less =
+            ⊎_elim
+            (λ (early : j < k).
+            subst (IsTaken (b.placed ++ one_more ∷ []) (unit_in a.units (node_at ranks j)))
+            (slot_else (node_at ranks j) (index_else j early))
+            (Contains-append_left b.placed (one_more ∷ []) _ (b.taken_to j early)))
+            (λ (past : k ≤ j).
+            let at : k ≡ j = omega arith in
+            subst (λ (i : ℕ). IsTaken (b.placed ++ one_more ∷ []) (unit_in a.units (node_at ranks i))
+            (slot_at new.slots (node_at ranks i))) at
+            (subst (IsTaken (b.placed ++ one_more ∷ []) (unit_in a.units v)) (sym slot_here)
+            (Contains-push b.placed one_more)))
+            (cases_lt j k)
+
+        early_more : (x : ℕ) → (slot_at new.slots x).cycle ≤ 4096
+        early_more x =
+            ⊎_elim
+            (λ (same : x ≡ v).
+            subst (λ (slot : Slot). slot.cycle ≤ 4096) (sym (ap (slot_at new.slots) same ∙ slot_here)) t_small)
+            (λ (other : x ≢ v).
+            subst (λ (slot : Slot). slot.cycle ≤ 4096) (slot_else x other) (b.early x))
+            (cases_eq x v)
+
+        pub one_placed : ArePlaced d a ranks (k + 1) new
+        one_placed = record {
+          height = b.height;
+          heights = b.heights;
+          order = b.order;
+          count = ap length places.slots ∙ length-set p.slots v places.slot ∙ b.count;
+          early = early_more;
+          placed = b.placed ++ one_more ∷ [];
+          stands = places.taken d b.placed b.stands;
+          taken_from = from_more;
+          taken_to = to_more;
+          each = each_more;
+        }
+
+  -- the same for the ranks as the code reads them
+  module _ (ranks items : List Rank) (same : items ≡ ranks) (k : ℕ) (p : Placing) (b : ArePlaced d a ranks k p)
+      (within : k < length items) where
+    abbrev its : List Rank → ℕ
+    its rs = node_at rs k
+
+    inside_ranks : k < length ranks
+    inside_ranks = subst (λ (rs : List Rank). k < length rs) same within
+
+    pub rank_there : node_at items k < length a.lowered.nodes
+    rank_there =
+        subst (λ (rs : List Rank). its rs < length a.lowered.nodes) (sym same) (next_there ranks k p b inside_ranks)
+
+    pub goes_on : (new : Placing) → Places d a (node_at items k) p new → ArePlaced d a ranks (k + 1) new
+    goes_on new h =
+        one_placed ranks k p b inside_ranks new
+        (subst (λ (rs : List Rank). Places d a (its rs) p new) same h)
+
+    pub stops : (fault : PeriodFault)
+        → (fault ≡ Memory) ⊎ ((fault ≡ Period (node_at items k)) × HasNoCycle d a (node_at items k) p)
+        → (fault ≡ Memory) ⊎ IsPeriodFault d a fault
+    stops fault why =
+        ⊎_elim (λ (e : fault ≡ Memory). inl e)
+        (λ (h : (fault ≡ Period (node_at items k)) × HasNoCycle d a (node_at items k) p).
+        inr (subst (IsPeriodFault d a) (sym h.0)
+        (subst (λ (rs : List Rank). IsWithoutCycle d a (its rs)) (sym same)
+        (stopped ranks k p b inside_ranks (subst (λ (rs : List Rank). HasNoCycle d a (its rs) p) same h.1)))))
+        why
+
+  pub all_placed : (ranks : List Rank) (k : ℕ) (p : Placing) → length ranks ≤ k → ArePlaced d a ranks k p
+      → IsListSchedule d a (of_slots p.slots)
+  all_placed ranks k p all b = record {
+    height = b.height;
+    heights = b.heights;
+    count = b.count;
+    placed = λ v there.
+        let at = b.order.every v there in
+        let less = at.1 in
+        subst (IsPlaced d a (of_slots p.slots) b.height) at.2 (b.each at.0 (omega arith));
+  }
+
+-- the set of the ports that read the node, as the code reads it
+pub reader_set : (a : Assigned) (list : List PortSet) (v : ℕ) (item : PortSet)
+    → AreReaders a (length a.lowered.nodes) list → v < length a.lowered.nodes → item ≡ slice_index_or list v item
+    → IsReaderSet a v item
+reader_set a list v item readers there is j =
+    let n = readers.count in
+    subst (λ (s : PortSet). Has s j ↔ IsReadBefore a (length a.lowered.nodes) v j)
+    (sym (get_or_read list v item (omega arith) is no_ports)) (readers.sets v j there)

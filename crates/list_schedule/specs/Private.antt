@@ -1,0 +1,7 @@
+pub mod Problem
+pub mod Search
+pub mod Heights
+pub mod Order
+pub mod Ports
+pub mod Destinations
+pub mod Placing
