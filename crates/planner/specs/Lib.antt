@@ -1,0 +1,4 @@
+pub mod Delayless
+pub mod Registers
+pub mod Faults
+pub mod Private

@@ -1,0 +1,4 @@
+pub mod Lowered
+pub mod Errors
+pub mod Allotted
+pub mod Stages

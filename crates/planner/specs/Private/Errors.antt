@@ -1,0 +1,21 @@
+-- The fault of a plan that the fault of a pass comes to.
+use Rattle.list_schedule.specs.declared.fault.PeriodFault.{PeriodFault}
+use Rattle.list_schedule.specs.declared.fault.PeriodFault.TheVariants as period
+use Rattle.unit_assign.specs.declared.fault.UnitFault.{UnitFault}
+use Rattle.unit_assign.specs.declared.fault.UnitFault.TheVariants as unit
+use Rattle.planner.specs.declared.fault.PlanFault.{PlanFault}
+use Rattle.planner.specs.declared.fault.PlanFault.TheVariants.{Unit as Unbound, Period, FileFull, Memory}
+use Rattle.planner.specs.declared.registers.FileFault.{FileFault}
+use Rattle.planner.specs.declared.registers.FileFault.TheVariants as file
+
+abbrev pub of_unit : UnitFault → PlanFault
+of_unit unit.Memory = Memory
+of_unit fault = Unbound fault
+
+abbrev pub of_period : PeriodFault → PlanFault
+of_period (period.Period node) = Period node
+of_period period.Memory = Memory
+
+abbrev pub of_file : FileFault → PlanFault
+of_file (file.Full unit port node) = FileFull unit port node
+of_file file.Memory = Memory
