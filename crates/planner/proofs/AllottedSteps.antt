@@ -1,5 +1,5 @@
 -- The next lifetime gets its register, or is the first without one.
-use Rattle.std.proofs.Common.{◌≡◌, ◌≢◌, ℕ, zero, suc, ◌+◌, ◌<◌, ◌≤◌, cond, Bool, true, false, ◌&&◌, ◌⊎◌, inl, inr, ⊎_elim, refl, sym, ap, ap₂, ◌∙◌, subst, arith, List, [], ◌∷◌, ◌++◌, length, take, slice_index_or, count_by, ◌==◌}
+use Rattle.std.proofs.Common.{◌≡◌, ℕ, zero, suc, ◌+◌, ◌<◌, ◌≤◌, Bool, true, false, inl, inr, ⊎_elim, refl, sym, ap, ap₂, ◌∙◌, subst, arith, List, [], ◌∷◌, ◌++◌, length, take, slice_index_or, count_by, ◌==◌}
 use Rattle.std.specs.Prelude.{All}
 use Rattle.std.specs.List.{AllPairs}
 use Rattle.std.proofs.lemmas.Bool.{cases_lt, eqb-true, eq-eqb}
@@ -12,10 +12,9 @@ use Rattle.plan_core.specs.Hardware.{port_of, file_size}
 use Rattle.plan_core.specs.Arcs.{no_arc, arc_of, IsArcBefore}
 use Rattle.plan_core.specs.FirstFit.{register_of}
 use Rattle.plan_core.specs.declared.registers.Arc.{Arc}
-use Rattle.plan_core.proofs.OneArcs.{ports_differ, ports_one_way}
+use Rattle.plan_core.proofs.OneArcs.{ports_one_way}
 use Rattle.plan_core.specs.ListSchedule.{IsPortBefore}
 use Rattle.plan_run.specs.PrivateRegisters.{is_port, place_in_file, ArePrivate}
-use Rattle.planner.specs.Registers.{IsWithoutOwnRegister}
 use Rattle.planner.specs.Private.Allotted.{most_registers, AreWithin, IsCounter, AreAllotted, IsFileFault}
 use Rattle.planner.specs.declared.registers.Counter.{Counter}
 use Rattle.planner.specs.declared.registers.FileFault.TheVariants.{Full}

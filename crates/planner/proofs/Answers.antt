@@ -1,11 +1,10 @@
 -- What a stop of each pass, and the end, say of the whole: the graph has one plan or one fault, and not both.
-use Rattle.std.proofs.Common.{◌≡◌, ◌⊎◌, inl, inr, ⊎_elim, refl, sym, ap, ◌∙◌, subst, ℕ, ◌<◌, List, length, Result, Ok, Err}
+use Rattle.std.proofs.Common.{◌≡◌, ◌⊎◌, inl, inr, ⊎_elim, refl, sym, ap, ◌∙◌, subst, ℕ, List, Result, Ok, Err}
 use Rattle.std.specs.Prelude.{IfOk, IfErr}
 use Rattle.operations.specs.declared.units.PortRef.{PortRef}
 use Rattle.fix_word.specs.declared.types.SigType.{SigType}
 use Rattle.datapath.specs.Allowed.{IsDatapath}
 use Rattle.datapath.specs.declared.types.Datapath.{Datapath}
-use Rattle.signal_graph.specs.GraphSolves.{IsGraphLoopless}
 use Rattle.signal_graph.specs.GraphRules.{IsGraph}
 use Rattle.signal_graph.specs.declared.graph.Graph.{Graph}
 use Rattle.plan_core.specs.Hardware.{port_of}
@@ -41,9 +40,9 @@ use Rattle.planner.specs.declared.registers.FileFault.{FileFault}
 use Rattle.planner.specs.declared.registers.FileFault.TheVariants as file
 use Rattle.planner.specs.declared.passes.Timing.{Timing}
 use Rattle.planner.proofs.OwnLowered.{is_lowered, one_lowered}
-use Rattle.planner.proofs.OneCopy.{copies_one, not_unrolled}
+use Rattle.planner.proofs.OneCopy.{not_unrolled}
 use Rattle.planner.proofs.OwnRegisters.{one_registers, not_both, one_full}
-use Rattle.planner.proofs.Asked.{inside, none_delayed}
+use Rattle.planner.proofs.Asked.{inside}
 
 abbrev stop : PlanFault → Result Plan PlanFault
 stop f = Err f

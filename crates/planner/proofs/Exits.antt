@@ -1,5 +1,5 @@
 -- What `plan` answers at each place where it returns.
-use Rattle.std.proofs.Common.{◌≡◌, ◌⊎◌, sym, subst, Result, Ok, Err}
+use Rattle.std.proofs.Common.{◌≡◌, ◌⊎◌, sym, subst, Result}
 use Rattle.std.specs.Prelude.{IsErrAnd}
 use Rattle.std.proofs.lemmas.Result.{err_from_is_err_and}
 use Rattle.datapath.specs.Allowed.{IsDatapath}

@@ -1,10 +1,9 @@
 -- The edges of a sound graph, by node and port.
-use Rattle.std.proofs.Common.{◌≡◌, ℕ, ◌+◌, ◌<◌, ◌≤◌, ◌^◌, ⊎_elim, refl, sym, ap, ◌∙◌, subst, arith, List, length, slice_index_or}
-use Rattle.std.specs.Prelude.{slice_get, IsSomeAnd, Option, None, Some, All}
+use Rattle.std.proofs.Common.{◌≡◌, ℕ, ◌<◌, ◌≤◌, ⊎_elim, refl, ap, subst, arith, List, length, slice_index_or}
+use Rattle.std.specs.Prelude.{slice_get, IsSomeAnd, Option, None, Some}
 use Rattle.std.proofs.lemmas.Bool.{cases_lt}
 use Rattle.std.proofs.lemmas.List.{get_or_past}
 use Rattle.std.proofs.lemmas.Option.{slice_get_within}
-use Rattle.operations.specs.Operations.{operands}
 use Rattle.signal_graph.specs.GraphSolves.{no_node}
 use Rattle.signal_graph.specs.GraphRules.{IsGraph}
 use Rattle.signal_graph.specs.declared.graph.Edge.{Edge}

@@ -3,7 +3,7 @@
 use Rattle.std.proofs.Common.{◌≡◌, ℕ, zero, suc, ◌+◌, ◌-◌, ◌<◌, ◌≤◌, cond, Bool, true, false, ◌⊎◌, inl, inr, ⊎_elim, refl, sym, ap, ap₂, ◌∙◌, subst, arith, List, [], ◌∷◌, length, slice_index_or}
 use Rattle.std.proofs.lemmas.Bool.{cases_lt}
 use Rattle.datapath.specs.declared.types.Datapath.{Datapath}
-use Rattle.signal_graph.specs.GraphSolves.{no_node, HasEdge, IsGraphLoopless}
+use Rattle.signal_graph.specs.GraphSolves.{IsGraphLoopless}
 use Rattle.signal_graph.specs.GraphRules.{IsGraph}
 use Rattle.signal_graph.specs.Values.{EdgesRead}
 use Rattle.signal_graph.specs.declared.graph.Edge.{Edge}
@@ -11,9 +11,8 @@ use Rattle.signal_graph.specs.declared.graph.Node.{Node}
 use Rattle.signal_graph.specs.declared.graph.Graph.{Graph}
 use Rattle.signal_graph.proofs.Tests.{edges_test, edges_yes, edges_no}
 use Rattle.signal_graph.proofs.Heights.{height, height_most, height_falls}
-use Rattle.plan_core.specs.Operands.{node_of, edge_of, no_edge, Reads}
-use Rattle.plan_core.specs.Heights.{ReadsNow, latency_of, IsHeight, AreHeights}
-use Rattle.plan_core.specs.declared.delay_lines.Lowered.{Lowered}
+use Rattle.plan_core.specs.Operands.{node_of, no_edge}
+use Rattle.plan_core.specs.Heights.{ReadsNow, latency_of, AreHeights}
 use Rattle.plan_core.specs.declared.schedule.Assigned.{Assigned}
 use Rattle.planner.proofs.GraphEdges.{reader_there}
 

@@ -1,10 +1,10 @@
 -- Without delays each lifetime ends in its sample, so that it has one copy and nothing is unrolled.
-use Rattle.std.proofs.Common.{◌≡◌, ℕ, ◌+◌, ◌*◌, ◌<◌, ◌≤◌, ◌⊎◌, inl, inr, refl, sym, ap, ◌∙◌, subst, arith, List, length, slice_index_or}
+use Rattle.std.proofs.Common.{◌≡◌, ℕ, ◌+◌, ◌*◌, ◌≤◌, inl, inr, refl, ap, ◌∙◌, arith, List, slice_index_or}
 use Rattle.std.specs.Prelude.{All}
 use Rattle.datapath.specs.declared.types.Datapath.{Datapath}
 use Rattle.plan_core.specs.Operands.{delay_at, Reads}
 use Rattle.plan_core.specs.ListSchedule.{cycle_of, IsListSchedule}
-use Rattle.plan_core.specs.Arcs.{no_arc, arc_of, read_cycle, IsCount, IsCovered, IsArc, IsArcs, IsUnroll}
+use Rattle.plan_core.specs.Arcs.{read_cycle, IsCount, IsArc, IsArcs, IsUnroll}
 use Rattle.plan_core.specs.declared.registers.Arc.{Arc}
 use Rattle.plan_core.specs.declared.schedule.Assigned.{Assigned}
 use Rattle.plan_core.specs.declared.schedule.Schedule.{Schedule}

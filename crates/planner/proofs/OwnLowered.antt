@@ -1,25 +1,23 @@
 -- The lowered list of a graph without delays is that of its nodes, without delay lines.
-use Rattle.std.proofs.Common.{◌≡◌, ℕ, zero, suc, ◌+◌, ◌<◌, ◌≤◌, ⊎_elim, refl, sym, ap, ap₂, ◌∙◌, subst, arith, List, [], ◌∷◌, length, slice_index_or, ext_get_or}
+use Rattle.std.proofs.Common.{◌≡◌, ℕ, zero, suc, ◌+◌, ◌<◌, refl, sym, ap, ap₂, ◌∙◌, subst, arith, List, [], ◌∷◌, length, slice_index_or, ext_get_or}
 use Rattle.std.specs.Prelude.{nat_lt, slice_get, filter, flat_map, All, Some}
 use Rattle.std.specs.List.{enumerate_from, AllZip}
-use Rattle.std.proofs.lemmas.Bool.{cases_lt}
-use Rattle.std.proofs.lemmas.List.{get_or_past}
-use Rattle.std.proofs.lemmas.Option.{slice_get_within, same_Some, slice_get_cases}
+use Rattle.std.proofs.lemmas.Option.{slice_get_within, same_Some}
 use Rattle.datapath.specs.declared.types.Datapath.{Datapath}
 use Rattle.signal_graph.specs.GraphSolves.{no_node}
-use Rattle.signal_graph.specs.GraphRules.{IsGraph, IsEdge}
+use Rattle.signal_graph.specs.GraphRules.{IsGraph}
 use Rattle.signal_graph.specs.declared.graph.Edge.{Edge}
 use Rattle.signal_graph.specs.declared.graph.Node.{Node}
 use Rattle.signal_graph.specs.declared.graph.Graph.{Graph}
 use Rattle.signal_graph.proofs.Members.{zip_length, zip_at}
-use Rattle.plan_core.specs.Operands.{node_of, no_edge, delay_at, Reads}
+use Rattle.plan_core.specs.Operands.{node_of}
 use Rattle.plan_core.specs.Lowered.{AreLongDelays, Origin, own, address, store, load, origins_of, origins, IsNumber, stored, IsLoweredEdge, IsOwn, IsMade, IsLowered}
 use Rattle.plan_core.specs.declared.delay_lines.Line.{Line}
 use Rattle.plan_core.specs.declared.delay_lines.Lowered.{Lowered}
 use Rattle.plan_core.proofs.OneLowered.{one_long}
 use Rattle.planner.specs.Delayless.{IsDelayless}
 use Rattle.planner.specs.Private.Lowered.{own_lowered}
-use Rattle.planner.proofs.GraphEdges.{edge_inside, reader_there, no_delay}
+use Rattle.planner.proofs.GraphEdges.{edge_inside, no_delay}
 
 -- each node has no long delays
 abbrev none : List Node → List (List ℕ)
@@ -62,10 +60,11 @@ own_at n (x ∷ xs) (suc i) less =
 zip_own : (M : Origin → Node → Type 0) (n : ℕ) (xs : List Node)
     → ((i : ℕ) → i < length xs → M (own (n + i)) (slice_index_or xs i no_node)) → AllZip M (pieces n (none xs)) xs
 zip_own M n [] each = tt
-zip_own M n (x ∷ xs) each =
-    (subst (λ (k : ℕ). M (own k) x) (start n) (each 0 (omega arith)),
-    zip_own M (n + 1) xs (λ i less. subst (λ (k : ℕ). M (own k) (slice_index_or xs i no_node)) (next n i)
-    (each (suc i) (omega (arith, less)))))
+zip_own M n (x ∷ xs) each = (
+  subst (λ (k : ℕ). M (own k) x) (start n) (each 0 (omega arith)),
+  zip_own M (n + 1) xs (λ i less. subst (λ (k : ℕ). M (own k) (slice_index_or xs i no_node)) (next n i)
+      (each (suc i) (omega (arith, less)))),
+)
   where
     start : (n : ℕ) → n + 0 ≡ n
     start n = omega arith
@@ -124,10 +123,11 @@ module _ (g : Graph) (d : Datapath) (sound : IsGraph g) (delayless : IsDelayless
     edges =
         zip_self (IsLoweredEdge d.hold (none g.nodes)) (node_of g.nodes v).edges
         (λ q e less. record {
-          held = λ low.
-              (number_own g.nodes (slice_index_or (node_of g.nodes v).edges q e).node
-              (edge_inside g sound v q e there less),
-              refl);
+          held = λ low. (
+            number_own g.nodes (slice_index_or (node_of g.nodes v).edges q e).node
+                (edge_inside g sound v q e there less),
+            refl,
+          );
           loaded = λ long. absurd (omega (arith, long, delayless v no_node there q e less));
         });
     rest = refl;

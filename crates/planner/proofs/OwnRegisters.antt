@@ -1,13 +1,12 @@
 -- Lifetimes have one choice of registers of their own at most, or one that is the first without.
-use Rattle.std.proofs.Common.{◌≡◌, ℕ, zero, suc, ◌+◌, ◌<◌, ◌≤◌, ◌⊎◌, inl, inr, ⊎_elim, refl, sym, ap, ◌∙◌, subst, arith, List, [], ◌∷◌, length, slice_index_or, ext_get_or}
+use Rattle.std.proofs.Common.{◌≡◌, ℕ, ◌<◌, sym, ap, ◌∙◌, subst, arith, List, [], length, slice_index_or, ext_get_or}
 use Rattle.operations.specs.declared.units.PortRef.{PortRef}
 use Rattle.datapath.specs.declared.types.Datapath.{Datapath}
-use Rattle.plan_core.specs.Hardware.{file_size}
 use Rattle.plan_core.specs.Arcs.{arc_of}
 use Rattle.plan_core.specs.FirstFit.{register_of}
 use Rattle.plan_core.specs.declared.registers.Arc.{Arc}
 use Rattle.plan_core.proofs.OneSchedule.{neither_less}
-use Rattle.plan_run.specs.PrivateRegisters.{place_in_file, ArePrivate}
+use Rattle.plan_run.specs.PrivateRegisters.{ArePrivate}
 use Rattle.planner.specs.Registers.{IsWithoutOwnRegister}
 use Rattle.planner.specs.Private.Allotted.{AreWithin}
 
@@ -36,6 +35,7 @@ module _ (d : Datapath) (arcs : List Arc) where
       → (p ≡ q) × (u ≡ v)
   one_full p q u v x y =
       let same = neither_less x.k y.k (λ less. omega (arith, y.first x.k less, x.full))
-      (λ less. omega (arith, x.first y.k less, y.full)) in
-      (x.port_is ∙ ap (λ (k : ℕ). (arc_of arcs k).port) same ∙ sym y.port_is,
-      x.node_is ∙ ap (λ (k : ℕ). (arc_of arcs k).node) same ∙ sym y.node_is)
+      (λ less. omega (arith, x.first y.k less, y.full)) in (
+        x.port_is ∙ ap (λ (k : ℕ). (arc_of arcs k).port) same ∙ sym y.port_is,
+        x.node_is ∙ ap (λ (k : ℕ). (arc_of arcs k).node) same ∙ sym y.node_is,
+      )

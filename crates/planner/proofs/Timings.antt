@@ -1,5 +1,5 @@
 -- What scheduling and lifetimes answer, as one pass.
-use Rattle.std.proofs.Common.{◌≡◌, ◌⊎◌, inl, inr, ⊎_elim, refl, sym, ap, ◌∙◌, subst, ℕ, List, Result, Ok, Err}
+use Rattle.std.proofs.Common.{◌≡◌, ◌⊎◌, inl, inr, ⊎_elim, refl, ap, ℕ, List, Result, Ok, Err}
 use Rattle.datapath.specs.declared.types.Datapath.{Datapath}
 use Rattle.plan_core.specs.ListSchedule.{IsListSchedule}
 use Rattle.plan_core.specs.Arcs.{IsArcs}
@@ -12,9 +12,7 @@ use Rattle.list_schedule.specs.declared.fault.PeriodFault.{PeriodFault}
 use Rattle.list_schedule.specs.declared.fault.PeriodFault.TheVariants as period
 use Rattle.planner.specs.Private.Errors.{of_period}
 use Rattle.planner.specs.Private.Stages.{IsTiming, IsUntimed}
-use Rattle.planner.specs.declared.fault.PlanFault.{PlanFault}
 use Rattle.planner.specs.declared.fault.PlanFault.TheVariants.{Period, Memory}
-use Rattle.planner.specs.declared.passes.Timing.{Timing}
 
 abbrev stop : PeriodFault → Result Schedule PeriodFault
 stop f = Err f

@@ -17,5 +17,8 @@ fn has_delay(edges: &[Edge]) -> bool
 pub fn has_delays(graph: &Graph) -> bool
     ensures { IsFalse result ↔ IsDelayless graph.now }
 {
-    graph.nodes.iter().any(|node| has_delay(node.edges.as_slice()))
+    graph
+        .nodes
+        .iter()
+        .any(|node| has_delay(node.edges.as_slice()))
 }

@@ -28,7 +28,7 @@ use lists::List;
 use plan_core::{Arcs, Assigned, Lowered, Plan, Schedule};
 use signal_graph::{Graph, Node};
 use std::alloc::Global;
-use unit_assign::{assign, UnitFault};
+use unit_assign::{UnitFault, assign};
 
 /// The unroll factor where each lifetime has one register.
 const UNROLLED_ONCE: u8 = 1;

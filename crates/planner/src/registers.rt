@@ -130,11 +130,7 @@ fn add_registers(
 ///
 /// `Full` at the first lifetime, by unit, port, `w`, then node, whose number is not below the file's size. `Memory`
 /// where no memory is left.
-pub(crate) fn allot(
-    alloc: Global,
-    arcs: &Arcs,
-    datapath: &Datapath,
-) -> Result<Registers, FileFault>
+pub(crate) fn allot(alloc: Global, arcs: &Arcs, datapath: &Datapath) -> Result<Registers, FileFault>
     requires datapath { IsDatapath datapath.now }
     requires order { AllPairs IsArcBefore arcs.now }
     requires copies { All (λ (arc : of_arc.Arc). arc.copies ≡ 1) arcs.now }

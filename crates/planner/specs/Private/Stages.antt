@@ -1,5 +1,5 @@
 -- What the passes of a plan answer.
-use Rattle.std.specs.Prelude.{◌≡◌, ◌⊎◌, ℕ, List}
+use Rattle.std.specs.Prelude.{◌≡◌, ◌⊎◌, ℕ}
 use Rattle.datapath.specs.declared.types.Datapath.{Datapath}
 use Rattle.plan_core.specs.ListSchedule.{IsListSchedule}
 use Rattle.plan_core.specs.Arcs.{IsArcs}
