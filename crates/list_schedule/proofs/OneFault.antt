@@ -1,6 +1,5 @@
 -- A graph has one schedule or one fault, and not both.
-use Rattle.std.proofs.Common.{◌≡◌, ◌⊎◌, ◌∙◌, sym, ap, subst, refl, inl, inr, ⊎_elim, ℕ, ◌<◌, ◌≤◌, List, length, Result, Ok, Err}
-use Rattle.datapath.specs.Allowed.{IsDatapath}
+use Rattle.std.proofs.Common.{◌≡◌, ◌⊎◌, ◌∙◌, ap, inl, inr, ⊎_elim, ℕ, ◌<◌, ◌≤◌, length, Result, Ok, Err}
 use Rattle.datapath.specs.declared.types.Datapath.{Datapath}
 use Rattle.plan_core.specs.Hardware.{latency_on}
 use Rattle.plan_core.specs.Operands.{Reads}

@@ -1,9 +1,9 @@
 -- The nodes that are placed so far, and one more.
-use Rattle.std.proofs.Common.{◌≡◌, ◌≢◌, ◌∙◌, ◌↔◌, refl, sym, ap, subst, arith, ℕ, ◌+◌, ◌-◌, ◌<◌, ◌≤◌, ◌⊎◌, inl, inr, ⊎_elim, List, [], ◌∷◌, ◌++◌, length, map, max, All, Contains, replicate, get_or-set_same, get_or-set_other, Option, Some, None}
-use Rattle.std.specs.Prelude.{slice_index_or, slice_set, Bool, if◌then◌else◌}
+use Rattle.std.proofs.Common.{◌≡◌, ◌≢◌, ◌∙◌, ◌↔◌, refl, sym, ap, subst, arith, ℕ, ◌+◌, ◌<◌, ◌≤◌, ◌⊎◌, inl, inr, ⊎_elim, List, [], ◌∷◌, ◌++◌, length, max, All, Contains, get_or-set_same, get_or-set_other, Option, Some, None}
+use Rattle.std.specs.Prelude.{slice_index_or, Bool, if◌then◌else◌}
 use Rattle.std.specs.Ordering.{nat_cmp, ord_max}
 use Rattle.std.proofs.lemmas.Bool.{cases_lt, cases_eq}
-use Rattle.std.proofs.lemmas.List.{get_or-replicate, get_or_past, get_or_read, length-replicate, length-set}
+use Rattle.std.proofs.lemmas.List.{get_or_read, length-set}
 use Rattle.std.proofs.lemmas.List.Elements.{Contains-push, Contains-push_cases, Contains-append_left}
 use Rattle.operations.specs.declared.units.PortRef.{PortRef}
 use Rattle.datapath.specs.declared.types.Datapath.{Datapath}
@@ -20,10 +20,9 @@ use Rattle.plan_core.specs.declared.schedule.Slot.{Slot}
 use Rattle.plan_core.specs.declared.schedule.Schedule.{Schedule}
 use Rattle.plan_core.proofs.OneSchedule.{live_of}
 use Rattle.bus_alloc.specs.Private.Rows.{IsPortIn}
-use Rattle.bus_alloc.specs.Stands.{Placed, IsTaken, Stands, FitsAt, FitsIn, AnswersFirstFit, AreTransfers, Takes}
-use Rattle.bus_alloc.specs.declared.rows.Rows.{Rows}
+use Rattle.bus_alloc.specs.Stands.{Placed, IsTaken, FitsAt, FitsIn, AnswersFirstFit}
 use Rattle.list_schedule.specs.Private.Problem.{IsProblem}
-use Rattle.list_schedule.specs.Private.Order.{node_at, IsOrderOf}
+use Rattle.list_schedule.specs.Private.Order.{node_at}
 use Rattle.list_schedule.specs.Private.Placing.{slot_at, of_slots, IsReadyAt, IsFirstReady, HasTable, IsOpenAt, IsShutAt, IsFirstOpenAt, IsFirstOpen, Places, HasNoCycle, ArePlaced}
 use Rattle.list_schedule.specs.declared.order.Rank.{Rank}
 use Rattle.list_schedule.specs.declared.placing.Placing.{Placing}
@@ -33,9 +32,9 @@ use Rattle.list_schedule.specs.declared.fault.PeriodFault.TheVariants.{Period, M
 use Rattle.list_schedule.specs.Private.Ports.{Has, no_ports}
 use Rattle.list_schedule.specs.Private.Destinations.{AreReaders, IsReadBefore, IsReaderSet}
 use Rattle.list_schedule.specs.declared.ports.PortSet.{PortSet}
-use Rattle.list_schedule.proofs.Problems.{consumer_in, operand_in, edges_few, unit_there, short}
+use Rattle.list_schedule.proofs.Problems.{consumer_in, operand_in, edges_few, unit_there}
 use Rattle.list_schedule.proofs.Ranks.{is_less, not_less}
-use Rattle.list_schedule.proofs.Agreeing.{operand_earlier, placed_same, IsPlacedIn, placed_in}
+use Rattle.list_schedule.proofs.Agreeing.{operand_earlier, placed_same, placed_in}
 
 -- the greater of two numbers, as the code has it
 pub greater : (x y : ℕ) → ord_max nat_cmp x y ≡ max x y

@@ -1,5 +1,5 @@
 -- Sets of ports, and their ports from the first on.
-use Rattle.std.proofs.Common.{◌≡◌, ◌≢◌, ◌∙◌, ◌↔◌, ◌⊎◌, sym, ap, ap₂, subst, arith, inl, inr, ⊎_elim, ℕ, ◌+◌, ◌*◌, ◌/◌, ◌%◌, ◌^◌, ◌<◌, ◌≤◌, List, [], ◌∷◌, ◌++◌, length, All, Contains, bit_and, bit_or}
+use Rattle.std.proofs.Common.{◌≡◌, ◌≢◌, ◌∙◌, ◌↔◌, ◌⊎◌, sym, ap, subst, arith, inl, inr, ⊎_elim, ℕ, ◌*◌, ◌/◌, ◌%◌, ◌^◌, ◌<◌, ◌≤◌, List, [], ◌∷◌, ◌++◌, All, Contains, bit_and, bit_or}
 use Rattle.std.specs.Prelude.{slice_index_or}
 use Rattle.std.specs.List.{AllPairs}
 use Rattle.std.specs.Int.{bit_at, bit_not, trailing_zeros, w128}
@@ -9,7 +9,6 @@ use Rattle.std.proofs.lemmas.Nat.Bits.{bit_at_set_same, bit_at_set_other, bit_at
 use Rattle.std.proofs.lemmas.List.Elements.{All-push, Contains-push, Contains-append_left}
 use Rattle.std.proofs.lemmas.List.Quantifiers.{all_pairs_push}
 use Rattle.operations.specs.declared.units.PortRef.{PortRef}
-use Rattle.plan_core.specs.Hardware.{port_of}
 use Rattle.plan_core.specs.ListSchedule.{IsPortBefore}
 use Rattle.list_schedule.specs.Private.Ports.{place, port_in, Has, no_ports, IsFirstOf, IsPortOf, ArePortsOf}
 use Rattle.list_schedule.specs.declared.ports.PortSet.{PortSet}

@@ -1,5 +1,5 @@
 -- Heights that are raised, from the nodes without consumers on.
-use Rattle.std.proofs.Common.{◌≡◌, ◌≢◌, ◌∙◌, refl, sym, ap, subst, arith, ℕ, ◌+◌, ◌*◌, ◌^◌, ◌<◌, ◌≤◌, ◌⊎◌, inl, inr, ⊎_elim, List, [], ◌∷◌, ◌++◌, length, max}
+use Rattle.std.proofs.Common.{◌≡◌, ◌≢◌, ◌∙◌, sym, ap, subst, arith, ℕ, ◌+◌, ◌*◌, ◌<◌, ◌≤◌, ◌⊎◌, inl, inr, ⊎_elim, List, [], ◌∷◌, ◌++◌, length}
 use Rattle.std.specs.Prelude.{slice_index_or}
 use Rattle.std.proofs.lemmas.Bool.{cases_lt, cases_eq}
 use Rattle.std.proofs.lemmas.List.{get_or_past}
@@ -8,9 +8,9 @@ use Rattle.plan_core.specs.Operands.{node_of, edge_of, delay_at}
 use Rattle.plan_core.specs.Heights.{ReadsNow, latency_of}
 use Rattle.plan_core.specs.declared.schedule.Assigned.{Assigned}
 use Rattle.list_schedule.specs.Private.Problem.{IsProblem}
-use Rattle.list_schedule.specs.Private.Search.{IsAt, HasOperand, IsOrdered, IsOrder}
-use Rattle.list_schedule.specs.Private.Heights.{height_in, AreHeightsOf, AreAlone, RaisesTo, RaisesOperands, IsRaising}
-use Rattle.list_schedule.proofs.Problems.{consumer_in, operand_in, live, short}
+use Rattle.list_schedule.specs.Private.Search.{IsAt, HasOperand}
+use Rattle.list_schedule.specs.Private.Heights.{height_in, AreHeightsOf, RaisesTo, RaisesOperands, IsRaising}
+use Rattle.list_schedule.proofs.Problems.{consumer_in, short}
 use Rattle.list_schedule.proofs.Searches.{len, below, top, at_split, ordered_less}
 
 module _ (d : Datapath) (a : Assigned) (v height : ℕ) (first : List ℕ) where

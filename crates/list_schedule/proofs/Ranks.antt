@@ -1,14 +1,14 @@
 -- The ranks of nodes, sorted.
-use Rattle.std.proofs.Common.{◌≡◌, ◌≢◌, ◌∙◌, refl, sym, ap, subst, arith, ℕ, zero, suc, ◌+◌, ◌-◌, ◌^◌, ◌<◌, ◌≤◌, ◌⊎◌, inl, inr, ⊎_elim, List, length, map, Bool, true, false, eqb, Decides}
-use Rattle.std.specs.Prelude.{slice_index_or, All, Contains, if◌then◌else◌}
-use Rattle.std.specs.List.{AllPairs, IsDistinct}
+use Rattle.std.proofs.Common.{◌≡◌, ◌≢◌, ◌∙◌, refl, sym, ap, subst, arith, ℕ, zero, suc, ◌+◌, ◌-◌, ◌^◌, ◌<◌, ◌≤◌, inl, inr, ⊎_elim, List, length, map, Bool, true, false, eqb}
+use Rattle.std.specs.Prelude.{slice_index_or, All, if◌then◌else◌}
+use Rattle.std.specs.List.{AllPairs}
 use Rattle.std.specs.List.Sorted.{IsPermutation, IsNonDecreasingBy, IsSortedByKey, IsStableByKey}
 use Rattle.std.specs.Ordering.{nat_cmp, is_lt}
 use Rattle.std.specs.declared.cmp.Ordering.TheVariants.{Less, Equal, Greater}
-use Rattle.std.proofs.lemmas.Bool.{cases_lt, cases_eq, le-ltb, lt-ltb}
+use Rattle.std.proofs.lemmas.Bool.{cases_lt, le-ltb, lt-ltb}
 use Rattle.std.proofs.lemmas.Bool.Decides.{Decides-eqb, same_from_decides}
 use Rattle.std.proofs.lemmas.List.{get_or-map, length-map, get_or_default}
-use Rattle.std.proofs.lemmas.List.Sorted.{ties_still_rise, length_permutation, All-permutation, Contains-permutation, IsPermutation-map}
+use Rattle.std.proofs.lemmas.List.Sorted.{ties_still_rise, All-permutation, Contains-permutation, IsPermutation-map}
 use Rattle.std.proofs.lemmas.Map.Keys.{IsDistinct-IsPermutation}
 use Rattle.std.proofs.lemmas.Map.Made.{AllPairs-from_IsDistinct, IsDistinct-from_AllPairs}
 use Rattle.plan_core.specs.Heights.{IsPlacedBefore}

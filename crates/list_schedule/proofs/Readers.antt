@@ -1,8 +1,8 @@
 -- The ports that read a node.
-use Rattle.std.proofs.Common.{◌≡◌, ◌≢◌, ◌∙◌, ◌↔◌, ◌⊎◌, refl, sym, ap, ap₂, subst, arith, inl, inr, ⊎_elim, ℕ, ◌+◌, ◌*◌, ◌/◌, ◌%◌, ◌<◌, ◌≤◌, List, length, All, Contains, replicate, get_or-set_same, get_or-set_other}
+use Rattle.std.proofs.Common.{◌≡◌, ◌≢◌, ◌∙◌, ◌↔◌, ◌⊎◌, refl, sym, ap, ap₂, subst, arith, inl, inr, ⊎_elim, ℕ, ◌+◌, ◌/◌, ◌%◌, ◌<◌, ◌≤◌, List, length, Contains, get_or-set_same, get_or-set_other}
 use Rattle.std.specs.Prelude.{slice_index_or, slice_set}
 use Rattle.std.proofs.lemmas.Bool.{cases_lt, cases_eq}
-use Rattle.std.proofs.lemmas.List.{get_or-replicate, length-replicate, length-set, get_or_read}
+use Rattle.std.proofs.lemmas.List.{length-set, get_or_read}
 use Rattle.operations.specs.declared.units.PortRef.{PortRef}
 use Rattle.datapath.specs.declared.types.Datapath.{Datapath}
 use Rattle.plan_core.specs.Hardware.{port_of}
@@ -15,7 +15,6 @@ use Rattle.list_schedule.specs.Private.Ports.{place, port_in, Has, no_ports, IsP
 use Rattle.list_schedule.specs.Private.Destinations.{set_at, IsReadAt, AddsReads, IsReadBefore, AreReaders, IsReaderSet}
 use Rattle.list_schedule.specs.declared.ports.PortSet.{PortSet}
 use Rattle.list_schedule.proofs.Problems.{consumer_in, edges_few}
-use Rattle.list_schedule.proofs.PortSets.{has_none}
 
 module _ (a : Assigned) where
   pub readers_more : (c k : ℕ) (old new : List PortSet) → k ≡ length (node_of a.lowered.nodes c).edges

@@ -1,10 +1,9 @@
 -- The search for an order: a stack of nodes, each of which waits for the one above it.
-use Rattle.std.proofs.Common.{◌≡◌, ◌≢◌, ◌∙◌, refl, sym, ap, subst, arith, ℕ, zero, suc, ◌+◌, ◌*◌, ◌<◌, ◌≤◌, ◌⊎◌, inl, inr, ⊎_elim, List, [], ◌∷◌, ◌++◌, length, length-append, replicate, get_or-set_same, get_or-set_other}
-use Rattle.std.specs.Prelude.{slice_index_or, slice_set}
+use Rattle.std.proofs.Common.{◌≡◌, ◌≢◌, ◌∙◌, refl, sym, ap, subst, arith, ℕ, zero, suc, ◌+◌, ◌<◌, ◌≤◌, ◌⊎◌, inl, inr, ⊎_elim, List, [], ◌∷◌, ◌++◌, length, length-append, get_or-set_same, get_or-set_other}
+use Rattle.std.specs.Prelude.{slice_set}
 use Rattle.std.specs.List.{sum_by}
 use Rattle.std.proofs.lemmas.Bool.{cases_lt, cases_eq}
-use Rattle.std.proofs.lemmas.List.{length-replicate, length-set, get_or_append_left, get_or-replicate, get_or_past}
-use Rattle.std.proofs.lemmas.List.Folds.{sum_by-replicate}
+use Rattle.std.proofs.lemmas.List.{length-set, get_or_append_left}
 use Rattle.std.proofs.lemmas.List.Sums.{sum_by-set}
 use Rattle.std.proofs.Math.Seq.{get_or-append_seam}
 use Rattle.signal_graph.specs.declared.graph.Node.{Node}
@@ -12,7 +11,7 @@ use Rattle.plan_core.specs.Operands.{node_of}
 use Rattle.list_schedule.specs.declared.search.Mark.{Mark}
 use Rattle.list_schedule.specs.declared.search.Mark.TheVariants.{New, Open, Placed}
 use Rattle.list_schedule.specs.declared.search.Search.{Search}
-use Rattle.list_schedule.specs.Private.Search.{nth, IsAt, mark_at, mark_of, HasOperand, IsNewOperand, IsOrdered, IsSearch, IsOrder, Opens, Settles, Visits, Keeps, lacks_place}
+use Rattle.list_schedule.specs.Private.Search.{nth, IsAt, mark_at, mark_of, HasOperand, IsNewOperand, IsOrdered, IsSearch, Visits, Keeps, lacks_place}
 
 -- what is left to do with a node
 abbrev weight : Mark → ℕ

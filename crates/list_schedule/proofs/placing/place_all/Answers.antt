@@ -1,6 +1,5 @@
-use Rattle.std.proofs.Common.{◌≡◌, ◌<◌, ◌⊎◌, arith, rules, sym, subst, length, Err, Result, IfErr}
+use Rattle.std.proofs.Common.{◌≡◌, ◌⊎◌, arith, rules, Err}
 use Rattle.list_schedule.specs.Faults.{IsPeriodFault}
-use Rattle.list_schedule.specs.declared.fault.PeriodFault.{PeriodFault}
 use Rattle.list_schedule.specs.declared.fault.PeriodFault.TheVariants.{Memory}
 use Rattle.list_schedule.specs.Private.Order.{node_at}
 use Rattle.list_schedule.proofs.Placings.{rank_there, goes_on, stops, reader_set}
