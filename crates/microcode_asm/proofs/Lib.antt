@@ -1,0 +1,4 @@
+pub mod ScheduleTexts
+pub mod Printables
+pub mod ArcSearch
+pub mod RegisterLists

@@ -1,1 +1,3 @@
 pub mod Planned
+pub mod ScheduleText
+pub mod Private

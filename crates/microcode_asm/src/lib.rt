@@ -1,10 +1,13 @@
 //! The assembler: the image of a plan, and the schedule of a plan as text. Page `docs/PLANNING.md`, "The image".
 #![tactic(auto)]
 
-mod assemble;
+mod arc_search;
+mod assembler;
 mod fault;
-mod schedule_text;
+mod listing;
+mod node_line;
+mod text;
 
-pub use assemble::assemble;
+pub use assembler::assemble;
 pub use fault::AsmFault;
-pub use schedule_text::schedule_text;
+pub use listing::schedule_text;

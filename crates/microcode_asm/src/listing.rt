@@ -1,0 +1,58 @@
+//! The schedule of a plan as text.
+
+ghost use Rattle.std.specs.Prelude.{◌≡◌, ◌++◌, length, IfOk, OnOk};
+ghost use Rattle.std.specs.List.{flat_map, range_with_len};
+ghost use Rattle.datapath.specs.Allowed.{IsDatapath};
+ghost use Rattle.microcode_asm.specs.Planned.{IsPlanned};
+ghost use Rattle.microcode_asm.specs.ScheduleText.{head_line, node_line, schedule_text as text_of};
+ghost use Rattle.microcode_asm.specs.Private.Printable.{IsPrintable};
+
+use crate::fault::AsmFault;
+use crate::node_line::put_node;
+use crate::text::put_number;
+use datapath::Datapath;
+use fix_word::Bytes;
+use lists::List;
+use plan_core::Plan;
+use std::alloc::{AllocError, Global};
+
+/// Adds the head line.
+#[tactic(auto, unfolding(crate::specs::ScheduleText::head_line))]
+fn put_head(out: &mut Bytes, datapath: &Datapath, plan: &Plan) -> Result<(), AllocError>
+    ensures { OnOk result (out.new ≡ out.old ++ head_line datapath.now plan.now) }
+{
+    put_number(out, b"period ", u64::from(datapath.period))?;
+    put_number(out, b" unroll ", u64::from(plan.unroll))?;
+    put_number(out, b" nodes ", plan.assigned.lowered.nodes.len() as u64)?;
+    Ok(out.push(b'\n')?)
+}
+
+/// Adds the lines of the nodes.
+fn put_nodes(out: &mut Bytes, datapath: &Datapath, plan: &Plan) -> Result<(), AllocError>
+    requires { IsPrintable datapath.now plan.now }
+    ensures { OnOk result (out.new ≡ out.old ++ flat_map (node_line datapath.now plan.now)
+        (range_with_len 0 (length plan.now.assigned.lowered.nodes))) }
+{
+    for v in 0..plan.assigned.lowered.nodes.len() {
+        put_node(out, datapath, plan, v)?;
+    }
+    Ok(())
+}
+
+/// The schedule of a plan as text: its period, its unroll factor, and a line for each node. Page `docs/PLANNING.md`,
+/// "The text of a schedule".
+///
+/// # Errors
+///
+/// `Memory` where no memory is left.
+#[tactic(auto, unfolding(crate::specs::ScheduleText::schedule_text))]
+pub fn schedule_text(alloc: Global, plan: &Plan, datapath: &Datapath) -> Result<Bytes, AsmFault>
+    requires datapath { IsDatapath datapath.now }
+    requires plan { IsPlanned datapath.now plan.now }
+    ensures { IfOk result (λ text. text ≡ text_of datapath.now plan.now) }
+{
+    let mut out = List::new(alloc);
+    put_head(&mut out, datapath, plan)?;
+    put_nodes(&mut out, datapath, plan)?;
+    Ok(out)
+}
