@@ -29,7 +29,8 @@ reader_there : (nodes : List Node) (c q v : ℕ) → Reads nodes c q v → c < l
 reader_there nodes c q v reads =
     ⊎_elim (λ (before : c < length nodes). before)
     (λ (past : length nodes ≤ c).
-    let none : length (node_of nodes c).edges ≡ 0 = ap (λ (n : Node). length n.edges) (get_or_past nodes c no_node past) in
+    let none : length (node_of nodes c).edges ≡ 0 =
+    ap (λ (n : Node). length n.edges) (get_or_past nodes c no_node past) in
     let port = reads.port in
     absurd (omega arith))
     (cases_lt c (length nodes))

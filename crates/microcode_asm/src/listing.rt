@@ -4,7 +4,8 @@ ghost use Rattle.std.specs.Prelude.{◌≡◌, ◌++◌, length, IfOk, OnOk};
 ghost use Rattle.std.specs.List.{flat_map, range_with_len};
 ghost use Rattle.datapath.specs.Allowed.{IsDatapath};
 ghost use Rattle.microcode_asm.specs.Planned.{IsPlanned};
-ghost use Rattle.microcode_asm.specs.ScheduleText.{head_line, node_line, schedule_text as text_of};
+ghost use Rattle.microcode_asm.specs.ScheduleText as spec;
+ghost use Rattle.microcode_asm.specs.ScheduleText.{head_line, node_line};
 ghost use Rattle.microcode_asm.specs.Private.Printable.{IsPrintable};
 
 use crate::fault::AsmFault;
@@ -49,7 +50,7 @@ fn put_nodes(out: &mut Bytes, datapath: &Datapath, plan: &Plan) -> Result<(), Al
 pub fn schedule_text(alloc: Global, plan: &Plan, datapath: &Datapath) -> Result<Bytes, AsmFault>
     requires datapath { IsDatapath datapath.now }
     requires plan { IsPlanned datapath.now plan.now }
-    ensures { IfOk result (λ text. text ≡ text_of datapath.now plan.now) }
+    ensures { IfOk result (λ text. text ≡ spec.schedule_text datapath.now plan.now) }
 {
     let mut out = List::new(alloc);
     put_head(&mut out, datapath, plan)?;
