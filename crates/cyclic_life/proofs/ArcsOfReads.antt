@@ -1,7 +1,7 @@
 -- The lifetimes of the last reads are those of the schedule.
 use Rattle.std.proofs.Common.{◌≡◌, ◌⊎◌, ◌∙◌, sym, ap, subst, refl, arith, inl, inr, true, ⊎_elim, ℕ, ◌+◌, ◌*◌, ◌<◌, ◌≤◌, List, length, get_or}
 use Rattle.std.specs.Prelude.{map}
-use Rattle.std.specs.List.{All, AllPairs, Contains}
+use Rattle.std.specs.List.{All, AllPairs}
 use Rattle.std.specs.List.Sorted.{IsPermutation}
 use Rattle.std.proofs.Math.Nat.{mul-le-mul_right}
 use Rattle.std.proofs.lemmas.Bool.Decides.{nat_tests}
@@ -10,10 +10,8 @@ use Rattle.std.proofs.lemmas.List.Elements.{All-map, All-contains, All-weaker}
 use Rattle.std.proofs.lemmas.List.Sorted.{All-permutation, Contains-permutation}
 use Rattle.datapath.specs.declared.types.Datapath.{Datapath}
 use Rattle.plan_core.specs.Hardware.{port_of}
-use Rattle.plan_core.specs.Operands.{delay_at, Reads}
-use Rattle.plan_core.specs.Assigned.{unit_in}
-use Rattle.plan_core.specs.ListSchedule.{cycle_of, ends}
-use Rattle.plan_core.specs.Arcs.{arc_of, no_arc, ReadsArc, IsArc, IsArcBefore, IsArcFor, IsArcs, read_cycle}
+use Rattle.plan_core.specs.Operands.{delay_at}
+use Rattle.plan_core.specs.Arcs.{arc_of, no_arc, IsArc, IsArcBefore, IsArcs}
 use Rattle.plan_core.specs.declared.schedule.Assigned.{Assigned}
 use Rattle.plan_core.specs.declared.schedule.Schedule.{Schedule}
 use Rattle.plan_core.specs.declared.registers.Arc.{Arc}

@@ -1,12 +1,12 @@
 -- Where each word is read in its own sample, it needs one register.
-use Rattle.std.proofs.Common.{◌≡◌, ◌⊎◌, arith, ap, ℕ, ◌+◌, ◌*◌, ◌≤◌, List, get_or, refl, inl}
+use Rattle.std.proofs.Common.{◌≡◌, arith, ap, ℕ, ◌+◌, ◌*◌, ◌≤◌, List, get_or, refl, inl}
 use Rattle.std.specs.Prelude.{All}
 use Rattle.datapath.specs.declared.types.Datapath.{Datapath}
 use Rattle.signal_graph.specs.declared.graph.Edge.{Edge}
 use Rattle.signal_graph.specs.declared.graph.Node.{Node}
 use Rattle.plan_core.specs.Operands.{delay_at}
 use Rattle.plan_core.specs.ListSchedule.{IsListSchedule}
-use Rattle.plan_core.specs.Arcs.{IsCount, IsArc, IsArcs}
+use Rattle.plan_core.specs.Arcs.{IsCount, IsArcs}
 use Rattle.plan_core.specs.declared.schedule.Assigned.{Assigned}
 use Rattle.plan_core.specs.declared.schedule.Schedule.{Schedule}
 use Rattle.plan_core.specs.declared.registers.Arc.{Arc}

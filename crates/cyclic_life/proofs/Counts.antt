@@ -1,6 +1,5 @@
 -- How many registers a lifetime has in turn.
-use Rattle.std.proofs.Common.{◌≡◌, ◌⊎◌, ℕ, ◌+◌, ◌*◌, ◌≤◌, arith, Bool, subst, sym, ⊎_elim}
-use Rattle.std.specs.Prelude.{nat_le}
+use Rattle.std.proofs.Common.{◌≡◌, ◌⊎◌, ℕ, ◌+◌, ◌*◌, ◌≤◌, arith, subst, sym, ⊎_elim}
 use Rattle.std.proofs.lemmas.Bool.Decides.{nat_tests}
 use Rattle.plan_core.specs.Arcs.{IsCount}
 use Rattle.cyclic_life.specs.Private.Reads.{copies_of}

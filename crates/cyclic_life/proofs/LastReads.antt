@@ -1,9 +1,9 @@
 -- The last read of each lifetime, of reads in order.
-use Rattle.std.proofs.Common.{◌≡◌, ℕ, suc, ◌+◌, ◌<◌, ◌≤◌, Bool, true, false, drop, ap, ◌∙◌, ◌++◌, append_assoc, List, [], ◌∷◌, length, get_or, refl, sym, subst, arith}
+use Rattle.std.proofs.Common.{◌≡◌, ℕ, suc, ◌+◌, ◌≤◌, Bool, true, false, drop, ap, ◌∙◌, ◌++◌, append_assoc, List, [], ◌∷◌, get_or, refl, sym, subst, arith}
 use Rattle.std.specs.Prelude.{if◌then◌else◌, map}
 use Rattle.std.specs.List.{All, AllPairs, Contains}
 use Rattle.std.proofs.lemmas.Bool.Decides.{nat_tests}
-use Rattle.std.proofs.lemmas.List.Elements.{All-cons, All-tail, All-head, All-weaker}
+use Rattle.std.proofs.lemmas.List.Elements.{All-cons, All-tail, All-head}
 use Rattle.std.proofs.lemmas.List.Kept.{AllPairs-cons}
 use Rattle.cyclic_life.specs.Private.Reads.{is_alike, IsLifeBefore, IsUpTo, lasts, IsLastAt}
 use Rattle.cyclic_life.specs.declared.read.Read.{Read}

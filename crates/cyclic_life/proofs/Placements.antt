@@ -125,7 +125,7 @@ module _ (d : Datapath) (a : Assigned) (s : Schedule) where
   }
 
   -- the read of the next port comes to those before it
-  pub read_more : (c q v : ℕ) (reads : List Read) → q < length (node_of a.lowered.nodes c).edges
+  read_more : (c q v : ℕ) (reads : List Read) → q < length (node_of a.lowered.nodes c).edges
       → (edge_of (node_of a.lowered.nodes c) q).node ≡ v → AreReadsBefore d a s c q reads
       → AreReadsBefore d a s c (q + 1) (reads ++ read_of d a s c q v ∷ [])
   read_more c q v reads port node before = record {
@@ -158,6 +158,16 @@ module _ (d : Datapath) (a : Assigned) (s : Schedule) where
         (cases_lt p q))
         place;
   }
+
+  -- the same, as the code pushes the read
+  pub read_pushed : (c q v : ℕ) (reads pushed : List Read) (read : Read)
+      → q < length (node_of a.lowered.nodes c).edges → (edge_of (node_of a.lowered.nodes c) q).node ≡ v
+      → AreReadsBefore d a s c q reads → pushed ≡ reads ++ read ∷ [] → read ≡ read_of d a s c q v
+      → AreReadsBefore d a s c (q + 1) pushed
+  read_pushed c q v reads pushed read port node before pushed_is read_is =
+      let is : pushed ≡ reads ++ read_of d a s c q v ∷ [] =
+      pushed_is ∙ ap (λ (r : Read). reads ++ r ∷ []) read_is in
+      subst (AreReadsBefore d a s c (q + 1)) (sym is) (read_more c q v reads port node before)
 
   -- the ports of a node end, and the next node begins
   pub next_node : (c q : ℕ) (reads : List Read) → length (node_of a.lowered.nodes c).edges ≤ q

@@ -1,6 +1,5 @@
 -- A plan has what its text needs.
-use Rattle.std.proofs.Common.{◌≡◌, ◌∙◌, sym, ap, subst, refl, arith, ⊎_elim, ℕ, ◌<◌, ◌≤◌, List, length, get_or}
-use Rattle.std.specs.Prelude.{All, map}
+use Rattle.std.proofs.Common.{◌≡◌, sym, ap, subst, arith, ⊎_elim, ℕ, ◌<◌, ◌≤◌, List, length, get_or}
 use Rattle.std.proofs.lemmas.Bool.{cases_lt}
 use Rattle.std.proofs.lemmas.List.{get_or_past, get_or-map, length-map}
 use Rattle.std.proofs.lemmas.List.Elements.{All-get_or}

@@ -1,5 +1,5 @@
 -- Texts of lists, element by element.
-use Rattle.std.proofs.Common.{◌≡◌, ◌∙◌, sym, ap, refl, arith, ℕ, zero, suc, add-one, ◌+◌, List, [], ◌∷◌, ◌++◌, append-nil, append_assoc, take, length, ◌≤◌}
+use Rattle.std.proofs.Common.{◌≡◌, ◌∙◌, sym, ap, arith, ℕ, zero, suc, add-one, ◌+◌, List, [], ◌∷◌, ◌++◌, append-nil, append_assoc, take, length, ◌≤◌}
 use Rattle.std.specs.Prelude.{map, decimal}
 use Rattle.std.specs.List.{flat_map, join_with_byte, range_with_len}
 use Rattle.std.proofs.lemmas.List.{take_all}

@@ -1,7 +1,7 @@
 -- The reads of a schedule.
 use Rattle.std.specs.Prelude.{◌≡◌, ℕ, ◌+◌, ◌^◌, ◌<◌, ◌≤◌, ◌⊎◌, List, length, All, Contains}
 use Rattle.datapath.specs.declared.types.Datapath.{Datapath}
-use Rattle.plan_core.specs.Operands.{node_of, edge_of, delay_at, Reads}
+use Rattle.plan_core.specs.Operands.{node_of, delay_at, Reads}
 use Rattle.plan_core.specs.Assigned.{unit_in}
 use Rattle.plan_core.specs.Heights.{latency_of}
 use Rattle.plan_core.specs.ListSchedule.{cycle_of, ends}

@@ -1,4 +1,4 @@
-use Rattle.std.proofs.Common.{◌≡◌, ◌∙◌, ◌<◌, sym, ap, subst, List}
+use Rattle.std.proofs.Common.{◌∙◌, ◌<◌, sym, ap, subst, List}
 use Rattle.std.specs.Prelude.{map, All}
 use Rattle.plan_core.specs.Arcs.{IsArcs}
 use Rattle.plan_core.specs.declared.registers.Arc.{Arc}

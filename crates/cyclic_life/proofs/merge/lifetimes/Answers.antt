@@ -1,7 +1,6 @@
 use Rattle.std.proofs.Common.{◌≡◌, ◌+◌, List, [], ◌∷◌, ◌++◌, drop, get_or, subst, ap, sym, ◌∙◌}
 use Rattle.std.specs.Prelude.{map}
 use Rattle.plan_core.specs.declared.registers.Arc.{Arc}
-use Rattle.cyclic_life.specs.declared.read.Read.{Read}
 use Rattle.cyclic_life.specs.Private.Reads.{arc_to, lasts, no_read}
 use Rattle.cyclic_life.proofs.LastReads.{taken_last, passed}
 use Rattle.cyclic_life.proofs.merge.lifetimes.Goals as goal

@@ -1,4 +1,4 @@
-use Rattle.std.proofs.Common.{◌≡◌, ◌∙◌, sym, ap, arith, ◌++◌, List, ℕ}
+use Rattle.std.proofs.Common.{◌∙◌, sym, ap, arith, ◌++◌, List, ℕ}
 use Rattle.std.specs.List.{flat_map, range_with_len}
 use Rattle.microcode_asm.specs.ScheduleText.{node_line}
 use Rattle.microcode_asm.proofs.RegisterLists.{after, flat_range_more}

@@ -1,6 +1,5 @@
-use Rattle.std.proofs.Common.{◌≡◌, ◌*◌, ◌<◌, ◌≤◌, sym, subst, refl, arith, length}
+use Rattle.std.proofs.Common.{arith}
 use Rattle.std.proofs.Math.Nat.{mul-le-mul}
-use Rattle.signal_graph.specs.declared.graph.Edge.{Edge}
 use Rattle.cyclic_life.proofs.Placements.{read_edge}
 use Rattle.cyclic_life.proofs.placement.Placement.read.Goals as goal
 
