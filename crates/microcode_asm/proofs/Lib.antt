@@ -2,3 +2,15 @@ pub mod ScheduleTexts
 pub mod Printables
 pub mod ArcSearch
 pub mod RegisterLists
+pub mod Dealt
+pub mod PlanFacts
+pub mod OrderSteps
+pub mod LinkSteps
+pub mod BusSteps
+pub mod IssueSteps
+pub mod SampleSteps
+pub mod WordSteps
+pub mod HeldSteps
+pub mod StartSteps
+pub mod ImageSteps
+pub mod ReadyPlans

@@ -3,10 +3,19 @@
 
 mod arc_search;
 mod assembler;
+mod enables;
 mod fault;
+mod issues;
+mod lifetimes;
 mod listing;
 mod node_line;
+mod order;
+mod starts;
+mod tables;
+mod takes;
 mod text;
+mod units;
+mod words;
 
 pub use assembler::assemble;
 pub use fault::AsmFault;

@@ -1,0 +1,16 @@
+use Rattle.std.proofs.Common.{◌+◌, ◌∙◌, ap, sym, subst, length, [], ◌∷◌}
+use Rattle.std.proofs.lemmas.List.{length-append}
+use Rattle.microcode_asm.specs.Private.Words.{ArePortRegisters}
+use Rattle.microcode_asm.proofs.IssueSteps.{one_more_register}
+use Rattle.microcode_asm.proofs.issues.Issuer.registers.Goals as goal
+
+pub loop-port-preserved : goal.loop-port-preserved
+loop-port-preserved c = record {
+  count = ap length c.in_ok-push.ensures.ok ∙ length-append c.loop-port.regs (c.register.result ∷ [])
+      ∙ ap (λ n. n + 1) c.loop-port.invariant.count;
+  each = subst (ArePortRegisters c.args.self.now.datapath.now c.args.self.now.plan.now c.args.v c.args.n)
+      (sym c.in_ok-push.ensures.ok)
+      (one_more_register c.args.self.now.datapath.now c.args.self.now.plan.now c.requires.issuer.ready c.args.v
+      c.args.n c.loop-port.port c.register.result c.loop-port.regs c.loop-port.invariant.count
+      c.loop-port.invariant.each c.register.ensures);
+}

@@ -1,0 +1,6 @@
+use Rattle.std.proofs.Common.{◌≡◌, take, map}
+use Rattle.microcode_asm.specs.Private.Starts.{zeros}
+use Rattle.microcode_asm.proofs.units.blank_files.Given as goal
+
+abbrev pub invariant-loop-size : goal.invariant-loop-size
+invariant-loop-size l = l.files ≡ map zeros (take l.size-index l.sizes)

@@ -1,0 +1,86 @@
+-- The words with which registers and cells start.
+use Rattle.std.specs.Prelude.{◌≡◌, ◌≢◌, ℕ, ◌+◌, ◌<◌, ◌⊎◌, List, [], length, slice_index_or, map, replicate, ℤ, pos}
+use Rattle.operations.specs.declared.units.PortRef.{PortRef}
+use Rattle.datapath.specs.declared.types.Datapath.{Datapath}
+use Rattle.datapath.specs.declared.types.Unit as of_unit
+use Rattle.plan_core.specs.declared.plan.Plan.{Plan}
+use Rattle.micro_image.specs.declared.image.UnitDesc.{UnitDesc}
+use Rattle.micro_image.specs.declared.image.Image.{Image}
+use Rattle.micro_image.specs.Fields.{nth, no_unit}
+use Rattle.micro_image.specs.Log.{Place, Register, Cell, Latch, initial}
+use Rattle.plan_run.specs.Parts.{node_at, line_at}
+use Rattle.plan_run.specs.ImageOf.{IsUnitOf, IsPreloadOf, IsCellPreload}
+
+abbrev pub zeros : ℕ → List ℤ
+zeros count = replicate count (pos 0)
+
+-- a unit of the datapath, whose registers and cells hold 0
+abbrev pub blank_unit : of_unit.Unit → UnitDesc
+blank_unit unit = record {
+  kind = unit.kind;
+  latency = unit.latency;
+  gap = unit.gap;
+  files = map zeros unit.files;
+  cells = zeros unit.cells;
+  ram = unit.ram;
+}
+
+-- what a register or a cell of the units holds
+abbrev pub held : List UnitDesc → Place → ℤ
+held units (Register u q r) = nth (nth (nth units u no_unit).files q []) r (pos 0)
+held units (Cell u c) = nth (nth units u no_unit).cells c (pos 0)
+held units (Latch j) = pos 0
+
+-- but for what its registers and cells hold, the unit is the other
+pub record IsAlike (a b : UnitDesc) : Type 0 where
+  pub kind : a.kind ≡ b.kind
+  pub latency : a.latency ≡ b.latency
+  pub gap : a.gap ≡ b.gap
+  pub files : map length a.files ≡ map length b.files
+  pub cells : length a.cells ≡ length b.cells
+  pub ram : a.ram ≡ b.ram
+
+-- the place holds the word, and all others hold what they held
+pub record Writes (place : Place) (word : ℤ) (old new : List UnitDesc) : Type 0 where
+  pub count : length new ≡ length old
+  pub alike : (u : ℕ) → IsAlike (nth new u no_unit) (nth old u no_unit)
+  pub here : held new place ≡ word
+  pub others : (other : Place) → other ≢ place → held new other ≡ held old other
+
+-- the units are those of the datapath
+pub record AreUnitsOf (d : Datapath) (units : List UnitDesc) : Type 0 where
+  pub count : length units ≡ length d.units
+  pub each : (u : ℕ) → u < length d.units → IsUnitOf d u (nth units u no_unit)
+
+-- The registers that are read through the first lifetimes for words of before sample 0 start as in the image, and so do
+-- the cells of the first delay lines. Each place starts as in the image or with 0.
+pub record AreStarted (d : Datapath) (p : Plan) (image : Image) (arcs lines : ℕ) (units : List UnitDesc) : Type 0 where
+  pub register : (port : PortRef) (reg k i ago : ℕ)
+      → k < arcs → IsPreloadOf d p port reg k i ago
+      → held units (Register port.unit port.port reg) ≡ initial image (Register port.unit port.port reg)
+  pub cell : (ram cell l ago : ℕ)
+      → l < lines → IsCellPreload p ram cell l ago
+      → held units (Cell ram cell) ≡ initial image (Cell ram cell)
+  pub only : (place : Place) → (held units place ≡ initial image place) ⊎ (held units place ≡ pos 0)
+
+-- so do the registers of lifetime k that hold words of less than so many samples before sample 0
+pub record ArePreloaded (d : Datapath) (p : Plan) (image : Image) (k most : ℕ) (units : List UnitDesc) : Type 0 where
+  pub started : AreStarted d p image k 0 units
+  pub register : (port : PortRef) (reg i ago : ℕ)
+      → ago < most → IsPreloadOf d p port reg k i ago
+      → held units (Register port.unit port.port reg) ≡ initial image (Register port.unit port.port reg)
+
+-- the initial values of the node whose words line l keeps
+abbrev pub inits_of : Plan → ℕ → List (ℕ × ℤ)
+inits_of p l = (node_at p (line_at p l).node).inits
+
+-- what stands in the place of an initial value that is not there
+abbrev pub no_init : ℕ × ℤ
+no_init = (0, pos 0)
+
+-- so do the cells of line l that hold the first initial values of its node
+pub record AreCellsPut (d : Datapath) (p : Plan) (image : Image) (l values : ℕ) (units : List UnitDesc) : Type 0 where
+  pub started : AreStarted d p image (length p.arcs) l units
+  pub cell : (ram cell ago i : ℕ)
+      → i < values → (slice_index_or (inits_of p l) i no_init).0 ≡ ago → IsCellPreload p ram cell l ago
+      → held units (Cell ram cell) ≡ initial image (Cell ram cell)

@@ -1,0 +1,131 @@
+//! The issues of a sample.
+
+ghost use Rattle.std.specs.Prelude.{◌≡◌, ◌<◌, ◌≤◌, length, IfOk};
+ghost use Rattle.plan_core.specs.Hardware.{unit_of};
+ghost use Rattle.plan_run.specs.Parts.{nodes_of, node_at, edge_at, unit_at, IsCopy};
+ghost use Rattle.plan_run.specs.ImageOf.{IsIssueOf};
+ghost use Rattle.microcode_asm.specs.Private.Words.{IsPortRegister, ArePortRegisters, AreByCycle, HasIssues, IsIssuer};
+
+use crate::fault::AsmFault;
+use crate::lifetimes::ArcIndex;
+use crate::tables::{empty_lists, push_at};
+use datapath::{Datapath, PortRef};
+use lists::List;
+use micro_image::Issue;
+use plan_core::Plan;
+use signal_graph::Edge;
+use std::alloc::Global;
+
+/// The register of a port that an operation does not read.
+const UNREAD: u8 = 0;
+
+/// The copy with the word of so many samples before sample n, where the words of successive samples stand in so many
+/// copies in turn.
+pub(crate) fn copy_ago(copies: u8, n: usize, ago: usize) -> usize
+    requires some { 0 < copies }
+    requires few { n < 4 }
+    ensures { IsCopy copies n ago result }
+{
+    let copies = usize::from(copies);
+    (n + copies - ago % copies) % copies
+}
+
+/// A plan whose issues are made.
+#[derive(Clone, Copy)]
+pub(crate) struct Issuer<'a> {
+    pub plan: &'a Plan,
+    pub datapath: &'a Datapath,
+    /// The nodes by unit.
+    pub order: &'a List<usize>,
+    pub index: &'a ArcIndex,
+}
+
+impl Issuer<'_> {
+    /// The register that node v reads at a port through an edge in sample n.
+    fn operand_register(&self, v: usize, port: usize, edge: Edge, n: usize) -> u8
+        requires issuer { IsIssuer self.now }
+        requires node { v < length (nodes_of self.now.plan.now) }
+        requires port { port < length (node_at self.now.plan.now v).edges }
+        requires edge { edge ≡ edge_at self.now.plan.now v port }
+        requires sample { n < self.now.plan.now.unroll }
+        ensures { IsPortRegister self.now.datapath.now self.now.plan.now v n port result }
+    {
+        let file = PortRef {
+            unit: self.plan.assigned.units[v],
+            port: port as u8,
+        };
+        let k = self
+            .index
+            .find(self.plan.arcs.as_slice(), edge.node as usize, file);
+        let copy = copy_ago(self.plan.arcs[k].copies, n, usize::from(edge.delay));
+        self.plan.registers.regs[k][copy]
+    }
+
+    /// The register of an issue of node v in sample n at a port.
+    fn register(&self, v: usize, port: usize, n: usize) -> u8
+        requires issuer { IsIssuer self.now }
+        requires node { v < length (nodes_of self.now.plan.now) }
+        requires sample { n < self.now.plan.now.unroll }
+        ensures { IsPortRegister self.now.datapath.now self.now.plan.now v n port result }
+    {
+        match self.plan.assigned.lowered.nodes[v].edges.get(port) {
+            Some(edge) => self.operand_register(v, port, *edge, n),
+            None => UNREAD,
+        }
+    }
+
+    /// The registers of an issue of node v in sample n.
+    fn registers(&self, alloc: Global, v: usize, n: usize) -> Result<List<u8>, AsmFault>
+        requires issuer { IsIssuer self.now }
+        requires node { v < length (nodes_of self.now.plan.now) }
+        requires sample { n < self.now.plan.now.unroll }
+        ensures count { IfOk result (λ regs. length regs
+            ≡ length (unit_of self.now.datapath.now (unit_at self.now.plan.now v)).files) }
+        ensures each { IfOk result
+            (ArePortRegisters self.now.datapath.now self.now.plan.now v n) }
+    {
+        let unit = usize::from(self.plan.assigned.units[v]);
+        let ports = self.datapath.units[unit].files.len();
+        let mut regs = List::with_capacity(alloc, ports)?;
+        for port in 0..ports {
+            regs.push(self.register(v, port, n))?;
+        }
+        Ok(regs)
+    }
+
+    /// The issue of node v in sample n.
+    fn issue(&self, alloc: Global, v: usize, n: usize) -> Result<Issue, AsmFault>
+        requires issuer { IsIssuer self.now }
+        requires node { v < length (nodes_of self.now.plan.now) }
+        requires sample { n < self.now.plan.now.unroll }
+        ensures { IfOk result (IsIssueOf self.now.datapath.now self.now.plan.now v n) }
+    {
+        let node = &self.plan.assigned.lowered.nodes[v];
+        Ok(Issue {
+            unit: self.plan.assigned.units[v],
+            op: node.op,
+            fmt: node.fmt,
+            arg: node.arg,
+            regs: self.registers(alloc, v, n)?,
+        })
+    }
+
+    /// The issues of sample n, by cycle.
+    pub(crate) fn issues(&self, alloc: Global, n: usize) -> Result<List<List<Issue>>, AsmFault>
+        requires issuer { IsIssuer self.now }
+        requires sample { n < self.now.plan.now.unroll }
+        ensures { IfOk result (AreByCycle self.now.datapath.now
+            (HasIssues self.now.datapath.now self.now.plan.now n)) }
+    {
+        let mut issues = empty_lists(alloc, usize::from(self.datapath.period))?;
+        for v in self.order.iter() {
+            let issue = self.issue(alloc, *v, n)?;
+            push_at(
+                &mut issues,
+                usize::from(self.plan.schedule.slots[*v].cycle),
+                issue,
+            )?;
+        }
+        Ok(issues)
+    }
+}
