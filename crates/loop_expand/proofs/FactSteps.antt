@@ -15,13 +15,12 @@ use Rattle.fix_types.specs.TypedTree as typed
 use Rattle.signal_graph.specs.Flat as flat
 use Rattle.fix_types.specs.declared.typed.TypedConst.{TypedConst}
 use Rattle.fix_types.specs.declared.typed.TypedExpr.{TypedExpr}
-use Rattle.fix_types.specs.declared.typed.TypedItem.{TypedItem}
 use Rattle.single_def.specs.declared.elements.Instance.{Instance}
 use Rattle.signal_graph.specs.declared.flat.FlatElem.{FlatElem}
 use Rattle.signal_graph.specs.declared.flat.FlatExpr.{FlatExpr}
 use Rattle.silage_syntax.specs.Manifests.{Indices}
 use Rattle.loop_expand.specs.Private.Elements.{view_elems, inserted, changed, with_fact, with_facts, Puts}
-use Rattle.loop_expand.specs.Private.Facts.{Fact, joined, flat_of, flat_parts, item_facts, items_facts, facts_in, facts_from}
+use Rattle.loop_expand.specs.Private.Facts.{Fact, joined, flat_of, flat_parts, facts_in, facts_from}
 use Rattle.loop_expand.specs.Private.Rows.{parts_of, parts_after, view_exprs, typed_exprs}
 use Rattle.loop_expand.specs.Private.Scopes.{Signal, Body, Scope, signals_from, decls_of, body_for, body_of}
 
@@ -223,18 +222,17 @@ module _ (c : Scope) (indices : Indices) (parts : List TypedExpr) (whole : flat.
       sym (parts_end (map flat.view_expr flats))
       ∙ sym (ap (λ (xs : List TypedExpr). parts_after (map flat.view_expr flats) (flat_parts c indices (typed_exprs xs))) (drop_end parts i past)) ∙ so_far
 
--- Items one behind the other.
-pub items_more : (c : Scope) (indices : Indices) (items : List TypedItem) (i : ℕ) (x : TypedItem) (old new : List FlatElem) (whole : List flat.Element) → i < length items → x ≡ get_or items i x
-    → Puts (item_facts c indices (typed.view_item x)) old new → with_facts (items_facts c indices (typed.view_items (drop i items))) (view_elems old) ≡ whole
-    → with_facts (items_facts c indices (typed.view_items (drop (i + 1) items))) (view_elems new) ≡ whole
-items_more c indices items i x old new whole less is puts so_far =
-    let rest = items_facts c indices (typed.view_items (drop (i + 1) items)) in
-    ap (with_facts rest) puts ∙ sym (facts-append (item_facts c indices (typed.view_item x)) rest (view_elems old))
-    ∙ sym (ap (λ (ys : List TypedItem). with_facts (items_facts c indices (typed.view_items ys)) (view_elems old)) (drop_item items i x less is)) ∙ so_far
+-- The facts of things one behind the other.
+module _ {A B : Type 0} (F : B → List Fact) (V : A → B) (xs : List A) where
+  pub joined_more : (i : ℕ) (x : A) (old new : List FlatElem) (whole : List flat.Element) → i < length xs → x ≡ get_or xs i x → Puts (F (V x)) old new
+      → with_facts (joined F (map V (drop i xs))) (view_elems old) ≡ whole → with_facts (joined F (map V (drop (i + 1) xs))) (view_elems new) ≡ whole
+  joined_more i x old new whole less is puts so_far =
+      let rest = joined F (map V (drop (i + 1) xs)) in
+      ap (with_facts rest) puts ∙ sym (facts-append (F (V x)) rest (view_elems old))
+      ∙ sym (ap (λ (ys : List A). with_facts (joined F (map V ys)) (view_elems old)) (drop_item xs i x less is)) ∙ so_far
 
-pub items_end : (c : Scope) (indices : Indices) (items : List TypedItem) (i : ℕ) (elems : List FlatElem) (whole : List flat.Element) → length items ≤ i → with_facts (items_facts c indices (typed.view_items (drop i items))) (view_elems elems) ≡ whole → view_elems elems ≡ whole
-items_end c indices items i elems whole past so_far =
-    sym (ap (λ (ys : List TypedItem). with_facts (items_facts c indices (typed.view_items ys)) (view_elems elems)) (drop_end items i past)) ∙ so_far
+  pub joined_end : (i : ℕ) (elems : List FlatElem) (whole : List flat.Element) → length xs ≤ i → with_facts (joined F (map V (drop i xs))) (view_elems elems) ≡ whole → view_elems elems ≡ whole
+  joined_end i elems whole past so_far = sym (ap (λ (ys : List A). with_facts (joined F (map V ys)) (view_elems elems)) (drop_end xs i past)) ∙ so_far
 
 -- Instances one behind the other.
 pub instances_more : (tables : List TypedConst) (bodies : List Body) (all : List Instance) (firsts : List ℕ) (is : List Instance) (n : ℕ) (x : Instance) (old new : List FlatElem) (whole : List flat.Element) → n < length is → x ≡ get_or is n x

@@ -34,6 +34,9 @@ pub mod Charges
 pub mod OwnPositions
 pub mod FlatReads
 pub mod FactSteps
+pub mod ValueRows
+pub mod TurnRows
+pub mod GroupRows
 pub mod ReadableExprs
 pub mod FlatMade
 pub mod ProgramFacts

@@ -208,8 +208,8 @@ fn child_from(instances: &[Instance], from: usize, parent: u32, at: u32, env: &E
     None
 }
 
-/// The instance that the call makes. Calls stand in the order of their instances, so a search for the next one begins
-/// behind the one that was entered last.
+/// The instance that the call makes. The calls of a loop stand in the order of their instances, so a search for the
+/// next one begins behind the one that was entered last.
 fn child(instances: &[Instance], last: usize, parent: u32, at: u32, env: &Env) -> Option<usize>
     requires { AreApart instances.now }
     ensures { result ≡ child_of parent at (turns_of env.now) instances.now }

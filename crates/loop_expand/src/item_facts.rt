@@ -1,21 +1,21 @@
-//! Items, in the turns of the loops around them.
+//! What items say of elements, in the turns of the loops around them.
 
-ghost use Rattle.std.specs.Prelude.{OnOk};
+ghost use Rattle.std.specs.Prelude.{map, OnOk};
 ghost use Rattle.silage_syntax.specs.Tree.{view_manifest, view_place};
-ghost use Rattle.single_def.specs.ElementRules.{loop_turns};
 ghost use Rattle.fix_types.specs.TypedTree as typed;
 ghost use Rattle.loop_expand.specs.Private.Elements.{Puts};
 ghost use Rattle.loop_expand.specs.Private.Facts as is;
+ghost use Rattle.loop_expand.specs.Private.Groups.{view_ref, view_group, view_groups};
 ghost use Rattle.loop_expand.specs.Private.Scopes.{view_scope};
 
-use crate::amounts::{bound, samples};
+use crate::amounts::samples;
 use crate::calls::call;
 use crate::elements::{define_some, preset_some};
 use crate::expressions::{flat, number_at};
+use crate::groups::Group;
 use crate::scope::Scope;
-use crate::turns::{turn_at, turn_count, with_turn};
+use crate::turns::env_at;
 use fix_types::{TypedExpr, TypedItem};
-use lists::Name;
 use name_check::Env;
 use signal_graph::FlatElem;
 use silage_syntax::{Manifest, Place};
@@ -51,7 +51,6 @@ fn expand_initial(
     preset_some(scope.alloc, elems, elem, samples(env, k)?, word)
 }
 
-#[cycle(items)]
 fn expand_item(
     scope: &Scope,
     env: &Env,
@@ -71,65 +70,56 @@ fn expand_item(
             at,
         } => call(scope, env, last, elems, *func, *at, places, args),
         TypedItem::Loop {
-            index,
-            lo,
-            hi,
-            items,
-        } => {
-            let first = bound(env, lo);
-            expand_loop(scope, env, last, elems, index, first, bound(env, hi), items)
-        }
+            index: _,
+            lo: _,
+            hi: _,
+            items: _,
+        } => Ok(()),
         TypedItem::Initial { place, k, raw } => {
             expand_initial(scope, env, elems, place, k, *raw)
         }
     }
 }
 
-/// The items in each turn of a loop from the first number to the last one.
-#[cycle(items)]
-fn expand_loop(
+/// Items in one turn of the loops around them.
+fn expand_items(
     scope: &Scope,
     env: &Env,
     last: &mut usize,
     elems: &mut [FlatElem],
-    index: &Name,
-    lo: Option<i32>,
-    hi: Option<i32>,
-    items: &[TypedItem],
+    items: &[&TypedItem],
 ) -> Result<(), AllocError>
-    ensures { OnOk result (Puts (is.loop_facts (view_scope scope.now) env.now index.now (loop_turns lo hi)
-        (typed.view_items items.now)) elems.old elems.new) }
+    ensures { OnOk result (Puts (is.turn_facts (view_scope scope.now) (map view_ref items.now) env.now)
+        elems.old elems.new) }
 {
-    let lo = match lo {
-        None => return Ok(()),
-        Some(lo) => lo,
-    };
-    let hi = match hi {
-        None => return Ok(()),
-        Some(hi) => hi,
-    };
-    for k in 0..turn_count(lo, hi) {
-        let turn = turn_at(lo, hi, k);
-        let inner = with_turn(scope.alloc, env, index, turn)?;
-        for item in items {
-            expand_item(scope, &inner, last, elems, item)?;
-        }
+    for item in items {
+        expand_item(scope, env, last, elems, *item)?;
     }
     Ok(())
 }
 
-pub(crate) fn expand_items(
-    scope: &Scope,
-    env: &Env,
-    last: &mut usize,
-    elems: &mut [FlatElem],
-    items: &[TypedItem],
-) -> Result<(), AllocError>
-    ensures { OnOk result (Puts (is.items_facts (view_scope scope.now) env.now (typed.view_items items.now))
+fn expand_group(scope: &Scope, elems: &mut [FlatElem], group: &Group) -> Result<(), AllocError>
+    ensures { OnOk result (Puts (is.group_facts (view_scope scope.now) (view_group group.now))
         elems.old elems.new) }
 {
-    for item in items {
-        expand_item(scope, env, last, elems, item)?;
+    let mut last = scope.number as usize;
+    for k in 0..group.turns.count {
+        let env = env_at(scope.alloc, &group.turns, k)?;
+        expand_items(scope, &env, &mut last, elems, &group.items)?;
+    }
+    Ok(())
+}
+
+pub(crate) fn expand_groups(
+    scope: &Scope,
+    elems: &mut [FlatElem],
+    groups: &[Group],
+) -> Result<(), AllocError>
+    ensures { OnOk result (Puts (is.groups_facts (view_scope scope.now) (view_groups groups.now))
+        elems.old elems.new) }
+{
+    for group in groups {
+        expand_group(scope, elems, group)?;
     }
     Ok(())
 }

@@ -7,6 +7,7 @@ mod elements;
 mod expressions;
 mod fault;
 mod functions;
+mod groups;
 mod initials;
 mod instances;
 mod item_facts;
@@ -14,6 +15,7 @@ mod lookups;
 mod program;
 mod scope;
 mod turns;
+mod values;
 
 pub use fault::ExpandFault;
 pub use program::expand;

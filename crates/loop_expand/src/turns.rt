@@ -1,13 +1,43 @@
 //! The turns of loops.
 
-ghost use Rattle.std.specs.Prelude.{◌≡◌, ◌++◌, ◌∷◌, [], ◌+ℤ◌, ◌-ℤ◌, ◌≤ℤ◌, pos, IfOk};
-ghost use Rattle.silage_meaning.specs.Instances.{turns_of};
+ghost use Rattle.std.specs.Prelude.{◌≡◌, ◌++◌, ◌∷◌, [], ◌+ℤ◌, ◌-ℤ◌, ◌≤ℤ◌, pos, map, ℕ, Some, IfOk, OnOk};
+ghost use Rattle.std.specs.List.{range_with_len};
 ghost use Rattle.single_def.specs.ElementRules as rules;
-ghost use Rattle.loop_expand.specs.Private.Children as is;
+ghost use Rattle.single_def.specs.ElementRules.{loop_turns};
+ghost use Rattle.silage_meaning.specs.Instances.{turns_of};
+ghost use Rattle.silage_syntax.specs.Tree.{view_manifest};
+ghost use Rattle.silage_syntax.specs.Manifests.{manifest_value};
+ghost use Rattle.loop_expand.specs.Private.Children.{same_turns};
+ghost use Rattle.loop_expand.specs.Private.Turns.{at, value_in, view_columns, indices_at, view_turns, turns_within};
+ghost use Rattle.loop_expand.specs.Private.Turns.{inner_at, inner_of, inner_columns};
 
+use crate::amounts::bound;
+use crate::values::{Values, are_past, value_at, value_of, values_of};
 use lists::{List, Name};
 use name_check::Env;
+use silage_syntax::Manifest;
 use std::alloc::{AllocError, AllocFailed, Global};
+
+/// The index of a loop, with its value in each turn.
+#[derive(Drop)]
+pub(crate) struct Column<'a> {
+    pub index: &'a Name,
+    pub values: Vec<i32>,
+}
+
+/// Turns of loops inside each other, by their indices, outermost first.
+#[derive(Drop)]
+pub(crate) struct Turns<'a> {
+    pub columns: Vec<Column<'a>>,
+    pub count: usize,
+}
+
+/// A turn of a loop: the number of the turn around it, and its index.
+#[derive(Clone, Copy, Drop)]
+pub(crate) struct InnerTurn {
+    pub outer: usize,
+    pub index: i32,
+}
 
 fn at_least_0(count: i64) -> u64
     ensures { result ≡ rules.at_least_0 count }
@@ -25,40 +55,191 @@ fn one_more_than(first: i32, last: i32) -> i64
 }
 
 /// How many turns a loop from the first number to the last one has.
-pub(crate) fn turn_count(first: i32, last: i32) -> u64
+fn turn_count(first: i32, last: i32) -> u64
     ensures { result ≡ rules.count_up first last }
 {
     at_least_0(one_more_than(first, last))
 }
 
 /// The index of the turn after so many others.
-pub(crate) fn turn_at(first: i32, last: i32, k: u64) -> i32
+fn turn_at(first: i32, last: i32, k: u64) -> i32
     requires { (first +ℤ pos k) ≤ℤ last }
     ensures { result ≡ first +ℤ pos k }
 {
     (i64::from(first) + k as i64) as i32
 }
 
-/// The indices of the loops around a turn, and its own.
-pub(crate) fn with_turn(
-    alloc: Global,
-    outer: &Env,
-    index: &Name,
-    turn: i32,
-) -> Result<Env, AllocError>
-    ensures { IfOk result (λ env. env ≡ outer.now ++ (index.now, turn) ∷ []) }
+/// The indices of the loops around a turn.
+pub(crate) fn env_at(alloc: Global, turns: &Turns, k: usize) -> Result<Env, AllocError>
+    ensures { IfOk result (λ env. env ≡ indices_at turns.now k) }
 {
-    let mut env = List::with_capacity(alloc, outer.len())?;
-    for entry in outer.as_slice() {
-        env.push((entry.0.clone()?, entry.1))?;
+    let mut env = List::with_capacity(alloc, turns.columns.len())?;
+    for column in turns.columns.iter() {
+        env.push((column.index.clone()?, value_at(&column.values, k)))?;
     }
-    env.push((index.clone()?, turn))?;
     Ok(env)
+}
+
+/// Appends the turns of a loop with these bounds.
+fn put_turns(inner: &mut Vec<InnerTurn>, outer: usize, lo: i32, hi: i32) -> Result<(), AllocError>
+    ensures { OnOk result (inner.new.items
+        ≡ inner.old.items ++ map (inner_at outer) (loop_turns (Some lo) (Some hi))) }
+{
+    for k in 0..turn_count(lo, hi) {
+        inner.push(InnerTurn {
+            outer,
+            index: turn_at(lo, hi, k),
+        })?;
+    }
+    Ok(())
+}
+
+/// The same, if the bounds have values.
+fn put_some(
+    inner: &mut Vec<InnerTurn>,
+    outer: usize,
+    lo: Option<i32>,
+    hi: Option<i32>,
+) -> Result<(), AllocError>
+    ensures { OnOk result (inner.new.items ≡ inner.old.items ++ map (inner_at outer) (loop_turns lo hi)) }
+{
+    match lo {
+        None => Ok(()),
+        Some(lo) => match hi {
+            None => Ok(()),
+            Some(hi) => put_turns(inner, outer, lo, hi),
+        },
+    }
+}
+
+/// The turns of a loop whose bounds have these values in the turns around it.
+fn known_turns(
+    alloc: Global,
+    count: usize,
+    lo: &Values,
+    hi: &Values,
+) -> Result<Vec<InnerTurn>, AllocError>
+    ensures { IfOk result (λ inner. inner.items
+        ≡ inner_of (λ k. loop_turns (Some (value_in lo.now k)) (Some (value_in hi.now k))) (range_with_len 0 count)) }
+{
+    let mut inner = Vec::new(alloc);
+    if are_past(count, lo, hi) {
+        return Ok(inner);
+    }
+    for k in 0..count {
+        put_turns(&mut inner, k, value_of(lo, k), value_of(hi, k))?;
+    }
+    Ok(inner)
+}
+
+/// The turns of a loop with these bounds, worked out in each turn around it by itself.
+fn each_turns(
+    alloc: Global,
+    turns: &Turns,
+    lo: &Manifest,
+    hi: &Manifest,
+) -> Result<Vec<InnerTurn>, AllocError>
+    ensures { IfOk result (λ inner. inner.items
+        ≡ inner_of (λ k. loop_turns (manifest_value (indices_at turns.now k) (view_manifest lo.now))
+        (manifest_value (indices_at turns.now k) (view_manifest hi.now))) (range_with_len 0 turns.now.count)) }
+{
+    let mut inner = Vec::new(alloc);
+    for k in 0..turns.count {
+        let env = env_at(alloc, turns, k)?;
+        put_some(&mut inner, k, bound(&env, lo), bound(&env, hi))?;
+    }
+    Ok(inner)
+}
+
+/// The turns of a loop with these bounds in the turns around it.
+fn inner_turns(
+    alloc: Global,
+    turns: &Turns,
+    lo: &Manifest,
+    hi: &Manifest,
+) -> Result<Vec<InnerTurn>, AllocError>
+    ensures { IfOk result (λ inner. inner.items
+        ≡ inner_of (λ k. loop_turns (manifest_value (indices_at turns.now k) (view_manifest lo.now))
+        (manifest_value (indices_at turns.now k) (view_manifest hi.now))) (range_with_len 0 turns.now.count)) }
+{
+    let first = match values_of(alloc, turns, lo)? {
+        None => return each_turns(alloc, turns, lo, hi),
+        Some(first) => first,
+    };
+    let last = match values_of(alloc, turns, hi)? {
+        None => return each_turns(alloc, turns, lo, hi),
+        Some(last) => last,
+    };
+    known_turns(alloc, turns.count, &first, &last)
+}
+
+/// The values of an index around turns.
+fn outer_values(alloc: Global, values: &[i32], inner: &[InnerTurn]) -> Result<Vec<i32>, AllocError>
+    ensures { IfOk result (λ row. row.items ≡ map (λ i. at values.now i.outer) inner.now) }
+{
+    let mut row = Vec::with_capacity(alloc, inner.len())?;
+    for turn in inner {
+        row.push(value_at(values, turn.outer))?;
+    }
+    Ok(row)
+}
+
+/// The values of the index of turns.
+fn own_values(alloc: Global, inner: &[InnerTurn]) -> Result<Vec<i32>, AllocError>
+    ensures { IfOk result (λ row. row.items ≡ map (λ i. i.index) inner.now) }
+{
+    let mut row = Vec::with_capacity(alloc, inner.len())?;
+    for turn in inner {
+        row.push(turn.index)?;
+    }
+    Ok(row)
+}
+
+/// The indices of turns and of the loops around them.
+fn columns_of<'a>(
+    alloc: Global,
+    outer: &[Column<'a>],
+    index: &'a Name,
+    inner: &[InnerTurn],
+) -> Result<Vec<Column<'a>>, AllocError>
+    ensures { IfOk result (λ columns. view_columns columns.items
+        ≡ inner_columns (view_columns outer.now) index.now inner.now) }
+{
+    let mut columns = Vec::with_capacity(alloc, outer.len())?;
+    for column in outer {
+        columns.push(Column {
+            index: column.index,
+            values: outer_values(alloc, &column.values, inner)?,
+        })?;
+    }
+    columns.push(Column {
+        index,
+        values: own_values(alloc, inner)?,
+    })?;
+    Ok(columns)
+}
+
+/// The turns of a loop with these bounds in each turn of those around it.
+pub(crate) fn within<'a>(
+    alloc: Global,
+    turns: &Turns<'a>,
+    index: &'a Name,
+    lo: &Manifest,
+    hi: &Manifest,
+) -> Result<Turns<'a>, AllocError>
+    ensures { IfOk result (λ next. view_turns next
+        ≡ turns_within (view_turns turns.now) index.now (view_manifest lo.now) (view_manifest hi.now)) }
+{
+    let inner = inner_turns(alloc, turns, lo, hi)?;
+    Ok(Turns {
+        columns: columns_of(alloc, &turns.columns, index, &inner)?,
+        count: inner.len(),
+    })
 }
 
 /// Whether these are the values of the indices.
 pub(crate) fn is_turn(turns: &[i32], env: &[(Name, i32)]) -> bool
-    ensures { result ≡ is.same_turns turns.now (turns_of env.now) }
+    ensures { result ≡ same_turns turns.now (turns_of env.now) }
 {
     match turns {
         [] => env.is_empty(),

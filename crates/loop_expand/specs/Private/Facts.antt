@@ -6,12 +6,12 @@ use Rattle.silage_syntax.specs.Tree.{Manifest, Place}
 use Rattle.silage_syntax.specs.Manifests.{Indices, manifest_value}
 use Rattle.silage_syntax.specs.Names.{element_count}
 use Rattle.silage_meaning.specs.Instances.{turns_of}
-use Rattle.single_def.specs.ElementRules.{loop_turns}
 use Rattle.single_def.specs.declared.elements.Instance.{Instance}
 use Rattle.fix_types.specs.declared.typed.TypedConst.{TypedConst}
 use Rattle.fix_types.specs.TypedTree as typed
 use Rattle.signal_graph.specs.Flat as flat
 use Rattle.loop_expand.specs.Private.Children.{child_of}
+use Rattle.loop_expand.specs.Private.Groups.{Group, groups_of}
 use Rattle.loop_expand.specs.Private.Scopes.{Signal, Body, Scope, body_of}
 
 pub data Fact : Type 0 where
@@ -165,23 +165,22 @@ module _ (c : Scope) where
   called indices func at places args =
       called_by indices (child_of c.number at (turns_of indices) c.instances) func places args
 
-  abbrev mutual
-    pub item_facts : Indices → typed.TypedItem → List Fact
-    item_facts indices (typed.equation place x) = defined_at (number_at indices place) (flat_of indices x)
-    item_facts indices (typed.call places func args at) = called indices func at places args
-    item_facts indices (typed.loop index lo hi items) =
-        joined (λ turn. items_facts (indices ++ (index, turn) ∷ []) items)
-        (loop_turns (manifest_value indices lo) (manifest_value indices hi))
-    item_facts indices (typed.initial place k word) =
-        preset_at (number_at indices place) (natural indices k) word
+  -- an item in one turn of the loops around it; the items of a loop have turns of their own
+  abbrev pub item_facts : Indices → typed.TypedItem → List Fact
+  item_facts indices (typed.equation place x) = defined_at (number_at indices place) (flat_of indices x)
+  item_facts indices (typed.call places func args at) = called indices func at places args
+  item_facts indices (typed.loop index lo hi items) = []
+  item_facts indices (typed.initial place k word) =
+      preset_at (number_at indices place) (natural indices k) word
 
-    pub items_facts : Indices → typed.TypedItems → List Fact
-    items_facts indices typed.no_item = []
-    items_facts indices (typed.item x rest) = item_facts indices x ++ items_facts indices rest
+  abbrev pub turn_facts : List typed.TypedItem → Indices → List Fact
+  turn_facts items indices = joined (item_facts indices) items
 
-  -- the items in each of these turns of a loop
-  abbrev pub loop_facts : Indices → (index : List ℕ) → List ℤ → typed.TypedItems → List Fact
-  loop_facts indices index turns items = joined (λ turn. items_facts (indices ++ (index, turn) ∷ []) items) turns
+  abbrev pub group_facts : Group → List Fact
+  group_facts g = joined (turn_facts g.items) g.turns
+
+  abbrev pub groups_facts : List Group → List Fact
+  groups_facts groups = joined group_facts groups
 
 -- The facts of instances, of which the first has number n.
 module _ (tables : List TypedConst) (bodies : List Body) (instances : List Instance) (firsts : List ℕ) where
@@ -198,7 +197,7 @@ module _ (tables : List TypedConst) (bodies : List Body) (instances : List Insta
 
   abbrev pub facts_in : (number : ℕ) → Option Body → List Fact
   facts_in number None = []
-  facts_in number (Some b) = items_facts (scope_at number b) [] b.of.items
+  facts_in number (Some b) = groups_facts (scope_at number b) (groups_of b.of.items)
 
   abbrev pub facts_from : (number : ℕ) → List Instance → List Fact
   facts_from number [] = []

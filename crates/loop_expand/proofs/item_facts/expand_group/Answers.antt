@@ -1,0 +1,19 @@
+use Rattle.std.proofs.Common.{◌∙◌, ap, ap₂, List, map, arith}
+use Rattle.silage_syntax.specs.Manifests.{Indices}
+use Rattle.fix_types.specs.TypedTree as typed
+use Rattle.loop_expand.specs.Private.Elements.{view_elems, with_facts}
+use Rattle.loop_expand.specs.Private.Facts.{turn_facts}
+use Rattle.loop_expand.specs.Private.Groups.{view_ref}
+use Rattle.loop_expand.specs.Private.Scopes.{view_scope}
+use Rattle.loop_expand.specs.Private.Turns.{indices_at}
+use Rattle.loop_expand.proofs.FactSteps.{next_joined}
+use Rattle.loop_expand.proofs.item_facts.expand_group.Goals as goal
+
+pub loop-k-preserved : goal.loop-k-preserved
+loop-k-preserved c =
+    let scope = view_scope c.args.scope.now in
+    let group = c.args.group.now in
+    next_joined (turn_facts scope (map view_ref group.items.items)) (indices_at group.turns) group.turns.count c.loop-k.k (view_elems c.loop-k.elems) (view_elems c.expand_items.new.elems) _ (omega arith)
+    (c.in_ok-expand_items.ensures
+    ∙ ap₂ (λ (items : List typed.TypedItem) (env : Indices). with_facts (turn_facts scope items env) (view_elems c.loop-k.elems)) (ap (map view_ref) c.deref.ensures.value) c.in_ok-env.ensures)
+    c.loop-k.invariant
