@@ -7,6 +7,4 @@ pub mod Elements
 pub mod Local
 pub mod Unique
 pub mod Apart
-pub mod OneLine
-pub mod OneLineOnce
 mod Examples

@@ -3,4 +3,3 @@ pub mod Types
 pub mod Value
 pub mod Solves
 pub mod Rules
-pub mod OneLine

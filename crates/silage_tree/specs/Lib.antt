@@ -9,7 +9,6 @@ pub use Rattle.silage_meaning.specs.Types
 pub use Rattle.silage_meaning.specs.Value
 pub use Rattle.silage_meaning.specs.Solves
 pub use Rattle.silage_meaning.specs.Rules
-pub use Rattle.silage_meaning.specs.OneLine
 pub use Rattle.silage_print.specs.Text
 pub use Rattle.silage_print.specs.Precedence
 pub use Rattle.silage_print.specs.Parentheses
