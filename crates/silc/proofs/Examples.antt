@@ -1,18 +1,10 @@
--- The program y = x + 1 on 8 bits: its image, whose file is known byte by byte.
-use Rattle.std.proofs.Common.{◌≡◌, refl, true, [], ◌∷◌, pos, neg_ℤ}
+-- Channels and rows, worked out.
+use Rattle.std.proofs.Common.{◌≡◌, refl, [], ◌∷◌, pos, neg_ℤ}
 use Rattle.micro_image.proofs.Increment.{increment}
 use Rattle.sample_io.specs.Samples.{stream_of}
-use Rattle.silc.specs.Serial.{serial_image}
 use Rattle.silc.specs.Sim.{channels_of}
-use Rattle.silc.specs.declared.one_line.OneLine.{OneLine}
 
-abbrev program : OneLine
-program = record { width = 8; plus = true; number = 1 }
-
-its_image : serial_image program ≡ increment
-its_image = refl
-
--- its input word has 8 bits
+-- the input word of y = x + 1 on 8 bits
 its_channel : channels_of increment ≡ record { low = neg_ℤ (pos 128); high = pos 127 } ∷ []
 its_channel = refl
 

@@ -1,14 +1,11 @@
-pub mod Forms
-pub mod Valid
-pub mod Cycles
-pub mod Writes
-pub mod Clear
-pub mod Run
+pub mod Plans
 pub mod Compiled
 mod Examples
 pub mod Results
 pub mod Endings
+pub mod Errors
 pub mod Making
+pub mod Scheduling
 pub mod RowLists
 pub mod Printing
 pub mod Simulating

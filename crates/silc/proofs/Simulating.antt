@@ -19,7 +19,8 @@ use Rattle.sample_io.specs.declared.RowList.{RowList}
 use Rattle.sample_io.specs.Samples.{printed, printed_row, stream_of}
 use Rattle.silc.specs.declared.sim.Kept.{Kept}
 use Rattle.silc.specs.declared.status.Status.{Status}
-use Rattle.silc.specs.declared.status.Status.TheVariants.{Done, Memory, Words, Desk, FrontEnd, Path, Image as bad_image, Samples as bad_samples, Conflict as in_conflict, NotBuilt}
+use Rattle.silc.specs.declared.status.Status.TheVariants as status
+use Rattle.silc.specs.declared.status.Status.TheVariants.{Done, Memory, Words, Desk, FrontEnd, Path, Period, FileFull, Image as bad_image, Samples as bad_samples, Conflict as in_conflict, NotBuilt}
 use Rattle.silc.specs.Endings.{IsNotWritten, IsFinished}
 use Rattle.silc.specs.Limits.{microcode_limit, samples_limit}
 use Rattle.silc.specs.Private.Reading.{OnlyReads}
@@ -96,6 +97,9 @@ error_before image stream later all (bad_samples fault) e h = absurd h
 error_before image stream later all (in_conflict conflict) e h = subst (λ rows. IsFirstConflict image rows conflict) e (conflict_before image stream later conflict h)
 error_before image stream later all (FrontEnd fault) e h = absurd h
 error_before image stream later all (Path fault) e h = absurd h
+error_before image stream later all (status.Unit refusal) e h = absurd h
+error_before image stream later all (Period node) e h = absurd h
+error_before image stream later all (FileFull unit port node) e h = absurd h
 error_before image stream later all NotBuilt e h = absurd h
 
 -- the machine's own image ran
@@ -148,6 +152,9 @@ module _ (mic samples : Name) (old mid new : View) (machine : Snapshot) (first :
     run_error (bad_samples fault) h = absurd h
     run_error (FrontEnd fault) h = absurd h
     run_error (Path fault) h = absurd h
+    run_error (status.Unit refusal) h = absurd h
+    run_error (Period node) h = absurd h
+    run_error (FileFull unit port node) h = absurd h
     run_error NotBuilt h = absurd h
 
 -- OUT was written
@@ -218,4 +225,7 @@ module _ (mic samples out : Name) (old mid new : View) (same : IsUnchanged mid n
   sim_reported kept (in_conflict conflict) h = rejected_still old mid new same samples samples_limit _ h
   sim_reported kept (FrontEnd fault) h = h
   sim_reported kept (Path fault) h = h
+  sim_reported kept (status.Unit refusal) h = h
+  sim_reported kept (Period node) h = h
+  sim_reported kept (FileFull unit port node) h = h
   sim_reported kept NotBuilt h = h

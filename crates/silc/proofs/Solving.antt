@@ -21,12 +21,14 @@ use Rattle.silage_meaning.specs.Solves as program
 use Rattle.silc.specs.declared.files.Input.{Input}
 use Rattle.silc.specs.declared.files.Input.TheVariants.{Whole, TooLong}
 use Rattle.silc.specs.declared.status.Status.{Status}
-use Rattle.silc.specs.declared.status.Status.TheVariants.{Done, Memory, Words, Desk, FrontEnd, Path, Image, Samples, Conflict, NotBuilt}
+use Rattle.silc.specs.declared.status.Status.TheVariants as status
+use Rattle.silc.specs.declared.status.Status.TheVariants.{Done, Memory, Words, Desk, FrontEnd, Path, Period, FileFull, Image, Samples, Conflict, NotBuilt}
 use Rattle.silc.specs.Endings.{IsNotWritten, IsFinished}
 use Rattle.silc.specs.Eval.{type_channel, program_channels, IsSolutionText, HasSamples, IsEvalUnread, IsEvalError, IsEvalDone, IsEvalCutShort, IsEvalAnswer}
 use Rattle.silc.specs.Limits.{text_limit, samples_limit}
 use Rattle.silc.specs.Samples.{AreSamples, IsSampleFault}
-use Rattle.silc.specs.Private.Evaluating.{AreGraphRows, IsEvaluated, IsGraphFor, IsSourceRead, IsSourceError, IsMadeText}
+use Rattle.silc.specs.Private.Evaluating.{AreGraphRows, IsEvaluated, IsSourceRead, IsSourceError, IsMadeText}
+use Rattle.silc.specs.Private.Planning.{IsGraphFor}
 use Rattle.silc.specs.Private.Reading.{OnlyReads, IsInput}
 use Rattle.silc.specs.Private.SampleRows.{AreRowsRead, IsRowsError}
 use Rattle.front_end.proofs.OneAnswer.{one_program}
@@ -75,6 +77,9 @@ module _ (src samples : Name) (old mid new : View) (first : OnlyReads src src ol
   rows_error Words h = absurd h
   rows_error (FrontEnd fault) h = absurd h
   rows_error (Path fault) h = absurd h
+  rows_error (status.Unit refusal) h = absurd h
+  rows_error (Period node) h = absurd h
+  rows_error (FileFull unit port node) h = absurd h
   rows_error (Image fault) h = absurd h
   rows_error (Conflict conflict) h = absurd h
   rows_error NotBuilt h = absurd h
@@ -115,6 +120,9 @@ source_error src samples old new reads (FrontEnd fault) h = (h.0, record { uncha
 source_error src samples old new reads Done h = absurd h
 source_error src samples old new reads Words h = absurd h
 source_error src samples old new reads (Path fault) h = absurd h
+source_error src samples old new reads (status.Unit refusal) h = absurd h
+source_error src samples old new reads (Period node) h = absurd h
+source_error src samples old new reads (FileFull unit port node) h = absurd h
 source_error src samples old new reads (Image fault) h = absurd h
 source_error src samples old new reads (Samples fault) h = absurd h
 source_error src samples old new reads (Conflict conflict) h = absurd h
@@ -172,6 +180,9 @@ module _ (src samples out : Name) (old mid new : View) (same : IsUnchanged mid n
   eval_reported (Samples fault) h = rejected_still old mid new same samples samples_limit _ h
   eval_reported Words h = h
   eval_reported (Path fault) h = h
+  eval_reported (status.Unit refusal) h = h
+  eval_reported (Period node) h = h
+  eval_reported (FileFull unit port node) h = h
   eval_reported (Image fault) h = h
   eval_reported (Conflict conflict) h = h
   eval_reported NotBuilt h = h

@@ -29,11 +29,23 @@ IsSim = IsFileCommand (codes "sim")
 abbrev pub IsEval : List (String Global) → Name → Name → Name → Type 0
 IsEval = IsFileCommand (codes "eval")
 
--- the words are one of the commands, on these files
+-- the words are `schedule SRC DP`
+pub record IsSchedule (words : List (String Global)) (src datapath : Name) : Type 0 where
+  pub verb_word : String Global
+  pub src_word : String Global
+  pub datapath_word : String Global
+  pub all : words ≡ verb_word ∷ src_word ∷ datapath_word ∷ []
+  pub verb_is : string_bytes verb_word ≡ codes "schedule"
+  pub src_is : string_bytes src_word ≡ src
+  pub datapath_is : string_bytes datapath_word ≡ datapath
+
+-- the words are one of the commands that write a file, on these files
 abbrev pub IsCommandOn : List (String Global) → Name → Name → Name → Type 0
 IsCommandOn words first second out =
     IsCompile words first second out ⊎ IsSim words first second out ⊎ IsEval words first second out
 
 -- the words are one of the commands
 abbrev pub IsCommand : List (String Global) → Type 0
-IsCommand words = (first : Name) × (second : Name) × (out : Name) × IsCommandOn words first second out
+IsCommand words =
+    ((first : Name) × (second : Name) × (out : Name) × IsCommandOn words first second out)
+    ⊎ ((src : Name) × (datapath : Name) × IsSchedule words src datapath)

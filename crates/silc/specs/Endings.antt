@@ -1,4 +1,4 @@
--- What the ways in which a command ends have in common, for `compile` and `sim`.
+-- What the ways in which a command ends have in common.
 use Rattle.std.specs.Prelude.{◌≡◌, ◌≢◌, ℕ, None, Bool, true}
 use Rattle.desk_core.specs.View.{Name, Content, Files, View}
 use Rattle.desk_core.specs.Desk.{IfSpecified, WhereSpecified, WriteFaultsRose, HasOutput, NoOtherBegins}

@@ -1,7 +1,8 @@
 pub mod Statuses
-pub mod Parts
 pub mod Reading
 pub mod SampleRows
+pub mod Planning
 pub mod Compiling
+pub mod Printing
 pub mod Running
 pub mod Evaluating

@@ -1,23 +1,23 @@
-//! The top call: which command the words are, and the line of an error.
+//! The top call: which command the words are.
 ghost use Rattle.std.specs.Prelude.{◌≡◌, ◌≢◌, MatchOption, None};
 ghost use Rattle.desk_core.specs.View.{Name};
 ghost use Rattle.desk_core.specs.Desk.{FaultsNeverFall, IsUnchanged, IfSpecified, HasOutput};
-ghost use Rattle.silc.specs.Command.{IsFileCommand, IsCommand, IsCommandOn, IsCompile, IsSim, IsEval};
+ghost use Rattle.silc.specs.Command.{IsFileCommand, IsCommand, IsCommandOn, IsCompile, IsSchedule, IsSim, IsEval};
 ghost use Rattle.silc.specs.Compile.{IsDone, IsAnswer};
 ghost use Rattle.silc.specs.Endings.{UsesOnly};
 ghost use Rattle.silc.specs.Eval.{IsEvalDone, IsEvalAnswer};
+ghost use Rattle.silc.specs.Schedule.{IsScheduled, IsScheduleAnswer, ChangesNoFile};
 ghost use Rattle.silc.specs.Sim.{IsSimDone, IsSimAnswer};
 ghost use Rattle.silc.specs.declared.sim.Kept.TheVariants.{Nothing};
 
 use crate::compile::compile;
 use crate::eval::eval;
+use crate::report::report;
+use crate::schedule::schedule;
 use crate::sim::{Kept, sim};
 use crate::status::{Ending, Status};
-use arrayvec::ArrayString;
 use desk_core::Desk;
-use front_end::Element;
 use std::alloc::Global;
-use std::fmt::{self, Write};
 
 /// The words of a command that reads two files and writes a third.
 #[derive(Drop)]
@@ -47,6 +47,26 @@ fn command_of<'a>(verb: &str, words: &'a [String]) -> Option<FileCommand<'a>>
     }
 }
 
+/// The words of `schedule`.
+#[derive(Drop)]
+struct ScheduleWords<'a> {
+    source: &'a str,
+    datapath: &'a str,
+}
+
+fn schedule_words(words: &[String]) -> Option<ScheduleWords<'_>>
+    ensures { MatchOption result ((src datapath : Name) → IsSchedule words.now src datapath → ⊥)
+        (λ found. IsSchedule words.now found.source.now found.datapath.now) }
+{
+    match words {
+        [word, source, datapath] if word.as_str() == "schedule" => Some(ScheduleWords {
+            source: source.as_str(),
+            datapath: datapath.as_str(),
+        }),
+        _ => None,
+    }
+}
+
 /// Carries out the command that the words are.
 fn run<D: Desk>(alloc: Global, words: &[String], desk: &mut D, kept: &mut Kept) -> Ending
     requires { kept.old ≡ Nothing }
@@ -58,16 +78,24 @@ fn run<D: Desk>(alloc: Global, words: &[String], desk: &mut D, kept: &mut Kept) 
         → IsSimAnswer mic samples out (D.view desk.old) (D.view desk.new) kept.new result.status }
     ensures eval_answer { (src samples out : Name) → IsEval words.now src samples out
         → IsEvalAnswer src samples out (D.view desk.old) (D.view desk.new) result.status }
+    ensures schedule_answer { (src datapath : Name) → IsSchedule words.now src datapath
+        → IsScheduleAnswer src datapath (D.view desk.old) (D.view desk.new) result.status }
     ensures only { (first second out : Name) → IsCommandOn words.now first second out
         → UsesOnly first second out (D.view desk.old) (D.view desk.new) }
+    ensures schedule_only { (src datapath : Name) → IsSchedule words.now src datapath
+        → ChangesNoFile src datapath (D.view desk.old) (D.view desk.new) }
     ensures nothing { result.status ≡ Status.Words → IsUnchanged (D.view desk.old) (D.view desk.new) }
     ensures nothing_kept { result.status ≢ Status.Done → kept.new ≡ Nothing }
     ensures compile_keeps_nothing { (src datapath out : Name) → IsCompile words.now src datapath out
         → kept.new ≡ Nothing }
     ensures eval_keeps_nothing { (src samples out : Name) → IsEval words.now src samples out → kept.new ≡ Nothing }
+    ensures schedule_keeps_nothing { (src datapath : Name) → IsSchedule words.now src datapath → kept.new ≡ Nothing }
 {
     if let Some(found) = command_of("compile", words) {
         return compile(alloc, desk, found.first, found.second, found.output);
+    }
+    if let Some(found) = schedule_words(words) {
+        return schedule(alloc, desk, found.source, found.datapath);
     }
     if let Some(found) = command_of("sim", words) {
         return Ending::from(sim(alloc, desk, found.first, found.second, found.output, kept));
@@ -78,60 +106,10 @@ fn run<D: Desk>(alloc: Global, words: &[String], desk: &mut D, kept: &mut Kept) 
     Ending::from(Status::Words)
 }
 
-/// A part of a line that is reported. The longest, of a bad row, has 66 bytes.
-type Piece = ArrayString<80>;
-
-/// The line of an error, up to the name of the element.
-fn write_error(piece: &mut Piece, ending: &Ending) -> fmt::Result {
-    let status = ending.status;
-    match ending.line {
-        Some(number) => write!(piece, "silc: line {number}: {status}"),
-        None => write!(piece, "silc: {status}"),
-    }
-}
-
-/// The element that the error names, where it names one.
-fn named_element(ending: &Ending) -> Option<Element<'_>> {
-    match &ending.element {
-        Some(named) => named.element(),
-        None => None,
-    }
-}
-
-/// The subscripts of an element.
-fn write_subscripts(piece: &mut Piece, element: &Element) -> fmt::Result {
-    let place = element.place;
-    match element.decl.dims.as_slice() {
-        [_] => write!(piece, "[{place}]"),
-        [_, columns] => {
-            let columns = (*columns).max(1);
-            write!(piece, "[{}][{}]", place / columns, place % columns)
-        }
-        _ => Ok(()),
-    }
-}
-
-/// Reports the error in one line. It takes no memory, and the name of an element has any length.
-fn report<D: Desk>(desk: &mut D, ending: &Ending)
-    ensures faults { FaultsNeverFall (D.view desk.old) (D.view desk.new) }
-    ensures unchanged { IsUnchanged (D.view desk.old) (D.view desk.new) }
-{
-    let mut piece = Piece::new();
-    let _ = write_error(&mut piece, ending);
-    if let Some(element) = named_element(ending) {
-        let _ = piece.write_str(" ");
-        desk.complain(piece.as_bytes());
-        desk.complain(element.decl.name.as_slice());
-        piece.clear();
-        let _ = write_subscripts(&mut piece, &element);
-    }
-    let _ = piece.write_str("\n");
-    desk.complain(piece.as_bytes());
-}
-
 /// Carries out the command that the words are, the program's name left out, and reports an error in one line.
 ///
-/// `compile SRC DP OUT` reads a source and a datapath, and writes its microcode to OUT.
+/// `compile SRC DP OUT` reads a source and a datapath, and writes the microcode of the source's plan to OUT.
+/// `schedule SRC DP` reads a source and a datapath, and prints the source's plan.
 /// `sim MIC SAMPLES OUT` reads microcode and samples, and writes the rows that the microcode puts to OUT. Where it is
 /// done, it keeps the machine that ran them.
 /// `eval SRC SAMPLES OUT` reads a source and samples, and writes the output rows of the source's equations to OUT.
@@ -143,6 +121,10 @@ pub fn silc<D: Desk>(alloc: Global, words: &[String], desk: &mut D, kept: &mut K
     ensures headline { result ≡ Status.Done → (src datapath out : Name) → IsCompile words.now src datapath out
         → IfSpecified (IsDone src datapath out) (D.view desk.old).files (D.view desk.new).files }
 
+    // What `schedule` prints where it is done.
+    ensures printed { result ≡ Status.Done → (src datapath : Name) → IsSchedule words.now src datapath
+        → IsScheduled src datapath (D.view desk.old) (D.view desk.new) }
+
     // What `sim` writes and keeps where it is done.
     ensures simulated { result ≡ Status.Done → (mic samples out : Name) → IsSim words.now mic samples out
         → IsSimDone mic samples out (D.view desk.old) (D.view desk.new) kept.new }
@@ -152,12 +134,15 @@ pub fn silc<D: Desk>(alloc: Global, words: &[String], desk: &mut D, kept: &mut K
         → IsEvalDone src samples out (D.view desk.old) (D.view desk.new) }
 
     // OUT is closed where a command is done.
-    ensures closed { result ≡ Status.Done → HasOutput None (D.view desk.new) }
+    ensures closed { result ≡ Status.Done → (first second out : Name) → IsCommandOn words.now first second out
+        → HasOutput None (D.view desk.new) }
 
     // Which words are a command, when each of its statuses comes, and in which order.
     ensures words { result ≢ Status.Words → IsCommand words.now }
     ensures answer { (src datapath out : Name) → IsCompile words.now src datapath out
         → IsAnswer src datapath out (D.view desk.old) (D.view desk.new) result }
+    ensures schedule_answer { (src datapath : Name) → IsSchedule words.now src datapath
+        → IsScheduleAnswer src datapath (D.view desk.old) (D.view desk.new) result }
     ensures sim_answer { (mic samples out : Name) → IsSim words.now mic samples out
         → IsSimAnswer mic samples out (D.view desk.old) (D.view desk.new) kept.new result }
     ensures eval_answer { (src samples out : Name) → IsEval words.now src samples out
@@ -166,11 +151,14 @@ pub fn silc<D: Desk>(alloc: Global, words: &[String], desk: &mut D, kept: &mut K
     // What a command leaves alone.
     ensures only { (first second out : Name) → IsCommandOn words.now first second out
         → UsesOnly first second out (D.view desk.old) (D.view desk.new) }
+    ensures schedule_only { (src datapath : Name) → IsSchedule words.now src datapath
+        → ChangesNoFile src datapath (D.view desk.old) (D.view desk.new) }
     ensures nothing { result ≡ Status.Words → IsUnchanged (D.view desk.old) (D.view desk.new) }
     ensures nothing_kept { result ≢ Status.Done → kept.new ≡ Nothing }
     ensures compile_keeps_nothing { (src datapath out : Name) → IsCompile words.now src datapath out
         → kept.new ≡ Nothing }
     ensures eval_keeps_nothing { (src samples out : Name) → IsEval words.now src samples out → kept.new ≡ Nothing }
+    ensures schedule_keeps_nothing { (src datapath : Name) → IsSchedule words.now src datapath → kept.new ≡ Nothing }
 {
     let ending = run(alloc, words, desk, kept);
     if ending.status == Status::Done {

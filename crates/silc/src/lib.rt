@@ -1,8 +1,8 @@
 //! The program `silc`: its commands, over any desk.
 //!
-//! `silc` is the top call; its clauses carry what the whole program promises. In `specs/`, `Form` says which programs
-//! are compiled, `Plain` over which datapath, `Serial` to which plan, and `Headline` what compiled microcode is.
-//! `Command` says which words are a command, `Compile`, `Sim` and `Eval` when each status comes, `Sources` and `Samples`
+//! `silc` is the top call; its clauses carry what the whole program promises. In `specs/`, `Plans` says which plan a
+//! source has over a datapath, `Refusals` why it has none, and `Headline` what compiled microcode is. `Command` says
+//! which words are a command, `Compile`, `Schedule`, `Sim` and `Eval` when each status comes, `Sources` and `Samples`
 //! what SRC and SAMPLES have. What only proofs and private contracts use is in `specs/Private`.
 #![tactic(auto)]
 
@@ -10,17 +10,19 @@ mod command;
 mod compile;
 mod eval;
 mod files;
-mod one_line;
-mod plain;
+mod planning;
+mod print;
+mod report;
 mod samples;
-mod serial;
+mod schedule;
 mod sim;
 mod status;
 
 pub use command::silc;
-pub use datapath::{PathFault, Section};
+pub use datapath::{Kind, PathFault, Section};
 pub use front_end::{DefFault, FrontFault, LexFault, NameFault, ParseFault, TypeFault};
 pub use micro_file::FormFault;
 pub use micro_image::{Conflict, ConflictKind};
+pub use planning::{Planned, plan_of};
 pub use sim::Kept;
-pub use status::{ImageFault, SampleFault, Status, code};
+pub use status::{ImageFault, SampleFault, Status, UnitRefusal, code};

@@ -1,18 +1,51 @@
 ghost use Rattle.std.specs.Prelude.{◌≡◌, None};
 ghost use Rattle.silc.specs.Status.{code_of};
-ghost use Rattle.silc.specs.Private.Statuses.{of_front, of_path, of_form, of_rows};
+ghost use Rattle.silc.specs.Private.Statuses.{of_front, of_path, of_plan, of_form, of_rows};
+ghost use Rattle.planner.specs.declared.fault.PlanFault.TheVariants.{Unit as Unbound};
 ghost use Rattle.silc.specs.declared.status.Status.TheVariants.{Memory, Desk, Conflict as in_conflict};
 
 use cycle_sim::LoadFault;
-use datapath::PathFault;
+use datapath::{Datapath, Kind, PathFault};
 use desk_core::Failed;
 use equation_eval::EvalFault;
 use front_end::{FrontError, FrontFault, NamedElement, Rejection};
 use micro_file::{CodeFault, FormFault};
 use micro_image::Conflict;
+use microcode_asm::AsmFault;
+use planner::PlanFault;
 use sample_io::RowsReadFault;
 use std::alloc::AllocError;
 use thiserror::Error;
+use unit_assign::UnitFault;
+
+/// Why the first node without a functional unit has none. A node is named by its number in the program's graph.
+#[derive(Clone, Copy, Debug, PartialEq, Eq, Error)]
+pub enum UnitRefusal {
+    /// No unit is of the kind that does the node's operation.
+    #[error("no unit {} for node {node}", word_of(*kind))]
+    NoUnit { kind: Kind, node: u32 },
+    /// No unit of the right kind has all routes, and the first of them has none to or from this port. The line that is
+    /// reported has the unit's name in the place of its number.
+    #[error("no route to {unit}.{port} for node {node}")]
+    NoRoute { unit: u8, port: u8, node: u32 },
+    /// The node has more bits than a word of the datapath.
+    #[error("node {node} too wide")]
+    TooWide { node: u32 },
+}
+
+/// The word of a datapath file for the kind.
+fn word_of(kind: Kind) -> &'static str {
+    match kind {
+        Kind::Input => "in",
+        Kind::Output => "out",
+        Kind::Rom => "rom",
+        Kind::Alu => "alu",
+        Kind::Mul => "mul",
+        Kind::Sel => "sel",
+        Kind::Ram => "ram",
+        Kind::Acu => "acu",
+    }
+}
 
 /// Why bytes are no microcode.
 #[derive(Clone, Copy, Debug, PartialEq, Eq, Error)]
@@ -63,6 +96,16 @@ pub enum Status {
     /// The file describes no datapath.
     #[error(transparent)]
     Path(PathFault),
+    /// A node of the program's graph has no functional unit.
+    #[error(transparent)]
+    Unit(UnitRefusal),
+    /// No cycle of the period is left for this node.
+    #[error("period exceeded at node {node}")]
+    Period { node: u32 },
+    /// The register file of this port has no register for the words of this node. The line that is reported has the
+    /// unit's name in the place of its number.
+    #[error("file full {unit}.{port} at node {node}")]
+    FileFull { unit: u8, port: u8, node: u32 },
     /// The microcode is too long or spells no image.
     #[error(transparent)]
     Image(ImageFault),
@@ -72,7 +115,7 @@ pub enum Status {
     /// The microcode asks for what the hardware can't do.
     #[error(transparent)]
     Conflict(Conflict),
-    /// The source or the datapath is one that this version doesn't take.
+    /// The program reads words of earlier samples, which this version doesn't plan.
     #[error("not built yet")]
     NotBuilt,
 }
@@ -131,6 +174,49 @@ impl From<PathFault> for Status {
     }
 }
 
+impl From<AsmFault> for Status {
+    ghost from_gives = { λ _ status. status ≡ Memory };
+
+    fn from(_: AsmFault) -> Self {
+        Status::Memory
+    }
+}
+
+impl From<Rejection> for Status {
+    ghost from_gives = { λ rejection status. status ≡ of_front rejection.error };
+
+    fn from(rejection: Rejection) -> Self {
+        Status::from(rejection.error)
+    }
+}
+
+/// The status where a node has no unit.
+fn unbound(fault: UnitFault) -> Status
+    ensures { result ≡ of_plan (Unbound fault) }
+{
+    match fault {
+        UnitFault::TooWide(node) => Status::Unit(UnitRefusal::TooWide { node }),
+        UnitFault::NoUnit { kind, node } => Status::Unit(UnitRefusal::NoUnit { kind, node }),
+        UnitFault::NoRoute { unit, port, node } => {
+            Status::Unit(UnitRefusal::NoRoute { unit, port, node })
+        }
+        UnitFault::Memory => Status::Memory,
+    }
+}
+
+impl From<PlanFault> for Status {
+    ghost from_gives = { λ fault status. status ≡ of_plan fault };
+
+    fn from(fault: PlanFault) -> Self {
+        match fault {
+            PlanFault::Unit(fault) => unbound(fault),
+            PlanFault::Period(node) => Status::Period { node },
+            PlanFault::FileFull { unit, port, node } => Status::FileFull { unit, port, node },
+            PlanFault::Memory => Status::Memory,
+        }
+    }
+}
+
 impl From<EvalFault> for Status {
     ghost from_gives = { λ _ status. status ≡ Memory };
 
@@ -172,45 +258,62 @@ impl From<Conflict> for Status {
     }
 }
 
-/// How a command ended, and what of the source the error is about.
+/// How a command ended, and what of the source or the datapath the error is about.
 #[derive(Drop)]
 pub(crate) struct Ending {
     pub status: Status,
     /// From 1.
     pub line: Option<u64>,
     pub element: Option<NamedElement>,
+    /// The datapath whose units the error names.
+    pub path: Option<Datapath>,
+}
+
+impl Ending {
+    /// An error that is about a unit of the datapath.
+    pub(crate) fn on_path(status: Status, path: Datapath) -> Self
+        ensures { result.status ≡ status }
+    {
+        Ending {
+            status,
+            line: None,
+            element: None,
+            path: Some(path),
+        }
+    }
 }
 
 impl From<Status> for Ending {
-    ghost from_gives = { λ status ending. ending ≡ record { status = status; line = None; element = None } };
+    ghost from_gives = { λ status ending. ending ≡ record { status = status; line = None; element = None; path = None } };
 
     fn from(status: Status) -> Self {
         Ending {
             status,
             line: None,
             element: None,
+            path: None,
         }
     }
 }
 
 impl From<AllocError> for Ending {
-    ghost from_gives = { λ _ ending. ending ≡ record { status = Memory; line = None; element = None } };
+    ghost from_gives = { λ _ ending. ending ≡ record { status = Memory; line = None; element = None; path = None } };
 
     fn from(error: AllocError) -> Self {
         Ending::from(Status::from(error))
     }
 }
 
-impl From<CodeFault> for Ending {
-    ghost from_gives = { λ _ ending. ending ≡ record { status = Memory; line = None; element = None } };
+impl From<AsmFault> for Ending {
+    ghost from_gives = { λ _ ending. ending ≡ record { status = Memory; line = None; element = None; path = None } };
 
-    fn from(fault: CodeFault) -> Self {
+    fn from(fault: AsmFault) -> Self {
         Ending::from(Status::from(fault))
     }
 }
 
 impl From<EvalFault> for Ending {
-    ghost from_gives = { λ _ ending. ending ≡ record { status = Memory; line = None; element = None } };
+    ghost from_gives = { λ _ ending. ending ≡ record { status = Memory; line = None; element = None; path = None } };
 
     fn from(fault: EvalFault) -> Self {
         Ending::from(Status::from(fault))
@@ -218,7 +321,7 @@ impl From<EvalFault> for Ending {
 }
 
 impl From<Failed> for Ending {
-    ghost from_gives = { λ _ ending. ending ≡ record { status = Desk; line = None; element = None } };
+    ghost from_gives = { λ _ ending. ending ≡ record { status = Desk; line = None; element = None; path = None } };
 
     fn from(failed: Failed) -> Self {
         Ending::from(Status::from(failed))
@@ -233,6 +336,7 @@ impl From<Rejection> for Ending {
             status: Status::from(rejection.error),
             line: rejection.line,
             element: rejection.element,
+            path: None,
         }
     }
 }
@@ -248,6 +352,9 @@ pub fn code(status: &Status) -> u8
         Status::Desk => 3,
         Status::FrontEnd(_) => 4,
         Status::Path(_) => 5,
+        Status::Unit(_) => 6,
+        Status::Period { .. } => 8,
+        Status::FileFull { .. } => 9,
         Status::Image(_) => 10,
         Status::Samples(_) => 11,
         Status::Conflict(_) => 12,

@@ -12,19 +12,22 @@ use std::process::ExitCode;
 const HELP: &str = "silc compiles equations between sampled signals to microcode, and simulates it.
 
 usage: silc compile SRC DP OUT    compiles SRC for the datapath DP, and writes the microcode to OUT
+       silc schedule SRC DP       plans SRC for the datapath DP, and prints the plan
        silc sim MIC SAMPLES OUT   runs the microcode MIC over SAMPLES, and writes its rows to OUT
        silc eval SRC SAMPLES OUT  solves the equations of SRC over SAMPLES, and writes their rows to OUT
        silc --help | --version
 
 example: silc compile increment.sil plain.toml increment.mic
+         silc schedule increment.sil plain.toml
          silc sim increment.mic samples.txt rows.txt
          silc eval increment.sil samples.txt rows.txt
 
 The exit code is 0 where all was done, 1 without memory, 2 at words that are no command, 3 at a file
-that can't be read or written, 4 at a source that is no program, 10 at a file that is no microcode,
-11 at a line that is no row of samples, 12 at microcode that asks for what the hardware can't do, and
-13 at a program or a datapath that this version doesn't compile. An error is reported in one line on
-standard error, and only a fault of writing OUT itself can leave a part of OUT.";
+that can't be read or written, 4 at a source that is no program, 5 at a file that describes no datapath,
+6, 8 and 9 at a program that finds no unit, no cycle or no register on the datapath, 10 at a file that is
+no microcode, 11 at a line that is no row of samples, 12 at microcode that asks for what the hardware
+can't do, and 13 at a program with delays, which this version doesn't compile. An error is reported in
+one line on standard error, and only a fault of writing OUT itself can leave a part of OUT.";
 
 const VERSION: &str = "silc 0.1.0";
 

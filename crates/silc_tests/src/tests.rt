@@ -35,6 +35,16 @@ const SIZE: usize = 328;
 
 const COMPILE: [&str; 4] = ["compile", "SRC", "DP", "OUT"];
 
+const SCHEDULE: [&str; 3] = ["schedule", "SRC", "DP"];
+
+/// What `schedule` prints of the source.
+const PLAN: &[u8] = b"period 16 unroll 1 nodes 4
+node 0 cycle 0 unit inp op input 0 to add.0 bus b0 regs 0
+node 1 cycle 1 unit rom op const 1 to add.1 bus b0 regs 0
+node 2 cycle 2 unit add op add 0 1 fmt 0 trunc 8 to outp.0 bus b0 regs 0
+node 3 cycle 3 unit outp op output 0 2
+";
+
 fn list(alloc: Global, words: &[&str]) -> Result<Vec<String>, Fail> {
     let mut list = Vec::new(alloc);
     for word in words {
@@ -93,6 +103,27 @@ fn a_call_that_fails_is_a_file_fault_and_leaves_a_prefix(rt: HostRuntime) -> Res
             found.is_none_or(|bytes| microcode.starts_with(bytes)),
             "call {call}"
         );
+    }
+    Ok(())
+}
+
+/// How many bytes are printed where the call of each number fails, with pieces of 100 bytes. Both inputs are read as by
+/// `compile`, and then the plan is printed in three pieces.
+const PRINTED: [usize; 11] = [0, 0, 0, 0, 0, 0, 0, 0, 0, 100, 200];
+
+#[test]
+fn a_call_that_fails_leaves_a_prefix_of_the_plan(rt: HostRuntime) -> Result<(), Fail> {
+    let alloc = rt.alloc();
+    let mut whole = desk_with(alloc, 100, SOURCE)?;
+    assert_eq!(rt; carry_out(alloc, &SCHEDULE, &mut whole)?, Status::Done);
+    assert_eq!(rt; whole.printed(), PLAN);
+    for (call, printed) in PRINTED.iter().enumerate() {
+        let mut desk = desk_with(alloc, 100, SOURCE)?;
+        desk.fail_at(call as u64)?;
+        let status = carry_out(alloc, &SCHEDULE, &mut desk)?;
+        assert_eq!(rt; status, Status::Desk, "call {call}");
+        assert_eq!(rt; desk.faults(), 1, "call {call}");
+        assert_eq!(rt; desk.printed(), &PLAN[..*printed], "call {call}");
     }
     Ok(())
 }

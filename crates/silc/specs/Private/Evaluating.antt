@@ -7,26 +7,19 @@ use Rattle.desk_core.specs.Whole.{IsReadThrough}
 use Rattle.equation_eval.specs.Evaluation.{Snapshot, Stands}
 use Rattle.sample_io.specs.declared.RowList.{RowList}
 use Rattle.sample_io.specs.Samples.{printed, stream_of}
-use Rattle.signal_graph.specs.GraphRules.{IsGraph}
-use Rattle.signal_graph.specs.GraphSolves.{IsGraphLoopless, GraphSolves, IsOneGraphSolution, graph_out}
+use Rattle.signal_graph.specs.GraphSolves.{GraphSolves, IsOneGraphSolution, graph_out}
 use Rattle.signal_graph.specs.Keeps.{IsStreamOf}
 use Rattle.signal_graph.specs.Values.{Words}
 use Rattle.signal_graph.specs.declared.graph.Graph.{Graph}
 use Rattle.silage_syntax.specs.Tree.{Program}
-use Rattle.loop_expand.specs.KeepsProgram.{KeepsProgramSolutions}
 use Rattle.front_end.specs.Faults.{IsOfSource}
 use Rattle.silc.specs.Eval.{IsSolutionText, HasSamples}
 use Rattle.silc.specs.Limits.{text_limit, samples_limit}
+use Rattle.silc.specs.Private.Planning.{IsGraphFor}
 use Rattle.silc.specs.Private.SampleRows.{HasRowWidth}
 use Rattle.silc.specs.Sources.{IsProgramIn, HasFrontFault}
 use Rattle.silc.specs.declared.status.Status.{Status}
 use Rattle.silc.specs.declared.status.Status.TheVariants.{Memory, Desk, FrontEnd}
-
--- the graph can be evaluated, and keeps the solutions of the program
-pub record IsGraphFor (p : Program) (g : Graph) : Type 0 where
-  pub sound : IsGraph g
-  pub loopless : IsGraphLoopless g
-  pub keeps : KeepsProgramSolutions p g
 
 -- the program that SRC has, and its graph
 pub record IsSourceRead (src : Name) (desk : View) (p : Program) (g : Graph) : Type 0 where

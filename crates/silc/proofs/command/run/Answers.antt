@@ -8,3 +8,6 @@ returns-clause-sim_answer g c = λ mic samples out form. absurd (c.in_default-co
 
 pub returns-clause-eval_answer : goal.returns-clause-eval_answer
 returns-clause-eval_answer g c = λ src samples out form. absurd (c.in_default-command_of-2.ensures src samples out form)
+
+pub returns-clause-schedule_answer : goal.returns-clause-schedule_answer
+returns-clause-schedule_answer g c = λ src datapath form. absurd (c.in_default-schedule_words.ensures src datapath form)

@@ -1,0 +1,10 @@
+use Rattle.silc.proofs.Compiled.{spells_only}
+use Rattle.silc.proofs.compile.microcode_of.Goals as goal
+
+pub returns-clause-ok : goal.returns-clause-ok
+returns-clause-ok c = record {
+  image = c.in_ok-image.image;
+  image_of = c.in_ok-image.ensures.image;
+  spelled = spells_only c.in_ok-encode.field-0 c.in_ok-image.image c.in_ok-encode.ensures.spelled;
+  runs = c.in_ok-image.ensures.runs;
+}

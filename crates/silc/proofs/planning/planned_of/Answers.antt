@@ -1,0 +1,11 @@
+use Rattle.silage_syntax.specs.Tree.{view}
+use Rattle.silc.proofs.Plans.{no_input_plan}
+use Rattle.silc.proofs.Results.{if_err}
+use Rattle.silc.proofs.planning.planned_of.Goals as goal
+
+pub returns-clause-err : goal.returns-clause-err
+returns-clause-err c =
+    if_err c.planned_over.result _ _
+    (λ ending. no_input_plan c.args.source.now c.args.datapath.now (view c.in_ok-accepted.accepted.program) c.in_ok-accepted.accepted.graph c.in_ok-accepted.ensures.ok
+    c.in_ok-path.path c.in_ok-path.ensures.ok ending.status)
+    c.planned_over.ensures.err

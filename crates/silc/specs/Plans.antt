@@ -1,0 +1,58 @@
+-- Which plan the program of a source has over the datapath of a file, or why it has none.
+use Rattle.std.specs.Prelude.{◌≡◌, ℕ, List, Ok}
+use Rattle.datapath.specs.PathOf.{path_of}
+use Rattle.datapath.specs.declared.types.Datapath.{Datapath}
+use Rattle.signal_graph.specs.declared.graph.Graph.{Graph}
+use Rattle.plan_core.specs.Hardware.{port_of}
+use Rattle.plan_core.specs.declared.plan.Plan.{Plan}
+use Rattle.plan_run.specs.PrivateRegisters.{IsPrivatePlan}
+use Rattle.planner.specs.Delayless.{IsDelayless}
+use Rattle.planner.specs.Faults.{HasUnboundNode, HasUnplacedNode, HasUnkeptNode}
+use Rattle.silage_syntax.specs.Tree.{Program}
+use Rattle.front_end.specs.Faults.{HasProgram}
+use Rattle.front_end.specs.GraphOf.{IsProgramGraph}
+use Rattle.unit_assign.specs.declared.fault.UnitFault.{UnitFault}
+use Rattle.unit_assign.specs.declared.fault.UnitFault.TheVariants as unit
+use Rattle.silc.specs.declared.status.Status.{Status}
+use Rattle.silc.specs.declared.status.Status.TheVariants.{Unit as Unbound, Period, FileFull, NotBuilt}
+use Rattle.silc.specs.declared.status.UnitRefusal.{UnitRefusal}
+use Rattle.silc.specs.declared.status.UnitRefusal.TheVariants.{NoUnit, NoRoute, TooWide}
+
+-- The source has this program and no other, the file describes this datapath, and the plan is that of the program's
+-- graph over the datapath.
+pub record IsPlannedOver (source datapath : List ℕ) (program : Program) (d : Datapath) (plan : Plan) : Type 0 where
+  pub read : HasProgram source program
+  pub unique : (other : Program) → HasProgram source other → other ≡ program
+  pub described : path_of datapath ≡ Ok d
+  pub graph : Graph
+  pub graph_of : IsProgramGraph program graph
+  pub planned : IsPrivatePlan graph d plan
+
+-- the program of the source has the plan over the datapath of the file
+abbrev pub HasPlan : (source datapath : List ℕ) → Datapath → Plan → Type 0
+HasPlan source datapath d plan = (program : Program) × IsPlannedOver source datapath program d plan
+
+-- the refusal as the fault of a node without a unit
+abbrev pub fault_of : UnitRefusal → UnitFault
+fault_of (NoUnit kind v) = unit.NoUnit kind v
+fault_of (NoRoute u port v) = unit.NoRoute u port v
+fault_of (TooWide v) = unit.TooWide v
+
+-- Why a graph has no plan over a datapath: the first rule that finds no place, and in it the first node. A graph that
+-- reads words of earlier samples is not planned today.
+abbrev pub IsUnplanned : Status → Graph → Datapath → Type 0
+IsUnplanned (Unbound refusal) g d = IsDelayless g × HasUnboundNode g d (fault_of refusal)
+IsUnplanned (Period node) g d = IsDelayless g × HasUnplacedNode g d node
+IsUnplanned (FileFull u port node) g d = IsDelayless g × HasUnkeptNode g d (port_of u port) node
+IsUnplanned NotBuilt g d = ¬ IsDelayless g
+IsUnplanned _ g d = ⊥
+
+-- the source has a program, the file describes a datapath, and this is why the graph has no plan over it
+pub record IsUnplannedOver (status : Status) (source datapath : List ℕ) : Type 0 where
+  pub program : Program
+  pub read : HasProgram source program
+  pub graph : Graph
+  pub graph_of : IsProgramGraph program graph
+  pub path : Datapath
+  pub described : path_of datapath ≡ Ok path
+  pub unplanned : IsUnplanned status graph path
