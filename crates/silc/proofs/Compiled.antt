@@ -1,21 +1,16 @@
 -- Microcode that spells the image of a plan is compiled from the source that the plan is of.
-use Rattle.std.proofs.Common.{◌≡◌, sym, subst, ◌∙◌, inr, List, ℕ, length}
-use Rattle.lists.specs.Rows.{Rows}
-use Rattle.datapath.specs.declared.types.Datapath.{Datapath}
+use Rattle.std.proofs.Common.{sym, subst, inr, List, ℕ}
 use Rattle.desk_core.specs.View.{Name, Content, View}
-use Rattle.desk_core.specs.Desk.{content_of}
 use Rattle.loop_expand.proofs.ProgramSystem.{solves_system}
 use Rattle.micro_file.proofs.Unique.{Spells-unique}
 use Rattle.micro_image.specs.Run.{IsRunOut}
 use Rattle.micro_image.specs.Spells.{Spells}
 use Rattle.micro_image.specs.declared.image.Image.{Image}
-use Rattle.plan_core.specs.declared.plan.Plan.{Plan}
 use Rattle.plan_run.specs.Run.{RunsSolution}
 use Rattle.microcode_asm.specs.Planned.{IsPlanned}
 use Rattle.signal_graph.specs.declared.graph.Graph.{Graph}
 use Rattle.silage_syntax.specs.Tree.{Program}
-use Rattle.silc.specs.Headline.{IsCompiled, SpellsOnly, RunsTheSolution}
-use Rattle.silc.specs.Plans.{IsPlannedOver}
+use Rattle.silc.specs.Headline.{SpellsOnly, RunsTheSolution}
 use Rattle.silc.specs.Private.Compiling.{IsMicrocodeOf, IsMade}
 use Rattle.silc.specs.Private.Planning.{IsGraphFor, IsReadPlan}
 use Rattle.silc.specs.declared.planning.Planned.{Planned}

@@ -1,5 +1,5 @@
 -- Why `compile` or `schedule` makes and prints nothing, from what was read.
-use Rattle.std.proofs.Common.{◌≡◌, ◌≢◌, refl, sym, subst, ◌∙◌, inl, inr, ⊎_elim}
+use Rattle.std.proofs.Common.{◌≡◌, refl, ◌∙◌, inl, inr, ⊎_elim}
 use Rattle.desk_core.specs.View.{Name, View}
 use Rattle.desk_core.specs.Desk.{FaultsNeverFall, IsUnchanged, WhereSpecified, content_of}
 use Rattle.desk_core.specs.Whole.{IsReadThrough}

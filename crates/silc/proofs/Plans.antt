@@ -1,5 +1,5 @@
 -- How the parts of a plan's making give its plan, or the status that tells why there is none.
-use Rattle.std.proofs.Common.{◌≡◌, ◌⊎◌, refl, sym, subst, ◌^◌, inl, inr, ⊎_elim, length, ℕ, List, Result, Ok, Err}
+use Rattle.std.proofs.Common.{◌≡◌, ◌⊎◌, refl, sym, subst, ◌^◌, inl, inr, ⊎_elim, length, Ok, Err}
 use Rattle.std.proofs.lemmas.Bool.{lt-ltb}
 use Rattle.datapath.specs.Allowed.{IsDatapath}
 use Rattle.datapath.specs.PathOf.{path_of}

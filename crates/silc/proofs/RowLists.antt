@@ -15,7 +15,7 @@ use Rattle.micro_image.specs.Valid.{IsValid}
 use Rattle.micro_image.specs.declared.image.Image.{Image}
 use Rattle.sample_io.specs.declared.channel.Channel.{Channel}
 use Rattle.sample_io.specs.declared.RowList.{RowList}
-use Rattle.sample_io.specs.Channels.{IsInChannel, IsChannel, AreChannels, IsRow, IsStream, channel_of}
+use Rattle.sample_io.specs.Channels.{IsInChannel, IsChannel, AreChannels, IsRow, channel_of}
 use Rattle.sample_io.specs.Samples.{IsLine, Lines, RowsOf, row_of, stream_of}
 use Rattle.sample_io.proofs.Streams.{RowsOf-stream}
 use Rattle.silc.specs.Limits.{samples_limit}

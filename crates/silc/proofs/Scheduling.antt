@@ -1,8 +1,8 @@
 -- How the parts of `schedule` make up its answer.
-use Rattle.std.proofs.Common.{arith, ◌≡◌, refl, sym, ap, subst, ◌∙◌, inl, inr, ⊎_elim, ℕ, ◌+◌, ◌≤◌, List, [], ◌++◌, length, take, Option, Bool}
+use Rattle.std.proofs.Common.{arith, ◌≡◌, refl, sym, ap, ◌∙◌, inl, inr, ⊎_elim, ℕ, ◌+◌, ◌≤◌, ◌++◌, length, take, Bool}
 use Rattle.std.proofs.lemmas.List.{append-nil, append_assoc}
 use Rattle.desk_core.specs.View.{Name, Content, View}
-use Rattle.desk_core.specs.Desk.{FaultsNeverFall, IfSpecified, IsPrinted, IsUnchanged, PrintFaultsRose, content_of}
+use Rattle.desk_core.specs.Desk.{FaultsNeverFall, IfSpecified, IsPrinted, IsUnchanged, PrintFaultsRose}
 use Rattle.desk_core.specs.Whole.{IsReadThrough}
 use Rattle.desk_core.proofs.DeskLemmas.{rose_later, rose_earlier, never_fall_trans, same_input_trans}
 use Rattle.desk_core.proofs.WholeLemmas.{through_stays}

@@ -1,11 +1,11 @@
 -- How a machine runs a stream sample by sample, and how the parts of `sim` make up its answer.
-use Rattle.std.proofs.Common.{None, ◌≡◌, sym, ap, ap₂, subst, ◌∙◌, arith, inl, inr, ⊎_elim, ℕ, ◌+◌, ◌*◌, ◌%◌, ◌<◌, ◌≤◌, ◌^◌, List, [], ◌∷◌, ◌++◌, length, replicate, drop, ℤ, length-append, get_or}
+use Rattle.std.proofs.Common.{◌≡◌, sym, ap, ap₂, subst, ◌∙◌, arith, inl, inr, ⊎_elim, ℕ, ◌+◌, ◌*◌, ◌%◌, ◌<◌, ◌≤◌, ◌^◌, List, [], ◌∷◌, ◌++◌, length, replicate, drop, ℤ, length-append, get_or}
 use Rattle.std.proofs.Math.Nat.{mul-mod_left, mul-lt-mul_of_pos_right}
 use Rattle.std.proofs.lemmas.List.{append-nil}
 use Rattle.lists.specs.Rows.{Rows}
 use Rattle.cycle_sim.specs.Machine.{Snapshot, state_of, IsAtSample, IsFirstOfSample}
 use Rattle.desk_core.specs.View.{Name, Content, View}
-use Rattle.desk_core.specs.Desk.{HasOutput, IfSpecified, WhereSpecified, IsPut, FaultsNeverFall, IsUnchanged}
+use Rattle.desk_core.specs.Desk.{IfSpecified, WhereSpecified, IsPut, FaultsNeverFall, IsUnchanged}
 use Rattle.desk_core.specs.Whole.{IsReadThrough}
 use Rattle.desk_core.proofs.DeskLemmas.{rose_earlier}
 use Rattle.desk_core.proofs.WholeLemmas.{through_from}

@@ -1,7 +1,5 @@
 -- How the parts of `eval` make up its answer.
-use Rattle.std.proofs.Common.{◌≡◌, refl, sym, ap, subst, ◌∙◌, inl, inr, ⊎_elim, List, length, map, ℕ}
-use Rattle.std.specs.List.{All}
-use Rattle.lists.specs.Rows.{Rows}
+use Rattle.std.proofs.Common.{◌≡◌, refl, sym, ap, subst, ◌∙◌, inl, inr, ⊎_elim, List, map}
 use Rattle.desk_core.specs.View.{Name, Content, View}
 use Rattle.desk_core.specs.Desk.{IfSpecified, WhereSpecified, IsPut, FaultsNeverFall, IsUnchanged, content_of}
 use Rattle.desk_core.specs.Whole.{IsReadThrough}
@@ -24,7 +22,7 @@ use Rattle.silc.specs.declared.status.Status.{Status}
 use Rattle.silc.specs.declared.status.Status.TheVariants as status
 use Rattle.silc.specs.declared.status.Status.TheVariants.{Done, Memory, Words, Desk, FrontEnd, Path, Period, FileFull, Image, Samples, Conflict, NotBuilt}
 use Rattle.silc.specs.Endings.{IsNotWritten, IsFinished}
-use Rattle.silc.specs.Eval.{type_channel, program_channels, IsSolutionText, HasSamples, IsEvalUnread, IsEvalError, IsEvalDone, IsEvalCutShort, IsEvalAnswer}
+use Rattle.silc.specs.Eval.{type_channel, program_channels, IsEvalUnread, IsEvalError, IsEvalDone, IsEvalCutShort, IsEvalAnswer}
 use Rattle.silc.specs.Limits.{text_limit, samples_limit}
 use Rattle.silc.specs.Samples.{AreSamples, IsSampleFault}
 use Rattle.silc.specs.Private.Evaluating.{AreGraphRows, IsEvaluated, IsSourceRead, IsSourceError, IsMadeText}

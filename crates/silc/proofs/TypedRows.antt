@@ -1,6 +1,6 @@
 -- Rows of the channels of types are rows of words in the ranges of the types.
 use Rattle.std.proofs.Common.{◌≡◌, subst, arith, ℕ, suc, zero, ◌-◌, ◌≤◌, ◌<◌, ◌^◌, List, [], ◌∷◌, map, ℤ, pos, neg_ℤ, ◌≤ℤ◌, ◌<ℤ◌}
-use Rattle.std.specs.List.{All, AllZip}
+use Rattle.std.specs.List.{All}
 use Rattle.std.proofs.lemmas.Int.{ints}
 use Rattle.std.proofs.lemmas.List.Elements.{All-head, All-tail, All-weaker}
 use Rattle.std.proofs.lemmas.Nat.{pow_pos}

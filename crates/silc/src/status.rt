@@ -284,7 +284,8 @@ impl Ending {
 }
 
 impl From<Status> for Ending {
-    ghost from_gives = { λ status ending. ending ≡ record { status = status; line = None; element = None; path = None } };
+    ghost from_gives = { λ status ending.
+        ending ≡ record { status = status; line = None; element = None; path = None } };
 
     fn from(status: Status) -> Self {
         Ending {

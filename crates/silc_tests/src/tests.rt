@@ -123,7 +123,8 @@ fn a_call_that_fails_leaves_a_prefix_of_the_plan(rt: HostRuntime) -> Result<(), 
         let status = carry_out(alloc, &SCHEDULE, &mut desk)?;
         assert_eq!(rt; status, Status::Desk, "call {call}");
         assert_eq!(rt; desk.faults(), 1, "call {call}");
-        assert_eq!(rt; desk.printed(), &PLAN[..*printed], "call {call}");
+        assert_eq!(rt; desk.printed().len(), *printed, "call {call}");
+        assert!(rt; PLAN.starts_with(desk.printed()), "call {call}");
     }
     Ok(())
 }

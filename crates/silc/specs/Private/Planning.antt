@@ -1,5 +1,5 @@
 -- The plan that `compile` and `schedule` make of their inputs.
-use Rattle.std.specs.Prelude.{◌≡◌, ◌⊎◌, ◌≤◌, length, Ok, Err}
+use Rattle.std.specs.Prelude.{◌≡◌, ◌⊎◌, Ok, Err}
 use Rattle.desk_core.specs.View.{Name, Content, View}
 use Rattle.desk_core.specs.Desk.{WhereSpecified, content_of}
 use Rattle.desk_core.specs.Whole.{IsReadThrough}

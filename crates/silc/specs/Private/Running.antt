@@ -1,5 +1,5 @@
 -- What the steps of `sim` give: a machine, a stream, and the run of the one over the other.
-use Rattle.std.specs.Prelude.{◌≡◌, ◌⊎◌, ℕ, ◌<◌, ◌^◌, List, [], length, ℤ}
+use Rattle.std.specs.Prelude.{◌≡◌, ◌⊎◌, ◌<◌, ◌^◌, List, [], length, ℤ}
 use Rattle.std.specs.List.{All}
 use Rattle.lists.specs.Rows.{Rows}
 use Rattle.cycle_sim.specs.Machine.{IsOperand, Snapshot, state_of}

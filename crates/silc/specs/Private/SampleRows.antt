@@ -1,5 +1,5 @@
 -- What is read of SAMPLES.
-use Rattle.std.specs.Prelude.{ℕ, ◌<◌, ◌≤◌, ◌^◌, List, length}
+use Rattle.std.specs.Prelude.{◌<◌, ◌≤◌, ◌^◌, List, length}
 use Rattle.desk_core.specs.View.{Name, View}
 use Rattle.desk_core.specs.Desk.{WhereSpecified, ReadFaultsRose, content_of}
 use Rattle.desk_core.specs.Whole.{IsReadThrough}

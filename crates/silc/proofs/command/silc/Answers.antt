@@ -1,4 +1,4 @@
-use Rattle.std.proofs.Common.{subst, sym, ◌∙◌}
+use Rattle.std.proofs.Common.{subst}
 use Rattle.silc.specs.Compile.{IsAnswer}
 use Rattle.silc.specs.Eval.{IsEvalAnswer}
 use Rattle.silc.specs.Schedule.{IsScheduleAnswer}

@@ -3,7 +3,7 @@ use Rattle.desk_core.specs.Whole.{IsWrittenInPart}
 use Rattle.silc.specs.Limits.{text_limit}
 use Rattle.silc.specs.declared.status.Ending.{Ending}
 use Rattle.silc.proofs.Endings.{not_written}
-use Rattle.silc.proofs.Making.{cut_short, error_answer}
+use Rattle.silc.proofs.Making.{cut_short}
 use Rattle.silc.proofs.compile.compile.Goals as goal
 
 pub returns-in-Ok-clause-answer : goal.returns-in-Ok-clause-answer

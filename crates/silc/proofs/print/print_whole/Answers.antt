@@ -1,10 +1,7 @@
-use Rattle.std.proofs.Common.{arith, ◌≡◌, sym, ap, subst, ◌∙◌, ◌-◌, ◌≤◌, ℕ, List, ◌++◌, length, take, drop, length-drop}
+use Rattle.std.proofs.Common.{arith, ◌≡◌, sym, ap, ◌∙◌, ◌-◌, ◌≤◌, ℕ, List, ◌++◌, length, take, drop, length-drop}
 use Rattle.std.proofs.Math.Seq.{take-add}
 use Rattle.std.proofs.lemmas.Grind.{common_steps}
-use Rattle.desk_core.specs.Desk.{IfSpecified}
-use Rattle.desk_core.proofs.DeskLemmas.{never_fall_trans}
-use Rattle.silc.specs.Schedule.{IsPrintedMore}
-use Rattle.silc.proofs.Scheduling.{none_printed, printed_more, failed_only, failed_part}
+use Rattle.silc.proofs.Scheduling.{printed_more}
 use Rattle.silc.proofs.print.print_whole.Goals as goal
 
 pub loop-done-preserved : goal.loop-done-preserved
