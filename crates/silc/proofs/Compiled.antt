@@ -7,7 +7,6 @@ use Rattle.micro_image.specs.Run.{IsRunOut}
 use Rattle.micro_image.specs.Spells.{Spells}
 use Rattle.micro_image.specs.declared.image.Image.{Image}
 use Rattle.plan_run.specs.Run.{RunsSolution}
-use Rattle.microcode_asm.specs.Planned.{IsPlanned}
 use Rattle.signal_graph.specs.declared.graph.Graph.{Graph}
 use Rattle.silage_syntax.specs.Tree.{Program}
 use Rattle.silc.specs.Headline.{SpellsOnly, RunsTheSolution}
@@ -26,10 +25,6 @@ runs_the_solution p g image graph runs stream valid =
     (words, one, subst (IsRunOut image stream) equal (runs stream others theirs.solves))
 
 module _ (src datapath : Name) (old new : View) (planned : Planned) (plan : IsReadPlan src datapath old new planned) where
-  -- the plan is one that can be assembled
-  pub is_planned : IsPlanned planned.path planned.plan
-  is_planned = record { graph = plan.graph; sound = plan.keeps.sound; plan = inr plan.plan }
-
   -- its microcode is compiled from the files
   pub made : (microcode : Content) → IsMicrocodeOf planned.path planned.plan microcode → IsMade src datapath old new microcode
   made microcode of = record {

@@ -11,24 +11,7 @@ use Rattle.silc.specs.declared.status.Status.{Status}
 use Rattle.silc.specs.declared.status.Status.TheVariants.{Done, Memory, Words, Desk, FrontEnd, Path, Period, FileFull, Image, Samples, Conflict, NotBuilt}
 use Rattle.silc.specs.declared.status.Status.TheVariants as status
 use Rattle.silc.proofs.Endings.{specified_still, finished_still, not_written_still}
-use Rattle.silc.proofs.Errors.{error_still, never_done}
-
--- why there is no plan is why `compile` ends
-pub error_answer : (src datapath out : Name) (old new : View) (status : Status) → IsPlanError src datapath old new status
-    → IsAnswer src datapath out old new status
-error_answer src datapath out old new Done h = absurd (never_done src datapath old new h)
-error_answer src datapath out old new Desk h = inl h
-error_answer src datapath out old new Memory h = h
-error_answer src datapath out old new Words h = h
-error_answer src datapath out old new (FrontEnd fault) h = h
-error_answer src datapath out old new (Path fault) h = h
-error_answer src datapath out old new (status.Unit refusal) h = h
-error_answer src datapath out old new (Period node) h = h
-error_answer src datapath out old new (FileFull unit port node) h = h
-error_answer src datapath out old new (Image fault) h = h
-error_answer src datapath out old new (Samples fault) h = h
-error_answer src datapath out old new (Conflict conflict) h = h
-error_answer src datapath out old new NotBuilt h = h
+use Rattle.silc.proofs.Errors.{error_still}
 
 -- a fault of writing, after the microcode was made
 pub cut_short : (src datapath out : Name) (microcode : Content) (old mid new : View) (status : Status) → status ≡ Desk

@@ -1,34 +1,21 @@
 -- How the parts of `schedule` make up its answer.
-use Rattle.std.proofs.Common.{arith, ◌≡◌, refl, sym, ap, ◌∙◌, inl, inr, ⊎_elim, ℕ, ◌+◌, ◌≤◌, ◌++◌, length, take, Bool}
-use Rattle.std.proofs.lemmas.List.{append-nil, append_assoc}
+use Rattle.std.proofs.Common.{◌≡◌, sym, ap, ◌∙◌, inl, inr, ⊎_elim, ℕ, ◌+◌, ◌≤◌, ◌++◌, length, take, Bool}
+use Rattle.std.proofs.lemmas.List.{append_assoc}
 use Rattle.desk_core.specs.View.{Name, Content, View}
 use Rattle.desk_core.specs.Desk.{FaultsNeverFall, IfSpecified, IsPrinted, IsUnchanged, PrintFaultsRose}
 use Rattle.desk_core.specs.Whole.{IsReadThrough}
 use Rattle.desk_core.proofs.DeskLemmas.{rose_later, rose_earlier, never_fall_trans, same_input_trans}
 use Rattle.desk_core.proofs.WholeLemmas.{through_stays}
-use Rattle.microcode_asm.specs.ScheduleText.{schedule_text}
 use Rattle.silc.specs.Limits.{text_limit}
 use Rattle.silc.specs.Refusals.{IsPlanError}
-use Rattle.silc.specs.Schedule.{IsPrintedMore, IsPrintedInPart, IsScheduled, IsPrintCutShort, ChangesNoFile, IsScheduleAnswer}
-use Rattle.silc.specs.Private.Planning.{IsReadPlan}
+use Rattle.silc.specs.Schedule.{IsPrintedMore, IsPrintedInPart, IsPrintCutShort, ChangesNoFile, IsScheduleAnswer}
 use Rattle.silc.specs.Private.Printing.{IsMadeSchedule, PrintsOnly, IsPrintedSoFar}
 use Rattle.silc.specs.Private.Reading.{OnlyReads}
-use Rattle.silc.specs.declared.planning.Planned.{Planned}
 use Rattle.silc.specs.declared.status.Status.{Status}
 use Rattle.silc.specs.declared.status.Status.TheVariants.{Done, Memory, Words, Desk, FrontEnd, Path, Period, FileFull, Image, Samples, Conflict, NotBuilt}
 use Rattle.silc.specs.declared.status.Status.TheVariants as status
 use Rattle.silc.proofs.Endings.{through_still}
-use Rattle.silc.proofs.Errors.{error_still, never_done}
-
-prints_nothing : (view : View) → PrintsOnly view view
-prints_nothing view = record {
-  files = refl;
-  input = record { named = refl; bytes = refl };
-  place = refl;
-  output = refl;
-  reads = refl;
-  writes = refl;
-}
+use Rattle.silc.proofs.Errors.{error_still}
 
 prints_trans : (old mid new : View) → PrintsOnly old mid → PrintsOnly mid new → PrintsOnly old new
 prints_trans old mid new h k = record {
@@ -38,15 +25,6 @@ prints_trans old mid new h k = record {
   output = k.output ∙ h.output;
   reads = k.reads ∙ h.reads;
   writes = k.writes ∙ h.writes;
-}
-
--- nothing is printed yet
-pub none_printed : (bytes : Content) (view : View) → FaultsNeverFall view view → IsPrintedSoFar bytes 0 view view
-none_printed bytes view never = record {
-  never_fall = never;
-  within = omega arith;
-  prints = prints_nothing view;
-  printed = λ after is. (after, is, sym (append-nil after));
 }
 
 -- a piece more is printed
@@ -67,68 +45,13 @@ module _ (bytes piece : Content) (done n : ℕ) (old mid new : View) (sofar : Is
     printed = more_bytes;
   }
 
--- a fault of printing leaves what was printed
-module _ (bytes : Content) (done : ℕ) (old mid new : View) (sofar : IsPrintedSoFar bytes done old mid) (same : IsUnchanged mid new) where
-  pub failed_only : PrintsOnly old new
-  failed_only = prints_trans old mid new sofar.prints
-      (record { files = same.files; input = same.input; place = same.place; output = same.output; reads = same.reads; writes = same.writes })
-
-  pub failed_part : IfSpecified (IsPrintedInPart bytes) old.printed new.printed
-  failed_part after is = let (before, there, begins) = sofar.printed after (sym same.printed ∙ is) in (before, there, (done, begins))
-
--- the text of the plan of the files
-pub made_schedule : (src datapath : Name) (old new : View) (planned : Planned) → IsReadPlan src datapath old new planned
-    → (text : Content) → text ≡ schedule_text planned.path planned.plan → IsMadeSchedule src datapath old new text
-made_schedule src datapath old new planned plan text is_text = record {
-  read = plan.read;
-  is_text = λ files is. record { path = planned.path; plan = planned.plan; planned = (plan.program, plan.specified files is); text_is = is_text };
-}
-
--- why there is no plan is why `schedule` ends
-pub error_scheduled : (src datapath : Name) (old new : View) (status : Status) → IsPlanError src datapath old new status
-    → IsScheduleAnswer src datapath old new status
-error_scheduled src datapath old new Done h = absurd (never_done src datapath old new h)
-error_scheduled src datapath old new Desk h = inl h
-error_scheduled src datapath old new Memory h = h
-error_scheduled src datapath old new Words h = h
-error_scheduled src datapath old new (FrontEnd fault) h = h
-error_scheduled src datapath old new (Path fault) h = h
-error_scheduled src datapath old new (status.Unit refusal) h = h
-error_scheduled src datapath old new (Period node) h = h
-error_scheduled src datapath old new (FileFull unit port node) h = h
-error_scheduled src datapath old new (Image fault) h = h
-error_scheduled src datapath old new (Samples fault) h = h
-error_scheduled src datapath old new (Conflict conflict) h = h
-error_scheduled src datapath old new NotBuilt h = h
-
--- reading alone changes no file
-pub reads_change : (src datapath : Name) (old new : View) → OnlyReads src datapath old new → ChangesNoFile src datapath old new
-reads_change src datapath old new reads = record {
-  files = reads.unchanged.files;
-  output = reads.unchanged.output;
-  reads = reads.begins;
-  writes = reads.unchanged.writes;
-}
-
 -- the text was made, and then printed
 module _ (src datapath : Name) (old mid new : View) (text : Content) (reads : OnlyReads src datapath old mid) (prints : PrintsOnly mid new) where
-  pub prints_change : ChangesNoFile src datapath old new
-  prints_change = record {
-    files = prints.files ∙ reads.unchanged.files;
-    output = prints.output ∙ reads.unchanged.output;
-    reads = λ s not_first not_second is. reads.begins s not_first not_second (ap (λ (f : Name → Bool). f s) (sym prints.reads) ∙ is);
-    writes = prints.writes ∙ reads.unchanged.writes;
-  }
-
   through : IsMadeSchedule src datapath old mid text → IsReadThrough datapath text_limit old new
   through made = through_stays datapath text_limit old mid new made.read prints.input prints.place (ap (λ (f : Name → Bool). f datapath) prints.reads)
 
   since_old : (R : Content → Content → Type 0) → IfSpecified R mid.printed new.printed → IfSpecified R old.printed new.printed
   since_old R h = λ after is. let (before, there, has) = h after is in (before, sym reads.unchanged.printed ∙ there, has)
-
-  pub scheduled : IsMadeSchedule src datapath old mid text → IfSpecified (IsPrintedMore text) mid.printed new.printed → IsScheduled src datapath old new
-  scheduled made printed =
-      record { read = through made; text = text; is_text = made.is_text; printed = since_old (IsPrintedMore text) printed }
 
   pub print_cut_short : IsMadeSchedule src datapath old mid text → PrintFaultsRose mid new → IfSpecified (IsPrintedInPart text) mid.printed new.printed
       → IsPrintCutShort src datapath old new
