@@ -1,0 +1,11 @@
+pub mod ReadSteps
+pub mod Counts
+pub mod Stored
+pub mod LineSteps
+pub mod NumberSteps
+pub mod NodeSteps
+pub mod PlaceSteps
+pub mod CopySteps
+pub mod OneLine
+pub mod OneFault
+pub mod LoweredNodes

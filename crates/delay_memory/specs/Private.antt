@@ -1,0 +1,4 @@
+pub mod Delays
+pub mod Numbers
+pub mod Lines
+pub mod Nodes

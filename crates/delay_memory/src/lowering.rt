@@ -1,0 +1,54 @@
+//! The delay lines of a graph.
+
+ghost use Rattle.std.specs.Prelude.{◌≡◌, ◌⊎◌, Ok, Err, IfOk, IfErr};
+ghost use Rattle.datapath.specs.Allowed.{IsDatapath};
+ghost use Rattle.signal_graph.specs.GraphRules.{IsGraph};
+ghost use Rattle.plan_core.specs.Lowered.{IsLowered};
+ghost use Rattle.plan_core.specs.declared.delay_lines.Lowered as of_lowered;
+ghost use Rattle.delay_memory.specs.Faults.{IsLineFault};
+ghost use Rattle.delay_memory.specs.declared.fault.LineFault as of_fault;
+ghost use Rattle.delay_memory.specs.declared.fault.LineFault.TheVariants.{Memory};
+
+use crate::delays::delays_of;
+use crate::fault::LineFault;
+use crate::lines::lines_of;
+use crate::nodes::{Layout, nodes_of};
+use crate::numbers::numbers_of;
+use datapath::Datapath;
+use plan_core::Lowered;
+use signal_graph::Graph;
+use std::alloc::Global;
+
+/// Puts the delays of a graph that are longer than the datapath's hold into memory. Each node that is read with such
+/// delays gets a line in the first ram with room, and is followed by new nodes; all nodes are numbered anew. Takes time
+/// in proportion to nodes and edges, and for the delays of each node the logarithm of how many they are. Page
+/// `docs/PLANNING.md`, "Delay lines".
+///
+/// # Errors
+///
+/// At the first node that needs a line and gets none: `NoRam` where the datapath has no ram; `LinesFull` where none has
+/// so many cells left; `NoAcu` where no acu addresses the first that has. `Memory` where no memory is left.
+pub fn lower(alloc: Global, graph: &Graph, datapath: &Datapath) -> Result<Lowered, LineFault>
+    requires datapath { IsDatapath datapath.now }
+    requires sound { IsGraph graph.now }
+    ensures lowered { IfOk result (IsLowered graph.now datapath.now) }
+    ensures fault { IfErr result (λ fault. (fault ≡ Memory) ⊎ IsLineFault graph.now datapath.now fault) }
+    // The one lowered list is always found, unless memory runs out.
+    ensures found { (l : of_lowered.Lowered) → IsLowered graph.now datapath.now l
+        → (result ≡ Ok l) ⊎ (result ≡ Err Memory) }
+    // So is the first node without a line.
+    ensures refused { (fault : of_fault.LineFault) → IsLineFault graph.now datapath.now fault
+        → (result ≡ Err fault) ⊎ (result ≡ Err Memory) }
+{
+    let delays = delays_of(alloc, graph, datapath.hold)?;
+    let numbers = numbers_of(alloc, &delays)?;
+    let lines = lines_of(alloc, datapath, &delays, &numbers)?;
+    let layout = Layout {
+        datapath,
+        delays: &delays,
+        numbers: &numbers,
+        lines: &lines,
+    };
+    let nodes = nodes_of(alloc, graph, &layout)?;
+    Ok(Lowered { nodes, lines })
+}
