@@ -19,27 +19,33 @@ def build():
         sys.exit(status)
 
 
-def run(call, turns, file):
-    """How long so many turns take. The program answers what they add up to, or the fault of the file."""
+def run(call, turns, *files):
+    """How long so many turns take, and what they add up to. The program answers that, or the fault of a file."""
     started = time.monotonic()
-    answer = subprocess.run([PROGRAM, "repeat", call, str(turns), file], check=True, stdout=subprocess.PIPE).stdout
+    answer = subprocess.run([PROGRAM, "repeat", call, str(turns), *files], check=True, stdout=subprocess.PIPE).stdout
     taken = time.monotonic() - started
     if not answer.strip().isdigit():
         sys.exit(f"{call} answers {answer.decode(errors='replace')}")
-    return taken
+    return taken, int(answer)
 
 
-def best(call, turns, file):
+def sum_of(call, turns, *files):
+    """What so many turns add up to."""
+    return run(call, turns, *files)[1]
+
+
+def best(call, turns, *files):
     """The shortest of at least three runs, and of as many as take half a second: a short run says little by itself."""
     times = []
     while len(times) < 3 or sum(times) < 0.5:
-        times.append(run(call, turns, file))
+        times.append(run(call, turns, *files)[0])
     return min(times)
 
 
-def seconds_a_turn(call, file, turns):
-    """The time of one turn: that of so many turns and one, less that of one."""
-    return max(best(call, turns + 1, file) - best(call, 1, file), 1e-9) / turns
+def seconds_a_turn(call, file, turns, *others):
+    """The time of one turn on a file, and on the others that the call takes: that of so many turns and one, less that
+    of one."""
+    return max(best(call, turns + 1, file, *others) - best(call, 1, file, *others), 1e-9) / turns
 
 
 def peak(call, turns, file):

@@ -1,14 +1,15 @@
 """Sources that several scripts measure."""
 
 
-def chain(load):
+def chain(load, delay=1):
     # A turn counts itself and 6 operators, and an element of the array.
     count = load // 8
+    z = f"z@{delay}" if delay else "z"
     return (
         f"const h[2] : fix<16,15> = (0.25, -0.5);\n"
         f"func main(x : fix<16,8>, z : fix<16,8>) y : fix<16,8> =\nbegin\nvar s[{count}] : fix<16,8>;\n"
         f"s[0] = x;\n(i : 1 .. {count - 1}) ::\nbegin\n"
-        "s[i] = s[i - 1] + (h[0] * x - h[1] * z@1) - (s[i - 1] >> 3);\nend;\n"
+        f"s[i] = s[i - 1] + (h[0] * x - h[1] * {z}) - (s[i - 1] >> 3);\nend;\n"
         f"y = s[{count - 1}];\nend;\n"
     )
 
@@ -30,10 +31,18 @@ def filter16():
     )
 
 
-def biquads(count):
+def cascade(equation, count):
     return (
-        "func biquad(x : fix<16,8>) y : fix<16,8> = begin\n"
-        "y = 0.5 * x + 0.25 * x@1 + 0.125 * x@2 - 0.25 * y@1 - 0.125 * y@2;\nend;\n"
+        f"func section(x : fix<16,8>) y : fix<16,8> = begin\n{equation}\nend;\n"
         f"func main(x : fix<16,8>) y : fix<16,8> = begin\nvar s[{count + 1}] : fix<16,8>;\ns[0] = x;\n"
-        f"(i : 0 .. {count - 1}) :: begin s[i + 1] = biquad(s[i]); end;\ny = s[{count}];\nend;\n"
+        f"(i : 0 .. {count - 1}) :: begin s[i + 1] = section(s[i]); end;\ny = s[{count}];\nend;\n"
     )
+
+
+def biquads(count):
+    return cascade("y = 0.5 * x + 0.25 * x@1 + 0.125 * x@2 - 0.25 * y@1 - 0.125 * y@2;", count)
+
+
+def undelayed_biquads(count):
+    """The operations of biquads, all on words of one sample."""
+    return cascade("y = 0.5 * x + 0.25 * x + 0.125 * x - 0.25 * x - 0.125 * x;", count)

@@ -1,1 +1,2 @@
 mod ZeroRows
+mod Planned

@@ -10,6 +10,7 @@ mod names;
 mod operation_names;
 mod page;
 mod path;
+mod plans;
 mod repeat;
 mod rows;
 mod source;
@@ -20,6 +21,7 @@ mod types;
 mod words;
 
 use crate::page::Page;
+use crate::plans::plan_call_named;
 use crate::repeat::call_named;
 use crate::source::Refusal;
 use anyhow::{Context, Result};
@@ -30,7 +32,7 @@ use std::{env, fs};
 
 const USAGE: &str =
     "usage: silc_show tokens|tree|text|names|elements|types|graph SRC | manifests|words TABLE | image MIC \
-     | datapath DP | rows WIDTHS SAMPLES | repeat CALL TURNS FILE";
+     | datapath DP | rows WIDTHS SAMPLES | repeat CALL TURNS FILE | repeat plan|assemble TURNS SRC DP";
 
 const BAD_WORDS: u8 = 2;
 
@@ -95,6 +97,14 @@ fn print(rt: &impl Print, answer: Result<Page, Refusal>) -> Result<()> {
     }
 }
 
+fn print_sum(rt: &impl Print, sum: Result<u64, Refusal>) -> Result<()> {
+    match sum {
+        Ok(sum) => println!(rt; "{sum}")?,
+        Err(refusal) => refusal.print(rt)?,
+    }
+    Ok(())
+}
+
 /// Shows what a layer answers for a file. `false`: no layer has this name.
 fn show_layer<R: Files + Print + AllocGlobal>(rt: &R, layer: &str, file: &str) -> Result<bool> {
     let Some(layer) = layer_called(layer) else {
@@ -126,7 +136,25 @@ fn show_repeat<R: Files + Print + AllocGlobal>(
         return Ok(false);
     };
     let bytes = read(rt, file)?;
-    print(rt, repeat::page(rt.alloc(), call, turns, &bytes))?;
+    print_sum(rt, repeat::sum(rt.alloc(), call, turns, &bytes))?;
+    Ok(true)
+}
+
+/// Shows what the turns of a call on a source and a datapath add up to. `false`: no such call has this name, or the
+/// turns are no number.
+fn show_plans<R: Files + Print + AllocGlobal>(
+    rt: &R,
+    call: &str,
+    turns: &str,
+    source: &str,
+    path: &str,
+) -> Result<bool> {
+    let (Some(call), Ok(turns)) = (plan_call_named(call), turns.parse::<u32>()) else {
+        return Ok(false);
+    };
+    let source = read(rt, source)?;
+    let path = read(rt, path)?;
+    print_sum(rt, plans::sum(rt.alloc(), call, turns, &source, &path))?;
     Ok(true)
 }
 
@@ -143,6 +171,13 @@ fn show<R: Env + Files + Print + AllocGlobal>(rt: &R) -> Result<bool> {
         [_, repeat, call, turns, file] if repeat.as_str() == "repeat" => {
             show_repeat(rt, call.as_str(), turns.as_str(), file.as_str())
         }
+        [_, repeat, call, turns, source, path] if repeat.as_str() == "repeat" => show_plans(
+            rt,
+            call.as_str(),
+            turns.as_str(),
+            source.as_str(),
+            path.as_str(),
+        ),
         _ => Ok(false),
     }
 }

@@ -1,8 +1,11 @@
 //! The datapath of a datapath file: a line for its numbers, for each unit and for each bus, units and buses in order.
 
+ghost use Rattle.std.specs.Prelude.{IfOk};
+ghost use Rattle.datapath.specs.Allowed.{IsDatapath};
+
 use crate::operation_names::kind_text;
 use crate::page::Page;
-use crate::source::Refusal;
+use crate::source::{Refusal, told};
 use datapath::{Bus, Datapath, PathFault, PortRef, Unit, read};
 use std::alloc::Global;
 
@@ -47,24 +50,19 @@ fn put_datapath(page: &mut Page, path: &Datapath) {
     }
 }
 
-/// The fault in the words of its error, which name the table.
-fn refused(alloc: Global, fault: PathFault) -> Refusal {
-    if fault == PathFault::Memory {
-        return Page::cut(alloc);
+pub fn datapath_of(alloc: Global, bytes: &[u8]) -> Result<Datapath, Refusal>
+    ensures { IfOk result IsDatapath }
+{
+    match read(alloc, bytes) {
+        Ok(path) => Ok(path),
+        Err(PathFault::Memory) => Err(Page::cut(alloc)),
+        Err(fault) => Err(told(alloc, &fault)),
     }
-    let mut page = Page::new(alloc);
-    page.shown("fault ", &fault);
-    page.end();
-    page
 }
 
 pub fn page(alloc: Global, bytes: &[u8]) -> Result<Page, Refusal> {
-    match read(alloc, bytes) {
-        Ok(path) => {
-            let mut page = Page::new(alloc);
-            put_datapath(&mut page, &path);
-            Ok(page)
-        }
-        Err(fault) => Err(refused(alloc, fault)),
-    }
+    let path = datapath_of(alloc, bytes)?;
+    let mut page = Page::new(alloc);
+    put_datapath(&mut page, &path);
+    Ok(page)
 }

@@ -278,7 +278,8 @@ fn step_source(alloc: Global, turns: u32, source: &[u8]) -> Result<u64, Refusal>
     }
 }
 
-fn sum(alloc: Global, call: Call, turns: u32, bytes: &[u8]) -> Result<u64, Refusal> {
+/// What the turns of a call on a file add up to.
+pub fn sum(alloc: Global, call: Call, turns: u32, bytes: &[u8]) -> Result<u64, Refusal> {
     match call {
         Call::Decode => decode_again(alloc, turns, bytes),
         Call::Encode => encode_image(alloc, turns, bytes),
@@ -292,12 +293,4 @@ fn sum(alloc: Global, call: Call, turns: u32, bytes: &[u8]) -> Result<u64, Refus
         Call::Graph => graph_again(alloc, turns, bytes),
         Call::Step => step_source(alloc, turns, bytes),
     }
-}
-
-pub fn page(alloc: Global, call: Call, turns: u32, bytes: &[u8]) -> Result<Page, Refusal> {
-    let sum = sum(alloc, call, turns, bytes)?;
-    let mut page = Page::new(alloc);
-    page.number("", sum);
-    page.end();
-    Ok(page)
 }

@@ -13,7 +13,7 @@ use silage_parse::{ParseFault, parse};
 use silage_tree::Program;
 use single_def::DefFault;
 use std::alloc::Global;
-use std::fmt::Debug;
+use std::fmt::{Debug, Display};
 use std::str;
 
 /// A source has at most this many bytes, and so at most this many tokens, tables and functions.
@@ -28,6 +28,14 @@ pub fn refusal(alloc: Global, fault: &impl Debug, line: Option<u64>) -> Refusal 
     if let Some(line) = line {
         page.number(" line ", line);
     }
+    page.end();
+    page
+}
+
+/// The fault in the words of its error.
+pub fn told(alloc: Global, fault: &impl Display) -> Refusal {
+    let mut page = Page::new(alloc);
+    page.shown("fault ", fault);
     page.end();
     page
 }
