@@ -7,6 +7,8 @@ use name_check::{Env, manifest};
 use silage_tree::{Item, Manifest, Program, Top};
 use std::alloc::{AllocError, Global};
 
+const REFUSED: &str = " refused: row";
+
 /// The amount of the initial value that is all of a program.
 fn only_amount(program: &Program) -> Option<&Manifest> {
     match program.tops.as_slice() {
@@ -18,38 +20,60 @@ fn only_amount(program: &Program) -> Option<&Manifest> {
     }
 }
 
+/// Adds the index that an entry `NAME=VALUE` is. `false`: the entry is none.
+fn add_index(env: &mut Env, alloc: Global, entry: &str) -> Result<bool, AllocError> {
+    let Some((name, value)) = entry.split_once('=') else {
+        return Ok(false);
+    };
+    let Ok(value) = value.parse::<i32>() else {
+        return Ok(false);
+    };
+    env.push((Name::from_slice(alloc, name.as_bytes())?, value))?;
+    Ok(true)
+}
+
 /// The loop indices, each with its value.
 fn indices(alloc: Global, text: &str) -> Result<Option<Env>, AllocError> {
     let mut env = List::new(alloc);
     for entry in text.split(' ') {
-        let Some((name, value)) = entry.split_once('=') else {
+        if !add_index(&mut env, alloc, entry)? {
             return Ok(None);
-        };
-        let Ok(value) = value.parse::<i32>() else {
-            return Ok(None);
-        };
-        env.push((Name::from_slice(alloc, name.as_bytes())?, value))?;
+        }
     }
     Ok(Some(env))
 }
 
+fn put_amount(page: &mut Page, program: &Program, env: &Env) {
+    match only_amount(program) {
+        Some(amount) => match manifest(amount, env) {
+            Ok(value) => page.number(" = ", value),
+            Err(fault) => page.debug(" fault ", &fault),
+        },
+        None => page.text(REFUSED),
+    }
+}
+
 /// Puts the value of a manifest constant, which is read as an amount in a source made round it.
-fn put_value(page: &mut Page, alloc: Global, row: &str) -> Result<(), AllocError> {
-    let (text, env) = match row.split_once(" with ") {
-        Some((text, values)) => (text, indices(alloc, values)?),
-        None => (row, Some(List::new(alloc))),
-    };
+fn put_value(page: &mut Page, alloc: Global, text: &str, env: &Env) -> Result<(), AllocError> {
     let source = format!(in alloc; "func f(x : bool) y : bool = begin y@@({text}) = false; end;")?;
-    let (Ok(program), Some(env)) = (program_of(alloc, source.as_bytes()), env) else {
-        page.text(" refused: row");
-        return Ok(());
-    };
-    match only_amount(&program).map(|number| manifest(number, &env)) {
-        Some(Ok(value)) => page.number(" = ", value),
-        Some(Err(fault)) => page.debug(" fault ", &fault),
-        None => page.text(" refused: row"),
+    match program_of(alloc, source.as_bytes()) {
+        Ok(program) => put_amount(page, &program, env),
+        Err(_) => page.text(REFUSED),
     }
     Ok(())
+}
+
+fn put_row(page: &mut Page, alloc: Global, row: &str) -> Result<(), AllocError> {
+    let Some((text, values)) = row.split_once(" with ") else {
+        return put_value(page, alloc, row, &List::new(alloc));
+    };
+    match indices(alloc, values)? {
+        Some(env) => put_value(page, alloc, text, &env),
+        None => {
+            page.text(REFUSED);
+            Ok(())
+        }
+    }
 }
 
 pub fn page(alloc: Global, table: &[u8]) -> Result<Page, Refusal> {
@@ -57,7 +81,7 @@ pub fn page(alloc: Global, table: &[u8]) -> Result<Page, Refusal> {
     let mut page = Page::new(alloc);
     for row in table.lines() {
         page.text(row);
-        if put_value(&mut page, alloc, row).is_err() {
+        if put_row(&mut page, alloc, row).is_err() {
             return Err(Page::cut(alloc));
         }
         page.end();

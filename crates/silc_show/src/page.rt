@@ -18,7 +18,7 @@ pub struct Page {
 const NO_MEMORY: &str = "no memory";
 
 /// How deep the node of a line stands, and what it is to the node above it.
-#[derive(Clone, Copy, Drop)]
+#[derive(Clone, Copy)]
 pub struct Lead {
     level: u32,
     role: &'static str,

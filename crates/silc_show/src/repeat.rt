@@ -262,12 +262,19 @@ fn step_again(evaluator: &mut Evaluator, turns: u32, row: &[i64], put: &mut [i64
     }
 }
 
+fn zeros_in(words: &[i64]) -> u64 {
+    let mut count = 0u64;
+    for word in words {
+        count = count.wrapping_add(u64::from(*word == 0));
+    }
+    count
+}
+
 fn step_rows(alloc: Global, turns: u32, evaluator: &mut Evaluator) -> Result<u64, AllocError> {
     let row = zero_row(alloc, evaluator.inputs())?;
     let mut put = zeros(alloc, evaluator.outs())?;
     step_again(evaluator, turns, &row, &mut put);
-    let zeros = put.iter().filter(|word| **word == 0).count();
-    Ok(zeros as u64)
+    Ok(zeros_in(&put))
 }
 
 fn step_source(alloc: Global, turns: u32, source: &[u8]) -> Result<u64, Refusal> {

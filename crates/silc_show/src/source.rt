@@ -102,12 +102,20 @@ pub fn of_types(alloc: Global, source: &[u8], fault: TypeFault) -> Refusal {
 
 /// The line at the end of the bytes, from 1.
 fn last_line(bytes: &[u8]) -> u64 {
-    let ends = bytes.iter().filter(|byte| **byte == b'\n').count();
-    (ends as u64).saturating_add(1)
+    let mut line = 1u64;
+    for byte in bytes {
+        if *byte == b'\n' {
+            line = line.saturating_add(1);
+        }
+    }
+    line
 }
 
 fn line_of(source: &[u8], at: u32) -> Option<u64> {
-    source.get(..at as usize).map(last_line)
+    match source.get(..at as usize) {
+        Some(before) => Some(last_line(before)),
+        None => None,
+    }
 }
 
 /// The line of a token, or of the end of the source after the last one.
