@@ -99,7 +99,8 @@ module _ (d : Datapath) (delays : List (List ℕ)) where
       last past =
           let count = length_push lines line in
           let e : i ≡ length lines = omega (arith, past, less, count) in
-          let pair : (v, long) ≡ (w, other) = same_Some (v, long) (w, other) (sym at ∙ ap (slice_get (stored delays)) (sym e) ∙ is) in
+          let pair : (v, long) ≡ (w, other) = same_Some (v, long) (w, other) (sym at ∙ ap (slice_get (stored
+          delays)) (sym e) ∙ is) in
           subst (λ (front : List Line). Goal front (line_of (lines ++ line ∷ []) i))
           (sym (take_at lines (line ∷ []) i (sym e)))
           (subst (Goal lines) (sym (get_or_push lines line no_line i (sym e)))
@@ -175,7 +176,8 @@ longest_last long n rise count = record {
   most = λ i d less.
       subst (λ (k : ℕ). k ≤ slice_index_or long n 0) (default_any long i 0 d less)
       (⊎_elim
-      (λ (below : i < n). let rises = AllPairs-from_increasing long rise i n 0 below (omega (arith, count)) in omega (arith, rises))
+      (λ (below : i < n). let rises = AllPairs-from_increasing long rise i n 0 below (omega (arith, count)) in
+      omega (arith, rises))
       (λ (above : n ≤ i).
       let same : i ≡ n = omega (arith, above, less, count) in
       let e = ap (λ (k : ℕ). slice_index_or long k 0) same in

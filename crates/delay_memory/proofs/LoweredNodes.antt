@@ -95,7 +95,8 @@ module _ (g : Graph) (d : Datapath) (l : Lowered) (sound : IsGraph g) (x : IsLow
   all_short i (own v) number q port =
       let made = made_at (own v) i number in
       lowered_short (slice_index_or (edges_of i) q no_edge) (edge_of (node_of g.nodes v) q)
-      (zip_edge (IsLoweredEdge d.hold x.delays) (edges_of i) (node_of g.nodes v).edges q no_edge no_edge made.edges port)
+      (zip_edge (IsLoweredEdge d.hold x.delays) (edges_of i) (node_of g.nodes v).edges q no_edge no_edge
+      made.edges port)
   all_short i (address v ago) number q port =
       let made = made_at (address v ago) i number in
       let none = ap (λ (n : Node). length n.edges) made.is in

@@ -71,7 +71,8 @@ module _ (g : Graph) (d : Datapath) (l : Lowered) (delays : List (List ℕ)) (v 
       },
       loads_made width (at + 2) ks same
           (λ i less.
-          subst (IsNumber delays (address v (slice_index_or ks i 0))) {x = at + 2 * suc i} {y = at + 2 + 2 * i} (omega arith)
+          subst (IsNumber delays (address v (slice_index_or ks i 0))) {x = at + 2 * suc i} {y = at + 2 + 2 * i}
+          (omega arith)
           (numbers (suc i) (omega (arith, less)))),
     ),
   )
@@ -116,7 +117,8 @@ module _ (g : Graph) (d : Datapath) (delays : List (List ℕ)) (numbers : List �
       → node ≡ node_of g.nodes v → IsCopy d.hold delays node copy → length (delays_at delays v) ≡ 0
       → AreMadeBefore g d delays lines (v + 1) (old ++ copy ∷ [])
   made_alone old node copy before same is none l e =
-      subst (λ (os : List Origin). AllZip (IsMade g d l delays) os (old ++ copy ∷ [])) (sym (origins_more delays v inside))
+      subst (λ (os : List Origin). AllZip (IsMade g d l delays) os (old ++ copy ∷ [])) (sym (origins_more
+      delays v inside))
       (zip_append (IsMade g d l delays) (origins_before delays v) (origins_of v (delays_at delays v)) old (copy ∷ [])
       (before l e)
       (own_made g d l delays v (delays_at delays v) copy none (own_is l)))
@@ -244,7 +246,14 @@ module _ (d : Datapath) (delays : List (List ℕ)) (numbers : List ℕ) (layout 
 
   pub edge_held : (new : Edge) → edge.delay ≤ d.hold → IsNumber delays (own edge.node) new.node
       → new.delay ≡ edge.delay → IsLoweredEdge d.hold delays new edge
-  edge_held new short number same = record { held = λ h. (number, same); loaded = λ h. absurd (omega (arith, short, h)) }
+  edge_held new short number same = record {
+    held = λ h. (number, same);
+    loaded = λ h. absurd (omega (
+      arith,
+      short,
+      h,
+    ));
+  }
 
   pub edge_loaded : (new : Edge) (number index : ℕ) → d.hold < edge.delay → IsNumber delays (own edge.node) number
       → index < length (delays_at delays edge.node) → slice_index_or (delays_at delays edge.node) index 0 ≡ edge.delay
@@ -325,10 +334,12 @@ loads_step line width k ks first old mid new addr ld at less before number is-ad
     ∙ ap (λ (ns : List Node). ns ++ ld ∷ []) e
     ∙ ap (λ (ns : List Node). (ns ++ addr ∷ []) ++ ld ∷ []) before
     ∙ ap (λ (n : Node). ((first ++ loaded_to line width ks k) ++ n ∷ []) ++ ld ∷ []) is-addr
-    ∙ ap (λ (n : Node). ((first ++ loaded_to line width ks k) ++ address_node line.ram (line.offset + slice_index_or ks k 0) ∷ []) ++ n ∷ []) is-ld
+    ∙ ap (λ (n : Node). ((first ++ loaded_to line width ks k) ++ address_node line.ram (line.offset +
+    slice_index_or ks k 0) ∷ []) ++ n ∷ []) is-ld
     ∙ ap (λ (ns : List Node). ns ++ load_node line.ram at width ∷ [])
     (append_assoc first (loaded_to line width ks k) (address_node line.ram (line.offset + slice_index_or ks k 0) ∷ []))
-    ∙ append_assoc first (loaded_to line width ks k ++ address_node line.ram (line.offset + slice_index_or ks k 0) ∷ []) (load_node line.ram at width ∷ [])
+    ∙ append_assoc first (loaded_to line width ks k ++ address_node line.ram (line.offset + slice_index_or ks k
+    0) ∷ []) (load_node line.ram at width ∷ [])
     ∙ ap (λ (ns : List Node). first ++ ns) (sym more)
     ∙ ap (λ (js : List ℕ). first ++ load_nodes line width (line.node + 3) js) (sym (take_more ks k 0 less))
   where
@@ -336,5 +347,6 @@ loads_step line width k ks first old mid new addr ld at less before number is-ad
     count = length-take-le k ks (omega (arith, less))
 
     more : load_nodes line width (line.node + 3) (take k ks ++ slice_index_or ks k 0 ∷ [])
-        ≡ (loaded_to line width ks k ++ address_node line.ram (line.offset + slice_index_or ks k 0) ∷ []) ++ load_node line.ram at width ∷ []
+        ≡ (loaded_to line width ks k ++ address_node line.ram (line.offset + slice_index_or ks k 0) ∷ []) ++
+        load_node line.ram at width ∷ []
     more = loads_more line width (line.node + 3) (take k ks) (slice_index_or ks k 0) at (omega (arith, number, count))

@@ -108,7 +108,11 @@ module _ (delays : List (List ℕ)) where
       earlier : (w : ℕ) → w < v → IsNumber delays (own w) (number_in (numbers ++ next ∷ []) w)
       earlier w below =
           let count = before.count in
-          subst (IsNumber delays (own w)) (sym (get_or_append_left numbers (next ∷ []) 0 w (omega (arith, below, count))))
+          subst (IsNumber delays (own w)) (sym (get_or_append_left numbers (next ∷ []) 0 w (omega (
+            arith,
+            below,
+            count,
+          ))))
           (before.each w below)
 
       here : (w : ℕ) → w ≡ v → IsNumber delays (own w) (number_in (numbers ++ next ∷ []) w)
@@ -144,7 +148,8 @@ module _ (delays : List (List ℕ)) where
     pub load_number : (i : ℕ) → i < length (delays_at delays v)
         → IsNumber delays (load v (slice_index_or (delays_at delays v) i 0)) (number + 3 + 2 * i + 1)
     load_number i below =
-        shifted (suc (suc (suc (2 * i + 1)))) (number + 3 + 2 * i + 1) (load v (slice_index_or (delays_at delays v) i 0))
+        shifted (suc (suc (suc (2 * i + 1)))) (number + 3 + 2 * i + 1) (load v (slice_index_or (delays_at
+        delays v) i 0))
         (behind_store v (delays_at delays v) (2 * i + 1) (load v (slice_index_or (delays_at delays v) i 0)) some
         (at_load v (delays_at delays v) i (2 * i + 1) below refl))
         (omega arith)
@@ -168,7 +173,8 @@ module _ (delays : List (List ℕ)) where
         let count = length-enumerate_from 0 delays in
         let most = sum_by-le (λ (x : ℕ × List ℕ). length (piece x)) 2051 (enumerate_from 0 delays) each_few in
         let sum = length-flat_map piece (enumerate_from 0 delays) in
-        subst (λ (n : ℕ). length (origins delays) ≤ n * 2051) count (subst (λ (n : ℕ). n ≤ length (enumerate_from 0 delays) * 2051) (sym sum) most)
+        subst (λ (n : ℕ). length (origins delays) ≤ n * 2051) count (subst (λ (n : ℕ). n ≤ length
+        (enumerate_from 0 delays) * 2051) (sym sum) most)
 
     pub number_few : (o : Origin) (i : ℕ) → IsNumber delays o i → i < 2150629376
     number_few o i is =

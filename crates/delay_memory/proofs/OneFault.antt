@@ -39,7 +39,8 @@ most long a b x y =
 one_longest : (long : List ℕ) (a b : ℕ) → IsLongest long a → IsLongest long b → a ≡ b
 one_longest long a b x y = le_antisymm (most long a b x y) (most long b a y x)
 
-one_room : (d : Datapath) (lines : List Line) (cells a b : ℕ) → IsFirstRoom d lines cells a → IsFirstRoom d lines cells b
+one_room : (d : Datapath) (lines : List Line) (cells a b : ℕ) → IsFirstRoom d lines cells a → IsFirstRoom d
+    lines cells b
     → a ≡ b
 one_room d lines cells a b x y = neither_less a b (λ less. y.first a less x.room) (λ less. x.first b less y.room)
 
@@ -117,7 +118,8 @@ module _ (d : Datapath) (delays : List (List ℕ)) where
             same_Some (x.v, x.long) (y.v, y.long) (sym x.next ∙ ap (slice_get (stored delays)) same ∙ y.next) in
             let depth : x.depth ≡ y.depth =
             one_longest y.long x.depth y.depth
-            (subst (λ (long : List ℕ). IsLongest long x.depth) (ap (λ (p : ℕ × List ℕ). p.1) pair) x.longest) y.longest in
+            (subst (λ (long : List ℕ). IsLongest long x.depth) (ap (λ (p : ℕ × List ℕ). p.1) pair) x.longest)
+            y.longest in
             one_place_fault y.lines y.v y.depth f g
             (subst (λ (ls : List Line). IsPlaceFault d ls y.v y.depth f) lines
             (subst (λ (v : ℕ). IsPlaceFault d x.lines v y.depth f) (ap (λ (p : ℕ × List ℕ). p.0) pair)
@@ -289,7 +291,8 @@ module _ (g : Graph) (d : Datapath) (delays : List (List ℕ)) (once_each : Stan
   same_lines : l.lines ≡ m.lines
   same_lines =
       let count = x.line_count in
-      one_lines delays d once_each l.lines m.lines x.lines y.lines (x.line_count ∙ sym y.line_count) (omega (arith, count))
+      one_lines delays d once_each l.lines m.lines x.lines y.lines (x.line_count ∙ sym y.line_count) (omega
+      (arith, count))
 
   own_same : (v w : ℕ) → Some (own v) ≡ Some (own w) → v ≡ w
   own_same v w e = cc
@@ -336,7 +339,8 @@ module _ (g : Graph) (d : Datapath) (delays : List (List ℕ)) (once_each : Stan
   made_once : (o : Origin) (a b : Node) → IsMade g d l delays o a → IsMade g d m delays o b → a ≡ b
   made_once (own v) a b is-a is-b =
       let edges : a.edges ≡ b.edges =
-      zip_same (IsLoweredEdge d.hold delays) a.edges b.edges (node_of g.nodes v).edges is-a.edges is-b.edges edge_once in
+      zip_same (IsLoweredEdge d.hold delays) a.edges b.edges (node_of g.nodes v).edges is-a.edges is-b.edges
+      edge_once in
       is-a.rest ∙ ap (λ (es : List Edge). record (node_of g.nodes v) { edges = es }) edges ∙ sym is-b.rest
   made_once (address v ago) a b is-a is-b =
       is-a.is

@@ -70,7 +70,13 @@ load_place v (k ∷ ks) (suc (suc i)) o is =
     record {
       m = suc rest.m;
       less = let less = rest.less in omega arith;
-      is = ⊎_elim (λ h. let at = h.0 in inl (omega (arith, at), h.1)) (λ h. let at = h.0 in inr (omega (arith, at), h.1))
+      is = ⊎_elim (λ h. let at = h.0 in inl (omega (arith, at), h.1)) (λ h. let at = h.0 in inr (
+        omega (
+          arith,
+          at,
+        ),
+        h.1,
+      ))
           rest.is;
     }
 
@@ -140,7 +146,8 @@ module _ (delays : List (List ℕ)) where
       let a = found o i is in
       let b = found o j is' in
       let same : a.v ≡ b.v =
-      sym (belongs a.v (delays_at delays a.v) a.j o a.part).node ∙ (belongs b.v (delays_at delays b.v) b.j o b.part).node in
+      sym (belongs a.v (delays_at delays a.v) a.j o a.part).node ∙ (belongs b.v (delays_at delays b.v) b.j o
+      b.part).node in
       let place : a.j ≡ b.j =
       sym (place a) ∙ ap (λ (v : ℕ). place_in (delays_at delays v) o) same ∙ place b in
       a.at ∙ ap₂ (λ (v j : ℕ). first_of delays v + j) same place ∙ sym b.at

@@ -253,7 +253,12 @@ module _ (g : Graph) (hold : ℕ) where
   }
     where
       at : (i d : ℕ) → i < length risen → IsLongRead g hold (length g.nodes) 0 v (slice_index_or risen i d)
-      at i d less = from (slice_index_or risen i d) ((same (slice_index_or risen i d)).0 (i, less, default_any risen i (slice_index_or risen i d) d less))
+      at i d less = from (slice_index_or risen i d) ((same (slice_index_or risen i d)).0 (
+        i,
+        less,
+        default_any
+            risen i (slice_index_or risen i d) d less,
+      ))
 
       ago : {k : ℕ} → IsLongRead g hold (length g.nodes) 0 v k → IsReadAgo g v k
       ago r = record { consumer = r.consumer; port = r.port; reads = r.reads; delay = r.delay }
@@ -276,9 +281,11 @@ module _ (g : Graph) (hold : ℕ) where
     count = length-set reads v [] ∙ before.count;
     risen = let count = before.risen in let more = length_push delays risen in omega arith;
     from = λ w ago past h.
-        before.from w ago (omega (arith, past)) (subst (λ (xs : List ℕ). Contains xs ago) (others w (omega (arith, past))) h);
+        before.from w ago (omega (arith, past)) (subst (λ (xs : List ℕ). Contains xs ago) (others w (omega
+        (arith, past))) h);
     to = λ w ago past r.
-        subst (λ (xs : List ℕ). Contains xs ago) (sym (others w (omega (arith, past)))) (before.to w ago (omega (arith, past)) r);
+        subst (λ (xs : List ℕ). Contains xs ago) (sym (others w (omega (arith, past)))) (before.to w ago (omega
+        (arith, past)) r);
     long = λ w less. ⊎_elim (earlier w) (λ past. here w (omega (arith, past, less))) (cases_lt w v);
   }
     where
@@ -324,7 +331,14 @@ pub edge_at : (g : Graph) → IsGraph g → (c q : ℕ) (node : Node) (edges : L
     → (q < length (node_of g.nodes c).edges)
     × ((edge_of (node_of g.nodes c) q ≡ slice_index_or edges q no_edge)
     × ((slice_index_or edges q no_edge).node < length g.nodes))
-edge_at g sound c q node edges there is same port = (port', (sym at, subst (λ (e : Edge). e.node < length g.nodes) (sym at) inside))
+edge_at g sound c q node edges there is same port = (
+  port',
+  (
+    sym at,
+    subst (λ (e : Edge). e.node < length
+        g.nodes) (sym at) inside,
+  ),
+)
   where
     old : edges ≡ (node_of g.nodes c).edges
     old = same ∙ ap (λ (n : Node). n.edges) (is ∙ default_any g.nodes c node no_node there)

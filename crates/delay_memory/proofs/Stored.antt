@@ -94,7 +94,12 @@ module _ (delays : List (List ℕ)) where
   rise : AllPairs (λ (x y : ℕ × List ℕ). x.0 < y.0) (enumerate_from 0 delays)
   rise i j d less within =
       let count = length-enumerate_from 0 delays in
-      let at-i = ap (λ (x : ℕ × List ℕ). x.0) (get_or-enumerate_from 0 delays i d (omega (arith, less, within, count))) in
+      let at-i = ap (λ (x : ℕ × List ℕ). x.0) (get_or-enumerate_from 0 delays i d (omega (
+        arith,
+        less,
+        within,
+        count,
+      ))) in
       let at-j = ap (λ (x : ℕ × List ℕ). x.0) (get_or-enumerate_from 0 delays j d (omega (arith, within, count))) in
       omega (arith, less, at-i, at-j)
 

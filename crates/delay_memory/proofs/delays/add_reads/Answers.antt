@@ -9,7 +9,8 @@ add_read-requires c =
     let items = c.deref-edge-items.result.now in
     let k = c.loop-edge.edge-index in
     let less : k < length items = omega arith in
-    let e = edge_at c.args.graph.now c.requires.sound c.args.c k c.index.result.now items c.requires.node c.index.ensures
+    let e = edge_at c.args.graph.now c.requires.sound c.args.c k c.index.result.now items c.requires.node
+    c.index.ensures
     c.deref-edge-items.ensures less in
     let there = e.1.1 in
     let count = c.loop-edge.invariant.count in
@@ -20,7 +21,8 @@ loop-edge-preserved c =
     let items = c.deref-edge-items.result.now in
     let k = c.loop-edge.edge-index in
     let less : k < length items = omega arith in
-    let e = edge_at c.args.graph.now c.requires.sound c.args.c k c.index.result.now items c.requires.node c.index.ensures
+    let e = edge_at c.args.graph.now c.requires.sound c.args.c k c.index.result.now items c.requires.node
+    c.index.ensures
     c.deref-edge-items.ensures less in
     reads_more c.args.graph.now c.args.hold c.args.c k (slice_index_or items k no_edge) c.loop-edge.reads
     c.add_read.new.reads c.loop-edge.invariant e.0 e.1.0 e.1.1 c.in_ok-add_read.ensures

@@ -6,7 +6,8 @@ use Rattle.delay_memory.proofs.delays.delays_of.Goals as goal
 pub loop-v-preserved : goal.loop-v-preserved
 loop-v-preserved c =
     let there : c.loop-v.v < length c.args.graph.now.nodes = omega arith in
-    risen_step c.args.graph.now c.args.hold c.loop-v.v c.replace.result c.in_ok-rising.field-0 c.new.result c.loop-v.reads
+    risen_step c.args.graph.now c.args.hold c.loop-v.v c.replace.result c.in_ok-rising.field-0 c.new.result
+    c.loop-v.reads
     c.replace.new.self c.loop-v.delays c.push.new.self there c.loop-v.invariant c.replace.ensures.before c.new.ensures
     c.replace.ensures.after c.in_ok-push.ensures.ok c.in_ok-rising.ensures.rise c.in_ok-rising.ensures.same
 

@@ -28,7 +28,8 @@ loop-v-preserved c =
     let next = c.loop-v.invariant.next in
     record {
       numbers = subst (AreNumbers c.args.delays.now (c.loop-v.v + 1)) (sym c.in_ok-push.ensures.ok)
-          (numbers_more c.args.delays.now c.loop-v.v c.loop-v.next c.loop-v.numbers there c.loop-v.invariant.numbers next);
+          (numbers_more c.args.delays.now c.loop-v.v c.loop-v.next c.loop-v.numbers there
+          c.loop-v.invariant.numbers next);
       next = omega (arith, piece, same, first, next);
       small = omega (arith, few, piece, same, small);
     }
