@@ -14,7 +14,7 @@ use Rattle.front_end.specs.GraphOf.{IsProgramGraph}
 use Rattle.front_end.proofs.OneAnswer.{one_program}
 use Rattle.silc.specs.Plans.{IsPlannedOver, IsUnplanned, IsUnplannedOver}
 use Rattle.silc.specs.Refusals.{IsRefusal, IsRefused}
-use Rattle.silc.specs.Private.Planning.{IsSourceIn, IsPathIn, IsWithoutPlan, IsNoInputPlan}
+use Rattle.silc.specs.Private.Planning.{IsSourceIn, IsPathIn, IsNoPath, IsWithoutPlan, IsNoInputPlan}
 use Rattle.silc.specs.Private.Reading.{IsInput}
 use Rattle.silc.specs.declared.files.Input.{Input}
 use Rattle.silc.specs.declared.files.Input.TheVariants.{TooLong}
@@ -74,6 +74,23 @@ module _ (s d : Content) (program : Program) (read : HasProgram s program) (g : 
   refused (Image fault) h = absurd h
   refused (Samples fault) h = absurd h
   refused (Conflict conflict) h = absurd h
+
+-- why the file describes no datapath is why the inputs have no plan
+pub no_path : (source datapath : Input) (program : Program) (g : Graph) → IsSourceIn source program g
+    → (status : Status) → IsNoPath datapath status → IsNoInputPlan source datapath status
+no_path source datapath program g has Memory h = inl refl
+no_path source datapath program g has (Path fault) h = inr (h.0, λ s d hs hd. ((program, (has s hs).read), h.1 d hd))
+no_path source datapath program g has Done h = absurd h
+no_path source datapath program g has Words h = absurd h
+no_path source datapath program g has Desk h = absurd h
+no_path source datapath program g has (FrontEnd fault) h = absurd h
+no_path source datapath program g has (status.Unit reason) h = absurd h
+no_path source datapath program g has (Period node) h = absurd h
+no_path source datapath program g has (FileFull u port node) h = absurd h
+no_path source datapath program g has (Image fault) h = absurd h
+no_path source datapath program g has (Samples fault) h = absurd h
+no_path source datapath program g has (Conflict conflict) h = absurd h
+no_path source datapath program g has NotBuilt h = absurd h
 
 -- why the graph has no plan is why the inputs have none
 pub no_input_plan : (source datapath : Input) (program : Program) (g : Graph) → IsSourceIn source program g → (path : Datapath)

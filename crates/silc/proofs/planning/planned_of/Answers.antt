@@ -1,5 +1,6 @@
+use Rattle.std.proofs.Common.{rules}
 use Rattle.silage_syntax.specs.Tree.{view}
-use Rattle.silc.proofs.Plans.{no_input_plan}
+use Rattle.silc.proofs.Plans.{no_path, no_input_plan}
 use Rattle.silc.proofs.Results.{if_err}
 use Rattle.silc.proofs.planning.planned_of.Goals as goal
 
@@ -9,3 +10,9 @@ returns-clause-err c =
     (λ ending. no_input_plan c.args.source.now c.args.datapath.now (view c.in_ok-accepted.accepted.program) c.in_ok-accepted.accepted.graph c.in_ok-accepted.ensures.ok
     c.in_ok-path.path c.in_ok-path.ensures.ok ending.status)
     c.planned_over.ensures.err
+
+pub returns-in_err-path-clause-err : goal.returns-in_err-path-clause-err
+returns-in_err-path-clause-err c =
+    let why = no_path c.args.source.now c.args.datapath.now (view c.in_ok-accepted.accepted.program)
+    c.in_ok-accepted.accepted.graph c.in_ok-accepted.ensures.ok c.in_err-path.field-0.0 c.in_err-path.ensures.err in
+    search (rules, why)
