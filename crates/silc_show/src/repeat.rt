@@ -16,6 +16,7 @@ use crate::graph::graph_of;
 use crate::image::{bytes_of, image_of};
 use crate::names::names_of;
 use crate::page::Page;
+use crate::path::datapath_of;
 use crate::source::{Refusal, parsed, program_of, refusal, tokens_of};
 use crate::types::typed;
 use cycle_sim::{Conflict, Machine};
@@ -51,6 +52,8 @@ pub enum Call {
     Graph,
     /// One sample a turn, with 0 for each input word: the output words of the last one that are 0.
     Step,
+    /// From a datapath file to its datapath: the units.
+    Datapath,
 }
 
 pub fn call_named(word: &str) -> Option<Call> {
@@ -66,6 +69,7 @@ pub fn call_named(word: &str) -> Option<Call> {
         "front" => Some(Call::Front),
         "graph" => Some(Call::Graph),
         "step" => Some(Call::Step),
+        "datapath" => Some(Call::Datapath),
         _ => None,
     }
 }
@@ -229,6 +233,14 @@ fn graph_again(alloc: Global, turns: u32, source: &[u8]) -> Result<u64, Refusal>
     Ok(count)
 }
 
+fn datapath_again(alloc: Global, turns: u32, file: &[u8]) -> Result<u64, Refusal> {
+    let mut count = 0u64;
+    for _ in 0..turns {
+        count = count.wrapping_add(datapath_of(alloc, file)?.units.len() as u64);
+    }
+    Ok(count)
+}
+
 fn evaluator_of(alloc: Global, source: &[u8]) -> Result<Evaluator, Refusal> {
     let graph = graph_of(alloc, source)?;
     match Evaluator::new(alloc, &graph) {
@@ -299,5 +311,6 @@ pub fn sum(alloc: Global, call: Call, turns: u32, bytes: &[u8]) -> Result<u64, R
         Call::Front => front_again(alloc, turns, bytes),
         Call::Graph => graph_again(alloc, turns, bytes),
         Call::Step => step_source(alloc, turns, bytes),
+        Call::Datapath => datapath_again(alloc, turns, bytes),
     }
 }
