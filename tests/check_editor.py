@@ -1,16 +1,20 @@
 #!/usr/bin/env python3
-"""Whether the grammars in editor/ have the words and symbols of the language, and give each part of the examples a colour.
+"""Whether the grammars in editor/ have the words and symbols of the language, and give each part of the examples a colour,
+and whether the problem matcher takes the lines of tools/check apart, as the cases in tests/check have them.
 
 usage: tests/check_editor.py
 """
 import json
 import re
 import sys
+import tomllib
 from pathlib import Path
 
 ROOT = Path(__file__).resolve().parent.parent
 TEXTS = ROOT / "crates" / "silage_lex" / "specs" / "Texts.antt"
-GRAMMAR = ROOT / "editor" / "vscode" / "syntaxes" / "silc.tmLanguage.json"
+VSCODE = ROOT / "editor" / "vscode"
+GRAMMAR = VSCODE / "syntaxes" / "silc.tmLanguage.json"
+CHECK_CASES = ROOT / "tests" / "check" / "cases.toml"
 VIM = ROOT / "editor" / "vim" / "syntax" / "silc.vim"
 
 
@@ -56,6 +60,23 @@ def vim_words():
     return {word for line in lines for word in line.split()}
 
 
+def matcher_faults():
+    """The lines of tools/check that the matcher, which the task names, takes apart otherwise."""
+    (matcher,) = json.loads((VSCODE / "package.json").read_text())["contributes"]["problemMatchers"]
+    (task,) = json.loads((VSCODE / "tasks.json").read_text())["tasks"]
+    if task["problemMatcher"] != f"${matcher['name']}":
+        yield f"the task has another problem matcher than {matcher['name']}"
+    pattern = matcher["pattern"]
+    places = [pattern[part] for part in ("file", "line", "column", "message")]
+    cases = tomllib.loads(CHECK_CASES.read_text())["case"]
+    for fault in [row["fault"] for case in cases for row in case.get("rows", [])]:
+        line, column, message = re.fullmatch(r"(\d+):(\d+): (.*)", fault).groups()
+        for file in ("SRC", "/a folder/one:two.sil"):
+            found = re.search(pattern["regexp"], f"{file}:{fault}")
+            if not found or [found[place] for place in places] != [file, line, column, message]:
+                yield f"the problem matcher does not take {file}:{fault} apart"
+
+
 def main():
     words, symbols = texts("reserved_words"), texts("symbols")
     patterns = rules(json.loads(GRAMMAR.read_text()))
@@ -72,6 +93,7 @@ def main():
         for scope, part in coloured(source.read_text(), patterns):
             if scope in ("", "invalid.illegal.silc"):
                 faults.append(f"{source.name}: {part!r} has no colour")
+    faults += matcher_faults()
     for fault in faults:
         print(fault)
     return 1 if faults else 0
