@@ -49,8 +49,9 @@ class Picture:
         self.lines.append(f"<path d='M{path}' fill='none' stroke='{colour}' stroke-width='{width}' "
                           f"stroke-dasharray='{dashes or 'none'}'{named}")
 
-    def dot(self, x, y, colour):
-        self.lines.append(f"<circle cx='{x:g}' cy='{y:g}' r='4' fill='{colour}'/>")
+    def dot(self, x, y, colour, radius=4, title=""):
+        named = f"><title>{escape(title)}</title></circle>" if title else "/>"
+        self.lines.append(f"<circle cx='{x:g}' cy='{y:g}' r='{radius}' fill='{colour}'{named}")
 
     def arrow(self, x, y, down, colour):
         tip, base = (y, y - 7) if down else (y, y + 7)

@@ -1,0 +1,148 @@
+#!/usr/bin/env python3
+"""Whether the tables and pictures of tools/explore are right: each row against `silc schedule` on a datapath file that is
+written here by hand, the front against its definition, and a table that was cut off against one that was not.
+
+usage: tests/explore/check_tables.py
+
+It runs the built `silc`, or the one that `SILC` names. Where GNU parallel is installed, it is tried too.
+"""
+import csv
+import itertools
+import os
+import re
+import shutil
+import subprocess
+import sys
+import tempfile
+import xml.etree.ElementTree as Xml
+from pathlib import Path
+
+HERE = Path(__file__).resolve().parent
+ROOT = HERE.parent.parent
+SILC = Path(os.environ.get("SILC", ROOT / "crates" / "silc_main" / "out" / "silc_main")).resolve()
+TEMPLATE = HERE / "small.ranges"
+SOURCE = "func main(x : fix<8,0>) y : fix<8,0> = begin y = (x + 1) + (x + 2); end;\n"
+HEAD = "period,adders,add.latency,size,b.times,units,buses,registers,cells,cycles,answer,front,made_from".split(",")
+RANGES = {"period": (6, 10, 14), "adders": (1, 2), "add.latency": (1, 2), "size": (2, 4), "b.times": (1, 2)}
+COSTS = ("period", "units", "buses", "registers")
+SVG = "{http://www.w3.org/2000/svg}"
+# A program in the place of silc that keeps count of its calls.
+COUNTING = '#!/bin/sh\necho >>"{count}"\nexec "{silc}" "$@"\n'
+
+
+def datapath(period, adders, latency, size, buses):
+    names = ["add", "add_2"][:adders]
+    adder = f"kind = 'alu'\nlatency = {latency}\nfiles = [{size}, {size}]\n"
+    ends = [f"{name}.{port}" for name in names for port in (0, 1)]
+    units = ["name = 'inp'\nkind = 'in'\n", "name = 'rom'\nkind = 'rom'\n",
+             *(f"name = '{name}'\n{adder}" for name in names), "name = 'outp'\nkind = 'out'\nfiles = [1]\n"]
+    bus = f"from = {['inp', 'rom', *names]}\nto = {[*ends, 'outp.0']}\n"
+    return "".join([f"period = {period}\nword = 16\n", *(f"[[unit]]\n{unit}" for unit in units),
+                    *(f"[[bus]]\nname = '{name}'\n{bus}" for name in ["b", "b_2"][:buses])])
+
+
+def measured(text, latency):
+    """The registers and the cycles of a schedule's text, by the last number in each file and the last result."""
+    last = {}
+    for file, registers in re.findall(r" to (\S+) bus \S+ regs (\S+)", text):
+        last[file] = max(last.get(file, 0), *map(int, registers.split(",")))
+    ends = [int(cycle) + (latency if unit.startswith("add") else 1)
+            for cycle, unit in re.findall(r"^node \d+ cycle (\d+) unit (\S+)", text, re.M)]
+    return sum(register + 1 for register in last.values()), max(ends)
+
+
+def expected(room):
+    """Each combination with what it has and takes, or with the refusal, and whether it is on the front."""
+    (room / "source").write_text(SOURCE)
+    rows = {}
+    for choice in itertools.product(*RANGES.values()):
+        _, adders, latency, _, buses = choice
+        (room / "datapath").write_text(datapath(*choice))
+        done = subprocess.run([SILC, "schedule", "source", "datapath"], cwd=room, capture_output=True, text=True)
+        row = dict(zip(RANGES, choice)) | {"units": 3 + adders, "buses": buses}
+        if done.returncode:
+            rows[choice] = row | {"answer": done.stderr.strip().removeprefix("silc: ")}
+        else:
+            registers, cycles = measured(done.stdout, latency)
+            rows[choice] = row | {"answer": "fits", "registers": registers, "cells": 0, "cycles": cycles}
+    costs = {choice: [row[cost] for cost in COSTS] for choice, row in rows.items() if row["answer"] == "fits"}
+    for choice, own in costs.items():
+        is_bettered = any(other != own and all(a <= b for a, b in zip(other, own)) for other in costs.values())
+        rows[choice] |= {} if is_bettered else {"front": "yes"}
+    return [{name: str(row.get(name, "")) for name in HEAD[:-1]} for row in rows.values()]
+
+
+def explored(room, *options, silc=SILC):
+    """What a run leaves, and what it says."""
+    done = subprocess.run([ROOT / "tools" / "explore", *options, "--out", "made", "source", TEMPLATE], cwd=room,
+                          env=os.environ | {"SILC": str(silc)}, capture_output=True, text=True)
+    if done.returncode:
+        sys.exit(f"tools/explore {' '.join(options)} ended with {done.returncode}: {done.stderr}")
+    return (room / "made.csv").read_text(), done
+
+
+def faults_of(text, rows):
+    """How a table differs from the rows that are expected."""
+    lines = list(csv.reader(text.splitlines()))
+    if lines[0] != HEAD:
+        yield f"the head is {lines[0]}"
+    for line, row in itertools.zip_longest(lines[1:], rows):
+        if line is None or row is None or dict(zip(HEAD[:-1], line)) != row:
+            yield f"the row {line} in the place of {row}"
+
+
+def picture_faults(room, rows):
+    """The picture has a large point for each place on the front, further right and lower for more cycles and fewer registers."""
+    picture = Xml.parse(room / "made.svg").getroot()
+    titles = {shape.find(SVG + "title").text: (float(shape.get("cx")), float(shape.get("cy")))
+              for shape in picture.iter(SVG + "circle") if shape.find(SVG + "title") is not None}
+    places = {tuple(int(row[cost]) for cost in COSTS) for row in rows if row["front"]}
+    shown = {tuple(map(int, re.findall(r"(\d+)", title.partition(":")[0]))): place for title, place in titles.items()}
+    if set(shown) != places:
+        yield f"the picture has {set(shown)} on the front, and not {places}"
+    for (one, at), (other, to) in itertools.combinations(shown.items(), 2):
+        is_one_panel = one[1] == other[1]
+        if is_one_panel and ((one[0] < other[0]) != (at[0] < to[0]) or (one[3] < other[3]) != (at[1] > to[1])):
+            yield f"the points of {one} and {other} are in another order"
+
+
+def resumed_faults(room, whole):
+    """A table whose end was cut off, in the middle of a row, becomes whole again by the calls that are lacking."""
+    lacking = 5
+    kept = whole.splitlines(True)[:-lacking]
+    (room / "made.csv").write_text("".join(kept) + "14,2,2")
+    (room / "count").write_text("")
+    counting = room / "counting"
+    counting.write_text(COUNTING.format(count=room / "count", silc=SILC))
+    counting.chmod(0o755)
+    text, _ = explored(room, "--pool", silc=counting)
+    calls = len((room / "count").read_text().splitlines())
+    if text != whole:
+        yield "a table that was cut off does not become the same again"
+    # One call more sees whether silc takes the source.
+    if calls != lacking + 1:
+        yield f"{calls} calls for {lacking} rows that are lacking"
+
+
+def main():
+    with tempfile.TemporaryDirectory(prefix="silc-explore-test-") as folder:
+        room = Path(folder)
+        rows = expected(room)
+        text, done = explored(room, "--pool")
+        faults = [*faults_of(text, rows), *picture_faults(room, rows), *resumed_faults(room, text)]
+        shown = done.stdout.splitlines()[1:]
+        if len(shown) != sum(row["front"] == "yes" for row in rows):
+            faults.append(f"standard output has {len(shown)} rows of the front")
+        if shutil.which("parallel"):
+            (room / "made.csv").unlink()
+            if explored(room)[0] != text:
+                faults.append("GNU parallel makes another table")
+    for fault in faults:
+        print(fault)
+    fit = sum(row["answer"] == "fits" for row in rows)
+    print(f"explore: {len(rows)} combinations, of which {fit} fit; {len(faults)} faults")
+    return 1 if faults or not 0 < fit < len(rows) else 0
+
+
+if __name__ == "__main__":
+    sys.exit(main())

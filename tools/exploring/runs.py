@@ -1,0 +1,57 @@
+"""Runs of `silc schedule` on many datapaths, by GNU parallel or by a pool of this process."""
+import os
+import shutil
+import subprocess
+from multiprocessing.pool import ThreadPool
+
+SOURCE, PROGRAM, LIST = "source", "silc", "list"
+# The line before and the line behind what silc says of a datapath.
+BEGIN, END = "datapath", "status"
+COMMAND = f"echo {BEGIN} {{}}; ./{PROGRAM} schedule {SOURCE} {{}} 2>&1; echo {END} $?"
+
+
+def is_there():
+    """Whether the command `parallel` is GNU parallel, since another program has that name too."""
+    program = shutil.which("parallel")
+    done = subprocess.run([program, "--version"], capture_output=True, text=True) if program else None
+    return done is not None and done.stdout.startswith("GNU parallel")
+
+
+def run(room, name):
+    """The status of silc on the datapath of that name, and what it says."""
+    done = subprocess.run([room / PROGRAM, "schedule", SOURCE, name], cwd=room, stdin=subprocess.DEVNULL,
+                          stdout=subprocess.PIPE, stderr=subprocess.STDOUT, text=True)
+    return done.returncode, done.stdout
+
+
+def by_pool(room, names, jobs):
+    """Each name with the status and what silc says, in the order in which they are done."""
+    with ThreadPool(jobs or len(os.sched_getaffinity(0))) as pool:
+        yield from pool.imap_unordered(lambda name: (name, *run(room, name)), names)
+
+
+def by_parallel(room, names, jobs, logins):
+    """The same. On another machine that has ssh and rsync the program and the files lie in a folder of this one's name."""
+    (room / LIST).write_text("".join(f"{name}\n" for name in names))
+    words = ["parallel", "--plain", "--will-cite", "--arg-file", LIST, *(["--jobs", str(jobs)] if jobs else [])]
+    if logins:
+        words += ["--workdir", ".", "--basefile", PROGRAM, "--basefile", SOURCE, "--transferfile", "{}", "--cleanup"]
+        words += [word for login in logins for word in ("--sshlogin", login)]
+    with subprocess.Popen([*words, COMMAND], cwd=room, stdin=subprocess.DEVNULL, stdout=subprocess.PIPE, text=True) as running:
+        try:
+            yield from answers(running.stdout)
+        finally:
+            running.terminate()
+
+
+def answers(lines):
+    """The answers that the lines of the command give; parallel keeps those of a datapath together."""
+    name, said = None, []
+    for line in lines:
+        word, _, rest = line.rstrip("\n").partition(" ")
+        if word == BEGIN:
+            name, said = rest, []
+        elif word == END:
+            yield name, int(rest), "".join(said)
+        else:
+            said.append(line)

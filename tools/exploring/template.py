@@ -1,0 +1,151 @@
+"""Templates: datapath files with ranges in the place of numbers."""
+import itertools
+import json
+import math
+import re
+import tomllib
+from hashlib import sha256
+
+ITEM = r"\d+(?:\s*\.\.\s*\d+(?:\s+step\s+\d+)?)?"
+ITEMS = rf"{ITEM}(?:\s*,\s*{ITEM})*"
+RANGE = re.compile(rf"\{{\s*(?:([A-Za-z_]\w*)\s*(?::\s*({ITEMS})\s*)?|({ITEMS})\s*)\}}")
+NUMBERS = re.compile(r"(\d+)(?:\s*\.\.\s*(\d+)(?:\s+step\s+(\d+))?)?")
+# What stands for a range in the text that is read as TOML: its name, or else which of all ranges it is.
+MARK = re.compile(r"\{(\w+)\}")
+MOST = 100_000
+PERIOD, TIMES, TABLES = "period", "times", ("unit", "bus")
+DIGITS = 8
+
+
+def numbers_of(items):
+    """The numbers of a range, in order and each once."""
+    made = {}
+    for item in items.split(","):
+        low, high, step = NUMBERS.fullmatch(item.strip()).groups()
+        if step and int(step) == 0:
+            raise ValueError(f"the range {item.strip()} has a step of 0")
+        made |= dict.fromkeys(range(int(low), int(high or low) + 1, int(step or 1)))
+    if not made:
+        raise ValueError(f"the range {items.strip()} has no number")
+    return list(made)
+
+
+def marks_in(value, place):
+    """The marks in a part of a datapath file, each with its place, such as period, mul.latency or add.files.0."""
+    if isinstance(value, str) and (mark := MARK.fullmatch(value)):
+        yield mark[1], ".".join(place)
+    elif isinstance(value, dict):
+        for key, part in value.items():
+            yield from marks_in(part, [*place, key])
+    elif isinstance(value, list):
+        for number, part in enumerate(value):
+            yield from marks_in(part, [*place, str(number)])
+
+
+class Template:
+    """A datapath file with ranges: the numbers of each, and what has them."""
+
+    def __init__(self, text):
+        self.found = []
+        self.tree = tomllib.loads("".join(map(self.marked, text.splitlines(True))))
+        self.check()
+        self.names = self.names_of_ranges()
+        self.ranges = {name: numbers for name, (_, numbers) in zip(self.names, self.found)}
+        if len(self.ranges) < len(self.found):
+            raise ValueError("two ranges have one name")
+        self.count = math.prod(map(len, self.ranges.values()))
+        if not self.found or self.count > MOST:
+            raise ValueError(f"it has {self.count} combinations, and {MOST} is the most" if self.found else
+                             "it has no range, such as {1, 2} or {32..256 step 8}")
+
+    def marked(self, line):
+        """A line with a text in the place of each range, which says which one stands there."""
+        said, hash_mark, comment = line.partition("#")
+        return RANGE.sub(self.mark, said) + hash_mark + comment
+
+    def mark(self, found):
+        name, named_items, items = found.groups()
+        if items or named_items:
+            self.found.append((name, numbers_of(items or named_items)))
+        return json.dumps(f"{{{name or len(self.found) - 1}}}")
+
+    def check(self):
+        """What the script itself reads of a datapath; all else is judged by silc."""
+        for table in TABLES:
+            parts = self.tree.get(table)
+            if not isinstance(parts, list) or not all(isinstance(part, dict) and isinstance(part.get("name"), str)
+                                                      for part in parts):
+                raise ValueError(f"it has no [[{table}]] with a name")
+        if not isinstance(self.tree.get(PERIOD), int) and not MARK.fullmatch(str(self.tree.get(PERIOD))):
+            raise ValueError("it has no period")
+
+    def names_of_ranges(self):
+        """The name of each range, or its place."""
+        parts = [(part, [part["name"]]) for table in TABLES for part in self.tree[table]]
+        parts += [(value, [key]) for key, value in self.tree.items() if key not in TABLES]
+        places = dict(mark for part in parts for mark in marks_in(*part))
+        named = [name for name, _ in self.found if name]
+        unknown = [mark for mark in places if not mark.isdigit() and mark not in named]
+        if unknown or PERIOD in named:
+            raise ValueError(f"no range is called {unknown[0]}" if unknown else f"no range is to have the name {PERIOD}")
+        return [name or places[str(number)] for number, (name, _) in enumerate(self.found)]
+
+    def made_from(self, source):
+        """Some digits that are others where the source or the template is another, but for the numbers of ranges."""
+        return sha256(json.dumps([source, self.tree], sort_keys=True, default=str).encode()).hexdigest()[:DIGITS]
+
+    def choices(self):
+        """All combinations, each as a number for each range."""
+        for numbers in itertools.product(*self.ranges.values()):
+            yield dict(zip(self.ranges, numbers))
+
+    def datapath(self, choice):
+        """The datapath of a combination."""
+        def filled(value):
+            if isinstance(value, dict):
+                return {key: filled(part) for key, part in value.items()}
+            if isinstance(value, list):
+                return [filled(part) for part in value]
+            mark = MARK.fullmatch(value) if isinstance(value, str) else None
+            return choice[self.names[int(mark[1])] if mark[1].isdigit() else mark[1]] if mark else value
+
+        return repeated(filled(self.tree))
+
+
+def copies_of(part):
+    """What stands for a part that is there several times: the first has its name, the others a number behind it."""
+    times = part.get(TIMES, 1)
+    if not isinstance(times, int):
+        raise ValueError(f"{TIMES} of {part['name']} is no number and no range")
+    rest = {key: value for key, value in part.items() if key != TIMES}
+    return [rest | {"name": part["name"] + (f"_{number}" if number > 1 else "")} for number in range(1, times + 1)]
+
+
+def repeated(datapath):
+    """The datapath with each unit and bus as often as it is to be there. A bus whose last end goes is left out."""
+    names = {unit["name"]: [copied["name"] for copied in copies_of(unit)] for unit in datapath["unit"]}
+
+    def ends(listed):
+        """Each end of a bus, with the same one of each copy of its unit."""
+        for end in listed:
+            unit, dot, port = str(end).partition(".")
+            yield from (name + dot + port for name in names.get(unit, [unit]))
+
+    buses = []
+    for bus in datapath["bus"]:
+        listed = {key: list(ends(bus[key])) for key in ("from", "to") if isinstance(bus.get(key), list)}
+        if not any(bus[key] and not listed[key] for key in listed):
+            buses += copies_of(bus | listed)
+    return datapath | {"unit": [copied for unit in datapath["unit"] for copied in copies_of(unit)], "bus": buses}
+
+
+def text_of(datapath):
+    """The datapath as the text of a datapath file."""
+    def line(key, value):
+        return f"{key} = {json.dumps(value, default=str)}"
+
+    lines = [line(key, value) for key, value in datapath.items() if key not in TABLES]
+    for table in TABLES:
+        for part in datapath[table]:
+            lines += [f"[[{table}]]", *itertools.starmap(line, part.items())]
+    return "\n".join([*lines, ""])

@@ -1,0 +1,102 @@
+"""The trade-off of an exploration: registers over the period, a panel for each number of units, a colour for each of buses."""
+from pictures.picture import BLACK, BLUE, FAINT, GREY, MARGIN, ORANGE, Picture
+
+PANEL, TALL, LEFT, BETWEEN, HEAD, FOOT, ACROSS = 300, 230, 44, 70, 96, 50, 3
+COLOURS = (BLUE, ORANGE, "#009e73", "#cc79a7", "#e69f00", "#56b4e9", BLACK)
+STEPS = (1, 2, 5)
+MARKS = 6
+DOT, FRONT_DOT = 1.6, 4.5
+KEY = 92
+
+
+def marks_of(low, high):
+    """Round numbers over an axis, a few of them."""
+    step = next(step * 10**places for places in range(9) for step in STEPS if (high - low) / (step * 10**places) <= MARKS)
+    return range(low // step * step, -(-high // step) * step + 1, step)
+
+
+class Panel:
+    """A pair of axes, the same in all panels."""
+
+    def __init__(self, number, periods, registers):
+        self.left = MARGIN + LEFT + number % ACROSS * (PANEL + BETWEEN)
+        self.top = HEAD + number // ACROSS * (TALL + HEAD)
+        self.periods, self.registers = periods, registers
+
+    def x(self, period):
+        return self.left + (period - self.periods[0]) * PANEL / max(1, self.periods[-1] - self.periods[0])
+
+    def y(self, registers):
+        return self.top + TALL - (registers - self.registers[0]) * TALL / max(1, self.registers[-1] - self.registers[0])
+
+    def draw(self, picture, title):
+        picture.text(self.left, self.top - 28, title, 12, BLACK, "start")
+        picture.text(self.left - 8, self.top - 10, "registers", 10, BLACK, "start")
+        picture.text(self.left + PANEL, self.top + TALL + 30, "cycles of a period", 10, BLACK, "end")
+        for period in self.periods:
+            picture.line(self.x(period), self.top, self.x(period), self.top + TALL, FAINT, 1)
+            picture.text(self.x(period), self.top + TALL + 15, str(period), 10)
+        for registers in self.registers:
+            picture.line(self.left, self.y(registers), self.left + PANEL, self.y(registers), FAINT, 1)
+            picture.text(self.left - 6, self.y(registers) + 4, str(registers), 10, BLACK, "end")
+
+
+def staircase(panel, trades):
+    """The line below which no combination is: the least registers that are enough in each period."""
+    least, points = None, []
+    for trade in sorted(trades, key=lambda trade: (trade.period, trade.registers)):
+        if least is None or trade.registers < least:
+            points += [] if least is None else [(panel.x(trade.period), panel.y(least))]
+            least = trade.registers
+            points.append((panel.x(trade.period), panel.y(least)))
+    return [*points, (panel.left + PANEL, panel.y(least))]
+
+
+def said_of(trade):
+    """A combination in words: its costs and the number of each range."""
+    ranges = ", ".join(f"{name} {number}" for name, number in trade.choice.items() if name != "period")
+    return (f"period {trade.period}, {trade.units} units, {trade.buses} buses, {trade.registers} registers"
+            + (f": {ranges}" if ranges else ""))
+
+
+def draw_panel(picture, panel, trades, colours):
+    """The points of one number of units, those of the front last, and larger."""
+    for buses in sorted({trade.buses for trade in trades}):
+        picture.curve(staircase(panel, [trade for trade in trades if trade.buses == buses]), colours[buses], 1.5)
+    shown = {}
+    for trade in sorted(trades, key=lambda trade: trade.is_on_front):
+        shown[trade.period, trade.registers, trade.buses, trade.is_on_front] = trade
+    for trade in shown.values():
+        is_large = trade.is_on_front
+        picture.dot(panel.x(trade.period), panel.y(trade.registers), colours[trade.buses],
+                    FRONT_DOT if is_large else DOT, said_of(trade) if is_large else "")
+
+
+def draw_tradeoff(trades):
+    fit = [trade for trade in trades if trade.fits()]
+    said = f"{len(trades)} combinations, of which {len(fit)} fit"
+    numbers = sorted({trade.units for trade in trades})
+    periods = marks_of(min((trade.period for trade in fit), default=0), max((trade.period for trade in fit), default=1))
+    registers = marks_of(min((trade.registers for trade in fit), default=0), max((trade.registers for trade in fit), default=1))
+    lines = -(-len(numbers) // ACROSS)
+    colours = {buses: COLOURS[k % len(COLOURS)] for k, buses in enumerate(sorted({trade.buses for trade in trades}))}
+    width = 2 * MARGIN + LEFT + min(len(numbers), ACROSS) * (PANEL + BETWEEN) - BETWEEN
+    picture = Picture(max(width, 620), HEAD + lines * (TALL + HEAD) - HEAD // 2 + FOOT, f"trade-off: {said}")
+    picture.text(MARGIN, 28, said, 13, BLACK, "start")
+    for number, units in enumerate(numbers):
+        of_panel = [trade for trade in trades if trade.units == units]
+        fitting = [trade for trade in of_panel if trade.fits()]
+        panel = Panel(number, periods, registers)
+        panel.draw(picture, f"{units} units: {len(fitting)} fit, {len(of_panel) - len(fitting)} do not")
+        draw_panel(picture, panel, fitting, colours)
+    draw_key(picture, colours, HEAD + lines * (TALL + HEAD) - HEAD // 2 + 20)
+    return picture.whole()
+
+
+def draw_key(picture, colours, y):
+    for number, (buses, colour) in enumerate(colours.items()):
+        picture.dot(MARGIN + 6 + number * KEY, y - 4, colour)
+        picture.text(MARGIN + 16 + number * KEY, y, f"{buses} buses", 11, BLACK, "start")
+    picture.dot(MARGIN + 6, y + 16, GREY, FRONT_DOT)
+    words = "on the Pareto front: no other has less of one of period, units, buses, registers and no more of the rest"
+    picture.text(MARGIN + 16, y + 20, words, 11, BLACK, "start")
