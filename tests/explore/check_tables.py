@@ -22,7 +22,7 @@ ROOT = HERE.parent.parent
 SILC = Path(os.environ.get("SILC", ROOT / "crates" / "silc_main" / "out" / "silc_main")).resolve()
 TEMPLATE = HERE / "small.ranges"
 SOURCE = "func main(x : fix<8,0>) y : fix<8,0> = begin y = (x + 1) + (x + 2); end;\n"
-HEAD = "period,adders,add.latency,size,b.times,units,buses,registers,cells,cycles,answer,front,made_from".split(",")
+HEAD = "period,adders,add.latency,size,b.times,units,buses,registers,taken,cells,cycles,answer,front,made_from".split(",")
 RANGES = {"period": (6, 10, 14), "adders": (1, 2), "add.latency": (1, 2), "size": (2, 4), "b.times": (1, 2)}
 COSTS = ("period", "units", "buses", "registers")
 SVG = "{http://www.w3.org/2000/svg}"
@@ -56,15 +56,15 @@ def expected(room):
     (room / "source").write_text(SOURCE)
     rows = {}
     for choice in itertools.product(*RANGES.values()):
-        _, adders, latency, _, buses = choice
+        _, adders, latency, size, buses = choice
         (room / "datapath").write_text(datapath(*choice))
         done = subprocess.run([SILC, "schedule", "source", "datapath"], cwd=room, capture_output=True, text=True)
-        row = dict(zip(RANGES, choice)) | {"units": 3 + adders, "buses": buses}
+        row = dict(zip(RANGES, choice)) | {"units": 3 + adders, "buses": buses, "registers": 2 * adders * size + 1}
         if done.returncode:
             rows[choice] = row | {"answer": done.stderr.strip().removeprefix("silc: ")}
         else:
-            registers, cycles = measured(done.stdout, latency)
-            rows[choice] = row | {"answer": "fits", "registers": registers, "cells": 0, "cycles": cycles}
+            taken, cycles = measured(done.stdout, latency)
+            rows[choice] = row | {"answer": "fits", "taken": taken, "cells": 0, "cycles": cycles}
     costs = {choice: [row[cost] for cost in COSTS] for choice, row in rows.items() if row["answer"] == "fits"}
     for choice, own in costs.items():
         is_bettered = any(other != own and all(a <= b for a, b in zip(other, own)) for other in costs.values())

@@ -7,20 +7,23 @@ from pathlib import Path
 
 from pictures.plan import plan_of
 
-COSTS = ("period", "units", "buses", "registers")
-MEASURES = ("units", "buses", "registers", "cells", "cycles")
-FITS, ON_FRONT = "fits", "yes"
+PERIOD = "period"
+COSTS = (PERIOD, "units", "buses", "registers")
+MEASURES = ("units", "buses", "registers", "taken", "cells", "cycles")
 BEHIND = ("answer", "front", "made_from")
+LAST = [*MEASURES, *BEHIND]
+FITS, ON_FRONT = "fits", "yes"
 
 
 @dataclass
 class Trade:
-    """A combination: the number of each range, what its hardware has, what its plan takes, and what silc answers."""
+    """A combination: the number of each range, what its hardware has, what its plan takes of it, and what silc answers."""
     choice: dict
     period: int
     units: int
     buses: int
-    registers: int | None = None
+    registers: int
+    taken: int | None = None
     cells: int | None = None
     cycles: int | None = None
     answer: str = FITS
@@ -33,8 +36,18 @@ class Trade:
         return tuple(getattr(self, cost) for cost in COSTS)
 
 
+def registers_in(datapath):
+    """How many registers the files of a datapath have. A file whose size is no number has none."""
+    sizes = [size for unit in datapath["unit"] for size in list_in(unit, "files")]
+    return sum(size for size in sizes if isinstance(size, int))
+
+
+def list_in(part, key):
+    return part[key] if isinstance(part.get(key), list) else []
+
+
 def registers_of(plan):
-    """How many registers a plan takes: in each file those up to the last one."""
+    """How many registers a plan takes: in each file those up to the last one that it uses."""
     last = {}
     for node in plan.nodes:
         for transfer in node.transfers:
@@ -59,13 +72,17 @@ def cycles_of(plan):
 
 def trade_of(choice, datapath, status, said):
     """What silc says of a combination, as a row of the table."""
-    trade = Trade(choice, datapath["period"], len(datapath["unit"]), len(datapath["bus"]))
+    trade = Trade(choice, datapath[PERIOD], len(datapath["unit"]), len(datapath["bus"]), registers_in(datapath))
     if status:
         trade.answer = said.strip().removeprefix("silc: ")
         return trade
     plan = plan_of(said, datapath)
-    trade.registers, trade.cells, trade.cycles = registers_of(plan), cells_of(plan), cycles_of(plan)
+    trade.taken, trade.cells, trade.cycles = registers_of(plan), cells_of(plan), cycles_of(plan)
     return trade
+
+
+def is_better(costs, others):
+    return costs != others and all(cost <= other for cost, other in zip(costs, others))
 
 
 def mark_front(trades):
@@ -73,55 +90,68 @@ def mark_front(trades):
     front = []
     for trade in sorted((trade for trade in trades if trade.fits()), key=Trade.costs):
         # Costs that are no more, one by one, come no later in this order.
-        trade.is_on_front = not any(other.costs() != trade.costs() and all(a <= b for a, b in zip(other.costs(), trade.costs()))
-                                    for other in front)
+        trade.is_on_front = not any(is_better(other.costs(), trade.costs()) for other in front)
         if trade.is_on_front:
             front.append(trade)
     return front
+
+
+def rows_of(text):
+    """The names of the columns of a table and its rows, but for a last one that was cut off."""
+    names, *rows = list(csv.reader(line for line in text.splitlines(True) if line.endswith("\n"))) or [[]]
+    return names, rows
+
+
+def trade_in(names, row):
+    """The combination of a row."""
+    cells = dict(zip(names, row, strict=True))
+    measures = [int(cells[name]) if cells[name] else None for name in MEASURES]
+    choice = {name: int(cell) for name, cell in cells.items() if name not in (*MEASURES, *BEHIND)}
+    return Trade(choice, choice[PERIOD], *measures, cells["answer"], cells["front"] == ON_FRONT)
+
+
+def trades_of(text):
+    """The combinations in the text of a table."""
+    names, rows = rows_of(text)
+    if names[:1] != [PERIOD] or names[-len(LAST) :] != LAST:
+        raise ValueError("it is no table of tools/explore")
+    return [trade_in(names, row) for row in rows]
+
+
+def line_of(cells):
+    text = io.StringIO()
+    csv.writer(text, lineterminator="\n").writerow(cells)
+    return text.getvalue()
 
 
 class Table:
     """The CSV file of an exploration. It is also the state from which one goes on that was stopped."""
 
     def __init__(self, file, ranges, made_from):
-        self.file, self.ranges, self.made_from = Path(file), list(ranges), made_from
-        own = [name for name in self.ranges if name != "period"]
-        if set(own) & {*MEASURES, *BEHIND}:
-            raise ValueError(f"no range may be called {sorted(set(own) & {*MEASURES, *BEHIND})[0]}")
-        self.head = ["period", *own, *MEASURES, *BEHIND]
+        self.file, self.made_from = Path(file), made_from
+        self.head = [PERIOD, *(name for name in ranges if name != PERIOD), *LAST]
+        if len(set(self.head)) < len(self.head):
+            raise ValueError(f"no range may be called {' or '.join(LAST)}")
 
     def line(self, trade):
-        measures = ["" if (value := getattr(trade, name)) is None else value for name in MEASURES]
-        cells = [trade.period, *(trade.choice[name] for name in self.head[1 : -len(MEASURES) - len(BEHIND)]), *measures,
-                 trade.answer, ON_FRONT if trade.is_on_front else "", self.made_from]
-        text = io.StringIO()
-        csv.writer(text, lineterminator="\n").writerow(cells)
-        return text.getvalue()
-
-    def trade(self, row):
-        """The combination of a row of the file."""
-        of = dict(zip(self.head, row))
-        measures = [int(of[name]) if of[name] else None for name in MEASURES]
-        choice = {name: int(of[name]) for name in self.ranges}
-        return Trade(choice, int(of["period"]), *measures, of["answer"], of["front"] == ON_FRONT)
+        cells = {name: getattr(trade, name) for name in MEASURES} | trade.choice
+        cells |= {PERIOD: trade.period, "answer": trade.answer, "front": ON_FRONT if trade.is_on_front else "",
+                  "made_from": self.made_from}
+        return line_of(cells[name] for name in self.head)
 
     def read(self):
-        """The combinations that are in the file. A last line that was cut off is left out."""
+        """The combinations that are in the file."""
         if not self.file.exists():
             return []
-        with open(self.file, newline="") as text:
-            lines = [line for line in text if line.endswith("\n")]
-        rows = list(csv.reader(lines))
-        if rows and rows[0] != self.head:
+        names, rows = rows_of(self.file.read_text())
+        if names != self.head:
             raise ValueError("it is not the table of this template; remove it, or name another one by --out")
-        if any(len(row) != len(self.head) or row[-1] != self.made_from for row in rows[1:]):
+        if any(len(row) != len(names) or row[-1] != self.made_from for row in rows):
             raise ValueError("its rows are of another source or template; remove it, or name another one by --out")
-        return [self.trade(row) for row in rows[1:]]
+        return [trade_in(names, row) for row in rows]
 
     def write(self, trades):
         """Writes the whole file anew, at once."""
-        head = io.StringIO()
-        csv.writer(head, lineterminator="\n").writerow(self.head)
         beside = self.file.with_name(self.file.name + ".new")
-        beside.write_text(head.getvalue() + "".join(map(self.line, trades)))
+        beside.write_text(line_of(self.head) + "".join(map(self.line, trades)))
         os.replace(beside, self.file)

@@ -60,11 +60,11 @@ def said_of(trade):
 
 
 def draw_panel(picture, panel, trades, colours):
-    """The points of one number of units, those of the front last, and larger."""
-    for buses in sorted({trade.buses for trade in trades}):
+    """The points of one number of units, with those of fewer buses above the others, and those of the front larger."""
+    for buses in sorted({trade.buses for trade in trades}, reverse=True):
         picture.curve(staircase(panel, [trade for trade in trades if trade.buses == buses]), colours[buses], 1.5)
     shown = {}
-    for trade in sorted(trades, key=lambda trade: trade.is_on_front):
+    for trade in sorted(trades, key=lambda trade: (trade.is_on_front, -trade.buses)):
         shown[trade.period, trade.registers, trade.buses, trade.is_on_front] = trade
     for trade in shown.values():
         is_large = trade.is_on_front
@@ -97,6 +97,7 @@ def draw_key(picture, colours, y):
     for number, (buses, colour) in enumerate(colours.items()):
         picture.dot(MARGIN + 6 + number * KEY, y - 4, colour)
         picture.text(MARGIN + 16 + number * KEY, y, f"{buses} buses", 11, BLACK, "start")
+    picture.text(MARGIN + 16 + len(colours) * KEY, y, "(the fewest that fit at a place)", 11, BLACK, "start")
     picture.dot(MARGIN + 6, y + 16, GREY, FRONT_DOT)
     words = "on the Pareto front: no other has less of one of period, units, buses, registers and no more of the rest"
     picture.text(MARGIN + 16, y + 20, words, 11, BLACK, "start")
