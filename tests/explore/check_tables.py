@@ -1,6 +1,7 @@
 #!/usr/bin/env python3
 """Whether the tables and pictures of tools/explore are right: each row against `silc schedule` on a datapath file that is
-written here by hand, the front against its definition, and a table that was cut off against one that was not.
+written here by hand, the front against its definition, a table that was cut off against one that was not, and some rows of
+the biquads' table against what is made of them now.
 
 usage: tests/explore/check_tables.py
 
@@ -26,6 +27,8 @@ HEAD = "period,adders,add.latency,size,b.times,units,buses,registers,taken,cells
 RANGES = {"period": (6, 10, 14), "adders": (1, 2), "add.latency": (1, 2), "size": (2, 4), "b.times": (1, 2)}
 COSTS = ("period", "units", "buses", "registers")
 SVG = "{http://www.w3.org/2000/svg}"
+# The table that docs/pictures shows, and of how many of its rows one is made anew.
+BIQUADS, SHOWN, EACH = ROOT / "examples" / "biquads", ROOT / "docs" / "pictures" / "biquads_processors.csv", 97
 # A program in the place of silc that keeps count of its calls.
 COUNTING = '#!/bin/sh\necho >>"{count}"\nexec "{silc}" "$@"\n'
 
@@ -72,9 +75,9 @@ def expected(room):
     return [{name: str(row.get(name, "")) for name in HEAD[:-1]} for row in rows.values()]
 
 
-def explored(room, *options, silc=SILC):
+def explored(room, *options, silc=SILC, source="source", template=TEMPLATE):
     """What a run leaves, and what it says."""
-    done = subprocess.run([ROOT / "tools" / "explore", *options, "--out", "made", "source", TEMPLATE], cwd=room,
+    done = subprocess.run([ROOT / "tools" / "explore", *options, "--out", "made", source, template], cwd=room,
                           env=os.environ | {"SILC": str(silc)}, capture_output=True, text=True)
     if done.returncode:
         sys.exit(f"tools/explore {' '.join(options)} ended with {done.returncode}: {done.stderr}")
@@ -124,19 +127,30 @@ def resumed_faults(room, whole):
         yield f"{calls} calls for {lacking} rows that are lacking"
 
 
+def shown_faults(room):
+    """The table of the biquads, with some rows made anew, is as it was."""
+    whole = SHOWN.read_text()
+    kept = [line for number, line in enumerate(whole.splitlines(True)) if number % EACH or not number]
+    (room / "made.csv").write_text("".join(kept))
+    text, _ = explored(room, "--pool", source=BIQUADS / "biquads.sil", template=BIQUADS / "processors.ranges")
+    if text != whole:
+        yield f"{SHOWN.name} is not as tools/explore makes it now"
+
+
 def main():
     with tempfile.TemporaryDirectory(prefix="silc-explore-test-") as folder:
         room = Path(folder)
         rows = expected(room)
         text, done = explored(room, "--pool")
         faults = [*faults_of(text, rows), *picture_faults(room, rows), *resumed_faults(room, text)]
-        shown = done.stdout.splitlines()[1:]
-        if len(shown) != sum(row["front"] == "yes" for row in rows):
-            faults.append(f"standard output has {len(shown)} rows of the front")
+        front = done.stdout.splitlines()[1:]
+        if len(front) != sum(row["front"] == "yes" for row in rows):
+            faults.append(f"standard output has {len(front)} rows of the front")
         if shutil.which("parallel"):
             (room / "made.csv").unlink()
             if explored(room)[0] != text:
                 faults.append("GNU parallel makes another table")
+        faults += shown_faults(room)
     for fault in faults:
         print(fault)
     fit = sum(row["answer"] == "fits" for row in rows)

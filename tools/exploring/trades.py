@@ -99,12 +99,15 @@ def mark_front(trades):
 def rows_of(text):
     """The names of the columns of a table and its rows, but for a last one that was cut off."""
     names, *rows = list(csv.reader(line for line in text.splitlines(True) if line.endswith("\n"))) or [[]]
+    for number, row in enumerate(rows, 2):
+        if len(row) != len(names):
+            raise ValueError(f"line {number} has {len(row)} cells, and the first one {len(names)}")
     return names, rows
 
 
 def trade_in(names, row):
     """The combination of a row."""
-    cells = dict(zip(names, row, strict=True))
+    cells = dict(zip(names, row))
     measures = [int(cells[name]) if cells[name] else None for name in MEASURES]
     choice = {name: int(cell) for name, cell in cells.items() if name not in (*MEASURES, *BEHIND)}
     return Trade(choice, choice[PERIOD], *measures, cells["answer"], cells["front"] == ON_FRONT)
@@ -146,7 +149,7 @@ class Table:
         names, rows = rows_of(self.file.read_text())
         if names != self.head:
             raise ValueError("it is not the table of this template; remove it, or name another one by --out")
-        if any(len(row) != len(names) or row[-1] != self.made_from for row in rows):
+        if any(row[-1] != self.made_from for row in rows):
             raise ValueError("its rows are of another source or template; remove it, or name another one by --out")
         return [trade_in(names, row) for row in rows]
 
