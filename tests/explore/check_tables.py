@@ -15,11 +15,15 @@ import shutil
 import subprocess
 import sys
 import tempfile
+import tomllib
 import xml.etree.ElementTree as Xml
 from pathlib import Path
 
 HERE = Path(__file__).resolve().parent
 ROOT = HERE.parent.parent
+sys.path.insert(0, str(ROOT / "tools"))
+from exploring.template import Template, text_of  # noqa: E402
+
 SILC = Path(os.environ.get("SILC", ROOT / "crates" / "silc_main" / "out" / "silc_main")).resolve()
 TEMPLATE = HERE / "small.ranges"
 SOURCE = "func main(x : fix<8,0>) y : fix<8,0> = begin y = (x + 1) + (x + 2); end;\n"
@@ -29,6 +33,22 @@ COSTS = ("period", "units", "buses", "registers")
 SVG = "{http://www.w3.org/2000/svg}"
 # The table that docs/pictures shows, and of how many of its rows one is made anew.
 BIQUADS, SHOWN, EACH = ROOT / "examples" / "biquads", ROOT / "docs" / "pictures" / "biquads_processors.csv", 97
+# Three memories with an acu each, no multiplier, two buses of one kind, none for the multiplier.
+NUMBERED = ("", "_2", "_3")
+COPIES = """
+period = 8
+unit = [
+    { name = "rom", kind = "rom" },
+    { name = "mul", kind = "mul", times = {0}, files = [1, 1] },
+    { name = "mem", kind = "ram", times = {mems: 3}, cells = 4, files = [1, 1] },
+    { name = "adr", kind = "acu", times = {mems}, ram = "mem" },
+]
+bus = [
+    { name = "b", times = 2, from = ["rom", "mul"], to = ["mul.0", "mem.1"] },
+    { name = "m", from = ["mul"], to = ["mem.1"] },
+    { name = "c", from = ["adr"], to = ["mem.0"] },
+]
+"""
 # A program in the place of silc that keeps count of its calls.
 COUNTING = '#!/bin/sh\necho >>"{count}"\nexec "{silc}" "$@"\n'
 
@@ -127,6 +147,19 @@ def resumed_faults(room, whole):
         yield f"{calls} calls for {lacking} rows that are lacking"
 
 
+def copies_faults():
+    """Units and buses that are there several times, or not at all, have the names and the ends that they should."""
+    units = [{"name": "rom", "kind": "rom"}, *({"name": f"mem{k}", "kind": "ram", "cells": 4, "files": [1, 1]} for k in NUMBERED),
+             *({"name": f"adr{k}", "kind": "acu", "ram": f"mem{k}"} for k in NUMBERED)]
+    buses = [*({"name": f"b{k}", "from": ["rom"], "to": ["mem.1", "mem_2.1", "mem_3.1"]} for k in ("", "_2")),
+             {"name": "c", "from": ["adr", "adr_2", "adr_3"], "to": ["mem.0", "mem_2.0", "mem_3.0"]}]
+    template = Template(COPIES)
+    (choice,) = template.choices()
+    made = tomllib.loads(text_of(template.datapath(choice)))
+    if made != {"period": 8, "unit": units, "bus": buses}:
+        yield f"copies are {made}"
+
+
 def shown_faults(room):
     """The table of the biquads, with some rows made anew, is as it was."""
     whole = SHOWN.read_text()
@@ -142,7 +175,7 @@ def main():
         room = Path(folder)
         rows = expected(room)
         text, done = explored(room, "--pool")
-        faults = [*faults_of(text, rows), *picture_faults(room, rows), *resumed_faults(room, text)]
+        faults = [*faults_of(text, rows), *picture_faults(room, rows), *resumed_faults(room, text), *copies_faults()]
         front = done.stdout.splitlines()[1:]
         if len(front) != sum(row["front"] == "yes" for row in rows):
             faults.append(f"standard output has {len(front)} rows of the front")

@@ -121,6 +121,13 @@ def copies_of(part):
     return [rest | {"name": part["name"] + (f"_{number}" if number > 1 else "")} for number in range(1, times + 1)]
 
 
+def tied(units, names):
+    """Copies of an acu address the copies of its ram, one each; where these are fewer, the last one."""
+    for number, unit in enumerate(units):
+        rams = names.get(unit.get("ram"))
+        yield unit | {"ram": rams[min(number, len(rams) - 1)]} if rams else unit
+
+
 def repeated(datapath):
     """The datapath with each unit and bus as often as it is to be there. A bus whose last end goes is left out."""
     names = {unit["name"]: [copied["name"] for copied in copies_of(unit)] for unit in datapath["unit"]}
@@ -136,7 +143,8 @@ def repeated(datapath):
         listed = {key: list(ends(bus[key])) for key in ("from", "to") if isinstance(bus.get(key), list)}
         if not any(bus[key] and not listed[key] for key in listed):
             buses += copies_of(bus | listed)
-    return datapath | {"unit": [copied for unit in datapath["unit"] for copied in copies_of(unit)], "bus": buses}
+    units = [copied for unit in datapath["unit"] for copied in tied(copies_of(unit), names)]
+    return datapath | {"unit": units, "bus": buses}
 
 
 def text_of(datapath):
