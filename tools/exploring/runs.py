@@ -31,13 +31,14 @@ def by_pool(room, names, jobs):
 
 
 def by_parallel(room, names, jobs, logins):
-    """The same. On another machine that has ssh and rsync the program and the files lie in a folder of this one's name."""
+    """The same. On other machines, by ssh and rsync, the program and the files lie in a folder of this one's name."""
     (room / LIST).write_text("".join(f"{name}\n" for name in names))
     words = ["parallel", "--plain", "--will-cite", "--arg-file", LIST, *(["--jobs", str(jobs)] if jobs else [])]
     if logins:
         words += ["--workdir", ".", "--basefile", PROGRAM, "--basefile", SOURCE, "--transferfile", "{}", "--cleanup"]
         words += [word for login in logins for word in ("--sshlogin", login)]
-    with subprocess.Popen([*words, COMMAND], cwd=room, stdin=subprocess.DEVNULL, stdout=subprocess.PIPE, text=True) as running:
+    how = {"cwd": room, "stdin": subprocess.DEVNULL, "stdout": subprocess.PIPE, "text": True}
+    with subprocess.Popen([*words, COMMAND], **how) as running:
         try:
             yield from answers(running.stdout)
         finally:

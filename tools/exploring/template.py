@@ -42,6 +42,10 @@ def marks_in(value, place):
             yield from marks_in(part, [*place, str(number)])
 
 
+def is_number(value):
+    return isinstance(value, int) or isinstance(value, str) and MARK.fullmatch(value)
+
+
 class Template:
     """A datapath file with ranges: the numbers of each, and what has them."""
 
@@ -76,7 +80,10 @@ class Template:
             if not isinstance(parts, list) or not all(isinstance(part, dict) and isinstance(part.get("name"), str)
                                                       for part in parts):
                 raise ValueError(f"it has no [[{table}]] with a name")
-        if not isinstance(self.tree.get(PERIOD), int) and not MARK.fullmatch(str(self.tree.get(PERIOD))):
+            for part in parts:
+                if not is_number(part.get(TIMES, 1)):
+                    raise ValueError(f"{TIMES} of {part['name']} is no number and no range")
+        if not is_number(self.tree.get(PERIOD)):
             raise ValueError("it has no period")
 
     def names_of_ranges(self):
@@ -92,7 +99,8 @@ class Template:
 
     def made_from(self, source):
         """Some digits that are others where the source or the template is another, but for the numbers of ranges."""
-        return sha256(json.dumps([source, self.tree], sort_keys=True, default=str).encode()).hexdigest()[:DIGITS]
+        own = json.dumps(self.tree, sort_keys=True, default=str).encode()
+        return sha256(source + own).hexdigest()[:DIGITS]
 
     def choices(self):
         """All combinations, each as a number for each range."""
@@ -114,11 +122,9 @@ class Template:
 
 def copies_of(part):
     """What stands for a part that is there several times: the first has its name, the others a number behind it."""
-    times = part.get(TIMES, 1)
-    if not isinstance(times, int):
-        raise ValueError(f"{TIMES} of {part['name']} is no number and no range")
     rest = {key: value for key, value in part.items() if key != TIMES}
-    return [rest | {"name": part["name"] + (f"_{number}" if number > 1 else "")} for number in range(1, times + 1)]
+    names = (part["name"] + (f"_{number}" if number > 1 else "") for number in range(1, part.get(TIMES, 1) + 1))
+    return [rest | {"name": name} for name in names]
 
 
 def tied(units, names):
