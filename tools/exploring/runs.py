@@ -5,7 +5,7 @@ import subprocess
 from multiprocessing.pool import ThreadPool
 
 SOURCE, PROGRAM, LIST = "source", "silc", "list"
-# The line before and the line behind what silc says of a datapath.
+# The lines before and after what silc says of a datapath.
 BEGIN, END = "datapath", "status"
 COMMAND = f"echo {BEGIN} {{}}; ./{PROGRAM} schedule {SOURCE} {{}} 2>&1; echo {END} $?"
 

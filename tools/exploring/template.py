@@ -10,7 +10,7 @@ ITEM = r"\d+(?:\s*\.\.\s*\d+(?:\s+step\s+\d+)?)?"
 ITEMS = rf"{ITEM}(?:\s*,\s*{ITEM})*"
 RANGE = re.compile(rf"\{{\s*(?:([A-Za-z_]\w*)\s*(?::\s*({ITEMS})\s*)?|({ITEMS})\s*)\}}")
 NUMBERS = re.compile(r"(\d+)(?:\s*\.\.\s*(\d+)(?:\s+step\s+(\d+))?)?")
-# What stands for a range in the text that is read as TOML: its name, or else which of all ranges it is.
+# The text that replaces a range, for TOML to read: its name, or else its number among all ranges.
 MARK = re.compile(r"\{(\w+)\}")
 MOST = 100_000
 PERIOD, TIMES, TABLES = "period", "times", ("unit", "bus")
@@ -63,7 +63,7 @@ class Template:
                              "it has no range, such as {1, 2} or {32..256 step 8}")
 
     def marked(self, line):
-        """A line with a text in the place of each range, which says which one stands there."""
+        """A line in which a text that names it replaces each range."""
         said, hash_mark, comment = line.partition("#")
         return RANGE.sub(self.mark, said) + hash_mark + comment
 
@@ -121,7 +121,7 @@ class Template:
 
 
 def copies_of(part):
-    """What stands for a part that is there several times: the first has its name, the others a number behind it."""
+    """The copies of a part that is there several times: the first keeps its name, the others have a number after it."""
     rest = {key: value for key, value in part.items() if key != TIMES}
     names = (part["name"] + (f"_{number}" if number > 1 else "") for number in range(1, part.get(TIMES, 1) + 1))
     return [rest | {"name": name} for name in names]

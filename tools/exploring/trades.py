@@ -10,8 +10,8 @@ from pictures.plan import plan_of
 PERIOD = "period"
 COSTS = (PERIOD, "units", "buses", "registers")
 MEASURES = ("units", "buses", "registers", "taken", "cells", "cycles")
-BEHIND = ("answer", "front", "made_from")
-LAST = [*MEASURES, *BEHIND]
+VERDICT = ("answer", "front", "made_from")
+LAST = [*MEASURES, *VERDICT]
 FITS, ON_FRONT = "fits", "yes"
 
 
@@ -109,7 +109,7 @@ def trade_in(names, row):
     """The combination of a row."""
     cells = dict(zip(names, row))
     measures = [int(cells[name]) if cells[name] else None for name in MEASURES]
-    choice = {name: int(cell) for name, cell in cells.items() if name not in (*MEASURES, *BEHIND)}
+    choice = {name: int(cell) for name, cell in cells.items() if name not in (*MEASURES, *VERDICT)}
     return Trade(choice, choice[PERIOD], *measures, cells["answer"], cells["front"] == ON_FRONT)
 
 
