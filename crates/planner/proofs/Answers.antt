@@ -1,306 +1,226 @@
--- What a stop of each pass, and the end, say of the whole: the graph has one plan or one fault, and not both.
-use Rattle.std.proofs.Common.{◌≡◌, ◌⊎◌, inl, inr, ⊎_elim, refl, sym, ap, ◌∙◌, subst, ℕ, List, Result, Ok, Err}
+-- A graph has one plan or one fault, and not both: the outcome of the passes in their order.
+use Rattle.std.proofs.Common.{◌≡◌, ◌⊎◌, inl, inr, refl, sym, ap, ◌∙◌, subst, ℕ, List, Result, Ok, Err}
 use Rattle.std.specs.Prelude.{IfOk, IfErr}
-use Rattle.operations.specs.declared.units.PortRef.{PortRef}
 use Rattle.fix_word.specs.declared.types.SigType.{SigType}
-use Rattle.datapath.specs.Allowed.{IsDatapath}
 use Rattle.datapath.specs.declared.types.Datapath.{Datapath}
-use Rattle.signal_graph.specs.GraphRules.{IsGraph}
 use Rattle.signal_graph.specs.declared.graph.Graph.{Graph}
-use Rattle.plan_core.specs.Hardware.{port_of}
 use Rattle.plan_core.specs.Lowered.{IsLowered}
 use Rattle.plan_core.specs.Assigned.{IsAssigned}
 use Rattle.plan_core.specs.ListSchedule.{IsListSchedule}
 use Rattle.plan_core.specs.Arcs.{IsArcs, IsUnroll}
-use Rattle.plan_core.specs.Refusals.{IsWithoutCycle}
 use Rattle.plan_core.specs.declared.delay_lines.Lowered.{Lowered}
 use Rattle.plan_core.specs.declared.schedule.Assigned.{Assigned}
 use Rattle.plan_core.specs.declared.schedule.Schedule.{Schedule}
 use Rattle.plan_core.specs.declared.registers.Arc.{Arc}
 use Rattle.plan_core.specs.declared.registers.Registers.{Registers}
 use Rattle.plan_core.specs.declared.plan.Plan.{Plan}
-use Rattle.plan_core.proofs.OneAssigned.{one_assigned}
-use Rattle.plan_core.proofs.OneSchedule.{live_of, one_schedule}
-use Rattle.plan_core.proofs.OneArcs.{one_arcs, one_unroll}
+use Rattle.plan_core.proofs.OneArcs.{one_unroll}
 use Rattle.plan_run.specs.PrivateRegisters.{ArePrivate, IsPrivatePlan}
 use Rattle.unit_assign.specs.Faults.{IsUnitFault}
 use Rattle.unit_assign.specs.declared.fault.UnitFault.{UnitFault}
 use Rattle.unit_assign.specs.declared.fault.UnitFault.TheVariants as unit
-use Rattle.unit_assign.proofs.OneFault.{one_fault, bound_or_not}
-use Rattle.planner.specs.Delayless.{IsDelayless}
-use Rattle.planner.specs.Registers.{IsWithoutOwnRegister}
-use Rattle.planner.specs.Faults.{HasUnboundNode, HasUnplacedNode, HasUnkeptNode, IsPlanFault}
-use Rattle.planner.specs.Private.Lowered.{own_lowered}
-use Rattle.planner.specs.Private.Errors.{of_unit, of_file}
+use Rattle.list_schedule.specs.Faults.{IsPeriodFault}
+use Rattle.list_schedule.specs.declared.fault.PeriodFault.{PeriodFault}
+use Rattle.list_schedule.specs.declared.fault.PeriodFault.TheVariants as period
+use Rattle.cyclic_life.specs.declared.fault.ArcFault.{ArcFault}
+use Rattle.delay_memory.specs.Faults.{IsLineFault}
+use Rattle.delay_memory.specs.declared.fault.LineFault.{LineFault}
+use Rattle.delay_memory.specs.declared.fault.LineFault.TheVariants as line
+use Rattle.planner.specs.Faults.{IsPlanFault}
+use Rattle.planner.specs.Private.Errors.{of_line, of_unit, of_period, of_file}
 use Rattle.planner.specs.Private.Allotted.{AreWithin, IsFileFault}
-use Rattle.planner.specs.Private.Stages.{IsTiming, IsUntimed}
 use Rattle.planner.specs.declared.fault.PlanFault.{PlanFault}
-use Rattle.planner.specs.declared.fault.PlanFault.TheVariants.{Unit as Unbound, Period, FileFull, Memory}
+use Rattle.planner.specs.declared.fault.PlanFault.TheVariants.{Line as Unstored, Unit as Unbound, Period, FileFull, Memory}
 use Rattle.planner.specs.declared.registers.FileFault.{FileFault}
 use Rattle.planner.specs.declared.registers.FileFault.TheVariants as file
-use Rattle.planner.specs.declared.passes.Timing.{Timing}
-use Rattle.planner.proofs.OwnLowered.{is_lowered, one_lowered}
 use Rattle.planner.proofs.OneCopy.{not_unrolled}
-use Rattle.planner.proofs.OwnRegisters.{one_registers, not_both, one_full}
-use Rattle.planner.proofs.Asked.{inside}
+use Rattle.planner.proofs.OwnRegisters.{Places}
+use Rattle.planner.proofs.Asked.{its_list}
+use Rattle.planner.proofs.Stages.{IsOnly, Comes, Then, IsSettled}
 
-abbrev stop : PlanFault → Result Plan PlanFault
-stop f = Err f
+abbrev pub of_arc : ArcFault → PlanFault
+of_arc f = Memory
 
--- what is promised of an answer
-pub record IsAnswer (g : Graph) (d : Datapath) (result : Result Plan PlanFault) : Type 0 where
-  pub plan : IfOk result (IsPrivatePlan g d)
-  pub fault : IfErr result (λ (fault : PlanFault). (fault ≡ Memory) ⊎ IsPlanFault g d fault)
-  pub found : (p : Plan) → IsPrivatePlan g d p → (result ≡ Ok p) ⊎ (result ≡ Err Memory)
-  pub refused : (fault : PlanFault) → IsPlanFault g d fault → (result ≡ Err fault) ⊎ (result ≡ Err Memory)
+module _ (g : Graph) (d : Datapath) where
+  abbrev pub Lines : Result Lowered LineFault → Type 0
+  Lines = Comes (IsLowered g d) (IsLineFault g d)
 
-module _ (g : Graph) (d : Datapath) (allowed : IsDatapath d) (sound : IsGraph g) (delayless : IsDelayless g) where
-  abbrev Answers : Result Plan PlanFault → Type 0
-  Answers = IsAnswer g d
+  -- the binding of this list
+  abbrev pub IsBound : Lowered → Assigned → Type 0
+  IsBound l a = (a.lowered ≡ l) × IsAssigned d a
 
-  abbrev own : Lowered
-  own = own_lowered g
+  abbrev pub Units : Lowered → Result Assigned UnitFault → Type 0
+  Units l = Comes (IsBound l) (IsUnitFault d l)
 
-  own_is : IsLowered g d own
-  own_is = is_lowered g d sound delayless
+  abbrev pub Cycles : Assigned → Result Schedule PeriodFault → Type 0
+  Cycles a = Comes (IsListSchedule d a) (IsPeriodFault d a)
 
-  same_lowered : (l : Lowered) → IsLowered g d l → l ≡ own
-  same_lowered l is = one_lowered g d sound delayless l is
+  abbrev pub Lifetimes : Assigned → Schedule → Result (List Arc) ArcFault → Type 0
+  Lifetimes a s = Comes (IsArcs d a s) (λ (f : ArcFault). ⊥)
 
-  pub out_of_memory : Answers (Err Memory)
-  out_of_memory = record { plan = tt; fault = inl refl; found = λ p is. inr refl; refused = λ f is. inr refl }
+  abbrev pub whole : Assigned → Schedule → List Arc → Registers → Plan
+  whole a s arcs rs = record {
+    assigned = a;
+    schedule = s;
+    arcs = arcs;
+    registers = rs;
+    unroll = 1;
+    inputs = g.inputs;
+    outs = g.outs;
+  }
 
-  -- no unit for a node
-  module _ (u : UnitFault) (stops : IsUnitFault d own u) where
-    never_bound : {A : Type 0} (a : Assigned) → IsLowered g d a.lowered → IsAssigned d a → A
-    never_bound a low is = absurd (bound_or_not d own a (same_lowered a.lowered low) is u stops)
+  abbrev pub Whole : Assigned → Schedule → List Arc → Registers → Result Plan PlanFault → Type 0
+  Whole a s arcs rs = Comes (λ (p : Plan). whole a s arcs rs ≡ p) (λ (f : PlanFault). ⊥)
 
-    only : (f : PlanFault) → IsPlanFault g d f → Unbound u ≡ f
-    only (Unbound v) x =
-        ap Unbound (one_fault d own u v stops
-        (subst (λ (l : Lowered). IsUnitFault d l v) (same_lowered x.lowered x.is_lowered) x.none))
-    only (Period n) x = never_bound x.assigned x.is_lowered x.is_assigned
-    only (FileFull s q n) x = never_bound x.assigned x.is_lowered x.is_assigned
-    only Memory x = absurd x
+  abbrev pub FromArcs : Assigned → Schedule → List Arc → Result Plan PlanFault → Type 0
+  FromArcs a s arcs = Then (Places d arcs) of_file (Whole a s arcs)
 
-    unbound : Answers (Err (Unbound u))
-    unbound = record {
-      plan = tt;
-      fault = inr (record { lowered = own; is_lowered = own_is; none = stops });
-      found = λ p is. never_bound p.assigned is.lowered is.assigned;
-      refused = λ f is. inl (ap (λ (x : PlanFault). Err x) (only f is));
-    }
+  abbrev pub FromSchedule : Assigned → Schedule → Result Plan PlanFault → Type 0
+  FromSchedule a s = Then (Lifetimes a s) of_arc (FromArcs a s)
 
-  of_unit_is : (u : UnitFault) → IsUnitFault d own u → Unbound u ≡ of_unit u
-  of_unit_is (unit.TooWide v) h = refl
-  of_unit_is (unit.NoUnit k v) h = refl
-  of_unit_is (unit.NoRoute s q v) h = refl
-  of_unit_is unit.Memory h = absurd h
+  abbrev pub FromUnits : Assigned → Result Plan PlanFault → Type 0
+  FromUnits a = Then (Cycles a) of_period (FromSchedule a)
 
-  pub at_units : (u : UnitFault) (f : PlanFault) → f ≡ of_unit u → (u ≡ unit.Memory) ⊎ IsUnitFault d own u
-      → Answers (Err f)
-  at_units u f is (inl e) =
-      subst (λ (x : PlanFault). Answers (Err x)) (sym (is ∙ ap (λ (v : UnitFault). of_unit v) e)) out_of_memory
-  at_units u f is (inr h) =
-      subst (λ (x : PlanFault). Answers (Err x)) (of_unit_is u h ∙ sym is) (unbound u h)
+  abbrev pub FromLines : Lowered → Result Plan PlanFault → Type 0
+  FromLines l = Then (Units l) of_unit FromUnits
 
-  -- each node has its unit
-  module _ (a : Assigned) (low : a.lowered ≡ own) (bound : IsAssigned d a) where
-    same_assigned : (b : Assigned) → IsLowered g d b.lowered → IsAssigned d b → b ≡ a
-    same_assigned b b_low b_is = one_assigned d b a (same_lowered b.lowered b_low ∙ sym low) b_is bound
+  abbrev pub Passes : Result Plan PlanFault → Type 0
+  Passes = Then Lines of_line FromLines
 
-    a_low : IsLowered g d a.lowered
-    a_low = subst (λ (l : Lowered). IsLowered g d l) (sym low) own_is
+  -- the plan of the graph, or its fault
+  abbrev IsOutcome : Result Plan PlanFault → Type 0
+  IsOutcome = Comes (IsPrivatePlan g d) (IsPlanFault g d)
 
-    not_unbound : {A : Type 0} (v : UnitFault) → HasUnboundNode g d v → A
-    not_unbound v x =
-        absurd (bound_or_not d own a low bound v
-        (subst (λ (l : Lowered). IsUnitFault d l v) (same_lowered x.lowered x.is_lowered) x.none))
+  line_is : (f : LineFault) → IsLineFault g d f → of_line f ≡ Unstored f
+  line_is (line.NoRam v) h = refl
+  line_is (line.LinesFull v) h = refl
+  line_is (line.NoAcu ram v) h = refl
+  line_is line.Memory h = absurd h
 
-    its_schedule : (b : Assigned) (s : Schedule) → b ≡ a → IsListSchedule d b s → IsListSchedule d a s
-    its_schedule b s e is = subst (λ (x : Assigned). IsListSchedule d x s) e is
+  unit_is : (l : Lowered) (f : UnitFault) → IsUnitFault d l f → of_unit f ≡ Unbound f
+  unit_is l (unit.TooWide v) h = refl
+  unit_is l (unit.NoUnit k v) h = refl
+  unit_is l (unit.NoRoute s q v) h = refl
+  unit_is l unit.Memory h = absurd h
 
-    -- no cycle for a node
-    module _ (f : PlanFault) (stops : IsUntimed d a f) where
-      never_scheduled : (b : Assigned) (s : Schedule) → IsLowered g d b.lowered → IsAssigned d b
-          → IsListSchedule d b s → stop f ≡ stop Memory
-      never_scheduled b s b_low b_is is =
-          ap (λ (x : PlanFault). Err x) (stops.no_schedule s (its_schedule b s (same_assigned b b_low b_is) is))
+  whole_is : (p : Plan) → IsPrivatePlan g d p → whole p.assigned p.schedule p.arcs p.registers ≡ p
+  whole_is p is =
+      let once = one_unroll p.arcs 1 p.unroll (not_unrolled p.arcs is.registers.copies) is.unroll in
+      ap (λ (x : ℕ). record (whole p.assigned p.schedule p.arcs p.registers) { unroll = x }) once
+      ∙ ap (λ (x : List SigType). record p { inputs = x; outs = g.outs }) (sym is.inputs)
+      ∙ ap (λ (x : ℕ). record p { outs = x }) (sym is.outs)
 
-      first : (h : PlanFault) → IsPlanFault g d h → (stop f ≡ stop h) ⊎ (stop f ≡ stop Memory)
-      first (Unbound v) x = not_unbound v x
-      first (Period n) x =
-          ⊎_elim (λ (e : f ≡ Period n). inl (ap (λ (x : PlanFault). Err x) e))
-          (λ (e : f ≡ Memory). inr (ap (λ (x : PlanFault). Err x) e))
-          (stops.first n (subst (λ (b : Assigned). IsWithoutCycle d b n)
-          (same_assigned x.assigned x.is_lowered x.is_assigned) x.none))
-      first (FileFull s q n) x = inr (never_scheduled x.assigned x.schedule x.is_lowered x.is_assigned x.is_schedule)
-      first Memory x = absurd x
+  to_passes : (r : Result Plan PlanFault) → IsOutcome r → Passes r
+  to_passes (Ok p) is = (
+    p.assigned.lowered,
+    is.lowered,
+    (
+      p.assigned,
+      (refl, is.assigned),
+      (p.schedule, is.schedule, (p.arcs, is.arcs, (p.registers, (is.registers, is.sizes), whole_is p is))),
+    ),
+  )
+  to_passes (Err (Unstored f)) x = inl (f, x, line_is f x)
+  to_passes (Err (Unbound f)) x = inr (x.lowered, x.is_lowered, inl (f, x.none, unit_is x.lowered f x.none))
+  to_passes (Err (Period v)) x =
+      inr
+      (x.assigned.lowered, x.is_lowered, inr (x.assigned, (refl, x.is_assigned), inl (period.Period v, x.none, refl)))
+  to_passes (Err (FileFull s q v)) x =
+      inr (
+        x.assigned.lowered,
+        x.is_lowered,
+        inr (
+          x.assigned,
+          (refl, x.is_assigned),
+          inr (
+            x.schedule,
+            x.is_schedule,
+            inr (x.arcs, x.are_arcs, inl (file.Full s q v, x.none, refl)),
+          ),
+        ),
+      )
+  to_passes (Err Memory) x = absurd x
 
-      why : (f ≡ Memory) ⊎ ((n : ℕ) × (f ≡ Period n) × IsWithoutCycle d a n) → (f ≡ Memory) ⊎ IsPlanFault g d f
-      why (inl e) = inl e
-      why (inr x) =
-          inr (subst (λ (h : PlanFault). IsPlanFault g d h) (sym x.1)
-          (record { assigned = a; is_lowered = a_low; is_assigned = bound; none = x.2 }))
+  module _ (l : Lowered) (low : IsLowered g d l) (a : Assigned) (bound : IsBound l a) where
+    of_units : IsLowered g d a.lowered
+    of_units = its_list g d l low a bound.0
 
-      pub at_cycles : Answers (Err f)
-      at_cycles = record {
-        plan = tt;
-        fault = why stops.why;
-        found = λ p is. inr (never_scheduled p.assigned p.schedule is.lowered is.assigned is.schedule);
-        refused = first;
+    no_cycle : (f : PeriodFault) → IsPeriodFault d a f → IsPlanFault g d (of_period f)
+    no_cycle (period.Period v) h =
+        record { assigned = a; is_lowered = of_units; is_assigned = bound.1; none = h }
+    no_cycle period.Memory h = absurd h
+
+    module _ (s : Schedule) (scheduled : IsListSchedule d a s) (arcs : List Arc) (are : IsArcs d a s arcs) where
+      no_register : (f : FileFault) → IsFileFault d arcs f → IsPlanFault g d (of_file f)
+      no_register (file.Full u q v) h = record {
+        assigned = a;
+        is_lowered = of_units;
+        is_assigned = bound.1;
+        schedule = s;
+        is_schedule = scheduled;
+        arcs = arcs;
+        are_arcs = are;
+        none = h;
+      }
+      no_register file.Memory h = absurd h
+
+      it_is : (rs : Registers) → ArePrivate arcs rs.regs → AreWithin d arcs rs.regs
+          → IsPrivatePlan g d (whole a s arcs rs)
+      it_is rs own within = record {
+        lowered = of_units;
+        assigned = bound.1;
+        schedule = scheduled;
+        arcs = are;
+        unroll = not_unrolled arcs own.copies;
+        registers = own;
+        sizes = within;
+        inputs = refl;
+        outs = refl;
       }
 
-    -- each node has its cycle
-    module _ (t : Timing) (timed : IsTiming d a t) where
-      same_schedule : (b : Assigned) (s : Schedule) → IsLowered g d b.lowered → IsAssigned d b → IsListSchedule d b s
-          → s ≡ t.schedule
-      same_schedule b s b_low b_is is =
-          one_schedule d a (live_of d allowed) (inside g sound a low) s t.schedule
-          (its_schedule b s (same_assigned b b_low b_is) is) timed.schedule
+  fault_is : (f h : PlanFault) → IsPlanFault g d f → f ≡ h → IsPlanFault g d h
+  fault_is f h x e = subst (λ (k : PlanFault). IsPlanFault g d k) e x
 
-      same_arcs : (b : Assigned) (s : Schedule) (xs : List Arc) → IsLowered g d b.lowered → IsAssigned d b
-          → IsListSchedule d b s → IsArcs d b s xs → xs ≡ t.arcs
-      same_arcs b s xs b_low b_is s_is is =
-          one_arcs d a t.schedule xs t.arcs
-          (subst (λ (z : Schedule). IsArcs d a z xs) (same_schedule b s b_low b_is s_is)
-          (subst (λ (x : Assigned). IsArcs d x s xs) (same_assigned b b_low b_is) is))
-          timed.arcs
+  of_passes : (r : Result Plan PlanFault) → Passes r → IsOutcome r
+  of_passes (Ok p) (l, low, (a, bound, (s, scheduled, (arcs, are, (rs, own, e))))) =
+      subst (λ (x : Plan). IsPrivatePlan g d x) e (it_is l low a bound s scheduled arcs are rs own.0 own.1)
+  of_passes (Err h) (inl (f, x, e)) = fault_is (Unstored f) h x (sym (line_is f x) ∙ e)
+  of_passes (Err h) (inr (l, low, inl (f, x, e))) =
+      fault_is (Unbound f) h (record { lowered = l; is_lowered = low; none = x }) (sym (unit_is l f x) ∙ e)
+  of_passes (Err h) (inr (l, low, inr (a, bound, inl (f, x, e)))) =
+      fault_is (of_period f) h (no_cycle l low a bound f x) e
+  of_passes (Err h) (inr (l, low, inr (a, bound, inr (s, scheduled, inl (f, x, e))))) = absurd x
+  of_passes (Err h) (inr (l, low, inr (a, bound, inr (s, scheduled, inr (arcs, are, inl (f, x, e)))))) =
+      fault_is (of_file f) h (no_register l low a bound s scheduled arcs are f x) e
+  of_passes (Err h) (inr (l, low, inr (a, bound, inr (s, scheduled, inr (arcs, are, inr (rs, own, x)))))) = absurd x
 
-      plan_arcs : (p : Plan) → IsPrivatePlan g d p → p.arcs ≡ t.arcs
-      plan_arcs p is = same_arcs p.assigned p.schedule p.arcs is.lowered is.assigned is.schedule is.arcs
+  -- what is promised of an answer
+  pub record IsAnswer (result : Result Plan PlanFault) : Type 0 where
+    pub plan : IfOk result (IsPrivatePlan g d)
+    pub fault : IfErr result (λ (fault : PlanFault). (fault ≡ Memory) ⊎ IsPlanFault g d fault)
+    pub found : (p : Plan) → IsPrivatePlan g d p → (result ≡ Ok p) ⊎ (result ≡ Err Memory)
+    pub refused : (fault : PlanFault) → IsPlanFault g d fault → (result ≡ Err fault) ⊎ (result ≡ Err Memory)
 
-      its_registers : (p : Plan) → IsPrivatePlan g d p → ArePrivate t.arcs p.registers.regs
-      its_registers p is = subst (λ (xs : List Arc). ArePrivate xs p.registers.regs) (plan_arcs p is) is.registers
+  pub out_of_memory : IsAnswer (Err Memory)
+  out_of_memory = record { plan = tt; fault = inl refl; found = λ p is. inr refl; refused = λ f is. inr refl }
 
-      full_there : (port : PortRef) (n : ℕ) (x : HasUnkeptNode g d port n) → IsWithoutOwnRegister d t.arcs port n
-      full_there port n x =
-          subst (λ (xs : List Arc). IsWithoutOwnRegister d xs port n)
-          (same_arcs x.assigned x.schedule x.arcs x.is_lowered x.is_assigned x.is_schedule x.are_arcs) x.none
+  one_plan : (p : Plan) → IsOnly Passes (Ok p) → IsAnswer (Ok p)
+  one_plan p x = record {
+    plan = of_passes (Ok p) x.is;
+    fault = tt;
+    found = λ q is. inl (x.one (Ok q) (to_passes (Ok q) is));
+    refused = λ h is. inl (x.one (Err h) (to_passes (Err h) is));
+  }
 
-      timed_anyway : {A : Type 0} (n : ℕ) → HasUnplacedNode g d n → A
-      timed_anyway n x =
-          absurd (timed.none_without n (subst (λ (b : Assigned). IsWithoutCycle d b n)
-          (same_assigned x.assigned x.is_lowered x.is_assigned) x.none))
+  one_fault : (f : PlanFault) → IsOnly Passes (Err f) → IsAnswer (Err f)
+  one_fault f x = record {
+    plan = tt;
+    fault = inr (of_passes (Err f) x.is);
+    found = λ q is. inl (x.one (Ok q) (to_passes (Ok q) is));
+    refused = λ h is. inl (x.one (Err h) (to_passes (Err h) is));
+  }
 
-      -- no register for a lifetime
-      module _ (s q n : ℕ) (stops : IsWithoutOwnRegister d t.arcs (port_of s q) n) where
-        same_full : (r i m : ℕ) → (port_of s q ≡ port_of r i) × (n ≡ m) → FileFull s q n ≡ FileFull r i m
-        same_full r i m e =
-            ap (λ (p : PortRef). FileFull p.unit p.port n) e.0 ∙ ap (λ (k : ℕ). FileFull r i k) e.1
-
-        one : (h : PlanFault) → IsPlanFault g d h → FileFull s q n ≡ h
-        one (Unbound v) x = not_unbound v x
-        one (Period m) x = timed_anyway m x
-        one (FileFull r i m) x =
-            same_full r i m (one_full d t.arcs (port_of s q) (port_of r i) n m stops (full_there (port_of r i) m x))
-        one Memory x = absurd x
-
-        full : Answers (Err (FileFull s q n))
-        full = record {
-          plan = tt;
-          fault =
-              inr (record {
-                assigned = a;
-                is_lowered = a_low;
-                is_assigned = bound;
-                schedule = t.schedule;
-                is_schedule = timed.schedule;
-                arcs = t.arcs;
-                are_arcs = timed.arcs;
-                none = stops;
-              });
-          found = λ p is.
-              absurd (not_both d t.arcs p.registers.regs (its_registers p is)
-              (subst (λ (xs : List Arc). AreWithin d xs p.registers.regs) (plan_arcs p is) is.sizes)
-              (port_of s q) n stops);
-          refused = λ h is. inl (ap (λ (x : PlanFault). Err x) (one h is));
-        }
-
-      full_or_not : (u : FileFault) → IsFileFault d t.arcs u → Answers (Err (of_file u))
-      full_or_not (file.Full s q n) h = full s q n h
-      full_or_not file.Memory h = absurd h
-
-      pub at_registers : (u : FileFault) (f : PlanFault) → f ≡ of_file u
-          → (u ≡ file.Memory) ⊎ IsFileFault d t.arcs u → Answers (Err f)
-      at_registers u f is (inl e) =
-          subst (λ (x : PlanFault). Answers (Err x)) (sym (is ∙ ap (λ (v : FileFault). of_file v) e)) out_of_memory
-      at_registers u f is (inr h) = subst (λ (x : PlanFault). Answers (Err x)) (sym is) (full_or_not u h)
-
-      -- each lifetime has its register
-      module _ (rs : Registers) (own_rs : ArePrivate t.arcs rs.regs) (within : AreWithin d t.arcs rs.regs) where
-        abbrev pub whole : Plan
-        whole = record {
-          assigned = a;
-          schedule = t.schedule;
-          arcs = t.arcs;
-          registers = rs;
-          unroll = 1;
-          inputs = g.inputs;
-          outs = g.outs;
-        }
-
-        not_unrolled_here : IsUnroll t.arcs 1
-        not_unrolled_here = not_unrolled t.arcs own_rs.copies
-
-        it_is : IsPrivatePlan g d whole
-        it_is = record {
-          lowered = a_low;
-          assigned = bound;
-          schedule = timed.schedule;
-          arcs = timed.arcs;
-          unroll = not_unrolled_here;
-          registers = own_rs;
-          sizes = within;
-          inputs = refl;
-          outs = refl;
-        }
-
-        same_plan : (p : Plan) → p.assigned ≡ a → p.schedule ≡ t.schedule → p.arcs ≡ t.arcs
-            → p.registers.regs ≡ rs.regs → p.unroll ≡ 1 → p.inputs ≡ g.inputs → p.outs ≡ g.outs → whole ≡ p
-        same_plan p e_a e_s e_arcs e_regs e_unroll e_inputs e_outs =
-            sym (ap (λ (x : Assigned). record p { assigned = x }) e_a
-            ∙ ap (λ (x : Schedule). record p { assigned = a; schedule = x }) e_s
-            ∙ ap (λ (x : List Arc). record p { assigned = a; schedule = t.schedule; arcs = x }) e_arcs
-            ∙ ap (λ (x : List (List ℕ)). record p {
-              assigned = a;
-              schedule = t.schedule;
-              arcs = t.arcs;
-              registers = record { regs = x };
-            }) e_regs
-            ∙ ap (λ (x : ℕ). record p {
-              assigned = a;
-              schedule = t.schedule;
-              arcs = t.arcs;
-              registers = rs;
-              unroll = x;
-            }) e_unroll
-            ∙ ap (λ (x : List SigType). record whole { inputs = x; outs = p.outs }) e_inputs
-            ∙ ap (λ (x : ℕ). record whole { outs = x }) e_outs)
-
-        its_unroll : (p : Plan) → IsPrivatePlan g d p → p.unroll ≡ 1
-        its_unroll p is =
-            one_unroll t.arcs p.unroll 1 (subst (λ (xs : List Arc). IsUnroll xs p.unroll) (plan_arcs p is) is.unroll)
-            not_unrolled_here
-
-        found_one : (p : Plan) → IsPrivatePlan g d p → whole ≡ p
-        found_one p is =
-            same_plan p (same_assigned p.assigned is.lowered is.assigned)
-            (same_schedule p.assigned p.schedule is.lowered is.assigned is.schedule) (plan_arcs p is)
-            (one_registers t.arcs p.registers.regs rs.regs (its_registers p is) own_rs)
-            (its_unroll p is) is.inputs is.outs
-
-        no_fault : (h : PlanFault) → IsPlanFault g d h → ⊥
-        no_fault (Unbound v) x = not_unbound v x
-        no_fault (Period n) x = timed_anyway n x
-        no_fault (FileFull s q n) x =
-            not_both d t.arcs rs.regs own_rs within (port_of s q) n (full_there (port_of s q) n x)
-        no_fault Memory x = x
-
-        pub at_end : Answers (Ok whole)
-        at_end = record {
-          plan = it_is;
-          fault = tt;
-          found = λ p is. inl (ap (λ (x : Plan). Ok x) (found_one p is));
-          refused = λ h is. absurd (no_fault h is);
-        }
+  pub settled : (r : Result Plan PlanFault) → IsSettled Memory Passes r → IsAnswer r
+  settled r (inl e) = subst IsAnswer (sym e) out_of_memory
+  settled (Ok p) (inr x) = one_plan p x
+  settled (Err f) (inr x) = one_fault f x

@@ -1,49 +1,130 @@
 -- What `plan` answers at each place where it returns.
-use Rattle.std.proofs.Common.{◌≡◌, ◌⊎◌, sym, subst, Result}
+use Rattle.std.proofs.Common.{◌≡◌, ◌⊎◌, inr, refl, sym, ap, ◌∙◌, subst, List, Result, Ok, Err}
 use Rattle.std.specs.Prelude.{IsErrAnd}
 use Rattle.std.proofs.lemmas.Result.{err_from_is_err_and}
-use Rattle.datapath.specs.Allowed.{IsDatapath}
 use Rattle.datapath.specs.declared.types.Datapath.{Datapath}
-use Rattle.signal_graph.specs.GraphRules.{IsGraph}
 use Rattle.signal_graph.specs.declared.graph.Graph.{Graph}
+use Rattle.plan_core.specs.Lowered.{IsLowered}
 use Rattle.plan_core.specs.Assigned.{IsAssigned}
+use Rattle.plan_core.specs.ListSchedule.{IsListSchedule}
+use Rattle.plan_core.specs.Arcs.{IsArcs}
+use Rattle.plan_core.specs.declared.delay_lines.Lowered.{Lowered}
 use Rattle.plan_core.specs.declared.schedule.Assigned.{Assigned}
+use Rattle.plan_core.specs.declared.schedule.Schedule.{Schedule}
+use Rattle.plan_core.specs.declared.registers.Arc.{Arc}
+use Rattle.plan_core.specs.declared.registers.Registers.{Registers}
 use Rattle.plan_core.specs.declared.plan.Plan.{Plan}
+use Rattle.plan_core.proofs.OneArcs.{one_arcs}
 use Rattle.unit_assign.specs.Faults.{IsUnitFault}
 use Rattle.unit_assign.specs.declared.fault.UnitFault.{UnitFault}
 use Rattle.unit_assign.specs.declared.fault.UnitFault.TheVariants as unit
-use Rattle.planner.specs.Delayless.{IsDelayless}
-use Rattle.planner.specs.Private.Lowered.{own_lowered}
-use Rattle.planner.specs.Private.Errors.{of_unit, of_file}
+use Rattle.list_schedule.specs.Faults.{IsPeriodFault}
+use Rattle.list_schedule.specs.declared.fault.PeriodFault.{PeriodFault}
+use Rattle.list_schedule.specs.declared.fault.PeriodFault.TheVariants as period
+use Rattle.cyclic_life.specs.declared.fault.ArcFault.{ArcFault}
+use Rattle.delay_memory.specs.Faults.{IsLineFault}
+use Rattle.delay_memory.specs.declared.fault.LineFault.{LineFault}
+use Rattle.delay_memory.specs.declared.fault.LineFault.TheVariants as line
+use Rattle.planner.specs.Private.Errors.{of_line, of_unit, of_period, of_file}
 use Rattle.planner.specs.Private.Allotted.{IsFileFault}
-use Rattle.planner.specs.Private.Stages.{IsTiming, IsUntimed}
 use Rattle.planner.specs.declared.fault.PlanFault.{PlanFault}
+use Rattle.planner.specs.declared.fault.PlanFault.TheVariants.{Memory}
 use Rattle.planner.specs.declared.registers.FileFault.{FileFault}
 use Rattle.planner.specs.declared.registers.FileFault.TheVariants as file
-use Rattle.planner.specs.declared.passes.Timing.{Timing}
-use Rattle.planner.proofs.Answers.{IsAnswer, at_units, at_cycles, at_registers}
+use Rattle.planner.proofs.Stages.{IsOnly, Comes, IsSettled, Found, Refused, only_ok, only_err, stops, goes}
+use Rattle.planner.proofs.OwnRegisters.{AreOwn, Places, only_registers, only_full}
+use Rattle.planner.proofs.Answers.{of_arc, Lines, IsBound, Units, Cycles, Lifetimes, whole, Whole, FromArcs, FromSchedule, FromUnits, FromLines, Passes, IsAnswer, settled}
 
-module _ (g : Graph) (d : Datapath) (allowed : IsDatapath d) (sound : IsGraph g) (delayless : IsDelayless g)
-    (r : Result Plan PlanFault) where
-  pub leaves_units : (u : UnitFault) → IsErrAnd r (λ (f : PlanFault). f ≡ of_unit u)
-      → (u ≡ unit.Memory) ⊎ IsUnitFault d (own_lowered g) u → IsAnswer g d r
-  leaves_units u is why =
+module _ (g : Graph) (d : Datapath) where
+  abbrev UnitsFound : Lowered → Result Assigned UnitFault → Type 0
+  UnitsFound l r = (a : Assigned) → a.lowered ≡ l → IsAssigned d a → (r ≡ Ok a) ⊎ (r ≡ Err unit.Memory)
+
+  leaves : {F : Type 0} (of : F → PlanFault) (r : Result Plan PlanFault) (f : F)
+      → IsErrAnd r (λ (h : PlanFault). h ≡ of f) → IsSettled Memory (Passes g d) (Err (of f)) → IsAnswer g d r
+  leaves of r f is x =
       let e = err_from_is_err_and r is in
-      subst (λ (x : Result Plan PlanFault). IsAnswer g d x) (sym e.1)
-      (at_units g d allowed sound delayless u e.0 e.2 why)
+      subst (λ (y : Result Plan PlanFault). IsAnswer g d y) (sym (e.1 ∙ ap (λ (h : PlanFault). Err h) e.2))
+      (settled g d (Err (of f)) x)
 
-  module _ (a : Assigned) (low : a.lowered ≡ own_lowered g) (bound : IsAssigned d a) where
-    pub leaves_cycles : (f : PlanFault) → IsErrAnd r (λ (h : PlanFault). h ≡ f) → IsUntimed d a f → IsAnswer g d r
-    leaves_cycles f is stops =
-        let e = err_from_is_err_and r is in
-        subst (λ (x : Result Plan PlanFault). IsAnswer g d x) (sym e.1)
-        (at_cycles g d allowed sound delayless a low bound e.0
-        (subst (λ (h : PlanFault). IsUntimed d a h) (sym e.2) stops))
+  pub at_lines : (r : Result Plan PlanFault) (f : LineFault) → IsErrAnd r (λ (h : PlanFault). h ≡ of_line f)
+      → (f ≡ line.Memory) ⊎ IsLineFault g d f → Found (IsLowered g d) line.Memory (Err f)
+      → Refused {A = Lowered} (IsLineFault g d) line.Memory (Err f) → IsAnswer g d r
+  at_lines r f is why found refused =
+      leaves of_line r f is
+      (stops (Lines g d) of_line (FromLines g d) line.Memory f
+      (only_err (IsLowered g d) (IsLineFault g d) line.Memory f (λ none. none) why found refused))
 
-    pub leaves_registers : (t : Timing) → IsTiming d a t → (u : FileFault)
-        → IsErrAnd r (λ (f : PlanFault). f ≡ of_file u) → (u ≡ file.Memory) ⊎ IsFileFault d t.arcs u
-        → IsAnswer g d r
-    leaves_registers t timed u is why =
-        let e = err_from_is_err_and r is in
-        subst (λ (x : Result Plan PlanFault). IsAnswer g d x) (sym e.1)
-        (at_registers g d allowed sound delayless a low bound t timed u e.0 e.2 why)
+  -- each long delay has its line
+  module _ (l : Lowered) (low : IsLowered g d l) (lines_found : Found (IsLowered g d) line.Memory (Ok l))
+      (lines_refused : Refused (IsLineFault g d) line.Memory (Ok l)) where
+    after_lines : (r : Result Plan PlanFault) → IsSettled Memory (FromLines g d l) r
+        → IsSettled Memory (Passes g d) r
+    after_lines r x =
+        goes (Lines g d) of_line (FromLines g d) l
+        (only_ok (IsLowered g d) (IsLineFault g d) line.Memory l low lines_found lines_refused) Memory r x
+
+    pub at_units : (r : Result Plan PlanFault) (f : UnitFault) → IsErrAnd r (λ (h : PlanFault). h ≡ of_unit f)
+        → (f ≡ unit.Memory) ⊎ IsUnitFault d l f
+        → UnitsFound l (Err f) → Refused {A = Assigned} (IsUnitFault d l) unit.Memory (Err f) → IsAnswer g d r
+    at_units r f is why found refused =
+        leaves of_unit r f is (after_lines (Err (of_unit f))
+        (stops (Units g d l) of_unit (FromUnits g d) unit.Memory f
+        (only_err (IsBound g d l) (IsUnitFault d l) unit.Memory f (λ none. none) why (λ a h. found a h.0 h.1) refused)))
+
+    -- each node has its unit
+    module _ (a : Assigned) (same : a.lowered ≡ l) (bound : IsAssigned d a)
+        (units_found : UnitsFound l (Ok a)) (units_refused : Refused (IsUnitFault d l) unit.Memory (Ok a)) where
+      after_units : (r : Result Plan PlanFault) → IsSettled Memory (FromUnits g d a) r
+          → IsSettled Memory (Passes g d) r
+      after_units r x =
+          after_lines r
+          (goes (Units g d l) of_unit (FromUnits g d) a
+          (only_ok (IsBound g d l) (IsUnitFault d l) unit.Memory a (same, bound) (λ b h. units_found b h.0 h.1)
+          units_refused) Memory r x)
+
+      pub at_cycles : (r : Result Plan PlanFault) (f : PeriodFault)
+          → IsErrAnd r (λ (h : PlanFault). h ≡ of_period f) → (f ≡ period.Memory) ⊎ IsPeriodFault d a f
+          → Found (IsListSchedule d a) period.Memory (Err f) → Refused {A = Schedule} (IsPeriodFault d a) period.Memory (Err f)
+          → IsAnswer g d r
+      at_cycles r f is why found refused =
+          leaves of_period r f is (after_units (Err (of_period f))
+          (stops (Cycles g d a) of_period (FromSchedule g d a) period.Memory f
+          (only_err (IsListSchedule d a) (IsPeriodFault d a) period.Memory f (λ none. none) why found refused)))
+
+      -- each node has its cycle, and its words their lifetimes
+      module _ (s : Schedule) (scheduled : IsListSchedule d a s)
+          (cycles_found : Found (IsListSchedule d a) period.Memory (Ok s))
+          (cycles_refused : Refused (IsPeriodFault d a) period.Memory (Ok s))
+          (arcs : List Arc) (are : IsArcs d a s arcs) where
+        only_arcs : IsOnly (Lifetimes g d a s) (Ok arcs)
+        only_arcs = record { is = are; one = one }
+          where
+            one : (r : Result (List Arc) ArcFault) → Lifetimes g d a s r → Ok arcs ≡ r
+            one (Ok xs) h = ap (λ (ys : List Arc). Ok ys) (one_arcs d a s arcs xs are h)
+            one (Err f) h = absurd h
+
+        after_arcs : (r : Result Plan PlanFault) → IsSettled Memory (FromArcs g d a s arcs) r
+            → IsSettled Memory (Passes g d) r
+        after_arcs r x =
+            after_units r
+            (goes (Cycles g d a) of_period (FromSchedule g d a) s
+            (only_ok (IsListSchedule d a) (IsPeriodFault d a) period.Memory s scheduled cycles_found cycles_refused)
+            Memory r (goes (Lifetimes g d a s) of_arc (FromArcs g d a s) arcs only_arcs Memory r x))
+
+        pub at_registers : (r : Result Plan PlanFault) (f : FileFault)
+            → IsErrAnd r (λ (h : PlanFault). h ≡ of_file f) → (f ≡ file.Memory) ⊎ IsFileFault d arcs f
+            → IsAnswer g d r
+        at_registers r f is why =
+            leaves of_file r f is (after_arcs (Err (of_file f))
+            (stops (Places d arcs) of_file (Whole g d a s arcs) file.Memory f (only_full d arcs f why)))
+
+        -- each lifetime has its register
+        pub at_end : (rs : Registers) → AreOwn d arcs rs → IsAnswer g d (Ok (whole g d a s arcs rs))
+        at_end rs own =
+            settled g d (Ok (whole g d a s arcs rs)) (after_arcs (Ok (whole g d a s arcs rs))
+            (goes (Places d arcs) of_file (Whole g d a s arcs) rs (only_registers d arcs rs own) Memory
+            (Ok (whole g d a s arcs rs)) (inr (record { is = refl; one = one }))))
+          where
+            one : (r : Result Plan PlanFault) → Whole g d a s arcs rs r → Ok (whole g d a s arcs rs) ≡ r
+            one (Ok p) h = ap (λ (x : Plan). Ok x) h
+            one (Err f) h = absurd h

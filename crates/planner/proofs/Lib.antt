@@ -1,11 +1,9 @@
-pub mod GraphEdges
-pub mod OwnLowered
 pub mod LongestPaths
 pub mod OneCopy
 pub mod FileSizes
 pub mod OwnRegisters
 pub mod AllottedSteps
 pub mod Asked
-pub mod Timings
+pub mod Stages
 pub mod Answers
 pub mod Exits

@@ -1,20 +1,15 @@
--- Each node of a sound graph without a delay-free loop has a height: the longest paths of at most so many nodes are
+-- Each node has a height where ranks rise along the edges without delay: the longest paths of at most so many nodes are
 -- the same from some count of nodes on.
 use Rattle.std.proofs.Common.{◌≡◌, ℕ, zero, suc, ◌+◌, ◌-◌, ◌<◌, ◌≤◌, cond, Bool, true, false, ◌⊎◌, inl, inr, ⊎_elim, refl, sym, ap, ap₂, ◌∙◌, subst, arith, List, [], ◌∷◌, length, slice_index_or}
 use Rattle.std.proofs.lemmas.Bool.{cases_lt}
 use Rattle.datapath.specs.declared.types.Datapath.{Datapath}
-use Rattle.signal_graph.specs.GraphSolves.{IsGraphLoopless}
-use Rattle.signal_graph.specs.GraphRules.{IsGraph}
 use Rattle.signal_graph.specs.Values.{EdgesRead}
 use Rattle.signal_graph.specs.declared.graph.Edge.{Edge}
-use Rattle.signal_graph.specs.declared.graph.Node.{Node}
-use Rattle.signal_graph.specs.declared.graph.Graph.{Graph}
 use Rattle.signal_graph.proofs.Tests.{edges_test, edges_yes, edges_no}
-use Rattle.signal_graph.proofs.Heights.{height, height_most, height_falls}
 use Rattle.plan_core.specs.Operands.{node_of, no_edge}
 use Rattle.plan_core.specs.Heights.{ReadsNow, latency_of, AreHeights}
 use Rattle.plan_core.specs.declared.schedule.Assigned.{Assigned}
-use Rattle.planner.proofs.GraphEdges.{reader_there}
+use Rattle.cyclic_life.proofs.Placements.{reader_there}
 
 -- the greater of two numbers
 abbrev greater : ℕ → ℕ → ℕ
@@ -84,25 +79,31 @@ greatest_same (suc k) test f g same =
     own false e = refl
 
 -- how node c of n nodes reads node v is a test, and ranks rise from a node to those that read it
-module _ (n : ℕ) (reads : ℕ → ℕ → Bool) (latency rank : ℕ → ℕ) (most : (v : ℕ) → rank v ≤ n)
+module _ (n : ℕ) (reads : ℕ → ℕ → Bool) (latency rank : ℕ → ℕ)
     (rises : (c v : ℕ) → c < n → reads c v ≡ true → rank v < rank c) where
   -- the longest path from node v on, of k nodes at most
   abbrev within : ℕ → ℕ → ℕ
   within zero v = 0
   within (suc k) v = latency v + greatest n (λ (c : ℕ). reads c v) (within k)
 
-  stable : (k v : ℕ) → n < k + rank v → within (suc k) v ≡ within k v
-  stable zero v high = absurd (omega (arith, high, most v))
-  stable (suc k) v high =
+  abbrev top : ℕ
+  top = greatest n (λ (v : ℕ). true) rank
+
+  stable : (k v : ℕ) → v < n → top < k + rank v → within (suc k) v ≡ within k v
+  stable zero v there high =
+      absurd (let most = greatest_above n (λ (v : ℕ). true) rank v there refl in omega (arith, high, most))
+  stable (suc k) v there high =
       ap (λ (x : ℕ). latency v + x)
       (greatest_same n (λ (c : ℕ). reads c v) (within (suc k)) (within k)
-      (λ c less passes. stable k c (omega (arith, high, rises c v less passes))))
+      (λ c less passes.
+      let rise = rises c v less passes in
+      stable k c less (omega (arith, high, rise))))
 
   abbrev longest : ℕ → ℕ
-  longest v = within (suc n) v
+  longest v = within (suc top) v
 
-  longest_is : (v : ℕ) → longest v ≡ latency v + greatest n (λ (c : ℕ). reads c v) longest
-  longest_is v = sym (stable (suc n) v (omega arith))
+  longest_is : (v : ℕ) → v < n → longest v ≡ latency v + greatest n (λ (c : ℕ). reads c v) longest
+  longest_is v there = sym (stable (suc top) v there (omega arith))
 
 read_at : (edges : List Edge) (q v : ℕ) → q < length edges → (slice_index_or edges q no_edge).node ≡ v
     → (slice_index_or edges q no_edge).delay ≡ 0 → EdgesRead edges v 0
@@ -123,56 +124,47 @@ read_by (e ∷ es) v (inr h) =
     let rest = read_by es v h in
     (suc rest.0, record { there = omega (arith, rest.1.there); node = rest.1.node; now = rest.1.now })
 
-module _ (g : Graph) (d : Datapath) (a : Assigned) (same : a.lowered.nodes ≡ g.nodes) (sound : IsGraph g)
-    (loopless : IsGraphLoopless g) where
+module _ (d : Datapath) (a : Assigned) (rank : ℕ → ℕ)
+    (falls : (c q v : ℕ) → ReadsNow a.lowered.nodes c q v → rank v < rank c) where
+  abbrev count : ℕ
+  count = length a.lowered.nodes
+
   abbrev tests : ℕ → ℕ → Bool
-  tests c v = edges_test (node_of g.nodes c).edges v
+  tests c v = edges_test (node_of a.lowered.nodes c).edges v
 
-  falls : (c v : ℕ) → c < length g.nodes → tests c v ≡ true → height g v < height g c
-  falls c v there passes = height_falls g sound loopless c v there (edges_yes (node_of g.nodes c).edges v passes)
-
-  pub path_of : ℕ → ℕ
-  path_of v = longest (length g.nodes) tests (latency_of d a) (height g) (height_most g) falls v
-
-  path_is : (v : ℕ) → path_of v ≡ latency_of d a v + greatest (length g.nodes) (λ (c : ℕ). tests c v) path_of
-  unfolding path_of
-  path_is v = longest_is (length g.nodes) tests (latency_of d a) (height g) (height_most g) falls v
-
-  -- in the graph, since its nodes are those that are bound
-  to_test : (c q v : ℕ) → ReadsNow g.nodes c q v → tests c v ≡ true
+  to_test : (c q v : ℕ) → ReadsNow a.lowered.nodes c q v → tests c v ≡ true
   to_test c q v r =
-      edges_no (node_of g.nodes c).edges v (read_at (node_of g.nodes c).edges q v r.reads.port r.reads.node r.now)
+      edges_no (node_of a.lowered.nodes c).edges v
+      (read_at (node_of a.lowered.nodes c).edges q v r.reads.port r.reads.node r.now)
 
-  from_test : (c v : ℕ) → tests c v ≡ true → (q : ℕ) × ReadsNow g.nodes c q v
+  from_test : (c v : ℕ) → tests c v ≡ true → (q : ℕ) × ReadsNow a.lowered.nodes c q v
   from_test c v passes =
-      let by = read_by (node_of g.nodes c).edges v (edges_yes (node_of g.nodes c).edges v passes) in
+      let by = read_by (node_of a.lowered.nodes c).edges v (edges_yes (node_of a.lowered.nodes c).edges v passes) in
       (by.0, record { reads = record { port = by.1.there; node = by.1.node }; now = by.1.now })
 
-  above : (c q v : ℕ) → ReadsNow g.nodes c q v → latency_of d a v + path_of c ≤ path_of v
-  above c q v r =
-      let is = path_is v in
-      let there = reader_there g.nodes c q r.reads.port in
-      let most = greatest_above (length g.nodes) (λ (c : ℕ). tests c v) path_of c there (to_test c q v r) in
-      omega (arith, is, most)
+  rises : (c v : ℕ) → c < count → tests c v ≡ true → rank v < rank c
+  rises c v there passes = let from = from_test c v passes in falls c from.0 v from.1
 
-  abbrev IsEnd : List Node → ℕ → Type 0
-  IsEnd nodes v =
-      (path_of v ≡ latency_of d a v)
-      ⊎ ((c : ℕ) × (q : ℕ) × ReadsNow nodes c q v × (path_of v ≡ latency_of d a v + path_of c))
+  pub path_of : ℕ → ℕ
+  path_of v = longest count tests (latency_of d a) rank rises v
 
-  reached : (v : ℕ) → IsEnd g.nodes v
-  reached v = by (path_is v) (greatest_reached (length g.nodes) (λ (c : ℕ). tests c v) path_of)
-    where
-      by : {n : ℕ} → path_of v ≡ latency_of d a v + n → IsReached (length g.nodes) (λ (c : ℕ). tests c v) path_of n
-          → IsEnd g.nodes v
-      by is (inl e) = inl (omega (arith, is, e))
-      by is (inr x) = let from = from_test x.0 v x.2 in inr (x.0, from.0, from.1, omega (arith, is, x.3))
+  path_is : (v : ℕ) → v < count → path_of v ≡ latency_of d a v + greatest count (λ (c : ℕ). tests c v) path_of
+  unfolding path_of
+  path_is v there = longest_is count tests (latency_of d a) rank rises v there
 
   pub are_heights : AreHeights d a path_of
-  are_heights v there =
-      let is = path_is v in
-      record {
-        alone = omega (arith, is);
-        above = λ c q r. above c q v (subst (λ (ns : List Node). ReadsNow ns c q v) same r);
-        reached = subst (λ (ns : List Node). IsEnd ns v) (sym same) (reached v);
-      }
+  are_heights v there = record {
+    alone = omega (arith, path_is v there);
+    above = λ c q r.
+        let is = path_is v there in
+        let reader = reader_there a.lowered.nodes c q v r.reads in
+        let most = greatest_above count (λ (c : ℕ). tests c v) path_of c reader (to_test c q v r) in
+        omega (arith, is, most);
+    reached = by (path_is v there) (greatest_reached count (λ (c : ℕ). tests c v) path_of);
+  }
+    where
+      by : {n : ℕ} → path_of v ≡ latency_of d a v + n → IsReached count (λ (c : ℕ). tests c v) path_of n
+          → (path_of v ≡ latency_of d a v)
+          ⊎ ((c : ℕ) × (q : ℕ) × ReadsNow a.lowered.nodes c q v × (path_of v ≡ latency_of d a v + path_of c))
+      by is (inl e) = inl (omega (arith, is, e))
+      by is (inr x) = let from = from_test x.0 v x.2 in inr (x.0, from.0, from.1, omega (arith, is, x.3))

@@ -1,4 +1,5 @@
--- Without delays each lifetime ends in its sample, so that it has one copy and nothing is unrolled.
+-- Where no node reads an earlier sample each lifetime ends in its sample, so that it has one copy and nothing is
+-- unrolled.
 use Rattle.std.proofs.Common.{◌≡◌, ℕ, ◌+◌, ◌*◌, ◌≤◌, inl, inr, refl, ap, ◌∙◌, arith, List, slice_index_or}
 use Rattle.std.specs.Prelude.{All}
 use Rattle.datapath.specs.declared.types.Datapath.{Datapath}
@@ -8,7 +9,7 @@ use Rattle.plan_core.specs.Arcs.{read_cycle, IsCount, IsArc, IsArcs, IsUnroll}
 use Rattle.plan_core.specs.declared.registers.Arc.{Arc}
 use Rattle.plan_core.specs.declared.schedule.Assigned.{Assigned}
 use Rattle.plan_core.specs.declared.schedule.Schedule.{Schedule}
-use Rattle.planner.proofs.GraphEdges.{reader_there}
+use Rattle.cyclic_life.proofs.Placements.{reader_there}
 
 one_of : (n : ℕ) → IsCount n → n ≤ 1 → n ≡ 1
 one_of n (inl e) low = e
@@ -22,7 +23,7 @@ module _ (d : Datapath) (a : Assigned) (s : Schedule)
   last_read arc is =
       let c = is.read.0 in
       let reads = is.read.1.reads in
-      let there = reader_there a.lowered.nodes c arc.port.port reads.port in
+      let there = reader_there a.lowered.nodes c arc.port.port arc.node reads in
       let now : read_cycle d a s c arc.port.port ≡ cycle_of s c =
       ap (λ (k : ℕ). cycle_of s c + k * d.period) (no_delay c arc.port.port arc.node reads)
       ∙ none (cycle_of s c) d.period in

@@ -13,11 +13,12 @@ use Rattle.plan_core.specs.declared.delay_lines.Lowered.{Lowered}
 use Rattle.plan_core.specs.declared.schedule.Assigned.{Assigned}
 use Rattle.plan_core.specs.declared.schedule.Schedule.{Schedule}
 use Rattle.plan_core.specs.declared.registers.Arc.{Arc}
+use Rattle.delay_memory.specs.Faults.{IsLineFault}
 use Rattle.unit_assign.specs.Faults.{IsUnitFault}
 use Rattle.unit_assign.specs.declared.fault.UnitFault.{UnitFault}
 use Rattle.planner.specs.Registers.{IsWithoutOwnRegister}
 use Rattle.planner.specs.declared.fault.PlanFault.{PlanFault}
-use Rattle.planner.specs.declared.fault.PlanFault.TheVariants.{Unit as Unbound, Period, FileFull, Memory}
+use Rattle.planner.specs.declared.fault.PlanFault.TheVariants.{Line as Unstored, Unit as Unbound, Period, FileFull, Memory}
 
 module _ (g : Graph) (d : Datapath) where
   -- a node of the lowered list has no unit
@@ -46,6 +47,7 @@ module _ (g : Graph) (d : Datapath) where
 
   -- The fault is that of the first rule that finds no place, and in it of the first node. To be out of memory is none.
   abbrev pub IsPlanFault : PlanFault → Type 0
+  IsPlanFault (Unstored fault) = IsLineFault g d fault
   IsPlanFault (Unbound fault) = HasUnboundNode fault
   IsPlanFault (Period node) = HasUnplacedNode node
   IsPlanFault (FileFull unit port node) = HasUnkeptNode (port_of unit port) node

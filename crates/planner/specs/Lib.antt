@@ -1,4 +1,3 @@
-pub mod Delayless
 pub mod Registers
 pub mod Faults
 pub mod Private

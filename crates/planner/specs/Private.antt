@@ -1,4 +1,2 @@
-pub mod Lowered
 pub mod Errors
 pub mod Allotted
-pub mod Stages

@@ -2,13 +2,18 @@
 
 use crate::registers::FileFault;
 use cyclic_life::ArcFault;
+use delay_memory::LineFault;
 use list_schedule::PeriodFault;
 use thiserror::Error;
 use unit_assign::UnitFault;
 
-/// Why there is no plan.
+/// Why there is no plan. At `Line` nodes have the numbers of the graph, at the others those of the lowered list.
 #[derive(Debug, Clone, Copy, PartialEq, Eq, Drop, Error)]
 pub enum PlanFault {
+    /// The first node that needs a delay line and gets none, and why. Want of memory is an error of its own and never
+    /// comes in here.
+    #[error(transparent)]
+    Line(LineFault),
     /// The first node without a unit, and why it has none. Want of memory is an error of its own and never comes in
     /// here.
     #[error(transparent)]
@@ -22,6 +27,20 @@ pub enum PlanFault {
     /// Out of memory.
     #[error("no memory")]
     Memory,
+}
+
+impl From<LineFault> for PlanFault {
+    ghost use Rattle.std.specs.Prelude.{◌≡◌};
+    ghost use Rattle.planner.specs.Private.Errors.{of_line};
+
+    ghost from_gives = { λ fault plan_fault. plan_fault ≡ of_line fault };
+
+    fn from(fault: LineFault) -> PlanFault {
+        match fault {
+            LineFault::Memory => PlanFault::Memory,
+            fault => PlanFault::Line(fault),
+        }
+    }
 }
 
 impl From<UnitFault> for PlanFault {
