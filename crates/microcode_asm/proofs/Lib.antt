@@ -1,4 +1,5 @@
 pub mod ScheduleTexts
+pub mod Listings
 pub mod Printables
 pub mod ArcSearch
 pub mod RegisterLists

@@ -36,3 +36,12 @@ all_registers old start out registers rest first i registers_are start_is out_is
 pub flat_range_more : (f : ℕ → List ℕ) (a n j : ℕ) → a + n ≡ j
     → flat_map f (range_with_len a (n + 1)) ≡ flat_map f (range_with_len a n) ++ f j
 flat_range_more f a n j is = rw add-one (flat_range_suc f a n j is)
+
+-- a text of lines by number, and the next line
+pub lines_more : (line : ℕ → List ℕ) (old text new : List ℕ) (n : ℕ)
+    → text ≡ old ++ flat_map line (range_with_len 0 n) → new ≡ text ++ line n
+    → new ≡ old ++ flat_map line (range_with_len 0 (n + 1))
+lines_more line old text new n text_is new_is =
+    new_is ∙ ap (λ (l : List ℕ). l ++ line n) text_is
+    ∙ after old (flat_map line (range_with_len 0 n)) (line n)
+    ∙ ap (λ (l : List ℕ). old ++ l) (sym (flat_range_more line 0 n n (omega arith)))

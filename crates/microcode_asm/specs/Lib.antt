@@ -1,3 +1,5 @@
 pub mod Planned
+pub mod OperationText
 pub mod ScheduleText
+pub mod Listing
 pub mod Private

@@ -1,14 +1,7 @@
 -- The text of a schedule: a head line, and then for each node a line with its cycle, its unit, its operation and where
 -- its result goes. Units and buses stand there by name, and numbers in decimal.
-use Rattle.std.specs.Prelude.{ℕ, ◌==◌, ◌&&◌, Bool, true, false, if◌then◌else◌, List, [], ◌∷◌, ◌++◌, length, map, slice_index_or, codes, decimal}
-use Rattle.std.specs.Fmt.{signed_decimal}
+use Rattle.std.specs.Prelude.{ℕ, ◌==◌, ◌&&◌, Bool, if◌then◌else◌, List, [], ◌∷◌, ◌++◌, length, map, slice_index_or, codes, decimal}
 use Rattle.std.specs.List.{flat_map, join_with_byte, position_or_len, range_with_len}
-use Rattle.fix_word.specs.declared.operation.Op.{Op}
-use Rattle.fix_word.specs.declared.operation.Op.TheVariants as op
-use Rattle.fix_word.specs.declared.types.Format.{Format}
-use Rattle.fix_word.specs.declared.types.Mode.{Mode}
-use Rattle.fix_word.specs.declared.types.Mode.TheVariants.{Trunc, Round}
-use Rattle.operations.specs.Operations.{is_formatted}
 use Rattle.operations.specs.declared.units.PortRef.{PortRef}
 use Rattle.datapath.specs.declared.types.Datapath.{Datapath}
 use Rattle.signal_graph.specs.declared.graph.Edge.{Edge}
@@ -20,57 +13,13 @@ use Rattle.plan_core.specs.ListSchedule.{slot_of, cycle_of}
 use Rattle.plan_core.specs.declared.plan.Plan.{Plan}
 use Rattle.plan_core.specs.declared.schedule.Transfer.{Transfer}
 use Rattle.plan_core.specs.declared.registers.Arc.{Arc}
-
-abbrev pub line_feed : ℕ
-line_feed = 10
-
-abbrev pub blank : ℕ
-blank = 32
+use Rattle.microcode_asm.specs.OperationText.{line_feed, blank, point, operation_name, argument, format_part}
 
 abbrev pub comma : ℕ
 comma = 44
 
-abbrev pub point : ℕ
-point = 46
-
 abbrev pub at_sign : ℕ
 at_sign = 64
-
-abbrev pub operation_name : Op → List ℕ
-operation_name op.Input = codes "input"
-operation_name op.Output = codes "output"
-operation_name op.Const = codes "const"
-operation_name op.Add = codes "add"
-operation_name op.Sub = codes "sub"
-operation_name op.Neg = codes "neg"
-operation_name op.Pass = codes "pass"
-operation_name op.Lt = codes "lt"
-operation_name op.Le = codes "le"
-operation_name op.Eq = codes "eq"
-operation_name op.Ne = codes "ne"
-operation_name op.And = codes "and"
-operation_name op.Or = codes "or"
-operation_name op.Not = codes "not"
-operation_name op.Mul = codes "mul"
-operation_name op.Sel = codes "sel"
-operation_name op.Load = codes "load"
-operation_name op.Store = codes "store"
-operation_name op.Addr = codes "addr"
-
-abbrev pub mode_name : Mode → List ℕ
-mode_name Trunc = codes "trunc"
-mode_name Round = codes "round"
-
--- whether the operation has an argument: the number of a word, a raw word, or an offset
-abbrev pub has_argument : Op → Bool
-has_argument op.Input = true
-has_argument op.Output = true
-has_argument op.Const = true
-has_argument op.Addr = true
-has_argument _ = false
-
-abbrev pub argument : Node → List ℕ
-argument node = if has_argument node.op then blank ∷ signed_decimal node.arg else []
 
 -- how many samples ago the operand is, where it is not of this sample
 abbrev pub ago : (delay : ℕ) → List ℕ
@@ -80,20 +29,14 @@ ago delay = if delay == 0 then [] else at_sign ∷ decimal delay
 abbrev pub operand : Edge → List ℕ
 operand edge = blank ∷ decimal edge.node ++ ago edge.delay
 
-abbrev pub format : Format → List ℕ
-format fmt =
-    codes " fmt " ++ signed_decimal fmt.shift ++ blank ∷ mode_name fmt.mode ++ blank ∷ decimal fmt.width
-
-abbrev pub format_part : Node → List ℕ
-format_part node = if is_formatted node.op then format node.fmt else []
-
 abbrev pub register_list : List ℕ → List ℕ
 register_list registers = join_with_byte comma (map decimal registers)
 
 -- what a node does: its operation, its operands and how its result is quantised
 unfoldable pub operation_part : Node → List ℕ
 operation_part node =
-    codes " op " ++ operation_name node.op ++ argument node ++ flat_map operand node.edges ++ format_part node
+    codes " op " ++ operation_name node.op ++ argument node.op node.arg ++ flat_map operand node.edges
+    ++ format_part node.op node.fmt
 
 abbrev pub is_arc_for : (v : ℕ) → PortRef → Arc → Bool
 is_arc_for v port arc = arc.node == v && arc.port.unit == port.unit && arc.port.port == port.port

@@ -3,78 +3,17 @@
 ghost use Rattle.std.specs.Prelude.{◌≡◌, ◌<◌, ◌++◌, [], ◌∷◌, length, OnOk};
 ghost use Rattle.std.specs.List.{flat_map};
 ghost use Rattle.plan_core.specs.ListSchedule.{slot_of};
-ghost use Rattle.microcode_asm.specs.ScheduleText.{operation_name as operation_name_of, mode_name as mode_name_of};
-ghost use Rattle.microcode_asm.specs.ScheduleText.{has_argument as has_argument_of, argument, operand, format_part};
-ghost use Rattle.microcode_asm.specs.ScheduleText.{operation_part, placing_part, destination, node_line};
+ghost use Rattle.microcode_asm.specs.ScheduleText.{operand, operation_part, placing_part, destination, node_line};
 ghost use Rattle.microcode_asm.specs.Private.Printable.{IsToPort, IsPrintable};
 
 use crate::arc_search::registers_at;
-use crate::text::{put_number, put_registers, put_signed, put_text};
+use crate::operation_text::{operation_name, put_argument, put_format};
+use crate::text::{put_number, put_registers, put_text};
 use datapath::Datapath;
-use fix_word::{Mode, Op};
 use lists::Bytes;
-use operations::is_formatted;
 use plan_core::{Plan, Transfer};
 use signal_graph::{Edge, Node};
 use std::alloc::AllocError;
-
-fn operation_name(op: Op) -> &'static str
-    ensures { result.now ≡ operation_name_of op }
-{
-    match op {
-        Op::Input => "input",
-        Op::Output => "output",
-        Op::Const => "const",
-        Op::Add => "add",
-        Op::Sub => "sub",
-        Op::Neg => "neg",
-        Op::Pass => "pass",
-        Op::Lt => "lt",
-        Op::Le => "le",
-        Op::Eq => "eq",
-        Op::Ne => "ne",
-        Op::And => "and",
-        Op::Or => "or",
-        Op::Not => "not",
-        Op::Mul => "mul",
-        Op::Sel => "sel",
-        Op::Load => "load",
-        Op::Store => "store",
-        Op::Addr => "addr",
-    }
-}
-
-fn mode_name(mode: Mode) -> &'static str
-    ensures { result.now ≡ mode_name_of mode }
-{
-    match mode {
-        Mode::Trunc => "trunc",
-        Mode::Round => "round",
-    }
-}
-
-/// Whether the operation has an argument.
-fn has_argument(op: Op) -> bool
-    ensures { result ≡ has_argument_of op }
-{
-    match op {
-        Op::Input | Op::Output | Op::Const | Op::Addr => true,
-        Op::Add | Op::Sub | Op::Neg | Op::Pass | Op::Mul | Op::Sel => false,
-        Op::Lt | Op::Le | Op::Eq | Op::Ne | Op::And | Op::Or | Op::Not => false,
-        Op::Load | Op::Store => false,
-    }
-}
-
-/// Adds the argument, where the operation has one.
-fn put_argument(out: &mut Bytes, node: &Node) -> Result<(), AllocError>
-    ensures { OnOk result (out.new ≡ out.old ++ argument node.now) }
-{
-    if has_argument(node.op) {
-        put_signed(out, b" ", node.arg)
-    } else {
-        Ok(())
-    }
-}
 
 /// Adds an operand.
 fn put_operand(out: &mut Bytes, edge: Edge) -> Result<(), AllocError>
@@ -98,27 +37,15 @@ fn put_operands(out: &mut Bytes, edges: &[Edge]) -> Result<(), AllocError>
     Ok(())
 }
 
-/// Adds how the result is quantised, where the operation does that.
-fn put_format(out: &mut Bytes, node: &Node) -> Result<(), AllocError>
-    ensures { OnOk result (out.new ≡ out.old ++ format_part node.now) }
-{
-    if !is_formatted(node.op) {
-        return Ok(());
-    }
-    put_signed(out, b" fmt ", i64::from(node.fmt.shift))?;
-    put_text(out, b" ", mode_name(node.fmt.mode).as_bytes())?;
-    put_number(out, b" ", u64::from(node.fmt.width))
-}
-
 /// Adds what a node does.
 #[tactic(auto, unfolding(crate::specs::ScheduleText::operation_part))]
 fn put_operation(out: &mut Bytes, node: &Node) -> Result<(), AllocError>
     ensures { OnOk result (out.new ≡ out.old ++ operation_part node.now) }
 {
     put_text(out, b" op ", operation_name(node.op).as_bytes())?;
-    put_argument(out, node)?;
+    put_argument(out, node.op, node.arg)?;
     put_operands(out, node.edges.as_slice())?;
-    put_format(out, node)
+    put_format(out, node.op, node.fmt)
 }
 
 /// Adds when and where node v is done.

@@ -2,7 +2,7 @@ use Rattle.std.proofs.Common.{◌∙◌, sym, ap, arith, ◌++◌, List, ℕ}
 use Rattle.std.specs.List.{flat_map, range_with_len}
 use Rattle.microcode_asm.specs.ScheduleText.{node_line}
 use Rattle.microcode_asm.proofs.RegisterLists.{after, flat_range_more}
-use Rattle.microcode_asm.proofs.listing.put_nodes.Goals as goal
+use Rattle.microcode_asm.proofs.plan_text.put_nodes.Goals as goal
 
 pub loop-v-preserved : goal.loop-v-preserved
 loop-v-preserved c =
