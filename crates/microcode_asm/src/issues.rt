@@ -8,7 +8,7 @@ ghost use Rattle.microcode_asm.specs.Private.Words.{IsPortRegister, ArePortRegis
 
 use crate::fault::AsmFault;
 use crate::lifetimes::ArcIndex;
-use crate::tables::{empty_lists, push_at};
+use crate::tables::{add_room, empty_lists, no_room, push_at};
 use datapath::{Datapath, PortRef};
 use lists::List;
 use micro_image::Issue;
@@ -38,6 +38,17 @@ pub(crate) struct Issuer<'a> {
     /// The nodes by unit.
     pub order: &'a List<usize>,
     pub index: &'a ArcIndex,
+}
+
+/// How many issues each cycle has.
+fn issue_rooms(alloc: Global, plan: &Plan, period: usize) -> Result<List<usize>, AsmFault>
+    ensures { IfOk result (λ rooms. length rooms ≡ period) }
+{
+    let mut rooms = no_room(alloc, period)?;
+    for slot in plan.schedule.slots.iter() {
+        add_room(&mut rooms, usize::from(slot.cycle));
+    }
+    Ok(rooms)
 }
 
 impl Issuer<'_> {
@@ -117,7 +128,8 @@ impl Issuer<'_> {
         ensures { IfOk result (AreByCycle self.now.datapath.now
             (HasIssues self.now.datapath.now self.now.plan.now n)) }
     {
-        let mut issues = empty_lists(alloc, usize::from(self.datapath.period))?;
+        let rooms = issue_rooms(alloc, self.plan, usize::from(self.datapath.period))?;
+        let mut issues = empty_lists(alloc, &rooms)?;
         for v in self.order.iter() {
             let issue = self.issue(alloc, *v, n)?;
             push_at(

@@ -8,7 +8,7 @@ ghost use Rattle.microcode_asm.specs.Private.Words.{AreByCycle, HasTakes, IsTake
 
 use crate::fault::AsmFault;
 use crate::lifetimes::is_same_port;
-use crate::tables::{empty_lists, push_at};
+use crate::tables::{add_room, empty_lists, no_room, push_at};
 use datapath::{Datapath, PortRef};
 use lists::List;
 use micro_image::Take;
@@ -43,6 +43,17 @@ fn take(plan: &Plan, datapath: &Datapath, k: usize, n: usize) -> Take
     }
 }
 
+/// How many register files are written in each cycle, over no more buses.
+pub(crate) fn take_rooms(alloc: Global, plan: &Plan, period: usize) -> Result<List<usize>, AsmFault>
+    ensures { IfOk result (λ rooms. length rooms ≡ period) }
+{
+    let mut rooms = no_room(alloc, period)?;
+    for arc in plan.arcs.iter() {
+        add_room(&mut rooms, usize::from(arc.w));
+    }
+    Ok(rooms)
+}
+
 /// The register-file writes of sample n, by cycle.
 pub(crate) fn takes(
     alloc: Global,
@@ -53,7 +64,8 @@ pub(crate) fn takes(
     requires ready { IsReady datapath.now plan.now }
     ensures { IfOk result (AreByCycle datapath.now (HasTakes plan.now n)) }
 {
-    let mut takes = empty_lists(alloc, usize::from(datapath.period))?;
+    let rooms = take_rooms(alloc, plan, usize::from(datapath.period))?;
+    let mut takes = empty_lists(alloc, &rooms)?;
     for (k, arc) in plan.arcs.iter().enumerate() {
         push_at(&mut takes, usize::from(arc.w), take(plan, datapath, k, n))?;
     }
