@@ -1,5 +1,5 @@
 -- The issue of a node.
-use Rattle.std.proofs.Common.{◌≡◌, ℕ, ◌+◌, ◌-◌, ◌*◌, ◌/◌, ◌%◌, ◌<◌, ◌≤◌, ⊎_elim, refl, sym, ap, ap₂, ◌∙◌, subst, arith, List, [], ◌∷◌, ◌++◌, length, slice_index_or}
+use Rattle.std.proofs.Common.{◌≡◌, ℕ, ◌+◌, ◌-◌, ◌*◌, ◌/◌, ◌%◌, ◌<◌, ◌≤◌, ⊎_elim, sym, ap, ap₂, ◌∙◌, subst, arith, List, [], ◌∷◌, ◌++◌, length, slice_index_or}
 use Rattle.std.proofs.Math.Nat.{mod-lt, mod-add-mod, add-mul-mod_self_right}
 use Rattle.std.proofs.lemmas.Bool.{cases_lt}
 use Rattle.std.proofs.lemmas.List.{get_or_default, get_or_append_left, get_or-append_right, length-append}
@@ -16,7 +16,6 @@ use Rattle.plan_core.specs.Arcs.{no_arc}
 use Rattle.plan_core.specs.Hardware.{unit_of, no_unit, port_of}
 use Rattle.plan_core.specs.declared.registers.Arc.{Arc}
 use Rattle.plan_core.specs.declared.plan.Plan.{Plan}
-use Rattle.micro_image.specs.declared.image.Issue.{Issue}
 use Rattle.plan_run.specs.Parts.{nodes_of, node_at, edge_at, unit_at, arc_at, register_at, ReadsThrough, IsCopy}
 use Rattle.plan_run.specs.ImageOf.{IsIssueOf}
 use Rattle.plan_run.specs.Private.Feasible.{IsFeasible}

@@ -1,10 +1,10 @@
 -- Facts of a plan that is assembled.
-use Rattle.std.proofs.Common.{◌≡◌, ℕ, ◌+◌, ◌-◌, ◌*◌, ◌%◌, ◌<◌, ◌≤◌, ◌∙◌, sym, ap, subst, arith, List, [], length, slice_index_or, Contains}
+use Rattle.std.proofs.Common.{◌≡◌, ℕ, ◌+◌, ◌<◌, ◌≤◌, ◌∙◌, sym, ap, arith, List, length, slice_index_or, Contains}
 use Rattle.std.proofs.lemmas.List.{get_or_default}
 use Rattle.datapath.specs.declared.types.Datapath.{Datapath}
 use Rattle.plan_core.specs.Hardware.{latency_on, gap_on}
 use Rattle.plan_core.specs.declared.plan.Plan.{Plan}
-use Rattle.plan_run.specs.Parts.{nodes_of, edge_at, unit_at, cycle_at, arc_at, ReadsThrough, ends_at}
+use Rattle.plan_run.specs.Parts.{nodes_of, unit_at, cycle_at, arc_at, ReadsThrough, ends_at}
 use Rattle.plan_run.specs.Private.Feasible.{IsFeasible}
 use Rattle.microcode_asm.specs.Private.Ready.{IsReady}
 

@@ -1,13 +1,12 @@
 -- How issues, drives and takes are dealt into the lists of their cycles.
-use Rattle.std.proofs.Common.{◌≡◌, ℕ, ◌+◌, ◌-◌, ◌%◌, ◌<◌, ◌≤◌, ◌⊎◌, inl, inr, ⊎_elim, refl, sym, ap, ◌∙◌, subst, arith, List, [], ◌∷◌, ◌++◌, length, slice_index_or, slice_set, map, replicate, Contains}
-use Rattle.std.specs.List.{AllPairs}
+use Rattle.std.proofs.Common.{◌≡◌, ℕ, ◌+◌, ◌-◌, ◌%◌, ◌<◌, ◌≤◌, inl, inr, ⊎_elim, refl, sym, ap, ◌∙◌, subst, arith, List, [], ◌∷◌, ◌++◌, length, slice_index_or, slice_set, map, replicate, Contains}
 use Rattle.std.proofs.Math.Nat.{mod-lt}
 use Rattle.std.proofs.lemmas.List.{get_or_default, get_or-map, length-map}
 use Rattle.std.proofs.lemmas.List.Elements.{Contains-append_left, Contains-append_right}
 use Rattle.operations.specs.declared.units.PortRef.{PortRef}
 use Rattle.datapath.specs.declared.types.Datapath.{Datapath}
 use Rattle.datapath.specs.declared.types.Unit as of_unit
-use Rattle.plan_core.specs.Arcs.{IsArcBefore, IsWrittenBefore, no_arc}
+use Rattle.plan_core.specs.Arcs.{IsWrittenBefore, no_arc}
 use Rattle.plan_core.specs.Hardware.{latency_on, no_unit}
 use Rattle.plan_core.specs.ListSchedule.{IsPortBefore, slot_of, no_slot}
 use Rattle.plan_core.specs.declared.registers.Arc.{Arc}
@@ -23,11 +22,10 @@ use Rattle.plan_run.specs.Parts.{nodes_of, unit_at, cycle_at, transfers_at, arc_
 use Rattle.plan_run.specs.ImageOf.{IsIssueOf, enable_of, take_of}
 use Rattle.plan_run.specs.Private.Feasible.{IsFeasible}
 use Rattle.microcode_asm.specs.Private.Ready.{IsReady}
-use Rattle.microcode_asm.specs.Private.Buses.{IsBusOf, IsBusTo, Drives, drive_of}
-use Rattle.microcode_asm.specs.Private.Dealt.{AreDealt}
+use Rattle.microcode_asm.specs.Private.Buses.{IsBusTo, Drives, drive_of}
 use Rattle.microcode_asm.specs.Private.Order.{IsUnitOrder}
 use Rattle.microcode_asm.specs.Private.Words.{AreByCycle, HasIssues, HasEnables, HasTakes, IsTakeFor, IssuesDealt, EnablesDealt, TakesDealt, node_in}
-use Rattle.microcode_asm.proofs.Dealt.{IsPiece, AreThings, none_dealt, dealt_more}
+use Rattle.microcode_asm.proofs.Dealt.{AreThings, none_dealt, dealt_more}
 use Rattle.microcode_asm.proofs.BusSteps.{drives_rise}
 use Rattle.microcode_asm.proofs.IssueSteps.{read_at, arc_is, unit_is, register_is, register_room}
 use Rattle.microcode_asm.proofs.OrderSteps.{is_one, one_rises}

@@ -1,4 +1,4 @@
-use Rattle.std.proofs.Common.{◌≡◌, ◌∙◌, ℤ, rules, to_z, of_z, w64, ◌+◌, length, ◌<◌, ◌≤◌, refl, arith, sym, subst, slice_index_or}
+use Rattle.std.proofs.Common.{◌≡◌, ◌∙◌, ℤ, rules, to_z, of_z, w64, ◌+◌, refl, arith, sym, subst, slice_index_or}
 use Rattle.micro_image.specs.Log.{Cell}
 use Rattle.microcode_asm.specs.Private.Starts.{AreUnitsOf, AreCellsPut, Writes, no_init}
 use Rattle.microcode_asm.proofs.HeldSteps.{units_kept}

@@ -1,4 +1,3 @@
-use Rattle.std.proofs.Common.{ℕ}
 use Rattle.micro_image.specs.declared.image.Image.{Image}
 use Rattle.plan_run.specs.ImageOf.{IsImageOf}
 use Rattle.microcode_asm.specs.Private.Starts.{AreStarted, AreUnitsOf, ArePreloaded}

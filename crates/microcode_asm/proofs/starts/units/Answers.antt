@@ -1,5 +1,4 @@
-use Rattle.std.proofs.Common.{sym, subst, List}
-use Rattle.micro_image.specs.declared.image.UnitDesc.{UnitDesc}
+use Rattle.std.proofs.Common.{sym, subst}
 use Rattle.microcode_asm.specs.Private.Starts.{AreUnitsOf, AreStarted}
 use Rattle.microcode_asm.proofs.StartSteps.{blank_are, blank_started}
 use Rattle.microcode_asm.proofs.starts.units.Goals as goal

@@ -1,5 +1,3 @@
-use Rattle.std.proofs.Common.{◌≡◌, ℕ, ◌≤◌, [], length}
-use Rattle.micro_image.specs.Fields.{nth}
 use Rattle.microcode_asm.specs.Private.Words.{IsPutBehind, IsLeft}
 use Rattle.microcode_asm.proofs.words.put_words.Given as goal
 
