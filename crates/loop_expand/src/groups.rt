@@ -60,7 +60,7 @@ fn put_plain<'a>(items: &mut Vec<&'a TypedItem>, item: &'a TypedItem) -> Result<
 fn plain_items<'a>(alloc: Global, items: &'a [TypedItem]) -> Result<Vec<&'a TypedItem>, AllocError>
     ensures { IfOk result (λ plain. map view_ref plain.items ≡ is.plain_items (typed.view_items items.now)) }
 {
-    let mut plain = Vec::new(alloc);
+    let mut plain = Vec::with_capacity(alloc, items.len())?;
     for item in items {
         put_plain(&mut plain, item)?;
     }

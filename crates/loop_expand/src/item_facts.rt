@@ -16,6 +16,7 @@ use crate::groups::Group;
 use crate::scope::Scope;
 use crate::turns::env_at;
 use fix_types::{TypedExpr, TypedItem};
+use lists::List;
 use name_check::Env;
 use signal_graph::FlatElem;
 use silage_syntax::{Manifest, Place};
@@ -103,8 +104,9 @@ fn expand_group(scope: &Scope, elems: &mut [FlatElem], group: &Group) -> Result<
         elems.old elems.new) }
 {
     let mut last = scope.number as usize;
+    let mut env = List::new(scope.alloc);
     for k in 0..group.turns.count {
-        let env = env_at(scope.alloc, &group.turns, k)?;
+        env = env_at(env, &group.turns, k)?;
         expand_items(scope, &env, &mut last, elems, &group.items)?;
     }
     Ok(())

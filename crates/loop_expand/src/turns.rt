@@ -69,15 +69,16 @@ fn turn_at(first: i32, last: i32, k: u64) -> i32
     (i64::from(first) + k as i64) as i32
 }
 
-/// The indices of the loops around a turn.
-pub(crate) fn env_at(alloc: Global, turns: &Turns, k: usize) -> Result<Env, AllocError>
+/// The indices of the loops around a turn, in the memory of those around another one.
+pub(crate) fn env_at(other: Env, turns: &Turns, k: usize) -> Result<Env, AllocError>
     ensures { IfOk result (λ env. env ≡ indices_at turns.now k) }
 {
-    let mut env = List::with_capacity(alloc, turns.columns.len())?;
+    let mut env = other.into_vec();
+    env.clear();
     for column in turns.columns.iter() {
         env.push((column.index.clone()?, value_at(&column.values, k)))?;
     }
-    Ok(env)
+    Ok(List::from_vec(env))
 }
 
 /// Appends the turns of a loop with these bounds.
@@ -144,8 +145,9 @@ fn each_turns(
         (manifest_value (indices_at turns.now k) (view_manifest hi.now))) (range_with_len 0 turns.now.count)) }
 {
     let mut inner = Vec::new(alloc);
+    let mut env = List::new(alloc);
     for k in 0..turns.count {
-        let env = env_at(alloc, turns, k)?;
+        env = env_at(env, turns, k)?;
         put_some(&mut inner, k, bound(&env, lo), bound(&env, hi))?;
     }
     Ok(inner)
