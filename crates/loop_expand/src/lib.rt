@@ -2,6 +2,7 @@
 #![tactic(auto)]
 
 mod amounts;
+mod arithmetic;
 mod calls;
 mod elements;
 mod expressions;
