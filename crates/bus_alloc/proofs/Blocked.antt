@@ -100,6 +100,14 @@ module _ (rows : Rows) (index : ℕ) where
     λ is_open. ap (λ (w : ℕ). bit_at w i) is ∙ is_open.unit,
   )
 
+  pub unit_shut : (u : ℕ) (dests : List PortRef) (busy i : ℕ) → busy ≡ slice_index (unit_row rows u).busy.words index
+      → busy ≡ 2 ^ 64 - 1 → i < 64 → (bit_at busy i ≡ 0) ↔ IsOpenIn rows u dests index i
+  unit_shut u dests busy i is full small =
+      let one : bit_at busy i ≡ 1 = ap (λ (w : ℕ). bit_at w i) full ∙ bit_at_ones 64 i small in (
+        λ zero_bit. absurd (omega (arith, zero_bit, one)),
+        λ is_open. absurd (omega (arith, ap (λ (w : ℕ). bit_at w i) is ∙ is_open.unit, one)),
+      )
+
   pub one_more_open : (u : ℕ) (dests : List PortRef) (k : ℕ) (d : PortRef) (blocked at i : ℕ) → k < length dests
       → (bit_at blocked i ≡ 0) ↔ IsOpenIn rows u (take k dests) index i
       → (bit_at at i ≡ 0) ↔ IsPortOpen rows u (get_or dests k d) index i

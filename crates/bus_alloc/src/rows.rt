@@ -136,6 +136,9 @@ impl Rows {
         ensures { (i : ℕ) → i < 64 → (bit_at result i ≡ 0) ↔ IsOpenIn self.now unit dests.now index i }
     {
         let mut blocked = self.units[unit as usize].busy.word(index);
+        if blocked == u64::MAX {
+            return blocked;
+        }
         for port in dests {
             blocked |= self.blocked_at(unit, *port, index);
         }

@@ -5,9 +5,16 @@ use Rattle.std.proofs.lemmas.List.{take_all}
 use Rattle.operations.specs.declared.units.PortRef.{PortRef}
 use Rattle.bus_alloc.specs.Private.Rows.{IsOpenIn}
 use Rattle.bus_alloc.specs.declared.rows.UnitRow.{UnitRow}
-use Rattle.bus_alloc.proofs.Blocked.{none_open, one_more_open}
+use Rattle.bus_alloc.proofs.Blocked.{none_open, unit_shut, one_more_open}
 use Rattle.bus_alloc.proofs.RowReads.{unit_read}
 use Rattle.bus_alloc.proofs.rows.Rows.blocked.Goals as goal
+
+pub returns-then-blocked : goal.returns-then-blocked
+returns-then-blocked c i small =
+    unit_shut c.args.self.now c.args.index c.args.unit c.args.dests.now c.word-blocked.result i
+    (c.word-blocked.ensures ∙ ap (λ (row : UnitRow). slice_index row.busy.words c.args.index)
+    (unit_read c.args.self.now c.requires.rows c.args.unit c.index.result.now c.requires.unit c.index.ensures))
+    c.if-blocked.true small
 
 pub loop-port-init : goal.loop-port-init
 loop-port-init c i small =
