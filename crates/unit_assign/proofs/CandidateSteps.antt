@@ -1,21 +1,22 @@
 -- Whether a node can be on a unit, and the best of these units.
-use Rattle.std.proofs.Common.{◌≡◌, ◌∙◌, sym, ap, subst, refl, arith, inl, inr, ⊎_elim, ℕ, ◌+◌, ◌<◌, ◌≤◌, ◌==◌, List, length, count_by, slice_index_or, Bool, true, false, not, IsTrue, Option, Some, None, is_some, MatchOption, if◌then◌else◌, nat_le, leb-true, leb-false}
+use Rattle.std.proofs.Common.{◌≡◌, ◌↔◌, ◌∙◌, sym, ap, subst, refl, arith, inl, inr, ⊎_elim, ℕ, ◌+◌, ◌<◌, ◌≤◌, ◌==◌, List, length, count_by, slice_index_or, Bool, true, false, Option, Some, None, if◌then◌else◌, nat_le, leb-true, leb-false}
 use Rattle.std.proofs.lemmas.Bool.{cases_lt}
 use Rattle.std.proofs.lemmas.List.{take_all, get_or_read}
 use Rattle.datapath.specs.declared.types.Datapath.{Datapath}
 use Rattle.signal_graph.specs.declared.graph.Node.{Node}
 use Rattle.plan_core.specs.Hardware.{port_of, HasRoute}
-use Rattle.plan_core.specs.Operands.{node_of, Reads}
+use Rattle.plan_core.specs.Operands.{node_of, edge_of, Reads}
 use Rattle.plan_core.specs.Assigned.{unit_in, IsRightUnit, IsCandidate, load_of}
-use Rattle.plan_core.specs.Refusals.{IsNextNode, LacksOperand, LacksConsumer, IsOperandWithout}
+use Rattle.plan_core.specs.Refusals.{IsNextNode, LacksOperand, LacksConsumer}
 use Rattle.plan_core.specs.declared.delay_lines.Lowered.{Lowered}
 use Rattle.unit_assign.specs.Private.UnitSets.{Has, no_units, set_at}
-use Rattle.unit_assign.specs.Private.Drivers.{IsProblem}
-use Rattle.unit_assign.specs.Private.Bindings.{load_in, AreAllowed, IsBestOf, IsBest, lighter_of}
+use Rattle.unit_assign.specs.Private.Wiring.{IsProblem}
+use Rattle.unit_assign.specs.Private.Bindings.{load_in, IsAllowed, AreAllowed, HasRouteFrom, IsLeft, IsBestOf, IsBest, lighter_of}
 use Rattle.unit_assign.specs.declared.unit_set.UnitSet.{UnitSet}
-use Rattle.unit_assign.proofs.MissingSteps.{route_or_not, port_few, unit_there}
+use Rattle.unit_assign.specs.declared.wiring.Wiring.{Wiring}
+use Rattle.unit_assign.proofs.MissingSteps.{route_or_not, port_few, unit_there, node_is}
 
-module _ (d : Datapath) (l : Lowered) (sets : List UnitSet) (problem : IsProblem d l sets) (units : List ℕ) (v u : ℕ)
+module _ (d : Datapath) (l : Lowered) (wiring : Wiring) (problem : IsProblem d l wiring) (units : List ℕ) (v u : ℕ)
     (next : IsNextNode d l units v) where
   NoOperandLacks : Type 0
   NoOperandLacks = (q : ℕ) → LacksOperand d l units v u q → ⊥
@@ -29,13 +30,13 @@ module _ (d : Datapath) (l : Lowered) (sets : List UnitSet) (problem : IsProblem
         ⊎_elim (λ (h : HasRoute d (unit_in units x) (port_of u q)). h)
         (λ (no : HasRoute d (unit_in units x) (port_of u q) → ⊥).
         absurd (none q (record { operand = x; reads = r; lacks = inl (less, no) })))
-        (route_or_not d l sets problem u q (unit_in units x) right.kind.there
+        (route_or_not d l wiring problem u q (unit_in units x) right.kind.there
         (port_few l problem.wired v q next.there r.port));
     itself = λ q r.
         ⊎_elim (λ (h : HasRoute d u (port_of u q)). h)
         (λ (no : HasRoute d u (port_of u q) → ⊥).
         absurd (none q (record { operand = v; reads = r; lacks = inr (refl, no) })))
-        (route_or_not d l sets problem u q u right.kind.there (port_few l problem.wired v q next.there r.port));
+        (route_or_not d l wiring problem u q u right.kind.there (port_few l problem.wired v q next.there r.port));
     consumers = routes;
   }
 
@@ -49,47 +50,106 @@ module _ (d : Datapath) (l : Lowered) (sets : List UnitSet) (problem : IsProblem
       ⊎_elim (λ (h : HasRoute d u (port_of (unit_in units c) q)). h)
       (λ (no : HasRoute d u (port_of (unit_in units c) q) → ⊥).
       absurd (no_consumer c q (record { before = less; reads = r; lacks = no })))
-      (route_or_not d l sets problem (unit_in units c) q u (unit_there d l.nodes units next.before c at)
+      (route_or_not d l wiring problem (unit_in units c) q u (unit_there d l.nodes units next.before c at)
       (port_few l problem.wired c q there r.port)))
 
-  candidate_lacks : IsCandidate d l.nodes units v u → (q : ℕ) → LacksOperand d l units v u q → ⊥
-  candidate_lacks can q h =
-      ⊎_elim
-      (λ (x : (h.operand < v) × (HasRoute d (unit_in units h.operand) (port_of u q) → ⊥)).
-      x.1 (can.operands q h.operand x.0 h.reads))
-      (λ (x : (h.operand ≡ v) × (HasRoute d u (port_of u q) → ⊥)).
-      x.1 (can.itself q (subst (λ (y : ℕ). Reads l.nodes v q y) x.0 h.reads)))
-      h.lacks
+-- the units on which node v has a route from a node, by the number of the node
+module _ (d : Datapath) (nodes : List Node) (units : List ℕ) (v u q operand : ℕ) (set : UnitSet) where
+  pub from_itself : operand ≡ v → Has set u ↔ HasRoute d u (port_of u q)
+      → Has set u ↔ HasRouteFrom d nodes units v u q operand
+  from_itself same is = (
+    λ h. (λ less. absurd (omega arith), λ _. is.0 h),
+    λ h. is.1 (h.1 same),
+  )
 
-  module _ (allowed : List UnitSet) (are : AreAllowed d l.nodes units (length units) allowed) (item : UnitSet)
-      (item_is : item ≡ set_at allowed v) (there : u < length d.units) where
-    pub candidate_allowed : IsCandidate d l.nodes units v u → Has item u
-    candidate_allowed can =
-        subst (λ (s : UnitSet). Has s u) (sym item_is)
-        ((are.allowed v u next.there there).1
-        (λ c q less r. can.consumers c q (let e = next.count in omega arith) r))
+  pub from_bound : operand < v → Has set u ↔ HasRoute d (unit_in units operand) (port_of u q)
+      → Has set u ↔ HasRouteFrom d nodes units v u q operand
+  from_bound less is = (
+    λ h. (λ _. is.0 h, λ same. absurd (omega arith)),
+    λ h. is.1 (h.0 less),
+  )
 
-    pub candidate_test : (us : List ℕ) → us ≡ units → (o : Option ℕ) (none : Bool) → is_some o ≡ not none
-        → MatchOption o ((q : ℕ) → LacksOperand d l us v u q → ⊥) (λ q. IsOperandWithout d l us v u (port_of u q))
-        → IsRightUnit d (node_of l.nodes v) u → Has item u
-        → (IsTrue none → IsCandidate d l.nodes units v u) × (IsCandidate d l.nodes units v u → IsTrue none)
-    candidate_test us same None true test found right has = (
-      λ _. by_routes right (subst (λ (ws : List ℕ). (q : ℕ) → LacksOperand d l ws v u q → ⊥) same found)
-          (λ c q less r.
-          (are.allowed v u next.there there).0 (subst (λ (s : UnitSet). Has s u) item_is has) c q
-          (let e = next.count in omega arith) r),
-      λ _. refl,
-    )
-    candidate_test us same None false test found right has = absurd (cc)
-    candidate_test us same (Some p) true test found right has = absurd (cc)
-    candidate_test us same (Some p) false test found right has = (
-      λ yes. absurd (cc),
-      λ can. absurd (candidate_lacks can found.q
-          (subst (λ (ws : List ℕ). LacksOperand d l ws v u found.q) same found.lacks)),
-    )
+  pub from_later : v < operand → Has set u → Has set u ↔ HasRouteFrom d nodes units v u q operand
+  from_later more has = (
+    λ h. (λ less. absurd (omega arith), λ same. absurd (omega arith)),
+    λ h. has,
+  )
 
-pub never : {P : Type 0} (b : Bool) → b ≡ false → (P → ⊥) → (IsTrue b → P) × (P → IsTrue b)
-never b is not_so = (λ yes. absurd (cc), λ p. absurd (not_so p))
+-- the units that are left after some ports of node v
+module _ (d : Datapath) (nodes : List Node) (units : List ℕ) (v : ℕ) where
+  pub left_first : (right allowed all : UnitSet) → ((u : ℕ) → Has right u ↔ IsRightUnit d (node_of nodes v) u)
+      → ((u : ℕ) → u < length d.units → Has allowed u ↔ IsAllowed d nodes units v v u)
+      → ((u : ℕ) → Has all u ↔ (Has right u × Has allowed u))
+      → (u : ℕ) → Has all u ↔ IsLeft d nodes units v 0 u
+  left_first right allowed all right_is allowed_is both u = (
+    λ h.
+        let two = (both u).0 h in
+        let its = (right_is u).0 two.0 in
+        record {
+          right = its;
+          consumers = (allowed_is u its.kind.there).0 two.1;
+          operands = λ q x less r. absurd (omega arith);
+        },
+    λ h. (both u).1 ((right_is u).1 h.right, (allowed_is u h.right.kind.there).1 h.consumers),
+  )
+
+  pub left_more : (k operand : ℕ) (left takers all : UnitSet) → k < length (node_of nodes v).edges
+      → operand ≡ (edge_of (node_of nodes v) k).node
+      → ((u : ℕ) → Has left u ↔ IsLeft d nodes units v k u)
+      → ((u : ℕ) → u < length d.units → Has takers u ↔ HasRouteFrom d nodes units v u k operand)
+      → ((u : ℕ) → Has all u ↔ (Has left u × Has takers u))
+      → (u : ℕ) → Has all u ↔ IsLeft d nodes units v (k + 1) u
+  left_more k operand left takers all port reads left_is takers_are both u = (
+    λ h.
+        let two = (both u).0 h in
+        let was = (left_is u).0 two.0 in
+        record {
+          right = was.right;
+          consumers = was.consumers;
+          operands = λ q x less r.
+              ⊎_elim (λ (b : q < k). was.operands q x b r)
+              (λ (b : k ≤ q).
+              let at : k ≡ q = omega arith in
+              let its : operand ≡ x =
+              reads ∙ ap (λ (i : ℕ). (edge_of (node_of nodes v) i).node) at ∙ r.node in
+              subst (λ (i : ℕ). HasRouteFrom d nodes units v u i x) at
+              (subst (λ (y : ℕ). HasRouteFrom d nodes units v u k y) its
+              ((takers_are u was.right.kind.there).0 two.1)))
+              (cases_lt q k);
+        },
+    λ h.
+        (both u).1 (
+          (left_is u).1 (record {
+            right = h.right;
+            consumers = h.consumers;
+            operands = λ q x less r. h.operands q x (omega arith) r;
+          }),
+          (takers_are u h.right.kind.there).1
+              (h.operands k operand (omega arith) (record { port = port; node = sym reads })),
+        ),
+  )
+
+  pub left_all : (k : ℕ) (left : UnitSet) → length (node_of nodes v).edges ≤ k
+      → ((u : ℕ) → Has left u ↔ IsLeft d nodes units v k u) → (u : ℕ) → Has left u ↔ IsCandidate d nodes units v u
+  left_all k left all left_is u = (
+    λ h.
+        let its = (left_is u).0 h in
+        record {
+          right = its.right;
+          operands = λ q x less r. (its.operands q x (let p = r.port in omega arith) r).0 less;
+          itself = λ q r. (its.operands q v (let p = r.port in omega arith) r).1 refl;
+          consumers = its.consumers;
+        },
+    λ h.
+        (left_is u).1 (record {
+          right = h.right;
+          consumers = h.consumers;
+          operands = λ q x less r. (
+            λ before. h.operands q x before r,
+            λ same. h.itself q (subst (λ (y : ℕ). Reads nodes v q y) same r),
+          );
+        }),
+  )
 
 module _ (d : Datapath) (nodes : List Node) (units : List ℕ) (v : ℕ) where
   pub best_more_no : (n : ℕ) (best : Option ℕ) → IsBest d nodes units v n best → (IsCandidate d nodes units v n → ⊥)
@@ -175,3 +235,18 @@ pub set_read : (d : Datapath) (nodes : List Node) (units : List ℕ) (allowed : 
     → item ≡ slice_index_or allowed v item → item ≡ set_at allowed v
 set_read d nodes units allowed are v item there is =
     get_or_read allowed v item (let e = are.count in omega arith) is no_units
+
+-- before the first port, as the code reads the node and its set
+pub left_begin : (d : Datapath) (nodes : List Node) (units : List ℕ) (v : ℕ) (node : Node) (right item all : UnitSet)
+    (allowed : List UnitSet) → v < length nodes → length units ≡ v → node ≡ slice_index_or nodes v node
+    → item ≡ slice_index_or allowed v item → AreAllowed d nodes units (length units) allowed
+    → ((u : ℕ) → Has right u ↔ IsRightUnit d node u) → ((u : ℕ) → Has all u ↔ (Has right u × Has item u))
+    → (u : ℕ) → Has all u ↔ IsLeft d nodes units v 0 u
+left_begin d nodes units v node right item all allowed there count is item_is are right_is both =
+    left_first d nodes units v right item all
+    (λ u. subst (λ (n : Node). Has right u ↔ IsRightUnit d n u) (node_is nodes v node there is) (right_is u))
+    (λ u inside.
+    subst (λ (s : UnitSet). Has s u ↔ IsAllowed d nodes units v v u)
+    (sym (set_read d nodes units allowed are v item there item_is))
+    (subst (λ (n : ℕ). Has (set_at allowed v) u ↔ IsAllowed d nodes units n v u) count (are.allowed v u there inside)))
+    both

@@ -1,5 +1,6 @@
 pub mod SetSteps
 pub mod RouteSteps
+pub mod WiringSteps
 pub mod MissingSteps
 pub mod CandidateSteps
 pub mod Prefixes

@@ -16,30 +16,32 @@ use Rattle.plan_core.specs.Refusals.{LacksOperand}
 use Rattle.plan_core.specs.declared.delay_lines.Lowered.{Lowered}
 use Rattle.unit_assign.specs.Wired.{IsWired}
 use Rattle.unit_assign.specs.Private.UnitSets.{Has, no_units, set_at}
-use Rattle.unit_assign.specs.Private.Drivers.{most_ports, place, IsProblem}
+use Rattle.unit_assign.specs.Private.Drivers.{most_ports, place}
+use Rattle.unit_assign.specs.Private.Wiring.{IsProblem}
 use Rattle.unit_assign.specs.Private.Missing.{LacksFrom}
 use Rattle.unit_assign.specs.declared.unit_set.UnitSet.{UnitSet}
+use Rattle.unit_assign.specs.declared.wiring.Wiring.{Wiring}
 use Rattle.unit_assign.proofs.SetSteps.{has_or_not}
 
-pub routes_at : (d : Datapath) (l : Lowered) (sets : List UnitSet) → IsProblem d l sets → (unit port at : ℕ)
+pub routes_at : (d : Datapath) (l : Lowered) (wiring : Wiring) → IsProblem d l wiring → (unit port at : ℕ)
     (item : UnitSet) → unit < length d.units → port < most_ports → at ≡ place unit port
-    → item ≡ slice_index_or sets at item → (u : ℕ) → Has item u ↔ HasRoute d u (port_of unit port)
-routes_at d l sets problem unit port at item there few at_is item_is u =
-    let count = problem.routes.count in
-    let read : item ≡ set_at sets (place unit port) =
-    get_or_read sets at item (omega arith) item_is no_units ∙ ap (λ (k : ℕ). set_at sets k) at_is in
+    → item ≡ slice_index_or wiring.drivers at item → (u : ℕ) → Has item u ↔ HasRoute d u (port_of unit port)
+routes_at d l wiring problem unit port at item there few at_is item_is u =
+    let count = problem.wiring_is.routes.count in
+    let read : item ≡ set_at wiring.drivers (place unit port) =
+    get_or_read wiring.drivers at item (omega arith) item_is no_units ∙ ap (λ (k : ℕ). set_at wiring.drivers k) at_is in
     subst (λ (s : UnitSet). Has s u ↔ HasRoute d u (port_of unit port)) (sym read)
-    (problem.routes.drivers unit port u there few)
+    (problem.wiring_is.routes.drivers unit port u there few)
 
 -- there is a route or there is none
-pub route_or_not : (d : Datapath) (l : Lowered) (sets : List UnitSet) → IsProblem d l sets → (unit port u : ℕ)
+pub route_or_not : (d : Datapath) (l : Lowered) (wiring : Wiring) → IsProblem d l wiring → (unit port u : ℕ)
     → unit < length d.units → port < most_ports
     → HasRoute d u (port_of unit port) ⊎ (HasRoute d u (port_of unit port) → ⊥)
-route_or_not d l sets problem unit port u there few =
-    let is = problem.routes.drivers unit port u there few in
-    ⊎_elim (λ (h : Has (set_at sets (place unit port)) u). inl (is.0 h))
-    (λ (no : Has (set_at sets (place unit port)) u → ⊥). inr (λ r. no (is.1 r)))
-    (has_or_not (set_at sets (place unit port)) u)
+route_or_not d l wiring problem unit port u there few =
+    let is = problem.wiring_is.routes.drivers unit port u there few in
+    ⊎_elim (λ (h : Has (set_at wiring.drivers (place unit port)) u). inl (is.0 h))
+    (λ (no : Has (set_at wiring.drivers (place unit port)) u → ⊥). inr (λ r. no (is.1 r)))
+    (has_or_not (set_at wiring.drivers (place unit port)) u)
 
 operands_few : (o : Op) → operands o ≤ 3
 operands_few op.Input = omega arith

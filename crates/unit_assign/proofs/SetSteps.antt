@@ -1,5 +1,5 @@
 -- Which units are in a set that is made of others.
-use Rattle.std.proofs.Common.{◌≡◌, ◌≢◌, ◌↔◌, ◌⊎◌, ◌∙◌, sym, arith, inl, inr, ⊎_elim, ℕ, ◌*◌, ◌%◌, ◌^◌, ◌<◌, max, bit_and, bit_or, w32}
+use Rattle.std.proofs.Common.{◌≡◌, ◌≢◌, ◌↔◌, ◌⊎◌, ◌∙◌, sym, subst, arith, inl, inr, ⊎_elim, ℕ, ◌+◌, ◌*◌, ◌%◌, ◌^◌, ◌<◌, max, bit_and, bit_or, w32}
 use Rattle.std.proofs.lemmas.Bool.{cases_eq}
 use Rattle.std.proofs.lemmas.Nat.Bits.{bit_at_or, bit_at_and, bit_at-lt, bit_at_set_same, bit_at_set_other, bit_at-zero, bit_at_ones}
 use Rattle.std.specs.Int.{bit_at}
@@ -53,3 +53,28 @@ has_all u less = record { bit = bit_at_ones 32 u less }
 pub has_or_not : (set : UnitSet) (u : ℕ) → Has set u ⊎ (Has set u → ⊥)
 has_or_not set u =
     ⊎_elim (λ e. inl (record { bit = e })) (λ no. inr (λ (h : Has set u). no h.bit)) (cases_eq (bit_at set.bits u) 1)
+
+-- the sets of those of the first numbers that pass
+module _ (Passes : ℕ → Type 0) where
+  pub passing_none : (u : ℕ) → Has no_units u ↔ ((u < 0) × Passes u)
+  passing_none u = (λ h. absurd (has_none u h), λ h. absurd (omega (arith, h.0)))
+
+  pub passing_more : (n : ℕ) (old new : UnitSet) → ((u : ℕ) → Has old u ↔ ((u < n) × Passes u))
+      → ((u : ℕ) → Has new u ↔ (Has old u ⊎ (u ≡ n))) → Passes n → (u : ℕ) → Has new u ↔ ((u < n + 1) × Passes u)
+  passing_more n old new before step passes u = (
+    λ h.
+        ⊎_elim (λ (x : Has old u). let two = (before u).0 x in (omega (arith, two.0), two.1))
+        (λ (e : u ≡ n). (omega arith, subst (λ (w : ℕ). Passes w) (sym e) passes)) ((step u).0 h),
+    λ h.
+        (step u).1 (⊎_elim (λ (e : u ≡ n). inr e) (λ (other : u ≢ n). inl ((before u).1 (omega (arith, h.0), h.1)))
+        (cases_eq u n)),
+  )
+
+  pub passing_past : (n : ℕ) (old : UnitSet) → ((u : ℕ) → Has old u ↔ ((u < n) × Passes u)) → (Passes n → ⊥)
+      → (u : ℕ) → Has old u ↔ ((u < n + 1) × Passes u)
+  passing_past n old before fails u = (
+    λ h. let two = (before u).0 h in (omega (arith, two.0), two.1),
+    λ h.
+        ⊎_elim (λ (e : u ≡ n). absurd (fails (subst (λ (w : ℕ). Passes w) e h.1)))
+        (λ (other : u ≢ n). (before u).1 (omega (arith, h.0), h.1)) (cases_eq u n),
+  )

@@ -1,4 +1,6 @@
 pub mod UnitSets
+pub mod Kinds
 pub mod Drivers
+pub mod Wiring
 pub mod Missing
 pub mod Bindings

@@ -4,7 +4,7 @@ ghost use Rattle.std.specs.Prelude.{◌≡◌, ◌<◌, ◌+◌, length, replica
 ghost use Rattle.plan_core.specs.Operands.{node_of};
 ghost use Rattle.plan_core.specs.Assigned.{IsUnitFor};
 ghost use Rattle.unit_assign.specs.Private.UnitSets.{all_units};
-ghost use Rattle.unit_assign.specs.Private.Drivers.{IsProblem};
+ghost use Rattle.unit_assign.specs.Private.Wiring.{IsProblem};
 ghost use Rattle.unit_assign.specs.Private.Bindings.{IsBinding, IsNarrowed, lighter_of};
 
 use crate::problem::Problem;
@@ -42,7 +42,7 @@ impl Binding {
         v: usize,
         unit: u8,
     ) -> Result<(), AllocFailed<u8>>
-        requires problem { IsProblem problem.now.datapath.now problem.now.lowered.now problem.now.drivers.now }
+        requires problem { IsProblem problem.now.datapath.now problem.now.lowered.now problem.now.wiring.now }
         requires count { length self.old.units ≡ v }
         requires node { v < length problem.now.lowered.now.nodes }
         requires binding { IsBinding problem.now.datapath.now problem.now.lowered.now.nodes self.old }
@@ -60,7 +60,7 @@ impl Binding {
 
 /// Keeps for each operand of node v, on this unit, the units that have a route to the port that reads it.
 fn narrow(problem: &Problem, v: usize, unit: u8, allowed: &mut List<UnitSet>)
-    requires problem { IsProblem problem.now.datapath.now problem.now.lowered.now problem.now.drivers.now }
+    requires problem { IsProblem problem.now.datapath.now problem.now.lowered.now problem.now.wiring.now }
     requires node { v < length problem.now.lowered.now.nodes }
     requires unit { unit < length problem.now.datapath.now.units }
     requires count { length allowed.old ≡ length problem.now.lowered.now.nodes }
@@ -96,7 +96,7 @@ fn all_allowed(alloc: Global, count: usize) -> Result<List<UnitSet>, AllocError>
 
 /// Nothing is bound.
 pub(crate) fn no_binding(alloc: Global, problem: &Problem) -> Result<Binding, AllocError>
-    requires { IsProblem problem.now.datapath.now problem.now.lowered.now problem.now.drivers.now }
+    requires { IsProblem problem.now.datapath.now problem.now.lowered.now problem.now.wiring.now }
     ensures binding { IfOk result (IsBinding problem.now.datapath.now problem.now.lowered.now.nodes) }
     ensures count { IfOk result (λ binding. length binding.units ≡ 0) }
 {

@@ -5,9 +5,11 @@
 mod binding;
 mod drivers;
 mod fault;
+mod kinds;
 mod problem;
 mod unit_set;
 mod units;
+mod wiring;
 
 pub use fault::UnitFault;
 pub use units::assign;

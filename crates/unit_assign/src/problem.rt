@@ -7,17 +7,18 @@ ghost use Rattle.plan_core.specs.Assigned.{IsForRam, IsRightUnit, IsCandidate, I
 ghost use Rattle.plan_core.specs.Refusals.{IsNextNode, LacksOperand, LacksConsumer, IsOperandWithout, IsConsumerWithout};
 ghost use Rattle.unit_assign.specs.Faults.{IsUnitFault};
 ghost use Rattle.unit_assign.specs.Private.UnitSets.{Has};
-ghost use Rattle.unit_assign.specs.Private.Drivers.{most_ports, IsProblem};
+ghost use Rattle.unit_assign.specs.Private.Drivers.{most_ports};
+ghost use Rattle.unit_assign.specs.Private.Wiring.{IsProblem};
 ghost use Rattle.unit_assign.specs.Private.Missing.{LacksFrom, IsFirstPort, IsFirstConsumer, IsFirstRight};
-ghost use Rattle.unit_assign.specs.Private.Bindings.{IsBinding, IsBest};
+ghost use Rattle.unit_assign.specs.Private.Bindings.{IsBinding, HasRouteFrom, IsBest};
 
 use crate::binding::Binding;
 use crate::drivers::place_of;
 use crate::fault::UnitFault;
 use crate::unit_set::UnitSet;
+use crate::wiring::Wiring;
 use datapath::{Datapath, Kind, PortRef};
 use fix_word::Op;
-use lists::List;
 use plan_core::Lowered;
 use signal_graph::{Edge, Node};
 
@@ -26,8 +27,7 @@ use signal_graph::{Edge, Node};
 pub(crate) struct Problem<'a> {
     pub datapath: &'a Datapath,
     pub lowered: &'a Lowered,
-    /// For each port of each unit, at its place, the units from which a bus leads to it.
-    pub drivers: &'a List<UnitSet>,
+    pub wiring: &'a Wiring,
 }
 
 /// The kind of the units that do an operation.
@@ -72,16 +72,16 @@ fn is_right(datapath: &Datapath, node: &Node, unit: u8) -> bool
 impl Problem<'_> {
     /// The units from which a bus leads to the port.
     pub(crate) fn drivers(&self, unit: u8, port: usize) -> UnitSet
-        requires problem { IsProblem self.now.datapath.now self.now.lowered.now self.now.drivers.now }
+        requires problem { IsProblem self.now.datapath.now self.now.lowered.now self.now.wiring.now }
         requires unit { unit < length self.now.datapath.now.units }
         requires port { port < most_ports }
         ensures { (u : ℕ) → Has result u ↔ HasRoute self.now.datapath.now u (port_of unit port) }
     {
-        self.drivers[place_of(unit, port)]
+        self.wiring.drivers[place_of(unit, port)]
     }
 
     fn has_route(&self, from: u8, unit: u8, port: usize) -> bool
-        requires problem { IsProblem self.now.datapath.now self.now.lowered.now self.now.drivers.now }
+        requires problem { IsProblem self.now.datapath.now self.now.lowered.now self.now.wiring.now }
         requires from { from < length self.now.datapath.now.units }
         requires unit { unit < length self.now.datapath.now.units }
         requires port { port < most_ports }
@@ -92,7 +92,7 @@ impl Problem<'_> {
 
     /// Whether node v on this unit has no route for an operand.
     fn lacks_operand(&self, units: &[u8], v: usize, unit: u8, port: usize, edge: Edge) -> bool
-        requires problem { IsProblem self.now.datapath.now self.now.lowered.now self.now.drivers.now }
+        requires problem { IsProblem self.now.datapath.now self.now.lowered.now self.now.wiring.now }
         requires next { IsNextNode self.now.datapath.now self.now.lowered.now units.now v }
         requires unit { unit < length self.now.datapath.now.units }
         requires port { port < most_ports }
@@ -108,7 +108,7 @@ impl Problem<'_> {
 
     /// The first port at which node v on this unit has no route for its operand.
     fn missing_operand(&self, units: &[u8], v: usize, unit: u8) -> Option<u8>
-        requires problem { IsProblem self.now.datapath.now self.now.lowered.now self.now.drivers.now }
+        requires problem { IsProblem self.now.datapath.now self.now.lowered.now self.now.wiring.now }
         requires next { IsNextNode self.now.datapath.now self.now.lowered.now units.now v }
         requires unit { unit < length self.now.datapath.now.units }
         ensures { MatchOption result
@@ -125,7 +125,7 @@ impl Problem<'_> {
 
     /// The first port of node c at which it reads node v without a route from this unit.
     fn missing_port(&self, units: &[u8], v: usize, unit: u8, c: usize) -> Option<u8>
-        requires problem { IsProblem self.now.datapath.now self.now.lowered.now self.now.drivers.now }
+        requires problem { IsProblem self.now.datapath.now self.now.lowered.now self.now.wiring.now }
         requires next { IsNextNode self.now.datapath.now self.now.lowered.now units.now v }
         requires unit { unit < length self.now.datapath.now.units }
         requires before { c < v }
@@ -143,7 +143,7 @@ impl Problem<'_> {
 
     /// The port of the first consumer, of those that are bound, to which node v on this unit has no route.
     fn missing_consumer(&self, units: &[u8], v: usize, unit: u8) -> Option<PortRef>
-        requires problem { IsProblem self.now.datapath.now self.now.lowered.now self.now.drivers.now }
+        requires problem { IsProblem self.now.datapath.now self.now.lowered.now self.now.wiring.now }
         requires next { IsNextNode self.now.datapath.now self.now.lowered.now units.now v }
         requires unit { unit < length self.now.datapath.now.units }
         ensures { MatchOption result
@@ -161,34 +161,97 @@ impl Problem<'_> {
         None
     }
 
-    /// Whether node v can be on this unit.
-    fn is_candidate(&self, binding: &Binding, v: usize, unit: u8) -> bool
-        requires problem { IsProblem self.now.datapath.now self.now.lowered.now self.now.drivers.now }
+    /// The right units for a node that is meant for a ram.
+    fn right_for_ram(&self, node: &Node) -> UnitSet
+        requires problem { IsProblem self.now.datapath.now self.now.lowered.now self.now.wiring.now }
+        ensures { (u : ℕ) → Has result u ↔ IsRightUnit self.now.datapath.now node.now u }
+    {
+        let mut right = UnitSet::empty();
+        for number in 0..self.datapath.units.len() {
+            let unit = number as u8;
+            if is_right(self.datapath, node, unit) {
+                right = right.with(unit);
+            }
+        }
+        right
+    }
+
+    /// The right units for the node.
+    fn right_units(&self, node: &Node) -> UnitSet
+        requires problem { IsProblem self.now.datapath.now self.now.lowered.now self.now.wiring.now }
+        ensures { (u : ℕ) → Has result u ↔ IsRightUnit self.now.datapath.now node.now u }
+    {
+        match node.op {
+            Op::Load | Op::Store | Op::Addr => self.right_for_ram(node),
+            op => self.wiring.kinds.units(operation_kind(op)),
+        }
+    }
+
+    /// The units that have a route to this port of their own.
+    fn own_takers(&self, port: usize) -> UnitSet
+        requires problem { IsProblem self.now.datapath.now self.now.lowered.now self.now.wiring.now }
+        requires port { port < most_ports }
+        ensures { (u : ℕ) → u < length self.now.datapath.now.units
+            → Has result u ↔ HasRoute self.now.datapath.now u (port_of u port) }
+    {
+        let mut takers = UnitSet::empty();
+        for number in 0..self.datapath.units.len() {
+            let unit = number as u8;
+            if self.has_route(unit, unit, port) {
+                takers = takers.with(unit);
+            }
+        }
+        takers
+    }
+
+    /// The units on which node v has a route for the operand at this port, if it needs one yet.
+    fn takers(&self, units: &[u8], v: usize, port: usize, operand: usize) -> UnitSet
+        requires problem { IsProblem self.now.datapath.now self.now.lowered.now self.now.wiring.now }
+        requires next { IsNextNode self.now.datapath.now self.now.lowered.now units.now v }
+        requires port { port < most_ports }
+        ensures { (u : ℕ) → u < length self.now.datapath.now.units
+            → Has result u
+            ↔ HasRouteFrom self.now.datapath.now self.now.lowered.now.nodes units.now v u port operand }
+    {
+        if operand == v {
+            self.own_takers(port)
+        } else if operand < v {
+            self.wiring.takers[place_of(units[operand], port)]
+        } else {
+            UnitSet::full()
+        }
+    }
+
+    /// The units on which node v can be.
+    fn candidates(&self, binding: &Binding, v: usize) -> UnitSet
+        requires problem { IsProblem self.now.datapath.now self.now.lowered.now self.now.wiring.now }
         requires next { IsNextNode self.now.datapath.now self.now.lowered.now binding.now.units v }
         requires binding { IsBinding self.now.datapath.now self.now.lowered.now.nodes binding.now }
-        requires unit { unit < length self.now.datapath.now.units }
-        ensures { IsTrue result
-            ↔ IsCandidate self.now.datapath.now self.now.lowered.now.nodes binding.now.units v unit }
+        ensures { (u : ℕ) → Has result u
+            ↔ IsCandidate self.now.datapath.now self.now.lowered.now.nodes binding.now.units v u }
     {
-        is_right(self.datapath, &self.lowered.nodes[v], unit)
-            && binding.allowed[v].contains(unit)
-            && self
-                .missing_operand(binding.units.as_slice(), v, unit)
-                .is_none()
+        let node = &self.lowered.nodes[v];
+        let mut left = self.right_units(node).intersection(binding.allowed[v]);
+        for (port, edge) in node.edges.iter().enumerate() {
+            let takers = self.takers(binding.units.as_slice(), v, port, edge.node as usize);
+            left = left.intersection(takers);
+        }
+        left
     }
 
     /// The first of the candidates with the fewest nodes.
     fn best_candidate(&self, binding: &Binding, v: usize) -> Option<u8>
-        requires problem { IsProblem self.now.datapath.now self.now.lowered.now self.now.drivers.now }
+        requires problem { IsProblem self.now.datapath.now self.now.lowered.now self.now.wiring.now }
         requires next { IsNextNode self.now.datapath.now self.now.lowered.now binding.now.units v }
         requires binding { IsBinding self.now.datapath.now self.now.lowered.now.nodes binding.now }
         ensures { let count = length self.now.datapath.now.units in
             IsBest self.now.datapath.now self.now.lowered.now.nodes binding.now.units v count result }
     {
+        let candidates = self.candidates(binding, v);
         let mut best = None;
         for number in 0..self.datapath.units.len() {
             let unit = number as u8;
-            if self.is_candidate(binding, v, unit) {
+            if candidates.contains(unit) {
                 best = Some(binding.lighter(best, unit));
             }
         }
@@ -196,7 +259,7 @@ impl Problem<'_> {
     }
 
     fn first_right(&self, v: usize) -> Option<u8>
-        requires problem { IsProblem self.now.datapath.now self.now.lowered.now self.now.drivers.now }
+        requires problem { IsProblem self.now.datapath.now self.now.lowered.now self.now.wiring.now }
         requires node { v < length self.now.lowered.now.nodes }
         ensures { MatchOption result
             ((u : ℕ) → IsRightUnit self.now.datapath.now (node_of self.now.lowered.now.nodes v) u → ⊥)
@@ -213,7 +276,7 @@ impl Problem<'_> {
 
     /// The port of the first missing route of node v on this unit, which is no candidate.
     fn missing_route(&self, units: &[u8], v: usize, unit: u8) -> PortRef
-        requires problem { IsProblem self.now.datapath.now self.now.lowered.now self.now.drivers.now }
+        requires problem { IsProblem self.now.datapath.now self.now.lowered.now self.now.wiring.now }
         requires next { IsNextNode self.now.datapath.now self.now.lowered.now units.now v }
         requires right { IsRightUnit self.now.datapath.now (node_of self.now.lowered.now.nodes v) unit }
         requires none { IsCandidate self.now.datapath.now self.now.lowered.now.nodes units.now v unit → ⊥ }
@@ -231,7 +294,7 @@ impl Problem<'_> {
 
     /// Why node v has no candidate.
     fn refusal(&self, units: &[u8], v: usize) -> UnitFault
-        requires problem { IsProblem self.now.datapath.now self.now.lowered.now self.now.drivers.now }
+        requires problem { IsProblem self.now.datapath.now self.now.lowered.now self.now.wiring.now }
         requires next { IsNextNode self.now.datapath.now self.now.lowered.now units.now v }
         requires width { (node_of self.now.lowered.now.nodes v).width ≤ self.now.datapath.now.word }
         requires none { (u : ℕ) → IsCandidate self.now.datapath.now self.now.lowered.now.nodes units.now v u → ⊥ }
@@ -254,7 +317,7 @@ impl Problem<'_> {
 
     /// The unit of node v, which is the next one.
     pub(crate) fn unit_for(&self, binding: &Binding, v: usize) -> Result<u8, UnitFault>
-        requires problem { IsProblem self.now.datapath.now self.now.lowered.now self.now.drivers.now }
+        requires problem { IsProblem self.now.datapath.now self.now.lowered.now self.now.wiring.now }
         requires next { IsNextNode self.now.datapath.now self.now.lowered.now binding.now.units v }
         requires binding { IsBinding self.now.datapath.now self.now.lowered.now.nodes binding.now }
         ensures unit { IfOk result (IsUnitFor self.now.datapath.now self.now.lowered.now.nodes binding.now.units v) }

@@ -6,15 +6,15 @@ ghost use Rattle.plan_core.specs.Assigned.{AreUnits, IsAssigned};
 ghost use Rattle.plan_core.specs.declared.schedule.Assigned.{Assigned};
 ghost use Rattle.unit_assign.specs.Wired.{IsWired};
 ghost use Rattle.unit_assign.specs.Faults.{IsUnitFault};
-ghost use Rattle.unit_assign.specs.Private.Drivers.{IsProblem};
+ghost use Rattle.unit_assign.specs.Private.Wiring.{IsProblem};
 ghost use Rattle.unit_assign.specs.Private.Bindings.{IsBinding};
 ghost use Rattle.unit_assign.specs.declared.fault.UnitFault.{UnitFault};
 ghost use Rattle.unit_assign.specs.declared.fault.UnitFault.TheVariants.{Memory};
 
 use crate::binding::{Binding, no_binding};
-use crate::drivers::all_drivers;
 use crate::fault::UnitFault;
 use crate::problem::Problem;
+use crate::wiring::wiring_of;
 use datapath::Datapath;
 use lists::List;
 use plan_core::{Assigned, Lowered};
@@ -59,7 +59,7 @@ fn assigned(alloc: Global, lowered: &Lowered, units: List<u8>) -> Result<Assigne
 
 /// Binds the nodes in the order of their numbers.
 fn bind_all(problem: &Problem, binding: &mut Binding) -> Result<(), UnitFault>
-    requires problem { IsProblem problem.now.datapath.now problem.now.lowered.now problem.now.drivers.now }
+    requires problem { IsProblem problem.now.datapath.now problem.now.lowered.now problem.now.wiring.now }
     requires none { length binding.old.units ≡ 0 }
     requires binding { IsBinding problem.now.datapath.now problem.now.lowered.now.nodes binding.old }
     ensures count { OnOk result (length binding.new.units ≡ length problem.now.lowered.now.nodes) }
@@ -83,11 +83,11 @@ fn units_of(alloc: Global, lowered: &Lowered, datapath: &Datapath) -> Result<Lis
     ensures units { IfOk result (AreUnits datapath.now lowered.now.nodes) }
     ensures fault { IfErr result (λ fault. (fault ≡ Memory) ⊎ IsUnitFault datapath.now lowered.now fault) }
 {
-    let drivers = all_drivers(alloc, datapath)?;
+    let wiring = wiring_of(alloc, datapath)?;
     let problem = Problem {
         datapath,
         lowered,
-        drivers: &drivers,
+        wiring: &wiring,
     };
     let mut binding = no_binding(alloc, &problem)?;
     bind_all(&problem, &mut binding)?;

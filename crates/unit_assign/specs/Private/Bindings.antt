@@ -3,8 +3,8 @@ use Rattle.std.specs.Prelude.{◌≡◌, ℕ, ◌<◌, ◌≤◌, ◌==◌, ◌�
 use Rattle.datapath.specs.declared.types.Datapath.{Datapath}
 use Rattle.signal_graph.specs.declared.graph.Node.{Node}
 use Rattle.plan_core.specs.Hardware.{port_of, HasRoute}
-use Rattle.plan_core.specs.Operands.{Reads}
-use Rattle.plan_core.specs.Assigned.{unit_in, IsCandidate, load_of, AreUnits}
+use Rattle.plan_core.specs.Operands.{node_of, Reads}
+use Rattle.plan_core.specs.Assigned.{unit_in, IsRightUnit, IsCandidate, load_of, AreUnits}
 use Rattle.unit_assign.specs.Private.UnitSets.{Has, set_at}
 use Rattle.unit_assign.specs.declared.binding.Binding.{Binding}
 use Rattle.unit_assign.specs.declared.unit_set.UnitSet.{UnitSet}
@@ -36,6 +36,18 @@ module _ (d : Datapath) (nodes : List Node) where
     pub load_count : length binding.loads ≡ length d.units
     pub loads : (u : ℕ) → u < length d.units → load_in binding.loads u ≡ count_by (λ (w : ℕ). w == u) binding.units
     pub sets : AreAllowed binding.units (length binding.units) binding.allowed
+
+  -- on unit u, node v has a route to port q from this node, if that is bound or v itself
+  abbrev pub HasRouteFrom : (units : List ℕ) (v u q operand : ℕ) → Type 0
+  HasRouteFrom units v u q operand =
+      (operand < v → HasRoute d (unit_in units operand) (port_of u q))
+      × (operand ≡ v → HasRoute d u (port_of u q))
+
+  -- node v can be on unit u, as far as its first k ports tell
+  pub record IsLeft (units : List ℕ) (v k u : ℕ) : Type 0 where
+    pub right : IsRightUnit d (node_of nodes v) u
+    pub consumers : IsAllowed units v v u
+    pub operands : (q x : ℕ) → q < k → Reads nodes v q x → HasRouteFrom units v u q x
 
   -- of the candidates below n, unit u is the first with the fewest nodes
   pub record IsBestOf (units : List ℕ) (v n u : ℕ) : Type 0 where

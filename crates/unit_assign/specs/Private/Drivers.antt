@@ -1,10 +1,8 @@
 -- For each port of each unit, the units from which a bus leads to it.
-use Rattle.std.specs.Prelude.{◌≡◌, ℕ, ◌+◌, ◌*◌, ◌<◌, ◌≤◌, ◌↔◌, ◌⊎◌, List, length, slice_index_or, Contains}
+use Rattle.std.specs.Prelude.{◌≡◌, ℕ, ◌+◌, ◌*◌, ◌<◌, ◌↔◌, ◌⊎◌, List, length, slice_index_or, Contains}
 use Rattle.operations.specs.declared.units.PortRef.{PortRef}
 use Rattle.datapath.specs.declared.types.Datapath.{Datapath}
 use Rattle.plan_core.specs.Hardware.{port_of, no_bus, HasRoute}
-use Rattle.plan_core.specs.declared.delay_lines.Lowered.{Lowered}
-use Rattle.unit_assign.specs.Wired.{IsWired}
 use Rattle.unit_assign.specs.Private.UnitSets.{Has, set_at}
 use Rattle.unit_assign.specs.declared.unit_set.UnitSet.{UnitSet}
 
@@ -52,9 +50,3 @@ pub record IsAddedTo (units : UnitSet) (ports : List PortRef) (n : ℕ) (old new
 pub record HasPlace (count : ℕ) (port : PortRef) : Type 0 where
   pub number : port.port < most_ports
   pub within : place port.unit port.port < count
-
--- a graph that is bound to the units of a datapath
-pub record IsProblem (d : Datapath) (l : Lowered) (drivers : List UnitSet) : Type 0 where
-  pub few : length d.units ≤ most_units
-  pub wired : IsWired l
-  pub routes : AreDrivers d drivers
