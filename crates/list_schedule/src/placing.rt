@@ -87,12 +87,13 @@ fn issue(
     Ok(())
 }
 
-/// Places node v, which the ports of this set read.
+/// Places node v, which the ports of this set read. What the list of ports has is lost.
 fn place(
     alloc: Global,
     problem: &Problem,
     v: u32,
     readers: PortSet,
+    ports: &mut Vec<PortRef>,
     placing: &mut Placing,
 ) -> Result<(), PeriodFault>
     requires problem { IsProblem problem.now.datapath.now problem.now.assigned.now }
@@ -103,7 +104,7 @@ fn place(
     ensures fault { IfErr result (λ fault. (fault ≡ Memory) ⊎ ((fault ≡ Period v)
         × HasNoCycle problem.now.datapath.now problem.now.assigned.now v placing.old)) }
 {
-    let ports = readers.ports(alloc)?;
+    readers.list(ports)?;
     issue(alloc, problem, v, ports.as_slice(), placing)
 }
 
@@ -123,12 +124,14 @@ fn place_all(
     ensures fault { IfErr result (λ fault. (fault ≡ Memory)
         ⊎ IsPeriodFault problem.now.datapath.now problem.now.assigned.now fault) }
 {
+    let mut ports = Vec::new(alloc);
     for rank in order.iter() {
         place(
             alloc,
             problem,
             rank.node,
             readers[rank.node as usize],
+            &mut ports,
             placing,
         )?;
     }

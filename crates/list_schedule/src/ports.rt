@@ -1,11 +1,10 @@
 //! Sets of ports.
 
-ghost use Rattle.std.specs.Prelude.{◌≡◌, ◌<◌, ◌↔◌, ◌⊎◌, ℕ, MatchOption, IfOk};
+ghost use Rattle.std.specs.Prelude.{◌≡◌, ◌<◌, ◌↔◌, ◌⊎◌, ℕ, MatchOption, OnOk};
 ghost use Rattle.list_schedule.specs.Private.Ports.{most_ports, place, Has, no_ports, IsFirstOf, ArePortsOf};
 
 use datapath::PortRef;
-use lists::List;
-use std::alloc::{AllocError, Global};
+use std::alloc::AllocError;
 
 /// The most ports that a unit has.
 const PORTS: u8 = 3;
@@ -45,18 +44,18 @@ impl PortSet {
         Some(first as u8)
     }
 
-    /// The ports in the set, in order.
-    pub(crate) fn ports(self, alloc: Global) -> Result<List<PortRef>, AllocError>
-        ensures { IfOk result (ArePortsOf self) }
+    /// Puts the ports of the set, in order, in the place of what the list has.
+    pub(crate) fn list(self, ports: &mut Vec<PortRef>) -> Result<(), AllocError>
+        ensures { OnOk result (ArePortsOf self ports.new.items) }
     {
         let mut left = self;
-        let mut ports = List::new(alloc);
+        ports.clear();
         while let Some(first) = left.pop_first() {
             ports.push(PortRef {
                 unit: first / PORTS,
                 port: first % PORTS,
             })?;
         }
-        Ok(ports)
+        Ok(())
     }
 }
