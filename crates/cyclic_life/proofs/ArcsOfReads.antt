@@ -15,7 +15,7 @@ use Rattle.plan_core.specs.Arcs.{arc_of, no_arc, IsArc, IsArcBefore, IsArcs}
 use Rattle.plan_core.specs.declared.schedule.Assigned.{Assigned}
 use Rattle.plan_core.specs.declared.schedule.Schedule.{Schedule}
 use Rattle.plan_core.specs.declared.registers.Arc.{Arc}
-use Rattle.cyclic_life.specs.Private.Reads.{is_alike, IsLifeBefore, IsUpTo, lasts, arc_to, no_read}
+use Rattle.cyclic_life.specs.Private.Reads.{is_alike, IsSmall, IsLifeBefore, IsUpTo, lasts, arc_to, no_read}
 use Rattle.cyclic_life.specs.Private.Placed.{IsPlacement, read_of, IsRead, AreReads}
 use Rattle.cyclic_life.specs.declared.read.Read.{Read}
 use Rattle.cyclic_life.proofs.LastReads.{lasts_keep, lasts_in_order, IsGreatest, lasts_greatest, HasLast, lasts_every}
@@ -76,6 +76,21 @@ module _ (d : Datapath) (a : Assigned) (s : Schedule) (placed : IsPlacement d a 
       let cycle = is.cycle in
       let ago : delay_at a.lowered.nodes c x.port * d.period ≤ 3 * d.period = mul-le-mul_right d.period delay in
       omega arith
+
+  small : (x : Read) → IsRead d a s x → IsSmall x
+  small x is =
+      let reader = reader_there a.lowered.nodes is.c x.port x.node is.reads in
+      let ports = placed.ports is.c reader in
+      let port = is.reads.port in
+      let there = placed.operands is.c x.port x.node is.reads in
+      let count = placed.node_count in
+      let written = written_within x is in
+      let last = read_within x is in
+      let period = placed.period in
+      record { port = omega arith; w = omega arith; node = omega arith; r = omega arith }
+
+  pub reads_small : (xs : List Read) → AreReads d a s xs → All IsSmall xs
+  reads_small xs reads = All-weaker (IsRead d a s) IsSmall small xs reads.each
 
   module _ (xs : List Read) (reads : AreReads d a s xs) (order : AllPairs IsUpTo xs) where
     arc_is : (z : Read) → IsRead d a s z → IsGreatest xs z → IsArc d a s (arc_to d.period z)

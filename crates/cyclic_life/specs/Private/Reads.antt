@@ -1,5 +1,5 @@
 -- Reads of words in register files, and the last read of each lifetime.
-use Rattle.std.specs.Prelude.{◌≡◌, ℕ, ◌+◌, ◌*◌, ◌<◌, ◌≤◌, ◌==◌, ◌&&◌, ◌⊎◌, Bool, true, if◌then◌else◌, nat_le, List, [], ◌∷◌, drop, slice_index_or}
+use Rattle.std.specs.Prelude.{◌≡◌, ℕ, ◌+◌, ◌*◌, ◌^◌, ◌<◌, ◌≤◌, ◌==◌, ◌&&◌, ◌⊎◌, Bool, true, if◌then◌else◌, nat_le, List, [], ◌∷◌, drop, slice_index_or}
 use Rattle.plan_core.specs.Hardware.{port_of}
 use Rattle.plan_core.specs.declared.registers.Arc.{Arc}
 use Rattle.cyclic_life.specs.declared.read.Read.{Read}
@@ -18,6 +18,17 @@ IsLifeBefore x y =
 -- the one read is not after the other: by lifetime, then by cycle
 pub record IsUpTo (x y : Read) : Type 0 where
   pub order : IsLifeBefore x y ⊎ ((is_alike x y ≡ true) × (x.r ≤ y.r))
+
+-- the numbers of the read fit in its fields
+pub record IsSmall (x : Read) : Type 0 where
+  pub port : x.port < 2 ^ 8
+  pub w : x.w < 2 ^ 16
+  pub node : x.node < 2 ^ 32
+  pub r : x.r < 2 ^ 16
+
+-- the place of a read in the order, by the greatest numbers of a port, a cycle and a node
+abbrev pub place_of : Read → ℕ
+place_of x = (((x.unit * 2 ^ 8 + x.port) * 2 ^ 16 + x.w) * 2 ^ 32 + x.node) * 2 ^ 16 + x.r
 
 -- of each run of reads of one lifetime the last
 abbrev pub lasts : List Read → List Read

@@ -5,13 +5,21 @@ use Rattle.plan_core.specs.declared.registers.Arc.{Arc}
 use Rattle.cyclic_life.specs.Private.Reads.{arc_to, lasts}
 use Rattle.cyclic_life.specs.declared.read.Read.{Read}
 use Rattle.cyclic_life.proofs.Placements.{placement}
-use Rattle.cyclic_life.proofs.ArcsOfReads.{reads_written, reads_permuted, arcs_are}
+use Rattle.cyclic_life.proofs.ArcsOfReads.{reads_written, reads_small, reads_permuted, arcs_are}
 use Rattle.cyclic_life.proofs.life.arcs.Goals as goal
 
 pub reads-requires : goal.reads-requires
 reads-requires c =
     placement c.args.datapath.now c.args.assigned.now c.args.schedule.now c.requires.datapath c.requires.held
     c.requires.schedule
+
+pub sort-requires : goal.sort-requires
+sort-requires c =
+    let d = c.args.datapath.now in
+    let a = c.args.assigned.now in
+    let s = c.args.schedule.now in
+    reads_small d a s (placement d a s c.requires.datapath c.requires.held c.requires.schedule)
+    c.in_ok-reads.reads.items c.in_ok-reads.ensures
 
 pub lifetimes-requires-clause-w : goal.lifetimes-requires-clause-w
 lifetimes-requires-clause-w c =
