@@ -4,9 +4,10 @@ use Rattle.std.specs.List.{range_with_len}
 use Rattle.std.proofs.lemmas.List.{take_more}
 use Rattle.single_def.specs.ElementRules.{count_up}
 use Rattle.single_def.specs.Private.Actions.{Action, repeat, actions_of, Found, State, ◌>>=◌, for_each, count_in, in_found, run_action, run_actions, run_turn, run_turns}
-use Rattle.single_def.specs.Private.Ahead.{DoSame, IsAmong, Reaches}
+use Rattle.single_def.specs.Private.Ahead.{DoSame, Holds, Reaches}
 use Rattle.single_def.specs.Private.Blocks.{IsBlock}
 use Rattle.single_def.specs.declared.actions.Bound.{Bound}
+use Rattle.single_def.specs.declared.lanes.Group.{Group}
 use Rattle.single_def.specs.declared.fault.DefFault.{DefFault}
 
 abbrev Inside : Type 0
@@ -65,8 +66,8 @@ module _ (inside : Inside) (turns : List ℤ) (at : ℕ) (first last : ℤ) (kep
   turns_same : (s : State) → run_turns inside turns (actions_of kept) at first last s ≡ run_turns inside turns (actions_of all) at first last s
   turns_same s = each_same (count_up first last) 0 (omega arith) s
 
-module _ (outer : List ℤ) (count : ℕ) (groups : List (List (List ℤ))) (lo hi : Bound) (at : ℕ) (turns : List ℤ) (reached : Reaches outer count groups lo.number hi.number turns) where
-  pub loop_same : (kept all : List Action) → ((ts : List ℤ) → IsAmong outer count groups ts → DoSame ts kept all)
+module _ (outer : List ℤ) (groups : List Group) (lo hi : Bound) (at : ℕ) (turns : List ℤ) (reached : Reaches outer groups lo.number hi.number turns) where
+  pub loop_same : (kept all : List Action) → ((ts : List ℤ) → Holds outer groups ts → DoSame ts kept all)
       → (inside : (func at : ℕ) → List ℤ → Found → Result Found DefFault) (s : State)
       → run_action inside turns (repeat lo hi (actions_of kept) at) s ≡ run_action inside turns (repeat lo hi (actions_of all) at) s
   loop_same kept all same inside s =
@@ -77,18 +78,21 @@ module _ (outer : List ℤ) (count : ℕ) (groups : List (List (List ℤ))) (lo 
   no_turns zero inside all first s e = refl
   no_turns (suc n) inside all first s e = absurd (omega arith)
 
-  pub loop_idle : (all : List Action) → length groups ≡ 0 → (inside : (func at : ℕ) → List ℤ → Found → Result Found DefFault) (s : State)
+  pub loop_idle : (all : List Action) → ((ts : List ℤ) → Holds outer groups ts → ⊥) → (inside : (func at : ℕ) → List ℤ → Found → Result Found DefFault) (s : State)
       → run_action inside turns (repeat lo hi (actions_of all) at) s ≡ Ok s
   loop_idle all empty inside s =
       let (first, last, from, to, each) = reached in
       rw (from, to) (no_turns (count_up first last) inside all first s (none first last each))
     where
-      none : (first last : ℤ) → ((j : ℕ) → (first +ℤ pos j) ≤ℤ last → IsAmong outer count groups (turns ++ (first +ℤ pos j) ∷ [])) → count_up first last ≡ 0
+      none : (first last : ℤ) → ((j : ℕ) → (first +ℤ pos j) ≤ℤ last → Holds outer groups (turns ++ (first +ℤ pos j) ∷ [])) → count_up first last ≡ 0
       none first last each = by (count_up first last) refl
         where
           by : (n : ℕ) → count_up first last ≡ n → count_up first last ≡ 0
           by zero e = e
-          by (suc n) e = let (i, k, less, lt, is) = each 0 (within first last 0 (omega arith)) in absurd (omega (arith, less, empty))
+          by (suc n) e = absurd (empty _ (each 0 (within first last 0 (omega arith))))
+
+pub with_next : {A : Type 0} (xs : List A) (i : ℕ) (x : A) → i < length xs → x ≡ slice_index_or xs i x → take (i + 1) xs ≡ take i xs ++ x ∷ []
+with_next xs i x lt is = take_more xs i x lt ∙ ap (λ y. take i xs ++ y ∷ []) (sym is)
 
 module _ {A B : Type 0} (f : A → B) where
   pub mapped_more : (xs : List A) (x : A) → map f (xs ++ x ∷ []) ≡ map f xs ++ f x ∷ []
@@ -96,7 +100,7 @@ module _ {A B : Type 0} (f : A → B) where
   mapped_more (y ∷ xs) x = ap (λ l. f y ∷ l) (mapped_more xs x)
 
   pub taken_more : (xs : List A) (i : ℕ) (x : A) → i < length xs → x ≡ slice_index_or xs i x → map f (take (i + 1) xs) ≡ map f (take i xs) ++ f x ∷ []
-  taken_more xs i x lt is = ap (map f) (take_more xs i x lt ∙ ap (λ y. take i xs ++ y ∷ []) (sym is)) ∙ mapped_more (take i xs) x
+  taken_more xs i x lt is = ap (map f) (with_next xs i x lt is) ∙ mapped_more (take i xs) x
 
 -- turns counted from the turn k, and from the first one
 pub later : (outer : List ℤ) (first last turn : ℤ) (k until : ℕ) (kept all : List Action) → turn ≡ first +ℤ pos k

@@ -2,7 +2,7 @@ pub mod Each
 pub mod Stacks
 pub mod LaneValues
 pub mod IdleActions
-pub mod Groups
+pub mod HeldTurns
 pub mod PartRows
 pub mod AheadParts
 pub mod ActionRows

@@ -1,170 +1,159 @@
 //! What is done of actions in several turns of the loops around them, looked at before.
 //!
-//! A loop without turns adds nothing to the load, so very many of them may be inside thousands of turns. Where such a
-//! loop is inside loops with few turns each, it is looked at in the turns of all of these at once.
+//! A loop without turns adds nothing to the load, so very many of them may be inside thousands of turns. Such a loop is
+//! looked at in many turns of all the loops around it at once.
 
-ghost use Rattle.std.specs.Prelude.{◌≡◌, ◌<◌, ◌≤◌, ◌++◌, ◌∷◌, ◌+ℤ◌, ◌≤ℤ◌, [], ℕ, pos, map, IsTrue, IfOk, OnOk, IfSome};
+ghost use Rattle.std.specs.Prelude.{◌≡◌, ◌<◌, ◌≤◌, ◌++◌, ◌∷◌, ◌⊎◌, ◌+ℤ◌, ◌≤ℤ◌, [], ℕ, ℤ, List, pos, map, length};
+ghost use Rattle.std.specs.Prelude.{IsTrue, IfOk, OnOk, IfSome, slice_index_or};
 ghost use Rattle.single_def.specs.Private.Actions.{view_action};
 ghost use Rattle.single_def.specs.Private.Parts.{seen, view_part};
-ghost use Rattle.single_def.specs.Private.Lanes.{at, turns_at};
+ghost use Rattle.single_def.specs.Private.Lanes.{at, column, turns_at};
 ghost use Rattle.single_def.specs.Private.Ahead as spec;
-ghost use Rattle.single_def.specs.Private.Ahead.{InEach, Reaches, IsAmong, Keeps, DoSame};
+ghost use Rattle.single_def.specs.Private.Ahead.{InEach, Reaches, Holds, IsIn, Keeps, IsMore, DoSame};
 
 use crate::actions::Action;
-use crate::lanes::{LANES, Lanes, Row, number_row};
+use crate::groups::put_turn;
+use crate::lanes::{Group, Lanes, Row, number_row};
 use crate::numbers::Number;
 use crate::parts::Part;
+use crate::turns::{turn_at, turn_count};
 use lists::List;
 use std::alloc::{AllocError, Global};
 
-/// Turns of loops inside loops with the indices `outer`: in each group, `count` turns with a row of indices for each
-/// of these loops.
+/// Turns of loops inside loops with the indices `outer`.
 #[derive(Clone, Copy)]
 pub(crate) struct Turns<'a> {
     pub outer: &'a [i32],
-    pub groups: &'a [List<Row>],
-    pub count: usize,
+    pub groups: &'a [Group],
 }
 
-/// The most groups that are looked at.
-const MOST_GROUPS: usize = 16;
+/// What a look at turns works with.
+#[derive(Drop)]
+pub(crate) struct Look {
+    /// For manifest constants in several turns at once.
+    pub stack: Vec<Row>,
+    /// How many more turns may be looked at. None, if there were too many, or a bound has no value in one.
+    pub room: usize,
+}
 
-/// The index of the turn so many turns later, or the last one.
-pub(crate) fn turn_after(turn: i32, k: usize, last: i32) -> i32
+/// The most turns that are looked at at once. A loop with a turn in one of them is done in all of them, so with more
+/// turns fewer loops are left out.
+pub(crate) const MOST_TURNS: usize = 256;
+
+impl Look {
+    pub(crate) fn new(alloc: Global) -> Look {
+        Look {
+            stack: Vec::new(alloc),
+            room: MOST_TURNS,
+        }
+    }
+}
+
+/// The indices in a lane, and one of a loop inside.
+fn turn_in(alloc: Global, rows: &[Row], k: usize, index: i32) -> Result<List<i32>, AllocError>
     requires { k < 16 }
-    ensures { (turn +ℤ pos k) ≤ℤ last → result ≡ turn +ℤ pos k }
+    ensures { IfOk result (λ turn. turn ≡ column rows.now k ++ index ∷ []) }
 {
-    let index = i64::from(turn) + k as i64;
-    if index <= i64::from(last) {
-        index as i32
-    } else {
-        last
+    let mut turn = List::with_capacity(alloc, rows.len() + 1)?;
+    for row in rows {
+        turn.push(row[k])?;
     }
+    turn.push(index)?;
+    Ok(turn)
 }
 
-/// The indices of the turns `m` turns later.
-fn later(first: &Row, last: &Row, m: usize) -> Row
-    requires { m < 16 }
-    ensures { (k : ℕ) → k < 16 → (at first.now k +ℤ pos m) ≤ℤ at last.now k → at result k ≡ at first.now k +ℤ pos m }
+/// Appends the turns that a loop with these bounds has in a lane, if there is room for them.
+fn put_lane(
+    alloc: Global,
+    lanes: Lanes,
+    k: usize,
+    first: i32,
+    last: i32,
+    inner: &mut Vec<Group>,
+    room: &mut usize,
+) -> Result<bool, AllocError>
+    requires { k < 16 }
+    ensures kept { OnOk result (Keeps lanes.entry.outer.now inner.old.items inner.new.items) }
+    ensures reached { IfOk result (λ has. IsTrue has → (j : ℕ) → (first +ℤ pos j) ≤ℤ last
+        → Holds lanes.entry.outer.now inner.new.items (turns_at lanes.entry k ++ (first +ℤ pos j) ∷ [])) }
 {
-    let mut row = *last;
-    for k in 0..LANES {
-        row[k] = turn_after(first[k], m, last[k]);
-    }
-    row
-}
-
-/// Whether no loop has a turn `m` turns later.
-fn is_past(count: usize, first: &Row, last: &Row, m: usize) -> bool
-    requires count { count ≤ 16 }
-    requires m { m < 16 }
-    ensures { IsTrue result → (k : ℕ) → k < count → (j : ℕ) → (at first.now k +ℤ pos j) ≤ℤ at last.now k → j < m }
-{
-    for k in 0..count {
-        if i64::from(first[k]) + m as i64 <= i64::from(last[k]) {
-            return false;
+    for j in 0..turn_count(first, last) {
+        if *room == 0 {
+            return Ok(false);
         }
+        *room -= 1;
+        let turn = turn_in(alloc, lanes.inner, k, turn_at(first, last, j))?;
+        put_turn(alloc, &turn, inner)?;
     }
-    true
+    Ok(true)
 }
 
-/// Whether each loop has a turn `m` turns later.
-fn have_turn(count: usize, first: &Row, last: &Row, m: usize) -> bool
-    requires count { count ≤ 16 }
-    requires m { m < 16 }
-{
-    for k in 0..count {
-        if i64::from(first[k]) + m as i64 > i64::from(last[k]) {
-            return false;
-        }
-    }
-    true
-}
-
-/// A group with one more row.
-fn with_row(alloc: Global, rows: &[Row], row: &Row) -> Result<List<Row>, AllocError>
-    ensures { IfOk result (λ all. all ≡ rows.now ++ row.now ∷ []) }
-{
-    let mut all = List::from_slice(alloc, rows)?;
-    all.push(*row)?;
-    Ok(all)
-}
-
-/// Appends the groups of the turns of loops with these bounds, if they are few, and as many in each of the loops: a
-/// group in which few loops have a turn would take more time than it saves.
-fn put_rows(
+/// Appends the turns that loops with these bounds have in the lanes, if there is room for them.
+fn put_lanes(
     alloc: Global,
     lanes: Lanes,
     first: &Row,
     last: &Row,
-    inner: &mut Vec<List<Row>>,
+    inner: &mut Vec<Group>,
+    room: &mut usize,
 ) -> Result<bool, AllocError>
     requires { lanes.count ≤ 16 }
-    ensures kept { OnOk result (Keeps lanes.entry.outer.now lanes.entry.count inner.old.items inner.new.items) }
-    ensures reached { IfOk result (λ few. IsTrue few → (k : ℕ) → k < lanes.entry.count → (j : ℕ)
-        → (at first.now k +ℤ pos j) ≤ℤ at last.now k → IsAmong lanes.entry.outer.now lanes.entry.count inner.new.items
+    ensures kept { OnOk result (Keeps lanes.entry.outer.now inner.old.items inner.new.items) }
+    ensures reached { IfOk result (λ has. IsTrue has → (k : ℕ) → k < lanes.entry.count → (j : ℕ)
+        → (at first.now k +ℤ pos j) ≤ℤ at last.now k → Holds lanes.entry.outer.now inner.new.items
         (turns_at lanes.entry k ++ (at first.now k +ℤ pos j) ∷ [])) }
 {
-    for m in 0..LANES {
-        if is_past(lanes.count, first, last, m) {
-            return Ok(true);
-        }
-        if inner.len() >= MOST_GROUPS {
+    for k in 0..lanes.count {
+        if !put_lane(alloc, lanes, k, first[k], last[k], inner, room)? {
             return Ok(false);
         }
-        if !have_turn(lanes.count, first, last, m) {
-            return Ok(false);
-        }
-        let row = later(first, last, m);
-        inner.push(with_row(alloc, lanes.inner, &row)?)?;
     }
-    Ok(false)
+    Ok(true)
 }
 
-/// Appends the groups of the turns that a loop with these bounds has in each turn, if they are few.
+/// Appends the turns that a loop with these bounds has in each turn, if there is room for them.
 fn put_turns(
     alloc: Global,
     lanes: Lanes,
     lo: &Number,
     hi: &Number,
-    inner: &mut Vec<List<Row>>,
-    stack: &mut Vec<Row>,
+    inner: &mut Vec<Group>,
+    look: &mut Look,
 ) -> Result<bool, AllocError>
     requires { lanes.count ≤ 16 }
-    ensures kept { OnOk result (Keeps lanes.entry.outer.now lanes.entry.count inner.old.items inner.new.items) }
-    ensures reached { IfOk result (λ few. IsTrue few → (k : ℕ) → k < lanes.entry.count
-        → Reaches lanes.entry.outer.now lanes.entry.count inner.new.items lo.now hi.now (turns_at lanes.entry k)) }
+    ensures kept { OnOk result (Keeps lanes.entry.outer.now inner.old.items inner.new.items) }
+    ensures reached { IfOk result (λ has. IsTrue has → (k : ℕ) → k < lanes.entry.count
+        → Reaches lanes.entry.outer.now inner.new.items lo.now hi.now (turns_at lanes.entry k)) }
 {
-    let first = match number_row(lanes, lo, stack)? {
+    let first = match number_row(lanes, lo, &mut look.stack)? {
         None => return Ok(false),
         Some(row) => row,
     };
-    match number_row(lanes, hi, stack)? {
+    match number_row(lanes, hi, &mut look.stack)? {
         None => Ok(false),
-        Some(last) => put_rows(alloc, lanes, &first, &last, inner),
+        Some(last) => put_lanes(alloc, lanes, &first, &last, inner, &mut look.room),
     }
 }
 
-/// The groups of the turns that a loop with these bounds has in each turn, if they are few.
+/// The turns that a loop with these bounds has in each turn, if there is room for them.
 fn inner_turns(
     alloc: Global,
     turns: Turns,
     lo: &Number,
     hi: &Number,
-    stack: &mut Vec<Row>,
-) -> Result<Option<Vec<List<Row>>>, AllocError>
-    requires { turns.count ≤ 16 }
+    look: &mut Look,
+) -> Result<Option<Vec<Group>>, AllocError>
     ensures { IfOk result (λ r. IfSome r (λ inner. InEach turns.entry
-        (λ ts. Reaches turns.entry.outer.now turns.entry.count inner.items lo.now hi.now ts))) }
+        (λ ts. Reaches turns.entry.outer.now inner.items lo.now hi.now ts))) }
 {
     let mut inner = Vec::new(alloc);
-    for rows in turns.groups {
+    for group in turns.groups {
         let lanes = Lanes {
             outer: turns.outer,
-            inner: rows.as_slice(),
-            count: turns.count,
+            inner: group.rows.as_slice(),
+            count: group.count,
         };
-        if !put_turns(alloc, lanes, lo, hi, &mut inner, stack)? {
+        if !put_turns(alloc, lanes, lo, hi, &mut inner, look)? {
             return Ok(None);
         }
     }
@@ -185,9 +174,8 @@ fn put_busy<'a>(
     turns: Turns,
     action: &'a Action,
     parts: &mut Vec<Part<'a>>,
-    stack: &mut Vec<Row>,
+    look: &mut Look,
 ) -> Result<(), AllocError>
-    requires { turns.count ≤ 16 }
     ensures { OnOk result (spec.DoesMore turns.entry (seen parts.old) (view_action action.now) (seen parts.new)) }
 {
     let (lo, hi, actions, at) = match action {
@@ -199,8 +187,11 @@ fn put_busy<'a>(
         } => (lo, hi, actions, *at),
         _ => return put_part(parts, Part::Whole(action)),
     };
-    let inner = match inner_turns(alloc, turns, &lo.number, &hi.number, stack)? {
-        None => return put_part(parts, Part::Whole(action)),
+    let inner = match inner_turns(alloc, turns, &lo.number, &hi.number, look)? {
+        None => {
+            look.room = 0;
+            return put_part(parts, Part::Whole(action));
+        }
         Some(inner) => inner,
     };
     if inner.is_empty() {
@@ -209,9 +200,8 @@ fn put_busy<'a>(
     let within = Turns {
         outer: turns.outer,
         groups: inner.as_slice(),
-        count: turns.count,
     };
-    let own = busy(alloc, within, actions, stack)?;
+    let own = busy(alloc, within, actions, look)?;
     put_part(
         parts,
         Part::Loop {
@@ -229,14 +219,13 @@ pub(crate) fn busy<'a>(
     alloc: Global,
     turns: Turns,
     actions: &'a [Action],
-    stack: &mut Vec<Row>,
+    look: &mut Look,
 ) -> Result<Vec<Part<'a>>, AllocError>
-    requires { turns.count ≤ 16 }
     ensures { IfOk result (λ parts. InEach turns.entry (λ ts. DoSame ts (seen parts) (map view_action actions.now))) }
 {
     let mut parts = Vec::new(alloc);
     for action in actions {
-        put_busy(alloc, turns, action, &mut parts, stack)?;
+        put_busy(alloc, turns, action, &mut parts, look)?;
     }
     Ok(parts)
 }

@@ -8,9 +8,10 @@ ghost use Rattle.single_def.specs.Private.Ahead.{DoSame};
 ghost use Rattle.single_def.specs.Private.Blocks.{IsBlock};
 
 use crate::actions::Action;
-use crate::ahead::{Turns, busy, turn_after};
-use crate::lanes::{LANES, Row};
+use crate::ahead::{Look, MOST_TURNS, Turns, busy};
+use crate::lanes::{Group, LANES, Row};
 use crate::parts::{Part, all};
+use crate::turns::turn_at;
 use lists::List;
 use std::alloc::{AllocError, Global};
 
@@ -20,6 +21,8 @@ pub(crate) struct Block<'a> {
     /// The first turn after them, counted from 0.
     pub until: u64,
     pub parts: Vec<Part<'a>>,
+    /// The most turns of the next block.
+    pub most: usize,
 }
 
 impl<'a> Block<'a> {
@@ -30,6 +33,7 @@ impl<'a> Block<'a> {
         Block {
             until: 0,
             parts: Vec::new(alloc),
+            most: LANES,
         }
     }
 }
@@ -37,29 +41,34 @@ impl<'a> Block<'a> {
 /// Fewer turns are not looked at before.
 const FEW: usize = 2;
 
-/// The indices of turns one after another.
-fn index_row(turn: i32, last: i32) -> Row
-    ensures { (k : ℕ) → k < 16 → (turn +ℤ pos k) ≤ℤ last → at result k ≡ turn +ℤ pos k }
+/// The index of the turn so many turns later, or the last one.
+fn turn_after(turn: i32, k: usize, last: i32) -> i32
+    requires { k < 16 }
+    ensures { (turn +ℤ pos k) ≤ℤ last → result ≡ turn +ℤ pos k }
 {
-    let mut row = [last; LANES];
-    for k in 0..LANES {
+    let index = i64::from(turn) + k as i64;
+    if index <= i64::from(last) {
+        index as i32
+    } else {
+        last
+    }
+}
+
+/// The indices of turns one after another. The lanes behind them repeat the first.
+fn index_row(turn: i32, last: i32, count: usize) -> Row
+    requires { count ≤ 16 }
+    ensures { (k : ℕ) → k < count → (turn +ℤ pos k) ≤ℤ last → at result k ≡ turn +ℤ pos k }
+{
+    let mut row = [turn; LANES];
+    for k in 0..count {
         row[k] = turn_after(turn, k, last);
     }
     row
 }
 
-/// The index of a turn of a loop with these bounds.
-pub(crate) fn turn_at(first: i32, last: i32, k: u64) -> i32
-    requires { (first +ℤ pos k) ≤ℤ last }
-    ensures { result ≡ first +ℤ pos k }
-{
-    (i64::from(first) + k as i64) as i32
-}
-
 /// How many turns there are from one on, or 16 if that is less.
 fn turns_left(turn: i32, last: i32) -> usize
-    ensures few { result ≤ 16 }
-    ensures all { (j : ℕ) → j < 16 → (turn +ℤ pos j) ≤ℤ last → j < result }
+    ensures { result ≤ 16 }
 {
     match usize::try_from(i64::from(last) - i64::from(turn) + 1) {
         Ok(left) => left.min(LANES),
@@ -67,15 +76,35 @@ fn turns_left(turn: i32, last: i32) -> usize
     }
 }
 
-/// A block that begins with the turn `k`, whose index is `turn`.
+/// A turn in which all is done.
+fn one_turn<'a>(
+    alloc: Global,
+    k: u64,
+    actions: &'a [Action],
+    most: usize,
+) -> Result<Block<'a>, AllocError>
+    requires { k < 2 ^ 33 }
+    ensures until { IfOk result (λ block. block.until ≡ k + 1) }
+    ensures all { IfOk result (λ block. seen block.parts ≡ map view_action actions.now) }
+{
+    Ok(Block {
+        until: k + 1,
+        parts: all(alloc, actions)?,
+        most,
+    })
+}
+
+/// A block that begins with the turn `k`, whose index is `turn`. After one in which too much is done to look at, the
+/// next has half as many turns, and else one more.
 fn block_from<'a>(
     alloc: Global,
     outer: &[i32],
     k: u64,
     turn: i32,
     last: i32,
+    most: usize,
     actions: &'a [Action],
-    stack: &mut Vec<Row>,
+    look: &mut Look,
 ) -> Result<Block<'a>, AllocError>
     requires { k < 2 ^ 33 }
     ensures more { IfOk result (λ block. k < block.until) }
@@ -83,23 +112,24 @@ fn block_from<'a>(
         → DoSame (outer.now ++ (turn +ℤ pos j) ∷ []) (seen block.parts)
         (map view_action actions.now)) }
 {
-    let until = k + LANES as u64;
-    let count = turns_left(turn, last);
+    let count = turns_left(turn, last).min(most);
     if count < FEW {
-        return Ok(Block {
-            until,
-            parts: all(alloc, actions)?,
-        });
+        return one_turn(alloc, k, actions, FEW);
     }
-    let group = List::from_slice(alloc, &[index_row(turn, last)])?;
+    let rows = List::from_slice(alloc, &[index_row(turn, last, count)])?;
     let turns = Turns {
         outer,
-        groups: &[group],
-        count,
+        groups: &[Group { rows, count }],
     };
+    look.room = MOST_TURNS;
+    let parts = busy(alloc, turns, actions, look)?;
+    if look.room == 0 {
+        return one_turn(alloc, k, actions, count / 2);
+    }
     Ok(Block {
-        until,
-        parts: busy(alloc, turns, actions, stack)?,
+        until: k + count as u64,
+        parts,
+        most: count + 1,
     })
 }
 
@@ -112,7 +142,7 @@ pub(crate) fn block_at<'a>(
     k: u64,
     block: Block<'a>,
     actions: &'a [Action],
-    stack: &mut Vec<Row>,
+    look: &mut Look,
 ) -> Result<Block<'a>, AllocError>
     requires inside { (first +ℤ pos k) ≤ℤ last }
     requires block { IsBlock outer.now first last k block.until (seen block.parts) (map view_action actions.now) }
@@ -120,6 +150,7 @@ pub(crate) fn block_at<'a>(
     ensures block { IfOk result (λ next. IsBlock outer.now first last k next.until (seen next.parts)
         (map view_action actions.now)) }
 {
+    let most = block.most;
     if k < block.until {
         return Ok(block);
     }
@@ -129,7 +160,8 @@ pub(crate) fn block_at<'a>(
         k,
         turn_at(first, last, k),
         last,
+        most,
         actions,
-        stack,
+        look,
     )
 }

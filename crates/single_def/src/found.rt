@@ -6,7 +6,7 @@ ghost use Rattle.single_def.specs.Private.Actions.{Gives, signal_elements, view_
 ghost use Rattle.single_def.specs.Private.States.{found_of};
 
 use crate::actions::{Body, Signal};
-use crate::lanes::Row;
+use crate::ahead::Look;
 use crate::{DefFault, Element, Instance};
 use lists::List;
 use std::alloc::{AllocError, Global};
@@ -22,8 +22,7 @@ pub(crate) struct Found {
     pub elements: List<Element>,
     /// For manifest constants.
     pub stack: Vec<i32>,
-    /// For manifest constants in several turns at once.
-    pub rows: Vec<Row>,
+    pub look: Look,
 }
 
 impl Found {
@@ -35,7 +34,7 @@ impl Found {
             instances: List::new(alloc),
             elements: List::new(alloc),
             stack: Vec::new(alloc),
-            rows: Vec::new(alloc),
+            look: Look::new(alloc),
         }
     }
 }

@@ -1,19 +1,18 @@
 //! Instances, from main on: each does the actions of its function.
 
-ghost use Rattle.std.specs.Prelude.{◌≡◌, ◌+ℤ◌, ◌-ℤ◌, ◌∷◌, ◌++◌, [], map, pos, slice_get, option_copied, IfOk};
-ghost use Rattle.single_def.specs.ElementRules as rules;
-ghost use Rattle.single_def.specs.ElementRules.{count_up};
+ghost use Rattle.std.specs.Prelude.{◌≡◌, ◌∷◌, ◌++◌, [], map, slice_get, option_copied, IfOk};
 ghost use Rattle.single_def.specs.Private.Actions as run;
 ghost use Rattle.single_def.specs.Private.Actions.{Gives, actions_of, view_action, view_actions, view_body, run_instance};
 ghost use Rattle.single_def.specs.Private.Parts.{view_part};
 ghost use Rattle.single_def.specs.Private.States.{found_of, state_of, made_in};
 
 use crate::actions::{Action, Body, Bound};
-use crate::blocks::{Block, block_at, turn_at};
+use crate::blocks::{Block, block_at};
 use crate::checks::{bound, place, run_check};
 use crate::found::{Found, count, enter_instance};
 use crate::known::{Known, check_all_defined, define_all, define_place, preset_place};
 use crate::parts::{Part, all};
+use crate::turns::{turn_at, turn_count};
 use crate::{DefFault, Instance};
 use lists::List;
 use std::alloc::{AllocError, Global};
@@ -25,28 +24,6 @@ pub(crate) struct Inside<'a> {
     pub plan: &'a [Body],
     pub calls: u32,
     pub number: u32,
-}
-
-fn at_least_0(count: i64) -> u64
-    ensures { result ≡ rules.at_least_0 count }
-{
-    match u64::try_from(count) {
-        Ok(count) => count,
-        Err(_) => 0,
-    }
-}
-
-fn one_more_than(first: i32, last: i32) -> i64
-    ensures { result ≡ last -ℤ first +ℤ pos 1 }
-{
-    i64::from(last) - i64::from(first) + 1
-}
-
-/// How many turns a loop has.
-fn turn_count(first: i32, last: i32) -> u64
-    ensures { result ≡ count_up first last }
-{
-    at_least_0(one_more_than(first, last))
 }
 
 fn body_at(plan: &[Body], func: u32) -> Option<&Body>
@@ -248,7 +225,7 @@ fn run_turns(
             k,
             block,
             actions,
-            &mut found.rows,
+            &mut found.look,
         )?;
         run_turn(inside, depth, outer, turn, &block.parts, at, known, found)?;
     }

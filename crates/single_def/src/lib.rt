@@ -13,6 +13,7 @@ mod checks;
 mod elements;
 mod fault;
 mod found;
+mod groups;
 mod instances;
 mod items;
 mod known;
@@ -24,6 +25,7 @@ mod plan;
 mod scope;
 mod sizes;
 mod subscripts;
+mod turns;
 mod weights;
 mod words;
 

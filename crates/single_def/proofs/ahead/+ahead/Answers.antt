@@ -5,7 +5,7 @@ use Rattle.single_def.specs.Private.Parts.{seen}
 use Rattle.single_def.specs.Private.Ahead.{InEach, DoSame}
 use Rattle.single_def.proofs.IdleActions.{taken_more}
 use Rattle.single_def.proofs.PartRows.{view_Loop}
-use Rattle.single_def.proofs.AheadParts.{on_same, among_same, does_whole, does_no_turn, does_turns}
+use Rattle.single_def.proofs.AheadParts.{on_same, held_same, does_whole, does_no_turn, does_turns}
 use Rattle.single_def.proofs.ahead.+ahead.Goals as goal
 
 pub busy-loop-action-preserved : goal.busy-loop-action-preserved
@@ -34,12 +34,11 @@ pub put_busy-returns : goal.put_busy-returns
 put_busy-returns t c =
     let reached = rw c.in-Some.is at c.in_ok-inner_turns.ensures in
     let outer = c.args.turns.outer.now in
-    let count = c.args.turns.count in
     let kept = seen c.in_ok-own.own in
     let all = map view_action c.in-Repeat.actions.items in
     let lo : Bor Bound = record { ref_ptr = c.args.action.ref_ptr; now = c.in-Repeat.lo } in
     let hi : Bor Bound = record { ref_ptr = c.args.action.ref_ptr; now = c.in-Repeat.hi } in
-    let own = among_same outer count c.as_slice.result.now c.in-Some.inner.items kept (map view_action c.deref.result.now) all c.as_slice.ensures.value (ap (map view_action) c.deref.ensures.value) c.in_ok-own.ensures in
+    let own = held_same outer c.as_slice.result.now c.in-Some.inner.items kept (map view_action c.deref.result.now) all c.as_slice.ensures.value (ap (map view_action) c.deref.ensures.value) c.in_ok-own.ensures in
     on_same c.put_part-2.result (λ is.
     does_turns c.args.turns (seen c.args.parts.now) c.args.action.now c.in-Repeat.lo c.in-Repeat.hi c.in-Repeat.actions c.in-Repeat.at c.in-Repeat.is
     c.in-Some.inner.items reached kept _ (seen c.put_part-2.new.parts) (view_Loop lo hi c.in_ok-own.own c.in-Repeat.at) is own)

@@ -1,0 +1,5 @@
+use Rattle.single_def.proofs.HeldTurns.{HasFirst}
+use Rattle.single_def.proofs.ahead.put_lane.Given as goal
+
+abbrev pub invariant-loop-j : goal.invariant-loop-j
+invariant-loop-j l = HasFirst l.lanes l.first l.last l.k l.fn.inner.items l.inner.items l.j

@@ -1,0 +1,10 @@
+use Rattle.std.proofs.Common.{◌<◌, ◌+ℤ◌, ◌≤ℤ◌, ◌++◌, ◌∷◌, [], ℕ, pos}
+use Rattle.single_def.specs.Private.Lanes.{at, turns_at}
+use Rattle.single_def.specs.Private.Ahead.{Holds, Keeps}
+use Rattle.single_def.proofs.ahead.put_lanes.Given as goal
+
+abbrev pub invariant-loop-k : goal.invariant-loop-k
+invariant-loop-k l =
+    Keeps l.lanes.outer.now l.fn.inner.items l.inner.items
+    × ((i : ℕ) → i < l.k → (j : ℕ) → (at l.first i +ℤ pos j) ≤ℤ at l.last i
+    → Holds l.lanes.outer.now l.inner.items (turns_at l.lanes i ++ (at l.first i +ℤ pos j) ∷ []))
