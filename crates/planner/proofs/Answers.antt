@@ -7,7 +7,7 @@ use Rattle.signal_graph.specs.declared.graph.Graph.{Graph}
 use Rattle.plan_core.specs.Lowered.{IsLowered}
 use Rattle.plan_core.specs.Assigned.{IsAssigned}
 use Rattle.plan_core.specs.ListSchedule.{IsListSchedule}
-use Rattle.plan_core.specs.Arcs.{IsArcs, IsUnroll}
+use Rattle.plan_core.specs.Arcs.{IsArcs}
 use Rattle.plan_core.specs.declared.delay_lines.Lowered.{Lowered}
 use Rattle.plan_core.specs.declared.schedule.Assigned.{Assigned}
 use Rattle.plan_core.specs.declared.schedule.Schedule.{Schedule}

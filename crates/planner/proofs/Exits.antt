@@ -31,7 +31,7 @@ use Rattle.planner.specs.declared.fault.PlanFault.{PlanFault}
 use Rattle.planner.specs.declared.fault.PlanFault.TheVariants.{Memory}
 use Rattle.planner.specs.declared.registers.FileFault.{FileFault}
 use Rattle.planner.specs.declared.registers.FileFault.TheVariants as file
-use Rattle.planner.proofs.Stages.{IsOnly, Comes, IsSettled, Found, Refused, only_ok, only_err, stops, goes}
+use Rattle.planner.proofs.Stages.{IsOnly, IsSettled, Found, Refused, only_ok, only_err, stops, goes}
 use Rattle.planner.proofs.OwnRegisters.{AreOwn, Places, only_registers, only_full}
 use Rattle.planner.proofs.Answers.{of_arc, Lines, IsBound, Units, Cycles, Lifetimes, whole, Whole, FromArcs, FromSchedule, FromUnits, FromLines, Passes, IsAnswer, settled}
 
