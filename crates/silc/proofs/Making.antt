@@ -8,7 +8,7 @@ use Rattle.silc.specs.Limits.{text_limit}
 use Rattle.silc.specs.Refusals.{IsPlanError}
 use Rattle.silc.specs.Private.Compiling.{IsMade}
 use Rattle.silc.specs.declared.status.Status.{Status}
-use Rattle.silc.specs.declared.status.Status.TheVariants.{Done, Memory, Words, Desk, FrontEnd, Path, Period, FileFull, Image, Samples, Conflict, NotBuilt}
+use Rattle.silc.specs.declared.status.Status.TheVariants.{Done, Memory, Words, Desk, FrontEnd, Path, LinesFull, Period, FileFull, Image, Samples, Conflict}
 use Rattle.silc.specs.declared.status.Status.TheVariants as status
 use Rattle.silc.proofs.Endings.{specified_still, finished_still, not_written_still}
 use Rattle.silc.proofs.Errors.{error_still}
@@ -42,9 +42,9 @@ module _ (src datapath out : Name) (old mid new : View) (same : IsUnchanged mid 
   reported (FrontEnd fault) h = still (FrontEnd fault) h
   reported (Path fault) h = still (Path fault) h
   reported (status.Unit refusal) h = still (status.Unit refusal) h
+  reported (LinesFull node) h = still (LinesFull node) h
   reported (Period node) h = still (Period node) h
   reported (FileFull unit port node) h = still (FileFull unit port node) h
   reported (Image fault) h = still (Image fault) h
   reported (Samples fault) h = still (Samples fault) h
   reported (Conflict conflict) h = still (Conflict conflict) h
-  reported NotBuilt h = still NotBuilt h

@@ -19,7 +19,7 @@ use Rattle.silc.specs.Private.Reading.{IsInput}
 use Rattle.silc.specs.declared.files.Input.{Input}
 use Rattle.silc.specs.declared.files.Input.TheVariants.{TooLong}
 use Rattle.silc.specs.declared.status.Status.{Status}
-use Rattle.silc.specs.declared.status.Status.TheVariants.{Done, Memory, Words, Desk, FrontEnd, Path, Period, FileFull, Image, Samples, Conflict, NotBuilt}
+use Rattle.silc.specs.declared.status.Status.TheVariants.{Done, Memory, Words, Desk, FrontEnd, Path, LinesFull, Period, FileFull, Image, Samples, Conflict}
 use Rattle.silc.specs.declared.status.Status.TheVariants as status
 
 -- a file that is too long has that fault
@@ -30,9 +30,9 @@ too_long_path d long = rw (lt-ltb (2 ^ 20) (length d) long) refl
 -- the status tells why a source has no plan, whatever the source and the datapath are
 refusal : (g : Graph) (path : Datapath) (status : Status) → IsUnplanned status g path → IsRefusal status
 refusal g path (status.Unit reason) h = tt
+refusal g path (LinesFull node) h = tt
 refusal g path (Period node) h = tt
 refusal g path (FileFull u port node) h = tt
-refusal g path NotBuilt h = tt
 refusal g path Done h = absurd h
 refusal g path Memory h = absurd h
 refusal g path Words h = absurd h
@@ -62,9 +62,9 @@ module _ (s d : Content) (program : Program) (read : HasProgram s program) (g : 
 
   pub refused : (status : Status) → IsUnplanned status g path → IsRefused status s d
   refused (status.Unit refusal) h = unplanned_over (status.Unit refusal) h
+  refused (LinesFull node) h = unplanned_over (LinesFull node) h
   refused (Period node) h = unplanned_over (Period node) h
   refused (FileFull u port node) h = unplanned_over (FileFull u port node) h
-  refused NotBuilt h = unplanned_over NotBuilt h
   refused Done h = absurd h
   refused Memory h = absurd h
   refused Words h = absurd h
@@ -85,12 +85,12 @@ no_path source datapath program g has Words h = absurd h
 no_path source datapath program g has Desk h = absurd h
 no_path source datapath program g has (FrontEnd fault) h = absurd h
 no_path source datapath program g has (status.Unit reason) h = absurd h
+no_path source datapath program g has (LinesFull node) h = absurd h
 no_path source datapath program g has (Period node) h = absurd h
 no_path source datapath program g has (FileFull u port node) h = absurd h
 no_path source datapath program g has (Image fault) h = absurd h
 no_path source datapath program g has (Samples fault) h = absurd h
 no_path source datapath program g has (Conflict conflict) h = absurd h
-no_path source datapath program g has NotBuilt h = absurd h
 
 -- why the graph has no plan is why the inputs have none
 pub no_input_plan : (source datapath : Input) (program : Program) (g : Graph) → IsSourceIn source program g → (path : Datapath)

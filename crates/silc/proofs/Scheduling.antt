@@ -12,7 +12,7 @@ use Rattle.silc.specs.Schedule.{IsPrintedMore, IsPrintedInPart, IsPrintCutShort,
 use Rattle.silc.specs.Private.Printing.{IsMadeSchedule, PrintsOnly, IsPrintedSoFar}
 use Rattle.silc.specs.Private.Reading.{OnlyReads}
 use Rattle.silc.specs.declared.status.Status.{Status}
-use Rattle.silc.specs.declared.status.Status.TheVariants.{Done, Memory, Words, Desk, FrontEnd, Path, Period, FileFull, Image, Samples, Conflict, NotBuilt}
+use Rattle.silc.specs.declared.status.Status.TheVariants.{Done, Memory, Words, Desk, FrontEnd, Path, LinesFull, Period, FileFull, Image, Samples, Conflict}
 use Rattle.silc.specs.declared.status.Status.TheVariants as status
 use Rattle.silc.proofs.Endings.{through_still}
 use Rattle.silc.proofs.Errors.{error_still}
@@ -101,9 +101,9 @@ module _ (src datapath : Name) (old mid new : View) (same : IsUnchanged mid new)
   schedule_reported (FrontEnd fault) h = still (FrontEnd fault) h
   schedule_reported (Path fault) h = still (Path fault) h
   schedule_reported (status.Unit refusal) h = still (status.Unit refusal) h
+  schedule_reported (LinesFull node) h = still (LinesFull node) h
   schedule_reported (Period node) h = still (Period node) h
   schedule_reported (FileFull unit port node) h = still (FileFull unit port node) h
   schedule_reported (Image fault) h = still (Image fault) h
   schedule_reported (Samples fault) h = still (Samples fault) h
   schedule_reported (Conflict conflict) h = still (Conflict conflict) h
-  schedule_reported NotBuilt h = still NotBuilt h

@@ -20,7 +20,7 @@ use Rattle.sample_io.specs.Samples.{printed, printed_row, stream_of}
 use Rattle.silc.specs.declared.sim.Kept.{Kept}
 use Rattle.silc.specs.declared.status.Status.{Status}
 use Rattle.silc.specs.declared.status.Status.TheVariants as status
-use Rattle.silc.specs.declared.status.Status.TheVariants.{Done, Memory, Words, Desk, FrontEnd, Path, Period, FileFull, Image as bad_image, Samples as bad_samples, Conflict as in_conflict, NotBuilt}
+use Rattle.silc.specs.declared.status.Status.TheVariants.{Done, Memory, Words, Desk, FrontEnd, Path, LinesFull, Period, FileFull, Image as bad_image, Samples as bad_samples, Conflict as in_conflict}
 use Rattle.silc.specs.Endings.{IsNotWritten, IsFinished}
 use Rattle.silc.specs.Limits.{microcode_limit, samples_limit}
 use Rattle.silc.specs.Private.Reading.{OnlyReads}
@@ -98,9 +98,9 @@ error_before image stream later all (in_conflict conflict) e h = subst (λ rows.
 error_before image stream later all (FrontEnd fault) e h = absurd h
 error_before image stream later all (Path fault) e h = absurd h
 error_before image stream later all (status.Unit refusal) e h = absurd h
+error_before image stream later all (LinesFull node) e h = absurd h
 error_before image stream later all (Period node) e h = absurd h
 error_before image stream later all (FileFull unit port node) e h = absurd h
-error_before image stream later all NotBuilt e h = absurd h
 
 -- the machine's own image ran
 pub own_image : (image : Image) (stream : Rows) (machine : Snapshot) (text : Content) → HasRun image stream machine text → HasRun machine.image stream machine text
@@ -153,9 +153,9 @@ module _ (mic samples : Name) (old mid new : View) (machine : Snapshot) (first :
     run_error (FrontEnd fault) h = absurd h
     run_error (Path fault) h = absurd h
     run_error (status.Unit refusal) h = absurd h
+    run_error (LinesFull node) h = absurd h
     run_error (Period node) h = absurd h
     run_error (FileFull unit port node) h = absurd h
-    run_error NotBuilt h = absurd h
 
 -- OUT was written
 pub simulated : (mic samples out : Name) (old mid new : View) (machine : Snapshot) (text : Content) → IsMadeRun mic samples old mid machine text
@@ -226,6 +226,6 @@ module _ (mic samples out : Name) (old mid new : View) (same : IsUnchanged mid n
   sim_reported kept (FrontEnd fault) h = h
   sim_reported kept (Path fault) h = h
   sim_reported kept (status.Unit refusal) h = h
+  sim_reported kept (LinesFull node) h = h
   sim_reported kept (Period node) h = h
   sim_reported kept (FileFull unit port node) h = h
-  sim_reported kept NotBuilt h = h

@@ -20,7 +20,7 @@ use Rattle.silc.specs.declared.files.Input.{Input}
 use Rattle.silc.specs.declared.files.Input.TheVariants.{Whole, TooLong}
 use Rattle.silc.specs.declared.status.Status.{Status}
 use Rattle.silc.specs.declared.status.Status.TheVariants as status
-use Rattle.silc.specs.declared.status.Status.TheVariants.{Done, Memory, Words, Desk, FrontEnd, Path, Period, FileFull, Image, Samples, Conflict, NotBuilt}
+use Rattle.silc.specs.declared.status.Status.TheVariants.{Done, Memory, Words, Desk, FrontEnd, Path, LinesFull, Period, FileFull, Image, Samples, Conflict}
 use Rattle.silc.specs.Endings.{IsNotWritten, IsFinished}
 use Rattle.silc.specs.Eval.{type_channel, program_channels, IsEvalUnread, IsEvalError, IsEvalDone, IsEvalCutShort, IsEvalAnswer}
 use Rattle.silc.specs.Limits.{text_limit, samples_limit}
@@ -76,11 +76,11 @@ module _ (src samples : Name) (old mid new : View) (first : OnlyReads src src ol
   rows_error (FrontEnd fault) h = absurd h
   rows_error (Path fault) h = absurd h
   rows_error (status.Unit refusal) h = absurd h
+  rows_error (LinesFull node) h = absurd h
   rows_error (Period node) h = absurd h
   rows_error (FileFull unit port node) h = absurd h
   rows_error (Image fault) h = absurd h
   rows_error (Conflict conflict) h = absurd h
-  rows_error NotBuilt h = absurd h
 
   module _ (list : RowList) (rows : AreRowsRead samples channels mid new list) where
     -- the rows are rows for the graph
@@ -119,12 +119,12 @@ source_error src samples old new reads Done h = absurd h
 source_error src samples old new reads Words h = absurd h
 source_error src samples old new reads (Path fault) h = absurd h
 source_error src samples old new reads (status.Unit refusal) h = absurd h
+source_error src samples old new reads (LinesFull node) h = absurd h
 source_error src samples old new reads (Period node) h = absurd h
 source_error src samples old new reads (FileFull unit port node) h = absurd h
 source_error src samples old new reads (Image fault) h = absurd h
 source_error src samples old new reads (Samples fault) h = absurd h
 source_error src samples old new reads (Conflict conflict) h = absurd h
-source_error src samples old new reads NotBuilt h = absurd h
 
 -- OUT was written
 pub solved : (src samples out : Name) (old mid new : View) (text : Content) → IsMadeText src samples old mid text → mid.files ≡ old.files
@@ -179,8 +179,8 @@ module _ (src samples out : Name) (old mid new : View) (same : IsUnchanged mid n
   eval_reported Words h = h
   eval_reported (Path fault) h = h
   eval_reported (status.Unit refusal) h = h
+  eval_reported (LinesFull node) h = h
   eval_reported (Period node) h = h
   eval_reported (FileFull unit port node) h = h
   eval_reported (Image fault) h = h
   eval_reported (Conflict conflict) h = h
-  eval_reported NotBuilt h = h

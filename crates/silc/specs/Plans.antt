@@ -3,20 +3,20 @@ use Rattle.std.specs.Prelude.{◌≡◌, ℕ, List, Ok}
 use Rattle.datapath.specs.PathOf.{path_of}
 use Rattle.datapath.specs.declared.types.Datapath.{Datapath}
 use Rattle.signal_graph.specs.declared.graph.Graph.{Graph}
-use Rattle.plan_core.specs.Hardware.{port_of}
 use Rattle.plan_core.specs.declared.plan.Plan.{Plan}
 use Rattle.plan_run.specs.PrivateRegisters.{IsPrivatePlan}
-use Rattle.planner.specs.Delayless.{IsDelayless}
-use Rattle.planner.specs.Faults.{HasUnboundNode, HasUnplacedNode, HasUnkeptNode}
+use Rattle.planner.specs.Faults.{IsPlanFault}
+use Rattle.planner.specs.declared.fault.PlanFault.{PlanFault}
+use Rattle.planner.specs.declared.fault.PlanFault.TheVariants as plan
+use Rattle.delay_memory.specs.declared.fault.LineFault.TheVariants as line
 use Rattle.silage_syntax.specs.Tree.{Program}
 use Rattle.front_end.specs.Faults.{HasProgram}
 use Rattle.front_end.specs.GraphOf.{IsProgramGraph}
-use Rattle.unit_assign.specs.declared.fault.UnitFault.{UnitFault}
 use Rattle.unit_assign.specs.declared.fault.UnitFault.TheVariants as unit
 use Rattle.silc.specs.declared.status.Status.{Status}
-use Rattle.silc.specs.declared.status.Status.TheVariants.{Unit as Unbound, Period, FileFull, NotBuilt}
+use Rattle.silc.specs.declared.status.Status.TheVariants.{Unit as Unbound, LinesFull, Period, FileFull}
 use Rattle.silc.specs.declared.status.UnitRefusal.{UnitRefusal}
-use Rattle.silc.specs.declared.status.UnitRefusal.TheVariants.{NoUnit, NoRoute, TooWide}
+use Rattle.silc.specs.declared.status.UnitRefusal.TheVariants.{NoUnit, NoRoute, TooWide, NoRam, NoAcu}
 
 -- The source has this program and no other, the file describes this datapath, and the plan is that of the program's
 -- graph over the datapath.
@@ -32,19 +32,20 @@ pub record IsPlannedOver (source datapath : List ℕ) (program : Program) (d : D
 abbrev pub HasPlan : (source datapath : List ℕ) → Datapath → Plan → Type 0
 HasPlan source datapath d plan = (program : Program) × IsPlannedOver source datapath program d plan
 
--- the refusal as the fault of a node without a unit
-abbrev pub fault_of : UnitRefusal → UnitFault
-fault_of (NoUnit kind v) = unit.NoUnit kind v
-fault_of (NoRoute u port v) = unit.NoRoute u port v
-fault_of (TooWide v) = unit.TooWide v
+-- the refusal as a fault of a plan
+abbrev pub fault_of : UnitRefusal → PlanFault
+fault_of (NoUnit kind v) = plan.Unit (unit.NoUnit kind v)
+fault_of (NoRoute u port v) = plan.Unit (unit.NoRoute u port v)
+fault_of (TooWide v) = plan.Unit (unit.TooWide v)
+fault_of (NoRam v) = plan.Line (line.NoRam v)
+fault_of (NoAcu ram v) = plan.Line (line.NoAcu ram v)
 
--- Why a graph has no plan over a datapath: the first rule that finds no place, and in it the first node. A graph that
--- reads words of earlier samples is not planned today.
+-- Why a graph has no plan over a datapath: the first rule that finds no place, and in it the first node.
 abbrev pub IsUnplanned : Status → Graph → Datapath → Type 0
-IsUnplanned (Unbound refusal) g d = IsDelayless g × HasUnboundNode g d (fault_of refusal)
-IsUnplanned (Period node) g d = IsDelayless g × HasUnplacedNode g d node
-IsUnplanned (FileFull u port node) g d = IsDelayless g × HasUnkeptNode g d (port_of u port) node
-IsUnplanned NotBuilt g d = ¬ IsDelayless g
+IsUnplanned (Unbound refusal) g d = IsPlanFault g d (fault_of refusal)
+IsUnplanned (LinesFull node) g d = IsPlanFault g d (plan.Line (line.LinesFull node))
+IsUnplanned (Period node) g d = IsPlanFault g d (plan.Period node)
+IsUnplanned (FileFull u port node) g d = IsPlanFault g d (plan.FileFull u port node)
 IsUnplanned _ g d = ⊥
 
 -- the source has a program, the file describes a datapath, and this is why the graph has no plan over it

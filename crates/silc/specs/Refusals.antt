@@ -13,7 +13,7 @@ use Rattle.silc.specs.Plans.{IsUnplannedOver}
 use Rattle.silc.specs.Sources.{IsAcceptedSource}
 use Rattle.silc.specs.declared.status.Status.{Status}
 use Rattle.silc.specs.declared.status.Status.TheVariants.{Memory, Desk, FrontEnd, Path, Unit as Unbound}
-use Rattle.silc.specs.declared.status.Status.TheVariants.{Period, FileFull, NotBuilt}
+use Rattle.silc.specs.declared.status.Status.TheVariants.{LinesFull, Period, FileFull}
 
 -- the fault is one of a datapath; want of memory is a status of its own
 abbrev pub IsOfPath : PathFault → Type 0
@@ -25,9 +25,9 @@ abbrev pub IsRefusal : Status → Type 0
 IsRefusal (FrontEnd fault) = IsOfSource fault
 IsRefusal (Path fault) = IsOfPath fault
 IsRefusal (Unbound refusal) = Unit {0}
+IsRefusal (LinesFull node) = Unit {0}
 IsRefusal (Period node) = Unit {0}
 IsRefusal (FileFull unit port node) = Unit {0}
-IsRefusal NotBuilt = Unit {0}
 IsRefusal _ = ⊥
 
 -- what it tells: a fault comes only where nothing before it has one

@@ -17,7 +17,7 @@ use datapath::{Datapath, PathFault};
 use desk_core::Desk;
 use front_end::{Accepted, FrontFault, accept};
 use plan_core::Plan;
-use planner::{has_delays, plan};
+use planner::plan;
 use signal_graph::Graph;
 use std::alloc::Global;
 
@@ -60,9 +60,6 @@ fn plan_over(alloc: Global, graph: Graph, path: &Datapath) -> Result<Plan, Statu
     ensures ok { IfOk result (IsPrivatePlan graph path.now) }
     ensures err { IfErr result (IsWithoutPlan graph path.now) }
 {
-    if has_delays(&graph) {
-        return Err(Status::NotBuilt);
-    }
     Ok(plan(alloc, graph, path)?)
 }
 
@@ -112,9 +109,9 @@ pub(crate) fn read_plan<D: Desk>(
 ///
 /// # Errors
 ///
-/// `FrontEnd` where the source has no program; else `Path` where the file describes no datapath; else `NotBuilt` where
-/// the program's graph has a delay; else `Unit`, `Period` and `FileFull` where a node has no unit, no cycle and no
-/// register. `Memory` where no memory is left.
+/// `FrontEnd` where the source has no program; else `Path` where the file describes no datapath; else `Unit` or
+/// `LinesFull` where a node has no delay line; else `Unit`, `Period` and `FileFull` where a node has no unit, no cycle
+/// and no register. `Memory` where no memory is left.
 pub fn plan_of(alloc: Global, src: &[u8], path: &[u8]) -> Result<Planned, Status>
     ensures ok { IfOk result (λ planned. HasPlan src.now path.now planned.path planned.plan) }
     ensures allowed { IfOk result (λ planned. IsDatapath planned.path) }

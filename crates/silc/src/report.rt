@@ -59,12 +59,12 @@ fn report_error<D: Desk>(desk: &mut D, ending: &Ending)
     desk.complain(piece.as_bytes());
 }
 
-/// An error that names a port by the name of its unit.
+/// An error that is about a unit, or about a port of it. Its line has the unit's name.
 #[derive(Drop)]
-struct PortError<'a> {
+struct UnitError<'a> {
     cause: &'static str,
     unit: &'a Unit,
-    port: u8,
+    port: Option<u8>,
     relation: &'static str,
     node: u32,
 }
@@ -77,20 +77,27 @@ fn unit_at(ending: &Ending, unit: u8) -> Option<&Unit> {
     }
 }
 
-/// The port that the error names, where it names one.
-fn port_error(ending: &Ending) -> Option<PortError<'_>> {
+/// The unit that the error names, where it names one.
+fn unit_error(ending: &Ending) -> Option<UnitError<'_>> {
     match ending.status {
-        Status::Unit(UnitRefusal::NoRoute { unit, port, node }) => Some(PortError {
+        Status::Unit(UnitRefusal::NoRoute { unit, port, node }) => Some(UnitError {
             cause: "no route to",
             unit: unit_at(ending, unit)?,
-            port,
+            port: Some(port),
             relation: "for",
             node,
         }),
-        Status::FileFull { unit, port, node } => Some(PortError {
+        Status::Unit(UnitRefusal::NoAcu { ram, node }) => Some(UnitError {
+            cause: "no acu for ram",
+            unit: unit_at(ending, ram)?,
+            port: None,
+            relation: "at",
+            node,
+        }),
+        Status::FileFull { unit, port, node } => Some(UnitError {
             cause: "file full",
             unit: unit_at(ending, unit)?,
-            port,
+            port: Some(port),
             relation: "at",
             node,
         }),
@@ -98,8 +105,8 @@ fn port_error(ending: &Ending) -> Option<PortError<'_>> {
     }
 }
 
-/// Reports an error that names a port.
-fn report_port<D: Desk>(desk: &mut D, error: &PortError)
+/// Reports an error that names a unit.
+fn report_unit<D: Desk>(desk: &mut D, error: &UnitError)
     ensures faults { FaultsNeverFall (D.view desk.old) (D.view desk.new) }
     ensures unchanged { IsUnchanged (D.view desk.old) (D.view desk.new) }
 {
@@ -108,11 +115,10 @@ fn report_port<D: Desk>(desk: &mut D, error: &PortError)
     desk.complain(piece.as_bytes());
     desk.complain(error.unit.name.as_slice());
     piece.clear();
-    let _ = writeln!(
-        piece,
-        ".{} {} node {}",
-        error.port, error.relation, error.node
-    );
+    if let Some(port) = error.port {
+        let _ = write!(piece, ".{port}");
+    }
+    let _ = writeln!(piece, " {} node {}", error.relation, error.node);
     desk.complain(piece.as_bytes());
 }
 
@@ -121,8 +127,8 @@ pub(crate) fn report<D: Desk>(desk: &mut D, ending: &Ending)
     ensures faults { FaultsNeverFall (D.view desk.old) (D.view desk.new) }
     ensures unchanged { IsUnchanged (D.view desk.old) (D.view desk.new) }
 {
-    match port_error(ending) {
-        Some(error) => report_port(desk, &error),
+    match unit_error(ending) {
+        Some(error) => report_unit(desk, &error),
         None => report_error(desk, ending),
     }
 }

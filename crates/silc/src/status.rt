@@ -1,11 +1,12 @@
 ghost use Rattle.std.specs.Prelude.{◌≡◌, None};
 ghost use Rattle.silc.specs.Status.{code_of};
 ghost use Rattle.silc.specs.Private.Statuses.{of_front, of_path, of_plan, of_form, of_rows};
-ghost use Rattle.planner.specs.declared.fault.PlanFault.TheVariants.{Unit as Unbound};
+ghost use Rattle.planner.specs.declared.fault.PlanFault.TheVariants.{Line as Unstored, Unit as Unbound};
 ghost use Rattle.silc.specs.declared.status.Status.TheVariants.{Memory, Desk, Conflict as in_conflict};
 
 use cycle_sim::LoadFault;
 use datapath::{Datapath, Kind, PathFault};
+use delay_memory::LineFault;
 use desk_core::Failed;
 use equation_eval::EvalFault;
 use front_end::{FrontError, FrontFault, NamedElement, Rejection};
@@ -18,7 +19,8 @@ use std::alloc::AllocError;
 use thiserror::Error;
 use unit_assign::UnitFault;
 
-/// Why the first node without a functional unit has none. A node is named by its number in the program's graph.
+/// Why the first node without a functional unit, or the first without a delay line, has none. A node without a line has
+/// its number in the program's graph, and one without a unit its number where lines have nodes of their own.
 #[derive(Clone, Copy, Debug, PartialEq, Eq, Error)]
 pub enum UnitRefusal {
     /// No unit is of the kind that does the node's operation.
@@ -31,6 +33,13 @@ pub enum UnitRefusal {
     /// The node has more bits than a word of the datapath.
     #[error("node {node} too wide")]
     TooWide { node: u32 },
+    /// The node needs a delay line, and the datapath has no ram.
+    #[error("no ram for node {node}")]
+    NoRam { node: u32 },
+    /// No acu addresses the first ram that has room for the node's delay line. The line that is reported has the ram's
+    /// name in the place of its number.
+    #[error("no acu for ram {ram} at node {node}")]
+    NoAcu { ram: u8, node: u32 },
 }
 
 /// The word of a datapath file for the kind.
@@ -96,9 +105,12 @@ pub enum Status {
     /// The file describes no datapath.
     #[error(transparent)]
     Path(PathFault),
-    /// A node of the program's graph has no functional unit.
+    /// A node of the program's graph has no functional unit, or its delay line none.
     #[error(transparent)]
     Unit(UnitRefusal),
+    /// No ram has as many cells left as the delay line of this node needs.
+    #[error("no ram cells for node {node}")]
+    LinesFull { node: u32 },
     /// No cycle of the period is left for this node.
     #[error("period exceeded at node {node}")]
     Period { node: u32 },
@@ -115,9 +127,6 @@ pub enum Status {
     /// The microcode asks for what the hardware can't do.
     #[error(transparent)]
     Conflict(Conflict),
-    /// The program reads words of earlier samples, which this version doesn't plan.
-    #[error("not built yet")]
-    NotBuilt,
 }
 
 impl From<AllocError> for Status {
@@ -190,6 +199,18 @@ impl From<Rejection> for Status {
     }
 }
 
+/// The status where a node has no delay line.
+fn unstored(fault: LineFault) -> Status
+    ensures { result ≡ of_plan (Unstored fault) }
+{
+    match fault {
+        LineFault::NoRam(node) => Status::Unit(UnitRefusal::NoRam { node }),
+        LineFault::NoAcu { ram, node } => Status::Unit(UnitRefusal::NoAcu { ram, node }),
+        LineFault::LinesFull(node) => Status::LinesFull { node },
+        LineFault::Memory => Status::Memory,
+    }
+}
+
 /// The status where a node has no unit.
 fn unbound(fault: UnitFault) -> Status
     ensures { result ≡ of_plan (Unbound fault) }
@@ -209,6 +230,7 @@ impl From<PlanFault> for Status {
 
     fn from(fault: PlanFault) -> Self {
         match fault {
+            PlanFault::Line(fault) => unstored(fault),
             PlanFault::Unit(fault) => unbound(fault),
             PlanFault::Period(node) => Status::Period { node },
             PlanFault::FileFull { unit, port, node } => Status::FileFull { unit, port, node },
@@ -354,11 +376,11 @@ pub fn code(status: &Status) -> u8
         Status::FrontEnd(_) => 4,
         Status::Path(_) => 5,
         Status::Unit(_) => 6,
+        Status::LinesFull { .. } => 7,
         Status::Period { .. } => 8,
         Status::FileFull { .. } => 9,
         Status::Image(_) => 10,
         Status::Samples(_) => 11,
         Status::Conflict(_) => 12,
-        Status::NotBuilt => 13,
     }
 }

@@ -24,10 +24,10 @@ example: silc compile increment.sil plain.toml increment.mic
 
 The exit code is 0 where all was done, 1 without memory, 2 at words that are no command, 3 at a file
 that can't be read or written, 4 at a source that is no program, 5 at a file that describes no datapath,
-6, 8 and 9 at a program that finds no unit, no cycle or no register on the datapath, 10 at a file that is
-no microcode, 11 at a line that is no row of samples, 12 at microcode that asks for what the hardware
-can't do, and 13 at a program with delays, which this version doesn't compile. An error is reported in
-one line on standard error, and only a fault of writing OUT itself can leave a part of OUT.";
+6 to 9 at a program for which the datapath has no unit, no cells for a delay, no cycle or no register,
+10 at a file that is no microcode, 11 at a line that is no row of samples, and 12 at microcode that asks
+for what the hardware can't do. An error is reported in one line on standard error, and only a fault of
+writing OUT itself can leave a part of OUT.";
 
 const VERSION: &str = "silc 0.1.0";
 

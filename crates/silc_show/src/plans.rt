@@ -14,7 +14,7 @@ use crate::source::{Refusal, told};
 use datapath::Datapath;
 use microcode_asm::{AsmFault, assemble};
 use plan_core::Plan;
-use planner::{PlanFault, has_delays, plan};
+use planner::{PlanFault, plan};
 use signal_graph::Graph;
 use std::alloc::Global;
 
@@ -49,9 +49,6 @@ fn plan_over(alloc: Global, graph: Graph, path: &Datapath) -> Result<Plan, Refus
     requires path { IsDatapath path.now }
     ensures { IfOk result (IsPlanned path.now) }
 {
-    if has_delays(&graph) {
-        return Err(told(alloc, &"the graph has delays"));
-    }
     match plan(alloc, graph, path) {
         Ok(plan) => Ok(plan),
         Err(fault) => Err(without_plan(alloc, fault)),

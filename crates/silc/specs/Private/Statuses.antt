@@ -1,6 +1,7 @@
 -- The statuses that faults of other crates come to.
 use Rattle.datapath.specs.declared.fault.PathFault.{PathFault}
 use Rattle.datapath.specs.declared.fault.PathFault.TheVariants as path
+use Rattle.delay_memory.specs.declared.fault.LineFault.TheVariants as line
 use Rattle.front_end.specs.declared.fault.FrontError.{FrontError}
 use Rattle.front_end.specs.declared.fault.FrontError.TheVariants.{Fault}
 use Rattle.front_end.specs.declared.fault.FrontError.TheVariants as front
@@ -15,7 +16,7 @@ use Rattle.silc.specs.declared.status.SampleFault.TheVariants as sample
 use Rattle.silc.specs.declared.status.Status.{Status}
 use Rattle.silc.specs.declared.status.Status.TheVariants.{Memory, FrontEnd, Path, Image, Samples}
 use Rattle.silc.specs.declared.status.Status.TheVariants as status
-use Rattle.silc.specs.declared.status.UnitRefusal.TheVariants.{NoUnit, NoRoute, TooWide}
+use Rattle.silc.specs.declared.status.UnitRefusal.TheVariants.{NoUnit, NoRoute, TooWide, NoRam, NoAcu}
 use Rattle.unit_assign.specs.declared.fault.UnitFault.TheVariants as unit
 
 -- the status where a source has no program
@@ -30,6 +31,10 @@ of_path fault = Path fault
 
 -- the status where a graph has no plan
 abbrev pub of_plan : PlanFault → Status
+of_plan (plan.Line (line.NoRam v)) = status.Unit (NoRam v)
+of_plan (plan.Line (line.NoAcu ram v)) = status.Unit (NoAcu ram v)
+of_plan (plan.Line (line.LinesFull v)) = status.LinesFull v
+of_plan (plan.Line line.Memory) = Memory
 of_plan (plan.Unit (unit.TooWide v)) = status.Unit (TooWide v)
 of_plan (plan.Unit (unit.NoUnit kind v)) = status.Unit (NoUnit kind v)
 of_plan (plan.Unit (unit.NoRoute u port v)) = status.Unit (NoRoute u port v)
