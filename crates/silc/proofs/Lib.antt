@@ -12,4 +12,6 @@ pub mod Simulating
 pub mod Evaluating
 pub mod TypedRows
 pub mod Solving
+pub mod Executing
+pub mod WordLists
 pub mod Closed

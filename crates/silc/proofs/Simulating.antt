@@ -1,12 +1,12 @@
 -- How a machine runs a stream sample by sample, and how the parts of `sim` make up its answer.
-use Rattle.std.proofs.Common.{◌≡◌, sym, ap, ap₂, subst, ◌∙◌, arith, inl, inr, ⊎_elim, ℕ, ◌+◌, ◌*◌, ◌%◌, ◌<◌, ◌≤◌, ◌^◌, List, [], ◌∷◌, ◌++◌, length, replicate, drop, ℤ, length-append, get_or}
+use Rattle.std.proofs.Common.{◌≡◌, ◌≢◌, sym, ap, ap₂, subst, ◌∙◌, arith, inl, inr, ⊎_elim, ℕ, ◌+◌, ◌*◌, ◌%◌, ◌<◌, ◌≤◌, ◌^◌, List, [], ◌∷◌, ◌++◌, length, replicate, drop, ℤ, length-append, get_or}
 use Rattle.std.proofs.Math.Nat.{mul-mod_left, mul-lt-mul_of_pos_right}
 use Rattle.std.proofs.lemmas.List.{append-nil}
 use Rattle.lists.specs.Rows.{Rows}
 use Rattle.cycle_sim.specs.Machine.{Snapshot, state_of, IsAtSample, IsFirstOfSample}
 use Rattle.desk_core.specs.View.{Name, Content, View}
-use Rattle.desk_core.specs.Desk.{IfSpecified, WhereSpecified, IsPut, FaultsNeverFall, IsUnchanged}
-use Rattle.desk_core.specs.Whole.{IsReadThrough}
+use Rattle.desk_core.specs.Desk.{WhereSpecified, WriteFaultsRose, FaultsNeverFall, IsUnchanged}
+use Rattle.desk_core.specs.Whole.{IsReadThrough, IsWrittenWhole, IsWrittenInPart}
 use Rattle.desk_core.proofs.DeskLemmas.{rose_earlier}
 use Rattle.desk_core.proofs.WholeLemmas.{through_from}
 use Rattle.micro_image.specs.declared.conflict.Conflict.{Conflict}
@@ -21,13 +21,13 @@ use Rattle.silc.specs.declared.sim.Kept.{Kept}
 use Rattle.silc.specs.declared.status.Status.{Status}
 use Rattle.silc.specs.declared.status.Status.TheVariants as status
 use Rattle.silc.specs.declared.status.Status.TheVariants.{Done, Memory, Words, Desk, FrontEnd, Path, LinesFull, Period, FileFull, Image as bad_image, Samples as bad_samples, Conflict as in_conflict}
-use Rattle.silc.specs.Endings.{IsNotWritten, IsFinished}
+use Rattle.silc.specs.Endings.{IsNotWritten}
 use Rattle.silc.specs.Limits.{microcode_limit, samples_limit}
 use Rattle.silc.specs.Private.Reading.{OnlyReads}
-use Rattle.silc.specs.Private.Running.{IsLoaded, IsRunError, IsMadeRun}
+use Rattle.silc.specs.Private.Running.{IsLoaded, IsRunError, IsMadeRun, IsRunPut}
 use Rattle.silc.specs.Private.SampleRows.{AreRowsRead}
 use Rattle.silc.specs.Sim.{channels_of, HasRun, IsFirstConflict, HasStream, IsSimUnread, IsSimError, IsSimulated, IsSimCutShort, IsSimAnswer}
-use Rattle.silc.proofs.Endings.{reads_both, unchanged_still, specified_still, rejected_still, finished_still, not_written_still}
+use Rattle.silc.proofs.Endings.{finished, not_written, reads_both, unchanged_still, specified_still, rejected_still, finished_still, not_written_still}
 use Rattle.silc.proofs.Printing.{printed_more}
 use Rattle.silc.proofs.RowLists.{first_rows, first_more, stream_parts}
 
@@ -157,33 +157,38 @@ module _ (mic samples : Name) (old mid new : View) (machine : Snapshot) (first :
     run_error (Period node) h = absurd h
     run_error (FileFull unit port node) h = absurd h
 
--- OUT was written
-pub simulated : (mic samples out : Name) (old mid new : View) (machine : Snapshot) (text : Content) → IsMadeRun mic samples old mid machine text
-    → mid.files ≡ old.files → IsFinished samples samples_limit old new → IfSpecified (IsPut out text) mid.files new.files
-    → IsSimulated mic samples out machine old new
-simulated mic samples out old mid new machine text made same finished written = record {
-  finished = finished;
-  image = made.image;
-  stream = made.stream;
-  text = text;
-  ran = made.ran;
-  files = λ after is. let put = written after is in (put.0, sym same ∙ put.1, (made.specified put.0 (sym same ∙ put.1), put.2));
-}
+-- OUT was written, or writing it failed
+module _ (mic samples out : Name) (old mid new : View) (machine : Snapshot) (text : Content) (kept : Kept) (status : Status)
+    (apart : out ≢ samples) (reads : OnlyReads mic samples old mid) (made : IsMadeRun mic samples old mid machine text) where
+  simulated : IsWrittenWhole out text mid new → IsSimulated mic samples out machine old new
+  simulated written = record {
+    finished = finished samples out samples_limit text old mid new apart made.read written;
+    image = made.image;
+    stream = made.stream;
+    text = text;
+    ran = made.ran;
+    files = λ after is.
+        let put = written.files after is in
+        let there = sym reads.unchanged.files ∙ put.1 in (put.0, there, (made.specified put.0 there, put.2));
+  }
 
--- writing it failed
-pub not_simulated : (mic samples out : Name) (old mid new : View) (machine : Snapshot) (text : Content) (kept : Kept) (status : Status)
-    → status ≡ Desk → IsMadeRun mic samples old mid machine text → IsNotWritten samples samples_limit out text old new
-    → IsSimAnswer mic samples out old new kept status
-not_simulated mic samples out old mid new machine text kept status desk made written =
-    subst (IsSimAnswer mic samples out old new kept) (sym desk)
-    (inr (record {
-      image = made.image;
-      stream = made.stream;
-      rows = made.ran.rows;
-      run = made.ran.run;
-      specified = made.specified;
-      written = subst (λ bytes. IsNotWritten samples samples_limit out bytes old new) made.ran.text_is written;
-    }))
+  cut_short : WriteFaultsRose out mid new → IsWrittenInPart out text mid new → IsSimCutShort mic samples out old new
+  cut_short rose written = record {
+    image = made.image;
+    stream = made.stream;
+    rows = made.ran.rows;
+    run = made.ran.run;
+    specified = made.specified;
+    written = subst (λ bytes. IsNotWritten samples samples_limit out bytes old new) made.ran.text_is
+        (not_written samples out samples_limit text old mid new apart made.read reads.unchanged.files reads.never_fall rose written);
+  }
+
+  pub run_put : IsRunPut out machine text mid new kept status → IsSimAnswer mic samples out old new kept status
+  run_put h =
+      ⊎_elim
+      (λ done. subst (IsSimAnswer mic samples out old new kept) (sym done.0) (machine, done.1, simulated done.2))
+      (λ failed. subst (IsSimAnswer mic samples out old new kept) (sym failed.0) (inr (cut_short failed.1 failed.2)))
+      h
 
 -- a report of the error leaves the answer of `sim` as it is
 module _ (mic samples out : Name) (old mid new : View) (same : IsUnchanged mid new) (later : FaultsNeverFall mid new) (before : FaultsNeverFall old mid) where

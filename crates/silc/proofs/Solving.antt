@@ -1,5 +1,6 @@
 -- How the parts of `eval` make up its answer.
 use Rattle.std.proofs.Common.{◌≡◌, refl, sym, ap, subst, ◌∙◌, inl, inr, ⊎_elim, List, map}
+use Rattle.lists.specs.Rows.{Rows}
 use Rattle.desk_core.specs.View.{Name, Content, View}
 use Rattle.desk_core.specs.Desk.{IfSpecified, WhereSpecified, IsPut, FaultsNeverFall, IsUnchanged, content_of}
 use Rattle.desk_core.specs.Whole.{IsReadThrough}
@@ -50,6 +51,11 @@ pub source_too_long : (src : Name) (old new : View) (input : Input) → ((bytes 
 source_too_long src old new (Whole bytes) other read long status e = absurd (other bytes refl)
 source_too_long src old new TooLong other read long status e = subst (IsSourceError src old new) (sym e) (tt, read, long)
 
+-- rows of the channels of the graph's inputs are valid rows of the program
+pub program_stream : (p : Program) (g : Graph) → IsGraphFor p g → (stream : Rows) → IsStream (map type_channel g.inputs) stream → program.IsStream p stream
+program_stream p g graph stream rows =
+    (rows_are p stream).1 (subst (λ types. IsStreamOf types stream) graph.keeps.inputs (graph_stream g.inputs stream graph.sound.inputs rows))
+
 -- the channels of the graph's inputs are those of the program's
 module _ (src samples : Name) (old mid new : View) (first : OnlyReads src src old mid) (second : OnlyReads samples samples mid new)
     (p : Program) (g : Graph) (source : IsSourceRead src old p g) (channels : List Channel) (are : channels ≡ map type_channel g.inputs) where
@@ -92,7 +98,7 @@ module _ (src samples : Name) (old mid new : View) (first : OnlyReads src src ol
     }
 
     its_stream : program.IsStream p (stream_of list)
-    its_stream = (rows_are p (stream_of list)).1 (subst (λ types. IsStreamOf types (stream_of list)) source.graph.keeps.inputs list_rows.rows)
+    its_stream = program_stream p g source.graph (stream_of list) (subst (λ cs. IsStream cs (stream_of list)) are rows.stream)
 
     -- the text of the graph's solution is that of the program's
     pub made_text : (text : Content) → IsEvaluated g (stream_of list) text → IsMadeText src samples old new text
@@ -153,7 +159,7 @@ module _ (src samples out : Name) (old mid new : View) (same : IsUnchanged mid n
     rose = ⊎_elim (λ r. inl (rose_earlier _ _ _ (before.reading src) r (later.reading src))) (λ r. inr (rose_earlier _ _ _ (before.reading samples) r.0 (later.reading samples), r.1)) h.rose;
   }
 
-  eval_cut_short_still : IsEvalCutShort src samples out old mid → IsEvalCutShort src samples out old new
+  pub eval_cut_short_still : IsEvalCutShort src samples out old mid → IsEvalCutShort src samples out old new
   eval_cut_short_still h = record {
     program = h.program;
     stream = h.stream;
@@ -163,8 +169,8 @@ module _ (src samples out : Name) (old mid new : View) (same : IsUnchanged mid n
     written = not_written_still old mid new same samples out samples_limit h.text before later h.written;
   }
 
-  pub eval_reported : (status : Status) → IsEvalAnswer src samples out old mid status → IsEvalAnswer src samples out old new status
-  eval_reported Done h = record {
+  abbrev pub eval_done_still : IsEvalDone src samples out old mid → IsEvalDone src samples out old new
+  eval_done_still h = record {
     finished = finished_still old mid new same samples samples_limit h.finished;
     program = h.program;
     stream = h.stream;
@@ -172,6 +178,9 @@ module _ (src samples out : Name) (old mid new : View) (same : IsUnchanged mid n
     solution = h.solution;
     files = specified_still old mid new same _ h.files;
   }
+
+  pub eval_reported : (status : Status) → IsEvalAnswer src samples out old mid status → IsEvalAnswer src samples out old new status
+  eval_reported Done h = eval_done_still h
   eval_reported Memory h = unchanged_still old mid new same h
   eval_reported Desk h = ⊎_elim (λ early. inl (eval_unread_still early)) (λ late. inr (eval_cut_short_still late)) h
   eval_reported (FrontEnd fault) h = (h.0, rejected_still old mid new same src text_limit _ h.1)

@@ -39,13 +39,35 @@ pub record IsSchedule (words : List (String Global)) (src datapath : Name) : Typ
   pub src_is : string_bytes src_word ≡ src
   pub datapath_is : string_bytes datapath_word ≡ datapath
 
--- the words are one of the commands that write a file, on these files
+-- the words are `run SRC DP SAMPLES OUT`, and OUT is no input
+pub record IsRun (words : List (String Global)) (src datapath samples out : Name) : Type 0 where
+  pub verb_word : String Global
+  pub src_word : String Global
+  pub datapath_word : String Global
+  pub samples_word : String Global
+  pub out_word : String Global
+  pub all : words ≡ verb_word ∷ src_word ∷ datapath_word ∷ samples_word ∷ out_word ∷ []
+  pub verb_is : string_bytes verb_word ≡ codes "run"
+  pub src_is : string_bytes src_word ≡ src
+  pub datapath_is : string_bytes datapath_word ≡ datapath
+  pub samples_is : string_bytes samples_word ≡ samples
+  pub out_is : string_bytes out_word ≡ out
+  pub not_src : out ≢ src
+  pub not_datapath : out ≢ datapath
+  pub not_samples : out ≢ samples
+
+-- the words are one of the commands that read two files and write a third, on these files
 abbrev pub IsCommandOn : List (String Global) → Name → Name → Name → Type 0
 IsCommandOn words first second out =
     IsCompile words first second out ⊎ IsSim words first second out ⊎ IsEval words first second out
 
+-- the words are one of the commands that write this file
+abbrev pub IsCommandTo : List (String Global) → Name → Type 0
+IsCommandTo words out =
+    ((first : Name) × (second : Name) × IsCommandOn words first second out)
+    ⊎ ((src : Name) × (datapath : Name) × (samples : Name) × IsRun words src datapath samples out)
+
 -- the words are one of the commands
 abbrev pub IsCommand : List (String Global) → Type 0
 IsCommand words =
-    ((first : Name) × (second : Name) × (out : Name) × IsCommandOn words first second out)
-    ⊎ ((src : Name) × (datapath : Name) × IsSchedule words src datapath)
+    ((out : Name) × IsCommandTo words out) ⊎ ((src : Name) × (datapath : Name) × IsSchedule words src datapath)

@@ -11,4 +11,5 @@ pub mod Compile
 pub mod Schedule
 pub mod Sim
 pub mod Eval
+pub mod Run
 pub mod Private

@@ -6,3 +6,4 @@ pub mod Compiling
 pub mod Printing
 pub mod Running
 pub mod Evaluating
+pub mod Executing

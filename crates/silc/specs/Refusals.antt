@@ -1,4 +1,5 @@
--- Why a source has no plan over a datapath: each status that `plan_of` answers, and with it `compile` and `schedule`.
+-- Why a source has no plan over a datapath: each status that `plan_of` answers, and with it `compile`, `schedule` and
+-- `run`.
 use Rattle.std.specs.Prelude.{◌≡◌, ◌⊎◌, ℕ, List, Err}
 use Rattle.datapath.specs.PathOf.{path_of}
 use Rattle.datapath.specs.declared.fault.PathFault.{PathFault}
@@ -49,8 +50,8 @@ pub record IsUnread (src datapath : Name) (old new : View) : Type 0 where
   pub unchanged : IsUnchangedButInput old new
   pub rose : ReadFaultsRose src old new ⊎ ReadFaultsRose datapath old new
 
--- Why `compile` or `schedule` ends before it makes or prints anything: there was no memory, an input could not be read,
--- or the files are refused. Both inputs are read through before either is judged.
+-- Why `compile` or `schedule` ends before it makes or prints anything, and `run` before it opens SAMPLES: there was no
+-- memory, an input could not be read, or the files are refused. Both inputs are read through before either is judged.
 abbrev pub IsPlanError : Name → Name → View → View → Status → Type 0
 IsPlanError src datapath old new status =
     ((status ≡ Memory) × IsUnchangedButInput old new)

@@ -2,10 +2,12 @@
 ghost use Rattle.std.specs.Prelude.{◌≡◌, ◌≢◌, MatchOption, None};
 ghost use Rattle.desk_core.specs.View.{Name};
 ghost use Rattle.desk_core.specs.Desk.{FaultsNeverFall, IsUnchanged, IfSpecified, HasOutput};
-ghost use Rattle.silc.specs.Command.{IsFileCommand, IsCommand, IsCommandOn, IsCompile, IsSchedule, IsSim, IsEval};
+ghost use Rattle.silc.specs.Command.{IsFileCommand, IsCommand, IsCommandOn, IsCommandTo};
+ghost use Rattle.silc.specs.Command.{IsCompile, IsSchedule, IsSim, IsEval, IsRun};
 ghost use Rattle.silc.specs.Compile.{IsDone, IsAnswer};
 ghost use Rattle.silc.specs.Endings.{UsesOnly};
 ghost use Rattle.silc.specs.Eval.{IsEvalDone, IsEvalAnswer};
+ghost use Rattle.silc.specs.Run.{IsRunDone, IsRunAnswer, RunUsesOnly};
 ghost use Rattle.silc.specs.Schedule.{IsScheduled, IsScheduleAnswer, ChangesNoFile};
 ghost use Rattle.silc.specs.Sim.{IsSimDone, IsSimAnswer};
 ghost use Rattle.silc.specs.declared.sim.Kept.TheVariants.{Nothing};
@@ -13,6 +15,7 @@ ghost use Rattle.silc.specs.declared.sim.Kept.TheVariants.{Nothing};
 use crate::compile::compile;
 use crate::eval::eval;
 use crate::report::report;
+use crate::run::run;
 use crate::schedule::schedule;
 use crate::sim::{Kept, sim};
 use crate::status::{Ending, Status};
@@ -67,8 +70,39 @@ fn schedule_words(words: &[String]) -> Option<ScheduleWords<'_>>
     }
 }
 
+/// The words of `run`.
+#[derive(Drop)]
+struct RunWords<'a> {
+    source: &'a str,
+    datapath: &'a str,
+    samples: &'a str,
+    output: &'a str,
+}
+
+fn run_words(words: &[String]) -> Option<RunWords<'_>>
+    ensures { MatchOption result
+        ((src datapath samples out : Name) → IsRun words.now src datapath samples out → ⊥)
+        (λ found. IsRun words.now found.source.now found.datapath.now found.samples.now found.output.now) }
+{
+    match words {
+        [word, source, datapath, samples, output]
+            if word.as_str() == "run"
+                && output.as_str() != source.as_str()
+                && output.as_str() != datapath.as_str()
+                && output.as_str() != samples.as_str() => {
+            Some(RunWords {
+                source: source.as_str(),
+                datapath: datapath.as_str(),
+                samples: samples.as_str(),
+                output: output.as_str(),
+            })
+        }
+        _ => None,
+    }
+}
+
 /// Carries out the command that the words are.
-fn run<D: Desk>(alloc: Global, words: &[String], desk: &mut D, kept: &mut Kept) -> Ending
+fn carry_out<D: Desk>(alloc: Global, words: &[String], desk: &mut D, kept: &mut Kept) -> Ending
     requires { kept.old ≡ Nothing }
     ensures faults { FaultsNeverFall (D.view desk.old) (D.view desk.new) }
     ensures words { result.status ≢ Status.Words → IsCommand words.now }
@@ -78,10 +112,14 @@ fn run<D: Desk>(alloc: Global, words: &[String], desk: &mut D, kept: &mut Kept) 
         → IsSimAnswer mic samples out (D.view desk.old) (D.view desk.new) kept.new result.status }
     ensures eval_answer { (src samples out : Name) → IsEval words.now src samples out
         → IsEvalAnswer src samples out (D.view desk.old) (D.view desk.new) result.status }
+    ensures run_answer { (src datapath samples out : Name) → IsRun words.now src datapath samples out
+        → IsRunAnswer src datapath samples out (D.view desk.old) (D.view desk.new) kept.new result.status }
     ensures schedule_answer { (src datapath : Name) → IsSchedule words.now src datapath
         → IsScheduleAnswer src datapath (D.view desk.old) (D.view desk.new) result.status }
     ensures only { (first second out : Name) → IsCommandOn words.now first second out
         → UsesOnly first second out (D.view desk.old) (D.view desk.new) }
+    ensures run_only { (src datapath samples out : Name) → IsRun words.now src datapath samples out
+        → RunUsesOnly src datapath samples out (D.view desk.old) (D.view desk.new) }
     ensures schedule_only { (src datapath : Name) → IsSchedule words.now src datapath
         → ChangesNoFile src datapath (D.view desk.old) (D.view desk.new) }
     ensures nothing { result.status ≡ Status.Words → IsUnchanged (D.view desk.old) (D.view desk.new) }
@@ -103,6 +141,17 @@ fn run<D: Desk>(alloc: Global, words: &[String], desk: &mut D, kept: &mut Kept) 
     if let Some(found) = command_of("eval", words) {
         return eval(alloc, desk, found.first, found.second, found.output);
     }
+    if let Some(found) = run_words(words) {
+        return run(
+            alloc,
+            desk,
+            found.source,
+            found.datapath,
+            found.samples,
+            found.output,
+            kept,
+        );
+    }
     Ending::from(Status::Words)
 }
 
@@ -113,6 +162,8 @@ fn run<D: Desk>(alloc: Global, words: &[String], desk: &mut D, kept: &mut Kept) 
 /// `sim MIC SAMPLES OUT` reads microcode and samples, and writes the rows that the microcode puts to OUT. Where it is
 /// done, it keeps the machine that ran them.
 /// `eval SRC SAMPLES OUT` reads a source and samples, and writes the output rows of the source's equations to OUT.
+/// `run SRC DP SAMPLES OUT` compiles a source for a datapath, runs the microcode on samples, and writes its rows, which
+/// are those of `eval`, to OUT. Where it is done, it keeps the machine that ran them.
 pub fn silc<D: Desk>(alloc: Global, words: &[String], desk: &mut D, kept: &mut Kept) -> Status
     requires { kept.old ≡ Nothing }
     ensures faults { FaultsNeverFall (D.view desk.old) (D.view desk.new) }
@@ -133,8 +184,13 @@ pub fn silc<D: Desk>(alloc: Global, words: &[String], desk: &mut D, kept: &mut K
     ensures one_solution { result ≡ Status.Done → (src samples out : Name) → IsEval words.now src samples out
         → IsEvalDone src samples out (D.view desk.old) (D.view desk.new) }
 
+    // What `run` writes and keeps where it is done: what `eval` writes, put by the machine of the plan's image.
+    ensures equals_eval { result ≡ Status.Done
+        → (src datapath samples out : Name) → IsRun words.now src datapath samples out
+        → IsRunDone src datapath samples out (D.view desk.old) (D.view desk.new) kept.new }
+
     // OUT is closed where a command is done.
-    ensures closed { result ≡ Status.Done → (first second out : Name) → IsCommandOn words.now first second out
+    ensures closed { result ≡ Status.Done → (out : Name) → IsCommandTo words.now out
         → HasOutput None (D.view desk.new) }
 
     // Which words are a command, when each of its statuses comes, and in which order.
@@ -147,10 +203,14 @@ pub fn silc<D: Desk>(alloc: Global, words: &[String], desk: &mut D, kept: &mut K
         → IsSimAnswer mic samples out (D.view desk.old) (D.view desk.new) kept.new result }
     ensures eval_answer { (src samples out : Name) → IsEval words.now src samples out
         → IsEvalAnswer src samples out (D.view desk.old) (D.view desk.new) result }
+    ensures run_answer { (src datapath samples out : Name) → IsRun words.now src datapath samples out
+        → IsRunAnswer src datapath samples out (D.view desk.old) (D.view desk.new) kept.new result }
 
     // What a command leaves alone.
     ensures only { (first second out : Name) → IsCommandOn words.now first second out
         → UsesOnly first second out (D.view desk.old) (D.view desk.new) }
+    ensures run_only { (src datapath samples out : Name) → IsRun words.now src datapath samples out
+        → RunUsesOnly src datapath samples out (D.view desk.old) (D.view desk.new) }
     ensures schedule_only { (src datapath : Name) → IsSchedule words.now src datapath
         → ChangesNoFile src datapath (D.view desk.old) (D.view desk.new) }
     ensures nothing { result ≡ Status.Words → IsUnchanged (D.view desk.old) (D.view desk.new) }
@@ -160,7 +220,7 @@ pub fn silc<D: Desk>(alloc: Global, words: &[String], desk: &mut D, kept: &mut K
     ensures eval_keeps_nothing { (src samples out : Name) → IsEval words.now src samples out → kept.new ≡ Nothing }
     ensures schedule_keeps_nothing { (src datapath : Name) → IsSchedule words.now src datapath → kept.new ≡ Nothing }
 {
-    let ending = run(alloc, words, desk, kept);
+    let ending = carry_out(alloc, words, desk, kept);
     if ending.status == Status::Done {
         return ending.status;
     }

@@ -1,5 +1,5 @@
 //! `compile SRC DP OUT`: from the plan of a source over a datapath to the bytes of the microcode.
-ghost use Rattle.std.specs.Prelude.{◌≡◌, ◌≢◌, IfOk, IfErr};
+ghost use Rattle.std.specs.Prelude.{◌≡◌, ◌≢◌, ◌<◌, ◌^◌, length, IfOk, IfErr};
 ghost use Rattle.datapath.specs.Allowed.{IsDatapath};
 ghost use Rattle.desk_core.specs.Desk.{FaultsNeverFall};
 ghost use Rattle.microcode_asm.specs.Planned.{IsPlanned};
@@ -19,10 +19,11 @@ use microcode_asm::assemble;
 use std::alloc::Global;
 
 /// The microcode of a plan.
-fn microcode_of(alloc: Global, planned: &Planned) -> Result<Bytes, Status>
+pub(crate) fn microcode_of(alloc: Global, planned: &Planned) -> Result<Bytes, Status>
     requires path { IsDatapath planned.now.path }
     requires plan { IsPlanned planned.now.path planned.now.plan }
     ensures ok { IfOk result (IsMicrocodeOf planned.now.path planned.now.plan) }
+    ensures short { IfOk result (λ microcode. length microcode < 2 ^ 32) }
     ensures err { IfErr result (λ status. status ≡ Memory) }
 {
     let image = assemble(alloc, &planned.plan, &planned.path)?;

@@ -2,8 +2,8 @@
 //!
 //! `silc` is the top call; its clauses carry what the whole program promises. In `specs/`, `Plans` says which plan a
 //! source has over a datapath, `Refusals` why it has none, and `Headline` what compiled microcode is. `Command` says
-//! which words are a command, `Compile`, `Schedule`, `Sim` and `Eval` when each status comes, `Sources` and `Samples`
-//! what SRC and SAMPLES have. What only proofs and private contracts use is in `specs/Private`.
+//! which words are a command, `Compile`, `Schedule`, `Sim`, `Eval` and `Run` when each status comes, `Sources` and
+//! `Samples` what SRC and SAMPLES have. What only proofs and private contracts use is in `specs/Private`.
 #![tactic(auto)]
 
 mod command;
@@ -13,6 +13,7 @@ mod files;
 mod planning;
 mod print;
 mod report;
+mod run;
 mod samples;
 mod schedule;
 mod sim;

@@ -1,4 +1,4 @@
-//! The plan of a source over a datapath, which `compile` and `schedule` make.
+//! The plan of a source over a datapath, which `compile`, `schedule` and `run` make.
 ghost use Rattle.std.specs.Prelude.{◌≡◌, IfOk, IfErr};
 ghost use Rattle.datapath.specs.Allowed.{IsDatapath};
 ghost use Rattle.plan_run.specs.PrivateRegisters.{IsPrivatePlan};

@@ -13,6 +13,7 @@ ghost use Rattle.silc.specs.Limits.{microcode_limit};
 ghost use Rattle.silc.specs.Sim.{channels_of, HasRun, IsSimError, IsSimAnswer};
 ghost use Rattle.silc.specs.Private.Reading.{OnlyReads};
 ghost use Rattle.silc.specs.Private.Running.{IsMachineOf, IsNoMachine, IsLoaded, IsLoadError, IsFresh, AreImageRows, IsRunError, IsMadeRun};
+ghost use Rattle.silc.specs.Private.Running.{WritesOnly, IsRunPut};
 ghost use Rattle.silc.specs.Private.SampleRows.{AreRowsRead, IsRowsError};
 ghost use Rattle.silc.specs.declared.sim.Kept.TheVariants.{Nothing};
 
@@ -39,14 +40,14 @@ pub enum Kept {
 
 /// A machine after the samples that it ran, and the rows that it put, as text.
 #[derive(Drop)]
-struct Run {
-    machine: Machine,
-    text: Bytes,
+pub(crate) struct Run {
+    pub machine: Machine,
+    pub text: Bytes,
 }
 
 /// The machine of the image that the bytes spell.
-fn machine_of(alloc: Global, microcode: &Bytes) -> Result<Machine, Status>
-    requires { length microcode.now ≤ microcode_limit }
+pub(crate) fn machine_of(alloc: Global, microcode: &Bytes) -> Result<Machine, Status>
+    requires { length microcode.now < 2 ^ 32 }
     ensures ok { IfOk result (IsMachineOf microcode.now) }
     ensures err { IfErr result (IsNoMachine microcode.now) }
 {
@@ -79,7 +80,7 @@ fn input_channels(alloc: Global, widths: &[u8]) -> Result<List<Channel>, AllocEr
 }
 
 /// Reads SAMPLES, which has a row for each sample of the machine.
-fn read_stream<D: Desk>(
+pub(crate) fn read_stream<D: Desk>(
     alloc: Global,
     desk: &mut D,
     name: &str,
@@ -116,7 +117,7 @@ fn run_row(machine: &mut Machine, row: &[i64], text: &mut Bytes) -> Result<(), S
 }
 
 /// Runs the rows of the list, one a sample.
-fn run_rows(alloc: Global, mut machine: Machine, list: &RowList) -> Result<Run, Status>
+pub(crate) fn run_rows(alloc: Global, mut machine: Machine, list: &RowList) -> Result<Run, Status>
     requires fresh { IsFresh machine }
     requires rows { AreImageRows machine.image list.now }
     ensures ok { IfOk result (λ run. HasRun machine.image (stream_of list.now) run.machine run.text) }
@@ -127,6 +128,23 @@ fn run_rows(alloc: Global, mut machine: Machine, list: &RowList) -> Result<Run, 
         run_row(&mut machine, row(list, n), &mut text)?;
     }
     Ok(Run { machine, text })
+}
+
+/// Writes the rows of a run to OUT, and keeps the machine that ran.
+pub(crate) fn put_rows<D: Desk>(desk: &mut D, output: &str, run: Run, kept: &mut Kept) -> Status
+    requires { kept.old ≡ Nothing }
+    ensures faults { FaultsNeverFall (D.view desk.old) (D.view desk.new) }
+    ensures only { WritesOnly output.now (D.view desk.old) (D.view desk.new) }
+    ensures put { IsRunPut output.now run.machine run.text (D.view desk.old) (D.view desk.new) kept.new result }
+    ensures nothing_kept { result ≢ Status.Done → kept.new ≡ Nothing }
+{
+    match write_whole(desk, output, &run.text) {
+        Ok(()) => {
+            *kept = Kept::One(run.machine);
+            Status::Done
+        }
+        Err(failed) => Status::from(failed),
+    }
 }
 
 /// Reads MIC and SAMPLES, and runs the one over the other.
@@ -164,13 +182,7 @@ pub fn sim<D: Desk>(
     ensures only { UsesOnly microcode.now samples.now output.now (D.view desk.old) (D.view desk.new) }
 {
     match simulate(alloc, desk, microcode, samples) {
-        Ok(run) => match write_whole(desk, output, &run.text) {
-            Ok(()) => {
-                *kept = Kept::One(run.machine);
-                Status::Done
-            }
-            Err(failed) => Status::from(failed),
-        },
+        Ok(run) => put_rows(desk, output, run, kept),
         Err(status) => status,
     }
 }

@@ -156,22 +156,30 @@ fn a_missing_datapath_comes_before_a_fault_of_the_source(rt: HostRuntime) -> Res
     Ok(())
 }
 
+/// The commands that keep a machine.
+const RUNS: [&[&str]; 2] = [
+    &["sim", "OUT", "SAMPLES", "ROWS"],
+    &["run", "SRC", "DP", "SAMPLES", "ROWS"],
+];
+
 #[test]
-fn sim_keeps_the_machine_after_the_last_sample(rt: HostRuntime) -> Result<(), Fail> {
+fn sim_and_run_keep_the_machine_after_the_last_sample(rt: HostRuntime) -> Result<(), Fail> {
     let alloc = rt.alloc();
-    let mut desk = desk_with(alloc, 100, SOURCE)?;
-    desk.put("SAMPLES", b"0\n127\n-128\n")?;
-    assert_eq!(rt; carry_out(alloc, &COMPILE, &mut desk)?, Status::Done);
-    let words = list(alloc, &["sim", "OUT", "SAMPLES", "ROWS"])?;
-    let mut kept = Kept::Nothing;
-    let status = silc(alloc, &words, &mut desk, &mut kept);
-    assert_eq!(rt; status, Status::Done);
-    assert_eq!(rt; desk.get("ROWS"), Some(b"1\n-128\n-127\n".as_slice()));
-    let samples = match &kept {
-        Kept::One(machine) => Some(machine.samples()),
-        Kept::Nothing => None,
-    };
-    assert_eq!(rt; samples, Some(3));
+    for words in RUNS {
+        let mut desk = desk_with(alloc, 100, SOURCE)?;
+        desk.put("SAMPLES", b"0\n127\n-128\n")?;
+        assert_eq!(rt; carry_out(alloc, &COMPILE, &mut desk)?, Status::Done);
+        let words = list(alloc, words)?;
+        let mut kept = Kept::Nothing;
+        let status = silc(alloc, &words, &mut desk, &mut kept);
+        assert_eq!(rt; status, Status::Done);
+        assert_eq!(rt; desk.get("ROWS"), Some(b"1\n-128\n-127\n".as_slice()));
+        let samples = match &kept {
+            Kept::One(machine) => Some(machine.samples()),
+            Kept::Nothing => None,
+        };
+        assert_eq!(rt; samples, Some(3));
+    }
     Ok(())
 }
 

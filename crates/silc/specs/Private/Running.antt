@@ -4,8 +4,9 @@ use Rattle.std.specs.List.{All}
 use Rattle.lists.specs.Rows.{Rows}
 use Rattle.cycle_sim.specs.Machine.{IsOperand, Snapshot, state_of}
 use Rattle.desk_core.specs.View.{Name, Content, View}
-use Rattle.desk_core.specs.Desk.{WhereSpecified, ReadFaultsRose}
-use Rattle.desk_core.specs.Whole.{IsReadThrough}
+use Rattle.desk_core.specs.Desk.{IfSpecified, WhereSpecified, NoneBegins, NoOtherBegins}
+use Rattle.desk_core.specs.Desk.{ReadFaultsRose, WriteFaultsRose}
+use Rattle.desk_core.specs.Whole.{IsReadThrough, IsWrittenWhole, IsWrittenInPart}
 use Rattle.micro_file.specs.declared.fault.FormFault.TheVariants as form
 use Rattle.micro_image.specs.declared.image.Image.{Image}
 use Rattle.micro_image.specs.Run.{Stands}
@@ -13,9 +14,12 @@ use Rattle.micro_image.specs.Spells.{Spells}
 use Rattle.micro_image.specs.Valid.{IsValid}
 use Rattle.sample_io.specs.declared.RowList.{RowList}
 use Rattle.sample_io.specs.Samples.{stream_of}
+use Rattle.silc.specs.Endings.{ChangesOnly}
 use Rattle.silc.specs.Limits.{microcode_limit, samples_limit}
 use Rattle.silc.specs.Private.SampleRows.{HasRowWidth}
 use Rattle.silc.specs.Sim.{HasRun, IsFirstConflict, SpellsNone, HasImage, HasImageFault, HasStream}
+use Rattle.silc.specs.declared.sim.Kept.{Kept}
+use Rattle.silc.specs.declared.sim.Kept.TheVariants.{One}
 use Rattle.silc.specs.declared.status.ImageFault.{ImageFault}
 use Rattle.silc.specs.declared.status.ImageFault.TheVariants as image_fault
 use Rattle.silc.specs.declared.status.Status.{Status}
@@ -82,3 +86,16 @@ pub record IsMadeRun (mic samples : Name) (old new : View) (machine : Snapshot) 
   pub stream : Rows
   pub ran : HasRun image stream machine text
   pub specified : WhereSpecified old (HasStream mic samples image stream)
+
+-- OUT alone changed or began to be written
+pub record WritesOnly (out : Name) (old new : View) : Type 0 where
+  pub files : IfSpecified (ChangesOnly out) old.files new.files
+  pub printed : new.printed ≡ old.printed
+  pub reads : NoneBegins old.reads new.reads
+  pub writes : NoOtherBegins out old.writes new.writes
+
+-- OUT has the text and the machine is kept, or writing failed
+abbrev pub IsRunPut : Name → Snapshot → Content → View → View → Kept → Status → Type 0
+IsRunPut out machine text old new kept error =
+    ((error ≡ status.Done) × (kept ≡ One machine) × IsWrittenWhole out text old new)
+    ⊎ ((error ≡ status.Desk) × WriteFaultsRose out old new × IsWrittenInPart out text old new)

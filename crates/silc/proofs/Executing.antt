@@ -1,0 +1,310 @@
+-- How the parts of `run` make up its answer.
+use Rattle.std.proofs.Common.{◌≡◌, ◌≢◌, refl, sym, ap, ap₂, subst, ◌∙◌, inl, inr, ⊎_elim, List, [], ◌∷◌, map, Bool}
+use Rattle.cycle_sim.specs.Machine.{Snapshot}
+use Rattle.desk_core.specs.View.{Name, Content, View}
+use Rattle.desk_core.specs.Desk.{WhereSpecified, WriteFaultsRose, FaultsNeverFall, IsUnchanged, content_of}
+use Rattle.desk_core.specs.Whole.{IsReadThrough, IsWrittenWhole, IsWrittenInPart}
+use Rattle.desk_core.proofs.DeskLemmas.{rose_later, rose_earlier, never_fall_trans, specified_from}
+use Rattle.desk_core.proofs.WholeLemmas.{through_from}
+use Rattle.fix_word.specs.declared.types.SigType.{SigType}
+use Rattle.fix_word.specs.declared.types.SigType.TheVariants as sig
+use Rattle.micro_image.specs.declared.image.Image.{Image as MicroImage}
+use Rattle.plan_core.specs.declared.plan.Plan.{Plan}
+use Rattle.plan_run.specs.ImageOf.{IsImageOf, width_of}
+use Rattle.sample_io.specs.declared.RowList.{RowList}
+use Rattle.sample_io.specs.Channels.{IsStream, channel_of}
+use Rattle.sample_io.specs.Samples.{printed, stream_of}
+use Rattle.silage_meaning.specs.Solves as program
+use Rattle.silc.specs.Endings.{ChangesOnly, IsNotWritten}
+use Rattle.silc.specs.Eval.{type_channel, IsEvalDone, IsEvalCutShort}
+use Rattle.silc.specs.Headline.{RunsTheSolution}
+use Rattle.silc.specs.Limits.{samples_limit}
+use Rattle.silc.specs.Refusals.{IsRefusal, IsPlanError}
+use Rattle.silc.specs.Run.{HasSomePlan, AreSamplesUnread, IsNotRun, IsRunDone, IsRunCutShort, IsRunAnswer, RunUsesOnly}
+use Rattle.silc.specs.Samples.{AreSamples, IsSampleFault}
+use Rattle.silc.specs.Sim.{channels_of, HasRun}
+use Rattle.silc.specs.Sources.{IsProgramIn}
+use Rattle.silc.specs.Private.Compiling.{IsMicrocodeOf}
+use Rattle.silc.specs.Private.Executing.{OnlyReadsThree, IsCompiledMachine, IsExecuted}
+use Rattle.silc.specs.Private.Planning.{IsReadPlan}
+use Rattle.silc.specs.Private.Reading.{OnlyReads}
+use Rattle.silc.specs.Private.Running.{IsMachineOf, IsNoMachine, IsRunError, WritesOnly, IsRunPut}
+use Rattle.silc.specs.Private.SampleRows.{AreRowsRead, IsRowsError}
+use Rattle.silc.specs.declared.planning.Planned.{Planned}
+use Rattle.silc.specs.declared.sim.Kept.{Kept}
+use Rattle.silc.specs.declared.sim.Kept.TheVariants.{One}
+use Rattle.silc.specs.declared.status.Status.{Status}
+use Rattle.silc.specs.declared.status.Status.TheVariants as status
+use Rattle.silc.specs.declared.status.Status.TheVariants.{Done, Memory, Words, Desk, FrontEnd, Path, LinesFull, Period, FileFull, Image, Samples, Conflict}
+use Rattle.silc.proofs.Compiled.{runs_the_solution}
+use Rattle.silc.proofs.Endings.{unchanged_trans, finished, not_written, unchanged_still, specified_still, rejected_still}
+use Rattle.silc.proofs.Errors.{error_still}
+use Rattle.silc.proofs.Solving.{program_stream, eval_done_still, eval_cut_short_still}
+
+same_channel : (ty : SigType) → channel_of (width_of ty) ≡ type_channel ty
+same_channel (sig.Fix t) = refl
+same_channel sig.Bool = refl
+
+same_channels : (types : List SigType) → map channel_of (map width_of types) ≡ map type_channel types
+same_channels [] = refl
+same_channels (ty ∷ types) = ap₂ ◌∷◌ (same_channel ty) (same_channels types)
+
+-- the microcode of the plan was made
+module _ (src datapath : Name) (old new : View) (planned : Planned) (plan : IsReadPlan src datapath old new planned)
+    (microcode : Content) (made : IsMicrocodeOf planned.path planned.plan microcode) where
+  -- its bytes spell the image of the plan and no other
+  pub compiled_machine : (machine : Snapshot) → IsMachineOf microcode machine → IsCompiledMachine src datapath old machine
+  compiled_machine machine is =
+      let same : made.image ≡ machine.image = sym (made.spelled.unique machine.image is.spells) in
+      let image_of : IsImageOf planned.path planned.plan machine.image = subst (IsImageOf planned.path planned.plan) same made.image_of in
+      record {
+        fresh = is.fresh;
+        program = plan.program;
+        graph = plan.graph;
+        keeps = plan.keeps;
+        path = planned.path;
+        plan = planned.plan;
+        planned = plan.specified;
+        image_of = image_of;
+        runs = subst (RunsTheSolution plan.program) same
+            (runs_the_solution plan.program plan.graph made.image plan.keeps (made.runs plan.graph plan.keeps.sound (inr plan.plan)));
+        channels = ap (map channel_of) image_of.inputs ∙ same_channels planned.plan.inputs ∙ ap (map type_channel) (plan.plan.inputs ∙ plan.keeps.keeps.inputs);
+      }
+
+  -- so there is one, unless memory runs out
+  pub no_machine : (status : Status) → IsNoMachine microcode status → status ≡ Memory
+  no_machine status h = ⊎_elim (λ memory. memory) (λ none. absurd (none.1 made.image made.spelled.spells)) h
+
+-- why there is no plan is never one of these
+none_of_plans : (src datapath : Name) (old new : View) (status : Status) → (status ≡ Memory → ⊥) → (status ≡ Desk → ⊥) → (IsRefusal status → ⊥)
+    → IsPlanError src datapath old new status → ⊥
+none_of_plans src datapath old new status not_memory not_desk not_refusal h =
+    ⊎_elim (λ memory. not_memory memory.0) (λ rest. ⊎_elim (λ desk. not_desk desk.0) (λ refused. not_refusal refused.0) rest) h
+
+-- why there is no plan is why `run` ends
+pub plan_error : (src datapath samples : Name) (old new : View) (status : Status) → IsPlanError src datapath old new status
+    → IsNotRun src datapath samples old new status
+plan_error src datapath samples old new Desk h = inl h
+plan_error src datapath samples old new (Image fault) h =
+    none_of_plans src datapath old new (Image fault) (λ (e : Image fault ≡ Memory). cc) (λ (e : Image fault ≡ Desk). cc) (λ no. no) h
+plan_error src datapath samples old new (Samples fault) h =
+    absurd (none_of_plans src datapath old new (Samples fault) (λ (e : Samples fault ≡ Memory). cc) (λ (e : Samples fault ≡ Desk). cc) (λ no. no) h)
+plan_error src datapath samples old new (Conflict conflict) h =
+    none_of_plans src datapath old new (Conflict conflict) (λ (e : Conflict conflict ≡ Memory). cc) (λ (e : Conflict conflict ≡ Desk). cc) (λ no. no) h
+plan_error src datapath samples old new Done h = h
+plan_error src datapath samples old new Memory h = h
+plan_error src datapath samples old new Words h = h
+plan_error src datapath samples old new (FrontEnd fault) h = h
+plan_error src datapath samples old new (Path fault) h = h
+plan_error src datapath samples old new (status.Unit refusal) h = h
+plan_error src datapath samples old new (LinesFull node) h = h
+plan_error src datapath samples old new (Period node) h = h
+plan_error src datapath samples old new (FileFull unit port node) h = h
+
+-- the machine was made, and then SAMPLES was read
+module _ (src datapath samples : Name) (old mid new : View) (machine : Snapshot) (first : OnlyReads src datapath old mid)
+    (second : OnlyReads samples samples mid new) (compiled : IsCompiledMachine src datapath old machine) where
+  pub reads_three : OnlyReadsThree src datapath samples old new
+  reads_three = record {
+    never_fall = never_fall_trans old mid new first.never_fall second.never_fall;
+    unchanged = unchanged_trans old mid new first.unchanged second.unchanged;
+    begins = λ s not_src not_datapath not_samples is. first.begins s not_src not_datapath (second.begins s not_samples not_samples is);
+  }
+
+  some_plan : WhereSpecified old (HasSomePlan src datapath)
+  some_plan files is = (compiled.program, compiled.path, compiled.plan, compiled.planned files is)
+
+  program_in : WhereSpecified old (IsProgramIn src compiled.program)
+  program_in files is = record {
+    read = (compiled.planned files is).read;
+    unique = (compiled.planned files is).unique;
+    solved = λ stream valid. let (words, one, run) = compiled.runs stream valid in (words, one);
+  }
+
+  -- why no rows were read is why `run` ends
+  pub no_rows : (status : Status) → IsRowsError samples (channels_of machine.image) mid new status → IsNotRun src datapath samples old new status
+  no_rows Memory h = inl (refl, reads_three.unchanged)
+  no_rows Desk h = inr (record {
+    unchanged = reads_three.unchanged;
+    rose = rose_later _ _ _ (first.never_fall.reading samples) h;
+    planned = some_plan;
+  })
+  no_rows (Samples fault) h = record {
+    unchanged = reads_three.unchanged;
+    read = through_from samples samples_limit old mid new first.unchanged.files h.read;
+    why = λ files is. (
+      some_plan files is,
+      (
+        compiled.program,
+        program_in files is,
+        subst (λ cs. IsSampleFault cs (content_of (files samples)) fault) compiled.channels (h.why files (first.unchanged.files ∙ is)),
+      ),
+    );
+  }
+  no_rows Done h = absurd h
+  no_rows Words h = absurd h
+  no_rows (FrontEnd fault) h = absurd h
+  no_rows (Path fault) h = absurd h
+  no_rows (status.Unit refusal) h = absurd h
+  no_rows (LinesFull node) h = absurd h
+  no_rows (Period node) h = absurd h
+  no_rows (FileFull unit port node) h = absurd h
+  no_rows (Image fault) h = absurd h
+  no_rows (Conflict conflict) h = absurd h
+
+  module _ (list : RowList) (rows : AreRowsRead samples (channels_of machine.image) mid new list) where
+    its_stream : program.IsStream compiled.program (stream_of list)
+    its_stream =
+        program_stream compiled.program compiled.graph compiled.keeps (stream_of list)
+        (subst (λ cs. IsStream cs (stream_of list)) (compiled.channels ∙ sym (ap (map type_channel) compiled.keeps.keeps.inputs)) rows.stream)
+
+    -- the rows of the run are those of the program's one solution
+    pub executed : (after : Snapshot) (text : Content) → HasRun machine.image (stream_of list) after text
+        → IsExecuted src datapath samples old new after text
+    executed after text ran =
+        let (words, one, run) = compiled.runs (stream_of list) its_stream in
+        record {
+          read = through_from samples samples_limit old mid new first.unchanged.files rows.read;
+          program = compiled.program;
+          path = compiled.path;
+          plan = compiled.plan;
+          planned = compiled.planned;
+          image = machine.image;
+          image_of = compiled.image_of;
+          stream = stream_of list;
+          ran = ran;
+          solution = record { words = words; one = one; text_is = ran.text_is ∙ ap printed (ran.run.put ∙ sym run.put) };
+          specified = λ files is. record {
+            source = program_in files is;
+            samples_are = subst (λ cs. AreSamples cs (content_of (files samples)) (stream_of list)) compiled.channels (rows.specified files (first.unchanged.files ∙ is));
+          };
+        }
+
+    -- and it has no conflict
+    pub not_executed : (status : Status) → IsRunError machine.image (stream_of list) status → IsNotRun src datapath samples old new status
+    not_executed Memory h = inl (refl, reads_three.unchanged)
+    not_executed (Conflict conflict) h =
+        let (words, one, run) = compiled.runs (stream_of list) its_stream in
+        run.clear conflict.cycle h.within conflict.kind conflict.place h.there.there
+    not_executed Done h = absurd h
+    not_executed Words h = absurd h
+    not_executed Desk h = absurd h
+    not_executed (FrontEnd fault) h = absurd h
+    not_executed (Path fault) h = absurd h
+    not_executed (status.Unit refusal) h = absurd h
+    not_executed (LinesFull node) h = absurd h
+    not_executed (Period node) h = absurd h
+    not_executed (FileFull unit port node) h = absurd h
+    not_executed (Image fault) h = absurd h
+    not_executed (Samples fault) h = absurd h
+
+-- OUT was written, or writing it failed
+module _ (src datapath samples out : Name) (old mid new : View) (machine : Snapshot) (text : Content) (kept : Kept) (status : Status)
+    (apart : out ≢ samples) (reads : OnlyReadsThree src datapath samples old mid) (done : IsExecuted src datapath samples old mid machine text) where
+  solved : IsWrittenWhole out text mid new → IsEvalDone src samples out old new
+  solved written = record {
+    finished = finished samples out samples_limit text old mid new apart done.read written;
+    program = done.program;
+    stream = done.stream;
+    text = text;
+    solution = done.solution;
+    files = λ after is.
+        let put = written.files after is in
+        let there = sym reads.unchanged.files ∙ put.1 in (put.0, there, (done.specified put.0 there, put.2));
+  }
+
+  cut_short : WriteFaultsRose out mid new → IsWrittenInPart out text mid new → IsEvalCutShort src samples out old new
+  cut_short rose written = record {
+    program = done.program;
+    stream = done.stream;
+    text = text;
+    solution = done.solution;
+    specified = done.specified;
+    written = not_written samples out samples_limit text old mid new apart done.read reads.unchanged.files reads.never_fall rose written;
+  }
+
+  run_done : kept ≡ One machine → IsWrittenWhole out text mid new → IsRunDone src datapath samples out old new kept
+  unfolding solved
+  run_done is written = record {
+    solved = solved written;
+    path = done.path;
+    plan = done.plan;
+    planned = done.planned;
+    image = done.image;
+    image_of = done.image_of;
+    machine = machine;
+    ran = done.ran;
+    kept_is = is;
+  }
+
+  pub run_put : IsRunPut out machine text mid new kept status → IsRunAnswer src datapath samples out old new kept status
+  run_put h =
+      ⊎_elim
+      (λ put. subst (IsRunAnswer src datapath samples out old new kept) (sym put.0) (run_done put.1 put.2))
+      (λ failed. subst (IsRunAnswer src datapath samples out old new kept) (sym failed.0) (inr (record {
+        cut_short = cut_short failed.1 failed.2;
+        planned = λ files is. (done.program, done.path, done.plan, done.planned files is);
+      })))
+      h
+
+-- the inputs were read, and then OUT alone was written
+pub run_uses_only : (src datapath samples out : Name) (old mid new : View) → OnlyReadsThree src datapath samples old mid → WritesOnly out mid new
+    → RunUsesOnly src datapath samples out old new
+run_uses_only src datapath samples out old mid new reads writes = record {
+  files = specified_from (ChangesOnly out) old.files mid.files new.files reads.unchanged.files writes.files;
+  printed = writes.printed ∙ reads.unchanged.printed;
+  reads = λ s not_src not_datapath not_samples is. reads.begins s not_src not_datapath not_samples (writes.reads s is);
+  writes = λ s ne is. ap (λ (f : Name → Bool). f s) (sym reads.unchanged.writes) ∙ writes.writes s ne is;
+}
+
+-- a report of the error leaves the answer of `run` as it is
+module _ (src datapath samples out : Name) (old mid new : View) (same : IsUnchanged mid new) (later : FaultsNeverFall mid new) (before : FaultsNeverFall old mid) where
+  unread_still : AreSamplesUnread src datapath samples old mid → AreSamplesUnread src datapath samples old new
+  unread_still h = record {
+    unchanged = unchanged_still old mid new same h.unchanged;
+    rose = rose_earlier _ _ _ (before.reading samples) h.rose (later.reading samples);
+    planned = h.planned;
+  }
+
+  still : (status : Status) → IsPlanError src datapath old mid status → IsPlanError src datapath old new status
+  still = error_still src datapath old mid new same later before
+
+  not_run_still : IsNotRun src datapath samples old mid Desk → IsNotRun src datapath samples old new Desk
+  not_run_still h = ⊎_elim (λ early. inl (still Desk early)) (λ unread. inr (unread_still unread)) h
+
+  pub run_uses_still : RunUsesOnly src datapath samples out old mid → RunUsesOnly src datapath samples out old new
+  run_uses_still h = record {
+    files = specified_still old mid new same (ChangesOnly out) h.files;
+    printed = same.printed ∙ h.printed;
+    reads = λ s not_src not_datapath not_samples is. h.reads s not_src not_datapath not_samples (ap (λ (f : Name → Bool). f s) (sym same.reads) ∙ is);
+    writes = λ s ne is. h.writes s ne (ap (λ (f : Name → Bool). f s) (sym same.writes) ∙ is);
+  }
+
+  pub run_reported : (kept : Kept) (status : Status) → IsRunAnswer src datapath samples out old mid kept status
+      → IsRunAnswer src datapath samples out old new kept status
+  run_reported kept Done h = record {
+    solved = eval_done_still src samples out old mid new same later before h.solved;
+    path = h.path;
+    plan = h.plan;
+    planned = h.planned;
+    image = h.image;
+    image_of = h.image_of;
+    machine = h.machine;
+    ran = h.ran;
+    kept_is = h.kept_is;
+  }
+  run_reported kept Desk h =
+      ⊎_elim (λ early. inl (not_run_still early))
+      (λ late. inr (record { cut_short = eval_cut_short_still src samples out old mid new same later before late.cut_short; planned = late.planned }))
+      h
+  run_reported kept (Samples fault) h = rejected_still old mid new same samples samples_limit _ h
+  run_reported kept Memory h = still Memory h
+  run_reported kept Words h = still Words h
+  run_reported kept (FrontEnd fault) h = still (FrontEnd fault) h
+  run_reported kept (Path fault) h = still (Path fault) h
+  run_reported kept (status.Unit refusal) h = still (status.Unit refusal) h
+  run_reported kept (LinesFull node) h = still (LinesFull node) h
+  run_reported kept (Period node) h = still (Period node) h
+  run_reported kept (FileFull unit port node) h = still (FileFull unit port node) h
+  run_reported kept (Image fault) h = h
+  run_reported kept (Conflict conflict) h = h
