@@ -1,5 +1,5 @@
 -- Whether a node can be on a unit, and the best of these units.
-use Rattle.std.proofs.Common.{◌≡◌, ◌↔◌, ◌∙◌, sym, ap, subst, refl, arith, inl, inr, ⊎_elim, ℕ, ◌+◌, ◌<◌, ◌≤◌, ◌==◌, List, length, count_by, slice_index_or, Bool, true, false, Option, Some, None, if◌then◌else◌, nat_le, leb-true, leb-false}
+use Rattle.std.proofs.Common.{◌≡◌, ◌↔◌, ◌∙◌, sym, ap, subst, refl, arith, inl, inr, ⊎_elim, ℕ, ◌+◌, ◌<◌, ◌≤◌, ◌==◌, List, length, count_by, slice_index_or, Bool, true, false, Option, Some, None, IfSome, if◌then◌else◌, nat_le, leb-true, leb-false}
 use Rattle.std.proofs.lemmas.Bool.{cases_lt}
 use Rattle.std.proofs.lemmas.List.{take_all, get_or_read}
 use Rattle.datapath.specs.declared.types.Datapath.{Datapath}
@@ -9,7 +9,7 @@ use Rattle.plan_core.specs.Operands.{node_of, edge_of, Reads}
 use Rattle.plan_core.specs.Assigned.{unit_in, IsRightUnit, IsCandidate, load_of}
 use Rattle.plan_core.specs.Refusals.{IsNextNode, LacksOperand, LacksConsumer}
 use Rattle.plan_core.specs.declared.delay_lines.Lowered.{Lowered}
-use Rattle.unit_assign.specs.Private.UnitSets.{Has, no_units, set_at}
+use Rattle.unit_assign.specs.Private.UnitSets.{Has, no_units, set_at, IsFirstOf}
 use Rattle.unit_assign.specs.Private.Wiring.{IsProblem}
 use Rattle.unit_assign.specs.Private.Bindings.{load_in, IsAllowed, AreAllowed, HasRouteFrom, IsLeft, IsBestOf, IsBest, lighter_of}
 use Rattle.unit_assign.specs.declared.unit_set.UnitSet.{UnitSet}
@@ -152,19 +152,17 @@ module _ (d : Datapath) (nodes : List Node) (units : List ℕ) (v : ℕ) where
   )
 
 module _ (d : Datapath) (nodes : List Node) (units : List ℕ) (v : ℕ) where
-  pub best_more_no : (n : ℕ) (best : Option ℕ) → IsBest d nodes units v n best → (IsCandidate d nodes units v n → ⊥)
-      → IsBest d nodes units v (n + 1) best
-  best_more_no n None is not_n = λ u less can.
-      ⊎_elim (λ (b : u < n). is u b can)
-      (λ (b : n ≤ u). not_n (subst (λ (w : ℕ). IsCandidate d nodes units v w) (omega arith) can)) (cases_lt u n)
-  best_more_no n (Some u) is not_n =
-      let out : (w : ℕ) → w < n + 1 → IsCandidate d nodes units v w → w < n =
+  best_to : (n m : ℕ) (best : Option ℕ) → IsBest d nodes units v n best
+      → ((w : ℕ) → n ≤ w → w < m → IsCandidate d nodes units v w → ⊥)
+      → ((w : ℕ) → w < n → IsCandidate d nodes units v w → w < m) → IsBest d nodes units v m best
+  best_to n m None is past before = λ u less can.
+      ⊎_elim (λ (b : u < n). is u b can) (λ (b : n ≤ u). past u b less can) (cases_lt u n)
+  best_to n m (Some u) is past before =
+      let out : (w : ℕ) → w < m → IsCandidate d nodes units v w → w < n =
       λ w less can.
-      ⊎_elim (λ (b : w < n). b)
-      (λ (b : n ≤ w). absurd (not_n (subst (λ (x : ℕ). IsCandidate d nodes units v x) (omega arith) can)))
-      (cases_lt w n) in
+      ⊎_elim (λ (b : w < n). b) (λ (b : n ≤ w). absurd (past w b less can)) (cases_lt w n) in
       record {
-        below = (let b = is.below in omega arith);
+        below = before u is.below is.candidate;
         candidate = is.candidate;
         fewest = λ w less can. is.fewest w (out w less can) can;
         first = λ w less can e. is.first w (out w less can) can e;
@@ -200,13 +198,34 @@ module _ (d : Datapath) (nodes : List Node) (units : List ℕ) (v : ℕ) where
         ⊎_elim (λ (b : w < n). is.first w b other e) (λ (b : n ≤ w). (let x = is.below in omega arith)) (cases_lt w n);
   }
 
+  -- the best of the candidates below n, where those from n on are left
+  pub record IsChoosing (left : UnitSet) (best : Option ℕ) : Type 0 where
+    pub n : ℕ
+    pub best_is : IsBest d nodes units v n best
+    pub left_are : (u : ℕ) → Has left u ↔ (IsCandidate d nodes units v u × (n ≤ u))
+
+  pub choosing_begins : (candidates : UnitSet) → ((u : ℕ) → Has candidates u ↔ IsCandidate d nodes units v u)
+      → IsChoosing candidates None
+  choosing_begins candidates are_all = record {
+    n = 0;
+    best_is = λ u less can. absurd (omega arith);
+    left_are = λ u. (λ h. ((are_all u).0 h, omega arith), λ h. (are_all u).1 h.0);
+  }
+
+  pub choosing_ends : (left : UnitSet) (best : Option ℕ) → IsChoosing left best → ((u : ℕ) → Has left u → ⊥)
+      → IsBest d nodes units v (length d.units) best
+  choosing_ends left best so_far none =
+      best_to so_far.n (length d.units) best so_far.best_is
+      (λ w past less can. none w ((so_far.left_are w).1 (can, past)))
+      (λ w less can. can.right.kind.there)
+
   module _ (loads : List ℕ) (count : length units ≡ v)
       (are : (u : ℕ) → u < length d.units → load_in loads u ≡ count_by (λ (w : ℕ). w == u) units) where
     load_is : (u : ℕ) → u < length d.units → load_in loads u ≡ load_of d nodes units v u
     load_is u there =
         are u there ∙ sym (ap (λ (us : List ℕ). count_by (λ (w : ℕ). w == u) us) (take_all v units (omega arith)))
 
-    pub best_more_yes : (n : ℕ) (best : Option ℕ) → n < length d.units → IsBest d nodes units v n best
+    best_more_yes : (n : ℕ) (best : Option ℕ) → n < length d.units → IsBest d nodes units v n best
         → IsCandidate d nodes units v n → IsBest d nodes units v (n + 1) (Some (lighter_of loads best n))
     best_more_yes n None there is can = best_last n can (λ w less other. absurd (is w less other))
     best_more_yes n (Some u) there is can = by (nat_le (load_in loads u) (load_in loads n)) refl
@@ -228,6 +247,43 @@ module _ (d : Datapath) (nodes : List Node) (units : List ℕ) (v : ℕ) where
             (λ w less other.
             let more = leb-false (load_in loads u) (load_in loads n) e in
             let few = is.fewest w less other in let a = u_load in let b = n_load in omega arith)
+
+    pub choosing_goes_on : (old new : UnitSet) (best : Option ℕ) (u : ℕ) → IsChoosing old best → IsFirstOf old u new
+        → IsChoosing new (Some (lighter_of loads best u))
+    choosing_goes_on old new best u so_far takes =
+        let its = (so_far.left_are u).0 takes.there in
+        let n : ℕ = so_far.n in
+        let after : n ≤ u = its.1 in
+        record {
+          n = u + 1;
+          best_is = best_more_yes u best its.0.right.kind.there
+              (best_to n u best so_far.best_is
+              (λ w past less can. takes.first w less ((so_far.left_are w).1 (can, past)))
+              (λ w less can. omega arith))
+              its.0;
+          left_are = λ w. (
+            λ h.
+                let two = (takes.rest w).0 h in
+                let was = (so_far.left_are w).0 two.0 in
+                let other = two.1 in (
+                  was.0,
+                  ⊎_elim (λ (less : w < u). absurd (takes.first w less two.0)) (λ (more : u ≤ w). omega arith)
+                      (cases_lt w u),
+                ),
+            λ h.
+                let past = h.1 in
+                (takes.rest w).1 (
+                  (so_far.left_are w).1 (h.0, omega arith),
+                  λ same. absurd (omega arith),
+                ),
+          );
+        }
+
+-- each unit that is best is there
+pub best_there : (d : Datapath) (nodes : List Node) (units : List ℕ) (v n : ℕ) (best : Option ℕ) (count : ℕ)
+    → count ≡ length d.units → IsBest d nodes units v n best → IfSome best (λ u. u < count)
+best_there d nodes units v n None count same is = tt
+best_there d nodes units v n (Some u) count same is = let there = is.candidate.right.kind.there in omega arith
 
 -- the set of node v, as the code reads it
 pub set_read : (d : Datapath) (nodes : List Node) (units : List ℕ) (allowed : List UnitSet)

@@ -1,9 +1,10 @@
 -- Which units are in a set that is made of others.
-use Rattle.std.proofs.Common.{◌≡◌, ◌≢◌, ◌↔◌, ◌⊎◌, ◌∙◌, sym, subst, arith, inl, inr, ⊎_elim, ℕ, ◌+◌, ◌*◌, ◌%◌, ◌^◌, ◌<◌, max, bit_and, bit_or, w32}
-use Rattle.std.proofs.lemmas.Bool.{cases_eq}
-use Rattle.std.proofs.lemmas.Nat.Bits.{bit_at_or, bit_at_and, bit_at-lt, bit_at_set_same, bit_at_set_other, bit_at-zero, bit_at_ones}
-use Rattle.std.specs.Int.{bit_at}
-use Rattle.unit_assign.specs.Private.UnitSets.{Has, no_units, all_units}
+use Rattle.std.proofs.Common.{◌≡◌, ◌≢◌, ◌↔◌, ◌⊎◌, ◌∙◌, sym, subst, arith, inl, inr, ⊎_elim, ap, ℕ, ◌+◌, ◌*◌, ◌%◌, ◌^◌, ◌<◌, ◌≤◌, max, bit_and, bit_or, w32}
+use Rattle.std.proofs.lemmas.Bool.{cases_eq, cases_lt}
+use Rattle.std.proofs.lemmas.Nat.{and_le_l}
+use Rattle.std.proofs.lemmas.Nat.Bits.{bit_at_or, bit_at_and, bit_at-lt, bit_at_set_same, bit_at_set_other, bit_at_clear_same, bit_at_clear_other, bit_at_above, bit_at-trailing_zeros, bit_at-zero, bit_at_ones}
+use Rattle.std.specs.Int.{bit_at, bit_not, trailing_zeros}
+use Rattle.unit_assign.specs.Private.UnitSets.{Has, no_units, all_units, IsFirstOf}
 use Rattle.unit_assign.specs.declared.unit_set.UnitSet.{UnitSet}
 
 max_one : (x y m : ℕ) → m ≡ max x y → x < 2 → y < 2 → m ≡ 1 → (x ≡ 1) ⊎ (y ≡ 1)
@@ -78,3 +79,51 @@ module _ (Passes : ℕ → Type 0) where
         ⊎_elim (λ (e : u ≡ n). absurd (fails (subst (λ (w : ℕ). Passes w) e h.1)))
         (λ (other : u ≢ n). (before u).1 (omega (arith, h.0), h.1)) (cases_eq u n),
   )
+
+-- the lowest bit of a number that is not 0, cleared
+abbrev cleared : ℕ → ℕ → ℕ
+cleared n k = bit_and n (bit_not w32 (1 * 2 ^ k % 2 ^ 32))
+
+module _ (n k : ℕ) (small : n < 2 ^ 32) (within : k < 32) (set : bit_at n k ≡ 1)
+    (first : (i : ℕ) → i < k → bit_at n i ≡ 0) where
+  same_else : (j : ℕ) → j ≢ k → bit_at (cleared n k) j ≡ bit_at n j
+  same_else j other =
+      ⊎_elim (λ (inside : j < 32). bit_at_clear_other w32 n k within j inside other)
+      (λ (past : 32 ≤ j).
+      bit_at_above (cleared n k) 32 j (omega (arith, and_le_l n (bit_not w32 (1 * 2 ^ k % 2 ^ 32)))) past
+      ∙ sym (bit_at_above n 32 j small past))
+      (cases_lt j 32)
+
+  gone : bit_at (cleared n k) k ≡ 0
+  gone = bit_at_clear_same w32 n k within
+
+  fewer : cleared n k < n
+  fewer =
+      let most = and_le_l n (bit_not w32 (1 * 2 ^ k % 2 ^ 32)) in
+      let differ : cleared n k ≢ n =
+      λ e. absurd (let f = ap (λ (x : ℕ). bit_at x k) e in let g = gone in omega arith) in
+      strict (cleared n k) n most differ
+    where
+      strict : (p q : ℕ) → p ≤ q → p ≢ q → p < q
+      strict p q le other = ⊎_elim (λ (l : p < q). l) (λ (g : q ≤ p). absurd (other (omega arith))) (cases_lt p q)
+
+  first_of : IsFirstOf (record { bits = n }) k (record { bits = cleared n k })
+  first_of = record {
+    number = within;
+    there = record { bit = set };
+    first = λ j less h. (let z = first j less in let o = h.bit in omega arith);
+    rest = λ j. (
+      λ h. ⊎_elim
+          (λ (e : j ≡ k). absurd (let z = gone in let o = h.bit in let f = ap (bit_at (cleared n k)) e in omega arith))
+          (λ (other : j ≢ k). (record { bit = sym (same_else j other) ∙ h.bit }, other))
+          (cases_eq j k),
+      λ h. record { bit = same_else j h.1 ∙ h.0.bit },
+    );
+    less = fewer;
+  }
+
+pub clear_lowest : (n : ℕ) → n < 2 ^ 32 → n ≢ 0
+    → IsFirstOf (record { bits = n }) (trailing_zeros w32 n) (record { bits = cleared n (trailing_zeros w32 n) })
+clear_lowest n small some =
+    let is = bit_at-trailing_zeros w32 n (omega arith) small in
+    first_of n (trailing_zeros w32 n) small is.0 is.1 is.2

@@ -247,13 +247,10 @@ impl Problem<'_> {
         ensures { let count = length self.now.datapath.now.units in
             IsBest self.now.datapath.now self.now.lowered.now.nodes binding.now.units v count result }
     {
-        let candidates = self.candidates(binding, v);
+        let mut left = self.candidates(binding, v);
         let mut best = None;
-        for number in 0..self.datapath.units.len() {
-            let unit = number as u8;
-            if candidates.contains(unit) {
-                best = Some(binding.lighter(best, unit));
-            }
+        while let Some(unit) = left.pop_first() {
+            best = Some(binding.lighter(best, unit));
         }
         best
     }

@@ -1,7 +1,7 @@
 //! Sets of units.
 
-ghost use Rattle.std.specs.Prelude.{◌≡◌, ◌<◌, ◌↔◌, ◌⊎◌, ℕ, IsTrue};
-ghost use Rattle.unit_assign.specs.Private.UnitSets.{Has, no_units, all_units};
+ghost use Rattle.std.specs.Prelude.{◌≡◌, ◌<◌, ◌↔◌, ◌⊎◌, ℕ, IsTrue, MatchOption};
+ghost use Rattle.unit_assign.specs.Private.UnitSets.{Has, no_units, all_units, IsFirstOf};
 
 /// A set of the units of a datapath, of which there are at most 32: bit u stands for unit u.
 #[derive(Clone, Copy)]
@@ -36,6 +36,18 @@ impl UnitSet {
         UnitSet {
             bits: self.bits | (1 << unit),
         }
+    }
+
+    /// Takes the first unit out of the set.
+    pub(crate) fn pop_first(&mut self) -> Option<u8>
+        ensures { MatchOption result ((u : ℕ) → Has self.old u → ⊥) (λ u. IsFirstOf self.old u self.new) }
+    {
+        if self.bits == 0 {
+            return None;
+        }
+        let first = self.bits.trailing_zeros();
+        self.bits &= !(1 << first);
+        Some(first as u8)
     }
 
     pub(crate) fn union(self, other: UnitSet) -> UnitSet
