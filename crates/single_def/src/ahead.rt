@@ -3,13 +3,12 @@
 //! A loop without turns adds nothing to the load, so very many of them may be inside thousands of turns. Such a loop is
 //! looked at in many turns of all the loops around it at once.
 
-ghost use Rattle.std.specs.Prelude.{◌≡◌, ◌<◌, ◌≤◌, ◌++◌, ◌∷◌, ◌⊎◌, ◌+ℤ◌, ◌≤ℤ◌, [], ℕ, ℤ, List, pos, map, length};
-ghost use Rattle.std.specs.Prelude.{IsTrue, IfOk, OnOk, IfSome, slice_index_or};
+ghost use Rattle.std.specs.Prelude.{◌≡◌, ◌<◌, ◌≤◌, ◌++◌, ◌∷◌, ◌+ℤ◌, ◌≤ℤ◌, [], ℕ, pos, map, IsTrue, IfOk, OnOk, IfSome};
 ghost use Rattle.single_def.specs.Private.Actions.{view_action};
 ghost use Rattle.single_def.specs.Private.Parts.{seen, view_part};
 ghost use Rattle.single_def.specs.Private.Lanes.{at, column, turns_at};
 ghost use Rattle.single_def.specs.Private.Ahead as spec;
-ghost use Rattle.single_def.specs.Private.Ahead.{InEach, Reaches, Holds, IsIn, Keeps, IsMore, DoSame};
+ghost use Rattle.single_def.specs.Private.Ahead.{InEach, Reaches, Holds, Keeps, DoSame};
 
 use crate::actions::Action;
 use crate::groups::put_turn;
@@ -51,7 +50,7 @@ impl Look {
 
 /// The indices in a lane, and one of a loop inside.
 fn turn_in(alloc: Global, rows: &[Row], k: usize, index: i32) -> Result<List<i32>, AllocError>
-    requires { k < 16 }
+    requires { k < 32 }
     ensures { IfOk result (λ turn. turn ≡ column rows.now k ++ index ∷ []) }
 {
     let mut turn = List::with_capacity(alloc, rows.len() + 1)?;
@@ -72,7 +71,7 @@ fn put_lane(
     inner: &mut Vec<Group>,
     room: &mut usize,
 ) -> Result<bool, AllocError>
-    requires { k < 16 }
+    requires { k < 32 }
     ensures kept { OnOk result (Keeps lanes.entry.outer.now inner.old.items inner.new.items) }
     ensures reached { IfOk result (λ has. IsTrue has → (j : ℕ) → (first +ℤ pos j) ≤ℤ last
         → Holds lanes.entry.outer.now inner.new.items (turns_at lanes.entry k ++ (first +ℤ pos j) ∷ [])) }
@@ -97,7 +96,7 @@ fn put_lanes(
     inner: &mut Vec<Group>,
     room: &mut usize,
 ) -> Result<bool, AllocError>
-    requires { lanes.count ≤ 16 }
+    requires { lanes.count ≤ 32 }
     ensures kept { OnOk result (Keeps lanes.entry.outer.now inner.old.items inner.new.items) }
     ensures reached { IfOk result (λ has. IsTrue has → (k : ℕ) → k < lanes.entry.count → (j : ℕ)
         → (at first.now k +ℤ pos j) ≤ℤ at last.now k → Holds lanes.entry.outer.now inner.new.items
@@ -120,7 +119,7 @@ fn put_turns(
     inner: &mut Vec<Group>,
     look: &mut Look,
 ) -> Result<bool, AllocError>
-    requires { lanes.count ≤ 16 }
+    requires { lanes.count ≤ 32 }
     ensures kept { OnOk result (Keeps lanes.entry.outer.now inner.old.items inner.new.items) }
     ensures reached { IfOk result (λ has. IsTrue has → (k : ℕ) → k < lanes.entry.count
         → Reaches lanes.entry.outer.now inner.new.items lo.now hi.now (turns_at lanes.entry k)) }

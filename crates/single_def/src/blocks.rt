@@ -9,7 +9,7 @@ ghost use Rattle.single_def.specs.Private.Blocks.{IsBlock};
 
 use crate::actions::Action;
 use crate::ahead::{Look, MOST_TURNS, Turns, busy};
-use crate::lanes::{Group, LANES, Row};
+use crate::lanes::{Group, LANES, Row, same_row};
 use crate::parts::{Part, all};
 use crate::turns::turn_at;
 use lists::List;
@@ -43,7 +43,7 @@ const FEW: usize = 2;
 
 /// The index of the turn so many turns later, or the last one.
 fn turn_after(turn: i32, k: usize, last: i32) -> i32
-    requires { k < 16 }
+    requires { k < 32 }
     ensures { (turn +ℤ pos k) ≤ℤ last → result ≡ turn +ℤ pos k }
 {
     let index = i64::from(turn) + k as i64;
@@ -56,19 +56,19 @@ fn turn_after(turn: i32, k: usize, last: i32) -> i32
 
 /// The indices of turns one after another. The lanes behind them repeat the first.
 fn index_row(turn: i32, last: i32, count: usize) -> Row
-    requires { count ≤ 16 }
+    requires { count ≤ 32 }
     ensures { (k : ℕ) → k < count → (turn +ℤ pos k) ≤ℤ last → at result k ≡ turn +ℤ pos k }
 {
-    let mut row = [turn; LANES];
+    let mut row = same_row(turn);
     for k in 0..count {
         row[k] = turn_after(turn, k, last);
     }
     row
 }
 
-/// How many turns there are from one on, or 16 if that is less.
+/// How many turns there are from one on, or 32 if that is less.
 fn turns_left(turn: i32, last: i32) -> usize
-    ensures { result ≤ 16 }
+    ensures { result ≤ 32 }
 {
     match usize::try_from(i64::from(last) - i64::from(turn) + 1) {
         Ok(left) => left.min(LANES),

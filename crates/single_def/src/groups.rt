@@ -4,13 +4,13 @@ ghost use Rattle.std.specs.Prelude.{◌≡◌, ◌<◌, ◌++◌, ◌⊎◌, [],
 ghost use Rattle.single_def.specs.Private.Lanes.{at, column};
 ghost use Rattle.single_def.specs.Private.Ahead.{Holds, IsIn, IsMore};
 
-use crate::lanes::{Group, LANES, Row};
+use crate::lanes::{Group, LANES, Row, same_row};
 use lists::List;
 use std::alloc::{AllocError, Global};
 
 /// The row with a number in a lane and in those behind it.
 fn filled(row: &Row, lane: usize, value: i32) -> Row
-    requires { lane < 16 }
+    requires { lane < 32 }
     ensures before { (k : ℕ) → k < lane → at result k ≡ at row.now k }
     ensures here { at result lane ≡ value }
 {
@@ -23,14 +23,14 @@ fn filled(row: &Row, lane: usize, value: i32) -> Row
 
 /// The row of a loop with its index in one turn more.
 fn longer_row(rows: &[Row], d: usize, lane: usize, index: i32) -> Row
-    requires { lane < 16 }
+    requires { lane < 32 }
     ensures before { d < length rows.now → (k : ℕ) → k < lane → at result k ≡ at (slice_index_or rows.now d []) k }
     ensures here { at result lane ≡ index }
 {
     if d < rows.len() {
         filled(&rows[d], lane, index)
     } else {
-        [index; LANES]
+        same_row(index)
     }
 }
 
@@ -41,7 +41,7 @@ fn with_turn(
     lane: usize,
     turn: &[i32],
 ) -> Result<List<Row>, AllocError>
-    requires { lane < 16 }
+    requires { lane < 32 }
     ensures before { IfOk result (λ longer. length rows.now ≡ length turn.now → (k : ℕ) → k < lane
         → column longer k ≡ column rows.now k) }
     ensures here { IfOk result (λ longer. column longer lane ≡ turn.now) }
@@ -64,7 +64,7 @@ fn no_turn(alloc: Global) -> Group
 
 /// Takes the last group, if it has a free lane, or a new one.
 fn take_open(alloc: Global, groups: &mut Vec<Group>, loops: usize) -> Result<Group, AllocError>
-    ensures lane { IfOk result (λ group. group.count < 16) }
+    ensures lane { IfOk result (λ group. group.count < 32) }
     ensures rows { IfOk result (λ group. (k : ℕ) → k < group.count → length group.rows ≡ loops) }
     ensures kept { IfOk result (λ group. (outer turns : List ℤ) → Holds outer groups.old.items turns
         → Holds outer groups.new.items turns ⊎ IsIn outer group turns) }

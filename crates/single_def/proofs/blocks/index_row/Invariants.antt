@@ -4,4 +4,4 @@ use Rattle.single_def.proofs.blocks.index_row.Given as goal
 
 abbrev pub invariant-loop-k : goal.invariant-loop-k
 invariant-loop-k l =
-    (length l.row ≡ 16) × ((j : ℕ) → j < l.k → (l.turn +ℤ pos j) ≤ℤ l.last → at l.row j ≡ l.turn +ℤ pos j)
+    (length l.row ≡ 32) × ((j : ℕ) → j < l.k → (l.turn +ℤ pos j) ≤ℤ l.last → at l.row j ≡ l.turn +ℤ pos j)
