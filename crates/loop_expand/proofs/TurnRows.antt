@@ -1,11 +1,11 @@
 -- Turns of a loop in the turns around it.
-use Rattle.std.proofs.Common.{◌≡◌, ◌<◌, ◌≤◌, ◌+◌, ◌-◌, ◌∙◌, ℕ, zero, suc, ℤ, pos, negsuc, ◌+ℤ◌, ◌-ℤ◌, ◌<ℤ◌, List, [], ◌∷◌, ◌++◌, map, length, drop, get_or, slice_get, Some, None, Option, refl, sym, ap, ap₂, arith, append_assoc, append-nil}
+use Rattle.std.proofs.Common.{◌≡◌, ◌<◌, ◌≤◌, ◌+◌, ◌-◌, ◌∙◌, ℕ, zero, suc, ℤ, pos, negsuc, ◌+ℤ◌, ◌-ℤ◌, ◌<ℤ◌, List, [], ◌∷◌, ◌++◌, map, length, drop, get_or, slice_get, Some, refl, sym, ap, ap₂, arith, append_assoc, append-nil}
 use Rattle.std.specs.List.{range_with_len}
 use Rattle.std.proofs.lemmas.Int.{ints}
 use Rattle.std.proofs.lemmas.List.{map-append}
 use Rattle.silage_syntax.specs.Tree.{Manifest}
 use Rattle.silage_syntax.specs.Manifests.{Indices, manifest_value}
-use Rattle.single_def.specs.ElementRules.{at_least_0, count_up, loop_turns}
+use Rattle.single_def.specs.ElementRules.{at_least_0, loop_turns}
 use Rattle.loop_expand.specs.declared.turns.Column.{Column as RustColumn}
 use Rattle.loop_expand.specs.declared.turns.InnerTurn.{InnerTurn}
 use Rattle.loop_expand.specs.Private.Turns.{at, view_column, view_columns, row_at, turns_within, inner_at, inner_of, inner_columns}

@@ -1,9 +1,8 @@
 -- Values in many turns at once.
-use Rattle.std.proofs.Common.{◌≡◌, ◌<◌, ◌≤◌, ◌+◌, ◌∙◌, ℕ, zero, suc, ℤ, pos, negsuc, ◌+ℤ◌, ◌-ℤ◌, neg_ℤ, List, [], ◌∷◌, length, replicate, slice_set, bit_or, Some, inl, inr, refl, sym, ap, arith}
+use Rattle.std.proofs.Common.{◌≡◌, ◌<◌, ◌≤◌, ◌+◌, ◌∙◌, ℕ, zero, suc, ℤ, pos, neg_ℤ, List, length, replicate, slice_set, bit_or, Some, inl, inr, refl, sym, ap, arith}
 use Rattle.std.proofs.lemmas.List.{get_or-set_same, get_or-set_other}
 use Rattle.std.proofs.lemmas.Nat.{le_or_l, le_or_r}
 use Rattle.std.proofs.lemmas.Bool.Decides.{eqb_tells}
-use Rattle.silage_syntax.specs.declared.tree.MOp.{MOp}
 use Rattle.silage_syntax.specs.declared.tree.MOp.TheVariants.{Sub}
 use Rattle.silage_syntax.specs.Manifests.{in_range, combined}
 use Rattle.loop_expand.specs.Private.Turns.{at}

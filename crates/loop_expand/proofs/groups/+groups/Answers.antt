@@ -1,4 +1,4 @@
-use Rattle.std.proofs.Common.{◌≡◌, ◌∙◌, ◌++◌, List, ap, sym, arith}
+use Rattle.std.proofs.Common.{◌∙◌, ◌++◌, List, ap, sym, arith}
 use Rattle.silage_syntax.specs.Manifests.{Indices}
 use Rattle.fix_types.specs.TypedTree as typed
 use Rattle.fix_types.specs.declared.typed.TypedItem.{TypedItem}

@@ -1,7 +1,7 @@
-use Rattle.std.proofs.Common.{◌≡◌, ◌∙◌, ℕ, ℤ, List, map, ap, arith}
+use Rattle.std.proofs.Common.{◌∙◌, ℤ, List, map, ap, arith}
 use Rattle.loop_expand.specs.declared.turns.InnerTurn.{InnerTurn}
 use Rattle.loop_expand.specs.Private.Turns.{at}
-use Rattle.loop_expand.proofs.TurnRows.{columns_more, columns_end}
+use Rattle.loop_expand.proofs.TurnRows.{columns_more}
 use Rattle.loop_expand.proofs.turns.columns_of.Goals as goal
 
 pub loop-column-preserved : goal.loop-column-preserved

@@ -1,4 +1,4 @@
-use Rattle.std.proofs.Common.{◌≡◌, ◌++◌, map, drop}
+use Rattle.std.proofs.Common.{◌≡◌, ◌++◌, drop}
 use Rattle.loop_expand.specs.Private.Turns.{view_columns, inner_columns}
 use Rattle.loop_expand.proofs.turns.columns_of.Given as goal
 

@@ -1,6 +1,6 @@
-use Rattle.std.proofs.Common.{◌≡◌, ◌<◌, ◌+◌, ◌∙◌, ℕ, Option, Some, Result, Ok, Err, IfOk, IfSome, sym, subst, ap₂, arith}
+use Rattle.std.proofs.Common.{◌≡◌, ◌<◌, ◌∙◌, ℕ, Option, Some, Result, Ok, Err, IfOk, IfSome, sym, subst, ap₂, arith}
 use Rattle.silage_syntax.specs.Manifests.{manifest_value}
-use Rattle.silage_syntax.specs.Tree.{Manifest, view_manifest}
+use Rattle.silage_syntax.specs.Tree.{view_manifest}
 use Rattle.loop_expand.specs.declared.values.Values.{Values}
 use Rattle.single_def.specs.ElementRules.{loop_turns}
 use Rattle.loop_expand.specs.Private.Turns.{indices_at, value_in}

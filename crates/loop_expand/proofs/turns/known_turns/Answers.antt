@@ -1,4 +1,4 @@
-use Rattle.std.proofs.Common.{◌≡◌, ◌<◌, ◌+◌, ◌++◌, ◌∙◌, ℕ, ℤ, List, Some, map, ap₂, sym, arith, rules, w32}
+use Rattle.std.proofs.Common.{◌<◌, ◌++◌, ◌∙◌, ℤ, Some, map, ap₂, sym, arith, rules, w32}
 use mir.Val.{SFits}
 use Rattle.std.proofs.lemmas.Int.{to_z-of_z}
 use Rattle.single_def.specs.ElementRules.{loop_turns}
