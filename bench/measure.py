@@ -3,7 +3,6 @@ import os
 import resource
 import subprocess
 import sys
-import time
 from pathlib import Path
 
 ROOT = Path(__file__).resolve().parent.parent
@@ -20,13 +19,18 @@ def build():
 
 
 def run(call, turns, *files):
-    """How long so many turns take, and what they add up to. The program answers that, or the fault of a file."""
-    started = time.monotonic()
-    answer = subprocess.run([PROGRAM, "repeat", call, str(turns), *files], check=True, stdout=subprocess.PIPE).stdout
-    taken = time.monotonic() - started
+    """The processor time of so many turns, which says more than the clock where the machine does other work too, and
+    what they add up to. The program answers that, or the fault of a file."""
+    process = subprocess.Popen([PROGRAM, "repeat", call, str(turns), *files], stdout=subprocess.PIPE)
+    with process.stdout as printed:
+        answer = printed.read()
+    _, status, usage = os.wait4(process.pid, 0)
+    process.returncode = os.waitstatus_to_exitcode(status)
+    if process.returncode:
+        sys.exit(process.returncode)
     if not answer.strip().isdigit():
         sys.exit(f"{call} answers {answer.decode(errors='replace')}")
-    return taken, int(answer)
+    return usage.ru_utime + usage.ru_stime, int(answer)
 
 
 def sum_of(call, turns, *files):
@@ -35,7 +39,7 @@ def sum_of(call, turns, *files):
 
 
 def best(call, turns, *files):
-    """The shortest of at least three runs, and of as many as take half a second: a short run says little by itself."""
+    """The least of at least three runs, and of as many as take half a second: a short run says little by itself."""
     times = []
     while len(times) < 3 or sum(times) < 0.5:
         times.append(run(call, turns, *files)[0])
