@@ -7,7 +7,6 @@ use Rattle.desk_core.proofs.DeskLemmas.{rose_later, rose_earlier, never_fall_tra
 use Rattle.desk_core.proofs.WholeLemmas.{through_stays, through_beside}
 use Rattle.silc.specs.Endings.{IsRejected, IsNotWritten, IsFinished, ChangesOnly, UsesOnly}
 use Rattle.silc.specs.Private.Reading.{OnlyReads}
-use Rattle.silc.specs.Private.Running.{WritesOnly}
 
 pub unchanged_trans : (old mid new : View) → IsUnchangedButInput old mid → IsUnchangedButInput mid new → IsUnchangedButInput old new
 unchanged_trans old mid new h k =
@@ -36,15 +35,6 @@ not_written last out limit bytes old mid new apart h same le rose k = record {
   rose = rose_later _ _ _ (le.writing out) rose;
   read = through_beside last out limit old mid new apart h k.other_input k.place k.other_reads;
   files = specified_from (IsPutInPart out bytes) old.files mid.files new.files same k.files;
-}
-
--- the inputs were read, and then OUT alone was written
-pub uses_only : (first second out : Name) (old mid new : View) → OnlyReads first second old mid → WritesOnly out mid new → UsesOnly first second out old new
-uses_only first second out old mid new reads writes = record {
-  files = specified_from (ChangesOnly out) old.files mid.files new.files reads.unchanged.files writes.files;
-  printed = writes.printed ∙ reads.unchanged.printed;
-  reads = λ s not_first not_second is. reads.begins s not_first not_second (writes.reads s is);
-  writes = λ s ne is. ap (λ (f : Name → Bool). f s) (sym reads.unchanged.writes) ∙ writes.writes s ne is;
 }
 
 -- what was said before an error is reported holds after it

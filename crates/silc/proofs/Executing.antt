@@ -3,24 +3,22 @@ use Rattle.std.proofs.Common.{◌≡◌, ◌≢◌, refl, sym, ap, ap₂, subst,
 use Rattle.cycle_sim.specs.Machine.{Snapshot}
 use Rattle.desk_core.specs.View.{Name, Content, View}
 use Rattle.desk_core.specs.Desk.{WhereSpecified, WriteFaultsRose, FaultsNeverFall, IsUnchanged, content_of}
-use Rattle.desk_core.specs.Whole.{IsReadThrough, IsWrittenWhole, IsWrittenInPart}
-use Rattle.desk_core.proofs.DeskLemmas.{rose_later, rose_earlier, never_fall_trans, specified_from}
+use Rattle.desk_core.specs.Whole.{IsWrittenWhole, IsWrittenInPart}
+use Rattle.desk_core.proofs.DeskLemmas.{rose_later, rose_earlier, never_fall_trans}
 use Rattle.desk_core.proofs.WholeLemmas.{through_from}
 use Rattle.fix_word.specs.declared.types.SigType.{SigType}
 use Rattle.fix_word.specs.declared.types.SigType.TheVariants as sig
-use Rattle.micro_image.specs.declared.image.Image.{Image as MicroImage}
-use Rattle.plan_core.specs.declared.plan.Plan.{Plan}
 use Rattle.plan_run.specs.ImageOf.{IsImageOf, width_of}
 use Rattle.sample_io.specs.declared.RowList.{RowList}
 use Rattle.sample_io.specs.Channels.{IsStream, channel_of}
 use Rattle.sample_io.specs.Samples.{printed, stream_of}
 use Rattle.silage_meaning.specs.Solves as program
-use Rattle.silc.specs.Endings.{ChangesOnly, IsNotWritten}
+use Rattle.silc.specs.Endings.{ChangesOnly}
 use Rattle.silc.specs.Eval.{type_channel, IsEvalDone, IsEvalCutShort}
 use Rattle.silc.specs.Headline.{RunsTheSolution}
 use Rattle.silc.specs.Limits.{samples_limit}
-use Rattle.silc.specs.Refusals.{IsRefusal, IsPlanError}
-use Rattle.silc.specs.Run.{HasSomePlan, AreSamplesUnread, IsNotRun, IsRunDone, IsRunCutShort, IsRunAnswer, RunUsesOnly}
+use Rattle.silc.specs.Refusals.{IsPlanError}
+use Rattle.silc.specs.Run.{HasSomePlan, AreSamplesUnread, IsNotRun, IsRunDone, IsRunAnswer, RunUsesOnly}
 use Rattle.silc.specs.Samples.{AreSamples, IsSampleFault}
 use Rattle.silc.specs.Sim.{channels_of, HasRun}
 use Rattle.silc.specs.Sources.{IsProgramIn}
@@ -28,7 +26,7 @@ use Rattle.silc.specs.Private.Compiling.{IsMicrocodeOf}
 use Rattle.silc.specs.Private.Executing.{OnlyReadsThree, IsCompiledMachine, IsExecuted}
 use Rattle.silc.specs.Private.Planning.{IsReadPlan}
 use Rattle.silc.specs.Private.Reading.{OnlyReads}
-use Rattle.silc.specs.Private.Running.{IsMachineOf, IsNoMachine, IsRunError, WritesOnly, IsRunPut}
+use Rattle.silc.specs.Private.Running.{IsMachineOf, IsRunError, IsRunPut}
 use Rattle.silc.specs.Private.SampleRows.{AreRowsRead, IsRowsError}
 use Rattle.silc.specs.declared.planning.Planned.{Planned}
 use Rattle.silc.specs.declared.sim.Kept.{Kept}
@@ -70,36 +68,6 @@ module _ (src datapath : Name) (old new : View) (planned : Planned) (plan : IsRe
             (runs_the_solution plan.program plan.graph made.image plan.keeps (made.runs plan.graph plan.keeps.sound (inr plan.plan)));
         channels = ap (map channel_of) image_of.inputs ∙ same_channels planned.plan.inputs ∙ ap (map type_channel) (plan.plan.inputs ∙ plan.keeps.keeps.inputs);
       }
-
-  -- so there is one, unless memory runs out
-  pub no_machine : (status : Status) → IsNoMachine microcode status → status ≡ Memory
-  no_machine status h = ⊎_elim (λ memory. memory) (λ none. absurd (none.1 made.image made.spelled.spells)) h
-
--- why there is no plan is never one of these
-none_of_plans : (src datapath : Name) (old new : View) (status : Status) → (status ≡ Memory → ⊥) → (status ≡ Desk → ⊥) → (IsRefusal status → ⊥)
-    → IsPlanError src datapath old new status → ⊥
-none_of_plans src datapath old new status not_memory not_desk not_refusal h =
-    ⊎_elim (λ memory. not_memory memory.0) (λ rest. ⊎_elim (λ desk. not_desk desk.0) (λ refused. not_refusal refused.0) rest) h
-
--- why there is no plan is why `run` ends
-pub plan_error : (src datapath samples : Name) (old new : View) (status : Status) → IsPlanError src datapath old new status
-    → IsNotRun src datapath samples old new status
-plan_error src datapath samples old new Desk h = inl h
-plan_error src datapath samples old new (Image fault) h =
-    none_of_plans src datapath old new (Image fault) (λ (e : Image fault ≡ Memory). cc) (λ (e : Image fault ≡ Desk). cc) (λ no. no) h
-plan_error src datapath samples old new (Samples fault) h =
-    absurd (none_of_plans src datapath old new (Samples fault) (λ (e : Samples fault ≡ Memory). cc) (λ (e : Samples fault ≡ Desk). cc) (λ no. no) h)
-plan_error src datapath samples old new (Conflict conflict) h =
-    none_of_plans src datapath old new (Conflict conflict) (λ (e : Conflict conflict ≡ Memory). cc) (λ (e : Conflict conflict ≡ Desk). cc) (λ no. no) h
-plan_error src datapath samples old new Done h = h
-plan_error src datapath samples old new Memory h = h
-plan_error src datapath samples old new Words h = h
-plan_error src datapath samples old new (FrontEnd fault) h = h
-plan_error src datapath samples old new (Path fault) h = h
-plan_error src datapath samples old new (status.Unit refusal) h = h
-plan_error src datapath samples old new (LinesFull node) h = h
-plan_error src datapath samples old new (Period node) h = h
-plan_error src datapath samples old new (FileFull unit port node) h = h
 
 -- the machine was made, and then SAMPLES was read
 module _ (src datapath samples : Name) (old mid new : View) (machine : Snapshot) (first : OnlyReads src datapath old mid)
@@ -246,16 +214,6 @@ module _ (src datapath samples out : Name) (old mid new : View) (machine : Snaps
         planned = λ files is. (done.program, done.path, done.plan, done.planned files is);
       })))
       h
-
--- the inputs were read, and then OUT alone was written
-pub run_uses_only : (src datapath samples out : Name) (old mid new : View) → OnlyReadsThree src datapath samples old mid → WritesOnly out mid new
-    → RunUsesOnly src datapath samples out old new
-run_uses_only src datapath samples out old mid new reads writes = record {
-  files = specified_from (ChangesOnly out) old.files mid.files new.files reads.unchanged.files writes.files;
-  printed = writes.printed ∙ reads.unchanged.printed;
-  reads = λ s not_src not_datapath not_samples is. reads.begins s not_src not_datapath not_samples (writes.reads s is);
-  writes = λ s ne is. ap (λ (f : Name → Bool). f s) (sym reads.unchanged.writes) ∙ writes.writes s ne is;
-}
 
 -- a report of the error leaves the answer of `run` as it is
 module _ (src datapath samples out : Name) (old mid new : View) (same : IsUnchanged mid new) (later : FaultsNeverFall mid new) (before : FaultsNeverFall old mid) where

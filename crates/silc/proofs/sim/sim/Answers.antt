@@ -1,4 +1,3 @@
-use Rattle.silc.proofs.Endings.{uses_only}
 use Rattle.silc.proofs.Simulating.{run_put}
 use Rattle.silc.proofs.sim.sim.Goals as goal
 
