@@ -6,6 +6,7 @@ pub mod Endings
 pub mod Errors
 pub mod Making
 pub mod Scheduling
+pub mod Listing
 pub mod RowLists
 pub mod Printing
 pub mod Simulating
@@ -15,3 +16,7 @@ pub mod Solving
 pub mod Executing
 pub mod WordLists
 pub mod Closed
+pub mod Numerals
+pub mod Spelling
+pub mod CascadeProgram
+pub mod Demonstrating

@@ -8,8 +8,8 @@ use Rattle.desk_core.proofs.DeskLemmas.{rose_later, rose_earlier, never_fall_tra
 use Rattle.desk_core.proofs.WholeLemmas.{through_stays}
 use Rattle.silc.specs.Limits.{text_limit}
 use Rattle.silc.specs.Refusals.{IsPlanError}
-use Rattle.silc.specs.Schedule.{IsPrintedMore, IsPrintedInPart, IsPrintCutShort, ChangesNoFile, IsScheduleAnswer}
-use Rattle.silc.specs.Private.Printing.{IsMadeSchedule, PrintsOnly, IsPrintedSoFar}
+use Rattle.silc.specs.Schedule.{IsPrintedMore, IsPrintedInPart, PrintsOnly, IsPrintCutShort, ChangesNoFile, IsScheduleAnswer}
+use Rattle.silc.specs.Private.Printing.{IsMadeSchedule, IsPrintedSoFar}
 use Rattle.silc.specs.Private.Reading.{OnlyReads}
 use Rattle.silc.specs.declared.status.Status.{Status}
 use Rattle.silc.specs.declared.status.Status.TheVariants.{Done, Memory, Words, Desk, FrontEnd, Path, LinesFull, Period, FileFull, Image, Samples, Conflict}
@@ -65,7 +65,7 @@ module _ (src datapath : Name) (old mid new : View) (text : Content) (reads : On
 
 -- a report of the error leaves the answer as it is
 module _ (src datapath : Name) (old mid new : View) (same : IsUnchanged mid new) (later : FaultsNeverFall mid new) (before : FaultsNeverFall old mid) where
-  printed_still : (R : Content → Content → Type 0) → IfSpecified R old.printed mid.printed → IfSpecified R old.printed new.printed
+  pub printed_still : (R : Content → Content → Type 0) → IfSpecified R old.printed mid.printed → IfSpecified R old.printed new.printed
   printed_still R h = λ after is. h after (sym same.printed ∙ is)
 
   print_cut_short_still : IsPrintCutShort src datapath old mid → IsPrintCutShort src datapath old new

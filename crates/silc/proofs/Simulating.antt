@@ -32,10 +32,10 @@ use Rattle.silc.proofs.Printing.{printed_more}
 use Rattle.silc.proofs.RowLists.{first_rows, first_more, stream_parts}
 
 -- one more row, for a whole period
-spread_row : (period : ℕ) (stream : Rows) (row : List ℤ) → spread period (stream ++ row ∷ []) ≡ spread period stream ++ replicate period row
+pub spread_row : (period : ℕ) (stream : Rows) (row : List ℤ) → spread period (stream ++ row ∷ []) ≡ spread period stream ++ replicate period row
 spread_row period stream row = spread-append period stream (row ∷ []) ∙ ap (λ cycles. spread period stream ++ cycles) (append-nil (replicate period row))
 
-one_more : (period : ℕ) (stream : Rows) → length (spread period stream) + period ≡ (length stream + 1) * period
+pub one_more : (period : ℕ) (stream : Rows) → length (spread period stream) + period ≡ (length stream + 1) * period
 one_more period stream = omega (arith, length-spread period stream)
 
 -- a machine after whole samples is ready for the next one

@@ -1,5 +1,11 @@
--- A list of three, four or five is its items.
+-- A list of two, three, four or five is its items.
 use Rattle.std.proofs.Common.{arith, ◌≡◌, sym, ap₂, ◌<◌, ◌≤◌, length, List, [], ◌∷◌, get_or}
+
+pub two : {A : Type 0} (xs : List A) (a b : A) → 2 ≤ length xs → length xs < 3 → a ≡ get_or xs 0 a → b ≡ get_or xs 1 b → xs ≡ a ∷ b ∷ []
+two [] a b low high ea eb = absurd (omega arith)
+two (x ∷ []) a b low high ea eb = absurd (omega arith)
+two (x ∷ y ∷ []) a b low high ea eb = cc
+two (x ∷ y ∷ z ∷ more) a b low high ea eb = absurd (omega arith)
 
 pub three : {A : Type 0} (xs : List A) (a b c : A) → 3 ≤ length xs → length xs < 4 → a ≡ get_or xs 0 a → b ≡ get_or xs 1 b → c ≡ get_or xs 2 c → xs ≡ a ∷ b ∷ c ∷ []
 three [] a b c low high ea eb ec = absurd (omega arith)

@@ -10,6 +10,9 @@ pub mod Headline
 pub mod Compile
 pub mod Schedule
 pub mod Sim
+pub mod Listing
 pub mod Eval
 pub mod Run
+pub mod Cascade
+pub mod Demo
 pub mod Private

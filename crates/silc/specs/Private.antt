@@ -7,3 +7,5 @@ pub mod Printing
 pub mod Running
 pub mod Evaluating
 pub mod Executing
+pub mod Listing
+pub mod Demonstrating

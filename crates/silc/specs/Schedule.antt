@@ -2,7 +2,7 @@
 use Rattle.std.specs.Prelude.{◌≡◌, ◌⊎◌, ℕ, ◌++◌, List, take}
 use Rattle.datapath.specs.declared.types.Datapath.{Datapath}
 use Rattle.desk_core.specs.View.{Name, Content, Files, View}
-use Rattle.desk_core.specs.Desk.{IfSpecified, WhereSpecified, PrintFaultsRose, content_of}
+use Rattle.desk_core.specs.Desk.{IfSpecified, WhereSpecified, IsSameInput, PrintFaultsRose, content_of}
 use Rattle.desk_core.specs.Whole.{IsReadThrough}
 use Rattle.plan_core.specs.declared.plan.Plan.{Plan}
 use Rattle.microcode_asm.specs.ScheduleText.{schedule_text}
@@ -30,6 +30,15 @@ IsPrintedMore bytes before after = after ≡ before ++ bytes
 -- the printed bytes grew by a prefix of these
 abbrev pub IsPrintedInPart : Content → Content → Content → Type 0
 IsPrintedInPart bytes before after = (k : ℕ) × IsPrintedMore (take k bytes) before after
+
+-- all but the printed bytes and the faults is as it was
+pub record PrintsOnly (old new : View) : Type 0 where
+  pub files : new.files ≡ old.files
+  pub input : IsSameInput old new
+  pub place : new.place ≡ old.place
+  pub output : new.output ≡ old.output
+  pub reads : new.reads ≡ old.reads
+  pub writes : new.writes ≡ old.writes
 
 -- the text of the plan was printed, after both inputs were read through
 pub record IsScheduled (src datapath : Name) (old new : View) : Type 0 where

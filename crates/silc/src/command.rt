@@ -1,19 +1,24 @@
 //! The top call: which command the words are.
-ghost use Rattle.std.specs.Prelude.{◌≡◌, ◌≢◌, MatchOption, None};
+ghost use Rattle.std.specs.Prelude.{◌≡◌, ◌≢◌, ℕ, MatchOption, None};
 ghost use Rattle.desk_core.specs.View.{Name};
 ghost use Rattle.desk_core.specs.Desk.{FaultsNeverFall, IsUnchanged, IfSpecified, HasOutput};
 ghost use Rattle.silc.specs.Command.{IsFileCommand, IsCommand, IsCommandOn, IsCommandTo};
 ghost use Rattle.silc.specs.Command.{IsCompile, IsSchedule, IsSim, IsEval, IsRun};
+ghost use Rattle.silc.specs.Command.{IsList, IsDemo};
 ghost use Rattle.silc.specs.Compile.{IsDone, IsAnswer};
+ghost use Rattle.silc.specs.Demo.{IsDemoDone, IsDemoAnswer};
 ghost use Rattle.silc.specs.Endings.{UsesOnly};
 ghost use Rattle.silc.specs.Eval.{IsEvalDone, IsEvalAnswer};
+ghost use Rattle.silc.specs.Listing.{IsListed, IsListAnswer};
 ghost use Rattle.silc.specs.Run.{IsRunDone, IsRunAnswer, RunUsesOnly};
-ghost use Rattle.silc.specs.Schedule.{IsScheduled, IsScheduleAnswer, ChangesNoFile};
+ghost use Rattle.silc.specs.Schedule.{IsScheduled, IsScheduleAnswer, ChangesNoFile, PrintsOnly};
 ghost use Rattle.silc.specs.Sim.{IsSimDone, IsSimAnswer};
 ghost use Rattle.silc.specs.declared.sim.Kept.TheVariants.{Nothing};
 
 use crate::compile::compile;
+use crate::demo::{demo, demo_words};
 use crate::eval::eval;
+use crate::list::{list, list_words};
 use crate::report::report;
 use crate::run::run;
 use crate::schedule::schedule;
@@ -116,24 +121,39 @@ fn carry_out<D: Desk>(alloc: Global, words: &[String], desk: &mut D, kept: &mut 
         → IsRunAnswer src datapath samples out (D.view desk.old) (D.view desk.new) kept.new result.status }
     ensures schedule_answer { (src datapath : Name) → IsSchedule words.now src datapath
         → IsScheduleAnswer src datapath (D.view desk.old) (D.view desk.new) result.status }
+    ensures list_answer { (mic : Name) → IsList words.now mic
+        → IsListAnswer mic (D.view desk.old) (D.view desk.new) result.status }
+    ensures demo_answer { (sections samples : ℕ) → IsDemo words.now sections samples
+        → IsDemoAnswer sections samples (D.view desk.old) (D.view desk.new) kept.new result.status }
     ensures only { (first second out : Name) → IsCommandOn words.now first second out
         → UsesOnly first second out (D.view desk.old) (D.view desk.new) }
     ensures run_only { (src datapath samples out : Name) → IsRun words.now src datapath samples out
         → RunUsesOnly src datapath samples out (D.view desk.old) (D.view desk.new) }
     ensures schedule_only { (src datapath : Name) → IsSchedule words.now src datapath
         → ChangesNoFile src datapath (D.view desk.old) (D.view desk.new) }
+    ensures list_only { (mic : Name) → IsList words.now mic
+        → ChangesNoFile mic mic (D.view desk.old) (D.view desk.new) }
+    ensures demo_only { (sections samples : ℕ) → IsDemo words.now sections samples
+        → PrintsOnly (D.view desk.old) (D.view desk.new) }
     ensures nothing { result.status ≡ Status.Words → IsUnchanged (D.view desk.old) (D.view desk.new) }
     ensures nothing_kept { result.status ≢ Status.Done → kept.new ≡ Nothing }
     ensures compile_keeps_nothing { (src datapath out : Name) → IsCompile words.now src datapath out
         → kept.new ≡ Nothing }
     ensures eval_keeps_nothing { (src samples out : Name) → IsEval words.now src samples out → kept.new ≡ Nothing }
     ensures schedule_keeps_nothing { (src datapath : Name) → IsSchedule words.now src datapath → kept.new ≡ Nothing }
+    ensures list_keeps_nothing { (mic : Name) → IsList words.now mic → kept.new ≡ Nothing }
 {
     if let Some(found) = command_of("compile", words) {
         return compile(alloc, desk, found.first, found.second, found.output);
     }
     if let Some(found) = schedule_words(words) {
         return schedule(alloc, desk, found.source, found.datapath);
+    }
+    if let Some(microcode) = list_words(words) {
+        return Ending::from(list(alloc, desk, microcode));
+    }
+    if let Some(found) = demo_words(words) {
+        return demo(alloc, desk, found.sections, found.samples, kept);
     }
     if let Some(found) = command_of("sim", words) {
         return Ending::from(sim(alloc, desk, found.first, found.second, found.output, kept));
@@ -159,6 +179,9 @@ fn carry_out<D: Desk>(alloc: Global, words: &[String], desk: &mut D, kept: &mut 
 ///
 /// `compile SRC DP OUT` reads a source and a datapath, and writes the microcode of the source's plan to OUT.
 /// `schedule SRC DP` reads a source and a datapath, and prints the source's plan.
+/// `list MIC` reads microcode, and prints the image that it spells.
+/// `demo K N` compiles a cascade of K biquad sections, runs the microcode on N samples, and prints what its output words
+/// come to. Where it is done, it keeps the machine that ran them.
 /// `sim MIC SAMPLES OUT` reads microcode and samples, and writes the rows that the microcode puts to OUT. Where it is
 /// done, it keeps the machine that ran them.
 /// `eval SRC SAMPLES OUT` reads a source and samples, and writes the output rows of the source's equations to OUT.
@@ -175,6 +198,14 @@ pub fn silc<D: Desk>(alloc: Global, words: &[String], desk: &mut D, kept: &mut K
     // What `schedule` prints where it is done.
     ensures printed { result ≡ Status.Done → (src datapath : Name) → IsSchedule words.now src datapath
         → IsScheduled src datapath (D.view desk.old) (D.view desk.new) }
+
+    // What `list` prints where it is done.
+    ensures listed { result ≡ Status.Done → (mic : Name) → IsList words.now mic
+        → IsListed mic (D.view desk.old) (D.view desk.new) }
+
+    // What `demo` prints and keeps where it is done.
+    ensures demonstrated { result ≡ Status.Done → (sections samples : ℕ) → IsDemo words.now sections samples
+        → IsDemoDone sections samples (D.view desk.old) (D.view desk.new) kept.new }
 
     // What `sim` writes and keeps where it is done.
     ensures simulated { result ≡ Status.Done → (mic samples out : Name) → IsSim words.now mic samples out
@@ -199,6 +230,10 @@ pub fn silc<D: Desk>(alloc: Global, words: &[String], desk: &mut D, kept: &mut K
         → IsAnswer src datapath out (D.view desk.old) (D.view desk.new) result }
     ensures schedule_answer { (src datapath : Name) → IsSchedule words.now src datapath
         → IsScheduleAnswer src datapath (D.view desk.old) (D.view desk.new) result }
+    ensures list_answer { (mic : Name) → IsList words.now mic
+        → IsListAnswer mic (D.view desk.old) (D.view desk.new) result }
+    ensures demo_answer { (sections samples : ℕ) → IsDemo words.now sections samples
+        → IsDemoAnswer sections samples (D.view desk.old) (D.view desk.new) kept.new result }
     ensures sim_answer { (mic samples out : Name) → IsSim words.now mic samples out
         → IsSimAnswer mic samples out (D.view desk.old) (D.view desk.new) kept.new result }
     ensures eval_answer { (src samples out : Name) → IsEval words.now src samples out
@@ -213,12 +248,17 @@ pub fn silc<D: Desk>(alloc: Global, words: &[String], desk: &mut D, kept: &mut K
         → RunUsesOnly src datapath samples out (D.view desk.old) (D.view desk.new) }
     ensures schedule_only { (src datapath : Name) → IsSchedule words.now src datapath
         → ChangesNoFile src datapath (D.view desk.old) (D.view desk.new) }
+    ensures list_only { (mic : Name) → IsList words.now mic
+        → ChangesNoFile mic mic (D.view desk.old) (D.view desk.new) }
+    ensures demo_only { (sections samples : ℕ) → IsDemo words.now sections samples
+        → PrintsOnly (D.view desk.old) (D.view desk.new) }
     ensures nothing { result ≡ Status.Words → IsUnchanged (D.view desk.old) (D.view desk.new) }
     ensures nothing_kept { result ≢ Status.Done → kept.new ≡ Nothing }
     ensures compile_keeps_nothing { (src datapath out : Name) → IsCompile words.now src datapath out
         → kept.new ≡ Nothing }
     ensures eval_keeps_nothing { (src samples out : Name) → IsEval words.now src samples out → kept.new ≡ Nothing }
     ensures schedule_keeps_nothing { (src datapath : Name) → IsSchedule words.now src datapath → kept.new ≡ Nothing }
+    ensures list_keeps_nothing { (mic : Name) → IsList words.now mic → kept.new ≡ Nothing }
 {
     let ending = carry_out(alloc, words, desk, kept);
     if ending.status == Status::Done {

@@ -79,7 +79,7 @@ fn planned_over(alloc: Global, graph: Graph, path: Datapath) -> Result<Planned, 
 }
 
 /// The plan of the program of the one input, over the datapath of the other.
-fn planned_of(alloc: Global, source: &Input, datapath: &Input) -> Result<Planned, Ending>
+pub(crate) fn planned_of(alloc: Global, source: &Input, datapath: &Input) -> Result<Planned, Ending>
     ensures ok { IfOk result (IsInputPlan source.now datapath.now) }
     ensures err { IfErr result (λ ending. IsNoInputPlan source.now datapath.now ending.status) }
 {

@@ -1,8 +1,7 @@
 //! Printing, piece after piece.
 ghost use Rattle.std.specs.Prelude.{◌≡◌, OnOk, OnErr, IsErr};
 ghost use Rattle.desk_core.specs.Desk.{FaultsNeverFall, IfSpecified, PrintFaultsRose};
-ghost use Rattle.silc.specs.Schedule.{IsPrintedMore, IsPrintedInPart};
-ghost use Rattle.silc.specs.Private.Printing.{PrintsOnly};
+ghost use Rattle.silc.specs.Schedule.{IsPrintedMore, IsPrintedInPart, PrintsOnly};
 
 use desk_core::{Desk, Failed};
 

@@ -9,7 +9,6 @@ ghost use Rattle.micro_image.specs.Valid.{IsValid};
 ghost use Rattle.sample_io.specs.Channels.{IsChannel, channel_of};
 ghost use Rattle.sample_io.specs.Samples.{stream_of};
 ghost use Rattle.silc.specs.Endings.{UsesOnly};
-ghost use Rattle.silc.specs.Limits.{microcode_limit};
 ghost use Rattle.silc.specs.Sim.{channels_of, HasRun, IsSimError, IsSimAnswer};
 ghost use Rattle.silc.specs.Private.Reading.{OnlyReads};
 ghost use Rattle.silc.specs.Private.Running.{IsMachineOf, IsNoMachine, IsLoaded, IsLoadError, IsFresh, AreImageRows, IsRunError, IsMadeRun};
@@ -28,7 +27,7 @@ use sample_io::{Channel, RowList};
 use std::alloc::{AllocError, Global};
 
 /// The most bytes of microcode.
-const MICROCODE_LIMIT: u64 = 1 << 26;
+pub(crate) const MICROCODE_LIMIT: u64 = 1 << 26;
 
 /// What a command keeps for its caller.
 #[derive(Drop)]

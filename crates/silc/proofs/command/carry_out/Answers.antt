@@ -27,3 +27,9 @@ returns-clause-schedule_answer g c = λ src datapath form. absurd (c.in_default-
 
 pub returns-clause-run_answer : goal.returns-clause-run_answer
 returns-clause-run_answer g c = λ src datapath samples out form. absurd (c.in_default-run_words.ensures src datapath samples out form)
+
+pub returns-clause-list_answer : goal.returns-clause-list_answer
+returns-clause-list_answer g c = λ mic form. absurd (c.in_default-list_words.ensures mic form)
+
+pub returns-clause-demo_answer : goal.returns-clause-demo_answer
+returns-clause-demo_answer g c = λ sections samples form. absurd (c.in_default-demo_words.ensures sections samples form)

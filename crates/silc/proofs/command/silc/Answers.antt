@@ -8,7 +8,9 @@ use Rattle.silc.specs.declared.status.Status.{Status}
 use Rattle.silc.proofs.Endings.{uses_still}
 use Rattle.silc.proofs.Making.{reported}
 use Rattle.silc.proofs.Closed.{done_closed}
+use Rattle.silc.proofs.Demonstrating.{demo_done, demo_reported, prints_still}
 use Rattle.silc.proofs.Executing.{run_reported, run_uses_still}
+use Rattle.silc.proofs.Listing.{list_done, list_reported}
 use Rattle.silc.proofs.Scheduling.{schedule_reported, changes_still}
 use Rattle.silc.proofs.Simulating.{sim_reported}
 use Rattle.silc.proofs.Solving.{eval_reported}
@@ -47,6 +49,32 @@ returns-clause-schedule_only g c =
     changes_still src datapath (g.D.Desk.view c.args.desk.now) (g.D.Desk.view c.carry_out-ending.new.desk) (g.D.Desk.view c.report.new.desk)
     c.report.ensures.unchanged c.report.ensures.faults c.carry_out-ending.ensures.faults (c.carry_out-ending.ensures.schedule_only src datapath form)
 
+pub returns-clause-list_answer : goal.returns-clause-list_answer
+returns-clause-list_answer g c =
+    λ mic form.
+    list_reported mic (g.D.Desk.view c.args.desk.now) (g.D.Desk.view c.carry_out-ending.new.desk) (g.D.Desk.view c.report.new.desk)
+    c.report.ensures.unchanged c.report.ensures.faults c.carry_out-ending.ensures.faults c.carry_out-ending.result.status
+    (c.carry_out-ending.ensures.list_answer mic form)
+
+pub returns-clause-list_only : goal.returns-clause-list_only
+returns-clause-list_only g c =
+    λ mic form.
+    changes_still mic mic (g.D.Desk.view c.args.desk.now) (g.D.Desk.view c.carry_out-ending.new.desk) (g.D.Desk.view c.report.new.desk)
+    c.report.ensures.unchanged c.report.ensures.faults c.carry_out-ending.ensures.faults (c.carry_out-ending.ensures.list_only mic form)
+
+pub returns-clause-demo_answer : goal.returns-clause-demo_answer
+returns-clause-demo_answer g c =
+    λ sections samples form.
+    demo_reported sections samples (g.D.Desk.view c.args.desk.now) (g.D.Desk.view c.carry_out-ending.new.desk) (g.D.Desk.view c.report.new.desk)
+    c.report.ensures.unchanged c.report.ensures.faults c.carry_out-ending.ensures.faults c.carry_out-ending.new.kept c.carry_out-ending.result.status
+    (c.carry_out-ending.ensures.demo_answer sections samples form)
+
+pub returns-clause-demo_only : goal.returns-clause-demo_only
+returns-clause-demo_only g c =
+    λ sections samples form.
+    prints_still (g.D.Desk.view c.args.desk.now) (g.D.Desk.view c.carry_out-ending.new.desk) (g.D.Desk.view c.report.new.desk)
+    c.report.ensures.unchanged (c.carry_out-ending.ensures.demo_only sections samples form)
+
 pub returns-clause-only : goal.returns-clause-only
 returns-clause-only g c =
     λ first second out form.
@@ -64,6 +92,18 @@ returns-then-eq-clause-printed g c =
     λ done src datapath form.
     subst (λ (s : Status). IsScheduleAnswer src datapath (g.D.Desk.view c.args.desk.now) (g.D.Desk.view c.carry_out-ending.new.desk) s) done
     (c.carry_out-ending.ensures.schedule_answer src datapath form)
+
+pub returns-then-eq-clause-listed : goal.returns-then-eq-clause-listed
+returns-then-eq-clause-listed g c =
+    λ done mic form.
+    list_done mic (g.D.Desk.view c.args.desk.now) (g.D.Desk.view c.carry_out-ending.new.desk) c.carry_out-ending.result.status done
+    (c.carry_out-ending.ensures.list_answer mic form)
+
+pub returns-then-eq-clause-demonstrated : goal.returns-then-eq-clause-demonstrated
+returns-then-eq-clause-demonstrated g c =
+    λ done sections samples form.
+    demo_done sections samples (g.D.Desk.view c.args.desk.now) (g.D.Desk.view c.carry_out-ending.new.desk) c.carry_out-ending.new.kept c.carry_out-ending.result.status done
+    (c.carry_out-ending.ensures.demo_answer sections samples form)
 
 pub returns-then-eq-clause-simulated : goal.returns-then-eq-clause-simulated
 returns-then-eq-clause-simulated g c =
