@@ -16,6 +16,8 @@ usage: silc compile SRC DP OUT      compiles SRC for the datapath DP, and writes
        silc sim MIC SAMPLES OUT     runs the microcode MIC over SAMPLES, and writes its rows to OUT
        silc eval SRC SAMPLES OUT    solves the equations of SRC over SAMPLES, and writes their rows to OUT
        silc run SRC DP SAMPLES OUT  compiles SRC for DP, runs it over SAMPLES, and writes its rows to OUT
+       silc list MIC                prints the microcode MIC as text
+       silc demo K N                compiles K biquads in a row, runs N samples, and prints their sum
        silc --help | --version
 
 example: silc compile increment.sil plain.toml increment.mic
@@ -23,6 +25,8 @@ example: silc compile increment.sil plain.toml increment.mic
          silc sim increment.mic samples.txt rows.txt
          silc eval increment.sil samples.txt rows.txt
          silc run increment.sil plain.toml samples.txt rows.txt
+         silc list increment.mic
+         silc demo 1 3
 
 The exit code is 0 where all was done, 1 without memory, 2 at words that are no command, 3 at a file
 that can't be read or written, 4 at a source that is no program, 5 at a file that describes no datapath,
