@@ -7,30 +7,42 @@ from pathlib import Path
 
 ROOT = Path(__file__).resolve().parent.parent
 PROGRAM = ROOT / "crates" / "silc_show" / "out" / "silc_show"
+SILC = ROOT / "crates" / "silc_main" / "out" / "silc_main"
 # The microcode of y = x + 1.
 INCREMENT = ROOT / "tests" / "increment" / "add-8-1.mic"
 
 
-def build():
+def build(program="silc_show"):
     """Builds the program where it is not there or older than its sources, and ends where that fails."""
-    status = subprocess.run([ROOT / "tools" / "build", "silc_show"]).returncode
+    status = subprocess.run([ROOT / "tools" / "build", program]).returncode
     if status:
         sys.exit(status)
 
 
-def run(call, turns, *files):
-    """The processor time of so many turns, which says more than the clock where the machine does other work too, and
-    what they add up to. The program answers that, or the fault of a file."""
-    process = subprocess.Popen([PROGRAM, "repeat", call, str(turns), *files], stdout=subprocess.PIPE)
+def spent(*words):
+    """The processor time of a command, which says more than the clock where the machine does other work too, and what it
+    prints. Ends with the status of a command that fails."""
+    process = subprocess.Popen(words, stdout=subprocess.PIPE)
     with process.stdout as printed:
         answer = printed.read()
     _, status, usage = os.wait4(process.pid, 0)
     process.returncode = os.waitstatus_to_exitcode(status)
     if process.returncode:
         sys.exit(process.returncode)
+    return usage.ru_utime + usage.ru_stime, answer
+
+
+def run(call, turns, *files):
+    """How long so many turns take, and what they add up to. The program answers that, or the fault of a file."""
+    taken, answer = spent(PROGRAM, "repeat", call, str(turns), *files)
     if not answer.strip().isdigit():
         sys.exit(f"{call} answers {answer.decode(errors='replace')}")
-    return usage.ru_utime + usage.ru_stime, int(answer)
+    return taken, int(answer)
+
+
+def least(words, tries):
+    """The least time of a command in so many runs."""
+    return min(spent(*words)[0] for _ in range(tries))
 
 
 def sum_of(call, turns, *files):
