@@ -1,3 +1,4 @@
 pub mod Ranges
 pub mod Units
 pub mod Operations
+pub mod Names
