@@ -1,5 +1,6 @@
 pub mod AmongKeys
 pub mod ArrayEntries
+pub mod Named
 pub mod Turn
 pub mod Dots
 pub mod Document

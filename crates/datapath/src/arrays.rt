@@ -24,7 +24,7 @@ type Judged<T> = Result<Result<List<T>, Misfit>, AllocError>;
 fn table_entries(alloc: Global, array: &Array) -> Judged<&Table>
     ensures { IfOk result (λ r. seen (map (λ t. table_view t.now)) r ≡ entries a_table (array_view array.now)) }
 {
-    let mut tables = List::new(alloc);
+    let mut tables = List::with_capacity(alloc, array.len())?;
     for value in array.iter() {
         match value.as_table() {
             Some(table) => tables.push(table)?,
@@ -69,7 +69,7 @@ pub(crate) fn tables_key<'a>(
 fn text_entries(alloc: Global, array: &Array) -> Judged<&str>
     ensures { IfOk result (λ r. seen texts r ≡ entries text (array_view array.now)) }
 {
-    let mut found = List::new(alloc);
+    let mut found = List::with_capacity(alloc, array.len())?;
     for value in array.iter() {
         match value.as_str() {
             Some(text) => found.push(text)?,
@@ -132,7 +132,7 @@ pub(crate) fn to_key(
 fn sizes(alloc: Global, array: &Array) -> Judged<u16>
     ensures { IfOk result (λ r. r ≡ entries (whole 1 256) (array_view array.now)) }
 {
-    let mut sizes = List::new(alloc);
+    let mut sizes = List::with_capacity(alloc, array.len())?;
     let mut in_range = true;
     for value in array.iter() {
         match as_whole(value, 1, 256) {

@@ -9,10 +9,11 @@ ghost use Rattle.datapath.specs.Table.{bus_keys};
 ghost use Rattle.datapath.specs.Names.{new_name, driver, sink};
 ghost use Rattle.datapath.specs.Reading.{Gives, key, only, in_turn};
 ghost use Rattle.datapath.specs.PathOf.{room_after, bus_in, bus_at};
+ghost use Rattle.datapath.specs.Allowed.{IsDistinct};
 ghost use Rattle.datapath.specs.Private.Answers.{GivesAs, texts};
 
 use crate::arrays::{from_key, to_key};
-use crate::entries::{drivers, sinks};
+use crate::entries::{drivers, same_name, sinks};
 use crate::fault::{PathFault, Section};
 use crate::keys::only_keys;
 use crate::types::{Bus, Unit};
@@ -38,7 +39,7 @@ fn room_after(buses: &[Bus]) -> usize
 fn has_name(buses: &[Bus], name: &[u8]) -> bool
     ensures { result ≡ list_any (λ bus. bytes_eq name.now bus.name) buses.now }
 {
-    buses.iter().any(|bus| name == bus.name.as_slice())
+    buses.iter().any(|bus| same_name(name, bus.name.as_slice()))
 }
 
 fn new_name(section: Section, before: &[Bus], name: &Name) -> Result<(), PathFault>
@@ -58,7 +59,8 @@ fn bus_in(
     before: &[Bus],
     table: &Table,
 ) -> Result<Bus, PathFault>
-    requires { length units.now ≤ 32 }
+    requires few { length units.now ≤ 32 }
+    requires distinct { IsDistinct (map (λ unit. unit.name) units.now) }
     ensures { Gives result (bus_in section units.now before.now (table_view table.now)) }
 {
     only_keys(section, table, &["name", "from", "to"])?;
@@ -78,10 +80,11 @@ pub(crate) fn all_buses(
     tables: &[&Table],
 ) -> Result<List<Bus>, PathFault>
     requires few { length units.now ≤ 32 }
+    requires distinct { IsDistinct (map (λ unit. unit.name) units.now) }
     requires tables { length tables.now ≤ 32 }
     ensures { Gives result (in_turn (bus_at units.now) [] (map (λ t. table_view t.now) tables.now)) }
 {
-    let mut buses = List::new(alloc);
+    let mut buses = List::with_capacity(alloc, tables.len())?;
     for table in tables {
         let section = Section::Bus(buses.len() as u8);
         let bus = bus_in(alloc, section, units, buses.as_slice(), table)?;

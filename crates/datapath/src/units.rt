@@ -11,7 +11,7 @@ ghost use Rattle.datapath.specs.PathOf.{kind_known, unit_in, unit_at, unit_name_
 ghost use Rattle.datapath.specs.Private.Answers.{GivesAs, texts};
 
 use crate::arrays::files_key;
-use crate::entries::ram_named;
+use crate::entries::{ram_named, same_name};
 use crate::fault::{PathFault, Section};
 use crate::keys::{member, only_keys, whole_key};
 use crate::types::Unit;
@@ -108,7 +108,7 @@ fn all_units(alloc: Global, tables: &[&Table]) -> Result<List<Unit>, PathFault>
     ensures value { Gives result (in_turn unit_at [] (map (λ t. table_view t.now) tables.now)) }
     ensures count { IfOk result (λ units. length units ≡ length tables.now) }
 {
-    let mut units = List::new(alloc);
+    let mut units = List::with_capacity(alloc, tables.len())?;
     for table in tables {
         let section = Section::Unit(units.len() as u8);
         let unit = unit_in(alloc, section, table)?;
@@ -120,7 +120,9 @@ fn all_units(alloc: Global, tables: &[&Table]) -> Result<List<Unit>, PathFault>
 fn has_name(units: &[Unit], name: &[u8]) -> bool
     ensures { result ≡ list_any (λ unit. bytes_eq name.now unit.name) units.now }
 {
-    units.iter().any(|unit| name == unit.name.as_slice())
+    units
+        .iter()
+        .any(|unit| same_name(name, unit.name.as_slice()))
 }
 
 fn names_differ(units: &[Unit]) -> Result<(), PathFault>
@@ -159,7 +161,7 @@ fn all_rams(alloc: Global, units: &[Unit], tables: &[&Table]) -> Result<List<u8>
     ensures value { Gives result (in_turn (ram_at units.now) [] (map (λ t. table_view t.now) tables.now)) }
     ensures count { IfOk result (λ rams. length rams ≡ length tables.now) }
 {
-    let mut rams = List::new(alloc);
+    let mut rams = List::with_capacity(alloc, tables.len())?;
     for table in tables {
         let section = Section::Unit(rams.len() as u8);
         let ram = ram_in(section, units, table)?;

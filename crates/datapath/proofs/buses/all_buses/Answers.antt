@@ -13,7 +13,7 @@ members t = table_view t.now
 
 pub returns-in_err-bus : goal.returns-in_err-bus
 returns-in_err-bus c =
-    let p = err_from_is_err_and c.from_residual.result c.from_residual.ensures.1 in
+    let p = err_from_is_err_and c.from_residual-in_err-bus.result c.from_residual-in_err-bus.ensures.1 in
     rw (p.1, p.2)
     (turn_ends (bus_at c.args.units.now) members c.args.tables.now c.loop-table.table-index c.table-item.result
     c.in_err-bus.field-0.0 c.loop-table.buses _ c.loop-table-test.true c.table-item.is

@@ -10,7 +10,7 @@ text_of name = name.now
 
 pub returns-in_err-port : goal.returns-in_err-port
 returns-in_err-port c =
-    let p = err_from_is_err_and c.from_residual.result c.from_residual.ensures.1 in
+    let p = err_from_is_err_and c.from_residual-in_err-port.result c.from_residual-in_err-port.ensures.1 in
     let names = c.args.names.now in
     let i = c.loop-name.name-index in
     let same = get_or_default names i no_text (get_or names i no_text) c.loop-name-test.true in

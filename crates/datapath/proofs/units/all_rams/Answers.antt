@@ -13,7 +13,7 @@ members t = table_view t.now
 
 pub returns-in_err-ram-clause-value : goal.returns-in_err-ram-clause-value
 returns-in_err-ram-clause-value c =
-    let p = err_from_is_err_and c.from_residual.result c.from_residual.ensures.1 in
+    let p = err_from_is_err_and c.from_residual-in_err-ram.result c.from_residual-in_err-ram.ensures.1 in
     rw (p.1, p.2)
     (turn_ends (ram_at c.args.units.now) members c.args.tables.now c.loop-table.table-index c.table-item.result
     c.in_err-ram.field-0.0 c.loop-table.rams _ c.loop-table-test.true c.table-item.is

@@ -13,7 +13,7 @@ members t = table_view t.now
 
 pub returns-in_err-unit-clause-value : goal.returns-in_err-unit-clause-value
 returns-in_err-unit-clause-value c =
-    let p = err_from_is_err_and c.from_residual.result c.from_residual.ensures.1 in
+    let p = err_from_is_err_and c.from_residual-in_err-unit.result c.from_residual-in_err-unit.ensures.1 in
     rw (p.1, p.2)
     (turn_ends unit_at members c.args.tables.now c.loop-table.table-index c.table-item.result c.in_err-unit.field-0.0
     c.loop-table.units _ c.loop-table-test.true c.table-item.is (rw c.len.ensures at c.in_err-unit.ensures)
