@@ -1,3 +1,4 @@
+pub mod Readers
 mod Tests
 mod OperandTests
 mod AssignedTests
@@ -12,6 +13,8 @@ mod WrongPlans
 pub mod Sorted
 pub mod OneAssigned
 pub mod OneArcs
+pub mod OneHeight
+pub mod Agreeing
 pub mod OneSchedule
 pub mod OneFit
 pub mod OneLowered

@@ -6,7 +6,7 @@ use Rattle.plan_core.specs.Arcs.{no_arc, arc_of, IsWrittenBefore, IsArcBefore}
 use Rattle.plan_core.specs.FirstFit.{register_of, IsCopyBefore, IsFree, IsFirstFree, IsFirstFit}
 use Rattle.plan_core.specs.declared.registers.Arc.{Arc}
 use Rattle.plan_core.proofs.OneArcs.{ports_differ, written_one_way}
-use Rattle.plan_core.proofs.OneSchedule.{neither_less}
+use Rattle.plan_core.proofs.OneHeight.{neither_less}
 
 module _ (period unroll : ℕ) (arcs : List Arc) (order : AllPairs IsArcBefore arcs) where
   -- of two arcs of one file the one that is written before is the first in the list

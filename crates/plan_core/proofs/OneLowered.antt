@@ -1,6 +1,6 @@
 -- The long delays of a graph's nodes are determined, and so is the next delay line, where each node stands once in the
 -- lowered list.
-use Rattle.std.proofs.Common.{◌≡◌, refl, sym, subst, ap, ◌∙◌, arith, ℕ, ◌+◌, ◌<◌, ◌≤◌, le_antisymm, List, [], slice_index_or, All, Contains, ext_get_or}
+use Rattle.std.proofs.Common.{◌≡◌, sym, subst, ap, ◌∙◌, arith, ℕ, ◌+◌, ◌<◌, ◌≤◌, le_antisymm, List, [], slice_index_or, All, Contains, ext_get_or}
 use Rattle.std.proofs.lemmas.List.Kept.{AllPairs-from_increasing}
 use Rattle.datapath.specs.declared.types.Datapath.{Datapath}
 use Rattle.signal_graph.specs.declared.graph.Graph.{Graph}
@@ -8,7 +8,7 @@ use Rattle.plan_core.specs.Lowered.{IsReadAgo, AreLongDelays, Origin, own, IsNum
 use Rattle.plan_core.specs.declared.delay_lines.Line.{Line}
 use Rattle.plan_core.specs.declared.delay_lines.Lowered.{Lowered}
 use Rattle.plan_core.proofs.Sorted.{same_order}
-use Rattle.plan_core.proofs.OneSchedule.{neither_less}
+use Rattle.plan_core.proofs.OneHeight.{neither_less}
 
 never_both_ways : (x y : ℕ) → x < y → y < x → ⊥
 never_both_ways x y h k = omega arith

@@ -1,18 +1,16 @@
 -- Tests over units, routes and operands.
-use Rattle.std.proofs.Common.{◌≡◌, refl, sym, subst, ap, ◌∙◌, arith, ℕ, zero, suc, ◌<◌, ◌≤◌, ⊎_elim, List, length, slice_index_or, Contains}
-use Rattle.std.proofs.lemmas.Bool.{cases_lt}
-use Rattle.std.proofs.lemmas.List.{get_or_past}
+use Rattle.std.proofs.Common.{◌≡◌, refl, sym, subst, ap, ◌∙◌, ℕ, zero, suc, ◌<◌, List, length, slice_index_or, Contains}
 use Rattle.fix_word.specs.declared.operation.Op.{Op}
 use Rattle.fix_word.specs.declared.operation.Op.TheVariants as op
 use Rattle.operations.specs.declared.units.Kind.{Kind}
 use Rattle.operations.specs.declared.units.Kind.TheVariants as kind
 use Rattle.operations.specs.declared.units.PortRef.{PortRef}
 use Rattle.datapath.specs.declared.types.Datapath.{Datapath}
-use Rattle.signal_graph.specs.GraphSolves.{no_node}
 use Rattle.signal_graph.specs.declared.graph.Node.{Node}
 use Rattle.plan_core.specs.Hardware.{unit_of, tie_of, no_bus, IsOfKind, IsAcuOf, IsRoute, HasRoute}
 use Rattle.plan_core.specs.Operands.{node_of, edge_of, Reads}
 use Rattle.plan_core.specs.Assigned.{IsForRam}
+use Rattle.plan_core.proofs.Readers.{reader_there}
 use Rattle.plan_core.proofs.Tests.{Test, trivial, lt, eq, like, both, implies, below, some_below, contains}
 
 abbrev pub number : Kind → ℕ
@@ -91,15 +89,6 @@ is_for_ram d op.Store ram u = eq u ram
 is_for_ram d op.Addr ram u = eq (tie_of d u) ram
 is_for_ram d _ ram u = trivial
 
-none_past : (nodes : List Node) (c q : ℕ) → length nodes ≤ c → q < length (node_of nodes c).edges → ⊥
-none_past nodes c q past h =
-    let none : length (node_of nodes c).edges ≡ 0 = ap (λ (n : Node). length n.edges)
-    (get_or_past nodes c no_node past) in omega arith
-
-pub consumer_there : (nodes : List Node) (c q v : ℕ) → Reads nodes c q v → c < length nodes
-consumer_there nodes c q v r =
-    ⊎_elim (λ h. h) (λ h. absurd (none_past nodes c q h r.port)) (cases_lt c (length nodes))
-
 abbrev pub reads : (nodes : List Node) (c q v : ℕ) → Test (Reads nodes c q v)
 reads nodes c q v =
     like {P = (q < length (node_of nodes c).edges) × ((edge_of (node_of nodes c) q).node ≡ v)}
@@ -127,7 +116,7 @@ abbrev pub each_consumer : {P : ℕ → ℕ → Type 0} (nodes : List Node) (v :
     → Test ((c q : ℕ) → Reads nodes c q v → P c q)
 each_consumer {P} nodes v t =
     like
-    (λ h c q r. h c (consumer_there nodes c q v r) q v r refl)
+    (λ h c q r. h c (reader_there nodes c q v r) q v r refl)
     (λ h c less q x r e. h c q (read_too nodes c q x v e r))
     (below (length nodes) (λ c. each_operand {P = λ q x. x ≡ v → P c q} nodes c (λ q x. implies (eq x v) (λ u. t c q))))
 
@@ -137,6 +126,6 @@ abbrev pub some_consumer : {P : ℕ → ℕ → Type 0} (nodes : List Node) (v :
 some_consumer {P} nodes v t =
     like
     (λ h. (h.0, h.2.0, h.2.2.0, h.2.2.1))
-    (λ h. (h.0, consumer_there nodes h.0 h.1 v h.2, (h.1, h.2.port, (h.2, h.3))))
+    (λ h. (h.0, reader_there nodes h.0 h.1 v h.2, (h.1, h.2.port, (h.2, h.3))))
     (some_below (length nodes) (λ c. some_below (length (node_of nodes c).edges)
     (λ q. both (reads nodes c q v) (t c q))))

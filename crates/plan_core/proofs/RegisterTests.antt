@@ -14,7 +14,8 @@ use Rattle.plan_core.specs.declared.registers.Arc.{Arc}
 use Rattle.plan_core.specs.declared.schedule.Assigned.{Assigned}
 use Rattle.plan_core.specs.declared.schedule.Schedule.{Schedule}
 use Rattle.plan_core.proofs.Tests.{Test, lt, le, eq, like, nay, both, either, implies, below, some_below, each_of, all_pairs}
-use Rattle.plan_core.proofs.OperandTests.{same_port, consumer_there, reads, each_operand}
+use Rattle.plan_core.proofs.Readers.{reader_there}
+use Rattle.plan_core.proofs.OperandTests.{same_port, reads, each_operand}
 use Rattle.plan_core.proofs.ScheduleTests.{port_before}
 
 abbrev is_count : (n : ℕ) → Test (IsCount n)
@@ -70,7 +71,7 @@ module _ (d : Datapath) (a : Assigned) (s : Schedule) where
       × (IsCovered d arc arc.copies × Least arc))))}
       (λ h. record {
         written = h.0;
-        last = λ c r. h.1.0 c (consumer_there a.lowered.nodes c arc.port.port arc.node r.reads) r;
+        last = λ c r. h.1.0 c (reader_there a.lowered.nodes c arc.port.port arc.node r.reads) r;
         read = (h.1.1.0.0, h.1.1.0.2.0, h.1.1.0.2.1);
         count = h.1.1.1.0;
         covered = h.1.1.1.1.0;
@@ -83,7 +84,7 @@ module _ (d : Datapath) (a : Assigned) (s : Schedule) where
           (
             (
               h.read.0,
-              consumer_there a.lowered.nodes h.read.0 arc.port.port arc.node h.read.1.reads,
+              reader_there a.lowered.nodes h.read.0 arc.port.port arc.node h.read.1.reads,
               (h.read.1, h.read.2),
             ),
             (h.count, (h.covered, (h.least 1 (inl refl), (h.least 2 (inr (inl refl)), h.least 4 (inr (inr refl)))))),
@@ -115,7 +116,7 @@ module _ (d : Datapath) (a : Assigned) (s : Schedule) where
       (λ h. record {
         order = h.0;
         each = h.1.0;
-        every = λ c q v r. h.1.1 c (consumer_there a.lowered.nodes c q v r) q v r;
+        every = λ c q v r. h.1.1 c (reader_there a.lowered.nodes c q v r) q v r;
       })
       (λ h. (h.order, (h.each, λ c less q v r. h.every c q v r)))
       (both (all_pairs arcs arc_before)

@@ -24,6 +24,7 @@ use Rattle.plan_core.specs.FirstFit.{IsFirstFit, IsCopyBefore}
 use Rattle.plan_core.specs.declared.schedule.Transfer.{Transfer}
 use Rattle.plan_core.specs.declared.registers.Arc.{Arc}
 use Rattle.plan_core.specs.declared.plan.Plan.{Plan}
+use Rattle.plan_core.proofs.Readers.{operands_few, reader_there}
 use Rattle.micro_image.specs.Operations.{gives}
 use Rattle.plan_run.specs.PrivateRegisters.{ArePrivate, is_port}
 use Rattle.plan_run.specs.Parts.{nodes_of, node_at, edge_at, unit_at, cycle_at, transfers_at, arc_at, register_at, ReadsThrough, IsTransferOf, ends_at}
@@ -210,30 +211,6 @@ arcs_differ : (a b : Arc) → IsArcBefore a b → a.port ≡ b.port → a.w ≡ 
 arcs_differ a b before port w node =
     omega (arith, before, ap (λ (port : PortRef). port.unit) port, ap (λ (port : PortRef). port.port) port, w, node)
 
-few_operands : (o : Op) → operands o < 4
-few_operands op.Sel = omega arith
-few_operands op.Input = omega arith
-few_operands op.Const = omega arith
-few_operands op.Addr = omega arith
-few_operands op.Output = omega arith
-few_operands op.Neg = omega arith
-few_operands op.Pass = omega arith
-few_operands op.Not = omega arith
-few_operands op.Load = omega arith
-few_operands _ = omega arith
-
--- a node that reads is there
-pub reader_there : (p : Plan) (c q v : ℕ) → Reads (nodes_of p) c q v → c < length (nodes_of p)
-reader_there p c q v reads =
-    ⊎_elim
-    (λ (there : c < length (nodes_of p)). there)
-    (λ (past' : length (nodes_of p) ≤ c).
-    absurd (let none : length (node_at p c).edges ≡ 0 =
-    ap (λ node. length node.edges) (nth_past (nodes_of p) c _ past') in
-    let port : q < length (node_at p c).edges = reads.port in
-    omega arith))
-    (cases_lt c (length (nodes_of p)))
-
 pub gaps_of : (d : Datapath) → All (IsUnit d.units) d.units
     → (u : ℕ) → (0 < gap_on d u) × (gap_on d u ≤ latency_on d u)
 gaps_of d units u =
@@ -378,7 +355,7 @@ module _ (d : Datapath) (p : Plan) (lowered : IsSoundLowered d p)
       → gives (node_at p v).op ≡ true
   transfers v t in-v in-t =
       let to = destination v t in-v in-t in
-      lowered.result to.consumer t.port.port v (reader_there p to.consumer t.port.port v to.reads) to.reads
+      lowered.result to.consumer t.port.port v (reader_there (nodes_of p) to.consumer t.port.port v to.reads) to.reads
 
   arc : (k : ℕ) → k < length p.arcs → IsArc d p.assigned p.schedule (arc_at p k)
   arc k in-k = arcs.each k _ in-k
@@ -387,7 +364,7 @@ module _ (d : Datapath) (p : Plan) (lowered : IsSoundLowered d p)
   reader : (k : ℕ) → k < length p.arcs → (c : ℕ) × (c < length (nodes_of p)) × ReadsArc p.assigned (arc_at p k) c
   reader k in-k =
       let read = (arc k in-k).read in
-      (read.0, reader_there p read.0 (arc_at p k).port.port (arc_at p k).node read.1.reads, read.1)
+      (read.0, reader_there (nodes_of p) read.0 (arc_at p k).port.port (arc_at p k).node read.1.reads, read.1)
 
   arc_node : (k : ℕ) → k < length p.arcs → (arc_at p k).node < length (nodes_of p)
   arc_node k in-k =
@@ -480,7 +457,7 @@ module _ (d : Datapath) (p : Plan) (lowered : IsSoundLowered d p)
   ports k in-k =
       let by = reader k in-k in
       let port : (arc_at p k).port.port < length (node_at p by.0).edges = by.2.reads.port in
-      omega (arith, port, lowered.operand_count by.0 by.1, few_operands (node_at p by.0).op)
+      omega (arith, port, lowered.operand_count by.0 by.1, operands_few (node_at p by.0).op)
 
   read : (v q : ℕ)
       → v < length (nodes_of p)
@@ -554,7 +531,7 @@ module _ (d : Datapath) (p : Plan) (lowered : IsSoundLowered d p)
         written = omega (arith, its.written, fits u (arc_node k in-k), gaps (unit_at p u));
         lives = subst (λ r. (arc_at p k).w < r) (sym read.2)
             (behind read.0 (arc_at p k).port.port k
-            (reader_there p read.0 (arc_at p k).port.port (arc_at p k).node read.1.reads)
+            (reader_there (nodes_of p) read.0 (arc_at p k).port.port (arc_at p k).node read.1.reads)
             (through_arc k read.0 in-k read.1));
         covered = its.covered;
       }

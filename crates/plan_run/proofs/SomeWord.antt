@@ -45,7 +45,7 @@ copy_once copies n ago i j is-i is-j =
     ∙ mod-eq_of_lt is-j.there
 
 -- a unit has a port for each operand
-enough_ports : (o : Op) → operands o ≤ ports (kind_of o)
+pub enough_ports : (o : Op) → operands o ≤ ports (kind_of o)
 enough_ports op.Sel = omega arith
 enough_ports op.Input = omega arith
 enough_ports op.Output = omega arith
