@@ -1,7 +1,7 @@
 -- The units of the first nodes, with one more.
 use Rattle.std.proofs.Common.{◌≡◌, ◌≢◌, ◌↔◌, ◌∙◌, sym, ap, subst, refl, arith, ⊎_elim, ℕ, ◌+◌, ◌<◌, ◌≤◌, ◌==◌, List, [], ◌∷◌, ◌++◌, length, take, replicate, count_by, slice_index_or, slice_set, Bool, true, false, eq-eqb, ne_eqb}
 use Rattle.std.proofs.lemmas.Bool.{cases_lt, cases_eq}
-use Rattle.std.proofs.lemmas.List.{get_or_read, get_or-set_same, get_or-set_other, length-set, length-replicate, get_or-replicate, length_push, get_or_append_left, get_or_push, take_all, take_at}
+use Rattle.std.proofs.lemmas.List.{get_or_read, get_or-set_same, get_or-set_other, length-set, length-replicate, get_or-replicate, get_or_past, length_push, get_or_append_left, get_or_push, take_all, take_at}
 use Rattle.std.proofs.lemmas.List.Sums.{count_by_more_yes, count_by_more_no, count_by-le-length}
 use Rattle.datapath.specs.declared.types.Datapath.{Datapath}
 use Rattle.signal_graph.specs.declared.graph.Node.{Node}
@@ -9,7 +9,7 @@ use Rattle.plan_core.specs.Hardware.{port_of, HasRoute}
 use Rattle.plan_core.specs.Operands.{node_of, edge_of, Reads}
 use Rattle.plan_core.specs.Assigned.{IsUnitFor}
 use Rattle.unit_assign.specs.Private.UnitSets.{Has, no_units, all_units, set_at}
-use Rattle.unit_assign.specs.Private.Bindings.{load_in, AreAllowed, IsNarrowed, IsBinding}
+use Rattle.unit_assign.specs.Private.Bindings.{load_in, IsOneMore, AreLightest, AreAllowed, IsNarrowed, IsBinding}
 use Rattle.unit_assign.specs.declared.binding.Binding.{Binding}
 use Rattle.unit_assign.specs.declared.unit_set.UnitSet.{UnitSet}
 use Rattle.unit_assign.proofs.SetSteps.{has_all}
@@ -112,8 +112,9 @@ module _ (d : Datapath) (nodes : List Node) where
 
   pub bound_none : (units loads : List ℕ) (sets : List UnitSet) (n m : ℕ) → units ≡ [] → loads ≡ replicate n 0
       → sets ≡ replicate m all_units → n ≡ length d.units → m ≡ length nodes → length d.units ≤ 32
-      → IsBinding d nodes (record { units = units; loads = loads; allowed = sets })
-  bound_none units loads sets n m none zero full n_is m_is few =
+      → (lightest : UnitSet) → lightest ≡ all_units
+      → IsBinding d nodes (record { units = units; loads = loads; allowed = sets; lightest = lightest })
+  bound_none units loads sets n m none zero full n_is m_is few lightest all =
       let empty : length units ≡ 0 = ap length none in
       record {
         count = omega arith;
@@ -122,6 +123,12 @@ module _ (d : Datapath) (nodes : List Node) where
         loads = λ u there.
             ap (λ (xs : List ℕ). load_in xs u) loads_are ∙ get_or-replicate n u 0 0 (omega arith)
             ∙ sym (ap (λ (xs : List ℕ). count_by (λ (w : ℕ). w == u) xs) none);
+        lightest = record {
+          fewest = λ kind u w x y h.
+              let a = no_load u in let b = no_load w in omega (arith, a, b);
+          every = λ kind u w x y h e. has_unit w y.there;
+          some = λ kind u x. (u, x, has_unit u x.there);
+        };
         sets = record {
           count = ap length full ∙ length-replicate m all_units ∙ m_is;
           allowed = λ x u there unit_there. (
@@ -136,6 +143,17 @@ module _ (d : Datapath) (nodes : List Node) where
     where
       loads_are : loads ≡ replicate n 0
       loads_are = zero
+
+      has_unit : (u : ℕ) → u < length d.units → Has lightest u
+      has_unit u there =
+          subst (λ (s : UnitSet). Has s u) (sym all) (has_all u (omega (arith, there, few)))
+
+      no_load : (u : ℕ) → load_in loads u ≡ 0
+      no_load u =
+          ⊎_elim (λ (less : u < n). ap (λ (xs : List ℕ). load_in xs u) loads_are ∙ get_or-replicate n u 0 0 less)
+          (λ (past : n ≤ u). get_or_past loads u 0 (subst (λ (m : ℕ). m ≤ u) (sym (ap length loads_are ∙
+          length-replicate n 0)) past))
+          (cases_lt u n)
 
   module _ (old : Binding) (is : IsBinding d nodes old) (v unit : ℕ) (count : length old.units ≡ v)
       (there : v < length nodes) (fits : IsUnitFor d nodes old.units v unit) where
@@ -204,27 +222,42 @@ module _ (d : Datapath) (nodes : List Node) where
           );
     }
 
+    -- the unit has one node more
+    pub one_more : (loads : List ℕ) (load at : ℕ) → at ≡ unit → load ≡ slice_index_or old.loads at load
+        → loads ≡ slice_set old.loads at (load + 1) → IsOneMore old.loads loads unit
+    one_more loads load at at_is read loads_are =
+        let inside : at < length old.loads =
+        let c = is.load_count in let t = unit_is_there in omega (arith, c, t, at_is) in
+        subst (IsOneMore old.loads loads) at_is
+        (record {
+          more = ap (λ (ls : List ℕ). load_in ls at) loads_are ∙ get_or-set_same old.loads at (load + 1) 0 inside
+              ∙ ap (λ (n : ℕ). n + 1) (get_or_read old.loads at load inside read 0);
+          same = λ u other.
+              ap (λ (ls : List ℕ). load_in ls u) loads_are ∙ get_or-set_other old.loads at u (load + 1) 0 other;
+        })
+
     pub bound_more : (units loads : List ℕ) (load at : ℕ) (new : List UnitSet) → units ≡ old.units ++ unit ∷ []
         → at ≡ unit → load ≡ slice_index_or old.loads at load → loads ≡ slice_set old.loads at (load + 1)
-        → IsNarrowed d nodes v unit (length (node_of nodes v).edges) old.allowed new
-        → IsBinding d nodes (record { units = units; loads = loads; allowed = new })
-    bound_more units loads load at new units_are at_is read loads_are narrowed =
+        → IsNarrowed d nodes v unit (length (node_of nodes v).edges) old.allowed new → (lightest : UnitSet)
+        → AreLightest d loads lightest
+        → IsBinding d nodes (record { units = units; loads = loads; allowed = new; lightest = lightest })
+    bound_more units loads load at new units_are at_is read loads_are narrowed lightest light =
         let pushed = length_push old.units unit in
         let longer : length (old.units ++ unit ∷ []) ≡ v + 1 = omega arith in
         let read_at : load ≡ slice_index_or old.loads unit load =
         read ∙ ap (λ (i : ℕ). slice_index_or old.loads i load) at_is in
         let set_at_unit : slice_set old.loads at (load + 1) ≡ slice_set old.loads unit (load + 1) =
         ap (λ (i : ℕ). slice_set old.loads i (load + 1)) at_is in
-        subst (λ (us : List ℕ). IsBinding d nodes (record { units = us; loads = loads; allowed = new })) (sym units_are)
-        (subst
-        (λ (ls : List ℕ). IsBinding d nodes (record { units = old.units ++ unit ∷ []; loads = ls; allowed = new }))
-        (sym (loads_are ∙ set_at_unit))
+        let all_loads : loads ≡ slice_set old.loads unit (load + 1) = loads_are ∙ set_at_unit in
+        subst (λ (us : List ℕ). IsBinding d nodes
+        (record { units = us; loads = loads; allowed = new; lightest = lightest })) (sym units_are)
         (record {
           count = omega arith;
           units = units_more d nodes old.units unit is.units
               (subst (λ (i : ℕ). IsUnitFor d nodes old.units i unit) (sym count) fits);
-          load_count = length-set old.loads unit (load + 1) ∙ is.load_count;
-          loads = loads_more load read_at;
+          load_count = ap length all_loads ∙ length-set old.loads unit (load + 1) ∙ is.load_count;
+          loads = λ u there_u. ap (λ (ls : List ℕ). load_in ls u) all_loads ∙ loads_more load read_at u there_u;
+          lightest = light;
           sets = subst (λ (n : ℕ). AreAllowed d nodes (old.units ++ unit ∷ []) n new) (sym longer)
               (allowed_more new narrowed);
-        }))
+        })

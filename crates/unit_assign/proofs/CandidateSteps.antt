@@ -4,14 +4,14 @@ use Rattle.std.proofs.lemmas.Bool.{cases_lt}
 use Rattle.std.proofs.lemmas.List.{take_all, get_or_read}
 use Rattle.datapath.specs.declared.types.Datapath.{Datapath}
 use Rattle.signal_graph.specs.declared.graph.Node.{Node}
-use Rattle.plan_core.specs.Hardware.{port_of, HasRoute}
+use Rattle.plan_core.specs.Hardware.{kind_of, port_of, HasRoute}
 use Rattle.plan_core.specs.Operands.{node_of, edge_of, Reads}
 use Rattle.plan_core.specs.Assigned.{unit_in, IsRightUnit, IsCandidate, load_of}
 use Rattle.plan_core.specs.Refusals.{IsNextNode, LacksOperand, LacksConsumer}
 use Rattle.plan_core.specs.declared.delay_lines.Lowered.{Lowered}
 use Rattle.unit_assign.specs.Private.UnitSets.{Has, no_units, set_at, IsFirstOf}
 use Rattle.unit_assign.specs.Private.Wiring.{IsProblem}
-use Rattle.unit_assign.specs.Private.Bindings.{load_in, IsAllowed, AreAllowed, HasRouteFrom, IsLeft, IsBestOf, IsBest, lighter_of}
+use Rattle.unit_assign.specs.Private.Bindings.{load_in, AreLightest, IsAllowed, AreAllowed, HasRouteFrom, IsLeft, IsBestOf, IsBest, lighter_of}
 use Rattle.unit_assign.specs.declared.unit_set.UnitSet.{UnitSet}
 use Rattle.unit_assign.specs.declared.wiring.Wiring.{Wiring}
 use Rattle.unit_assign.proofs.MissingSteps.{route_or_not, port_few, unit_there, node_is}
@@ -247,6 +247,37 @@ module _ (d : Datapath) (nodes : List Node) (units : List ℕ) (v : ℕ) where
             (λ w less other.
             let more = leb-false (load_in loads u) (load_in loads n) e in
             let few = is.fewest w less other in let a = u_load in let b = n_load in omega arith)
+
+    -- the first of those that are lightest of their kind
+    pub best_lightest : (candidates lightest both rest : UnitSet) (u : ℕ)
+        → ((w : ℕ) → Has candidates w ↔ IsCandidate d nodes units v w) → AreLightest d loads lightest
+        → ((w : ℕ) → Has both w ↔ (Has candidates w × Has lightest w)) → IsFirstOf both u rest
+        → IsBest d nodes units v (length d.units) (Some u)
+    best_lightest candidates lightest both rest u are_all light both_is takes =
+        let two = (both_is u).0 takes.there in
+        let can = (are_all u).0 two.0 in
+        let kind = kind_of (node_of nodes v).op in
+        let its = load_is u can.right.kind.there in
+        record {
+          below = can.right.kind.there;
+          candidate = can;
+          fewest = λ w less other.
+              let a = light.fewest kind u w can.right.kind other.right.kind two.1 in
+              let b = load_is w other.right.kind.there in
+              omega (arith, a, b, its);
+          first = λ w less other e.
+              ⊎_elim
+              (λ (earlier : w < u).
+              let b = load_is w other.right.kind.there in
+              absurd
+              (takes.first w earlier
+              ((both_is w).1 (
+                (are_all w).1 other,
+                light.every kind u w can.right.kind other.right.kind two.1 (b ∙ e ∙ sym its),
+              ))))
+              (λ (later : u ≤ w). later)
+              (cases_lt w u);
+        }
 
     pub choosing_goes_on : (old new : UnitSet) (best : Option ℕ) (u : ℕ) → IsChoosing old best → IsFirstOf old u new
         → IsChoosing new (Some (lighter_of loads best u))

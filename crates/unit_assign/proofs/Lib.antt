@@ -4,5 +4,6 @@ pub mod WiringSteps
 pub mod MissingSteps
 pub mod CandidateSteps
 pub mod Prefixes
+pub mod LightSteps
 pub mod BindingSteps
 pub mod OneFault

@@ -2,10 +2,7 @@
 use Rattle.std.proofs.Common.{◌≡◌, ◌↔◌, ◌⊎◌, ◌∙◌, sym, ap, subst, refl, arith, inl, inr, ⊎_elim, ℕ, ◌+◌, ◌<◌, ◌≤◌, List, length, slice_index_or, Bool, false, IsTrue}
 use Rattle.std.proofs.lemmas.Bool.{cases_lt}
 use Rattle.std.proofs.lemmas.List.{get_or_read}
-use Rattle.fix_word.specs.declared.operation.Op.{Op}
-use Rattle.fix_word.specs.declared.operation.Op.TheVariants as op
 use Rattle.datapath.specs.declared.types.Datapath.{Datapath}
-use Rattle.signal_graph.specs.Operations.{operands}
 use Rattle.signal_graph.specs.GraphSolves.{no_node}
 use Rattle.signal_graph.specs.declared.graph.Edge.{Edge}
 use Rattle.signal_graph.specs.declared.graph.Node.{Node}
@@ -14,6 +11,7 @@ use Rattle.plan_core.specs.Operands.{node_of, edge_of, no_edge}
 use Rattle.plan_core.specs.Assigned.{unit_in, AreUnits}
 use Rattle.plan_core.specs.Refusals.{LacksOperand}
 use Rattle.plan_core.specs.declared.delay_lines.Lowered.{Lowered}
+use Rattle.plan_core.proofs.Readers.{operands_few}
 use Rattle.unit_assign.specs.Wired.{IsWired}
 use Rattle.unit_assign.specs.Private.UnitSets.{Has, no_units, set_at}
 use Rattle.unit_assign.specs.Private.Drivers.{most_ports, place}
@@ -42,27 +40,6 @@ route_or_not d l wiring problem unit port u there few =
     ⊎_elim (λ (h : Has (set_at wiring.drivers (place unit port)) u). inl (is.0 h))
     (λ (no : Has (set_at wiring.drivers (place unit port)) u → ⊥). inr (λ r. no (is.1 r)))
     (has_or_not (set_at wiring.drivers (place unit port)) u)
-
-operands_few : (o : Op) → operands o ≤ 3
-operands_few op.Input = omega arith
-operands_few op.Output = omega arith
-operands_few op.Const = omega arith
-operands_few op.Add = omega arith
-operands_few op.Sub = omega arith
-operands_few op.Neg = omega arith
-operands_few op.Pass = omega arith
-operands_few op.Lt = omega arith
-operands_few op.Le = omega arith
-operands_few op.Eq = omega arith
-operands_few op.Ne = omega arith
-operands_few op.And = omega arith
-operands_few op.Or = omega arith
-operands_few op.Not = omega arith
-operands_few op.Mul = omega arith
-operands_few op.Sel = omega arith
-operands_few op.Load = omega arith
-operands_few op.Store = omega arith
-operands_few op.Addr = omega arith
 
 pub port_few : (l : Lowered) → IsWired l → (v q : ℕ) → v < length l.nodes → q < length (node_of l.nodes v).edges
     → q < most_ports

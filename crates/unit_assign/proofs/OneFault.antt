@@ -12,6 +12,7 @@ use Rattle.plan_core.specs.Refusals.{IsNextNode, IsOperandWithout, IsConsumerWit
 use Rattle.plan_core.specs.declared.delay_lines.Lowered.{Lowered}
 use Rattle.plan_core.specs.declared.schedule.Assigned.{Assigned}
 use Rattle.plan_core.proofs.OneAssigned.{one_units, one_assigned}
+use Rattle.unit_assign.specs.Bound.{AreUnitsOf}
 use Rattle.unit_assign.specs.Faults.{IsUnitFault}
 use Rattle.unit_assign.specs.declared.fault.UnitFault.{UnitFault}
 use Rattle.unit_assign.specs.declared.fault.UnitFault.TheVariants.{TooWide, NoUnit, NoRoute, Memory}
@@ -187,24 +188,46 @@ module _ (d : Datapath) (l : Lowered) where
       (subst (λ (k : Lowered). AreUnits d k.nodes a.units) same is.units)
       (omega arith) at.stops
 
-  module _ (r : Result Assigned UnitFault) where
-    pub ok_found : (b : Assigned) → r ≡ Ok b → b.lowered ≡ l → IsAssigned d b → (a : Assigned) → a.lowered ≡ l
-        → IsAssigned d a → (r ≡ Ok a) ⊎ (r ≡ Err Memory)
-    ok_found b is b_same b_is a a_same a_is =
-        inl (is ∙ ap (λ (x : Assigned). Ok x) (one_assigned d b a (b_same ∙ sym a_same) b_is a_is))
+  abbrev bound : List ℕ → Assigned
+  bound units = record { lowered = l; units = units }
 
-    pub ok_refused : (b : Assigned) → b.lowered ≡ l → IsAssigned d b → (fault : UnitFault)
-        → IsUnitFault d l fault → (r ≡ Err fault) ⊎ (r ≡ Err Memory)
-    ok_refused b same is fault h = absurd (bound_or_not b same is fault h)
+  -- all units are found, and no fault is
+  module _ (r : Result (List ℕ) UnitFault) (units : List ℕ) (ok : r ≡ Ok units) (are : AreUnitsOf d l units) where
+    pub units_found : (others : List ℕ) → AreUnitsOf d l others → (r ≡ Ok others) ⊎ (r ≡ Err Memory)
+    units_found others other_are =
+        let same = one_assigned d (bound units) (bound others) refl are other_are in
+        inl (ok ∙ ap (λ (a : Assigned). Ok a.units) same)
 
-    pub err_found : (f : UnitFault) → r ≡ Err f → (f ≡ Memory) ⊎ IsUnitFault d l f → (a : Assigned)
-        → a.lowered ≡ l → IsAssigned d a → (r ≡ Ok a) ⊎ (r ≡ Err Memory)
-    err_found f is why a same bound =
-        ⊎_elim (λ (e : f ≡ Memory). inr (is ∙ ap (λ (x : UnitFault). Err x) e))
-        (λ (h : IsUnitFault d l f). absurd (bound_or_not a same bound f h)) why
+    pub units_refused : (fault : UnitFault) → IsUnitFault d l fault → (r ≡ Err fault) ⊎ (r ≡ Err Memory)
+    units_refused fault h = absurd (bound_or_not (bound units) refl are fault h)
 
-    pub err_refused : (f : UnitFault) → r ≡ Err f → (f ≡ Memory) ⊎ IsUnitFault d l f → (fault : UnitFault)
-        → IsUnitFault d l fault → (r ≡ Err fault) ⊎ (r ≡ Err Memory)
-    err_refused f is why fault h =
-        ⊎_elim (λ (e : f ≡ Memory). inr (is ∙ ap (λ (x : UnitFault). Err x) e))
-        (λ (g : IsUnitFault d l f). inl (is ∙ ap (λ (x : UnitFault). Err x) (one_fault f fault g h))) why
+  -- a node has no unit, or memory is out
+  module _ {A : Type 0} (r : Result A UnitFault) (f : UnitFault) (err : r ≡ Err f)
+      (why : (f ≡ Memory) ⊎ IsUnitFault d l f) where
+    pub err_found : (a : Assigned) → a.lowered ≡ l → IsAssigned d a → (x : A) → (r ≡ Ok x) ⊎ (r ≡ Err Memory)
+    err_found a same is x =
+        ⊎_elim (λ (e : f ≡ Memory). inr (err ∙ ap (λ (y : UnitFault). Err y) e))
+        (λ (h : IsUnitFault d l f). absurd (bound_or_not a same is f h)) why
+
+    pub err_refused : (fault : UnitFault) → IsUnitFault d l fault → (r ≡ Err fault) ⊎ (r ≡ Err Memory)
+    err_refused fault h =
+        ⊎_elim (λ (e : f ≡ Memory). inr (err ∙ ap (λ (y : UnitFault). Err y) e))
+        (λ (g : IsUnitFault d l f). inl (err ∙ ap (λ (y : UnitFault). Err y) (one_fault f fault g h))) why
+
+  -- the units with a copy of the graph
+  module _ (r : Result Assigned UnitFault) (b : Assigned) (ok : r ≡ Ok b) (same : b.lowered ≡ l)
+      (is : IsAssigned d b) where
+    pub ok_found : (a : Assigned) → a.lowered ≡ l → IsAssigned d a → (r ≡ Ok a) ⊎ (r ≡ Err Memory)
+    ok_found a a_same a_is =
+        inl (ok ∙ ap (λ (x : Assigned). Ok x) (one_assigned d b a (same ∙ sym a_same) is a_is))
+
+    pub ok_refused : (fault : UnitFault) → IsUnitFault d l fault → (r ≡ Err fault) ⊎ (r ≡ Err Memory)
+    ok_refused fault h = absurd (bound_or_not b same is fault h)
+
+  pub copied : (units : List ℕ) (a : Assigned) → AreUnitsOf d l units → a.lowered ≡ l → a.units ≡ units
+      → IsAssigned d a
+  copied units a are same units_are = record {
+    count = ap length units_are ∙ are.count ∙ ap (λ (k : Lowered). length k.nodes) (sym same);
+    units = subst (λ (k : Lowered). AreUnits d k.nodes a.units) (sym same)
+        (subst (λ (us : List ℕ). AreUnits d l.nodes us) (sym units_are) are.units);
+  }

@@ -84,8 +84,7 @@ module _ (Passes : ℕ → Type 0) where
 abbrev cleared : ℕ → ℕ → ℕ
 cleared n k = bit_and n (bit_not w32 (1 * 2 ^ k % 2 ^ 32))
 
-module _ (n k : ℕ) (small : n < 2 ^ 32) (within : k < 32) (set : bit_at n k ≡ 1)
-    (first : (i : ℕ) → i < k → bit_at n i ≡ 0) where
+module _ (n k : ℕ) (small : n < 2 ^ 32) (within : k < 32) where
   same_else : (j : ℕ) → j ≢ k → bit_at (cleared n k) j ≡ bit_at n j
   same_else j other =
       ⊎_elim (λ (inside : j < 32). bit_at_clear_other w32 n k within j inside other)
@@ -97,33 +96,97 @@ module _ (n k : ℕ) (small : n < 2 ^ 32) (within : k < 32) (set : bit_at n k �
   gone : bit_at (cleared n k) k ≡ 0
   gone = bit_at_clear_same w32 n k within
 
-  fewer : cleared n k < n
-  fewer =
-      let most = and_le_l n (bit_not w32 (1 * 2 ^ k % 2 ^ 32)) in
-      let differ : cleared n k ≢ n =
-      λ e. absurd (let f = ap (λ (x : ℕ). bit_at x k) e in let g = gone in omega arith) in
-      strict (cleared n k) n most differ
-    where
-      strict : (p q : ℕ) → p ≤ q → p ≢ q → p < q
-      strict p q le other = ⊎_elim (λ (l : p < q). l) (λ (g : q ≤ p). absurd (other (omega arith))) (cases_lt p q)
+  pub has_without : (j : ℕ) → Has (record { bits = cleared n k }) j ↔ (Has (record { bits = n }) j × (j ≢ k))
+  has_without j = (
+    λ h. ⊎_elim
+        (λ (e : j ≡ k). absurd (let z = gone in let o = h.bit in let f = ap (bit_at (cleared n k)) e in omega arith))
+        (λ (other : j ≢ k). (record { bit = sym (same_else j other) ∙ h.bit }, other))
+        (cases_eq j k),
+    λ h. record { bit = same_else j h.1 ∙ h.0.bit },
+  )
 
-  first_of : IsFirstOf (record { bits = n }) k (record { bits = cleared n k })
-  first_of = record {
-    number = within;
-    there = record { bit = set };
-    first = λ j less h. (let z = first j less in let o = h.bit in omega arith);
-    rest = λ j. (
-      λ h. ⊎_elim
-          (λ (e : j ≡ k). absurd (let z = gone in let o = h.bit in let f = ap (bit_at (cleared n k)) e in omega arith))
-          (λ (other : j ≢ k). (record { bit = sym (same_else j other) ∙ h.bit }, other))
-          (cases_eq j k),
-      λ h. record { bit = same_else j h.1 ∙ h.0.bit },
-    );
-    less = fewer;
-  }
+  module _ (set : bit_at n k ≡ 1) (first : (i : ℕ) → i < k → bit_at n i ≡ 0) where
+    fewer : cleared n k < n
+    fewer =
+        let most = and_le_l n (bit_not w32 (1 * 2 ^ k % 2 ^ 32)) in
+        let differ : cleared n k ≢ n =
+        λ e. absurd (let f = ap (λ (x : ℕ). bit_at x k) e in let g = gone in omega arith) in
+        strict (cleared n k) n most differ
+      where
+        strict : (p q : ℕ) → p ≤ q → p ≢ q → p < q
+        strict p q le other = ⊎_elim (λ (l : p < q). l) (λ (g : q ≤ p). absurd (other (omega arith))) (cases_lt p q)
+
+    first_of : IsFirstOf (record { bits = n }) k (record { bits = cleared n k })
+    first_of = record {
+      number = within;
+      there = record { bit = set };
+      first = λ j less h. (let z = first j less in let o = h.bit in omega arith);
+      rest = has_without;
+      less = fewer;
+    }
 
 pub clear_lowest : (n : ℕ) → n < 2 ^ 32 → n ≢ 0
     → IsFirstOf (record { bits = n }) (trailing_zeros w32 n) (record { bits = cleared n (trailing_zeros w32 n) })
 clear_lowest n small some =
     let is = bit_at-trailing_zeros w32 n (omega arith) small in
     first_of n (trailing_zeros w32 n) small is.0 is.1 is.2
+
+-- the sets of those of some units that pass, where the units in `left` were not looked at yet
+pub record IsFiltered (Passes : ℕ → Type 0) (all left found : UnitSet) : Type 0 where
+  pub inside : (u : ℕ) → Has left u → Has all u
+  pub filtered : (u : ℕ) → Has found u ↔ ((Has left u → ⊥) × Has all u × Passes u)
+
+module _ (Passes : ℕ → Type 0) (all : UnitSet) where
+  pub filter_none : IsFiltered Passes all all no_units
+  filter_none = record {
+    inside = λ u h. h;
+    filtered = λ u. (λ h. absurd (has_none u h), λ h. absurd (h.0 h.1));
+  }
+
+  module _ (left rest found : UnitSet) (k : ℕ) (before : IsFiltered Passes all left found)
+      (takes : IsFirstOf left k rest) where
+    rest_inside : (u : ℕ) → Has rest u → Has all u
+    rest_inside u h = before.inside u ((takes.rest u).0 h).0
+
+    looked_at : (u : ℕ) → u ≢ k → (Has rest u → ⊥) → Has left u → ⊥
+    looked_at u other not h = not ((takes.rest u).1 (h, other))
+
+    pub filter_more : (new : UnitSet) → ((u : ℕ) → Has new u ↔ (Has found u ⊎ (u ≡ k))) → Passes k
+        → IsFiltered Passes all rest new
+    filter_more new new_is passes = record {
+      inside = rest_inside;
+      filtered = λ u. (
+        λ h.
+            ⊎_elim
+            (λ (x : Has found u).
+            let was = (before.filtered u).0 x in (λ r. was.0 ((takes.rest u).0 r).0, was.1, was.2))
+            (λ (e : u ≡ k). (
+              λ r. ((takes.rest u).0 r).1 e,
+              subst (Has all) (sym e) (before.inside k takes.there),
+              subst Passes (sym e) passes,
+            ))
+            ((new_is u).0 h),
+        λ h.
+            (new_is u).1
+            (⊎_elim (λ (e : u ≡ k). inr e)
+            (λ (other : u ≢ k). inl ((before.filtered u).1 (looked_at u other h.0, h.1, h.2))) (cases_eq u k)),
+      );
+    }
+
+    pub filter_past : (Passes k → ⊥) → IsFiltered Passes all rest found
+    filter_past fails = record {
+      inside = rest_inside;
+      filtered = λ u. (
+        λ h. let was = (before.filtered u).0 h in (λ r. was.0 ((takes.rest u).0 r).0, was.1, was.2),
+        λ h.
+            ⊎_elim (λ (e : u ≡ k). absurd (fails (subst Passes e h.2)))
+            (λ (other : u ≢ k). (before.filtered u).1 (looked_at u other h.0, h.1, h.2)) (cases_eq u k),
+      );
+    }
+
+  pub filter_all : (left found : UnitSet) → IsFiltered Passes all left found → ((u : ℕ) → Has left u → ⊥)
+      → (u : ℕ) → Has found u ↔ (Has all u × Passes u)
+  filter_all left found is none u = (
+    λ h. let was = (is.filtered u).0 h in (was.1, was.2),
+    λ h. (is.filtered u).1 (none u, h.0, h.1),
+  )

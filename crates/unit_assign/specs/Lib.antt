@@ -1,3 +1,4 @@
 pub mod Wired
+pub mod Bound
 pub mod Faults
 pub mod Private

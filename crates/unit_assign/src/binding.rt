@@ -1,11 +1,11 @@
 //! The units of the nodes that are bound so far, and what the next ones need to know of them.
 
-ghost use Rattle.std.specs.Prelude.{◌≡◌, ◌<◌, ◌+◌, length, replicate, IfOk, IfSome, OnOk};
+ghost use Rattle.std.specs.Prelude.{◌≡◌, ◌<◌, ◌+◌, ◌↔◌, ℕ, length, replicate, IfOk, IfSome, OnOk, List as Listed};
 ghost use Rattle.plan_core.specs.Operands.{node_of};
 ghost use Rattle.plan_core.specs.Assigned.{IsUnitFor};
-ghost use Rattle.unit_assign.specs.Private.UnitSets.{all_units};
+ghost use Rattle.unit_assign.specs.Private.UnitSets.{Has, all_units};
 ghost use Rattle.unit_assign.specs.Private.Wiring.{IsProblem};
-ghost use Rattle.unit_assign.specs.Private.Bindings.{IsBinding, IsNarrowed, lighter_of};
+ghost use Rattle.unit_assign.specs.Private.Bindings.{load_in, IsOneMore, AreLightest, IsBinding, IsNarrowed, lighter_of};
 
 use crate::problem::Problem;
 use crate::unit_set::UnitSet;
@@ -20,6 +20,8 @@ pub(crate) struct Binding {
     pub loads: List<u32>,
     /// For each node of the graph, the units from which a bus leads to each consumer that is bound.
     pub allowed: List<UnitSet>,
+    /// Of each kind the units to which the fewest nodes are bound.
+    pub lightest: UnitSet,
 }
 
 impl Binding {
@@ -53,8 +55,42 @@ impl Binding {
     {
         self.units.push(unit)?;
         self.loads[usize::from(unit)] += 1;
+        self.lightest = lightest_after(problem, &self.loads, unit, self.lightest);
         narrow(problem, v, unit, &mut self.allowed);
         Ok(())
+    }
+}
+
+/// Those of the units to which so many nodes are bound.
+fn with_load(loads: &List<u32>, units: UnitSet, load: u32) -> UnitSet
+    requires { (u : ℕ) → Has units u → u < length loads.now }
+    ensures { (u : ℕ) → Has result u ↔ (Has units u × (load_in loads.now u ≡ load)) }
+{
+    let mut left = units;
+    let mut found = UnitSet::empty();
+    while let Some(unit) = left.pop_first() {
+        if loads[usize::from(unit)] == load {
+            found = found.with(unit);
+        }
+    }
+    found
+}
+
+/// Of each kind the units with the fewest nodes, which were these before one more node was bound to the unit.
+fn lightest_after(problem: &Problem, loads: &List<u32>, unit: u8, lightest: UnitSet) -> UnitSet
+    requires problem { IsProblem problem.now.datapath.now problem.now.lowered.now problem.now.wiring.now }
+    requires unit { unit < length problem.now.datapath.now.units }
+    requires count { length loads.now ≡ length problem.now.datapath.now.units }
+    ensures { (old : Listed ℕ) → IsOneMore old loads.now unit → AreLightest problem.now.datapath.now old lightest
+        → AreLightest problem.now.datapath.now loads.now result }
+{
+    let rest = lightest.without(unit);
+    let kind = problem.datapath.units[usize::from(unit)].kind;
+    let units = problem.wiring.kinds.units(kind);
+    let mut others = rest.intersection(units);
+    match others.pop_first() {
+        Some(_) => rest,
+        None => rest.union(with_load(loads, units, loads[usize::from(unit)])),
     }
 }
 
@@ -105,5 +141,6 @@ pub(crate) fn no_binding(alloc: Global, problem: &Problem) -> Result<Binding, Al
         units: List::with_capacity(alloc, count)?,
         loads: no_loads(alloc, problem.datapath.units.len())?,
         allowed: all_allowed(alloc, count)?,
+        lightest: UnitSet::full(),
     })
 }

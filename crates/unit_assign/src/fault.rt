@@ -13,7 +13,7 @@ pub enum UnitFault {
     #[error("node {0} too wide")]
     TooWide(u32),
     /// No unit is of the kind that does the node's operation, or is meant for its ram.
-    #[error("no unit {} for node {node}", word_of(*kind))]
+    #[error("no unit {} for node {node}", kind.name())]
     NoUnit { kind: Kind, node: u32 },
     /// No unit of the right kind has all routes, and the first of them has none to or from this port.
     #[error("no route to {unit}.{port} for node {node}")]
@@ -21,20 +21,6 @@ pub enum UnitFault {
     /// Out of memory.
     #[error("no memory")]
     Memory,
-}
-
-/// The word of a datapath file for the kind.
-fn word_of(kind: Kind) -> &'static str {
-    match kind {
-        Kind::Input => "in",
-        Kind::Output => "out",
-        Kind::Rom => "rom",
-        Kind::Alu => "alu",
-        Kind::Mul => "mul",
-        Kind::Sel => "sel",
-        Kind::Ram => "ram",
-        Kind::Acu => "acu",
-    }
 }
 
 impl<T: Drop> From<AllocFailed<T>> for UnitFault {

@@ -12,4 +12,4 @@ mod units;
 mod wiring;
 
 pub use fault::UnitFault;
-pub use units::assign;
+pub use units::{assign, bind};

@@ -1,7 +1,7 @@
 //! Which units a node can be bound to.
 
 ghost use Rattle.std.specs.Prelude.{◌≡◌, ◌<◌, ◌≤◌, ◌↔◌, ◌⊎◌, ℕ, length, slice_index_or, IsTrue, IfOk, IfErr, MatchOption};
-ghost use Rattle.plan_core.specs.Hardware.{kind_of, port_of, HasRoute, IsOfKind};
+ghost use Rattle.plan_core.specs.Hardware.{port_of, HasRoute, IsOfKind};
 ghost use Rattle.plan_core.specs.Operands.{node_of, Reads};
 ghost use Rattle.plan_core.specs.Assigned.{IsForRam, IsRightUnit, IsCandidate, IsUnitFor};
 ghost use Rattle.plan_core.specs.Refusals.{IsNextNode, LacksOperand, LacksConsumer, IsOperandWithout, IsConsumerWithout};
@@ -30,24 +30,6 @@ pub(crate) struct Problem<'a> {
     pub wiring: &'a Wiring,
 }
 
-/// The kind of the units that do an operation.
-pub(crate) fn operation_kind(op: Op) -> Kind
-    ensures { result ≡ kind_of op }
-{
-    match op {
-        Op::Input => Kind::Input,
-        Op::Output => Kind::Output,
-        Op::Const => Kind::Rom,
-        Op::Add | Op::Sub | Op::Neg | Op::Pass => Kind::Alu,
-        Op::Lt | Op::Le | Op::Eq | Op::Ne => Kind::Alu,
-        Op::And | Op::Or | Op::Not => Kind::Alu,
-        Op::Mul => Kind::Mul,
-        Op::Sel => Kind::Sel,
-        Op::Load | Op::Store => Kind::Ram,
-        Op::Addr => Kind::Acu,
-    }
-}
-
 /// Whether a unit that is of the right kind for an operation is meant for its ram.
 fn is_for_ram(datapath: &Datapath, node: &Node, unit: u8) -> bool
     requires { unit < length datapath.now.units }
@@ -65,8 +47,7 @@ fn is_right(datapath: &Datapath, node: &Node, unit: u8) -> bool
     requires { unit < length datapath.now.units }
     ensures { IsTrue result ↔ IsRightUnit datapath.now node.now unit }
 {
-    datapath.units[usize::from(unit)].kind == operation_kind(node.op)
-        && is_for_ram(datapath, node, unit)
+    datapath.units[usize::from(unit)].kind == Kind::of(node.op) && is_for_ram(datapath, node, unit)
 }
 
 impl Problem<'_> {
@@ -183,7 +164,7 @@ impl Problem<'_> {
     {
         match node.op {
             Op::Load | Op::Store | Op::Addr => self.right_for_ram(node),
-            op => self.wiring.kinds.units(operation_kind(op)),
+            op => self.wiring.kinds.units(Kind::of(op)),
         }
     }
 
@@ -239,7 +220,25 @@ impl Problem<'_> {
         left
     }
 
-    /// The first of the candidates with the fewest nodes.
+    /// The first of these candidates with the fewest nodes.
+    fn best_of(&self, binding: &Binding, v: usize, candidates: UnitSet) -> Option<u8>
+        requires problem { IsProblem self.now.datapath.now self.now.lowered.now self.now.wiring.now }
+        requires next { IsNextNode self.now.datapath.now self.now.lowered.now binding.now.units v }
+        requires binding { IsBinding self.now.datapath.now self.now.lowered.now.nodes binding.now }
+        requires candidates { (u : ℕ) → Has candidates u
+            ↔ IsCandidate self.now.datapath.now self.now.lowered.now.nodes binding.now.units v u }
+        ensures { let count = length self.now.datapath.now.units in
+            IsBest self.now.datapath.now self.now.lowered.now.nodes binding.now.units v count result }
+    {
+        let mut left = candidates;
+        let mut best = None;
+        while let Some(unit) = left.pop_first() {
+            best = Some(binding.lighter(best, unit));
+        }
+        best
+    }
+
+    /// The first of the candidates with the fewest nodes. It is mostly one of the lightest units of its kind.
     fn best_candidate(&self, binding: &Binding, v: usize) -> Option<u8>
         requires problem { IsProblem self.now.datapath.now self.now.lowered.now self.now.wiring.now }
         requires next { IsNextNode self.now.datapath.now self.now.lowered.now binding.now.units v }
@@ -247,12 +246,12 @@ impl Problem<'_> {
         ensures { let count = length self.now.datapath.now.units in
             IsBest self.now.datapath.now self.now.lowered.now.nodes binding.now.units v count result }
     {
-        let mut left = self.candidates(binding, v);
-        let mut best = None;
-        while let Some(unit) = left.pop_first() {
-            best = Some(binding.lighter(best, unit));
+        let candidates = self.candidates(binding, v);
+        let mut lightest = candidates.intersection(binding.lightest);
+        match lightest.pop_first() {
+            Some(unit) => Some(unit),
+            None => self.best_of(binding, v, candidates),
         }
-        best
     }
 
     fn first_right(&self, v: usize) -> Option<u8>
@@ -300,7 +299,7 @@ impl Problem<'_> {
         let node = v as u32;
         let Some(unit) = self.first_right(v) else {
             return UnitFault::NoUnit {
-                kind: operation_kind(self.lowered.nodes[v].op),
+                kind: Kind::of(self.lowered.nodes[v].op),
                 node,
             };
         };

@@ -1,6 +1,6 @@
 //! Sets of units.
 
-ghost use Rattle.std.specs.Prelude.{◌≡◌, ◌<◌, ◌↔◌, ◌⊎◌, ℕ, IsTrue, MatchOption};
+ghost use Rattle.std.specs.Prelude.{◌≡◌, ◌≢◌, ◌<◌, ◌↔◌, ◌⊎◌, ℕ, IsTrue, MatchOption};
 ghost use Rattle.unit_assign.specs.Private.UnitSets.{Has, no_units, all_units, IsFirstOf};
 
 /// A set of the units of a datapath, of which there are at most 32: bit u stands for unit u.
@@ -35,6 +35,15 @@ impl UnitSet {
     {
         UnitSet {
             bits: self.bits | (1 << unit),
+        }
+    }
+
+    pub(crate) fn without(self, unit: u8) -> UnitSet
+        requires { unit < 32 }
+        ensures { (u : ℕ) → Has result u ↔ (Has self u × (u ≢ unit)) }
+    {
+        UnitSet {
+            bits: self.bits & !(1 << unit),
         }
     }
 

@@ -1,10 +1,11 @@
 //! The units of all nodes.
 
-ghost use Rattle.std.specs.Prelude.{◌≡◌, ◌⊎◌, ℕ, length, Ok, Err, IfOk, IfErr, OnOk};
+ghost use Rattle.std.specs.Prelude.{◌≡◌, ◌⊎◌, ℕ, length, Ok, Err, IfOk, IfErr, OnOk, List as Listed};
 ghost use Rattle.datapath.specs.Allowed.{IsDatapath};
 ghost use Rattle.plan_core.specs.Assigned.{AreUnits, IsAssigned};
 ghost use Rattle.plan_core.specs.declared.schedule.Assigned.{Assigned};
 ghost use Rattle.unit_assign.specs.Wired.{IsWired};
+ghost use Rattle.unit_assign.specs.Bound.{AreUnitsOf};
 ghost use Rattle.unit_assign.specs.Faults.{IsUnitFault};
 ghost use Rattle.unit_assign.specs.Private.Wiring.{IsProblem};
 ghost use Rattle.unit_assign.specs.Private.Bindings.{IsBinding};
@@ -75,13 +76,26 @@ fn bind_all(problem: &Problem, binding: &mut Binding) -> Result<(), UnitFault>
     Ok(())
 }
 
-/// The units of the nodes, in their order.
-fn units_of(alloc: Global, lowered: &Lowered, datapath: &Datapath) -> Result<List<u8>, UnitFault>
+/// Binds each node to a functional unit: of the units of the right kind that have all routes, the first with the fewest
+/// nodes so far. Gives the unit numbers in the order of the nodes. Takes time in proportion to nodes and edges. Page
+/// `docs/PLANNING.md`, "Units".
+///
+/// # Errors
+///
+/// At the first node without a unit: `TooWide` where it has more bits than a word of the datapath; else `NoUnit` where
+/// no unit is of the right kind; else `NoRoute` with the first route that is missing on the first unit of the right
+/// kind. `Memory` where no memory is left.
+pub fn bind(alloc: Global, lowered: &Lowered, datapath: &Datapath) -> Result<List<u8>, UnitFault>
     requires datapath { IsDatapath datapath.now }
     requires wired { IsWired lowered.now }
-    ensures count { IfOk result (λ units. length units ≡ length lowered.now.nodes) }
-    ensures units { IfOk result (AreUnits datapath.now lowered.now.nodes) }
+    ensures units { IfOk result (AreUnitsOf datapath.now lowered.now) }
     ensures fault { IfErr result (λ fault. (fault ≡ Memory) ⊎ IsUnitFault datapath.now lowered.now fault) }
+    // The one binding is always found, unless memory runs out.
+    ensures found { (units : Listed ℕ) → AreUnitsOf datapath.now lowered.now units
+        → (result ≡ Ok units) ⊎ (result ≡ Err Memory) }
+    // So is the first fault.
+    ensures refused { (fault : UnitFault) → IsUnitFault datapath.now lowered.now fault
+        → (result ≡ Err fault) ⊎ (result ≡ Err Memory) }
 {
     let wiring = wiring_of(alloc, datapath)?;
     let problem = Problem {
@@ -94,14 +108,11 @@ fn units_of(alloc: Global, lowered: &Lowered, datapath: &Datapath) -> Result<Lis
     Ok(binding.units)
 }
 
-/// Binds each node to a functional unit: of the units of the right kind that have all routes, the first with the fewest
-/// nodes so far. Takes time in proportion to nodes and edges. Page `docs/PLANNING.md`, "Units".
+/// Binds each node to a functional unit as `bind` does, and gives the units with a copy of the graph.
 ///
 /// # Errors
 ///
-/// At the first node without a unit: `TooWide` where it has more bits than a word of the datapath; else `NoUnit` where
-/// no unit is of the right kind; else `NoRoute` with the first route that is missing on the first unit of the right
-/// kind. `Memory` where no memory is left.
+/// Those of `bind`.
 pub fn assign(alloc: Global, lowered: &Lowered, datapath: &Datapath) -> Result<Assigned, UnitFault>
     requires datapath { IsDatapath datapath.now }
     requires wired { IsWired lowered.now }
@@ -115,6 +126,6 @@ pub fn assign(alloc: Global, lowered: &Lowered, datapath: &Datapath) -> Result<A
     ensures refused { (fault : UnitFault) → IsUnitFault datapath.now lowered.now fault
         → (result ≡ Err fault) ⊎ (result ≡ Err Memory) }
 {
-    let units = units_of(alloc, lowered, datapath)?;
+    let units = bind(alloc, lowered, datapath)?;
     Ok(assigned(alloc, lowered, units)?)
 }

@@ -1,8 +1,9 @@
 -- The units of the first nodes, and the choice of the next one.
-use Rattle.std.specs.Prelude.{◌≡◌, ℕ, ◌<◌, ◌≤◌, ◌==◌, ◌↔◌, Option, Some, None, if◌then◌else◌, nat_le, List, length, slice_index_or, count_by}
+use Rattle.std.specs.Prelude.{◌≡◌, ◌≢◌, ℕ, ◌+◌, ◌<◌, ◌≤◌, ◌==◌, ◌↔◌, Option, Some, None, if◌then◌else◌, nat_le, List, length, slice_index_or, count_by}
+use Rattle.operations.specs.declared.units.Kind.{Kind}
 use Rattle.datapath.specs.declared.types.Datapath.{Datapath}
 use Rattle.signal_graph.specs.declared.graph.Node.{Node}
-use Rattle.plan_core.specs.Hardware.{port_of, HasRoute}
+use Rattle.plan_core.specs.Hardware.{port_of, IsOfKind, HasRoute}
 use Rattle.plan_core.specs.Operands.{node_of, Reads}
 use Rattle.plan_core.specs.Assigned.{unit_in, IsRightUnit, IsCandidate, load_of, AreUnits}
 use Rattle.unit_assign.specs.Private.UnitSets.{Has, set_at}
@@ -12,6 +13,19 @@ use Rattle.unit_assign.specs.declared.unit_set.UnitSet.{UnitSet}
 -- how many nodes are bound to unit u
 abbrev pub load_in : List ℕ → ℕ → ℕ
 load_in loads u = slice_index_or loads u 0
+
+-- one node more is bound to the unit
+pub record IsOneMore (old new : List ℕ) (unit : ℕ) : Type 0 where
+  pub more : load_in new unit ≡ load_in old unit + 1
+  pub same : (u : ℕ) → u ≢ unit → load_in new u ≡ load_in old u
+
+-- the set has of each kind the units with the fewest nodes
+pub record AreLightest (d : Datapath) (loads : List ℕ) (set : UnitSet) : Type 0 where
+  pub fewest : (kind : Kind) (u w : ℕ) → IsOfKind d kind u → IsOfKind d kind w → Has set u
+      → load_in loads u ≤ load_in loads w
+  pub every : (kind : Kind) (u w : ℕ) → IsOfKind d kind u → IsOfKind d kind w → Has set u
+      → load_in loads w ≡ load_in loads u → Has set w
+  pub some : (kind : Kind) (u : ℕ) → IsOfKind d kind u → (w : ℕ) × IsOfKind d kind w × Has set w
 
 module _ (d : Datapath) (nodes : List Node) where
   -- of the first n nodes, each that reads node x has a route from unit u
@@ -36,6 +50,7 @@ module _ (d : Datapath) (nodes : List Node) where
     pub load_count : length binding.loads ≡ length d.units
     pub loads : (u : ℕ) → u < length d.units → load_in binding.loads u ≡ count_by (λ (w : ℕ). w == u) binding.units
     pub sets : AreAllowed binding.units (length binding.units) binding.allowed
+    pub lightest : AreLightest d binding.loads binding.lightest
 
   -- on unit u, node v has a route to port q from this node, if that is bound or v itself
   abbrev pub HasRouteFrom : (units : List ℕ) (v u q operand : ℕ) → Type 0

@@ -7,3 +7,4 @@ returns-clause-binding c =
     c.in_ok-no_loads.field-0 c.in_ok-all_allowed.field-0 c.len.result c.len-count.result
     c.in_ok-with_capacity.ensures c.in_ok-no_loads.ensures c.in_ok-all_allowed.ensures c.len.ensures
     c.len-count.ensures c.requires.wiring_is.few
+    c.full.result c.full.ensures

@@ -1,35 +1,9 @@
-use Rattle.std.proofs.Common.{sym, subst, arith, ℕ, length, Some}
-use Rattle.unit_assign.proofs.CandidateSteps.{IsChoosing, choosing_begins, choosing_goes_on, choosing_ends, best_there}
+use Rattle.unit_assign.proofs.CandidateSteps.{best_lightest}
 use Rattle.unit_assign.proofs.problem.Problem.best_candidate.Goals as goal
 
-pub loop-unit-init : goal.loop-unit-init
-loop-unit-init c =
-    choosing_begins c.args.self.now.datapath.now c.args.self.now.lowered.now.nodes c.args.binding.now.units c.args.v
-    c.candidates-left.result c.candidates-left.ensures
-
-pub loop-unit-preserved : goal.loop-unit-preserved
-loop-unit-preserved c =
-    let d = c.args.self.now.datapath.now in
-    let nodes = c.args.self.now.lowered.now.nodes in
-    let units = c.args.binding.now.units in
-    subst (λ (u : ℕ). IsChoosing d nodes units c.args.v c.pop_first.new.self (Some u)) (sym c.lighter.ensures)
-    (choosing_goes_on d nodes units c.args.v c.args.binding.now.loads c.requires.next.count c.requires.binding.loads
-    c.loop-unit.left c.pop_first.new.self c.loop-unit.best c.in-Some.unit c.loop-unit.invariant c.in-Some.ensures)
-
-pub lighter-requires-clause-unit : goal.lighter-requires-clause-unit
-lighter-requires-clause-unit c =
-    let its = (c.loop-unit.invariant.left_are c.in-Some.unit).0 c.in-Some.ensures.there in
-    let there = its.0.right.kind.there in
-    let count = c.requires.binding.load_count in
-    omega arith
-
-pub lighter-requires-clause-best : goal.lighter-requires-clause-best
-lighter-requires-clause-best c =
-    best_there c.args.self.now.datapath.now c.args.self.now.lowered.now.nodes c.args.binding.now.units c.args.v
-    c.loop-unit.invariant.n c.loop-unit.best (length c.args.binding.now.loads) c.requires.binding.load_count
-    c.loop-unit.invariant.best_is
-
-pub returns : goal.returns
-returns c =
-    choosing_ends c.args.self.now.datapath.now c.args.self.now.lowered.now.nodes c.args.binding.now.units c.args.v
-    c.loop-unit.left c.loop-unit.best c.loop-unit.invariant c.in_default.ensures
+pub returns-in-Some : goal.returns-in-Some
+returns-in-Some c =
+    best_lightest c.args.self.now.datapath.now c.args.self.now.lowered.now.nodes c.args.binding.now.units c.args.v
+    c.args.binding.now.loads c.requires.next.count c.requires.binding.loads c.candidates-candidates.result
+    c.args.binding.now.lightest c.intersection-lightest.result c.pop_first.new.self c.in-Some.unit
+    c.candidates-candidates.ensures c.requires.binding.lightest c.intersection-lightest.ensures c.in-Some.ensures

@@ -1,5 +1,5 @@
 use Rattle.unit_assign.proofs.CandidateSteps.{IsChoosing}
-use Rattle.unit_assign.proofs.problem.Problem.best_candidate.Given as goal
+use Rattle.unit_assign.proofs.problem.Problem.best_of.Given as goal
 
 abbrev pub invariant-loop-unit : goal.invariant-loop-unit
 invariant-loop-unit l =
