@@ -1,6 +1,6 @@
 -- The piece of one node is made, as the code reads its delays and its line.
-use Rattle.std.proofs.Common.{◌≡◌, refl, sym, subst, ap, ap₂, ◌∙◌, arith, ℕ, ◌+◌, ◌*◌, ◌<◌, ◌≤◌, List, [], ◌∷◌, ◌++◌, length, slice_index_or}
-use Rattle.std.proofs.lemmas.List.{get_or_read}
+use Rattle.std.proofs.Common.{◌≡◌, refl, sym, subst, ap, ap₂, ◌∙◌, arith, ℕ, ◌+◌, ◌*◌, ◌<◌, ◌≤◌, List, [], ◌∷◌, ◌++◌, length, slice_index_or, slice_set}
+use Rattle.std.proofs.lemmas.List.{get_or_read, get_or-set_other, length-set}
 use Rattle.datapath.specs.Allowed.{IsDatapath}
 use Rattle.datapath.specs.declared.types.Datapath.{Datapath}
 use Rattle.signal_graph.specs.GraphSolves.{no_node}
@@ -14,6 +14,27 @@ use Rattle.delay_memory.specs.Private.Lines.{lines_before}
 use Rattle.delay_memory.specs.Private.Nodes.{line_nodes, IsCopy, AreLaidOut, AreMadeBefore}
 use Rattle.delay_memory.proofs.Stored.{count_yes, count_no}
 use Rattle.delay_memory.proofs.NodeSteps.{next_there, number_small, offset_small, made_alone, made_with_line}
+
+-- from node v on the nodes are still those of the graph
+pub record AreLeft (g : Graph) (v : ℕ) (left : List Node) : Type 0 where
+  pub count : length left ≡ length g.nodes
+  pub nodes : (w : ℕ) → v ≤ w → node_of left w ≡ node_of g.nodes w
+
+module _ (g : Graph) (v : ℕ) (left : List Node) (are : AreLeft g v left) where
+  pub left_node : (node : Node) → v < length g.nodes → node ≡ slice_index_or left v node → node ≡ node_of g.nodes v
+  left_node node there is =
+      let count = are.count in
+      get_or_read left v node (omega (arith, there, count)) is no_node ∙ are.nodes v (omega arith)
+
+  pub left_more : (item : Node) (new : List Node) → new ≡ slice_set left v item → AreLeft g (v + 1) new
+  left_more item new e =
+      subst (AreLeft g (v + 1)) (sym e)
+      (record {
+        count = length-set left v item ∙ are.count;
+        nodes = λ w le.
+            get_or-set_other left v w item no_node (λ same. absurd (omega (arith, le, same)))
+            ∙ are.nodes w (omega (arith, le));
+      })
 
 module _ (g : Graph) (d : Datapath) (delays : List (List ℕ)) (numbers : List ℕ) (lines : List Line)
     (laid : AreLaidOut g d delays numbers lines) (v : ℕ) (there : v < length g.nodes)
@@ -57,11 +78,8 @@ module _ (g : Graph) (d : Datapath) (delays : List (List ℕ)) (numbers : List �
   next_without next is none = is ∙ sym (count_no delays v inside (ap length (sym at) ∙ none))
 
   module _ (old mid : List Node) (node copy : Node) (before : AreMadeBefore g d delays lines v old)
-      (node_is : node ≡ slice_index_or g.nodes v node) (copied : IsCopy d.hold delays node copy)
+      (same : node ≡ node_of g.nodes v) (copied : IsCopy d.hold delays node copy)
       (pushed : mid ≡ old ++ copy ∷ []) where
-    same : node ≡ node_of g.nodes v
-    same = get_or_read g.nodes v node there node_is no_node
-
     pub nodes_without : length item ≡ 0 → AreMadeBefore g d delays lines (v + 1) mid
     nodes_without none =
         subst (AreMadeBefore g d delays lines (v + 1)) (sym pushed)

@@ -1,12 +1,12 @@
 -- The nodes of the lowered list are made piece by piece.
-use Rattle.std.proofs.Common.{◌≡◌, ◌≢◌, refl, sym, subst, ap, ◌∙◌, arith, ℕ, suc, ◌+◌, ◌*◌, ◌<◌, ◌≤◌, ⊎_elim, List, [], ◌∷◌, ◌++◌, append_assoc, length, slice_index_or, All, Contains}
+use Rattle.std.proofs.Common.{◌≡◌, ◌≢◌, refl, sym, subst, ap, ◌∙◌, arith, ℕ, suc, ◌+◌, ◌*◌, ◌<◌, ◌≤◌, ⊎_elim, List, [], ◌∷◌, ◌++◌, append_assoc, length, slice_index_or, slice_set, All, Contains}
 use Rattle.std.specs.Prelude.{slice_get, take, IsSomeAnd}
 use Rattle.std.specs.Result.{MatchResult}
 use Rattle.std.specs.List.{AllZip}
 use Rattle.std.specs.List.Sorted.{IsStrictlyIncreasing, IsBinarySearchResult}
 use Rattle.std.specs.Ordering.{nat_cmp}
 use Rattle.std.proofs.Common.{Result, Ok, Err}
-use Rattle.std.proofs.lemmas.List.{take_more, length-take-le}
+use Rattle.std.proofs.lemmas.List.{take_more, length-take-le, get_or_read, get_or-set_same, get_or-set_other, length-set}
 use Rattle.std.proofs.lemmas.List.Sorted.{searched}
 use Rattle.std.proofs.lemmas.List.Kept.{AllPairs-from_increasing}
 use Rattle.std.proofs.lemmas.Bool.{cases_lt}
@@ -305,19 +305,59 @@ found_not xs x r i is answer rise there = by r is (searched xs x r answer rises)
         (λ above. let more = m.2 there.0 above there.1 in omega (arith, more, at))
         (cases_lt there.0 j)
 
-pub zip_push : {A B : Type 0} (R : A → B → Type 0) (xs : List A) (ys : List B) (x : A) (y : B) → AllZip R xs ys → R x y
-    → AllZip R (xs ++ x ∷ []) (ys ++ y ∷ [])
-zip_push R xs ys x y h k = zip_append R xs (x ∷ []) ys (y ∷ []) h (k, tt)
+-- two lists, place by place
+zip_of : {A B : Type 0} (R : A → B → Type 0) (d : A) (e : B) (xs : List A) (ys : List B) → length xs ≡ length ys
+    → ((q : ℕ) → q < length xs → R (slice_index_or xs q d) (slice_index_or ys q e)) → AllZip R xs ys
+zip_of R d e [] [] same each = tt
+zip_of R d e [] (y ∷ ys) same each = absurd (omega (arith, same))
+zip_of R d e (x ∷ xs) [] same each = absurd (omega (arith, same))
+zip_of R d e (x ∷ xs) (y ∷ ys) same each = (
+  each 0 (omega arith),
+  zip_of R d e xs ys (omega (arith, same)) (λ q less. each (suc q) (omega (arith, less))),
+)
 
--- one edge more
-pub edges_step : (hold : ℕ) (delays : List (List ℕ)) (k : ℕ) (edges old new : List Edge) (edge : Edge)
-    → k < length edges → AllZip (IsLoweredEdge hold delays) old (take k edges)
-    → IsLoweredEdge hold delays edge (slice_index_or edges k no_edge) → new ≡ old ++ edge ∷ []
-    → AllZip (IsLoweredEdge hold delays) new (take (k + 1) edges)
-edges_step hold delays k edges old new edge less before is e =
-    subst (λ (es : List Edge). AllZip (IsLoweredEdge hold delays) es (take (k + 1) edges)) (sym e)
-    (subst (AllZip (IsLoweredEdge hold delays) (old ++ edge ∷ [])) (sym (take_more edges k no_edge less))
-    (zip_push (IsLoweredEdge hold delays) old (take k edges) edge (slice_index_or edges k no_edge) before is))
+-- before port k the edges are those of the lowered list, and from there on they are as they were
+pub record AreLoweredBefore (hold : ℕ) (delays : List (List ℕ)) (k : ℕ) (old new : List Edge) : Type 0 where
+  pub count : length new ≡ length old
+  pub lowered : (q : ℕ) → q < k
+      → IsLoweredEdge hold delays (slice_index_or new q no_edge) (slice_index_or old q no_edge)
+  pub rest : (q : ℕ) → k ≤ q → slice_index_or new q no_edge ≡ slice_index_or old q no_edge
+
+module _ (hold : ℕ) (delays : List (List ℕ)) (old : List Edge) where
+  pub lowered_none : AreLoweredBefore hold delays 0 old old
+  lowered_none = record { count = refl; lowered = λ q less. absurd (omega (arith, less)); rest = λ q le. refl }
+
+  module _ (k : ℕ) (new : List Edge) (before : AreLoweredBefore hold delays k old new) where
+    -- the edge at port k is the old one yet
+    pub old_edge : (item : Edge) → k < length new → item ≡ slice_index_or new k item → item ≡ slice_index_or old k no_edge
+    old_edge item less is = get_or_read new k item less is no_edge ∙ before.rest k (omega arith)
+
+    pub lowered_more : (item edge : Edge) → k < length new → item ≡ slice_index_or new k item
+        → IsLoweredEdge hold delays edge item → AreLoweredBefore hold delays (k + 1) old (slice_set new k edge)
+    lowered_more item edge less is lowered = record {
+      count = length-set new k edge ∙ before.count;
+      lowered = λ q below.
+          ⊎_elim
+          (λ (earlier : q < k).
+          subst (λ (e : Edge). IsLoweredEdge hold delays e (slice_index_or old q no_edge))
+          (sym (get_or-set_other new k q edge no_edge (λ same. absurd (omega (arith, earlier, same)))))
+          (before.lowered q earlier))
+          (λ (last : k ≤ q).
+          subst (λ (n : ℕ). IsLoweredEdge hold delays (slice_index_or (slice_set new k edge) n no_edge)
+          (slice_index_or old n no_edge)) {x = k} {y = q} (omega (arith, last, below))
+          (subst (λ (e : Edge). IsLoweredEdge hold delays e (slice_index_or old k no_edge))
+          (sym (get_or-set_same new k edge no_edge less))
+          (subst (IsLoweredEdge hold delays edge) (old_edge item less is) lowered)))
+          (cases_lt q k);
+      rest = λ q le.
+          get_or-set_other new k q edge no_edge (λ same. absurd (omega (arith, le, same)))
+          ∙ before.rest q (omega (arith, le));
+    }
+
+    pub lowered_all : length old ≤ k → AllZip (IsLoweredEdge hold delays) new old
+    lowered_all all =
+        zip_of (IsLoweredEdge hold delays) no_edge no_edge new old before.count
+        (λ q less. before.lowered q (let count = before.count in omega (arith, all, less, count)))
 
 -- the loads of the first k delays
 abbrev loaded_to : Line → (width : ℕ) → List ℕ → (k : ℕ) → List Node

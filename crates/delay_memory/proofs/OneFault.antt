@@ -16,7 +16,7 @@ use Rattle.plan_core.specs.Refusals.{NeedsLine}
 use Rattle.plan_core.specs.declared.delay_lines.Line.{Line}
 use Rattle.plan_core.specs.declared.delay_lines.Lowered.{Lowered}
 use Rattle.plan_core.proofs.OneLowered.{StandsOnce, one_long}
-use Rattle.plan_core.proofs.OneSchedule.{neither_less}
+use Rattle.plan_core.proofs.OneHeight.{neither_less}
 use Rattle.delay_memory.specs.Faults.{IsLineFault}
 use Rattle.delay_memory.specs.Private.Delays.{AreDelays}
 use Rattle.delay_memory.specs.Private.Lines.{IsLongest, IsFirstRoom, IsPlaceFault, IsStop}

@@ -10,7 +10,7 @@ use Rattle.std.proofs.lemmas.List.Filters.{length-filter_more}
 use Rattle.std.proofs.lemmas.List.FromFn.{length-enumerate_from, get_or-enumerate_from}
 use Rattle.std.proofs.lemmas.List.Kept.{AllPairs-filter}
 use Rattle.plan_core.specs.Lowered.{stored}
-use Rattle.plan_core.proofs.OneSchedule.{neither_less}
+use Rattle.plan_core.proofs.OneHeight.{neither_less}
 use Rattle.delay_memory.specs.Private.Delays.{delays_at}
 use Rattle.delay_memory.specs.Private.Lines.{has_line, lines_before}
 

@@ -2,6 +2,7 @@
 //! lines".
 #![tactic(auto)]
 
+mod copies;
 mod delays;
 mod fault;
 mod lines;
@@ -10,4 +11,4 @@ mod nodes;
 mod numbers;
 
 pub use fault::LineFault;
-pub use lowering::lower;
+pub use lowering::{lower, lower_owned};

@@ -9,6 +9,7 @@ ghost use Rattle.delay_memory.specs.Faults.{IsLineFault};
 ghost use Rattle.delay_memory.specs.declared.fault.LineFault as of_fault;
 ghost use Rattle.delay_memory.specs.declared.fault.LineFault.TheVariants.{Memory};
 
+use crate::copies::graph_copy;
 use crate::delays::delays_of;
 use crate::fault::LineFault;
 use crate::lines::lines_of;
@@ -28,6 +29,36 @@ use std::alloc::Global;
 ///
 /// At the first node that needs a line and gets none: `NoRam` where the datapath has no ram; `LinesFull` where none has
 /// so many cells left; `NoAcu` where no acu addresses the first that has. `Memory` where no memory is left.
+pub fn lower_owned(alloc: Global, graph: Graph, datapath: &Datapath) -> Result<Lowered, LineFault>
+    requires datapath { IsDatapath datapath.now }
+    requires sound { IsGraph graph }
+    ensures lowered { IfOk result (IsLowered graph datapath.now) }
+    ensures fault { IfErr result (λ fault. (fault ≡ Memory) ⊎ IsLineFault graph datapath.now fault) }
+    // The one lowered list is always found, unless memory runs out.
+    ensures found { (l : of_lowered.Lowered) → IsLowered graph datapath.now l
+        → (result ≡ Ok l) ⊎ (result ≡ Err Memory) }
+    // So is the first node without a line.
+    ensures refused { (fault : of_fault.LineFault) → IsLineFault graph datapath.now fault
+        → (result ≡ Err fault) ⊎ (result ≡ Err Memory) }
+{
+    let delays = delays_of(alloc, &graph, datapath.hold)?;
+    let numbers = numbers_of(alloc, &delays)?;
+    let lines = lines_of(alloc, datapath, &delays, &numbers)?;
+    let layout = Layout {
+        datapath,
+        delays: &delays,
+        numbers: &numbers,
+        lines: &lines,
+    };
+    let nodes = nodes_of(alloc, graph, &layout)?;
+    Ok(Lowered { nodes, lines })
+}
+
+/// Does what `lower_owned` does, on a copy of the graph.
+///
+/// # Errors
+///
+/// Those of `lower_owned`.
 pub fn lower(alloc: Global, graph: &Graph, datapath: &Datapath) -> Result<Lowered, LineFault>
     requires datapath { IsDatapath datapath.now }
     requires sound { IsGraph graph.now }
@@ -40,15 +71,5 @@ pub fn lower(alloc: Global, graph: &Graph, datapath: &Datapath) -> Result<Lowere
     ensures refused { (fault : of_fault.LineFault) → IsLineFault graph.now datapath.now fault
         → (result ≡ Err fault) ⊎ (result ≡ Err Memory) }
 {
-    let delays = delays_of(alloc, graph, datapath.hold)?;
-    let numbers = numbers_of(alloc, &delays)?;
-    let lines = lines_of(alloc, datapath, &delays, &numbers)?;
-    let layout = Layout {
-        datapath,
-        delays: &delays,
-        numbers: &numbers,
-        lines: &lines,
-    };
-    let nodes = nodes_of(alloc, graph, &layout)?;
-    Ok(Lowered { nodes, lines })
+    lower_owned(alloc, graph_copy(alloc, graph)?, datapath)
 }

@@ -160,85 +160,68 @@ fn edge_for(layout: &Layout, edge: Edge) -> Edge
     edge_now(number + FIRST_OF_DELAYS + NODES_OF_DELAY * index as u32 + 1)
 }
 
-fn edges_for(alloc: Global, layout: &Layout, edges: &List<Edge>) -> Result<List<Edge>, AllocError>
+/// Makes the edges of a node those of the lowered list, in their places.
+fn lower_edges(layout: &Layout, edges: &mut List<Edge>)
     requires layout { IsLayout layout.now.datapath.now layout.now.delays.now layout.now.numbers.now }
-    requires edges { All (IsLaid layout.now.datapath.now.hold layout.now.delays.now) edges.now }
-    ensures { IfOk result (λ lowered.
-        AllZip (IsLoweredEdge layout.now.datapath.now.hold layout.now.delays.now) lowered edges.now) }
+    requires edges { All (IsLaid layout.now.datapath.now.hold layout.now.delays.now) edges.old }
+    ensures { AllZip (IsLoweredEdge layout.now.datapath.now.hold layout.now.delays.now) edges.new edges.old }
 {
-    let mut lowered = List::with_capacity(alloc, edges.len())?;
-    for edge in edges.iter() {
-        lowered.push(edge_for(layout, *edge))?;
+    for port in 0..edges.len() {
+        let edge = edge_for(layout, edges[port]);
+        edges[port] = edge;
     }
-    Ok(lowered)
 }
 
 /// The node of the lowered list for one of the graph.
-fn own_node(alloc: Global, layout: &Layout, node: &Node) -> Result<Node, AllocError>
+fn own_node(layout: &Layout, node: Node) -> Node
     requires layout { IsLayout layout.now.datapath.now layout.now.delays.now layout.now.numbers.now }
-    requires edges { All (IsLaid layout.now.datapath.now.hold layout.now.delays.now) node.now.edges }
-    ensures { IfOk result (IsCopy layout.now.datapath.now.hold layout.now.delays.now node.now) }
+    requires edges { All (IsLaid layout.now.datapath.now.hold layout.now.delays.now) node.edges }
+    ensures { IsCopy layout.now.datapath.now.hold layout.now.delays.now node result }
 {
-    Ok(Node {
+    let mut edges = node.edges;
+    lower_edges(layout, &mut edges);
+    Node {
         op: node.op,
         fmt: node.fmt,
         arg: node.arg,
-        edges: edges_for(alloc, layout, &node.edges)?,
-        inits: List::from_slice(alloc, node.inits.as_slice())?,
+        edges,
+        inits: node.inits,
         width: node.width,
         ram: node.ram,
-    })
+    }
 }
 
-/// Adds the nodes for node v, and goes on to the next line where it has one.
-fn add_nodes(
-    alloc: Global,
-    graph: &Graph,
-    layout: &Layout,
-    v: usize,
-    next: &mut usize,
-    nodes: &mut List<Node>,
-) -> Result<(), AllocError>
-    requires sound { IsGraph graph.now }
-    requires path { IsDatapath layout.now.datapath.now }
-    requires laid_out { AreLaidOut graph.now layout.now.datapath.now layout.now.delays.now
-        layout.now.numbers.now layout.now.lines.now }
-    requires node { v < length graph.now.nodes }
-    requires next { next.old ≡ lines_before layout.now.delays.now v }
-    requires nodes { AreMadeBefore graph.now layout.now.datapath.now layout.now.delays.now
-        layout.now.lines.now v nodes.old }
-    ensures next { OnOk result (next.new ≡ lines_before layout.now.delays.now (v + 1)) }
-    ensures nodes { OnOk result (AreMadeBefore graph.now layout.now.datapath.now layout.now.delays.now
-        layout.now.lines.now (v + 1) nodes.new) }
-{
-    let node = &graph.nodes[v];
-    nodes.push(own_node(alloc, layout, node)?)?;
-    let delays = &layout.delays[v];
-    if delays.is_empty() {
-        return Ok(());
-    }
-    add_line(alloc, nodes, &layout.lines[*next], node.width, delays)?;
-    *next += 1;
-    Ok(())
+/// What stays in the place of a node that is taken out of a list.
+fn no_node(alloc: Global) -> Node {
+    address_node(alloc, 0, 0)
 }
 
 /// The nodes of the graph, each followed by those of its delay line.
 pub(crate) fn nodes_of(
     alloc: Global,
-    graph: &Graph,
+    graph: Graph,
     layout: &Layout,
 ) -> Result<List<Node>, AllocError>
-    requires sound { IsGraph graph.now }
+    requires sound { IsGraph graph }
     requires path { IsDatapath layout.now.datapath.now }
-    requires laid_out { AreLaidOut graph.now layout.now.datapath.now layout.now.delays.now
+    requires laid_out { AreLaidOut graph layout.now.datapath.now layout.now.delays.now
         layout.now.numbers.now layout.now.lines.now }
-    ensures { IfOk result (AreMadeBefore graph.now layout.now.datapath.now layout.now.delays.now
-        layout.now.lines.now (length graph.now.nodes)) }
+    ensures { IfOk result (AreMadeBefore graph layout.now.datapath.now layout.now.delays.now
+        layout.now.lines.now (length graph.nodes)) }
 {
-    let mut nodes = List::with_capacity(alloc, graph.nodes.len())?;
+    let mut left = graph.nodes;
+    let mut nodes = List::with_capacity(alloc, left.len())?;
     let mut next = 0;
-    for v in 0..graph.nodes.len() {
-        add_nodes(alloc, graph, layout, v, &mut next, &mut nodes)?;
+    for v in 0..left.len() {
+        let node = left.replace(v, no_node(alloc));
+        let width = node.width;
+        nodes.push(own_node(layout, node))?;
+        let delays = &layout.delays[v];
+        if delays.is_empty() {
+            continue;
+        }
+        add_line(alloc, &mut nodes, &layout.lines[next], width, delays)?;
+        next += 1;
     }
     Ok(nodes)
 }
