@@ -1,11 +1,12 @@
 -- The bits of sets.
-use Rattle.std.proofs.Common.{◌≡◌, ◌≢◌, ◌∙◌, ℕ, ◌*◌, ◌/◌, ◌%◌, ◌^◌, ◌<◌, ◌≤◌, ◌↔◌, List, length, get_or, slice_set, bit_and, bit_or, arith, ap, sym, subst, w32, w64, tests, not, nat_eq, IsTrue, ⊎_elim, replicate}
+use Rattle.std.proofs.Common.{◌≡◌, ◌≢◌, ◌∙◌, ℕ, suc, ◌+◌, ◌-◌, ◌*◌, ◌/◌, ◌%◌, ◌^◌, ◌<◌, ◌≤◌, ◌↔◌, List, length, get_or, slice_set, bit_and, bit_or, arith, ap, sym, subst, w32, w64, tests, not, nat_eq, IsTrue, ⊎_elim, replicate}
 use Rattle.std.specs.Int.{bit_at, bit_not, trailing_zeros}
 use Rattle.std.proofs.lemmas.Nat.{one_shl, pow_pos, and_le_l}
-use Rattle.std.proofs.lemmas.Nat.Bits.{and_pow, bit_at_set_same, bit_at_set_other, bit_at_clear_same, bit_at_clear_other, bit_at_above, bit_at-trailing_zeros, bit_at-zero}
+use Rattle.std.proofs.lemmas.Nat.Bits.{and_pow, bit_at_set_same, bit_at_set_other, bit_at_clear_same, bit_at_clear_other, bit_at_above, bit_at_lowest, bit_at_cat_high, bit_at-trailing_zeros, bit_at-zero}
 use Rattle.std.proofs.lemmas.Bool.{cases_eq, cases_lt}
 use Rattle.std.proofs.lemmas.List.{length-replicate}
-use Rattle.bus_alloc.specs.Sets.{TakesFirst}
+use Rattle.std.proofs.Math.Nat.{pow-succ'}
+use Rattle.bus_alloc.specs.Sets.{TakesFirst, TakesLast}
 use Rattle.std.proofs.lemmas.List.{get_or-replicate, get_or_past, get_or-set_same, get_or-set_other}
 
 -- the test of a bit
@@ -57,9 +58,29 @@ bit_of_none n k i =
     ))) (cases_lt k n) in
     subst (λ (w : ℕ). bit_at w i ≡ 0) (sym zero_word) (bit_at-zero i)
 
+-- a bit of a number, cleared
+abbrev cleared : ℕ → ℕ → ℕ
+cleared n b = bit_and n (bit_not w32 (1 * 2 ^ b % 2 ^ 32))
+
+cleared_other : (n b : ℕ) → n < 2 ^ 32 → b < 32 → (c : ℕ) → c ≢ b → bit_at (cleared n b) c ≡ bit_at n c
+cleared_other n b small within c other =
+    ⊎_elim (λ below. bit_at_clear_other w32 n b within c below other) past (cases_lt c 32)
+  where
+    past : 32 ≤ c → bit_at (cleared n b) c ≡ bit_at n c
+    past far =
+        bit_at_above _ 32 c (omega (arith, and_le_l n (bit_not w32 (1 * 2 ^ b % 2 ^ 32)))) far
+        ∙ sym (bit_at_above n 32 c small far)
+
+cleared_less : (n b : ℕ) → b < 32 → bit_at n b ≡ 1 → cleared n b < n
+cleared_less n b within there =
+    let most = and_le_l n (bit_not w32 (1 * 2 ^ b % 2 ^ 32)) in
+    let differ : cleared n b ≢ n =
+    λ e. absurd (omega (arith, there, bit_at_clear_same w32 n b within, ap (λ (x : ℕ). bit_at x b) e)) in
+    omega arith
+
 -- the lowest bit of a number that is not 0, cleared
 pub clear_lowest : (n : ℕ) → n < 2 ^ 32 → n ≢ 0 → TakesFirst (record { bits = n }) (trailing_zeros w32 n)
-    (record { bits = bit_and n (bit_not w32 (1 * 2 ^ trailing_zeros w32 n % 2 ^ 32)) })
+    (record { bits = cleared n (trailing_zeros w32 n) })
 clear_lowest n small some =
     let is = bit_at-trailing_zeros w32 n (omega arith) small in
     let b = trailing_zeros w32 n in
@@ -68,23 +89,28 @@ clear_lowest n small some =
       there = is.1;
       first = is.2;
       taken = bit_at_clear_same w32 n b is.0;
-      others = λ c other. ⊎_elim (λ within. bit_at_clear_other w32 n b is.0 c within other) (past n b small c)
-          (cases_lt c 32);
-      less = less n b is.0 is.1;
+      others = cleared_other n b small is.0;
+      less = cleared_less n b is.0 is.1;
     }
-  where
-    cleared : ℕ → ℕ → ℕ
-    cleared m b = bit_and m (bit_not w32 (1 * 2 ^ b % 2 ^ 32))
 
-    past : (m b : ℕ) → m < 2 ^ 32 → (c : ℕ) → 32 ≤ c → bit_at (bit_and m (bit_not w32 (1 * 2 ^ b % 2 ^ 32))) c ≡
-        bit_at m c
-    past m b s c far =
-        bit_at_above _ 32 c (omega (arith, and_le_l m (bit_not w32 (1 * 2 ^ b % 2 ^ 32)))) far ∙ sym (bit_at_above m
-        32 c s far)
+highest_bit : (n b : ℕ) → 2 ^ b ≤ n → n < 2 * 2 ^ b → bit_at n b ≡ 1
+highest_bit n b low high =
+    let whole : n ≡ 1 * 2 ^ b + (n - 2 ^ b) = omega arith in
+    let rest : n - 2 ^ b < 2 ^ b = omega arith in
+    let none : b - b ≡ 0 = omega arith in
+    ap (λ (x : ℕ). bit_at x b) whole ∙ bit_at_cat_high 1 b (n - 2 ^ b) b rest (omega arith)
+    ∙ ap (bit_at 1) none ∙ bit_at_lowest 1
 
-    less : (m b : ℕ) → b < 32 → bit_at m b ≡ 1 → bit_and m (bit_not w32 (1 * 2 ^ b % 2 ^ 32)) < m
-    less m b within set =
-        let most = and_le_l m (bit_not w32 (1 * 2 ^ b % 2 ^ 32)) in
-        let differ : bit_and m (bit_not w32 (1 * 2 ^ b % 2 ^ 32)) ≢ m =
-        λ e. absurd (omega (arith, set, bit_at_clear_same w32 m b within, ap (λ (x : ℕ). bit_at x b) e)) in
-        omega arith
+-- the highest bit, cleared
+pub clear_highest : (n b : ℕ) → n < 2 ^ 32 → b < 32 → 2 ^ b ≤ n → n < 2 * 2 ^ b
+    → TakesLast (record { bits = n }) b (record { bits = cleared n b })
+clear_highest n b small within low high =
+    let highest = highest_bit n b low high in
+    record {
+      number = within;
+      there = highest;
+      last = λ c less. bit_at_above n (suc b) c (subst (λ (x : ℕ). n < x) (sym (pow-succ' 2 b)) high) (omega arith);
+      taken = bit_at_clear_same w32 n b within;
+      others = cleared_other n b small within;
+      less = cleared_less n b within highest;
+    }

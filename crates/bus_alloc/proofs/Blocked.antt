@@ -9,7 +9,7 @@ use Rattle.std.proofs.lemmas.Nat.Bits.{bit_at_or, bit_at-lt, bit_at_ones, bit_at
 use Rattle.std.proofs.lemmas.List.{get_or-take, length-take, take-take}
 use Rattle.std.proofs.lemmas.List.Elements.{All-more, All-take}
 use Rattle.operations.specs.declared.units.PortRef.{PortRef}
-use Rattle.bus_alloc.specs.Sets.{bus_bit}
+use Rattle.bus_alloc.specs.Sets.{mark, bus_bit}
 use Rattle.bus_alloc.specs.Private.Rows.{IsBusOpen, IsRouteOpen, IsPortOpen, IsOpenIn, IsFirstZero, unit_row, file_row}
 use Rattle.bus_alloc.specs.declared.buses.BusSet.{BusSet}
 use Rattle.bus_alloc.specs.declared.rows.Rows.{Rows}
@@ -52,6 +52,25 @@ zero_in_both a b i zero_bit =
 
 pub zero_in_union : (a b i : ℕ) → bit_at a i ≡ 0 → bit_at b i ≡ 0 → bit_at (bit_or a b) i ≡ 0
 zero_in_union a b i first second = grind (arith, bit_at_or a b i, first, second)
+
+-- one word more in which each bit is set, or its cycle has passed
+pub full_more : (words : List ℕ) (from index word passed : ℕ) → word ≡ slice_index words index
+    → ((i : ℕ) → i < 64 → (bit_at passed i ≡ 0) ↔ (from ≤ 64 * index + i)) → bit_or word passed ≡ 2 ^ 64 - 1
+    → ((c : ℕ) → from ≤ c → c < 64 * index → mark words c ≡ 1)
+    → (c : ℕ) → from ≤ c → c < 64 * (index + 1) → mark words c ≡ 1
+full_more words from index word passed is are full before c after less =
+    ⊎_elim (λ earlier. before c after earlier) here (cases_lt c (64 * index))
+  where
+    here : 64 * index ≤ c → mark words c ≡ 1
+    here late =
+        let k : ℕ = c % 64 in
+        let small : k < 64 = omega arith in
+        let at : c / 64 ≡ index = omega arith in
+        let set : bit_at (bit_or word passed) k ≡ 1 = ap (λ (w : ℕ). bit_at w k) full ∙ bit_at_ones 64 k small in
+        let not : bit_at passed k ≡ 0 = (are k small).1 (omega arith) in
+        let one : bit_at word k ≡ 1 = grind (arith, bit_at_or word passed k, set, not) in
+        subst (λ (n : ℕ). bit_at (slice_index words n) k ≡ 1) (sym at)
+        (ap (λ (w : ℕ). bit_at w k) (sym is) ∙ one)
 
 module _ (rows : Rows) (index : ℕ) where
   -- the buses that are in both sets are the routes

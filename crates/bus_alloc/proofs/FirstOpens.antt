@@ -1,11 +1,12 @@
 -- The first cycle that is open, word by word.
-use Rattle.std.proofs.Common.{◌≡◌, ℕ, ◌+◌, ◌*◌, ◌/◌, ◌%◌, ◌^◌, ◌<◌, ◌≤◌, ◌↔◌, List, arith, sym, subst, ⊎_elim, bit_or, bit_and, IsTrue, nat_eq, tests}
+use Rattle.std.proofs.Common.{◌≡◌, ℕ, ◌+◌, ◌*◌, ◌/◌, ◌%◌, ◌^◌, ◌<◌, ◌≤◌, ◌↔◌, ◌∙◌, List, arith, ap, sym, subst, ⊎_elim, bit_or, bit_and, IsTrue, nat_eq, tests}
 use Rattle.std.specs.Int.{bit_at}
 use Rattle.std.proofs.lemmas.Bool.{cases_lt}
 use Rattle.std.proofs.lemmas.Nat.{one_shl, pow_pos}
 use Rattle.std.proofs.lemmas.Nat.Bits.{and_pow, bit_at-lt}
 use Rattle.operations.specs.declared.units.PortRef.{PortRef}
-use Rattle.bus_alloc.specs.Private.Rows.{IsOpenIn, IsOpen, IsFirstZero, IsFirstOpenAt}
+use Rattle.bus_alloc.specs.Sets.{mark}
+use Rattle.bus_alloc.specs.Private.Rows.{unit_row, IsOpenIn, IsOpen, IsFirstZero, IsFirstOpenAt}
 use Rattle.bus_alloc.specs.declared.rows.Rows.{Rows}
 use Rattle.bus_alloc.proofs.Blocked.{zero_in_both, zero_in_union}
 
@@ -73,3 +74,12 @@ module _ (rows : Rows) (u : ℕ) (dests : List PortRef) (from index blocked pass
 
     pub none_in_period : rows.period ≤ 64 * index + k → (c : ℕ) → from ≤ c → c < rows.period → IsOpen rows u dests c → ⊥
     none_in_period past c after less = none_before c after (omega arith)
+
+-- no cycle in which the unit is busy is open
+pub none_in_busy : (rows : Rows) (u : ℕ) (dests : List PortRef) (words : List ℕ) (from first : ℕ)
+    → words ≡ (unit_row rows u).busy.words → ((c : ℕ) → from ≤ c → c < 64 * first → mark words c ≡ 1)
+    → (c : ℕ) → from ≤ c → c < 64 * first → IsOpen rows u dests c → ⊥
+none_in_busy rows u dests words from first are full c after less is_open =
+    let one : mark (unit_row rows u).busy.words c ≡ 1 =
+    ap (λ (ws : List ℕ). mark ws c) (sym are) ∙ full c after less in
+    absurd (omega (arith, one, is_open.unit))

@@ -2,8 +2,8 @@
 use Rattle.std.proofs.Common.{◌≡◌, ◌≢◌, ◌∙◌, ℕ, ◌+◌, ◌-◌, ◌^◌, ◌<◌, ◌⊎◌, ◌↔◌, arith, ap, sym, subst, ⊎_elim, inl, inr, slice_index, bit_and}
 use Rattle.std.specs.Int.{bit_at}
 use Rattle.std.proofs.lemmas.Bool.{cases_eq}
-use Rattle.std.proofs.lemmas.Nat.Bits.{bit_at_and, bit_at_ones, bit_at-lt}
-use Rattle.bus_alloc.specs.Sets.{bus_bit, TakesFirst}
+use Rattle.std.proofs.lemmas.Nat.Bits.{bit_at_and, bit_at_ones, bit_at-lt, bit_at-zero}
+use Rattle.bus_alloc.specs.Sets.{bus_bit, TakesLast}
 use Rattle.bus_alloc.specs.Private.Rows.{IsBusOpen, bus_words}
 use Rattle.bus_alloc.specs.declared.buses.BusSet.{BusSet}
 use Rattle.bus_alloc.specs.declared.rows.Rows.{Rows}
@@ -50,7 +50,7 @@ reads_none rows buses index = record {
 }
 
 pub reads_bus : (rows : Rows) (buses : BusSet) (index : ℕ) (left : BusSet) (all b : ℕ) (rest : BusSet) (word : ℕ)
-    → IsReadSoFar rows buses index left all → TakesFirst left b rest → word ≡ slice_index (bus_words rows b) index
+    → IsReadSoFar rows buses index left all → TakesLast left b rest → word ≡ slice_index (bus_words rows b) index
     → IsReadSoFar rows buses index rest (bit_and all word)
 reads_bus rows buses index left all b rest word so_far takes is = record {
   within = λ c there. so_far.within c (left_has c there);
@@ -92,3 +92,11 @@ reads_all rows buses index left all i read none small = (
   λ is. ⊎_elim (λ there. absurd (omega (arith, there, none is.b))) (λ zero. zero) (read.complete is.b i is.there
       is.open_bit),
 )
+
+-- none of the bits is left
+pub reads_enough : (rows : Rows) (buses : BusSet) (index : ℕ) (left : BusSet) (all i : ℕ) → IsReadSoFar rows buses
+    index left all
+    → all ≡ 0 → i < 64 → (bit_at all i ≡ 0) ↔ IsBusOpen rows buses index i
+reads_enough rows buses index left all i read none small =
+    let zero : bit_at all i ≡ 0 = ap (λ (w : ℕ). bit_at w i) none ∙ bit_at-zero i in
+    (read.sound i small, λ is. zero)

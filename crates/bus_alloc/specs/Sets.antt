@@ -19,3 +19,12 @@ pub record TakesFirst (old : BusSet) (bus : ℕ) (new : BusSet) : Type 0 where
   pub taken : bus_bit new bus ≡ 0
   pub others : (b : ℕ) → b ≢ bus → bus_bit new b ≡ bus_bit old b
   pub less : new.bits < old.bits
+
+-- the bus is the last of the old set, and the new set has the others
+pub record TakesLast (old : BusSet) (bus : ℕ) (new : BusSet) : Type 0 where
+  pub number : bus < 32
+  pub there : bus_bit old bus ≡ 1
+  pub last : (b : ℕ) → bus < b → bus_bit old b ≡ 0
+  pub taken : bus_bit new bus ≡ 0
+  pub others : (b : ℕ) → b ≢ bus → bus_bit new b ≡ bus_bit old b
+  pub less : new.bits < old.bits

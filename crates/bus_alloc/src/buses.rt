@@ -1,7 +1,7 @@
 //! Sets of buses.
 
 ghost use Rattle.std.specs.Prelude.{◌≡◌, ◌≢◌, ◌<◌, ◌≤◌, ◌⊎◌, ℕ, min, MatchOption};
-ghost use Rattle.bus_alloc.specs.Sets.{bus_bit, TakesFirst};
+ghost use Rattle.bus_alloc.specs.Sets.{bus_bit, TakesFirst, TakesLast};
 
 /// A set of buses.
 #[derive(Clone, Copy)]
@@ -41,6 +41,18 @@ impl BusSet {
             return None;
         }
         let bus = self.bits.trailing_zeros();
+        self.bits &= !(1 << bus);
+        Some(bus as u8)
+    }
+
+    /// Takes the last bus out of the set.
+    pub fn pop_last(&mut self) -> Option<u8>
+        ensures { MatchOption result ((b : ℕ) → bus_bit self.old b ≡ 0) (λ bus. TakesLast self.old bus self.new) }
+    {
+        if self.bits == 0 {
+            return None;
+        }
+        let bus = self.bits.ilog2();
         self.bits &= !(1 << bus);
         Some(bus as u8)
     }

@@ -1,6 +1,6 @@
 //! Sets of cycles of a sample.
 
-ghost use Rattle.std.specs.Prelude.{◌≡◌, ◌≢◌, ◌<◌, ◌≤◌, ◌⊎◌, ℕ, length, slice_index, IsTrue, ◌↔◌};
+ghost use Rattle.std.specs.Prelude.{◌≡◌, ◌≢◌, ◌<◌, ◌≤◌, ◌⊎◌, ◌*◌, ◌/◌, ℕ, length, min, slice_index, IsTrue, ◌↔◌};
 ghost use Rattle.bus_alloc.specs.Sets.{mark};
 
 /// A period has at most this many cycles.
@@ -30,6 +30,22 @@ impl CycleSet {
         ensures { result ≡ slice_index self.now.words index }
     {
         self.words[index as usize]
+    }
+
+    /// The first word before the end in which a cycle, this one or a later one, is not in the set, or the end.
+    pub fn first_gap(&self, from: u16, end: u16) -> u16
+        requires { end ≤ 64 }
+        ensures after { min (from / 64) end ≤ result }
+        ensures full { (c : ℕ) → from ≤ c → c < 64 * result → mark self.now.words c ≡ 1 }
+    {
+        let mut passed = (1 << (from % WORD_CYCLES)) - 1;
+        for index in from / WORD_CYCLES..end {
+            if self.words[index as usize] | passed != u64::MAX {
+                return index;
+            }
+            passed = 0;
+        }
+        end
     }
 
     pub fn contains(&self, cycle: u16) -> bool

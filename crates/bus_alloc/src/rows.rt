@@ -100,7 +100,8 @@ impl Rows {
         }
     }
 
-    /// A word with the bits of the cycles in which all these buses are used.
+    /// A word with the bits of the cycles in which all these buses are used. Of the buses the first are used most, so
+    /// the last ones tell sooner that there is no such cycle.
     fn all_used(&self, buses: BusSet, index: u16) -> u64
         requires rows { AreRows self.now }
         requires index { index < 64 }
@@ -108,8 +109,11 @@ impl Rows {
     {
         let mut all = u64::MAX;
         let mut left = buses;
-        while let Some(bus) = left.pop_first() {
+        while let Some(bus) = left.pop_last() {
             all &= self.buses[bus as usize].word(index);
+            if all == 0 {
+                return all;
+            }
         }
         all
     }
@@ -165,7 +169,9 @@ impl Rows {
         requires ports { All (IsPortIn self.now) dests.now }
         ensures { IsFirstOpen self.now unit dests.now from result }
     {
-        for index in from / WORD_CYCLES..self.period.div_ceil(WORD_CYCLES) {
+        let end = self.period.div_ceil(WORD_CYCLES);
+        let first = self.units[unit as usize].busy.first_gap(from, end);
+        for index in first..end {
             let blocked = self.blocked(unit, dests, index) | cycles_before(from, index);
             if let Some(bit) = first_zero(blocked) {
                 let cycle = WORD_CYCLES * index + bit;
