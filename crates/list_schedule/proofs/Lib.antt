@@ -1,8 +1,8 @@
 pub mod Problems
 pub mod Searches
 pub mod Raising
-pub mod Agreeing
-pub mod Ranks
+pub mod Greater
+pub mod Ordered
 pub mod PortSets
 pub mod Readers
 pub mod Placings

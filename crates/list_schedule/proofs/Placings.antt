@@ -1,7 +1,6 @@
 -- The nodes that are placed so far, and one more.
 use Rattle.std.proofs.Common.{◌≡◌, ◌≢◌, ◌∙◌, ◌↔◌, refl, sym, ap, subst, arith, ℕ, ◌+◌, ◌<◌, ◌≤◌, ◌⊎◌, inl, inr, ⊎_elim, List, [], ◌∷◌, ◌++◌, length, max, All, Contains, get_or-set_same, get_or-set_other, Option, Some, None}
-use Rattle.std.specs.Prelude.{slice_index_or, Bool, if◌then◌else◌}
-use Rattle.std.specs.Ordering.{nat_cmp, ord_max}
+use Rattle.std.specs.Prelude.{slice_index_or}
 use Rattle.std.proofs.lemmas.Bool.{cases_lt, cases_eq}
 use Rattle.std.proofs.lemmas.List.{get_or_read, length-set}
 use Rattle.std.proofs.lemmas.List.Elements.{Contains-push, Contains-push_cases, Contains-append_left}
@@ -18,13 +17,12 @@ use Rattle.plan_core.specs.declared.schedule.Assigned.{Assigned}
 use Rattle.plan_core.specs.declared.schedule.Transfer.{Transfer}
 use Rattle.plan_core.specs.declared.schedule.Slot.{Slot}
 use Rattle.plan_core.specs.declared.schedule.Schedule.{Schedule}
-use Rattle.plan_core.proofs.OneSchedule.{live_of}
+use Rattle.plan_core.proofs.OneHeight.{live_of}
 use Rattle.bus_alloc.specs.Private.Rows.{IsPortIn}
 use Rattle.bus_alloc.specs.Stands.{Placed, IsTaken, FitsAt, FitsIn, AnswersFirstFit}
 use Rattle.list_schedule.specs.Private.Problem.{IsProblem}
-use Rattle.list_schedule.specs.Private.Order.{node_at}
+use Rattle.list_schedule.specs.Private.Search.{nth}
 use Rattle.list_schedule.specs.Private.Placing.{slot_at, of_slots, IsReadyAt, IsFirstReady, HasTable, IsOpenAt, IsShutAt, IsFirstOpenAt, IsFirstOpen, Places, HasNoCycle, ArePlaced}
-use Rattle.list_schedule.specs.declared.order.Rank.{Rank}
 use Rattle.list_schedule.specs.declared.placing.Placing.{Placing}
 use Rattle.list_schedule.specs.Faults.{IsPeriodFault}
 use Rattle.list_schedule.specs.declared.fault.PeriodFault.{PeriodFault}
@@ -32,19 +30,9 @@ use Rattle.list_schedule.specs.declared.fault.PeriodFault.TheVariants.{Period, M
 use Rattle.list_schedule.specs.Private.Ports.{Has, no_ports}
 use Rattle.list_schedule.specs.Private.Destinations.{AreReaders, IsReadBefore, IsReaderSet}
 use Rattle.list_schedule.specs.declared.ports.PortSet.{PortSet}
-use Rattle.list_schedule.proofs.Problems.{consumer_in, operand_in, edges_few, unit_there}
-use Rattle.list_schedule.proofs.Ranks.{is_less, not_less}
-use Rattle.list_schedule.proofs.Agreeing.{operand_earlier, placed_same, placed_in}
-
--- the greater of two numbers, as the code has it
-pub greater : (x y : ℕ) → ord_max nat_cmp x y ≡ max x y
-greater x y =
-    ⊎_elim
-    (λ (less : y < x).
-    let e : ord_max nat_cmp x y ≡ x = ap (λ (b : Bool). if b then x else y) (is_less y x less) in omega arith)
-    (λ (not : x ≤ y).
-    let e : ord_max nat_cmp x y ≡ y = ap (λ (b : Bool). if b then x else y) (not_less y x not) in omega arith)
-    (cases_lt y x)
+use Rattle.plan_core.proofs.Agreeing.{operand_earlier, placed_same, placed_in}
+use Rattle.plan_core.proofs.Readers.{reader_there}
+use Rattle.list_schedule.proofs.Problems.{operand_in, edges_few, unit_there}
 
 -- the first cycle at which the operands at the first k ports are there
 pub record IsReadyUpTo (d : Datapath) (a : Assigned) (slots : List Slot) (v k t : ℕ) : Type 0 where
@@ -93,7 +81,7 @@ module _ (d : Datapath) (a : Assigned) (is : IsProblem d a) where
       (p : Placing) (table : HasTable d a p) where
     port_known : (port : PortRef) → IsDestination a v port → IsPortIn p.table port
     port_known port h =
-        let c = consumer_in a.lowered.nodes h.consumer port.port v h.reads in
+        let c = reader_there a.lowered.nodes h.consumer port.port v h.reads in
         let n = table.stands.units in
         let u = unit_there d a is h.consumer c in
         let e = h.unit in
@@ -139,32 +127,32 @@ module _ (d : Datapath) (a : Assigned) (is : IsProblem d a) where
   not_both h x y (inr l) (inl m) = let e = l.0 in absurd (omega arith)
   not_both h x y (inr l) (inr m) = let i = l.1 in let j = m.1 in absurd (omega arith)
 
-  module _ (ranks : List Rank) (k : ℕ) (p : Placing) (b : ArePlaced d a ranks k p) where
+  module _ (order : List ℕ) (k : ℕ) (p : Placing) (b : ArePlaced d a order k p) where
     -- the nodes before node j of the order are those that are placed before it
-    earlier_index : (j : ℕ) → j < length ranks → (x : ℕ) → IsEarlier a b.height (node_at ranks j) x
-        → (i : ℕ) × (i < j) × (node_at ranks i ≡ x)
+    earlier_index : (j : ℕ) → j < length order → (x : ℕ) → IsEarlier a b.height (nth order j) x
+        → (i : ℕ) × (i < j) × (nth order i ≡ x)
     earlier_index j within x e =
-        let at = b.order.every x e.node in
+        let at = b.placing.every x e.node in
         ⊎_elim (λ (less : at.0 < j). (at.0, less, at.2))
         (λ (past : j ≤ at.0). absurd (⊎_elim
-        (λ (more : j < at.0). not_both b.height x (node_at ranks j) e.before
-        (subst (IsPlacedBefore b.height (node_at ranks j)) at.2 (b.order.before j at.0 more at.1)))
+        (λ (more : j < at.0). not_both b.height x (nth order j) e.before
+        (subst (IsPlacedBefore b.height (nth order j)) at.2 (b.placing.before j at.0 more at.1)))
         (λ (same : at.0 ≤ j).
         let i_is : at.0 ≡ j = omega arith in
-        not_before b.height x (node_at ranks j) (sym at.2 ∙ ap (node_at ranks) i_is) e.before)
+        not_before b.height x (nth order j) (sym at.2 ∙ ap (nth order) i_is) e.before)
         (cases_lt j at.0)))
         (cases_lt at.0 j)
 
-    index_earlier : (i j : ℕ) → i < j → j < length ranks → IsEarlier a b.height (node_at ranks j) (node_at ranks i)
+    index_earlier : (i j : ℕ) → i < j → j < length order → IsEarlier a b.height (nth order j) (nth order i)
     index_earlier i j less within =
-        record { node = b.order.there i (omega arith); before = b.order.before i j less within }
+        record { node = b.placing.there i (omega arith); before = b.placing.before i j less within }
 
-    module _ (within : k < length ranks) where
+    module _ (within : k < length order) where
       abbrev v : ℕ
-      v = node_at ranks k
+      v = nth order k
 
-      pub next_there : node_at ranks k < length a.lowered.nodes
-      next_there = b.order.there k within
+      pub next_there : nth order k < length a.lowered.nodes
+      next_there = b.placing.there k within
 
       -- in a schedule in which the nodes before have the same slots
       module _ (z : Schedule) (agree : (x : ℕ) → IsEarlier a b.height v x → slot_at p.slots x ≡ slot_of z x) where
@@ -172,21 +160,21 @@ module _ (d : Datapath) (a : Assigned) (is : IsProblem d a) where
         taken u slot t =
             let at = earlier_index k within t.x t.earlier in
             let there = b.taken_to at.0 at.1 in
-            let unit : unit_in a.units (node_at ranks at.0) ≡ u = ap (unit_in a.units) at.2 ∙ t.unit in
-            let its : slot_at p.slots (node_at ranks at.0) ≡ slot =
+            let unit : unit_in a.units (nth order at.0) ≡ u = ap (unit_in a.units) at.2 ∙ t.unit in
+            let its : slot_at p.slots (nth order at.0) ≡ slot =
             ap (slot_at p.slots) at.2 ∙ agree t.x t.earlier ∙ t.its_slot in
             subst (λ (w : ℕ). IsTaken b.placed w slot) unit
-            (subst (IsTaken b.placed (unit_in a.units (node_at ranks at.0))) its there)
+            (subst (IsTaken b.placed (unit_in a.units (nth order at.0))) its there)
 
         taken_back : (u : ℕ) (slot : Slot) → IsTaken b.placed u slot → IsTakenBefore a z b.height v u slot
         taken_back u slot t =
             let at = b.taken_from u slot t in
             let e = index_earlier at.0 k at.1 within in
             record {
-              x = node_at ranks at.0;
+              x = nth order at.0;
               earlier = e;
               unit = at.2;
-              its_slot = sym (agree (node_at ranks at.0) e) ∙ at.3;
+              its_slot = sym (agree (nth order at.0) e) ∙ at.3;
             }
 
         route_from : (u w : ℕ) (port : PortRef) (c : ℕ) → IsFreeRoute d (IsTaken b.placed) u w port c
@@ -274,10 +262,10 @@ module _ (d : Datapath) (a : Assigned) (is : IsProblem d a) where
             sym (ap (λ (xs : List Slot). slot_at xs x) places.slots
             ∙ get_or-set_other p.slots v x places.slot no_slot other)
 
-        index_else : (j : ℕ) → j < k → node_at ranks j ≢ v
-        index_else j less = λ e. not_before b.height (node_at ranks j) v e (b.order.before j k less within)
+        index_else : (j : ℕ) → j < k → nth order j ≢ v
+        index_else j less = λ e. not_before b.height (nth order j) v e (b.placing.before j k less within)
 
-        agrees : (j : ℕ) → j < k + 1 → (x : ℕ) → IsEarlier a b.height (node_at ranks j) x
+        agrees : (j : ℕ) → j < k + 1 → (x : ℕ) → IsEarlier a b.height (nth order j) x
             → slot_at p.slots x ≡ slot_at new.slots x
         agrees j less x e =
             let at = earlier_index j (omega arith) x e in
@@ -304,47 +292,47 @@ module _ (d : Datapath) (a : Assigned) (is : IsProblem d a) where
               buses = λ i x less. bus_from z agree u (result_on d u places.slot.cycle) _ (moves.buses i x less);
             })
 
-        each_more : (j : ℕ) → j < k + 1 → IsPlaced d a z b.height (node_at ranks j)
+        each_more : (j : ℕ) → j < k + 1 → IsPlaced d a z b.height (nth order j)
         each_more j less =
             ⊎_elim
             (λ (early : j < k).
-            placed_same d a live inside (of_slots p.slots) z b.height b.heights (node_at ranks j)
-            (b.order.there j (omega arith)) (agrees j less) (slot_else (node_at ranks j) (index_else j early))
+            placed_same d a live inside (of_slots p.slots) z b.height b.heights (nth order j)
+            (b.placing.there j (omega arith)) (agrees j less) (slot_else (nth order j) (index_else j early))
             (b.each j early))
             (λ (past : k ≤ j).
             let at : k ≡ j = omega arith in
-            subst (λ (i : ℕ). IsPlaced d a z b.height (node_at ranks i)) at here)
+            subst (λ (i : ℕ). IsPlaced d a z b.height (nth order i)) at here)
             (cases_lt j k)
 
         abbrev one_more : Placed
         one_more = record { unit = unit_in a.units v; slot = places.slot }
 
         from_more : (u : ℕ) (slot : Slot) → IsTaken (b.placed ++ one_more ∷ []) u slot
-            → (j : ℕ) × (j < k + 1) × (unit_in a.units (node_at ranks j) ≡ u)
-            × (slot_at new.slots (node_at ranks j) ≡ slot)
+            → (j : ℕ) × (j < k + 1) × (unit_in a.units (nth order j) ≡ u)
+            × (slot_at new.slots (nth order j) ≡ slot)
         from_more u slot t =
             ⊎_elim
             (λ (old : IsTaken b.placed u slot).
             let at = b.taken_from u slot old in
             let less = at.1 in
-            (at.0, omega arith, at.2, sym (slot_else (node_at ranks at.0) (index_else at.0 at.1)) ∙ at.3))
+            (at.0, omega arith, at.2, sym (slot_else (nth order at.0) (index_else at.0 at.1)) ∙ at.3))
             (λ (same : one_more ≡ record { unit = u; slot = slot }).
             (k, omega arith, ap (λ (x : Placed). x.unit) same, slot_here ∙ ap (λ (x : Placed). x.slot) same))
             (Contains-push_cases b.placed one_more (record { unit = u; slot = slot }) t)
 
         to_more : (j : ℕ) → j < k + 1
-            → IsTaken (b.placed ++ one_more ∷ []) (unit_in a.units (node_at ranks j))
-            (slot_at new.slots (node_at ranks j))
+            → IsTaken (b.placed ++ one_more ∷ []) (unit_in a.units (nth order j))
+            (slot_at new.slots (nth order j))
         to_more j less =
             ⊎_elim
             (λ (early : j < k).
-            subst (IsTaken (b.placed ++ one_more ∷ []) (unit_in a.units (node_at ranks j)))
-            (slot_else (node_at ranks j) (index_else j early))
+            subst (IsTaken (b.placed ++ one_more ∷ []) (unit_in a.units (nth order j)))
+            (slot_else (nth order j) (index_else j early))
             (Contains-append_left b.placed (one_more ∷ []) _ (b.taken_to j early)))
             (λ (past : k ≤ j).
             let at : k ≡ j = omega arith in
-            subst (λ (i : ℕ). IsTaken (b.placed ++ one_more ∷ []) (unit_in a.units (node_at ranks i))
-            (slot_at new.slots (node_at ranks i))) at
+            subst (λ (i : ℕ). IsTaken (b.placed ++ one_more ∷ []) (unit_in a.units (nth order i))
+            (slot_at new.slots (nth order i))) at
             (subst (IsTaken (b.placed ++ one_more ∷ []) (unit_in a.units v)) (sym slot_here)
             (Contains-push b.placed one_more)))
             (cases_lt j k)
@@ -358,11 +346,11 @@ module _ (d : Datapath) (a : Assigned) (is : IsProblem d a) where
             subst (λ (slot : Slot). slot.cycle ≤ 4096) (slot_else x other) (b.early x))
             (cases_eq x v)
 
-        pub one_placed : ArePlaced d a ranks (k + 1) new
+        pub one_placed : ArePlaced d a order (k + 1) new
         one_placed = record {
           height = b.height;
           heights = b.heights;
-          order = b.order;
+          placing = b.placing;
           count = ap length places.slots ∙ length-set p.slots v places.slot ∙ b.count;
           early = early_more;
           placed = b.placed ++ one_more ∷ [];
@@ -372,43 +360,43 @@ module _ (d : Datapath) (a : Assigned) (is : IsProblem d a) where
           each = each_more;
         }
 
-  -- the same for the ranks as the code reads them
-  module _ (ranks items : List Rank) (same : items ≡ ranks) (k : ℕ) (p : Placing) (b : ArePlaced d a ranks k p)
+  -- the same for the order as the code reads it
+  module _ (order items : List ℕ) (same : items ≡ order) (k : ℕ) (p : Placing) (b : ArePlaced d a order k p)
       (within : k < length items) where
-    abbrev its : List Rank → ℕ
-    its rs = node_at rs k
+    abbrev its : List ℕ → ℕ
+    its rs = nth rs k
 
-    inside_ranks : k < length ranks
-    inside_ranks = subst (λ (rs : List Rank). k < length rs) same within
+    inside_order : k < length order
+    inside_order = subst (λ (rs : List ℕ). k < length rs) same within
 
-    pub rank_there : node_at items k < length a.lowered.nodes
-    rank_there =
-        subst (λ (rs : List Rank). its rs < length a.lowered.nodes) (sym same) (next_there ranks k p b inside_ranks)
+    pub next_in : nth items k < length a.lowered.nodes
+    next_in =
+        subst (λ (rs : List ℕ). its rs < length a.lowered.nodes) (sym same) (next_there order k p b inside_order)
 
-    pub goes_on : (new : Placing) → Places d a (node_at items k) p new → ArePlaced d a ranks (k + 1) new
+    pub goes_on : (new : Placing) → Places d a (nth items k) p new → ArePlaced d a order (k + 1) new
     goes_on new h =
-        one_placed ranks k p b inside_ranks new
-        (subst (λ (rs : List Rank). Places d a (its rs) p new) same h)
+        one_placed order k p b inside_order new
+        (subst (λ (rs : List ℕ). Places d a (its rs) p new) same h)
 
     pub stops : (fault : PeriodFault)
-        → (fault ≡ Memory) ⊎ ((fault ≡ Period (node_at items k)) × HasNoCycle d a (node_at items k) p)
+        → (fault ≡ Memory) ⊎ ((fault ≡ Period (nth items k)) × HasNoCycle d a (nth items k) p)
         → (fault ≡ Memory) ⊎ IsPeriodFault d a fault
     stops fault why =
         ⊎_elim (λ (e : fault ≡ Memory). inl e)
-        (λ (h : (fault ≡ Period (node_at items k)) × HasNoCycle d a (node_at items k) p).
+        (λ (h : (fault ≡ Period (nth items k)) × HasNoCycle d a (nth items k) p).
         inr (subst (IsPeriodFault d a) (sym h.0)
-        (subst (λ (rs : List Rank). IsWithoutCycle d a (its rs)) (sym same)
-        (stopped ranks k p b inside_ranks (subst (λ (rs : List Rank). HasNoCycle d a (its rs) p) same h.1)))))
+        (subst (λ (rs : List ℕ). IsWithoutCycle d a (its rs)) (sym same)
+        (stopped order k p b inside_order (subst (λ (rs : List ℕ). HasNoCycle d a (its rs) p) same h.1)))))
         why
 
-  pub all_placed : (ranks : List Rank) (k : ℕ) (p : Placing) → length ranks ≤ k → ArePlaced d a ranks k p
+  pub all_placed : (order : List ℕ) (k : ℕ) (p : Placing) → length order ≤ k → ArePlaced d a order k p
       → IsListSchedule d a (of_slots p.slots)
-  all_placed ranks k p all b = record {
+  all_placed order k p all b = record {
     height = b.height;
     heights = b.heights;
     count = b.count;
     placed = λ v there.
-        let at = b.order.every v there in
+        let at = b.placing.every v there in
         let less = at.1 in
         subst (IsPlaced d a (of_slots p.slots) b.height) at.2 (b.each at.0 (omega arith));
   }

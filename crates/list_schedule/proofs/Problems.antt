@@ -3,9 +3,6 @@ use Rattle.std.proofs.Common.{◌≡◌, ◌∙◌, ap, sym, subst, arith, ℕ, 
 use Rattle.std.specs.Prelude.{slice_index_or}
 use Rattle.std.proofs.lemmas.Bool.{cases_lt}
 use Rattle.std.proofs.lemmas.List.{get_or_past}
-use Rattle.fix_word.specs.declared.operation.Op.{Op}
-use Rattle.fix_word.specs.declared.operation.Op.TheVariants as op
-use Rattle.operations.specs.Operations.{operands}
 use Rattle.datapath.specs.Allowed.{IsDatapath}
 use Rattle.datapath.specs.declared.types.Datapath.{Datapath}
 use Rattle.datapath.specs.declared.types.Unit.{Unit as FunctionalUnit}
@@ -17,39 +14,10 @@ use Rattle.plan_core.specs.Operands.{node_of, edge_of, no_edge, delay_at, Reads}
 use Rattle.plan_core.specs.Assigned.{unit_in}
 use Rattle.plan_core.specs.Heights.{ReadsNow, latency_of}
 use Rattle.plan_core.specs.declared.schedule.Assigned.{Assigned}
-use Rattle.plan_core.proofs.OneSchedule.{live_of}
+use Rattle.plan_core.proofs.OneHeight.{live_of}
+use Rattle.plan_core.proofs.Readers.{operands_few, reader_there}
 use Rattle.list_schedule.specs.Private.Problem.{IsProblem}
 use Rattle.list_schedule.specs.Private.Search.{HasOperand}
-
-operands_few : (o : Op) → operands o ≤ 3
-operands_few op.Input = omega arith
-operands_few op.Output = omega arith
-operands_few op.Const = omega arith
-operands_few op.Add = omega arith
-operands_few op.Sub = omega arith
-operands_few op.Neg = omega arith
-operands_few op.Pass = omega arith
-operands_few op.Lt = omega arith
-operands_few op.Le = omega arith
-operands_few op.Eq = omega arith
-operands_few op.Ne = omega arith
-operands_few op.And = omega arith
-operands_few op.Or = omega arith
-operands_few op.Not = omega arith
-operands_few op.Mul = omega arith
-operands_few op.Sel = omega arith
-operands_few op.Load = omega arith
-operands_few op.Store = omega arith
-operands_few op.Addr = omega arith
-
-none_past : (nodes : List Node) (c q : ℕ) → length nodes ≤ c → q < length (node_of nodes c).edges → ⊥
-none_past nodes c q past h =
-    let none : length (node_of nodes c).edges ≡ 0 = ap (λ (n : Node). length n.edges)
-    (get_or_past nodes c no_node past) in omega arith
-
-pub consumer_in : (nodes : List Node) (c q v : ℕ) → Reads nodes c q v → c < length nodes
-consumer_in nodes c q v r =
-    ⊎_elim (λ h. h) (λ h. absurd (none_past nodes c q h r.port)) (cases_lt c (length nodes))
 
 pub latency_few : (d : Datapath) → IsDatapath d → (u : ℕ) → latency_on d u ≤ 8
 latency_few d is u =
@@ -92,7 +60,7 @@ module _ (d : Datapath) (a : Assigned) (is : IsProblem d a) where
   pub operand_in : (c q v : ℕ) → Reads a.lowered.nodes c q v → v < length a.lowered.nodes
   operand_in c q v r =
       subst (λ (x : ℕ). x < length a.lowered.nodes) r.node
-      (edge_in c q (consumer_in a.lowered.nodes c q v r) r.port)
+      (edge_in c q (reader_there a.lowered.nodes c q v r) r.port)
 
   pub edges_few : (c : ℕ) → c < length a.lowered.nodes → length (node_of a.lowered.nodes c).edges ≤ 3
   edges_few c there =

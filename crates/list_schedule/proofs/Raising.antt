@@ -7,10 +7,11 @@ use Rattle.datapath.specs.declared.types.Datapath.{Datapath}
 use Rattle.plan_core.specs.Operands.{node_of, edge_of, delay_at}
 use Rattle.plan_core.specs.Heights.{ReadsNow, latency_of}
 use Rattle.plan_core.specs.declared.schedule.Assigned.{Assigned}
+use Rattle.plan_core.proofs.Readers.{reader_there}
 use Rattle.list_schedule.specs.Private.Problem.{IsProblem}
 use Rattle.list_schedule.specs.Private.Search.{IsAt, HasOperand}
-use Rattle.list_schedule.specs.Private.Heights.{height_in, AreHeightsOf, RaisesTo, RaisesOperands, IsRaising}
-use Rattle.list_schedule.proofs.Problems.{consumer_in, short}
+use Rattle.list_schedule.specs.Private.Heights.{height_in, most_height, AreHeightsOf, RaisesTo, RaisesOperands, IsRaising}
+use Rattle.list_schedule.proofs.Problems.{short}
 use Rattle.list_schedule.proofs.Searches.{len, below, top, at_split, ordered_less}
 
 module _ (d : Datapath) (a : Assigned) (v height : ℕ) (first : List ℕ) where
@@ -158,7 +159,7 @@ module _ (d : Datapath) (a : Assigned) (is : IsProblem d a) where
         let k = r.keeps v in let e = h.2 in inr (v, h.0, h.1, omega arith)) (r.only x)
 
     small_more : (x : ℕ) → x < length a.lowered.nodes
-        → height_in new x + 8 * length rest ≤ 8 * (length a.lowered.nodes + 1)
+        → height_in new x + 8 * length rest ≤ most_height (length a.lowered.nodes)
     small_more x there =
         let n = len rest v in
         ⊎_elim (λ (e : height_in new x ≡ height_in old x). let b = before.small x there in omega arith)
@@ -181,12 +182,12 @@ module _ (d : Datapath) (a : Assigned) (is : IsProblem d a) where
     count = all.count;
     heights = λ v there. record {
       alone = all.alone v there;
-      above = λ c q h. up c (consumer_in a.lowered.nodes c q v h.reads) q v h;
+      above = λ c q h. up c (reader_there a.lowered.nodes c q v h.reads) q v h;
       reached = by v (all.reached v there);
     };
     small = λ v. ⊎_elim
         (λ (there : v < length a.lowered.nodes).
-        let b = all.small v there in let few = is.schedulable.node_count in omega arith)
+        let b = all.small v there in let n = all.count in omega arith)
         (λ (past : length a.lowered.nodes ≤ v).
         let n = all.count in let e = get_or_past heights v 0 (omega arith) in omega arith)
         (cases_lt v (length a.lowered.nodes));
@@ -209,5 +210,5 @@ module _ (d : Datapath) (a : Assigned) (is : IsProblem d a) where
       by x (inl e) = inl e
       by x (inr h) =
           let less = h.3 in
-          let more = up h.0 (consumer_in a.lowered.nodes h.0 h.1 x h.2.reads) h.1 x h.2 in
+          let more = up h.0 (reader_there a.lowered.nodes h.0 h.1 x h.2.reads) h.1 x h.2 in
           inr (h.0, h.1, h.2, omega arith)

@@ -10,11 +10,12 @@ use Rattle.plan_core.specs.Operands.{node_of, edge_of, Reads}
 use Rattle.plan_core.specs.Assigned.{unit_in}
 use Rattle.plan_core.specs.ListSchedule.{IsDestination, AreDestinations}
 use Rattle.plan_core.specs.declared.schedule.Assigned.{Assigned}
+use Rattle.plan_core.proofs.Readers.{reader_there}
 use Rattle.list_schedule.specs.Private.Problem.{IsProblem}
 use Rattle.list_schedule.specs.Private.Ports.{place, port_in, Has, no_ports, IsPortOf, ArePortsOf}
 use Rattle.list_schedule.specs.Private.Destinations.{set_at, IsReadAt, AddsReads, IsReadBefore, AreReaders, IsReaderSet}
 use Rattle.list_schedule.specs.declared.ports.PortSet.{PortSet}
-use Rattle.list_schedule.proofs.Problems.{consumer_in, edges_few}
+use Rattle.list_schedule.proofs.Problems.{edges_few}
 
 module _ (a : Assigned) where
   pub readers_more : (c k : ℕ) (old new : List PortSet) → k ≡ length (node_of a.lowered.nodes c).edges
@@ -155,7 +156,7 @@ destinations_are d a is v set ports readers are = record {
       subst (Contains ports) (port_back (unit_in a.units c) q (few c q r))
       (are.every (place (unit_in a.units c) q) ((readers (place (unit_in a.units c) q)).1 (record {
         c = c;
-        early = consumer_in a.lowered.nodes c q v r;
+        early = reader_there a.lowered.nodes c q v r;
         q = q;
         reads = r;
         is = refl;
@@ -164,7 +165,7 @@ destinations_are d a is v set ports readers are = record {
   where
     few : (c q : ℕ) → Reads a.lowered.nodes c q v → q < 3
     few c q r =
-        let most = edges_few d a is c (consumer_in a.lowered.nodes c q v r) in let port = r.port in omega arith
+        let most = edges_few d a is c (reader_there a.lowered.nodes c q v r) in let port = r.port in omega arith
 
     read_by : (p : PortRef) → IsPortOf set p → IsDestination a v p
     read_by p h =

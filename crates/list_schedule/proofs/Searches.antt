@@ -1,5 +1,5 @@
 -- The search for an order: a stack of nodes, each of which waits for the one above it.
-use Rattle.std.proofs.Common.{◌≡◌, ◌≢◌, ◌∙◌, refl, sym, ap, subst, arith, ℕ, zero, suc, ◌+◌, ◌<◌, ◌≤◌, ◌⊎◌, inl, inr, ⊎_elim, List, [], ◌∷◌, ◌++◌, length, length-append, get_or-set_same, get_or-set_other}
+use Rattle.std.proofs.Common.{◌≡◌, ◌≢◌, ◌∙◌, refl, sym, ap, subst, arith, ℕ, zero, suc, ◌+◌, ◌<◌, ◌≤◌, ◌⊎◌, inl, inr, ⊎_elim, List, [], ◌∷◌, ◌++◌, length, All, length-append, get_or-set_same, get_or-set_other}
 use Rattle.std.specs.Prelude.{slice_set}
 use Rattle.std.specs.List.{sum_by}
 use Rattle.std.proofs.lemmas.Bool.{cases_lt, cases_eq}
@@ -7,11 +7,12 @@ use Rattle.std.proofs.lemmas.List.{length-set, get_or_append_left}
 use Rattle.std.proofs.lemmas.List.Sums.{sum_by-set}
 use Rattle.std.proofs.Math.Seq.{get_or-append_seam}
 use Rattle.signal_graph.specs.declared.graph.Node.{Node}
-use Rattle.plan_core.specs.Operands.{node_of}
+use Rattle.signal_graph.specs.declared.graph.Edge.{Edge}
+use Rattle.plan_core.specs.Operands.{node_of, no_edge}
 use Rattle.list_schedule.specs.declared.search.Mark.{Mark}
 use Rattle.list_schedule.specs.declared.search.Mark.TheVariants.{New, Open, Placed}
 use Rattle.list_schedule.specs.declared.search.Search.{Search}
-use Rattle.list_schedule.specs.Private.Search.{nth, IsAt, mark_at, mark_of, HasOperand, IsNewOperand, IsOrdered, IsSearch, Visits, Keeps, lacks_place}
+use Rattle.list_schedule.specs.Private.Search.{nth, IsAt, mark_at, mark_of, HasOperand, IsNewOperand, IsOrdered, IsOrder, IsSorted, AreNumbers, IsSearch, Visits, Keeps, lacks_place}
 
 -- what is left to do with a node
 abbrev weight : Mark → ℕ
@@ -327,3 +328,36 @@ pub none_new : (nodes : List Node) (v : ℕ) (node : Node) (marks : List Mark) �
 none_new nodes v node marks is none u h e =
     subst (λ (n : Node). (w : ℕ) → IsNewOperand n marks w → ⊥) is none u
     (record { q = h.0; port = h.1.reads.port; operand = h.1.reads.node; now = h.1.now; fresh = e })
+
+-- one node more that comes behind its operands, as the code reads it
+pub sorted_more : (nodes : List Node) (v : ℕ) (node : Node) → node ≡ node_of nodes v → IsSorted nodes v
+    → All (λ (edge : Edge). edge.delay ≡ 0 → edge.node < v) node.edges → IsSorted nodes (v + 1)
+sorted_more nodes v node is before behind w u less h =
+    ⊎_elim (λ (early : w < v). before w u early h)
+    (λ (past : v ≤ w).
+    let at : w ≡ v = omega arith in
+    subst (λ (x : ℕ). u < x) (sym at) (last u (subst (λ (x : ℕ). HasOperand nodes x u) at h)))
+    (cases_lt w v)
+  where
+    last : (u : ℕ) → HasOperand nodes v u → u < v
+    last u h =
+        let all : All (λ (edge : Edge). edge.delay ≡ 0 → edge.node < v) (node_of nodes v).edges =
+        subst (λ (n : Node). All (λ (edge : Edge). edge.delay ≡ 0 → edge.node < v) n.edges) is behind in
+        subst (λ (x : ℕ). x < v) h.1.reads.node (all h.0 no_edge h.1.reads.port h.1.now)
+
+-- sorted nodes by their numbers
+pub numbers_ordered : (nodes : List Node) (order : List ℕ) → IsSorted nodes (length nodes)
+    → AreNumbers (length nodes) order → IsOrder nodes order
+numbers_ordered nodes order sorted are = record {
+  ordered = record {
+    there = λ i less.
+        (let c = are.count in subst (λ (x : ℕ). x < length nodes) (sym (are.each i (omega arith))) (omega arith));
+    operands = λ i u less h.
+        let c = are.count in
+        let is = are.each i (omega arith) in
+        let low = sorted i u (omega arith) (subst (λ (x : ℕ). HasOperand nodes x u) is h) in
+        (u, low, are.each u (omega arith));
+  };
+  all = λ v there. (let c = are.count in (v, omega arith, are.each v there));
+  few = let c = are.count in omega arith;
+}

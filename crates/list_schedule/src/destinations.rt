@@ -1,9 +1,8 @@
 //! The ports that read each node.
 
-ghost use Rattle.std.specs.Prelude.{◌≡◌, ◌<◌, length, replicate, IfOk};
+ghost use Rattle.std.specs.Prelude.{◌≡◌, ◌<◌, length, IfOk};
 ghost use Rattle.plan_core.specs.Operands.{node_of};
 ghost use Rattle.list_schedule.specs.Private.Problem.{IsProblem};
-ghost use Rattle.list_schedule.specs.Private.Ports.{no_ports};
 ghost use Rattle.list_schedule.specs.Private.Destinations.{AddsReads, AreReaders};
 
 use crate::ports::PortSet;
@@ -27,22 +26,12 @@ fn add_reads(problem: &Problem, c: usize, readers: &mut List<PortSet>)
     }
 }
 
-fn no_readers(alloc: Global, count: usize) -> Result<List<PortSet>, AllocError>
-    ensures { IfOk result (λ readers. readers ≡ replicate count no_ports) }
-{
-    let mut readers = List::with_capacity(alloc, count)?;
-    for _ in 0..count {
-        readers.push(PortSet::empty())?;
-    }
-    Ok(readers)
-}
-
 /// For each node the ports that read it.
 pub(crate) fn readers_of(alloc: Global, problem: &Problem) -> Result<List<PortSet>, AllocError>
     requires { IsProblem problem.now.datapath.now problem.now.assigned.now }
     ensures { IfOk result (AreReaders problem.now.assigned.now (length problem.now.assigned.now.lowered.nodes)) }
 {
-    let mut readers = no_readers(alloc, problem.count())?;
+    let mut readers = List::from_vec(vec![in alloc; PortSet::empty(); problem.count()]?);
     for c in 0..problem.count() {
         add_reads(problem, c, &mut readers);
     }

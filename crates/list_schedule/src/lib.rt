@@ -2,6 +2,7 @@
 //! and its result can be transferred to every port that reads it. Page `docs/PLANNING.md`, "Cycles".
 #![tactic(auto)]
 
+mod buckets;
 mod destinations;
 mod fault;
 mod heights;

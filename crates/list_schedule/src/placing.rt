@@ -10,7 +10,6 @@ ghost use Rattle.list_schedule.specs.Private.Placing.{slot_at, of_slots, IsFirst
 ghost use Rattle.list_schedule.specs.declared.fault.PeriodFault.TheVariants.{Period, Memory};
 
 use crate::fault::PeriodFault;
-use crate::order::Rank;
 use crate::ports::PortSet;
 use crate::problem::Problem;
 use bus_alloc::Table;
@@ -112,7 +111,7 @@ fn place(
 fn place_all(
     alloc: Global,
     problem: &Problem,
-    order: &Vec<Rank>,
+    order: &Vec<u32>,
     readers: &List<PortSet>,
     placing: &mut Placing,
 ) -> Result<(), PeriodFault>
@@ -125,12 +124,12 @@ fn place_all(
         ⊎ IsPeriodFault problem.now.datapath.now problem.now.assigned.now fault) }
 {
     let mut ports = Vec::new(alloc);
-    for rank in order.iter() {
+    for v in order.iter() {
         place(
             alloc,
             problem,
-            rank.node,
-            readers[rank.node as usize],
+            *v,
+            readers[*v as usize],
             &mut ports,
             placing,
         )?;
@@ -156,7 +155,7 @@ fn no_slots(alloc: Global, count: usize) -> Result<List<Slot>, AllocError>
 pub(crate) fn slots_of(
     alloc: Global,
     problem: &Problem,
-    order: &Vec<Rank>,
+    order: &Vec<u32>,
     readers: &List<PortSet>,
 ) -> Result<List<Slot>, PeriodFault>
     requires problem { IsProblem problem.now.datapath.now problem.now.assigned.now }

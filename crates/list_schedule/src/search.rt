@@ -1,9 +1,9 @@
 //! An order in which each node comes behind its operands of the same sample.
 
-ghost use Rattle.std.specs.Prelude.{◌≡◌, ◌<◌, ℕ, [], length, replicate, IfOk, OnOk, IfSome, IfNone};
+ghost use Rattle.std.specs.Prelude.{◌≡◌, ◌<◌, ◌^◌, ℕ, [], length, IsTrue, IfOk, OnOk, IfSome, IfNone};
 ghost use Rattle.std.specs.List.{All};
 ghost use Rattle.list_schedule.specs.Private.Problem.{IsProblem};
-ghost use Rattle.list_schedule.specs.Private.Search.{mark_of, IsNewOperand, IsSearch, IsOrder, Visits, Keeps};
+ghost use Rattle.list_schedule.specs.Private.Search.{mark_of, IsNewOperand, IsSearch, IsOrder, IsSorted, AreNumbers, Visits, Keeps};
 ghost use Rattle.list_schedule.specs.declared.search.Mark.TheVariants.{New, Open, Placed};
 
 use crate::problem::Problem;
@@ -110,27 +110,66 @@ fn place_all(problem: &Problem, stack: &mut Vec<u32>, search: &mut Search) -> Re
     Ok(())
 }
 
-fn no_marks(alloc: Global, count: usize) -> Result<List<Mark>, AllocError>
-    ensures { IfOk result (λ marks. marks ≡ replicate count New) }
+/// Whether the node with this number comes behind its operands of the same sample.
+fn is_behind_operands(node: &Node, v: usize) -> bool
+    ensures { IsTrue result → All (λ edge. edge.delay ≡ 0 → edge.node < v) node.now.edges }
 {
-    let mut marks = List::with_capacity(alloc, count)?;
-    for _ in 0..count {
-        marks.push(Mark::New)?;
+    for edge in node.edges.iter() {
+        if edge.delay == 0 && edge.node as usize >= v {
+            return false;
+        }
     }
-    Ok(marks)
+    true
 }
 
-/// An order of all nodes in which each comes behind its operands of the same sample. The search goes depth first, with
-/// a stack of its own, since a chain of nodes may be as long as the graph.
-pub(crate) fn order_of(alloc: Global, problem: &Problem) -> Result<List<u32>, AllocError>
+/// Whether each node comes behind its operands of the same sample.
+fn is_sorted(problem: &Problem) -> bool
+    ensures { IsTrue result → IsSorted problem.now.assigned.now.lowered.nodes
+        (length problem.now.assigned.now.lowered.nodes) }
+{
+    for v in 0..problem.count() {
+        if !is_behind_operands(problem.node(v), v) {
+            return false;
+        }
+    }
+    true
+}
+
+/// The numbers below the count.
+fn numbers(alloc: Global, count: usize) -> Result<List<u32>, AllocError>
+    requires { count < 2 ^ 32 }
+    ensures { IfOk result (AreNumbers count) }
+{
+    let mut numbers = List::with_capacity(alloc, count)?;
+    for v in 0..count {
+        numbers.push(v as u32)?;
+    }
+    Ok(numbers)
+}
+
+/// Orders the nodes by a search that goes depth first, with a stack of its own, since a chain of nodes may be as long as
+/// the graph.
+fn searched_order(alloc: Global, problem: &Problem) -> Result<List<u32>, AllocError>
     requires { IsProblem problem.now.datapath.now problem.now.assigned.now }
     ensures { IfOk result (IsOrder problem.now.assigned.now.lowered.nodes) }
 {
     let mut search = Search {
         order: List::with_capacity(alloc, problem.count())?,
-        marks: no_marks(alloc, problem.count())?,
+        marks: List::from_vec(vec![in alloc; Mark::New; problem.count()]?),
     };
     let mut stack = Vec::new(alloc);
     place_all(problem, &mut stack, &mut search)?;
     Ok(search.order)
+}
+
+/// An order of all nodes in which each comes behind its operands of the same sample. Mostly that is their own.
+pub(crate) fn order_of(alloc: Global, problem: &Problem) -> Result<List<u32>, AllocError>
+    requires { IsProblem problem.now.datapath.now problem.now.assigned.now }
+    ensures { IfOk result (IsOrder problem.now.assigned.now.lowered.nodes) }
+{
+    if is_sorted(problem) {
+        numbers(alloc, problem.count())
+    } else {
+        searched_order(alloc, problem)
+    }
 }

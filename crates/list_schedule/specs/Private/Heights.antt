@@ -1,5 +1,5 @@
 -- Heights in a list, and how they are raised.
-use Rattle.std.specs.Prelude.{◌≡◌, ◌≢◌, ℕ, ◌+◌, ◌*◌, ◌^◌, ◌<◌, ◌≤◌, ◌⊎◌, List, length, max, slice_index_or}
+use Rattle.std.specs.Prelude.{◌≡◌, ◌≢◌, ℕ, ◌+◌, ◌*◌, ◌<◌, ◌≤◌, ◌⊎◌, List, length, max, slice_index_or}
 use Rattle.datapath.specs.declared.types.Datapath.{Datapath}
 use Rattle.plan_core.specs.Heights.{ReadsNow, latency_of, AreHeights}
 use Rattle.plan_core.specs.declared.schedule.Assigned.{Assigned}
@@ -8,11 +8,15 @@ use Rattle.list_schedule.specs.Private.Search.{IsAt, IsOrdered}
 abbrev pub height_in : List ℕ → ℕ → ℕ
 height_in heights v = slice_index_or heights v 0
 
+-- no path of n operations, and one more, takes longer
+abbrev pub most_height : ℕ → ℕ
+most_height n = 8 * (n + 1)
+
 -- the heights of all nodes
 pub record AreHeightsOf (d : Datapath) (a : Assigned) (list : List ℕ) : Type 0 where
   pub count : length list ≡ length a.lowered.nodes
   pub heights : AreHeights d a (height_in list)
-  pub small : (v : ℕ) → height_in list v < 2 ^ 64
+  pub small : (v : ℕ) → height_in list v ≤ most_height (length list)
 
 -- the latencies of the first n nodes
 pub record AreAlone (d : Datapath) (a : Assigned) (n : ℕ) (heights : List ℕ) : Type 0 where
@@ -43,4 +47,4 @@ pub record IsRaising (d : Datapath) (a : Assigned) (order heights : List ℕ) : 
       ⊎ ((c : ℕ) × (q : ℕ) × ReadsNow a.lowered.nodes c q x
       × (height_in heights x ≤ latency_of d a x + height_in heights c))
   pub small : (x : ℕ) → x < length a.lowered.nodes
-      → height_in heights x + 8 * length order ≤ 8 * (length a.lowered.nodes + 1)
+      → height_in heights x + 8 * length order ≤ most_height (length a.lowered.nodes)

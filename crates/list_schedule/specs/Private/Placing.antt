@@ -10,8 +10,8 @@ use Rattle.plan_core.specs.declared.schedule.Slot.{Slot}
 use Rattle.plan_core.specs.declared.schedule.Schedule.{Schedule}
 use Rattle.bus_alloc.specs.Stands.{Placed, IsTaken, Stands, FitsAt, AreTransfers, Takes}
 use Rattle.bus_alloc.specs.declared.rows.Rows.{Rows}
-use Rattle.list_schedule.specs.Private.Order.{node_at, IsPlacingOrder}
-use Rattle.list_schedule.specs.declared.order.Rank.{Rank}
+use Rattle.list_schedule.specs.Private.Order.{IsPlacingOrder}
+use Rattle.list_schedule.specs.Private.Search.{nth}
 use Rattle.list_schedule.specs.declared.placing.Placing.{Placing}
 
 abbrev pub slot_at : List Slot → ℕ → Slot
@@ -75,16 +75,16 @@ pub record HasNoCycle (d : Datapath) (a : Assigned) (v : ℕ) (p : Placing) : Ty
   pub none : (t : ℕ) → IsShutAt d a p.slots p.table v ports t
 
 -- the first k nodes of the order have their places, and the table has them and no others
-pub record ArePlaced (d : Datapath) (a : Assigned) (ranks : List Rank) (k : ℕ) (p : Placing) : Type 0 where
+pub record ArePlaced (d : Datapath) (a : Assigned) (order : List ℕ) (k : ℕ) (p : Placing) : Type 0 where
   pub height : ℕ → ℕ
   pub heights : AreHeights d a height
-  pub order : IsPlacingOrder (length a.lowered.nodes) height ranks
+  pub placing : IsPlacingOrder (length a.lowered.nodes) height order
   pub count : length p.slots ≡ length a.lowered.nodes
   pub early : (v : ℕ) → (slot_at p.slots v).cycle ≤ 4096
   pub placed : List Placed
   pub stands : Stands d placed p.table
   pub taken_from : (u : ℕ) (slot : Slot) → IsTaken placed u slot
-      → (j : ℕ) × (j < k) × (unit_in a.units (node_at ranks j) ≡ u) × (slot_at p.slots (node_at ranks j) ≡ slot)
+      → (j : ℕ) × (j < k) × (unit_in a.units (nth order j) ≡ u) × (slot_at p.slots (nth order j) ≡ slot)
   pub taken_to : (j : ℕ) → j < k
-      → IsTaken placed (unit_in a.units (node_at ranks j)) (slot_at p.slots (node_at ranks j))
-  pub each : (j : ℕ) → j < k → IsPlaced d a (of_slots p.slots) height (node_at ranks j)
+      → IsTaken placed (unit_in a.units (nth order j)) (slot_at p.slots (nth order j))
+  pub each : (j : ℕ) → j < k → IsPlaced d a (of_slots p.slots) height (nth order j)

@@ -45,6 +45,15 @@ pub record IsOrder (nodes : List Node) (order : List ℕ) : Type 0 where
   pub all : (v : ℕ) → v < length nodes → IsAt order v
   pub few : length order ≤ length nodes
 
+-- each of the first n nodes comes behind its operands of the same sample
+abbrev pub IsSorted : List Node → ℕ → Type 0
+IsSorted nodes n = (v u : ℕ) → v < n → HasOperand nodes v u → u < v
+
+-- the numbers below n
+pub record AreNumbers (n : ℕ) (numbers : List ℕ) : Type 0 where
+  pub count : length numbers ≡ n
+  pub each : (i : ℕ) → i < n → nth numbers i ≡ i
+
 -- a node without a place counts
 abbrev pub lacks_place : Mark → ℕ
 lacks_place mark.New = 1

@@ -1,18 +1,18 @@
 use Rattle.std.proofs.Common.{◌≡◌, ◌⊎◌, arith, rules, Err}
 use Rattle.list_schedule.specs.Faults.{IsPeriodFault}
 use Rattle.list_schedule.specs.declared.fault.PeriodFault.TheVariants.{Memory}
-use Rattle.list_schedule.specs.Private.Order.{node_at}
-use Rattle.list_schedule.proofs.Placings.{rank_there, goes_on, stops, reader_set}
+use Rattle.list_schedule.specs.Private.Search.{nth}
+use Rattle.list_schedule.proofs.Placings.{next_in, goes_on, stops, reader_set}
 use Rattle.list_schedule.proofs.placing.place_all.Goals as goal
 
 pub place-requires-clause-readers : goal.place-requires-clause-readers
 place-requires-clause-readers c =
     let a = c.args.problem.now.assigned.now in
-    let items = c.deref-rank-items.result.now in
-    let k = c.loop-rank.rank-index in
-    let there = rank_there c.args.problem.now.datapath.now a c.requires.problem c.args.order.now.items items
-    c.deref-rank-items.ensures.value k c.loop-rank.placing c.loop-rank.invariant (omega arith) in
-    reader_set a c.args.readers.now (node_at items k) c.index.result.now c.requires.readers there c.index.ensures
+    let items = c.deref-v-items.result.now in
+    let k = c.loop-v.v-index in
+    let there = next_in c.args.problem.now.datapath.now a c.requires.problem c.args.order.now.items items
+    c.deref-v-items.ensures.value k c.loop-v.placing c.loop-v.invariant (omega arith) in
+    reader_set a c.args.readers.now (nth items k) c.index.result.now c.requires.readers there c.index.ensures
 
 pub returns-in_err-place-clause-fault : goal.returns-in_err-place-clause-fault
 returns-in_err-place-clause-fault c =
@@ -21,13 +21,13 @@ returns-in_err-place-clause-fault c =
     let fault = c.in_err-place.field-0.0 in
     let is : c.from_residual.result ≡ Err fault = search rules in
     let why : (fault ≡ Memory) ⊎ IsPeriodFault d a fault =
-    stops d a c.requires.problem c.args.order.now.items c.deref-rank-items.result.now
-    c.deref-rank-items.ensures.value c.loop-rank.rank-index c.loop-rank.placing c.loop-rank.invariant (omega arith)
+    stops d a c.requires.problem c.args.order.now.items c.deref-v-items.result.now
+    c.deref-v-items.ensures.value c.loop-v.v-index c.loop-v.placing c.loop-v.invariant (omega arith)
     fault c.in_err-place.ensures.fault in
     search rules
 
-pub loop-rank-preserved : goal.loop-rank-preserved
-loop-rank-preserved c =
+pub loop-v-preserved : goal.loop-v-preserved
+loop-v-preserved c =
     goes_on c.args.problem.now.datapath.now c.args.problem.now.assigned.now c.requires.problem
-    c.args.order.now.items c.deref-rank-items.result.now c.deref-rank-items.ensures.value c.loop-rank.rank-index
-    c.loop-rank.placing c.loop-rank.invariant (omega arith) c.place.new.placing c.in_ok-place.ensures.placed
+    c.args.order.now.items c.deref-v-items.result.now c.deref-v-items.ensures.value c.loop-v.v-index
+    c.loop-v.placing c.loop-v.invariant (omega arith) c.place.new.placing c.in_ok-place.ensures.placed
