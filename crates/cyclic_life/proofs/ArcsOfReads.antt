@@ -1,13 +1,11 @@
 -- The lifetimes of the last reads are those of the schedule.
 use Rattle.std.proofs.Common.{◌≡◌, ◌⊎◌, ◌∙◌, sym, ap, subst, refl, arith, inl, inr, true, ⊎_elim, ℕ, ◌+◌, ◌*◌, ◌<◌, ◌≤◌, List, length, get_or}
 use Rattle.std.specs.Prelude.{map}
-use Rattle.std.specs.List.{All, AllPairs}
-use Rattle.std.specs.List.Sorted.{IsPermutation}
+use Rattle.std.specs.List.{All, AllPairs, Contains}
 use Rattle.std.proofs.Math.Nat.{mul-le-mul_right}
 use Rattle.std.proofs.lemmas.Bool.Decides.{nat_tests}
 use Rattle.std.proofs.lemmas.List.{get_or-map, length-map}
 use Rattle.std.proofs.lemmas.List.Elements.{All-map, All-contains, All-weaker}
-use Rattle.std.proofs.lemmas.List.Sorted.{All-permutation, Contains-permutation}
 use Rattle.datapath.specs.declared.types.Datapath.{Datapath}
 use Rattle.plan_core.specs.Hardware.{port_of}
 use Rattle.plan_core.specs.Operands.{delay_at}
@@ -15,11 +13,11 @@ use Rattle.plan_core.specs.Arcs.{arc_of, no_arc, IsArc, IsArcBefore, IsArcs}
 use Rattle.plan_core.specs.declared.schedule.Assigned.{Assigned}
 use Rattle.plan_core.specs.declared.schedule.Schedule.{Schedule}
 use Rattle.plan_core.specs.declared.registers.Arc.{Arc}
-use Rattle.cyclic_life.specs.Private.Reads.{is_alike, IsSmall, IsLifeBefore, IsUpTo, lasts, arc_to, no_read}
+use Rattle.cyclic_life.specs.Private.Reads.{is_alike, AreSame, IsLifeBefore, IsUpTo, lasts, arc_to, no_read}
 use Rattle.cyclic_life.specs.Private.Placed.{IsPlacement, read_of, IsRead, AreReads}
 use Rattle.cyclic_life.specs.declared.read.Read.{Read}
 use Rattle.cyclic_life.proofs.LastReads.{lasts_keep, lasts_in_order, IsGreatest, lasts_greatest, HasLast, lasts_every}
-use Rattle.cyclic_life.proofs.Placements.{reader_there}
+use Rattle.plan_core.proofs.Readers.{reader_there}
 use Rattle.cyclic_life.proofs.Counts.{is_count, covered_by, least_count}
 
 same_port : (u v p q : ℕ) → u ≡ v → p ≡ q → port_of u p ≡ port_of v q
@@ -77,20 +75,14 @@ module _ (d : Datapath) (a : Assigned) (s : Schedule) (placed : IsPlacement d a 
       let ago : delay_at a.lowered.nodes c x.port * d.period ≤ 3 * d.period = mul-le-mul_right d.period delay in
       omega arith
 
-  small : (x : Read) → IsRead d a s x → IsSmall x
-  small x is =
-      let reader = reader_there a.lowered.nodes is.c x.port x.node is.reads in
-      let ports = placed.ports is.c reader in
+  port_low : (x : Read) → IsRead d a s x → x.port < 3
+  port_low x is =
+      let ports = placed.ports is.c (reader_there a.lowered.nodes is.c x.port x.node is.reads) in
       let port = is.reads.port in
-      let there = placed.operands is.c x.port x.node is.reads in
-      let count = placed.node_count in
-      let written = written_within x is in
-      let last = read_within x is in
-      let period = placed.period in
-      record { port = omega arith; w = omega arith; node = omega arith; r = omega arith }
+      omega arith
 
-  pub reads_small : (xs : List Read) → AreReads d a s xs → All IsSmall xs
-  reads_small xs reads = All-weaker (IsRead d a s) IsSmall small xs reads.each
+  pub reads_low : (xs : List Read) → AreReads d a s xs → All (λ (x : Read). x.port < 3) xs
+  reads_low xs reads = All-weaker (IsRead d a s) (λ (x : Read). x.port < 3) port_low xs reads.each
 
   module _ (xs : List Read) (reads : AreReads d a s xs) (order : AllPairs IsUpTo xs) where
     arc_is : (z : Read) → IsRead d a s z → IsGreatest xs z → IsArc d a s (arc_to d.period z)
@@ -115,7 +107,7 @@ module _ (d : Datapath) (a : Assigned) (s : Schedule) (placed : IsPlacement d a 
           (lasts_greatest xs order k e there));
       every = λ c q v reads_v.
           let read = read_of d a s c q v in
-          let has = All-contains (HasLast xs) xs read (lasts_every xs) (reads.every c q v reads_v) in
+          let has = All-contains (HasLast (lasts xs)) xs read (lasts_every xs) (reads.every c q v reads_v) in
           let k : ℕ = has.there.0 in
           let within : k < length (lasts xs) = has.there.1 in
           let arc : arc_of (map (arc_to d.period) (lasts xs)) k ≡ arc_to d.period has.last =
@@ -133,9 +125,9 @@ module _ (d : Datapath) (a : Assigned) (s : Schedule) (placed : IsPlacement d a 
     }
 
 -- what the reads are, their order does not change
-pub reads_permuted : (d : Datapath) (a : Assigned) (s : Schedule) (xs ys : List Read) → IsPermutation xs ys
-    → AreReads d a s xs → AreReads d a s ys
-reads_permuted d a s xs ys moved reads = record {
-  each = All-permutation (IsRead d a s) xs ys moved reads.each;
-  every = λ c q v reads_v. Contains-permutation xs ys (read_of d a s c q v) moved (reads.every c q v reads_v);
+pub reads_moved : (d : Datapath) (a : Assigned) (s : Schedule) (xs ys : List Read) → AreSame xs ys → AreReads d a s xs
+    → AreReads d a s ys
+reads_moved d a s xs ys same reads = record {
+  each = λ i e there. All-contains (IsRead d a s) xs (get_or ys i e) reads.each (same.known i e there);
+  every = λ c q v reads_v. All-contains (Contains ys) xs (read_of d a s c q v) same.kept (reads.every c q v reads_v);
 }

@@ -10,7 +10,7 @@ use Rattle.plan_core.specs.Arcs.{IsCount, IsArcs}
 use Rattle.plan_core.specs.declared.schedule.Assigned.{Assigned}
 use Rattle.plan_core.specs.declared.schedule.Schedule.{Schedule}
 use Rattle.plan_core.specs.declared.registers.Arc.{Arc}
-use Rattle.cyclic_life.proofs.Placements.{reader_there, edge_has}
+use Rattle.plan_core.proofs.Readers.{reader_there, edge_has}
 
 one_alone : (copies : ℕ) → IsCount copies → copies ≤ 1 → copies ≡ 1
 one_alone copies count few = grind arith

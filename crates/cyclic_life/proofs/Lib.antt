@@ -1,3 +1,5 @@
+pub mod Keys
+pub mod KeyPlaces
 pub mod LastReads
 pub mod ReadOrder
 pub mod Placements

@@ -18,48 +18,10 @@ use Rattle.plan_core.specs.Assigned.{unit_in}
 use Rattle.plan_core.specs.ListSchedule.{IsListSchedule}
 use Rattle.plan_core.specs.declared.schedule.Assigned.{Assigned}
 use Rattle.plan_core.specs.declared.schedule.Schedule.{Schedule}
+use Rattle.plan_core.proofs.Readers.{operands_few, reader_there, edge_has}
 use Rattle.cyclic_life.specs.Held.{IsHeld}
 use Rattle.cyclic_life.specs.Private.Placed.{IsPlacement, read_of, IsRead, AreReadsBefore, AreReads}
 use Rattle.cyclic_life.specs.declared.read.Read.{Read}
-
-operands_few : (o : Op) → operands o ≤ 3
-operands_few op.Input = omega arith
-operands_few op.Output = omega arith
-operands_few op.Const = omega arith
-operands_few op.Add = omega arith
-operands_few op.Sub = omega arith
-operands_few op.Neg = omega arith
-operands_few op.Pass = omega arith
-operands_few op.Lt = omega arith
-operands_few op.Le = omega arith
-operands_few op.Eq = omega arith
-operands_few op.Ne = omega arith
-operands_few op.And = omega arith
-operands_few op.Or = omega arith
-operands_few op.Not = omega arith
-operands_few op.Mul = omega arith
-operands_few op.Sel = omega arith
-operands_few op.Load = omega arith
-operands_few op.Store = omega arith
-operands_few op.Addr = omega arith
-
--- a node that reads is there
-pub reader_there : (nodes : List Node) (c q v : ℕ) → Reads nodes c q v → c < length nodes
-reader_there nodes c q v reads =
-    ⊎_elim (λ (before : c < length nodes). before)
-    (λ (past : length nodes ≤ c).
-    let none : length (node_of nodes c).edges ≡ 0 = ap (λ (n : Node). length n.edges) (get_or_past nodes c no_node past)
-    in
-    let port = reads.port in
-    absurd (omega arith))
-    (cases_lt c (length nodes))
-
--- what holds of each edge holds of the one that a node reads over
-pub edge_has : (P : Edge → Type 0) (nodes : List Node) → All (λ (node : Node). All P node.edges) nodes → (c q v : ℕ)
-    → Reads nodes c q v → P (edge_of (node_of nodes c) q)
-edge_has P nodes all c q v reads =
-    All-get_or P (node_of nodes c).edges q no_edge reads.port
-    (All-get_or (λ (node : Node). All P node.edges) nodes c no_node (reader_there nodes c q v reads) all)
 
 -- what the code reads as the edge at a port
 pub edge_is : (nodes : List Node) (c q : ℕ) (n : Node) (e : Edge) → c < length nodes

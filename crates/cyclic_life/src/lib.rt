@@ -2,6 +2,7 @@
 //! is written to its last read. Page `docs/PLANNING.md`, "Lifetimes".
 #![tactic(auto)]
 
+mod counting;
 mod fault;
 mod life;
 mod merge;

@@ -9,13 +9,13 @@ ghost use Rattle.cyclic_life.specs.Held.{IsHeld};
 use crate::fault::ArcFault;
 use crate::merge::lifetimes;
 use crate::placement::Placement;
-use crate::read::sort;
+use crate::read::sorted;
 use datapath::Datapath;
 use plan_core::{Arcs, Assigned, Schedule};
 use std::alloc::Global;
 
 /// For each node and each port that reads it the lifetime of the node's words there, in cycles, by unit, port, the
-/// cycle of the write, then node. Takes time in proportion to the edges and the logarithm of their number. Page
+/// cycle of the write, then node. Takes time in proportion to the nodes and their edges. Page
 /// `docs/PLANNING.md`, "Lifetimes".
 ///
 /// # Errors
@@ -37,7 +37,7 @@ pub fn arcs(
         assigned,
         schedule,
     };
-    let mut reads = placement.reads(alloc)?;
-    sort(&mut reads);
-    Ok(lifetimes(alloc, reads.as_slice(), datapath.period)?)
+    let reads = placement.reads(alloc)?;
+    let sorted = sorted(alloc, reads)?;
+    Ok(lifetimes(alloc, sorted.as_slice(), datapath.period)?)
 }

@@ -1,7 +1,7 @@
 //! The lifetimes that reads end.
 
-ghost use Rattle.std.specs.Prelude.{◌≡◌, ◌<◌, ◌≤◌, length, map, All, IfOk};
-ghost use Rattle.cyclic_life.specs.Private.Reads.{lasts, IsLastAt, copies_of, arc_to};
+ghost use Rattle.std.specs.Prelude.{◌≡◌, ◌<◌, ◌≤◌, map, All, IfOk};
+ghost use Rattle.cyclic_life.specs.Private.Reads.{later as later_of, lasts, lasts_from, copies_of, arc_to};
 
 use crate::read::Read;
 use datapath::PortRef;
@@ -43,15 +43,37 @@ fn arc_to_read(period: u16, read: Read) -> Arc
     }
 }
 
-/// Whether no read after this one is of its lifetime.
-fn is_last(reads: &[Read], index: usize) -> bool
-    requires { index < length reads.now }
-    ensures { IsLastAt reads.now index result }
+/// Of two reads of one lifetime the one that is not earlier.
+fn later(x: Read, y: Read) -> Read
+    ensures { result ≡ later_of x y }
 {
-    match reads.get(index + 1) {
-        Some(next) => !reads[index].is_alike(*next),
-        None => true,
+    if x.r <= y.r { y } else { x }
+}
+
+/// The lifetimes of a read and of those after it, which are in order.
+fn lifetimes_from(
+    alloc: Global,
+    first: Read,
+    rest: &[Read],
+    period: u16,
+) -> Result<Arcs, AllocFailed<Arc>>
+    requires period { period ≤ 4096 }
+    requires first { first.w < 4096 }
+    requires w { All (λ read. read.w < 4096) rest.now }
+    ensures { IfOk result (λ arcs. arcs ≡ map (arc_to period) (lasts_from first rest.now)) }
+{
+    let mut arcs = List::new(alloc);
+    let mut last = first;
+    for read in rest {
+        if last.is_alike(*read) {
+            last = later(last, *read);
+        } else {
+            arcs.push(arc_to_read(period, last))?;
+            last = *read;
+        }
     }
+    arcs.push(arc_to_read(period, last))?;
+    Ok(arcs)
 }
 
 /// The lifetimes of reads that are in order.
@@ -64,11 +86,8 @@ pub(crate) fn lifetimes(
     requires w { All (λ read. read.w < 4096) reads.now }
     ensures { IfOk result (λ arcs. arcs ≡ map (arc_to period) (lasts reads.now)) }
 {
-    let mut arcs = List::new(alloc);
-    for (index, read) in reads.iter().enumerate() {
-        if is_last(reads, index) {
-            arcs.push(arc_to_read(period, *read))?;
-        }
+    match reads.split_first() {
+        Some((first, rest)) => lifetimes_from(alloc, *first, rest, period),
+        None => Ok(List::new(alloc)),
     }
-    Ok(arcs)
 }

@@ -1,5 +1,5 @@
 -- Reads of words in register files, and the last read of each lifetime.
-use Rattle.std.specs.Prelude.{◌≡◌, ℕ, ◌+◌, ◌*◌, ◌^◌, ◌<◌, ◌≤◌, ◌==◌, ◌&&◌, ◌⊎◌, Bool, true, if◌then◌else◌, nat_le, List, [], ◌∷◌, drop, slice_index_or}
+use Rattle.std.specs.Prelude.{◌≡◌, ℕ, ◌+◌, ◌*◌, ◌<◌, ◌==◌, ◌&&◌, ◌⊎◌, Bool, true, if◌then◌else◌, nat_le, List, [], ◌∷◌, All, Contains}
 use Rattle.plan_core.specs.Hardware.{port_of}
 use Rattle.plan_core.specs.declared.registers.Arc.{Arc}
 use Rattle.cyclic_life.specs.declared.read.Read.{Read}
@@ -15,32 +15,31 @@ IsLifeBefore x y =
     ⊎ ((x.unit ≡ y.unit) × ((x.port < y.port)
     ⊎ ((x.port ≡ y.port) × ((x.w < y.w) ⊎ ((x.w ≡ y.w) × (x.node < y.node))))))
 
--- the one read is not after the other: by lifetime, then by cycle
-pub record IsUpTo (x y : Read) : Type 0 where
-  pub order : IsLifeBefore x y ⊎ ((is_alike x y ≡ true) × (x.r ≤ y.r))
+-- the lifetime of the one read is not after that of the other
+abbrev pub IsUpTo : Read → Read → Type 0
+IsUpTo x y = IsLifeBefore x y ⊎ (is_alike x y ≡ true)
 
--- the numbers of the read fit in its fields
-pub record IsSmall (x : Read) : Type 0 where
-  pub port : x.port < 2 ^ 8
-  pub w : x.w < 2 ^ 16
-  pub node : x.node < 2 ^ 32
-  pub r : x.r < 2 ^ 16
+-- the number of the register file, by unit, then port, where ports are below 3
+abbrev pub file_of : Read → ℕ
+file_of x = x.unit * 3 + x.port
 
--- the place of a read in the order, by the greatest numbers of a port, a cycle and a node
-abbrev pub place_of : Read → ℕ
-place_of x = (((x.unit * 2 ^ 8 + x.port) * 2 ^ 16 + x.w) * 2 ^ 32 + x.node) * 2 ^ 16 + x.r
+-- each list has the reads of the other
+pub record AreSame (xs ys : List Read) : Type 0 where
+  pub kept : All (Contains ys) xs
+  pub known : All (Contains xs) ys
 
--- of each run of reads of one lifetime the last
+-- of two reads of one lifetime the one that is not earlier
+abbrev pub later : Read → Read → Read
+later x y = if nat_le x.r y.r then y else x
+
+-- of each run of reads of one lifetime the last in time, where x comes before the list
+abbrev pub lasts_from : Read → List Read → List Read
+lasts_from x [] = x ∷ []
+lasts_from x (y ∷ ys) = if is_alike x y then lasts_from (later x y) ys else x ∷ lasts_from y ys
+
 abbrev pub lasts : List Read → List Read
 lasts [] = []
-lasts (x ∷ []) = x ∷ []
-lasts (x ∷ y ∷ ys) = if is_alike x y then lasts (y ∷ ys) else x ∷ lasts (y ∷ ys)
-
--- whether the read at the index is the last of its run
-abbrev pub IsLastAt : List Read → ℕ → Bool → Type 0
-IsLastAt xs i is_last =
-    let later = lasts (drop (i + 1) xs) in
-    (d : Read) → lasts (drop i xs) ≡ (if is_last then slice_index_or xs i d ∷ later else later)
+lasts (x ∷ xs) = lasts_from x xs
 
 -- the least of 1, 2 and 4 samples after which a word is read no more
 abbrev pub copies_of : (period w r : ℕ) → ℕ

@@ -5,7 +5,7 @@ use Rattle.plan_core.specs.declared.registers.Arc.{Arc}
 use Rattle.cyclic_life.specs.Private.Reads.{arc_to, lasts}
 use Rattle.cyclic_life.specs.declared.read.Read.{Read}
 use Rattle.cyclic_life.proofs.Placements.{placement}
-use Rattle.cyclic_life.proofs.ArcsOfReads.{reads_written, reads_small, reads_permuted, arcs_are}
+use Rattle.cyclic_life.proofs.ArcsOfReads.{reads_written, reads_low, reads_moved, arcs_are}
 use Rattle.cyclic_life.proofs.life.arcs.Goals as goal
 
 pub reads-requires : goal.reads-requires
@@ -13,12 +13,12 @@ reads-requires c =
     placement c.args.datapath.now c.args.assigned.now c.args.schedule.now c.requires.datapath c.requires.held
     c.requires.schedule
 
-pub sort-requires : goal.sort-requires
-sort-requires c =
+pub sorted-requires : goal.sorted-requires
+sorted-requires c =
     let d = c.args.datapath.now in
     let a = c.args.assigned.now in
     let s = c.args.schedule.now in
-    reads_small d a s (placement d a s c.requires.datapath c.requires.held c.requires.schedule)
+    reads_low d a s (placement d a s c.requires.datapath c.requires.held c.requires.schedule)
     c.in_ok-reads.reads.items c.in_ok-reads.ensures
 
 pub lifetimes-requires-clause-w : goal.lifetimes-requires-clause-w
@@ -26,20 +26,20 @@ lifetimes-requires-clause-w c =
     let d = c.args.datapath.now in
     let a = c.args.assigned.now in
     let s = c.args.schedule.now in
-    let sorted = c.sort.new.reads.items in
+    let sorted = c.in_ok-sorted.sorted.items in
     subst (λ (reads : List Read). All (λ (read : Read). read.w < 4096) reads) (sym c.as_slice.ensures.value)
     (reads_written d a s (placement d a s c.requires.datapath c.requires.held c.requires.schedule) sorted
-    (reads_permuted d a s c.in_ok-reads.reads.items sorted c.sort.ensures.permutation c.in_ok-reads.ensures))
+    (reads_moved d a s c.in_ok-reads.reads.items sorted c.in_ok-sorted.ensures.same c.in_ok-reads.ensures))
 
 pub returns : goal.returns
 returns c =
     let d = c.args.datapath.now in
     let a = c.args.assigned.now in
     let s = c.args.schedule.now in
-    let sorted = c.sort.new.reads.items in
+    let sorted = c.in_ok-sorted.sorted.items in
     subst (λ (arcs : List Arc). IsArcs d a s arcs)
     (sym (c.in_ok-lifetimes.ensures
     ∙ ap (λ (reads : List Read). map (arc_to d.period) (lasts reads)) c.as_slice.ensures.value))
     (arcs_are d a s (placement d a s c.requires.datapath c.requires.held c.requires.schedule) sorted
-    (reads_permuted d a s c.in_ok-reads.reads.items sorted c.sort.ensures.permutation c.in_ok-reads.ensures)
-    c.sort.ensures.order)
+    (reads_moved d a s c.in_ok-reads.reads.items sorted c.in_ok-sorted.ensures.same c.in_ok-reads.ensures)
+    c.in_ok-sorted.ensures.order)
