@@ -5,7 +5,6 @@ use Rattle.fix_word.specs.declared.types.SigType.{SigType}
 use Rattle.datapath.specs.declared.types.Datapath.{Datapath}
 use Rattle.signal_graph.specs.declared.graph.Graph.{Graph}
 use Rattle.plan_core.specs.Lowered.{IsLowered}
-use Rattle.plan_core.specs.Assigned.{IsAssigned}
 use Rattle.plan_core.specs.ListSchedule.{IsListSchedule}
 use Rattle.plan_core.specs.Arcs.{IsArcs}
 use Rattle.plan_core.specs.declared.delay_lines.Lowered.{Lowered}
@@ -16,6 +15,7 @@ use Rattle.plan_core.specs.declared.registers.Registers.{Registers}
 use Rattle.plan_core.specs.declared.plan.Plan.{Plan}
 use Rattle.plan_core.proofs.OneArcs.{one_unroll}
 use Rattle.plan_run.specs.PrivateRegisters.{ArePrivate, IsPrivatePlan}
+use Rattle.unit_assign.specs.Bound.{AreUnitsOf}
 use Rattle.unit_assign.specs.Faults.{IsUnitFault}
 use Rattle.unit_assign.specs.declared.fault.UnitFault.{UnitFault}
 use Rattle.unit_assign.specs.declared.fault.UnitFault.TheVariants as unit
@@ -35,22 +35,21 @@ use Rattle.planner.specs.declared.registers.FileFault.{FileFault}
 use Rattle.planner.specs.declared.registers.FileFault.TheVariants as file
 use Rattle.planner.proofs.OneCopy.{not_unrolled}
 use Rattle.planner.proofs.OwnRegisters.{Places}
-use Rattle.planner.proofs.Asked.{its_list}
 use Rattle.planner.proofs.Stages.{IsOnly, Comes, Then, IsSettled}
 
 abbrev pub of_arc : ArcFault → PlanFault
 of_arc f = Memory
 
+-- a graph with the units of its nodes
+abbrev pub bound : Lowered → List ℕ → Assigned
+bound l units = record { lowered = l; units = units }
+
 module _ (g : Graph) (d : Datapath) where
   abbrev pub Lines : Result Lowered LineFault → Type 0
   Lines = Comes (IsLowered g d) (IsLineFault g d)
 
-  -- the binding of this list
-  abbrev pub IsBound : Lowered → Assigned → Type 0
-  IsBound l a = (a.lowered ≡ l) × IsAssigned d a
-
-  abbrev pub Units : Lowered → Result Assigned UnitFault → Type 0
-  Units l = Comes (IsBound l) (IsUnitFault d l)
+  abbrev pub Units : Lowered → Result (List ℕ) UnitFault → Type 0
+  Units l = Comes (AreUnitsOf d l) (IsUnitFault d l)
 
   abbrev pub Cycles : Assigned → Result Schedule PeriodFault → Type 0
   Cycles a = Comes (IsListSchedule d a) (IsPeriodFault d a)
@@ -82,7 +81,7 @@ module _ (g : Graph) (d : Datapath) where
   FromUnits a = Then (Cycles a) of_period (FromSchedule a)
 
   abbrev pub FromLines : Lowered → Result Plan PlanFault → Type 0
-  FromLines l = Then (Units l) of_unit FromUnits
+  FromLines l = Then (Units l) of_unit (λ (units : List ℕ). FromUnits (bound l units))
 
   abbrev pub Passes : Result Plan PlanFault → Type 0
   Passes = Then Lines of_line FromLines
@@ -115,8 +114,8 @@ module _ (g : Graph) (d : Datapath) where
     p.assigned.lowered,
     is.lowered,
     (
-      p.assigned,
-      (refl, is.assigned),
+      p.assigned.units,
+      is.assigned,
       (p.schedule, is.schedule, (p.arcs, is.arcs, (p.registers, (is.registers, is.sizes), whole_is p is))),
     ),
   )
@@ -124,14 +123,14 @@ module _ (g : Graph) (d : Datapath) where
   to_passes (Err (Unbound f)) x = inr (x.lowered, x.is_lowered, inl (f, x.none, unit_is x.lowered f x.none))
   to_passes (Err (Period v)) x =
       inr
-      (x.assigned.lowered, x.is_lowered, inr (x.assigned, (refl, x.is_assigned), inl (period.Period v, x.none, refl)))
+      (x.assigned.lowered, x.is_lowered, inr (x.assigned.units, x.is_assigned, inl (period.Period v, x.none, refl)))
   to_passes (Err (FileFull s q v)) x =
       inr (
         x.assigned.lowered,
         x.is_lowered,
         inr (
-          x.assigned,
-          (refl, x.is_assigned),
+          x.assigned.units,
+          x.is_assigned,
           inr (
             x.schedule,
             x.is_schedule,
@@ -141,21 +140,21 @@ module _ (g : Graph) (d : Datapath) where
       )
   to_passes (Err Memory) x = absurd x
 
-  module _ (l : Lowered) (low : IsLowered g d l) (a : Assigned) (bound : IsBound l a) where
-    of_units : IsLowered g d a.lowered
-    of_units = its_list g d l low a bound.0
+  module _ (l : Lowered) (low : IsLowered g d l) (units : List ℕ) (are_units : AreUnitsOf d l units) where
+    abbrev a : Assigned
+    a = bound l units
 
     no_cycle : (f : PeriodFault) → IsPeriodFault d a f → IsPlanFault g d (of_period f)
     no_cycle (period.Period v) h =
-        record { assigned = a; is_lowered = of_units; is_assigned = bound.1; none = h }
+        record { assigned = a; is_lowered = low; is_assigned = are_units; none = h }
     no_cycle period.Memory h = absurd h
 
     module _ (s : Schedule) (scheduled : IsListSchedule d a s) (arcs : List Arc) (are : IsArcs d a s arcs) where
       no_register : (f : FileFault) → IsFileFault d arcs f → IsPlanFault g d (of_file f)
       no_register (file.Full u q v) h = record {
         assigned = a;
-        is_lowered = of_units;
-        is_assigned = bound.1;
+        is_lowered = low;
+        is_assigned = are_units;
         schedule = s;
         is_schedule = scheduled;
         arcs = arcs;
@@ -167,8 +166,8 @@ module _ (g : Graph) (d : Datapath) where
       it_is : (rs : Registers) → ArePrivate arcs rs.regs → AreWithin d arcs rs.regs
           → IsPrivatePlan g d (whole a s arcs rs)
       it_is rs own within = record {
-        lowered = of_units;
-        assigned = bound.1;
+        lowered = low;
+        assigned = are_units;
         schedule = scheduled;
         arcs = are;
         unroll = not_unrolled arcs own.copies;
@@ -182,17 +181,17 @@ module _ (g : Graph) (d : Datapath) where
   fault_is f h x e = subst (λ (k : PlanFault). IsPlanFault g d k) e x
 
   of_passes : (r : Result Plan PlanFault) → Passes r → IsOutcome r
-  of_passes (Ok p) (l, low, (a, bound, (s, scheduled, (arcs, are, (rs, own, e))))) =
-      subst (λ (x : Plan). IsPrivatePlan g d x) e (it_is l low a bound s scheduled arcs are rs own.0 own.1)
+  of_passes (Ok p) (l, low, (units, are_units, (s, scheduled, (arcs, are, (rs, own, e))))) =
+      subst (λ (x : Plan). IsPrivatePlan g d x) e (it_is l low units are_units s scheduled arcs are rs own.0 own.1)
   of_passes (Err h) (inl (f, x, e)) = fault_is (Unstored f) h x (sym (line_is f x) ∙ e)
   of_passes (Err h) (inr (l, low, inl (f, x, e))) =
       fault_is (Unbound f) h (record { lowered = l; is_lowered = low; none = x }) (sym (unit_is l f x) ∙ e)
-  of_passes (Err h) (inr (l, low, inr (a, bound, inl (f, x, e)))) =
-      fault_is (of_period f) h (no_cycle l low a bound f x) e
-  of_passes (Err h) (inr (l, low, inr (a, bound, inr (s, scheduled, inl (f, x, e))))) = absurd x
-  of_passes (Err h) (inr (l, low, inr (a, bound, inr (s, scheduled, inr (arcs, are, inl (f, x, e)))))) =
-      fault_is (of_file f) h (no_register l low a bound s scheduled arcs are f x) e
-  of_passes (Err h) (inr (l, low, inr (a, bound, inr (s, scheduled, inr (arcs, are, inr (rs, own, x)))))) = absurd x
+  of_passes (Err h) (inr (l, low, inr (units, are_units, inl (f, x, e)))) =
+      fault_is (of_period f) h (no_cycle l low units are_units f x) e
+  of_passes (Err h) (inr (l, low, inr (units, are_units, inr (s, scheduled, inl (f, x, e))))) = absurd x
+  of_passes (Err h) (inr (l, low, inr (units, are_units, inr (s, scheduled, inr (arcs, are, inl (f, x, e)))))) =
+      fault_is (of_file f) h (no_register l low units are_units s scheduled arcs are f x) e
+  of_passes (Err h) (inr (l, low, inr (units, are_units, inr (s, scheduled, inr (arcs, are, inr (rs, own, x)))))) = absurd x
 
   -- what is promised of an answer
   pub record IsAnswer (result : Result Plan PlanFault) : Type 0 where

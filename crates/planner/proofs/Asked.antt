@@ -1,5 +1,5 @@
 -- What the passes ask of the lowered list of a sound graph without a delay-free loop.
-use Rattle.std.proofs.Common.{◌≡◌, ℕ, ◌≤◌, sym, subst, arith}
+use Rattle.std.proofs.Common.{◌≡◌, ℕ, ◌≤◌, arith}
 use Rattle.datapath.specs.Allowed.{IsDatapath}
 use Rattle.datapath.specs.declared.types.Datapath.{Datapath}
 use Rattle.signal_graph.specs.GraphSolves.{IsGraphLoopless}
@@ -14,13 +14,9 @@ use Rattle.plan_core.specs.declared.schedule.Assigned.{Assigned}
 use Rattle.unit_assign.specs.Wired.{IsWired}
 use Rattle.list_schedule.specs.Schedulable.{IsSchedulable}
 use Rattle.cyclic_life.specs.Held.{IsHeld}
-use Rattle.cyclic_life.proofs.Placements.{edge_has}
+use Rattle.plan_core.proofs.Readers.{edge_has}
 use Rattle.delay_memory.proofs.LoweredNodes as of_list
 use Rattle.planner.proofs.LongestPaths.{path_of, are_heights}
-
-pub its_list : (g : Graph) (d : Datapath) (l : Lowered) → IsLowered g d l → (a : Assigned) → a.lowered ≡ l
-    → IsLowered g d a.lowered
-its_list g d l low a same = subst (λ (x : Lowered). IsLowered g d x) (sym same) low
 
 module _ (g : Graph) (d : Datapath) (sound : IsGraph g) where
   pub wired : (l : Lowered) → IsLowered g d l → IsWired l

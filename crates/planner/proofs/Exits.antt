@@ -1,11 +1,11 @@
 -- What `plan` answers at each place where it returns.
-use Rattle.std.proofs.Common.{◌≡◌, ◌⊎◌, inr, refl, sym, ap, ◌∙◌, subst, List, Result, Ok, Err}
+use Rattle.std.proofs.Common.{◌≡◌, ◌⊎◌, inr, refl, sym, ap, ◌∙◌, subst, ℕ, List, Result, Ok, Err}
 use Rattle.std.specs.Prelude.{IsErrAnd}
 use Rattle.std.proofs.lemmas.Result.{err_from_is_err_and}
+use Rattle.fix_word.specs.declared.types.SigType.{SigType}
 use Rattle.datapath.specs.declared.types.Datapath.{Datapath}
 use Rattle.signal_graph.specs.declared.graph.Graph.{Graph}
 use Rattle.plan_core.specs.Lowered.{IsLowered}
-use Rattle.plan_core.specs.Assigned.{IsAssigned}
 use Rattle.plan_core.specs.ListSchedule.{IsListSchedule}
 use Rattle.plan_core.specs.Arcs.{IsArcs}
 use Rattle.plan_core.specs.declared.delay_lines.Lowered.{Lowered}
@@ -15,6 +15,7 @@ use Rattle.plan_core.specs.declared.registers.Arc.{Arc}
 use Rattle.plan_core.specs.declared.registers.Registers.{Registers}
 use Rattle.plan_core.specs.declared.plan.Plan.{Plan}
 use Rattle.plan_core.proofs.OneArcs.{one_arcs}
+use Rattle.unit_assign.specs.Bound.{AreUnitsOf}
 use Rattle.unit_assign.specs.Faults.{IsUnitFault}
 use Rattle.unit_assign.specs.declared.fault.UnitFault.{UnitFault}
 use Rattle.unit_assign.specs.declared.fault.UnitFault.TheVariants as unit
@@ -33,12 +34,9 @@ use Rattle.planner.specs.declared.registers.FileFault.{FileFault}
 use Rattle.planner.specs.declared.registers.FileFault.TheVariants as file
 use Rattle.planner.proofs.Stages.{IsOnly, IsSettled, Found, Refused, only_ok, only_err, stops, goes}
 use Rattle.planner.proofs.OwnRegisters.{AreOwn, Places, only_registers, only_full}
-use Rattle.planner.proofs.Answers.{of_arc, Lines, IsBound, Units, Cycles, Lifetimes, whole, Whole, FromArcs, FromSchedule, FromUnits, FromLines, Passes, IsAnswer, settled}
+use Rattle.planner.proofs.Answers.{of_arc, Lines, bound, Units, Cycles, Lifetimes, whole, Whole, FromArcs, FromSchedule, FromUnits, FromLines, Passes, IsAnswer, settled}
 
 module _ (g : Graph) (d : Datapath) where
-  abbrev UnitsFound : Lowered → Result Assigned UnitFault → Type 0
-  UnitsFound l r = (a : Assigned) → a.lowered ≡ l → IsAssigned d a → (r ≡ Ok a) ⊎ (r ≡ Err unit.Memory)
-
   leaves : {F : Type 0} (of : F → PlanFault) (r : Result Plan PlanFault) (f : F)
       → IsErrAnd r (λ (h : PlanFault). h ≡ of f) → IsSettled Memory (Passes g d) (Err (of f)) → IsAnswer g d r
   leaves of r f is x =
@@ -65,22 +63,26 @@ module _ (g : Graph) (d : Datapath) where
 
     pub at_units : (r : Result Plan PlanFault) (f : UnitFault) → IsErrAnd r (λ (h : PlanFault). h ≡ of_unit f)
         → (f ≡ unit.Memory) ⊎ IsUnitFault d l f
-        → UnitsFound l (Err f) → Refused {A = Assigned} (IsUnitFault d l) unit.Memory (Err f) → IsAnswer g d r
+        → Found (AreUnitsOf d l) unit.Memory (Err f)
+        → Refused {A = List ℕ} (IsUnitFault d l) unit.Memory (Err f) → IsAnswer g d r
     at_units r f is why found refused =
         leaves of_unit r f is (after_lines (Err (of_unit f))
-        (stops (Units g d l) of_unit (FromUnits g d) unit.Memory f
-        (only_err (IsBound g d l) (IsUnitFault d l) unit.Memory f (λ none. none) why (λ a h. found a h.0 h.1) refused)))
+        (stops (Units g d l) of_unit (λ (units : List ℕ). FromUnits g d (bound l units)) unit.Memory f
+        (only_err (AreUnitsOf d l) (IsUnitFault d l) unit.Memory f (λ none. none) why found refused)))
 
     -- each node has its unit
-    module _ (a : Assigned) (same : a.lowered ≡ l) (bound : IsAssigned d a)
-        (units_found : UnitsFound l (Ok a)) (units_refused : Refused (IsUnitFault d l) unit.Memory (Ok a)) where
+    module _ (units : List ℕ) (are_units : AreUnitsOf d l units)
+        (units_found : Found (AreUnitsOf d l) unit.Memory (Ok units))
+        (units_refused : Refused (IsUnitFault d l) unit.Memory (Ok units)) where
+      abbrev a : Assigned
+      a = bound l units
+
       after_units : (r : Result Plan PlanFault) → IsSettled Memory (FromUnits g d a) r
           → IsSettled Memory (Passes g d) r
       after_units r x =
           after_lines r
-          (goes (Units g d l) of_unit (FromUnits g d) a
-          (only_ok (IsBound g d l) (IsUnitFault d l) unit.Memory a (same, bound) (λ b h. units_found b h.0 h.1)
-          units_refused) Memory r x)
+          (goes (Units g d l) of_unit (λ (us : List ℕ). FromUnits g d (bound l us)) units
+          (only_ok (AreUnitsOf d l) (IsUnitFault d l) unit.Memory units are_units units_found units_refused) Memory r x)
 
       pub at_cycles : (r : Result Plan PlanFault) (f : PeriodFault)
           → IsErrAnd r (λ (h : PlanFault). h ≡ of_period f) → (f ≡ period.Memory) ⊎ IsPeriodFault d a f
@@ -119,11 +121,13 @@ module _ (g : Graph) (d : Datapath) where
             (stops (Places d arcs) of_file (Whole g d a s arcs) file.Memory f (only_full d arcs f why)))
 
         -- each lifetime has its register
-        pub at_end : (rs : Registers) → AreOwn d arcs rs → IsAnswer g d (Ok (whole g d a s arcs rs))
-        at_end rs own =
-            settled g d (Ok (whole g d a s arcs rs)) (after_arcs (Ok (whole g d a s arcs rs))
+        pub at_end : (rs : Registers) → AreOwn d arcs rs → (inputs : List SigType) → inputs ≡ g.inputs
+            → IsAnswer g d (Ok (record (whole g d a s arcs rs) { inputs = inputs }))
+        at_end rs own inputs same =
+            subst (λ (ts : List SigType). IsAnswer g d (Ok (record (whole g d a s arcs rs) { inputs = ts }))) (sym same)
+            (settled g d (Ok (whole g d a s arcs rs)) (after_arcs (Ok (whole g d a s arcs rs))
             (goes (Places d arcs) of_file (Whole g d a s arcs) rs (only_registers d arcs rs own) Memory
-            (Ok (whole g d a s arcs rs)) (inr (record { is = refl; one = one }))))
+            (Ok (whole g d a s arcs rs)) (inr (record { is = refl; one = one })))))
           where
             one : (r : Result Plan PlanFault) → Whole g d a s arcs rs r → Ok (whole g d a s arcs rs) ≡ r
             one (Ok p) h = ap (λ (x : Plan). Ok x) h

@@ -9,7 +9,7 @@ use Rattle.signal_graph.proofs.Tests.{edges_test, edges_yes, edges_no}
 use Rattle.plan_core.specs.Operands.{node_of, no_edge}
 use Rattle.plan_core.specs.Heights.{ReadsNow, latency_of, AreHeights}
 use Rattle.plan_core.specs.declared.schedule.Assigned.{Assigned}
-use Rattle.cyclic_life.proofs.Placements.{reader_there}
+use Rattle.plan_core.proofs.Readers.{reader_there}
 
 -- the greater of two numbers
 abbrev greater : ℕ → ℕ → ℕ

@@ -9,7 +9,7 @@ use Rattle.plan_core.specs.Arcs.{read_cycle, IsCount, IsArc, IsArcs, IsUnroll}
 use Rattle.plan_core.specs.declared.registers.Arc.{Arc}
 use Rattle.plan_core.specs.declared.schedule.Assigned.{Assigned}
 use Rattle.plan_core.specs.declared.schedule.Schedule.{Schedule}
-use Rattle.cyclic_life.proofs.Placements.{reader_there}
+use Rattle.plan_core.proofs.Readers.{reader_there}
 
 one_of : (n : ℕ) → IsCount n → n ≤ 1 → n ≡ 1
 one_of n (inl e) low = e

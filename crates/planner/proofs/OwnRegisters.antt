@@ -7,7 +7,7 @@ use Rattle.plan_core.specs.Arcs.{arc_of}
 use Rattle.plan_core.specs.FirstFit.{register_of}
 use Rattle.plan_core.specs.declared.registers.Arc.{Arc}
 use Rattle.plan_core.specs.declared.registers.Registers.{Registers}
-use Rattle.plan_core.proofs.OneSchedule.{neither_less}
+use Rattle.plan_core.proofs.OneHeight.{neither_less}
 use Rattle.plan_run.specs.PrivateRegisters.{ArePrivate}
 use Rattle.planner.specs.Registers.{IsWithoutOwnRegister}
 use Rattle.planner.specs.Private.Allotted.{AreWithin, IsFileFault}

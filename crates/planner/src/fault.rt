@@ -4,6 +4,7 @@ use crate::registers::FileFault;
 use cyclic_life::ArcFault;
 use delay_memory::LineFault;
 use list_schedule::PeriodFault;
+use std::alloc::AllocError;
 use thiserror::Error;
 use unit_assign::UnitFault;
 
@@ -27,6 +28,17 @@ pub enum PlanFault {
     /// Out of memory.
     #[error("no memory")]
     Memory,
+}
+
+impl From<AllocError> for PlanFault {
+    ghost use Rattle.std.specs.Prelude.{◌≡◌};
+    ghost use Rattle.planner.specs.declared.fault.PlanFault.TheVariants.{Memory};
+
+    ghost from_gives = { λ _ plan_fault. plan_fault ≡ Memory };
+
+    fn from(_: AllocError) -> PlanFault {
+        PlanFault::Memory
+    }
 }
 
 impl From<LineFault> for PlanFault {

@@ -14,12 +14,13 @@ use crate::fault::PlanFault;
 use crate::registers::allot;
 use cyclic_life::arcs;
 use datapath::Datapath;
-use delay_memory::lower;
+use delay_memory::lower_owned;
 use list_schedule::schedule;
-use plan_core::Plan;
+use lists::List;
+use plan_core::{Assigned, Plan};
 use signal_graph::Graph;
 use std::alloc::Global;
-use unit_assign::assign;
+use unit_assign::bind;
 
 /// The unroll factor where each lifetime has one register.
 const UNROLLED_ONCE: u8 = 1;
@@ -44,8 +45,11 @@ pub fn plan(alloc: Global, graph: Graph, datapath: &Datapath) -> Result<Plan, Pl
     ensures refused { (fault : of_fault.PlanFault) → IsPlanFault graph datapath.now fault
         → (result ≡ Err fault) ⊎ (result ≡ Err Memory) }
 {
-    let lowered = lower(alloc, &graph, datapath)?;
-    let assigned = assign(alloc, &lowered, datapath)?;
+    let inputs = List::from_slice(alloc, graph.inputs.as_slice())?;
+    let outs = graph.outs;
+    let lowered = lower_owned(alloc, graph, datapath)?;
+    let units = bind(alloc, &lowered, datapath)?;
+    let assigned = Assigned { lowered, units };
     let schedule = schedule(alloc, &assigned, datapath)?;
     let arcs = arcs(alloc, &schedule, &assigned, datapath)?;
     let registers = allot(alloc, &arcs, datapath)?;
@@ -55,7 +59,7 @@ pub fn plan(alloc: Global, graph: Graph, datapath: &Datapath) -> Result<Plan, Pl
         arcs,
         registers,
         unroll: UNROLLED_ONCE,
-        inputs: graph.inputs,
-        outs: graph.outs,
+        inputs,
+        outs,
     })
 }

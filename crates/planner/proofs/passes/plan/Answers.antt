@@ -1,23 +1,23 @@
-use Rattle.planner.proofs.Asked.{wired, schedulable, held, none_delayed, its_list}
+use Rattle.std.proofs.Common.{◌∙◌}
+use Rattle.planner.proofs.Asked.{wired, schedulable, held, none_delayed}
+use Rattle.planner.proofs.Answers.{bound}
 use Rattle.planner.proofs.OneCopy.{copies_one}
 use Rattle.planner.proofs.Exits.{at_lines, at_units, at_cycles, at_registers, at_end}
 use Rattle.planner.proofs.passes.plan.Goals as goal
 
-pub assign-requires-clause-wired : goal.assign-requires-clause-wired
-assign-requires-clause-wired c =
+pub bind-requires-clause-wired : goal.bind-requires-clause-wired
+bind-requires-clause-wired c =
     wired c.args.graph c.args.datapath.now c.requires.sound c.in_ok-lowered.lowered c.in_ok-lowered.ensures.lowered
 
 pub schedule-requires-clause-schedulable : goal.schedule-requires-clause-schedulable
 schedule-requires-clause-schedulable c =
-    schedulable c.args.graph c.args.datapath.now c.requires.sound c.in_ok-assigned.assigned (its_list c.args.graph
-    c.args.datapath.now c.in_ok-lowered.lowered c.in_ok-lowered.ensures.lowered c.in_ok-assigned.assigned
-    c.in_ok-assigned.ensures.lowered) c.requires.loopless c.in_ok-assigned.ensures.assigned
+    schedulable c.args.graph c.args.datapath.now c.requires.sound (bound c.in_ok-lowered.lowered c.in_ok-units.units)
+    c.in_ok-lowered.ensures.lowered c.requires.loopless c.in_ok-units.ensures.units
 
 pub arcs-requires-clause-held : goal.arcs-requires-clause-held
 arcs-requires-clause-held c =
-    held c.args.graph c.args.datapath.now c.requires.sound c.in_ok-assigned.assigned (its_list c.args.graph
-    c.args.datapath.now c.in_ok-lowered.lowered c.in_ok-lowered.ensures.lowered c.in_ok-assigned.assigned
-    c.in_ok-assigned.ensures.lowered) c.requires.datapath c.in_ok-assigned.ensures.assigned
+    held c.args.graph c.args.datapath.now c.requires.sound (bound c.in_ok-lowered.lowered c.in_ok-units.units)
+    c.in_ok-lowered.ensures.lowered c.requires.datapath c.in_ok-units.ensures.units
 
 pub allot-requires-clause-order : goal.allot-requires-clause-order
 allot-requires-clause-order c =
@@ -25,131 +25,130 @@ allot-requires-clause-order c =
 
 pub allot-requires-clause-copies : goal.allot-requires-clause-copies
 allot-requires-clause-copies c =
-    copies_one c.args.datapath.now c.in_ok-assigned.assigned c.in_ok-schedule.schedule (none_delayed c.args.graph
-    c.args.datapath.now c.requires.sound c.in_ok-assigned.assigned (its_list c.args.graph c.args.datapath.now
-    c.in_ok-lowered.lowered c.in_ok-lowered.ensures.lowered c.in_ok-assigned.assigned
-    c.in_ok-assigned.ensures.lowered) c.requires.datapath) c.in_ok-schedule.ensures.schedule c.in_ok-arcs.arcs
-    c.in_ok-arcs.ensures
+    copies_one c.args.datapath.now (bound c.in_ok-lowered.lowered c.in_ok-units.units) c.in_ok-schedule.schedule
+    (none_delayed c.args.graph c.args.datapath.now c.requires.sound (bound c.in_ok-lowered.lowered
+    c.in_ok-units.units) c.in_ok-lowered.ensures.lowered c.requires.datapath) c.in_ok-schedule.ensures.schedule
+    c.in_ok-arcs.arcs c.in_ok-arcs.ensures
 
 pub returns-in_err-lowered-clause-fault : goal.returns-in_err-lowered-clause-fault
 returns-in_err-lowered-clause-fault c =
-    (at_lines c.args.graph c.args.datapath.now c.from_residual.result c.in_err-lowered.field-0.0
-    c.from_residual.ensures.1 c.in_err-lowered.ensures.fault c.in_err-lowered.ensures.found
+    (at_lines c.args.graph c.args.datapath.now c.from_residual-in_err-lowered.result c.in_err-lowered.field-0.0
+    c.from_residual-in_err-lowered.ensures.1 c.in_err-lowered.ensures.fault c.in_err-lowered.ensures.found
     c.in_err-lowered.ensures.refused).fault
 
 pub returns-in_err-lowered-clause-found : goal.returns-in_err-lowered-clause-found
 returns-in_err-lowered-clause-found c =
-    (at_lines c.args.graph c.args.datapath.now c.from_residual.result c.in_err-lowered.field-0.0
-    c.from_residual.ensures.1 c.in_err-lowered.ensures.fault c.in_err-lowered.ensures.found
+    (at_lines c.args.graph c.args.datapath.now c.from_residual-in_err-lowered.result c.in_err-lowered.field-0.0
+    c.from_residual-in_err-lowered.ensures.1 c.in_err-lowered.ensures.fault c.in_err-lowered.ensures.found
     c.in_err-lowered.ensures.refused).found
 
 pub returns-in_err-lowered-clause-refused : goal.returns-in_err-lowered-clause-refused
 returns-in_err-lowered-clause-refused c =
-    (at_lines c.args.graph c.args.datapath.now c.from_residual.result c.in_err-lowered.field-0.0
-    c.from_residual.ensures.1 c.in_err-lowered.ensures.fault c.in_err-lowered.ensures.found
+    (at_lines c.args.graph c.args.datapath.now c.from_residual-in_err-lowered.result c.in_err-lowered.field-0.0
+    c.from_residual-in_err-lowered.ensures.1 c.in_err-lowered.ensures.fault c.in_err-lowered.ensures.found
     c.in_err-lowered.ensures.refused).refused
 
-pub returns-in_err-assigned-clause-fault : goal.returns-in_err-assigned-clause-fault
-returns-in_err-assigned-clause-fault c =
+pub returns-in_err-units-clause-fault : goal.returns-in_err-units-clause-fault
+returns-in_err-units-clause-fault c =
     (at_units c.args.graph c.args.datapath.now c.in_ok-lowered.lowered c.in_ok-lowered.ensures.lowered
-    c.in_ok-lowered.ensures.found c.in_ok-lowered.ensures.refused c.from_residual-in_err-assigned.result
-    c.in_err-assigned.field-0.0 c.from_residual-in_err-assigned.ensures.1 c.in_err-assigned.ensures.fault
-    c.in_err-assigned.ensures.found c.in_err-assigned.ensures.refused).fault
+    c.in_ok-lowered.ensures.found c.in_ok-lowered.ensures.refused c.from_residual-in_err-units.result
+    c.in_err-units.field-0.0 c.from_residual-in_err-units.ensures.1 c.in_err-units.ensures.fault
+    c.in_err-units.ensures.found c.in_err-units.ensures.refused).fault
 
-pub returns-in_err-assigned-clause-found : goal.returns-in_err-assigned-clause-found
-returns-in_err-assigned-clause-found c =
+pub returns-in_err-units-clause-found : goal.returns-in_err-units-clause-found
+returns-in_err-units-clause-found c =
     (at_units c.args.graph c.args.datapath.now c.in_ok-lowered.lowered c.in_ok-lowered.ensures.lowered
-    c.in_ok-lowered.ensures.found c.in_ok-lowered.ensures.refused c.from_residual-in_err-assigned.result
-    c.in_err-assigned.field-0.0 c.from_residual-in_err-assigned.ensures.1 c.in_err-assigned.ensures.fault
-    c.in_err-assigned.ensures.found c.in_err-assigned.ensures.refused).found
+    c.in_ok-lowered.ensures.found c.in_ok-lowered.ensures.refused c.from_residual-in_err-units.result
+    c.in_err-units.field-0.0 c.from_residual-in_err-units.ensures.1 c.in_err-units.ensures.fault
+    c.in_err-units.ensures.found c.in_err-units.ensures.refused).found
 
-pub returns-in_err-assigned-clause-refused : goal.returns-in_err-assigned-clause-refused
-returns-in_err-assigned-clause-refused c =
+pub returns-in_err-units-clause-refused : goal.returns-in_err-units-clause-refused
+returns-in_err-units-clause-refused c =
     (at_units c.args.graph c.args.datapath.now c.in_ok-lowered.lowered c.in_ok-lowered.ensures.lowered
-    c.in_ok-lowered.ensures.found c.in_ok-lowered.ensures.refused c.from_residual-in_err-assigned.result
-    c.in_err-assigned.field-0.0 c.from_residual-in_err-assigned.ensures.1 c.in_err-assigned.ensures.fault
-    c.in_err-assigned.ensures.found c.in_err-assigned.ensures.refused).refused
+    c.in_ok-lowered.ensures.found c.in_ok-lowered.ensures.refused c.from_residual-in_err-units.result
+    c.in_err-units.field-0.0 c.from_residual-in_err-units.ensures.1 c.in_err-units.ensures.fault
+    c.in_err-units.ensures.found c.in_err-units.ensures.refused).refused
 
 pub returns-in_err-schedule-clause-fault : goal.returns-in_err-schedule-clause-fault
 returns-in_err-schedule-clause-fault c =
     (at_cycles c.args.graph c.args.datapath.now c.in_ok-lowered.lowered c.in_ok-lowered.ensures.lowered
-    c.in_ok-lowered.ensures.found c.in_ok-lowered.ensures.refused c.in_ok-assigned.assigned
-    c.in_ok-assigned.ensures.lowered c.in_ok-assigned.ensures.assigned c.in_ok-assigned.ensures.found
-    c.in_ok-assigned.ensures.refused c.from_residual-in_err-schedule.result c.in_err-schedule.field-0.0
-    c.from_residual-in_err-schedule.ensures.1 c.in_err-schedule.ensures.fault c.in_err-schedule.ensures.found
-    c.in_err-schedule.ensures.refused).fault
+    c.in_ok-lowered.ensures.found c.in_ok-lowered.ensures.refused c.in_ok-units.units c.in_ok-units.ensures.units
+    c.in_ok-units.ensures.found c.in_ok-units.ensures.refused c.from_residual-in_err-schedule.result
+    c.in_err-schedule.field-0.0 c.from_residual-in_err-schedule.ensures.1 c.in_err-schedule.ensures.fault
+    c.in_err-schedule.ensures.found c.in_err-schedule.ensures.refused).fault
 
 pub returns-in_err-schedule-clause-found : goal.returns-in_err-schedule-clause-found
 returns-in_err-schedule-clause-found c =
     (at_cycles c.args.graph c.args.datapath.now c.in_ok-lowered.lowered c.in_ok-lowered.ensures.lowered
-    c.in_ok-lowered.ensures.found c.in_ok-lowered.ensures.refused c.in_ok-assigned.assigned
-    c.in_ok-assigned.ensures.lowered c.in_ok-assigned.ensures.assigned c.in_ok-assigned.ensures.found
-    c.in_ok-assigned.ensures.refused c.from_residual-in_err-schedule.result c.in_err-schedule.field-0.0
-    c.from_residual-in_err-schedule.ensures.1 c.in_err-schedule.ensures.fault c.in_err-schedule.ensures.found
-    c.in_err-schedule.ensures.refused).found
+    c.in_ok-lowered.ensures.found c.in_ok-lowered.ensures.refused c.in_ok-units.units c.in_ok-units.ensures.units
+    c.in_ok-units.ensures.found c.in_ok-units.ensures.refused c.from_residual-in_err-schedule.result
+    c.in_err-schedule.field-0.0 c.from_residual-in_err-schedule.ensures.1 c.in_err-schedule.ensures.fault
+    c.in_err-schedule.ensures.found c.in_err-schedule.ensures.refused).found
 
 pub returns-in_err-schedule-clause-refused : goal.returns-in_err-schedule-clause-refused
 returns-in_err-schedule-clause-refused c =
     (at_cycles c.args.graph c.args.datapath.now c.in_ok-lowered.lowered c.in_ok-lowered.ensures.lowered
-    c.in_ok-lowered.ensures.found c.in_ok-lowered.ensures.refused c.in_ok-assigned.assigned
-    c.in_ok-assigned.ensures.lowered c.in_ok-assigned.ensures.assigned c.in_ok-assigned.ensures.found
-    c.in_ok-assigned.ensures.refused c.from_residual-in_err-schedule.result c.in_err-schedule.field-0.0
-    c.from_residual-in_err-schedule.ensures.1 c.in_err-schedule.ensures.fault c.in_err-schedule.ensures.found
-    c.in_err-schedule.ensures.refused).refused
+    c.in_ok-lowered.ensures.found c.in_ok-lowered.ensures.refused c.in_ok-units.units c.in_ok-units.ensures.units
+    c.in_ok-units.ensures.found c.in_ok-units.ensures.refused c.from_residual-in_err-schedule.result
+    c.in_err-schedule.field-0.0 c.from_residual-in_err-schedule.ensures.1 c.in_err-schedule.ensures.fault
+    c.in_err-schedule.ensures.found c.in_err-schedule.ensures.refused).refused
 
 pub returns-in_err-registers-clause-fault : goal.returns-in_err-registers-clause-fault
 returns-in_err-registers-clause-fault c =
     (at_registers c.args.graph c.args.datapath.now c.in_ok-lowered.lowered c.in_ok-lowered.ensures.lowered
-    c.in_ok-lowered.ensures.found c.in_ok-lowered.ensures.refused c.in_ok-assigned.assigned
-    c.in_ok-assigned.ensures.lowered c.in_ok-assigned.ensures.assigned c.in_ok-assigned.ensures.found
-    c.in_ok-assigned.ensures.refused c.in_ok-schedule.schedule c.in_ok-schedule.ensures.schedule
-    c.in_ok-schedule.ensures.found c.in_ok-schedule.ensures.refused c.in_ok-arcs.arcs c.in_ok-arcs.ensures
-    c.from_residual-in_err-registers.result c.in_err-registers.field-0.0 c.from_residual-in_err-registers.ensures.1
-    c.in_err-registers.ensures.fault).fault
+    c.in_ok-lowered.ensures.found c.in_ok-lowered.ensures.refused c.in_ok-units.units c.in_ok-units.ensures.units
+    c.in_ok-units.ensures.found c.in_ok-units.ensures.refused c.in_ok-schedule.schedule
+    c.in_ok-schedule.ensures.schedule c.in_ok-schedule.ensures.found c.in_ok-schedule.ensures.refused
+    c.in_ok-arcs.arcs c.in_ok-arcs.ensures c.from_residual-in_err-registers.result c.in_err-registers.field-0.0
+    c.from_residual-in_err-registers.ensures.1 c.in_err-registers.ensures.fault).fault
 
 pub returns-in_err-registers-clause-found : goal.returns-in_err-registers-clause-found
 returns-in_err-registers-clause-found c =
     (at_registers c.args.graph c.args.datapath.now c.in_ok-lowered.lowered c.in_ok-lowered.ensures.lowered
-    c.in_ok-lowered.ensures.found c.in_ok-lowered.ensures.refused c.in_ok-assigned.assigned
-    c.in_ok-assigned.ensures.lowered c.in_ok-assigned.ensures.assigned c.in_ok-assigned.ensures.found
-    c.in_ok-assigned.ensures.refused c.in_ok-schedule.schedule c.in_ok-schedule.ensures.schedule
-    c.in_ok-schedule.ensures.found c.in_ok-schedule.ensures.refused c.in_ok-arcs.arcs c.in_ok-arcs.ensures
-    c.from_residual-in_err-registers.result c.in_err-registers.field-0.0 c.from_residual-in_err-registers.ensures.1
-    c.in_err-registers.ensures.fault).found
+    c.in_ok-lowered.ensures.found c.in_ok-lowered.ensures.refused c.in_ok-units.units c.in_ok-units.ensures.units
+    c.in_ok-units.ensures.found c.in_ok-units.ensures.refused c.in_ok-schedule.schedule
+    c.in_ok-schedule.ensures.schedule c.in_ok-schedule.ensures.found c.in_ok-schedule.ensures.refused
+    c.in_ok-arcs.arcs c.in_ok-arcs.ensures c.from_residual-in_err-registers.result c.in_err-registers.field-0.0
+    c.from_residual-in_err-registers.ensures.1 c.in_err-registers.ensures.fault).found
 
 pub returns-in_err-registers-clause-refused : goal.returns-in_err-registers-clause-refused
 returns-in_err-registers-clause-refused c =
     (at_registers c.args.graph c.args.datapath.now c.in_ok-lowered.lowered c.in_ok-lowered.ensures.lowered
-    c.in_ok-lowered.ensures.found c.in_ok-lowered.ensures.refused c.in_ok-assigned.assigned
-    c.in_ok-assigned.ensures.lowered c.in_ok-assigned.ensures.assigned c.in_ok-assigned.ensures.found
-    c.in_ok-assigned.ensures.refused c.in_ok-schedule.schedule c.in_ok-schedule.ensures.schedule
-    c.in_ok-schedule.ensures.found c.in_ok-schedule.ensures.refused c.in_ok-arcs.arcs c.in_ok-arcs.ensures
-    c.from_residual-in_err-registers.result c.in_err-registers.field-0.0 c.from_residual-in_err-registers.ensures.1
-    c.in_err-registers.ensures.fault).refused
+    c.in_ok-lowered.ensures.found c.in_ok-lowered.ensures.refused c.in_ok-units.units c.in_ok-units.ensures.units
+    c.in_ok-units.ensures.found c.in_ok-units.ensures.refused c.in_ok-schedule.schedule
+    c.in_ok-schedule.ensures.schedule c.in_ok-schedule.ensures.found c.in_ok-schedule.ensures.refused
+    c.in_ok-arcs.arcs c.in_ok-arcs.ensures c.from_residual-in_err-registers.result c.in_err-registers.field-0.0
+    c.from_residual-in_err-registers.ensures.1 c.in_err-registers.ensures.fault).refused
 
 pub returns-clause-plan : goal.returns-clause-plan
 returns-clause-plan c =
     (at_end c.args.graph c.args.datapath.now c.in_ok-lowered.lowered c.in_ok-lowered.ensures.lowered
-    c.in_ok-lowered.ensures.found c.in_ok-lowered.ensures.refused c.in_ok-assigned.assigned
-    c.in_ok-assigned.ensures.lowered c.in_ok-assigned.ensures.assigned c.in_ok-assigned.ensures.found
-    c.in_ok-assigned.ensures.refused c.in_ok-schedule.schedule c.in_ok-schedule.ensures.schedule
-    c.in_ok-schedule.ensures.found c.in_ok-schedule.ensures.refused c.in_ok-arcs.arcs c.in_ok-arcs.ensures
-    c.in_ok-registers.registers (c.in_ok-registers.ensures.private, c.in_ok-registers.ensures.within)).plan
+    c.in_ok-lowered.ensures.found c.in_ok-lowered.ensures.refused c.in_ok-units.units c.in_ok-units.ensures.units
+    c.in_ok-units.ensures.found c.in_ok-units.ensures.refused c.in_ok-schedule.schedule
+    c.in_ok-schedule.ensures.schedule c.in_ok-schedule.ensures.found c.in_ok-schedule.ensures.refused
+    c.in_ok-arcs.arcs c.in_ok-arcs.ensures c.in_ok-registers.registers (
+      c.in_ok-registers.ensures.private,
+      c.in_ok-registers.ensures.within,
+    ) c.in_ok-inputs.inputs (c.in_ok-inputs.ensures ∙ c.as_slice.ensures)).plan
 
 pub returns-clause-found : goal.returns-clause-found
 returns-clause-found c =
     (at_end c.args.graph c.args.datapath.now c.in_ok-lowered.lowered c.in_ok-lowered.ensures.lowered
-    c.in_ok-lowered.ensures.found c.in_ok-lowered.ensures.refused c.in_ok-assigned.assigned
-    c.in_ok-assigned.ensures.lowered c.in_ok-assigned.ensures.assigned c.in_ok-assigned.ensures.found
-    c.in_ok-assigned.ensures.refused c.in_ok-schedule.schedule c.in_ok-schedule.ensures.schedule
-    c.in_ok-schedule.ensures.found c.in_ok-schedule.ensures.refused c.in_ok-arcs.arcs c.in_ok-arcs.ensures
-    c.in_ok-registers.registers (c.in_ok-registers.ensures.private, c.in_ok-registers.ensures.within)).found
+    c.in_ok-lowered.ensures.found c.in_ok-lowered.ensures.refused c.in_ok-units.units c.in_ok-units.ensures.units
+    c.in_ok-units.ensures.found c.in_ok-units.ensures.refused c.in_ok-schedule.schedule
+    c.in_ok-schedule.ensures.schedule c.in_ok-schedule.ensures.found c.in_ok-schedule.ensures.refused
+    c.in_ok-arcs.arcs c.in_ok-arcs.ensures c.in_ok-registers.registers (
+      c.in_ok-registers.ensures.private,
+      c.in_ok-registers.ensures.within,
+    ) c.in_ok-inputs.inputs (c.in_ok-inputs.ensures ∙ c.as_slice.ensures)).found
 
 pub returns-clause-refused : goal.returns-clause-refused
 returns-clause-refused c =
     (at_end c.args.graph c.args.datapath.now c.in_ok-lowered.lowered c.in_ok-lowered.ensures.lowered
-    c.in_ok-lowered.ensures.found c.in_ok-lowered.ensures.refused c.in_ok-assigned.assigned
-    c.in_ok-assigned.ensures.lowered c.in_ok-assigned.ensures.assigned c.in_ok-assigned.ensures.found
-    c.in_ok-assigned.ensures.refused c.in_ok-schedule.schedule c.in_ok-schedule.ensures.schedule
-    c.in_ok-schedule.ensures.found c.in_ok-schedule.ensures.refused c.in_ok-arcs.arcs c.in_ok-arcs.ensures
-    c.in_ok-registers.registers (c.in_ok-registers.ensures.private, c.in_ok-registers.ensures.within)).refused
+    c.in_ok-lowered.ensures.found c.in_ok-lowered.ensures.refused c.in_ok-units.units c.in_ok-units.ensures.units
+    c.in_ok-units.ensures.found c.in_ok-units.ensures.refused c.in_ok-schedule.schedule
+    c.in_ok-schedule.ensures.schedule c.in_ok-schedule.ensures.found c.in_ok-schedule.ensures.refused
+    c.in_ok-arcs.arcs c.in_ok-arcs.ensures c.in_ok-registers.registers (
+      c.in_ok-registers.ensures.private,
+      c.in_ok-registers.ensures.within,
+    ) c.in_ok-inputs.inputs (c.in_ok-inputs.ensures ∙ c.as_slice.ensures)).refused
