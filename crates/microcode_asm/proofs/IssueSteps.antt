@@ -16,6 +16,7 @@ use Rattle.plan_core.specs.Arcs.{no_arc}
 use Rattle.plan_core.specs.Hardware.{unit_of, no_unit, port_of}
 use Rattle.plan_core.specs.declared.registers.Arc.{Arc}
 use Rattle.plan_core.specs.declared.plan.Plan.{Plan}
+use Rattle.plan_run.proofs.SomeWord.{enough_ports}
 use Rattle.plan_run.specs.Parts.{nodes_of, node_at, edge_at, unit_at, arc_at, register_at, ReadsThrough, IsCopy}
 use Rattle.plan_run.specs.ImageOf.{IsIssueOf}
 use Rattle.plan_run.specs.Private.Feasible.{IsFeasible}
@@ -47,15 +48,6 @@ copy_in_turn copies n ago some = record {
     whole =
         let rest : ago % copies < copies = mod-lt ago some in
         omega (arith, split ago copies, one_more (ago / copies) copies, rest)
-
--- a unit has a port for each operand
-enough_ports : (o : Op) → operands o ≤ ports (kind_of o)
-enough_ports op.Sel = omega arith
-enough_ports op.Input = omega arith
-enough_ports op.Output = omega arith
-enough_ports op.Const = omega arith
-enough_ports op.Addr = omega arith
-enough_ports _ = omega arith
 
 module _ (d : Datapath) (p : Plan) (ready : IsReady d p) where
   feasible : IsFeasible d p

@@ -4,6 +4,7 @@ pub mod Printables
 pub mod ArcSearch
 pub mod RegisterLists
 pub mod Dealt
+pub mod Linked
 pub mod PlanFacts
 pub mod OrderSteps
 pub mod LinkSteps

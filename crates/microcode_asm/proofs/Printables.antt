@@ -16,23 +16,13 @@ use Rattle.plan_core.specs.Arcs.{arc_of, IsArcFor, IsArcs}
 use Rattle.plan_core.specs.IsPlan.{IsPlan}
 use Rattle.plan_core.specs.declared.plan.Plan.{Plan}
 use Rattle.plan_core.specs.declared.schedule.Transfer.{Transfer}
+use Rattle.plan_core.proofs.Readers.{reader_there}
 use Rattle.plan_run.specs.PrivateRegisters.{IsPrivatePlan}
 use Rattle.microcode_asm.specs.Planned.{IsPlanned}
 use Rattle.microcode_asm.specs.Private.Printable.{IsToPort, IsPrintable}
 
 unit_latency : (d : Datapath) → IsDatapath d → (u : ℕ) → u < length d.units → 1 ≤ latency_on d u
 unit_latency d is u there = (All-get_or (IsUnit d.units) d.units u no_unit there is.units).latency.0
-
--- a node that reads is there
-reader_there : (nodes : List Node) (c q v : ℕ) → Reads nodes c q v → c < length nodes
-reader_there nodes c q v reads =
-    ⊎_elim (λ (before : c < length nodes). before)
-    (λ (past : length nodes ≤ c).
-    let none : length (node_of nodes c).edges ≡ 0 =
-    ap (λ (n : Node). length n.edges) (get_or_past nodes c no_node past) in
-    let port = reads.port in
-    absurd (omega arith))
-    (cases_lt c (length nodes))
 
 module _ (d : Datapath) (p : Plan) (is : IsDatapath d) (assigned : IsAssigned d p.assigned)
     (schedule : IsListSchedule d p.assigned p.schedule) (arcs : IsArcs d p.assigned p.schedule p.arcs)

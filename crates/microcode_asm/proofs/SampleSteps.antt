@@ -1,5 +1,5 @@
--- How issues, drives and takes are dealt into the lists of their cycles.
-use Rattle.std.proofs.Common.{◌≡◌, ℕ, ◌+◌, ◌-◌, ◌%◌, ◌<◌, ◌≤◌, inl, inr, ⊎_elim, refl, sym, ap, ◌∙◌, subst, arith, List, [], ◌∷◌, ◌++◌, length, slice_index_or, slice_set, map, replicate, Contains}
+-- How the lists of issues, drives and takes of a cycle grow.
+use Rattle.std.proofs.Common.{◌≡◌, ℕ, ◌+◌, ◌-◌, ◌%◌, ◌<◌, ◌≤◌, inl, inr, ⊎_elim, refl, sym, ap, ◌∙◌, subst, arith, List, [], ◌∷◌, ◌++◌, length, slice_index_or, map, Contains}
 use Rattle.std.proofs.Math.Nat.{mod-lt}
 use Rattle.std.proofs.lemmas.List.{get_or_default, get_or-map, length-map}
 use Rattle.std.proofs.lemmas.List.Elements.{Contains-append_left, Contains-append_right}
@@ -24,12 +24,15 @@ use Rattle.plan_run.specs.Private.Feasible.{IsFeasible}
 use Rattle.microcode_asm.specs.Private.Ready.{IsReady}
 use Rattle.microcode_asm.specs.Private.Buses.{IsBusTo, Drives, drive_of}
 use Rattle.microcode_asm.specs.Private.Order.{IsUnitOrder}
-use Rattle.microcode_asm.specs.Private.Words.{AreByCycle, HasIssues, HasEnables, HasTakes, IsTakeFor, IssuesDealt, EnablesDealt, TakesDealt, node_in}
-use Rattle.microcode_asm.proofs.Dealt.{AreThings, none_dealt, dealt_more}
+use Rattle.microcode_asm.specs.Private.Linked.{IsNext}
+use Rattle.microcode_asm.specs.Private.Words.{HasIssues, HasEnables, HasTakes, IsTakeFor, AreIssuesTo, AreEnablesTo, AreTakesTo, IsIssued, IsEnded, IsWritten, node_in}
+use Rattle.microcode_asm.specs.declared.by_cycle.ByCycle.{ByCycle}
+use Rattle.microcode_asm.proofs.Dealt.{AreThings}
+use Rattle.microcode_asm.proofs.Linked.{next_after, first_reached, next_reached, all_reached}
 use Rattle.microcode_asm.proofs.BusSteps.{drives_rise}
 use Rattle.microcode_asm.proofs.IssueSteps.{read_at, arc_is, unit_is, register_is, register_room}
 use Rattle.microcode_asm.proofs.OrderSteps.{is_one, one_rises}
-use Rattle.microcode_asm.proofs.PlanFacts.{at_index, latency_some, in_period, end_in_period, one_node, one_end}
+use Rattle.microcode_asm.proofs.PlanFacts.{at_index, latency_some, one_node, one_end}
 
 in_mapped : {A B : Type 0} (f : A → B) (xs : List A) (x : A) → Contains xs x → Contains (map f xs) (f x)
 in_mapped f xs x (k, below, is) =
@@ -41,13 +44,6 @@ from_mapped : {A B : Type 0} (f : A → B) (xs : List A) (y : B) (default : A)
 from_mapped f xs y default (k, below, is) =
     let in-k : k < length xs = omega (arith, below, length-map xs f) in
     (slice_index_or xs k default, at_index xs k default in-k, sym is ∙ get_or-map f xs k default y in-k)
-
--- what is read at an item is read at the node in order
-pub by_item : {A : Type 0} (xs : List A) (x : A) (items order : List ℕ) (i : ℕ)
-    → items ≡ order
-    → x ≡ slice_index_or xs (node_in items i) x
-    → x ≡ slice_index_or xs (node_in order i) x
-by_item xs x items order i are is = is ∙ ap (λ (ys : List ℕ). slice_index_or xs (node_in ys i) x) are
 
 -- an item of the lifetimes
 pub arc_item : {B : Type 0} (f : Arc → B) (arcs items : List Arc) (k : ℕ) (default : Arc)
@@ -94,13 +90,13 @@ module _ (d : Datapath) (p : Plan) (ready : IsReady d p) where
     pub node_there : (i : ℕ) → i < length order → node_in order i < length (nodes_of p)
     node_there i below = ordered.node (node_in order i) (at_index order i 0 below)
 
-    pub item_there : (items : List ℕ) (i : ℕ)
-        → items ≡ order
-        → i < length items
-        → node_in items i < length (nodes_of p)
-    item_there items i are below =
-        subst (λ xs. node_in xs i < length (nodes_of p)) (sym are)
-        (node_there i (subst (λ (xs : List ℕ). i < length xs) are below))
+    -- the node at a place in order
+    pub node_is : (i v : ℕ) → i < length order → v ≡ slice_index_or order i v → v ≡ node_in order i
+    node_is i v below is = read_at order i v 0 below is
+
+    pub in_nodes : (i v : ℕ) → i < length order → v ≡ slice_index_or order i v → v < length (nodes_of p)
+    in_nodes i v below is =
+        subst (λ v. v < length (nodes_of p)) (sym (node_is i v below is)) (node_there i below)
 
     unit_before : (i m : ℕ)
         → i < m
@@ -111,6 +107,16 @@ module _ (d : Datapath) (p : Plan) (ready : IsReady d p) where
         ⊎_elim (λ unit. unit)
         (λ after. absurd (let e : node_in order i ≡ node_in order m = same after.0 in omega (arith, e, after.1)))
         (ordered.rise i m 0 less below)
+
+    pub cycle_is : (m v cycle : ℕ) (slot : Slot)
+        → m < length order
+        → v ≡ slice_index_or order m v
+        → slot ≡ slice_index_or p.schedule.slots v slot
+        → cycle ≡ slot.cycle
+        → cycle ≡ cycle_at p (node_in order m)
+    cycle_is m v cycle slot below v-is slot-is is =
+        is ∙ ap (λ (slot : Slot). slot.cycle) (slot_is v slot (in_nodes m v below v-is) slot-is)
+        ∙ ap (cycle_at p) (node_is m v below v-is)
 
     -- Issues.
     module _ (n : ℕ) where
@@ -126,36 +132,28 @@ module _ (d : Datapath) (p : Plan) (ready : IsReady d p) where
       abbrev IssueBefore : Issue → Issue → Type 0
       IssueBefore a b = a.unit < b.unit
 
-      pub no_issue_dealt : (count : ℕ) → count ≡ d.period → IssuesDealt d p order n 0 (replicate count [])
-      no_issue_dealt count is =
-          subst (λ count. IssuesDealt d p order n 0 (replicate count [])) (sym is)
-          (none_dealt cycle_in IssueIn IsIssue IssueBefore d.period)
+      pub no_issues : (c i : ℕ) → IsNext cycle_in (length order) c 0 i → AreIssuesTo d p order n c i []
+      no_issues c i next = first_reached cycle_in IssueIn IsIssue IssueBefore (length order) c i next
 
-      pub issue_dealt : (m cycle : ℕ) (slot : Slot) (issue : Issue) (lists : List (List Issue))
+      pub one_more_issue : (by : ByCycle) (c m v next : ℕ) (issue : Issue) (issues : List Issue)
+          → IsIssued d p order by
           → m < length order
-          → slot ≡ slice_index_or p.schedule.slots (node_in order m) slot
-          → cycle ≡ slot.cycle
-          → IsIssueOf d p (node_in order m) n issue
-          → IssuesDealt d p order n m lists
-          → IssuesDealt d p order n (m + 1) (slice_set lists cycle (slice_index_or lists cycle [] ++ issue ∷ []))
-      issue_dealt m cycle slot issue lists below slot-is cycle-is is dealt =
-          let v = node_there m below in
-          let at : cycle ≡ cycle_in m = cycle-is ∙ ap (λ (slot : Slot). slot.cycle)
-          (slot_is (node_in order m) slot v slot-is) in
-          subst (λ c. IssuesDealt d p order n (m + 1)
-          (slice_set lists c (slice_index_or lists c [] ++ issue ∷ []))) (sym at)
-          (dealt_more cycle_in IssueIn IsIssue IssueBefore d.period m lists (issue ∷ []) things
-          (in_period d p ready (node_in order m) v) dealt (record {
-            has = (
-              issue,
-              Contains-append_right (slice_index_or lists (cycle_in m) []) (issue ∷ []) issue
-                  (in_head issue []),
-              is,
-            );
-            of = λ a among. subst (IsIssue m) (is_one issue a among) is;
+          → v ≡ slice_index_or order m v
+          → IsIssueOf d p v n issue
+          → next ≡ slice_index_or by.next m next
+          → AreIssuesTo d p order n c m issues
+          → AreIssuesTo d p order n c next (issues ++ issue ∷ [])
+      one_more_issue by c m v next issue issues links below v-is is after to =
+          next_reached cycle_in IssueIn IsIssue IssueBefore (length order) c m next issues (issue ∷ []) below things
+          (next_after cycle_in d.period (length order) by links m next below after) (record {
+            has = (issue, Contains-append_right issues (issue ∷ []) issue (in_head issue []), is-m);
+            of = λ a among. subst (IsIssue m) (is_one issue a among) is-m;
             rise = one_rises IssueBefore issue;
-          }))
+          }) to
         where
+          is-m : IsIssue m issue
+          is-m = subst (λ v. IsIssueOf d p v n issue) (node_is m v below v-is) is
+
           things : AreThings cycle_in IssueIn IsIssue IssueBefore m
           things = record {
             more = λ i xs ys has. (has.0, Contains-append_left xs ys has.0 has.1, has.2);
@@ -166,30 +164,21 @@ module _ (d : Datapath) (p : Plan) (ready : IsReady d p) where
                 omega (arith, unit, is-a.unit, is-b.unit);
           }
 
-      pub issues_by_cycle : (things : ℕ) (lists : List (List Issue))
-          → length order ≤ things
-          → things ≤ length order
-          → IssuesDealt d p order n things lists
-          → AreByCycle d (HasIssues d p n) lists
-      issues_by_cycle things lists all' most dealt = record {
-        count = dealt.count_is;
-        each = λ c below.
-            let list = dealt.each c below in record {
-              all = λ v in-v at.
-                  let place = ordered.every v in-v in
-                  let is : node_in order place.0 ≡ v = get_or_default order place.0 0 v place.1 ∙ place.2 in
-                  let has = list.all place.0 (omega (arith, place.1, all')) (ap (cycle_at p) is ∙ at) in
-                  (has.0, has.1, subst (λ v. IsIssueOf d p v n has.0) is has.2);
-              only = λ issue among.
-                  let of = list.only issue among in (
-                    node_in order of.0,
-                    node_there of.0 (omega (arith, of.1, most)),
-                    of.2,
-                    of.3,
-                  );
-              rise = list.rise;
-            };
-      }
+      pub all_issues : (c i : ℕ) (issues : List Issue)
+          → length order ≤ i
+          → AreIssuesTo d p order n c i issues
+          → HasIssues d p n c issues
+      all_issues c i issues past to =
+          let list = all_reached cycle_in IssueIn IsIssue IssueBefore (length order) c i issues past to in record {
+            all = λ v in-v at.
+                let place = ordered.every v in-v in
+                let is : node_in order place.0 ≡ v = get_or_default order place.0 0 v place.1 ∙ place.2 in
+                let has = list.all place.0 place.1 (ap (cycle_at p) is ∙ at) in
+                (has.0, has.1, subst (λ v. IsIssueOf d p v n has.0) is has.2);
+            only = λ issue among.
+                let of = list.only issue among in (node_in order of.0, node_there of.0 of.1, of.2, of.3);
+            rise = list.rise;
+          }
 
     -- Drives.
 
@@ -205,50 +194,53 @@ module _ (d : Datapath) (p : Plan) (ready : IsReady d p) where
     abbrev end_in : ℕ → ℕ
     end_in i = ends_at d p (node_in order i)
 
-    pub no_enable_dealt : (count : ℕ) → count ≡ d.period → EnablesDealt d p order 0 (replicate count [])
-    no_enable_dealt count is =
-        subst (λ count. EnablesDealt d p order 0 (replicate count [])) (sym is)
-        (none_dealt end_in EnablesIn IsEnableIn EnableBefore d.period)
-
-    pub end_is : (m cycle unit latency : ℕ) (slot : Slot)
+    pub end_is : (m v cycle unit number : ℕ) (x : of_unit.Unit) (slot : Slot)
         → m < length order
-        → slot ≡ slice_index_or p.schedule.slots (node_in order m) slot
-        → unit ≡ slice_index_or p.assigned.units (node_in order m) unit
-        → latency ≡ latency_on d (unit_at p (node_in order m))
-        → cycle ≡ slot.cycle + (latency - 1)
+        → v ≡ slice_index_or order m v
+        → slot ≡ slice_index_or p.schedule.slots v slot
+        → unit ≡ slice_index_or p.assigned.units v unit
+        → number ≡ unit
+        → x ≡ slice_index_or d.units number x
+        → cycle ≡ slot.cycle + (x.latency - 1)
         → cycle ≡ end_in m
-    end_is m cycle unit latency slot below slot-is unit-is latency-is cycle-is =
-        let v = node_there m below in
-        let at : slot.cycle ≡ cycle_at p (node_in order m) = ap (λ (slot : Slot). slot.cycle)
-        (slot_is (node_in order m) slot v slot-is) in
-        cycle-is ∙ ap (λ l. slot.cycle + (l - 1)) latency-is
-        ∙ ap (λ c. c + (latency_on d (unit_at p (node_in order m)) - 1)) at
+    end_is m v cycle unit number x slot below v-is slot-is unit-is number-is x-is is =
+        let in-v : v < length (nodes_of p) = in_nodes m v below v-is in
+        let at : slot.cycle ≡ cycle_at p v = ap (λ (slot : Slot). slot.cycle) (slot_is v slot in-v slot-is) in
+        is ∙ ap (λ l. slot.cycle + (l - 1)) (unit_latency v unit number x in-v unit-is number-is x-is)
+        ∙ ap (λ c. c + (latency_on d (unit_at p v) - 1)) at
+        ∙ ap (ends_at d p) (node_is m v below v-is)
 
-    pub enables_dealt : (m cycle unit : ℕ) (slot : Slot) (transfers : List Transfer) (old new : List Enable)
-        (lists : List (List Enable))
+    pub no_enables : (c i : ℕ) → IsNext end_in (length order) c 0 i → AreEnablesTo d p order c i []
+    no_enables c i next = first_reached end_in EnablesIn IsEnableIn EnableBefore (length order) c i next
+
+    pub more_enables : (by : ByCycle) (c m v next unit : ℕ) (slot : Slot) (transfers : List Transfer)
+        (old new : List Enable)
+        → IsEnded d p order by
         → m < length order
-        → slot ≡ slice_index_or p.schedule.slots (node_in order m) slot
-        → unit ≡ slice_index_or p.assigned.units (node_in order m) unit
+        → v ≡ slice_index_or order m v
+        → slot ≡ slice_index_or p.schedule.slots v slot
+        → unit ≡ slice_index_or p.assigned.units v unit
         → transfers ≡ slot.transfers
-        → cycle ≡ end_in m
-        → old ≡ slice_index_or lists cycle old
         → Drives unit transfers old new
-        → EnablesDealt d p order m lists
-        → EnablesDealt d p order (m + 1) (slice_set lists cycle new)
-    enables_dealt m cycle unit slot transfers old new lists below slot-is unit-is transfers-are at old-is drives dealt =
-        let v = node_there m below in
-        let in-period : end_in m < d.period = end_in_period d p ready (node_in order m) v in
-        let old' : old ≡ slice_index_or lists (end_in m) [] =
-        read_at lists (end_in m) old [] (omega (arith, in-period, dealt.count_is))
-        (old-is ∙ ap (λ c. slice_index_or lists c old) at) in
-        let unit' : unit ≡ unit_at p (node_in order m) = unit_is d p ready (node_in order m) unit v unit-is in
+        → next ≡ slice_index_or by.next m next
+        → AreEnablesTo d p order c m old
+        → AreEnablesTo d p order c next new
+    more_enables by c m v next unit slot transfers old new links below v-is slot-is unit-is transfers-are drives after
+        to =
+        let in-v : v < length (nodes_of p) = in_nodes m v below v-is in
+        let at : v ≡ node_in order m = node_is m v below v-is in
+        let unit' : unit ≡ unit_at p (node_in order m) =
+        unit_is d p ready v unit in-v unit-is ∙ ap (unit_at p) at in
         let from : transfers ≡ transfers_at p (node_in order m) =
-        transfers-are ∙ ap (λ (slot : Slot). slot.transfers) (slot_is (node_in order m) slot v slot-is) in
+        transfers-are ∙ ap (λ (slot : Slot). slot.transfers) (slot_is v slot in-v slot-is)
+        ∙ ap (transfers_at p) at in
         let piece : List Enable = map (drive_of unit) drives.buses in
-        let made = dealt_more end_in EnablesIn IsEnableIn EnableBefore d.period m lists piece things in-period dealt
+        subst (AreEnablesTo d p order c next) (sym drives.is)
+        (next_reached end_in EnablesIn IsEnableIn EnableBefore (length order) c m next old piece below things
+        (next_after end_in d.period (length order) by links m next below after)
         (record {
           has = λ transfer among.
-              Contains-append_right (slice_index_or lists (end_in m) []) piece _
+              Contains-append_right old piece _
               (subst (λ u. Contains piece (drive_of u transfer.bus)) unit'
               (in_mapped (drive_of unit) drives.buses transfer.bus
               (drives.all transfer.bus (record {
@@ -265,10 +257,7 @@ module _ (d : Datapath) (p : Plan) (ready : IsReady d p) where
                     ∙ ap (drive_of (unit_at p (node_in order m))) (sym of.is),
               );
           rise = drives_rise unit transfers drives.buses drives.rise;
-        }) in
-        subst (λ c. EnablesDealt d p order (m + 1) (slice_set lists c new)) (sym at)
-        (subst (λ new. EnablesDealt d p order (m + 1) (slice_set lists (end_in m) new))
-        (sym (drives.is ∙ ap (λ old. old ++ piece) old')) made)
+        }) to)
       where
         things : AreThings end_in EnablesIn IsEnableIn EnableBefore m
         things = record {
@@ -285,33 +274,28 @@ module _ (d : Datapath) (p : Plan) (ready : IsReady d p) where
               ));
         }
 
-    pub enables_by_cycle : (things : ℕ) (lists : List (List Enable))
-        → length order ≤ things
-        → things ≤ length order
-        → EnablesDealt d p order things lists
-        → AreByCycle d (HasEnables d p) lists
-    enables_by_cycle things lists all' most dealt = record {
-      count = dealt.count_is;
-      each = λ c below.
-          let list = dealt.each c below in record {
-            all = λ v transfer in-v at among.
-                let place = ordered.every v in-v in
-                let is : node_in order place.0 ≡ v = get_or_default order place.0 0 v place.1 ∙ place.2 in
-                subst (λ v. Contains (transfers_at p v) transfer
-                → Contains (slice_index_or lists c []) (enable_of p v transfer)) is
-                (list.all place.0 (omega (arith, place.1, all')) (ap (ends_at d p) is ∙ at) transfer) among;
-            only = λ enable among.
-                let of = list.only enable among in (
-                  node_in order of.0,
-                  of.3.0,
-                  node_there of.0 (omega (arith, of.1, most)),
-                  of.2,
-                  of.3.1,
-                  of.3.2,
-                );
-            rise = list.rise;
-          };
-    }
+    pub all_enables : (c i : ℕ) (enables : List Enable)
+        → length order ≤ i
+        → AreEnablesTo d p order c i enables
+        → HasEnables d p c enables
+    all_enables c i enables past to =
+        let list = all_reached end_in EnablesIn IsEnableIn EnableBefore (length order) c i enables past to in record {
+          all = λ v transfer in-v at among.
+              let place = ordered.every v in-v in
+              let is : node_in order place.0 ≡ v = get_or_default order place.0 0 v place.1 ∙ place.2 in
+              subst (λ v. Contains (transfers_at p v) transfer → Contains enables (enable_of p v transfer)) is
+              (list.all place.0 place.1 (ap (ends_at d p) is ∙ at) transfer) among;
+          only = λ enable among.
+              let of = list.only enable among in (
+                node_in order of.0,
+                of.3.0,
+                node_there of.0 of.1,
+                of.2,
+                of.3.1,
+                of.3.2,
+              );
+          rise = list.rise;
+        }
 
   -- Takes.
   pub bus_there : (k : ℕ) (arc : Arc) (slot : Slot) (transfers : List Transfer)
@@ -337,39 +321,37 @@ module _ (d : Datapath) (p : Plan) (ready : IsReady d p) where
         },
       )
 
-  pub copies_some : (k copies : ℕ) (arc : Arc)
+  pub copies_some : (k : ℕ) (arc : Arc)
       → k < length p.arcs
       → arc ≡ slice_index_or p.arcs k arc
-      → copies ≡ arc.copies
-      → 0 < copies
-  copies_some k copies arc in-k arc-is copies-are =
-      subst (λ copies. 0 < copies) (sym (copies-are ∙ ap (λ (a : Arc). a.copies) (arc_is d p ready k arc in-k arc-is)))
-      (feasible.arcs k in-k).lifetime.some
+      → 0 < arc.copies
+  copies_some k arc in-k arc-is =
+      subst (λ (a : Arc). 0 < a.copies) (sym (arc_is d p ready k arc in-k arc-is)) (feasible.arcs k in-k).lifetime.some
 
-  pub copy_room : (k n copies : ℕ) (arc : Arc) (row : List ℕ)
+  pub copy_room : (k n copy : ℕ) (arc : Arc) (row : List ℕ)
       → k < length p.arcs
       → arc ≡ slice_index_or p.arcs k arc
-      → copies ≡ arc.copies
+      → copy ≡ n % arc.copies
       → row ≡ slice_index_or p.registers.regs k row
-      → n % copies < length row
-  copy_room k n copies arc row in-k arc-is copies-are row-is =
-      let below : n % copies < copies = mod-lt n (copies_some k copies arc in-k arc-is copies-are) in
-      register_room d p ready k (n % copies) arc row in-k arc-is row-is (omega (arith, below, copies-are))
+      → copy < length row
+  copy_room k n copy arc row in-k arc-is copy-is row-is =
+      let below : n % arc.copies < arc.copies = mod-lt n (copies_some k arc in-k arc-is) in
+      register_room d p ready k copy arc row in-k arc-is row-is (omega (arith, below, copy-is))
 
   abbrev take_with : PortRef → (bus reg : ℕ) → Take
   take_with port bus reg = record { port = port; bus = bus; reg = reg }
 
-  pub take_for : (k n bus reg copies : ℕ) (arc : Arc) (slot : Slot) (transfers : List Transfer) (row : List ℕ)
+  pub take_for : (k n bus reg copy : ℕ) (arc : Arc) (slot : Slot) (transfers : List Transfer) (row : List ℕ)
       → k < length p.arcs
       → arc ≡ slice_index_or p.arcs k arc
       → slot ≡ slice_index_or p.schedule.slots arc.node slot
       → transfers ≡ slot.transfers
       → IsBusTo transfers arc.port bus
-      → copies ≡ arc.copies
+      → copy ≡ n % arc.copies
       → row ≡ slice_index_or p.registers.regs k row
-      → reg ≡ slice_index_or row (n % copies) reg
+      → reg ≡ slice_index_or row copy reg
       → IsTakeFor p k n (record { port = arc.port; bus = bus; reg = reg })
-  take_for k n bus reg copies arc slot transfers row in-k arc-is slot-is transfers-are to copies-are row-is reg-is =
+  take_for k n bus reg copy arc slot transfers row in-k arc-is slot-is transfers-are to copy-is row-is reg-is =
       let is : arc ≡ arc_at p k = arc_is d p ready k arc in-k arc-is in
       let node : arc.node < length (nodes_of p) =
       subst (λ (a : Arc). a.node < length (nodes_of p)) (sym is) (feasible.arcs k in-k).node in
@@ -377,9 +359,8 @@ module _ (d : Datapath) (p : Plan) (ready : IsReady d p) where
       transfers-are ∙ ap (λ (slot : Slot). slot.transfers) (slot_is arc.node slot node slot-is)
       ∙ ap (λ (a : Arc). transfers_at p a.node) is in
       let register : reg ≡ register_at p k (n % (arc_at p k).copies) =
-      register_is d p ready k (n % copies) reg row in-k row-is
-      (copy_room k n copies arc row in-k arc-is copies-are row-is) reg-is
-      ∙ ap (λ c. register_at p k (n % c)) (copies-are ∙ ap (λ (a : Arc). a.copies) is) in
+      register_is d p ready k copy reg row in-k row-is (copy_room k n copy arc row in-k arc-is copy-is row-is) reg-is
+      ∙ ap (register_at p k) copy-is ∙ ap (λ (a : Arc). register_at p k (n % a.copies)) is in
       record {
         transfer = to.transfer;
         of = record {
@@ -399,10 +380,9 @@ module _ (d : Datapath) (p : Plan) (ready : IsReady d p) where
     abbrev written_in : ℕ → ℕ
     written_in k = (arc_at p k).w
 
-    pub no_take_dealt : (count : ℕ) → count ≡ d.period → TakesDealt d p n 0 (replicate count [])
-    no_take_dealt count is =
-        subst (λ count. TakesDealt d p n 0 (replicate count [])) (sym is)
-        (none_dealt written_in TakesIn (λ k take. IsTakeFor p k n take) TakeBefore d.period)
+    pub no_takes : (c k : ℕ) → IsNext written_in (length p.arcs) c 0 k → AreTakesTo p n c k []
+    no_takes c k next =
+        first_reached written_in TakesIn (λ k take. IsTakeFor p k n take) TakeBefore (length p.arcs) c k next
 
     -- the takes of a lifetime are one
     one_take : (k : ℕ) (take : Take) (transfer : Transfer)
@@ -436,22 +416,22 @@ module _ (d : Datapath) (p : Plan) (ready : IsReady d p) where
         inr (au ∙ same.0 ∙ sym bu, inl (omega (arith, same.1, ap', bp))))
         before
 
-    pub take_dealt : (m w : ℕ) (take : Take) (lists : List (List Take))
+    pub one_more_take : (by : ByCycle) (c m next : ℕ) (take : Take) (takes : List Take)
+        → IsWritten d p by
         → m < length p.arcs
-        → w ≡ (arc_at p m).w
         → IsTakeFor p m n take
-        → TakesDealt d p n m lists
-        → TakesDealt d p n (m + 1) (slice_set lists w (slice_index_or lists w [] ++ take ∷ []))
-    take_dealt m w take lists in-m at is dealt =
-        subst (λ c. TakesDealt d p n (m + 1) (slice_set lists c (slice_index_or lists c [] ++ take ∷ []))) (sym at)
-        (dealt_more written_in TakesIn (λ k take. IsTakeFor p k n take) TakeBefore d.period m lists (take ∷ []) things
-        (feasible.arcs m in-m).lifetime.written dealt (record {
+        → next ≡ slice_index_or by.next m next
+        → AreTakesTo p n c m takes
+        → AreTakesTo p n c next (takes ++ take ∷ [])
+    one_more_take by c m next take takes links in-m is after to =
+        next_reached written_in TakesIn (λ k take. IsTakeFor p k n take) TakeBefore (length p.arcs) c m next takes
+        (take ∷ []) in-m things (next_after written_in d.period (length p.arcs) by links m next in-m after) (record {
           has = λ transfer of.
-              subst (Contains (slice_index_or lists (written_in m) [] ++ take ∷ [])) (one_take m take transfer is of)
-              (Contains-append_right (slice_index_or lists (written_in m) []) (take ∷ []) take (in_head take []));
+              subst (Contains (takes ++ take ∷ [])) (one_take m take transfer is of)
+              (Contains-append_right takes (take ∷ []) take (in_head take []));
           of = λ a among. subst (λ take. IsTakeFor p m n take) (is_one take a among) is;
           rise = one_rises TakeBefore take;
-        }))
+        }) to
       where
         things : AreThings written_in TakesIn (λ k take. IsTakeFor p k n take) TakeBefore m
         things = record {
@@ -466,17 +446,15 @@ module _ (d : Datapath) (p : Plan) (ready : IsReady d p) where
               (ready.arcs k m no_arc less in-m);
         }
 
-    pub takes_by_cycle : (things : ℕ) (lists : List (List Take))
-        → length p.arcs ≤ things
-        → TakesDealt d p n things lists
-        → AreByCycle d (HasTakes p n) lists
-    takes_by_cycle things lists all' dealt = record {
-      count = dealt.count_is;
-      each = λ c below.
-          let list = dealt.each c below in record {
-            all = λ k transfer of at. list.all k (omega (arith, of.there, all')) at transfer of;
-            only = λ take among.
-                let of = list.only take among in (of.0, of.3.transfer, of.3.of, of.2, of.3.is);
-            rise = list.rise;
-          };
-    }
+    pub all_takes : (c k : ℕ) (takes : List Take)
+        → length p.arcs ≤ k
+        → AreTakesTo p n c k takes
+        → HasTakes p n c takes
+    all_takes c k takes past to =
+        let list = all_reached written_in TakesIn (λ k take. IsTakeFor p k n take) TakeBefore (length p.arcs) c k takes
+        past to in record {
+          all = λ j transfer of at. list.all j of.there at transfer of;
+          only = λ take among.
+              let of = list.only take among in (of.0, of.3.transfer, of.3.of, of.2, of.3.is);
+          rise = list.rise;
+        }

@@ -1,43 +1,83 @@
 -- The words of the samples, one behind the other.
-use Rattle.std.proofs.Common.{◌≡◌, ℕ, ◌+◌, ◌*◌, ◌<◌, ◌≤◌, ⊎_elim, sym, ap, ◌∙◌, subst, arith, List}
+use Rattle.std.proofs.Common.{◌≡◌, ℕ, ◌+◌, ◌-◌, ◌*◌, ◌<◌, ◌≤◌, ⊎_elim, refl, sym, ap, ◌∙◌, subst, arith, List, [], ◌∷◌, ◌++◌, length}
 use Rattle.std.proofs.Math.Nat.{mul-le-mul_right}
 use Rattle.std.proofs.lemmas.Bool.{cases_lt}
+use Rattle.std.proofs.lemmas.List.{get_or_append_left, get_or-append_right, length-append}
 use Rattle.datapath.specs.declared.types.Datapath.{Datapath}
 use Rattle.plan_core.specs.declared.plan.Plan.{Plan}
+use Rattle.micro_image.specs.declared.image.Enable.{Enable}
+use Rattle.micro_image.specs.declared.image.Issue.{Issue}
+use Rattle.micro_image.specs.declared.image.Take.{Take}
 use Rattle.micro_image.specs.declared.image.Word.{Word}
 use Rattle.micro_image.specs.Fields.{nth, no_word}
 use Rattle.plan_run.specs.ImageOf.{IsWordOf}
 use Rattle.plan_run.proofs.Samples.{one_more}
-use Rattle.microcode_asm.specs.Private.Words.{IsSample, word_in, IsPutBehind, AreWords}
-use Rattle.microcode_asm.specs.declared.words.Sample.{Sample}
+use Rattle.microcode_asm.specs.Private.Words.{HasIssues, HasEnables, HasTakes, AreBehind, AreWords}
 
 module _ (d : Datapath) (p : Plan) where
-  word_is : (n c : ℕ) (sample : Sample) → IsSample d p n sample → c < d.period → IsWordOf d p n c (word_in sample c)
-  word_is n c sample is below =
-      let issues = is.issues.each c below in
-      let enables = is.enables.each c below in
-      let takes = is.takes.each c below in
-      record {
-        issue = issues.all;
-        issue_only = issues.only;
-        enable = enables.all;
-        enable_only = enables.only;
-        take = takes.all;
-        take_only = takes.only;
-        issues_rise = issues.rise;
-        enables_rise = enables.rise;
-        takes_rise = takes.rise;
-      }
+  pub word_is : (n c : ℕ) (issues : List Issue) (enables : List Enable) (takes : List Take)
+      → HasIssues d p n c issues
+      → HasEnables d p c enables
+      → HasTakes p n c takes
+      → IsWordOf d p n c (record { issues = issues; enables = enables; takes = takes })
+  word_is n c issues enables takes are drive write = record {
+    issue = are.all;
+    issue_only = are.only;
+    enable = drive.all;
+    enable_only = drive.only;
+    take = write.all;
+    take_only = write.only;
+    issues_rise = are.rise;
+    enables_rise = drive.rise;
+    takes_rise = write.rise;
+  }
+
+  pub none_behind : (n : ℕ) (old : List Word) → AreBehind d p n 0 old old
+  none_behind n old = record {
+    count = omega arith;
+    before = λ x below. refl;
+    behind = λ c below. absurd (omega (arith, below));
+  }
+
+  -- the word of one more cycle
+  pub word_behind : (n c : ℕ) (word : Word) (old mid new : List Word)
+      → new ≡ mid ++ word ∷ []
+      → IsWordOf d p n c word
+      → AreBehind d p n c old mid
+      → AreBehind d p n (c + 1) old new
+  word_behind n c word old mid new new-is is put =
+      subst (AreBehind d p n (c + 1) old) (sym new-is) (record {
+        count = omega (arith, length-append mid (word ∷ []), put.count);
+        before = λ x below.
+            get_or_append_left mid (word ∷ []) no_word x (omega (arith, below, put.count)) ∙ put.before x below;
+        behind = λ b below.
+            ⊎_elim
+            (λ (less : b < c).
+            subst (IsWordOf d p n b)
+            (sym (get_or_append_left mid (word ∷ []) no_word (length old + b) (omega (arith, less, put.count))))
+            (put.behind b less))
+            (λ (from : c ≤ b). last b (omega (arith, below, from)))
+            (cases_lt b c);
+      })
+    where
+      last : (b : ℕ) → b ≡ c → IsWordOf d p n b (nth (mid ++ word ∷ []) (length old + b) no_word)
+      last b same =
+          subst (λ b. IsWordOf d p n b (nth (mid ++ word ∷ []) (length old + b) no_word)) (sym same)
+          (subst (IsWordOf d p n c)
+          (sym (ap (λ x. nth (mid ++ word ∷ []) x no_word) (sym put.count)
+          ∙ get_or-append_right mid (word ∷ []) (length mid) (length mid) no_word refl (omega arith)
+          ∙ ap (λ i. nth (word ∷ []) i no_word) (none (length mid)))) is)
+        where
+          none : (m : ℕ) → m - m ≡ 0
+          none m = omega arith
 
   -- the words of one more sample
-  pub words_more : (m period : ℕ) (sample : Sample) (old new : List Word)
-      → period ≡ d.period
-      → IsSample d p m sample
-      → IsPutBehind sample period old new
+  pub words_more : (m : ℕ) (old new : List Word)
+      → AreBehind d p m d.period old new
       → AreWords d p m old
       → AreWords d p (m + 1) new
-  words_more m period sample old new period-is is put words = record {
-    count = omega (arith, put.count, words.count, period-is, one_more m d.period);
+  words_more m old new put words = record {
+    count = omega (arith, put.count, words.count, one_more m d.period);
     each = λ n c in-n in-c.
         ⊎_elim
         (λ (less : n < m).
@@ -53,6 +93,4 @@ module _ (d : Datapath) (p : Plan) where
       last n c same in-c =
           subst (λ n. IsWordOf d p n c (nth new (n * d.period + c) no_word)) (sym same)
           (subst (IsWordOf d p m c)
-          (sym (ap (λ x. nth new (x + c) no_word) (sym words.count)
-          ∙ put.behind c (omega (arith, in-c, period-is))))
-          (word_is m c sample is in-c))
+          (ap (λ x. nth new (x + c) no_word) words.count) (put.behind c in-c))

@@ -8,7 +8,8 @@ use Rattle.micro_image.specs.declared.image.Image.{Image}
 use Rattle.micro_image.specs.declared.image.Issue.{Issue}
 use Rattle.micro_image.specs.declared.image.Take.{Take}
 use Rattle.micro_image.specs.declared.image.Word.{Word}
-use Rattle.microcode_asm.specs.OperationText.{line_feed, blank, point, operation_name, argument, format_part}
+use Rattle.operations.specs.Names.{operation_name}
+use Rattle.microcode_asm.specs.OperationText.{line_feed, blank, point, argument, format_part}
 
 abbrev pub register : ℕ → List ℕ
 register reg = blank ∷ decimal reg

@@ -17,27 +17,6 @@ blank = 32
 abbrev pub point : ℕ
 point = 46
 
-abbrev pub operation_name : Op → List ℕ
-operation_name op.Input = codes "input"
-operation_name op.Output = codes "output"
-operation_name op.Const = codes "const"
-operation_name op.Add = codes "add"
-operation_name op.Sub = codes "sub"
-operation_name op.Neg = codes "neg"
-operation_name op.Pass = codes "pass"
-operation_name op.Lt = codes "lt"
-operation_name op.Le = codes "le"
-operation_name op.Eq = codes "eq"
-operation_name op.Ne = codes "ne"
-operation_name op.And = codes "and"
-operation_name op.Or = codes "or"
-operation_name op.Not = codes "not"
-operation_name op.Mul = codes "mul"
-operation_name op.Sel = codes "sel"
-operation_name op.Load = codes "load"
-operation_name op.Store = codes "store"
-operation_name op.Addr = codes "addr"
-
 abbrev pub mode_name : Mode → List ℕ
 mode_name Trunc = codes "trunc"
 mode_name Round = codes "round"

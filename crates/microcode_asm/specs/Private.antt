@@ -1,6 +1,7 @@
 pub mod Printable
 pub mod Ready
 pub mod Dealt
+pub mod Linked
 pub mod Order
 pub mod Lifetimes
 pub mod Buses

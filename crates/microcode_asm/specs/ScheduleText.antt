@@ -13,7 +13,8 @@ use Rattle.plan_core.specs.ListSchedule.{slot_of, cycle_of}
 use Rattle.plan_core.specs.declared.plan.Plan.{Plan}
 use Rattle.plan_core.specs.declared.schedule.Transfer.{Transfer}
 use Rattle.plan_core.specs.declared.registers.Arc.{Arc}
-use Rattle.microcode_asm.specs.OperationText.{line_feed, blank, point, operation_name, argument, format_part}
+use Rattle.operations.specs.Names.{operation_name}
+use Rattle.microcode_asm.specs.OperationText.{line_feed, blank, point, argument, format_part}
 
 abbrev pub comma : ℕ
 comma = 44

@@ -1,14 +1,16 @@
-//! The issues of a sample.
+//! The issues of a cycle.
 
-ghost use Rattle.std.specs.Prelude.{◌≡◌, ◌<◌, ◌≤◌, length, IfOk};
+ghost use Rattle.std.specs.Prelude.{◌≡◌, ◌<◌, length, IfOk};
 ghost use Rattle.plan_core.specs.Hardware.{unit_of};
 ghost use Rattle.plan_run.specs.Parts.{nodes_of, node_at, edge_at, unit_at, IsCopy};
 ghost use Rattle.plan_run.specs.ImageOf.{IsIssueOf};
-ghost use Rattle.microcode_asm.specs.Private.Words.{IsPortRegister, ArePortRegisters, AreByCycle, HasIssues, IsIssuer};
+ghost use Rattle.microcode_asm.specs.Private.Ready.{IsReady};
+ghost use Rattle.microcode_asm.specs.Private.Order.{IsUnitOrder};
+ghost use Rattle.microcode_asm.specs.Private.Words.{IsPortRegister, ArePortRegisters, HasIssues, IsIssuer, IsIssued};
 
+use crate::by_cycle::ByCycle;
 use crate::fault::AsmFault;
 use crate::lifetimes::ArcIndex;
-use crate::tables::{add_room, empty_lists, no_room, push_at};
 use datapath::{Datapath, PortRef};
 use lists::List;
 use micro_image::Issue;
@@ -26,11 +28,15 @@ pub(crate) fn copy_ago(copies: u8, n: usize, ago: usize) -> usize
     requires few { n < 4 }
     ensures { IsCopy copies n ago result }
 {
+    // Most lifetimes have one copy, for which nothing is divided.
+    if copies == 1 {
+        return 0;
+    }
     let copies = usize::from(copies);
     (n + copies - ago % copies) % copies
 }
 
-/// A plan whose issues are made.
+/// A plan whose microwords are made, with what stands in each of its cycles.
 #[derive(Clone, Copy)]
 pub(crate) struct Issuer<'a> {
     pub plan: &'a Plan,
@@ -38,17 +44,30 @@ pub(crate) struct Issuer<'a> {
     /// The nodes by unit.
     pub order: &'a List<usize>,
     pub index: &'a ArcIndex,
+    /// The nodes, by their places in order, by the cycle in which they are issued.
+    pub issued: &'a ByCycle,
+    /// The nodes, by their places in order, by the cycle in which their result is there.
+    pub ended: &'a ByCycle,
+    /// The lifetimes by the cycle of their write.
+    pub written: &'a ByCycle,
 }
 
-/// How many issues each cycle has.
-fn issue_rooms(alloc: Global, plan: &Plan, period: usize) -> Result<List<usize>, AsmFault>
-    ensures { IfOk result (λ rooms. length rooms ≡ period) }
+/// The nodes, by their places in order, by the cycle in which they are issued.
+pub(crate) fn nodes_by_issue(
+    alloc: Global,
+    plan: &Plan,
+    datapath: &Datapath,
+    order: &List<usize>,
+) -> Result<ByCycle, AsmFault>
+    requires ready { IsReady datapath.now plan.now }
+    requires order { IsUnitOrder plan.now order.now }
+    ensures { IfOk result (IsIssued datapath.now plan.now order.now) }
 {
-    let mut rooms = no_room(alloc, period)?;
-    for slot in plan.schedule.slots.iter() {
-        add_room(&mut rooms, usize::from(slot.cycle));
+    let mut by_issue = ByCycle::without(alloc, usize::from(datapath.period), order.len())?;
+    for i in (0..order.len()).rev() {
+        by_issue.put_first(usize::from(plan.schedule.slots[order[i]].cycle), i);
     }
-    Ok(rooms)
+    Ok(by_issue)
 }
 
 impl Issuer<'_> {
@@ -121,22 +140,18 @@ impl Issuer<'_> {
         })
     }
 
-    /// The issues of sample n, by cycle.
-    pub(crate) fn issues(&self, alloc: Global, n: usize) -> Result<List<List<Issue>>, AsmFault>
+    /// The issues of cycle c of sample n.
+    pub(crate) fn issues(&self, alloc: Global, n: usize, c: usize) -> Result<List<Issue>, AsmFault>
         requires issuer { IsIssuer self.now }
         requires sample { n < self.now.plan.now.unroll }
-        ensures { IfOk result (AreByCycle self.now.datapath.now
-            (HasIssues self.now.datapath.now self.now.plan.now n)) }
+        requires cycle { c < self.now.datapath.now.period }
+        ensures { IfOk result (HasIssues self.now.datapath.now self.now.plan.now n c) }
     {
-        let rooms = issue_rooms(alloc, self.plan, usize::from(self.datapath.period))?;
-        let mut issues = empty_lists(alloc, &rooms)?;
-        for v in self.order.iter() {
-            let issue = self.issue(alloc, *v, n)?;
-            push_at(
-                &mut issues,
-                usize::from(self.plan.schedule.slots[*v].cycle),
-                issue,
-            )?;
+        let mut issues = List::with_capacity(alloc, self.issued.room(c))?;
+        let mut i = self.issued.first[c];
+        while i < self.order.len() {
+            issues.push(self.issue(alloc, self.order[i], n)?)?;
+            i = self.issued.next[i];
         }
         Ok(issues)
     }

@@ -3,6 +3,7 @@
 
 mod arc_search;
 mod assembler;
+mod by_cycle;
 mod enables;
 mod fault;
 mod image_text;

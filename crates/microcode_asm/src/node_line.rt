@@ -7,10 +7,11 @@ ghost use Rattle.microcode_asm.specs.ScheduleText.{operand, operation_part, plac
 ghost use Rattle.microcode_asm.specs.Private.Printable.{IsToPort, IsPrintable};
 
 use crate::arc_search::registers_at;
-use crate::operation_text::{operation_name, put_argument, put_format};
+use crate::operation_text::{put_argument, put_format};
 use crate::text::{put_number, put_registers, put_text};
 use datapath::Datapath;
 use lists::Bytes;
+use operations::operation_name;
 use plan_core::{Plan, Transfer};
 use signal_graph::{Edge, Node};
 use std::alloc::AllocError;

@@ -1,7 +1,7 @@
 //! The text of an operation, with its argument and its format.
 
 ghost use Rattle.std.specs.Prelude.{◌≡◌, ◌++◌, OnOk};
-ghost use Rattle.microcode_asm.specs.OperationText.{operation_name as operation_name_of, mode_name as mode_name_of};
+ghost use Rattle.microcode_asm.specs.OperationText.{mode_name as mode_name_of};
 ghost use Rattle.microcode_asm.specs.OperationText.{has_argument as has_argument_of, argument, format_part};
 
 use crate::text::{put_number, put_signed, put_text};
@@ -9,32 +9,6 @@ use fix_word::{Format, Mode, Op};
 use lists::Bytes;
 use operations::is_formatted;
 use std::alloc::AllocError;
-
-pub(crate) fn operation_name(op: Op) -> &'static str
-    ensures { result.now ≡ operation_name_of op }
-{
-    match op {
-        Op::Input => "input",
-        Op::Output => "output",
-        Op::Const => "const",
-        Op::Add => "add",
-        Op::Sub => "sub",
-        Op::Neg => "neg",
-        Op::Pass => "pass",
-        Op::Lt => "lt",
-        Op::Le => "le",
-        Op::Eq => "eq",
-        Op::Ne => "ne",
-        Op::And => "and",
-        Op::Or => "or",
-        Op::Not => "not",
-        Op::Mul => "mul",
-        Op::Sel => "sel",
-        Op::Load => "load",
-        Op::Store => "store",
-        Op::Addr => "addr",
-    }
-}
 
 fn mode_name(mode: Mode) -> &'static str
     ensures { result.now ≡ mode_name_of mode }

@@ -1,6 +1,6 @@
 //! The words with which registers and cells start.
 
-ghost use Rattle.std.specs.Prelude.{◌≡◌, ◌<◌, ◌+◌, length, IfOk};
+ghost use Rattle.std.specs.Prelude.{◌≡◌, ◌<◌, ◌+◌, ◌/◌, length, IfOk};
 ghost use Rattle.signal_graph.specs.Rules.{word_before as word_at};
 ghost use Rattle.micro_image.specs.declared.image.Image.{Image};
 ghost use Rattle.plan_run.specs.Parts.{lines_of};
@@ -29,6 +29,18 @@ fn word_before(inits: &[(u16, i64)], ago: usize) -> i64
     0
 }
 
+/// How many whole periods have passed in a cycle that is counted from the start of a sample. Most lifetimes end within
+/// the first one, which takes no division to see.
+fn periods_until(cycle: u16, period: u16) -> u16
+    requires { 0 < period }
+    ensures { result ≡ cycle / period }
+{
+    if cycle < period {
+        return 0;
+    }
+    cycle / period
+}
+
 /// Puts the words of before sample 0 that are read through lifetime k into its registers.
 fn start_registers(plan: &Plan, datapath: &Datapath, k: usize, units: &mut List<UnitDesc>)
     requires ready { IsReady datapath.now plan.now }
@@ -43,7 +55,7 @@ fn start_registers(plan: &Plan, datapath: &Datapath, k: usize, units: &mut List<
     let inits = plan.assigned.lowered.nodes[arc.node as usize]
         .inits
         .as_slice();
-    let most = usize::from(arc.r / datapath.period);
+    let most = usize::from(periods_until(arc.r, datapath.period));
     for ago in 1..most + 1 {
         let reg = plan.registers.regs[k][copy_ago(arc.copies, 0, ago)];
         write_register(units, arc.port, reg, word_before(inits, ago));

@@ -1,14 +1,15 @@
-//! The register-file writes of a sample.
+//! The register-file writes of a cycle.
 
-ghost use Rattle.std.specs.Prelude.{◌≡◌, ◌<◌, ◌≤◌, ℕ, length, IfOk};
+ghost use Rattle.std.specs.Prelude.{◌≡◌, ◌%◌, ◌<◌, ℕ, length, IfOk};
 ghost use Rattle.plan_core.specs.declared.schedule.Transfer.{Transfer};
 ghost use Rattle.microcode_asm.specs.Private.Ready.{IsReady};
 ghost use Rattle.microcode_asm.specs.Private.Buses.{IsBusTo};
-ghost use Rattle.microcode_asm.specs.Private.Words.{AreByCycle, HasTakes, IsTakeFor};
+ghost use Rattle.microcode_asm.specs.Private.Words.{HasTakes, IsTakeFor, IsIssuer, IsWritten};
 
+use crate::by_cycle::ByCycle;
 use crate::fault::AsmFault;
+use crate::issues::Issuer;
 use crate::lifetimes::is_same_port;
-use crate::tables::{add_room, empty_lists, no_room, push_at};
 use datapath::{Datapath, PortRef};
 use lists::List;
 use micro_image::Take;
@@ -28,6 +29,17 @@ fn bus_to(transfers: &[Transfer], port: PortRef) -> u8
     unreachable!()
 }
 
+/// The copy with the word of sample n, where the words of successive samples stand in so many copies in turn.
+fn copy_in(copies: u8, n: usize) -> usize
+    requires { 0 < copies }
+    ensures { result ≡ n % copies }
+{
+    if copies == 1 {
+        return 0;
+    }
+    n % usize::from(copies)
+}
+
 /// The take of lifetime k in sample n.
 fn take(plan: &Plan, datapath: &Datapath, k: usize, n: usize) -> Take
     requires ready { IsReady datapath.now plan.now }
@@ -39,35 +51,43 @@ fn take(plan: &Plan, datapath: &Datapath, k: usize, n: usize) -> Take
     Take {
         port: arc.port,
         bus: bus_to(slot.transfers.as_slice(), arc.port),
-        reg: plan.registers.regs[k][n % usize::from(arc.copies)],
+        reg: plan.registers.regs[k][copy_in(arc.copies, n)],
     }
 }
 
-/// How many register files are written in each cycle, over no more buses.
-pub(crate) fn take_rooms(alloc: Global, plan: &Plan, period: usize) -> Result<List<usize>, AsmFault>
-    ensures { IfOk result (λ rooms. length rooms ≡ period) }
-{
-    let mut rooms = no_room(alloc, period)?;
-    for arc in plan.arcs.iter() {
-        add_room(&mut rooms, usize::from(arc.w));
-    }
-    Ok(rooms)
-}
-
-/// The register-file writes of sample n, by cycle.
-pub(crate) fn takes(
+/// The lifetimes by the cycle of their write.
+pub(crate) fn arcs_by_write(
     alloc: Global,
     plan: &Plan,
     datapath: &Datapath,
-    n: usize,
-) -> Result<List<List<Take>>, AsmFault>
-    requires ready { IsReady datapath.now plan.now }
-    ensures { IfOk result (AreByCycle datapath.now (HasTakes plan.now n)) }
+) -> Result<ByCycle, AsmFault>
+    requires { IsReady datapath.now plan.now }
+    ensures { IfOk result (IsWritten datapath.now plan.now) }
 {
-    let rooms = take_rooms(alloc, plan, usize::from(datapath.period))?;
-    let mut takes = empty_lists(alloc, &rooms)?;
-    for (k, arc) in plan.arcs.iter().enumerate() {
-        push_at(&mut takes, usize::from(arc.w), take(plan, datapath, k, n))?;
+    let mut by_write = ByCycle::without(alloc, usize::from(datapath.period), plan.arcs.len())?;
+    for k in (0..plan.arcs.len()).rev() {
+        by_write.put_first(usize::from(plan.arcs[k].w), k);
+    }
+    Ok(by_write)
+}
+
+/// The register-file writes of cycle c of sample n.
+pub(crate) fn takes(
+    alloc: Global,
+    issuer: &Issuer,
+    n: usize,
+    c: usize,
+) -> Result<List<Take>, AsmFault>
+    requires issuer { IsIssuer issuer.now }
+    requires sample { n < issuer.now.plan.now.unroll }
+    requires cycle { c < issuer.now.datapath.now.period }
+    ensures { IfOk result (HasTakes issuer.now.plan.now n c) }
+{
+    let mut takes = List::with_capacity(alloc, issuer.written.room(c))?;
+    let mut k = issuer.written.first[c];
+    while k < issuer.plan.arcs.len() {
+        takes.push(take(issuer.plan, issuer.datapath, k, n))?;
+        k = issuer.written.next[k];
     }
     Ok(takes)
 }

@@ -5,10 +5,11 @@ ghost use Rattle.std.specs.List.{flat_map};
 ghost use Rattle.microcode_asm.specs.Listing.{register, registers, issue_line, enable_line, take_line};
 ghost use Rattle.microcode_asm.specs.Listing.{is_empty as is_empty_in, word_lines};
 
-use crate::operation_text::{operation_name, put_argument, put_format};
+use crate::operation_text::{put_argument, put_format};
 use crate::text::{put_number, put_text};
 use lists::Bytes;
 use micro_image::{Enable, Issue, Take, Word};
+use operations::operation_name;
 use std::alloc::AllocError;
 
 /// Adds a blank and a register for each.

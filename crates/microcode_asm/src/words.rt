@@ -1,60 +1,50 @@
 //! The microwords of a plan.
 
-ghost use Rattle.std.specs.Prelude.{◌≡◌, ◌<◌, ◌≤◌, ℕ, length, IfOk, OnOk};
+ghost use Rattle.std.specs.Prelude.{◌<◌, IfOk, OnOk};
+ghost use Rattle.plan_run.specs.ImageOf.{IsWordOf};
 ghost use Rattle.microcode_asm.specs.Private.Ready.{IsReady};
-ghost use Rattle.microcode_asm.specs.Private.Words.{IsSample, IsIssuer, IsPutBehind, AreWords};
+ghost use Rattle.microcode_asm.specs.Private.Words.{IsIssuer, AreBehind, AreWords};
 
-use crate::enables::enables;
+use crate::enables::{enables, nodes_by_result};
 use crate::fault::AsmFault;
-use crate::issues::Issuer;
+use crate::issues::{Issuer, nodes_by_issue};
 use crate::lifetimes::arc_index;
 use crate::order::unit_order;
-use crate::takes::takes;
+use crate::takes::{arcs_by_write, takes};
 use datapath::Datapath;
 use lists::List;
-use micro_image::{Enable, Issue, Take, Word};
+use micro_image::Word;
 use plan_core::Plan;
 use std::alloc::Global;
 
-/// What the words of a sample hold, by cycle.
-#[derive(Drop)]
-struct Sample {
-    issues: List<List<Issue>>,
-    enables: List<List<Enable>>,
-    takes: List<List<Take>>,
-}
-
-/// What the words of sample n hold.
-fn sample_of(alloc: Global, issuer: &Issuer, n: usize) -> Result<Sample, AsmFault>
+/// The word of cycle c of sample n.
+fn word(alloc: Global, issuer: &Issuer, n: usize, c: usize) -> Result<Word, AsmFault>
     requires issuer { IsIssuer issuer.now }
     requires sample { n < issuer.now.plan.now.unroll }
-    ensures { IfOk result (IsSample issuer.now.datapath.now issuer.now.plan.now n) }
+    requires cycle { c < issuer.now.datapath.now.period }
+    ensures { IfOk result (IsWordOf issuer.now.datapath.now issuer.now.plan.now n c) }
 {
-    Ok(Sample {
-        issues: issuer.issues(alloc, n)?,
-        enables: enables(alloc, issuer.plan, issuer.datapath, issuer.order)?,
-        takes: takes(alloc, issuer.plan, issuer.datapath, n)?,
+    Ok(Word {
+        issues: issuer.issues(alloc, n, c)?,
+        enables: enables(alloc, issuer, c)?,
+        takes: takes(alloc, issuer, n, c)?,
     })
 }
 
-/// Puts the words of a sample behind those before.
+/// Puts the words of sample n behind those before.
 fn put_words(
     alloc: Global,
-    mut sample: Sample,
-    period: usize,
+    issuer: &Issuer,
+    n: usize,
     words: &mut List<Word>,
 ) -> Result<(), AsmFault>
-    requires issues { length sample.issues ≡ period }
-    requires enables { length sample.enables ≡ period }
-    requires takes { length sample.takes ≡ period }
-    ensures { OnOk result (IsPutBehind sample period words.old words.new) }
+    requires issuer { IsIssuer issuer.now }
+    requires sample { n < issuer.now.plan.now.unroll }
+    ensures { OnOk result (AreBehind issuer.now.datapath.now issuer.now.plan.now n issuer.now.datapath.now.period
+        words.old words.new) }
 {
-    for c in 0..period {
-        words.push(Word {
-            issues: sample.issues.replace(c, List::new(alloc)),
-            enables: sample.enables.replace(c, List::new(alloc)),
-            takes: sample.takes.replace(c, List::new(alloc)),
-        })?;
+    for c in 0..usize::from(issuer.datapath.period) {
+        words.push(word(alloc, issuer, n, c)?)?;
     }
     Ok(())
 }
@@ -66,10 +56,9 @@ fn words_of(alloc: Global, issuer: &Issuer) -> Result<List<Word>, AsmFault>
         (AreWords issuer.now.datapath.now issuer.now.plan.now issuer.now.plan.now.unroll) }
 {
     let unroll = usize::from(issuer.plan.unroll);
-    let period = usize::from(issuer.datapath.period);
-    let mut words = List::with_capacity(alloc, unroll * period)?;
+    let mut words = List::with_capacity(alloc, unroll * usize::from(issuer.datapath.period))?;
     for n in 0..unroll {
-        put_words(alloc, sample_of(alloc, issuer, n)?, period, &mut words)?;
+        put_words(alloc, issuer, n, &mut words)?;
     }
     Ok(words)
 }
@@ -81,11 +70,17 @@ pub(crate) fn words(alloc: Global, plan: &Plan, datapath: &Datapath) -> Result<L
 {
     let order = unit_order(alloc, plan, datapath)?;
     let index = arc_index(alloc, plan, datapath)?;
+    let issued = nodes_by_issue(alloc, plan, datapath, &order)?;
+    let ended = nodes_by_result(alloc, plan, datapath, &order)?;
+    let written = arcs_by_write(alloc, plan, datapath)?;
     let issuer = Issuer {
         plan,
         datapath,
         order: &order,
         index: &index,
+        issued: &issued,
+        ended: &ended,
+        written: &written,
     };
     words_of(alloc, &issuer)
 }

@@ -1,5 +1,5 @@
--- What the words of a sample hold, by cycle.
-use Rattle.std.specs.Prelude.{◌≡◌, ℕ, ◌+◌, ◌*◌, ◌<◌, ◌≤◌, List, [], length, Contains}
+-- What the words of a sample hold.
+use Rattle.std.specs.Prelude.{◌≡◌, ℕ, ◌+◌, ◌*◌, ◌<◌, ◌≤◌, List, length, Contains}
 use Rattle.std.specs.List.{AllPairs}
 use Rattle.datapath.specs.declared.types.Datapath.{Datapath}
 use Rattle.plan_core.specs.declared.schedule.Transfer.{Transfer}
@@ -13,16 +13,11 @@ use Rattle.micro_image.specs.Valid.{EnableBefore, TakeBefore}
 use Rattle.plan_run.specs.Parts.{nodes_of, node_at, edge_at, cycle_at, transfers_at, arc_at, register_at, ReadsThrough, IsTransferOf, ends_at, IsCopy}
 use Rattle.plan_run.specs.ImageOf.{IsIssueOf, IsWordOf, enable_of, take_of}
 use Rattle.microcode_asm.specs.Private.Ready.{IsReady}
-use Rattle.microcode_asm.specs.Private.Dealt.{AreDealt}
+use Rattle.microcode_asm.specs.Private.Linked.{IsByCycle, IsReached}
 use Rattle.microcode_asm.specs.Private.Order.{IsUnitOrder}
 use Rattle.microcode_asm.specs.Private.Lifetimes.{IsArcIndex}
+use Rattle.microcode_asm.specs.declared.by_cycle.ByCycle.{ByCycle}
 use Rattle.microcode_asm.specs.declared.issues.Issuer.{Issuer}
-use Rattle.microcode_asm.specs.declared.words.Sample.{Sample}
-
--- a list for each cycle
-pub record AreByCycle {A : Type 0} (d : Datapath) (Is : ℕ → List A → Type 0) (lists : List (List A)) : Type 0 where
-  pub count : length lists ≡ d.period
-  pub each : (c : ℕ) → c < d.period → Is c (nth lists c [])
 
 -- the node that is the i-th one in order
 abbrev pub node_in : List ℕ → ℕ → ℕ
@@ -62,27 +57,27 @@ module _ (d : Datapath) (p : Plan) where
         × Contains (transfers_at p v) transfer × (enable ≡ enable_of p v transfer)
     pub rise : AllPairs EnableBefore enables
 
-  -- the issues in sample n of the first nodes in order, each in the list of its cycle
-  abbrev pub IssuesDealt : List ℕ → (n things : ℕ) → List (List Issue) → Type 0
-  IssuesDealt order n things lists =
-      AreDealt (λ (i : ℕ). cycle_at p (node_in order i))
-      (λ (i : ℕ) (issues : List Issue).
-      (issue : Issue) × Contains issues issue × IsIssueOf d p (node_in order i) n issue)
-      (λ (i : ℕ) (issue : Issue). IsIssueOf d p (node_in order i) n issue)
+  -- the issues in sample n of the cycle's nodes before the i-th one in order, which is the cycle's next
+  abbrev pub AreIssuesTo : List ℕ → (n c i : ℕ) → List Issue → Type 0
+  AreIssuesTo order n c i issues =
+      IsReached (λ (j : ℕ). cycle_at p (node_in order j))
+      (λ (j : ℕ) (issues : List Issue).
+      (issue : Issue) × Contains issues issue × IsIssueOf d p (node_in order j) n issue)
+      (λ (j : ℕ) (issue : Issue). IsIssueOf d p (node_in order j) n issue)
       (λ (a b : Issue). a.unit < b.unit)
-      d.period things lists
+      (length order) c i issues
 
-  -- the drives of the first nodes in order, each in the list of the cycle in which the node's result is there
-  abbrev pub EnablesDealt : List ℕ → (things : ℕ) → List (List Enable) → Type 0
-  EnablesDealt order things lists =
-      AreDealt (λ (i : ℕ). ends_at d p (node_in order i))
-      (λ (i : ℕ) (enables : List Enable). (transfer : Transfer)
-      → Contains (transfers_at p (node_in order i)) transfer
-      → Contains enables (enable_of p (node_in order i) transfer))
-      (λ (i : ℕ) (enable : Enable). (transfer : Transfer)
-      × Contains (transfers_at p (node_in order i)) transfer
-      × (enable ≡ enable_of p (node_in order i) transfer))
-      EnableBefore d.period things lists
+  -- the drives of the nodes before the i-th one in order whose result is there in the cycle, as is next that one's
+  abbrev pub AreEnablesTo : List ℕ → (c i : ℕ) → List Enable → Type 0
+  AreEnablesTo order c i enables =
+      IsReached (λ (j : ℕ). ends_at d p (node_in order j))
+      (λ (j : ℕ) (enables : List Enable). (transfer : Transfer)
+      → Contains (transfers_at p (node_in order j)) transfer
+      → Contains enables (enable_of p (node_in order j) transfer))
+      (λ (j : ℕ) (enable : Enable). (transfer : Transfer)
+      × Contains (transfers_at p (node_in order j)) transfer
+      × (enable ≡ enable_of p (node_in order j) transfer))
+      EnableBefore (length order) c i enables
 
   -- a word for each cycle of the first samples
   pub record AreWords (samples : ℕ) (words : List Word) : Type 0 where
@@ -95,14 +90,14 @@ pub record IsTakeFor (p : Plan) (k n : ℕ) (take : Take) : Type 0 where
   pub of : IsTransferOf p k transfer
   pub is : take ≡ take_of p k transfer n
 
--- the takes in sample n of the first lifetimes, each in the list of its cycle
-abbrev pub TakesDealt : Datapath → Plan → (n things : ℕ) → List (List Take) → Type 0
-TakesDealt d p n things lists =
-    AreDealt (λ (k : ℕ). (arc_at p k).w)
-    (λ (k : ℕ) (takes : List Take). (transfer : Transfer)
-    → IsTransferOf p k transfer → Contains takes (take_of p k transfer n))
-    (λ (k : ℕ) (take : Take). IsTakeFor p k n take)
-    TakeBefore d.period things lists
+-- the takes in sample n of the cycle's lifetimes before lifetime k, which is the cycle's next
+abbrev pub AreTakesTo : Plan → (n c k : ℕ) → List Take → Type 0
+AreTakesTo p n c k takes =
+    IsReached (λ (j : ℕ). (arc_at p j).w)
+    (λ (j : ℕ) (takes : List Take). (transfer : Transfer)
+    → IsTransferOf p j transfer → Contains takes (take_of p j transfer n))
+    (λ (j : ℕ) (take : Take). IsTakeFor p j n take)
+    TakeBefore (length p.arcs) c k takes
 
 -- the takes of cycle c of sample n
 pub record HasTakes (p : Plan) (n c : ℕ) (takes : List Take) : Type 0 where
@@ -114,32 +109,28 @@ pub record HasTakes (p : Plan) (n c : ℕ) (takes : List Take) : Type 0 where
       × (take ≡ take_of p k transfer n)
   pub rise : AllPairs TakeBefore takes
 
--- what the words of sample n hold
-pub record IsSample (d : Datapath) (p : Plan) (n : ℕ) (sample : Sample) : Type 0 where
-  pub issues : AreByCycle d (HasIssues d p n) sample.issues
-  pub enables : AreByCycle d (HasEnables d p) sample.enables
-  pub takes : AreByCycle d (HasTakes p n) sample.takes
-
--- the word of cycle c
-abbrev pub word_in : Sample → ℕ → Word
-word_in sample c =
-    record { issues = nth sample.issues c []; enables = nth sample.enables c []; takes = nth sample.takes c [] }
-
--- of what the words hold, that of the cycles from this one on is left
-pub record IsLeft (sample : Sample) (period cycles : ℕ) (left : Sample) : Type 0 where
-  pub issue_count : length left.issues ≡ period
-  pub enable_count : length left.enables ≡ period
-  pub take_count : length left.takes ≡ period
-  pub same : (c : ℕ) → cycles ≤ c → word_in left c ≡ word_in sample c
-
--- the words of the first cycles stand behind the old ones
-pub record IsPutBehind (sample : Sample) (cycles : ℕ) (old new : List Word) : Type 0 where
+-- the words of the first cycles of sample n stand behind the old ones
+pub record AreBehind (d : Datapath) (p : Plan) (n cycles : ℕ) (old new : List Word) : Type 0 where
   pub count : length new ≡ length old + cycles
   pub before : (x : ℕ) → x < length old → nth new x no_word ≡ nth old x no_word
-  pub behind : (c : ℕ) → c < cycles → nth new (length old + c) no_word ≡ word_in sample c
+  pub behind : (c : ℕ) → c < cycles → IsWordOf d p n c (nth new (length old + c) no_word)
 
--- a plan with its nodes by unit and its lifetimes by node
+-- the nodes in order by the cycle in which they are issued, and by that in which their result is there
+abbrev pub IsIssued : Datapath → Plan → List ℕ → ByCycle → Type 0
+IsIssued d p order by = IsByCycle (λ (i : ℕ). cycle_at p (node_in order i)) d.period (length order) by
+
+abbrev pub IsEnded : Datapath → Plan → List ℕ → ByCycle → Type 0
+IsEnded d p order by = IsByCycle (λ (i : ℕ). ends_at d p (node_in order i)) d.period (length order) by
+
+-- the lifetimes by the cycle of their write
+abbrev pub IsWritten : Datapath → Plan → ByCycle → Type 0
+IsWritten d p by = IsByCycle (λ (k : ℕ). (arc_at p k).w) d.period (length p.arcs) by
+
+-- a plan with its nodes by unit, and these and its lifetimes by cycle, and lifetimes by node
 pub record IsIssuer (issuer : Issuer) : Type 0 where
   pub ready : IsReady issuer.datapath.now issuer.plan.now
   pub order : IsUnitOrder issuer.plan.now issuer.order.now
   pub index : IsArcIndex (length (nodes_of issuer.plan.now)) issuer.plan.now.arcs issuer.index.now
+  pub issued : IsIssued issuer.datapath.now issuer.plan.now issuer.order.now issuer.issued.now
+  pub ended : IsEnded issuer.datapath.now issuer.plan.now issuer.order.now issuer.ended.now
+  pub written : IsWritten issuer.datapath.now issuer.plan.now issuer.written.now

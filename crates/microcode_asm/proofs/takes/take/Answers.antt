@@ -7,19 +7,19 @@ bus_to-requires c =
     c.index-slot.result.now c.as_slice.result.now c.requires.there c.index-arc.ensures c.index-slot.ensures
     c.as_slice.ensures
 
-pub nonzero_rem-n : goal.nonzero_rem-n
-nonzero_rem-n c =
-    copies_some c.args.datapath.now c.args.plan.now c.requires.ready c.args.k c.from.result c.index-arc.result.now
-    c.requires.there c.index-arc.ensures c.from.ensures
+pub copy_in-requires : goal.copy_in-requires
+copy_in-requires c =
+    copies_some c.args.datapath.now c.args.plan.now c.requires.ready c.args.k c.index-arc.result.now
+    c.requires.there c.index-arc.ensures
 
 pub index-requires-2 : goal.index-requires-2
 index-requires-2 c =
-    copy_room c.args.datapath.now c.args.plan.now c.requires.ready c.args.k c.args.n c.from.result
-    c.index-arc.result.now c.index.result.now c.requires.there c.index-arc.ensures c.from.ensures c.index.ensures
+    copy_room c.args.datapath.now c.args.plan.now c.requires.ready c.args.k c.args.n c.copy_in.result
+    c.index-arc.result.now c.index.result.now c.requires.there c.index-arc.ensures c.copy_in.ensures c.index.ensures
 
 pub returns : goal.returns
 returns c =
     take_for c.args.datapath.now c.args.plan.now c.requires.ready c.args.k c.args.n c.bus_to.result
-    c.index-2.result.now c.from.result c.index-arc.result.now c.index-slot.result.now c.as_slice.result.now
+    c.index-2.result.now c.copy_in.result c.index-arc.result.now c.index-slot.result.now c.as_slice.result.now
     c.index.result.now c.requires.there c.index-arc.ensures c.index-slot.ensures c.as_slice.ensures
-    c.bus_to.ensures c.from.ensures c.index.ensures c.index-2.ensures
+    c.bus_to.ensures c.copy_in.ensures c.index.ensures c.index-2.ensures

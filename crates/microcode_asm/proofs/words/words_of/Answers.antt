@@ -5,9 +5,8 @@ use Rattle.microcode_asm.proofs.words.words_of.Goals as goal
 
 pub loop-n-preserved : goal.loop-n-preserved
 loop-n-preserved c =
-    words_more c.args.issuer.now.datapath.now c.args.issuer.now.plan.now c.loop-n.n c.from-period.result
-    c.in_ok-sample_of.field-0 c.loop-n.words c.put_words.new.words c.from-period.ensures c.in_ok-sample_of.ensures
-    c.in_ok-put_words.ensures c.loop-n.invariant
+    words_more c.args.issuer.now.datapath.now c.args.issuer.now.plan.now c.loop-n.n c.loop-n.words
+    c.put_words.new.words c.in_ok-put_words.ensures c.loop-n.invariant
 
 pub returns : goal.returns
 returns c =

@@ -1,66 +1,26 @@
-use Rattle.std.proofs.Common.{◌+◌, ◌++◌, [], ◌∷◌, arith, ap, sym, subst, length, slice_index_or, slice_set, List, ℕ}
-use Rattle.micro_image.specs.declared.image.Issue.{Issue}
-use Rattle.microcode_asm.specs.Private.Order.{IsUnitOrder}
-use Rattle.microcode_asm.specs.Private.Words.{node_in, IssuesDealt}
-use Rattle.microcode_asm.proofs.PlanFacts.{in_period}
-use Rattle.microcode_asm.proofs.SampleSteps.{item_there, slot_is, issue_dealt, issues_by_cycle}
-use Rattle.plan_core.specs.declared.schedule.Slot.{Slot}
+use Rattle.std.proofs.Common.{arith, sym, subst}
+use Rattle.microcode_asm.specs.Private.Words.{AreIssuesTo}
+use Rattle.microcode_asm.proofs.SampleSteps.{in_nodes, one_more_issue, all_issues}
 use Rattle.microcode_asm.proofs.issues.Issuer.issues.Goals as goal
 
 pub issue-requires-clause-node : goal.issue-requires-clause-node
 issue-requires-clause-node c =
-    item_there c.args.self.now.datapath.now c.args.self.now.plan.now c.requires.issuer.ready
-    c.args.self.now.order.now c.requires.issuer.order c.deref-v-items.result.now c.loop-v.v-index
-    c.deref-v-items.ensures (omega arith)
+    in_nodes c.args.self.now.datapath.now c.args.self.now.plan.now c.requires.issuer.ready
+    c.args.self.now.order.now c.requires.issuer.order c.loop-i.i c.index.result.now (omega arith) c.index.ensures
 
-pub index-requires : goal.index-requires
-index-requires c =
-    omega (
-      arith,
-      item_there c.args.self.now.datapath.now c.args.self.now.plan.now c.requires.issuer.ready
-          c.args.self.now.order.now c.requires.issuer.order c.deref-v-items.result.now c.loop-v.v-index
-          c.deref-v-items.ensures (omega arith),
-      c.requires.issuer.ready.slot_count,
-    )
-
-pub push_at-requires : goal.push_at-requires
-push_at-requires c =
-    let v = node_in c.deref-v-items.result.now c.loop-v.v-index in
-    let in-v = item_there c.args.self.now.datapath.now c.args.self.now.plan.now c.requires.issuer.ready
-    c.args.self.now.order.now c.requires.issuer.order c.deref-v-items.result.now c.loop-v.v-index
-    c.deref-v-items.ensures (omega arith) in
-    omega (
-      arith,
-      c.from-in-loop-v.ensures,
-      ap (λ (slot : Slot). slot.cycle) (slot_is c.args.self.now.datapath.now c.args.self.now.plan.now
-          c.requires.issuer.ready v c.index.result.now in-v c.index.ensures),
-      in_period c.args.self.now.datapath.now c.args.self.now.plan.now c.requires.issuer.ready v in-v,
-      c.loop-v.invariant.count_is,
-    )
-
-pub loop-v-preserved : goal.loop-v-preserved
-loop-v-preserved c =
+pub loop-i-preserved : goal.loop-i-preserved
+loop-i-preserved c =
     let d = c.args.self.now.datapath.now in
     let p = c.args.self.now.plan.now in
-    let items = c.deref-v-items.result.now in
-    let m = c.loop-v.v-index in
-    let ordered = subst (IsUnitOrder p) (sym c.deref-v-items.ensures) c.requires.issuer.order in
-    subst (λ (lists : List (List Issue)). IssuesDealt d p c.args.self.now.order.now c.args.n (m + 1) lists)
-    (sym c.in_ok-push_at.ensures)
-    (subst
-    (λ (order : List ℕ). IssuesDealt d p order c.args.n (m + 1)
-    (slice_set c.loop-v.issues c.from-in-loop-v.result
-    (slice_index_or c.loop-v.issues c.from-in-loop-v.result [] ++ c.in_ok-issue.issue ∷ [])))
-    c.deref-v-items.ensures
-    (issue_dealt d p c.requires.issuer.ready items ordered c.args.n m c.from-in-loop-v.result c.index.result.now
-    c.in_ok-issue.issue c.loop-v.issues (omega arith) c.index.ensures c.from-in-loop-v.ensures
-    c.in_ok-issue.ensures
-    (subst (λ (order : List ℕ). IssuesDealt d p order c.args.n m c.loop-v.issues)
-    (sym c.deref-v-items.ensures) c.loop-v.invariant)))
+    let order = c.args.self.now.order.now in
+    subst (AreIssuesTo d p order c.args.n c.args.c c.index-i-in-loop-i.result.now) (sym c.in_ok-push.ensures.ok)
+    (one_more_issue d p c.requires.issuer.ready order c.requires.issuer.order c.args.n c.args.self.now.issued.now
+    c.args.c c.loop-i.i c.index.result.now c.index-i-in-loop-i.result.now c.in_ok-issue.field-0 c.loop-i.issues
+    c.requires.issuer.issued (omega arith) c.index.ensures c.in_ok-issue.ensures c.index-i-in-loop-i.ensures
+    c.loop-i.invariant)
 
 pub returns : goal.returns
 returns c =
-    issues_by_cycle c.args.self.now.datapath.now c.args.self.now.plan.now c.requires.issuer.ready
-    c.args.self.now.order.now c.requires.issuer.order c.args.n c.loop-v.v-index c.loop-v.issues
-    (omega (arith, ap length c.deref-v-items.ensures)) (omega (arith, ap length c.deref-v-items.ensures))
-    c.loop-v.invariant
+    all_issues c.args.self.now.datapath.now c.args.self.now.plan.now c.requires.issuer.ready
+    c.args.self.now.order.now c.requires.issuer.order c.args.n c.args.c c.loop-i.i c.loop-i.issues (omega arith)
+    c.loop-i.invariant
