@@ -18,5 +18,8 @@ pub mod StaticConflicts
 pub mod TimeLaws
 pub mod RunCycle
 pub mod Initial
+pub mod Addresses
+pub mod IdleRuns
+pub mod IdleCounts
 pub mod Shown
 pub mod Samples

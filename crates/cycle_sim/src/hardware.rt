@@ -37,33 +37,36 @@ pub struct Time {
     pub phase: usize,
 }
 
-/// The number after this one, of `count` numbers in a circle.
-fn next_round(number: usize, count: usize) -> usize
-    requires { number < count }
-    ensures { result ≡ (number + 1) % count }
+/// The number so many steps after this one, of `count` numbers in a circle, and at most one round of it.
+fn go_round(number: usize, steps: usize, count: usize) -> usize
+    requires number { number < count }
+    requires steps { steps ≤ count }
+    requires count { count ≤ 2 ^ 16 }
+    ensures { result ≡ (number + steps) % count }
 {
-    if number + 1 == count { 0 } else { number + 1 }
+    let next = number + steps;
+    if next < count { next } else { next - count }
 }
 
 impl Time {
     ghost use Rattle.micro_image.specs.Valid.{IsValid};
     ghost use Rattle.cycle_sim.specs.Private.Hardware.{IsTime};
 
-    /// Goes on to the next cycle.
-    pub fn advance(&mut self, image: &Image)
+    /// Goes on by so many cycles of the sample.
+    pub fn advance(&mut self, image: &Image, cycles: usize)
         requires valid { IsValid image.now }
         requires time { IsTime image.now self.old }
         requires young { self.old.cycle < 2 ^ 60 }
+        requires within { self.old.phase + cycles ≤ image.now.period }
         ensures time { IsTime image.now self.new }
-        ensures cycle { self.new.cycle ≡ self.old.cycle + 1 }
+        ensures cycle { self.new.cycle ≡ self.old.cycle + cycles }
     {
-        self.cycle += 1;
-        self.word = next_round(self.word, image.words.len());
-        if self.phase + 1 == usize::from(image.period) {
+        self.cycle += cycles as u64;
+        self.word = go_round(self.word, cycles, image.words.len());
+        self.phase += cycles;
+        if self.phase == usize::from(image.period) {
             self.phase = 0;
             self.sample += 1;
-        } else {
-            self.phase += 1;
         }
     }
 }
