@@ -1,10 +1,11 @@
 -- What an instance comes to, by its parts.
 use Rattle.std.proofs.Common.{◌≡◌, ◌≢◌, ◌<◌, ◌-◌, ◌∙◌, ℕ, zero, suc, ℤ, List, [], map, length, slice_get, option_map, Some, Result, Ok, Err, IsErrAnd, refl, sym, ap, arith}
 use Rattle.std.proofs.lemmas.Option.{slice_get-map}
-use Rattle.single_def.specs.declared.actions.Body.{Body as RustBody}
+use Rattle.single_def.specs.declared.function.Function.{Function}
 use Rattle.single_def.specs.declared.fault.DefFault.{DefFault}
 use Rattle.single_def.specs.declared.fault.DefFault.TheVariants.{Memory}
-use Rattle.single_def.specs.Private.Actions.{Body, Known, Found, State, Gives, view_body, at_first, entered_in, run_actions, run_body, run_some, run_instance, all_defined, ◌>>=◌}
+use Rattle.single_def.specs.Private.Actions.{Body, Known, Found, State, Gives, at_first, entered_in, run_actions, run_body, run_some, run_instance, all_defined, ◌>>=◌}
+use Rattle.single_def.specs.Private.Functions.{view_function}
 use Rattle.single_def.proofs.Each.{gives_err}
 
 module _ (inside : (parent func at : ℕ) → List ℤ → Found → Result Found DefFault) (body : Body) (func parent at : ℕ) (turns : List ℤ) (found entered : Found) (known : Known) (number : ℕ)
@@ -34,10 +35,10 @@ module _ (inside : (parent func at : ℕ) → List ℤ → Found → Result Foun
   body_ok s r ok is = rw (body_is ∙ ap (λ r. r >>= rest) ok, ← is) (checked s.found r)
 
 -- an instance that may be entered comes to its body
-pub enter_is : (plan : List RustBody) (calls number func at : ℕ) (turns : List ℤ) (found : Found) (b : RustBody) → 0 < calls → slice_get plan func ≡ Some b
-    → run_instance (map view_body plan) calls number func at turns found ≡ run_body (run_instance (map view_body plan) (calls - 1)) (view_body b) func number at turns found
-enter_is plan zero number func at turns found b some e = absurd (omega arith)
-enter_is plan (suc calls) number func at turns found b some e =
+pub enter_is : (plan : List Function) (calls number func at : ℕ) (turns : List ℤ) (found : Found) (f : Function) → 0 < calls → slice_get plan func ≡ Some f
+    → run_instance (map view_function plan) calls number func at turns found ≡ run_body (run_instance (map view_function plan) (calls - 1)) (view_function f) func number at turns found
+enter_is plan zero number func at turns found f some e = absurd (omega arith)
+enter_is plan (suc calls) number func at turns found f some e =
     let less : suc calls - 1 ≡ calls = omega arith in
-    let body : slice_get (map view_body plan) func ≡ Some (view_body b) = slice_get-map view_body plan func ∙ ap (λ o. option_map view_body o) e in
-    rw less (ap (λ o. run_some (suc calls) (run_instance (map view_body plan) calls) o func number at turns found) body)
+    let body : slice_get (map view_function plan) func ≡ Some (view_function f) = slice_get-map view_function plan func ∙ ap (λ o. option_map view_function o) e in
+    rw less (ap (λ o. run_some (suc calls) (run_instance (map view_function plan) calls) o func number at turns found) body)

@@ -13,6 +13,7 @@ pub mod Entering
 pub mod CodeValues
 pub mod SoundNames
 pub mod ProgramWalks
+pub mod SamePlans
 pub mod Walks
 pub mod CheckRules
 pub mod ElementNumbers

@@ -4,6 +4,7 @@ pub mod Actions
 pub mod Parts
 pub mod Ahead
 pub mod Blocks
+pub mod Functions
 pub mod States
 pub mod Plans
 pub mod Scopes

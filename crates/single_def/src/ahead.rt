@@ -76,11 +76,12 @@ fn put_lane(
     ensures reached { IfOk result (λ has. IsTrue has → (j : ℕ) → (first +ℤ pos j) ≤ℤ last
         → Holds lanes.entry.outer.now inner.new.items (turns_at lanes.entry k ++ (first +ℤ pos j) ∷ [])) }
 {
-    for j in 0..turn_count(first, last) {
-        if *room == 0 {
-            return Ok(false);
-        }
-        *room -= 1;
+    let count = turn_count(first, last);
+    if count > *room as u64 {
+        return Ok(false);
+    }
+    *room -= count as usize;
+    for j in 0..count {
         let turn = turn_in(alloc, lanes.inner, k, turn_at(first, last, j))?;
         put_turn(alloc, &turn, inner)?;
     }
@@ -183,7 +184,7 @@ fn put_busy<'a>(
             hi,
             actions,
             at,
-        } => (lo, hi, actions, *at),
+        } if look.room > 0 => (lo, hi, actions, *at),
         _ => return put_part(parts, Part::Whole(action)),
     };
     let inner = match inner_turns(alloc, turns, &lo.number, &hi.number, look)? {
@@ -222,7 +223,7 @@ pub(crate) fn busy<'a>(
 ) -> Result<Vec<Part<'a>>, AllocError>
     ensures { IfOk result (λ parts. InEach turns.entry (λ ts. DoSame ts (seen parts) (map view_action actions.now))) }
 {
-    let mut parts = Vec::new(alloc);
+    let mut parts = Vec::with_capacity(alloc, actions.len())?;
     for action in actions {
         put_busy(alloc, turns, action, &mut parts, look)?;
     }

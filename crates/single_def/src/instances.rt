@@ -2,16 +2,18 @@
 
 ghost use Rattle.std.specs.Prelude.{◌≡◌, ◌∷◌, ◌++◌, [], map, slice_get, option_copied, IfOk};
 ghost use Rattle.single_def.specs.Private.Actions as run;
-ghost use Rattle.single_def.specs.Private.Actions.{Gives, actions_of, view_action, view_actions, view_body, run_instance};
+ghost use Rattle.single_def.specs.Private.Actions.{Gives, actions_of, view_action, view_actions, run_instance};
+ghost use Rattle.single_def.specs.Private.Functions.{view_function};
 ghost use Rattle.single_def.specs.Private.Parts.{view_part};
 ghost use Rattle.single_def.specs.Private.States.{found_of, state_of, made_in};
 
-use crate::actions::{Action, Body, Bound};
+use crate::actions::{Action, Bound};
 use crate::blocks::{Block, block_at};
 use crate::checks::{bound, place, run_check};
 use crate::found::{Found, count, enter_instance};
+use crate::function::Function;
 use crate::known::{Known, check_all_defined, define_all, define_place, preset_place};
-use crate::parts::{Part, all};
+use crate::parts::Part;
 use crate::turns::{turn_at, turn_count};
 use crate::{DefFault, Instance};
 use lists::List;
@@ -19,14 +21,14 @@ use std::alloc::{AllocError, Global};
 
 /// Where an action is: in the instance with this number, inside which so many calls may nest.
 #[derive(Clone, Copy)]
-pub(crate) struct Inside<'a> {
+pub(crate) struct Inside<'a, 'b> {
     pub alloc: Global,
-    pub plan: &'a [Body],
+    pub plan: &'a [Function<'b>],
     pub calls: u32,
     pub number: u32,
 }
 
-fn body_at(plan: &[Body], func: u32) -> Option<&Body>
+fn function_at<'a, 'b>(plan: &'a [Function<'b>], func: u32) -> Option<&'a Function<'b>>
     ensures { option_copied result ≡ slice_get plan.now func }
 {
     plan.get(func as usize)
@@ -258,14 +260,15 @@ fn run_loop(
 fn run_body(
     inside: Inside,
     depth: u32,
-    body: &Body,
+    function: &Function,
     instance: Instance,
     found: &mut Found,
 ) -> Result<(), DefFault>
     ensures { Gives (found_of found.new) result
-        (run.run_body (run_instance (map view_body inside.entry.plan.now) inside.entry.calls) (view_body body.now)
-        instance.func instance.parent instance.site instance.turns (found_of found.old)) }
+        (run.run_body (run_instance (map view_function inside.entry.plan.now) inside.entry.calls)
+        (view_function function.now) instance.func instance.parent instance.site instance.turns (found_of found.old)) }
 {
+    let body = function.body;
     let number = enter_instance(found, instance, body)?;
     let within = Inside {
         alloc: inside.alloc,
@@ -274,8 +277,7 @@ fn run_body(
         number,
     };
     let mut known = Known::at_first(inside.alloc, body.given, body.count)?;
-    let parts = all(inside.alloc, &body.actions)?;
-    run_parts(within, depth, &[], &parts, &mut known, found)?;
+    run_parts(within, depth, &[], &function.parts, &mut known, found)?;
     check_all_defined(&known, &body.signals)
 }
 
@@ -291,12 +293,12 @@ pub(crate) fn enter(
 ) -> Result<(), DefFault>
     ensures { Gives (found_of found.new) result (made_in inside.entry func site turns.now (found_of found.old)) }
 {
-    let body = match body_at(inside.plan, func) {
+    let function = match function_at(inside.plan, func) {
         None => return Ok(()),
-        Some(body) => body,
+        Some(function) => function,
     };
     if inside.calls == 0 {
-        return Err(DefFault::TooLarge(body.at));
+        return Err(DefFault::TooLarge(function.body.at));
     }
     let instance = Instance {
         func,
@@ -310,5 +312,5 @@ pub(crate) fn enter(
         calls: inside.calls - 1,
         number: inside.number,
     };
-    run_body(within, depth, body, instance, found)
+    run_body(within, depth, function, instance, found)
 }

@@ -13,6 +13,8 @@ mod checks;
 mod elements;
 mod fault;
 mod found;
+mod function;
+mod functions;
 mod groups;
 mod instances;
 mod items;
@@ -29,7 +31,7 @@ mod turns;
 mod weights;
 mod words;
 
-ghost use Rattle.std.specs.Prelude.{◌≡◌, ◌≢◌, IfOk, OnOk, IfErr};
+ghost use Rattle.std.specs.Prelude.{◌≡◌, ◌≢◌, map, IfOk, OnOk, IfErr};
 ghost use Rattle.ranked_faults.specs.Ranked.{IsClear, IsFirst, AnswersOk, AnswersFault};
 ghost use Rattle.silage_syntax.specs.Tree.{view};
 ghost use Rattle.silage_meaning.specs.Instances.{HasCallsApart};
@@ -40,13 +42,16 @@ ghost use Rattle.single_def.specs.ElementFaults.{element_faults};
 ghost use Rattle.single_def.specs.Expansion.{IsExpansion};
 ghost use Rattle.single_def.specs.Numbering.{IsNumbering};
 ghost use Rattle.single_def.specs.Private.Actions.{GivesValue};
-ghost use Rattle.single_def.specs.Private.Plans.{run_program};
+ghost use Rattle.single_def.specs.Private.Plans.{run_plan, run_program};
+ghost use Rattle.single_def.specs.Private.Functions.{view_function};
 ghost use Rattle.single_def.specs.declared.fault.DefFault.{DefFault as FaultType};
 
 use bodies::bodies;
 pub use elements::{Element, Elements, Instance};
 pub use fault::DefFault;
 use found::Found;
+use function::Function;
+use functions::functions;
 use instances::{Inside, enter};
 use name_check::Names;
 use silage_syntax::Program;
@@ -57,25 +62,33 @@ use words::check_words;
 /// The most instances of which each is inside the one before: an instance is inside 64 calls at most.
 const MAX_NESTED: u32 = 65;
 
-/// The walk over the instances of a program: the instances and elements on it, or the first fault on it.
-fn run_plan(alloc: Global, program: &Program, names: &Names) -> Result<Elements, DefFault>
-    requires clear { IsClear (name_faults (view program.now)) }
-    requires tops { names.now.tops ≡ top_names (view program.now) }
-    ensures { GivesValue result (run_program (view program.now) names.now.main) }
+/// The walk over the instances of a plan: the instances and elements on it, or the first fault on it.
+fn walk(alloc: Global, plan: &[Function], main: u32) -> Result<Elements, DefFault>
+    ensures { GivesValue result (run_plan (map view_function plan.now) main) }
 {
-    let plan = bodies(alloc, program, &names.tops)?;
     let mut found = Found::new(alloc);
     let inside = Inside {
         alloc,
-        plan: &plan,
+        plan,
         calls: MAX_NESTED,
         number: 0,
     };
-    enter(inside, u32::MAX, names.main, 0, &[], &mut found)?;
+    enter(inside, u32::MAX, main, 0, &[], &mut found)?;
     Ok(Elements {
         instances: found.instances,
         elements: found.elements,
     })
+}
+
+/// The walk over the instances of a program.
+fn walk_program(alloc: Global, program: &Program, names: &Names) -> Result<Elements, DefFault>
+    requires clear { IsClear (name_faults (view program.now)) }
+    requires tops { names.now.tops ≡ top_names (view program.now) }
+    ensures { GivesValue result (run_program (view program.now) names.now.main) }
+{
+    let bodies = bodies(alloc, program, &names.tops)?;
+    let plan = functions(alloc, &bodies)?;
+    walk(alloc, &plan, names.main)
 }
 
 /// The instances and elements of a program in the order in which they are entered, or its first fault: of the numbers
@@ -97,5 +110,5 @@ pub fn check_defs(alloc: Global, program: &Program, names: &Names) -> Result<Ele
         → AnswersFault DefFault.Memory fault result }
 {
     check_words(program, names.main)?;
-    run_plan(alloc, program, names)
+    walk_program(alloc, program, names)
 }

@@ -19,5 +19,5 @@ pub returns : goal.returns
 returns c =
     let p = view c.args.program.now in
     let main = c.requires.main in
-    let a = walk_answer p c.requires.clear c.args.names.now.main main (c.in_ok-check_words.ensures main.func main.stands) c.run_plan.result c.run_plan.ensures in
+    let a = walk_answer p c.requires.clear c.args.names.now.main main (c.in_ok-check_words.ensures main.func main.stands) c.walk_program.result c.walk_program.ensures in
     record { ok = a.ok; fault = a.fault; elements = a.elements; numbering = a.numbering; single = a.single; each_ok = a.each_ok; each_fault = a.each_fault }

@@ -242,7 +242,10 @@ nothing_found = record { load = 0; instances = []; elements = [] }
 abbrev pub elements_found : Found → Elements
 elements_found found = record { instances = found.instances; elements = found.elements }
 
--- the walk over the instances of a program, from the function at this position on
+-- the walk over the instances of a plan, from the function at this position on
+abbrev pub run_plan : List Body → (main : ℕ) → Result Elements DefFault
+run_plan plan main = run_instance plan max_nested 0 main 0 [] nothing_found >>= λ found. Ok (elements_found found)
+
+-- the same for a program's own plan
 abbrev pub run_program : Program → (main : ℕ) → Result Elements DefFault
-run_program p main =
-    run_instance (plan_of p) max_nested 0 main 0 [] nothing_found >>= λ found. Ok (elements_found found)
+run_program p main = run_plan (plan_of p) main

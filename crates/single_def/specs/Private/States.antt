@@ -1,6 +1,7 @@
 -- What the code keeps, wherever it is in memory.
 use Rattle.std.specs.Prelude.{ℕ, List, map, Result, ℤ}
-use Rattle.single_def.specs.Private.Actions.{Known, Found, State, view_body, run_instance}
+use Rattle.single_def.specs.Private.Actions.{Known, Found, State, run_instance}
+use Rattle.single_def.specs.Private.Functions.{view_function}
 use Rattle.single_def.specs.declared.known.Known.{Known as RustKnown}
 use Rattle.single_def.specs.declared.found.Found.{Found as RustFound}
 use Rattle.single_def.specs.declared.instances.Inside.{Inside}
@@ -17,4 +18,4 @@ state_of k f = record { known = known_of k; found = found_of f }
 
 -- what an instance does that a call makes here
 abbrev pub made_in : Inside → (func at : ℕ) → List ℤ → Found → Result Found DefFault
-made_in inside = run_instance (map view_body inside.plan.now) inside.calls inside.number
+made_in inside = run_instance (map view_function inside.plan.now) inside.calls inside.number

@@ -1,12 +1,12 @@
 use Rattle.std.proofs.Common.{◌∙◌, ◌+ℤ◌, ◌-◌, [], pos, arith, rules, w32, sym, ap, subst, map, List, Result, ◌<◌}
 use mir.Val.{SFits}
 use Rattle.std.proofs.lemmas.Int.{to_z-of_z}
-use Rattle.single_def.specs.declared.actions.Action.{Action as RustAction}
 use Rattle.single_def.specs.Private.Parts.{seen, view_part}
 use Rattle.single_def.specs.declared.parts.Part.{Part}
 use Rattle.single_def.proofs.IdleActions.{turn_same, block_after}
-use Rattle.single_def.specs.Private.Actions.{Action, Gives, State, Found, actions_of, view_action, view_body, run_actions, run_body, run_turn, run_instance, all_defined}
+use Rattle.single_def.specs.Private.Actions.{Action, Gives, State, Found, actions_of, view_action, run_actions, run_body, run_turn, run_instance, all_defined}
 use Rattle.single_def.specs.ElementRules.{count_up}
+use Rattle.single_def.specs.Private.Functions.{view_function}
 use Rattle.single_def.specs.Private.States.{known_of, found_of, state_of, made_in}
 use Rattle.single_def.specs.declared.fault.DefFault.{DefFault}
 use Rattle.single_def.proofs.Each.{each_passes, each_gives}
@@ -66,26 +66,26 @@ run_turns-loop-k-preserved t c =
 pub enter-returns : goal.enter-returns
 enter-returns t c =
     let plan = c.args.inside.plan.now in
-    let more = enter_is plan c.args.inside.calls c.args.inside.number c.args.func c.args.site c.args.turns.now (found_of c.args.found.now) c.in-Some.body.now (omega arith) (sym c.in-Some.ensures) in
-    let same = ap (λ turns. run_body (run_instance (map view_body plan) (c.args.inside.calls - 1)) (view_body c.in-Some.body.now) c.args.func c.args.inside.number c.args.site turns (found_of c.args.found.now)) (sym c.in_ok-from_slice.ensures) in
+    let more = enter_is plan c.args.inside.calls c.args.inside.number c.args.func c.args.site c.args.turns.now (found_of c.args.found.now) c.in-Some.function.now (omega arith) (sym c.in-Some.ensures) in
+    let same = ap (λ turns. run_body (run_instance (map view_function plan) (c.args.inside.calls - 1)) (view_function c.in-Some.function.now) c.args.func c.args.inside.number c.args.site turns (found_of c.args.found.now)) (sym c.in_ok-from_slice.ensures) in
     subst (λ (r : Result Found DefFault). Gives (found_of c.run_body.new.found) c.run_body.result r) (sym (more ∙ same)) c.run_body.ensures
 
 pub run_body-returns-in_err-run_parts : goal.run_body-returns-in_err-run_parts
 run_body-returns-in_err-run_parts t c =
-    let inside = run_instance (map view_body c.args.inside.plan.now) c.args.inside.calls in
-    let all = ap (λ (xs : List Part). map view_part xs) c.deref-2.ensures.value ∙ c.in_ok-parts.ensures ∙ ap (λ (xs : List RustAction). map view_action xs) c.deref.ensures.value in
-    body_err inside (view_body c.args.body.now) c.args.instance.func c.args.instance.parent c.args.instance.site c.args.instance.turns (found_of c.args.found.now) (found_of c.enter_instance.new.found) (known_of c.in_ok-known.known) c.in_ok-number.number
+    let inside = run_instance (map view_function c.args.inside.plan.now) c.args.inside.calls in
+    let all = ap (λ (xs : List Part). map view_part xs) c.deref.ensures.value in
+    body_err inside (view_function c.args.function.now) c.args.instance.func c.args.instance.parent c.args.instance.site c.args.instance.turns (found_of c.args.found.now) (found_of c.enter_instance.new.found) (known_of c.in_ok-known.known) c.in_ok-number.number
     c.in_ok-number.ensures.found c.in_ok-number.ensures.number c.in_ok-known.ensures _ _ _ c.from_residual-in_err-run_parts.ensures.1
     (λ n. ap (λ (actions : List Action). run_actions (inside c.in_ok-number.number) [] (actions_of actions) (state_of c.in_ok-known.known c.enter_instance.new.found)) (sym all) ∙ c.in_err-run_parts.ensures n)
 
 pub run_body-returns : goal.run_body-returns
 run_body-returns t c =
-    let inside = run_instance (map view_body c.args.inside.plan.now) c.args.inside.calls in
-    let all = ap (λ (xs : List Part). map view_part xs) c.deref-2.ensures.value ∙ c.in_ok-parts.ensures ∙ ap (λ (xs : List RustAction). map view_action xs) c.deref.ensures.value in
-    body_ok inside (view_body c.args.body.now) c.args.instance.func c.args.instance.parent c.args.instance.site c.args.instance.turns (found_of c.args.found.now) (found_of c.enter_instance.new.found) (known_of c.in_ok-known.known) c.in_ok-number.number
+    let inside = run_instance (map view_function c.args.inside.plan.now) c.args.inside.calls in
+    let all = ap (λ (xs : List Part). map view_part xs) c.deref.ensures.value in
+    body_ok inside (view_function c.args.function.now) c.args.instance.func c.args.instance.parent c.args.instance.site c.args.instance.turns (found_of c.args.found.now) (found_of c.enter_instance.new.found) (known_of c.in_ok-known.known) c.in_ok-number.number
     c.in_ok-number.ensures.found c.in_ok-number.ensures.number c.in_ok-known.ensures (state_of c.run_parts.new.known c.run_parts.new.found) c.check_all_defined.result
     (ap (λ (actions : List Action). run_actions (inside c.in_ok-number.number) [] (actions_of actions) (state_of c.in_ok-known.known c.enter_instance.new.found)) (sym all) ∙ c.in_ok-run_parts.ensures)
-    (c.check_all_defined.ensures ∙ ap (all_defined (known_of c.run_parts.new.known)) c.deref-3.ensures)
+    (c.check_all_defined.ensures ∙ ap (all_defined (known_of c.run_parts.new.known)) c.deref-2.ensures)
 
 pub run_part-returns-in-Loop : goal.run_part-returns-in-Loop
 run_part-returns-in-Loop t c =

@@ -1,0 +1,19 @@
+-- The functions of a plan, each with what is done of its actions.
+use Rattle.std.specs.Prelude.{[], map}
+use Rattle.single_def.specs.Private.Actions.{Body, actions_of, view_action}
+use Rattle.single_def.specs.Private.Parts.{seen}
+use Rattle.single_def.specs.Private.Ahead.{DoSame}
+use Rattle.single_def.specs.declared.function.Function.{Function}
+
+abbrev pub view_function : Function → Body
+view_function f = record {
+  at = f.body.now.at;
+  count = f.body.now.count;
+  given = f.body.now.given;
+  signals = f.body.now.signals;
+  actions = actions_of (seen f.parts);
+}
+
+-- an instance does with the parts what it does with all actions of the body
+abbrev pub IsLookedAt : Function → Type 0
+IsLookedAt f = DoSame [] (seen f.parts) (map view_action f.body.now.actions.items)

@@ -1,0 +1,88 @@
+//! The functions of a program, each looked at before it has instances.
+
+ghost use Rattle.std.specs.Prelude.{◌≡◌, [], map, IfOk};
+ghost use Rattle.std.specs.List.{All};
+ghost use Rattle.single_def.specs.Private.Actions.{view_action};
+ghost use Rattle.single_def.specs.Private.Parts.{seen};
+ghost use Rattle.single_def.specs.Private.Ahead.{DoSame};
+ghost use Rattle.single_def.specs.Private.Functions.{IsLookedAt};
+
+use crate::actions::{Action, Body};
+use crate::ahead::{Look, MOST_TURNS, Turns, busy};
+use crate::function::Function;
+use crate::lanes::Group;
+use crate::parts::{Part, all};
+use lists::List;
+use std::alloc::{AllocError, Global};
+
+fn has_loop(actions: &[Action]) -> bool {
+    for action in actions {
+        if let Action::Repeat { .. } = action {
+            return true;
+        }
+    }
+    false
+}
+
+fn has_nested_loops(actions: &[Action]) -> bool {
+    for action in actions {
+        if let Action::Repeat { actions, .. } = action {
+            if has_loop(actions) {
+                return true;
+            }
+        }
+    }
+    false
+}
+
+/// What is done of actions that are inside no loop: all of it where no loop is inside another, or where the loops have
+/// too many turns to look at.
+fn parts<'a>(
+    alloc: Global,
+    actions: &'a [Action],
+    look: &mut Look,
+) -> Result<Vec<Part<'a>>, AllocError>
+    ensures { IfOk result (λ parts. DoSame [] (seen parts) (map view_action actions.now)) }
+{
+    if !has_nested_loops(actions) {
+        return all(alloc, actions);
+    }
+    let once = Turns {
+        outer: &[],
+        groups: &[Group {
+            rows: List::new(alloc),
+            count: 1,
+        }],
+    };
+    look.room = MOST_TURNS;
+    let parts = busy(alloc, once, actions, look)?;
+    if look.room == 0 {
+        return all(alloc, actions);
+    }
+    Ok(parts)
+}
+
+fn function<'a>(alloc: Global, body: &'a Body, look: &mut Look) -> Result<Function<'a>, AllocError>
+    ensures body { IfOk result (λ function. function.body.now ≡ body.now) }
+    ensures looked { IfOk result IsLookedAt }
+{
+    let parts = parts(alloc, &body.actions, look)?;
+    Ok(Function { body, parts })
+}
+
+/// The functions with these bodies.
+pub(crate) fn functions<'a>(
+    alloc: Global,
+    bodies: &'a [Body],
+) -> Result<Vec<Function<'a>>, AllocError>
+    ensures bodies { IfOk result (λ functions. map (λ f. f.body.now) functions.items ≡ bodies.now) }
+    ensures looked { IfOk result (λ functions. All IsLookedAt functions.items) }
+{
+    let mut look = Look::new(alloc);
+    let mut functions = Vec::with_capacity(alloc, bodies.len())?;
+    for body in bodies {
+        let function = function(alloc, body, &mut look)?;
+        functions.push(function)?;
+    }
+    Ok(functions)
+}
