@@ -21,6 +21,7 @@ use Rattle.signal_graph.specs.declared.flat.FlatExpr.{FlatExpr}
 use Rattle.silage_syntax.specs.Manifests.{Indices}
 use Rattle.loop_expand.specs.Private.Elements.{view_elems, inserted, changed, with_fact, with_facts, Puts}
 use Rattle.loop_expand.specs.Private.Facts.{Fact, joined, flat_of, flat_parts, facts_in, facts_from}
+use Rattle.loop_expand.specs.Private.Groups.{Group, groups_of}
 use Rattle.loop_expand.specs.Private.Rows.{parts_of, parts_after, view_exprs, typed_exprs}
 use Rattle.loop_expand.specs.Private.Scopes.{Signal, Body, Scope, signals_from, decls_of, body_for, body_of}
 
@@ -147,26 +148,27 @@ elements-append (d ∷ ds) es =
     let rest = elements-append ds es in
     omega arith
 
-abbrev body : typed.TypedFunc → List Signal → List Signal → ℕ → Body
-body f signals results size = record { of = f; signals = signals; results = results; size = size }
+abbrev body : typed.TypedFunc → List Signal → List Signal → ℕ → List Group → Body
+body f signals results size groups = record { of = f; signals = signals; results = results; size = size; groups = groups }
 
-body_same : (f : typed.TypedFunc) (a b r s : List Signal) (m n : ℕ) → a ≡ b → r ≡ s → m ≡ n → body f a r m ≡ body f b s n
-body_same f a b r s m n e g h = cc
+body_same : (f : typed.TypedFunc) (a b r s : List Signal) (m n : ℕ) (gs hs : List Group) → a ≡ b → r ≡ s → m ≡ n → gs ≡ hs → body f a r m gs ≡ body f b s n hs
+body_same f a b r s m n gs hs e g h i = cc
 
 -- the signals of a function: parameters, then results, then locals
-pub body_made : (f : typed.TypedFunc) (none a b c r : List Signal) (first next size : ℕ) → none ≡ [] → a ≡ none ++ signals_from 0 f.params → first ≡ 0 + elements_of f.params → r ≡ none ++ signals_from first f.results
-    → b ≡ a ++ signals_from first f.results → next ≡ first + elements_of f.results → c ≡ b ++ signals_from next f.locals → size ≡ next + elements_of f.locals → body f c r size ≡ body_for f
-body_made f none a b c r first next size empty is_a is_first is_r is_b is_next is_c is_size =
+pub body_made : (f : typed.TypedFunc) (none a b c r : List Signal) (first next size : ℕ) (groups : List Group) → none ≡ [] → a ≡ none ++ signals_from 0 f.params → first ≡ 0 + elements_of f.params → r ≡ none ++ signals_from first f.results
+    → b ≡ a ++ signals_from first f.results → next ≡ first + elements_of f.results → c ≡ b ++ signals_from next f.locals → size ≡ next + elements_of f.locals → groups ≡ groups_of f.items
+    → body f c r size groups ≡ body_for f
+body_made f none a b c r first next size groups empty is_a is_first is_r is_b is_next is_c is_size known =
     let start : first ≡ elements_of f.params = omega arith in
     let sum = elements-append f.params (f.results ++ f.locals) in
     let rest = elements-append f.results f.locals in
-    body_same f c (signals_from 0 (decls_of f)) r (signals_from (elements_of f.params) f.results) size (elements_of (decls_of f))
+    body_same f c (signals_from 0 (decls_of f)) r (signals_from (elements_of f.params) f.results) size (elements_of (decls_of f)) groups (groups_of f.items)
     (is_c ∙ ap₂ (λ (xs : List Signal) (m : ℕ). xs ++ signals_from m f.locals) (is_b ∙ ap₂ (λ (xs : List Signal) (m : ℕ). xs ++ signals_from m f.results) (is_a ∙ ap (λ (xs : List Signal). xs ++ signals_from 0 f.params) empty) is_first) (is_next ∙ ap (λ (m : ℕ). m + elements_of f.results) is_first)
     ∙ append_assoc (signals_from 0 f.params) (signals_from (0 + elements_of f.params) f.results) (signals_from (0 + elements_of f.params + elements_of f.results) f.locals)
     ∙ ap (λ (xs : List Signal). signals_from 0 f.params ++ xs) (sym (signals-append (0 + elements_of f.params) f.results f.locals))
     ∙ sym (signals-append 0 f.params (f.results ++ f.locals)))
     (is_r ∙ ap₂ (λ (xs : List Signal) (m : ℕ). xs ++ signals_from m f.results) empty start)
-    (omega arith)
+    (omega arith) known
 
 -- An item of a list, and what is behind it.
 pub drop_item : {A : Type 0} (xs : List A) (i : ℕ) (x : A) → i < length xs → x ≡ get_or xs i x → drop i xs ≡ x ∷ drop (i + 1) xs

@@ -1,16 +1,14 @@
 //! The instances of a program: the numbers of their elements, and what their items say of elements.
 
 ghost use Rattle.std.specs.Prelude.{◌≡◌, IfOk, OnOk};
-ghost use Rattle.fix_types.specs.TypedTree.{view_items};
 ghost use Rattle.loop_expand.specs.Private.Children.{AreApart};
 ghost use Rattle.loop_expand.specs.Private.Elements.{Puts};
 ghost use Rattle.loop_expand.specs.Private.Facts.{facts_in, facts_from, groups_facts};
-ghost use Rattle.loop_expand.specs.Private.Groups.{groups_of};
 ghost use Rattle.loop_expand.specs.Private.Scopes as is;
-ghost use Rattle.loop_expand.specs.Private.Scopes.{view_scope, view_bodies, firsts_from, size_in};
+ghost use Rattle.loop_expand.specs.Private.Scopes.{view_scope, view_body, view_bodies, firsts_from, size_in};
 
 use crate::amounts::sum;
-use crate::groups;
+use crate::groups::groups_of;
 use crate::item_facts::expand_groups;
 use crate::lookups::{body, first_of};
 use crate::scope::{Body, Scope};
@@ -48,11 +46,13 @@ pub(crate) fn firsts(
 
 /// What the items of an instance of a function say.
 fn expand_body(scope: &Scope, elems: &mut [FlatElem], body: &Body) -> Result<(), AllocError>
-    ensures { OnOk result (Puts (groups_facts (view_scope scope.now)
-        (groups_of (view_items body.now.func.now.items))) elems.old elems.new) }
+    ensures { OnOk result (Puts (groups_facts (view_scope scope.now) (view_body body.now).groups)
+        elems.old elems.new) }
 {
-    let groups = groups::groups_of(scope.alloc, &body.func.items)?;
-    expand_groups(scope, elems, &groups)
+    match &body.groups {
+        Some(groups) => expand_groups(scope, elems, groups),
+        None => expand_groups(scope, elems, &groups_of(scope.alloc, &body.func.items)?),
+    }
 }
 
 /// What the items of the instance with this number say, of the function at this position.

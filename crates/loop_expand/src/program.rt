@@ -115,7 +115,7 @@ fn flat_program(
     requires { AreApart instances.now }
     ensures { IfOk result (λ f. view f ≡ flat_by (view_typed typed.now) instances.now) }
 {
-    let bodies = bodies(alloc, &typed.funcs)?;
+    let bodies = bodies(alloc, &typed.funcs, instances)?;
     let (inputs, outs) = words(alloc, main_body(&bodies, instances))?;
     let elems = elements(alloc, &typed.consts, &bodies, instances, inputs.len())?;
     Ok(FlatProgram {

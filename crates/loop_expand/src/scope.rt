@@ -2,6 +2,7 @@
 
 ghost use Rattle.loop_expand.specs.Private.Children.{AreApart};
 
+use crate::groups::Group;
 use fix_types::{TypedConst, TypedFunc};
 use silage_syntax::Decl;
 use single_def::Instance;
@@ -24,6 +25,8 @@ pub(crate) struct Body<'a> {
     pub results: Vec<Signal<'a>>,
     /// How many elements an instance of it has.
     pub size: u32,
+    /// The groups of its items, which are the same in all its instances. `None` where it has none.
+    pub groups: Option<Vec<Group<'a>>>,
 }
 
 /// An instance among the others of its program.

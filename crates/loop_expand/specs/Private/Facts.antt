@@ -11,7 +11,7 @@ use Rattle.fix_types.specs.declared.typed.TypedConst.{TypedConst}
 use Rattle.fix_types.specs.TypedTree as typed
 use Rattle.signal_graph.specs.Flat as flat
 use Rattle.loop_expand.specs.Private.Children.{child_of}
-use Rattle.loop_expand.specs.Private.Groups.{Group, groups_of}
+use Rattle.loop_expand.specs.Private.Groups.{Group}
 use Rattle.loop_expand.specs.Private.Scopes.{Signal, Body, Scope, body_of}
 
 pub data Fact : Type 0 where
@@ -197,7 +197,7 @@ module _ (tables : List TypedConst) (bodies : List Body) (instances : List Insta
 
   abbrev pub facts_in : (number : ℕ) → Option Body → List Fact
   facts_in number None = []
-  facts_in number (Some b) = groups_facts (scope_at number b) (groups_of b.of.items)
+  facts_in number (Some b) = groups_facts (scope_at number b) b.groups
 
   abbrev pub facts_from : (number : ℕ) → List Instance → List Fact
   facts_from number [] = []

@@ -1,7 +1,8 @@
 -- The items of a function that are no loops, in groups: those of a loop, with its turns in all turns of the loops
 -- around it.
 use denote.Ref.{Bor}
-use Rattle.std.specs.Prelude.{List, [], ◌∷◌, ◌++◌, map, Bool, true, false, if◌then◌else◌}
+use Rattle.std.specs.Prelude.{List, [], ◌∷◌, ◌++◌, map, Bool, true, false, if◌then◌else◌, Option, Some, None, Vec}
+use Rattle.std.specs.Global.{Global}
 use Rattle.silage_syntax.specs.Manifests.{Indices}
 use Rattle.fix_types.specs.TypedTree as typed
 use Rattle.fix_types.specs.declared.typed.TypedItem.{TypedItem as RustItem}
@@ -57,3 +58,8 @@ groups_in turns items = grouped turns items (loops_groups turns items)
 -- outside of loops there is one turn, with no index
 abbrev pub groups_of : typed.TypedItems → List Group
 groups_of items = groups_in ([] ∷ []) items
+
+-- the groups of these items, where they are known, or to be worked out
+abbrev pub groups_known : Option (Vec RustGroup Global) → typed.TypedItems → List Group
+groups_known None items = groups_of items
+groups_known (Some groups) items = view_groups groups.items

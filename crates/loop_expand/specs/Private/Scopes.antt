@@ -9,18 +9,20 @@ use Rattle.fix_types.specs.TypedTree.{TypedFunc, view_func}
 use Rattle.loop_expand.specs.declared.scope.Signal.{Signal as RustSignal}
 use Rattle.loop_expand.specs.declared.scope.Body.{Body as RustBody}
 use Rattle.loop_expand.specs.declared.scope.Scope.{Scope as RustScope}
+use Rattle.loop_expand.specs.Private.Groups.{Group, groups_of, groups_known}
 
 -- a parameter, a result or a local, with the number of its first element among those of an instance
 pub record Signal : Type 0 where
   pub decl : Decl
   pub first : ℕ
 
--- a function, with its signals, its results among them, and how many elements an instance has
+-- a function, with its signals, its results among them, how many elements an instance has, and the groups of its items
 pub record Body : Type 0 where
   pub of : TypedFunc
   pub signals : List Signal
   pub results : List Signal
   pub size : ℕ
+  pub groups : List Group
 
 -- an instance among all, with the numbers of their first elements
 pub record Scope : Type 0 where
@@ -44,6 +46,7 @@ view_body b = record {
   signals = view_signals b.signals.items;
   results = view_signals b.results.items;
   size = b.size;
+  groups = groups_known b.groups (view_func b.func.now).items;
 }
 
 abbrev pub view_bodies : List RustBody → List Body
@@ -78,6 +81,7 @@ body_for f = record {
   signals = signals_from 0 (decls_of f);
   results = signals_from (elements_of f.params) f.results;
   size = elements_of (decls_of f);
+  groups = groups_of f.items;
 }
 
 abbrev pub size_in : Option Body → ℕ

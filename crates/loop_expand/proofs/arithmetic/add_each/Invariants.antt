@@ -1,7 +1,0 @@
-use Rattle.std.proofs.Common.{◌≤◌, ◌+ℤ◌, length}
-use Rattle.loop_expand.specs.Private.Turns.{at}
-use Rattle.loop_expand.proofs.ValueRows.{Done}
-use Rattle.loop_expand.proofs.arithmetic.add_each.Given as goal
-
-abbrev pub invariant-loop-k : goal.invariant-loop-k
-invariant-loop-k l = (l.count ≤ length l.left) × Done ◌+ℤ◌ l.fn.left (at l.right) l.past l.k l.left
