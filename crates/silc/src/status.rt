@@ -24,7 +24,7 @@ use unit_assign::UnitFault;
 #[derive(Clone, Copy, Debug, PartialEq, Eq, Error)]
 pub enum UnitRefusal {
     /// No unit is of the kind that does the node's operation.
-    #[error("no unit {} for node {node}", word_of(*kind))]
+    #[error("no unit {} for node {node}", kind.name())]
     NoUnit { kind: Kind, node: u32 },
     /// No unit of the right kind has all routes, and the first of them has none to or from this port. The line that is
     /// reported has the unit's name in the place of its number.
@@ -40,20 +40,6 @@ pub enum UnitRefusal {
     /// name in the place of its number.
     #[error("no acu for ram {ram} at node {node}")]
     NoAcu { ram: u8, node: u32 },
-}
-
-/// The word of a datapath file for the kind.
-fn word_of(kind: Kind) -> &'static str {
-    match kind {
-        Kind::Input => "in",
-        Kind::Output => "out",
-        Kind::Rom => "rom",
-        Kind::Alu => "alu",
-        Kind::Mul => "mul",
-        Kind::Sel => "sel",
-        Kind::Ram => "ram",
-        Kind::Acu => "acu",
-    }
 }
 
 /// Why bytes are no microcode.

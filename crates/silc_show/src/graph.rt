@@ -5,10 +5,10 @@ ghost use Rattle.std.specs.Prelude.{IfOk};
 ghost use Rattle.signal_graph.specs.GraphRules.{IsGraph};
 ghost use Rattle.signal_graph.specs.GraphSolves.{IsGraphLoopless};
 
-use crate::operation_names::operation_text;
 use crate::page::Page;
 use crate::source::{Refusal, refusal};
 use front_end::{FrontError, Rejection, accept};
+use operations::operation_name;
 use signal_graph::{Graph, Node};
 use std::alloc::Global;
 
@@ -49,7 +49,7 @@ fn put_initial_values(page: &mut Page, node: &Node) {
 fn put_node(page: &mut Page, number: usize, node: &Node) {
     page.number("node ", number);
     page.text(" ");
-    page.text(operation_text(node.op));
+    page.text(operation_name(node.op));
     page.format(node.fmt);
     page.number(" argument ", node.arg);
     page.number(" bits ", node.width);

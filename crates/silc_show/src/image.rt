@@ -4,12 +4,12 @@
 ghost use Rattle.std.specs.Prelude.{IfOk};
 ghost use Rattle.micro_image.specs.Valid.{IsValid};
 
-use crate::operation_names::{kind_text, operation_text};
 use crate::page::Page;
 use crate::source::{Refusal, refusal, too_long};
 use lists::Bytes;
 use micro_file::{CodeFault, FormFault, decode, encode};
 use micro_image::{Enable, Image, Issue, Take, UnitDesc, Word};
+use operations::operation_name;
 use std::alloc::Global;
 
 /// A microcode file has at most this many bytes.
@@ -17,7 +17,8 @@ const MICROCODE_LIMIT: usize = 1 << 26;
 
 fn put_unit(page: &mut Page, number: usize, unit: &UnitDesc) {
     page.number("unit ", number);
-    page.text(kind_text(unit.kind));
+    page.text(" ");
+    page.text(unit.kind.name());
     page.number(" latency ", unit.latency);
     page.number(" gap ", unit.gap);
     page.number(" ram ", unit.ram);
@@ -35,7 +36,7 @@ fn put_unit(page: &mut Page, number: usize, unit: &UnitDesc) {
 fn put_issue(page: &mut Page, issue: &Issue) {
     page.number("  issue unit ", issue.unit);
     page.text(" ");
-    page.text(operation_text(issue.op));
+    page.text(operation_name(issue.op));
     page.format(issue.fmt);
     page.number(" argument ", issue.arg);
     page.numbers(" registers", &issue.regs);

@@ -32,7 +32,7 @@ use std::{env, fs};
 
 const USAGE: &str =
     "usage: silc_show tokens|tree|text|names|elements|types|graph SRC | manifests|words TABLE | image MIC \
-     | datapath DP | rows WIDTHS SAMPLES | repeat CALL TURNS FILE | repeat plan|assemble TURNS SRC DP";
+     | datapath DP | rows WIDTHS SAMPLES | repeat CALL TURNS FILE | repeat assign|plan|assemble TURNS SRC DP";
 
 const BAD_WORDS: u8 = 2;
 

@@ -3,7 +3,6 @@
 ghost use Rattle.std.specs.Prelude.{IfOk};
 ghost use Rattle.datapath.specs.Allowed.{IsDatapath};
 
-use crate::operation_names::kind_text;
 use crate::page::Page;
 use crate::source::{Refusal, told};
 use datapath::{Bus, Datapath, PathFault, PortRef, Unit, read};
@@ -12,7 +11,8 @@ use std::alloc::Global;
 fn put_unit(page: &mut Page, number: usize, unit: &Unit) {
     page.number("unit ", number);
     page.name(" ", &unit.name);
-    page.text(kind_text(unit.kind));
+    page.text(" ");
+    page.text(unit.kind.name());
     page.number(" latency ", unit.latency);
     page.number(" gap ", unit.gap);
     page.numbers(" files", &unit.files);

@@ -12,15 +12,19 @@ use crate::page::Page;
 use crate::path::datapath_of;
 use crate::source::{Refusal, told};
 use datapath::Datapath;
+use delay_memory::lower;
 use microcode_asm::{AsmFault, assemble};
 use plan_core::Plan;
 use planner::{PlanFault, plan};
 use signal_graph::Graph;
 use std::alloc::Global;
+use unit_assign::assign;
 
 /// A call, and what is added up over its turns.
 #[derive(Clone, Copy)]
 pub enum PlanCall {
+    /// From a graph to its nodes on units: the nodes.
+    Assign,
     /// From a source to its plan: the lifetimes.
     Plan,
     /// From a plan to its image: the words.
@@ -29,6 +33,7 @@ pub enum PlanCall {
 
 pub fn plan_call_named(word: &str) -> Option<PlanCall> {
     match word {
+        "assign" => Some(PlanCall::Assign),
         "plan" => Some(PlanCall::Plan),
         "assemble" => Some(PlanCall::Assemble),
         _ => None,
@@ -61,6 +66,37 @@ fn plan_of(alloc: Global, source: &[u8], path: &Datapath) -> Result<Plan, Refusa
 {
     let graph = graph_of(alloc, source)?;
     plan_over(alloc, graph, path)
+}
+
+/// How many nodes are bound to units.
+#[tactic(auto, using(crate::proofs::Planned::lowered_wired))]
+fn nodes_on_units(alloc: Global, graph: &Graph, path: &Datapath) -> Result<u64, PlanFault>
+    requires sound { IsGraph graph.now }
+    requires path { IsDatapath path.now }
+{
+    let lowered = lower(alloc, graph, path)?;
+    Ok(assign(alloc, &lowered, path)?.units.len() as u64)
+}
+
+fn assign_again(alloc: Global, turns: u32, graph: &Graph, path: &Datapath) -> Result<u64, PlanFault>
+    requires sound { IsGraph graph.now }
+    requires path { IsDatapath path.now }
+{
+    let mut count = 0u64;
+    for _ in 0..turns {
+        count = count.wrapping_add(nodes_on_units(alloc, graph, path)?);
+    }
+    Ok(count)
+}
+
+fn assign_source(alloc: Global, turns: u32, source: &[u8], path: &Datapath) -> Result<u64, Refusal>
+    requires { IsDatapath path.now }
+{
+    let graph = graph_of(alloc, source)?;
+    match assign_again(alloc, turns, &graph, path) {
+        Ok(nodes) => Ok(nodes),
+        Err(fault) => Err(without_plan(alloc, fault)),
+    }
 }
 
 /// How many lifetimes the plan has.
@@ -124,6 +160,7 @@ pub fn sum(
 ) -> Result<u64, Refusal> {
     let path = datapath_of(alloc, path)?;
     match call {
+        PlanCall::Assign => assign_source(alloc, turns, source, &path),
         PlanCall::Plan => plan_again(alloc, turns, source, &path),
         PlanCall::Assemble => assemble_source(alloc, turns, source, &path),
     }

@@ -9,13 +9,13 @@ ghost use Rattle.name_check.specs.TopNames.{top_names};
 ghost use Rattle.fix_types.specs.Numbers.{AreNumbersShort};
 
 use crate::names::names_of;
-use crate::operation_names::operation_text;
 use crate::page::{Lead, Page, mode_text};
 use crate::source::{Refusal, of_types, program_of};
 use crate::tree::put_decls;
 use fix_types::{Typed, TypedConst, TypedExpr, TypedFunc, TypedItem, check_types};
 use fix_word::{Format, Op};
 use name_check::Names;
+use operations::operation_name;
 use silage_tree::{MOp, Manifest, Place, Program};
 use std::alloc::Global;
 
@@ -62,7 +62,7 @@ fn put_place(page: &mut Page, place: &Place) {
 }
 
 fn put_operation(page: &mut Page, op: Op, format: Format, amount: &Option<Manifest>) {
-    page.text(operation_text(op));
+    page.text(operation_name(op));
     page.number("<", format.shift);
     put_optional(page, "*", amount);
     page.text(",");
