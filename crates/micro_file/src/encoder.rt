@@ -8,7 +8,7 @@ ghost use Rattle.micro_file.specs.Private.Sizes.{IsShortFile, IsSmallUnit, IsSma
 use crate::fault::CodeFault;
 use fix_word::{Format, Mode, Op};
 use lists::{Bytes, List};
-use micro_image::{Enable, Image, Issue, Kind, Take, UnitDesc, Word};
+use micro_image::{Enables, Image, Issue, Kind, Takes, UnitDesc, Word};
 use std::alloc::{AllocError, Global};
 
 fn kind_byte_of(kind: Kind) -> u8
@@ -100,7 +100,7 @@ fn put_issue(out: &mut Bytes, issue: &Issue) -> Result<(), AllocError>
 }
 
 #[tactic(auto, unfolding(micro_image::specs::Spells::spelled_enable))]
-fn put_enables(out: &mut Bytes, enables: &List<Enable>) -> Result<(), AllocError>
+fn put_enables(out: &mut Bytes, enables: &Enables) -> Result<(), AllocError>
     ensures { OnOk result (out.new ≡ out.old ++ flat_map spelled_enable enables.now) }
 {
     for enable in enables.iter() {
@@ -110,7 +110,7 @@ fn put_enables(out: &mut Bytes, enables: &List<Enable>) -> Result<(), AllocError
 }
 
 #[tactic(auto, unfolding(micro_image::specs::Spells::spelled_take))]
-fn put_takes(out: &mut Bytes, takes: &List<Take>) -> Result<(), AllocError>
+fn put_takes(out: &mut Bytes, takes: &Takes) -> Result<(), AllocError>
     ensures { OnOk result (out.new ≡ out.old ++ flat_map spelled_take takes.now) }
 {
     for take in takes.iter() {

@@ -7,7 +7,7 @@ use crate::fault::FormFault;
 use crate::reader::{Reader, is_word};
 use fix_word::{Format, Mode, Op};
 use lists::List;
-use micro_image::{Image, Issue, Kind, UnitDesc, is_formatted, reads};
+use micro_image::{Image, Issue, Kind, PortRegisters, UnitDesc, is_formatted, reads};
 use std::alloc::Global;
 
 /// The least shift of a format, which is to the left.
@@ -114,7 +114,7 @@ fn registers_at(files: &List<List<i64>>, read: usize, port: usize) -> usize
 fn read_register(
     files: &List<List<i64>>,
     read: usize,
-    regs: &List<u8>,
+    regs: &PortRegisters,
     reader: &mut Reader<'_>,
 ) -> Result<u8, FormFault>
     ensures { Reads (register_at files.now read regs.now) reader.old result reader.new }
@@ -128,10 +128,10 @@ fn read_registers(
     read: usize,
     count: usize,
     reader: &mut Reader<'_>,
-) -> Result<List<u8>, FormFault>
+) -> Result<PortRegisters, FormFault>
     ensures { Reads (many_at (register_at files.now read) [] count) reader.old result reader.new }
 {
-    let mut regs = List::with_capacity(alloc, count)?;
+    let mut regs = PortRegisters::with_capacity(alloc, count)?;
     for _ in 0..count {
         let reg = read_register(files, read, &regs, reader)?;
         regs.push(reg)?;

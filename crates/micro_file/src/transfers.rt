@@ -5,8 +5,7 @@ ghost use Rattle.micro_file.specs.Private.Words.{last_of, is_next, enable_before
 
 use crate::fault::FormFault;
 use crate::reader::Reader;
-use lists::List;
-use micro_image::{Enable, Image, PortRef, Take};
+use micro_image::{Enable, Enables, Image, PortRef, Take, Takes};
 use std::alloc::Global;
 
 /// The most enables, and the most takes, of a microword.
@@ -19,7 +18,7 @@ fn is_before(a: &Enable, b: &Enable) -> bool
 }
 
 /// Whether the enable comes after the last one.
-fn is_next_enable(enables: &List<Enable>, enable: &Enable) -> bool
+fn is_next_enable(enables: &Enables, enable: &Enable) -> bool
     ensures { result ≡ is_next enable_before (last_of enables.now) enable.now }
 {
     match enables.last() {
@@ -31,7 +30,7 @@ fn is_next_enable(enables: &List<Enable>, enable: &Enable) -> bool
 #[tactic(auto, unfolding(crate::specs::Private::Words::enable_at))]
 fn read_enable(
     image: &Image,
-    enables: &List<Enable>,
+    enables: &Enables,
     reader: &mut Reader<'_>,
 ) -> Result<Enable, FormFault>
     ensures { Reads (enable_at image.now enables.now) reader.old result reader.new }
@@ -51,10 +50,10 @@ fn read_some_enables(
     image: &Image,
     count: usize,
     reader: &mut Reader<'_>,
-) -> Result<List<Enable>, FormFault>
+) -> Result<Enables, FormFault>
     ensures { Reads (many_at (enable_at image.now) [] count) reader.old result reader.new }
 {
-    let mut enables = List::with_capacity(alloc, count)?;
+    let mut enables = Enables::with_capacity(alloc, count)?;
     for _ in 0..count {
         let enable = read_enable(image, &enables, reader)?;
         enables.push(enable)?;
@@ -67,7 +66,7 @@ pub(crate) fn read_enables(
     alloc: Global,
     image: &Image,
     reader: &mut Reader<'_>,
-) -> Result<List<Enable>, FormFault>
+) -> Result<Enables, FormFault>
     ensures { Reads (enables_at image.now) reader.old result reader.new }
 {
     let count = reader.short_in(0, MAX_TRANSFERS)?;
@@ -87,7 +86,7 @@ fn is_take_before(a: &Take, b: &Take) -> bool
 }
 
 /// Whether the take comes after the last one.
-fn is_next_take(takes: &List<Take>, take: &Take) -> bool
+fn is_next_take(takes: &Takes, take: &Take) -> bool
     ensures { result ≡ is_next take_before (last_of takes.now) take.now }
 {
     match takes.last() {
@@ -97,7 +96,7 @@ fn is_next_take(takes: &List<Take>, take: &Take) -> bool
 }
 
 #[tactic(auto, unfolding(crate::specs::Private::Words::take_at))]
-fn read_take(image: &Image, takes: &List<Take>, reader: &mut Reader<'_>) -> Result<Take, FormFault>
+fn read_take(image: &Image, takes: &Takes, reader: &mut Reader<'_>) -> Result<Take, FormFault>
     ensures { Reads (take_at image.now takes.now) reader.old result reader.new }
 {
     let number = reader.byte()?;
@@ -124,10 +123,10 @@ fn read_some_takes(
     image: &Image,
     count: usize,
     reader: &mut Reader<'_>,
-) -> Result<List<Take>, FormFault>
+) -> Result<Takes, FormFault>
     ensures { Reads (many_at (take_at image.now) [] count) reader.old result reader.new }
 {
-    let mut takes = List::with_capacity(alloc, count)?;
+    let mut takes = Takes::with_capacity(alloc, count)?;
     for _ in 0..count {
         let take = read_take(image, &takes, reader)?;
         takes.push(take)?;
@@ -140,7 +139,7 @@ pub(crate) fn read_takes(
     alloc: Global,
     image: &Image,
     reader: &mut Reader<'_>,
-) -> Result<List<Take>, FormFault>
+) -> Result<Takes, FormFault>
     ensures { Reads (takes_at image.now) reader.old result reader.new }
 {
     let count = reader.short_in(0, MAX_TRANSFERS)?;

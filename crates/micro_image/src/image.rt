@@ -2,9 +2,25 @@ ghost use Rattle.std.specs.Prelude.{◌≡◌};
 ghost use Rattle.micro_image.specs.Fields.{word_at};
 ghost use Rattle.micro_image.specs.Valid.{IsValid};
 
+use crate::short_list::ShortList;
 use fix_word::{Format, Op};
 use lists::List;
 use operations::{Kind, PortRef};
+
+/// The most ports of a unit.
+const PORTS: usize = 3;
+
+/// For how many bus drives, and for how many register-file writes, a microword has room in itself.
+const TRANSFERS: usize = 8;
+
+/// A register for each port of a unit.
+pub type PortRegisters = ShortList<u8, PORTS>;
+
+/// The bus drives of a microword.
+pub type Enables = ShortList<Enable, TRANSFERS>;
+
+/// The register-file writes of a microword.
+pub type Takes = ShortList<Take, TRANSFERS>;
 
 /// A unit of the hardware, and the state in which it starts.
 #[derive(Debug, Drop)]
@@ -32,11 +48,11 @@ pub struct Issue {
     /// The input or output word's number, the constant's raw word or the address's offset; 0 for the others.
     pub arg: i64,
     /// The register that is read at each port of the unit.
-    pub regs: List<u8>,
+    pub regs: PortRegisters,
 }
 
 /// A bus drive: a unit that drives a bus in a cycle.
-#[derive(Clone, Copy, Debug, PartialEq, Eq)]
+#[derive(Clone, Copy, Debug, Default, PartialEq, Eq)]
 pub struct Enable {
     pub unit: u8,
     pub bus: u8,
@@ -50,12 +66,23 @@ pub struct Take {
     pub reg: u8,
 }
 
+/// The blank of a list's room.
+impl Default for Take {
+    fn default() -> Take {
+        Take {
+            port: PortRef { unit: 0, port: 0 },
+            bus: 0,
+            reg: 0,
+        }
+    }
+}
+
 /// A microword: all that the hardware does in one cycle.
 #[derive(Debug, Drop)]
 pub struct Word {
     pub issues: List<Issue>,
-    pub enables: List<Enable>,
-    pub takes: List<Take>,
+    pub enables: Enables,
+    pub takes: Takes,
 }
 
 /// A microprogram with the hardware that it is for.

@@ -13,7 +13,7 @@ use crate::fault::AsmFault;
 use crate::lifetimes::ArcIndex;
 use datapath::{Datapath, PortRef};
 use lists::List;
-use micro_image::Issue;
+use micro_image::{Issue, PortRegisters};
 use plan_core::Plan;
 use signal_graph::Edge;
 use std::alloc::Global;
@@ -105,7 +105,7 @@ impl Issuer<'_> {
     }
 
     /// The registers of an issue of node v in sample n.
-    fn registers(&self, alloc: Global, v: usize, n: usize) -> Result<List<u8>, AsmFault>
+    fn registers(&self, alloc: Global, v: usize, n: usize) -> Result<PortRegisters, AsmFault>
         requires issuer { IsIssuer self.now }
         requires node { v < length (nodes_of self.now.plan.now) }
         requires sample { n < self.now.plan.now.unroll }
@@ -116,7 +116,7 @@ impl Issuer<'_> {
     {
         let unit = usize::from(self.plan.assigned.units[v]);
         let ports = self.datapath.units[unit].files.len();
-        let mut regs = List::with_capacity(alloc, ports)?;
+        let mut regs = PortRegisters::with_capacity(alloc, ports)?;
         for port in 0..ports {
             regs.push(self.register(v, port, n))?;
         }

@@ -11,8 +11,7 @@ use crate::fault::AsmFault;
 use crate::issues::Issuer;
 use crate::lifetimes::is_same_port;
 use datapath::{Datapath, PortRef};
-use lists::List;
-use micro_image::Take;
+use micro_image::{Take, Takes};
 use plan_core::{Plan, Transfer};
 use std::alloc::Global;
 
@@ -72,18 +71,13 @@ pub(crate) fn arcs_by_write(
 }
 
 /// The register-file writes of cycle c of sample n.
-pub(crate) fn takes(
-    alloc: Global,
-    issuer: &Issuer,
-    n: usize,
-    c: usize,
-) -> Result<List<Take>, AsmFault>
+pub(crate) fn takes(alloc: Global, issuer: &Issuer, n: usize, c: usize) -> Result<Takes, AsmFault>
     requires issuer { IsIssuer issuer.now }
     requires sample { n < issuer.now.plan.now.unroll }
     requires cycle { c < issuer.now.datapath.now.period }
     ensures { IfOk result (HasTakes issuer.now.plan.now n c) }
 {
-    let mut takes = List::with_capacity(alloc, issuer.written.room(c))?;
+    let mut takes = Takes::with_capacity(alloc, issuer.written.room(c))?;
     let mut k = issuer.written.first[c];
     while k < issuer.plan.arcs.len() {
         takes.push(take(issuer.plan, issuer.datapath, k, n))?;
