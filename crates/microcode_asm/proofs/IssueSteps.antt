@@ -3,9 +3,6 @@ use Rattle.std.proofs.Common.{◌≡◌, ℕ, ◌+◌, ◌-◌, ◌*◌, ◌/◌
 use Rattle.std.proofs.Math.Nat.{mod-lt, mod-add-mod, add-mul-mod_self_right}
 use Rattle.std.proofs.lemmas.Bool.{cases_lt}
 use Rattle.std.proofs.lemmas.List.{get_or_default, get_or_append_left, get_or-append_right, length-append}
-use Rattle.fix_word.specs.declared.operation.Op.{Op}
-use Rattle.fix_word.specs.declared.operation.Op.TheVariants as op
-use Rattle.operations.specs.Operations.{operands, kind_of}
 use Rattle.operations.specs.Units.{ports}
 use Rattle.datapath.specs.Allowed.{IsUnit}
 use Rattle.datapath.specs.declared.types.Datapath.{Datapath}
@@ -68,7 +65,7 @@ module _ (d : Datapath) (p : Plan) (ready : IsReady d p) where
       → v < length (nodes_of p)
       → q < length (node_at p v).edges
       → edge ≡ edge_at p v q
-      → unit ≡ slice_index_or p.assigned.units v unit
+      → unit ≡ unit_at p v
       → arcs ≡ p.arcs
       → (k : ℕ) × IsFoundArc arcs edge.node (port_of unit q) k
   some_arc v q unit edge arcs in-v in-q edge-is unit-is arcs-are =
@@ -78,7 +75,7 @@ module _ (d : Datapath) (p : Plan) (ready : IsReady d p) where
           there = read.1.there;
           for = record {
             node = sym read.1.reads.node ∙ ap (λ (e : Edge). e.node) (sym edge-is);
-            port_is = read.1.port ∙ ap (λ u. port_of u q) (sym (unit_is v unit in-v unit-is));
+            port_is = read.1.port ∙ ap (λ u. port_of u q) (sym unit-is);
           };
         }),
       )
@@ -121,7 +118,7 @@ module _ (d : Datapath) (p : Plan) (ready : IsReady d p) where
       → v < length (nodes_of p)
       → q < length (node_at p v).edges
       → edge ≡ edge_at p v q
-      → unit ≡ slice_index_or p.assigned.units v unit
+      → unit ≡ unit_at p v
       → arcs ≡ p.arcs
       → IsFoundArc arcs edge.node (port_of unit q) k
       → arc ≡ slice_index_or p.arcs k arc
@@ -137,7 +134,7 @@ module _ (d : Datapath) (p : Plan) (ready : IsReady d p) where
       let in-k : k < length p.arcs = found'.there in
       let through : ReadsThrough p v q k = record {
         there = in-k;
-        port = found'.for.port_is ∙ ap (λ u. port_of u q) (unit_is v unit in-v unit-is);
+        port = found'.for.port_is ∙ ap (λ u. port_of u q) unit-is;
         reads = record {
           port = in-q;
           node = ap (λ (e : Edge). e.node) (sym edge-is) ∙ sym found'.for.node;

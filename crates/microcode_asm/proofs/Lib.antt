@@ -7,7 +7,7 @@ pub mod Dealt
 pub mod Linked
 pub mod PlanFacts
 pub mod OrderSteps
-pub mod LinkSteps
+pub mod ArcSteps
 pub mod BusSteps
 pub mod IssueSteps
 pub mod SampleSteps

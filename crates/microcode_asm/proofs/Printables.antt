@@ -1,15 +1,11 @@
 -- A plan has what its text needs.
-use Rattle.std.proofs.Common.{◌≡◌, sym, ap, subst, arith, ⊎_elim, ℕ, ◌<◌, ◌≤◌, List, length, get_or}
-use Rattle.std.proofs.lemmas.Bool.{cases_lt}
-use Rattle.std.proofs.lemmas.List.{get_or_past, get_or-map, length-map}
+use Rattle.std.proofs.Common.{◌≡◌, sym, ap, subst, arith, ⊎_elim, ℕ, ◌<◌, ◌≤◌, length, get_or}
+use Rattle.std.proofs.lemmas.List.{get_or-map, length-map}
 use Rattle.std.proofs.lemmas.List.Elements.{All-get_or}
 use Rattle.operations.specs.declared.units.PortRef.{PortRef}
 use Rattle.datapath.specs.Allowed.{IsDatapath, IsUnit}
 use Rattle.datapath.specs.declared.types.Datapath.{Datapath}
-use Rattle.signal_graph.specs.GraphSolves.{no_node}
-use Rattle.signal_graph.specs.declared.graph.Node.{Node}
 use Rattle.plan_core.specs.Hardware.{no_unit, latency_on, port_of}
-use Rattle.plan_core.specs.Operands.{node_of, Reads}
 use Rattle.plan_core.specs.Assigned.{unit_in, IsAssigned}
 use Rattle.plan_core.specs.ListSchedule.{slot_of, IsDestination, IsListSchedule}
 use Rattle.plan_core.specs.Arcs.{arc_of, IsArcFor, IsArcs}

@@ -26,7 +26,7 @@ use Rattle.microcode_asm.specs.Private.Buses.{IsBusTo, Drives, drive_of}
 use Rattle.microcode_asm.specs.Private.Order.{IsUnitOrder}
 use Rattle.microcode_asm.specs.Private.Linked.{IsNext}
 use Rattle.microcode_asm.specs.Private.Words.{HasIssues, HasEnables, HasTakes, IsTakeFor, AreIssuesTo, AreEnablesTo, AreTakesTo, IsIssued, IsEnded, IsWritten, node_in}
-use Rattle.microcode_asm.specs.declared.by_cycle.ByCycle.{ByCycle}
+use Rattle.microcode_asm.specs.declared.buckets.Buckets.{Buckets}
 use Rattle.microcode_asm.proofs.Dealt.{AreThings}
 use Rattle.microcode_asm.proofs.Linked.{next_after, first_reached, next_reached, all_reached}
 use Rattle.microcode_asm.proofs.BusSteps.{drives_rise}
@@ -44,14 +44,6 @@ from_mapped : {A B : Type 0} (f : A → B) (xs : List A) (y : B) (default : A)
 from_mapped f xs y default (k, below, is) =
     let in-k : k < length xs = omega (arith, below, length-map xs f) in
     (slice_index_or xs k default, at_index xs k default in-k, sym is ∙ get_or-map f xs k default y in-k)
-
--- an item of the lifetimes
-pub arc_item : {B : Type 0} (f : Arc → B) (arcs items : List Arc) (k : ℕ) (default : Arc)
-    → items ≡ arcs
-    → k < length items
-    → f (slice_index_or items k default) ≡ f (slice_index_or arcs k no_arc)
-arc_item f arcs items k default are below =
-    ap f (get_or_default items k default no_arc below ∙ ap (λ (xs : List Arc). slice_index_or xs k no_arc) are)
 
 module _ (d : Datapath) (p : Plan) (ready : IsReady d p) where
   feasible : IsFeasible d p
@@ -135,7 +127,7 @@ module _ (d : Datapath) (p : Plan) (ready : IsReady d p) where
       pub no_issues : (c i : ℕ) → IsNext cycle_in (length order) c 0 i → AreIssuesTo d p order n c i []
       no_issues c i next = first_reached cycle_in IssueIn IsIssue IssueBefore (length order) c i next
 
-      pub one_more_issue : (by : ByCycle) (c m v next : ℕ) (issue : Issue) (issues : List Issue)
+      pub one_more_issue : (by : Buckets) (c m v next : ℕ) (issue : Issue) (issues : List Issue)
           → IsIssued d p order by
           → m < length order
           → v ≡ slice_index_or order m v
@@ -213,7 +205,7 @@ module _ (d : Datapath) (p : Plan) (ready : IsReady d p) where
     pub no_enables : (c i : ℕ) → IsNext end_in (length order) c 0 i → AreEnablesTo d p order c i []
     no_enables c i next = first_reached end_in EnablesIn IsEnableIn EnableBefore (length order) c i next
 
-    pub more_enables : (by : ByCycle) (c m v next unit : ℕ) (slot : Slot) (transfers : List Transfer)
+    pub more_enables : (by : Buckets) (c m v next unit : ℕ) (slot : Slot) (transfers : List Transfer)
         (old new : List Enable)
         → IsEnded d p order by
         → m < length order
@@ -416,7 +408,7 @@ module _ (d : Datapath) (p : Plan) (ready : IsReady d p) where
         inr (au ∙ same.0 ∙ sym bu, inl (omega (arith, same.1, ap', bp))))
         before
 
-    pub one_more_take : (by : ByCycle) (c m next : ℕ) (take : Take) (takes : List Take)
+    pub one_more_take : (by : Buckets) (c m next : ℕ) (take : Take) (takes : List Take)
         → IsWritten d p by
         → m < length p.arcs
         → IsTakeFor p m n take

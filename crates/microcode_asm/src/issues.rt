@@ -4,13 +4,11 @@ ghost use Rattle.std.specs.Prelude.{◌≡◌, ◌<◌, length, IfOk};
 ghost use Rattle.plan_core.specs.Hardware.{unit_of};
 ghost use Rattle.plan_run.specs.Parts.{nodes_of, node_at, edge_at, unit_at, IsCopy};
 ghost use Rattle.plan_run.specs.ImageOf.{IsIssueOf};
-ghost use Rattle.microcode_asm.specs.Private.Ready.{IsReady};
-ghost use Rattle.microcode_asm.specs.Private.Order.{IsUnitOrder};
-ghost use Rattle.microcode_asm.specs.Private.Words.{IsPortRegister, ArePortRegisters, HasIssues, IsIssuer, IsIssued};
+ghost use Rattle.microcode_asm.specs.Private.Words.{IsPortRegister, ArePortRegisters, HasIssues, IsIssuer};
 
-use crate::by_cycle::ByCycle;
+use crate::buckets::Buckets;
 use crate::fault::AsmFault;
-use crate::lifetimes::ArcIndex;
+use crate::lifetimes::lifetime_at;
 use datapath::{Datapath, PortRef};
 use lists::List;
 use micro_image::{Issue, PortRegisters};
@@ -43,82 +41,76 @@ pub(crate) struct Issuer<'a> {
     pub datapath: &'a Datapath,
     /// The nodes by unit.
     pub order: &'a List<usize>,
-    pub index: &'a ArcIndex,
+    /// The lifetimes by the node whose words they keep.
+    pub kept: &'a Buckets,
     /// The nodes, by their places in order, by the cycle in which they are issued.
-    pub issued: &'a ByCycle,
+    pub issued: &'a Buckets,
     /// The nodes, by their places in order, by the cycle in which their result is there.
-    pub ended: &'a ByCycle,
+    pub ended: &'a Buckets,
+    /// How many nodes are issued in each cycle.
+    pub rooms: &'a List<u8>,
     /// The lifetimes by the cycle of their write.
-    pub written: &'a ByCycle,
-}
-
-/// The nodes, by their places in order, by the cycle in which they are issued.
-pub(crate) fn nodes_by_issue(
-    alloc: Global,
-    plan: &Plan,
-    datapath: &Datapath,
-    order: &List<usize>,
-) -> Result<ByCycle, AsmFault>
-    requires ready { IsReady datapath.now plan.now }
-    requires order { IsUnitOrder plan.now order.now }
-    ensures { IfOk result (IsIssued datapath.now plan.now order.now) }
-{
-    let mut by_issue = ByCycle::without(alloc, usize::from(datapath.period), order.len())?;
-    for i in (0..order.len()).rev() {
-        by_issue.put_first(usize::from(plan.schedule.slots[order[i]].cycle), i);
-    }
-    Ok(by_issue)
+    pub written: &'a Buckets,
 }
 
 impl Issuer<'_> {
-    /// The register that node v reads at a port through an edge in sample n.
-    fn operand_register(&self, v: usize, port: usize, edge: Edge, n: usize) -> u8
+    /// The register that node v on its unit reads at a port through an edge in sample n.
+    fn operand_register(&self, v: usize, unit: u8, port: usize, edge: Edge, n: usize) -> u8
         requires issuer { IsIssuer self.now }
         requires node { v < length (nodes_of self.now.plan.now) }
+        requires unit { unit ≡ unit_at self.now.plan.now v }
         requires port { port < length (node_at self.now.plan.now v).edges }
         requires edge { edge ≡ edge_at self.now.plan.now v port }
         requires sample { n < self.now.plan.now.unroll }
         ensures { IsPortRegister self.now.datapath.now self.now.plan.now v n port result }
     {
         let file = PortRef {
-            unit: self.plan.assigned.units[v],
+            unit,
             port: port as u8,
         };
-        let k = self
-            .index
-            .find(self.plan.arcs.as_slice(), edge.node as usize, file);
+        let arcs = self.plan.arcs.as_slice();
+        let k = lifetime_at(self.kept, arcs, edge.node as usize, file);
         let copy = copy_ago(self.plan.arcs[k].copies, n, usize::from(edge.delay));
         self.plan.registers.regs[k][copy]
     }
 
-    /// The register of an issue of node v in sample n at a port.
-    fn register(&self, v: usize, port: usize, n: usize) -> u8
+    /// The register of an issue of node v on its unit in sample n at a port.
+    fn register(&self, v: usize, unit: u8, edges: &[Edge], port: usize, n: usize) -> u8
         requires issuer { IsIssuer self.now }
         requires node { v < length (nodes_of self.now.plan.now) }
+        requires unit { unit ≡ unit_at self.now.plan.now v }
+        requires edges { edges.now ≡ (node_at self.now.plan.now v).edges }
         requires sample { n < self.now.plan.now.unroll }
         ensures { IsPortRegister self.now.datapath.now self.now.plan.now v n port result }
     {
-        match self.plan.assigned.lowered.nodes[v].edges.get(port) {
-            Some(edge) => self.operand_register(v, port, *edge, n),
+        match edges.get(port) {
+            Some(edge) => self.operand_register(v, unit, port, *edge, n),
             None => UNREAD,
         }
     }
 
-    /// The registers of an issue of node v in sample n.
-    fn registers(&self, alloc: Global, v: usize, n: usize) -> Result<PortRegisters, AsmFault>
+    /// The registers of an issue of node v on its unit in sample n.
+    fn registers(
+        &self,
+        alloc: Global,
+        v: usize,
+        unit: u8,
+        n: usize,
+    ) -> Result<PortRegisters, AsmFault>
         requires issuer { IsIssuer self.now }
         requires node { v < length (nodes_of self.now.plan.now) }
+        requires unit { unit ≡ unit_at self.now.plan.now v }
         requires sample { n < self.now.plan.now.unroll }
         ensures count { IfOk result (λ regs. length regs
             ≡ length (unit_of self.now.datapath.now (unit_at self.now.plan.now v)).files) }
         ensures each { IfOk result
             (ArePortRegisters self.now.datapath.now self.now.plan.now v n) }
     {
-        let unit = usize::from(self.plan.assigned.units[v]);
-        let ports = self.datapath.units[unit].files.len();
-        let mut regs = PortRegisters::with_capacity(alloc, ports)?;
+        let edges = self.plan.assigned.lowered.nodes[v].edges.as_slice();
+        let ports = self.datapath.units[usize::from(unit)].files.len();
+        let mut regs = PortRegisters::new(alloc);
         for port in 0..ports {
-            regs.push(self.register(v, port, n))?;
+            regs.push(self.register(v, unit, edges, port, n))?;
         }
         Ok(regs)
     }
@@ -130,13 +122,15 @@ impl Issuer<'_> {
         requires sample { n < self.now.plan.now.unroll }
         ensures { IfOk result (IsIssueOf self.now.datapath.now self.now.plan.now v n) }
     {
+        let unit = self.plan.assigned.units[v];
+        let regs = self.registers(alloc, v, unit, n)?;
         let node = &self.plan.assigned.lowered.nodes[v];
         Ok(Issue {
-            unit: self.plan.assigned.units[v],
+            unit,
             op: node.op,
             fmt: node.fmt,
             arg: node.arg,
-            regs: self.registers(alloc, v, n)?,
+            regs,
         })
     }
 
@@ -147,7 +141,7 @@ impl Issuer<'_> {
         requires cycle { c < self.now.datapath.now.period }
         ensures { IfOk result (HasIssues self.now.datapath.now self.now.plan.now n c) }
     {
-        let mut issues = List::with_capacity(alloc, self.issued.room(c))?;
+        let mut issues = List::with_capacity(alloc, usize::from(self.rooms[c]))?;
         let mut i = self.issued.first[c];
         while i < self.order.len() {
             issues.push(self.issue(alloc, self.order[i], n)?)?;

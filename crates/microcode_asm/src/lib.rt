@@ -3,18 +3,18 @@
 
 mod arc_search;
 mod assembler;
-mod by_cycle;
+mod buckets;
 mod enables;
 mod fault;
 mod image_text;
 mod issues;
 mod lifetimes;
+mod node_cycles;
 mod node_line;
 mod operation_text;
 mod order;
 mod plan_text;
 mod starts;
-mod tables;
 mod takes;
 mod text;
 mod units;

@@ -1,26 +1,45 @@
-//! Which lifetime keeps the words of a node at a port.
+//! The lifetimes of a plan, by node and by cycle.
 
 ghost use Rattle.std.specs.Prelude.{◌≡◌, ◌<◌, ◌↔◌, ℕ, length, IfOk, IsTrue};
 ghost use Rattle.microcode_asm.specs.Private.Ready.{IsReady};
-ghost use Rattle.microcode_asm.specs.Private.Lifetimes.{IsArcIndex, IsFoundArc};
+ghost use Rattle.microcode_asm.specs.Private.Lifetimes.{AreKept, IsFoundArc};
+ghost use Rattle.microcode_asm.specs.Private.Words.{IsWritten};
 
+use crate::buckets::Buckets;
 use crate::fault::AsmFault;
 use datapath::{Datapath, PortRef};
-use lists::List;
 use plan_core::{Arc, Plan};
 use std::alloc::Global;
 
-/// What stands for a link that leads nowhere.
-const NOWHERE: usize = 0;
-
-/// The lifetimes of each node as a linked list, from the last to the first. A link is the number of a lifetime and 1,
-/// or `NOWHERE`.
+/// The lifetimes of a plan.
 #[derive(Drop)]
-pub(crate) struct ArcIndex {
-    /// For each node the link to its last lifetime.
-    pub last: List<usize>,
-    /// For each lifetime the link to the one before it of the same node.
-    pub before: List<usize>,
+pub(crate) struct Lifetimes {
+    /// By the node whose words they keep.
+    pub kept: Buckets,
+    /// By the cycle of their write.
+    pub written: Buckets,
+}
+
+/// Deals the lifetimes to their nodes and to the cycles of their writes.
+pub(crate) fn lifetimes_of(
+    alloc: Global,
+    plan: &Plan,
+    datapath: &Datapath,
+) -> Result<Lifetimes, AsmFault>
+    requires { IsReady datapath.now plan.now }
+    ensures kept { IfOk result (λ lifetimes.
+        AreKept (length plan.now.assigned.lowered.nodes) plan.now.arcs lifetimes.kept) }
+    ensures written { IfOk result (λ lifetimes. IsWritten datapath.now plan.now lifetimes.written) }
+{
+    let count = plan.arcs.len();
+    let mut kept = Buckets::empty(alloc, plan.assigned.lowered.nodes.len(), count)?;
+    let mut written = Buckets::empty(alloc, usize::from(datapath.period), count)?;
+    for k in (0..count).rev() {
+        let arc = plan.arcs[k];
+        kept.put_first(arc.node as usize, k);
+        written.put_first(usize::from(arc.w), k);
+    }
+    Ok(Lifetimes { kept, written })
 }
 
 /// Whether the two ports are one.
@@ -30,39 +49,15 @@ pub(crate) fn is_same_port(a: PortRef, b: PortRef) -> bool
     a.unit == b.unit && a.port == b.port
 }
 
-/// Puts the lifetimes of the plan into the index.
-pub(crate) fn arc_index(
-    alloc: Global,
-    plan: &Plan,
-    datapath: &Datapath,
-) -> Result<ArcIndex, AsmFault>
-    requires { IsReady datapath.now plan.now }
-    ensures { IfOk result (IsArcIndex (length plan.now.assigned.lowered.nodes) plan.now.arcs) }
+/// The lifetime of the words of a node at a port, which there is. Most nodes have one or two.
+pub(crate) fn lifetime_at(kept: &Buckets, arcs: &[Arc], node: usize, port: PortRef) -> usize
+    requires kept { (count : ℕ) × (node < count) × AreKept count arcs.now kept.now }
+    requires there { (k : ℕ) × IsFoundArc arcs.now node port k }
+    ensures { IsFoundArc arcs.now node port result }
 {
-    let mut last = List::from_vec(vec![in alloc; NOWHERE; plan.assigned.lowered.nodes.len()]?);
-    let mut before = List::with_capacity(alloc, plan.arcs.len())?;
-    for (k, arc) in plan.arcs.iter().enumerate() {
-        before.push(last[arc.node as usize])?;
-        last[arc.node as usize] = k + 1;
+    let mut k = kept.first[node];
+    while !is_same_port(arcs[k].port, port) {
+        k = kept.next[k];
     }
-    Ok(ArcIndex { last, before })
-}
-
-impl ArcIndex {
-    /// The lifetime of the words of a node at a port, which there is.
-    pub(crate) fn find(&self, arcs: &[Arc], node: usize, port: PortRef) -> usize
-        requires index { (count : ℕ) × (node < count) × IsArcIndex count arcs.now self.now }
-        requires there { (k : ℕ) × IsFoundArc arcs.now node port k }
-        ensures { IsFoundArc arcs.now node port result }
-    {
-        let mut link = self.last[node];
-        while link > NOWHERE {
-            let k = link - 1;
-            if is_same_port(arcs[k].port, port) {
-                return k;
-            }
-            link = self.before[k];
-        }
-        unreachable!()
-    }
+    k
 }

@@ -4,9 +4,8 @@ ghost use Rattle.std.specs.Prelude.{◌≡◌, ◌%◌, ◌<◌, ℕ, length, If
 ghost use Rattle.plan_core.specs.declared.schedule.Transfer.{Transfer};
 ghost use Rattle.microcode_asm.specs.Private.Ready.{IsReady};
 ghost use Rattle.microcode_asm.specs.Private.Buses.{IsBusTo};
-ghost use Rattle.microcode_asm.specs.Private.Words.{HasTakes, IsTakeFor, IsIssuer, IsWritten};
+ghost use Rattle.microcode_asm.specs.Private.Words.{HasTakes, IsTakeFor, IsIssuer};
 
-use crate::by_cycle::ByCycle;
 use crate::fault::AsmFault;
 use crate::issues::Issuer;
 use crate::lifetimes::is_same_port;
@@ -54,22 +53,6 @@ fn take(plan: &Plan, datapath: &Datapath, k: usize, n: usize) -> Take
     }
 }
 
-/// The lifetimes by the cycle of their write.
-pub(crate) fn arcs_by_write(
-    alloc: Global,
-    plan: &Plan,
-    datapath: &Datapath,
-) -> Result<ByCycle, AsmFault>
-    requires { IsReady datapath.now plan.now }
-    ensures { IfOk result (IsWritten datapath.now plan.now) }
-{
-    let mut by_write = ByCycle::without(alloc, usize::from(datapath.period), plan.arcs.len())?;
-    for k in (0..plan.arcs.len()).rev() {
-        by_write.put_first(usize::from(plan.arcs[k].w), k);
-    }
-    Ok(by_write)
-}
-
 /// The register-file writes of cycle c of sample n.
 pub(crate) fn takes(alloc: Global, issuer: &Issuer, n: usize, c: usize) -> Result<Takes, AsmFault>
     requires issuer { IsIssuer issuer.now }
@@ -77,7 +60,7 @@ pub(crate) fn takes(alloc: Global, issuer: &Issuer, n: usize, c: usize) -> Resul
     requires cycle { c < issuer.now.datapath.now.period }
     ensures { IfOk result (HasTakes issuer.now.plan.now n c) }
 {
-    let mut takes = Takes::with_capacity(alloc, issuer.written.room(c))?;
+    let mut takes = Takes::new(alloc);
     let mut k = issuer.written.first[c];
     while k < issuer.plan.arcs.len() {
         takes.push(take(issuer.plan, issuer.datapath, k, n))?;

@@ -5,12 +5,13 @@ ghost use Rattle.plan_run.specs.ImageOf.{IsWordOf};
 ghost use Rattle.microcode_asm.specs.Private.Ready.{IsReady};
 ghost use Rattle.microcode_asm.specs.Private.Words.{IsIssuer, AreBehind, AreWords};
 
-use crate::enables::{enables, nodes_by_result};
+use crate::enables::enables;
 use crate::fault::AsmFault;
-use crate::issues::{Issuer, nodes_by_issue};
-use crate::lifetimes::arc_index;
+use crate::issues::Issuer;
+use crate::lifetimes::lifetimes_of;
+use crate::node_cycles::node_cycles;
 use crate::order::unit_order;
-use crate::takes::{arcs_by_write, takes};
+use crate::takes::takes;
 use datapath::Datapath;
 use lists::List;
 use micro_image::Word;
@@ -69,18 +70,17 @@ pub(crate) fn words(alloc: Global, plan: &Plan, datapath: &Datapath) -> Result<L
     ensures { IfOk result (AreWords datapath.now plan.now plan.now.unroll) }
 {
     let order = unit_order(alloc, plan, datapath)?;
-    let index = arc_index(alloc, plan, datapath)?;
-    let issued = nodes_by_issue(alloc, plan, datapath, &order)?;
-    let ended = nodes_by_result(alloc, plan, datapath, &order)?;
-    let written = arcs_by_write(alloc, plan, datapath)?;
+    let lifetimes = lifetimes_of(alloc, plan, datapath)?;
+    let cycles = node_cycles(alloc, plan, datapath, &order)?;
     let issuer = Issuer {
         plan,
         datapath,
         order: &order,
-        index: &index,
-        issued: &issued,
-        ended: &ended,
-        written: &written,
+        kept: &lifetimes.kept,
+        issued: &cycles.issued,
+        ended: &cycles.ended,
+        rooms: &cycles.rooms,
+        written: &lifetimes.written,
     };
     words_of(alloc, &issuer)
 }

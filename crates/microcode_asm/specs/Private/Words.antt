@@ -13,10 +13,10 @@ use Rattle.micro_image.specs.Valid.{EnableBefore, TakeBefore}
 use Rattle.plan_run.specs.Parts.{nodes_of, node_at, edge_at, cycle_at, transfers_at, arc_at, register_at, ReadsThrough, IsTransferOf, ends_at, IsCopy}
 use Rattle.plan_run.specs.ImageOf.{IsIssueOf, IsWordOf, enable_of, take_of}
 use Rattle.microcode_asm.specs.Private.Ready.{IsReady}
-use Rattle.microcode_asm.specs.Private.Linked.{IsByCycle, IsReached}
+use Rattle.microcode_asm.specs.Private.Linked.{AreBuckets, IsReached}
 use Rattle.microcode_asm.specs.Private.Order.{IsUnitOrder}
-use Rattle.microcode_asm.specs.Private.Lifetimes.{IsArcIndex}
-use Rattle.microcode_asm.specs.declared.by_cycle.ByCycle.{ByCycle}
+use Rattle.microcode_asm.specs.Private.Lifetimes.{AreKept}
+use Rattle.microcode_asm.specs.declared.buckets.Buckets.{Buckets}
 use Rattle.microcode_asm.specs.declared.issues.Issuer.{Issuer}
 
 -- the node that is the i-th one in order
@@ -116,21 +116,22 @@ pub record AreBehind (d : Datapath) (p : Plan) (n cycles : ℕ) (old new : List 
   pub behind : (c : ℕ) → c < cycles → IsWordOf d p n c (nth new (length old + c) no_word)
 
 -- the nodes in order by the cycle in which they are issued, and by that in which their result is there
-abbrev pub IsIssued : Datapath → Plan → List ℕ → ByCycle → Type 0
-IsIssued d p order by = IsByCycle (λ (i : ℕ). cycle_at p (node_in order i)) d.period (length order) by
+abbrev pub IsIssued : Datapath → Plan → List ℕ → Buckets → Type 0
+IsIssued d p order by = AreBuckets (λ (i : ℕ). cycle_at p (node_in order i)) d.period (length order) by
 
-abbrev pub IsEnded : Datapath → Plan → List ℕ → ByCycle → Type 0
-IsEnded d p order by = IsByCycle (λ (i : ℕ). ends_at d p (node_in order i)) d.period (length order) by
+abbrev pub IsEnded : Datapath → Plan → List ℕ → Buckets → Type 0
+IsEnded d p order by = AreBuckets (λ (i : ℕ). ends_at d p (node_in order i)) d.period (length order) by
 
 -- the lifetimes by the cycle of their write
-abbrev pub IsWritten : Datapath → Plan → ByCycle → Type 0
-IsWritten d p by = IsByCycle (λ (k : ℕ). (arc_at p k).w) d.period (length p.arcs) by
+abbrev pub IsWritten : Datapath → Plan → Buckets → Type 0
+IsWritten d p by = AreBuckets (λ (k : ℕ). (arc_at p k).w) d.period (length p.arcs) by
 
 -- a plan with its nodes by unit, and these and its lifetimes by cycle, and lifetimes by node
 pub record IsIssuer (issuer : Issuer) : Type 0 where
   pub ready : IsReady issuer.datapath.now issuer.plan.now
   pub order : IsUnitOrder issuer.plan.now issuer.order.now
-  pub index : IsArcIndex (length (nodes_of issuer.plan.now)) issuer.plan.now.arcs issuer.index.now
+  pub kept : AreKept (length (nodes_of issuer.plan.now)) issuer.plan.now.arcs issuer.kept.now
   pub issued : IsIssued issuer.datapath.now issuer.plan.now issuer.order.now issuer.issued.now
   pub ended : IsEnded issuer.datapath.now issuer.plan.now issuer.order.now issuer.ended.now
+  pub rooms : length issuer.rooms.now ≡ issuer.datapath.now.period
   pub written : IsWritten issuer.datapath.now issuer.plan.now issuer.written.now

@@ -9,13 +9,13 @@ returns c =
     let same : to_z w64 (of_z w64 node.arg) ≡ node.arg = search rules in
     subst
     (λ (arg : ℤ). IsIssueOf c.args.self.now.datapath.now c.args.self.now.plan.now c.args.v c.args.n (record {
-      unit = c.index.result.now;
+      unit = c.index-unit.result.now;
       op = node.op;
       fmt = node.fmt;
       arg = arg;
-      regs = c.in_ok-registers.field-0;
+      regs = c.in_ok-regs.regs;
     }))
     (sym same)
     (issue_is c.args.self.now.datapath.now c.args.self.now.plan.now c.requires.issuer.ready c.args.v c.args.n
-    c.index.result.now node c.in_ok-registers.field-0 c.requires.node c.index-node.ensures c.index.ensures
-    c.in_ok-registers.ensures.count c.in_ok-registers.ensures.each)
+    c.index-unit.result.now node c.in_ok-regs.regs c.requires.node c.index-node.ensures c.index-unit.ensures
+    c.in_ok-regs.ensures.count c.in_ok-regs.ensures.each)
