@@ -16,6 +16,7 @@ pub mod FirstPlaces
 pub mod FirstConflicts
 pub mod StaticConflicts
 pub mod TimeLaws
+pub mod RingLaws
 pub mod RunCycle
 pub mod Initial
 pub mod Addresses

@@ -5,5 +5,6 @@ pub mod Predecode
 pub mod Sizes
 pub mod Issues
 pub mod Execution
+pub mod Rings
 pub mod Hardware
 pub mod Loading

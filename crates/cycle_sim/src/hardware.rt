@@ -1,5 +1,5 @@
 //! What changes from cycle to cycle: the time, what the places hold, and the values in flight.
-ghost use Rattle.std.specs.Prelude.{◌≡◌, ◌+◌, ◌*◌, ◌%◌, ◌<◌, ◌≤◌, ◌^◌, length};
+ghost use Rattle.std.specs.Prelude.{◌≡◌, ◌+◌, ◌*◌, ◌%◌, ◌<◌, ◌≤◌, ◌^◌, true, false, length};
 ghost use Rattle.cycle_sim.specs.declared.hardware.TheConstants.{SLOTS};
 
 use lists::List;
@@ -52,22 +52,27 @@ impl Time {
     ghost use Rattle.micro_image.specs.Valid.{IsValid};
     ghost use Rattle.cycle_sim.specs.Private.Hardware.{IsTime};
 
-    /// Goes on by so many cycles of the sample.
-    pub fn advance(&mut self, image: &Image, cycles: usize)
+    /// Goes on by so many cycles of the sample, and says whether that ends it.
+    pub fn advance(&mut self, image: &Image, cycles: usize) -> bool
         requires valid { IsValid image.now }
         requires time { IsTime image.now self.old }
         requires young { self.old.cycle < 2 ^ 60 }
         requires within { self.old.phase + cycles ≤ image.now.period }
         ensures time { IsTime image.now self.new }
         ensures cycle { self.new.cycle ≡ self.old.cycle + cycles }
+        ensures same { result ≡ false → self.new.sample ≡ self.old.sample }
+        ensures next { result ≡ true → self.new.sample ≡ self.old.sample + 1 }
     {
         self.cycle += cycles as u64;
-        self.word = go_round(self.word, cycles, image.words.len());
         self.phase += cycles;
-        if self.phase == usize::from(image.period) {
-            self.phase = 0;
-            self.sample += 1;
+        if self.phase < usize::from(image.period) {
+            self.word += cycles;
+            return false;
         }
+        self.word = go_round(self.word, cycles, image.words.len());
+        self.phase = 0;
+        self.sample += 1;
+        true
     }
 }
 

@@ -8,6 +8,7 @@ mod load;
 mod machine;
 mod predecode;
 mod predecoded;
+mod rings;
 mod values;
 
 pub use machine::{LoadFault, Machine};
