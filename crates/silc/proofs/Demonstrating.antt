@@ -14,6 +14,7 @@ use Rattle.desk_core.specs.View.{Content, View}
 use Rattle.desk_core.specs.Desk.{FaultsNeverFall, IfSpecified, IsUnchanged}
 use Rattle.desk_core.proofs.DeskLemmas.{rose_earlier, same_input_trans}
 use Rattle.fix_word.specs.Words.{IsWord}
+use Rattle.front_end.specs.Faults.{HasProgram}
 use Rattle.micro_image.specs.declared.conflict.Conflict.{Conflict}
 use Rattle.micro_image.specs.declared.image.Image.{Image}
 use Rattle.micro_image.specs.Run.{Stands, IsRunOut, latches, spread}
@@ -23,7 +24,7 @@ use Rattle.sample_io.specs.Samples.{printed}
 use Rattle.silage_meaning.specs.Solves.{IsRow, IsStream, out}
 use Rattle.silage_meaning.specs.Types.{IsInType}
 use Rattle.silage_syntax.specs.Tree.{Program}
-use Rattle.silc.specs.Cascade.{cascade_source, cascade_datapath, cascade_word, cascade_rows, cascade_line, words_of, sum_of, last_of}
+use Rattle.cascade.specs.Cascade.{cascade_source, cascade_datapath, cascade_word, cascade_rows, cascade_line, words_of, sum_of, last_of}
 use Rattle.silc.specs.Demo.{IsCascadeRun, IsDemoDone, IsDemoCutShort, IsDemoAnswer}
 use Rattle.silc.specs.Refusals.{IsRefusal}
 use Rattle.silc.specs.Headline.{RunsTheSolution}
@@ -33,13 +34,13 @@ use Rattle.silc.specs.Private.Compiling.{IsMicrocodeOf}
 use Rattle.silc.specs.Private.Demonstrating.{IsCascadePlan, IsCascadeMachine, RunsCascade, HasPutWords, HasTotals}
 use Rattle.silc.specs.Private.Planning.{IsInputPlan}
 use Rattle.silc.specs.Private.Running.{IsFresh, IsMachineOf}
-use Rattle.silc.specs.declared.cascade.Totals.{Totals}
+use Rattle.cascade.specs.declared.Totals.{Totals}
 use Rattle.silc.specs.declared.files.Input.TheVariants.{Whole}
 use Rattle.silc.specs.declared.planning.Planned.{Planned}
 use Rattle.silc.specs.declared.sim.Kept.{Kept}
 use Rattle.silc.specs.declared.status.Status.{Status}
 use Rattle.silc.specs.declared.status.Status.TheVariants.{Done}
-use Rattle.silc.proofs.CascadeProgram.{HasOneWordEach, one_word_each}
+use Rattle.cascade.proofs.CascadeProgram.{HasOneWordEach, one_word_each}
 use Rattle.silc.proofs.Compiled.{runs_the_solution}
 use Rattle.silc.proofs.Plans.{planned_over}
 use Rattle.silc.proofs.Simulating.{spread_row, one_more, at_sample, conflict_in_row}
@@ -125,6 +126,10 @@ word_valid n =
     let below : (37 * n) % 256 < 256 = mod-lt (37 * n) (omega arith) in
     record { low = omega (arith, ints, below); high = omega (arith, ints, below) }
 
+-- the program of the source is the one that is read from it
+one_word_read : (sections : ℕ) → sections ≤ 32 → (program : Program) → HasProgram (cascade_source sections) program → HasOneWordEach program
+one_word_read sections few program has = one_word_each sections few has.read.tokens has.read.lexed program has.read.parsed.is.only
+
 row_valid : (program : Program) → HasOneWordEach program → (n : ℕ) → IsRow program (cascade_word n ∷ [])
 row_valid program has n = subst (λ types. AllZip IsInType types (cascade_word n ∷ [])) (sym has.inputs) (word_valid n, tt)
 
@@ -155,7 +160,7 @@ module _ (sections : ℕ) (few : sections ≤ 32) (planned : Planned) (plan : Is
     (made : IsMicrocodeOf planned.path planned.plan microcode) where
   pub cascade_machine : (machine : Snapshot) → IsMachineOf microcode machine → IsCascadeMachine sections machine
   cascade_machine machine is =
-      let has = one_word_each sections few plan.program plan.over.read in
+      let has = one_word_read sections few plan.program plan.over.read in
       let same : made.image ≡ machine.image = sym (made.spelled.unique machine.image is.spells) in
       let image_of : IsImageOf planned.path planned.plan machine.image = subst (IsImageOf planned.path planned.plan) same made.image_of in
       record {
@@ -176,7 +181,7 @@ module _ (sections : ℕ) (few : sections ≤ 32) (planned : Planned) (plan : Is
 -- its run
 module _ (sections samples : ℕ) (few : sections ≤ 32) (machine : Snapshot) (is : IsCascadeMachine sections machine) where
   valid : IsStream is.program (cascade_rows samples)
-  valid = rows_valid is.program (one_word_each sections few is.program is.over.read) samples
+  valid = rows_valid is.program (one_word_read sections few is.program is.over.read) samples
 
   -- it has no conflict
   pub runs_cascade : RunsCascade machine.image samples

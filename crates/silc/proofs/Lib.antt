@@ -17,6 +17,4 @@ pub mod Executing
 pub mod WordLists
 pub mod Closed
 pub mod Numerals
-pub mod Spelling
-pub mod CascadeProgram
 pub mod Demonstrating

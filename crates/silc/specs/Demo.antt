@@ -10,7 +10,7 @@ use Rattle.plan_run.specs.ImageOf.{IsImageOf}
 use Rattle.silage_syntax.specs.Tree.{Program}
 use Rattle.silage_meaning.specs.Solves.{IsOneSolution, out}
 use Rattle.silage_meaning.specs.Value.{Words}
-use Rattle.silc.specs.Cascade.{cascade_source, cascade_datapath, cascade_rows, cascade_line, words_of}
+use Rattle.cascade.specs.Cascade.{cascade_source, cascade_datapath, cascade_rows, cascade_line, words_of}
 use Rattle.silc.specs.Plans.{IsPlannedOver}
 use Rattle.silc.specs.Refusals.{IsNoPlan}
 use Rattle.silc.specs.Schedule.{IsPrintedMore, IsPrintedInPart}

@@ -13,6 +13,5 @@ pub mod Sim
 pub mod Listing
 pub mod Eval
 pub mod Run
-pub mod Cascade
 pub mod Demo
 pub mod Private

@@ -3,7 +3,7 @@ ghost use Rattle.std.specs.Prelude.{◌≡◌, ◌≢◌, length, ◌+◌, ◌-�
 ghost use Rattle.desk_core.specs.Desk.{FaultsNeverFall};
 ghost use Rattle.silage_lex.specs.Bytes.{is_digit};
 ghost use Rattle.micro_image.specs.Valid.{IsValid};
-ghost use Rattle.silc.specs.Cascade as spec;
+ghost use Rattle.cascade.specs.Cascade as spec;
 ghost use Rattle.silc.specs.Command.{IsNumeral, IsDemo};
 ghost use Rattle.silc.specs.Demo.{IsCascadeRun, IsDemoAnswer};
 ghost use Rattle.silc.specs.Refusals.{IsNoPlan};
@@ -12,13 +12,13 @@ ghost use Rattle.silc.specs.Schedule.{PrintsOnly};
 ghost use Rattle.silc.specs.Private.Running.{IsFresh};
 ghost use Rattle.silc.specs.declared.sim.Kept.TheVariants.{Nothing};
 
-use crate::cascade::{Totals, cascade_datapath, cascade_line, cascade_source, cascade_word};
 use crate::compile::microcode_of;
 use crate::files::Input;
 use crate::planning::{Planned, planned_of};
 use crate::print::print_whole;
 use crate::sim::{Kept, machine_of};
 use crate::status::{Ending, Status};
+use cascade::{Totals, cascade_datapath, cascade_line, cascade_source, cascade_word};
 use cycle_sim::Machine;
 use desk_core::Desk;
 use lists::Bytes;

@@ -3,11 +3,10 @@
 //! `silc` is the top call; its clauses carry what the whole program promises. In `specs/`, `Plans` says which plan a
 //! source has over a datapath, `Refusals` why it has none, and `Headline` what compiled microcode is. `Command` says
 //! which words are a command, `Compile`, `Schedule`, `Listing`, `Sim`, `Eval`, `Run` and `Demo` when each status comes,
-//! `Sources` and `Samples` what SRC and SAMPLES have, `Cascade` what `demo` compiles. What only proofs and private
-//! contracts use is in `specs/Private`.
+//! `Sources` and `Samples` what SRC and SAMPLES have; what `demo` compiles is in the crate `cascade`. What only proofs and
+//! private contracts use is in `specs/Private`.
 #![tactic(auto)]
 
-mod cascade;
 mod command;
 mod compile;
 mod demo;

@@ -11,12 +11,12 @@ use Rattle.plan_run.specs.ImageOf.{IsImageOf}
 use Rattle.plan_run.specs.PrivateRegisters.{IsPrivatePlan}
 use Rattle.signal_graph.specs.declared.graph.Graph.{Graph}
 use Rattle.silage_syntax.specs.Tree.{Program}
-use Rattle.silc.specs.Cascade.{cascade_source, cascade_datapath, cascade_rows, words_of, sum_of, last_of}
+use Rattle.cascade.specs.Cascade.{cascade_source, cascade_datapath, cascade_rows, words_of, sum_of, last_of}
 use Rattle.silc.specs.Headline.{RunsTheSolution}
 use Rattle.silc.specs.Plans.{IsPlannedOver}
 use Rattle.silc.specs.Private.Planning.{IsGraphFor}
 use Rattle.silc.specs.Private.Running.{IsFresh}
-use Rattle.silc.specs.declared.cascade.Totals.{Totals}
+use Rattle.cascade.specs.declared.Totals.{Totals}
 use Rattle.silc.specs.declared.planning.Planned.{Planned}
 
 -- the plan of the cascade's program over its datapath

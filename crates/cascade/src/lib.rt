@@ -1,8 +1,10 @@
 //! What `demo` compiles, runs and prints: the source of a cascade of biquad sections, its datapath, its input words and
 //! its line.
+#![tactic(auto)]
+
 ghost use Rattle.std.specs.Prelude.{◌≡◌, ◌+◌, ◌-◌, ◌<◌, ◌≤◌, ◌^◌, ◌++◌, List, ℤ, decimal, IfOk, OnOk};
 ghost use Rattle.std.specs.Fmt.{signed_decimal};
-ghost use Rattle.silc.specs.Cascade as spec;
+ghost use Rattle.cascade.specs.Cascade as spec;
 
 use itoa::Buffer;
 use lists::Bytes;
@@ -111,7 +113,7 @@ fn put_signed(out: &mut Bytes, text: &[u8], number: i128) -> Result<(), AllocErr
 
 /// The source of a cascade.
 #[tactic(auto, unfolding(crate::specs::Cascade::cascade_source))]
-pub(crate) fn cascade_source(alloc: Global, sections: u64) -> Result<Bytes, AllocError>
+pub fn cascade_source(alloc: Global, sections: u64) -> Result<Bytes, AllocError>
     requires { (1 ≤ sections) × (sections ≤ 32) }
     ensures { IfOk result (λ text. text ≡ spec.cascade_source sections) }
 {
@@ -133,7 +135,7 @@ fn cascade_period(sections: u64) -> u64
 
 /// The datapath of a cascade.
 #[tactic(auto, unfolding(crate::specs::Cascade::cascade_datapath))]
-pub(crate) fn cascade_datapath(alloc: Global, sections: u64) -> Result<Bytes, AllocError>
+pub fn cascade_datapath(alloc: Global, sections: u64) -> Result<Bytes, AllocError>
     requires { sections ≤ 32 }
     ensures { IfOk result (λ text. text ≡ spec.cascade_datapath sections) }
 {
@@ -144,7 +146,7 @@ pub(crate) fn cascade_datapath(alloc: Global, sections: u64) -> Result<Bytes, Al
 }
 
 /// The input word of sample n.
-pub(crate) fn cascade_word(n: u64) -> i64
+pub fn cascade_word(n: u64) -> i64
     requires { n < 2 ^ 32 }
     ensures { result ≡ spec.cascade_word n }
 {
@@ -161,7 +163,7 @@ pub struct Totals {
 
 /// The line that is printed.
 #[tactic(auto, unfolding(crate::specs::Cascade::cascade_line))]
-pub(crate) fn cascade_line(
+pub fn cascade_line(
     alloc: Global,
     sections: u64,
     samples: u64,

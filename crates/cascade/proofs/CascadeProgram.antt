@@ -19,9 +19,8 @@ use Rattle.silage_syntax.specs.Grammar.{Derives, kind_at, from_at, operator, IsM
 use Rattle.silage_syntax.specs.Tree.{Manifest, Expr, binary, Program}
 use Rattle.silage_syntax.specs.declared.tree.BinOp.{BinOp}
 use Rattle.silage_meaning.specs.Solves.{input_types, output_types}
-use Rattle.front_end.specs.Faults.{HasProgram}
-use Rattle.silc.specs.Cascade.{cascade_source, source_head, first_signal, section_call, source_end}
-use Rattle.silc.proofs.Spelling.{Spelling, a_name, a_word, a_symbol, a_whole, a_point, Piece, joined, spaced, on_line, spelled, ArePieces, pieces_front, laid, spelled_tokens}
+use Rattle.cascade.specs.Cascade.{cascade_source, source_head, first_signal, section_call, source_end}
+use Rattle.cascade.proofs.Spelling.{Spelling, a_name, a_word, a_symbol, a_whole, a_point, Piece, joined, spaced, on_line, spelled, ArePieces, pieces_front, laid, spelled_tokens}
 
 -- The source, token by token.
 -- up to the size of the array
@@ -215,10 +214,10 @@ cascade_derives sections = (
   record { inputs = refl; outputs = refl },
 )
 
--- and the source is no other
-pub one_word_each : (sections : ℕ) → sections ≤ 32 → (p : Program) → HasProgram (cascade_source sections) p → HasOneWordEach p
-one_word_each sections few p has =
-    let read = has.read in
-    let same = tokens_once (cascade_source sections) read.tokens (cascade_tokens sections) read.lexed (has_tokens sections few) in
+-- so the only program of the source is one
+pub one_word_each : (sections : ℕ) → sections ≤ 32 → (ts : TokenList) → HasTokens (cascade_source sections) ts
+    → (p : Program) → ((other : Program) → Derives ts other → other ≡ p) → HasOneWordEach p
+one_word_each sections few ts lexed p only =
+    let same = tokens_once (cascade_source sections) ts (cascade_tokens sections) lexed (has_tokens sections few) in
     let (own, derives, one) = cascade_derives sections in
-    subst HasOneWordEach (read.parsed.is.only own (subst (λ ts. Derives ts own) (sym same) derives)) one
+    subst HasOneWordEach (only own (subst (λ ts. Derives ts own) (sym same) derives)) one
