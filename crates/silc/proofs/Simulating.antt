@@ -7,7 +7,7 @@ use Rattle.cycle_sim.specs.Machine.{Snapshot, state_of, IsAtSample, IsFirstOfSam
 use Rattle.desk_core.specs.View.{Name, Content, View}
 use Rattle.desk_core.specs.Desk.{WhereSpecified, WriteFaultsRose, FaultsNeverFall, IsUnchanged}
 use Rattle.desk_core.specs.Whole.{IsReadThrough, IsWrittenWhole, IsWrittenInPart}
-use Rattle.desk_core.proofs.DeskLemmas.{rose_earlier}
+use Rattle.desk_core.proofs.DeskLemmas.{rose_later, rose_earlier}
 use Rattle.desk_core.proofs.WholeLemmas.{through_from}
 use Rattle.micro_image.specs.declared.conflict.Conflict.{Conflict}
 use Rattle.micro_image.specs.declared.image.Image.{Image}
@@ -25,7 +25,7 @@ use Rattle.silc.specs.Endings.{IsNotWritten}
 use Rattle.silc.specs.Limits.{microcode_limit, samples_limit}
 use Rattle.silc.specs.Private.Reading.{OnlyReads}
 use Rattle.silc.specs.Private.Running.{IsLoaded, IsRunError, IsMadeRun, IsRunPut}
-use Rattle.silc.specs.Private.SampleRows.{AreRowsRead}
+use Rattle.silc.specs.Private.SampleRows.{AreRowsRead, IsRowsError}
 use Rattle.silc.specs.Sim.{channels_of, HasRun, IsFirstConflict, HasStream, IsSimUnread, IsSimError, IsSimulated, IsSimCutShort, IsSimAnswer}
 use Rattle.silc.proofs.Endings.{finished, not_written, reads_both, unchanged_still, specified_still, rejected_still, finished_still, not_written_still}
 use Rattle.silc.proofs.Printing.{printed_more}
@@ -124,6 +124,29 @@ module _ (mic samples : Name) (old mid new : View) (machine : Snapshot) (first :
     (loaded : IsLoaded mic old machine) where
   both : OnlyReads mic samples old new
   both = reads_both mic samples old mid new first second
+
+  -- why no rows were read is why `sim` ends
+  pub rows_error : (status : Status) → IsRowsError samples (channels_of machine.image) mid new status → IsSimError mic samples old new status
+  rows_error Memory h = both.unchanged
+  rows_error Desk h = record {
+    unchanged = both.unchanged;
+    rose = inr (rose_later _ _ _ (first.never_fall.reading samples) h, λ files is. (machine.image, loaded.specified files is));
+  }
+  rows_error (bad_samples fault) h = record {
+    unchanged = both.unchanged;
+    read = through_from samples samples_limit old mid new first.unchanged.files h.read;
+    why = λ files is. (machine.image, loaded.specified files is, h.why files (first.unchanged.files ∙ is));
+  }
+  rows_error Done h = absurd h
+  rows_error Words h = absurd h
+  rows_error (bad_image fault) h = absurd h
+  rows_error (in_conflict conflict) h = absurd h
+  rows_error (FrontEnd fault) h = absurd h
+  rows_error (Path fault) h = absurd h
+  rows_error (status.Unit refusal) h = absurd h
+  rows_error (LinesFull node) h = absurd h
+  rows_error (Period node) h = absurd h
+  rows_error (FileFull unit port node) h = absurd h
 
   module _ (list : RowList) (stream : AreRowsRead samples (channels_of machine.image) mid new list) where
     has_stream : WhereSpecified old (HasStream mic samples machine.image (stream_of list))

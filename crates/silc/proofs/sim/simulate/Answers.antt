@@ -1,6 +1,15 @@
+use Rattle.std.proofs.lemmas.Result.{err_from_is_err_and}
 use Rattle.silc.proofs.Results.{if_ok, if_err}
-use Rattle.silc.proofs.Simulating.{made_run, run_error}
+use Rattle.silc.proofs.Simulating.{rows_error, made_run, run_error}
 use Rattle.silc.proofs.sim.simulate.Goals as goal
+
+pub returns-in_err-stream-clause-err : goal.returns-in_err-stream-clause-err
+returns-in_err-stream-clause-err g c =
+    let p = err_from_is_err_and c.from_residual-in_err-stream.result c.from_residual-in_err-stream.ensures.1 in
+    rw (p.1, p.2)
+    (rows_error c.args.microcode.now c.args.samples.now (g.D.Desk.view c.args.desk.now) (g.D.Desk.view c.read_machine.new.desk)
+    (g.D.Desk.view c.read_stream.new.desk) c.in_ok-machine.machine c.in_ok-machine.ensures.reads c.in_err-stream.ensures.reads c.in_ok-machine.ensures.ok
+    c.in_err-stream.field-0.0 c.in_err-stream.ensures.err)
 
 pub returns-clause-ok : goal.returns-clause-ok
 returns-clause-ok g c =
