@@ -95,20 +95,19 @@ from = [\"adr\"]
 to = [\"mem.0\"]
 ";
 
-/// Adds a text, and a number behind it.
-fn put_number(out: &mut Bytes, text: &[u8], number: u64) -> Result<(), AllocError>
-    ensures { OnOk result (out.new ≡ out.old ++ text.now ++ decimal number) }
-{
-    out.extend_from_slice(text)?;
-    out.extend_from_slice(Buffer::new().format(number).as_bytes())
-}
-
 /// Adds a text, and a number behind it that may be below 0.
 fn put_signed(out: &mut Bytes, text: &[u8], number: i128) -> Result<(), AllocError>
     ensures { OnOk result (out.new ≡ out.old ++ text.now ++ signed_decimal number) }
 {
     out.extend_from_slice(text)?;
     out.extend_from_slice(Buffer::new().format(number).as_bytes())
+}
+
+/// Adds a text, and a number behind it.
+fn put_number(out: &mut Bytes, text: &[u8], number: u64) -> Result<(), AllocError>
+    ensures { OnOk result (out.new ≡ out.old ++ text.now ++ decimal number) }
+{
+    put_signed(out, text, i128::from(number))
 }
 
 /// The source of a cascade.
