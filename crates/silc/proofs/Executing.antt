@@ -37,6 +37,7 @@ use Rattle.silc.specs.declared.status.Status.TheVariants.{Done, Memory, Words, D
 use Rattle.silc.proofs.Compiled.{runs_the_solution}
 use Rattle.silc.proofs.Endings.{unchanged_trans, finished, not_written, unchanged_still, specified_still, rejected_still}
 use Rattle.silc.proofs.Errors.{error_still}
+use Rattle.silc.proofs.SampleErrors.{each_rows_error}
 use Rattle.silc.proofs.Solving.{program_stream, eval_done_still, eval_cut_short_still}
 
 same_channel : (ty : SigType) → channel_of (width_of ty) ≡ type_channel ty
@@ -91,34 +92,25 @@ module _ (src datapath samples : Name) (old mid new : View) (machine : Snapshot)
 
   -- why no rows were read is why `run` ends
   pub no_rows : (status : Status) → IsRowsError samples (channels_of machine.image) mid new status → IsNotRun src datapath samples old new status
-  no_rows Memory h = inl (refl, reads_three.unchanged)
-  no_rows Desk h = inr (record {
-    unchanged = reads_three.unchanged;
-    rose = rose_later _ _ _ (first.never_fall.reading samples) h;
-    planned = some_plan;
-  })
-  no_rows (Samples fault) h = record {
-    unchanged = reads_three.unchanged;
-    read = through_from samples samples_limit old mid new first.unchanged.files h.read;
-    why = λ files is. (
-      some_plan files is,
-      (
-        compiled.program,
-        program_in files is,
-        subst (λ cs. IsSampleFault cs (content_of (files samples)) fault) compiled.channels (h.why files (first.unchanged.files ∙ is)),
-      ),
-    );
-  }
-  no_rows Done h = absurd h
-  no_rows Words h = absurd h
-  no_rows (FrontEnd fault) h = absurd h
-  no_rows (Path fault) h = absurd h
-  no_rows (status.Unit refusal) h = absurd h
-  no_rows (LinesFull node) h = absurd h
-  no_rows (Period node) h = absurd h
-  no_rows (FileFull unit port node) h = absurd h
-  no_rows (Image fault) h = absurd h
-  no_rows (Conflict conflict) h = absurd h
+  no_rows =
+      each_rows_error samples (channels_of machine.image) mid new (IsNotRun src datapath samples old new) (inl (refl, reads_three.unchanged))
+      (λ rose. inr (record {
+        unchanged = reads_three.unchanged;
+        rose = rose_later _ _ _ (first.never_fall.reading samples) rose;
+        planned = some_plan;
+      }))
+      (λ fault bad. record {
+        unchanged = reads_three.unchanged;
+        read = through_from samples samples_limit old mid new first.unchanged.files bad.read;
+        why = λ files is. (
+          some_plan files is,
+          (
+            compiled.program,
+            program_in files is,
+            subst (λ cs. IsSampleFault cs (content_of (files samples)) fault) compiled.channels (bad.why files (first.unchanged.files ∙ is)),
+          ),
+        );
+      })
 
   module _ (list : RowList) (rows : AreRowsRead samples (channels_of machine.image) mid new list) where
     its_stream : program.IsStream compiled.program (stream_of list)

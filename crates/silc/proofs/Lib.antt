@@ -8,6 +8,7 @@ pub mod Making
 pub mod Scheduling
 pub mod Listing
 pub mod RowLists
+pub mod SampleErrors
 pub mod Printing
 pub mod Simulating
 pub mod Evaluating

@@ -30,6 +30,7 @@ use Rattle.silc.specs.Sim.{channels_of, HasRun, IsFirstConflict, HasStream, IsSi
 use Rattle.silc.proofs.Endings.{finished, not_written, reads_both, unchanged_still, specified_still, rejected_still, finished_still, not_written_still}
 use Rattle.silc.proofs.Printing.{printed_more}
 use Rattle.silc.proofs.RowLists.{first_rows, first_more, stream_parts}
+use Rattle.silc.proofs.SampleErrors.{each_rows_error}
 
 -- one more row, for a whole period
 pub spread_row : (period : ℕ) (stream : Rows) (row : List ℤ) → spread period (stream ++ row ∷ []) ≡ spread period stream ++ replicate period row
@@ -127,26 +128,17 @@ module _ (mic samples : Name) (old mid new : View) (machine : Snapshot) (first :
 
   -- why no rows were read is why `sim` ends
   pub rows_error : (status : Status) → IsRowsError samples (channels_of machine.image) mid new status → IsSimError mic samples old new status
-  rows_error Memory h = both.unchanged
-  rows_error Desk h = record {
-    unchanged = both.unchanged;
-    rose = inr (rose_later _ _ _ (first.never_fall.reading samples) h, λ files is. (machine.image, loaded.specified files is));
-  }
-  rows_error (bad_samples fault) h = record {
-    unchanged = both.unchanged;
-    read = through_from samples samples_limit old mid new first.unchanged.files h.read;
-    why = λ files is. (machine.image, loaded.specified files is, h.why files (first.unchanged.files ∙ is));
-  }
-  rows_error Done h = absurd h
-  rows_error Words h = absurd h
-  rows_error (bad_image fault) h = absurd h
-  rows_error (in_conflict conflict) h = absurd h
-  rows_error (FrontEnd fault) h = absurd h
-  rows_error (Path fault) h = absurd h
-  rows_error (status.Unit refusal) h = absurd h
-  rows_error (LinesFull node) h = absurd h
-  rows_error (Period node) h = absurd h
-  rows_error (FileFull unit port node) h = absurd h
+  rows_error =
+      each_rows_error samples (channels_of machine.image) mid new (IsSimError mic samples old new) both.unchanged
+      (λ rose. record {
+        unchanged = both.unchanged;
+        rose = inr (rose_later _ _ _ (first.never_fall.reading samples) rose, λ files is. (machine.image, loaded.specified files is));
+      })
+      (λ fault bad. record {
+        unchanged = both.unchanged;
+        read = through_from samples samples_limit old mid new first.unchanged.files bad.read;
+        why = λ files is. (machine.image, loaded.specified files is, bad.why files (first.unchanged.files ∙ is));
+      })
 
   module _ (list : RowList) (stream : AreRowsRead samples (channels_of machine.image) mid new list) where
     has_stream : WhereSpecified old (HasStream mic samples machine.image (stream_of list))

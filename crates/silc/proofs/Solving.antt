@@ -32,6 +32,7 @@ use Rattle.silc.specs.Private.Reading.{OnlyReads, IsInput}
 use Rattle.silc.specs.Private.SampleRows.{AreRowsRead, IsRowsError}
 use Rattle.front_end.proofs.OneAnswer.{one_program}
 use Rattle.silc.proofs.Endings.{reads_both, unchanged_still, specified_still, rejected_still, finished_still, not_written_still}
+use Rattle.silc.proofs.SampleErrors.{each_rows_error}
 use Rattle.silc.proofs.TypedRows.{graph_stream}
 
 -- SRC was accepted
@@ -67,26 +68,18 @@ module _ (src samples : Name) (old mid new : View) (first : OnlyReads src src ol
 
   -- why no rows were read is why `eval` ends
   pub rows_error : (status : Status) → IsRowsError samples channels mid new status → IsEvalError src samples old new status
-  rows_error Memory h = both.unchanged
-  rows_error Desk h = record {
-    unchanged = both.unchanged;
-    rose = inr (rose_later _ _ _ (first.never_fall.reading samples) h, λ files is. (p, source.specified files is));
-  }
-  rows_error (Samples fault) h = record {
-    unchanged = both.unchanged;
-    read = through_from samples samples_limit old mid new first.unchanged.files h.read;
-    why = λ files is. (p, source.specified files is, subst (λ cs. IsSampleFault cs (content_of (files samples)) fault) same_channels (h.why files (first.unchanged.files ∙ is)));
-  }
-  rows_error Done h = absurd h
-  rows_error Words h = absurd h
-  rows_error (FrontEnd fault) h = absurd h
-  rows_error (Path fault) h = absurd h
-  rows_error (status.Unit refusal) h = absurd h
-  rows_error (LinesFull node) h = absurd h
-  rows_error (Period node) h = absurd h
-  rows_error (FileFull unit port node) h = absurd h
-  rows_error (Image fault) h = absurd h
-  rows_error (Conflict conflict) h = absurd h
+  rows_error =
+      each_rows_error samples channels mid new (IsEvalError src samples old new) both.unchanged
+      (λ rose. record {
+        unchanged = both.unchanged;
+        rose = inr (rose_later _ _ _ (first.never_fall.reading samples) rose, λ files is. (p, source.specified files is));
+      })
+      (λ fault bad. record {
+        unchanged = both.unchanged;
+        read = through_from samples samples_limit old mid new first.unchanged.files bad.read;
+        why = λ files is.
+            (p, source.specified files is, subst (λ cs. IsSampleFault cs (content_of (files samples)) fault) same_channels (bad.why files (first.unchanged.files ∙ is)));
+      })
 
   module _ (list : RowList) (rows : AreRowsRead samples channels mid new list) where
     -- the rows are rows for the graph
