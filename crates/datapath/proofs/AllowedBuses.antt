@@ -71,11 +71,11 @@ port_there : (o : Option of_unit.Unit) (p : ℕ) → p < count_at (option_map (�
 port_there None p h = absurd (omega arith)
 port_there (Some unit) p h = h
 
-same_port : (p q : PortRef) → q ≡ p → is_port p q ≡ true
+pub same_port : (p q : PortRef) → q ≡ p → is_port p q ≡ true
 same_port p q is = subst (λ r. is_port p r ≡ true) (sym is)
     (rw (eq-eqb p.unit p.unit refl, eq-eqb p.port p.port refl) refl)
 
-sink_ok : (s : Section) (units : List of_unit.Unit) (before : List PortRef) (n : List ℕ) (p : PortRef)
+pub sink_ok : (s : Section) (units : List of_unit.Unit) (before : List PortRef) (n : List ℕ) (p : PortRef)
     → sink s units before n ≡ Ok p
     → IsPort units p × (list_any (is_port p) before ≡ false)
 unfolding sink

@@ -1,5 +1,5 @@
 -- A file without a fault describes an allowed datapath.
-use Rattle.std.proofs.Common.{◌≡◌, ℕ, [], length, Ok, Err, Result, sym, subst, arith}
+use Rattle.std.proofs.Common.{◌≡◌, ◌≤◌, ℕ, [], length, Ok, Err, Result, subst, arith}
 use Rattle.std.specs.Prelude.{IfOk}
 use Rattle.toml.specs.Data.{Members}
 use Rattle.datapath.specs.declared.fault.Section.TheVariants as section
@@ -15,8 +15,8 @@ use Rattle.datapath.proofs.Kept.{bind_ok, same_Ok, key_ok, within_ok}
 use Rattle.datapath.proofs.AllowedUnits.{whole_ok, no_default, some_same, units_ok}
 use Rattle.datapath.proofs.AllowedBuses.{buses_ok}
 
-no_hold : (n : ℕ) → IsWithin 0 0 n → n ≡ 0
-no_hold n h = omega (arith, h.1)
+no_more : (most n : ℕ) → IsWithin 0 most n → n ≤ most
+no_more most n h = omega (arith, h.1)
 
 path_ok : (t : Members) (d : Datapath) → path_at t ≡ Ok d → IsDatapath d
 unfolding path_at
@@ -41,8 +41,8 @@ path_ok t d h =
       period = key_ok section.Top t row.period period pe (IsWithin 1 4096) (whole_ok 1 4096)
           (no_default (IsWithin 1 4096));
       word = key_ok section.Top t row.word word we (IsWithin 8 32) (whole_ok 8 32) (no_default (IsWithin 8 32));
-      hold = key_ok section.Top t row.hold hold he (λ n. n ≡ 0) (λ d n e. no_hold n (whole_ok 0 0 d n e))
-          (λ n e. sym (some_same 0 n e));
+      hold = key_ok section.Top t row.hold hold he (λ n. n ≤ 3) (λ d n e. no_more 3 n (whole_ok 0 3 d n e))
+          (λ n e. no_more 3 n (omega (arith, some_same 0 n e), omega (arith, some_same 0 n e)));
       unit_count = rw of_units.count_is tables;
       units = of_units.allowed;
       unit_names = of_units.distinct;

@@ -62,7 +62,7 @@ is_ram_yes Mul h = absurd (cc)
 is_ram_yes Sel h = absurd (cc)
 is_ram_yes Acu h = absurd (cc)
 
-is_ram_no : (k : Kind) → k ≢ Ram → is_ram k ≡ false
+pub is_ram_no : (k : Kind) → k ≢ Ram → is_ram k ≡ false
 is_ram_no Ram other = absurd (other refl)
 is_ram_no Input other = refl
 is_ram_no Output other = refl
@@ -72,7 +72,7 @@ is_ram_no Mul other = refl
 is_ram_no Sel other = refl
 is_ram_no Acu other = refl
 
-is_acu_no : (k : Kind) → k ≢ Acu → is_acu k ≡ false
+pub is_acu_no : (k : Kind) → k ≢ Acu → is_acu k ≡ false
 is_acu_no Acu other = absurd (other refl)
 is_acu_no Input other = refl
 is_acu_no Output other = refl
@@ -105,7 +105,7 @@ known_of : (s : Section) (o : Option Data) (k : Kind) → found s None (option_m
 known_of s None k h = absurd (cc)
 known_of s (Some d) k h = rw (judged_ok s (kind d) k h) refl
 
-kind_found : (s : Section) (t : Members) (k : Kind) → key s t row.kind ≡ Ok k → kind_known t ≡ Some k
+pub kind_found : (s : Section) (t : Members) (k : Kind) → key s t row.kind ≡ Ok k → kind_known t ≡ Some k
 unfolding key kind_known
 kind_found s t k h = known_of s (get_member (codes "kind") t) k h
 
@@ -164,7 +164,7 @@ read_ok s t u h =
 pub no_unit : of_unit.Unit
 no_unit = record { name = []; kind = Input; latency = 1; gap = 1; files = []; cells = 0; ram = 0 }
 
-and_left : (a b : Bool) → (a && b) ≡ true → a ≡ true
+pub and_left : (a b : Bool) → (a && b) ≡ true → a ≡ true
 and_left true b h = refl
 and_left false b h = absurd (cc)
 
@@ -234,7 +234,7 @@ module _ (units all : List of_unit.Unit) (keeps : (r : ℕ) → IsRamAt units r 
       All-cons (IsUnit all) (with_ram u r) (with_rams us rs) (allowed_one t u r reads.0 ties.0)
       (allowed_each ts us rs reads.1 ties.1)
 
-finds_same : (n x : List ℕ) → x ≡ n → bytes_eq n x ≡ true
+pub finds_same : (n x : List ℕ) → x ≡ n → bytes_eq n x ≡ true
 finds_same n x is = (bytes_eq-Decides n x).1 (sym is)
 
 pub new_distinct : (before : List (List ℕ)) (n : List ℕ) → list_any (bytes_eq n) before ≡ false → IsDistinct before

@@ -26,7 +26,7 @@ document-refused bytes h =
       | inr other ↦ rw other refl
     ]
 
-not_long : (n : ℕ) → n ≤ 2 ^ 20 → nat_lt (2 ^ 20) n ≡ false
+pub not_long : (n : ℕ) → n ≤ 2 ^ 20 → nat_lt (2 ^ 20) n ≡ false
 not_long n h = grind (arith, nat_tests)
 
 pub path_of-reads : (bytes : List ℕ) (t : Members) (r : Result Datapath PathFault) → length bytes ≤ 2 ^ 20

@@ -8,7 +8,7 @@ use Rattle.datapath.specs.Names.{last_dot}
 is_dot : (b : ℕ) → b ≡ 46 → (b == 46) ≡ true
 is_dot b h = grind (arith, nat_tests)
 
-is_other : (b : ℕ) → (b ≡ 46 → ⊥) → (b == 46) ≡ false
+pub is_other : (b : ℕ) → (b ≡ 46 → ⊥) → (b == 46) ≡ false
 is_other b h = grind (arith, nat_tests)
 
 -- the last dot stands at k

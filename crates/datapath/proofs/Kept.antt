@@ -101,7 +101,7 @@ pub if_within : {A : Type 0} (b : Bool) (x y : A)
 if_within true x y h = (refl, (cc))
 if_within false x y h = absurd (cc)
 
-absent_ok : {A : Type 0} (s : Section) (o : Option A) (x : A) → absent s o ≡ Ok x → o ≡ Some x
+pub absent_ok : {A : Type 0} (s : Section) (o : Option A) (x : A) → absent s o ≡ Ok x → o ≡ Some x
 absent_ok s (Some y) x h = ap Some (same_Ok y x h)
 absent_ok s None x h = absurd (cc)
 
@@ -148,7 +148,7 @@ array_ok judge P each (boolean b) xs h = absurd (cc)
 array_ok judge P each (datetime t) xs h = absurd (cc)
 array_ok judge P each (table ms) xs h = absurd (cc)
 
-counted_ok : {A : Type 0} (least most : ℕ) (r : Result (List A) Misfit) (xs : List A) → counted least most r ≡ Ok xs
+pub counted_ok : {A : Type 0} (least most : ℕ) (r : Result (List A) Misfit) (xs : List A) → counted least most r ≡ Ok xs
     → IsWithin least most (length xs) × (r ≡ Ok xs)
 counted_ok least most (Err e) xs h = absurd (cc)
 counted_ok least most (Ok ys) xs h =

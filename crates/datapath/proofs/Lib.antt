@@ -10,5 +10,14 @@ pub mod Kept
 pub mod AllowedUnits
 pub mod AllowedBuses
 pub mod AllowedPath
+pub mod DescribedKeys
+pub mod DescribedUnits
+pub mod DescribedBuses
+pub mod DescribedPath
+pub mod FirstRules
+pub mod FirstUnits
+pub mod FirstBuses
+pub mod FirstPath
+pub mod Answered
 pub mod NeverMemory
 pub mod Plain

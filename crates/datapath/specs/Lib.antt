@@ -4,4 +4,6 @@ pub mod Reading
 pub mod Names
 pub mod PathOf
 pub mod Allowed
+pub mod Described
+pub mod PathRules
 pub mod Private

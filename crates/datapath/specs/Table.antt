@@ -28,7 +28,7 @@ abbrev pub word : Row ℕ
 word = row (codes "word") (whole 8 32) required
 
 abbrev pub hold : Row ℕ
-hold = row (codes "hold") (whole 0 0) (Some 0)
+hold = row (codes "hold") (whole 0 3) (Some 0)
 
 abbrev pub unit : Row (List Members)
 unit = row (codes "unit") (array_within 1 32 a_table) required

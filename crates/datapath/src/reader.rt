@@ -1,8 +1,13 @@
-ghost use Rattle.std.specs.Prelude.{◌≡◌, IfOk, map};
+ghost use Rattle.std.specs.Prelude.{◌≡◌, ◌⊎◌, IfOk, IfErr, Ok, Err, map};
 ghost use Rattle.toml.specs.View.{table_view};
 ghost use Rattle.datapath.specs.Reading.{Gives};
 ghost use Rattle.datapath.specs.PathOf.{path_at, path_of};
 ghost use Rattle.datapath.specs.Allowed.{IsDatapath};
+ghost use Rattle.datapath.specs.Described.{IsPathOf};
+ghost use Rattle.datapath.specs.PathRules.{IsPathFault};
+ghost use Rattle.datapath.specs.declared.types.Datapath as of_path;
+ghost use Rattle.datapath.specs.declared.fault.PathFault as of_fault;
+ghost use Rattle.datapath.specs.declared.fault.PathFault.TheVariants.{Memory};
 
 use crate::arrays::tables_key;
 use crate::buses::all_buses;
@@ -24,7 +29,7 @@ fn path_at(alloc: Global, table: &Table) -> Result<Datapath, PathFault>
     only_keys(Section::Top, table, keys)?;
     let period = whole_key(Section::Top, table, "period", None, 1, 4096)?;
     let word = whole_key(Section::Top, table, "word", None, 8, 32)?;
-    let hold = whole_key(Section::Top, table, "hold", Some(0), 0, 0)?;
+    let hold = whole_key(Section::Top, table, "hold", Some(0), 0, 3)?;
     let unit = tables_key(alloc, table, "unit")?;
     let bus = tables_key(alloc, table, "bus")?;
     let units = units_of(alloc, unit.as_slice())?;
@@ -38,10 +43,9 @@ fn path_at(alloc: Global, table: &Table) -> Result<Datapath, PathFault>
     })
 }
 
-/// The datapath that the file describes, or its first fault, in the order of `docs/DATAPATH.md`: too many bytes, no
-/// TOML, the top table, each unit's table, the units' names, the rams of the acus, each bus.
+/// The datapath, or the first fault that is met on the way through the file.
 #[tactic(auto, unfolding(crate::specs::PathOf::path_of))]
-pub fn read(alloc: Global, text: &[u8]) -> Result<Datapath, PathFault>
+fn read_in_order(alloc: Global, text: &[u8]) -> Result<Datapath, PathFault>
     ensures path { Gives result (path_of text.now) }
     ensures allowed { IfOk result IsDatapath }
 {
@@ -58,4 +62,24 @@ pub fn read(alloc: Global, text: &[u8]) -> Result<Datapath, PathFault>
             }
         }
     }
+}
+
+/// The datapath that the file describes, or its first fault, in the order of `docs/DATAPATH.md`: too many bytes, no
+/// TOML, the top table, each unit's table, the units' names, the rams of the acus, each bus.
+///
+/// # Errors
+///
+/// The first fault, with the table that has it. `Memory` where no memory is left.
+pub fn read(alloc: Global, text: &[u8]) -> Result<Datapath, PathFault>
+    ensures path { Gives result (path_of text.now) }
+    ensures described { IfOk result (IsPathOf text.now) }
+    ensures allowed { IfOk result IsDatapath }
+    ensures fault { IfErr result (λ fault. (fault ≡ Memory) ⊎ IsPathFault text.now fault) }
+    // The one datapath that a file describes is always found, unless memory runs out.
+    ensures found { (d : of_path.Datapath) → IsPathOf text.now d → (result ≡ Ok d) ⊎ (result ≡ Err Memory) }
+    // So is the first fault of a file.
+    ensures refused { (fault : of_fault.PathFault) → IsPathFault text.now fault
+        → (result ≡ Err fault) ⊎ (result ≡ Err Memory) }
+{
+    read_in_order(alloc, text)
 }

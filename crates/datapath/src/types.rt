@@ -35,7 +35,7 @@ pub struct Datapath {
     pub period: u16,
     /// The widest word, in bits.
     pub word: u8,
-    /// The longest delay, in samples, that register files hold; a longer one takes cells of a ram. Always 0 today.
+    /// The longest delay, in samples, that register files hold; a longer one takes cells of a ram: 0 to 3.
     pub hold: u8,
     pub units: List<Unit>,
     pub buses: List<Bus>,
