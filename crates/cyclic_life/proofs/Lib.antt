@@ -5,4 +5,3 @@ pub mod ReadOrder
 pub mod Placements
 pub mod Counts
 pub mod ArcsOfReads
-pub mod CopiesOne

@@ -1,0 +1,3 @@
+pub mod Allottable
+pub mod Faults
+pub mod Private

@@ -1,0 +1,4 @@
+pub mod Spans
+pub mod Occupancies
+pub mod Files
+pub mod Placing
