@@ -11,7 +11,8 @@ use Rattle.plan_core.specs.declared.schedule.Slot.{Slot}
 use Rattle.bus_alloc.specs.Sets.{bus_bit}
 use Rattle.bus_alloc.specs.Private.Rows.{LeadsTo, file_row, no_unit_row, no_file_row}
 use Rattle.bus_alloc.specs.Private.Fresh.{IsFreshUnit, IsFreshFile, AreFreshUnits, AreFreshFiles, AreFresh}
-use Rattle.bus_alloc.specs.Stands.{IsTaken, Stands}
+use Rattle.bus_alloc.specs.Table.{IsTaken}
+use Rattle.bus_alloc.specs.Private.Stands.{Stands}
 use Rattle.bus_alloc.specs.declared.rows.UnitRow.{UnitRow}
 use Rattle.bus_alloc.specs.declared.rows.FileRow.{FileRow}
 use Rattle.bus_alloc.specs.declared.rows.Rows.{Rows}

@@ -13,7 +13,8 @@ use Rattle.plan_core.specs.declared.schedule.Slot.{Slot}
 use Rattle.bus_alloc.specs.Sets.{mark, bus_bit}
 use Rattle.bus_alloc.specs.Private.Rows.{AreRows, IsTiming, unit_row, file_row, bus_words, no_unit_row, no_file_row, no_cycles, CanDrive, LeadsTo}
 use Rattle.bus_alloc.specs.Private.Taking.{TakesAll}
-use Rattle.bus_alloc.specs.Stands.{Placed, IsTaken, IsUnitRow, Stands}
+use Rattle.bus_alloc.specs.Table.{Placed, IsTaken}
+use Rattle.bus_alloc.specs.Private.Stands.{IsUnitRow, Stands}
 use Rattle.bus_alloc.specs.declared.buses.BusSet.{BusSet}
 use Rattle.bus_alloc.specs.declared.cycles.CycleSet.{CycleSet}
 use Rattle.bus_alloc.specs.declared.rows.Rows.{Rows}

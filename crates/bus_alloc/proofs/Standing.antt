@@ -6,12 +6,13 @@ use Rattle.std.proofs.lemmas.List.Elements.{All-contains, Contains-get_or}
 use Rattle.operations.specs.declared.units.PortRef.{PortRef}
 use Rattle.datapath.specs.declared.types.Datapath.{Datapath}
 use Rattle.plan_core.specs.Hardware.{latency_on, no_unit, IsRoute}
-use Rattle.plan_core.specs.Reservations.{result_on, IsFreeRoute, IsFirstBus}
+use Rattle.plan_core.specs.Reservations.{result_on, IsFreeRoute, Fits, IsFirstBus}
 use Rattle.plan_core.specs.declared.schedule.Transfer.{Transfer}
 use Rattle.bus_alloc.specs.Sets.{mark, bus_bit}
 use Rattle.bus_alloc.specs.Private.Rows.{IsPortIn, IsPortOpen, IsOpen, unit_row, file_row, bus_words}
 use Rattle.bus_alloc.specs.Private.Taking.{IsRouteFree, IsFirstTransfer}
-use Rattle.bus_alloc.specs.Stands.{Placed, IsTaken, IsFileRow, Stands, FitsAt}
+use Rattle.bus_alloc.specs.Table.{Placed, IsTaken}
+use Rattle.bus_alloc.specs.Private.Stands.{IsFileRow, Stands}
 use Rattle.bus_alloc.specs.declared.rows.Rows.{Rows}
 
 module _ (d : Datapath) (placed : List Placed) (rows : Rows) (s : Stands d placed rows) where
@@ -67,7 +68,7 @@ module _ (d : Datapath) (placed : List Placed) (rows : Rows) (s : Stands d place
     }
 
     module _ (t : ℕ) (dests : List PortRef) (ports : All (IsPortIn rows) dests) where
-      pub open_fits : t + latency_on d u ≤ d.period → IsOpen rows u dests (result_on d u t) → FitsAt d placed u t dests
+      pub open_fits : t + latency_on d u ≤ d.period → IsOpen rows u dests (result_on d u t) → Fits d (IsTaken placed) (Contains dests) u t
       open_fits ends is_open = record {
         period = ends;
         unit = ((s.unit u unit_within).busy t ends).0 is_open.unit;
@@ -89,7 +90,7 @@ module _ (d : Datapath) (placed : List Placed) (rows : Rows) (s : Stands d place
           at : (port : PortRef) → Contains dests port → IsPortOpen rows u port (w / 64) (w % 64)
           at port is_to = All-contains (λ p. IsPortOpen rows u p (w / 64) (w % 64)) dests port is_open.ports is_to
 
-      pub fits_open : FitsAt d placed u t dests → IsOpen rows u dests (result_on d u t)
+      pub fits_open : Fits d (IsTaken placed) (Contains dests) u t → IsOpen rows u dests (result_on d u t)
       fits_open fits = record {
         unit = ((s.unit u unit_within).busy t fits.period).1 fits.unit;
         ports = λ k p less. at (get_or dests k p) (Contains-get_or dests k p less) (ports k p less);

@@ -3,130 +3,122 @@ use Rattle.std.proofs.Common.{◌≡◌, ℕ, ◌+◌, ◌-◌, ◌<◌, ◌≤�
 use Rattle.std.specs.List.{All}
 use Rattle.std.proofs.lemmas.List.{get_or-map, length-map}
 use Rattle.operations.specs.declared.units.PortRef.{PortRef}
-use Rattle.datapath.specs.declared.types.Datapath.{Datapath}
 use Rattle.plan_core.specs.Hardware.{latency_on}
 use Rattle.plan_core.specs.Reservations.{result_on, IsFirstBus}
 use Rattle.plan_core.specs.declared.schedule.Transfer.{Transfer}
-use Rattle.bus_alloc.specs.Private.Rows.{AreRows, IsPortIn, IsOpen, IsFirstOpenAt, unit_row}
+use Rattle.bus_alloc.specs.Table.{Reservations, IsTaken, with_placed, HasPort, FitsAt, IsFirstFitAt, AreTransfers}
+use Rattle.bus_alloc.specs.Private.Rows.{IsPortIn, IsOpen, IsFirstOpenAt, unit_row}
+use Rattle.bus_alloc.specs.Private.Stands.{AreRowsOf}
 use Rattle.bus_alloc.specs.Private.Taking.{IsFirstTransfer, IsTransferIn, TakesAll}
-use Rattle.bus_alloc.specs.Stands.{Placed, IsTaken, Stands, FitsAt, FitsIn, IsFirstFitAt, AreTransfers, Takes}
 use Rattle.bus_alloc.specs.declared.rows.Rows.{Rows}
 use Rattle.bus_alloc.proofs.Standing.{latency_some, ends_in, open_fits, fits_open, first_bus_of}
-use Rattle.bus_alloc.proofs.Growing.{stands_grown}
+use Rattle.bus_alloc.proofs.Growing.{takes_rows, stands_grown}
 
-module _ (d : Datapath) (placed : List Placed) (rows : Rows) (s : Stands d placed rows) (u : ℕ)
-    (within : u < length rows.units) where
-  latency_is : (unit_row rows u).latency ≡ latency_on d u
-  latency_is = let h : u < length d.units = omega (arith, s.units) in (s.unit u h).latency
+module _ (r : Reservations) (rows : Rows) (is : AreRowsOf r rows) (u : ℕ) (there : u < length r.datapath.units) where
+  unit_in : u < length rows.units
+  unit_in = omega (arith, is.stands.units)
 
-  module _ (dests : List PortRef) (ports : All (IsPortIn rows) dests) where
+  latency_is : (unit_row rows u).latency ≡ latency_on r.datapath u
+  latency_is = (is.stands.unit u there).latency
+
+  live : 1 ≤ latency_on r.datapath u
+  live = latency_some r.datapath r.placed rows is.stands u unit_in
+
+  module _ (dests : List PortRef) (ports : All (HasPort r.datapath) dests) where
+    ports_in : All (IsPortIn rows) dests
+    ports_in k x less = let port = ports k x less in (omega (arith, is.stands.units, port.0), port.1)
+
+    -- what fits is open in the cycle of its result
+    fits_at : (t end : ℕ) → end ≡ t + ((unit_row rows u).latency - 1) → FitsAt r u t dests → IsOpen rows u dests end
+    fits_at t end ends fits =
+        let at : result_on r.datapath u t ≡ end = omega (arith, ends, latency_is) in
+        subst (IsOpen rows u dests) at
+        (fits_open r.datapath r.placed rows is.stands u unit_in t dests ports_in fits)
+
     pub answer_fits : (t end : ℕ) (answer : Bool) → t + (unit_row rows u).latency ≤ rows.period
         → end ≡ t + ((unit_row rows u).latency - 1) → IsTrue answer ↔ IsOpen rows u dests end
-        → IsTrue answer ↔ FitsAt d placed u t dests
-    answer_fits t end answer ends is answers =
-        let at : end ≡ result_on d u t = omega (arith, is, latency_is) in
-        let in_period : t + latency_on d u ≤ d.period = omega (arith, ends, latency_is, s.period) in (
-          λ yes. open_fits d placed rows s u within t dests ports in_period (subst (IsOpen rows u dests) at
-              (answers.0 yes)),
-          λ fits. answers.1 (subst (IsOpen rows u dests) (sym at) (fits_open d placed rows s u within t dests ports
-              fits)),
+        → IsTrue answer ↔ FitsAt r u t dests
+    answer_fits t end answer in_period ends answers =
+        let at : end ≡ result_on r.datapath u t = omega (arith, ends, latency_is) in
+        let before : t + latency_on r.datapath u ≤ r.datapath.period =
+        omega (arith, in_period, latency_is, is.stands.period) in (
+          λ yes. open_fits r.datapath r.placed rows is.stands u unit_in t dests ports_in before
+              (subst (IsOpen rows u dests) at (answers.0 yes)),
+          λ fits. answers.1 (fits_at t end ends fits),
         )
 
-    open_at : (from later t : ℕ) → later ≡ (unit_row rows u).latency - 1 → from ≤ t → FitsAt d placed u t dests
+    pub late_fits : (t : ℕ) → rows.period < t + (unit_row rows u).latency → FitsAt r u t dests → ⊥
+    late_fits t late fits = absurd (omega (arith, late, fits.period, latency_is, is.stands.period))
+
+    open_at : (from later t : ℕ) → later ≡ (unit_row rows u).latency - 1 → from ≤ t → FitsAt r u t dests
         → (from + later ≤ t + later) × (t + later < rows.period) × IsOpen rows u dests (t + later)
-    open_at from later t is after fits =
-        let at : result_on d u t ≡ t + later = omega (arith, is, latency_is) in
-        let before = ends_in d placed rows s u t within fits.period in (
-          omega arith,
-          omega (arith, at, before, s.period),
-          subst (IsOpen rows u dests) at (fits_open d placed rows s u within t dests ports fits),
-        )
+    open_at from later t later_is after fits =
+        let before = ends_in r.datapath r.placed rows is.stands u t unit_in fits.period in
+        let at : t + later ≡ t + ((unit_row rows u).latency - 1) = omega (arith, later_is) in
+        (omega arith, omega (arith, later_is, latency_is, before, is.stands.period), fits_at t (t + later) at fits)
 
     pub first_fit_none : (from later t : ℕ) → later ≡ (unit_row rows u).latency - 1
         → ((c : ℕ) → from + later ≤ c → c < rows.period → IsOpen rows u dests c → ⊥)
-        → from ≤ t → FitsAt d placed u t dests → ⊥
-    first_fit_none from later t is none after fits =
-        let at = open_at from later t is after fits in none (t + later) at.0 at.1 at.2
+        → from ≤ t → FitsAt r u t dests → ⊥
+    first_fit_none from later t later_is none after fits =
+        let at = open_at from later t later_is after fits in none (t + later) at.0 at.1 at.2
 
     pub first_fit_some : (from later end : ℕ) → later ≡ (unit_row rows u).latency - 1
-        → IsFirstOpenAt rows u dests (from + later) end → IsFirstFitAt d placed u from dests (end - later)
-    first_fit_some from later end is first =
+        → IsFirstOpenAt rows u dests (from + later) end → IsFirstFitAt r u from dests (end - later)
+    first_fit_some from later end later_is first =
         let after = first.after in
-        let some = latency_some d placed rows s u within in
-        let at : end ≡ result_on d u (end - later) = omega (arith, is, latency_is, after) in
+        let at : end ≡ result_on r.datapath u (end - later) = omega (arith, later_is, latency_is, after) in
         record {
           after = omega (arith, after);
-          fits = open_fits d placed rows s u within (end - later) dests ports
-              (omega (arith, is, latency_is, after, some, first.period, s.period)) (subst (IsOpen rows u dests) at
-              first.is_open);
+          fits = open_fits r.datapath r.placed rows is.stands u unit_in (end - later) dests ports_in
+              (omega (arith, later_is, latency_is, after, live, first.period, is.stands.period))
+              (subst (IsOpen rows u dests) at first.is_open);
           first = λ t from_on less fits.
-              let here = open_at from later t is from_on fits in first.first (t + later) here.0 (omega (
-                arith,
-                after,
-              )) here.2;
+              let here = open_at from later t later_is from_on fits in
+              first.first (t + later) here.0 (omega (arith, after)) here.2;
         }
 
-module _ (rows : Rows) (u t : ℕ) (dests : List PortRef) (within : u < length rows.units)
-    (ports : All (IsPortIn rows) dests) (fits : FitsIn rows u t dests) where
-  -- it ends in the period
-  pub ends_here : t + (unit_row rows u).latency ≤ rows.period
-  ends_here = omega (
-    arith,
-    fits.fits.period,
-    latency_is fits.path fits.placed rows fits.stands u within,
-    fits.stands.period,
-  )
+    -- an operation that fits
+    module _ (t end : ℕ) (ends : end ≡ t + ((unit_row rows u).latency - 1)) (fits : FitsAt r u t dests) where
+      result_at : end ≡ result_on r.datapath u t
+      result_at = omega (arith, ends, latency_is)
 
-  result_at : (d : Datapath) (placed : List Placed) → Stands d placed rows → (end : ℕ) → end ≡ t + ((unit_row rows
-      u).latency - 1)
-      → end ≡ result_on d u t
-  result_at d placed s end is = omega (arith, is, latency_is d placed rows s u within)
+      pub is_open_here : IsOpen rows u dests end
+      is_open_here = fits_at t end ends fits
 
-  pub is_open_here : (end : ℕ) → end ≡ t + ((unit_row rows u).latency - 1) → IsOpen rows u dests end
-  is_open_here end is =
-      subst (IsOpen rows u dests) (sym (result_at fits.path fits.placed fits.stands end is))
-      (fits_open fits.path fits.placed rows fits.stands u within t dests ports fits.fits)
+      pub ends_here : t + (unit_row rows u).latency ≤ rows.period
+      ends_here = omega (arith, fits.period, latency_is, is.stands.period)
 
-  module _ (end : ℕ) (is : end ≡ t + ((unit_row rows u).latency - 1)) (transfers : List Transfer)
-      (of_dests : map (λ (transfer : Transfer). transfer.port) transfers ≡ dests)
-      (firsts : All (IsFirstTransfer rows u end) transfers) where
-    pub transfers_in : All (IsTransferIn rows) transfers
-    transfers_in k x less = record {
-      port = port_in k x less;
-      bus = (firsts k x less).route.number;
-    }
-      where
-        port_in : (k : ℕ) (x : Transfer) → k < length transfers → IsPortIn rows (get_or transfers k x).port
-        port_in k x less =
-            subst (IsPortIn rows) (get_or-map (λ (transfer : Transfer). transfer.port) transfers k x x.port less)
-            (subst (All (IsPortIn rows)) (sym of_dests) ports k x.port (omega (
-              arith,
-              length-map transfers
-                  (λ (transfer : Transfer). transfer.port),
-            )))
+      module _ (transfers : List Transfer)
+          (of_dests : map (λ (transfer : Transfer). transfer.port) transfers ≡ dests)
+          (firsts : All (IsFirstTransfer rows u end) transfers) where
+        pub transfers_in : All (IsTransferIn rows) transfers
+        transfers_in k x less = record {
+          port = port_in k x less;
+          bus = (firsts k x less).route.number;
+        }
+          where
+            port_in : (k : ℕ) (x : Transfer) → k < length transfers → IsPortIn rows (get_or transfers k x).port
+            port_in k x less =
+                subst (IsPortIn rows) (get_or-map (λ (transfer : Transfer). transfer.port) transfers k x x.port less)
+                (subst (All (IsPortIn rows)) (sym of_dests) ports_in k x.port
+                (omega (arith, length-map transfers (λ (transfer : Transfer). transfer.port))))
 
-    pub transfers_are : AreTransfers rows u dests t transfers
-    transfers_are d placed s = record {
-      ports = of_dests;
-      buses = λ k x less.
-          subst (λ (w : ℕ). IsFirstBus d (IsTaken placed) u w (get_or transfers k x)) (result_at d placed s end is)
-          (first_bus_of d placed rows s u within end (get_or transfers k x) (transfers_in k x less).port (before d
-          placed s)
-          (firsts k x less));
-    }
-      where
-        before : (d : Datapath) (placed : List Placed) → Stands d placed rows → end < d.period
-        before d placed s = omega (
-          arith,
-          is,
-          ends_here,
-          s.period,
-          latency_some d placed rows s u within,
-          latency_is
-              d placed rows s u within,
-        )
+        pub transfers_are : AreTransfers r u t dests transfers
+        transfers_are = record {
+          ports = of_dests;
+          buses = λ k x less.
+              subst (λ (w : ℕ). IsFirstBus r.datapath (IsTaken r.placed) u w (get_or transfers k x)) result_at
+              (first_bus_of r.datapath r.placed rows is.stands u unit_in end (get_or transfers k x)
+              (transfers_in k x less).port before (firsts k x less));
+        }
+          where
+            before : end < r.datapath.period
+            before = omega (arith, ends, ends_here, is.stands.period, live, latency_is)
 
-    pub table_takes : (new : Rows) → AreRows rows → TakesAll rows u end transfers new → Takes rows new u t transfers
-    table_takes new are takes d placed s =
-        stands_grown d placed u t end transfers rows new are s within
-        (omega (arith, ends_here, s.period, latency_is d placed rows s u within)) (result_at d placed s end is) takes
+        pub rows_with : (new : Rows) → TakesAll rows u end transfers new → AreRowsOf (with_placed r u t transfers) new
+        rows_with new takes = record {
+          are = takes_rows rows u end transfers new is.are takes;
+          stands = stands_grown r.datapath r.placed u t end transfers rows new is.are is.stands unit_in
+              (omega (arith, ends_here, is.stands.period, latency_is)) result_at takes;
+        }

@@ -1,3 +1,3 @@
 pub mod Sets
-pub mod Stands
+pub mod Table
 pub mod Private

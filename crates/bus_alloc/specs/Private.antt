@@ -1,3 +1,5 @@
 pub mod Rows
-pub mod Taking
 pub mod Fresh
+pub mod Taking
+pub mod Stands
+pub mod History

@@ -5,6 +5,7 @@
 mod buses;
 mod cycles;
 mod fresh;
+mod history;
 mod reserve;
 mod routes;
 mod rows;

@@ -1,36 +1,41 @@
-//! The reservation table, whose rows callers see.
+//! The reservation table, which callers see as the operations that it has.
 
-ghost use Rattle.std.specs.Prelude.{◌≡◌, ◌<◌, ◌≤◌, [], length, IfOk, OnErr};
+ghost use Rattle.std.specs.Prelude.{◌≡◌, ◌<◌, ◌≤◌, ◌↔◌, length, IsTrue, IfOk, OnErr};
 ghost use Rattle.std.specs.List.{All};
 ghost use Rattle.datapath.specs.Allowed.{IsDatapath};
-ghost use Rattle.bus_alloc.specs.Private.Rows.{IsPortIn};
-ghost use Rattle.bus_alloc.specs.Stands.{Stands, FitsIn, AnswersFits, AnswersFirstFit, AreTransfers, Takes};
+ghost use Rattle.bus_alloc.specs.Table.{none_placed, with_placed, HasPort, FitsAt, IsFirstFit, AreTransfers};
 
 use crate::fresh::fresh_rows;
+use crate::history::History;
 use crate::rows::Rows;
 use datapath::{Datapath, PortRef};
-use plan_core::Transfers;
+use plan_core::{Slot, Transfers};
 use std::alloc::{AllocError, Global};
 use std::marker::Model;
+use std::snapshot::Snapshot;
 use thiserror::Error;
 
 /// The reservation table of a schedule: which units, register files and buses are taken by the operations that are
 /// placed so far, and when.
 #[derive(Drop)]
 pub struct Table {
+    alloc: Global,
     rows: Rows,
+    datapath: Snapshot<Datapath>,
+    history: History,
 }
 
 impl Model for Table {
-    ghost use Rattle.bus_alloc.specs.declared.rows.Rows.{Rows as TableRows};
+    ghost use Rattle.bus_alloc.specs.Table.{Reservations};
 
-    ghost Value = { TableRows };
+    ghost Value = { Reservations };
 
-    ghost use Rattle.bus_alloc.specs.Private.Rows.{AreRows};
+    ghost use Rattle.bus_alloc.specs.Private.History.{reservations};
+    ghost use Rattle.bus_alloc.specs.Private.Stands.{AreRowsOf};
 
-    ghost view = { λ table. table.rows };
+    ghost view = { λ table. reservations table.datapath.value table.history };
 
-    ghost invariant = { λ table. AreRows table.rows };
+    ghost invariant = { λ table. AreRowsOf (reservations table.datapath.value table.history) table.rows };
 }
 
 /// Why there is no table, or no transfers.
@@ -53,13 +58,16 @@ impl From<AllocError> for TableFault {
 }
 
 impl Table {
-    /// An empty table.
+    /// An empty table. The transfers that it gives are in memory of this allocator.
     pub fn new(alloc: Global, datapath: &Datapath) -> Result<Table, TableFault>
         requires { IsDatapath datapath.now }
-        ensures { IfOk result (Stands datapath.now []) }
+        ensures { IfOk result (λ table. table ≡ none_placed datapath.now) }
     {
         Ok(Table {
+            alloc,
             rows: fresh_rows(alloc, datapath)?,
+            datapath: Snapshot::of(datapath),
+            history: History::Empty,
         })
     }
 
@@ -67,9 +75,9 @@ impl Table {
     /// the unit is free, and in the cycle of the result each port has a register file that is not written and a free
     /// bus to it. Takes no memory.
     pub fn fits(&self, unit: u8, cycle: u16, dests: &[PortRef]) -> bool
-        requires unit { unit < length self.now.units }
-        requires ports { All (IsPortIn self.now) dests.now }
-        ensures { AnswersFits self.now unit dests.now cycle result }
+        requires unit { unit < length self.now.datapath.units }
+        requires ports { All (HasPort self.now.datapath) dests.now }
+        ensures { IsTrue result ↔ FitsAt self.now unit cycle dests.now }
     {
         match self.rows.result_cycle(unit, cycle) {
             Some(end) => self.rows.is_open(unit, dests, end),
@@ -79,10 +87,10 @@ impl Table {
 
     /// The first cycle from this one on at which an operation fits. Takes no memory.
     pub fn first_fit(&self, unit: u8, from: u16, dests: &[PortRef]) -> Option<u16>
-        requires unit { unit < length self.now.units }
-        requires ports { All (IsPortIn self.now) dests.now }
-        requires from { from ≤ self.now.period }
-        ensures { AnswersFirstFit self.now unit dests.now from result }
+        requires unit { unit < length self.now.datapath.units }
+        requires ports { All (HasPort self.now.datapath) dests.now }
+        requires from { from ≤ self.now.datapath.period }
+        ensures { IsFirstFit self.now unit from dests.now result }
     {
         let later = self.rows.latency(unit) - 1;
         match self.rows.first_open(unit, dests, from + later) {
@@ -93,23 +101,27 @@ impl Table {
 
     /// Takes the unit, the register files and the first free buses for an operation that fits, and gives its transfers
     /// to the ports.
-    pub fn take(
-        &mut self,
-        alloc: Global,
-        unit: u8,
-        cycle: u16,
-        dests: &[PortRef],
-    ) -> Result<Transfers, TableFault>
-        requires unit { unit < length self.old.units }
-        requires ports { All (IsPortIn self.old) dests.now }
-        requires fits { FitsIn self.old unit cycle dests.now }
-        ensures transfers { IfOk result (AreTransfers self.old unit dests.now cycle) }
-        ensures taken { IfOk result (Takes self.old self.new unit cycle) }
+    ///
+    /// # Errors
+    ///
+    /// `Memory` where no memory is left for the transfers; the table stays as it was.
+    pub fn take(&mut self, unit: u8, cycle: u16, dests: &[PortRef]) -> Result<Transfers, TableFault>
+        requires unit { unit < length self.old.datapath.units }
+        requires ports { All (HasPort self.old.datapath) dests.now }
+        requires fits { FitsAt self.old unit cycle dests.now }
+        ensures transfers { IfOk result (AreTransfers self.old unit cycle dests.now) }
+        ensures taken { IfOk result (λ transfers. self.new ≡ with_placed self.old unit cycle transfers) }
         ensures unchanged { OnErr result (self.new ≡ self.old) }
     {
         let end = cycle + self.rows.latency(unit) - 1;
-        let transfers = self.rows.transfers(alloc, unit, end, dests)?;
+        let transfers = self.rows.transfers(self.alloc, unit, end, dests)?;
         self.rows.reserve(unit, end, &transfers);
-        Ok(transfers)
+        let slot = Slot { cycle, transfers };
+        self.history = History::Then {
+            earlier: Snapshot::of(&self.history),
+            unit,
+            slot: Snapshot::of(&slot),
+        };
+        Ok(slot.transfers)
     }
 }

@@ -36,8 +36,8 @@ module _ (g : Graph) (v : ℕ) (left : List Node) (are : AreLeft g v left) where
             ∙ are.nodes w (omega (arith, le));
       })
 
-module _ (g : Graph) (d : Datapath) (delays : List (List ℕ)) (numbers : List ℕ) (lines : List Line)
-    (laid : AreLaidOut g d delays numbers lines) (v : ℕ) (there : v < length g.nodes)
+module _ (hold spare : ℕ) (g : Graph) (d : Datapath) (delays : List (List ℕ)) (numbers : List ℕ)
+    (lines : List Line) (laid : AreLaidOut hold spare g d delays numbers lines) (v : ℕ) (there : v < length g.nodes)
     (item : List ℕ) (item_is : item ≡ slice_index_or delays v item) where
   inside : v < length delays
   inside = let count = laid.long.count in omega (arith, there, count)
@@ -50,7 +50,8 @@ module _ (g : Graph) (d : Datapath) (delays : List (List ℕ)) (numbers : List �
 
   pub next_inside : (next : ℕ) → next ≡ lines_before delays v → 0 < length item → next < length lines
   next_inside next is some =
-      subst (λ (n : ℕ). n < length lines) (sym is) (next_there g d delays numbers lines laid v there (has_some some))
+      subst (λ (n : ℕ). n < length lines) (sym is) (next_there hold spare g d delays numbers lines laid v there
+      (has_some some))
 
   line_is : (next : ℕ) (line : Line) → next ≡ lines_before delays v → 0 < length item
       → line ≡ slice_index_or lines next line → line ≡ line_of lines (lines_before delays v)
@@ -61,12 +62,13 @@ module _ (g : Graph) (d : Datapath) (delays : List (List ℕ)) (numbers : List �
       → line ≡ slice_index_or lines next line → line.node + 3 + 2 * length item < 4294967296
   number_fits next line is some e =
       subst (λ (xs : List ℕ). line.node + 3 + 2 * length xs < 4294967296) (sym at)
-      (number_small g d delays numbers lines laid v there (has_some some) line (line_is next line is some e))
+      (number_small hold spare g d delays numbers lines laid v there (has_some some) line (line_is next line is some e))
 
   pub offset_fits : IsDatapath d → (next : ℕ) (line : Line) → next ≡ lines_before delays v → 0 < length item
       → line ≡ slice_index_or lines next line → line.offset + 65536 ≤ 4294967296
   offset_fits path next line is some e =
-      offset_small g d delays numbers lines laid v there (has_some some) path line (line_is next line is some e)
+      offset_small hold spare g d delays numbers lines laid v there (has_some some) path line (line_is next line is
+      some e)
 
   pub next_with : (next : ℕ) → next ≡ lines_before delays v → 0 < length item
       → next + 1 ≡ lines_before delays (v + 1)
@@ -77,19 +79,21 @@ module _ (g : Graph) (d : Datapath) (delays : List (List ℕ)) (numbers : List �
       → next ≡ lines_before delays (v + 1)
   next_without next is none = is ∙ sym (count_no delays v inside (ap length (sym at) ∙ none))
 
-  module _ (old mid : List Node) (node copy : Node) (before : AreMadeBefore g d delays lines v old)
-      (same : node ≡ node_of g.nodes v) (copied : IsCopy d.hold delays node copy)
+  module _ (old mid : List Node) (node copy : Node) (before : AreMadeBefore hold g d delays lines v old)
+      (same : node ≡ node_of g.nodes v) (copied : IsCopy hold delays node copy)
       (pushed : mid ≡ old ++ copy ∷ []) where
-    pub nodes_without : length item ≡ 0 → AreMadeBefore g d delays lines (v + 1) mid
+    pub nodes_without : length item ≡ 0 → AreMadeBefore hold g d delays lines (v + 1) mid
     nodes_without none =
-        subst (AreMadeBefore g d delays lines (v + 1)) (sym pushed)
-        (made_alone g d delays numbers lines laid v there old node copy before same copied (ap length (sym at) ∙ none))
+        subst (AreMadeBefore hold g d delays lines (v + 1)) (sym pushed)
+        (made_alone hold spare g d delays numbers lines laid v there old node copy before same copied (ap length (sym
+        at) ∙ none))
 
     pub nodes_with : (next : ℕ) (line : Line) (new : List Node) → next ≡ lines_before delays v → 0 < length item
         → line ≡ slice_index_or lines next line → new ≡ mid ++ line_nodes line node.width item
-        → AreMadeBefore g d delays lines (v + 1) new
+        → AreMadeBefore hold g d delays lines (v + 1) new
     nodes_with next line new is some e added =
-        subst (AreMadeBefore g d delays lines (v + 1))
+        subst (AreMadeBefore hold g d delays lines (v + 1))
         (sym (added ∙ ap₂ (λ (ns : List Node) (xs : List ℕ). ns ++ line_nodes line node.width xs) pushed at))
-        (made_with_line g d delays numbers lines laid v there (has_some some) old node copy line node.width before same
+        (made_with_line hold spare g d delays numbers lines laid v there (has_some some) old node copy line node.width
+        before same
         copied (line_is next line is some e) refl)

@@ -18,17 +18,17 @@ use Rattle.delay_memory.specs.declared.fault.LineFault.TheVariants.{NoRam, Lines
 use Rattle.delay_memory.specs.declared.lines.LineMemory.{LineMemory}
 use Rattle.delay_memory.proofs.Stored.{stored_next, count_yes, count_no}
 
-module _ (d : Datapath) where
+module _ (spare : ℕ) (d : Datapath) where
   pub used_none : (n : ℕ) (cells : List ℕ) → n ≡ length d.units → length cells ≡ n
-      → ((u : ℕ) → u < n → slice_index_or cells u 0 ≡ 0) → AreUsed d [] cells
+      → ((u : ℕ) → u < n → slice_index_or cells u 0 ≡ 0) → AreUsed spare d [] cells
   used_none n cells count long none = record {
     count = long ∙ count;
     each = λ u less. none u (omega arith);
   }
 
   used_by : (lines : List Line) (line : Line) (ram : ℕ)
-      → used (lines ++ line ∷ []) ram ≡ used lines ram + cond (line.ram == ram) (line.depth + 1) 0
-  used_by lines line ram = sum_by_push (λ (x : Line). cond (x.ram == ram) (x.depth + 1) 0) lines line
+      → used spare (lines ++ line ∷ []) ram ≡ used spare lines ram + cond (line.ram == ram) (line.depth + spare) 0
+  used_by lines line ram = sum_by_push (λ (x : Line). cond (x.ram == ram) (x.depth + spare) 0) lines line
 
   same_cells : (a b k : ℕ) → a ≡ b → cond (a == b) k 0 ≡ k
   same_cells a b k e = cond-true (a == b) k 0 (eq-eqb a b e)
@@ -36,42 +36,44 @@ module _ (d : Datapath) where
   other_cells : (a b k : ℕ) → (b ≡ a → ⊥) → cond (a == b) k 0 ≡ 0
   other_cells a b k e = cond-false (a == b) k 0 (ne_eqb a b (λ same. e (sym same)))
 
-  pub used_more : (lines : List Line) (line : Line) (cells : List ℕ) (n : ℕ) → AreUsed d lines cells
-      → line.ram < length d.units → line.offset ≡ used lines line.ram → n ≡ line.offset + line.depth + 1
-      → AreUsed d (lines ++ line ∷ []) (slice_set cells line.ram n)
+  pub used_more : (lines : List Line) (line : Line) (cells : List ℕ) (n : ℕ) → AreUsed spare d lines cells
+      → line.ram < length d.units → line.offset ≡ used spare lines line.ram → n ≡ line.offset + line.depth + spare
+      → AreUsed spare d (lines ++ line ∷ []) (slice_set cells line.ram n)
   used_more lines line cells n before there offset is = record {
     count = length-set cells line.ram n ∙ before.count;
     each = λ u less. ⊎_elim (here u) (other u less) (cases_eq u line.ram);
   }
     where
-      here : (u : ℕ) → u ≡ line.ram → slice_index_or (slice_set cells line.ram n) u 0 ≡ used (lines ++ line ∷ []) u
+      here : (u : ℕ) → u ≡ line.ram
+          → slice_index_or (slice_set cells line.ram n) u 0 ≡ used spare (lines ++ line ∷ []) u
       here u e =
           let count = before.count in
           let set = ap (λ (u : ℕ). slice_index_or (slice_set cells line.ram n) u 0) e
           ∙ get_or-set_same cells line.ram n 0 (omega (arith, there, count)) in
           let more = used_by lines line line.ram in
-          let own_cells = same_cells line.ram line.ram (line.depth + 1) refl in
-          let same : n ≡ used (lines ++ line ∷ []) line.ram = omega (arith, is, offset, more, own_cells) in
-          set ∙ same ∙ ap (used (lines ++ line ∷ [])) (sym e)
+          let own_cells = same_cells line.ram line.ram (line.depth + spare) refl in
+          let same : n ≡ used spare (lines ++ line ∷ []) line.ram = omega (arith, is, offset, more, own_cells) in
+          set ∙ same ∙ ap (used spare (lines ++ line ∷ [])) (sym e)
 
       other : (u : ℕ) → u < length d.units → (u ≡ line.ram → ⊥)
-          → slice_index_or (slice_set cells line.ram n) u 0 ≡ used (lines ++ line ∷ []) u
+          → slice_index_or (slice_set cells line.ram n) u 0 ≡ used spare (lines ++ line ∷ []) u
       other u less e =
           let more = used_by lines line u in
-          let none = other_cells line.ram u (line.depth + 1) e in
-          let same : used lines u ≡ used (lines ++ line ∷ []) u = omega (arith, more, none) in
+          let none = other_cells line.ram u (line.depth + spare) e in
+          let same : used spare lines u ≡ used spare (lines ++ line ∷ []) u = omega (arith, more, none) in
           get_or-set_other cells line.ram u n 0 e ∙ before.each u less ∙ same
 
-module _ (d : Datapath) (delays : List (List ℕ)) where
+module _ (spare : ℕ) (d : Datapath) (delays : List (List ℕ)) where
   pub next_line : (lines : List Line) (v number depth : ℕ) (long : List ℕ) (line : Line)
-      → IsPlacedLine d lines number depth line → IsNumber delays (own v) number → IsLongest long depth
-      → IsNextLine d delays lines v long line
+      → IsPlacedLine spare d lines number depth line → IsNumber delays (own v) number → IsLongest long depth
+      → IsNextLine spare d delays lines v long line
   next_line lines v number depth long line placed own_number longest = record {
     node = subst (IsNumber delays (own v)) (sym placed.node) own_number;
     depth = by-depth (λ (k : ℕ). Contains long k) longest.there;
     longest = by-depth (λ (k : ℕ). All (λ (i : ℕ). i ≤ k) long) longest.most;
-    room = by-depth (λ (k : ℕ). HasRoom d lines (k + 1) line.ram) placed.room.room;
-    first = by-depth (λ (k : ℕ). (ram : ℕ) → ram < line.ram → HasRoom d lines (k + 1) ram → ⊥) placed.room.first;
+    room = by-depth (λ (k : ℕ). HasRoom spare d lines (k + spare) line.ram) placed.room.room;
+    first = by-depth (λ (k : ℕ). (ram : ℕ) → ram < line.ram → HasRoom spare d lines (k + spare) ram → ⊥)
+        placed.room.first;
     offset = placed.offset;
     acu = placed.acu;
   }
@@ -79,14 +81,14 @@ module _ (d : Datapath) (delays : List (List ℕ)) where
       by-depth : (P : ℕ → Type 0) → P depth → P line.depth
       by-depth P h = subst P (sym placed.depth_is) h
 
-  pub lines_more : (lines : List Line) (v : ℕ) (long : List ℕ) (line : Line) → AreLines d delays lines
-      → IsNextLine d delays lines v long line → slice_get (stored delays) (length lines) ≡ Some (v, long)
-      → AreLines d delays (lines ++ line ∷ [])
+  pub lines_more : (lines : List Line) (v : ℕ) (long : List ℕ) (line : Line) → AreLines spare d delays lines
+      → IsNextLine spare d delays lines v long line → slice_get (stored delays) (length lines) ≡ Some (v, long)
+      → AreLines spare d delays (lines ++ line ∷ [])
   lines_more lines v long line before next at i w other less is =
       ⊎_elim inside last (cases_lt i (length lines))
     where
       Goal : List Line → Line → Type 0
-      Goal front x = IsNextLine d delays front w other x
+      Goal front x = IsNextLine spare d delays front w other x
 
       inside : i < length lines → Goal (take i (lines ++ line ∷ [])) (line_of (lines ++ line ∷ []) i)
       inside here =
@@ -104,19 +106,19 @@ module _ (d : Datapath) (delays : List (List ℕ)) where
           subst (λ (front : List Line). Goal front (line_of (lines ++ line ∷ []) i))
           (sym (take_at lines (line ∷ []) i (sym e)))
           (subst (Goal lines) (sym (get_or_push lines line no_line i (sym e)))
-          (subst (λ (x : ℕ × List ℕ). IsNextLine d delays lines x.0 x.1 line) pair next))
+          (subst (λ (x : ℕ × List ℕ). IsNextLine spare d delays lines x.0 x.1 line) pair next))
 
   -- the lines of the nodes before node v, and that of node v
   pub lines_next : (v number depth : ℕ) (old new : LineMemory) → v < length delays
-      → AreLinesBefore d delays v old → IsNumber delays (own v) number → IsLongest (delays_at delays v) depth
-      → Places d number depth old new → AreLinesBefore d delays (v + 1) new
+      → AreLinesBefore spare d delays v old → IsNumber delays (own v) number → IsLongest (delays_at delays v) depth
+      → Places spare d number depth old new → AreLinesBefore spare d delays (v + 1) new
   lines_next v number depth old new less before own_number longest placed = record {
     count = let count = before.count in
         let long = length_push old.lines placed.line in
         let is = ap length placed.lines in
         let more = count_yes delays v less some in
         omega (arith, count, long, is, more);
-    lines = subst (AreLines d delays) (sym placed.lines)
+    lines = subst (AreLines spare d delays) (sym placed.lines)
         (lines_more old.lines v (delays_at delays v) placed.line before.lines
         (next_line old.lines v number depth (delays_at delays v) placed.line placed.placed own_number longest) next);
     used = placed.used;
@@ -130,7 +132,7 @@ module _ (d : Datapath) (delays : List (List ℕ)) where
 
   -- node v has no line
   pub lines_same : (v : ℕ) (memory : LineMemory) → v < length delays → length (delays_at delays v) ≡ 0
-      → AreLinesBefore d delays v memory → AreLinesBefore d delays (v + 1) memory
+      → AreLinesBefore spare d delays v memory → AreLinesBefore spare d delays (v + 1) memory
   lines_same v memory less none before = record {
     count = before.count ∙ sym (count_no delays v less none);
     lines = before.lines;
@@ -139,8 +141,8 @@ module _ (d : Datapath) (delays : List (List ℕ)) where
 
   -- node v gets none
   pub lines_stop : (v depth : ℕ) (memory : LineMemory) (f : LineFault) → v < length delays
-      → AreLinesBefore d delays v memory → IsLongest (delays_at delays v) depth
-      → IsPlaceFault d memory.lines v depth f → IsStop d delays f
+      → AreLinesBefore spare d delays v memory → IsLongest (delays_at delays v) depth
+      → IsPlaceFault spare d memory.lines v depth f → IsStop spare d delays f
   lines_stop v depth memory f less before longest refused = record {
     lines = memory.lines;
     v = v;
@@ -153,20 +155,20 @@ module _ (d : Datapath) (delays : List (List ℕ)) where
     refused = refused;
   }
 
-  pub lines_none : (memory : LineMemory) → memory.lines ≡ [] → AreUsed d [] memory.used
-      → AreLinesBefore d delays 0 memory
+  pub lines_none : (memory : LineMemory) → memory.lines ≡ [] → AreUsed spare d [] memory.used
+      → AreLinesBefore spare d delays 0 memory
   lines_none memory none cells = record {
     count = ap length none;
     lines = λ i v long less is. let empty = ap length none in absurd (omega (arith, less, empty));
-    used = subst (λ (ls : List Line). AreUsed d ls memory.used) (sym none) cells;
+    used = subst (λ (ls : List Line). AreUsed spare d ls memory.used) (sym none) cells;
   }
 
-pub place_fault : (d : Datapath) (lines : List Line) (v depth : ℕ) (f : LineFault) → IsNoRoom d v f
-    → ((ram : ℕ) → HasRoom d lines (depth + 1) ram → ⊥) → IsPlaceFault d lines v depth f
-place_fault d lines v depth (NoRam w) h none = record { node = h.0; none = h.1 }
-place_fault d lines v depth (LinesFull w) h none = record { node = h.0; some = h.1; none = none }
-place_fault d lines v depth (NoAcu ram w) h none = absurd h
-place_fault d lines v depth Memory h none = absurd h
+pub place_fault : (spare : ℕ) (d : Datapath) (lines : List Line) (v depth : ℕ) (f : LineFault) → IsNoRoom d v f
+    → ((ram : ℕ) → HasRoom spare d lines (depth + spare) ram → ⊥) → IsPlaceFault spare d lines v depth f
+place_fault spare d lines v depth (NoRam w) h none = record { node = h.0; none = h.1 }
+place_fault spare d lines v depth (LinesFull w) h none = record { node = h.0; some = h.1; none = none }
+place_fault spare d lines v depth (NoAcu ram w) h none = absurd h
+place_fault spare d lines v depth Memory h none = absurd h
 
 -- the last of rising delays is the longest
 pub longest_last : (long : List ℕ) (n : ℕ) → IsStrictlyIncreasing long → length long ≡ n + 1

@@ -15,7 +15,7 @@ use Rattle.signal_graph.proofs.Members.{zip_length, zip_at}
 use Rattle.signal_graph.proofs.Heights.{height, height_falls}
 use Rattle.plan_core.specs.Operands.{node_of, edge_of, no_edge}
 use Rattle.plan_core.specs.Heights.{ReadsNow}
-use Rattle.plan_core.specs.Lowered.{Origin, own, address, store, load, origins, IsNumber, IsLoweredEdge, IsOwn, IsMade, IsLowered, edge_now}
+use Rattle.plan_core.specs.Lowered.{Origin, own, address, store, load, origins, IsNumber, IsLoweredEdge, IsOwnOver, IsMadeOver, IsLoweredOver, edge_now}
 use Rattle.plan_core.specs.declared.delay_lines.Lowered.{Lowered}
 use Rattle.plan_run.proofs.Elements.{nth_past, default_any}
 use Rattle.plan_run.proofs.FromLowered.{zip_edge, same_operands}
@@ -24,12 +24,13 @@ use Rattle.delay_memory.specs.Private.Delays.{AreDelays}
 use Rattle.delay_memory.proofs.Counts.{delays_few}
 use Rattle.delay_memory.proofs.NumberSteps.{origins_few}
 
-module _ (g : Graph) (d : Datapath) (l : Lowered) (sound : IsGraph g) (x : IsLowered g d l) where
-  are : AreDelays g d.hold x.delays
+module _ (g : Graph) (d : Datapath) (l : Lowered) (sound : IsGraph g) {hold spare : ℕ}
+    (x : IsLoweredOver hold spare g d l) where
+  are : AreDelays g hold x.delays
   are = record { count = x.delay_count; long = x.long }
 
   origin_count : length (origins x.delays) ≡ length l.nodes
-  origin_count = zip_length (IsMade g d l x.delays) (origins x.delays) l.nodes x.nodes
+  origin_count = zip_length (IsMadeOver g d l x.delays hold) (origins x.delays) l.nodes x.nodes
 
   number_below : (o : Origin) (i : ℕ) → IsNumber x.delays o i → i < length l.nodes
   number_below o i number =
@@ -47,8 +48,8 @@ module _ (g : Graph) (d : Datapath) (l : Lowered) (sound : IsGraph g) (x : IsLow
   origin_is : (o : Origin) (i : ℕ) → IsNumber x.delays o i → origin_at i ≡ o
   origin_is o i number = get_or_from_slice_get (origins x.delays) i o (own 0) number
 
-  made_at : (o : Origin) (i : ℕ) → IsNumber x.delays o i → IsMade g d l x.delays o (node_of l.nodes i)
-  made_at o i number = zip_at (IsMade g d l x.delays) (origins x.delays) l.nodes i o no_node x.nodes number
+  made_at : (o : Origin) (i : ℕ) → IsNumber x.delays o i → IsMadeOver g d l x.delays hold o (node_of l.nodes i)
+  made_at o i number = zip_at (IsMadeOver g d l x.delays hold) (origins x.delays) l.nodes i o no_node x.nodes number
 
   own_below : (v i : ℕ) → IsNumber x.delays (own v) i → v < length g.nodes
   own_below v i number =
@@ -61,7 +62,7 @@ module _ (g : Graph) (d : Datapath) (l : Lowered) (sound : IsGraph g) (x : IsLow
   pub node_count : length l.nodes < 2 ^ 32
   node_count =
       let count = origin_count in
-      let most = origins_few x.delays (delays_few g sound d.hold x.delays are) in
+      let most = origins_few x.delays (delays_few g sound hold x.delays are) in
       let few = sound.node_count in
       let all = x.delay_count in
       omega (arith, count, most, few, all)
@@ -72,30 +73,30 @@ module _ (g : Graph) (d : Datapath) (l : Lowered) (sound : IsGraph g) (x : IsLow
   -- what an edge of the list may be
   record IsShort (edge : Edge) : Type 0 where
     there : edge.node < length l.nodes
-    delay : edge.delay ≤ d.hold
+    delay : edge.delay ≤ hold
 
   now_short : (o : Origin) (i : ℕ) → IsNumber x.delays o i → IsShort (edge_now i)
   now_short o i number = record { there = number_below o i number; delay = omega arith }
 
-  lowered_short : (edge old : Edge) → IsLoweredEdge d.hold x.delays edge old → IsShort edge
+  lowered_short : (edge old : Edge) → IsLoweredEdge hold x.delays edge old → IsShort edge
   lowered_short edge old is =
       ⊎_elim
-      (λ (long : d.hold < old.delay).
+      (λ (long : hold < old.delay).
       let to = is.loaded long in
       let now = to.1 in
       record { there = number_below (load old.node old.delay) edge.node to.0; delay = omega (arith, now) })
-      (λ (short : old.delay ≤ d.hold).
+      (λ (short : old.delay ≤ hold).
       let to = is.held short in
       let same = to.1 in
       record { there = number_below (own old.node) edge.node to.0; delay = omega (arith, same, short) })
-      (cases_lt d.hold old.delay)
+      (cases_lt hold old.delay)
 
   all_short : (i : ℕ) (o : Origin) → IsNumber x.delays o i → (q : ℕ) → q < length (edges_of i)
       → IsShort (slice_index_or (edges_of i) q no_edge)
   all_short i (own v) number q port =
       let made = made_at (own v) i number in
       lowered_short (slice_index_or (edges_of i) q no_edge) (edge_of (node_of g.nodes v) q)
-      (zip_edge (IsLoweredEdge d.hold x.delays) (edges_of i) (node_of g.nodes v).edges q no_edge no_edge
+      (zip_edge (IsLoweredEdge hold x.delays) (edges_of i) (node_of g.nodes v).edges q no_edge no_edge
       made.edges port)
   all_short i (address v ago) number q port =
       let made = made_at (address v ago) i number in
@@ -139,14 +140,14 @@ module _ (g : Graph) (d : Datapath) (l : Lowered) (sound : IsGraph g) (x : IsLow
   edges_there i default less q edge port = (short_at i default q edge less port).there
 
   -- no delay is above the hold
-  pub edges_short : All (λ (node : Node). All (λ (edge : Edge). edge.delay ≤ d.hold) node.edges) l.nodes
+  pub edges_short : All (λ (node : Node). All (λ (edge : Edge). edge.delay ≤ hold) node.edges) l.nodes
   edges_short i default less q edge port = (short_at i default q edge less port).delay
 
   operand_count : (i : ℕ) (o : Origin) → IsNumber x.delays o i → length (edges_of i) ≡ operands (node_of l.nodes i).op
   operand_count i (own v) number =
       let made = made_at (own v) i number in
       let old = node_of g.nodes v in
-      zip_length (IsLoweredEdge d.hold x.delays) (edges_of i) old.edges made.edges
+      zip_length (IsLoweredEdge hold x.delays) (edges_of i) old.edges made.edges
       ∙ (sound.nodes v no_node (own_below v i number)).edge_count ∙ same_operands old.op
       ∙ ap (λ (n : Node). operands n.op) (sym made.rest)
   operand_count i (address v ago) number =
@@ -190,18 +191,18 @@ module _ (g : Graph) (d : Datapath) (l : Lowered) (sound : IsGraph g) (x : IsLow
         → rank (slice_index_or (edges_of i) q no_edge).node < height g v + 2
     own_falls v i q number port now =
         ⊎_elim
-        (λ (long : d.hold < old.delay).
+        (λ (long : hold < old.delay).
         let to = is.loaded long in
         let at = rank_is (load old.node old.delay) edge.node to.0 in
         omega (arith, at))
-        (λ (short : old.delay ≤ d.hold).
+        (λ (short : old.delay ≤ hold).
         let to = is.held short in
         let at = rank_is (own old.node) edge.node to.0 in
         let falls = height_falls g sound loopless v old.node (own_below v i number)
         (subst (EdgesRead (node_of g.nodes v).edges old.node) (sym to.1 ∙ now)
         (read_edge (node_of g.nodes v).edges q port-old)) in
         omega (arith, at, falls))
-        (cases_lt d.hold old.delay)
+        (cases_lt hold old.delay)
       where
         edge : Edge
         edge = slice_index_or (edges_of i) q no_edge
@@ -209,17 +210,17 @@ module _ (g : Graph) (d : Datapath) (l : Lowered) (sound : IsGraph g) (x : IsLow
         old : Edge
         old = edge_of (node_of g.nodes v) q
 
-        made : IsOwn g d l x.delays v (node_of l.nodes i)
+        made : IsOwnOver g d l x.delays hold v (node_of l.nodes i)
         made = made_at (own v) i number
 
         port-old : q < length (node_of g.nodes v).edges
         port-old =
-            let count = zip_length (IsLoweredEdge d.hold x.delays) (edges_of i) (node_of g.nodes v).edges made.edges in
+            let count = zip_length (IsLoweredEdge hold x.delays) (edges_of i) (node_of g.nodes v).edges made.edges in
             omega (arith, port, count)
 
-        is : IsLoweredEdge d.hold x.delays edge old
+        is : IsLoweredEdge hold x.delays edge old
         is =
-            zip_edge (IsLoweredEdge d.hold x.delays) (edges_of i) (node_of g.nodes v).edges q no_edge no_edge made.edges
+            zip_edge (IsLoweredEdge hold x.delays) (edges_of i) (node_of g.nodes v).edges q no_edge no_edge made.edges
             port
 
     falls_by : (i : ℕ) (o : Origin) → IsNumber x.delays o i → (q : ℕ) → q < length (edges_of i)

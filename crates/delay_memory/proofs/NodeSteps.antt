@@ -21,7 +21,7 @@ use Rattle.signal_graph.specs.declared.graph.Node.{Node}
 use Rattle.signal_graph.specs.declared.graph.Graph.{Graph}
 use Rattle.plan_core.specs.Hardware.{no_unit}
 use Rattle.plan_core.specs.Operands.{node_of, edge_of, no_edge}
-use Rattle.plan_core.specs.Lowered.{Origin, own, address, load, origins_of, IsNumber, stored, IsNextLine, line_of, no_line, IsLoweredEdge, IsLineOf, IsOwn, IsMade, address_node, load_node}
+use Rattle.plan_core.specs.Lowered.{Origin, own, address, load, origins_of, IsNumber, stored, IsNextLine, line_of, no_line, IsLoweredEdge, IsLineOf, IsOwnOver, IsMadeOver, address_node, load_node}
 use Rattle.plan_core.specs.declared.delay_lines.Line.{Line}
 use Rattle.plan_core.specs.declared.delay_lines.Lowered.{Lowered}
 use Rattle.plan_run.proofs.Elements.{default_any}
@@ -52,11 +52,11 @@ loads_more line width at (j ∷ ks) k m is =
     ap (λ (rest : List Node). address_node line.ram (line.offset + j) ∷ load_node line.ram at width ∷ rest)
     (loads_more line width (at + 2) ks k m (omega (arith, is)))
 
-module _ (g : Graph) (d : Datapath) (l : Lowered) (delays : List (List ℕ)) (v : ℕ) (line : Line)
-    (its : IsLineOf g d l delays v line) where
+module _ (hold : ℕ) (g : Graph) (d : Datapath) (l : Lowered) (delays : List (List ℕ)) (v : ℕ)
+    (line : Line) (its : IsLineOf g d l delays v line) where
   loads_made : (width at : ℕ) (ks : List ℕ) → width ≡ (node_of g.nodes v).width
       → ((i : ℕ) → i < length ks → IsNumber delays (address v (slice_index_or ks i 0)) (at + 2 * i))
-      → AllZip (IsMade g d l delays) (loads v ks) (load_nodes line width at ks)
+      → AllZip (IsMadeOver g d l delays hold) (loads v ks) (load_nodes line width at ks)
   loads_made width at [] same numbers = tt
   loads_made width at (k ∷ ks) same numbers = (
     record { line = line; its_line = its; is = refl },
@@ -79,10 +79,10 @@ module _ (g : Graph) (d : Datapath) (l : Lowered) (delays : List (List ℕ)) (v 
 
   -- the piece of a node with a line
   pub line_made : (width : ℕ) (long : List ℕ) (node : Node) → width ≡ (node_of g.nodes v).width → 0 < length long
-      → IsMade g d l delays (own v) node
+      → IsMadeOver g d l delays hold (own v) node
       → IsNumber delays (address v 0) (line.node + 1)
       → ((i : ℕ) → i < length long → IsNumber delays (address v (slice_index_or long i 0)) (line.node + 3 + 2 * i))
-      → AllZip (IsMade g d l delays) (origins_of v long) (node ∷ line_nodes line width long)
+      → AllZip (IsMadeOver g d l delays hold) (origins_of v long) (node ∷ line_nodes line width long)
   line_made width [] node same some made newest numbers = absurd (omega (arith, some))
   line_made width (k ∷ ks) node same some made newest numbers = (
     made,
@@ -102,100 +102,104 @@ module _ (g : Graph) (d : Datapath) (l : Lowered) (delays : List (List ℕ)) (v 
       end : (n : ℕ) → n ≡ n + 0
       end n = omega arith
 
-pub own_made : (g : Graph) (d : Datapath) (l : Lowered) (delays : List (List ℕ)) (v : ℕ) (long : List ℕ) (node : Node)
-    → length long ≡ 0 → IsMade g d l delays (own v) node → AllZip (IsMade g d l delays) (origins_of v long) (node ∷ [])
-own_made g d l delays v [] node none made = (made, tt)
-own_made g d l delays v (k ∷ ks) node none made = absurd (omega (arith, none))
+pub own_made : (hold : ℕ) (g : Graph) (d : Datapath) (l : Lowered) (delays : List (List ℕ)) (v : ℕ) (long : List ℕ)
+    (node : Node)
+    → length long ≡ 0 → IsMadeOver g d l delays hold (own v) node
+    → AllZip (IsMadeOver g d l delays hold) (origins_of v long) (node ∷ [])
+own_made hold g d l delays v [] node none made = (made, tt)
+own_made hold g d l delays v (k ∷ ks) node none made = absurd (omega (arith, none))
 
-module _ (g : Graph) (d : Datapath) (delays : List (List ℕ)) (numbers : List ℕ) (lines : List Line)
-    (laid : AreLaidOut g d delays numbers lines) (v : ℕ) (there : v < length g.nodes) where
-  inside : v < length delays
-  inside = let count = laid.long.count in omega (arith, there)
+module _ (hold spare : ℕ) (g : Graph) (d : Datapath) (delays : List (List ℕ)) (numbers : List ℕ)
+    (lines : List Line) (laid : AreLaidOut hold spare g d delays numbers lines) (v : ℕ) (there : v < length g.nodes)
+  where
+    inside : v < length delays
+    inside = let count = laid.long.count in omega (arith, there)
 
-  -- a node without a line is made
-  pub made_alone : (old : List Node) (node copy : Node) → AreMadeBefore g d delays lines v old
-      → node ≡ node_of g.nodes v → IsCopy d.hold delays node copy → length (delays_at delays v) ≡ 0
-      → AreMadeBefore g d delays lines (v + 1) (old ++ copy ∷ [])
-  made_alone old node copy before same is none l e =
-      subst (λ (os : List Origin). AllZip (IsMade g d l delays) os (old ++ copy ∷ [])) (sym (origins_more
-      delays v inside))
-      (zip_append (IsMade g d l delays) (origins_before delays v) (origins_of v (delays_at delays v)) old (copy ∷ [])
-      (before l e)
-      (own_made g d l delays v (delays_at delays v) copy none (own_is l)))
-    where
-      own_is : (l : Lowered) → IsOwn g d l delays v copy
-      own_is l =
-          let now = subst (λ (n : Node). IsCopy d.hold delays n copy) same is in
-          record { edges = now.edges; rest = now.rest }
-
-  module _ (some : 0 < length (delays_at delays v)) where
-    abbrev pub next : ℕ
-    next = lines_before delays v
-
-    -- node v has the next line
-    pub next_there : next < length lines
-    next_there =
-        let within = slice_get_within (stored delays) next (v, delays_at delays v) (stored_next delays v inside some) in
-        let count = laid.line_count in
-        omega (arith, within, count)
-
-    pub next_is : IsNextLine d delays (take next lines) v (delays_at delays v) (line_of lines next)
-    next_is = laid.placed next v (delays_at delays v) next_there (stored_next delays v inside some)
-
-    -- the numbers and cells of its line are small
-    pub number_small : (line : Line) → line ≡ line_of lines next
-        → line.node + 3 + 2 * length (delays_at delays v) < 4294967296
-    number_small line is =
-        let node = subst (λ (x : Line). IsNumber delays (own v) x.node) (sym is) next_is.node in
-        let few = number_few delays laid.layout.few (own v) line.node node in
-        let short = laid.layout.few.each v in
-        omega (arith, few, short)
-
-    pub offset_small : IsDatapath d → (line : Line) → line ≡ line_of lines next → line.offset + 65536 ≤ 4294967296
-    offset_small path line is = subst (λ (x : Line). x.offset + 65536 ≤ 4294967296) (sym is) small
+    -- a node without a line is made
+    pub made_alone : (old : List Node) (node copy : Node) → AreMadeBefore hold g d delays lines v old
+        → node ≡ node_of g.nodes v → IsCopy hold delays node copy → length (delays_at delays v) ≡ 0
+        → AreMadeBefore hold g d delays lines (v + 1) (old ++ copy ∷ [])
+    made_alone old node copy before same is none l e =
+        subst (λ (os : List Origin). AllZip (IsMadeOver g d l delays hold) os (old ++ copy ∷ [])) (sym (origins_more
+        delays v inside))
+        (zip_append (IsMadeOver g d l delays hold) (origins_before delays v) (origins_of v (delays_at delays v)) old
+        (copy ∷ [])
+        (before l e)
+        (own_made hold g d l delays v (delays_at delays v) copy none (own_is l)))
       where
-        ram : ℕ
-        ram = (line_of lines next).ram
-
-        small : (line_of lines next).offset + 65536 ≤ 4294967296
-        small =
-            let room = next_is.room in
-            let cells = (path.units ram no_unit room.is_ram.there).cells room.is_ram.kind in
-            let most = cells.1 in
-            let offset = next_is.offset in
-            let fits = room.room in
-            omega (arith, most, offset, fits)
-
-    -- a node with a line is made
-    pub made_with_line : (old : List Node) (node copy : Node) (line : Line) (width : ℕ)
-        → AreMadeBefore g d delays lines v old → node ≡ node_of g.nodes v → IsCopy d.hold delays node copy
-        → line ≡ line_of lines next → width ≡ node.width
-        → AreMadeBefore g d delays lines (v + 1) ((old ++ copy ∷ []) ++ line_nodes line width (delays_at delays v))
-    made_with_line old node copy line width before same is line_is width_is l e =
-        subst (λ (ns : List Node). AllZip (IsMade g d l delays) (origins_before delays (v + 1)) ns)
-        (sym (append_assoc old (copy ∷ []) (line_nodes line width (delays_at delays v))))
-        (subst (λ (os : List Origin). AllZip (IsMade g d l delays) os
-        (old ++ copy ∷ line_nodes line width (delays_at delays v))) (sym (origins_more delays v inside))
-        (zip_append (IsMade g d l delays) (origins_before delays v) (origins_of v (delays_at delays v)) old
-        (copy ∷ line_nodes line width (delays_at delays v)) (before l e)
-        (line_made g d l delays v line its width (delays_at delays v) copy
-        (width_is ∙ ap (λ (n : Node). n.width) same) some own_is
-        (newest_number delays v line.node inside number some) (address_number delays v line.node inside number some))))
-      where
-        number : IsNumber delays (own v) line.node
-        number = subst (λ (x : Line). IsNumber delays (own v) x.node) (sym line_is) next_is.node
-
-        its : IsLineOf g d l delays v line
-        its = record {
-          there = subst (λ (ls : List Line). Contains ls line) (sym e)
-              (next, next_there, default_any lines next line no_line next_there ∙ sym line_is);
-          node = number;
-        }
-
-        own_is : IsOwn g d l delays v copy
-        own_is =
-            let now = subst (λ (n : Node). IsCopy d.hold delays n copy) same is in
+        own_is : (l : Lowered) → IsOwnOver g d l delays hold v copy
+        own_is l =
+            let now = subst (λ (n : Node). IsCopy hold delays n copy) same is in
             record { edges = now.edges; rest = now.rest }
+
+    module _ (some : 0 < length (delays_at delays v)) where
+      abbrev pub next : ℕ
+      next = lines_before delays v
+
+      -- node v has the next line
+      pub next_there : next < length lines
+      next_there =
+          let within = slice_get_within (stored delays) next (v, delays_at delays v) (stored_next delays v inside some) in
+          let count = laid.line_count in
+          omega (arith, within, count)
+
+      pub next_is : IsNextLine spare d delays (take next lines) v (delays_at delays v) (line_of lines next)
+      next_is = laid.placed next v (delays_at delays v) next_there (stored_next delays v inside some)
+
+      -- the numbers and cells of its line are small
+      pub number_small : (line : Line) → line ≡ line_of lines next
+          → line.node + 3 + 2 * length (delays_at delays v) < 4294967296
+      number_small line is =
+          let node = subst (λ (x : Line). IsNumber delays (own v) x.node) (sym is) next_is.node in
+          let few = number_few delays laid.layout.few (own v) line.node node in
+          let short = laid.layout.few.each v in
+          omega (arith, few, short)
+
+      pub offset_small : IsDatapath d → (line : Line) → line ≡ line_of lines next → line.offset + 65536 ≤ 4294967296
+      offset_small path line is = subst (λ (x : Line). x.offset + 65536 ≤ 4294967296) (sym is) small
+        where
+          ram : ℕ
+          ram = (line_of lines next).ram
+
+          small : (line_of lines next).offset + 65536 ≤ 4294967296
+          small =
+              let room = next_is.room in
+              let cells = (path.units ram no_unit room.is_ram.there).cells room.is_ram.kind in
+              let most = cells.1 in
+              let offset = next_is.offset in
+              let fits = room.room in
+              omega (arith, most, offset, fits)
+
+      -- a node with a line is made
+      pub made_with_line : (old : List Node) (node copy : Node) (line : Line) (width : ℕ)
+          → AreMadeBefore hold g d delays lines v old → node ≡ node_of g.nodes v → IsCopy hold delays node copy
+          → line ≡ line_of lines next → width ≡ node.width
+          → AreMadeBefore hold g d delays lines (v + 1) ((old ++ copy ∷ []) ++ line_nodes line width (delays_at delays v))
+      made_with_line old node copy line width before same is line_is width_is l e =
+          subst (λ (ns : List Node). AllZip (IsMadeOver g d l delays hold) (origins_before delays (v + 1)) ns)
+          (sym (append_assoc old (copy ∷ []) (line_nodes line width (delays_at delays v))))
+          (subst (λ (os : List Origin). AllZip (IsMadeOver g d l delays hold) os
+          (old ++ copy ∷ line_nodes line width (delays_at delays v))) (sym (origins_more delays v inside))
+          (zip_append (IsMadeOver g d l delays hold) (origins_before delays v) (origins_of v (delays_at delays v)) old
+          (copy ∷ line_nodes line width (delays_at delays v)) (before l e)
+          (line_made hold g d l delays v line its width (delays_at delays v) copy
+          (width_is ∙ ap (λ (n : Node). n.width) same) some own_is
+          (newest_number delays v line.node inside number some) (address_number delays v line.node inside number some))))
+        where
+          number : IsNumber delays (own v) line.node
+          number = subst (λ (x : Line). IsNumber delays (own v) x.node) (sym line_is) next_is.node
+
+          its : IsLineOf g d l delays v line
+          its = record {
+            there = subst (λ (ls : List Line). Contains ls line) (sym e)
+                (next, next_there, default_any lines next line no_line next_there ∙ sym line_is);
+            node = number;
+          }
+
+          own_is : IsOwnOver g d l delays hold v copy
+          own_is =
+              let now = subst (λ (n : Node). IsCopy hold delays n copy) same is in
+              record { edges = now.edges; rest = now.rest }
 
 -- the edges of a node of the graph
 module _ (g : Graph) (sound : IsGraph g) (hold : ℕ) (delays : List (List ℕ)) (are : AreDelays g hold delays) where
@@ -233,8 +237,8 @@ module _ (g : Graph) (sound : IsGraph g) (hold : ℕ) (delays : List (List ℕ))
       }
 
 -- the edge of the lowered list
-module _ (d : Datapath) (delays : List (List ℕ)) (numbers : List ℕ) (layout : IsLayout d delays numbers)
-    (edge : Edge) (laid : IsLaid d.hold delays edge) where
+module _ (hold : ℕ) (delays : List (List ℕ)) (numbers : List ℕ) (layout : IsLayout delays numbers)
+    (edge : Edge) (laid : IsLaid hold delays edge) where
   pub number_is : (number : ℕ) → number ≡ slice_index_or numbers edge.node number
       → IsNumber delays (own edge.node) number
   number_is number is =
@@ -244,8 +248,8 @@ module _ (d : Datapath) (delays : List (List ℕ)) (numbers : List ℕ) (layout 
       (default_any numbers edge.node 0 number (omega (arith, node, count)) ∙ sym is)
       (layout.numbered.each edge.node laid.node)
 
-  pub edge_held : (new : Edge) → edge.delay ≤ d.hold → IsNumber delays (own edge.node) new.node
-      → new.delay ≡ edge.delay → IsLoweredEdge d.hold delays new edge
+  pub edge_held : (new : Edge) → edge.delay ≤ hold → IsNumber delays (own edge.node) new.node
+      → new.delay ≡ edge.delay → IsLoweredEdge hold delays new edge
   edge_held new short number same = record {
     held = λ h. (number, same);
     loaded = λ h. absurd (omega (
@@ -255,9 +259,9 @@ module _ (d : Datapath) (delays : List (List ℕ)) (numbers : List ℕ) (layout 
     ));
   }
 
-  pub edge_loaded : (new : Edge) (number index : ℕ) → d.hold < edge.delay → IsNumber delays (own edge.node) number
+  pub edge_loaded : (new : Edge) (number index : ℕ) → hold < edge.delay → IsNumber delays (own edge.node) number
       → index < length (delays_at delays edge.node) → slice_index_or (delays_at delays edge.node) index 0 ≡ edge.delay
-      → new.node ≡ number + 3 + 2 * index + 1 → new.delay ≡ 0 → IsLoweredEdge d.hold delays new edge
+      → new.node ≡ number + 3 + 2 * index + 1 → new.delay ≡ 0 → IsLoweredEdge hold delays new edge
   edge_loaded new number index long own_number below at node now = record {
     held = λ h. absurd (omega (arith, long, h));
     loaded = λ h. (
@@ -329,7 +333,8 @@ module _ (hold : ℕ) (delays : List (List ℕ)) (old : List Edge) where
 
   module _ (k : ℕ) (new : List Edge) (before : AreLoweredBefore hold delays k old new) where
     -- the edge at port k is the old one yet
-    pub old_edge : (item : Edge) → k < length new → item ≡ slice_index_or new k item → item ≡ slice_index_or old k no_edge
+    pub old_edge : (item : Edge) → k < length new → item ≡ slice_index_or new k item
+        → item ≡ slice_index_or old k no_edge
     old_edge item less is = get_or_read new k item less is no_edge ∙ before.rest k (omega arith)
 
     pub lowered_more : (item edge : Edge) → k < length new → item ≡ slice_index_or new k item

@@ -157,13 +157,13 @@ module _ (delays : List (List ℕ)) where
           place_is x.v (delays_at delays x.v)
           (AllPairs-from_increasing (delays_at delays x.v) (rise x.v x.less)) (some x.v x.less) x.j o x.part
 
-  module _ (d : Datapath) (once : StandsOnce delays) where
+  module _ (spare : ℕ) (d : Datapath) (once : StandsOnce delays) where
     stored_at : (n : ℕ) → n < length (stored delays)
         → slice_get (stored delays) n ≡ Some (slice_index_or (stored delays) n (0, []))
     stored_at n less = slice_get-get_or (stored delays) n (0, []) less
 
     -- lines agree as far as both go
-    pub lines_agree : (a b : List Line) → AreLines d delays a → AreLines d delays b → (n : ℕ) → n ≤ length a
+    pub lines_agree : (a b : List Line) → AreLines spare d delays a → AreLines spare d delays b → (n : ℕ) → n ≤ length a
         → n ≤ length b → n ≤ length (stored delays) → take n a ≡ take n b
     lines_agree a b are bre zero in-a in-b in-all = refl
     lines_agree a b are bre (suc n) in-a in-b in-all =
@@ -171,8 +171,8 @@ module _ (delays : List (List ℕ)) where
         let x = slice_index_or (stored delays) n (0, []) in
         let at = stored_at n (omega (arith, in-all)) in
         let line : line_of a n ≡ line_of b n =
-        one_next d delays once (take n b) x.0 x.1 (line_of a n) (line_of b n)
-        (subst (λ (ls : List Line). IsNextLine d delays ls x.0 x.1 (line_of a n)) rest
+        one_next spare d delays once (take n b) x.0 x.1 (line_of a n) (line_of b n)
+        (subst (λ (ls : List Line). IsNextLine spare d delays ls x.0 x.1 (line_of a n)) rest
         (are n x.0 x.1 (omega (arith, in-a)) at))
         (bre n x.0 x.1 (omega (arith, in-b)) at) in
         take-suc a n no_line (omega (arith, in-a))
@@ -180,7 +180,7 @@ module _ (delays : List (List ℕ)) where
         ∙ sym (take-suc b n no_line (omega (arith, in-b)))
 
     -- as many lines are the same
-    pub one_lines : (a b : List Line) → AreLines d delays a → AreLines d delays b → length a ≡ length b
+    pub one_lines : (a b : List Line) → AreLines spare d delays a → AreLines spare d delays b → length a ≡ length b
         → length a ≤ length (stored delays) → a ≡ b
     one_lines a b are bre same few =
         sym (take_all (length a) a (omega arith))
@@ -188,12 +188,12 @@ module _ (delays : List (List ℕ)) where
         ∙ take_all (length a) b (omega (arith, same))
 
     -- the line behind others, where more go on
-    pub goes_on : (a b : List Line) → AreLines d delays a → AreLines d delays b → length a < length b
+    pub goes_on : (a b : List Line) → AreLines spare d delays a → AreLines spare d delays b → length a < length b
         → (v : ℕ) (long : List ℕ) → slice_get (stored delays) (length a) ≡ Some (v, long)
-        → IsNextLine d delays a v long (line_of b (length a))
+        → IsNextLine spare d delays a v long (line_of b (length a))
     goes_on a b are bre less v long at =
         let within = slice_get_within (stored delays) (length a) (v, long) at in
-        subst (λ (ls : List Line). IsNextLine d delays ls v long (line_of b (length a)))
+        subst (λ (ls : List Line). IsNextLine spare d delays ls v long (line_of b (length a)))
         (sym (lines_agree a b are bre (length a) (omega arith) (omega (arith, less)) (omega (arith, within)))
         ∙ take_all (length a) a (omega arith))
         (bre (length a) v long less at)

@@ -9,6 +9,7 @@ mod lines;
 mod lowering;
 mod nodes;
 mod numbers;
+mod target;
 
 pub use fault::LineFault;
 pub use lowering::{lower, lower_owned};

@@ -12,6 +12,7 @@ ghost use Rattle.delay_memory.specs.Private.Numbers.{AreNumbers};
 ghost use Rattle.delay_memory.specs.Private.Lines.{AreUsed, IsLongest, IsFirstRam, IsPlacedLine, IsNoRoom, IsPlaceFault, Places, AreLinesBefore, IsStop};
 
 use crate::fault::LineFault;
+use crate::target::Target;
 use datapath::{Datapath, Kind, Unit};
 use lists::List;
 use plan_core::Line;
@@ -55,24 +56,24 @@ fn has_acu(datapath: &Datapath, ram: u8) -> bool
 }
 
 /// Whether the ram with this number has so many cells left.
-fn has_room(datapath: &Datapath, memory: &LineMemory, cells: u32, ram: usize) -> bool
-    requires used { AreUsed datapath.now memory.now.lines memory.now.used }
-    requires unit { ram < length datapath.now.units }
-    ensures { IsTrue result ↔ HasRoom datapath.now memory.now.lines cells ram }
+fn has_room(target: &Target, memory: &LineMemory, cells: u32, ram: usize) -> bool
+    requires used { AreUsed target.now.spare target.now.datapath.now memory.now.lines memory.now.used }
+    requires unit { ram < length target.now.datapath.now.units }
+    ensures { IsTrue result ↔ HasRoom target.now.spare target.now.datapath.now memory.now.lines cells ram }
 {
-    let unit = &datapath.units[ram];
+    let unit = &target.datapath.units[ram];
     let wanted = u64::from(memory.used[ram]) + u64::from(cells);
     unit.kind == Kind::Ram && wanted <= u64::from(unit.cells)
 }
 
 /// The first ram with so many cells left.
-fn ram_for(datapath: &Datapath, memory: &LineMemory, cells: u32) -> Option<u8>
-    requires datapath { IsDatapath datapath.now }
-    requires used { AreUsed datapath.now memory.now.lines memory.now.used }
-    ensures { IsFirstRam datapath.now memory.now.lines cells result }
+fn ram_for(target: &Target, memory: &LineMemory, cells: u32) -> Option<u8>
+    requires datapath { IsDatapath target.now.datapath.now }
+    requires used { AreUsed target.now.spare target.now.datapath.now memory.now.lines memory.now.used }
+    ensures { IsFirstRam target.now.spare target.now.datapath.now memory.now.lines cells result }
 {
-    for ram in 0..datapath.units.len() {
-        if has_room(datapath, memory, cells, ram) {
+    for ram in 0..target.datapath.units.len() {
+        if has_room(target, memory, cells, ram) {
             return Some(ram as u8);
         }
     }
@@ -105,22 +106,22 @@ fn no_room(datapath: &Datapath, v: u32) -> LineFault
 
 /// The line of node v of the graph, which has this number in the lowered list and this longest delay.
 fn line_for(
-    datapath: &Datapath,
+    target: &Target,
     memory: &LineMemory,
     v: u32,
     number: u32,
     depth: u16,
 ) -> Result<Line, LineFault>
-    requires datapath { IsDatapath datapath.now }
-    requires used { AreUsed datapath.now memory.now.lines memory.now.used }
-    ensures line { IfOk result (IsPlacedLine datapath.now memory.now.lines number depth) }
-    ensures fault { IfErr result (IsPlaceFault datapath.now memory.now.lines v depth) }
+    requires datapath { IsDatapath target.now.datapath.now }
+    requires used { AreUsed target.now.spare target.now.datapath.now memory.now.lines memory.now.used }
+    ensures line { IfOk result (IsPlacedLine target.now.spare target.now.datapath.now memory.now.lines number depth) }
+    ensures fault { IfErr result (IsPlaceFault target.now.spare target.now.datapath.now memory.now.lines v depth) }
 {
-    let ram = match ram_for(datapath, memory, u32::from(depth) + 1) {
+    let ram = match ram_for(target, memory, target.cells(depth)) {
         Some(ram) => ram,
-        None => return Err(no_room(datapath, v)),
+        None => return Err(no_room(target.datapath, v)),
     };
-    if !has_acu(datapath, ram) {
+    if !has_acu(target.datapath, ram) {
         return Err(LineFault::NoAcu { ram, node: v });
     }
     Ok(Line {
@@ -133,31 +134,31 @@ fn line_for(
 
 /// Adds the line of node v of the graph.
 fn place(
-    datapath: &Datapath,
+    target: &Target,
     memory: &mut LineMemory,
     v: u32,
     number: u32,
     depth: u16,
 ) -> Result<(), LineFault>
-    requires datapath { IsDatapath datapath.now }
-    requires used { AreUsed datapath.now memory.old.lines memory.old.used }
-    ensures placed { OnOk result (Places datapath.now number depth memory.old memory.new) }
+    requires datapath { IsDatapath target.now.datapath.now }
+    requires used { AreUsed target.now.spare target.now.datapath.now memory.old.lines memory.old.used }
+    ensures placed { OnOk result (Places target.now.spare target.now.datapath.now number depth memory.old memory.new) }
     ensures fault { IfErr result (λ fault. (fault ≡ Memory)
-        ⊎ IsPlaceFault datapath.now memory.old.lines v depth fault) }
+        ⊎ IsPlaceFault target.now.spare target.now.datapath.now memory.old.lines v depth fault) }
 {
-    let line = line_for(datapath, memory, v, number, depth)?;
+    let line = line_for(target, memory, v, number, depth)?;
     memory.lines.push(line)?;
-    memory.used[usize::from(line.ram)] = line.offset + u32::from(line.depth) + 1;
+    memory.used[usize::from(line.ram)] = line.offset + target.cells(line.depth);
     Ok(())
 }
 
-fn no_lines(alloc: Global, datapath: &Datapath) -> Result<LineMemory, AllocError>
-    requires { IsDatapath datapath.now }
+fn no_lines(alloc: Global, target: &Target) -> Result<LineMemory, AllocError>
+    requires { IsDatapath target.now.datapath.now }
     ensures lines { IfOk result (λ memory. memory.lines ≡ []) }
-    ensures used { IfOk result (λ memory. AreUsed datapath.now [] memory.used) }
+    ensures used { IfOk result (λ memory. AreUsed target.now.spare target.now.datapath.now [] memory.used) }
 {
-    let mut used = List::with_capacity(alloc, datapath.units.len())?;
-    for _ in 0..datapath.units.len() {
+    let mut used = List::with_capacity(alloc, target.datapath.units.len())?;
+    for _ in 0..target.datapath.units.len() {
         used.push(0)?;
     }
     Ok(LineMemory {
@@ -168,44 +169,48 @@ fn no_lines(alloc: Global, datapath: &Datapath) -> Result<LineMemory, AllocError
 
 /// Adds the line of node v, if it has one.
 fn place_next(
-    datapath: &Datapath,
+    target: &Target,
     delays: &List<List<u16>>,
     numbers: &List<u32>,
     v: usize,
     memory: &mut LineMemory,
 ) -> Result<(), LineFault>
-    requires datapath { IsDatapath datapath.now }
+    requires datapath { IsDatapath target.now.datapath.now }
     requires few { AreFew delays.now }
     requires rise { (v : ℕ) → IsStrictlyIncreasing (delays_at delays.now v) }
     requires numbers { AreNumbers delays.now (length delays.now) numbers.now }
     requires node { v < length delays.now }
-    requires before { AreLinesBefore datapath.now delays.now v memory.old }
-    ensures lines { OnOk result (AreLinesBefore datapath.now delays.now (v + 1) memory.new) }
-    ensures fault { IfErr result (λ fault. (fault ≡ Memory) ⊎ IsStop datapath.now delays.now fault) }
+    requires before { AreLinesBefore target.now.spare target.now.datapath.now delays.now v memory.old }
+    ensures lines { OnOk result
+        (AreLinesBefore target.now.spare target.now.datapath.now delays.now (v + 1) memory.new) }
+    ensures fault { IfErr result (λ fault. (fault ≡ Memory)
+        ⊎ IsStop target.now.spare target.now.datapath.now delays.now fault) }
 {
     match longest(&delays[v]) {
         None => Ok(()),
-        Some(depth) => place(datapath, memory, v as u32, numbers[v], depth),
+        Some(depth) => place(target, memory, v as u32, numbers[v], depth),
     }
 }
 
 /// The lines of all nodes that have long delays.
 fn place_all(
-    datapath: &Datapath,
+    target: &Target,
     delays: &List<List<u16>>,
     numbers: &List<u32>,
     memory: &mut LineMemory,
 ) -> Result<(), LineFault>
-    requires datapath { IsDatapath datapath.now }
+    requires datapath { IsDatapath target.now.datapath.now }
     requires few { AreFew delays.now }
     requires rise { (v : ℕ) → IsStrictlyIncreasing (delays_at delays.now v) }
     requires numbers { AreNumbers delays.now (length delays.now) numbers.now }
-    requires none { AreLinesBefore datapath.now delays.now 0 memory.old }
-    ensures lines { OnOk result (AreLinesBefore datapath.now delays.now (length delays.now) memory.new) }
-    ensures fault { IfErr result (λ fault. (fault ≡ Memory) ⊎ IsStop datapath.now delays.now fault) }
+    requires none { AreLinesBefore target.now.spare target.now.datapath.now delays.now 0 memory.old }
+    ensures lines { OnOk result
+        (AreLinesBefore target.now.spare target.now.datapath.now delays.now (length delays.now) memory.new) }
+    ensures fault { IfErr result (λ fault. (fault ≡ Memory)
+        ⊎ IsStop target.now.spare target.now.datapath.now delays.now fault) }
 {
     for v in 0..delays.len() {
-        place_next(datapath, delays, numbers, v, memory)?;
+        place_next(target, delays, numbers, v, memory)?;
     }
     Ok(())
 }
@@ -213,19 +218,20 @@ fn place_all(
 /// The lines of all nodes that have long delays, in order.
 pub(crate) fn lines_of(
     alloc: Global,
-    datapath: &Datapath,
+    target: &Target,
     delays: &List<List<u16>>,
     numbers: &List<u32>,
 ) -> Result<List<Line>, LineFault>
-    requires datapath { IsDatapath datapath.now }
+    requires datapath { IsDatapath target.now.datapath.now }
     requires few { AreFew delays.now }
     requires rise { (v : ℕ) → IsStrictlyIncreasing (delays_at delays.now v) }
     requires numbers { AreNumbers delays.now (length delays.now) numbers.now }
     ensures count { IfOk result (λ lines. length lines ≡ length (stored delays.now)) }
-    ensures lines { IfOk result (AreLines datapath.now delays.now) }
-    ensures fault { IfErr result (λ fault. (fault ≡ Memory) ⊎ IsStop datapath.now delays.now fault) }
+    ensures lines { IfOk result (AreLines target.now.spare target.now.datapath.now delays.now) }
+    ensures fault { IfErr result (λ fault. (fault ≡ Memory)
+        ⊎ IsStop target.now.spare target.now.datapath.now delays.now fault) }
 {
-    let mut memory = no_lines(alloc, datapath)?;
-    place_all(datapath, delays, numbers, &mut memory)?;
+    let mut memory = no_lines(alloc, target)?;
+    place_all(target, delays, numbers, &mut memory)?;
     Ok(memory.lines)
 }

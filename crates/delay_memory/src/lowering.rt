@@ -3,9 +3,9 @@
 ghost use Rattle.std.specs.Prelude.{◌≡◌, ◌⊎◌, Ok, Err, IfOk, IfErr};
 ghost use Rattle.datapath.specs.Allowed.{IsDatapath};
 ghost use Rattle.signal_graph.specs.GraphRules.{IsGraph};
-ghost use Rattle.plan_core.specs.Lowered.{IsLowered};
+ghost use Rattle.plan_core.specs.Lowered.{IsLowered, IsLoweredOver};
 ghost use Rattle.plan_core.specs.declared.delay_lines.Lowered as of_lowered;
-ghost use Rattle.delay_memory.specs.Faults.{IsLineFault};
+ghost use Rattle.delay_memory.specs.Faults.{IsLineFault, IsLineFaultOver};
 ghost use Rattle.delay_memory.specs.declared.fault.LineFault as of_fault;
 ghost use Rattle.delay_memory.specs.declared.fault.LineFault.TheVariants.{Memory};
 
@@ -15,10 +15,42 @@ use crate::fault::LineFault;
 use crate::lines::lines_of;
 use crate::nodes::{Layout, nodes_of};
 use crate::numbers::numbers_of;
+use crate::target::Target;
 use datapath::Datapath;
 use plan_core::Lowered;
 use signal_graph::Graph;
 use std::alloc::Global;
+
+/// How many cells a line has beyond its longest delay where one sample is in flight at a time: one for the word of this
+/// sample.
+const SPARE_CELLS: u8 = 1;
+
+/// Puts the delays of a graph that are longer than the target's hold into memory.
+fn lower_to(alloc: Global, graph: Graph, target: &Target) -> Result<Lowered, LineFault>
+    requires datapath { IsDatapath target.now.datapath.now }
+    requires sound { IsGraph graph }
+    ensures lowered { IfOk result (IsLoweredOver target.now.hold target.now.spare graph target.now.datapath.now) }
+    ensures fault { IfErr result (λ fault. (fault ≡ Memory)
+        ⊎ IsLineFaultOver target.now.hold target.now.spare graph target.now.datapath.now fault) }
+    ensures found { (l : of_lowered.Lowered)
+        → IsLoweredOver target.now.hold target.now.spare graph target.now.datapath.now l
+        → (result ≡ Ok l) ⊎ (result ≡ Err Memory) }
+    ensures refused { (fault : of_fault.LineFault)
+        → IsLineFaultOver target.now.hold target.now.spare graph target.now.datapath.now fault
+        → (result ≡ Err fault) ⊎ (result ≡ Err Memory) }
+{
+    let delays = delays_of(alloc, &graph, target.hold)?;
+    let numbers = numbers_of(alloc, &delays)?;
+    let lines = lines_of(alloc, target, &delays, &numbers)?;
+    let layout = Layout {
+        target,
+        delays: &delays,
+        numbers: &numbers,
+        lines: &lines,
+    };
+    let nodes = nodes_of(alloc, graph, &layout)?;
+    Ok(Lowered { nodes, lines })
+}
 
 /// Puts the delays of a graph that are longer than the datapath's hold into memory. Each node that is read with such
 /// delays gets a line in the first ram with room, and is followed by new nodes; all nodes are numbered anew. Takes time
@@ -41,17 +73,12 @@ pub fn lower_owned(alloc: Global, graph: Graph, datapath: &Datapath) -> Result<L
     ensures refused { (fault : of_fault.LineFault) → IsLineFault graph datapath.now fault
         → (result ≡ Err fault) ⊎ (result ≡ Err Memory) }
 {
-    let delays = delays_of(alloc, &graph, datapath.hold)?;
-    let numbers = numbers_of(alloc, &delays)?;
-    let lines = lines_of(alloc, datapath, &delays, &numbers)?;
-    let layout = Layout {
+    let target = Target {
         datapath,
-        delays: &delays,
-        numbers: &numbers,
-        lines: &lines,
+        hold: datapath.hold,
+        spare: SPARE_CELLS,
     };
-    let nodes = nodes_of(alloc, graph, &layout)?;
-    Ok(Lowered { nodes, lines })
+    lower_to(alloc, graph, &target)
 }
 
 /// Does what `lower_owned` does, on a copy of the graph.

@@ -12,7 +12,7 @@ ghost use Rattle.delay_memory.specs.Private.Lines.{lines_before};
 ghost use Rattle.delay_memory.specs.Private.Nodes.{load_nodes, line_nodes, IsLayout, IsLaid, IsCopy, AreLaidOut, AreMadeBefore};
 
 use crate::numbers::{FIRST_ADDRESS, FIRST_OF_DELAYS, NODES_OF_DELAY};
-use datapath::Datapath;
+use crate::target::Target;
 use fix_word::{Format, Mode, Op};
 use lists::List;
 use plan_core::Line;
@@ -22,7 +22,7 @@ use std::alloc::{AllocError, Global};
 /// What the nodes of a graph get.
 #[derive(Clone, Copy)]
 pub(crate) struct Layout<'a> {
-    pub datapath: &'a Datapath,
+    pub target: &'a Target<'a>,
     /// The long delays of each node, rising.
     pub delays: &'a List<List<u16>>,
     /// The number of each node in the lowered list.
@@ -144,13 +144,13 @@ fn index_of(delays: &[u16], delay: u16) -> usize
 
 /// The edge of the lowered list for one of the graph.
 fn edge_for(layout: &Layout, edge: Edge) -> Edge
-    requires layout { IsLayout layout.now.datapath.now layout.now.delays.now layout.now.numbers.now }
-    requires edge { IsLaid layout.now.datapath.now.hold layout.now.delays.now edge }
-    ensures { IsLoweredEdge layout.now.datapath.now.hold layout.now.delays.now result edge }
+    requires layout { IsLayout layout.now.delays.now layout.now.numbers.now }
+    requires edge { IsLaid layout.now.target.now.hold layout.now.delays.now edge }
+    ensures { IsLoweredEdge layout.now.target.now.hold layout.now.delays.now result edge }
 {
     let node = edge.node as usize;
     let number = layout.numbers[node];
-    if edge.delay <= u16::from(layout.datapath.hold) {
+    if edge.delay <= u16::from(layout.target.hold) {
         return Edge {
             node: number,
             delay: edge.delay,
@@ -162,9 +162,9 @@ fn edge_for(layout: &Layout, edge: Edge) -> Edge
 
 /// Makes the edges of a node those of the lowered list, in their places.
 fn lower_edges(layout: &Layout, edges: &mut List<Edge>)
-    requires layout { IsLayout layout.now.datapath.now layout.now.delays.now layout.now.numbers.now }
-    requires edges { All (IsLaid layout.now.datapath.now.hold layout.now.delays.now) edges.old }
-    ensures { AllZip (IsLoweredEdge layout.now.datapath.now.hold layout.now.delays.now) edges.new edges.old }
+    requires layout { IsLayout layout.now.delays.now layout.now.numbers.now }
+    requires edges { All (IsLaid layout.now.target.now.hold layout.now.delays.now) edges.old }
+    ensures { AllZip (IsLoweredEdge layout.now.target.now.hold layout.now.delays.now) edges.new edges.old }
 {
     for port in 0..edges.len() {
         let edge = edge_for(layout, edges[port]);
@@ -174,9 +174,9 @@ fn lower_edges(layout: &Layout, edges: &mut List<Edge>)
 
 /// The node of the lowered list for one of the graph.
 fn own_node(layout: &Layout, node: Node) -> Node
-    requires layout { IsLayout layout.now.datapath.now layout.now.delays.now layout.now.numbers.now }
-    requires edges { All (IsLaid layout.now.datapath.now.hold layout.now.delays.now) node.edges }
-    ensures { IsCopy layout.now.datapath.now.hold layout.now.delays.now node result }
+    requires layout { IsLayout layout.now.delays.now layout.now.numbers.now }
+    requires edges { All (IsLaid layout.now.target.now.hold layout.now.delays.now) node.edges }
+    ensures { IsCopy layout.now.target.now.hold layout.now.delays.now node result }
 {
     let mut edges = node.edges;
     lower_edges(layout, &mut edges);
@@ -203,11 +203,11 @@ pub(crate) fn nodes_of(
     layout: &Layout,
 ) -> Result<List<Node>, AllocError>
     requires sound { IsGraph graph }
-    requires path { IsDatapath layout.now.datapath.now }
-    requires laid_out { AreLaidOut graph layout.now.datapath.now layout.now.delays.now
-        layout.now.numbers.now layout.now.lines.now }
-    ensures { IfOk result (AreMadeBefore graph layout.now.datapath.now layout.now.delays.now
-        layout.now.lines.now (length graph.nodes)) }
+    requires path { IsDatapath layout.now.target.now.datapath.now }
+    requires laid_out { AreLaidOut layout.now.target.now.hold layout.now.target.now.spare graph
+        layout.now.target.now.datapath.now layout.now.delays.now layout.now.numbers.now layout.now.lines.now }
+    ensures { IfOk result (AreMadeBefore layout.now.target.now.hold graph layout.now.target.now.datapath.now
+        layout.now.delays.now layout.now.lines.now (length graph.nodes)) }
 {
     let mut left = graph.nodes;
     let mut nodes = List::with_capacity(alloc, left.len())?;

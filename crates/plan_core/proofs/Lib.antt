@@ -5,11 +5,12 @@ mod AssignedTests
 mod ScheduleTests
 mod RegisterTests
 mod LoweredTests
-mod Rows
+pub mod Rows
 mod PlanTests
-mod WorkedPlans
+pub mod WorkedPlans
 mod WorkedRefusals
 mod WrongPlans
+pub mod Samples
 pub mod Sorted
 pub mod OneAssigned
 pub mod OneArcs
@@ -17,4 +18,5 @@ pub mod OneHeight
 pub mod Agreeing
 pub mod OneSchedule
 pub mod OneFit
+pub mod OneFullFile
 pub mod OneLowered

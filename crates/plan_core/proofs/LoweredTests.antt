@@ -45,11 +45,12 @@ abbrev pub are_all_long : (g : Graph) (hold : ℕ) (delays : List (List ℕ))
     → Test ((v : ℕ) → v < length g.nodes → AreLongDelays g hold v (slice_index_or delays v []))
 are_all_long g hold delays = below (length g.nodes) (λ v. are_long_delays g hold v (slice_index_or delays v []))
 
-abbrev pub has_room : (d : Datapath) (lines : List Line) (cells ram : ℕ) → Test (HasRoom d lines cells ram)
-has_room d lines cells ram =
-    like {P = IsOfKind d kind.Ram ram × (used lines ram + cells ≤ cells_on d ram)}
+abbrev pub has_room : (spare : ℕ) (d : Datapath) (lines : List Line) (cells ram : ℕ)
+    → Test (HasRoom spare d lines cells ram)
+has_room spare d lines cells ram =
+    like {P = IsOfKind d kind.Ram ram × (used spare lines ram + cells ≤ cells_on d ram)}
     (λ h. record { is_ram = h.0; room = h.1 }) (λ h. (h.is_ram, h.room))
-    (both (is_of_kind d kind.Ram ram) (le (used lines ram + cells) (cells_on d ram)))
+    (both (is_of_kind d kind.Ram ram) (le (used spare lines ram + cells) (cells_on d ram)))
 
 pub held_edge : (hold : ℕ) (delays : List (List ℕ)) (edge old : Edge) → old.delay ≤ hold
     → IsNumber delays (own old.node) edge.node

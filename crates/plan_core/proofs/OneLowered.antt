@@ -4,7 +4,7 @@ use Rattle.std.proofs.Common.{◌≡◌, sym, subst, ap, ◌∙◌, arith, ℕ, 
 use Rattle.std.proofs.lemmas.List.Kept.{AllPairs-from_increasing}
 use Rattle.datapath.specs.declared.types.Datapath.{Datapath}
 use Rattle.signal_graph.specs.declared.graph.Graph.{Graph}
-use Rattle.plan_core.specs.Lowered.{IsReadAgo, AreLongDelays, Origin, own, IsNumber, used, HasRoom, IsNextLine, IsLowered}
+use Rattle.plan_core.specs.Lowered.{IsReadAgo, AreLongDelays, Origin, own, IsNumber, used, HasRoom, IsNextLine, IsLoweredOver}
 use Rattle.plan_core.specs.declared.delay_lines.Line.{Line}
 use Rattle.plan_core.specs.declared.delay_lines.Lowered.{Lowered}
 use Rattle.plan_core.proofs.Sorted.{same_order}
@@ -28,12 +28,12 @@ one_long g hold v xs ys h e =
     (AllPairs-from_increasing ys e.rise) (λ k. delay-in g hold v xs ys h e k) (λ k. delay-in g hold v ys xs e h k)
 
 -- all long delays
-pub one_delays : (g : Graph) (d : Datapath) (l m : Lowered) (x : IsLowered g d l) (y : IsLowered g d m)
-    → x.delays ≡ y.delays
-one_delays g d l m x y =
+pub one_delays : (hold spare : ℕ) (g : Graph) (d : Datapath) (l m : Lowered) (x : IsLoweredOver hold spare g d l)
+    (y : IsLoweredOver hold spare g d m) → x.delays ≡ y.delays
+one_delays hold spare g d l m x y =
     let count = x.delay_count in
     ext_get_or [] x.delays y.delays (x.delay_count ∙ sym y.delay_count)
-    (λ v less. one_long g d.hold v (slice_index_or x.delays v []) (slice_index_or y.delays v [])
+    (λ v less. one_long g hold v (slice_index_or x.delays v []) (slice_index_or y.delays v [])
     (x.long v (omega arith)) (y.long v (omega arith)))
 
 line_from : (a b : Line) → a.node ≡ b.node → a.ram ≡ b.ram → a.offset ≡ b.offset → a.depth ≡ b.depth → a ≡ b
@@ -47,16 +47,16 @@ line_from a b node ram offset depth =
 abbrev pub StandsOnce : List (List ℕ) → Type 0
 StandsOnce delays = (o : Origin) (i j : ℕ) → IsNumber delays o i → IsNumber delays o j → i ≡ j
 
-pub one_next : (d : Datapath) (delays : List (List ℕ)) → StandsOnce delays
+pub one_next : (spare : ℕ) (d : Datapath) (delays : List (List ℕ)) → StandsOnce delays
     → (lines : List Line) (v : ℕ) (long : List ℕ) (a b : Line)
-    → IsNextLine d delays lines v long a → IsNextLine d delays lines v long b → a ≡ b
-one_next d delays once lines v long a b x y =
+    → IsNextLine spare d delays lines v long a → IsNextLine spare d delays lines v long b → a ≡ b
+one_next spare d delays once lines v long a b x y =
     let depth = le_antisymm (most a.depth y.longest x.depth) (most b.depth x.longest y.depth) in
     let ram = neither_less a.ram b.ram
-    (λ less. y.first a.ram less (subst (λ (k : ℕ). HasRoom d lines (k + 1) a.ram) depth x.room))
-    (λ less. x.first b.ram less (subst (λ (k : ℕ). HasRoom d lines (k + 1) b.ram) (sym depth) y.room)) in
+    (λ less. y.first a.ram less (subst (λ (k : ℕ). HasRoom spare d lines (k + spare) a.ram) depth x.room))
+    (λ less. x.first b.ram less (subst (λ (k : ℕ). HasRoom spare d lines (k + spare) b.ram) (sym depth) y.room)) in
     line_from a b (once (own v) a.node b.node x.node y.node) ram
-    (x.offset ∙ ap (λ (r : ℕ). used lines r) ram ∙ sym y.offset) depth
+    (x.offset ∙ ap (λ (r : ℕ). used spare lines r) ram ∙ sym y.offset) depth
   where
     most : {bound : ℕ} (k : ℕ) → All (λ (n : ℕ). n ≤ bound) long → Contains long k → k ≤ bound
     most {bound} k all (i, less, is) = subst (λ (n : ℕ). n ≤ bound) is (all i k less)

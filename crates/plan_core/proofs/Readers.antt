@@ -5,7 +5,8 @@ use Rattle.std.proofs.lemmas.List.{get_or_past}
 use Rattle.std.proofs.lemmas.List.Elements.{All-get_or}
 use Rattle.fix_word.specs.declared.operation.Op.{Op}
 use Rattle.fix_word.specs.declared.operation.Op.TheVariants as op
-use Rattle.operations.specs.Operations.{operands}
+use Rattle.operations.specs.Operations.{operands, kind_of}
+use Rattle.operations.specs.Units.{ports}
 use Rattle.signal_graph.specs.GraphSolves.{no_node}
 use Rattle.signal_graph.specs.declared.graph.Edge.{Edge}
 use Rattle.signal_graph.specs.declared.graph.Node.{Node}
@@ -22,6 +23,15 @@ operands_few op.Pass = omega arith
 operands_few op.Not = omega arith
 operands_few op.Load = omega arith
 operands_few _ = omega arith
+
+-- a unit has a port for each operand
+pub enough_ports : (o : Op) → operands o ≤ ports (kind_of o)
+enough_ports op.Sel = omega arith
+enough_ports op.Input = omega arith
+enough_ports op.Output = omega arith
+enough_ports op.Const = omega arith
+enough_ports op.Addr = omega arith
+enough_ports _ = omega arith
 
 -- a node that reads is there
 pub reader_there : (nodes : List Node) (c q v : ℕ) → Reads nodes c q v → c < length nodes

@@ -3,13 +3,14 @@ use Rattle.std.proofs.Common.{◌≡◌, refl, sym, subst, ap, ◌∙◌, arith,
 use Rattle.std.specs.List.{AllPairs}
 use Rattle.operations.specs.declared.units.PortRef.{PortRef}
 use Rattle.datapath.specs.declared.types.Datapath.{Datapath}
-use Rattle.plan_core.specs.Hardware.{port_of}
+use Rattle.plan_core.specs.Hardware.{port_of, file_size}
 use Rattle.plan_core.specs.Operands.{Reads}
 use Rattle.plan_core.specs.Assigned.{unit_in}
 use Rattle.plan_core.specs.ListSchedule.{ends}
 use Rattle.plan_core.specs.Arcs.{arc_of, ReadsArc, read_cycle, IsCount, IsCovered, IsArc, IsWrittenBefore, IsArcBefore, IsArcFor, IsArcs, IsUnroll}
 use Rattle.plan_core.specs.Circle.{AreApart}
 use Rattle.plan_core.specs.FirstFit.{register_of, IsCopyBefore, IsFree, IsFirstFree, IsFirstFit}
+use Rattle.plan_core.specs.Refusals.{HasRegister}
 use Rattle.plan_core.specs.declared.registers.Arc.{Arc}
 use Rattle.plan_core.specs.declared.schedule.Assigned.{Assigned}
 use Rattle.plan_core.specs.declared.schedule.Schedule.{Schedule}
@@ -243,3 +244,11 @@ module _ (period unroll : ℕ) where
         (both (eq (length regs) (length arcs))
         (both (below (length arcs) (λ k. eq (length (slice_index_or regs k [])) (arc_of arcs k).copies))
         (below (length arcs) (λ k. below (arc_of arcs k).copies (λ i. is_first_free k i)))))
+
+abbrev pub has_register : (d : Datapath) (unroll : ℕ) (arcs : List Arc) (regs : List (List ℕ)) (k i : ℕ)
+    → Test (HasRegister d unroll arcs regs k i)
+has_register d unroll arcs regs k i =
+    like {P = IsFirstFree d.period unroll arcs regs k i × (register_of regs k i < file_size d (arc_of arcs k).port)}
+    (λ h. record { first = h.0; within = h.1 }) (λ h. (h.first, h.within))
+    (both (is_first_free d.period unroll arcs regs k i)
+    (lt (register_of regs k i) (file_size d (arc_of arcs k).port)))

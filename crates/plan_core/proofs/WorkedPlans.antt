@@ -45,7 +45,7 @@ increment_lowered = record {
   );
 }
 
-increment_planned : IsPlan increment (plain_path 0) increment_plan
+pub increment_planned : IsPlan increment (plain_path 0) increment_plan
 increment_planned =
     planned increment (plain_path 0) increment_plan (heights (3 ∷ 3 ∷ 2 ∷ 1 ∷ [])) increment_lowered
     refl refl refl refl refl refl refl refl refl refl
@@ -78,7 +78,7 @@ accumulator_lowered = record {
   );
 }
 
-accumulator_planned : IsPlan accumulator (plain_path 1) accumulator_plan
+pub accumulator_planned : IsPlan accumulator (plain_path 1) accumulator_plan
 accumulator_planned =
     planned accumulator (plain_path 1) accumulator_plan (heights (3 ∷ 2 ∷ 1 ∷ [])) accumulator_lowered
     refl refl refl refl refl refl refl refl refl refl
@@ -117,7 +117,7 @@ held_difference_lowered = record {
   );
 }
 
-held_difference_planned : IsPlan held_difference (plain_path 1) held_difference_plan
+pub held_difference_planned : IsPlan held_difference (plain_path 1) held_difference_plan
 held_difference_planned =
     planned held_difference (plain_path 1) held_difference_plan (heights (4 ∷ 2 ∷ 3 ∷ 1 ∷ [])) held_difference_lowered
     refl refl refl refl refl refl refl refl refl refl
@@ -150,7 +150,7 @@ held_three_lowered = record {
   );
 }
 
-held_three_planned : IsPlan held_three (plain_path 3) held_three_plan
+pub held_three_planned : IsPlan held_three (plain_path 3) held_three_plan
 held_three_planned =
     planned held_three (plain_path 3) held_three_plan (heights (3 ∷ 2 ∷ 1 ∷ [])) held_three_lowered
     refl refl refl refl refl refl refl refl refl refl
@@ -161,13 +161,13 @@ delays = (3 ∷ []) ∷ [] ∷ [] ∷ []
 its_acu : IsAcuOf (filter_path 32 4) 5 6
 its_acu = passed (is_acu_of (filter_path 32 4) 5 6) refl
 
-next_line : IsNextLine (filter_path 32 4) delays [] 0 (3 ∷ []) its_line
+next_line : IsNextLine 1 (filter_path 32 4) delays [] 0 (3 ∷ []) its_line
 next_line = record {
   node = refl;
   depth = passed (contains eq (3 ∷ []) 3) refl;
   longest = passed (each_of (3 ∷ []) (λ (k : ℕ). le k 3)) refl;
-  room = passed (has_room (filter_path 32 4) [] 4 5) refl;
-  first = passed (below 5 (λ ram. nay (has_room (filter_path 32 4) [] 4 ram))) refl;
+  room = passed (has_room 1 (filter_path 32 4) [] 4 5) refl;
+  first = passed (below 5 (λ ram. nay (has_room 1 (filter_path 32 4) [] 4 ram))) refl;
   offset = refl;
   acu = (6, its_acu);
 }
@@ -175,9 +175,9 @@ next_line = record {
 some_is : {A : Type 0} (x y : A) → Some x ≡ Some y → x ≡ y
 some_is x y h = cc
 
-line_cells_lines : AreLines (filter_path 32 4) delays (its_line ∷ [])
+line_cells_lines : AreLines 1 (filter_path 32 4) delays (its_line ∷ [])
 line_cells_lines zero v long less is =
-    subst (λ (x : ℕ × List ℕ). IsNextLine (filter_path 32 4) delays [] x.0 x.1 its_line)
+    subst (λ (x : ℕ × List ℕ). IsNextLine 1 (filter_path 32 4) delays [] x.0 x.1 its_line)
     (some_is (0, 3 ∷ []) (v, long) is) next_line
 line_cells_lines (suc i) v long less is = absurd (omega arith)
 
@@ -221,7 +221,7 @@ line_cells_lowered = record {
   );
 }
 
-line_cells_planned : IsPlan line_cells (filter_path 32 4) line_cells_plan
+pub line_cells_planned : IsPlan line_cells (filter_path 32 4) line_cells_plan
 line_cells_planned =
     planned line_cells (filter_path 32 4) line_cells_plan (heights (2 ∷ 2 ∷ 1 ∷ 4 ∷ 3 ∷ 2 ∷ 1 ∷ [])) line_cells_lowered
     refl refl refl refl refl refl refl refl refl refl

@@ -1,23 +1,21 @@
 -- Graphs that have no plan, each with the rule that finds no place; and plans that a rule refuses.
-use Rattle.std.proofs.Common.{◌≡◌, refl, sym, subst, arith, ℕ, zero, suc, ◌<◌, ◌⊎◌, inl, inr, List, [], ◌∷◌, ◌++◌, take, drop, slice_index_or, codes, true}
+use Rattle.std.proofs.Common.{◌≡◌, refl, sym, subst, arith, ℕ, zero, suc, ◌+◌, ◌<◌, ◌⊎◌, inl, inr, List, [], ◌∷◌, ◌++◌, take, drop, slice_index_or, codes, true}
 use Rattle.fix_word.specs.declared.operation.Op.TheVariants as op
 use Rattle.operations.specs.declared.units.Kind.TheVariants as kind
 use Rattle.datapath.specs.declared.types.Datapath.{Datapath}
 use Rattle.signal_graph.specs.declared.graph.Node.{Node}
-use Rattle.plan_core.specs.Hardware.{HasRoute, port_of, file_size}
+use Rattle.plan_core.specs.Hardware.{HasRoute, port_of}
 use Rattle.plan_core.specs.Operands.{node_of}
-use Rattle.plan_core.specs.Lowered.{AreLongDelays}
 use Rattle.plan_core.specs.Assigned.{unit_in, AreUnits}
 use Rattle.plan_core.specs.Arcs.{arc_of}
-use Rattle.plan_core.specs.FirstFit.{register_of}
-use Rattle.plan_core.specs.Refusals.{NeedsLine, IsWithoutRam, IsWithoutCells, IsWithoutAcu, IsTooWide, IsWithoutUnit, LacksOperand, IsWithoutRoute, IsWithoutCycle, IsWithoutRegister}
+use Rattle.plan_core.specs.Refusals.{NeedsLine, IsWithoutRam, IsWithoutCells, IsWithoutAcu, IsTooWide, IsWithoutUnit, LacksOperand, IsWithoutRoute, IsWithoutCycle, HasRegister, HaveRegistersBefore, IsWithoutRegister}
 use Rattle.plan_core.specs.declared.delay_lines.Lowered.{Lowered}
 use Rattle.plan_core.proofs.Tests.{passed, lt, le, eq, nay, both, either, implies, below, each_of, contains}
 use Rattle.plan_core.proofs.OperandTests.{is_of_kind, is_acu_of, has_route}
 use Rattle.plan_core.proofs.AssignedTests.{is_candidate, is_unit_for, is_right_unit}
 use Rattle.plan_core.proofs.LoweredTests.{are_all_long, has_room}
 use Rattle.plan_core.proofs.ScheduleTests.{are_heights, can_issue, is_placed, placed_before}
-use Rattle.plan_core.proofs.RegisterTests.{is_first_fit}
+use Rattle.plan_core.proofs.RegisterTests.{is_free, has_register}
 use Rattle.plan_core.proofs.Rows.{edge, heights, plain_path, filter_path, input_node, sum_node, output_node, line_cells, increment_plan, held_difference_plan}
 
 -- no unit passes, where the statement names a unit that is there
@@ -27,13 +25,12 @@ none_there n there none u h = none u (there u h) h
 abbrev delays : List (List ℕ)
 delays = (3 ∷ []) ∷ [] ∷ [] ∷ []
 
--- y = x@3 needs four cells, on any datapath that holds no delay
-needs_four : (d : Datapath) → d.hold ≡ 0 → NeedsLine line_cells d [] 0 4
-needs_four d e = record {
+-- y = x@3 needs three cells and the spare ones, on any datapath, where no delay is held
+needs_line : (spare : ℕ) (d : Datapath) → NeedsLine 0 spare line_cells d [] 0 (3 + spare)
+needs_line spare d = record {
   delays = delays;
   delay_count = refl;
-  all_long = subst (λ (hold : ℕ). (u : ℕ) → u < 3 → AreLongDelays line_cells hold u (slice_index_or delays u []))
-      (sym e) (passed (are_all_long line_cells 0 delays) refl);
+  all_long = passed (are_all_long line_cells 0 delays) refl;
   before = λ i v long less is. absurd (omega arith);
   long = 3 ∷ [];
   next = refl;
@@ -44,21 +41,31 @@ needs_four d e = record {
 }
 
 -- there is no ram
-no_ram : IsWithoutRam line_cells (plain_path 0) 0
+no_ram : IsWithoutRam 0 1 line_cells (plain_path 0) 0
 no_ram = record {
   cells = 4;
-  needs = needs_four (plain_path 0) refl;
+  needs = needs_line 1 (plain_path 0);
   none = none_there 4 (λ u h. h.there) (passed (below 4 (λ u. nay (is_of_kind (plain_path 0) kind.Ram u))) refl);
 }
 
 -- the ram has three cells
-no_cells : IsWithoutCells line_cells (filter_path 32 3) 0
+no_cells : IsWithoutCells 0 1 line_cells (filter_path 32 3) 0
 no_cells = record {
   lines = [];
   cells = 4;
-  needs = needs_four (filter_path 32 3) refl;
+  needs = needs_line 1 (filter_path 32 3);
   some = (5, passed (is_of_kind (filter_path 32 3) kind.Ram 5) refl);
-  none = none_there 8 (λ u h. h.is_ram.there) (passed (below 8 (λ u. nay (has_room (filter_path 32 3) [] 4 u))) refl);
+  none = none_there 8 (λ u h. h.is_ram.there) (passed (below 8 (λ u. nay (has_room 1 (filter_path 32 3) [] 4 u))) refl);
+}
+
+-- the ram has four cells, and two samples are in flight at once
+no_spare_cell : IsWithoutCells 0 2 line_cells (filter_path 32 4) 0
+no_spare_cell = record {
+  lines = [];
+  cells = 5;
+  needs = needs_line 2 (filter_path 32 4);
+  some = (5, passed (is_of_kind (filter_path 32 4) kind.Ram 5) refl);
+  none = none_there 8 (λ u h. h.is_ram.there) (passed (below 8 (λ u. nay (has_room 2 (filter_path 32 4) [] 5 u))) refl);
 }
 
 -- the acu, its bus and the ports that it is read at are left out
@@ -67,13 +74,13 @@ without_acu = record (filter_path 32 4) {
   units = take 6 (filter_path 32 4).units;
 }
 
-no_acu : IsWithoutAcu line_cells without_acu 5 0
+no_acu : IsWithoutAcu 0 1 line_cells without_acu 5 0
 no_acu = record {
   lines = [];
   cells = 4;
-  needs = needs_four without_acu refl;
-  room = passed (has_room without_acu [] 4 5) refl;
-  first = passed (below 5 (λ r. nay (has_room without_acu [] 4 r))) refl;
+  needs = needs_line 1 without_acu;
+  room = passed (has_room 1 without_acu [] 4 5) refl;
+  first = passed (below 5 (λ r. nay (has_room 1 without_acu [] 4 r))) refl;
   none = none_there 6 (λ u h. h.acu.there) (passed (below 6 (λ u. nay (is_acu_of without_acu 5 u))) refl);
 }
 
@@ -197,30 +204,26 @@ one_register = record (plain_path 1) {
 no_register : IsWithoutRegister one_register 2 held_difference_plan.arcs (port_of 2 1) 2
 no_register = record {
   regs = held_difference_plan.registers.regs;
-  fit = passed (is_first_fit 16 2 held_difference_plan.arcs held_difference_plan.registers.regs) refl;
   k = 2;
   i = 1;
   there = omega arith;
   copy = omega arith;
-  full = omega arith;
-  first = earlier;
+  before = earlier;
+  full = passed (below 1 (λ register. nay (is_free 16 2 held_difference_plan.arcs held_difference_plan.registers.regs 2 1
+      register))) refl;
   port_is = refl;
   node_is = refl;
 }
   where
-    small : (l : ℕ) → l < 3 → (j : ℕ) → j < (arc_of held_difference_plan.arcs l).copies → (l < 2) ⊎ ((l ≡ 2)
-        × (j < 1)) → register_of held_difference_plan.registers.regs l j < file_size one_register
-        (arc_of held_difference_plan.arcs l).port
-    small = passed (below 3 (λ l. below (arc_of held_difference_plan.arcs l).copies
+    has : (l : ℕ) → l < 3 → (j : ℕ) → j < (arc_of held_difference_plan.arcs l).copies → (l < 2) ⊎ ((l ≡ 2) × (j < 1))
+        → HasRegister one_register 2 held_difference_plan.arcs held_difference_plan.registers.regs l j
+    has = passed (below 3 (λ l. below (arc_of held_difference_plan.arcs l).copies
         (λ j. implies (either (lt l 2) (both (eq l 2) (lt j 1)))
-        (λ z. lt (register_of held_difference_plan.registers.regs l j)
-        (file_size one_register (arc_of held_difference_plan.arcs l).port))))) refl
+        (λ z. has_register one_register 2 held_difference_plan.arcs held_difference_plan.registers.regs l j)))) refl
 
     within : (l j : ℕ) → (l < 2) ⊎ ((l ≡ 2) × (j < 1)) → l < 3
     within l j (inl h) = omega arith
     within l j (inr h) = let e = h.0 in omega arith
 
-    earlier : (l j : ℕ) → (l < 2) ⊎ ((l ≡ 2) × (j < 1)) → j < (arc_of held_difference_plan.arcs l).copies
-        → register_of held_difference_plan.registers.regs l j < file_size one_register
-        (arc_of held_difference_plan.arcs l).port
-    earlier l j order copy = small l (within l j order) j copy order
+    earlier : HaveRegistersBefore one_register 2 held_difference_plan.arcs held_difference_plan.registers.regs 2 1
+    earlier l j order copy = has l (within l j order) j copy order

@@ -13,6 +13,10 @@ register_of regs k i = slice_index_or (slice_index_or regs k []) i 0
 abbrev pub IsCopyBefore : Arc → ℕ → Arc → ℕ → Type 0
 IsCopyBefore a i b j = IsWrittenBefore a b ⊎ ((a.w ≡ b.w) × (a.node ≡ b.node) × (i < j))
 
+-- copy j of arc l stands before copy i of arc k in a list of arcs
+abbrev pub IsListedBefore : (l j k i : ℕ) → Type 0
+IsListedBefore l j k i = (l < k) ⊎ ((l ≡ k) × (j < i))
+
 module _ (period unroll : ℕ) (arcs : List Arc) (regs : List (List ℕ)) where
   -- copy i of arc k stands in this register before copy j of arc l of the same file gets one
   pub record StandsIn (register k i l j : ℕ) : Type 0 where

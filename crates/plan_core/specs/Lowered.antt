@@ -3,6 +3,9 @@
 -- A node that is read with such delays gets a line of cells in a ram, and is followed by new nodes: the address of the
 -- word of this sample and its store, and for each of these delays, rising, an address and a load. The nodes have new
 -- numbers, by this order.
+--
+-- How long a delay may be that stays on its edge is the hold. How many cells a line has beyond its longest delay is the
+-- spare: as many as there are samples in flight at once.
 use Rattle.std.specs.Prelude.{◌≡◌, ℕ, ◌+◌, ◌<◌, ◌≤◌, ◌==◌, nat_lt, cond, List, [], ◌∷◌, length, take, slice_get, slice_index_or, filter, flat_map, sum_by, All, Contains, Some, pos}
 use Rattle.std.specs.List.{enumerate_from, AllZip}
 use Rattle.std.specs.List.Sorted.{IsStrictlyIncreasing}
@@ -70,31 +73,32 @@ abbrev pub line_of : List Line → ℕ → Line
 line_of lines i = slice_index_or lines i no_line
 
 -- how many cells the lines take in a ram
-abbrev pub used : List Line → (ram : ℕ) → ℕ
-used lines ram = sum_by (λ (line : Line). cond (line.ram == ram) (line.depth + 1) 0) lines
+abbrev pub used : (spare : ℕ) → List Line → (ram : ℕ) → ℕ
+used spare lines ram = sum_by (λ (line : Line). cond (line.ram == ram) (line.depth + spare) 0) lines
 
--- there is a ram, and after these lines it has so many cells left
-pub record HasRoom (d : Datapath) (lines : List Line) (cells ram : ℕ) : Type 0 where
-  pub is_ram : IsOfKind d kind.Ram ram
-  pub room : used lines ram + cells ≤ cells_on d ram
+module _ (spare : ℕ) (d : Datapath) where
+  -- there is a ram, and after these lines it has so many cells left
+  pub record HasRoom (lines : List Line) (cells ram : ℕ) : Type 0 where
+    pub is_ram : IsOfKind d kind.Ram ram
+    pub room : used spare lines ram + cells ≤ cells_on d ram
 
--- the line is the next one after these, for node v with these long delays: in the first ram with room, at its next
--- free offset
-pub record IsNextLine (d : Datapath) (delays : List (List ℕ)) (lines : List Line) (v : ℕ) (long : List ℕ)
-    (line : Line) : Type 0 where
-  pub node : IsNumber delays (own v) line.node
-  pub depth : Contains long line.depth
-  pub longest : All (λ (k : ℕ). k ≤ line.depth) long
-  pub room : HasRoom d lines (line.depth + 1) line.ram
-  pub first : (ram : ℕ) → ram < line.ram → HasRoom d lines (line.depth + 1) ram → ⊥
-  pub offset : line.offset ≡ used lines line.ram
-  pub acu : (u : ℕ) × IsAcuOf d line.ram u
+  -- the line is the next one after these, for node v with these long delays: in the first ram with room, at its next
+  -- free offset
+  pub record IsNextLine (delays : List (List ℕ)) (lines : List Line) (v : ℕ) (long : List ℕ)
+      (line : Line) : Type 0 where
+    pub node : IsNumber delays (own v) line.node
+    pub depth : Contains long line.depth
+    pub longest : All (λ (k : ℕ). k ≤ line.depth) long
+    pub room : HasRoom lines (line.depth + spare) line.ram
+    pub first : (ram : ℕ) → ram < line.ram → HasRoom lines (line.depth + spare) ram → ⊥
+    pub offset : line.offset ≡ used spare lines line.ram
+    pub acu : (u : ℕ) × IsAcuOf d line.ram u
 
--- the lines are those of the first nodes that have one
-abbrev pub AreLines : Datapath → List (List ℕ) → List Line → Type 0
-AreLines d delays lines =
-    (i v : ℕ) (long : List ℕ) → i < length lines → slice_get (stored delays) i ≡ Some (v, long)
-    → IsNextLine d delays (take i lines) v long (line_of lines i)
+  -- the lines are those of the first nodes that have one
+  abbrev pub AreLines : List (List ℕ) → List Line → Type 0
+  AreLines delays lines =
+      (i v : ℕ) (long : List ℕ) → i < length lines → slice_get (stored delays) i ≡ Some (v, long)
+      → IsNextLine delays (take i lines) v long (line_of lines i)
 
 -- the edge of the lowered list for one of the graph: a long delay is read from its load
 pub record IsLoweredEdge (hold : ℕ) (delays : List (List ℕ)) (edge old : Edge) : Type 0 where
@@ -145,8 +149,8 @@ module _ (g : Graph) (d : Datapath) (l : Lowered) (delays : List (List ℕ)) whe
     pub node : IsNumber delays (own v) line.node
 
   -- node v of the graph, with the edges of the lowered list
-  pub record IsOwn (v : ℕ) (node : Node) : Type 0 where
-    pub edges : AllZip (IsLoweredEdge d.hold delays) node.edges (node_of g.nodes v).edges
+  pub record IsOwnOver (hold v : ℕ) (node : Node) : Type 0 where
+    pub edges : AllZip (IsLoweredEdge hold delays) node.edges (node_of g.nodes v).edges
     pub rest : node ≡ record (node_of g.nodes v) { edges = node.edges }
 
   -- the address of the cell that has the word of node v this many samples ago
@@ -171,17 +175,29 @@ module _ (g : Graph) (d : Datapath) (l : Lowered) (delays : List (List ℕ)) whe
     pub its_address : IsNumber delays (address v ago) at
     pub is : node ≡ load_node line.ram at (node_of g.nodes v).width
 
+  abbrev pub IsMadeOver : (hold : ℕ) → Origin → Node → Type 0
+  IsMadeOver hold (own v) node = IsOwnOver hold v node
+  IsMadeOver hold (address v ago) node = IsAddress v ago node
+  IsMadeOver hold (store v) node = IsStore v node
+  IsMadeOver hold (load v ago) node = IsLoad v ago node
+
+  -- the same, where the hold is that of the datapath
+  abbrev pub IsOwn : (v : ℕ) → Node → Type 0
+  IsOwn v node = IsOwnOver d.hold v node
+
   abbrev pub IsMade : Origin → Node → Type 0
-  IsMade (own v) node = IsOwn v node
-  IsMade (address v ago) node = IsAddress v ago node
-  IsMade (store v) node = IsStore v node
-  IsMade (load v ago) node = IsLoad v ago node
+  IsMade origin node = IsMadeOver d.hold origin node
 
 -- the lowered list of the graph: each node whose delays are above the hold has its line, and all nodes are made
-pub record IsLowered (g : Graph) (d : Datapath) (l : Lowered) : Type 0 where
+pub record IsLoweredOver (hold spare : ℕ) (g : Graph) (d : Datapath) (l : Lowered) : Type 0 where
   pub delays : List (List ℕ)
   pub delay_count : length delays ≡ length g.nodes
-  pub long : (v : ℕ) → v < length g.nodes → AreLongDelays g d.hold v (slice_index_or delays v [])
+  pub long : (v : ℕ) → v < length g.nodes → AreLongDelays g hold v (slice_index_or delays v [])
   pub line_count : length l.lines ≡ length (stored delays)
-  pub lines : AreLines d delays l.lines
-  pub nodes : AllZip (IsMade g d l delays) (origins delays) l.nodes
+  pub lines : AreLines spare d delays l.lines
+  pub nodes : AllZip (IsMadeOver g d l delays hold) (origins delays) l.nodes
+
+-- the same where one sample is in flight at a time: the hold is that of the datapath, and the one spare cell of a line
+-- is for the word of this sample
+abbrev pub IsLowered : Graph → Datapath → Lowered → Type 0
+IsLowered g d l = IsLoweredOver d.hold 1 g d l

@@ -12,48 +12,50 @@ use Rattle.plan_core.specs.Assigned.{unit_in, IsRightUnit, IsCandidate, AreUnits
 use Rattle.plan_core.specs.Heights.{AreHeights}
 use Rattle.plan_core.specs.ListSchedule.{IsEarlier, CanIssue, IsPlaced}
 use Rattle.plan_core.specs.Arcs.{arc_of}
-use Rattle.plan_core.specs.FirstFit.{register_of, IsFirstFit}
+use Rattle.plan_core.specs.FirstFit.{register_of, IsListedBefore, IsFree, IsFirstFree}
 use Rattle.plan_core.specs.declared.delay_lines.Line.{Line}
 use Rattle.plan_core.specs.declared.delay_lines.Lowered.{Lowered}
 use Rattle.plan_core.specs.declared.schedule.Assigned.{Assigned}
 use Rattle.plan_core.specs.declared.schedule.Schedule.{Schedule}
 use Rattle.plan_core.specs.declared.registers.Arc.{Arc}
 
--- Node v of the graph needs a delay line of these cells, and the nodes before it that need one have these lines.
-pub record NeedsLine (g : Graph) (d : Datapath) (lines : List Line) (v cells : ℕ) : Type 0 where
-  pub delays : List (List ℕ)
-  pub delay_count : length delays ≡ length g.nodes
-  pub all_long : (u : ℕ) → u < length g.nodes → AreLongDelays g d.hold u (slice_index_or delays u [])
-  pub before : AreLines d delays lines
-  pub long : List ℕ
-  pub next : slice_get (stored delays) (length lines) ≡ Some (v, long)
-  pub depth : ℕ
-  pub depth_in : Contains long depth
-  pub longest : All (λ (k : ℕ). k ≤ depth) long
-  pub cells_are : cells ≡ depth + 1
+-- delays above the hold become lines, each with so many spare cells
+module _ (hold spare : ℕ) (g : Graph) (d : Datapath) where
+  -- Node v of the graph needs a delay line of these cells, and the nodes before it that need one have these lines.
+  pub record NeedsLine (lines : List Line) (v cells : ℕ) : Type 0 where
+    pub delays : List (List ℕ)
+    pub delay_count : length delays ≡ length g.nodes
+    pub all_long : (u : ℕ) → u < length g.nodes → AreLongDelays g hold u (slice_index_or delays u [])
+    pub before : AreLines spare d delays lines
+    pub long : List ℕ
+    pub next : slice_get (stored delays) (length lines) ≡ Some (v, long)
+    pub depth : ℕ
+    pub depth_in : Contains long depth
+    pub longest : All (λ (k : ℕ). k ≤ depth) long
+    pub cells_are : cells ≡ depth + spare
 
--- there is no ram for its line
-pub record IsWithoutRam (g : Graph) (d : Datapath) (v : ℕ) : Type 0 where
-  pub cells : ℕ
-  pub needs : NeedsLine g d [] v cells
-  pub none : (ram : ℕ) → IsOfKind d kind.Ram ram → ⊥
+  -- there is no ram for its line
+  pub record IsWithoutRam (v : ℕ) : Type 0 where
+    pub cells : ℕ
+    pub needs : NeedsLine [] v cells
+    pub none : (ram : ℕ) → IsOfKind d kind.Ram ram → ⊥
 
--- there is one, but none has room for its line
-pub record IsWithoutCells (g : Graph) (d : Datapath) (v : ℕ) : Type 0 where
-  pub lines : List Line
-  pub cells : ℕ
-  pub needs : NeedsLine g d lines v cells
-  pub some : (ram : ℕ) × IsOfKind d kind.Ram ram
-  pub none : (ram : ℕ) → HasRoom d lines cells ram → ⊥
+  -- there is one, but none has room for its line
+  pub record IsWithoutCells (v : ℕ) : Type 0 where
+    pub lines : List Line
+    pub cells : ℕ
+    pub needs : NeedsLine lines v cells
+    pub some : (ram : ℕ) × IsOfKind d kind.Ram ram
+    pub none : (ram : ℕ) → HasRoom spare d lines cells ram → ⊥
 
--- the first ram with room is this one, and no acu addresses it
-pub record IsWithoutAcu (g : Graph) (d : Datapath) (ram v : ℕ) : Type 0 where
-  pub lines : List Line
-  pub cells : ℕ
-  pub needs : NeedsLine g d lines v cells
-  pub room : HasRoom d lines cells ram
-  pub first : (r : ℕ) → r < ram → HasRoom d lines cells r → ⊥
-  pub none : (u : ℕ) → IsAcuOf d ram u → ⊥
+  -- the first ram with room is this one, and no acu addresses it
+  pub record IsWithoutAcu (ram v : ℕ) : Type 0 where
+    pub lines : List Line
+    pub cells : ℕ
+    pub needs : NeedsLine lines v cells
+    pub room : HasRoom spare d lines cells ram
+    pub first : (r : ℕ) → r < ram → HasRoom spare d lines cells r → ⊥
+    pub none : (u : ℕ) → IsAcuOf d ram u → ⊥
 
 module _ (d : Datapath) (l : Lowered) where
   -- the nodes before v have their units, which are these
@@ -127,17 +129,31 @@ pub record IsWithoutCycle (d : Datapath) (a : Assigned) (v : ℕ) : Type 0 where
   pub before : (u : ℕ) → IsEarlier a height v u → IsPlaced d a schedule height u
   pub none : (t : ℕ) → CanIssue d a schedule height v t → ⊥
 
--- Copy i of arc k has no register in its file: by first fit it would get one past the file's end, and the copies of
--- arcs before it, and those of this arc with smaller numbers, get one in their file.
+module _ (d : Datapath) (unroll : ℕ) (arcs : List Arc) (regs : List (List ℕ)) where
+  -- copy i of arc k has its register by first fit, in its file
+  pub record HasRegister (k i : ℕ) : Type 0 where
+    pub first : IsFirstFree d.period unroll arcs regs k i
+    pub within : register_of regs k i < file_size d (arc_of arcs k).port
+
+  -- each copy that stands in the list before copy i of arc k has its register
+  abbrev pub HaveRegistersBefore : (k i : ℕ) → Type 0
+  HaveRegistersBefore k i =
+      (l j : ℕ) → IsListedBefore l j k i → j < (arc_of arcs l).copies → HasRegister l j
+
+  -- no register of its file is free for copy i of arc k
+  abbrev pub IsFileFull : (k i : ℕ) → Type 0
+  IsFileFull k i =
+      (register : ℕ) → register < file_size d (arc_of arcs k).port → IsFree d.period unroll arcs regs k i register → ⊥
+
+-- Copy i of arc k has no register: the copies of arcs before it, and those of this arc with smaller numbers, have
+-- theirs, and no register of its file is free.
 pub record IsWithoutRegister (d : Datapath) (unroll : ℕ) (arcs : List Arc) (port : PortRef) (node : ℕ) : Type 0 where
   pub regs : List (List ℕ)
-  pub fit : IsFirstFit d.period unroll arcs regs
   pub k : ℕ
   pub i : ℕ
   pub there : k < length arcs
   pub copy : i < (arc_of arcs k).copies
-  pub full : file_size d (arc_of arcs k).port ≤ register_of regs k i
-  pub first : (l j : ℕ) → (l < k) ⊎ ((l ≡ k) × (j < i)) → j < (arc_of arcs l).copies
-      → register_of regs l j < file_size d (arc_of arcs l).port
+  pub before : HaveRegistersBefore d unroll arcs regs k i
+  pub full : IsFileFull d unroll arcs regs k i
   pub port_is : port ≡ (arc_of arcs k).port
   pub node_is : node ≡ (arc_of arcs k).node

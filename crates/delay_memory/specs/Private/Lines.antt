@@ -11,9 +11,9 @@ use Rattle.delay_memory.specs.declared.fault.LineFault.TheVariants.{NoRam, Lines
 use Rattle.delay_memory.specs.declared.lines.LineMemory.{LineMemory}
 
 -- for each unit how many of its cells the lines take
-pub record AreUsed (d : Datapath) (lines : List Line) (cells : List ℕ) : Type 0 where
+pub record AreUsed (spare : ℕ) (d : Datapath) (lines : List Line) (cells : List ℕ) : Type 0 where
   pub count : length cells ≡ length d.units
-  pub each : (u : ℕ) → u < length d.units → slice_index_or cells u 0 ≡ used lines u
+  pub each : (u : ℕ) → u < length d.units → slice_index_or cells u 0 ≡ used spare lines u
 
 -- the longest of these delays
 pub record IsLongest (long : List ℕ) (depth : ℕ) : Type 0 where
@@ -27,22 +27,22 @@ IsNoRoom d v (LinesFull w) = (w ≡ v) × ((ram : ℕ) × IsOfKind d kind.Ram ra
 IsNoRoom d v (NoAcu ram w) = ⊥
 IsNoRoom d v Memory = ⊥
 
-module _ (d : Datapath) (lines : List Line) where
+module _ (spare : ℕ) (d : Datapath) (lines : List Line) where
   -- the first ram with so many cells left
   pub record IsFirstRoom (cells ram : ℕ) : Type 0 where
-    pub room : HasRoom d lines cells ram
-    pub first : (r : ℕ) → r < ram → HasRoom d lines cells r → ⊥
+    pub room : HasRoom spare d lines cells ram
+    pub first : (r : ℕ) → r < ram → HasRoom spare d lines cells r → ⊥
 
   abbrev pub IsFirstRam : (cells : ℕ) → Option ℕ → Type 0
-  IsFirstRam cells None = (ram : ℕ) → HasRoom d lines cells ram → ⊥
+  IsFirstRam cells None = (ram : ℕ) → HasRoom spare d lines cells ram → ⊥
   IsFirstRam cells (Some ram) = IsFirstRoom cells ram
 
   -- the line of the node with this number and this longest delay, where the lines before it are these
   pub record IsPlacedLine (number depth : ℕ) (line : Line) : Type 0 where
     pub node : line.node ≡ number
     pub depth_is : line.depth ≡ depth
-    pub room : IsFirstRoom (depth + 1) line.ram
-    pub offset : line.offset ≡ used lines line.ram
+    pub room : IsFirstRoom (depth + spare) line.ram
+    pub offset : line.offset ≡ used spare lines line.ram
     pub acu : (u : ℕ) × IsAcuOf d line.ram u
 
   pub record LacksRam (v w : ℕ) : Type 0 where
@@ -52,11 +52,11 @@ module _ (d : Datapath) (lines : List Line) where
   pub record LacksCells (v depth w : ℕ) : Type 0 where
     pub node : w ≡ v
     pub some : (ram : ℕ) × IsOfKind d kind.Ram ram
-    pub none : (ram : ℕ) → HasRoom d lines (depth + 1) ram → ⊥
+    pub none : (ram : ℕ) → HasRoom spare d lines (depth + spare) ram → ⊥
 
   pub record LacksAcu (v depth ram w : ℕ) : Type 0 where
     pub node : w ≡ v
-    pub room : IsFirstRoom (depth + 1) ram
+    pub room : IsFirstRoom (depth + spare) ram
     pub none : (u : ℕ) → IsAcuOf d ram u → ⊥
 
   -- there is no line for node v
@@ -67,11 +67,11 @@ module _ (d : Datapath) (lines : List Line) where
   IsPlaceFault v depth Memory = ⊥
 
 -- a line is placed behind the others
-pub record Places (d : Datapath) (number depth : ℕ) (old new : LineMemory) : Type 0 where
+pub record Places (spare : ℕ) (d : Datapath) (number depth : ℕ) (old new : LineMemory) : Type 0 where
   pub line : Line
-  pub placed : IsPlacedLine d old.lines number depth line
+  pub placed : IsPlacedLine spare d old.lines number depth line
   pub lines : new.lines ≡ old.lines ++ line ∷ []
-  pub used : AreUsed d new.lines new.used
+  pub used : AreUsed spare d new.lines new.used
 
 -- the node has a line
 abbrev pub has_line : ℕ × List ℕ → Bool
@@ -82,18 +82,19 @@ abbrev pub lines_before : List (List ℕ) → (v : ℕ) → ℕ
 lines_before delays v = length (filter has_line (take v (enumerate_from 0 delays)))
 
 -- the lines of the nodes before node v
-pub record AreLinesBefore (d : Datapath) (delays : List (List ℕ)) (v : ℕ) (memory : LineMemory) : Type 0 where
+pub record AreLinesBefore (spare : ℕ) (d : Datapath) (delays : List (List ℕ)) (v : ℕ) (memory : LineMemory)
+    : Type 0 where
   pub count : length memory.lines ≡ lines_before delays v
-  pub lines : AreLines d delays memory.lines
-  pub used : AreUsed d memory.lines memory.used
+  pub lines : AreLines spare d delays memory.lines
+  pub used : AreUsed spare d memory.lines memory.used
 
 -- some node has none
-pub record IsStop (d : Datapath) (delays : List (List ℕ)) (fault : LineFault) : Type 0 where
+pub record IsStop (spare : ℕ) (d : Datapath) (delays : List (List ℕ)) (fault : LineFault) : Type 0 where
   pub lines : List Line
   pub v : ℕ
   pub depth : ℕ
   pub long : List ℕ
-  pub before : AreLines d delays lines
+  pub before : AreLines spare d delays lines
   pub next : slice_get (stored delays) (length lines) ≡ Some (v, long)
   pub longest : IsLongest long depth
-  pub refused : IsPlaceFault d lines v depth fault
+  pub refused : IsPlaceFault spare d lines v depth fault

@@ -6,7 +6,7 @@ use Rattle.datapath.specs.declared.types.Datapath.{Datapath}
 use Rattle.signal_graph.specs.declared.graph.Edge.{Edge}
 use Rattle.signal_graph.specs.declared.graph.Node.{Node}
 use Rattle.signal_graph.specs.declared.graph.Graph.{Graph}
-use Rattle.plan_core.specs.Lowered.{Origin, origins_of, stored, AreLines, IsLoweredEdge, IsMade, address_node, store_node, load_node}
+use Rattle.plan_core.specs.Lowered.{Origin, origins_of, stored, AreLines, IsLoweredEdge, IsMadeOver, address_node, store_node, load_node}
 use Rattle.plan_core.specs.declared.delay_lines.Line.{Line}
 use Rattle.plan_core.specs.declared.delay_lines.Lowered.{Lowered}
 use Rattle.delay_memory.specs.Private.Delays.{delays_at, AreDelays, AreFew}
@@ -35,24 +35,24 @@ pub record IsCopy (hold : ℕ) (delays : List (List ℕ)) (old new : Node) : Typ
   pub rest : new ≡ record old { edges = new.edges }
 
 -- long delays that rise, and the numbers of nodes
-pub record IsLayout (d : Datapath) (delays : List (List ℕ)) (numbers : List ℕ) : Type 0 where
+pub record IsLayout (delays : List (List ℕ)) (numbers : List ℕ) : Type 0 where
   pub rise : (v : ℕ) → IsStrictlyIncreasing (delays_at delays v)
   pub few : AreFew delays
   pub numbered : AreNumbers delays (length delays) numbers
 
 -- the delays of a graph, the numbers of its nodes, and its lines
-pub record AreLaidOut (g : Graph) (d : Datapath) (delays : List (List ℕ)) (numbers : List ℕ)
-    (lines : List Line) : Type 0 where
-  pub long : AreDelays g d.hold delays
-  pub layout : IsLayout d delays numbers
+pub record AreLaidOut (hold spare : ℕ) (g : Graph) (d : Datapath) (delays : List (List ℕ))
+    (numbers : List ℕ) (lines : List Line) : Type 0 where
+  pub long : AreDelays g hold delays
+  pub layout : IsLayout delays numbers
   pub line_count : length lines ≡ length (stored delays)
-  pub placed : AreLines d delays lines
+  pub placed : AreLines spare d delays lines
 
 -- the origins of the nodes for those before node v
 abbrev pub origins_before : List (List ℕ) → (v : ℕ) → List Origin
 origins_before delays v = flat_map (λ (x : ℕ × List ℕ). origins_of x.0 x.1) (take v (enumerate_from 0 delays))
 
 -- the nodes for those before node v
-abbrev pub AreMadeBefore : Graph → Datapath → List (List ℕ) → List Line → (v : ℕ) → List Node → Type 0
-AreMadeBefore g d delays lines v nodes =
-    (l : Lowered) → l.lines ≡ lines → AllZip (IsMade g d l delays) (origins_before delays v) nodes
+abbrev pub AreMadeBefore : (hold : ℕ) → Graph → Datapath → List (List ℕ) → List Line → (v : ℕ) → List Node → Type 0
+AreMadeBefore hold g d delays lines v nodes =
+    (l : Lowered) → l.lines ≡ lines → AllZip (IsMadeOver g d l delays hold) (origins_before delays v) nodes

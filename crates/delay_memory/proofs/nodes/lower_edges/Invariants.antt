@@ -3,4 +3,4 @@ use Rattle.delay_memory.proofs.nodes.lower_edges.Given as goal
 
 abbrev pub invariant-loop-port : goal.invariant-loop-port
 invariant-loop-port l =
-    AreLoweredBefore l.layout.datapath.now.hold l.layout.delays.now l.port l.fn.edges l.edges
+    AreLoweredBefore l.layout.target.now.hold l.layout.delays.now l.port l.fn.edges l.edges

@@ -7,6 +7,7 @@ use Rattle.delay_memory.proofs.nodes.nodes_of.Given as goal
 abbrev pub invariant-loop-v : goal.invariant-loop-v
 invariant-loop-v l = record {
   next : l.next ≡ lines_before l.layout.delays.now l.v;
-  nodes : AreMadeBefore l.fn.graph l.layout.datapath.now l.layout.delays.now l.layout.lines.now l.v l.nodes;
+  nodes : AreMadeBefore l.layout.target.now.hold l.fn.graph l.layout.target.now.datapath.now l.layout.delays.now
+      l.layout.lines.now l.v l.nodes;
   left : AreLeft l.fn.graph l.v l.left;
 }
