@@ -1,9 +1,2 @@
-pub mod Problems
-pub mod Searches
-pub mod Raising
-pub mod Greater
-pub mod Ordered
-pub mod PortSets
-pub mod Readers
 pub mod Placings
 pub mod OneFault

@@ -1,8 +1,8 @@
 -- The nodes that are placed so far, and one more.
-use Rattle.std.proofs.Common.{◌≡◌, ◌≢◌, ◌∙◌, ◌↔◌, refl, sym, ap, subst, arith, ℕ, ◌+◌, ◌<◌, ◌≤◌, ◌⊎◌, inl, inr, ⊎_elim, List, [], ◌∷◌, ◌++◌, length, max, All, Contains, get_or-set_same, get_or-set_other, Option, Some, None}
+use Rattle.std.proofs.Common.{◌≡◌, ◌≢◌, ◌∙◌, refl, sym, ap, subst, arith, ℕ, ◌+◌, ◌<◌, ◌≤◌, ◌⊎◌, inl, inr, ⊎_elim, List, [], ◌∷◌, ◌++◌, length, max, All, Contains, get_or-set_same, get_or-set_other, Option, Some, None}
 use Rattle.std.specs.Prelude.{slice_index_or}
 use Rattle.std.proofs.lemmas.Bool.{cases_lt, cases_eq}
-use Rattle.std.proofs.lemmas.List.{get_or_read, length-set}
+use Rattle.std.proofs.lemmas.List.{length-set}
 use Rattle.std.proofs.lemmas.List.Elements.{Contains-push, Contains-push_cases, Contains-append_left}
 use Rattle.operations.specs.declared.units.PortRef.{PortRef}
 use Rattle.datapath.specs.declared.types.Datapath.{Datapath}
@@ -18,21 +18,17 @@ use Rattle.plan_core.specs.declared.schedule.Transfer.{Transfer}
 use Rattle.plan_core.specs.declared.schedule.Slot.{Slot}
 use Rattle.plan_core.specs.declared.schedule.Schedule.{Schedule}
 use Rattle.plan_core.proofs.OneHeight.{live_of}
-use Rattle.bus_alloc.specs.Private.Rows.{IsPortIn}
-use Rattle.bus_alloc.specs.Stands.{Placed, IsTaken, FitsAt, FitsIn, AnswersFirstFit}
-use Rattle.list_schedule.specs.Private.Problem.{IsProblem}
-use Rattle.list_schedule.specs.Private.Search.{nth}
-use Rattle.list_schedule.specs.Private.Placing.{slot_at, of_slots, IsReadyAt, IsFirstReady, HasTable, IsOpenAt, IsShutAt, IsFirstOpenAt, IsFirstOpen, Places, HasNoCycle, ArePlaced}
+use Rattle.bus_alloc.specs.Table.{Placed, Reservations, IsTaken, HasPort, FitsAt, IsFirstFit, AreTransfers}
+use Rattle.schedule_order.specs.Problem.{IsProblem}
+use Rattle.schedule_order.specs.Order.{nth}
+use Rattle.list_schedule.specs.Private.Placing.{slot_at, of_slots, IsReadyAt, IsFirstReady, HasTable, IsOpenAt, IsShutAt, IsFirstOpen, Places, HasNoCycle, ArePlaced}
 use Rattle.list_schedule.specs.declared.placing.Placing.{Placing}
 use Rattle.list_schedule.specs.Faults.{IsPeriodFault}
 use Rattle.list_schedule.specs.declared.fault.PeriodFault.{PeriodFault}
 use Rattle.list_schedule.specs.declared.fault.PeriodFault.TheVariants.{Period, Memory}
-use Rattle.list_schedule.specs.Private.Ports.{Has, no_ports}
-use Rattle.list_schedule.specs.Private.Destinations.{AreReaders, IsReadBefore, IsReaderSet}
-use Rattle.list_schedule.specs.declared.ports.PortSet.{PortSet}
 use Rattle.plan_core.proofs.Agreeing.{operand_earlier, placed_same, placed_in}
 use Rattle.plan_core.proofs.Readers.{reader_there}
-use Rattle.list_schedule.proofs.Problems.{operand_in, edges_few, unit_there}
+use Rattle.schedule_order.proofs.Problems.{operand_in, edges_few, unit_there}
 
 -- the first cycle at which the operands at the first k ports are there
 pub record IsReadyUpTo (d : Datapath) (a : Assigned) (slots : List Slot) (v k t : ℕ) : Type 0 where
@@ -79,43 +75,35 @@ module _ (d : Datapath) (a : Assigned) (is : IsProblem d a) where
   -- the unit and the ports of a node are in the table
   module _ (v : ℕ) (there : v < length a.lowered.nodes) (ports : List PortRef) (dests : AreDestinations a v ports)
       (p : Placing) (table : HasTable d a p) where
-    port_known : (port : PortRef) → IsDestination a v port → IsPortIn p.table port
+    port_known : (port : PortRef) → IsDestination a v port → HasPort d port
     port_known port h =
         let c = reader_there a.lowered.nodes h.consumer port.port v h.reads in
-        let n = table.stands.units in
         let u = unit_there d a is h.consumer c in
         let e = h.unit in
         let few = edges_few d a is h.consumer c in
         let q = h.reads.port in
         (omega arith, omega arith)
 
-    pub ports_known : All (IsPortIn p.table) ports
-    ports_known i port less = port_known _ (dests.read i port less)
+    pub ports_known : All (HasPort p.table.datapath) ports
+    ports_known i port less =
+        subst (λ (x : Datapath). HasPort x (slice_index_or ports i port)) (sym table.path)
+        (port_known _ (dests.read i port less))
 
     pub first_found : (from : ℕ) (answer : Option ℕ) → IsFirstReady d a p.slots v from
-        → AnswersFirstFit p.table (unit_in a.units v) ports from answer
+        → IsFirstFit p.table (unit_in a.units v) from ports answer
         → IsFirstOpen d a p.slots p.table v ports answer
-    first_found from answer ready answers = by answer answers
+    first_found from answer ready found = by answer found
       where
-        by : (answer : Option ℕ) → AnswersFirstFit p.table (unit_in a.units v) ports from answer
+        by : (answer : Option ℕ) → IsFirstFit p.table (unit_in a.units v) from ports answer
             → IsFirstOpen d a p.slots p.table v ports answer
-        by None found = λ t placed stands h fits. found d placed stands t (ready.first t h) fits
+        by None found = λ t h fits. found t (ready.first t h) fits
         by (Some t) found = record {
           is_open = record {
-            ready = λ q x r.
-                (let b = ready.ready q x r in let after = (found d table.placed table.stands).after in omega arith);
-            fits = λ placed stands. (found d placed stands).fits;
+            ready = λ q x r. (let b = ready.ready q x r in let after = found.after in omega arith);
+            fits = found.fits;
           };
-          first = λ c less placed stands h fits. (found d placed stands).first c (ready.first c h) less fits;
+          first = λ c less h fits. found.first c (ready.first c h) less fits;
         }
-
-    pub fits_in : (t : ℕ) → IsFirstOpenAt d a p.slots p.table v ports t → FitsIn p.table (unit_in a.units v) t ports
-    fits_in t h = record {
-      path = d;
-      placed = table.placed;
-      stands = table.stands;
-      fits = h.is_open.fits table.placed table.stands;
-    }
 
   not_before : (h : ℕ → ℕ) (x y : ℕ) → x ≡ y → IsPlacedBefore h x y → ⊥
   not_before h x y e (inl l) = let f = ap h e in absurd (omega arith)
@@ -128,6 +116,23 @@ module _ (d : Datapath) (a : Assigned) (is : IsProblem d a) where
   not_both h x y (inr l) (inr m) = let i = l.1 in let j = m.1 in absurd (omega arith)
 
   module _ (order : List ℕ) (k : ℕ) (p : Placing) (b : ArePlaced d a order k p) where
+    -- what the table says, of this datapath
+    fits_here : (u t : ℕ) (ports : List PortRef) → FitsAt p.table u t ports
+        → Fits d (IsTaken p.table.placed) (Contains ports) u t
+    fits_here u t ports = subst (λ (x : Datapath). Fits x (IsTaken p.table.placed) (Contains ports) u t) b.path
+
+    fits_there : (u t : ℕ) (ports : List PortRef) → Fits d (IsTaken p.table.placed) (Contains ports) u t
+        → FitsAt p.table u t ports
+    fits_there u t ports =
+        subst (λ (x : Datapath). Fits x (IsTaken p.table.placed) (Contains ports) u t) (sym b.path)
+
+    buses_here : (u t : ℕ) (ports : List PortRef) (transfers : List Transfer)
+        → AreTransfers p.table u t ports transfers
+        → All (IsFirstBus d (IsTaken p.table.placed) u (result_on d u t)) transfers
+    buses_here u t ports transfers are =
+        subst (λ (x : Datapath). All (IsFirstBus x (IsTaken p.table.placed) u (result_on x u t)) transfers) b.path
+        are.buses
+
     -- the nodes before node j of the order are those that are placed before it
     earlier_index : (j : ℕ) → j < length order → (x : ℕ) → IsEarlier a b.height (nth order j) x
         → (i : ℕ) × (i < j) × (nth order i ≡ x)
@@ -156,17 +161,17 @@ module _ (d : Datapath) (a : Assigned) (is : IsProblem d a) where
 
       -- in a schedule in which the nodes before have the same slots
       module _ (z : Schedule) (agree : (x : ℕ) → IsEarlier a b.height v x → slot_at p.slots x ≡ slot_of z x) where
-        taken : (u : ℕ) (slot : Slot) → IsTakenBefore a z b.height v u slot → IsTaken b.placed u slot
+        taken : (u : ℕ) (slot : Slot) → IsTakenBefore a z b.height v u slot → IsTaken p.table.placed u slot
         taken u slot t =
             let at = earlier_index k within t.x t.earlier in
             let there = b.taken_to at.0 at.1 in
             let unit : unit_in a.units (nth order at.0) ≡ u = ap (unit_in a.units) at.2 ∙ t.unit in
             let its : slot_at p.slots (nth order at.0) ≡ slot =
             ap (slot_at p.slots) at.2 ∙ agree t.x t.earlier ∙ t.its_slot in
-            subst (λ (w : ℕ). IsTaken b.placed w slot) unit
-            (subst (IsTaken b.placed (unit_in a.units (nth order at.0))) its there)
+            subst (λ (w : ℕ). IsTaken p.table.placed w slot) unit
+            (subst (IsTaken p.table.placed (unit_in a.units (nth order at.0))) its there)
 
-        taken_back : (u : ℕ) (slot : Slot) → IsTaken b.placed u slot → IsTakenBefore a z b.height v u slot
+        taken_back : (u : ℕ) (slot : Slot) → IsTaken p.table.placed u slot → IsTakenBefore a z b.height v u slot
         taken_back u slot t =
             let at = b.taken_from u slot t in
             let e = index_earlier at.0 k at.1 within in
@@ -177,15 +182,15 @@ module _ (d : Datapath) (a : Assigned) (is : IsProblem d a) where
               its_slot = sym (agree (nth order at.0) e) ∙ at.3;
             }
 
-        route_from : (u w : ℕ) (port : PortRef) (c : ℕ) → IsFreeRoute d (IsTaken b.placed) u w port c
+        route_from : (u w : ℕ) (port : PortRef) (c : ℕ) → IsFreeRoute d (IsTaken p.table.placed) u w port c
             → IsFreeRoute d (IsTakenBefore a z b.height v) u w port c
         route_from u w port c f = record { route = f.route; free = λ x slot t. f.free x slot (taken x slot t) }
 
         route_to : (u w : ℕ) (port : PortRef) (c : ℕ) → IsFreeRoute d (IsTakenBefore a z b.height v) u w port c
-            → IsFreeRoute d (IsTaken b.placed) u w port c
+            → IsFreeRoute d (IsTaken p.table.placed) u w port c
         route_to u w port c f = record { route = f.route; free = λ x slot t. f.free x slot (taken_back x slot t) }
 
-        bus_from : (u w : ℕ) (x : Transfer) → IsFirstBus d (IsTaken b.placed) u w x
+        bus_from : (u w : ℕ) (x : Transfer) → IsFirstBus d (IsTaken p.table.placed) u w x
             → IsFirstBus d (IsTakenBefore a z b.height v) u w x
         bus_from u w x f = record {
           route = route_from u w x.port x.bus f.route;
@@ -201,25 +206,27 @@ module _ (d : Datapath) (a : Assigned) (is : IsProblem d a) where
           in_dest : (port : PortRef) → Contains ports port → IsDestination a v port
           in_dest port h = subst (IsDestination a v) h.2 (dests.read h.0 port h.1)
 
-          fits_from : (u t : ℕ) → FitsAt d b.placed u t ports
+          fits_from : (u t : ℕ) → FitsAt p.table u t ports
               → Fits d (IsTakenBefore a z b.height v) (IsDestination a v) u t
-          fits_from u t f = record {
-            period = f.period;
-            unit = λ slot x. f.unit slot (taken u slot x);
-            files = λ port h w slot x. f.files port (dest_in port h) w slot (taken w slot x);
-            buses = λ port h. let x = f.buses port (dest_in port h) in
-                (x.0, route_from u (result_on d u t) port x.0 x.1);
-          }
+          fits_from u t here =
+              let f = fits_here u t ports here in
+              record {
+                period = f.period;
+                unit = λ slot x. f.unit slot (taken u slot x);
+                files = λ port h w slot x. f.files port (dest_in port h) w slot (taken w slot x);
+                buses = λ port h. let x = f.buses port (dest_in port h) in
+                    (x.0, route_from u (result_on d u t) port x.0 x.1);
+              }
 
           fits_to : (u t : ℕ) → Fits d (IsTakenBefore a z b.height v) (IsDestination a v) u t
-              → FitsAt d b.placed u t ports
-          fits_to u t f = record {
+              → FitsAt p.table u t ports
+          fits_to u t f = fits_there u t ports (record {
             period = f.period;
             unit = λ slot x. f.unit slot (taken_back u slot x);
             files = λ port h w slot x. f.files port (in_dest port h) w slot (taken_back w slot x);
             buses = λ port h. let x = f.buses port (in_dest port h) in
                 (x.0, route_to u (result_on d u t) port x.0 x.1);
-          }
+          })
 
           operand_same : (q x : ℕ) → ReadsNow a.lowered.nodes v q x → slot_at p.slots x ≡ slot_of z x
           operand_same q x r =
@@ -229,12 +236,12 @@ module _ (d : Datapath) (a : Assigned) (is : IsProblem d a) where
           can_from t o = record {
             operands = λ q x r.
                 subst (λ (slot : Slot). slot.cycle + latency_of d a x ≤ t) (operand_same q x r) (o.ready q x r);
-            fits = fits_from (unit_in a.units v) t (o.fits b.placed b.stands);
+            fits = fits_from (unit_in a.units v) t o.fits;
           }
 
           cannot : (t : ℕ) → IsShutAt d a p.slots p.table v ports t → CanIssue d a z b.height v t → ⊥
           cannot t shut c =
-              shut b.placed b.stands
+              shut
               (λ q x r. subst (λ (slot : Slot). slot.cycle + latency_of d a x ≤ t) (sym (operand_same q x r))
               (c.operands q x r))
               (fits_to (unit_in a.units v) t c.fits)
@@ -277,19 +284,19 @@ module _ (d : Datapath) (a : Assigned) (is : IsProblem d a) where
 
         t_small : places.slot.cycle ≤ 4096
         t_small =
-            let f = (places.cycle.is_open.fits b.placed b.stands).period in
+            let f = (fits_here (unit_in a.units v) places.slot.cycle places.ports places.cycle.is_open.fits).period in
             let m = is.path.period.1 in omega arith
 
         here : IsPlaced d a z b.height v
         here =
             let agree = agrees k (omega arith) in
             let u = unit_in a.units v in
-            let moves = places.transfers d b.placed b.stands in
+            let buses = buses_here u places.slot.cycle places.ports places.slot.transfers places.transfers in
             placed_in d a z b.height v places.slot (sym slot_here) (record {
               can = can_from z agree places.ports places.destinations places.slot.cycle places.cycle.is_open;
               least = λ t less c. cannot z agree places.ports places.destinations t (places.cycle.first t less) c;
-              destinations = subst (AreDestinations a v) (sym moves.ports) places.destinations;
-              buses = λ i x less. bus_from z agree u (result_on d u places.slot.cycle) _ (moves.buses i x less);
+              destinations = subst (AreDestinations a v) (sym places.transfers.ports) places.destinations;
+              buses = λ i x less. bus_from z agree u (result_on d u places.slot.cycle) _ (buses i x less);
             })
 
         each_more : (j : ℕ) → j < k + 1 → IsPlaced d a z b.height (nth order j)
@@ -307,34 +314,34 @@ module _ (d : Datapath) (a : Assigned) (is : IsProblem d a) where
         abbrev one_more : Placed
         one_more = record { unit = unit_in a.units v; slot = places.slot }
 
-        from_more : (u : ℕ) (slot : Slot) → IsTaken (b.placed ++ one_more ∷ []) u slot
+        from_more : (u : ℕ) (slot : Slot) → IsTaken (p.table.placed ++ one_more ∷ []) u slot
             → (j : ℕ) × (j < k + 1) × (unit_in a.units (nth order j) ≡ u)
             × (slot_at new.slots (nth order j) ≡ slot)
         from_more u slot t =
             ⊎_elim
-            (λ (old : IsTaken b.placed u slot).
+            (λ (old : IsTaken p.table.placed u slot).
             let at = b.taken_from u slot old in
             let less = at.1 in
             (at.0, omega arith, at.2, sym (slot_else (nth order at.0) (index_else at.0 at.1)) ∙ at.3))
             (λ (same : one_more ≡ record { unit = u; slot = slot }).
             (k, omega arith, ap (λ (x : Placed). x.unit) same, slot_here ∙ ap (λ (x : Placed). x.slot) same))
-            (Contains-push_cases b.placed one_more (record { unit = u; slot = slot }) t)
+            (Contains-push_cases p.table.placed one_more (record { unit = u; slot = slot }) t)
 
         to_more : (j : ℕ) → j < k + 1
-            → IsTaken (b.placed ++ one_more ∷ []) (unit_in a.units (nth order j))
+            → IsTaken (p.table.placed ++ one_more ∷ []) (unit_in a.units (nth order j))
             (slot_at new.slots (nth order j))
         to_more j less =
             ⊎_elim
             (λ (early : j < k).
-            subst (IsTaken (b.placed ++ one_more ∷ []) (unit_in a.units (nth order j)))
+            subst (IsTaken (p.table.placed ++ one_more ∷ []) (unit_in a.units (nth order j)))
             (slot_else (nth order j) (index_else j early))
-            (Contains-append_left b.placed (one_more ∷ []) _ (b.taken_to j early)))
+            (Contains-append_left p.table.placed (one_more ∷ []) _ (b.taken_to j early)))
             (λ (past : k ≤ j).
             let at : k ≡ j = omega arith in
-            subst (λ (i : ℕ). IsTaken (b.placed ++ one_more ∷ []) (unit_in a.units (nth order i))
+            subst (λ (i : ℕ). IsTaken (p.table.placed ++ one_more ∷ []) (unit_in a.units (nth order i))
             (slot_at new.slots (nth order i))) at
-            (subst (IsTaken (b.placed ++ one_more ∷ []) (unit_in a.units v)) (sym slot_here)
-            (Contains-push b.placed one_more)))
+            (subst (IsTaken (p.table.placed ++ one_more ∷ []) (unit_in a.units v)) (sym slot_here)
+            (Contains-push p.table.placed one_more)))
             (cases_lt j k)
 
         early_more : (x : ℕ) → (slot_at new.slots x).cycle ≤ 4096
@@ -353,10 +360,12 @@ module _ (d : Datapath) (a : Assigned) (is : IsProblem d a) where
           placing = b.placing;
           count = ap length places.slots ∙ length-set p.slots v places.slot ∙ b.count;
           early = early_more;
-          placed = b.placed ++ one_more ∷ [];
-          stands = places.taken d b.placed b.stands;
-          taken_from = from_more;
-          taken_to = to_more;
+          path = ap (λ (r : Reservations). r.datapath) places.taken ∙ b.path;
+          taken_from = λ u slot t.
+              from_more u slot (subst (λ (r : Reservations). IsTaken r.placed u slot) places.taken t);
+          taken_to = λ j less.
+              subst (λ (r : Reservations). IsTaken r.placed (unit_in a.units (nth order j)) (slot_at new.slots (nth order j)))
+              (sym places.taken) (to_more j less);
           each = each_more;
         }
 
@@ -400,12 +409,3 @@ module _ (d : Datapath) (a : Assigned) (is : IsProblem d a) where
         let less = at.1 in
         subst (IsPlaced d a (of_slots p.slots) b.height) at.2 (b.each at.0 (omega arith));
   }
-
--- the set of the ports that read the node, as the code reads it
-pub reader_set : (a : Assigned) (list : List PortSet) (v : ℕ) (item : PortSet)
-    → AreReaders a (length a.lowered.nodes) list → v < length a.lowered.nodes → item ≡ slice_index_or list v item
-    → IsReaderSet a v item
-reader_set a list v item readers there is j =
-    let n = readers.count in
-    subst (λ (s : PortSet). Has s j ↔ IsReadBefore a (length a.lowered.nodes) v j)
-    (sym (get_or_read list v item (omega arith) is no_ports)) (readers.sets v j there)

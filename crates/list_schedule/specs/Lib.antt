@@ -1,3 +1,2 @@
-pub mod Schedulable
 pub mod Faults
 pub mod Private

@@ -2,16 +2,9 @@
 //! and its result can be transferred to every port that reads it. Page `docs/PLANNING.md`, "Cycles".
 #![tactic(auto)]
 
-mod buckets;
-mod destinations;
 mod fault;
-mod heights;
-mod order;
 mod placing;
-mod ports;
-mod problem;
 mod scheduler;
-mod search;
 
 pub use fault::PeriodFault;
 pub use scheduler::schedule;

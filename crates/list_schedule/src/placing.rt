@@ -3,19 +3,17 @@
 ghost use Rattle.std.specs.Prelude.{◌≡◌, ◌<◌, ◌≤◌, ◌⊎◌, ℕ, length, replicate, IfOk, IfErr, OnOk};
 ghost use Rattle.plan_core.specs.ListSchedule.{no_slot, AreDestinations, IsListSchedule};
 ghost use Rattle.list_schedule.specs.Faults.{IsPeriodFault};
-ghost use Rattle.list_schedule.specs.Private.Problem.{IsProblem};
-ghost use Rattle.list_schedule.specs.Private.Order.{IsOrderOf};
-ghost use Rattle.list_schedule.specs.Private.Destinations.{AreReaders, IsReaderSet};
+ghost use Rattle.schedule_order.specs.Problem.{IsProblem};
+ghost use Rattle.schedule_order.specs.Order.{IsOrderOf};
 ghost use Rattle.list_schedule.specs.Private.Placing.{slot_at, of_slots, IsFirstReady, HasTable, IsFirstOpen, Places, HasNoCycle, ArePlaced};
 ghost use Rattle.list_schedule.specs.declared.fault.PeriodFault.TheVariants.{Period, Memory};
 
 use crate::fault::PeriodFault;
-use crate::ports::PortSet;
-use crate::problem::Problem;
 use bus_alloc::Table;
 use datapath::PortRef;
 use lists::List;
 use plan_core::Slot;
+use schedule_order::{Destinations, Problem};
 use std::alloc::{AllocError, Global};
 
 /// The slots of the nodes that are placed, and the reservation table that has them.
@@ -61,7 +59,6 @@ fn cycle_for(problem: &Problem, v: usize, ports: &[PortRef], placing: &Placing) 
 
 /// Places node v, which these ports read, in the first cycle at which it can be issued.
 fn issue(
-    alloc: Global,
     problem: &Problem,
     v: u32,
     ports: &[PortRef],
@@ -81,30 +78,29 @@ fn issue(
         None => return Err(PeriodFault::Period(v)),
     };
     let unit = problem.unit(node);
-    let transfers = placing.table.take(alloc, unit, cycle, ports)?;
+    let transfers = placing.table.take(unit, cycle, ports)?;
     placing.slots.replace(node, Slot { cycle, transfers });
     Ok(())
 }
 
-/// Places node v, which the ports of this set read. What the list of ports has is lost.
+/// Places node v. What the list of ports has is lost.
 fn place(
-    alloc: Global,
     problem: &Problem,
     v: u32,
-    readers: PortSet,
+    destinations: &Destinations,
     ports: &mut Vec<PortRef>,
     placing: &mut Placing,
 ) -> Result<(), PeriodFault>
     requires problem { IsProblem problem.now.datapath.now problem.now.assigned.now }
     requires node { v < length problem.now.assigned.now.lowered.nodes }
-    requires readers { IsReaderSet problem.now.assigned.now v readers }
+    requires destinations { destinations.now ≡ problem.now.assigned.now }
     requires table { HasTable problem.now.datapath.now problem.now.assigned.now placing.old }
     ensures placed { OnOk result (Places problem.now.datapath.now problem.now.assigned.now v placing.old placing.new) }
     ensures fault { IfErr result (λ fault. (fault ≡ Memory) ⊎ ((fault ≡ Period v)
         × HasNoCycle problem.now.datapath.now problem.now.assigned.now v placing.old)) }
 {
-    readers.list(ports)?;
-    issue(alloc, problem, v, ports.as_slice(), placing)
+    destinations.list(v, ports)?;
+    issue(problem, v, ports.as_slice(), placing)
 }
 
 /// Places the nodes in this order.
@@ -112,11 +108,11 @@ fn place_all(
     alloc: Global,
     problem: &Problem,
     order: &Vec<u32>,
-    readers: &List<PortSet>,
+    destinations: &Destinations,
     placing: &mut Placing,
 ) -> Result<(), PeriodFault>
     requires problem { IsProblem problem.now.datapath.now problem.now.assigned.now }
-    requires readers { AreReaders problem.now.assigned.now (length problem.now.assigned.now.lowered.nodes) readers.now }
+    requires destinations { destinations.now ≡ problem.now.assigned.now }
     requires none { ArePlaced problem.now.datapath.now problem.now.assigned.now order.now.items 0 placing.old }
     ensures placed { OnOk result (ArePlaced problem.now.datapath.now problem.now.assigned.now order.now.items
         (length order.now.items) placing.new) }
@@ -125,14 +121,7 @@ fn place_all(
 {
     let mut ports = Vec::new(alloc);
     for v in order.iter() {
-        place(
-            alloc,
-            problem,
-            *v,
-            readers[*v as usize],
-            &mut ports,
-            placing,
-        )?;
+        place(problem, *v, destinations, &mut ports, placing)?;
     }
     Ok(())
 }
@@ -156,11 +145,11 @@ pub(crate) fn slots_of(
     alloc: Global,
     problem: &Problem,
     order: &Vec<u32>,
-    readers: &List<PortSet>,
+    destinations: &Destinations,
 ) -> Result<List<Slot>, PeriodFault>
     requires problem { IsProblem problem.now.datapath.now problem.now.assigned.now }
     requires order { IsOrderOf problem.now.datapath.now problem.now.assigned.now order.now.items }
-    requires readers { AreReaders problem.now.assigned.now (length problem.now.assigned.now.lowered.nodes) readers.now }
+    requires destinations { destinations.now ≡ problem.now.assigned.now }
     ensures schedule { IfOk result
         (λ slots. IsListSchedule problem.now.datapath.now problem.now.assigned.now (of_slots slots)) }
     ensures fault { IfErr result (λ fault. (fault ≡ Memory)
@@ -170,6 +159,6 @@ pub(crate) fn slots_of(
         slots: no_slots(alloc, problem.count())?,
         table: Table::new(alloc, problem.datapath)?,
     };
-    place_all(alloc, problem, order, readers, &mut placing)?;
+    place_all(alloc, problem, order, destinations, &mut placing)?;
     Ok(placing.slots)
 }

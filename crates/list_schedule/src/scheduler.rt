@@ -4,18 +4,16 @@ ghost use Rattle.std.specs.Prelude.{◌≡◌, ◌⊎◌, IfOk, IfErr, Ok, Err};
 ghost use Rattle.datapath.specs.Allowed.{IsDatapath};
 ghost use Rattle.plan_core.specs.ListSchedule.{IsListSchedule};
 ghost use Rattle.plan_core.specs.declared.schedule.Schedule as of_schedule;
-ghost use Rattle.list_schedule.specs.Schedulable.{IsSchedulable};
+ghost use Rattle.schedule_order.specs.Schedulable.{IsSchedulable};
 ghost use Rattle.list_schedule.specs.Faults.{IsPeriodFault};
 ghost use Rattle.list_schedule.specs.declared.fault.PeriodFault as of_fault;
 ghost use Rattle.list_schedule.specs.declared.fault.PeriodFault.TheVariants.{Memory};
 
-use crate::destinations::readers_of;
 use crate::fault::PeriodFault;
-use crate::order::placing_order;
 use crate::placing::slots_of;
-use crate::problem::Problem;
 use datapath::Datapath;
 use plan_core::{Assigned, Schedule};
+use schedule_order::{Destinations, Problem, placing_order};
 use std::alloc::Global;
 
 /// Places the nodes by falling height, then by number, each at the least cycle at which it can be issued. Cycles count
@@ -43,7 +41,7 @@ pub fn schedule(
 {
     let problem = Problem { datapath, assigned };
     let order = placing_order(alloc, &problem)?;
-    let readers = readers_of(alloc, &problem)?;
-    let slots = slots_of(alloc, &problem, &order, &readers)?;
+    let destinations = Destinations::new(alloc, &problem)?;
+    let slots = slots_of(alloc, &problem, &order, &destinations)?;
     Ok(Schedule { slots })
 }

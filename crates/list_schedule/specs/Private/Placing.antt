@@ -8,10 +8,9 @@ use Rattle.plan_core.specs.ListSchedule.{no_slot, AreDestinations, IsPlaced}
 use Rattle.plan_core.specs.declared.schedule.Assigned.{Assigned}
 use Rattle.plan_core.specs.declared.schedule.Slot.{Slot}
 use Rattle.plan_core.specs.declared.schedule.Schedule.{Schedule}
-use Rattle.bus_alloc.specs.Stands.{Placed, IsTaken, Stands, FitsAt, AreTransfers, Takes}
-use Rattle.bus_alloc.specs.declared.rows.Rows.{Rows}
-use Rattle.list_schedule.specs.Private.Order.{IsPlacingOrder}
-use Rattle.list_schedule.specs.Private.Search.{nth}
+use Rattle.bus_alloc.specs.Table.{Reservations, IsTaken, with_placed, FitsAt, AreTransfers}
+use Rattle.schedule_order.specs.Order.{IsPlacingOrder}
+use Rattle.schedule_order.specs.Order.{nth}
 use Rattle.list_schedule.specs.declared.placing.Placing.{Placing}
 
 abbrev pub slot_at : List Slot → ℕ → Slot
@@ -30,24 +29,21 @@ pub record IsFirstReady (d : Datapath) (a : Assigned) (slots : List Slot) (v t :
   pub ready : IsReadyAt d a slots v t
   pub first : (c : ℕ) → IsReadyAt d a slots v c → t ≤ c
 
--- the slots are those of a period, and the table has some operations
+-- the slots are those of a period, and the table is one of the datapath
 pub record HasTable (d : Datapath) (a : Assigned) (p : Placing) : Type 0 where
   pub count : length p.slots ≡ length a.lowered.nodes
   pub early : (v : ℕ) → (slot_at p.slots v).cycle ≤ 4096
-  pub placed : List Placed
-  pub stands : Stands d placed p.table
+  pub path : p.table.datapath ≡ d
 
-module _ (d : Datapath) (a : Assigned) (slots : List Slot) (rows : Rows) (v : ℕ) (ports : List PortRef) where
+module _ (d : Datapath) (a : Assigned) (slots : List Slot) (table : Reservations) (v : ℕ) (ports : List PortRef) where
   -- node v, with its result going to these ports, can be issued at cycle t
   pub record IsOpenAt (t : ℕ) : Type 0 where
     pub ready : IsReadyAt d a slots v t
-    pub fits : (placed : List Placed) → Stands d placed rows → FitsAt d placed (unit_in a.units v) t ports
+    pub fits : FitsAt table (unit_in a.units v) t ports
 
   -- it cannot be issued at cycle t
   abbrev pub IsShutAt : ℕ → Type 0
-  IsShutAt t =
-      (placed : List Placed) → Stands d placed rows → IsReadyAt d a slots v t
-      → FitsAt d placed (unit_in a.units v) t ports → ⊥
+  IsShutAt t = IsReadyAt d a slots v t → FitsAt table (unit_in a.units v) t ports → ⊥
 
   pub record IsFirstOpenAt (t : ℕ) : Type 0 where
     pub is_open : IsOpenAt t
@@ -64,8 +60,8 @@ pub record Places (d : Datapath) (a : Assigned) (v : ℕ) (old new : Placing) : 
   pub destinations : AreDestinations a v ports
   pub slot : Slot
   pub cycle : IsFirstOpenAt d a old.slots old.table v ports slot.cycle
-  pub transfers : AreTransfers old.table (unit_in a.units v) ports slot.cycle slot.transfers
-  pub taken : Takes old.table new.table (unit_in a.units v) slot.cycle slot.transfers
+  pub transfers : AreTransfers old.table (unit_in a.units v) slot.cycle ports slot.transfers
+  pub taken : new.table ≡ with_placed old.table (unit_in a.units v) slot.cycle slot.transfers
   pub slots : new.slots ≡ slice_set old.slots v slot
 
 -- there is no cycle for node v
@@ -81,10 +77,9 @@ pub record ArePlaced (d : Datapath) (a : Assigned) (order : List ℕ) (k : ℕ) 
   pub placing : IsPlacingOrder (length a.lowered.nodes) height order
   pub count : length p.slots ≡ length a.lowered.nodes
   pub early : (v : ℕ) → (slot_at p.slots v).cycle ≤ 4096
-  pub placed : List Placed
-  pub stands : Stands d placed p.table
-  pub taken_from : (u : ℕ) (slot : Slot) → IsTaken placed u slot
+  pub path : p.table.datapath ≡ d
+  pub taken_from : (u : ℕ) (slot : Slot) → IsTaken p.table.placed u slot
       → (j : ℕ) × (j < k) × (unit_in a.units (nth order j) ≡ u) × (slot_at p.slots (nth order j) ≡ slot)
   pub taken_to : (j : ℕ) → j < k
-      → IsTaken placed (unit_in a.units (nth order j)) (slot_at p.slots (nth order j))
+      → IsTaken p.table.placed (unit_in a.units (nth order j)) (slot_at p.slots (nth order j))
   pub each : (j : ℕ) → j < k → IsPlaced d a (of_slots p.slots) height (nth order j)

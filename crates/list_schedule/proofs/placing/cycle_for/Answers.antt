@@ -1,5 +1,6 @@
-use Rattle.std.proofs.Common.{ℕ, subst}
-use Rattle.bus_alloc.specs.Stands.{AnswersFirstFit}
+use Rattle.std.proofs.Common.{ℕ, ◌<◌, length, ap, sym, subst, arith}
+use Rattle.datapath.specs.declared.types.Datapath.{Datapath}
+use Rattle.bus_alloc.specs.Table.{IsFirstFit}
 use Rattle.list_schedule.proofs.Placings.{ports_known, first_found}
 use Rattle.list_schedule.proofs.placing.cycle_for.Goals as goal
 
@@ -8,10 +9,18 @@ first_fit-requires-clause-ports c =
     ports_known c.args.problem.now.datapath.now c.args.problem.now.assigned.now c.requires.problem c.args.v
     c.requires.node c.args.ports.now c.requires.ports c.args.placing.now c.requires.table
 
+pub first_fit-requires-clause-unit : goal.first_fit-requires-clause-unit
+first_fit-requires-clause-unit c =
+    subst (λ (x : Datapath). c.unit.result < length x.units) (sym c.requires.table.path) c.unit.ensures.there
+
+pub first_fit-requires-clause-from : goal.first_fit-requires-clause-from
+first_fit-requires-clause-from c =
+    omega (arith, ap (λ (x : Datapath). x.period) c.requires.table.path)
+
 pub returns : goal.returns
 returns c =
     first_found c.args.problem.now.datapath.now c.args.problem.now.assigned.now c.requires.problem c.args.v
     c.requires.node c.args.ports.now c.requires.ports c.args.placing.now c.requires.table c.ready-from.result
     c.first_fit.result c.ready-from.ensures
-    (subst (λ (u : ℕ). AnswersFirstFit c.args.placing.now.table u c.args.ports.now c.ready-from.result
+    (subst (λ (u : ℕ). IsFirstFit c.args.placing.now.table u c.ready-from.result c.args.ports.now
     c.first_fit.result) c.unit.ensures.unit c.first_fit.ensures)

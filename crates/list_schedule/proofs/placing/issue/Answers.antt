@@ -1,11 +1,16 @@
-use Rattle.std.proofs.Common.{ℕ, refl, sym, subst, inr}
-use Rattle.bus_alloc.specs.Stands.{FitsIn, AreTransfers, Takes}
-use Rattle.list_schedule.proofs.Placings.{ports_known, fits_in}
+use Rattle.std.proofs.Common.{◌≡◌, ◌<◌, ℕ, length, refl, sym, subst, inr}
+use Rattle.datapath.specs.declared.types.Datapath.{Datapath}
+use Rattle.bus_alloc.specs.Table.{with_placed, FitsAt, AreTransfers}
+use Rattle.list_schedule.proofs.Placings.{ports_known}
 use Rattle.list_schedule.proofs.placing.issue.Goals as goal
 
 pub returns-in-None-clause-fault : goal.returns-in-None-clause-fault
 returns-in-None-clause-fault c =
     inr (refl, record { ports = c.args.ports.now; destinations = c.requires.ports; none = c.in-None.ensures })
+
+pub take-requires-clause-unit : goal.take-requires-clause-unit
+take-requires-clause-unit c =
+    subst (λ (x : Datapath). c.unit-unit.result < length x.units) (sym c.requires.table.path) c.unit-unit.ensures.there
 
 pub take-requires-clause-ports : goal.take-requires-clause-ports
 take-requires-clause-ports c =
@@ -14,10 +19,8 @@ take-requires-clause-ports c =
 
 pub take-requires-clause-fits : goal.take-requires-clause-fits
 take-requires-clause-fits c =
-    subst (λ (u : ℕ). FitsIn c.args.placing.now.table u c.in-Some.cycle c.args.ports.now) (sym c.unit-unit.ensures.unit)
-    (fits_in c.args.problem.now.datapath.now c.args.problem.now.assigned.now c.requires.problem c.args.v
-    c.requires.node c.args.ports.now c.requires.ports c.args.placing.now c.requires.table c.in-Some.cycle
-    c.in-Some.ensures)
+    subst (λ (u : ℕ). FitsAt c.args.placing.now.table u c.in-Some.cycle c.args.ports.now) (sym c.unit-unit.ensures.unit)
+    c.in-Some.ensures.is_open.fits
 
 pub returns-clause-placed : goal.returns-clause-placed
 returns-clause-placed c = record {
@@ -25,9 +28,9 @@ returns-clause-placed c = record {
   destinations = c.requires.ports;
   slot = record { cycle = c.in-Some.cycle; transfers = c.in_ok-transfers.transfers };
   cycle = c.in-Some.ensures;
-  transfers = subst (λ (u : ℕ). AreTransfers c.args.placing.now.table u c.args.ports.now c.in-Some.cycle
+  transfers = subst (λ (u : ℕ). AreTransfers c.args.placing.now.table u c.in-Some.cycle c.args.ports.now
       c.in_ok-transfers.transfers) c.unit-unit.ensures.unit c.in_ok-transfers.ensures.transfers;
-  taken = subst (λ (u : ℕ). Takes c.args.placing.now.table c.take.new.self u c.in-Some.cycle
+  taken = subst (λ (u : ℕ). c.take.new.self ≡ with_placed c.args.placing.now.table u c.in-Some.cycle
       c.in_ok-transfers.transfers) c.unit-unit.ensures.unit c.in_ok-transfers.ensures.taken;
   slots = c.replace.ensures.after;
 }

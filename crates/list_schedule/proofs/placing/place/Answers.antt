@@ -1,10 +1,14 @@
-use Rattle.std.proofs.Common.{sym, subst}
+use Rattle.std.proofs.Common.{◌<◌, length, sym, subst}
 use Rattle.plan_core.specs.ListSchedule.{AreDestinations}
-use Rattle.list_schedule.proofs.Readers.{destinations_are}
+use Rattle.plan_core.specs.declared.schedule.Assigned.{Assigned}
 use Rattle.list_schedule.proofs.placing.place.Goals as goal
+
+pub list-requires : goal.list-requires
+list-requires c =
+    subst (λ (a : Assigned). c.args.v < length a.lowered.nodes) (sym c.requires.destinations) c.requires.node
 
 pub issue-requires-clause-ports : goal.issue-requires-clause-ports
 issue-requires-clause-ports c =
     subst (AreDestinations c.args.problem.now.assigned.now c.args.v) (sym c.as_slice.ensures.value)
-    (destinations_are c.args.problem.now.datapath.now c.args.problem.now.assigned.now c.requires.problem c.args.v
-    c.args.readers c.list.new.ports.items c.requires.readers c.in_ok-list.ensures)
+    (subst (λ (a : Assigned). AreDestinations a c.args.v c.list.new.ports.items) c.requires.destinations
+    c.in_ok-list.ensures)

@@ -1,18 +1,8 @@
 use Rattle.std.proofs.Common.{◌≡◌, ◌⊎◌, arith, rules, Err}
 use Rattle.list_schedule.specs.Faults.{IsPeriodFault}
 use Rattle.list_schedule.specs.declared.fault.PeriodFault.TheVariants.{Memory}
-use Rattle.list_schedule.specs.Private.Search.{nth}
-use Rattle.list_schedule.proofs.Placings.{next_in, goes_on, stops, reader_set}
+use Rattle.list_schedule.proofs.Placings.{goes_on, stops}
 use Rattle.list_schedule.proofs.placing.place_all.Goals as goal
-
-pub place-requires-clause-readers : goal.place-requires-clause-readers
-place-requires-clause-readers c =
-    let a = c.args.problem.now.assigned.now in
-    let items = c.deref-v-items.result.now in
-    let k = c.loop-v.v-index in
-    let there = next_in c.args.problem.now.datapath.now a c.requires.problem c.args.order.now.items items
-    c.deref-v-items.ensures.value k c.loop-v.placing c.loop-v.invariant (omega arith) in
-    reader_set a c.args.readers.now (nth items k) c.index.result.now c.requires.readers there c.index.ensures
 
 pub returns-in_err-place-clause-fault : goal.returns-in_err-place-clause-fault
 returns-in_err-place-clause-fault c =

@@ -1,5 +1,0 @@
-use Rattle.list_schedule.specs.Private.Destinations.{AreReaders}
-use Rattle.list_schedule.proofs.destinations.readers_of.Given as goal
-
-abbrev pub invariant-loop-c : goal.invariant-loop-c
-invariant-loop-c l = AreReaders l.problem.assigned.now l.c l.readers

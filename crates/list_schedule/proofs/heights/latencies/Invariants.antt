@@ -1,5 +1,0 @@
-use Rattle.list_schedule.specs.Private.Heights.{AreAlone}
-use Rattle.list_schedule.proofs.heights.latencies.Given as goal
-
-abbrev pub invariant-loop-v : goal.invariant-loop-v
-invariant-loop-v l = AreAlone l.problem.datapath.now l.problem.assigned.now l.v l.heights

@@ -1,5 +1,0 @@
-use Rattle.list_schedule.specs.Private.Search.{IsSorted}
-use Rattle.list_schedule.proofs.search.is_sorted.Given as goal
-
-abbrev pub invariant-loop-v : goal.invariant-loop-v
-invariant-loop-v l = IsSorted l.problem.assigned.now.lowered.nodes l.v

@@ -1,0 +1,4 @@
+pub mod Schedulable
+pub mod Problem
+pub mod Order
+pub mod Private

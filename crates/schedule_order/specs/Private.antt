@@ -1,0 +1,5 @@
+pub mod Search
+pub mod Heights
+pub mod Buckets
+pub mod Ports
+pub mod Destinations

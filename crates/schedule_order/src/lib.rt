@@ -1,0 +1,15 @@
+//! The order in which list scheduling places the nodes of a graph, by falling critical-path height, then by number; and
+//! the ports to which each result goes. Page `docs/PLANNING.md`, "Cycles".
+#![tactic(auto)]
+
+mod buckets;
+mod destinations;
+mod heights;
+mod order;
+mod ports;
+mod problem;
+mod search;
+
+pub use destinations::Destinations;
+pub use order::placing_order;
+pub use problem::Problem;

@@ -1,0 +1,55 @@
+//! The graph that is scheduled, with its datapath.
+
+ghost use Rattle.std.specs.Prelude.{◌≡◌, ◌<◌, ◌≤◌, length};
+ghost use Rattle.plan_core.specs.Operands.{node_of};
+ghost use Rattle.plan_core.specs.Assigned.{unit_in};
+ghost use Rattle.plan_core.specs.Heights.{latency_of};
+ghost use Rattle.schedule_order.specs.Problem.{IsProblem};
+
+use datapath::Datapath;
+use plan_core::Assigned;
+use signal_graph::Node;
+
+/// A graph whose nodes are bound to the units of a datapath.
+#[derive(Clone, Copy)]
+pub struct Problem<'a> {
+    pub datapath: &'a Datapath,
+    pub assigned: &'a Assigned,
+}
+
+impl Problem<'_> {
+    /// How many nodes there are.
+    pub fn count(&self) -> usize
+        ensures { result ≡ length self.now.assigned.now.lowered.nodes }
+    {
+        self.assigned.lowered.nodes.len()
+    }
+
+    pub fn node(&self, v: usize) -> &Node
+        requires { v < length self.now.assigned.now.lowered.nodes }
+        ensures { result.now ≡ node_of self.now.assigned.now.lowered.nodes v }
+    {
+        &self.assigned.lowered.nodes[v]
+    }
+
+    /// The unit of node v.
+    pub fn unit(&self, v: usize) -> u8
+        requires problem { IsProblem self.now.datapath.now self.now.assigned.now }
+        requires node { v < length self.now.assigned.now.lowered.nodes }
+        ensures unit { result ≡ unit_in self.now.assigned.now.units v }
+        ensures there { result < length self.now.datapath.now.units }
+    {
+        self.assigned.units[v]
+    }
+
+    /// How many cycles node v takes on its unit.
+    pub fn latency(&self, v: usize) -> u8
+        requires problem { IsProblem self.now.datapath.now self.now.assigned.now }
+        requires node { v < length self.now.assigned.now.lowered.nodes }
+        ensures latency { result ≡ latency_of self.now.datapath.now self.now.assigned.now v }
+        ensures some { 1 ≤ result }
+        ensures most { result ≤ 8 }
+    {
+        self.datapath.units[usize::from(self.unit(v))].latency
+    }
+}
