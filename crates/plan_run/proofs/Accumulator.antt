@@ -1,34 +1,24 @@
 -- An example: the image of the accumulator y = y@1 + x with y@@1 = 5, whose delay a register holds.
-use Rattle.std.proofs.Common.{◌≡◌, ℕ, zero, suc, ◌+◌, ◌*◌, ◌<◌, ◌≤◌, refl, sym, ap, ◌∙◌, subst, arith, List, [], ◌∷◌, length, slice_index_or, replicate, map, Contains, codes, ℤ, pos, inl}
+use Rattle.std.proofs.Common.{◌≡◌, ℕ, zero, suc, ◌+◌, ◌*◌, ◌<◌, ◌≤◌, refl, sym, ap, ◌∙◌, subst, arith, List, [], ◌∷◌, length, replicate, map, Contains, ℤ, pos, inl}
 use Rattle.std.specs.List.{AllPairs}
 use Rattle.lists.proofs.Places.{only_there}
-use Rattle.fix_word.specs.declared.operation.Op.TheVariants as op
-use Rattle.fix_word.specs.declared.types.Mode.TheVariants.{Trunc}
-use Rattle.fix_word.specs.declared.types.SigType.{SigType}
-use Rattle.fix_word.specs.declared.types.SigType.TheVariants as sig
 use Rattle.fix_word.specs.Values.{wrap_of}
-use Rattle.operations.specs.Operations.{plain}
 use Rattle.operations.specs.declared.units.Kind.{Kind}
 use Rattle.operations.specs.declared.units.Kind.TheVariants as kind
 use Rattle.operations.specs.declared.units.PortRef.{PortRef}
 use Rattle.datapath.specs.declared.types.Datapath.{Datapath}
-use Rattle.datapath.specs.declared.types.Unit.{Unit as FunctionalUnit}
 use Rattle.signal_graph.specs.Rules.{word_before}
-use Rattle.signal_graph.specs.declared.graph.Edge.{Edge}
-use Rattle.signal_graph.specs.declared.graph.Node.{Node}
-use Rattle.signal_graph.specs.declared.graph.Graph.{Graph}
-use Rattle.plan_core.specs.Hardware.{port_of}
-use Rattle.plan_core.specs.declared.schedule.Slot.{Slot}
+use Rattle.plan_core.specs.Hardware.{port_of, unit_of}
 use Rattle.plan_core.specs.declared.schedule.Transfer.{Transfer}
-use Rattle.plan_core.specs.declared.registers.Arc.{Arc}
 use Rattle.plan_core.specs.declared.plan.Plan.{Plan}
+use Rattle.plan_core.proofs.Rows.{plain_path, over, accumulator_plan}
 use Rattle.micro_image.specs.declared.image.Enable.{Enable}
 use Rattle.micro_image.specs.declared.image.Issue.{Issue}
 use Rattle.micro_image.specs.declared.image.Take.{Take}
 use Rattle.micro_image.specs.declared.image.UnitDesc.{UnitDesc}
 use Rattle.micro_image.specs.declared.image.Word.{Word}
 use Rattle.micro_image.specs.declared.image.Image.{Image}
-use Rattle.micro_image.specs.Fields.{nth, no_word, unit_of}
+use Rattle.micro_image.specs.Fields.{nth, no_word, unit_of as described_unit}
 use Rattle.micro_image.specs.Log.{Register, Cell, initial, entries_by, value}
 use Rattle.micro_image.specs.Run.{row_of}
 use Rattle.micro_image.specs.Valid.{EnableBefore, TakeBefore}
@@ -36,69 +26,14 @@ use Rattle.plan_run.specs.Parts.{nodes_of, node_at, unit_at, cycle_at, transfers
 use Rattle.plan_run.proofs.LiveWords.{port_eq}
 use Rattle.plan_run.specs.ImageOf.{IsUnitOf, IsIssueOf, IsWordOf, IsImageOf, IsPreloadOf, StartsWith, enable_of, take_of}
 
-abbrev unit_named : List ℕ → Kind → List ℕ → FunctionalUnit
-unit_named name kind files =
-    record { name = name; kind = kind; latency = 1; gap = 1; files = files; cells = 0; ram = 0 }
+abbrev path : Datapath
+path = plain_path 1
 
--- an input, a rom, an alu and an output, on one bus
-abbrev pub path : Datapath
-path = record {
-  period = 16;
-  word = 16;
-  hold = 1;
-  units =
-      unit_named (codes "inp") kind.Input []
-      ∷ unit_named (codes "rom") kind.Rom []
-      ∷ unit_named (codes "add") kind.Alu (8 ∷ 8 ∷ [])
-      ∷ unit_named (codes "outp") kind.Output (2 ∷ [])
-      ∷ [];
-  buses =
-      record { name = codes "b0"; from = 0 ∷ 1 ∷ 2 ∷ []; to = port_of 2 0 ∷ port_of 2 1 ∷ port_of 3 0 ∷ [] } ∷ [];
-}
+abbrev plan : Plan
+plan = accumulator_plan
 
-abbrev edge : (node delay : ℕ) → Edge
-edge node delay = record { node = node; delay = delay }
-
-abbrev nodes : List Node
-nodes =
-    record { op = op.Input; fmt = plain 0; arg = pos 0; edges = []; inits = []; width = 8; ram = 0 }
-    ∷ record {
-      op = op.Add;
-      fmt = plain 8;
-      arg = pos 0;
-      edges = edge 1 1 ∷ edge 0 0 ∷ [];
-      inits = (1, pos 5) ∷ [];
-      width = 8;
-      ram = 0;
-    }
-    ∷ record { op = op.Output; fmt = plain 0; arg = pos 0; edges = edge 1 0 ∷ []; inits = []; width = 8; ram = 0 }
-    ∷ []
-
-abbrev byte : SigType
-byte = sig.Fix (record { shape = record { w = 8; f = 0 }; mode = Trunc })
-
-abbrev pub accumulator : Graph
-accumulator = record { nodes = nodes; inputs = byte ∷ []; outs = 1 }
-
-abbrev over : (unit port : ℕ) → Transfer
-over unit port = record { port = port_of unit port; bus = 0 }
-
-abbrev life : (node unit port w r : ℕ) → Arc
-life node unit port w r = record { node = node; port = port_of unit port; w = w; r = r; copies = 1 }
-
-abbrev at : (cycle : ℕ) → List Transfer → Slot
-at cycle transfers = record { cycle = cycle; transfers = transfers }
-
-abbrev pub plan : Plan
-plan = record {
-  assigned = record { lowered = record { nodes = nodes; lines = [] }; units = 0 ∷ 2 ∷ 3 ∷ [] };
-  schedule = record { slots = at 0 (over 2 1 ∷ []) ∷ at 1 (over 2 0 ∷ over 3 0 ∷ []) ∷ at 2 [] ∷ [] };
-  arcs = life 1 2 0 1 17 ∷ life 0 2 1 0 1 ∷ life 1 3 0 1 2 ∷ [];
-  registers = record { regs = (0 ∷ []) ∷ (0 ∷ []) ∷ (0 ∷ []) ∷ [] };
-  unroll = 1;
-  inputs = byte ∷ [];
-  outs = 1;
-}
+abbrev to : (unit port : ℕ) → Transfer
+to unit port = over 0 unit port
 
 abbrev described : Kind → List (List ℤ) → UnitDesc
 described kind files = record { kind = kind; latency = 1; gap = 1; files = files; cells = []; ram = 0 }
@@ -173,7 +108,7 @@ zero_regs n q = nth_same {A = ℕ} n q 0
 -- the issue of a node, all of whose registers are 0
 is_issue : (v unit n : ℕ) (regs : List ℕ)
     → unit ≡ unit_at plan v
-    → length regs ≡ length (slice_index_or path.units (unit_at plan v) (unit_named [] kind.Input [])).files
+    → length regs ≡ length (unit_of path (unit_at plan v)).files
     → ((q : ℕ) → nth regs q 0 ≡ 0)
     → IsIssueOf path plan v n (issue_of v unit regs)
 is_issue v unit n regs on count zeros = record {
@@ -254,16 +189,16 @@ fetch_word = record {
       (0, omega arith, refl, is_issue 0 0 0 [] refl refl (λ q. refl));
   enable = λ v transfer in-v e among. three (Enables fetch 0) v in-v
       (λ transfer e among.
-      alone (λ t. Contains fetch.enables (enable_of plan 0 t)) (over 2 1) transfer among (one_in _))
+      alone (λ t. Contains fetch.enables (enable_of plan 0 t)) (to 2 1) transfer among (one_in _))
       (λ transfer e. absurd (omega (arith, e))) (λ transfer e. absurd (omega (arith, e))) transfer e among;
   enable_only = λ enable among. alone (EnabledBy 0) (record { unit = 0; bus = 0 }) enable among
-      (0, over 2 1, omega arith, refl, one_in _, refl);
+      (0, to 2 1, omega arith, refl, one_in _, refl);
   take = λ k transfer of w. three (Takes fetch 0) k of.there
       (λ transfer of w. absurd (omega (arith, w)))
-      (λ transfer of w. alone (λ t. Contains fetch.takes (take_of plan 1 t 0)) (over 2 1) transfer of.among (one_in _))
+      (λ transfer of w. alone (λ t. Contains fetch.takes (take_of plan 1 t 0)) (to 2 1) transfer of.among (one_in _))
       (λ transfer of w. absurd (omega (arith, w))) transfer of w;
   take_only = λ take among. alone (TakenBy 0) (take_from 2 1) take among
-      (1, over 2 1, record { there = omega arith; among = one_in _; port = refl }, refl, refl);
+      (1, to 2 1, record { there = omega arith; among = one_in _; port = refl }, refl, refl);
   issues_rise = one_pair IssueBefore _;
   enables_rise = one_pair EnableBefore _;
   takes_rise = one_pair TakeBefore _;
@@ -279,24 +214,24 @@ sum_word = record {
       (1, omega arith, refl, is_issue 1 2 0 (0 ∷ 0 ∷ []) refl refl (zero_regs 2));
   enable = λ v transfer in-v e among. three (Enables sum 1) v in-v
       (λ transfer e. absurd (omega (arith, e)))
-      (λ transfer e among. one_of (λ t. Contains sum.enables (enable_of plan 1 t)) (over 2 0) (over 3 0) transfer among
+      (λ transfer e among. one_of (λ t. Contains sum.enables (enable_of plan 1 t)) (to 2 0) (to 3 0) transfer among
       (one_in _) (one_in _))
       (λ transfer e. absurd (omega (arith, e))) transfer e among;
   enable_only = λ enable among. alone (EnabledBy 1) (record { unit = 2; bus = 0 }) enable among
-      (1, over 2 0, omega arith, refl, (0, omega arith, refl), refl);
+      (1, to 2 0, omega arith, refl, (0, omega arith, refl), refl);
   take = λ k transfer of w. three (Takes sum 1) k of.there
       (λ transfer of w.
-      one_of (λ t. t.port ≡ port_of 2 0 → Contains sum.takes (take_of plan 0 t 0)) (over 2 0) (over 3 0) transfer
+      one_of (λ t. t.port ≡ port_of 2 0 → Contains sum.takes (take_of plan 0 t 0)) (to 2 0) (to 3 0) transfer
       of.among
       (λ port. (0, omega arith, refl)) (λ port. ports_differ 3 0 2 0 port (λ u q. omega (arith, u))) of.port)
       (λ transfer of w. absurd (omega (arith, w)))
       (λ transfer of w.
-      one_of (λ t. t.port ≡ port_of 3 0 → Contains sum.takes (take_of plan 2 t 0)) (over 2 0) (over 3 0) transfer
+      one_of (λ t. t.port ≡ port_of 3 0 → Contains sum.takes (take_of plan 2 t 0)) (to 2 0) (to 3 0) transfer
       of.among (λ port. ports_differ 2 0 3 0 port (λ u q. omega (arith, u))) (λ port. (1, omega arith, refl)) of.port)
       transfer of w;
   take_only = λ take among. one_of (TakenBy 1) (take_from 2 0) (take_from 3 0) take among
-      (0, over 2 0, record { there = omega arith; among = (0, omega arith, refl); port = refl }, refl, refl)
-      (2, over 3 0, record { there = omega arith; among = (1, omega arith, refl); port = refl }, refl, refl);
+      (0, to 2 0, record { there = omega arith; among = (0, omega arith, refl); port = refl }, refl, refl)
+      (2, to 3 0, record { there = omega arith; among = (1, omega arith, refl); port = refl }, refl, refl);
   issues_rise = one_pair IssueBefore _;
   enables_rise = one_pair EnableBefore _;
   takes_rise = λ j k default less below. two_rise j k default less below;
@@ -432,7 +367,7 @@ starts = record {
   other_cell = λ ram cell none. cells_zero ram cell;
 }
 
-units : (u : ℕ) → u < 4 → IsUnitOf path u (unit_of image u)
+units : (u : ℕ) → u < 4 → IsUnitOf path u (described_unit image u)
 units zero below = record { kind = refl; latency = refl; gap = refl; files = refl; cells = refl; ram = refl }
 units (suc zero) below = record { kind = refl; latency = refl; gap = refl; files = refl; cells = refl; ram = refl }
 units (suc (suc zero)) below =

@@ -1,16 +1,15 @@
 -- No cycle of the run has a conflict.
-use Rattle.std.proofs.Common.{◌≡◌, ℕ, ◌+◌, ◌-◌, ◌*◌, ◌/◌, ◌%◌, ◌<◌, ◌≤◌, ◌==◌, refl, sym, ap, ap₂, ◌∙◌, arith, ⊎_elim, ◌⊎◌, inl, inr, [], length, ℤ, pos, true, Option, Some, None, subst}
-use Rattle.std.specs.List.{Contains, count_by}
+use Rattle.std.proofs.Common.{◌≡◌, ℕ, ◌+◌, ◌-◌, ◌*◌, ◌<◌, ◌≤◌, ◌==◌, refl, sym, ap, ap₂, ◌∙◌, arith, ⊎_elim, ◌⊎◌, inl, inr, [], length, ℤ, pos, true, Option, Some, None, subst}
+use Rattle.std.specs.List.{count_by}
 use Rattle.std.specs.Option.{IsSome, IsNone, is_some}
-use Rattle.std.proofs.lemmas.Bool.{cases_lt}
-use Rattle.std.proofs.Math.Nat.{mod-lt, mul-le-mul_right}
+use Rattle.std.proofs.Math.Nat.{add-mul, mod-lt}
 use Rattle.lists.specs.Rows.{Rows}
 use Rattle.fix_word.specs.declared.operation.Op.{Op}
 use Rattle.fix_word.specs.declared.operation.Op.TheVariants as op
 use Rattle.operations.specs.Operations.{operands}
 use Rattle.operations.specs.declared.units.PortRef.{PortRef}
 use Rattle.datapath.specs.declared.types.Datapath.{Datapath}
-use Rattle.plan_core.specs.Hardware.{latency_on, gap_on, cells_on}
+use Rattle.plan_core.specs.Hardware.{gap_on, cells_on}
 use Rattle.plan_core.specs.declared.plan.Plan.{Plan}
 use Rattle.micro_image.specs.declared.conflict.ConflictKind.TheVariants.{Busy, TwoDrivers, FileTwice, NoDriver, NoResult, Address}
 use Rattle.micro_image.specs.declared.image.Enable.{Enable}
@@ -23,13 +22,14 @@ use Rattle.micro_image.specs.Log.{Log, Result, result_by, operand}
 use Rattle.micro_image.proofs.Each.{In}
 use Rattle.plan_run.specs.Parts.{nodes_of, node_at, unit_at, cycle_at, arc_at, line_at, ends_at, IsTransferOf}
 use Rattle.plan_run.specs.Private.Samples.{past}
+use Rattle.plan_run.specs.Private.Overlap.{Overlap, shift_of}
 use Rattle.plan_run.specs.Private.Cells.{cell_in}
 use Rattle.plan_run.specs.Private.Memory.{HasAddress, LoadsFrom, StoresTo}
 use Rattle.plan_run.specs.Private.Solution.{Counted, LoweredSolves}
-use Rattle.plan_run.specs.Private.Feasible.{IsFeasible}
-use Rattle.plan_run.specs.Private.Executes.{Executes, IsIssueIn, IsTakeIn, IsEnableOf, register_in}
+use Rattle.plan_run.specs.Private.Feasible.{IsFeasibleOver}
+use Rattle.plan_run.specs.Private.Executes.{ExecutesOver, IsIssueIn, IsTakeIn, IsEnableOf, register_in}
 use Rattle.plan_run.proofs.Elements.{Contains-from_In, passing, two, two_related, find_count}
-use Rattle.plan_run.proofs.Samples.{split, one_more, below_count}
+use Rattle.plan_run.proofs.Samples.{one_place, below_count}
 use Rattle.plan_run.proofs.LiveWords.{port_eq}
 use Rattle.plan_run.proofs.ReadsRight.{AllRight, address_right, result_right}
 use Rattle.plan_run.proofs.Writes.{some_same}
@@ -58,50 +58,20 @@ file_same f a b small small' is is' =
     let e' : 4 * b.port.unit + b.port.port ≡ f = grind (arith, is') in
     port_eq a.port b.port (omega arith) (omega arith)
 
-module _ (d : Datapath) (p : Plan) (words : Counted) (plan : IsFeasible d p) (image : Image) (z stream : Rows)
-    (runs : Executes d p image) (solves : LoweredSolves d p stream words)
+module _ {o : Overlap} (d : Datapath) (p : Plan) (words : Counted) (plan : IsFeasibleOver o d p) (image : Image)
+    (z stream : Rows) (runs : ExecutesOver o d p image) (solves : LoweredSolves d p stream words)
     (rows : (n c : ℕ) → c < d.period → nth z (n * d.period + c) [] ≡ nth stream n []) where
-  -- node v is issued on unit u in cycle t
-  pub record IsIssuedAt (t u v : ℕ) : Type 0 where
+  -- node v is issued on unit u in cycle t for sample n
+  pub record IsIssuedAt (t u v n : ℕ) : Type 0 where
     pub there : v < length (nodes_of p)
     pub unit : unit_at p v ≡ u
-    pub at : t ≡ t / d.period * d.period + cycle_at p v
+    pub at : t ≡ n * d.period + cycle_at p v
 
-  issued_at : (t u : ℕ) → IsSome (issue_at image t u) → (v : ℕ) × IsIssuedAt t u v
+  issued_at : (t u : ℕ) → IsSome (issue_at image t u) → (v : ℕ) × (n : ℕ) × IsIssuedAt t u v n
   issued_at t u some =
       let issue = some_of (issue_at image t u) some in
-      let only = runs.issue_only (t / d.period) (t % d.period) u issue.0 (mod-lt t plan.period)
-      (ap (λ t. issue_at image t u) (sym (split t d.period)) ∙ issue.1) in (
-        only.0,
-        record {
-          there = only.1;
-          unit = only.2;
-          at = split t d.period ∙ ap (λ c. t / d.period * d.period + c) (sym only.3);
-        },
-      )
-
-  -- two issues on one unit in different samples are a latency apart
-  far : (t s v w q latency : ℕ)
-      → t ≡ t / q * q + v
-      → s ≡ s / q * q + w
-      → w + latency ≤ q
-      → s / q < t / q
-      → s + latency ≤ t
-  far t s v w q latency at at' fits less =
-      let le : (s / q + 1) * q ≤ t / q * q = mul-le-mul_right q (omega arith) in
-      let next : (s / q + 1) * q ≡ s / q * q + q = one_more (s / q) q in
-      omega arith
-
-  sample_mono : (t s q : ℕ) → s < t → 0 < q → s / q ≤ t / q
-  sample_mono t s q less some =
-      ⊎_elim
-      (λ (above : t / q < s / q).
-      absurd (let le : (t / q + 1) * q ≤ s / q * q = mul-le-mul_right q (omega arith) in
-      let next : (t / q + 1) * q ≡ t / q * q + q = one_more (t / q) q in
-      let rest : t % q < q = mod-lt t some in
-      omega (arith, split t q, split s q)))
-      (λ (le : s / q ≤ t / q). le)
-      (cases_lt (t / q) (s / q))
+      let only = runs.issue_only t u issue.0 issue.1 in
+      (only.0, only.1, record { there = only.2; unit = only.3; at = only.4 })
 
   not_busy : (t u s : ℕ)
       → s < t
@@ -113,47 +83,51 @@ module _ (d : Datapath) (p : Plan) (words : Counted) (plan : IsFeasible d p) (im
       let a = issued_at t u at in
       let b = issued_at s u at' in
       let v : ℕ = a.0 in
+      let n : ℕ = a.1 in
       let w : ℕ = b.0 in
-      let is-v : IsIssuedAt t u v = a.1 in
-      let is-w : IsIssuedAt s u w = b.1 in
-      let le : s / d.period ≤ t / d.period = sample_mono t s d.period before plan.period in
-      let gap : gap_on d u ≤ latency_on d u = (plan.gaps u).1 in
-      let fits : cycle_at p w + latency_on d u ≤ d.period =
-      subst (λ u. cycle_at p w + latency_on d u ≤ d.period) is-w.unit (plan.fits w is-w.there) in
-      ⊎_elim
-      (λ (less : s / d.period < t / d.period).
-      let apart : s + latency_on d u ≤ t =
-      far t s (cycle_at p v) (cycle_at p w) d.period (latency_on d u) is-v.at is-w.at fits less in
-      omega arith)
-      (λ (back : t / d.period ≤ s / d.period).
-      let sample : s / d.period ≡ t / d.period = omega arith in
-      let start : s / d.period * d.period ≡ t / d.period * d.period = ap (λ n. n * d.period) sample in
-      let one : w ≡ v = plan.unit_free w v is-w.there is-v.there (is-w.unit ∙ sym is-v.unit)
-      (omega (arith, is-v.at, is-w.at))
-      (subst (λ u. cycle_at p v < cycle_at p w + gap_on d u) (sym is-w.unit) (omega (arith, is-v.at, is-w.at))) in
-      let cycle : cycle_at p w ≡ cycle_at p v = ap (cycle_at p) one in
-      omega (arith, is-v.at, is-w.at))
-      (cases_lt (s / d.period) (t / d.period))
+      let m : ℕ = b.1 in
+      let is-v : IsIssuedAt t u v n = a.2 in
+      let is-w : IsIssuedAt s u w m = b.2 in
+      let near' : t < s + gap_on d (unit_at p w) = subst (λ u. t < s + gap_on d u) (sym is-w.unit) near in
+      let one : (w ≡ v) × (m ≡ n) = plan.unit_free w v m n is-w.there is-v.there (is-w.unit ∙ sym is-v.unit)
+      (omega (arith, before, is-v.at, is-w.at)) (omega (arith, near', is-v.at, is-w.at)) in
+      let cycle : cycle_at p w ≡ cycle_at p v = ap (cycle_at p) one.0 in
+      let start : m * d.period ≡ n * d.period = ap (λ n. n * d.period) one.1 in
+      omega (arith, is-v.at, is-w.at, before)
 
   enabled_at : (t : ℕ) (e : Enable)
       → In e (word_at image t).enables
-      → (v : ℕ) × (ends_at d p v ≡ t % d.period) × IsEnableOf p v e
-  enabled_at t e among =
-      runs.enable_only (t / d.period) (t % d.period) e (mod-lt t plan.period)
-      (subst (λ t. Contains (word_at image t).enables e) (split t d.period) (Contains-from_In among))
+      → (v : ℕ) × (n : ℕ) × (t ≡ n * d.period + ends_at d p v) × IsEnableOf p v e
+  enabled_at t e among = runs.enable_only t e (Contains-from_In among)
 
   taken_at : (t : ℕ) (take : Take)
       → In take (word_at image t).takes
-      → (k : ℕ) × (k < length p.arcs) × ((arc_at p k).w ≡ t % d.period)
-      × IsTakeIn p image k (t / d.period) t take
-  taken_at t take among =
-      let only = runs.take_only (t / d.period) (t % d.period) take (mod-lt t plan.period)
-      (subst (λ t. Contains (word_at image t).takes take) (split t d.period) (Contains-from_In among)) in (
-        only.0,
-        only.1,
-        only.2,
-        subst (λ t'. IsTakeIn p image only.0 (t / d.period) t' take) (sym (split t d.period)) only.3,
-      )
+      → (k : ℕ) × (n : ℕ) × (k < length p.arcs) × (t ≡ n * d.period + ends_at d p (arc_at p k).node)
+      × IsTakeIn d p image k n t take
+  taken_at t take among = runs.take_only t take (Contains-from_In among)
+
+  -- of one file, in one cycle, is one lifetime in one sample
+  one_taken : (t j m k n : ℕ)
+      → j < length p.arcs
+      → k < length p.arcs
+      → (arc_at p j).port ≡ (arc_at p k).port
+      → t ≡ m * d.period + ends_at d p (arc_at p j).node
+      → t ≡ n * d.period + ends_at d p (arc_at p k).node
+      → (j ≡ k) × (m ≡ n)
+  one_taken t j m k n in-j in-k port at at' =
+      let one = one_place (arc_at p j).w (arc_at p k).w (m + shift_of d p j) (n + shift_of d p k) d.period
+      (plan.arcs j in-j).lifetime.written (plan.arcs k in-k).lifetime.written
+      (omega (
+        arith,
+        at,
+        at',
+        (plan.arcs j in-j).written,
+        (plan.arcs k in-k).written,
+        add-mul m (shift_of d p j) d.period,
+        add-mul n (shift_of d p k) d.period,
+      )) in
+      let arc : j ≡ k = plan.file_free j k in-j in-k port one.0 in
+      (arc, omega (arith, one.1, ap (shift_of d p) arc))
 
   one_driver : (t b : ℕ) → 2 ≤ count_by (λ (e : Enable). e.bus == b) (word_at image t).enables → ⊥
   one_driver t b h =
@@ -162,11 +136,11 @@ module _ (d : Datapath) (p : Plan) (words : Counted) (plan : IsFeasible d p) (im
       (λ e f in-e in-f on-e on-f differ.
       let a = enabled_at t e in-e in
       let c = enabled_at t f in-f in
-      let is-e : IsEnableOf p a.0 e = a.2 in
-      let is-f : IsEnableOf p c.0 f = c.2 in
+      let is-e : IsEnableOf p a.0 e = a.3 in
+      let is-f : IsEnableOf p c.0 f = c.3 in
       let bus : e.bus ≡ f.bus = grind (arith, on-e, on-f) in
-      let node : a.0 ≡ c.0 = plan.bus_free a.0 c.0 is-e.transfer.0 is-f.transfer.0 is-e.node is-f.node
-      is-e.transfer.1 is-f.transfer.1 (a.1 ∙ sym c.1) (is-e.transfer.2 ∙ bus ∙ sym is-f.transfer.2) in
+      let node : a.0 ≡ c.0 = plan.bus_free a.0 c.0 a.1 c.1 is-e.transfer.0 is-f.transfer.0 is-e.node is-f.node
+      is-e.transfer.1 is-f.transfer.1 (omega (arith, a.2, c.2)) (is-e.transfer.2 ∙ bus ∙ sym is-f.transfer.2) in
       differ (sym is-e.unit ∙ ap (unit_at p) node ∙ is-f.unit) bus)
       (two (λ (e : Enable). e.bus == b) (word_at image t).enables h)
 
@@ -177,24 +151,23 @@ module _ (d : Datapath) (p : Plan) (words : Counted) (plan : IsFeasible d p) (im
       (λ a b in-a in-b on-a on-b differ.
       let j = taken_at t a in-a in
       let k = taken_at t b in-b in
-      let is-a : IsTakeIn p image j.0 (t / d.period) t a = j.3 in
-      let is-b : IsTakeIn p image k.0 (t / d.period) t b = k.3 in
-      let small : a.port.port < 4 = subst (λ (q : PortRef). q.port < 4) (sym is-a.port) (plan.ports j.0 j.1) in
-      let small' : b.port.port < 4 = subst (λ (q : PortRef). q.port < 4) (sym is-b.port) (plan.ports k.0 k.1) in
+      let is-a : IsTakeIn d p image j.0 j.1 t a = j.4 in
+      let is-b : IsTakeIn d p image k.0 k.1 t b = k.4 in
+      let small : a.port.port < 4 = subst (λ (q : PortRef). q.port < 4) (sym is-a.port) (plan.ports j.0 j.2) in
+      let small' : b.port.port < 4 = subst (λ (q : PortRef). q.port < 4) (sym is-b.port) (plan.ports k.0 k.2) in
       let port : a.port ≡ b.port = file_same f a b small small' on-a on-b in
-      let arc : j.0 ≡ k.0 =
-      plan.file_free j.0 k.0 j.1 k.1 (sym is-a.port ∙ port ∙ is-b.port) (j.2 ∙ sym k.2) in
-      differ port (same_bus t j.0 k.0 a b is-a is-b j.1 arc)
-      (is-a.reg ∙ ap (λ k. register_in p k (t / d.period)) arc ∙ sym is-b.reg))
+      let one = one_taken t j.0 j.1 k.0 k.1 j.2 k.2 (sym is-a.port ∙ port ∙ is-b.port) j.3 k.3 in
+      differ port (same_bus t j.0 k.0 j.1 k.1 a b is-a is-b j.2 one.0)
+      (is-a.reg ∙ ap₂ (λ k n. register_in d p k n) one.0 one.1 ∙ sym is-b.reg))
       (two (λ (k : Take). file_of k == f) (word_at image t).takes h)
     where
-      same_bus : (t j k : ℕ) (a b : Take)
-          → IsTakeIn p image j (t / d.period) t a
-          → IsTakeIn p image k (t / d.period) t b
+      same_bus : (t j k m n : ℕ) (a b : Take)
+          → IsTakeIn d p image j m t a
+          → IsTakeIn d p image k n t b
           → j < length p.arcs
           → j ≡ k
           → a.bus ≡ b.bus
-      same_bus t j k a b is-a is-b in-j arc =
+      same_bus t j k m n a b is-a is-b in-j arc =
           let from : IsTransferOf p j is-a.transfer.0 = is-a.transfer.1 in
           let from' : IsTransferOf p j is-b.transfer.0 =
           subst (λ k. IsTransferOf p k is-b.transfer.0) (sym arc) is-b.transfer.1 in
@@ -210,7 +183,7 @@ module _ (d : Datapath) (p : Plan) (words : Counted) (plan : IsFeasible d p) (im
   some_driver t b some none =
       let take = passing (λ (k : Take). k.bus == b) (word_at image t).takes some in
       let k = taken_at t take.it take.among in
-      let is : IsTakeIn p image k.0 (t / d.period) t take.it = k.3 in
+      let is : IsTakeIn d p image k.0 k.1 t take.it = k.4 in
       let bus : take.it.bus ≡ b = grind (arith, take.passes) in
       let count : 0 < count_by (λ (e : Enable). e.bus == take.it.bus) (word_at image t).enables =
       find_count (λ (e : Enable). e.bus == take.it.bus) is.driver.0 (word_at image t).enables is.driver.1 in
@@ -227,11 +200,11 @@ module _ (d : Datapath) (p : Plan) (words : Counted) (plan : IsFeasible d p) (im
       let e = passing (λ (e : Enable). e.unit == u) (word_at image t).enables some in
       let a = enabled_at t e.it e.among in
       let v : ℕ = a.0 in
-      let is : IsEnableOf p v e.it = a.2 in
-      let n : ℕ = t / d.period in
+      let n : ℕ = a.1 in
+      let is : IsEnableOf p v e.it = a.3 in
       let unit : unit_at p v ≡ u = is.unit ∙ grind (arith, e.passes) in
-      let at : t ≡ n * d.period + ends_at d p v = split t d.period ∙ ap (λ c. n * d.period + c) (sym a.1) in
-      let in-n : n < length stream = below_count n d.period t (length stream) (omega (arith, split t d.period)) below in
+      let at : t ≡ n * d.period + ends_at d p v = a.2 in
+      let in-n : n < length stream = below_count n d.period t (length stream) (omega (arith, at)) below in
       let le : t ≤ length stream * d.period = omega arith in
       let result = result_right d p words plan image z stream runs solves rows v n
       (subst (AllRight d p words plan image z stream runs solves rows) at
@@ -258,7 +231,7 @@ module _ (d : Datapath) (p : Plan) (words : Counted) (plan : IsFeasible d p) (im
       → n < length stream
       → t ≤ length stream * d.period
       → t ≡ n * d.period + cycle_at p v
-      → IsIssueIn p v n issue
+      → IsIssueIn d p image v n issue
       → 0 < length (node_at p v).edges
       → HasAddress d p v ram offset
       → unit_at p v ≡ ram
@@ -283,8 +256,7 @@ module _ (d : Datapath) (p : Plan) (words : Counted) (plan : IsFeasible d p) (im
 
   some_cells : (l : ℕ) → l < length p.assigned.lowered.lines → 0 < cells_on d (line_at p l).ram
   some_cells l in-l =
-      let room : (line_at p l).offset + (line_at p l).depth < cells_on d (line_at p l).ram = (plan.lines l in-l).room in
-      omega arith
+      omega (arith, (plan.lines l in-l).room)
 
   no_outside : (t u : ℕ) (issue : Issue)
       → t < length stream * d.period
@@ -295,13 +267,13 @@ module _ (d : Datapath) (p : Plan) (words : Counted) (plan : IsFeasible d p) (im
   no_outside t u issue below e memory out =
       let a = issued_at t u (ap is_some e) in
       let v : ℕ = a.0 in
-      let n : ℕ = t / d.period in
-      let as' : IsIssuedAt t u v = a.1 in
+      let n : ℕ = a.1 in
+      let as' : IsIssuedAt t u v n = a.2 in
       let its = runs.issue v n as'.there in
       let same : its.0 ≡ issue =
       some_same its.0 issue (issue_at image t u) (ap₂ (issue_at image) as'.at (sym as'.unit) ∙ its.1) e in
-      let is : IsIssueIn p v n issue = subst (IsIssueIn p v n) same its.2 in
-      let in-n : n < length stream = below_count n d.period t (length stream) (omega (arith, split t d.period)) below in
+      let is : IsIssueIn d p image v n issue = subst (IsIssueIn d p image v n) same its.2 in
+      let in-n : n < length stream = below_count n d.period t (length stream) (omega (arith, as'.at)) below in
       let out' : IsOutside (length (unit_of image (unit_at p v)).cells) (operand image (Log image z t) t issue 0) =
       subst (λ u. IsOutside (length (unit_of image u).cells) (operand image (Log image z t) t issue 0)) (sym as'.unit)
       out in

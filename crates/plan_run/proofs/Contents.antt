@@ -1,36 +1,40 @@
 -- All places hold what is wanted of them: each live word that is written in a cycle is there from the next cycle on,
 -- until it is read for the last time.
-use Rattle.std.proofs.Common.{◌≡◌, ℕ, suc, ◌+◌, ◌-◌, ◌*◌, ◌<◌, ◌≤◌, refl, sym, ap, ◌∙◌, arith, [], ◌∷◌, length, true, Some, subst}
+use Rattle.std.proofs.Common.{◌≡◌, ℕ, suc, ◌+◌, ◌-◌, ◌*◌, ◌<◌, ◌≤◌, refl, sym, ap, ◌∙◌, arith, ⊎_elim, [], ◌∷◌, length, pos, true, Some, subst}
 use Rattle.std.specs.List.{Contains, flat_map, range_with_len}
+use Rattle.std.proofs.lemmas.Bool.{cases_lt}
 use Rattle.std.proofs.Math.Nat.{add-mul, mul-le-mul_right}
 use Rattle.lists.specs.Rows.{Rows}
 use Rattle.fix_word.specs.declared.operation.Op.TheVariants as op
 use Rattle.operations.specs.Ranges.{to_nat}
 use Rattle.datapath.specs.declared.types.Datapath.{Datapath}
+use Rattle.plan_core.specs.Hardware.{cells_on}
 use Rattle.plan_core.specs.declared.plan.Plan.{Plan}
 use Rattle.micro_image.specs.declared.image.Issue.{Issue}
 use Rattle.micro_image.specs.declared.image.Take.{Take}
 use Rattle.micro_image.specs.declared.image.Image.{Image}
 use Rattle.micro_image.specs.Fields.{nth, word_at, began, ending}
-use Rattle.micro_image.specs.Log.{Place, Latch, Cell, Entry, same_place, Log, Content, operand, value, entries_by, taken, written, written_of, written_by}
+use Rattle.micro_image.specs.Log.{Place, Register, Latch, Cell, Entry, same_place, Log, Content, operand, value, entries_by, taken, written, written_of, written_by}
 use Rattle.micro_image.proofs.Each.{In, In-append_left, In-append_right, In-flat_map, In-from_Contains, Each-then}
 use Rattle.micro_image.proofs.LogLaws.{content-unwritten}
 use Rattle.micro_image.proofs.LogWrites.{content-written}
 use Rattle.plan_run.specs.Parts.{nodes_of, lines_of, node_at, unit_at, cycle_at, arc_at, line_at, ends_at}
 use Rattle.plan_run.specs.Private.Samples.{past}
+use Rattle.plan_run.specs.Private.Overlap.{Overlap, shift_of}
+use Rattle.plan_run.specs.Private.Cells.{cell_in}
 use Rattle.plan_run.specs.Private.Memory.{store_of}
 use Rattle.plan_run.specs.Private.Solution.{Counted, LoweredSolves}
-use Rattle.plan_run.specs.Private.Feasible.{IsFeasible, IsFeasibleLine}
-use Rattle.plan_run.specs.Private.Executes.{Executes, IsIssueIn, IsTakeIn}
+use Rattle.plan_run.specs.Private.Feasible.{IsFeasibleOver, IsFeasibleLine}
+use Rattle.plan_run.specs.Private.Executes.{ExecutesOver, IsIssueIn, IsTakeIn, register_in}
 use Rattle.plan_run.proofs.Elements.{In-range_of}
-use Rattle.plan_run.proofs.Samples.{one_more, sample_upto, below_count}
+use Rattle.plan_run.proofs.Samples.{one_more, below_count}
 use Rattle.plan_run.proofs.Slots.{Keeps, right}
-use Rattle.plan_run.proofs.LiveWords.{LiveWord, in_register, in_cell, in_latch, place_of, written_at, wanted_to, word_of, below_period, words_apart, lives, preloaded}
-use Rattle.plan_run.proofs.ReadsRight.{AllRight, store_place, ends_then, began_then}
-use Rattle.plan_run.proofs.Writes.{writes_of_words, taken_word, same_sound, same_self, not_same, from_past, in_one}
+use Rattle.plan_run.proofs.LiveWords.{LiveWord, in_register, in_cell, in_latch, at_first, stored_in, place_of, written_at, wanted_to, word_of, stored_late, stored_early, words_apart, lives, preloaded}
+use Rattle.plan_run.proofs.ReadsRight.{AllRight, near_now, store_place, ends_then, began_then}
+use Rattle.plan_run.proofs.Writes.{writes_of_words, live_in, taken_word, output_no_address, same_sound, same_self, not_same, from_past, in_one}
 
-module _ (d : Datapath) (p : Plan) (words : Counted) (plan : IsFeasible d p) (image : Image) (z stream : Rows)
-    (runs : Executes d p image) (solves : LoweredSolves d p stream words)
+module _ {o : Overlap} (d : Datapath) (p : Plan) (words : Counted) (plan : IsFeasibleOver o d p) (image : Image)
+    (z stream : Rows) (runs : ExecutesOver o d p image) (solves : LoweredSolves d p stream words)
     (rows : (n c : ℕ) → c < d.period → nth z (n * d.period + c) [] ≡ nth stream n []) where
   abbrev RightAt : ℕ → Type 0
   RightAt t = AllRight d p words plan image z stream runs solves rows t
@@ -38,7 +42,7 @@ module _ (d : Datapath) (p : Plan) (words : Counted) (plan : IsFeasible d p) (im
   unwritten : (place : Place) (t : ℕ)
       → t < length stream * d.period
       → RightAt t
-      → ((b : LiveWord p) → written_at d p words b ≡ past * d.period + t → place_of d p words b ≡ place → ⊥)
+      → ((b : LiveWord o p) → written_at o d p words b ≡ past * d.period + t → place_of o d p words b ≡ place → ⊥)
       → Content image z place (suc t) ≡ Content image z place t
   unwritten place t below right never =
       content-unwritten image z place t
@@ -51,23 +55,29 @@ module _ (d : Datapath) (p : Plan) (words : Counted) (plan : IsFeasible d p) (im
     pub among : In entry (entries_by image z (Log image z t) t)
     pub place_is : entry.place ≡ place
 
+  -- the words of a lifetime and of a line in sample n
+  abbrev live_at : (k n : ℕ) → k < length p.arcs → LiveWord o p
+  live_at = live_in d p words plan image z stream runs solves rows
+
+  abbrev stored_at : (l n : ℕ) → l < length (lines_of p) → LiveWord o p
+  stored_at l n there = in_cell l (past + n) there (near_now n (line_at p l).depth)
+
   write_register : (k n t : ℕ) (there : k < length p.arcs)
-      → t ≡ n * d.period + (arc_at p k).w
+      → t ≡ n * d.period + ends_at d p (arc_at p k).node
       → n < length stream
       → RightAt t
-      → IsWritten t (place_of d p words (in_register k (past + n) there))
+      → IsWritten t (place_of o d p words (live_at k n there))
   unfolding entries_by
   write_register k n t in-k at in-n right =
-      let at' : t ≡ n * d.period + ends_at d p (arc_at p k).node =
-      at ∙ ap (λ c. n * d.period + c) (plan.arcs k in-k).written in
       let take : Take = (runs.take k n in-k).0 in
       let among : Contains (word_at image t).takes take =
       subst (λ t. Contains (word_at image t).takes take) (sym at) (runs.take k n in-k).1 in
-      let is : IsTakeIn p image k n t take = subst (λ t. IsTakeIn p image k n t take) (sym at) (runs.take k n in-k).2 in
-      let made = taken_word d p words plan image z stream runs solves rows k n t take in-k in-n at' right is in
+      let is : IsTakeIn d p image k n t take =
+      subst (λ t. IsTakeIn d p image k n t take) (sym at) (runs.take k n in-k).2 in
+      let made = taken_word d p words plan image z stream runs solves rows k n t take in-k in-n at right is in
       record {
         entry = record {
-          place = place_of d p words (in_register k (past + n) in-k);
+          place = place_of o d p words (live_at k n in-k);
           cycle = t;
           unit = made.0;
           value = words (arc_at p k).node (past + n);
@@ -105,7 +115,7 @@ module _ (d : Datapath) (p : Plan) (words : Counted) (plan : IsFeasible d p) (im
       → IsWritten t (Latch (to_nat (node_at p v).arg))
   write_latch v n t in-v is-output at =
       let issue : Issue = (runs.issue v n in-v).0 in
-      let is : IsIssueIn p v n issue = (runs.issue v n in-v).2 in
+      let is : IsIssueIn d p image v n issue = (runs.issue v n in-v).2 in
       let b : ℕ = began image t (unit_at p v) in
       let e : Entry = record {
         place = Latch (to_nat issue.arg);
@@ -117,20 +127,20 @@ module _ (d : Datapath) (p : Plan) (words : Counted) (plan : IsFeasible d p) (im
         entry = e;
         among = written_by_node v n t issue e in-v (ends_at_t v n t in-v at)
             (ap (λ o. written_by o image z (Log image z t) t b issue) (is.op ∙ is-output));
-        place_is = ap (λ a. Latch (to_nat a)) is.arg;
+        place_is = ap (λ a. Latch (to_nat a)) (is.arg (output_no_address (node_at p v).op is-output));
       }
 
   write_cell : (l n t : ℕ) (there : l < length (lines_of p))
       → n < length stream
       → RightAt t
       → t ≡ n * d.period + ends_at d p (store_of (line_at p l))
-      → IsWritten t (place_of d p words (in_cell l (past + n) (plan.lines l there).stores.there))
+      → IsWritten t (place_of o d p words (stored_at l n (plan.lines l there).stores.there))
   write_cell l n t in-l in-n right at =
-      let line : IsFeasibleLine d p l = plan.lines l in-l in
+      let line : IsFeasibleLine o d p l = plan.lines l in-l in
       let v : ℕ = store_of (line_at p l) in
       let in-v : v < length (nodes_of p) = line.store in
       let issue : Issue = (runs.issue v n in-v).0 in
-      let is : IsIssueIn p v n issue = (runs.issue v n in-v).2 in
+      let is : IsIssueIn d p image v n issue = (runs.issue v n in-v).2 in
       let b : ℕ = began image t (unit_at p v) in
       let begun : b ≡ n * d.period + cycle_at p v =
       ap (λ t. began image t (unit_at p v)) at ∙ began_then d p words plan image z stream runs solves rows v n in
@@ -149,60 +159,82 @@ module _ (d : Datapath) (p : Plan) (words : Counted) (plan : IsFeasible d p) (im
             (omega arith);
       }
 
-  -- a word that is written in cycle t, at cycle w of its sample, is of a sample of the stream
-  sample_then : (w s t : ℕ)
-      → w < d.period
-      → w + s * d.period ≡ past * d.period + t
-      → past ≤ s
-  sample_then w s t in-w starts = sample_upto s past w d.period in-w (omega (arith, starts))
-
   cycle_then : (w n t : ℕ) → w + (past + n) * d.period ≡ past * d.period + t → t ≡ n * d.period + w
   cycle_then w n t starts =
       let whole : (past + n) * d.period ≡ past * d.period + n * d.period = add-mul past n d.period in omega arith
 
-  pub is_written : (b : LiveWord p) (t : ℕ)
+  -- what a lifetime is given in the run is of a sample of the stream
+  sample_taken : (k s t : ℕ)
+      → k < length p.arcs
+      → o.first ≤ s
+      → ends_at d p (arc_at p k).node + s * d.period ≡ past * d.period + t
+      → past ≤ s
+  sample_taken k s t in-k from starts =
+      ⊎_elim
+      (λ (early : s < past). absurd (omega (arith, plan.early k s in-k from early, starts)))
+      (λ (late : past ≤ s). late)
+      (cases_lt s past)
+
+  -- and what a line is given
+  sample_stored : (s e t : ℕ) → stored_in s e + s * d.period ≡ past * d.period + t → past ≤ s
+  sample_stored s e t starts =
+      ⊎_elim
+      (λ (early : s < past).
+      absurd (let le : (s + 1) * d.period ≤ past * d.period = mul-le-mul_right d.period (omega (arith, early)) in
+      omega (arith, le, one_more s d.period, stored_early s e early, starts, plan.period)))
+      (λ (late : past ≤ s). late)
+      (cases_lt s past)
+
+  pub is_written : (b : LiveWord o p) (t : ℕ)
       → t < length stream * d.period
       → RightAt t
-      → written_at d p words b ≡ past * d.period + t
-      → IsWritten t (place_of d p words b)
-  is_written (in_register k s in-k) t below right starts =
-      let w : ℕ = (arc_at p k).w in
+      → written_at o d p words b ≡ past * d.period + t
+      → IsWritten t (place_of o d p words b)
+  is_written (in_register k s in-k from) t below right starts =
+      let w : ℕ = ends_at d p (arc_at p k).node in
       let n : ℕ = s - past in
-      let e : s ≡ past + n = from_past s (sample_then w s t (plan.arcs k in-k).lifetime.written starts) in
-      let at : t ≡ n * d.period + w = cycle_then w n t (ap (λ s. w + s * d.period) (sym e) ∙ starts) in
-      subst (λ s. IsWritten t (place_of d p words (in_register k s in-k))) (sym e)
+      let ends : w + s * d.period ≡ past * d.period + t =
+      omega (arith, starts, (plan.arcs k in-k).written, add-mul s (shift_of d p k) d.period) in
+      let e : s ≡ past + n = from_past s (sample_taken k s t in-k from ends) in
+      let at : t ≡ n * d.period + w = cycle_then w n t (ap (λ s. w + s * d.period) (sym e) ∙ ends) in
+      subst (λ s. IsWritten t (Register (arc_at p k).port.unit (arc_at p k).port.port (register_in d p k s))) (sym e)
       (write_register k n t in-k at (below_count n d.period t (length stream) (omega arith) below) right)
-  is_written (in_cell l s in-l) t below right starts =
+  is_written (in_cell l s in-l near) t below right starts =
       let w : ℕ = ends_at d p (store_of (line_at p l)) in
       let n : ℕ = s - past in
-      let in-w : w < d.period = below_period d p words plan (store_of (line_at p l)) (plan.lines l in-l).store in
-      let e : s ≡ past + n = from_past s (sample_then w s t in-w starts) in
-      let at : t ≡ n * d.period + w = cycle_then w n t (ap (λ s. w + s * d.period) (sym e) ∙ starts) in
-      subst (λ s. IsWritten t (place_of d p words (in_cell l s in-l))) (sym e)
+      let late : past ≤ s = sample_stored s w t starts in
+      let e : s ≡ past + n = from_past s late in
+      let at : t ≡ n * d.period + w =
+      cycle_then w n t
+      (ap (λ s. w + s * d.period) (sym e) ∙ ap (λ w. w + s * d.period) (sym (stored_late s w late)) ∙ starts) in
+      subst
+      (λ s. IsWritten t (Cell (line_at p l).ram (cell_in (cells_on d (line_at p l).ram) past (line_at p l).offset s)))
+      (sym e)
       (write_cell l n t in-l (below_count n d.period t (length stream) (omega arith) below) right at)
   is_written (in_latch v s in-v is from) t below right starts =
       let w : ℕ = ends_at d p v in
       let n : ℕ = s - past in
       write_latch v n t in-v is
       (cycle_then w n t (ap (λ s. w + s * d.period) (sym (from_past s from)) ∙ starts))
+  is_written (at_first v in-v is) t below right starts = absurd (omega (arith, starts, plan.period))
 
-  written_right : (b : LiveWord p) (t : ℕ)
+  written_right : (b : LiveWord o p) (t : ℕ)
       → t < length stream * d.period
       → RightAt t
-      → written_at d p words b ≡ past * d.period + t
-      → Content image z (place_of d p words b) (suc t) ≡ word_of d p words b
+      → written_at o d p words b ≡ past * d.period + t
+      → Content image z (place_of o d p words b) (suc t) ≡ word_of o d p words b
   written_right b t below right starts =
       let is = is_written b t below right starts in
-      content-written image z (place_of d p words b) (word_of d p words b) t is.entry is.among
-      (subst (λ place. same_place place (place_of d p words b) ≡ true) (sym is.place_is)
-      (same_self (place_of d p words b)))
+      content-written image z (place_of o d p words b) (word_of o d p words b) t is.entry is.among
+      (subst (λ place. same_place place (place_of o d p words b) ≡ true) (sym is.place_is)
+      (same_self (place_of o d p words b)))
       (Each-then (λ e of same. of.value ∙ (words_apart d p words plan of.live b (suc (past * d.period + t))
-      (sym of.place ∙ same_sound e.place (place_of d p words b) same)
+      (sym of.place ∙ same_sound e.place (place_of o d p words b) same)
       (omega (arith, of.starts)) (omega (arith, of.starts, lives d p words plan of.live))
       (omega (arith, starts)) (omega (arith, starts, lives d p words plan b))).1)
       (writes_of_words d p words plan image z stream runs solves rows t below right))
 
-  keeps : Keeps (place_of d p words) (written_at d p words) (wanted_to d p words) (word_of d p words)
+  keeps : Keeps (place_of o d p words) (written_at o d p words) (wanted_to o d p words) (word_of o d p words)
       (past * d.period) (length stream * d.period) (Content image z)
   keeps = record {
     apart = words_apart d p words plan;
@@ -215,19 +247,42 @@ module _ (d : Datapath) (p : Plan) (words : Counted) (plan : IsFeasible d p) (im
   -- at each cycle of the run each place holds what is wanted of it
   pub all_right : (t : ℕ) → t ≤ length stream * d.period → RightAt t
   all_right =
-      right (place_of d p words) (written_at d p words) (wanted_to d p words) (word_of d p words) (past * d.period)
-      (length stream * d.period) (Content image z) keeps
+      right (place_of o d p words) (written_at o d p words) (wanted_to o d p words) (word_of o d p words)
+      (past * d.period) (length stream * d.period) (Content image z) keeps
 
-  -- so each output latch holds at the end of a sample the word of its node
+  -- the last stage takes a period
+  last_stage : o.stages * d.period ≡ (o.stages - 1) * d.period + d.period
+  last_stage =
+      ap (λ n. n * d.period) (whole o.stages plan.stages) ∙ one_more (o.stages - 1) d.period
+    where
+      whole : (n : ℕ) → 0 < n → n ≡ n - 1 + 1
+      whole n some = omega (arith, some)
+
+  -- so each output latch holds at the end of the last stage of a sample the word of its node
   pub latch_right : (v n : ℕ)
       → v < length (nodes_of p)
       → (node_at p v).op ≡ op.Output
-      → n < length stream
-      → Content image z (Latch (to_nat (node_at p v).arg)) ((n + 1) * d.period) ≡ words v (past + n)
+      → n + o.stages ≤ length stream
+      → Content image z (Latch (to_nat (node_at p v).arg)) ((n + o.stages) * d.period) ≡ words v (past + n)
   latch_right v n in-v is in-n =
       let whole : (past + n) * d.period ≡ past * d.period + n * d.period = add-mul past n d.period in
-      let next : (n + 1) * d.period ≡ n * d.period + d.period = one_more n d.period in
-      let le : (n + 1) * d.period ≤ length stream * d.period = mul-le-mul_right d.period (omega arith) in
-      let ends : ends_at d p v < d.period = below_period d p words plan v in-v in
-      all_right ((n + 1) * d.period) le (in_latch v (past + n) in-v is (omega arith)) ((n + 1) * d.period)
-      (omega arith) (omega arith) (omega arith)
+      let later : (n + o.stages) * d.period ≡ n * d.period + o.stages * d.period = add-mul n o.stages d.period in
+      let le : (n + o.stages) * d.period ≤ length stream * d.period = mul-le-mul_right d.period in-n in
+      let ends : ends_at d p v < o.stages * d.period = plan.fits v in-v in
+      all_right ((n + o.stages) * d.period) le (in_latch v (past + n) in-v is (omega arith))
+      ((n + o.stages) * d.period) (omega arith) (omega arith)
+      (omega (arith, whole, later, last_stage, plan.outputs_last v in-v is))
+
+  -- and before the first word 0
+  pub latch_first : (v n : ℕ)
+      → v < length (nodes_of p)
+      → (node_at p v).op ≡ op.Output
+      → n + 1 < o.stages
+      → n < length stream
+      → Content image z (Latch (to_nat (node_at p v).arg)) ((n + 1) * d.period) ≡ pos 0
+  latch_first v n in-v is early in-n =
+      let le : (n + 1) * d.period ≤ length stream * d.period = mul-le-mul_right d.period (omega (arith, in-n)) in
+      let before : (n + 1) * d.period ≤ (o.stages - 1) * d.period =
+      mul-le-mul_right d.period (omega (arith, early)) in
+      all_right ((n + 1) * d.period) le (at_first v in-v is) ((n + 1) * d.period) (omega arith)
+      (omega (arith, plan.period)) (omega (arith, before, plan.outputs_last v in-v is))

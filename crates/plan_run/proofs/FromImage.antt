@@ -1,7 +1,10 @@
 -- The image of a feasible plan does at each cycle of the run what the plan has there.
 use Rattle.std.proofs.Common.{◌≡◌, ℕ, ◌+◌, ◌-◌, ◌*◌, ◌/◌, ◌%◌, ◌<◌, ◌≤◌, ◌==◌, refl, sym, ap, ap₂, ◌∙◌, arith, ⊎_elim, length, List, slice_index_or, Some, true, subst}
 use Rattle.std.specs.List.{Contains, AllPairs}
+use Rattle.std.specs.Int.{int_rem_euclid}
+use Rattle.std.specs.Prelude.{pos, ◌-ℤ◌}
 use Rattle.std.proofs.lemmas.Bool.{cases_lt}
+use Rattle.std.proofs.lemmas.Nat.{div-mul-add}
 use Rattle.std.proofs.Math.Nat.{mod-lt, mul-le-mul_right, add-mul, mod-add-mod, mul-add-mod_self_right, mod-eq_of_lt, mod-mod_of_dvd, dvd_of_mod-eq-zero}
 use Rattle.datapath.specs.declared.types.Datapath.{Datapath}
 use Rattle.plan_core.specs.Hardware.{latency_on, gap_on, cells_on, tie_of, no_unit}
@@ -12,7 +15,7 @@ use Rattle.micro_image.specs.declared.image.Issue.{Issue}
 use Rattle.micro_image.specs.declared.image.Take.{Take}
 use Rattle.micro_image.specs.declared.image.UnitDesc.{UnitDesc}
 use Rattle.micro_image.specs.declared.image.Image.{Image}
-use Rattle.micro_image.specs.Fields.{nth, no_word, no_unit as no_desc, unit_of, word_at, issue_at, driver_at}
+use Rattle.micro_image.specs.Fields.{nth, no_word, no_unit as no_desc, unit_of, word_at, sample_of, issue_at, driver_at}
 use Rattle.micro_image.specs.Log.{Register, initial}
 use Rattle.micro_image.specs.Valid.{EnableBefore, TakeBefore}
 use Rattle.micro_image.proofs.Each.{In-from_Contains}
@@ -20,8 +23,10 @@ use Rattle.signal_graph.specs.Rules.{word_before}
 use Rattle.plan_run.specs.Parts.{nodes_of, node_at, edge_at, unit_at, cycle_at, arc_at, line_at, register_at, IsTransferOf, ends_at, IsCopy}
 use Rattle.plan_run.specs.ImageOf.{IsIssueOf, IsWordOf, IsImageOf, enable_of, take_of}
 use Rattle.plan_run.specs.Private.Samples.{past}
+use Rattle.plan_run.specs.Private.Overlap.{shift_of}
 use Rattle.plan_run.specs.Private.Feasible.{IsFeasible}
 use Rattle.plan_run.specs.Private.Executes.{Executes, IsIssueIn, IsTakeIn, IsEnableOf, register_in}
+use Rattle.plan_run.proofs.Ordinary as ordinary
 use Rattle.plan_run.proofs.Elements.{Contains-from_In, nth_past, found, find_among}
 use Rattle.plan_run.proofs.Samples.{split, one_more}
 use Rattle.plan_run.proofs.Spans.{sample_start}
@@ -67,7 +72,7 @@ word_number n c q u some below =
 turn_of : (n unroll copies : ℕ) → unroll % copies ≡ 0 → n % unroll % copies ≡ n % copies
 turn_of n unroll copies divides = mod-mod_of_dvd copies n (dvd_of_mod-eq-zero copies divides)
 
-back_to : (n ago : ℕ) → ago < past → past + n - ago + ago ≡ past + n
+back_to : (n ago : ℕ) → ago ≤ past → past + n - ago + ago ≡ past + n
 back_to n ago small = omega arith
 
 -- the copy that holds the word of so many samples before sample n
@@ -75,7 +80,7 @@ pub copy_read : (n unroll copies ago : ℕ)
     → 0 < copies
     → unroll % copies ≡ 0
     → past % unroll ≡ 0
-    → ago < past
+    → ago ≤ past
     → IsCopy copies (n % unroll) ago ((past + n - ago) % copies)
 copy_read n unroll copies ago some divides turns small = record {
   there = mod-lt (past + n - ago) some;
@@ -129,28 +134,34 @@ module _ (d : Datapath) (p : Plan) (plan : IsFeasible d p) (image : Image) (is :
       subst (λ t'. IsWordOf d p (t / d.period % p.unroll) (t % d.period) (word_at image t')) (sym (split t d.period))
       (word_of (t / d.period) (t % d.period) (mod-lt t plan.period))
 
+  in_period : (v : ℕ) → v < length (nodes_of p) → cycle_at p v < d.period
+  in_period = ordinary.in_period d p plan
+
+  ends_in : (v : ℕ) → v < length (nodes_of p) → ends_at d p v < d.period
+  ends_in = ordinary.ends_in d p plan
+
+  sample_is : (n c : ℕ) → c < d.period → sample_of image (n * d.period + c) ≡ n
+  sample_is n c below = ap (λ q. (n * d.period + c) / q) is.period ∙ div-mul-add n d.period c below
+
   issue_in : (v n : ℕ) (issue : Issue)
       → v < length (nodes_of p)
       → IsIssueOf d p v (n % p.unroll) issue
-      → IsIssueIn p v n issue
+      → IsIssueIn d p image v n issue
   issue_in v n issue in-v of = record {
     unit = of.unit;
     op = of.op;
     fmt = of.fmt;
-    arg = of.arg;
+    arg = λ _. of.arg;
+    address = λ _.
+        ap₂ (λ a m. int_rem_euclid (a -ℤ pos m) (pos (cells_on d (tie_of d (unit_at p v))))) of.arg
+        (sample_is n (cycle_at p v) (in_period v in-v));
     regs = λ q k through.
         of.read q k ((past + n - (edge_at p v q).delay) % (arc_at p k).copies) through
         (copy_read n p.unroll (arc_at p k).copies (edge_at p v q).delay
         (plan.arcs k through.there).lifetime.some (plan.arcs k through.there).lifetime.turns plan.turns
-        (plan.edges v q in-v through.reads.port).1);
+        (ordinary.delay_in d p plan v q in-v through.reads.port))
+        ∙ sym (ordinary.register_now d p plan k (past + n - (edge_at p v q).delay) through.there);
   }
-
-  in_period : (v : ℕ) → v < length (nodes_of p) → cycle_at p v < d.period
-  in_period v in-v =
-      let fits : cycle_at p v + latency_on d (unit_at p v) ≤ d.period = plan.fits v in-v in
-      let gap : 0 < gap_on d (unit_at p v) = (plan.gaps (unit_at p v)).0 in
-      let latency : gap_on d (unit_at p v) ≤ latency_on d (unit_at p v) = (plan.gaps (unit_at p v)).1 in
-      omega arith
 
   one_node : (u v : ℕ)
       → u < length (nodes_of p)
@@ -159,14 +170,14 @@ module _ (d : Datapath) (p : Plan) (plan : IsFeasible d p) (image : Image) (is :
       → cycle_at p u ≡ cycle_at p v
       → u ≡ v
   one_node u v in-u in-v unit cycle =
-      plan.unit_free u v in-u in-v unit (omega arith)
+      ordinary.unit_free d p plan u v in-u in-v unit (omega arith)
       (let some : 0 < gap_on d (unit_at p u) = (plan.gaps (unit_at p u)).0 in omega arith)
 
   issue_then : (v n : ℕ)
       → v < length (nodes_of p)
       → (issue : Issue)
       × (issue_at image (n * d.period + cycle_at p v) (unit_at p v) ≡ Some issue)
-      × IsIssueIn p v n issue
+      × IsIssueIn d p image v n issue
   issue_then v n in-v =
       let t : ℕ = n * d.period + cycle_at p v in
       let word = word_of n (cycle_at p v) (in_period v in-v) in
@@ -181,20 +192,23 @@ module _ (d : Datapath) (p : Plan) (plan : IsFeasible d p) (image : Image) (is :
         issue_in v n first.it in-v (subst (λ w. IsIssueOf d p w (n % p.unroll) first.it) node only.3),
       )
 
-  issue_only : (n c u : ℕ) (issue : Issue)
-      → c < d.period
-      → issue_at image (n * d.period + c) u ≡ Some issue
-      → (v : ℕ) × (v < length (nodes_of p)) × (unit_at p v ≡ u) × (cycle_at p v ≡ c)
-  issue_only n c u issue below at =
-      let first = find_among (λ (issue : Issue). issue.unit == u) issue (word_at image (n * d.period + c)).issues at in
-      let only = (word_of n c below).issue_only issue (Contains-from_In first.0) in
-      (only.0, only.1, sym only.3.unit ∙ is_number _ _ first.1, only.2)
+  at_cycle : (t c : ℕ) → c ≡ t % d.period → t ≡ t / d.period * d.period + c
+  at_cycle t c e = split t d.period ∙ ap (λ c. t / d.period * d.period + c) (sym e)
 
-  enable_only : (n c : ℕ) (e : Enable)
+  issue_only : (t u : ℕ) (issue : Issue)
+      → issue_at image t u ≡ Some issue
+      → (v : ℕ) × (n : ℕ) × (v < length (nodes_of p)) × (unit_at p v ≡ u) × (t ≡ n * d.period + cycle_at p v)
+  issue_only t u issue at =
+      let first = find_among (λ (issue : Issue). issue.unit == u) issue (word_at image t).issues at in
+      let only = (word_any t).issue_only issue (Contains-from_In first.0) in
+      (only.0, t / d.period, only.1, sym only.3.unit ∙ is_number _ _ first.1, at_cycle t (cycle_at p only.0) only.2)
+
+  -- a word has the enables of the results of its cycle
+  enable_in : (n c : ℕ) (e : Enable)
       → c < d.period
       → Contains (word_at image (n * d.period + c)).enables e
       → (v : ℕ) × (ends_at d p v ≡ c) × IsEnableOf p v e
-  enable_only n c e below among =
+  enable_in n c e below among =
       let only = (word_of n c below).enable_only e among in (
         only.0,
         only.3,
@@ -205,30 +219,38 @@ module _ (d : Datapath) (p : Plan) (plan : IsFeasible d p) (image : Image) (is :
         },
       )
 
+  enable_only : (t : ℕ) (e : Enable)
+      → Contains (word_at image t).enables e
+      → (v : ℕ) × (n : ℕ) × (t ≡ n * d.period + ends_at d p v) × IsEnableOf p v e
+  enable_only t e among =
+      let only = enable_in (t / d.period) (t % d.period) e (mod-lt t plan.period)
+      (subst (λ t. Contains (word_at image t).enables e) (split t d.period) among) in
+      (only.0, t / d.period, at_cycle t (ends_at d p only.0) only.1, only.2)
+
   -- the bus of a transfer is driven by the unit of its node
   driver : (k n : ℕ) (transfer : Transfer)
       → IsTransferOf p k transfer
       → (e : Enable)
-      × (driver_at image (n * d.period + (arc_at p k).w) transfer.bus ≡ Some e)
+      × (driver_at image (n * d.period + ends_at d p (arc_at p k).node) transfer.bus ≡ Some e)
       × (e.unit ≡ unit_at p (arc_at p k).node)
   driver k n transfer of =
       let v : ℕ = (arc_at p k).node in
       let arc = plan.arcs k of.there in
-      let c : ℕ = (arc_at p k).w in
-      let below : c < d.period = arc.lifetime.written in
-      let own = (word_of n c below).enable v transfer arc.node (sym arc.written) of.among in
+      let c : ℕ = ends_at d p v in
+      let below : c < d.period = ends_in v arc.node in
+      let own = (word_of n c below).enable v transfer arc.node refl of.among in
       let first = found (λ (e : Enable). e.bus == transfer.bus) (enable_of p v transfer)
       (word_at image (n * d.period + c)).enables (In-from_Contains _ _ own) (same_number transfer.bus) in
-      let only = enable_only n c first.it below (Contains-from_In first.among) in
+      let only = enable_in n c first.it below (Contains-from_In first.among) in
       let other : IsEnableOf p only.0 first.it = only.2 in
-      let node : only.0 ≡ v = plan.bus_free only.0 v other.transfer.0 transfer other.node arc.node other.transfer.1
-      of.among (only.1 ∙ arc.written) (other.transfer.2 ∙ is_number _ _ first.passes) in
+      let node : only.0 ≡ v = ordinary.bus_free d p plan only.0 v other.transfer.0 transfer other.node arc.node
+      other.transfer.1 of.among only.1 (other.transfer.2 ∙ is_number _ _ first.passes) in
       (first.it, first.is, sym other.unit ∙ ap (unit_at p) node)
 
   take_in : (k n : ℕ) (transfer : Transfer) (take : Take)
       → IsTransferOf p k transfer
       → take ≡ take_of p k transfer (n % p.unroll)
-      → IsTakeIn p image k n (n * d.period + (arc_at p k).w) take
+      → IsTakeIn d p image k n (n * d.period + ends_at d p (arc_at p k).node) take
   take_in k n transfer take of e =
       let arc = plan.arcs k of.there in
       let bus : take.bus ≡ transfer.bus = ap (λ (take : Take). take.bus) e in
@@ -236,35 +258,45 @@ module _ (d : Datapath) (p : Plan) (plan : IsFeasible d p) (image : Image) (is :
       record {
         port = ap (λ (take : Take). take.port) e ∙ of.port;
         reg = ap (λ (take : Take). take.reg) e
-            ∙ ap (register_at p k) (turn_of n p.unroll (arc_at p k).copies arc.lifetime.turns);
+            ∙ ap (register_at p k) (turn_of n p.unroll (arc_at p k).copies arc.lifetime.turns)
+            ∙ sym (ordinary.register_now d p plan k n of.there);
         transfer = (transfer, of, sym bus);
-        driver = (drives.0, ap (driver_at image (n * d.period + (arc_at p k).w)) bus ∙ drives.1, drives.2);
+        driver = (
+          drives.0,
+          ap (driver_at image (n * d.period + ends_at d p (arc_at p k).node)) bus ∙ drives.1,
+          drives.2,
+        );
       }
 
   take_then : (k n : ℕ)
       → k < length p.arcs
       → (take : Take)
-      × Contains (word_at image (n * d.period + (arc_at p k).w)).takes take
-      × IsTakeIn p image k n (n * d.period + (arc_at p k).w) take
+      × Contains (word_at image (n * d.period + ends_at d p (arc_at p k).node)).takes take
+      × IsTakeIn d p image k n (n * d.period + ends_at d p (arc_at p k).node) take
   take_then k n in-k =
       let transfer = (plan.arcs k in-k).transfer in (
         take_of p k transfer.0 (n % p.unroll),
-        (word_of n (arc_at p k).w (plan.arcs k in-k).lifetime.written).take k transfer.0 transfer.1 refl,
+        (word_of n (ends_at d p (arc_at p k).node) (ends_in (arc_at p k).node (plan.arcs k in-k).node)).take k
+            transfer.0 transfer.1 (ordinary.written d p plan k in-k),
         take_in k n transfer.0 _ transfer.1 refl,
       )
 
-  take_only : (n c : ℕ) (take : Take)
-      → c < d.period
-      → Contains (word_at image (n * d.period + c)).takes take
-      → (k : ℕ) × (k < length p.arcs) × ((arc_at p k).w ≡ c) × IsTakeIn p image k n (n * d.period + c) take
-  take_only n c take below among =
-      let only = (word_of n c below).take_only take among in
+  take_only : (t : ℕ) (take : Take)
+      → Contains (word_at image t).takes take
+      → (k : ℕ) × (n : ℕ) × (k < length p.arcs) × (t ≡ n * d.period + ends_at d p (arc_at p k).node)
+      × IsTakeIn d p image k n t take
+  take_only t take among =
+      let only = (word_any t).take_only take among in
       let k : ℕ = only.0 in
-      let of : IsTransferOf p k only.1 = only.2 in (
+      let n : ℕ = t / d.period in
+      let of : IsTransferOf p k only.1 = only.2 in
+      let at : t ≡ n * d.period + ends_at d p (arc_at p k).node =
+      at_cycle t (ends_at d p (arc_at p k).node) (sym (ordinary.written d p plan k of.there) ∙ only.3) in (
         k,
+        n,
         of.there,
-        only.3,
-        subst (λ c. IsTakeIn p image k n (n * d.period + c) take) only.3 (take_in k n only.1 take of only.4),
+        at,
+        subst (λ t. IsTakeIn d p image k n t take) (sym at) (take_in k n only.1 take of only.4),
       )
 
   -- what holds of the units that are there and of the default holds of each number
@@ -282,21 +314,25 @@ module _ (d : Datapath) (p : Plan) (plan : IsFeasible d p) (image : Image) (is :
 
   preload : (k s : ℕ)
       → k < length p.arcs
+      → 0 ≤ s
       → s < past
-      → past * d.period ≤ (arc_at p k).r + s * d.period
-      → initial image (Register (arc_at p k).port.unit (arc_at p k).port.port (register_in p k s))
+      → past * d.period ≤ (arc_at p k).r + (s + shift_of d p k) * d.period
+      → initial image (Register (arc_at p k).port.unit (arc_at p k).port.port (register_in d p k s))
       ≡ word_before (node_at p (arc_at p k).node).inits (past - s)
-  preload k s in-k early upto =
+  preload k s in-k _ early upto =
       let life = (plan.arcs k in-k).lifetime in
-      is.starts.register (arc_at p k).port (register_in p k s) k (s % (arc_at p k).copies) (past - s) (record {
+      let none : s + shift_of d p k ≡ s = omega (arith, ordinary.shift_none d p plan k in-k) in
+      let upto' : past * d.period ≤ (arc_at p k).r + s * d.period =
+      omega (arith, upto, ap (λ s. s * d.period) none) in
+      is.starts.register (arc_at p k).port (register_in d p k s) k (s % (arc_at p k).copies) (past - s) (record {
         preload = record {
           there = in-k;
           before = omega arith;
-          lives = lives_before s (arc_at p k).r d.period early upto;
+          lives = lives_before s (arc_at p k).r d.period early upto';
           copy = copy_before s p.unroll (arc_at p k).copies life.some life.turns plan.turns early;
         };
         port_is = refl;
-        reg_is = refl;
+        reg_is = sym (ordinary.register_now d p plan k s in-k);
       })
 
   -- the image of a plan does at each cycle what the plan has there

@@ -26,6 +26,7 @@ use Rattle.plan_core.specs.declared.plan.Plan.{Plan}
 use Rattle.micro_image.specs.Operations.{gives}
 use Rattle.plan_run.specs.Parts.{nodes_of, lines_of, node_at, edge_at, unit_at, line_at}
 use Rattle.plan_run.specs.Private.Samples.{past}
+use Rattle.plan_run.specs.Private.Overlap.{one_by_one}
 use Rattle.plan_run.specs.Private.Cells.{AreDisjoint}
 use Rattle.plan_run.specs.Private.Memory.{store_of, HasAddress, LoadsFrom, StoresTo}
 use Rattle.plan_run.specs.Private.Feasible.{IsFeasibleLine}
@@ -45,7 +46,7 @@ gives_result op.Store of other = absurd of
 gives_result op.Addr of other = absurd of
 gives_result _ of other = refl
 
--- the number of operands stands in two tables
+-- graphs have the number of operands from the table of all operations
 pub same_operands : (o : Op) → graph_operands o ≡ operands o
 same_operands op.Input = refl
 same_operands _ = refl
@@ -69,7 +70,7 @@ pub zip_edge : {A B : Type 0} (R : A → B → Type 0) (xs : List A) (ys : List 
 zip_edge R xs ys q x y zip below = zip_at R xs ys q (slice_index_or xs q x) y zip (slice_get-get_or xs q x below)
 
 used_first : (x : Line) (xs : List Line) (m ram : ℕ)
-    → used (take (suc m) (x ∷ xs)) ram ≡ cond (x.ram == ram) (x.depth + 1) 0 + used (take m xs) ram
+    → used 1 (take (suc m) (x ∷ xs)) ram ≡ cond (x.ram == ram) (x.depth + 1) 0 + used 1 (take m xs) ram
 used_first x xs m ram = sum_by-cons (λ (line : Line). cond (line.ram == ram) (line.depth + 1) 0) x (take m xs)
 
 -- a line ends where those behind it in its ram begin, or before
@@ -77,13 +78,13 @@ used_above : (lines : List Line) (l m ram : ℕ)
     → l < m
     → l < length lines
     → (line_of lines l).ram ≡ ram
-    → used (take l lines) ram + ((line_of lines l).depth + 1) ≤ used (take m lines) ram
+    → used 1 (take l lines) ram + ((line_of lines l).depth + 1) ≤ used 1 (take m lines) ram
 used_above [] l m ram less below is = absurd (omega (arith, below))
 used_above (x ∷ xs) l zero ram less below is = absurd (omega (arith, less))
 used_above (x ∷ xs) zero (suc m) ram less below is =
     let here : cond (x.ram == ram) (x.depth + 1) 0 ≡ x.depth + 1 = own_cells x.ram ram (x.depth + 1) is in
     let first : (line_of (x ∷ xs) 0).depth ≡ x.depth = refl in
-    let none : used (take 0 (x ∷ xs)) ram ≡ 0 = refl in
+    let none : used 1 (take 0 (x ∷ xs)) ram ≡ 0 = refl in
     omega (arith, here, first, none, used_first x xs m ram)
   where
     own_cells : (a b k : ℕ) → a ≡ b → cond (a == b) k 0 ≡ k
@@ -289,7 +290,7 @@ module _ (g : Graph) (d : Datapath) (p : Plan) (sound : IsGraph g) (lowered : Is
     pub stored_at : slice_get (stored lowered.delays) l ≡ Some (v, long)
     pub delays_are : slice_get lowered.delays v ≡ Some long
     pub some : 0 < length long
-    pub next : IsNextLine d lowered.delays (take l (lines_of p)) v long (line_at p l)
+    pub next : IsNextLine 1 d lowered.delays (take l (lines_of p)) v long (line_at p l)
 
   pub line_for : (l : ℕ) → l < length (lines_of p) → IsLineFor l
   line_for l in-l =
@@ -661,7 +662,7 @@ module _ (g : Graph) (d : Datapath) (p : Plan) (sound : IsGraph g) (lowered : Is
   its_node l for is =
       ap (λ (x : ℕ × List ℕ). x.0) (same_Some (is.v, is.long) (for.v, for.long) (sym is.stored_at ∙ for.stored_at))
 
-  feasible_line : (l : ℕ) → l < length (lines_of p) → IsFeasibleLine d p l
+  feasible_line : (l : ℕ) → l < length (lines_of p) → IsFeasibleLine one_by_one d p l
   feasible_line l in-l =
       let for = line_for l in-l in
       let long = are_long for.v for.long for.delays_are in
@@ -693,21 +694,21 @@ module _ (g : Graph) (d : Datapath) (p : Plan) (sound : IsGraph g) (lowered : Is
         used_above (lines_of p) l m (line_at p l).ram less in-l refl,
         (line_for l in-l).next.offset,
         (line_for m in-m).next.offset,
-        ap (used (take m (lines_of p))) ram,
+        ap (used 1 (take m (lines_of p))) ram,
       )
 
   lines_apart : (l m : ℕ)
       → l < length (lines_of p)
       → m < length (lines_of p)
       → (line_at p l).ram ≡ (line_at p m).ram
-      → (l ≡ m) ⊎ AreDisjoint (line_at p l) (line_at p m)
+      → (l ≡ m) ⊎ AreDisjoint one_by_one (line_at p l) (line_at p m)
   lines_apart l m in-l in-m ram =
       ⊎_elim
       (λ same. inl same)
       (λ other.
       inr (⊎_elim
-      (λ (less : l < m). inl (line_ends l m less in-l in-m ram))
-      (λ (less : m < l). inr (line_ends m l less in-m in-l (sym ram)))
+      (λ (less : l < m). inl (omega (arith, line_ends l m less in-l in-m ram)))
+      (λ (less : m < l). inr (omega (arith, line_ends m l less in-m in-l (sym ram))))
       other))
       (cases_order l m)
 
@@ -795,7 +796,7 @@ module _ (g : Graph) (d : Datapath) (p : Plan) (sound : IsGraph g) (lowered : Is
       (is.0, stores_to of.0 i is.0 of.1 is.1 is.3)
 
   -- and its delay lines
-  pub sound_lines : AreSoundLines d p
+  pub sound_lines : AreSoundLines one_by_one d p
   sound_lines = record {
     lines = feasible_line;
     lines_apart = lines_apart;

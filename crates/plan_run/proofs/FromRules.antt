@@ -1,14 +1,9 @@
 -- A plan by the rules is feasible.
-use Rattle.std.proofs.Common.{◌≡◌, ◌≢◌, ℕ, zero, suc, ◌+◌, ◌*◌, ◌%◌, ◌<◌, ◌≤◌, refl, sym, ap, ◌∙◌, arith, ⊎_elim, ◌⊎◌, inl, inr, List, length, slice_index_or, map, All, Contains, true, subst, [], false}
-use Rattle.std.specs.Prelude.{Bool, ◌∷◌, filter, count_by, take, cond}
+use Rattle.std.proofs.Common.{◌≡◌, ◌≢◌, ℕ, ◌+◌, ◌*◌, ◌%◌, ◌<◌, ◌≤◌, refl, sym, ap, ◌∙◌, arith, ⊎_elim, ◌⊎◌, inl, inr, List, length, slice_index_or, map, All, Contains, true, subst}
 use Rattle.std.specs.List.{AllPairs}
-use Rattle.std.proofs.lemmas.List.Sums.{length-filter}
 use Rattle.std.proofs.lemmas.Bool.{cases_eq, cases_lt, cases_order}
 use Rattle.std.proofs.lemmas.List.{get_or-map, length-map}
 use Rattle.std.proofs.Math.Nat.{mul-le-mul_right}
-use Rattle.fix_word.specs.declared.operation.Op.{Op}
-use Rattle.fix_word.specs.declared.operation.Op.TheVariants as op
-use Rattle.operations.specs.Operations.{operands}
 use Rattle.operations.specs.declared.units.PortRef.{PortRef}
 use Rattle.datapath.specs.declared.types.Datapath.{Datapath}
 use Rattle.datapath.specs.Allowed.{IsUnit}
@@ -18,7 +13,7 @@ use Rattle.plan_core.specs.Assigned.{IsAssigned}
 use Rattle.plan_core.specs.Heights.{IsPlacedBefore}
 use Rattle.plan_core.specs.Reservations.{IsFirstBus}
 use Rattle.plan_core.specs.ListSchedule.{slot_of, IsListSchedule, IsDestination, IsPortBefore, IsTakenBefore, IsPlaced}
-use Rattle.plan_core.specs.Arcs.{no_arc, IsArcs, IsArc, IsArcBefore, IsCount, IsUnroll, ReadsArc, read_cycle}
+use Rattle.plan_core.specs.Arcs.{IsArcs, IsArc, IsArcBefore, IsCount, IsUnroll, ReadsArc, read_cycle}
 use Rattle.plan_core.specs.Circle.{AreApart}
 use Rattle.plan_core.specs.FirstFit.{IsFirstFit, IsCopyBefore}
 use Rattle.plan_core.specs.declared.schedule.Transfer.{Transfer}
@@ -26,104 +21,14 @@ use Rattle.plan_core.specs.declared.registers.Arc.{Arc}
 use Rattle.plan_core.specs.declared.plan.Plan.{Plan}
 use Rattle.plan_core.proofs.Readers.{operands_few, reader_there}
 use Rattle.micro_image.specs.Operations.{gives}
-use Rattle.plan_run.specs.PrivateRegisters.{ArePrivate, is_port}
-use Rattle.plan_run.specs.Parts.{nodes_of, node_at, edge_at, unit_at, cycle_at, transfers_at, arc_at, register_at, ReadsThrough, IsTransferOf, ends_at}
+use Rattle.plan_run.specs.Parts.{nodes_of, node_at, edge_at, unit_at, cycle_at, transfers_at, arc_at, ReadsThrough, IsTransferOf, ends_at}
 use Rattle.plan_run.specs.Private.Samples.{past}
+use Rattle.plan_run.specs.Private.Overlap.{one_by_one}
 use Rattle.plan_run.specs.Private.Circle.{IsLifetime}
 use Rattle.plan_run.specs.Private.Feasible.{IsFeasible, IsFeasibleArc, AreRegistersApart}
 use Rattle.plan_run.proofs.Elements.{nth_past, default_any}
+use Rattle.plan_run.proofs.Ordinary.{no_shift, end_below, unit_free_in_all, ends_same, ends_early, ends_before}
 use Rattle.plan_run.proofs.SoundLowered.{IsSoundLowered, AreSoundLines}
-
-count_more : {A : Type 0} (f : A → Bool) (x : A) (xs : List A) → f x ≡ true → count_by f (x ∷ xs) ≡ count_by f xs + 1
-count_more f x xs e = omega (arith, length-filter f (x ∷ xs), length-filter f xs, kept f x xs e)
-  where
-    kept : {A : Type 0} (f : A → Bool) (x : A) (xs : List A)
-        → f x ≡ true
-        → length (filter f (x ∷ xs)) ≡ length (filter f xs) + 1
-    kept f x xs e = ap (λ b. length (cond b (x ∷ filter f xs) (filter f xs))) e ∙ omega arith
-
-count_first : {A : Type 0} (f : A → Bool) (x : A) (xs ys : List A)
-    → count_by f xs < count_by f ys
-    → count_by f (x ∷ xs) < count_by f (x ∷ ys)
-count_first f x xs ys less =
-    omega (
-      arith,
-      less,
-      length-filter f (x ∷ xs),
-      length-filter f xs,
-      length-filter f (x ∷ ys),
-      length-filter f ys,
-      by (f x) refl,
-    )
-  where
-    by : (b : Bool)
-        → f x ≡ b
-        → length (filter f (x ∷ xs)) + length (filter f ys) ≡ length (filter f (x ∷ ys)) + length (filter f xs)
-    by true e =
-        let a = ap (λ b. length (cond b (x ∷ filter f xs) (filter f xs))) e in
-        let c = ap (λ b. length (cond b (x ∷ filter f ys) (filter f ys))) e in
-        omega (arith, a, c)
-    by false e =
-        let a = ap (λ b. length (cond b (x ∷ filter f xs) (filter f xs))) e in
-        let c = ap (λ b. length (cond b (x ∷ filter f ys) (filter f ys))) e in
-        omega (arith, a, c)
-
--- an element that passes counts for those behind it
-count_above : {A : Type 0} (f : A → Bool) (xs : List A) (j k : ℕ) (default : A)
-    → j < k
-    → j < length xs
-    → f (slice_index_or xs j default) ≡ true
-    → count_by f (take j xs) < count_by f (take k xs)
-count_above f [] j k default less below passes = absurd (omega (arith, below))
-count_above f (x ∷ xs) j zero default less below passes = absurd (omega (arith, less))
-count_above f (x ∷ xs) zero (suc k) default less below passes =
-    let none : count_by f (take 0 (x ∷ xs)) ≡ 0 = refl in
-    omega (arith, none, count_more f x (take k xs) passes)
-count_above f (x ∷ xs) (suc j) (suc k) default less below passes =
-    count_first f x (take j xs) (take k xs)
-    (count_above f xs j k default (omega (arith, less)) (omega (arith, below)) passes)
-
-pub same_file : (a b : PortRef) → a ≡ b → is_port a b ≡ true
-same_file a b e = grind (arith, ap (λ (port : PortRef). port.unit) e, ap (λ (port : PortRef). port.port) e)
-
--- private registers are apart
-pub private_apart : (d : Datapath) (p : Plan) → ArePrivate p.arcs p.registers.regs → AreRegistersApart d p
-private_apart d p private j k a b in-j in-k in-a in-b port register =
-    inl (
-      ⊎_elim
-          (λ same. same)
-          (λ other.
-          ⊎_elim
-          (λ (less : j < k). absurd (clash j k in-j in-k less port own))
-          (λ (less : k < j). absurd (clash k j in-k in-j less (sym port) (sym own)))
-          other)
-          (cases_order j k),
-      omega (arith, private.copies j no_arc in-j, private.copies k no_arc in-k, in-a, in-b),
-    )
-  where
-    first : (k i : ℕ) → k < length p.arcs → i < (arc_at p k).copies → register_at p k i ≡ register_at p k 0
-    first k i in-k in-i =
-        let zero_copy : i ≡ 0 = omega (arith, private.copies k no_arc in-k, in-i) in ap (register_at p k) zero_copy
-
-    own : register_at p j 0 ≡ register_at p k 0
-    own = sym (first j a in-j in-a) ∙ register ∙ first k b in-k in-b
-
-    clash : (j k : ℕ)
-        → j < length p.arcs
-        → k < length p.arcs
-        → j < k
-        → (arc_at p j).port ≡ (arc_at p k).port
-        → register_at p j 0 ≡ register_at p k 0
-        → ⊥
-    clash j k in-j in-k less port register =
-        let above : count_by (λ (arc : Arc). is_port arc.port (arc_at p k).port) (take j p.arcs)
-        < count_by (λ (arc : Arc). is_port arc.port (arc_at p k).port) (take k p.arcs) =
-        count_above (λ (arc : Arc). is_port arc.port (arc_at p k).port) p.arcs j k no_arc less in-j
-        (same_file (arc_at p j).port (arc_at p k).port port) in
-        let turned : count_by (λ (arc : Arc). is_port arc.port (arc_at p j).port) (take j p.arcs)
-        ≡ count_by (λ (arc : Arc). is_port arc.port (arc_at p k).port) (take j p.arcs) =
-        ap (λ port. count_by (λ (arc : Arc). is_port arc.port port) (take j p.arcs)) port in
-        omega (arith, above, turned, register, private.own j in-j, private.own k in-k)
 
 -- 1, 2 and 4 divide each other in order
 divides : (copies unroll : ℕ) → IsCount copies → IsCount unroll → copies ≤ unroll → unroll % copies ≡ 0
@@ -473,6 +378,9 @@ module _ (d : Datapath) (p : Plan) (lowered : IsSoundLowered d p)
         },
       )
 
+  ends_in_period : (v : ℕ) → v < length (nodes_of p) → ends_at d p v < d.period
+  ends_in_period = end_below d p gaps fits
+
   -- a lifetime begins before it is read
   behind : (v q k : ℕ)
       → v < length (nodes_of p)
@@ -541,7 +449,11 @@ module _ (d : Datapath) (p : Plan) (lowered : IsSoundLowered d p)
       let by = reader k in-k in
       record {
         lifetime = lifetime k in-k;
-        written = (arc k in-k).written;
+        written = omega (
+          arith,
+          (arc k in-k).written,
+          ap (λ n. n * d.period) (no_shift d p k (ends_in_period (arc_at p k).node (arc_node k in-k))),
+        );
         node = arc_node k in-k;
         result = lowered.result by.0 (arc_at p k).port.port (arc_at p k).node by.1 by.2.reads;
         transfer = arc_transfer k in-k;
@@ -575,30 +487,41 @@ module _ (d : Datapath) (p : Plan) (lowered : IsSoundLowered d p)
       first.route.route.there
 
   -- the rules give a feasible plan
-  pub feasible : 0 < d.period → AreSoundLines d p → AreRegistersApart d p → IsFeasible d p
+  pub feasible : 0 < d.period → AreSoundLines one_by_one d p → AreRegistersApart d p → IsFeasible d p
   feasible period lines registers = record {
     period = period;
+    stages = omega arith;
+    first = omega arith;
     unroll = some_count p.unroll (count_of_unroll d p arcs unrolled);
     turns = divides_past p.unroll (count_of_unroll d p arcs unrolled);
     gaps = gaps;
     operand_count = lowered.operand_count;
-    edges = lowered.edges;
+    edges = λ v q in-v in-q. let edge = lowered.edges v q in-v in-q in (edge.0, omega (arith, edge.1));
     outputs = lowered.outputs;
     units = units;
     buses = buses;
-    fits = fits;
-    unit_free = unit_free;
-    bus_free = bus_free;
+    fits = λ v in-v. omega (arith, ends_in_period v in-v);
+    inputs = λ v in-v _. omega (arith, fits v in-v, gaps (unit_at p v));
+    outputs_last = λ v in-v _. omega arith;
+    unit_free = unit_free_in_all d p gaps fits unit_free;
+    bus_free = λ u v m n s t in-u in-v in-s in-t ends bus.
+        bus_free u v s t in-u in-v in-s in-t (ends_same d p gaps fits u v m n in-u in-v ends) bus;
     transfer_once = transfer_once;
     transfers = transfers;
     arcs = feasible_arc;
+    early = λ k s in-k _ early. ends_early d p gaps fits (arc_at p k).node s (arc_node k in-k) early;
     file_free = file_free;
     ports = ports;
     read = read;
-    read_in = λ v q k in-v through. (behind v q k in-v through, upto v q k through);
+    read_in = λ v q k in-v through. (
+      omega (arith, behind v q k in-v through, (arc k through.there).written),
+      omega (arith, upto v q k through),
+    );
     registers = registers;
     lines = lines.lines;
     lines_apart = lines.lines_apart;
     loads = lines.loads;
+    load_in = λ v l ago in-v _ from.
+        omega (arith, ends_before d p gaps fits _ ago (lines.lines l from.there).store from.before);
     stores = lines.stores;
   }

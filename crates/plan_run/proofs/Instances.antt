@@ -21,15 +21,18 @@ use Rattle.plan_run.specs.Machine.{IsMachine}
 use Rattle.plan_run.specs.ImageOf.{IsImageOf}
 use Rattle.plan_run.specs.Instances.{found_write, IsInstance, FindsInstances}
 use Rattle.plan_run.specs.Private.Samples.{past}
+use Rattle.plan_run.specs.Private.Overlap.{Overlap, shift_of}
 use Rattle.plan_run.specs.Private.Solution.{Counted, LoweredSolves}
-use Rattle.plan_run.specs.Private.Feasible.{IsFeasible, IsFeasiblePlan}
-use Rattle.plan_run.specs.Private.Executes.{Executes, IsIssueIn}
+use Rattle.plan_run.specs.Private.Feasible.{IsFeasibleOver, IsFeasiblePlan}
+use Rattle.plan_run.specs.Private.Executes.{ExecutesOver, IsIssueIn}
 use Rattle.plan_run.proofs.Contents.{all_right, is_written}
 use Rattle.plan_run.proofs.FromImage.{executes}
 use Rattle.plan_run.proofs.LiveWords.{LiveWord, in_register, place_of, written_at, wanted_to, words_apart, lives}
 use Rattle.plan_run.proofs.LoweredSolution.{lowered_words, lowered_solves}
-use Rattle.plan_run.proofs.ReadsRight.{place_read, in_period}
+use Rattle.plan_run.proofs.Ordinary.{in_period}
+use Rattle.plan_run.proofs.ReadsRight.{place_read}
 use Rattle.plan_run.proofs.RunsSolution.{plan_feasible}
+use Rattle.plan_run.proofs.Samples.{one_more}
 use Rattle.plan_run.proofs.Slots.{Right, Keeps, right}
 use Rattle.plan_run.proofs.Whole.{sample_rows}
 use Rattle.plan_run.proofs.Writes.{writes_of_words, same_self, not_same, some_same}
@@ -111,18 +114,18 @@ newest_written place t new log e among same now before (greatest {e = f} among' 
     (λ there. absurd (omega (arith, le, Each-at now e among, Each-at before f there)))
     (In-append_cases new among')
 
-module _ (d : Datapath) (p : Plan) (words : Counted) (plan : IsFeasible d p) (image : Image) (z stream : Rows)
-    (runs : Executes d p image) (solves : LoweredSolves d p stream words)
+module _ {o : Overlap} (d : Datapath) (p : Plan) (words : Counted) (plan : IsFeasibleOver o d p) (image : Image)
+    (z stream : Rows) (runs : ExecutesOver o d p image) (solves : LoweredSolves d p stream words)
     (rows : (n c : ℕ) → c < d.period → nth z (n * d.period + c) [] ≡ nth stream n []) where
   -- the cycle of the newest write of a place
   abbrev newest_cycle : Place → ℕ → Option ℕ
   newest_cycle place t = cycle_of (newest place t (Log image z t))
 
   -- the cycle of the run in which a live word is written, where there is one
-  abbrev write_cycle : LiveWord p → Option ℕ
+  abbrev write_cycle : LiveWord o p → Option ℕ
   write_cycle b =
-      if nat_lt (written_at d p words b) (past * d.period) then None
-      else Some (written_at d p words b - past * d.period)
+      if nat_lt (written_at o d p words b) (past * d.period) then None
+      else Some (written_at o d p words b - past * d.period)
 
   before_run : (w h : ℕ) → w < h → (if nat_lt w h then None else Some (w - h)) ≡ None
   before_run w h less = grind (arith, less)
@@ -132,7 +135,7 @@ module _ (d : Datapath) (p : Plan) (words : Counted) (plan : IsFeasible d p) (im
 
   kept : (place : Place) (t : ℕ)
       → t < length stream * d.period
-      → ((b : LiveWord p) → written_at d p words b ≡ past * d.period + t → place_of d p words b ≡ place → ⊥)
+      → ((b : LiveWord o p) → written_at o d p words b ≡ past * d.period + t → place_of o d p words b ≡ place → ⊥)
       → newest_cycle place (suc t) ≡ newest_cycle place t
   kept place t below never =
       newest_kept place t (entries_by image z (Log image z t) t) (Log image z t)
@@ -143,33 +146,33 @@ module _ (d : Datapath) (p : Plan) (words : Counted) (plan : IsFeasible d p) (im
       (newest-greatest place (suc t) (Log image z (suc t)))
       (newest-greatest place t (Log image z t))
 
-  put : (b : LiveWord p) (t : ℕ)
+  put : (b : LiveWord o p) (t : ℕ)
       → t < length stream * d.period
-      → written_at d p words b ≡ past * d.period + t
-      → newest_cycle (place_of d p words b) (suc t) ≡ write_cycle b
+      → written_at o d p words b ≡ past * d.period + t
+      → newest_cycle (place_of o d p words b) (suc t) ≡ write_cycle b
   put b t below starts =
       let is = is_written d p words plan image z stream runs solves rows b t below
       (all_right d p words plan image z stream runs solves rows t (omega (arith, below))) starts in
-      newest_written (place_of d p words b) t (entries_by image z (Log image z t) t) (Log image z t) is.entry is.among
-      (subst (λ place. same_place place (place_of d p words b) ≡ true) (sym is.place_is)
-      (same_self (place_of d p words b)))
+      newest_written (place_of o d p words b) t (entries_by image z (Log image z t) t) (Log image z t) is.entry is.among
+      (subst (λ place. same_place place (place_of o d p words b) ≡ true) (sym is.place_is)
+      (same_self (place_of o d p words b)))
       (entries-of_cycle image z (Log image z t) t) (Log-before image z t)
-      (newest-greatest (place_of d p words b) (suc t) (Log image z (suc t)))
-      ∙ sym (in_run (written_at d p words b) (past * d.period) t starts)
+      (newest-greatest (place_of o d p words b) (suc t) (Log image z (suc t)))
+      ∙ sym (in_run (written_at o d p words b) (past * d.period) t starts)
 
-  same_cycle : (a b : LiveWord p)
-      → written_at d p words a ≡ written_at d p words b
+  same_cycle : (a b : LiveWord o p)
+      → written_at o d p words a ≡ written_at o d p words b
       → write_cycle a ≡ write_cycle b
   same_cycle a b e = ap (λ w. if nat_lt w (past * d.period) then None else Some (w - past * d.period)) e
 
-  keeps : Keeps (place_of d p words) (written_at d p words) (wanted_to d p words) write_cycle
+  keeps : Keeps (place_of o d p words) (written_at o d p words) (wanted_to o d p words) write_cycle
       (past * d.period) (length stream * d.period) newest_cycle
   keeps = record {
     apart = λ a b t place after upto after' upto'.
         let one = words_apart d p words plan a b t place after upto after' upto' in
         (one.0, same_cycle a b one.0);
     lives = lives d p words plan;
-    preloaded = λ a before upto. sym (before_run (written_at d p words a) (past * d.period) before);
+    preloaded = λ a before upto. sym (before_run (written_at o d p words a) (past * d.period) before);
     kept = λ place t below _ never. kept place t below never;
     written = λ b t below _ starts. put b t below starts;
   }
@@ -177,19 +180,19 @@ module _ (d : Datapath) (p : Plan) (words : Counted) (plan : IsFeasible d p) (im
   -- where a live word is wanted, the newest write is its own, or it was there at the start
   newest_is : (t : ℕ)
       → t ≤ length stream * d.period
-      → Right (place_of d p words) (written_at d p words) (wanted_to d p words) write_cycle (past * d.period)
+      → Right (place_of o d p words) (written_at o d p words) (wanted_to o d p words) write_cycle (past * d.period)
       (length stream * d.period) newest_cycle t
   newest_is =
-      right (place_of d p words) (written_at d p words) (wanted_to d p words) write_cycle (past * d.period)
+      right (place_of o d p words) (written_at o d p words) (wanted_to o d p words) write_cycle (past * d.period)
       (length stream * d.period) newest_cycle keeps
 
   instance_by : (u n ago : ℕ) (r : Option Entry) (w : ℕ)
-      → ago < past
+      → ago ≤ past
       → w ≡ ends_at d p u + (past + n - ago) * d.period
-      → ends_at d p u < d.period
+      → (past + n - ago < past → w < past * d.period)
       → cycle_of r ≡ (if nat_lt w (past * d.period) then None else Some (w - past * d.period))
       → IsInstance d p u n ago r
-  instance_by u n ago r w small at ends is = by r (cases_lt n ago) is
+  instance_by u n ago r w small at early is = by r (cases_lt n ago) is
     where
       none_some : {A : Type 0} (n : ℕ) → Some n ≡ None → A
       none_some n e = absurd (cc)
@@ -200,12 +203,8 @@ module _ (d : Datapath) (p : Plan) (words : Counted) (plan : IsFeasible d p) (im
       same : (m n : ℕ) → Some m ≡ Some n → m ≡ n
       same m n e = cc
 
-      early : n < ago → w < past * d.period
-      early less =
-          let le : (past + n - ago + 1) * d.period ≤ past * d.period =
-          mul-le-mul_right d.period (omega (arith, less, small)) in
-          let next : (past + n - ago + 1) * d.period ≡ (past + n - ago) * d.period + d.period = grind arith in
-          omega (arith, at, ends, le, next)
+      before : n < ago → w < past * d.period
+      before less = early (omega (arith, less, small))
 
       later : ago ≤ n → w ≡ past * d.period + ((n - ago) * d.period + ends_at d p u)
       later le =
@@ -224,15 +223,15 @@ module _ (d : Datapath) (p : Plan) (words : Counted) (plan : IsFeasible d p) (im
           → IsInstance d p u n ago r
       by None (inl less) is = less
       by None (inr le) is = some_none _ (is ∙ in_run w (past * d.period) _ (later le))
-      by (Some e) (inl less) is = none_some e.cycle (is ∙ before_run w (past * d.period) (early less))
+      by (Some e) (inl less) is = none_some e.cycle (is ∙ before_run w (past * d.period) (before less))
       by (Some e) (inr le) is = (le, same _ _ (is ∙ in_run w (past * d.period) _ (later le)))
 
   -- each read finds its instance
   pub read_finds : (v q n : ℕ) (issue : Issue)
       → v < length (nodes_of p)
       → q < length (node_at p v).edges
-      → n < length stream
-      → IsIssueIn p v n issue
+      → n * d.period + cycle_at p v ≤ length stream * d.period
+      → IsIssueIn d p image v n issue
       → IsInstance d p (edge_at p v q).node n (edge_at p v q).delay
       (found_write image z (n * d.period + cycle_at p v) issue q)
   read_finds v q n issue in-v in-q in-n is =
@@ -242,27 +241,27 @@ module _ (d : Datapath) (p : Plan) (words : Counted) (plan : IsFeasible d p) (im
       let m : ℕ = past + n - ago in
       let t : ℕ = n * d.period + cycle_at p v in
       let within = plan.read_in v q k in-v through.1 in
-      let small : ago < past = (plan.edges v q in-v in-q).1 in
-      let arc = plan.arcs k through.1.there in
-      let cycle : cycle_at p v < d.period = in_period d p words plan image z stream runs solves rows v in-v in
-      let last : (n + 1) * d.period ≤ length stream * d.period = mul-le-mul_right d.period (omega (arith, in-n)) in
-      let next : (n + 1) * d.period ≡ n * d.period + d.period = grind arith in
+      let small : o.first + ago ≤ past = (plan.edges v q in-v in-q).1 in
+      let in-k : k < length p.arcs = through.1.there in
+      let from : o.first ≤ m = omega (arith, small) in
       let time : (past + n) * d.period ≡ m * d.period + ago * d.period =
-      ap (λ n. n * d.period) (back n ago small) ∙ add-mul m ago d.period in
+      ap (λ n. n * d.period) (back n ago (omega (arith, small))) ∙ add-mul m ago d.period in
       let whole : (past + n) * d.period ≡ past * d.period + n * d.period = add-mul past n d.period in
+      let start : (m + shift_of d p k) * d.period ≡ m * d.period + shift_of d p k * d.period =
+      add-mul m (shift_of d p k) d.period in
+      let written : (arc_at p k).w + shift_of d p k * d.period ≡ ends_at d p (arc_at p k).node =
+      (plan.arcs k in-k).written in
       let node : (arc_at p k).node ≡ (edge_at p v q).node = sym through.1.reads.node in
-      let ends : ends_at d p (edge_at p v q).node < d.period =
-      subst (λ u. ends_at d p u < d.period) node (subst (λ w. w < d.period) arc.written arc.lifetime.written) in
       instance_by (edge_at p v q).node n ago (found_write image z t issue q)
-      (written_at d p words (in_register k m through.1.there)) small
-      (ap (λ w. w + m * d.period) (arc.written ∙ ap (ends_at d p) node))
-      ends
+      (written_at o d p words (in_register k m in-k from)) (omega (arith, small))
+      (omega (arith, start, written, ap (ends_at d p) node))
+      (λ early. omega (arith, start, written, plan.early k m in-k from early))
       (ap (λ place. newest_cycle place t)
       (place_read d p words plan image z stream runs solves rows v n q k issue is through.1)
-      ∙ newest_is t (omega (arith, last, next, cycle)) (in_register k m through.1.there) t (omega arith)
-      (omega (arith, within.0, time, whole)) (omega (arith, within.1, time, whole)))
+      ∙ newest_is t in-n (in_register k m in-k from) t (omega arith)
+      (omega (arith, within.0, time, whole, start, written)) (omega (arith, within.1, time, whole, start)))
     where
-      back : (n ago : ℕ) → ago < past → past + n ≡ past + n - ago + ago
+      back : (n ago : ℕ) → ago ≤ past → past + n ≡ past + n - ago + ago
       back n ago small = omega (arith, small)
 
 -- in the image of a feasible plan each read finds its instance
@@ -279,7 +278,17 @@ feasible_finds g d p image sound plan of stream words v q n issue solves in-v in
     read_finds d p (lowered_words g d p sound plan.lowered plan.assigned stream words solves) plan.feasible image
     (spread image.period stream) stream runs
     (lowered_solves g d p sound plan.lowered plan.assigned stream words solves)
-    (sample_rows d image stream runs.period) v q n issue in-v in-q in-n (subst (IsIssueIn p v n) same its.2)
+    (sample_rows d image stream runs.period) v q n issue in-v in-q
+    (cycle_within n (in_period d p plan.feasible v in-v) in-n)
+    (subst (IsIssueIn d p image v n) same its.2)
+  where
+    cycle_within : (n : ℕ) {c : ℕ}
+        → c < d.period
+        → n < length stream
+        → n * d.period + c ≤ length stream * d.period
+    cycle_within n below in-n =
+        let last : (n + 1) * d.period ≤ length stream * d.period = mul-le-mul_right d.period (omega (arith, in-n)) in
+        omega (arith, last, one_more n d.period, below)
 
 -- in the image of a plan each read finds its instance
 pub finds_instances : (g : Graph) (d : Datapath) (p : Plan) (image : Image)

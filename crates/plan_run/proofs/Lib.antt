@@ -11,6 +11,7 @@ pub mod Contents
 pub mod Clear
 pub mod FromImage
 pub mod Whole
+pub mod Ordinary
 pub mod SoundLowered
 pub mod FromRules
 pub mod Origins
@@ -25,4 +26,4 @@ pub mod Choices
 pub mod SomeWord
 pub mod SomeImage
 pub mod Accumulator
-pub mod AccumulatorRuns
+pub mod WorkedRuns

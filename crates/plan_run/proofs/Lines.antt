@@ -4,8 +4,7 @@ use Rattle.std.specs.Int.{int_rem_euclid}
 use Rattle.std.specs.Prelude.{◌-ℤ◌, ◌+ℤ◌}
 use Rattle.std.proofs.lemmas.Int.{int_rem_euclid_is, ints}
 use Rattle.std.proofs.Math.Nat.{mod-add-mod, add-mul-mod_self_right, mod-eq_of_lt, mul-le-mul_left, add-mul}
-use Rattle.plan_core.specs.declared.delay_lines.Line.{Line}
-use Rattle.plan_run.specs.Private.Cells.{cell_in, AreDisjoint}
+use Rattle.plan_run.specs.Private.Cells.{cell_in}
 use Rattle.plan_run.proofs.Samples.{sample_upto}
 
 -- m cells, of which sample number s uses one less with each sample; sample 0 has the number `base`
@@ -77,47 +76,52 @@ window : (period k s n e t : ℕ)
 window period k s n e t some upto after =
     sample_upto (s + k) n (period - 1) period (omega (arith, some)) (omega (arith, upto, after))
 
+-- Two lines have the offsets o and p, and their words are wanted in so many samples, j and k, behind their own.
+
+-- no cell is one of both lines
+abbrev AreApart : (o j p k : ℕ) → Type 0
+AreApart o j p k = (o + j < p) ⊎ (p + k < o)
+
 -- of two lines of one ram, a word that is stored no later and still wanted is of the same line and sample
-meet : (m base : ℕ) (a b : Line) (s n : ℕ)
+meet : (m base o j p k s n : ℕ)
     → 0 < m
     → s ≤ n
-    → n ≤ s + a.depth
-    → a.offset + a.depth < m
-    → b.offset + b.depth < m
-    → cell_in m base a.offset s ≡ cell_in m base b.offset n
-    → (AreDisjoint a b → ⊥) × (a.offset ≡ b.offset → s ≡ n)
-meet m base a b s n some le near in-a in-b same =
-    let j : ℕ = n - s in
-    let later : n ≡ s + j = omega arith in
-    let offset : b.offset ≡ a.offset + j =
-    offsets m base a.offset b.offset s j some (omega arith) (omega arith)
-    (same ∙ ap (cell_in m base b.offset) later) in (
-      (λ disjoint.
+    → n ≤ s + j
+    → o + j < m
+    → p + k < m
+    → cell_in m base o s ≡ cell_in m base p n
+    → (AreApart o j p k → ⊥) × (o ≡ p → s ≡ n)
+meet m base o j p k s n some le near in-o in-p same =
+    let i : ℕ = n - s in
+    let later : n ≡ s + i = omega arith in
+    let offset : p ≡ o + i =
+    offsets m base o p s i some (omega arith) (omega arith) (same ∙ ap (cell_in m base p) later) in (
+      (λ apart.
           ⊎_elim
-          (λ (before : a.offset + a.depth < b.offset). absurd (omega arith))
-          (λ (before : b.offset + b.depth < a.offset). absurd (omega arith))
-          disjoint),
+          (λ (before : o + j < p). absurd (omega arith))
+          (λ (before : p + k < o). absurd (omega arith))
+          apart),
       (λ e. omega arith),
     )
 
 -- two words that are wanted in one cell in one cycle are of one line and of one sample
-pub cells-apart : (m base period : ℕ) (a b : Line) (e f s n t : ℕ)
+pub cells-apart : (m base period o j p k e f s n t : ℕ)
     → 0 < m
     → 0 < period
-    → a.offset + a.depth < m
-    → b.offset + b.depth < m
-    → cell_in m base a.offset s ≡ cell_in m base b.offset n
+    → o + j < m
+    → p + k < m
+    → cell_in m base o s ≡ cell_in m base p n
     → e + s * period < t
-    → t ≤ line_end period a.depth s
+    → t ≤ line_end period j s
     → f + n * period < t
-    → t ≤ line_end period b.depth n
-    → (AreDisjoint a b → ⊥) × (a.offset ≡ b.offset → s ≡ n)
-cells-apart m base period a b e f s n t some some' in-a in-b same after upto after' upto' =
+    → t ≤ line_end period k n
+    → (AreApart o j p k → ⊥) × (o ≡ p → s ≡ n)
+cells-apart m base period o j p k e f s n t some some' in-o in-p same after upto after' upto' =
     ⊎_elim
-    (λ (le : s ≤ n). meet m base a b s n some le (window period a.depth s n f t some' upto after') in-a in-b same)
+    (λ (le : s ≤ n). meet m base o j p k s n some le (window period j s n f t some' upto after') in-o in-p same)
     (λ (le : n ≤ s).
-    let other = meet m base b a n s some le (window period b.depth n s e t some' upto' after) in-b in-a (sym same) in
-    ((λ disjoint. other.0 (turned disjoint)), (λ e. sym (other.1 (sym e)))))
+    let other = meet m base p k o j n s some le (window period k n s e t some' upto' after) in-p in-o (sym same) in
+    ((λ apart. other.0 (turned apart)), (λ e. sym (other.1 (sym e)))))
     (either s n)
   where
     either : (s n : ℕ) → (s ≤ n) ⊎ (n ≤ s)

@@ -40,12 +40,12 @@ meaning-operands o node stream n f g of same =
 pub value-meaning : (o : Op) (image : Image) (z stream : Rows) (log : List Entry) (t n : ℕ)
     → (issue : Issue) (node : Node)
     → IsOfGraph o
-    → nth z t [] ≡ nth stream n []
+    → (o ≡ op.Input → nth z t [] ≡ nth stream n [])
     → issue.arg ≡ node.arg
     → issue.fmt ≡ node.fmt
     → value_by o image z log t issue ≡ meaning_by o node stream n (operand image log t issue)
 value-meaning op.Input image z stream log t n issue node of row arg fmt =
-    ap₂ (λ r a. nth r (to_nat a) (pos 0)) row arg
+    ap₂ (λ r a. nth r (to_nat a) (pos 0)) (row refl) arg
 value-meaning op.Const image z stream log t n issue node of row arg fmt = arg
 value-meaning op.Output image z stream log t n issue node of row arg fmt = refl
 value-meaning op.Load image z stream log t n issue node of row arg fmt = absurd of

@@ -26,6 +26,7 @@ use Rattle.plan_run.specs.Parts.{nodes_of, node_at, edge_at, arc_at, IsCopy}
 use Rattle.plan_run.specs.ImageOf.{IsUnitOf, IsIssueOf, IsWordOf, IsImageOf, IsPreloadOf, IsCellPreload, StartsWith}
 use Rattle.plan_run.specs.Private.Samples.{past}
 use Rattle.plan_run.specs.Private.Feasible.{IsFeasible}
+use Rattle.plan_run.proofs.Ordinary.{delay_in}
 use Rattle.plan_run.proofs.FromImage.{copy_read}
 use Rattle.plan_run.proofs.Samples.{below_count, split}
 
@@ -143,7 +144,7 @@ module _ (d : Datapath) (p : Plan) (plan : IsFeasible d p) where
           let copy : IsCopy (arc_at p k).copies n (edge_at p v q).delay i =
           subst (λ n'. IsCopy (arc_at p k).copies n' (edge_at p v q).delay i) (mod-eq_of_lt in-n)
           (copy_read n p.unroll (arc_at p k).copies (edge_at p v q).delay life.some life.turns plan.turns
-          (plan.edges v q in-v read).1) in
+          (delay_in d p plan v q in-v read)) in
           is-a.read q k i through.1 copy ∙ sym (is-b.read q k i through.1 copy)
 
   -- what is in one word is in the other

@@ -1,6 +1,7 @@
 -- The image of a plan runs the solution of its graph.
-use Rattle.std.proofs.Common.{◌≡◌, ℕ, ◌+◌, ◌<◌, ◌≤◌, ap, ◌∙◌, arith, subst, ⊎_elim, [], length, sym}
-use Rattle.std.specs.Prelude.{slice_get, pos, IsSomeAnd}
+use Rattle.std.proofs.Common.{◌≡◌, ℕ, ◌+◌, ◌-◌, ◌<◌, ◌≤◌, sym, ap, ◌∙◌, arith, subst, ⊎_elim, [], length}
+use Rattle.std.specs.Prelude.{slice_get, pos, ◌-ℤ◌, IsSomeAnd}
+use Rattle.std.proofs.lemmas.Int.{ints}
 use Rattle.std.proofs.lemmas.Bool.{cases_lt}
 use Rattle.std.specs.List.{range_with_len}
 use Rattle.std.proofs.lemmas.Option.{slice_get-get_or}
@@ -20,21 +21,45 @@ use Rattle.plan_core.specs.declared.plan.Plan.{Plan}
 use Rattle.micro_image.specs.Run.{IsRunOut}
 use Rattle.micro_image.specs.declared.image.Image.{Image}
 use Rattle.micro_image.proofs.Lists.{map-same, In-range}
-use Rattle.plan_run.specs.Parts.{node_at, arc_at, register_at}
+use Rattle.plan_run.specs.Parts.{node_at}
 use Rattle.plan_run.specs.ImageOf.{IsImageOf}
 use Rattle.plan_run.specs.Run.{RunsSolution}
 use Rattle.plan_run.specs.Private.Samples.{past}
-use Rattle.plan_run.specs.PrivateRegisters.{IsPrivatePlan}
-use Rattle.plan_run.specs.Private.Feasible.{IsFeasiblePlan}
-use Rattle.plan_core.specs.Arcs.{no_arc}
-use Rattle.plan_core.specs.Hardware.{file_size}
+use Rattle.plan_run.specs.Private.Overlap.{Overlap}
+use Rattle.plan_run.specs.Private.Solution.{Counted}
+use Rattle.plan_run.specs.Private.Feasible.{IsFeasiblePlanOver, IsFeasiblePlan}
+use Rattle.plan_run.specs.Private.Executes.{ExecutesOver}
+use Rattle.plan_run.specs.Private.LateRun.{late_words, RunsSolutionLate}
 use Rattle.plan_run.proofs.FromImage.{executes}
 use Rattle.plan_run.proofs.FromLowered.{sound_lowered, sound_lines, made_as, number_below, some_is, none_past}
-use Rattle.plan_run.proofs.FromRules.{feasible, gaps_of, count_of_unroll, first_fit_apart, private_apart}
+use Rattle.plan_run.proofs.FromRules.{feasible, gaps_of, count_of_unroll, first_fit_apart}
 use Rattle.plan_run.proofs.SoundLowered.{IsSoundLowered}
-use Rattle.plan_run.proofs.LoweredSolution.{lowered_words, lowered_solves, word_is, late, now_is}
+use Rattle.plan_run.proofs.LoweredSolution.{lowered_words, lowered_solves, word_is, late as late_of, now_is}
 use Rattle.plan_run.proofs.Origins.{first_of, own_number}
-use Rattle.plan_run.proofs.Whole.{IsOutputNode, counted_out, runs_out}
+use Rattle.plan_run.proofs.Whole.{IsOutputNode, put_in, put_first, put_late, counted_out, runs_out}
+
+-- the words that come late
+word_first : (late : ℕ) (words : Words) (v n : ℕ) → n < late → late_words late words v (pos n) ≡ pos 0
+word_first late words v n early = grind (arith, ints, early)
+
+word_late : (late : ℕ) (words : Words) (v n : ℕ)
+    → late ≤ n
+    → late_words late words v (pos n) ≡ words v (pos (n - late))
+word_late late words v n le = at_last late words v n le ∙ ap (words v) (back n late le)
+  where
+    back : (n late : ℕ) → late ≤ n → (pos n -ℤ pos late) ≡ pos (n - late)
+    back n late le = omega (arith, ints, le)
+
+    at_last : (late : ℕ) (words : Words) (v n : ℕ)
+        → late ≤ n
+        → late_words late words v (pos n) ≡ words v (pos n -ℤ pos late)
+    at_last late words v n le = grind (arith, ints, le)
+
+word_now : (words : Words) (v n : ℕ) → late_words 0 words v (pos n) ≡ words v (pos n)
+word_now words v n = word_late 0 words v n (omega arith) ∙ ap (λ m. words v (pos m)) (none n)
+  where
+    none : (n : ℕ) → n - 0 ≡ n
+    none n = omega arith
 
 -- a plan by the rules is feasible
 pub plan_feasible : (g : Graph) (d : Datapath) (p : Plan)
@@ -58,27 +83,8 @@ plan_feasible g d p sound machine plan = record {
     rules : IsSoundLowered d p
     rules = sound_lowered g d p sound plan.lowered plan.assigned
 
--- and so is one with private registers
-pub private_feasible : (g : Graph) (d : Datapath) (p : Plan)
-    → IsGraph g
-    → IsMachine d
-    → IsPrivatePlan g d p
-    → IsFeasiblePlan g d p
-private_feasible g d p sound machine plan = record {
-  lowered = plan.lowered;
-  assigned = plan.assigned;
-  feasible = feasible d p (sound_lowered g d p sound plan.lowered plan.assigned) (gaps_of d machine.units)
-      plan.assigned plan.schedule plan.arcs plan.unroll (omega (arith, machine.period.0))
-      (sound_lines g d p sound plan.lowered plan.assigned) (private_apart d p plan.registers);
-  unroll = count_of_unroll d p plan.arcs plan.unroll;
-  sizes = λ k i in-k in-i.
-      let first : i ≡ 0 = omega (arith, in-i, plan.registers.copies k no_arc in-k) in
-      subst (λ i. register_at p k i < file_size d (arc_at p k).port) (sym first) (plan.sizes k in-k);
-  inputs = plan.inputs;
-  outs = plan.outs;
-}
-
-module _ (g : Graph) (d : Datapath) (p : Plan) (sound : IsGraph g) (plan : IsFeasiblePlan g d p) where
+module _ {o : Overlap} (g : Graph) (d : Datapath) (p : Plan) (sound : IsGraph g)
+    (plan : IsFeasiblePlanOver o g d p) where
   -- the node of output word j in the graph, and in the lowered list
   output_in : (j : ℕ) → j < g.outs → first_output g + j < length g.nodes
   output_in j in-j =
@@ -117,34 +123,67 @@ module _ (g : Graph) (d : Datapath) (p : Plan) (sound : IsGraph g) (plan : IsFea
         arg = ap (λ (node : Node). to_nat node.arg) made.rest ∙ ap to_nat out.arg;
       }
 
-  -- the output rows by numbers of samples are those of the graph
-  rows_are : (stream : Rows) (words : Words) (solves : GraphSolves g stream words)
-      → counted_out (lowered_words g d p sound plan.lowered plan.assigned stream words solves) out_node g.outs
-      (length stream)
-      ≡ graph_out g words (length stream)
-  rows_are stream words solves =
-      map-same _ _ (range_with_len 0 (length stream)) (λ n in-n.
-      map-same _ _ (range_with_len 0 g.outs) (λ j in-j.
-      word_is g d p sound plan.lowered plan.assigned stream words solves (own (first_output g + j)) (out_node j)
-      (past + n) (out_number j (below_of j (In-range 0 g.outs j in-j)))
-      ∙ late _ _ n
-      ∙ ap (λ m. words (first_output g + j) (pos m)) (now_is n)))
-    where
-      below_of : (j : ℕ) → (0 ≤ j) × (j < 0 + g.outs) → j < g.outs
-      below_of j h = omega (arith, h.1)
+  module _ (stream : Rows) (words : Words) (solves : GraphSolves g stream words) where
+    abbrev counted : Counted
+    counted = lowered_words g d p sound plan.lowered plan.assigned stream words solves
 
-  -- the image of a feasible plan runs the solution
-  pub feasible_runs : (image : Image) → IsImageOf d p image → RunsSolution g image
-  feasible_runs image of stream words solves =
-      let outs : image.outs ≡ g.outs = of.outs ∙ plan.outs in
+    -- an output word is that of its node in the graph
+    word_put : (late j n : ℕ)
+        → j < g.outs
+        → put_in late counted (out_node j) n ≡ late_words late words (first_output g + j) (pos n)
+    word_put late j n in-j =
+        ⊎_elim
+        (λ (early : n < late).
+        put_first late counted (out_node j) n early ∙ sym (word_first late words (first_output g + j) n early))
+        (λ (le : late ≤ n).
+        put_late late counted (out_node j) n le
+        ∙ word_is g d p sound plan.lowered plan.assigned stream words solves (own (first_output g + j)) (out_node j)
+        (past + (n - late)) (out_number j in-j)
+        ∙ late_of _ _ (n - late)
+        ∙ ap (λ m. words (first_output g + j) (pos m)) (now_is (n - late))
+        ∙ sym (word_late late words (first_output g + j) n le))
+        (cases_lt n late)
+
+    -- the output rows by numbers of samples are those of the graph
+    rows_are : (late : ℕ)
+        → counted_out late counted out_node g.outs (length stream)
+        ≡ graph_out g (late_words late words) (length stream)
+    rows_are late =
+        map-same _ _ (range_with_len 0 (length stream)) (λ n in-n.
+        map-same _ _ (range_with_len 0 g.outs) (λ j in-j.
+        word_put late j n (below_of j (In-range 0 g.outs j in-j))))
+      where
+        below_of : (j : ℕ) → (0 ≤ j) × (j < 0 + g.outs) → j < g.outs
+        below_of j h = omega (arith, h.1)
+
+  -- an image that does what a feasible plan has runs the solution
+  pub executed_runs : (image : Image)
+      → image.outs ≡ p.outs
+      → ExecutesOver o d p image
+      → RunsSolutionLate (o.stages - 1) g image
+  executed_runs image count runs stream words solves =
+      let outs : image.outs ≡ g.outs = count ∙ plan.outs in
       subst (IsRunOut image stream)
-      (ap (λ outs. counted_out (lowered_words g d p sound plan.lowered plan.assigned stream words solves) out_node outs
-      (length stream)) outs
-      ∙ rows_are stream words solves)
-      (runs_out d p (lowered_words g d p sound plan.lowered plan.assigned stream words solves) image stream out_node
-      plan.feasible (executes d p plan.feasible image of)
+      (ap (λ outs. counted_out (o.stages - 1) (counted stream words solves) out_node outs (length stream)) outs
+      ∙ rows_are stream words solves (o.stages - 1))
+      (runs_out o d p (counted stream words solves) image stream out_node plan.feasible runs
       (lowered_solves g d p sound plan.lowered plan.assigned stream words solves)
       (λ j in-j. output_node j (omega (arith, in-j, outs))))
+
+-- the image of a feasible plan whose samples do not overlap runs the solution
+pub feasible_runs : (g : Graph) (d : Datapath) (p : Plan)
+    → IsGraph g
+    → IsFeasiblePlan g d p
+    → (image : Image) → IsImageOf d p image
+    → RunsSolution g image
+feasible_runs g d p sound plan image of stream words solves =
+    subst (IsRunOut image stream) rows
+    (executed_runs g d p sound plan image of.outs (executes d p plan.feasible image of) stream words solves)
+  where
+    rows : graph_out g (late_words 0 words) (length stream) ≡ graph_out g words (length stream)
+    rows =
+        map-same _ _ (range_with_len 0 (length stream)) (λ n in-n.
+        map-same _ _ (range_with_len 0 g.outs) (λ j in-j. word_now words (first_output g + j) n))
 
 -- the image of a plan runs the solution of the graph
 pub image_runs_solution : (g : Graph) (d : Datapath) (p : Plan) (image : Image)
@@ -155,13 +194,3 @@ pub image_runs_solution : (g : Graph) (d : Datapath) (p : Plan) (image : Image)
     → RunsSolution g image
 image_runs_solution g d p image sound machine plan of =
     feasible_runs g d p sound (plan_feasible g d p sound machine plan) image of
-
--- and so does the image of a plan with private registers
-pub private_image_runs_solution : (g : Graph) (d : Datapath) (p : Plan) (image : Image)
-    → IsGraph g
-    → IsMachine d
-    → IsPrivatePlan g d p
-    → IsImageOf d p image
-    → RunsSolution g image
-private_image_runs_solution g d p image sound machine plan of =
-    feasible_runs g d p sound (private_feasible g d p sound machine plan) image of

@@ -22,7 +22,9 @@ use Rattle.plan_run.specs.Machine.{IsMachine}
 use Rattle.plan_run.specs.ImageOf.{IsUnitOf, IsWordOf, IsPreloadOf, IsCellPreload, IsImageOf, width_of}
 use Rattle.plan_run.specs.Private.Samples.{past}
 use Rattle.plan_run.specs.Private.Circle.{IsLifetime}
+use Rattle.plan_run.specs.Private.Overlap.{one_by_one, reach}
 use Rattle.plan_run.specs.Private.Feasible.{IsFeasible, IsFeasiblePlan}
+use Rattle.plan_run.proofs.Ordinary.{room}
 use Rattle.plan_run.proofs.Choices.{choose}
 use Rattle.plan_run.proofs.Elements.{nth_past}
 use Rattle.plan_run.proofs.FromImage.{copy_before}
@@ -281,9 +283,9 @@ module _ (g : Graph) (d : Datapath) (p : Plan) (machine : IsMachine d) (plan : I
         ap₂ (λ l ago. word_before (node_at p (line_at p l).node).inits ago) same ago)
         (λ disjoint.
         ⊎_elim
-        (λ (before : (line_at p l).offset + (line_at p l).depth < (line_at p m).offset).
+        (λ (before : (line_at p l).offset + reach one_by_one (line_at p l) < (line_at p m).offset).
         absurd (omega (arith, before, of.cell_is, by.cell_is, of.lives)))
-        (λ (before : (line_at p m).offset + (line_at p m).depth < (line_at p l).offset).
+        (λ (before : (line_at p m).offset + reach one_by_one (line_at p m) < (line_at p l).offset).
         absurd (omega (arith, before, of.cell_is, by.cell_is, by.lives)))
         disjoint)
         (feasible.lines_apart l m of.there by.there (of.ram_is ∙ sym by.ram_is))
@@ -444,10 +446,10 @@ module _ (g : Graph) (d : Datapath) (p : Plan) (machine : IsMachine d) (plan : I
         → IsCellPreload p u c l ago
         → (u < length d.units) × (c < (unit_of d u).cells)
     cell_in u c l ago of =
-        let room : (line_at p l).offset + (line_at p l).depth < (unit_of d (line_at p l).ram).cells =
-        (feasible.lines l of.there).room in
+        let room' : (line_at p l).offset + (line_at p l).depth < (unit_of d (line_at p l).ram).cells =
+        room d p feasible l of.there in
         let below : c < (unit_of d u).cells =
-        subst (λ u. c < (unit_of d u).cells) of.ram_is (omega (arith, of.cell_is, of.lives, room)) in (
+        subst (λ u. c < (unit_of d u).cells) of.ram_is (omega (arith, of.cell_is, of.lives, room')) in (
           ⊎_elim (λ (there : u < length d.units). there)
               (λ (past' : length d.units ≤ u).
               absurd (omega (arith, below, ap (λ unit. unit.cells) (nth_past d.units u no_unit past'))))

@@ -11,11 +11,13 @@ use Rattle.operations.specs.Operations.{operands, kind_of}
 use Rattle.operations.specs.Units.{ports}
 use Rattle.operations.specs.declared.units.PortRef.{PortRef}
 use Rattle.datapath.specs.Allowed.{IsUnit}
+use Rattle.datapath.specs.Names.{is_port}
 use Rattle.datapath.specs.declared.types.Datapath.{Datapath}
 use Rattle.signal_graph.specs.declared.graph.Graph.{Graph}
 use Rattle.plan_core.specs.Hardware.{unit_of, no_unit, gap_on}
 use Rattle.plan_core.specs.declared.schedule.Transfer.{Transfer}
 use Rattle.plan_core.specs.declared.plan.Plan.{Plan}
+pub use Rattle.plan_core.proofs.Readers.{enough_ports}
 use Rattle.micro_image.specs.declared.image.Enable.{Enable}
 use Rattle.micro_image.specs.declared.image.Issue.{Issue}
 use Rattle.micro_image.specs.declared.image.Take.{Take}
@@ -23,14 +25,14 @@ use Rattle.micro_image.specs.declared.image.Word.{Word}
 use Rattle.micro_image.specs.Valid.{EnableBefore, TakeBefore}
 use Rattle.plan_run.specs.Parts.{nodes_of, node_at, edge_at, unit_at, cycle_at, transfers_at, arc_at, register_at, ReadsThrough, IsTransferOf, ends_at, IsCopy}
 use Rattle.plan_run.specs.Machine.{IsMachine}
-use Rattle.plan_run.specs.PrivateRegisters.{is_port}
 use Rattle.plan_run.specs.ImageOf.{IsIssueOf, IsWordOf, enable_of, take_of}
 use Rattle.plan_run.specs.Private.Samples.{past}
 use Rattle.plan_run.specs.Private.Feasible.{IsFeasible, IsFeasiblePlan}
+use Rattle.plan_run.proofs.Ordinary.{unit_free, written, delay_in}
 use Rattle.plan_run.proofs.Choices.{choose, gather, in_order}
 use Rattle.plan_run.proofs.Elements.{nth_past}
 use Rattle.plan_run.proofs.FromImage.{copy_read}
-use Rattle.plan_run.proofs.FromRules.{same_file, in_map}
+use Rattle.plan_run.proofs.FromRules.{in_map}
 use Rattle.plan_run.proofs.Lines.{cancel}
 use Rattle.plan_run.proofs.LiveWords.{port_eq}
 
@@ -44,17 +46,11 @@ copy_once copies n ago i j is-i is-j =
     ∙ cancel copies i j ago (omega (arith, is-i.there)) (is-i.in_turn ∙ sym is-j.in_turn)
     ∙ mod-eq_of_lt is-j.there
 
--- a unit has a port for each operand
-pub enough_ports : (o : Op) → operands o ≤ ports (kind_of o)
-enough_ports op.Sel = omega arith
-enough_ports op.Input = omega arith
-enough_ports op.Output = omega arith
-enough_ports op.Const = omega arith
-enough_ports op.Addr = omega arith
-enough_ports _ = omega arith
-
 port_is : (a b : PortRef) → is_port a b ≡ true → a ≡ b
 port_is a b h = port_eq a b (grind (arith, h)) (grind (arith, h))
+
+one_port : (a b : PortRef) → a ≡ b → is_port a b ≡ true
+one_port a b e = grind (arith, ap (λ (port : PortRef). port.unit) e, ap (λ (port : PortRef). port.port) e)
 
 in_mapped : {A B : Type 0} (f : A → B) (xs : List A) (x : A) → Contains xs x → Contains (map f xs) (f x)
 in_mapped f xs x (k, below, is) =
@@ -133,7 +129,7 @@ module _ (g : Graph) (d : Datapath) (p : Plan) (machine : IsMachine d) (plan : I
   one_through v q j k is-j is-k =
       let node : (arc_at p j).node ≡ (arc_at p k).node = sym is-j.reads.node ∙ is-k.reads.node in
       feasible.file_free j k is-j.there is-k.there (is-j.port ∙ sym is-k.port)
-      ((feasible.arcs j is-j.there).written ∙ ap (ends_at d p) node ∙ sym (feasible.arcs k is-k.there).written)
+      (written d p feasible j is-j.there ∙ ap (ends_at d p) node ∙ sym (written d p feasible k is-k.there))
 
   -- what a register of an issue has to be
   pub record IsRegisterFor (v n q r : ℕ) : Type 0 where
@@ -165,7 +161,7 @@ module _ (g : Graph) (d : Datapath) (p : Plan) (machine : IsMachine d) (plan : I
           let copy : IsCopy (arc_at p k).copies n (edge_at p v q).delay i =
           subst (λ m. IsCopy (arc_at p k).copies m (edge_at p v q).delay i) (mod-eq_of_lt in-n)
           (copy_read n p.unroll (arc_at p k).copies (edge_at p v q).delay life.some life.turns feasible.turns
-          (feasible.edges v q in-v read).1) in (
+          (delay_in d p feasible v q in-v read)) in (
             register_at p k i,
             record {
               read = λ j a by-j copy-j.
@@ -280,7 +276,7 @@ module _ (g : Graph) (d : Datapath) (p : Plan) (machine : IsMachine d) (plan : I
           let on : unit_at p v ≡ unit_at p w = sym unit ∙ same ∙ unit' in
           let gap : 0 < gap_on d (unit_at p v) = (feasible.gaps (unit_at p v)).0 in
           let node : v ≡ w =
-          feasible.unit_free v w in-v in-w on (omega (arith, at, at')) (omega (arith, at, at', gap)) in
+          unit_free d p feasible v w in-v in-w on (omega (arith, at, at')) (omega (arith, at, at', gap)) in
           inr (sym is-a ∙ ap (λ v. slice_index_or issues v no_issue) node ∙ is-b))
           (λ other. inl other)
           (cases_order a.unit b.unit)
@@ -331,7 +327,7 @@ module _ (g : Graph) (d : Datapath) (p : Plan) (machine : IsMachine d) (plan : I
               (takes.1.all k (take_of p k t n) is.there at
               (in_mapped (λ t. take_of p k t n) (filter (to_file k) (transfers_at p (arc_at p k).node)) t
               (in_filter (to_file k) (transfers_at p (arc_at p k).node) t is.among
-              (same_file t.port (arc_at p k).port is.port))));
+              (one_port t.port (arc_at p k).port is.port))));
           take_only = λ take among.
               let of = takes.1.only take (sorted_takes.1.only take among) in
               let t = take_from of.0 n take of.1 of.3 in

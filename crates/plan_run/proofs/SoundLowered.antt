@@ -9,6 +9,7 @@ use Rattle.plan_core.specs.declared.plan.Plan.{Plan}
 use Rattle.micro_image.specs.Operations.{gives}
 use Rattle.plan_run.specs.Parts.{nodes_of, lines_of, node_at, edge_at, line_at}
 use Rattle.plan_run.specs.Private.Samples.{past}
+use Rattle.plan_run.specs.Private.Overlap.{Overlap}
 use Rattle.plan_run.specs.Private.Cells.{AreDisjoint}
 use Rattle.plan_run.specs.Private.Memory.{LoadsFrom, StoresTo}
 use Rattle.plan_run.specs.Private.Feasible.{IsFeasibleLine}
@@ -33,13 +34,13 @@ pub record IsSoundLowered (d : Datapath) (p : Plan) : Type 0 where
       → gives (node_at p v).op ≡ true
 
 -- the delay lines, and the nodes that write and read them
-pub record AreSoundLines (d : Datapath) (p : Plan) : Type 0 where
-  pub lines : (l : ℕ) → l < length (lines_of p) → IsFeasibleLine d p l
+pub record AreSoundLines (o : Overlap) (d : Datapath) (p : Plan) : Type 0 where
+  pub lines : (l : ℕ) → l < length (lines_of p) → IsFeasibleLine o d p l
   pub lines_apart : (l m : ℕ)
       → l < length (lines_of p)
       → m < length (lines_of p)
       → (line_at p l).ram ≡ (line_at p m).ram
-      → (l ≡ m) ⊎ AreDisjoint (line_at p l) (line_at p m)
+      → (l ≡ m) ⊎ AreDisjoint o (line_at p l) (line_at p m)
   pub loads : (v : ℕ)
       → v < length (nodes_of p)
       → (node_at p v).op ≡ op.Load

@@ -1,11 +1,11 @@
 -- Lifetimes on the circle, and in the cycles of a run.
 use Rattle.std.proofs.Common.{◌≡◌, ℕ, ◌+◌, ◌-◌, ◌*◌, ◌/◌, ◌%◌, ◌<◌, ◌≤◌, sym, ap, ◌∙◌, arith, ⊎_elim}
-use Rattle.std.proofs.lemmas.Bool.{cases_lt, cases_order}
+use Rattle.std.proofs.lemmas.Bool.{cases_order}
 use Rattle.std.proofs.Math.Nat.{div-add-mod', add-mul, mul_assoc, add-mul-mod_self_right, mod-mod_of_dvd, dvd_of_mod-eq-zero, mod-lt, mul-le-mul_right}
 use Rattle.plan_core.specs.Circle.{Occupies, AreApart}
 use Rattle.plan_core.specs.declared.registers.Arc.{Arc}
 use Rattle.plan_run.specs.Private.Circle.{IsLifetime}
-use Rattle.plan_run.proofs.Samples.{one_more}
+use Rattle.plan_core.proofs.Samples.{step_of_same}
 
 -- a sample begins after whole turns of the circle of u samples, and the rest
 pub sample_start : (s u period : ℕ) → s * period ≡ s / u * (u * period) + s % u * period
@@ -58,27 +58,6 @@ never-both period u a i b j s n t some is_a is_b apart copy copy' after upto aft
     apart.none (t % (u * period))
     (Occupies-lives period u a i s t some is_a copy after upto)
     (Occupies-lives period u b j n t some is_b copy' after' upto')
-
--- two numbers with one remainder differ by the divisor at least
-step_of_same : (s n c : ℕ)
-    → 0 < c
-    → s % c ≡ n % c
-    → s < n
-    → s + c ≤ n
-step_of_same s n c some same below =
-    let at : s / c * c + s % c ≡ s = div-add-mod' s c in
-    let at' : n / c * c + n % c ≡ n = div-add-mod' n c in
-    let less : s / c < n / c = quotient at at' in
-    let le : (s / c + 1) * c ≤ n / c * c = mul-le-mul_right c (omega arith) in
-    omega (arith, le, one_more (s / c) c, same, at, at')
-  where
-    quotient : s / c * c + s % c ≡ s → n / c * c + n % c ≡ n → s / c < n / c
-    quotient at at' =
-        ⊎_elim
-        (λ less. less)
-        (λ (le : n / c ≤ s / c).
-        absurd (let more : n / c * c ≤ s / c * c = mul-le-mul_right c le in omega (arith, more, at, at', same, below)))
-        (cases_lt (s / c) (n / c))
 
 -- the lives of one copy do not meet
 pub same-copy : (period u : ℕ) (a : Arc) (s n t : ℕ)

@@ -31,11 +31,13 @@ use Rattle.micro_image.specs.declared.image.Image.{Image}
 use Rattle.micro_image.specs.Fields.{nth, unit_of as described}
 use Rattle.micro_image.specs.Operations.{kind_of, reads}
 use Rattle.micro_image.specs.Valid as valid
+use Rattle.micro_image.proofs.Length.{few_ports}
 use Rattle.plan_run.specs.Parts.{nodes_of, lines_of, node_at, edge_at, unit_at, arc_at, line_at, register_at, IsTransferOf, IsCopy}
 use Rattle.plan_run.specs.Machine.{IsMachine}
 use Rattle.plan_run.specs.ImageOf.{IsUnitOf, IsIssueOf, IsWordOf, IsImageOf, take_of}
 use Rattle.plan_run.specs.Private.Samples.{past}
-use Rattle.plan_run.specs.Private.Feasible.{IsFeasible, IsFeasibleLine, IsFeasiblePlan}
+use Rattle.plan_run.specs.Private.Feasible.{IsFeasible, IsFeasiblePlan}
+use Rattle.plan_run.proofs.Ordinary.{delay_in, room}
 use Rattle.plan_run.proofs.Elements.{default_any, nth_past}
 use Rattle.plan_run.proofs.FromImage.{copy_read}
 use Rattle.plan_run.proofs.FromLowered.{made_at, made_as, own_below, graph_node, line_is, line_for}
@@ -128,11 +130,15 @@ argument_by o made inputs outs arg given e f is =
 enable_number : (a b : Enable) → valid.EnableBefore a b → a.bus < 32 → 32 * a.unit + a.bus < 32 * b.unit + b.bus
 enable_number a b before small = omega (arith, before, small)
 
+-- of 32 units with at most 3 ports
+abbrev pub most_takes : ℕ
+most_takes = 96
+
 take_number : (a b : Take)
     → valid.TakeBefore a b
-    → a.port.port < 4
+    → a.port.port < 3
     → (a.port ≡ b.port → (a.bus ≡ b.bus) × (a.reg ≡ b.reg))
-    → 4 * a.port.unit + a.port.port < 4 * b.port.unit + b.port.port
+    → 3 * a.port.unit + a.port.port < 3 * b.port.unit + b.port.port
 take_number a b (inl less) small once = omega (arith, less, small)
 take_number a b (inr (unit, inl less)) small once = omega (arith, unit, less)
 take_number a b (inr (unit, inr (port, rest))) small once =
@@ -157,13 +163,13 @@ module _ (g : Graph) (d : Datapath) (p : Plan) (sound : IsGraph g) (machine : Is
       → ago ≤ (line_at p l).depth
       → (line_at p l).offset + ago < valid.offsets
   small_offset l ago in-l le =
-      let line : IsFeasibleLine d p l = feasible.lines l in-l in
-      let room : (line_at p l).offset + (line_at p l).depth < cells_on d (line_at p l).ram = line.room in
+      let room' : (line_at p l).offset + (line_at p l).depth < cells_on d (line_at p l).ram =
+      room d p feasible l in-l in
       let ram = (line_for g d p sound plan.lowered plan.assigned l in-l).next.room.is_ram in
       let unit : path.IsUnit d.units (unit_of d (line_at p l).ram) =
       machine.units (line_at p l).ram no_unit ram.there in
       let cells = unit.cells ram.kind in
-      omega (arith, le, room, cells.1)
+      omega (arith, le, room', cells.1)
 
   made_format : (v : ℕ) → v < length (nodes_of p) → valid.IsFormatFor (node_at p v).op (node_at p v).fmt
   made_format i in-i =
@@ -322,7 +328,7 @@ module _ (g : Graph) (d : Datapath) (p : Plan) (sound : IsGraph g) (machine : Is
           let life = (feasible.arcs k through.1.there).lifetime in
           let turn : n % p.unroll ≡ n = mod-eq_of_lt in-n in
           let copy = copy_read n p.unroll (arc_at p k).copies (edge_at p v q).delay life.some life.turns feasible.turns
-          (feasible.edges v q in-v read).1 in
+          (delay_in d p feasible v q in-v read) in
           let i : ℕ = (past + n - (edge_at p v q).delay) % (arc_at p k).copies in
           let reg : nth issue.regs q 0 ≡ register_at p k i =
           of.read q k i through.1 (subst (λ n. IsCopy (arc_at p k).copies n (edge_at p v q).delay i) turn copy) in
@@ -336,45 +342,40 @@ module _ (g : Graph) (d : Datapath) (p : Plan) (sound : IsGraph g) (machine : Is
           omega (arith, none, some, size))
           (cases_lt q (length (node_at p v).edges))
 
+  -- a word is valid, and it has at most one take for each register file
   pub valid_word : (n c : ℕ) (word : Word)
       → n < p.unroll
       → IsWordOf d p n c word
-      → valid.IsWordOf image word
-  valid_word n c word in-n of = record {
-    issues = λ k default below.
-        let issue : Issue = slice_index_or word.issues k default in
-        let only = of.issue_only issue (k, below, default_any word.issues k issue default below) in
-        valid_issue only.0 n issue only.1 in-n only.3;
-    issues_rise = rising_units word.issues of.issues_rise;
-    enable_count = few (λ (e : Enable). 32 * e.unit + e.bus) 1024 word.enables
-        (λ j k default less below.
-        enable_number _ _ (of.enables_rise j k default less below)
-        (enable_small j default (omega (arith, less, below))).1)
-        (λ k default below.
-        let small = enable_small k default below in
-        omega (arith, small.0, small.1));
-    enables = λ k default below.
-        let e : Enable = slice_index_or word.enables k default in
-        let only = of.enable_only e (k, below, default_any word.enables k e default below) in
-        record {
-          unit = omega (arith, ap (λ (e : Enable). e.unit) only.5, in_image _ (feasible.units only.0 only.2));
-          bus = omega (arith, ap (λ (e : Enable). e.bus) only.5, feasible.buses only.0 only.1 only.2 only.4, is.buses);
-        };
-    enables_rise = adjacent valid.EnableBefore word.enables of.enables_rise;
-    take_count = few_takes (few (λ (take : Take). 4 * take.port.unit + take.port.port) 128 word.takes
-        (λ j k default less below.
-        take_number _ _ (of.takes_rise j k default less below) (take_small j default (omega (arith, less, below))).1
-        (λ port. take_once j k default (omega (arith, less, below)) below port))
-        (λ k default below.
-        let small = take_small k default below in
-        omega (arith, small.0, small.1)));
-    takes = λ k default below. valid_take k default below;
-    takes_rise = adjacent valid.TakeBefore word.takes of.takes_rise;
-  }
+      → valid.IsWordOf image word × (length word.takes ≤ most_takes)
+  valid_word n c word in-n of = (
+    record {
+      issues = λ k default below.
+          let issue : Issue = slice_index_or word.issues k default in
+          let only = of.issue_only issue (k, below, default_any word.issues k issue default below) in
+          valid_issue only.0 n issue only.1 in-n only.3;
+      issues_rise = rising_units word.issues of.issues_rise;
+      enable_count = few (λ (e : Enable). 32 * e.unit + e.bus) 1024 word.enables
+          (λ j k default less below.
+          enable_number _ _ (of.enables_rise j k default less below)
+          (enable_small j default (omega (arith, less, below))).1)
+          (λ k default below.
+          let small = enable_small k default below in
+          omega (arith, small.0, small.1));
+      enables = λ k default below.
+          let e : Enable = slice_index_or word.enables k default in
+          let only = of.enable_only e (k, below, default_any word.enables k e default below) in
+          record {
+            unit = omega (arith, ap (λ (e : Enable). e.unit) only.5, in_image _ (feasible.units only.0 only.2));
+            bus = omega (arith, ap (λ (e : Enable). e.bus) only.5, feasible.buses only.0 only.1 only.2 only.4, is.buses);
+          };
+      enables_rise = adjacent valid.EnableBefore word.enables of.enables_rise;
+      take_count = omega (arith, few_takes);
+      takes = λ k default below. valid_take k default below;
+      takes_rise = adjacent valid.TakeBefore word.takes of.takes_rise;
+    },
+    few_takes,
+  )
     where
-      few_takes : length word.takes ≤ 128 → length word.takes ≤ 1024
-      few_takes le = omega (arith, le)
-
       enable_small : (k : ℕ) (default : Enable)
           → k < length word.enables
           → ((slice_index_or word.enables k default).unit < 32) × ((slice_index_or word.enables k default).bus < 32)
@@ -441,12 +442,21 @@ module _ (g : Graph) (d : Datapath) (p : Plan) (sound : IsGraph g) (machine : Is
       take_small : (k : ℕ) (default : Take)
           → k < length word.takes
           → ((slice_index_or word.takes k default).port.unit < 32)
-          × ((slice_index_or word.takes k default).port.port < 4)
+          × ((slice_index_or word.takes k default).port.port < 3)
       take_small k default below =
           let at = taken k default below in
-          let port = port_is k default below in (
-            omega (arith, ap (λ (port : PortRef). port.unit) port, (arc_port at.0 at.2.there).0, machine.unit_count.1),
-            omega (arith, ap (λ (port : PortRef). port.port) port, feasible.ports at.0 at.2.there),
+          let port = port_is k default below in
+          let there = arc_port at.0 at.2.there in
+          let u : ℕ = (arc_at p at.0).port.unit in
+          let unit : path.IsUnit d.units (unit_of d u) = machine.units u no_unit there.0 in (
+            omega (arith, ap (λ (port : PortRef). port.unit) port, there.0, machine.unit_count.1),
+            omega (
+              arith,
+              ap (λ (port : PortRef). port.port) port,
+              there.1,
+              unit.file_count,
+              few_ports (unit_of d u).kind,
+            ),
           )
 
       take_once : (j k : ℕ) (default : Take)
@@ -468,6 +478,16 @@ module _ (g : Graph) (d : Datapath) (p : Plan) (sound : IsGraph g) (machine : Is
                 ∙ ap (λ k. register_at p k (n % (arc_at p k).copies)) arc
                 ∙ sym (ap (λ (take : Take). take.reg) b.4),
           )
+
+      few_takes : length word.takes ≤ most_takes
+      few_takes =
+          few (λ (take : Take). 3 * take.port.unit + take.port.port) most_takes word.takes
+          (λ j k default less below.
+          take_number _ _ (of.takes_rise j k default less below) (take_small j default (omega (arith, less, below))).1
+          (λ port. take_once j k default (omega (arith, less, below)) below port))
+          (λ k default below.
+          let small = take_small k default below in
+          omega (arith, small.0, small.1))
 
       valid_take : (k : ℕ) (default : Take)
           → k < length word.takes

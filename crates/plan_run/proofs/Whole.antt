@@ -1,5 +1,5 @@
 -- The image of a feasible plan runs the solution of its lowered list.
-use Rattle.std.proofs.Common.{◌≡◌, ℕ, ◌+◌, ◌*◌, ◌<◌, ◌≤◌, refl, sym, ap, ap₂, ◌∙◌, arith, ⊎_elim, [], length, map, subst}
+use Rattle.std.proofs.Common.{◌≡◌, ℕ, ◌+◌, ◌-◌, ◌*◌, ◌<◌, ◌≤◌, nat_lt, refl, sym, ap, ap₂, ◌∙◌, arith, ⊎_elim, [], length, map, ℤ, pos, subst, if◌then◌else◌}
 use Rattle.std.specs.List.{range_with_len}
 use Rattle.std.proofs.lemmas.Bool.{cases_lt}
 use Rattle.lists.specs.Rows.{Rows}
@@ -15,12 +15,13 @@ use Rattle.micro_image.proofs.Lists.{map-same, In-range}
 use Rattle.micro_image.proofs.Streams.{nth-spread, length-spread}
 use Rattle.plan_run.specs.Parts.{nodes_of, node_at}
 use Rattle.plan_run.specs.Private.Samples.{past}
+use Rattle.plan_run.specs.Private.Overlap.{Overlap}
 use Rattle.plan_run.specs.Private.Solution.{Counted, LoweredSolves}
-use Rattle.plan_run.specs.Private.Feasible.{IsFeasible}
-use Rattle.plan_run.specs.Private.Executes.{Executes}
+use Rattle.plan_run.specs.Private.Feasible.{IsFeasibleOver}
+use Rattle.plan_run.specs.Private.Executes.{ExecutesOver}
 use Rattle.std.proofs.Math.Nat.{mul-le-mul_right}
 use Rattle.plan_run.proofs.Elements.{nth_past}
-use Rattle.plan_run.proofs.Contents.{latch_right}
+use Rattle.plan_run.proofs.Contents.{latch_right, latch_first}
 use Rattle.plan_run.proofs.Clear.{clear}
 
 -- node v is the output of word j
@@ -29,10 +30,22 @@ pub record IsOutputNode (p : Plan) (j v : ℕ) : Type 0 where
   pub op : (node_at p v).op ≡ op.Output
   pub arg : to_nat (node_at p v).arg ≡ j
 
+-- the word of a node that is put out in sample n, so many samples late: the first words are 0
+abbrev pub put_in : (late : ℕ) → Counted → (v n : ℕ) → ℤ
+put_in late words v n = if nat_lt n late then pos 0 else words v (past + (n - late))
+
+pub put_first : (late : ℕ) (words : Counted) (v n : ℕ) → n < late → put_in late words v n ≡ pos 0
+put_first late words v n less = grind (arith, less)
+
+pub put_late : (late : ℕ) (words : Counted) (v n : ℕ)
+    → late ≤ n
+    → put_in late words v n ≡ words v (past + (n - late))
+put_late late words v n le = grind (arith, le)
+
 -- the output rows of a solution of the lowered list, by the node of each output word
-abbrev pub counted_out : Counted → (out : ℕ → ℕ) → (outs count : ℕ) → Rows
-counted_out words out outs count =
-    map (λ n. map (λ j. words (out j) (past + n)) (range_with_len 0 outs)) (range_with_len 0 count)
+abbrev pub counted_out : (late : ℕ) → Counted → (out : ℕ → ℕ) → (outs count : ℕ) → Rows
+counted_out late words out outs count =
+    map (λ n. map (λ j. put_in late words (out j) n) (range_with_len 0 outs)) (range_with_len 0 count)
 
 below_of : (low n k : ℕ) → (low ≤ k) × (k < low + n) → low ≡ 0 → k < n
 below_of low n k h e = omega (arith, h.1, e)
@@ -57,13 +70,13 @@ sample_rows d image stream period n c below =
     long : length (spread image.period stream) ≡ length stream * d.period
     long = length-spread image.period stream ∙ ap (λ q. length stream * q) period
 
-pub runs_out : (d : Datapath) (p : Plan) (words : Counted) (image : Image) (stream : Rows) (out : ℕ → ℕ)
-    → IsFeasible d p
-    → Executes d p image
+pub runs_out : (o : Overlap) (d : Datapath) (p : Plan) (words : Counted) (image : Image) (stream : Rows) (out : ℕ → ℕ)
+    → IsFeasibleOver o d p
+    → ExecutesOver o d p image
     → LoweredSolves d p stream words
     → ((j : ℕ) → j < image.outs → IsOutputNode p j (out j))
-    → IsRunOut image stream (counted_out words out image.outs (length stream))
-runs_out d p words image stream out plan runs solves outs = record {
+    → IsRunOut image stream (counted_out (o.stages - 1) words out image.outs (length stream))
+runs_out o d p words image stream out plan runs solves outs = record {
   clear = λ t below. clear d p words plan image z stream runs solves rows t
       (subst (λ q. t < length stream * q) runs.period below);
   put = map-same _ _ (range_with_len 0 (length stream)) (λ n in-n.
@@ -78,11 +91,29 @@ runs_out d p words image stream out plan runs solves outs = record {
     rows : (n c : ℕ) → c < d.period → nth z (n * d.period + c) [] ≡ nth stream n []
     rows = sample_rows d image stream runs.period
 
+    latch_by : (v n : ℕ)
+        → v < length (nodes_of p)
+        → (node_at p v).op ≡ op.Output
+        → n < length stream
+        → Content image z (Latch (to_nat (node_at p v).arg)) ((n + 1) * d.period) ≡ put_in (o.stages - 1) words v n
+    latch_by v n in-v is in-n =
+        ⊎_elim
+        (λ (early : n < o.stages - 1).
+        latch_first d p words plan image z stream runs solves rows v n in-v is (omega (arith, early)) in-n
+        ∙ sym (put_first (o.stages - 1) words v n early))
+        (λ (late : o.stages - 1 ≤ n).
+        let whole : n - (o.stages - 1) + o.stages ≡ n + 1 = omega (arith, late, plan.stages) in
+        ap (λ m. Content image z (Latch (to_nat (node_at p v).arg)) (m * d.period)) (sym whole)
+        ∙ latch_right d p words plan image z stream runs solves rows v (n - (o.stages - 1)) in-v is
+        (omega (arith, whole, in-n))
+        ∙ sym (put_late (o.stages - 1) words v n late))
+        (cases_lt n (o.stages - 1))
+
     latch : (n j : ℕ)
         → n < length stream
         → j < image.outs
-        → Content image z (Latch j) ((n + 1) * image.period) ≡ words (out j) (past + n)
+        → Content image z (Latch j) ((n + 1) * image.period) ≡ put_in (o.stages - 1) words (out j) n
     latch n j in-n in-j =
         let node = outs j in-j in
         ap₂ (λ k q. Content image z (Latch k) ((n + 1) * q)) (sym node.arg) runs.period
-        ∙ latch_right d p words plan image z stream runs solves rows (out j) n node.there node.op in-n
+        ∙ latch_by (out j) n node.there node.op in-n

@@ -1,7 +1,7 @@
 -- What a cycle of the run writes is the live words that are written then, and all places hold what is wanted of them.
-use Rattle.std.proofs.Common.{◌≡◌, ℕ, ◌+◌, ◌-◌, ◌*◌, ◌/◌, ◌%◌, ◌<◌, ◌≤◌, nat_le, refl, sym, ap, ap₂, ◌∙◌, arith, List, [], ◌∷◌, length, ℤ, Bool, true, false, Option, Some, None, subst, if◌then◌else◌}
-use Rattle.std.specs.List.{Contains, range_with_len}
-use Rattle.std.proofs.Math.Nat.{mod-lt, add-mul, mod-mod_of_dvd, dvd_of_mod-eq-zero, add-mod, zero-add, mod-mod}
+use Rattle.std.proofs.Common.{◌≡◌, ℕ, ◌+◌, ◌-◌, ◌*◌, ◌%◌, ◌<◌, ◌≤◌, nat_le, refl, sym, ap, ap₂, ◌∙◌, arith, List, [], ◌∷◌, length, ℤ, Bool, true, false, Option, Some, None, subst, if◌then◌else◌}
+use Rattle.std.specs.List.{range_with_len}
+use Rattle.std.proofs.Math.Nat.{add-mul, mod-mod_of_dvd, dvd_of_mod-eq-zero, add-mod, zero-add, mod-mod}
 use Rattle.lists.specs.Rows.{Rows}
 use Rattle.fix_word.specs.declared.operation.Op.{Op}
 use Rattle.fix_word.specs.declared.operation.Op.TheVariants as op
@@ -17,17 +17,18 @@ use Rattle.micro_image.specs.declared.image.Image.{Image}
 use Rattle.micro_image.specs.Fields.{nth, unit_of, word_at, issue_at, driver_at, began, ending}
 use Rattle.micro_image.specs.Log.{Place, Register, Latch, Cell, Entry, same_place, Log, operand, value, entries_by, entry_of, taken, taken_from, written, written_of, written_by, result_by}
 use Rattle.micro_image.proofs.Each.{In, here, Each, none, more, Each-append, Each-flat_map}
-use Rattle.plan_run.specs.Parts.{nodes_of, node_at, unit_at, cycle_at, arc_at, register_at, ends_at}
+use Rattle.plan_run.specs.Parts.{nodes_of, node_at, unit_at, cycle_at, arc_at, line_at, register_at, ends_at}
 use Rattle.plan_run.specs.Private.Samples.{past}
-use Rattle.plan_run.specs.Private.Memory.{StoresTo}
+use Rattle.plan_run.specs.Private.Overlap.{Overlap, shift_of}
+use Rattle.plan_run.specs.Private.Memory.{store_of, StoresTo}
 use Rattle.plan_run.specs.Private.Solution.{Counted, LoweredSolves}
-use Rattle.plan_run.specs.Private.Feasible.{IsFeasible, IsFeasibleArc}
-use Rattle.plan_run.specs.Private.Executes.{Executes, IsIssueIn, IsTakeIn, register_in}
+use Rattle.plan_run.specs.Private.Feasible.{IsFeasibleOver, IsFeasibleArc}
+use Rattle.plan_run.specs.Private.Executes.{ExecutesOver, IsIssueIn, IsTakeIn, register_in}
 use Rattle.plan_run.proofs.Elements.{Contains-from_In}
-use Rattle.plan_run.proofs.Samples.{split, below_count}
+use Rattle.plan_run.proofs.Samples.{below_count}
 use Rattle.plan_run.proofs.Slots.{right}
-use Rattle.plan_run.proofs.LiveWords.{LiveWord, in_register, in_cell, in_latch, place_of, written_at, word_of}
-use Rattle.plan_run.proofs.ReadsRight.{AllRight, issue_right, store_right, store_place, result_right}
+use Rattle.plan_run.proofs.LiveWords.{LiveWord, in_register, in_cell, in_latch, place_of, written_at, word_of, stored_in, stored_late}
+use Rattle.plan_run.proofs.ReadsRight.{AllRight, near_now, issue_right, store_right, store_place, result_right}
 
 -- places that test as one are one
 pub same_sound : (a b : Place) → same_place a b ≡ true → a ≡ b
@@ -79,21 +80,24 @@ some_same a b o e f = cc
 abbrev pub write : Place → (cycle unit : ℕ) → ℤ → Entry
 write place cycle unit value = record { place = place; cycle = cycle; unit = unit; value = value }
 
+pub output_no_address : (o : Op) → o ≡ op.Output → o ≡ op.Addr → ⊥
+output_no_address o e f = absurd (cc)
+
 output_no_store : (o : Op) → o ≡ op.Output → o ≡ op.Store → ⊥
 output_no_store o e f = absurd (cc)
 
-module _ (d : Datapath) (p : Plan) (words : Counted) (plan : IsFeasible d p) (image : Image) (z stream : Rows)
-    (runs : Executes d p image) (solves : LoweredSolves d p stream words)
+module _ {o : Overlap} (d : Datapath) (p : Plan) (words : Counted) (plan : IsFeasibleOver o d p) (image : Image)
+    (z stream : Rows) (runs : ExecutesOver o d p image) (solves : LoweredSolves d p stream words)
     (rows : (n c : ℕ) → c < d.period → nth z (n * d.period + c) [] ≡ nth stream n []) where
   abbrev RightAt : ℕ → Type 0
   RightAt t = AllRight d p words plan image z stream runs solves rows t
 
   -- the write of cycle t is of a live word that is written then
   pub record IsOfWord (t : ℕ) (e : Entry) : Type 0 where
-    pub live : LiveWord p
-    pub starts : written_at d p words live ≡ past * d.period + t
-    pub place : e.place ≡ place_of d p words live
-    pub value : e.value ≡ word_of d p words live
+    pub live : LiveWord o p
+    pub starts : written_at o d p words live ≡ past * d.period + t
+    pub place : e.place ≡ place_of o d p words live
+    pub value : e.value ≡ word_of o d p words live
 
   taken_is : (log : List Entry) (t : ℕ) (take : Take) (driver : Enable) (v : ℤ)
       → driver_at image t take.bus ≡ Some driver
@@ -104,14 +108,18 @@ module _ (d : Datapath) (p : Plan) (words : Counted) (plan : IsFeasible d p) (im
       ap (taken_from image z log t take) drives
       ∙ ap (entry_of (Register take.port.unit take.port.port take.reg) t driver.unit) result
 
+  -- the word of a lifetime in sample n
+  abbrev pub live_in : (k n : ℕ) → k < length p.arcs → LiveWord o p
+  live_in k n there = in_register k (past + n) there (omega (arith, plan.first))
+
   -- the write of a take
   pub taken_word : (k n t : ℕ) (take : Take) (there : k < length p.arcs)
       → n < length stream
       → t ≡ n * d.period + ends_at d p (arc_at p k).node
       → RightAt t
-      → IsTakeIn p image k n t take
+      → IsTakeIn d p image k n t take
       → (u : ℕ) × (taken image z (Log image z t) t take
-      ≡ write (place_of d p words (in_register k (past + n) there)) t u (words (arc_at p k).node (past + n)) ∷ [])
+      ≡ write (place_of o d p words (live_in k n there)) t u (words (arc_at p k).node (past + n)) ∷ [])
   taken_word k n t take in-k in-n at right is =
       let driver = is.driver.0 in
       let arc : IsFeasibleArc d p k = plan.arcs k in-k in
@@ -123,18 +131,38 @@ module _ (d : Datapath) (p : Plan) (words : Counted) (plan : IsFeasible d p) (im
       (sym at)
       (result_right d p words plan image z stream runs solves rows (arc_at p k).node n (subst RightAt at right) arc.node
       in-n arc.result) in
-      let reg : take.reg ≡ register_in p k (past + n) =
-      is.reg ∙ ap (register_at p k) (sym (in_turn (arc_at p k).copies p.unroll n arc.lifetime.turns plan.turns)) in
-      let place : Register take.port.unit take.port.port take.reg ≡ place_of d p words (in_register k (past + n) in-k) =
+      let reg : take.reg ≡ register_in d p k (past + n) =
+      is.reg
+      ∙ ap (register_at p k)
+      (sym (in_turn (arc_at p k).copies p.unroll (n + shift_of d p k) arc.lifetime.turns plan.turns)
+      ∙ ap (λ s. s % (arc_at p k).copies) (behind n (shift_of d p k))) in
+      let place : Register take.port.unit take.port.port take.reg ≡ place_of o d p words (live_in k n in-k) =
       ap₂ (λ (port : PortRef) (r : ℕ). Register port.unit port.port r) is.port reg in (
         driver.unit,
         taken_is (Log image z t) t take driver _ is.driver.1 result
             ∙ ap (λ place. write place t driver.unit (words (arc_at p k).node (past + n)) ∷ []) place,
       )
+    where
+      behind : (n shift : ℕ) → past + (n + shift) ≡ past + n + shift
+      behind n shift = omega arith
 
   start_of : (w n t : ℕ) → t ≡ n * d.period + w → w + (past + n) * d.period ≡ past * d.period + t
   start_of w n t at =
       let whole : (past + n) * d.period ≡ past * d.period + n * d.period = add-mul past n d.period in omega arith
+
+  -- the write of a lifetime is that of the end of its node
+  pub take_start : (k n t : ℕ)
+      → k < length p.arcs
+      → t ≡ n * d.period + ends_at d p (arc_at p k).node
+      → (arc_at p k).w + (past + n + shift_of d p k) * d.period ≡ past * d.period + t
+  take_start k n t in-k at =
+      omega (
+        arith,
+        at,
+        (plan.arcs k in-k).written,
+        add-mul (past + n) (shift_of d p k) d.period,
+        add-mul past n d.period,
+      )
 
   take_each : (t : ℕ) (take : Take)
       → t < length stream * d.period
@@ -142,23 +170,17 @@ module _ (d : Datapath) (p : Plan) (words : Counted) (plan : IsFeasible d p) (im
       → In take (word_at image t).takes
       → Each (IsOfWord t) (taken image z (Log image z t) t take)
   take_each t take below right in-word =
-      let n : ℕ = t / d.period in
-      let in-n : n < length stream = below_count n d.period t (length stream) (omega (arith, split t d.period)) below in
-      let only = runs.take_only n (t % d.period) take (mod-lt t plan.period)
-      (subst (λ t. Contains (word_at image t).takes take) (split t d.period) (Contains-from_In in-word)) in
+      let only = runs.take_only t take (Contains-from_In in-word) in
       let k : ℕ = only.0 in
-      let in-k : k < length p.arcs = only.1 in
-      let at : t ≡ n * d.period + (arc_at p k).w =
-      split t d.period ∙ ap (λ c. n * d.period + c) (sym only.2) in
-      let at' : t ≡ n * d.period + ends_at d p (arc_at p k).node =
-      at ∙ ap (λ c. n * d.period + c) (plan.arcs k in-k).written in
-      let is : IsTakeIn p image k n t take =
-      subst (λ t. IsTakeIn p image k n t take) (sym (split t d.period)) only.3 in
-      let made = taken_word k n t take in-k in-n at' right is in
+      let n : ℕ = only.1 in
+      let in-k : k < length p.arcs = only.2 in
+      let at : t ≡ n * d.period + ends_at d p (arc_at p k).node = only.3 in
+      let in-n : n < length stream = below_count n d.period t (length stream) (omega (arith, at)) below in
+      let made = taken_word k n t take in-k in-n at right only.4 in
       one_of (IsOfWord t) made.1
       (more (record {
-        live = in_register k (past + n) in-k;
-        starts = start_of (arc_at p k).w n t at;
+        live = live_in k n in-k;
+        starts = take_start k n t in-k at;
         place = refl;
         value = refl;
       }) none)
@@ -177,7 +199,7 @@ module _ (d : Datapath) (p : Plan) (words : Counted) (plan : IsFeasible d p) (im
     pub node : v < length (nodes_of p)
     pub unit : unit_at p v ≡ u
     pub at : t ≡ n * d.period + ends_at d p v
-    pub is : IsIssueIn p v n issue
+    pub is : IsIssueIn d p image v n issue
     pub begun : began image t u ≡ n * d.period + cycle_at p v
 
   ends_as : (t u : ℕ) (issue : Issue)
@@ -196,14 +218,12 @@ module _ (d : Datapath) (p : Plan) (words : Counted) (plan : IsFeasible d p) (im
       by true le at =
           let from : back ≤ t = grind (arith, le) in
           let b : ℕ = t - back in
-          let n : ℕ = b / d.period in
-          let only = runs.issue_only n (b % d.period) u issue (mod-lt b plan.period)
-          (ap (λ b. issue_at image b u) (sym (split b d.period)) ∙ at) in
+          let only = runs.issue_only b u issue at in
           let v : ℕ = only.0 in
-          let in-v : v < length (nodes_of p) = only.1 in
-          let unit : unit_at p v ≡ u = only.2 in
-          let begun : b ≡ n * d.period + cycle_at p v =
-          split b d.period ∙ ap (λ c. n * d.period + c) (sym only.3) in
+          let n : ℕ = only.1 in
+          let in-v : v < length (nodes_of p) = only.2 in
+          let unit : unit_at p v ≡ u = only.3 in
+          let begun : b ≡ n * d.period + cycle_at p v = only.4 in
           let latency : back ≡ latency_on d (unit_at p v) - 1 =
           ap (λ l. l - 1) (runs.latency u) ∙ ap (λ u. latency_on d u - 1) (sym unit) in
           let its = runs.issue v n in-v in
@@ -215,10 +235,19 @@ module _ (d : Datapath) (p : Plan) (words : Counted) (plan : IsFeasible d p) (im
               node = in-v;
               unit = unit;
               at = omega arith;
-              is = subst (IsIssueIn p v n) same its.2;
+              is = subst (IsIssueIn d p image v n) same its.2;
               begun = begun;
             },
           )
+
+  store_start : (l v n t : ℕ)
+      → store_of (line_at p l) ≡ v
+      → t ≡ n * d.period + ends_at d p v
+      → stored_in (past + n) (ends_at d p (store_of (line_at p l))) + (past + n) * d.period ≡ past * d.period + t
+  store_start l v n t its at =
+      let late : stored_in (past + n) (ends_at d p (store_of (line_at p l))) ≡ ends_at d p (store_of (line_at p l)) =
+      stored_late (past + n) (ends_at d p (store_of (line_at p l))) (omega arith) in
+      omega (arith, late, ap (ends_at d p) its, at, add-mul past n d.period)
 
   written_each : (t u : ℕ) (e : Option Issue)
       → t < length stream * d.period
@@ -233,13 +262,14 @@ module _ (d : Datapath) (p : Plan) (words : Counted) (plan : IsFeasible d p) (im
       let as' : EndsAs t u issue v n = ends.2 in
       let in-v : v < length (nodes_of p) = as'.node in
       let at : t ≡ n * d.period + ends_at d p v = as'.at in
-      let is : IsIssueIn p v n issue = as'.is in
+      let is : IsIssueIn d p image v n issue = as'.is in
       let in-n : n < length stream = below_count n d.period t (length stream) (omega arith) below in
       written_each_by issue.op (Log image z t) t (began image t u) issue (IsOfWord t)
       (λ output. record {
         live = in_latch v (past + n) in-v (sym is.op ∙ output) (omega arith);
         starts = start_of (ends_at d p v) n t at;
-        place = ap (λ a. Latch (to_nat a)) is.arg;
+        place = ap (λ a. Latch (to_nat a))
+            (is.arg (output_no_address (node_at p v).op (sym is.op ∙ output)));
         value = ap (λ b. value image z (Log image z t) b issue) as'.begun
             ∙ issue_right d p words plan image z stream runs solves rows t v n issue right in-v in-n
             (output_no_store (node_at p v).op (sym is.op ∙ output)) is (omega arith);
@@ -249,8 +279,8 @@ module _ (d : Datapath) (p : Plan) (words : Counted) (plan : IsFeasible d p) (im
       let l : ℕ = stores.0 in
       let to : StoresTo d p v l = stores.1 in
       record {
-        live = in_cell l (past + n) to.there;
-        starts = ap (λ v. ends_at d p v + (past + n) * d.period) to.its_number ∙ start_of (ends_at d p v) n t at;
+        live = in_cell l (past + n) to.there (near_now n (line_at p l).depth);
+        starts = store_start l v n t to.its_number at;
         place = ap (λ b. Cell issue.unit (to_nat (operand image (Log image z t) b issue 0))) as'.begun
             ∙ store_place d p words plan image z stream runs solves rows t v n l issue right in-v in-n to is
             (omega arith);

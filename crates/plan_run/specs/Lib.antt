@@ -1,7 +1,6 @@
 pub mod Parts
 pub mod Machine
 pub mod ImageOf
-pub mod PrivateRegisters
 pub mod Run
 pub mod Instances
 pub mod Private
