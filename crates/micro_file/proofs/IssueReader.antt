@@ -15,10 +15,10 @@ use Rattle.micro_image.specs.declared.image.UnitDesc.{UnitDesc}
 use Rattle.micro_image.specs.Operations.{kind_of, reads, opcode}
 use Rattle.micro_image.specs.Spells.{eight_bytes, kind_byte, spelled_format, spelled_issue}
 use Rattle.micro_image.specs.Valid.{IsIssueOn, IsIssue}
+use Rattle.micro_image.proofs.Counts.{issue_count}
 use Rattle.micro_file.specs.declared.reader.TheConstants.{KINDS, OPERATIONS}
 use Rattle.micro_file.specs.Private.Fields.{kept, byte_at, entry_at, many_at}
 use Rattle.micro_file.specs.Private.Words.{format_at, argument_at, register_at, same_kind, issue_on_at, issue_at, issues_at, is_above, last_of}
-use Rattle.micro_file.proofs.Counts.{issue_count}
 use Rattle.micro_file.proofs.Readers.{IsBytes, Takes, ◌⨟◌, Took, IsReader, such_reader, some_is, was_kept}
 use Rattle.micro_file.proofs.Several.{counted, Behind, Rising, risen_all, risen_beside, grows_risen}
 use Rattle.micro_file.proofs.Leaves.{one_byte, byte_reader, upto_reader, kind_there, operation_reader}

@@ -172,7 +172,7 @@ fn spelling_of(alloc: Global, image: &Image) -> Result<Bytes, AllocError>
 }
 
 /// The bytes that spell the image. An error says that no memory was left.
-#[tactic(auto, using(crate::proofs::Length::spelling_within))]
+#[tactic(auto, using(crate::proofs::Length::spelling_short))]
 pub fn encode(alloc: Global, image: &Image) -> Result<Bytes, CodeFault>
     requires { IsValid image.now }
     ensures spelled { IfOk result (λ bytes. Spells bytes image.now) }

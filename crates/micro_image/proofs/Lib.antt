@@ -12,3 +12,5 @@ pub mod IncrementRun
 pub mod Echo
 pub mod EchoConflicts
 pub mod IncrementValid
+pub mod Counts
+pub mod Length

@@ -5,3 +5,4 @@ pub mod Log
 pub mod Conflict
 pub mod Run
 pub mod Spells
+pub mod Size

@@ -1,11 +1,12 @@
 -- Facts of a plan that is assembled.
-use Rattle.std.proofs.Common.{◌≡◌, ℕ, ◌+◌, ◌<◌, ◌≤◌, ◌∙◌, sym, ap, arith, List, length, slice_index_or, Contains}
+use Rattle.std.proofs.Common.{◌≡◌, ℕ, ◌<◌, ◌≤◌, ◌∙◌, sym, ap, arith, List, length, slice_index_or, Contains}
 use Rattle.std.proofs.lemmas.List.{get_or_default}
 use Rattle.datapath.specs.declared.types.Datapath.{Datapath}
 use Rattle.plan_core.specs.Hardware.{latency_on, gap_on}
 use Rattle.plan_core.specs.declared.plan.Plan.{Plan}
 use Rattle.plan_run.specs.Parts.{nodes_of, unit_at, cycle_at, arc_at, ReadsThrough, ends_at}
 use Rattle.plan_run.specs.Private.Feasible.{IsFeasible}
+use Rattle.plan_run.proofs.Ordinary as ordinary
 use Rattle.microcode_asm.specs.Private.Ready.{IsReady}
 
 -- an element of a list is in it
@@ -26,14 +27,10 @@ module _ (d : Datapath) (p : Plan) (ready : IsReady d p) where
 
   -- a node is issued in the period, and its result is there in it
   pub in_period : (v : ℕ) → v < length (nodes_of p) → cycle_at p v < d.period
-  in_period v in-v =
-      let fits : cycle_at p v + latency_on d (unit_at p v) ≤ d.period = feasible.fits v in-v in
-      omega (arith, fits, latency_some (unit_at p v))
+  in_period = ordinary.in_period d p feasible
 
   pub end_in_period : (v : ℕ) → v < length (nodes_of p) → ends_at d p v < d.period
-  end_in_period v in-v =
-      let fits : cycle_at p v + latency_on d (unit_at p v) ≤ d.period = feasible.fits v in-v in
-      omega (arith, fits, latency_some (unit_at p v))
+  end_in_period = ordinary.ends_in d p feasible
 
   -- a unit is issued one node in a cycle
   pub one_node : (u v : ℕ)
@@ -44,7 +41,7 @@ module _ (d : Datapath) (p : Plan) (ready : IsReady d p) where
       → u ≡ v
   one_node u v in-u in-v unit cycle =
       let gap : 0 < gap_on d (unit_at p u) = (feasible.gaps (unit_at p u)).0 in
-      feasible.unit_free u v in-u in-v unit (omega (arith, cycle)) (omega (arith, cycle, gap))
+      ordinary.unit_free d p feasible u v in-u in-v unit (omega (arith, cycle)) (omega (arith, cycle, gap))
 
   -- and the result of one node is there on it in a cycle
   pub one_end : (u v : ℕ)
@@ -63,4 +60,5 @@ module _ (d : Datapath) (p : Plan) (ready : IsReady d p) where
   one_through v q j k is-j is-k =
       let node : (arc_at p j).node ≡ (arc_at p k).node = sym is-j.reads.node ∙ is-k.reads.node in
       feasible.file_free j k is-j.there is-k.there (is-j.port ∙ sym is-k.port)
-      ((feasible.arcs j is-j.there).written ∙ ap (ends_at d p) node ∙ sym (feasible.arcs k is-k.there).written)
+      (ordinary.written d p feasible j is-j.there ∙ ap (ends_at d p) node
+      ∙ sym (ordinary.written d p feasible k is-k.there))

@@ -1,5 +1,5 @@
 -- A plan has what its text needs.
-use Rattle.std.proofs.Common.{◌≡◌, sym, ap, subst, arith, ⊎_elim, ℕ, ◌<◌, ◌≤◌, length, get_or}
+use Rattle.std.proofs.Common.{◌≡◌, sym, ap, subst, arith, ℕ, ◌<◌, ◌≤◌, length, get_or}
 use Rattle.std.proofs.lemmas.List.{get_or-map, length-map}
 use Rattle.std.proofs.lemmas.List.Elements.{All-get_or}
 use Rattle.operations.specs.declared.units.PortRef.{PortRef}
@@ -9,11 +9,9 @@ use Rattle.plan_core.specs.Hardware.{no_unit, latency_on, port_of}
 use Rattle.plan_core.specs.Assigned.{unit_in, IsAssigned}
 use Rattle.plan_core.specs.ListSchedule.{slot_of, IsDestination, IsListSchedule}
 use Rattle.plan_core.specs.Arcs.{arc_of, IsArcFor, IsArcs}
-use Rattle.plan_core.specs.IsPlan.{IsPlan}
 use Rattle.plan_core.specs.declared.plan.Plan.{Plan}
 use Rattle.plan_core.specs.declared.schedule.Transfer.{Transfer}
 use Rattle.plan_core.proofs.Readers.{reader_there}
-use Rattle.plan_run.specs.PrivateRegisters.{IsPrivatePlan}
 use Rattle.microcode_asm.specs.Planned.{IsPlanned}
 use Rattle.microcode_asm.specs.Private.Printable.{IsToPort, IsPrintable}
 
@@ -70,9 +68,4 @@ module _ (d : Datapath) (p : Plan) (is : IsDatapath d) (assigned : IsAssigned d 
 
 pub printable : (d : Datapath) (p : Plan) → IsDatapath d → IsPlanned d p → IsPrintable d p
 printable d p is planned =
-    ⊎_elim
-    (λ (shared : IsPlan planned.graph d p).
-    printable_by d p is shared.assigned shared.schedule shared.arcs shared.registers.count)
-    (λ (private : IsPrivatePlan planned.graph d p).
-    printable_by d p is private.assigned private.schedule private.arcs private.registers.count)
-    planned.plan
+    let plan = planned.plan in printable_by d p is plan.assigned plan.schedule plan.arcs plan.registers.count

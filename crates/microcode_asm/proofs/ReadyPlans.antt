@@ -1,27 +1,26 @@
 -- What the assembler knows of a plan of a sound graph.
-use Rattle.std.proofs.Common.{◌≡◌, ℕ, ◌<◌, ⊎_elim, sym, ap, ◌∙◌, subst, arith, List, [], length, ℤ}
+use Rattle.std.proofs.Common.{◌≡◌, ℕ, ◌<◌, sym, ap, subst, arith, List, [], length, ℤ}
 use Rattle.std.specs.List.Sorted.{IsStrictlyIncreasing}
 use Rattle.datapath.specs.Allowed.{IsDatapath}
 use Rattle.datapath.specs.declared.types.Datapath.{Datapath}
 use Rattle.signal_graph.specs.GraphRules.{IsGraph}
 use Rattle.signal_graph.specs.declared.graph.Node.{Node}
 use Rattle.signal_graph.specs.declared.graph.Graph.{Graph}
-use Rattle.plan_core.specs.Arcs.{no_arc}
 use Rattle.plan_core.specs.IsPlan.{IsPlan}
 use Rattle.plan_core.specs.Lowered.{Origin, own, address, store, load, IsNumber, IsOwn, IsAddress, IsStore, IsLoad}
 use Rattle.plan_core.specs.declared.plan.Plan.{Plan}
 use Rattle.micro_image.specs.declared.image.Image.{Image}
+use Rattle.micro_image.specs.Size.{IsShort}
 use Rattle.micro_image.specs.Valid.{IsValid}
 use Rattle.plan_run.specs.ImageOf.{IsImageOf}
 use Rattle.plan_run.specs.Machine.{IsMachine}
 use Rattle.plan_run.specs.Parts.{nodes_of, node_at}
-use Rattle.plan_run.specs.PrivateRegisters.{IsPrivatePlan}
 use Rattle.plan_run.specs.Run.{RunsSolution}
 use Rattle.plan_run.specs.Private.Feasible.{IsFeasiblePlan}
 use Rattle.plan_run.proofs.FromLowered.{made_at, made_as, own_below, graph_node}
-use Rattle.plan_run.proofs.RunsSolution.{plan_feasible, private_feasible, image_runs_solution, private_image_runs_solution}
-use Rattle.plan_run.proofs.Valid.{image_valid, private_image_valid}
-use Rattle.microcode_asm.specs.Planned.{IsPlanOf, IsPlanned}
+use Rattle.plan_run.proofs.RunsSolution.{plan_feasible, image_runs_solution}
+use Rattle.plan_run.proofs.Valid.{image_valid, image_short}
+use Rattle.microcode_asm.specs.Planned.{IsPlanned}
 use Rattle.microcode_asm.specs.Private.Ready.{IsReady, samples_of}
 
 pub machine_of : (d : Datapath) → IsDatapath d → IsMachine d
@@ -64,41 +63,20 @@ module _ (g : Graph) (d : Datapath) (p : Plan) (sound : IsGraph g) (machine : Is
             made_as g d p sound plan.lowered plan.assigned (load v ago) i number in
             none_rise _ (ap (λ (node : Node). node.inits) made.is)
 
-shared_ready : (g : Graph) (d : Datapath) (p : Plan) → IsGraph g → IsMachine d → IsPlan g d p → IsReady d p
-shared_ready g d p sound machine plan =
-    let feasible = plan_feasible g d p sound machine plan in record {
-      graph = g;
-      machine = machine;
-      plan = feasible;
-      arcs = plan.arcs.order;
-      slot_count = plan.schedule.count;
-      register_count = plan.registers.count;
-      copies = plan.registers.copies;
-      inits = inits_rise g d p sound machine feasible;
-    }
-
-private_ready : (g : Graph) (d : Datapath) (p : Plan) → IsGraph g → IsMachine d → IsPrivatePlan g d p → IsReady d p
-private_ready g d p sound machine plan =
-    let feasible = private_feasible g d p sound machine plan in record {
-      graph = g;
-      machine = machine;
-      plan = feasible;
-      arcs = plan.arcs.order;
-      slot_count = plan.schedule.count;
-      register_count = plan.registers.count;
-      copies = λ k in-k. plan.registers.one k in-k ∙ sym (plan.registers.copies k no_arc in-k);
-      inits = inits_rise g d p sound machine feasible;
-    }
-
 -- a plan that is assembled is ready
 pub ready : (d : Datapath) (p : Plan) → IsDatapath d → IsPlanned d p → IsReady d p
 ready d p path planned =
-    ⊎_elim
-    (λ (plan : IsPlan planned.graph d p).
-    shared_ready planned.graph d p planned.sound (machine_of d path) plan)
-    (λ (plan : IsPrivatePlan planned.graph d p).
-    private_ready planned.graph d p planned.sound (machine_of d path) plan)
-    planned.plan
+    let machine = machine_of d path in
+    let feasible = plan_feasible planned.graph d p planned.sound machine planned.plan in record {
+      graph = planned.graph;
+      machine = machine;
+      plan = feasible;
+      arcs = planned.plan.arcs.order;
+      slot_count = planned.plan.schedule.count;
+      register_count = planned.plan.registers.count;
+      copies = planned.plan.registers.copies;
+      inits = inits_rise planned.graph d p planned.sound machine feasible;
+    }
 
 -- its image is valid
 pub planned_valid : (d : Datapath) (p : Plan) (image : Image)
@@ -107,23 +85,22 @@ pub planned_valid : (d : Datapath) (p : Plan) (image : Image)
     → IsImageOf d p image
     → IsValid image
 planned_valid d p image path planned of =
-    ⊎_elim
-    (λ (plan : IsPlan planned.graph d p).
-    image_valid planned.graph d p image planned.sound (machine_of d path) plan of)
-    (λ (plan : IsPrivatePlan planned.graph d p).
-    private_image_valid planned.graph d p image planned.sound (machine_of d path) plan of)
-    planned.plan
+    image_valid planned.graph d p image planned.sound (machine_of d path) planned.plan of
 
--- and runs the solution of the graph
+-- and its bytes are few
+pub planned_short : (d : Datapath) (p : Plan) (image : Image)
+    → IsDatapath d
+    → IsPlanned d p
+    → IsImageOf d p image
+    → IsShort image
+planned_short d p image path planned of =
+    image_short planned.graph d p image planned.sound (machine_of d path) planned.plan of
+
+-- and it runs the solution of the graph
 pub planned_runs : (g : Graph) (d : Datapath) (p : Plan) (image : Image)
     → IsDatapath d
     → IsGraph g
-    → IsPlanOf g d p
+    → IsPlan g d p
     → IsImageOf d p image
     → RunsSolution g image
-planned_runs g d p image path sound plan of =
-    ⊎_elim
-    (λ (shared : IsPlan g d p). image_runs_solution g d p image sound (machine_of d path) shared of)
-    (λ (own_registers : IsPrivatePlan g d p).
-    private_image_runs_solution g d p image sound (machine_of d path) own_registers of)
-    plan
+planned_runs g d p image path sound plan of = image_runs_solution g d p image sound (machine_of d path) plan of

@@ -22,6 +22,7 @@ use Rattle.micro_image.specs.Log.{Place, Register, Cell, Latch, initial}
 use Rattle.plan_run.specs.Parts.{nodes_of, lines_of, node_at, arc_at, line_at, register_at, IsCopy}
 use Rattle.plan_run.specs.ImageOf.{IsImageOf, IsUnitOf, IsPreloadOf, IsCellPreload}
 use Rattle.plan_run.specs.Private.Feasible.{IsFeasible}
+use Rattle.plan_run.proofs.Ordinary.{room as line_room}
 use Rattle.plan_run.proofs.Elements.{nth_past}
 use Rattle.plan_run.proofs.SomeWord.{copy_once}
 use Rattle.microcode_asm.specs.Private.Ready.{IsReady, samples_of}
@@ -392,7 +393,7 @@ module _ (d : Datapath) (p : Plan) (ready : IsReady d p) where
       let is : line ≡ line_at p l = line_is l line in-l line-is in
       let room : line.offset + line.depth < (unit_of d line.ram).cells =
       subst (λ (line : Line). line.offset + line.depth < (unit_of d line.ram).cells) (sym is)
-      (feasible.lines l in-l).room in
+      (line_room d p feasible l in-l) in
       let there : line.ram < length d.units =
       ⊎_elim (λ (below : line.ram < length d.units). below)
       (λ (past : length d.units ≤ line.ram).

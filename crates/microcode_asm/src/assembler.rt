@@ -4,10 +4,12 @@ ghost use Rattle.std.specs.Prelude.{◌≡◌, map, IfOk};
 ghost use Rattle.datapath.specs.Allowed.{IsDatapath};
 ghost use Rattle.signal_graph.specs.GraphRules.{IsGraph};
 ghost use Rattle.signal_graph.specs.declared.graph.Graph.{Graph};
+ghost use Rattle.plan_core.specs.IsPlan.{IsPlan};
+ghost use Rattle.micro_image.specs.Size.{IsShort};
 ghost use Rattle.micro_image.specs.Valid.{IsValid};
 ghost use Rattle.plan_run.specs.ImageOf.{IsImageOf, width_of as width_in_file};
 ghost use Rattle.plan_run.specs.Run.{RunsSolution};
-ghost use Rattle.microcode_asm.specs.Planned.{IsPlanOf, IsPlanned};
+ghost use Rattle.microcode_asm.specs.Planned.{IsPlanned};
 ghost use Rattle.microcode_asm.specs.Private.Ready.{IsReady};
 
 use crate::fault::AsmFault;
@@ -66,8 +68,9 @@ pub fn assemble(alloc: Global, plan: &Plan, datapath: &Datapath) -> Result<Image
     requires plan { IsPlanned datapath.now plan.now }
     ensures image { IfOk result (IsImageOf datapath.now plan.now) }
     ensures valid { IfOk result IsValid }
+    ensures short { IfOk result IsShort }
     // The image runs the solution.
-    ensures runs { (g : Graph) → IsGraph g → IsPlanOf g datapath.now plan.now → IfOk result (RunsSolution g) }
+    ensures runs { (g : Graph) → IsGraph g → IsPlan g datapath.now plan.now → IfOk result (RunsSolution g) }
 {
     image_of(alloc, plan, datapath)
 }

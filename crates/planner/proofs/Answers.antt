@@ -4,9 +4,12 @@ use Rattle.std.specs.Prelude.{IfOk, IfErr}
 use Rattle.fix_word.specs.declared.types.SigType.{SigType}
 use Rattle.datapath.specs.declared.types.Datapath.{Datapath}
 use Rattle.signal_graph.specs.declared.graph.Graph.{Graph}
+use Rattle.plan_core.specs.Hardware.{port_of}
 use Rattle.plan_core.specs.Lowered.{IsLowered}
 use Rattle.plan_core.specs.ListSchedule.{IsListSchedule}
-use Rattle.plan_core.specs.Arcs.{IsArcs}
+use Rattle.plan_core.specs.IsPlan.{IsPlan}
+use Rattle.plan_core.specs.Arcs.{IsArcs, IsUnroll}
+use Rattle.plan_core.specs.FirstFit.{IsFirstFit}
 use Rattle.plan_core.specs.declared.delay_lines.Lowered.{Lowered}
 use Rattle.plan_core.specs.declared.schedule.Assigned.{Assigned}
 use Rattle.plan_core.specs.declared.schedule.Schedule.{Schedule}
@@ -14,7 +17,6 @@ use Rattle.plan_core.specs.declared.registers.Arc.{Arc}
 use Rattle.plan_core.specs.declared.registers.Registers.{Registers}
 use Rattle.plan_core.specs.declared.plan.Plan.{Plan}
 use Rattle.plan_core.proofs.OneArcs.{one_unroll}
-use Rattle.plan_run.specs.PrivateRegisters.{ArePrivate, IsPrivatePlan}
 use Rattle.unit_assign.specs.Bound.{AreUnitsOf}
 use Rattle.unit_assign.specs.Faults.{IsUnitFault}
 use Rattle.unit_assign.specs.declared.fault.UnitFault.{UnitFault}
@@ -26,15 +28,14 @@ use Rattle.cyclic_life.specs.declared.fault.ArcFault.{ArcFault}
 use Rattle.delay_memory.specs.Faults.{IsLineFault}
 use Rattle.delay_memory.specs.declared.fault.LineFault.{LineFault}
 use Rattle.delay_memory.specs.declared.fault.LineFault.TheVariants as line
-use Rattle.planner.specs.Faults.{IsPlanFault}
+use Rattle.reg_alloc.specs.Allottable.{AreAllotted}
+use Rattle.reg_alloc.specs.Faults.{IsFileFault}
+use Rattle.reg_alloc.specs.declared.fault.FileFault.{FileFault}
+use Rattle.reg_alloc.specs.declared.fault.FileFault.TheVariants as file
+use Rattle.planner.specs.Faults.{HasUnkeptNode, IsPlanFault}
 use Rattle.planner.specs.Private.Errors.{of_line, of_unit, of_period, of_file}
-use Rattle.planner.specs.Private.Allotted.{AreWithin, IsFileFault}
 use Rattle.planner.specs.declared.fault.PlanFault.{PlanFault}
 use Rattle.planner.specs.declared.fault.PlanFault.TheVariants.{Line as Unstored, Unit as Unbound, Period, FileFull, Memory}
-use Rattle.planner.specs.declared.registers.FileFault.{FileFault}
-use Rattle.planner.specs.declared.registers.FileFault.TheVariants as file
-use Rattle.planner.proofs.OneCopy.{not_unrolled}
-use Rattle.planner.proofs.OwnRegisters.{Places}
 use Rattle.planner.proofs.Stages.{IsOnly, Comes, Then, IsSettled}
 
 abbrev pub of_arc : ArcFault → PlanFault
@@ -57,22 +58,31 @@ module _ (g : Graph) (d : Datapath) where
   abbrev pub Lifetimes : Assigned → Schedule → Result (List Arc) ArcFault → Type 0
   Lifetimes a s = Comes (IsArcs d a s) (λ (f : ArcFault). ⊥)
 
-  abbrev pub whole : Assigned → Schedule → List Arc → Registers → Plan
-  whole a s arcs rs = record {
+  abbrev pub Turns : List Arc → Result ℕ ArcFault → Type 0
+  Turns arcs = Comes (IsUnroll arcs) (λ (f : ArcFault). ⊥)
+
+  abbrev pub Places : List Arc → Result Registers FileFault → Type 0
+  Places arcs = Comes (λ (rs : Registers). AreAllotted d arcs rs.regs) (IsFileFault d arcs)
+
+  abbrev pub whole : Assigned → Schedule → List Arc → ℕ → Registers → Plan
+  whole a s arcs unroll rs = record {
     assigned = a;
     schedule = s;
     arcs = arcs;
     registers = rs;
-    unroll = 1;
+    unroll = unroll;
     inputs = g.inputs;
     outs = g.outs;
   }
 
-  abbrev pub Whole : Assigned → Schedule → List Arc → Registers → Result Plan PlanFault → Type 0
-  Whole a s arcs rs = Comes (λ (p : Plan). whole a s arcs rs ≡ p) (λ (f : PlanFault). ⊥)
+  abbrev pub Whole : Assigned → Schedule → List Arc → ℕ → Registers → Result Plan PlanFault → Type 0
+  Whole a s arcs unroll rs = Comes (λ (p : Plan). whole a s arcs unroll rs ≡ p) (λ (f : PlanFault). ⊥)
+
+  abbrev pub FromTurns : Assigned → Schedule → List Arc → ℕ → Result Plan PlanFault → Type 0
+  FromTurns a s arcs unroll = Then (Places arcs) of_file (Whole a s arcs unroll)
 
   abbrev pub FromArcs : Assigned → Schedule → List Arc → Result Plan PlanFault → Type 0
-  FromArcs a s arcs = Then (Places d arcs) of_file (Whole a s arcs)
+  FromArcs a s arcs = Then (Turns arcs) of_arc (FromTurns a s arcs)
 
   abbrev pub FromSchedule : Assigned → Schedule → Result Plan PlanFault → Type 0
   FromSchedule a s = Then (Lifetimes a s) of_arc (FromArcs a s)
@@ -88,7 +98,7 @@ module _ (g : Graph) (d : Datapath) where
 
   -- the plan of the graph, or its fault
   abbrev IsOutcome : Result Plan PlanFault → Type 0
-  IsOutcome = Comes (IsPrivatePlan g d) (IsPlanFault g d)
+  IsOutcome = Comes (IsPlan g d) (IsPlanFault g d)
 
   line_is : (f : LineFault) → IsLineFault g d f → of_line f ≡ Unstored f
   line_is (line.NoRam v) h = refl
@@ -102,12 +112,16 @@ module _ (g : Graph) (d : Datapath) where
   unit_is l (unit.NoRoute s q v) h = refl
   unit_is l unit.Memory h = absurd h
 
-  whole_is : (p : Plan) → IsPrivatePlan g d p → whole p.assigned p.schedule p.arcs p.registers ≡ p
+  whole_is : (p : Plan) → IsPlan g d p → whole p.assigned p.schedule p.arcs p.unroll p.registers ≡ p
   whole_is p is =
-      let once = one_unroll p.arcs 1 p.unroll (not_unrolled p.arcs is.registers.copies) is.unroll in
-      ap (λ (x : ℕ). record (whole p.assigned p.schedule p.arcs p.registers) { unroll = x }) once
-      ∙ ap (λ (x : List SigType). record p { inputs = x; outs = g.outs }) (sym is.inputs)
+      ap (λ (x : List SigType). record p { inputs = x; outs = g.outs }) (sym is.inputs)
       ∙ ap (λ (x : ℕ). record p { outs = x }) (sym is.outs)
+
+  allotted : (p : Plan) → IsPlan g d p → AreAllotted d p.arcs p.registers.regs
+  allotted p is = record { unroll = p.unroll; unroll_is = is.unroll; fit = is.registers; sizes = is.sizes }
+
+  full : (s q v : ℕ) (x : HasUnkeptNode g d (port_of s q) v) → IsFileFault d x.arcs (file.Full s q v)
+  full s q v x = record { unroll = x.unroll; unroll_is = x.is_unroll; none = x.none }
 
   to_passes : (r : Result Plan PlanFault) → IsOutcome r → Passes r
   to_passes (Ok p) is = (
@@ -116,7 +130,11 @@ module _ (g : Graph) (d : Datapath) where
     (
       p.assigned.units,
       is.assigned,
-      (p.schedule, is.schedule, (p.arcs, is.arcs, (p.registers, (is.registers, is.sizes), whole_is p is))),
+      (
+        p.schedule,
+        is.schedule,
+        (p.arcs, is.arcs, (p.unroll, is.unroll, (p.registers, allotted p is, whole_is p is))),
+      ),
     ),
   )
   to_passes (Err (Unstored f)) x = inl (f, x, line_is f x)
@@ -134,7 +152,7 @@ module _ (g : Graph) (d : Datapath) where
           inr (
             x.schedule,
             x.is_schedule,
-            inr (x.arcs, x.are_arcs, inl (file.Full s q v, x.none, refl)),
+            inr (x.arcs, x.are_arcs, inr (x.unroll, x.is_unroll, inl (file.Full s q v, full s q v x, refl))),
           ),
         ),
       )
@@ -159,20 +177,23 @@ module _ (g : Graph) (d : Datapath) where
         is_schedule = scheduled;
         arcs = arcs;
         are_arcs = are;
-        none = h;
+        unroll = h.unroll;
+        is_unroll = h.unroll_is;
+        none = h.none;
       }
       no_register file.Memory h = absurd h
 
-      it_is : (rs : Registers) → ArePrivate arcs rs.regs → AreWithin d arcs rs.regs
-          → IsPrivatePlan g d (whole a s arcs rs)
-      it_is rs own within = record {
+      it_is : (unroll : ℕ) (rs : Registers) → IsUnroll arcs unroll → AreAllotted d arcs rs.regs
+          → IsPlan g d (whole a s arcs unroll rs)
+      it_is unroll rs turns all = record {
         lowered = low;
         assigned = are_units;
         schedule = scheduled;
         arcs = are;
-        unroll = not_unrolled arcs own.copies;
-        registers = own;
-        sizes = within;
+        unroll = turns;
+        registers = subst (λ (u : ℕ). IsFirstFit d.period u arcs rs.regs)
+            (one_unroll arcs all.unroll unroll all.unroll_is turns) all.fit;
+        sizes = all.sizes;
         inputs = refl;
         outs = refl;
       }
@@ -181,8 +202,8 @@ module _ (g : Graph) (d : Datapath) where
   fault_is f h x e = subst (λ (k : PlanFault). IsPlanFault g d k) e x
 
   of_passes : (r : Result Plan PlanFault) → Passes r → IsOutcome r
-  of_passes (Ok p) (l, low, (units, are_units, (s, scheduled, (arcs, are, (rs, own, e))))) =
-      subst (λ (x : Plan). IsPrivatePlan g d x) e (it_is l low units are_units s scheduled arcs are rs own.0 own.1)
+  of_passes (Ok p) (l, low, (units, are_units, (s, scheduled, (arcs, are, (unroll, turns, (rs, all, e)))))) =
+      subst (λ (x : Plan). IsPlan g d x) e (it_is l low units are_units s scheduled arcs are unroll rs turns all)
   of_passes (Err h) (inl (f, x, e)) = fault_is (Unstored f) h x (sym (line_is f x) ∙ e)
   of_passes (Err h) (inr (l, low, inl (f, x, e))) =
       fault_is (Unbound f) h (record { lowered = l; is_lowered = low; none = x }) (sym (unit_is l f x) ∙ e)
@@ -190,14 +211,41 @@ module _ (g : Graph) (d : Datapath) where
       fault_is (of_period f) h (no_cycle l low units are_units f x) e
   of_passes (Err h) (inr (l, low, inr (units, are_units, inr (s, scheduled, inl (f, x, e))))) = absurd x
   of_passes (Err h) (inr (l, low, inr (units, are_units, inr (s, scheduled, inr (arcs, are, inl (f, x, e)))))) =
+      absurd x
+  of_passes (Err h) (inr (
+    l,
+    low,
+    inr (
+      units,
+      are_units,
+      inr (
+        s,
+        scheduled,
+        inr (arcs, are, inr (unroll, turns, inl (f, x, e))),
+      ),
+    ),
+  )) =
       fault_is (of_file f) h (no_register l low units are_units s scheduled arcs are f x) e
-  of_passes (Err h) (inr (l, low, inr (units, are_units, inr (s, scheduled, inr (arcs, are, inr (rs, own, x)))))) = absurd x
+  of_passes (Err h) (inr (
+    l,
+    low,
+    inr (
+      units,
+      are_units,
+      inr (
+        s,
+        scheduled,
+        inr (arcs, are, inr (unroll, turns, inr (rs, all, x))),
+      ),
+    ),
+  )) =
+      absurd x
 
   -- what is promised of an answer
   pub record IsAnswer (result : Result Plan PlanFault) : Type 0 where
-    pub plan : IfOk result (IsPrivatePlan g d)
+    pub plan : IfOk result (IsPlan g d)
     pub fault : IfErr result (λ (fault : PlanFault). (fault ≡ Memory) ⊎ IsPlanFault g d fault)
-    pub found : (p : Plan) → IsPrivatePlan g d p → (result ≡ Ok p) ⊎ (result ≡ Err Memory)
+    pub found : (p : Plan) → IsPlan g d p → (result ≡ Ok p) ⊎ (result ≡ Err Memory)
     pub refused : (fault : PlanFault) → IsPlanFault g d fault → (result ≡ Err fault) ⊎ (result ≡ Err Memory)
 
   pub out_of_memory : IsAnswer (Err Memory)

@@ -1,20 +1,23 @@
 -- What the passes ask of the lowered list of a sound graph without a delay-free loop.
-use Rattle.std.proofs.Common.{◌≡◌, ℕ, ◌≤◌, arith}
+use Rattle.std.proofs.Common.{List, arith}
 use Rattle.datapath.specs.Allowed.{IsDatapath}
 use Rattle.datapath.specs.declared.types.Datapath.{Datapath}
 use Rattle.signal_graph.specs.GraphSolves.{IsGraphLoopless}
 use Rattle.signal_graph.specs.GraphRules.{IsGraph}
-use Rattle.signal_graph.specs.declared.graph.Edge.{Edge}
 use Rattle.signal_graph.specs.declared.graph.Graph.{Graph}
-use Rattle.plan_core.specs.Operands.{delay_at, Reads}
 use Rattle.plan_core.specs.Lowered.{IsLowered}
 use Rattle.plan_core.specs.Assigned.{IsAssigned}
+use Rattle.plan_core.specs.ListSchedule.{IsListSchedule}
+use Rattle.plan_core.specs.Arcs.{IsArcs}
+use Rattle.plan_core.specs.declared.registers.Arc.{Arc}
+use Rattle.plan_core.specs.declared.schedule.Schedule.{Schedule}
 use Rattle.plan_core.specs.declared.delay_lines.Lowered.{Lowered}
 use Rattle.plan_core.specs.declared.schedule.Assigned.{Assigned}
 use Rattle.unit_assign.specs.Wired.{IsWired}
-use Rattle.list_schedule.specs.Schedulable.{IsSchedulable}
+use Rattle.schedule_order.specs.Schedulable.{IsSchedulable}
 use Rattle.cyclic_life.specs.Held.{IsHeld}
-use Rattle.plan_core.proofs.Readers.{edge_has}
+use Rattle.reg_alloc.specs.Allottable.{AreAllottable}
+use Rattle.reg_alloc.proofs.FromArcs as of_arcs
 use Rattle.delay_memory.proofs.LoweredNodes as of_list
 use Rattle.planner.proofs.LongestPaths.{path_of, are_heights}
 
@@ -52,10 +55,8 @@ module _ (g : Graph) (d : Datapath) (sound : IsGraph g) where
         assigned = bound;
       }
 
-      -- what is older than this sample comes from memory
-      pub none_delayed : (c q v : ℕ) → Reads a.lowered.nodes c q v → delay_at a.lowered.nodes c q ≡ 0
-      none_delayed c q v r =
-          let short = edge_has (λ (edge : Edge). edge.delay ≤ d.hold) a.lowered.nodes
-          (of_list.edges_short g d a.lowered sound low) c q v r in
-          let hold = allowed.hold in
-          omega (arith, short, hold)
+      pub allottable : IsAssigned d a → (s : Schedule) → IsListSchedule d a s → (arcs : List Arc) → IsArcs d a s arcs
+          → AreAllottable d arcs
+      allottable bound s scheduled arcs are =
+          of_arcs.allottable d a s allowed (of_list.edge_count g d a.lowered sound low)
+          (of_list.edges_there g d a.lowered sound low) bound scheduled arcs are

@@ -7,14 +7,14 @@ use Rattle.datapath.specs.declared.types.Datapath.{Datapath}
 use Rattle.signal_graph.specs.declared.graph.Graph.{Graph}
 use Rattle.plan_core.specs.Lowered.{IsLowered}
 use Rattle.plan_core.specs.ListSchedule.{IsListSchedule}
-use Rattle.plan_core.specs.Arcs.{IsArcs}
+use Rattle.plan_core.specs.Arcs.{IsArcs, IsUnroll}
 use Rattle.plan_core.specs.declared.delay_lines.Lowered.{Lowered}
 use Rattle.plan_core.specs.declared.schedule.Assigned.{Assigned}
 use Rattle.plan_core.specs.declared.schedule.Schedule.{Schedule}
 use Rattle.plan_core.specs.declared.registers.Arc.{Arc}
 use Rattle.plan_core.specs.declared.registers.Registers.{Registers}
 use Rattle.plan_core.specs.declared.plan.Plan.{Plan}
-use Rattle.plan_core.proofs.OneArcs.{one_arcs}
+use Rattle.plan_core.proofs.OneArcs.{one_arcs, one_unroll}
 use Rattle.unit_assign.specs.Bound.{AreUnitsOf}
 use Rattle.unit_assign.specs.Faults.{IsUnitFault}
 use Rattle.unit_assign.specs.declared.fault.UnitFault.{UnitFault}
@@ -26,15 +26,18 @@ use Rattle.cyclic_life.specs.declared.fault.ArcFault.{ArcFault}
 use Rattle.delay_memory.specs.Faults.{IsLineFault}
 use Rattle.delay_memory.specs.declared.fault.LineFault.{LineFault}
 use Rattle.delay_memory.specs.declared.fault.LineFault.TheVariants as line
+use Rattle.reg_alloc.specs.Allottable.{AreAllotted}
+use Rattle.reg_alloc.specs.Faults.{IsFileFault}
+use Rattle.reg_alloc.specs.declared.fault.FileFault.{FileFault}
+use Rattle.reg_alloc.specs.declared.fault.FileFault.TheVariants as file
 use Rattle.planner.specs.Private.Errors.{of_line, of_unit, of_period, of_file}
-use Rattle.planner.specs.Private.Allotted.{IsFileFault}
 use Rattle.planner.specs.declared.fault.PlanFault.{PlanFault}
 use Rattle.planner.specs.declared.fault.PlanFault.TheVariants.{Memory}
-use Rattle.planner.specs.declared.registers.FileFault.{FileFault}
-use Rattle.planner.specs.declared.registers.FileFault.TheVariants as file
 use Rattle.planner.proofs.Stages.{IsOnly, IsSettled, Found, Refused, only_ok, only_err, stops, goes}
-use Rattle.planner.proofs.OwnRegisters.{AreOwn, Places, only_registers, only_full}
-use Rattle.planner.proofs.Answers.{of_arc, Lines, bound, Units, Cycles, Lifetimes, whole, Whole, FromArcs, FromSchedule, FromUnits, FromLines, Passes, IsAnswer, settled}
+use Rattle.planner.proofs.Answers.{of_arc, Lines, bound, Units, Cycles, Lifetimes, Turns, Places, whole, Whole, FromTurns, FromArcs, FromSchedule, FromUnits, FromLines, Passes, IsAnswer, settled}
+
+pub unrolled : (listed arcs : List Arc) (n : ℕ) → listed ≡ arcs → IsUnroll listed n → IsUnroll arcs n
+unrolled listed arcs n same is = subst (λ (xs : List Arc). IsUnroll xs n) same is
 
 module _ (g : Graph) (d : Datapath) where
   leaves : {F : Type 0} (of : F → PlanFault) (r : Result Plan PlanFault) (f : F)
@@ -113,22 +116,47 @@ module _ (g : Graph) (d : Datapath) where
             (only_ok (IsListSchedule d a) (IsPeriodFault d a) period.Memory s scheduled cycles_found cycles_refused)
             Memory r (goes (Lifetimes g d a s) of_arc (FromArcs g d a s) arcs only_arcs Memory r x))
 
-        pub at_registers : (r : Result Plan PlanFault) (f : FileFault)
-            → IsErrAnd r (λ (h : PlanFault). h ≡ of_file f) → (f ≡ file.Memory) ⊎ IsFileFault d arcs f
-            → IsAnswer g d r
-        at_registers r f is why =
-            leaves of_file r f is (after_arcs (Err (of_file f))
-            (stops (Places d arcs) of_file (Whole g d a s arcs) file.Memory f (only_full d arcs f why)))
+        -- how often the microprogram is unrolled
+        module _ (unroll : ℕ) (turns : IsUnroll arcs unroll) where
+          only_turns : IsOnly (Turns g d arcs) (Ok unroll)
+          only_turns = record { is = turns; one = one }
+            where
+              one : (r : Result ℕ ArcFault) → Turns g d arcs r → Ok unroll ≡ r
+              one (Ok n) h = ap (λ (m : ℕ). Ok m) (one_unroll arcs unroll n turns h)
+              one (Err f) h = absurd h
 
-        -- each lifetime has its register
-        pub at_end : (rs : Registers) → AreOwn d arcs rs → (inputs : List SigType) → inputs ≡ g.inputs
-            → IsAnswer g d (Ok (record (whole g d a s arcs rs) { inputs = inputs }))
-        at_end rs own inputs same =
-            subst (λ (ts : List SigType). IsAnswer g d (Ok (record (whole g d a s arcs rs) { inputs = ts }))) (sym same)
-            (settled g d (Ok (whole g d a s arcs rs)) (after_arcs (Ok (whole g d a s arcs rs))
-            (goes (Places d arcs) of_file (Whole g d a s arcs) rs (only_registers d arcs rs own) Memory
-            (Ok (whole g d a s arcs rs)) (inr (record { is = refl; one = one })))))
-          where
-            one : (r : Result Plan PlanFault) → Whole g d a s arcs rs r → Ok (whole g d a s arcs rs) ≡ r
-            one (Ok p) h = ap (λ (x : Plan). Ok x) h
-            one (Err f) h = absurd h
+          after_turns : (r : Result Plan PlanFault) → IsSettled Memory (FromTurns g d a s arcs unroll) r
+              → IsSettled Memory (Passes g d) r
+          after_turns r x =
+              after_arcs r (goes (Turns g d arcs) of_arc (FromTurns g d a s arcs) unroll only_turns Memory r x)
+
+          abbrev Allotted : Registers → Type 0
+          Allotted rs = AreAllotted d arcs rs.regs
+
+          pub at_registers : (r : Result Plan PlanFault) (f : FileFault)
+              → IsErrAnd r (λ (h : PlanFault). h ≡ of_file f) → (f ≡ file.Memory) ⊎ IsFileFault d arcs f
+              → Found Allotted file.Memory (Err f) → Refused {A = Registers} (IsFileFault d arcs) file.Memory (Err f)
+              → IsAnswer g d r
+          at_registers r f is why found refused =
+              leaves of_file r f is (after_turns (Err (of_file f))
+              (stops (Places g d arcs) of_file (Whole g d a s arcs unroll) file.Memory f
+              (only_err Allotted (IsFileFault d arcs) file.Memory f (λ none. none) why found refused)))
+
+          abbrev it : Registers → Plan
+          it rs = whole g d a s arcs unroll rs
+
+          -- each copy has its register
+          pub at_end : (rs : Registers) → AreAllotted d arcs rs.regs
+              → Found Allotted file.Memory (Ok rs) → Refused (IsFileFault d arcs) file.Memory (Ok rs)
+              → (inputs : List SigType) → inputs ≡ g.inputs
+              → IsAnswer g d (Ok (record (whole g d a s arcs unroll rs) { inputs = inputs }))
+          at_end rs all found refused inputs same =
+              subst (λ (ts : List SigType). IsAnswer g d (Ok (record (it rs) { inputs = ts }))) (sym same)
+              (settled g d (Ok (it rs)) (after_turns (Ok (it rs))
+              (goes (Places g d arcs) of_file (Whole g d a s arcs unroll) rs
+              (only_ok Allotted (IsFileFault d arcs) file.Memory rs all found refused) Memory
+              (Ok (it rs)) (inr (record { is = refl; one = one })))))
+            where
+              one : (r : Result Plan PlanFault) → Whole g d a s arcs unroll rs r → Ok (it rs) ≡ r
+              one (Ok p) h = ap (λ (x : Plan). Ok x) h
+              one (Err f) h = absurd h

@@ -1,8 +1,4 @@
 pub mod LongestPaths
-pub mod OneCopy
-pub mod FileSizes
-pub mod OwnRegisters
-pub mod AllottedSteps
 pub mod Asked
 pub mod Stages
 pub mod Answers

@@ -1,3 +1,2 @@
-pub mod Registers
 pub mod Faults
 pub mod Private

@@ -1,9 +1,9 @@
 //! Why a graph has no plan.
 
-use crate::registers::FileFault;
 use cyclic_life::ArcFault;
 use delay_memory::LineFault;
 use list_schedule::PeriodFault;
+use reg_alloc::FileFault;
 use std::alloc::AllocError;
 use thiserror::Error;
 use unit_assign::UnitFault;
@@ -22,7 +22,8 @@ pub enum PlanFault {
     /// The first node, in the order in which nodes are placed, for which no cycle of the period is left.
     #[error("period exceeded at node {0}")]
     Period(u32),
-    /// The first lifetime, by unit, port, the cycle of its write, then node, for which its file has no register.
+    /// The first lifetime, by unit, port, the cycle of its write, then node, of which a copy shares cycles with others
+    /// in every register of its file.
     #[error("file full {unit}.{port} at node {node}")]
     FileFull { unit: u8, port: u8, node: u32 },
     /// Out of memory.

@@ -4,7 +4,6 @@
 
 mod fault;
 mod passes;
-mod registers;
 
 pub use fault::PlanFault;
 pub use passes::plan;

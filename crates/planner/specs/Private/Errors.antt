@@ -3,12 +3,12 @@ use Rattle.delay_memory.specs.declared.fault.LineFault.{LineFault}
 use Rattle.delay_memory.specs.declared.fault.LineFault.TheVariants as line
 use Rattle.list_schedule.specs.declared.fault.PeriodFault.{PeriodFault}
 use Rattle.list_schedule.specs.declared.fault.PeriodFault.TheVariants as period
+use Rattle.reg_alloc.specs.declared.fault.FileFault.{FileFault}
+use Rattle.reg_alloc.specs.declared.fault.FileFault.TheVariants as file
 use Rattle.unit_assign.specs.declared.fault.UnitFault.{UnitFault}
 use Rattle.unit_assign.specs.declared.fault.UnitFault.TheVariants as unit
 use Rattle.planner.specs.declared.fault.PlanFault.{PlanFault}
 use Rattle.planner.specs.declared.fault.PlanFault.TheVariants.{Line as Unstored, Unit as Unbound, Period, FileFull, Memory}
-use Rattle.planner.specs.declared.registers.FileFault.{FileFault}
-use Rattle.planner.specs.declared.registers.FileFault.TheVariants as file
 
 abbrev pub of_line : LineFault → PlanFault
 of_line line.Memory = Memory

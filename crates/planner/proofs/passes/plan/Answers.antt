@@ -1,8 +1,7 @@
 use Rattle.std.proofs.Common.{◌∙◌}
-use Rattle.planner.proofs.Asked.{wired, schedulable, held, none_delayed}
+use Rattle.planner.proofs.Asked.{wired, schedulable, held, allottable}
 use Rattle.planner.proofs.Answers.{bound}
-use Rattle.planner.proofs.OneCopy.{copies_one}
-use Rattle.planner.proofs.Exits.{at_lines, at_units, at_cycles, at_registers, at_end}
+use Rattle.planner.proofs.Exits.{unrolled, at_lines, at_units, at_cycles, at_registers, at_end}
 use Rattle.planner.proofs.passes.plan.Goals as goal
 
 pub bind-requires-clause-wired : goal.bind-requires-clause-wired
@@ -19,16 +18,11 @@ arcs-requires-clause-held c =
     held c.args.graph c.args.datapath.now c.requires.sound (bound c.in_ok-lowered.lowered c.in_ok-units.units)
     c.in_ok-lowered.ensures.lowered c.requires.datapath c.in_ok-units.ensures.units
 
-pub allot-requires-clause-order : goal.allot-requires-clause-order
-allot-requires-clause-order c =
-    c.in_ok-arcs.ensures.order
-
-pub allot-requires-clause-copies : goal.allot-requires-clause-copies
-allot-requires-clause-copies c =
-    copies_one c.args.datapath.now (bound c.in_ok-lowered.lowered c.in_ok-units.units) c.in_ok-schedule.schedule
-    (none_delayed c.args.graph c.args.datapath.now c.requires.sound (bound c.in_ok-lowered.lowered
-    c.in_ok-units.units) c.in_ok-lowered.ensures.lowered c.requires.datapath) c.in_ok-schedule.ensures.schedule
-    c.in_ok-arcs.arcs c.in_ok-arcs.ensures
+pub allot-requires-clause-allottable : goal.allot-requires-clause-allottable
+allot-requires-clause-allottable c =
+    allottable c.args.graph c.args.datapath.now c.requires.sound (bound c.in_ok-lowered.lowered c.in_ok-units.units)
+    c.in_ok-lowered.ensures.lowered c.requires.datapath c.in_ok-units.ensures.units c.in_ok-schedule.schedule
+    c.in_ok-schedule.ensures.schedule c.in_ok-arcs.arcs c.in_ok-arcs.ensures
 
 pub returns-in_err-lowered-clause-fault : goal.returns-in_err-lowered-clause-fault
 returns-in_err-lowered-clause-fault c =
@@ -99,8 +93,12 @@ returns-in_err-registers-clause-fault c =
     c.in_ok-lowered.ensures.found c.in_ok-lowered.ensures.refused c.in_ok-units.units c.in_ok-units.ensures.units
     c.in_ok-units.ensures.found c.in_ok-units.ensures.refused c.in_ok-schedule.schedule
     c.in_ok-schedule.ensures.schedule c.in_ok-schedule.ensures.found c.in_ok-schedule.ensures.refused
-    c.in_ok-arcs.arcs c.in_ok-arcs.ensures c.from_residual-in_err-registers.result c.in_err-registers.field-0.0
-    c.from_residual-in_err-registers.ensures.1 c.in_err-registers.ensures.fault).fault
+    c.in_ok-arcs.arcs c.in_ok-arcs.ensures c.unroll-unroll.result
+    (unrolled c.as_slice-2.result.now c.in_ok-arcs.arcs c.unroll-unroll.result c.as_slice-2.ensures
+    c.unroll-unroll.ensures)
+    c.from_residual-in_err-registers.result c.in_err-registers.field-0.0
+    c.from_residual-in_err-registers.ensures.1 c.in_err-registers.ensures.fault c.in_err-registers.ensures.found
+    c.in_err-registers.ensures.refused).fault
 
 pub returns-in_err-registers-clause-found : goal.returns-in_err-registers-clause-found
 returns-in_err-registers-clause-found c =
@@ -108,8 +106,12 @@ returns-in_err-registers-clause-found c =
     c.in_ok-lowered.ensures.found c.in_ok-lowered.ensures.refused c.in_ok-units.units c.in_ok-units.ensures.units
     c.in_ok-units.ensures.found c.in_ok-units.ensures.refused c.in_ok-schedule.schedule
     c.in_ok-schedule.ensures.schedule c.in_ok-schedule.ensures.found c.in_ok-schedule.ensures.refused
-    c.in_ok-arcs.arcs c.in_ok-arcs.ensures c.from_residual-in_err-registers.result c.in_err-registers.field-0.0
-    c.from_residual-in_err-registers.ensures.1 c.in_err-registers.ensures.fault).found
+    c.in_ok-arcs.arcs c.in_ok-arcs.ensures c.unroll-unroll.result
+    (unrolled c.as_slice-2.result.now c.in_ok-arcs.arcs c.unroll-unroll.result c.as_slice-2.ensures
+    c.unroll-unroll.ensures)
+    c.from_residual-in_err-registers.result c.in_err-registers.field-0.0
+    c.from_residual-in_err-registers.ensures.1 c.in_err-registers.ensures.fault c.in_err-registers.ensures.found
+    c.in_err-registers.ensures.refused).found
 
 pub returns-in_err-registers-clause-refused : goal.returns-in_err-registers-clause-refused
 returns-in_err-registers-clause-refused c =
@@ -117,8 +119,12 @@ returns-in_err-registers-clause-refused c =
     c.in_ok-lowered.ensures.found c.in_ok-lowered.ensures.refused c.in_ok-units.units c.in_ok-units.ensures.units
     c.in_ok-units.ensures.found c.in_ok-units.ensures.refused c.in_ok-schedule.schedule
     c.in_ok-schedule.ensures.schedule c.in_ok-schedule.ensures.found c.in_ok-schedule.ensures.refused
-    c.in_ok-arcs.arcs c.in_ok-arcs.ensures c.from_residual-in_err-registers.result c.in_err-registers.field-0.0
-    c.from_residual-in_err-registers.ensures.1 c.in_err-registers.ensures.fault).refused
+    c.in_ok-arcs.arcs c.in_ok-arcs.ensures c.unroll-unroll.result
+    (unrolled c.as_slice-2.result.now c.in_ok-arcs.arcs c.unroll-unroll.result c.as_slice-2.ensures
+    c.unroll-unroll.ensures)
+    c.from_residual-in_err-registers.result c.in_err-registers.field-0.0
+    c.from_residual-in_err-registers.ensures.1 c.in_err-registers.ensures.fault c.in_err-registers.ensures.found
+    c.in_err-registers.ensures.refused).refused
 
 pub returns-clause-plan : goal.returns-clause-plan
 returns-clause-plan c =
@@ -126,10 +132,11 @@ returns-clause-plan c =
     c.in_ok-lowered.ensures.found c.in_ok-lowered.ensures.refused c.in_ok-units.units c.in_ok-units.ensures.units
     c.in_ok-units.ensures.found c.in_ok-units.ensures.refused c.in_ok-schedule.schedule
     c.in_ok-schedule.ensures.schedule c.in_ok-schedule.ensures.found c.in_ok-schedule.ensures.refused
-    c.in_ok-arcs.arcs c.in_ok-arcs.ensures c.in_ok-registers.registers (
-      c.in_ok-registers.ensures.private,
-      c.in_ok-registers.ensures.within,
-    ) c.in_ok-inputs.inputs (c.in_ok-inputs.ensures ∙ c.as_slice.ensures)).plan
+    c.in_ok-arcs.arcs c.in_ok-arcs.ensures c.unroll-unroll.result
+    (unrolled c.as_slice-2.result.now c.in_ok-arcs.arcs c.unroll-unroll.result c.as_slice-2.ensures
+    c.unroll-unroll.ensures) c.in_ok-registers.registers
+    c.in_ok-registers.ensures.registers c.in_ok-registers.ensures.found c.in_ok-registers.ensures.refused
+    c.in_ok-inputs.inputs (c.in_ok-inputs.ensures ∙ c.as_slice.ensures)).plan
 
 pub returns-clause-found : goal.returns-clause-found
 returns-clause-found c =
@@ -137,10 +144,11 @@ returns-clause-found c =
     c.in_ok-lowered.ensures.found c.in_ok-lowered.ensures.refused c.in_ok-units.units c.in_ok-units.ensures.units
     c.in_ok-units.ensures.found c.in_ok-units.ensures.refused c.in_ok-schedule.schedule
     c.in_ok-schedule.ensures.schedule c.in_ok-schedule.ensures.found c.in_ok-schedule.ensures.refused
-    c.in_ok-arcs.arcs c.in_ok-arcs.ensures c.in_ok-registers.registers (
-      c.in_ok-registers.ensures.private,
-      c.in_ok-registers.ensures.within,
-    ) c.in_ok-inputs.inputs (c.in_ok-inputs.ensures ∙ c.as_slice.ensures)).found
+    c.in_ok-arcs.arcs c.in_ok-arcs.ensures c.unroll-unroll.result
+    (unrolled c.as_slice-2.result.now c.in_ok-arcs.arcs c.unroll-unroll.result c.as_slice-2.ensures
+    c.unroll-unroll.ensures) c.in_ok-registers.registers
+    c.in_ok-registers.ensures.registers c.in_ok-registers.ensures.found c.in_ok-registers.ensures.refused
+    c.in_ok-inputs.inputs (c.in_ok-inputs.ensures ∙ c.as_slice.ensures)).found
 
 pub returns-clause-refused : goal.returns-clause-refused
 returns-clause-refused c =
@@ -148,7 +156,8 @@ returns-clause-refused c =
     c.in_ok-lowered.ensures.found c.in_ok-lowered.ensures.refused c.in_ok-units.units c.in_ok-units.ensures.units
     c.in_ok-units.ensures.found c.in_ok-units.ensures.refused c.in_ok-schedule.schedule
     c.in_ok-schedule.ensures.schedule c.in_ok-schedule.ensures.found c.in_ok-schedule.ensures.refused
-    c.in_ok-arcs.arcs c.in_ok-arcs.ensures c.in_ok-registers.registers (
-      c.in_ok-registers.ensures.private,
-      c.in_ok-registers.ensures.within,
-    ) c.in_ok-inputs.inputs (c.in_ok-inputs.ensures ∙ c.as_slice.ensures)).refused
+    c.in_ok-arcs.arcs c.in_ok-arcs.ensures c.unroll-unroll.result
+    (unrolled c.as_slice-2.result.now c.in_ok-arcs.arcs c.unroll-unroll.result c.as_slice-2.ensures
+    c.unroll-unroll.ensures) c.in_ok-registers.registers
+    c.in_ok-registers.ensures.registers c.in_ok-registers.ensures.found c.in_ok-registers.ensures.refused
+    c.in_ok-inputs.inputs (c.in_ok-inputs.ensures ∙ c.as_slice.ensures)).refused
