@@ -11,7 +11,7 @@ use Rattle.silage_meaning.specs.Types.{own_type, branches_type}
 use Rattle.fix_types.specs.declared.fault.TypeFault.{TypeFault}
 use Rattle.fix_types.specs.declared.typed.TypedExpr.{TypedExpr as RustTyped}
 use Rattle.fix_types.specs.Private.Answers.{Types}
-use Rattle.fix_types.specs.Private.Sound.{IsSound, AreSound}
+use Rattle.fix_types.specs.Private.Sound.{IsSound, AreSound, HasTypedReads, HaveTypedReads}
 
 module _ (e : RustExpr) (at : ℕ) (v : Vec (RustExpr × RustExpr) Global) (b : Box RustExpr Global) (is : e ≡ Choose at v b)
     (arms : List (RustExpr × RustExpr)) (last : RustExpr) (a : arms ≡ v.items) (l : last ≡ b.value) where
@@ -25,6 +25,9 @@ module _ (e : RustExpr) (at : ℕ) (v : Vec (RustExpr × RustExpr) Global) (b : 
   last_sound h = (subst IsSound choice_is h).1
 
   module _ (p : Program) (f : Func) where
+    pub arms_typed : HasTypedReads p f (view_expr e) → HaveTypedReads p f (view_arms arms)
+    arms_typed h = (subst (HasTypedReads p f) choice_is h).0
+
     pub choice_type : own_type p f (view_expr e) ≡ option_or (branches_type p f (view_arms arms)) (own_type p f (view_expr last))
     choice_type = ap (own_type p f) choice_is
 

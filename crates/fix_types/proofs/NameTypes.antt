@@ -1,6 +1,6 @@
 -- What names mean, by their places and the types of signals.
 use Rattle.std.proofs.Common.{◌≡◌, ◌↔◌, ◌∙◌, ℕ, List, Option, Some, None, refl, sym, ap}
-use Rattle.std.specs.Prelude.{Contains, position, bytes_eq}
+use Rattle.std.specs.Prelude.{Contains, position, bytes_eq, IsSome}
 use Rattle.std.specs.Option.{option_or}
 use Rattle.fix_word.specs.declared.types.SigType.{SigType}
 use Rattle.silage_syntax.specs.declared.tree.ConstDef.{ConstDef}
@@ -11,6 +11,13 @@ use Rattle.name_check.specs.TopNames.{IsFirstPlace}
 use Rattle.name_check.proofs.FirstPlaces.{place_found, place_missing}
 use Rattle.fix_types.specs.Private.Signals.{signal_type}
 use Rattle.fix_types.specs.Private.Sound.{IsSoundType, HasSoundTypes}
+
+pub is_there : {A : Type 0} {o : Option A} → o ≡ None → IsSome o → ⊥
+is_there {A} {o} none there = by o none there
+  where
+    by : (q : Option A) → q ≡ None → IsSome q → ⊥
+    by None e h = absurd (cc (h))
+    by (Some x) e h = absurd (cc (e))
 
 pub place_is : (names : List (List ℕ)) (name : List ℕ) (o : Option ℕ) → ((k : ℕ) → (o ≡ Some k) ↔ IsFirstPlace names name k) → (o ≡ None) ↔ ¬ Contains names name → o ≡ position (bytes_eq name) names
 place_is names name None some none = sym (place_missing names name (none.0 refl))

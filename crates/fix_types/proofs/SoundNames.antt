@@ -1,6 +1,6 @@
 -- A program without a fault of names has types of allowed sizes, and tables and functions of different names.
 use Rattle.std.proofs.Common.{◌≡◌, ◌∙◌, refl, sym, ap, subst, arith, ℕ, zero, suc, ◌+◌, ◌&&◌, Bool, true, false, cond, List, [], ◌∷◌, ◌++◌, find, filter_map, option_map, bytes_eq, length, slice_get, Option, Some, None, Result, Ok, Err}
-use Rattle.std.specs.Prelude.{All, nat_eq, ◌||◌, not as opposite}
+use Rattle.std.specs.Prelude.{All, IsSome, is_some, is_none, unwrap_or, nat_eq, ◌||◌, not as opposite}
 use Rattle.std.specs.Option.{option_or}
 use Rattle.std.proofs.lemmas.List.Elements.{All-cons}
 use Rattle.std.proofs.lemmas.Option.{slice_get-map}
@@ -14,20 +14,20 @@ use Rattle.fix_word.specs.declared.types.SigType.{SigType}
 use Rattle.fix_word.specs.declared.types.SigType.TheVariants.{Fix}
 use Rattle.silage_syntax.specs.declared.tree.ConstDef.{ConstDef}
 use Rattle.silage_syntax.specs.declared.tree.Decl.{Decl}
-use Rattle.silage_syntax.specs.Tree.{Expr, literal, read, negate, not, binary, shift, cast, choose, Branches, no_branch, branch, Item, equation, call, loop, initial, Items, no_item, item, Func, Top, table, function, Program}
-use Rattle.silage_syntax.specs.Names.{as_table, as_function, decls, table_named, function_named, element_count}
+use Rattle.silage_syntax.specs.Tree.{Manifest, Place, Expr, literal, read, negate, not, binary, shift, cast, choose, Branches, no_branch, branch, Item, equation, call, loop, initial, Items, no_item, item, Func, Top, table, function, Program}
+use Rattle.silage_syntax.specs.Names.{as_table, as_function, decls, declared, table_named, function_named, element_count}
 use Rattle.silage_meaning.specs.Types.{name_type, table_type}
 use Rattle.name_check.specs.Contexts.{Context, inside, outermost}
-use Rattle.name_check.specs.Meanings.{is_fix_type, is_signal_type, are_dims, is_element, is_among, params_of, results_of}
+use Rattle.name_check.specs.Meanings.{is_fix_type, is_signal_type, are_dims, is_element, is_whole_array, takes, is_among, signal_dims, read_dims, params_of, results_of}
 use Rattle.name_check.specs.NameRules as rules
 use Rattle.name_check.specs.NameFaults.{name_faults}
 use Rattle.name_check.specs.TopNames.{top_name, top_at, top_names}
 use Rattle.name_check.specs.Private.FirstTops.{IsDistinct}
 use Rattle.name_check.specs.declared.fault.NameFault.{NameFault}
-use Rattle.name_check.specs.declared.fault.NameFault.TheVariants.{Twice, Size, Arity}
+use Rattle.name_check.specs.declared.fault.NameFault.TheVariants.{Unknown, Twice, Size, Arity}
 use Rattle.fix_types.specs.Numbers.{HasShortNumbers, HaveShortNumbers, IsItemShort, AreItemsShort, IsTopShort}
 use Rattle.fix_types.specs.Private.Signals.{decl_type, signal_type, gives_type}
-use Rattle.fix_types.specs.Private.Sound.{IsSoundType, IsSound, AreSound, IsSoundItem, AreSoundItems, HasSoundTypes, IsSoundTop}
+use Rattle.fix_types.specs.Private.Sound.{IsSoundType, IsSound, AreSound, IsSoundItem, AreSoundItems, HasType, HasTypedReads, HaveTypedReads, HasTypedNames, HaveTypedNames, HasSoundTypes, IsSoundTop}
 use Rattle.fix_types.proofs.SignalTypes.{declared_head, numbered}
 
 abbrev Met : Rules NameFault → Type 0
@@ -143,6 +143,119 @@ mutual
   items_sound c (item x rest) h s =
       (item_sound c x (head_met (rules.item_rules c x) (rules.items_rules c rest) h) s.0, items_sound c rest (tail_met (rules.item_rules c x) (rules.items_rules c rest) h) s.1)
 
+-- names
+read_typed : (c : Context) (fits : List ℕ → Bool) (place : Place) (delay : Option Manifest) → Met (rules.read_rules c fits place delay) → HasType c.program c.func place
+read_typed c fits place delay h =
+    let named = option_map fits (read_dims c place.name) in
+    let known = unless (is_some named) (Unknown place.at) in
+    let fit = unless (unwrap_or named true) (Arity place.at) in
+    let whole = head_met (rules.place_rules c named place) (rules.delay_rules c delay ▸ none) h in
+    let name = head_met (parts (known ▸ fit ▸ none)) (parts (each (rules.manifest_rules c) place.subs) ▸ none) whole in
+    by (declared c.func place.name) (table_named c.program place.name) (rule_holds (is_some named) (Unknown place.at) (head_met known (fit ▸ none) name))
+  where
+    by : (o : Option (ℕ × Decl)) (t : Option ConstDef) → is_some (option_map fits (option_or (option_map (λ (d : ℕ × Decl). d.1.dims) o) (option_map (λ (c : ConstDef). c.dims) t))) ≡ true
+        → IsSome (option_or (option_map (λ (d : ℕ × Decl). d.1.ty) o) (table_type t))
+    by (Some q) t e = refl
+    by None (Some t) e = refl
+    by None None e = absurd (cc e)
+
+mutual
+  reads_typed : (c : Context) (x : Expr) → Met (rules.expr_rules c x) → HasTypedReads c.program c.func x
+  reads_typed c (literal l) h = tt
+  reads_typed c (read place delay) h = read_typed c (is_element place.subs) place delay h
+  reads_typed c (negate at x) h = reads_typed c x h
+  reads_typed c (not at x) h = reads_typed c x h
+  reads_typed c (binary at o x y) h =
+      (reads_typed c x (head_met (rules.expr_rules c x) (rules.expr_rules c y ▸ none) h), reads_typed c y (head_met (rules.expr_rules c y) none (tail_met (rules.expr_rules c x) (rules.expr_rules c y ▸ none) h)))
+  reads_typed c (shift at left x amount) h = reads_typed c x (head_met (rules.expr_rules c x) (rules.manifest_rules c amount ▸ none) h)
+  reads_typed c (cast at ty x) h = reads_typed c x (head_met (rules.expr_rules c x) none (own_row (is_fix_type ty) (Size at) (rules.expr_rules c x ▸ none) h))
+  reads_typed c (choose at branches last) h = (
+    branch_reads_typed c branches (head_met (parts (rules.branch_rules c branches)) (rules.expr_rules c last ▸ none) h),
+    reads_typed c last (head_met (rules.expr_rules c last) none (tail_met (parts (rules.branch_rules c branches)) (rules.expr_rules c last ▸ none) h)),
+  )
+
+  branch_reads_typed : (c : Context) (branches : Branches) → MetRow (rules.branch_rules c branches) → HaveTypedReads c.program c.func branches
+  branch_reads_typed c no_branch h = tt
+  branch_reads_typed c (branch condition x rest) h =
+      let pair = head_met (parts (rules.expr_rules c condition ▸ rules.expr_rules c x ▸ none)) (rules.branch_rules c rest) h in (
+        reads_typed c condition (head_met (rules.expr_rules c condition) (rules.expr_rules c x ▸ none) pair),
+        reads_typed c x (head_met (rules.expr_rules c x) none (tail_met (rules.expr_rules c condition) (rules.expr_rules c x ▸ none) pair)),
+        branch_reads_typed c rest (tail_met (parts (rules.expr_rules c condition ▸ rules.expr_rules c x ▸ none)) (rules.branch_rules c rest) h),
+      )
+
+array_typed : (c : Context) (dims : List ℕ) (x : Expr) → Met (rules.array_rules c dims x) → HasTypedReads c.program c.func x
+array_typed c dims (read place delay) h = read_typed c (λ its_dims. is_none delay && is_whole_array dims place.subs its_dims) place delay h
+array_typed c dims (literal l) h = absurd (cc h)
+array_typed c dims (negate at x) h = absurd (cc h)
+array_typed c dims (not at x) h = absurd (cc h)
+array_typed c dims (binary at o x y) h = absurd (cc h)
+array_typed c dims (shift at left x amount) h = absurd (cc h)
+array_typed c dims (cast at ty x) h = absurd (cc h)
+array_typed c dims (choose at branches last) h = absurd (cc h)
+
+argument_typed : (c : Context) (param : Option Decl) (x : Expr) → Met (rules.argument_rules c param x) → HasTypedReads c.program c.func x
+argument_typed c None x h = reads_typed c x h
+argument_typed c (Some d) x h = by (nat_eq (length d.dims) 0) h
+  where
+    by : (b : Bool) → Met (cond b (rules.expr_rules c x) (rules.array_rules c d.dims x)) → HasTypedReads c.program c.func x
+    by true g = reads_typed c x g
+    by false g = array_typed c d.dims x g
+
+arguments_typed : (c : Context) (params : List Decl) (k : ℕ) (xs : List Expr) → MetRow (each_from (rules.passing_rules c params) k xs) → All (HasTypedReads c.program c.func) xs
+arguments_typed c params k [] h = λ i d below. absurd (omega arith)
+arguments_typed c params k (x ∷ xs) h =
+    All-cons (HasTypedReads c.program c.func) x xs
+    (argument_typed c (slice_get params k) x (head_met (rules.passing_rules c params k x) (each_from (rules.passing_rules c params) (k + 1) xs) h))
+    (arguments_typed c params (k + 1) xs (tail_met (rules.passing_rules c params k x) (each_from (rules.passing_rules c params) (k + 1) xs) h))
+
+target_typed : (c : Context) (fits : List ℕ → Bool) (place : Place) → Met (rules.target_rules c fits place) → HasType c.program c.func place
+target_typed c fits place h =
+    let named = option_map fits (signal_dims c place.name) in
+    let known = unless (is_some named) (Unknown place.at) in
+    let fit = unless (unwrap_or named true) (Arity place.at) in
+    let name = head_met (parts (known ▸ fit ▸ none)) (parts (each (rules.manifest_rules c) place.subs) ▸ none) h in
+    by (declared c.func place.name) (rule_holds (is_some named) (Unknown place.at) (head_met known (fit ▸ none) name))
+  where
+    by : (o : Option (ℕ × Decl)) → is_some (option_map fits (option_map (λ (d : ℕ × Decl). d.1.dims) o)) ≡ true → IsSome (option_or (option_map (λ (d : ℕ × Decl). d.1.ty) o) (table_type (table_named c.program place.name)))
+    by None e = absurd (cc e)
+    by (Some q) e = refl
+
+targets_typed : (c : Context) (results : List Decl) (k : ℕ) (places : List Place) → MetRow (each_from (rules.taking_rules c results) k places) → All (HasType c.program c.func) places
+targets_typed c results k [] h = λ i d below. absurd (omega arith)
+targets_typed c results k (place ∷ places) h =
+    All-cons (HasType c.program c.func) place places
+    (target_typed c (takes (slice_get results k) place.subs) place (head_met (rules.taking_rules c results k place) (each_from (rules.taking_rules c results) (k + 1) places) h))
+    (targets_typed c results (k + 1) places (tail_met (rules.taking_rules c results k place) (each_from (rules.taking_rules c results) (k + 1) places) h))
+
+callee_there : (callee : Option Func) (places args at : ℕ) → Met (rules.callee_rules callee places args at) → IsSome callee
+callee_there (Some g) places args at h = refl
+callee_there None places args at h = absurd (cc h)
+
+mutual
+  names_typed : (c : Context) (x : Item) → Met (rules.item_rules c x) → HasTypedNames c.program c.func x
+  names_typed c (equation place x) h =
+      let target = rules.target_rules c (is_element place.subs) place in
+      (target_typed c (is_element place.subs) place (head_met target (rules.expr_rules c x ▸ none) h), reads_typed c x (head_met (rules.expr_rules c x) none (tail_met target (rules.expr_rules c x ▸ none) h)))
+  names_typed c (call places name args at) h =
+      let callee = function_named c.program name in
+      let all = rules.arguments_rules c (params_of callee) args in
+      let own_rules = rules.callee_rules callee (length places) (length args) at in
+      let takers = rules.places_rules c (results_of callee) places in
+      let behind = tail_met takers (own_rules ▸ all ▸ none) h in (
+        callee_there callee (length places) (length args) at (head_met own_rules (all ▸ none) behind),
+        targets_typed c (results_of callee) 0 places (head_met takers (own_rules ▸ all ▸ none) h),
+        arguments_typed c (params_of callee) 0 args (head_met all none (tail_met own_rules (all ▸ none) behind)),
+      )
+  names_typed c (loop index lo hi items at) h =
+      let inner = parts (rules.items_rules (inside index c) items) in
+      all_names_typed (inside index c) items (head_met inner none (tail_met (rules.head_rules c index lo hi at) (inner ▸ none) h))
+  names_typed c (initial place k value) h = target_typed c (is_element place.subs) place (head_met (rules.target_rules c (is_element place.subs) place) (rules.manifest_rules c k ▸ none) h)
+
+  all_names_typed : (c : Context) (xs : Items) → MetRow (rules.items_rules c xs) → HaveTypedNames c.program c.func xs
+  all_names_typed c no_item h = tt
+  all_names_typed c (item x rest) h =
+      (names_typed c x (head_met (rules.item_rules c x) (rules.items_rules c rest) h), all_names_typed c rest (tail_met (rules.item_rules c x) (rules.items_rules c rest) h))
+
 -- declarations
 decl_sound : (tops signals : List (List ℕ)) (d : Decl) → Met (rules.decl_rules tops signals d) → IsSoundType d.ty
 decl_sound tops signals d h = and_right (are_dims d.dims) (is_signal_type d.ty) (rule_holds (are_dims d.dims && is_signal_type d.ty) (Size d.at) (head_met (unless (are_dims d.dims && is_signal_type d.ty) (Size d.at)) (unless (opposite (is_among tops d.name || is_among signals d.name)) (Twice d.at) ▸ none) h))
@@ -244,4 +357,4 @@ module _ (p : Program) (clear : IsClear (name_faults p)) where
   -- each table and function has types of allowed sizes and short numbers
   pub top_sound : (k : ℕ) (t : Top) → slice_get p.tops k ≡ Some t → IsTopShort t → IsSoundTop p t
   top_sound k (table t) e s = (table_sound k t e, s)
-  top_sound k (function f) e s = (types_sound k f e, items_sound (outermost p f) f.items (items_met k f e) s)
+  top_sound k (function f) e s = (types_sound k f e, items_sound (outermost p f) f.items (items_met k f e) s, all_names_typed (outermost p f) f.items (items_met k f e))

@@ -3,12 +3,11 @@
 ghost use Rattle.silage_syntax.specs.Tree as tree;
 ghost use Rattle.silage_syntax.specs.Tree.{view_expr, view_place, view_delay, view_manifest};
 ghost use Rattle.fix_word.specs.declared.types.SigType.TheVariants.{Fix, Bool as Truths};
-ghost use Rattle.fix_types.specs.Private.Answers.{Types, TypesPairs};
-ghost use Rattle.fix_types.specs.Private.Choosing.{branches_of};
+ghost use Rattle.fix_types.specs.Private.Answers.{Types};
 ghost use Rattle.fix_types.specs.Private.Scopes.{program_of, function_of};
-ghost use Rattle.fix_types.specs.Private.Sound.{IsSound, IsSoundType};
+ghost use Rattle.fix_types.specs.Private.Sound.{IsSound, HasType, HasTypedReads, IsSoundType};
 
-use crate::lookups::name_type;
+use crate::lookups::type_of;
 use crate::nodes::{NO_FORMAT, chosen, joined, nested, one_bit, rounded, shifted, unary, wrapped};
 use crate::operands::{check_name, is_same_shape, literal_word};
 use crate::plans::planned;
@@ -26,21 +25,24 @@ fn read(
     delay: &Option<Manifest>,
     wanted: SigType,
 ) -> Result<TypedExpr, TypeFault>
+    requires typed { HasType (program_of scope.now) (function_of scope.now) (view_place place.now) }
     requires wanted { IsSoundType wanted }
     ensures { Types (program_of scope.now) (function_of scope.now)
         (tree.read (view_place place.now) (view_delay delay.now)) wanted result }
 {
-    check_name(name_type(scope, &place.name), wanted, place.at)?;
+    check_name(type_of(scope, &place.name), wanted, place.at)?;
     Ok(TypedExpr::Read {
         place: copies::place(scope.alloc, place)?,
         delay: copies::delay(scope.alloc, delay)?,
     })
 }
 
-/// An expression against the wanted type: the rules of its own before its parts, and these from left to right.
+/// An expression against the wanted type: the rules of its own before its parts, and these from left to right. The
+/// branches of a conditional are in their order, each condition against `bool` and each value against the wanted type.
 #[cycle(exprs)]
 pub(crate) fn typed(scope: &Scope, e: &Expr, wanted: SigType) -> Result<TypedExpr, TypeFault>
     requires sound { IsSound (view_expr e.now) }
+    requires reads { HasTypedReads (program_of scope.now) (function_of scope.now) (view_expr e.now) }
     requires wanted { IsSoundType wanted }
     ensures { Types (program_of scope.now) (function_of scope.now) (view_expr e.now) wanted result }
 {
@@ -57,27 +59,7 @@ pub(crate) fn typed(scope: &Scope, e: &Expr, wanted: SigType) -> Result<TypedExp
         }
         Expr::Shift(at, left, part, amount) => shift(scope, *at, *left, part, amount, wanted),
         Expr::Cast(at, ty, part) => cast(scope, *at, *ty, part, wanted),
-        Expr::Choose(_, _, last) => {
-            let pairs = typed_arms(scope, e, wanted)?;
-            let last = typed(scope, last, wanted)?;
-            Ok(nested(scope.alloc, chosen(wanted), pairs, last)?)
-        }
-    }
-}
-
-/// The branches of a conditional in their order, each condition against `bool` and each value against the wanted type.
-#[cycle(exprs)]
-fn typed_arms(
-    scope: &Scope,
-    e: &Expr,
-    wanted: SigType,
-) -> Result<Vec<(TypedExpr, TypedExpr)>, TypeFault>
-    requires sound { IsSound (view_expr e.now) }
-    requires wanted { IsSoundType wanted }
-    ensures { TypesPairs (program_of scope.now) (function_of scope.now) (branches_of (view_expr e.now)) wanted result }
-{
-    match e {
-        Expr::Choose(_, arms, _) => {
+        Expr::Choose(_, arms, last) => {
             let arms = arms.as_slice();
             let mut pairs = Vec::with_capacity(scope.alloc, arms.len())?;
             for arm in arms {
@@ -85,15 +67,16 @@ fn typed_arms(
                 let value = typed(scope, &arm.1, wanted)?;
                 pairs.push((condition, value))?;
             }
-            Ok(pairs)
+            let last = typed(scope, last, wanted)?;
+            Ok(nested(scope.alloc, chosen(wanted), pairs, last)?)
         }
-        _ => Ok(Vec::new(scope.alloc)),
     }
 }
 
 #[cycle(exprs)]
 fn negation(scope: &Scope, at: u32, part: &Expr, wanted: SigType) -> Result<TypedExpr, TypeFault>
     requires sound { IsSound (view_expr part.now) }
+    requires reads { HasTypedReads (program_of scope.now) (function_of scope.now) (view_expr part.now) }
     requires wanted { IsSoundType wanted }
     ensures { Types (program_of scope.now) (function_of scope.now) (tree.negate at (view_expr part.now)) wanted result }
 {
@@ -109,6 +92,7 @@ fn negation(scope: &Scope, at: u32, part: &Expr, wanted: SigType) -> Result<Type
 #[cycle(exprs)]
 fn denial(scope: &Scope, at: u32, part: &Expr, wanted: SigType) -> Result<TypedExpr, TypeFault>
     requires sound { IsSound (view_expr part.now) }
+    requires reads { HasTypedReads (program_of scope.now) (function_of scope.now) (view_expr part.now) }
     ensures { Types (program_of scope.now) (function_of scope.now) (tree.not at (view_expr part.now)) wanted result }
 {
     match wanted {
@@ -130,6 +114,7 @@ fn shift(
     wanted: SigType,
 ) -> Result<TypedExpr, TypeFault>
     requires sound { IsSound (view_expr part.now) }
+    requires reads { HasTypedReads (program_of scope.now) (function_of scope.now) (view_expr part.now) }
     requires wanted { IsSoundType wanted }
     ensures { Types (program_of scope.now) (function_of scope.now)
         (tree.shift at left (view_expr part.now) (view_manifest amount.now)) wanted result }
@@ -154,6 +139,7 @@ fn cast(
 ) -> Result<TypedExpr, TypeFault>
     requires type_ { IsSoundType (Fix ty) }
     requires sound { IsSound (view_expr part.now) }
+    requires reads { HasTypedReads (program_of scope.now) (function_of scope.now) (view_expr part.now) }
     ensures { Types (program_of scope.now) (function_of scope.now) (tree.cast at ty (view_expr part.now))
         wanted result }
 {
@@ -174,6 +160,7 @@ fn converted(
 ) -> Result<TypedExpr, TypeFault>
     requires type_ { IsSoundType (Fix ty) }
     requires sound { IsSound (view_expr part.now) }
+    requires reads { HasTypedReads (program_of scope.now) (function_of scope.now) (view_expr part.now) }
     ensures { Types (program_of scope.now) (function_of scope.now) (tree.cast at ty (view_expr part.now))
         (Fix t) result }
 {

@@ -1,13 +1,13 @@
 //! Items: equations, calls, loops and initial values.
 
-ghost use Rattle.std.specs.Prelude.{◌≡◌, ℕ, List, All, Some, map, option_map, option_copied, slice_get, min, IfOk};
+ghost use Rattle.std.specs.Prelude.{◌≡◌, ℕ, List, All, Some, map, slice_get, min, IfOk, IsSome};
 ghost use Rattle.ranked_faults.specs.Rules.{parts};
 ghost use Rattle.ranked_faults.specs.Private.FirstMet.{first};
 ghost use Rattle.silage_syntax.specs.Tree as tree;
 ghost use Rattle.silage_syntax.specs.Tree.{view_expr, view_place, view_manifest, view_func};
 ghost use Rattle.silage_syntax.specs.declared.tree.Decl.{Decl as DeclOf};
 ghost use Rattle.silage_meaning.specs.Types as meaning;
-ghost use Rattle.name_check.specs.Meanings as callee_of;
+ghost use Rattle.silage_syntax.specs.Names.{function_named};
 ghost use Rattle.fix_types.specs.TypeRules.{against, literal_rules, expr_rules};
 ghost use Rattle.fix_types.specs.TypeRules.{argument_rules, place_rules, call_rules};
 ghost use Rattle.fix_types.specs.Translation as typed;
@@ -16,12 +16,11 @@ ghost use Rattle.fix_types.specs.TypedTree.{view_item, view_items};
 ghost use Rattle.fix_types.specs.TypedTree as typed_tree;
 ghost use Rattle.fix_types.specs.Numbers.{IsShort};
 ghost use Rattle.fix_types.specs.Private.Answers.{Gives, GivesAs, GivesItem, GivesItems};
-ghost use Rattle.fix_types.specs.Private.ItemLists.{items_in};
 ghost use Rattle.fix_types.specs.Private.Scopes.{program_of, function_of};
-ghost use Rattle.fix_types.specs.Private.Sound.{IsSound, IsSoundItem, AreSoundItems, IsSoundType};
+ghost use Rattle.fix_types.specs.Private.Sound.{IsSound, IsSoundItem, AreSoundItems, HasType, HasTypedReads, HasTypedNames, HaveTypedNames, IsSoundType};
 
 use crate::expressions::typed;
-use crate::lookups::{function, name_type, position};
+use crate::lookups::{function, position, type_of};
 use crate::operands::{check_name, literal_word};
 use crate::scope::Scope;
 use crate::typed::{TypedExpr, TypedItem};
@@ -30,21 +29,22 @@ use lists::Name;
 use silage_syntax::{Decl, Expr, Func, Item, Lit, Manifest, Place};
 use std::alloc::AllocError;
 
-/// A right side against the type of the place, which has one by the rules on names.
+/// A right side against the type of the place.
 fn right_side(scope: &Scope, place: &Place, value: &Expr) -> Result<TypedExpr, TypeFault>
+    requires target { HasType (program_of scope.now) (function_of scope.now) (view_place place.now) }
     requires sound { IsSound (view_expr value.now) }
+    requires reads { HasTypedReads (program_of scope.now) (function_of scope.now) (view_expr value.now) }
     ensures { let p = program_of scope.now in let f = function_of scope.now in let x = view_expr value.now in
         let ty = meaning.name_type p f (view_place place.now).name in
         Gives (against (expr_rules p f x) ty) (typed_against (typed.typed_expr p f x) ty) result }
 {
-    match name_type(scope, &place.name) {
-        Some(ty) => typed(scope, value, ty),
-        None => Ok(TypedExpr::Raw(0)),
-    }
+    typed(scope, value, type_of(scope, &place.name))
 }
 
 fn equation(scope: &Scope, place: &Place, value: &Expr) -> Result<TypedItem, TypeFault>
+    requires target { HasType (program_of scope.now) (function_of scope.now) (view_place place.now) }
     requires sound { IsSound (view_expr value.now) }
+    requires reads { HasTypedReads (program_of scope.now) (function_of scope.now) (view_expr value.now) }
     ensures { GivesItem (program_of scope.now) (function_of scope.now)
         (tree.equation (view_place place.now) (view_expr value.now)) result }
 {
@@ -57,18 +57,17 @@ fn equation(scope: &Scope, place: &Place, value: &Expr) -> Result<TypedItem, Typ
 
 /// The raw word of an initial value in the type of the place.
 fn first_word(scope: &Scope, place: &Place, value: &Lit) -> Result<i64, TypeFault>
+    requires target { HasType (program_of scope.now) (function_of scope.now) (view_place place.now) }
     requires short { IsShort value.now }
     ensures { let p = program_of scope.now in let f = function_of scope.now in
         let ty = meaning.name_type p f (view_place place.now).name in
         GivesAs (λ word. word) (against (literal_rules value.now) ty) (initial_word p f value.now ty) result }
 {
-    match name_type(scope, &place.name) {
-        Some(ty) => literal_word(value, ty),
-        None => Ok(0),
-    }
+    literal_word(value, type_of(scope, &place.name))
 }
 
 fn initial(scope: &Scope, place: &Place, k: &Manifest, value: &Lit) -> Result<TypedItem, TypeFault>
+    requires target { HasType (program_of scope.now) (function_of scope.now) (view_place place.now) }
     requires short { IsShort value.now }
     ensures { GivesItem (program_of scope.now) (function_of scope.now)
         (tree.initial (view_place place.now) (view_manifest k.now) value.now) result }
@@ -91,6 +90,7 @@ fn shorter(a: usize, b: usize) -> usize
 fn arguments(scope: &Scope, params: &[Decl], args: &[Expr]) -> Result<Vec<TypedExpr>, TypeFault>
     requires params { (k : ℕ) (d : DeclOf) → slice_get params.now k ≡ Some d → IsSoundType d.ty }
     requires args { All IsSound (map view_expr args.now) }
+    requires reads { All (HasTypedReads (program_of scope.now) (function_of scope.now)) (map view_expr args.now) }
     ensures { let p = program_of scope.now in let f = function_of scope.now in
         GivesAs (λ typed. map typed_tree.view_expr typed.items)
         (parts (argument_rules p f params.now (map view_expr args.now)))
@@ -105,53 +105,35 @@ fn arguments(scope: &Scope, params: &[Decl], args: &[Expr]) -> Result<Vec<TypedE
 
 /// The name of each place against the type of its result.
 fn check_places(scope: &Scope, results: &[Decl], places: &[Place]) -> Result<(), TypeFault>
+    requires { All (HasType (program_of scope.now) (function_of scope.now)) (map view_place places.now) }
     ensures { result ≡ first (parts (place_rules (program_of scope.now) (function_of scope.now) results.now
         (map view_place places.now))) }
 {
     for i in 0..shorter(results.len(), places.len()) {
         let place = &places[i];
-        check_name(name_type(scope, &place.name), results[i].ty, place.at)?;
+        check_name(type_of(scope, &place.name), results[i].ty, place.at)?;
     }
     Ok(())
-}
-
-fn params_of<'a>(callee: Option<&'a Func>) -> &'a [Decl]
-    ensures { result.now ≡ callee_of.params_of (option_map view_func (option_copied callee.entry)) }
-{
-    match callee {
-        None => &[],
-        Some(f) => &f.params,
-    }
-}
-
-fn results_of<'a>(callee: Option<&'a Func>) -> &'a [Decl]
-    ensures { result.now ≡ callee_of.results_of (option_map view_func (option_copied callee.entry)) }
-{
-    match callee {
-        None => &[],
-        Some(f) => &f.results,
-    }
 }
 
 /// The arguments of a call, once its places are checked behind them.
 fn called(
     scope: &Scope,
-    callee: Option<&Func>,
+    callee: &Func,
     places: &[Place],
     args: &[Expr],
 ) -> Result<Vec<TypedExpr>, TypeFault>
-    requires params { (k : ℕ) (d : DeclOf)
-        → slice_get (callee_of.params_of (option_map view_func (option_copied callee))) k ≡ Some d
-        → IsSoundType d.ty }
+    requires params { (k : ℕ) (d : DeclOf) → slice_get callee.now.params k ≡ Some d → IsSoundType d.ty }
+    requires places { All (HasType (program_of scope.now) (function_of scope.now)) (map view_place places.now) }
     requires args { All IsSound (map view_expr args.now) }
+    requires reads { All (HasTypedReads (program_of scope.now) (function_of scope.now)) (map view_expr args.now) }
     ensures { let p = program_of scope.now in let f = function_of scope.now in
-        let g = option_map view_func (option_copied callee.entry) in
         GivesAs (λ typed. map typed_tree.view_expr typed.items)
-        (call_rules p f g (map view_place places.now) (map view_expr args.now))
-        (typed_arguments p f (callee_of.params_of g) (map view_expr args.now)) result }
+        (call_rules p f (Some (view_func callee.now)) (map view_place places.now) (map view_expr args.now))
+        (typed_arguments p f callee.now.params (map view_expr args.now)) result }
 {
-    let args = arguments(scope, params_of(callee), args)?;
-    check_places(scope, results_of(callee), places)?;
+    let args = arguments(scope, &callee.params, args)?;
+    check_places(scope, &callee.results, places)?;
     Ok(args)
 }
 
@@ -163,7 +145,10 @@ fn call(
     args: &[Expr],
     at: u32,
 ) -> Result<TypedItem, TypeFault>
+    requires callee { IsSome (function_named (program_of scope.now) func.now) }
+    requires places { All (HasType (program_of scope.now) (function_of scope.now)) (map view_place places.now) }
     requires args { All IsSound (map view_expr args.now) }
+    requires reads { All (HasTypedReads (program_of scope.now) (function_of scope.now)) (map view_expr args.now) }
     ensures { GivesItem (program_of scope.now) (function_of scope.now)
         (tree.call (map view_place places.now) func.now (map view_expr args.now) at) result }
 {
@@ -204,8 +189,8 @@ fn looped(
     Ok(loop_of(index, lo, hi, items))
 }
 
-#[cycle(items)]
 fn typed_item(scope: &Scope, item: &Item) -> Result<TypedItem, TypeFault>
+    requires typed { HasTypedNames (program_of scope.now) (function_of scope.now) (tree.view_item item.now) }
     requires sound { IsSoundItem (tree.view_item item.now) }
     ensures { GivesItem (program_of scope.now) (function_of scope.now) (tree.view_item item.now) result }
 {
@@ -221,27 +206,6 @@ fn typed_item(scope: &Scope, item: &Item) -> Result<TypedItem, TypeFault>
             index,
             lo,
             hi,
-            items: _,
-            at: _,
-        } => {
-            let items = inner_items(scope, item)?;
-            Ok(looped(scope, index, lo, hi, items)?)
-        }
-        Item::Initial { place, k, value } => initial(scope, place, k, value),
-    }
-}
-
-/// The items of a loop. Another item has none in it.
-#[cycle(items)]
-fn inner_items(scope: &Scope, item: &Item) -> Result<Vec<TypedItem>, TypeFault>
-    requires sound { IsSoundItem (tree.view_item item.now) }
-    ensures { GivesItems (program_of scope.now) (function_of scope.now) (items_in (tree.view_item item.now)) result }
-{
-    match item {
-        Item::Loop {
-            index: _,
-            lo: _,
-            hi: _,
             items,
             at: _,
         } => {
@@ -250,14 +214,15 @@ fn inner_items(scope: &Scope, item: &Item) -> Result<Vec<TypedItem>, TypeFault>
             for item in items {
                 all.push(typed_item(scope, item)?)?;
             }
-            Ok(all)
+            Ok(looped(scope, index, lo, hi, all)?)
         }
-        _ => Ok(Vec::new(scope.alloc)),
+        Item::Initial { place, k, value } => initial(scope, place, k, value),
     }
 }
 
 /// The items of a function, in their order.
 pub(crate) fn typed_items(scope: &Scope, items: &[Item]) -> Result<Vec<TypedItem>, TypeFault>
+    requires typed { HaveTypedNames (program_of scope.now) (function_of scope.now) (tree.view_items items.now) }
     requires items { AreSoundItems (tree.view_items items.now) }
     ensures { GivesItems (program_of scope.now) (function_of scope.now) (tree.view_items items.now) result }
 {

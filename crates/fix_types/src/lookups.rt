@@ -1,6 +1,6 @@
 //! What names mean in a function.
 
-ghost use Rattle.std.specs.Prelude.{◌≡◌, find, bytes_eq, option_map, option_copied, unwrap_or, position, IfSome};
+ghost use Rattle.std.specs.Prelude.{◌≡◌, find, bytes_eq, option_map, option_copied, unwrap_or, position, IfSome, IsSome, Some};
 ghost use Rattle.silage_syntax.specs.Tree.{view_top, view_func};
 ghost use Rattle.silage_syntax.specs.Names.{table_named, function_named};
 ghost use Rattle.silage_meaning.specs.Types as meaning;
@@ -31,23 +31,31 @@ fn table<'a>(scope: &Scope<'a>, name: &Name) -> Option<&'a ConstDef>
 }
 
 /// The function with the name.
-pub(crate) fn function<'a>(scope: &Scope<'a>, name: &Name) -> Option<&'a Func>
-    ensures { option_map view_func (option_copied result) ≡ function_named (program_of scope.now) name.now }
+pub(crate) fn function<'a>(scope: &Scope<'a>, name: &Name) -> &'a Func
+    requires { IsSome (function_named (program_of scope.now) name.now) }
+    ensures { Some (view_func result.now) ≡ function_named (program_of scope.now) name.now }
 {
-    match top(scope, name)? {
-        Top::Const(_) => None,
-        Top::Func(function) => Some(function),
+    let Some(top) = top(scope, name) else {
+        unreachable!()
+    };
+    match top {
+        Top::Const(_) => unreachable!(),
+        Top::Func(function) => function,
     }
 }
 
-/// The position of a name among the tables and functions, and 0 where none has it.
+/// The position of the function with the name among the tables and functions.
 pub(crate) fn position(scope: &Scope, name: &Name) -> u32
+    requires { IsSome (function_named (program_of scope.now) name.now) }
     ensures { result ≡ unwrap_or (position (bytes_eq name.now) (top_names (program_of scope.now))) 0 }
 {
-    scope.names.position(name).unwrap_or(0)
+    match scope.names.position(name) {
+        Some(position) => position,
+        None => unreachable!(),
+    }
 }
 
-/// The type of the signal or table with the name.
+/// The type of the signal or table with the name, if there is one.
 pub(crate) fn name_type(scope: &Scope, name: &Name) -> Option<SigType>
     ensures is { result ≡ meaning.name_type (program_of scope.now) (function_of scope.now) name.now }
     ensures sound { IfSome result IsSoundType }
@@ -55,5 +63,17 @@ pub(crate) fn name_type(scope: &Scope, name: &Name) -> Option<SigType>
     match scope.signals.get(name) {
         Some(ty) => Some(ty),
         None => Some(SigType::Fix(table(scope, name)?.ty)),
+    }
+}
+
+/// The same of a name that has a type by the rules on names.
+pub(crate) fn type_of(scope: &Scope, name: &Name) -> SigType
+    requires { IsSome (meaning.name_type (program_of scope.now) (function_of scope.now) name.now) }
+    ensures is { Some result ≡ meaning.name_type (program_of scope.now) (function_of scope.now) name.now }
+    ensures sound { IsSoundType result }
+{
+    match name_type(scope, name) {
+        Some(ty) => ty,
+        None => unreachable!(),
     }
 }

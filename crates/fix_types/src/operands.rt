@@ -64,12 +64,13 @@ fn misfit(wanted: SigType, at: u32) -> TypeFault
 }
 
 /// The name at this position has the shape of the wanted type. `ty` is the type that it is declared with.
-pub(crate) fn check_name(ty: Option<SigType>, wanted: SigType, at: u32) -> Result<(), TypeFault>
-    ensures { result ≡ first (name_rules ty wanted at) }
+pub(crate) fn check_name(ty: SigType, wanted: SigType, at: u32) -> Result<(), TypeFault>
+    ensures { result ≡ first (name_rules (Some ty) wanted at) }
 {
-    match ty {
-        Some(ty) if !is_same_shape(ty, wanted) => Err(misfit(wanted, at)),
-        _ => Ok(()),
+    if is_same_shape(ty, wanted) {
+        Ok(())
+    } else {
+        Err(misfit(wanted, at))
     }
 }
 

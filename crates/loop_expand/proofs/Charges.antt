@@ -11,8 +11,8 @@ use Rattle.silage_syntax.specs.Manifests.{Indices, manifest_value}
 use Rattle.silage_syntax.specs.Names.{decls, declared, function_named, main_of}
 use Rattle.silage_meaning.specs.Instances.{Instance as Path, main, inside, Element, element, turns_of}
 use Rattle.single_def.specs.Tables.{given, needs, counts, load_of, load_before, Table, rules, mark, in_order, enters, Row, nothing, ◌▹◌, each, each_from, Context, at_entry, after, after_row, table_rules, row_rules}
-use Rattle.single_def.specs.ElementRules.{weight, counted, picked, each_place, elements_of, value_rules, target_table, takers, expr_rules, entry, call_table, item_table, items_row, instance_table, loop_turns, position_of, word_rules, max_nested, main_table, element_rules}
-use Rattle.single_def.proofs.SoundNames.{clear_first}
+use Rattle.single_def.specs.ElementRules.{weight, counted, picked, each_place, elements_of, value_rules, target_table, takers, expr_rules, entry, call_table, item_table, items_row, instance_table, loop_turns, position_of, word_rules, max_nested, main_table}
+use Rattle.single_def.proofs.PlacedFaults.{elements_pass}
 use Rattle.loop_expand.specs.Checked.{IsChecked}
 use Rattle.loop_expand.proofs.FlatCount.{grows, within}
 
@@ -195,7 +195,7 @@ module _ (p : Program) where
   pub charges_few : IsChecked p → (f : Func) → main_of p ≡ Some f → total (instance_charges max_nested f main) ≤ 8192
   charges_few checked f is =
       let ok : first (table_rules (at_entry []) (main_table p (Some f))) ≡ Ok tt =
-      subst (λ o. first (table_rules (at_entry []) (main_table p o)) ≡ Ok tt) is (clear_first (element_rules p) checked.elements) in
+      subst (λ o. first (table_rules (at_entry []) (main_table p o)) ≡ Ok tt) is (elements_pass p checked.elements) in
       let its = enters (position_of p (codes "main")) (record { at = 0; turns = [] }) (instance_table p max_nested f) in
       let cs = instance_charges max_nested f main in
       let covers : CoversRow (rules (word_rules f) ▹ its ▹ nothing) cs =

@@ -16,7 +16,8 @@ use Rattle.single_def.specs.Tables.{at_entry, table_rules}
 use Rattle.single_def.specs.Expansion.{IsExpansion}
 use Rattle.single_def.specs.Numbering.{IsNumbering}
 use Rattle.single_def.specs.ElementRules.{word_rules, instance_table, max_nested, main_table, element_rules}
-use Rattle.single_def.proofs.SoundNames.{names_apart, clear_first}
+use Rattle.single_def.proofs.SoundNames.{names_apart}
+use Rattle.single_def.proofs.PlacedFaults.{elements_pass}
 use Rattle.single_def.proofs.NumberedElements.{is_numbering}
 use Rattle.signal_graph.specs.Flat as flat
 use Rattle.signal_graph.specs.FlatRules.{IsFlat}
@@ -40,7 +41,7 @@ module _ (p : Program) (checked : IsChecked p) where
 
   main_ok : (f : Func) → main_of p ≡ Some f → first (table_rules (at_entry []) (instance_table p max_nested f)) ≡ Ok tt
   main_ok f is =
-      let all : first (element_rules p) ≡ Ok tt = clear_first (element_rules p) checked.elements in
+      let all : first (element_rules p) ≡ Ok tt = elements_pass p checked.elements in
       let of_main : first (table_rules (at_entry []) (main_table p (Some f))) ≡ Ok tt = subst (λ o. first (table_rules (at_entry []) (main_table p o)) ≡ Ok tt) is all in
       (then_parts (first (table_rules (at_entry []) (instance_table p max_nested f))) (Ok tt) (then_parts (first (word_rules f)) _ of_main).1).0
 

@@ -15,12 +15,13 @@ use Rattle.name_check.specs.TopNames.{top_names}
 use Rattle.name_check.specs.Private.FirstTops.{IsDistinct}
 use Rattle.single_def.specs.declared.elements.Instance.{Instance}
 use Rattle.single_def.specs.declared.elements.Elements.{Elements}
-use Rattle.single_def.specs.declared.fault.DefFault.TheVariants.{TooLarge}
+use Rattle.single_def.specs.declared.fault.PlacedFault.TheVariants.{TooLarge}
 use Rattle.single_def.specs.Tables.{Mark, given, defines, presets, needs, counts, load_of, load_before, max_load, Table, rules, mark, in_order, enters, Row, nothing, ◌▹◌, each, each_from, Context, at_entry, after, after_row, table_rules, row_rules}
 use Rattle.single_def.specs.Expansion.{entered, instances_after, row_instances, elements_from, elements_in, signals_of, IsExpansion}
-use Rattle.single_def.specs.ElementRules.{weight, counted, each_place, elements_of, value_rules, takers, expr_rules, entry, call_table, item_table, items_row, instance_table, loop_turns, position_of, word_rules, max_nested, main_table, program_table, element_rules}
+use Rattle.single_def.specs.ElementRules.{weight, counted, each_place, elements_of, value_rules, takers, expr_rules, entry, call_table, item_table, items_row, instance_table, loop_turns, position_of, word_rules, max_nested, main_table, program_table}
 use Rattle.single_def.proofs.PlannedFunctions.{top_named}
-use Rattle.single_def.proofs.SoundNames.{names_apart, clear_first}
+use Rattle.single_def.proofs.SoundNames.{names_apart}
+use Rattle.single_def.proofs.PlacedFaults.{elements_pass}
 use Rattle.single_def.proofs.QuietTables.{EntersNone, none_each_from, none_places, none_counted, none_target, none_initial, none_takers, none_args}
 use Rattle.signal_graph.specs.Flat as flat
 use Rattle.loop_expand.specs.Checked.{IsChecked}
@@ -194,7 +195,7 @@ module _ (p : Program) (checked : IsChecked p) (es : Elements) (made : IsExpansi
   few_instances =
       let m = main_there p checked in
       let ok : first (table_rules (at_entry []) (main_table p (Some m.0))) ≡ Ok tt =
-      subst (λ o. first (table_rules (at_entry []) (main_table p o)) ≡ Ok tt) m.1 (clear_first (element_rules p) checked.elements) in
+      subst (λ o. first (table_rules (at_entry []) (main_table p o)) ≡ Ok tt) m.1 (elements_pass p checked.elements) in
       let pays = program_pays p (names_apart p checked.names) m.0 m.1 0 [] (at_entry []) ok in
       let low = within (at_entry []) (main_table p (Some m.0)) (omega arith) ok in
       let few : size p (instances_after 0 [] (main_table p (Some m.0))) ≤ max_load = omega arith in

@@ -19,11 +19,11 @@ use Rattle.silage_meaning.specs.Solves.{input_types, output_types, types_of}
 use Rattle.silage_meaning.proofs.InputRows.{outputs_length}
 use Rattle.silage_meaning.proofs.Outputs.{in_first, in_second}
 use Rattle.name_check.specs.Meanings.{is_dim, most_elements}
-use Rattle.single_def.specs.declared.fault.DefFault.TheVariants.{TooLarge}
+use Rattle.single_def.specs.declared.fault.PlacedFault.TheVariants.{TooLarge}
 use Rattle.single_def.specs.declared.elements.Elements.{Elements}
 use Rattle.single_def.specs.Tables.{at_entry, table_rules}
 use Rattle.single_def.specs.ElementRules.{elements_of, word_rules, main_table, element_rules}
-use Rattle.single_def.proofs.SoundNames.{clear_first}
+use Rattle.single_def.proofs.PlacedFaults.{elements_pass}
 use Rattle.signal_graph.specs.Flat as flat
 use Rattle.signal_graph.specs.Rules.{IsWithin, IsType}
 use Rattle.loop_expand.specs.Checked.{IsChecked}
@@ -71,7 +71,7 @@ module _ (p : Program) (checked : IsChecked p) where
   -- at most 16 input words, and as many output words
   words_few : (f : Func) → main_of p ≡ Some f → (elements_of f.params ≤ 16) × (elements_of f.results ≤ 16)
   words_few f is =
-      let all : first (element_rules p) ≡ Ok tt = clear_first (element_rules p) checked.elements in
+      let all : first (element_rules p) ≡ Ok tt = elements_pass p checked.elements in
       let of_main : first (table_rules (at_entry []) (main_table p (Some f))) ≡ Ok tt = subst (λ o. first (table_rules (at_entry []) (main_table p o)) ≡ Ok tt) is all in
       let b = both_hold (nat_le (elements_of f.params) 16) (nat_le (elements_of f.results) 16)
       (rule_holds (nat_le (elements_of f.params) 16 && nat_le (elements_of f.results) 16) (TooLarge f.at) (then_parts (first (word_rules f)) _ of_main).0) in

@@ -14,6 +14,7 @@ pub mod ProgramSystem
 pub mod FlatFits
 pub mod TypedReads
 pub mod FlatLoops
+pub mod OneFlat
 pub mod PassedItems
 pub mod FlatTypes
 pub mod FlatInits

@@ -12,8 +12,8 @@ use Rattle.silage_syntax.specs.Tree.{Manifest, Place, Expr, Item, equation, call
 use Rattle.silage_syntax.specs.Manifests.{Indices, manifest_value}
 use Rattle.silage_syntax.specs.Names.{decls, declared, function_named, element_count, main_of}
 use Rattle.silage_meaning.specs.Instances.{Step, turns_of}
-use Rattle.single_def.specs.declared.fault.DefFault.{DefFault}
-use Rattle.single_def.specs.declared.fault.DefFault.TheVariants.{Delay}
+use Rattle.single_def.specs.declared.fault.PlacedFault.{PlacedFault}
+use Rattle.single_def.specs.declared.fault.PlacedFault.TheVariants.{Delay}
 use Rattle.single_def.specs.declared.elements.Instance.{Instance}
 use Rattle.single_def.specs.declared.elements.Element.{Element as Entry}
 use Rattle.single_def.specs.declared.elements.Elements.{Elements}
@@ -51,10 +51,10 @@ each_from_flat G all k (x ∷ xs) = then_flat (G k x) (each_from G (k + 1) xs) (
 mark_flat : (m : Mark) → IsFlat (mark m)
 mark_flat m = (tt, λ s h. h)
 
-rules_flat : (R : Rules DefFault) → IsFlat (rules R)
+rules_flat : (R : Rules PlacedFault) → IsFlat (rules R)
 rules_flat R = (tt, λ s h. h)
 
-rules_then : (R : Rules DefFault) (row : Row) → IsFlatRow row → IsFlatRow (rules R ▹ row)
+rules_then : (R : Rules PlacedFault) (row : Row) → IsFlatRow row → IsFlatRow (rules R ▹ row)
 rules_then R row x = then_flat (rules R) row (rules_flat R) x
 
 none_flat : IsFlat (in_order nothing)

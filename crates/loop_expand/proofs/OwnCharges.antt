@@ -12,8 +12,8 @@ use Rattle.silage_syntax.specs.Names.{declared, function_named, main_of}
 use Rattle.silage_meaning.specs.Instances.{Instance as Path, main, inside, Element, element, Occurs, OccursIn, IsInstance, main_is, inside_is}
 use Rattle.silage_meaning.specs.Solves.{Source, value, IsDefined, input, equated, argument, array, table, result, array_result}
 use Rattle.single_def.specs.Tables.{counts, Table, rules, mark, in_order, enters, Row, nothing, ◌▹◌, each, Context, at_entry, after, table_rules, row_rules}
-use Rattle.single_def.specs.ElementRules.{weight, picked, call_table, item_table, items_row, instance_table, loop_turns, max_nested, main_table, element_rules}
-use Rattle.single_def.proofs.SoundNames.{clear_first}
+use Rattle.single_def.specs.ElementRules.{weight, picked, call_table, item_table, items_row, instance_table, loop_turns, max_nested, main_table}
+use Rattle.single_def.proofs.PlacedFaults.{elements_pass}
 use Rattle.single_def.proofs.PickedPlaces.{offset_picked}
 use Rattle.single_def.proofs.LoopTurns.{IsAmong, turn_among}
 use Rattle.loop_expand.specs.Checked.{IsChecked}
@@ -180,7 +180,7 @@ module _ (p : Program) (checked : IsChecked p) (f : Func) (is_main : main_of p �
   main_passes =
       let ok : first (table_rules (at_entry []) (main_table p (Some f))) ≡ Ok tt =
       subst (λ o. first (table_rules (at_entry []) (main_table p o)) ≡ Ok tt) is_main
-      (clear_first (element_rules p) checked.elements) in
+      (elements_pass p checked.elements) in
       (passes (at_entry []) (main_table p (Some f)) ok).1.0
 
   instance_charged : (path : Path) (g : Func) → IsInstance p path g → IsCharged path g

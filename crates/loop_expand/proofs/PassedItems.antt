@@ -13,7 +13,7 @@ use Rattle.silage_syntax.specs.Tree.{Manifest, Place, Item, equation, call, loop
 use Rattle.silage_syntax.specs.Manifests.{Indices, manifest_value}
 use Rattle.silage_syntax.specs.Names.{declared}
 use Rattle.silage_meaning.specs.Instances.{Occurs, OccursIn, Site, IsItemAt, IsSignal}
-use Rattle.single_def.specs.declared.fault.DefFault.TheVariants.{Delay}
+use Rattle.single_def.specs.declared.fault.PlacedFault.TheVariants.{Delay}
 use Rattle.single_def.specs.ElementFaults.{element_faults}
 use Rattle.single_def.specs.Tables.{Table, rules, mark, in_order, Row, nothing, ◌▹◌, each, counts, Context, after, table_rules, row_rules}
 use Rattle.single_def.specs.ElementRules.{manifest_at, value_rules, subscript_rules, number_rules, samples, is_in, picked, initial_value, initial_table, item_table, items_row, loop_turns, instance_table}

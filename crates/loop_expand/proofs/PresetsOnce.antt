@@ -15,7 +15,7 @@ use Rattle.silage_syntax.specs.Names.{declared}
 use Rattle.silage_meaning.specs.Instances.{Instance as Path, Element, IsInstance, Occurs, OccursIn}
 use Rattle.silage_meaning.specs.Solves.{IsPreset}
 use Rattle.silage_meaning.proofs.Instances.{instance_once}
-use Rattle.single_def.specs.declared.fault.DefFault.TheVariants.{DefinedTwice, Delay}
+use Rattle.single_def.specs.declared.fault.PlacedFault.TheVariants.{DefinedTwice, Delay}
 use Rattle.single_def.specs.Tables.{Table, presets, counts, rules, mark, in_order, enters, Row, nothing, ◌▹◌, each, Context, is_preset, presets_for, after, after_row, table_rules, row_rules}
 use Rattle.single_def.specs.ElementRules.{subscript_rules, number_rules, samples, picked, initial_value, initial_table, value_rules, item_table, items_row, loop_turns, instance_table}
 use Rattle.single_def.proofs.CheckedInstances.{items_ok, checked as checked_instance}

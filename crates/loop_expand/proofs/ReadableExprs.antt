@@ -31,8 +31,8 @@ use Rattle.name_check.specs.Contexts.{Context}
 use Rattle.name_check.specs.declared.fault.NameFault.{NameFault}
 use Rattle.name_check.specs.declared.fault.NameFault.TheVariants.{Arity, Size}
 use Rattle.single_def.specs.declared.elements.Elements.{Elements}
-use Rattle.single_def.specs.declared.fault.DefFault.{DefFault}
-use Rattle.single_def.specs.declared.fault.DefFault.TheVariants.{Bounds, Shift, Delay}
+use Rattle.single_def.specs.declared.fault.PlacedFault.{PlacedFault}
+use Rattle.single_def.specs.declared.fault.PlacedFault.TheVariants.{Bounds, Shift, Delay}
 use Rattle.single_def.specs.Numbering.{IsNumbering}
 use Rattle.single_def.specs.ElementRules.{Range, below, samples, delays, no_delays, shifts, is_in, manifest_at, value_rules, number_rules, subscript_rules, amount_rules, read_rules, readable, expr_rules, branch_rules}
 use Rattle.single_def.proofs.SoundNames.{clear_first}
@@ -72,7 +72,7 @@ in_range indices m most (negsuc k) is e =
     let low = le_is (pos 0) (negsuc k) both.0 in
     absurd (omega (arith, ints))
 
-pub has_number : (indices : Indices) (most : ℤ) (outside : (at : ℕ) → DefFault) (m : Manifest) → first (number_rules indices (up_to most) outside m) ≡ Ok tt → HasNumber indices m most
+pub has_number : (indices : Indices) (most : ℤ) (outside : (at : ℕ) → PlacedFault) (m : Manifest) → first (number_rules indices (up_to most) outside m) ≡ Ok tt → HasNumber indices m most
 has_number indices most outside m ok =
     let range = unless (option_map_or (is_in (up_to most)) (manifest_value indices m) true) (outside (manifest_at m)) in
     let both = then_parts (first (value_rules indices m)) (first_in (range ▸ none)) ok in
@@ -84,7 +84,7 @@ has_number indices most outside m ok =
     by None is some inside = absurd (cc some)
 
 -- the number of samples of an initial value
-pub has_sample : (indices : Indices) (outside : (at : ℕ) → DefFault) (m : Manifest) → first (number_rules indices samples outside m) ≡ Ok tt → (j : ℕ) × (manifest_value indices m ≡ Some (pos j))
+pub has_sample : (indices : Indices) (outside : (at : ℕ) → PlacedFault) (m : Manifest) → first (number_rules indices samples outside m) ≡ Ok tt → (j : ℕ) × (manifest_value indices m ≡ Some (pos j))
 has_sample indices outside m ok =
     let range = unless (option_map_or (is_in samples) (manifest_value indices m) true) (outside (manifest_at m)) in
     let both = then_parts (first (value_rules indices m)) (first_in (range ▸ none)) ok in

@@ -26,7 +26,7 @@ use Rattle.single_def.specs.declared.elements.Elements.{Elements}
 use Rattle.single_def.specs.Expansion.{IsExpansion}
 use Rattle.single_def.specs.Numbering.{HasPath, of_main, of_call, IsNumbering}
 use Rattle.single_def.specs.Tables.{Table, Context as Before, table_rules, row_rules, after, rules, in_order, each}
-use Rattle.single_def.specs.declared.fault.DefFault.TheVariants.{Delay}
+use Rattle.single_def.specs.declared.fault.PlacedFault.TheVariants.{Delay}
 use Rattle.single_def.specs.ElementRules.{elements_of, position_of, subscript_rules, number_rules, samples, target_table, initial_table, array_table, taker_table, takers, call_table, item_table, instance_table, expr_rules}
 use Rattle.single_def.specs.Private.Plans.{first_of}
 use Rattle.single_def.proofs.CheckedInstances.{checked as checked_instance, items_ok}

@@ -4,7 +4,7 @@ use Rattle.std.specs.Global.{Global}
 use mathlib.Core.Former.{Count}
 use Rattle.single_def.specs.declared.actions.Action.{Action as RustAction, Repeat, Repeat', Row_of-Action, end_of-Action, more_of-Action, items-the_row-Action, items_hidden-the_row-Action-0}
 use Rattle.single_def.specs.declared.actions.Bound.{Bound}
-use Rattle.single_def.specs.declared.fault.DefFault.{DefFault}
+use Rattle.single_def.specs.declared.fault.PlacedFault.{PlacedFault}
 use Rattle.single_def.specs.Private.Actions.{action, repeat, Actions, actions_of, view_action, view_row, view_actions, Found, State, bound_of, run_action, run_turns, run_loop}
 
 row_actions : (m : _) (k : Row_of-Action m) → view_row k ≡ actions_of (map view_action (items-the_row-Action m k))
@@ -21,7 +21,7 @@ view_Repeat lo hi v at =
     let same = items_hidden-the_row-Action-0 v in
     ap (λ xs. repeat lo hi xs at) (row_actions row.0 row.1 ∙ ap view_actions same)
 
-module _ (inside : (func at : ℕ) → List ℤ → Found → Result Found DefFault) (turns : List ℤ) where
+module _ (inside : (func at : ℕ) → List ℤ → Found → Result Found PlacedFault) (turns : List ℤ) where
   pub repeat_is : (x : RustAction) (lo hi : Bound) (v : Vec RustAction Global) (at : ℕ) → x ≡ Repeat lo hi v at → (xs : List RustAction) → xs ≡ v.items → (s : State)
       → run_action inside turns (view_action x) s ≡ run_loop inside turns lo hi (view_actions xs) at s
   repeat_is x lo hi v at is xs e s =

@@ -5,7 +5,7 @@ use Rattle.single_def.specs.declared.actions.Action.{Action as RustAction, Repea
 use Rattle.single_def.specs.declared.actions.Bound.{Bound}
 use Rattle.single_def.specs.declared.ahead.Turns.{Turns}
 use Rattle.single_def.specs.declared.lanes.Group.{Group}
-use Rattle.single_def.specs.declared.fault.DefFault.{DefFault}
+use Rattle.single_def.specs.declared.fault.PlacedFault.{PlacedFault}
 use Rattle.single_def.specs.Private.Lanes.{at, column}
 use Rattle.single_def.specs.Private.Actions.{Action, repeat, actions_of, view_action, Found, State, run_action}
 use Rattle.single_def.specs.Private.Ahead.{DoSame, InEach, Holds, Reaches, DoesMore}
@@ -24,14 +24,14 @@ held_same outer groups all_groups kept some all same items h ts held =
 
 module _ (t : Turns) (old : List Action) (x : Action) where
   pub does_more : (y : Action) (new : List Action) → new ≡ old ++ y ∷ []
-      → InEach t (λ ts. (inside : (func at : ℕ) → List ℤ → Found → Result Found DefFault) (s : State) → run_action inside ts y s ≡ run_action inside ts x s) → DoesMore t old x new
+      → InEach t (λ ts. (inside : (func at : ℕ) → List ℤ → Found → Result Found PlacedFault) (s : State) → run_action inside ts y s ≡ run_action inside ts x s) → DoesMore t old x new
   does_more y new is same some h ts held =
       subst (λ (new : List Action). DoSame ts new (some ++ x ∷ [])) (sym is) (kept_too ts old some (h ts held) x y (same ts held))
 
   pub does_whole : (new : List Action) → new ≡ old ++ x ∷ [] → DoesMore t old x new
   does_whole new is = does_more x new is (λ ts held inside s. refl)
 
-  pub does_none : InEach t (λ ts. (inside : (func at : ℕ) → List ℤ → Found → Result Found DefFault) (s : State) → run_action inside ts x s ≡ Ok s) → DoesMore t old x old
+  pub does_none : InEach t (λ ts. (inside : (func at : ℕ) → List ℤ → Found → Result Found PlacedFault) (s : State) → run_action inside ts x s ≡ Ok s) → DoesMore t old x old
   does_none nothing some h ts held = left_out ts old some (h ts held) x (nothing ts held)
 
 -- a loop of which it is known which turns it has

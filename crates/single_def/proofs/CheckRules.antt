@@ -6,8 +6,8 @@ use Rattle.ranked_faults.specs.Rules.{parts, unless, none, ◌▸◌}
 use Rattle.ranked_faults.specs.Private.FirstMet.{first, first_in, ◌>>◌}
 use Rattle.silage_syntax.specs.Tree.{Manifest, Place, Expr, literal, read, negate, not as denied, binary, shift, cast, choose, Branches, no_branch, branch, Func, Program}
 use Rattle.silage_syntax.specs.Manifests.{Indices, manifest_value}
-use Rattle.single_def.specs.declared.fault.DefFault.{DefFault}
-use Rattle.single_def.specs.declared.fault.DefFault.TheVariants.{Bounds, Delay, Shift, Index}
+use Rattle.single_def.specs.declared.fault.PlacedFault.{PlacedFault}
+use Rattle.single_def.specs.declared.fault.PlacedFault.TheVariants.{Bounds, Delay, Shift, Index}
 use Rattle.single_def.specs.declared.actions.Check.{Check}
 use Rattle.single_def.specs.declared.numbers.Number.{Number}
 use Rattle.single_def.specs.declared.numbers.Number.TheVariants.{Known, Code}
@@ -18,7 +18,7 @@ use Rattle.single_def.specs.Private.Plans.{planned_check, passes_with, passes, k
 use Rattle.single_def.proofs.CodeValues.{names_of, values_of, number_is}
 use Rattle.single_def.proofs.Walks.{walk-one, Checks, checks-append, two_checks, more_checks}
 
-lies_or : (b : Bool) (outside : DefFault) → cond {A = Result (Unit {0}) DefFault} b (Ok tt) (Err outside) ≡ first (unless b outside) >> Ok tt
+lies_or : (b : Bool) (outside : PlacedFault) → cond {A = Result (Unit {0}) PlacedFault} b (Ok tt) (Err outside) ≡ first (unless b outside) >> Ok tt
 lies_or true outside = refl
 lies_or false outside = refl
 
@@ -34,18 +34,18 @@ passes_always c (Known (Some v)) turns e = rw e refl
 passes_always c (Known None) turns e = absurd (cc)
 passes_always c (Code code) turns e = absurd (cc)
 
-module _ (inside : (func at : ℕ) → List ℤ → Found → Result Found DefFault) (indices : Indices) where
-  abbrev Keeps : List Action → Result (Unit {0}) DefFault → Type 0
+module _ (inside : (func at : ℕ) → List ℤ → Found → Result Found PlacedFault) (indices : Indices) where
+  abbrev Keeps : List Action → Result (Unit {0}) PlacedFault → Type 0
   Keeps xs r = Checks inside (values_of indices) xs r
 
   kept_is : (c : Check) → Keeps (kept c) (check_of (values_of indices) c)
   kept_is c = by (passes c) refl
     where
       by : (b : Bool) → passes c ≡ b → Keeps (cond b [] (check c ∷ [])) (check_of (values_of indices) c)
-      by true e s = sym (ap (λ (r : Result (Unit {0}) DefFault). r >>= λ _. Ok s) (passes_always c c.number (values_of indices) e))
+      by true e s = sym (ap (λ (r : Result (Unit {0}) PlacedFault). r >>= λ _. Ok s) (passes_always c c.number (values_of indices) e))
       by false e s = walk-one inside (values_of indices) (check c) s
 
-  module _ (range : Range) (outside : ℕ → DefFault) (m : Manifest) where
+  module _ (range : Range) (outside : ℕ → PlacedFault) (m : Manifest) where
     abbrev planned : Check
     planned = planned_check (names_of indices) range outside m
 
@@ -53,7 +53,7 @@ module _ (inside : (func at : ℕ) → List ℤ → Found → Result Found DefFa
     planned_is = ap (check_value planned) (number_is indices m) ∙ value_checked planned range (manifest_value indices m) refl refl
 
     pub number_kept : Keeps (kept planned) (first (number_rules indices range outside m))
-    number_kept = subst (λ (r : Result (Unit {0}) DefFault). Keeps (kept planned) r) planned_is (kept_is planned)
+    number_kept = subst (λ (r : Result (Unit {0}) PlacedFault). Keeps (kept planned) r) planned_is (kept_is planned)
 
   pub subscripts_kept : (dims : List ℕ) (subs : List Manifest) → Keeps (subscript_checks (names_of indices) dims subs) (first_in (subscript_rules indices dims subs))
   subscripts_kept [] subs = λ s. refl

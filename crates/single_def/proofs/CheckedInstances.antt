@@ -11,11 +11,11 @@ use Rattle.silage_syntax.specs.Tree.{Place, Expr, Item, equation, call, loop, in
 use Rattle.silage_syntax.specs.Manifests.{Indices, manifest_value}
 use Rattle.silage_syntax.specs.Names.{decls, function_named, element_count, main_of}
 use Rattle.silage_meaning.specs.Instances.{Instance as Path, main as main_path, inside, Occurs, OccursIn, IsInstance, main_is, inside_is}
-use Rattle.single_def.specs.declared.fault.DefFault.TheVariants.{NotDefined}
+use Rattle.single_def.specs.declared.fault.PlacedFault.TheVariants.{NotDefined}
 use Rattle.single_def.specs.Tables.{Mark, given, needs, counts, Table, rules, mark, in_order, Row, nothing, ◌▹◌, each, each_from, Context, at_entry, is_defined, after, after_row, table_rules, row_rules}
 use Rattle.single_def.specs.ElementFaults.{element_faults}
 use Rattle.single_def.specs.ElementRules.{weight, counted, each_place, elements_of, value_rules, takers, expr_rules, entry, call_table, item_table, items_row, loop_turns, instance_table, word_rules, max_nested, main_table, element_rules}
-use Rattle.single_def.proofs.SoundNames.{clear_first}
+use Rattle.single_def.proofs.PlacedFaults.{elements_pass}
 use Rattle.single_def.proofs.LoopTurns.{IsAmong, turn_among}
 use Rattle.single_def.proofs.InstanceTables.{param_given, past_params}
 use Rattle.single_def.proofs.DefinitionLists.{Entry, IsAt, Adds, items_entries, items_add}
@@ -186,7 +186,7 @@ some_calls p g (suc calls) marks ok = record { calls = calls; marks = marks; ok 
 module _ (p : Program) (clear : IsClear (element_faults p)) where
   main_ok : (f : Func) → main_of p ≡ Some f → first (table_rules (at_entry []) (instance_table p max_nested f)) ≡ Ok tt
   main_ok f is =
-      let all : first (element_rules p) ≡ Ok tt = clear_first (element_rules p) clear in
+      let all : first (element_rules p) ≡ Ok tt = elements_pass p clear in
       let of_main : first (table_rules (at_entry []) (main_table p (Some f))) ≡ Ok tt = subst (λ o. first (table_rules (at_entry []) (main_table p o)) ≡ Ok tt) is all in
       (then_parts (first (table_rules (at_entry []) (instance_table p max_nested f))) (Ok tt) (then_parts (first (word_rules f)) _ of_main).1).0
 

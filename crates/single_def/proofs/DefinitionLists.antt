@@ -13,7 +13,7 @@ use Rattle.silage_syntax.specs.Manifests.{Indices, manifest_value}
 use Rattle.silage_syntax.specs.Names.{declared, function_named, element_count}
 use Rattle.silage_meaning.specs.Instances.{Instance as Path, inside, element, Site, turns_of}
 use Rattle.silage_meaning.specs.Solves.{Source, value as of_value, same as of_same}
-use Rattle.single_def.specs.declared.fault.DefFault.TheVariants.{Delay, DefinedTwice}
+use Rattle.single_def.specs.declared.fault.PlacedFault.TheVariants.{Delay, DefinedTwice}
 use Rattle.single_def.specs.Tables.{defines, counts, presets, Table, rules, mark, in_order, Row, nothing, ◌▹◌, each, Context, is_defined, after, after_row, table_rules, row_rules}
 use Rattle.single_def.specs.ElementRules.{weight, picked, counted, definition, target_table, array_table, initial_value, initial_table, taker_table, takers, value_rules, subscript_rules, number_rules, samples, expr_rules, entry as entry_table, call_table, item_table, items_row, loop_turns}
 

@@ -11,8 +11,8 @@ use Rattle.silage_syntax.specs.Tree.{Manifest, whole, counter, both, Place, Expr
 use Rattle.single_def.specs.declared.elements.Instance.{Instance}
 use Rattle.single_def.specs.Expansion.{instances_after}
 use Rattle.single_def.specs.ElementRules.{program_table, element_rules}
-use Rattle.single_def.specs.declared.fault.DefFault.{DefFault}
-use Rattle.single_def.specs.declared.fault.DefFault.TheVariants.{Bounds, DefinedTwice, NotDefined, TooLarge}
+use Rattle.single_def.specs.declared.fault.PlacedFault.{PlacedFault}
+use Rattle.single_def.specs.declared.fault.PlacedFault.TheVariants.{Bounds, DefinedTwice, NotDefined, TooLarge}
 
 -- Parts of trees.
 abbrev decl : List ℕ → (at : ℕ) → List ℕ → Decl
@@ -35,7 +35,7 @@ abbrev alone : List Item → Program
 alone items = framed [] [] items
 
 -- what one meets first
-abbrev met : Program → Result (Unit {0}) DefFault
+abbrev met : Program → Result (Unit {0}) PlacedFault
 met p = first (element_rules p)
 
 -- y = x;

@@ -8,20 +8,20 @@ use Rattle.single_def.specs.Private.Ahead.{DoSame, Holds, Reaches}
 use Rattle.single_def.specs.Private.Blocks.{IsBlock}
 use Rattle.single_def.specs.declared.actions.Bound.{Bound}
 use Rattle.single_def.specs.declared.lanes.Group.{Group}
-use Rattle.single_def.specs.declared.fault.DefFault.{DefFault}
+use Rattle.single_def.specs.declared.fault.PlacedFault.{PlacedFault}
 
 abbrev Inside : Type 0
-Inside = (func at : ℕ) → List ℤ → Found → Result Found DefFault
+Inside = (func at : ℕ) → List ℤ → Found → Result Found PlacedFault
 
-then_ok : (r : Result State DefFault) → r >>= (λ s. Ok s) ≡ r
+then_ok : (r : Result State PlacedFault) → r >>= (λ s. Ok s) ≡ r
 then_ok (Ok s) = refl
 then_ok (Err e) = refl
 
-then_then : (r : Result State DefFault) (f g : State → Result State DefFault) → (r >>= f) >>= g ≡ r >>= (λ s. f s >>= g)
+then_then : (r : Result State PlacedFault) (f g : State → Result State PlacedFault) → (r >>= f) >>= g ≡ r >>= (λ s. f s >>= g)
 then_then (Ok s) f g = refl
 then_then (Err e) f g = refl
 
-then_same : (r : Result State DefFault) (f g : State → Result State DefFault) → ((s : State) → f s ≡ g s) → r >>= f ≡ r >>= g
+then_same : (r : Result State PlacedFault) (f g : State → Result State PlacedFault) → ((s : State) → f s ≡ g s) → r >>= f ≡ r >>= g
 then_same (Ok s) f g e = e s
 then_same (Err e) f g h = refl
 
@@ -34,13 +34,13 @@ one_more inside turns (y ∷ xs) x s =
     ∙ sym (then_then (run_action inside turns y s) (run_actions inside turns (actions_of xs)) (run_action inside turns x))
 
 module _ (turns : List ℤ) (kept some : List Action) (same : DoSame turns kept some) (x : Action) where
-  pub kept_too : (y : Action) → ((inside : (func at : ℕ) → List ℤ → Found → Result Found DefFault) (s : State) → run_action inside turns y s ≡ run_action inside turns x s)
+  pub kept_too : (y : Action) → ((inside : (func at : ℕ) → List ℤ → Found → Result Found PlacedFault) (s : State) → run_action inside turns y s ≡ run_action inside turns x s)
       → DoSame turns (kept ++ y ∷ []) (some ++ x ∷ [])
   kept_too y e inside s =
       one_more inside turns kept y s ∙ then_same (run_actions inside turns (actions_of kept) s) _ _ (e inside)
       ∙ ap (λ r. r >>= run_action inside turns x) (same inside s) ∙ sym (one_more inside turns some x s)
 
-  pub left_out : ((inside : (func at : ℕ) → List ℤ → Found → Result Found DefFault) (s : State) → run_action inside turns x s ≡ Ok s) → DoSame turns kept (some ++ x ∷ [])
+  pub left_out : ((inside : (func at : ℕ) → List ℤ → Found → Result Found PlacedFault) (s : State) → run_action inside turns x s ≡ Ok s) → DoSame turns kept (some ++ x ∷ [])
   left_out e inside s =
       same inside s
       ∙ sym (one_more inside turns some x s
@@ -53,7 +53,7 @@ within first last k less = grind arith
 -- a loop with the ones does what it does with all, if each of its turns does
 module _ (inside : Inside) (turns : List ℤ) (at : ℕ) (first last : ℤ) (kept all : List Action)
     (same : (j : ℕ) → (first +ℤ pos j) ≤ℤ last → DoSame (turns ++ (first +ℤ pos j) ∷ []) kept all) where
-  abbrev turn : List Action → ℕ → State → Result State DefFault
+  abbrev turn : List Action → ℕ → State → Result State PlacedFault
   turn xs k = run_turn inside turns (actions_of xs) at (first +ℤ pos k)
 
   each_same : (n a : ℕ) → a + n ≤ count_up first last → (s : State) → for_each (turn kept) (range_with_len a n) s ≡ for_each (turn all) (range_with_len a n) s
@@ -68,7 +68,7 @@ module _ (inside : Inside) (turns : List ℤ) (at : ℕ) (first last : ℤ) (kep
 
 module _ (outer : List ℤ) (groups : List Group) (lo hi : Bound) (at : ℕ) (turns : List ℤ) (reached : Reaches outer groups lo.number hi.number turns) where
   pub loop_same : (kept all : List Action) → ((ts : List ℤ) → Holds outer groups ts → DoSame ts kept all)
-      → (inside : (func at : ℕ) → List ℤ → Found → Result Found DefFault) (s : State)
+      → (inside : (func at : ℕ) → List ℤ → Found → Result Found PlacedFault) (s : State)
       → run_action inside turns (repeat lo hi (actions_of kept) at) s ≡ run_action inside turns (repeat lo hi (actions_of all) at) s
   loop_same kept all same inside s =
       let (first, last, from, to, each) = reached in
@@ -78,7 +78,7 @@ module _ (outer : List ℤ) (groups : List Group) (lo hi : Bound) (at : ℕ) (tu
   no_turns zero inside all first s e = refl
   no_turns (suc n) inside all first s e = absurd (omega arith)
 
-  pub loop_idle : (all : List Action) → ((ts : List ℤ) → Holds outer groups ts → ⊥) → (inside : (func at : ℕ) → List ℤ → Found → Result Found DefFault) (s : State)
+  pub loop_idle : (all : List Action) → ((ts : List ℤ) → Holds outer groups ts → ⊥) → (inside : (func at : ℕ) → List ℤ → Found → Result Found PlacedFault) (s : State)
       → run_action inside turns (repeat lo hi (actions_of all) at) s ≡ Ok s
   loop_idle all empty inside s =
       let (first, last, from, to, each) = reached in
@@ -110,7 +110,7 @@ later outer first last turn k until kept all is h j from before inside =
     subst (λ (z : ℤ). DoSame (outer ++ z ∷ []) kept all) same (h (j - k) (omega arith) (subst (λ (z : ℤ). z ≤ℤ last) (sym same) inside))
 
 -- a turn with the ones is the turn with all
-pub turn_same : (inside : (func at : ℕ) → List ℤ → Found → Result Found DefFault) (outer : List ℤ) (at : ℕ) (first last turn : ℤ) (k until : ℕ) (kept all : List Action)
+pub turn_same : (inside : (func at : ℕ) → List ℤ → Found → Result Found PlacedFault) (outer : List ℤ) (at : ℕ) (first last turn : ℤ) (k until : ℕ) (kept all : List Action)
     → turn ≡ first +ℤ pos k → IsBlock outer first last k until kept all → k < until → k < count_up first last
     → (s : State) → run_turn inside outer (actions_of all) at (first +ℤ pos k) s ≡ run_turn inside outer (actions_of kept) at turn s
 turn_same inside outer at first last turn k until kept all is block more less s =

@@ -9,7 +9,7 @@ use Rattle.silage_syntax.specs.declared.tree.Decl.{Decl}
 use Rattle.silage_syntax.specs.Tree.{Func, Program}
 use Rattle.silage_syntax.specs.Names.{decls, element_count}
 use Rattle.single_def.specs.declared.elements.Instance.{Instance}
-use Rattle.single_def.specs.declared.fault.DefFault.{DefFault}
+use Rattle.single_def.specs.declared.fault.PlacedFault.{PlacedFault}
 use Rattle.single_def.specs.Tables.{Mark, given, needs, counts, load_of, load_before, is_preset, Table, mark, Row, each, each_from, Context, at_entry, is_defined, after, after_row, table_rules, row_rules, max_load}
 use Rattle.single_def.specs.Expansion.{row_instances, elements_from, signals_of, elements_in}
 use Rattle.single_def.specs.ElementRules.{each_place, elements_of}
@@ -113,7 +113,7 @@ quiet_params a (x ∷ ps) context =
     let later = after_row context (each (λ k. mark (given a k)) (range_with_len 0 (element_count x.dims))) in
     let rest = quiet_params (a + 1) ps later in
     record {
-      holds = ap (λ (r : Result (Unit {0}) DefFault). r >> first_in (row_rules later (each_from (λ d decl. each_place (given d) decl) (a + 1) ps))) own.holds ∙ rest.holds;
+      holds = ap (λ (r : Result (Unit {0}) PlacedFault). r >> first_in (row_rules later (each_from (λ d decl. each_place (given d) decl) (a + 1) ps))) own.holds ∙ rest.holds;
       load = rest.load ∙ own.load;
       presets = λ e j s. rest.presets e j s ∙ own.presets e j s;
       instances = λ number front. ap (λ f. row_instances number f (each_from (λ d decl. each_place (given d) decl) (a + 1) ps)) (own.instances number front) ∙ rest.instances number front;
@@ -199,13 +199,13 @@ module _ (g : Func) (few : elements_of (decls g) ≤ max_load) (marks : List Mar
   known_begun = record { defined = bits_begun; presets = λ e j s is. sym ((quiet_params 0 g.params counted_context).presets e j s) }
 
 -- Each element of an instance is defined in the end.
-pub record IsNeeded (context : Context) (row : Row) (checks : Result (Unit {0}) DefFault) : Type 0 where
+pub record IsNeeded (context : Context) (row : Row) (checks : Result (Unit {0}) PlacedFault) : Type 0 where
   pub holds : first_in (row_rules context row) ≡ checks
   pub load : load_before (after_row context row) ≡ load_before context
   pub defined : (e j : ℕ) → is_defined (after_row context row) e j ≡ is_defined context e j
   pub instances : (number : ℕ) (front : List Instance) → row_instances number front row ≡ front
 
-unit_then : (r q : Result (Unit {0}) DefFault) (more : Unit {0} → Result (Unit {0}) DefFault) → more tt ≡ q → r >>= more ≡ r >> q
+unit_then : (r q : Result (Unit {0}) PlacedFault) (more : Unit {0} → Result (Unit {0}) PlacedFault) → more tt ≡ q → r >>= more ≡ r >> q
 unit_then (Ok tt) q more e = e
 unit_then (Err f) q more e = refl
 
@@ -227,8 +227,8 @@ module _ (ds : List Decl) (known : Known) where
       let own = need_is context d a at (is_defined context d a) refl (bits d a place) in
       let more = sum_by-cons load_of (needs d a at) context.of_program in
       record {
-        holds = ap (λ (r : Result (Unit {0}) DefFault). r >> first_in (row_rules (after context (mark (needs d a at))) (each (λ k. mark (needs d k at)) (range_with_len (a + 1) n)))) own
-            ∙ ap (λ (q : Result (Unit {0}) DefFault). is_defined_at known (first_of ds d + a) at a >> q) rest.holds
+        holds = ap (λ (r : Result (Unit {0}) PlacedFault). r >> first_in (row_rules (after context (mark (needs d a at))) (each (λ k. mark (needs d k at)) (range_with_len (a + 1) n)))) own
+            ∙ ap (λ (q : Result (Unit {0}) PlacedFault). is_defined_at known (first_of ds d + a) at a >> q) rest.holds
             ∙ sym (unit_then (is_defined_at known (first_of ds d + a) at a) _ (for_each (λ k _. is_defined_at known (first_of ds d + k) at k) (range_with_len (a + 1) n)) refl);
         load = rest.load ∙ omega (arith, more);
         defined = rest.defined;
@@ -248,8 +248,8 @@ module _ (ds : List Decl) (known : Known) where
       let rest = all_needed (d + 1) (m + element_count x.dims) xs (λ i y e. subst (λ e. slice_get ds e ≡ Some y) (omega arith) (stand (suc i) y e)) next
       step later (λ e j other. bits e j other ∙ ap Some (sym (own.defined e j))) in
       record {
-        holds = ap (λ (r : Result (Unit {0}) DefFault). r >> first_in (row_rules later (each_from (λ d decl. each_place (λ k. needs d k decl.at) decl) (d + 1) xs))) own.holds
-            ∙ ap (λ (q : Result (Unit {0}) DefFault). for_each (λ k _. is_defined_at known (first_of ds d + k) x.at k) (range_with_len 0 (element_count x.dims)) tt >> q) rest.holds
+        holds = ap (λ (r : Result (Unit {0}) PlacedFault). r >> first_in (row_rules later (each_from (λ d decl. each_place (λ k. needs d k decl.at) decl) (d + 1) xs))) own.holds
+            ∙ ap (λ (q : Result (Unit {0}) PlacedFault). for_each (λ k _. is_defined_at known (first_of ds d + k) x.at k) (range_with_len 0 (element_count x.dims)) tt >> q) rest.holds
             ∙ ap (λ n. for_each (λ k _. is_defined_at known (n + k) x.at k) (range_with_len 0 (element_count x.dims)) tt >> all_defined known (signals_from (m + element_count x.dims) xs)) (sym is)
             ∙ sym (unit_then (for_each (λ k _. is_defined_at known (m + k) x.at k) (range_with_len 0 (element_count x.dims)) tt) _ (for_each (λ s _. are_defined known s) (signals_from (m + element_count x.dims) xs)) refl);
         load = rest.load ∙ own.load;

@@ -14,8 +14,8 @@ use Rattle.silage_meaning.specs.Instances.{Step, turns_of}
 use Rattle.single_def.specs.declared.elements.Instance.{Instance}
 use Rattle.single_def.specs.declared.numbers.Number.{Number}
 use Rattle.single_def.specs.declared.numbers.Number.TheVariants.{Known, Code}
-use Rattle.single_def.specs.declared.fault.DefFault.{DefFault}
-use Rattle.single_def.specs.declared.fault.DefFault.TheVariants.{Index}
+use Rattle.single_def.specs.declared.fault.PlacedFault.{PlacedFault}
+use Rattle.single_def.specs.declared.fault.PlacedFault.TheVariants.{Index}
 use Rattle.single_def.specs.Tables.{counts, Table, rules, mark, in_order, enters, Row, nothing, ◌▹◌, each, Context, after, table_rules}
 use Rattle.single_def.specs.Expansion.{instances_after}
 use Rattle.single_def.specs.ElementRules.{weight, counted, target_table, array_table, initial_table, taker_table, takers, expr_rules, entry, call_table, item_table, items_row, loop_turns, at_least_0, count_up, position_of, manifest_at}
@@ -30,7 +30,7 @@ use Rattle.single_def.proofs.Standing.{FoundStands, Stands, Does, DoesRow, row_e
 use Rattle.single_def.proofs.TargetTables.{acts, acts_then, three_do, four_do, planned_count_does, place_does, array_does, initial_does}
 
 -- what an instance inside the one with this number does is in its table
-abbrev pub Enters : (p : Program) → (number : ℕ) → (inside : (func at : ℕ) → List ℤ → Found → Result Found DefFault) → (table_of : Func → Table) → Type 0
+abbrev pub Enters : (p : Program) → (number : ℕ) → (inside : (func at : ℕ) → List ℤ → Found → Result Found PlacedFault) → (table_of : Func → Table) → Type 0
 Enters p number inside table_of =
     (g : Func) (name : List ℕ) → function_named p name ≡ Some g → (step : Step) (context : Context) (front : List Instance) (found : Found) → FoundStands p context front found
     → Matches (FoundStands p (after context (enters (position_of p name) step (table_of g))) (instances_after number front (enters (position_of p name) step (table_of g))))
@@ -43,9 +43,9 @@ none_up first last e = by (last -ℤ first +ℤ pos 1) refl
     by (negsuc n) is = refl
     by (pos n) is = grind (arith, ints)
 
-module _ (p : Program) (f : Func) (number : ℕ) (inside : (func at : ℕ) → List ℤ → Found → Result Found DefFault) where
+module _ (p : Program) (f : Func) (number : ℕ) (inside : (func at : ℕ) → List ℤ → Found → Result Found PlacedFault) where
   module _ (indices : Indices) where
-    abbrev does : List Action → State → Result State DefFault
+    abbrev does : List Action → State → Result State PlacedFault
     does xs s = acts p (decls f) number inside indices xs s
 
     abbrev IsNamed : Option (ℕ × Decl) → Type 0
@@ -103,7 +103,7 @@ module _ (p : Program) (f : Func) (number : ℕ) (inside : (func at : ℕ) → L
           (λ found more. record { known = record { defined = λ d k is. h.known.defined d k is; presets = λ d k t is. h.known.presets d k t is }; found = more })
 
       module _ (indices : Indices) where
-        abbrev acts_of : List Action → State → Result State DefFault
+        abbrev acts_of : List Action → State → Result State PlacedFault
         acts_of xs s = acts p (decls f) number inside indices xs s
 
         abbrev callee : List ℕ → Option Func → Option (ℕ × Func)
@@ -138,7 +138,7 @@ module _ (p : Program) (f : Func) (number : ℕ) (inside : (func at : ℕ) → L
             (λ s h. acts_then p (decls f) number inside indices passed passed_front load_table made_row load made s
             (planned_count_does p (decls f) number inside indices (sum_by weight args) at passed passed_front s h)
             (λ s h. row_last p (decls f) number loaded loaded_front made_table (acts_of made s)
-            (subst (λ (r : Result State DefFault). Does p (decls f) number loaded loaded_front made_table r) (sym (walk-one inside (values_of indices) (enter (position_of p name) at) s))
+            (subst (λ (r : Result State PlacedFault). Does p (decls f) number loaded loaded_front made_table r) (sym (walk-one inside (values_of indices) (enter (position_of p name) at) s))
             (enter_does g name named (record { at = at; turns = turns_of indices }) loaded loaded_front s h))))))
 
       -- Loops.
@@ -152,7 +152,7 @@ module _ (p : Program) (f : Func) (number : ℕ) (inside : (func at : ℕ) → L
         abbrev turn_actions : Actions
         turn_actions = actions_of (planned_items p f (names_of indices ++ index ∷ []) items)
 
-        abbrev walk_turn : ℤ → State → Result State DefFault
+        abbrev walk_turn : ℤ → State → Result State PlacedFault
         walk_turn turn s = in_found s (count_in 1 at) >>= run_actions inside (values_of indices ++ turn ∷ []) turn_actions
 
         module _ (items_do : (turn : ℤ) (context : Context) (front : List Instance) (s : State) → Stands p (decls f) context front s
@@ -200,7 +200,7 @@ module _ (p : Program) (f : Func) (number : ℕ) (inside : (func at : ℕ) → L
                     (acts_of indices (cond b [] (repeat (bound_at (names_of indices) lo) (bound_at (names_of indices) hi) turn_actions at ∷ [])) s)
                 by true empty = rw (← number_is indices lo, ← number_is indices hi) (no_turns (number_of (names_of indices) lo) (number_of (names_of indices) hi) empty context front s h)
                 by false some =
-                    subst (λ (r : Result State DefFault). DoesRow p (decls f) number context front (bounded (manifest_value indices lo) (manifest_value indices hi)) r)
+                    subst (λ (r : Result State PlacedFault). DoesRow p (decls f) number context front (bounded (manifest_value indices lo) (manifest_value indices hi)) r)
                     (sym (walk-one inside (values_of indices) (repeat (bound_at (names_of indices) lo) (bound_at (names_of indices) hi) turn_actions at) s))
                     (rw (number_is indices lo, number_is indices hi) (repeat_does (manifest_value indices lo) (manifest_value indices hi) context front s h))
 

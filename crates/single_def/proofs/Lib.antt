@@ -9,9 +9,12 @@ pub mod ActionRows
 pub mod TreeRows
 pub mod Callees
 pub mod Takers
+pub mod SomeElements
 pub mod Entering
+pub mod GrowingLoads
 pub mod CodeValues
 pub mod SoundNames
+pub mod PlacedFaults
 pub mod ProgramWalks
 pub mod SamePlans
 pub mod Walks
@@ -32,6 +35,7 @@ pub mod NumberedElements
 pub mod DefinitionLists
 pub mod CheckedInstances
 pub mod NamedItems
+pub mod KnownNames
 pub mod ItemDefinitions
 pub mod InputWords
 pub mod SingleDefinitions

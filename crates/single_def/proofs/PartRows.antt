@@ -3,7 +3,7 @@ use Rattle.std.proofs.Common.{◌≡◌, ◌∙◌, ℕ, ℤ, List, Vec, Bor, Re
 use Rattle.std.specs.Global.{Global}
 use mathlib.Core.Former.{Count}
 use Rattle.single_def.specs.declared.actions.Bound.{Bound}
-use Rattle.single_def.specs.declared.fault.DefFault.{DefFault}
+use Rattle.single_def.specs.declared.fault.PlacedFault.{PlacedFault}
 use Rattle.single_def.specs.declared.parts.Part.{Part, Loop, Loop', Row_of-Part, end_of-Part, more_of-Part, items-the_row-Part, items_hidden-the_row-Part-0}
 use Rattle.single_def.specs.Private.Actions.{action, repeat, actions_of, Found, State, run_action, run_loop}
 use Rattle.single_def.specs.Private.Parts.{view_part, view_row, seen}
@@ -22,7 +22,7 @@ view_Loop lo hi v at =
     let same = items_hidden-the_row-Part-0 v in
     ap (λ xs. repeat lo.now hi.now xs at) (row_parts row.0 row.1 ∙ ap (λ xs. actions_of (map view_part xs)) same)
 
-pub part_is : (inside : (func at : ℕ) → List ℤ → Found → Result Found DefFault) (turns : List ℤ) (x : Part) (lo hi : Bor Bound) (v : Vec Part Global) (at : ℕ) → x ≡ Loop lo hi v at
+pub part_is : (inside : (func at : ℕ) → List ℤ → Found → Result Found PlacedFault) (turns : List ℤ) (x : Part) (lo hi : Bor Bound) (v : Vec Part Global) (at : ℕ) → x ≡ Loop lo hi v at
     → (xs : List Part) → xs ≡ v.items → (s : State) → run_action inside turns (view_part x) s ≡ run_loop inside turns lo.now hi.now (actions_of (map view_part xs)) at s
 part_is inside turns x lo hi v at is xs e s =
     ap (λ y. run_action inside turns (view_part y) s) is ∙ ap (λ y. run_action inside turns y s) (view_Loop lo hi v at)

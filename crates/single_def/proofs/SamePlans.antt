@@ -4,14 +4,14 @@ use Rattle.std.specs.List.{All}
 use Rattle.silage_syntax.specs.Tree.{Program}
 use Rattle.single_def.specs.declared.actions.Body.{Body as RustBody}
 use Rattle.single_def.specs.declared.function.Function.{Function}
-use Rattle.single_def.specs.declared.fault.DefFault.{DefFault}
+use Rattle.single_def.specs.declared.fault.PlacedFault.{PlacedFault}
 use Rattle.single_def.specs.ElementRules.{max_nested}
 use Rattle.single_def.specs.Private.Actions.{Body, Instances, Found, view_body, at_first, entered_in, run_body, run_some, run_instance, all_defined, ◌>>=◌}
 use Rattle.single_def.specs.Private.Functions.{view_function, IsLookedAt}
 use Rattle.single_def.specs.Private.Plans.{plan_of, nothing_found, elements_found, run_plan, run_program}
 use Rattle.single_def.proofs.Callees.{plan_is}
 
-then_same : {A B : Type 0} (r : Result A DefFault) (f g : A → Result B DefFault) → ((x : A) → f x ≡ g x) → r >>= f ≡ r >>= g
+then_same : {A B : Type 0} (r : Result A PlacedFault) (f g : A → Result B PlacedFault) → ((x : A) → f x ≡ g x) → r >>= f ≡ r >>= g
 then_same (Ok x) f g e = e x
 then_same (Err e) f g h = refl
 

@@ -10,8 +10,8 @@ use Rattle.ranked_faults.specs.Private.FirstMet.{first, first_in}
 use Rattle.silage_syntax.specs.declared.tree.Decl.{Decl}
 use Rattle.silage_syntax.specs.Tree.{Program}
 use Rattle.single_def.specs.declared.elements.Instance.{Instance}
-use Rattle.single_def.specs.declared.fault.DefFault.{DefFault}
-use Rattle.single_def.specs.declared.fault.DefFault.TheVariants.{DefinedTwice}
+use Rattle.single_def.specs.declared.fault.PlacedFault.{PlacedFault}
+use Rattle.single_def.specs.declared.fault.PlacedFault.TheVariants.{DefinedTwice}
 use Rattle.single_def.specs.Tables.{defines, presets, counts, Table, rules, mark, Row, nothing, ◌▹◌, Context, load_of, is_defined, is_preset, load_before, after, after_row, table_rules, row_rules, max_load}
 use Rattle.single_def.specs.Expansion.{instances_after, row_instances, elements_in}
 use Rattle.single_def.specs.Private.Actions.{Action, Known, Found, State, is_preset as is_preset_of, marked, define_at, preset_at, count_in, in_known, in_found, ◌>>=◌}
@@ -49,33 +49,33 @@ found_counted p context front found h load at = elim (leb_tells (load_before con
 
 module _ (p : Program) (ds : List Decl) (number : ℕ) where
   -- the walk does what is in the table of an instance with this number
-  abbrev pub Does : Context → List Instance → Table → Result State DefFault → Type 0
+  abbrev pub Does : Context → List Instance → Table → Result State PlacedFault → Type 0
   Does context front T walk = Matches (Stands p ds (after context T) (instances_after number front T)) (first (table_rules context T)) walk
 
-  abbrev pub DoesRow : Context → List Instance → Row → Result State DefFault → Type 0
+  abbrev pub DoesRow : Context → List Instance → Row → Result State PlacedFault → Type 0
   DoesRow context front row walk = Matches (Stands p ds (after_row context row) (row_instances number front row)) (first_in (row_rules context row)) walk
 
   pub row_end : (context : Context) (front : List Instance) (s : State) → Stands p ds context front s → DoesRow context front nothing (Ok s)
   row_end context front s h = (s, refl, h)
 
   module _ (context : Context) (front : List Instance) (T : Table) where
-    pub row_then : (row : Row) (walk : Result State DefFault) (more : State → Result State DefFault) → Does context front T walk
+    pub row_then : (row : Row) (walk : Result State PlacedFault) (more : State → Result State PlacedFault) → Does context front T walk
         → ((s : State) → Stands p ds (after context T) (instances_after number front T) s → DoesRow (after context T) (instances_after number front T) row (more s))
         → DoesRow context front (T ▹ row) (walk >>= more)
     row_then row walk more does rest = then_matches (Stands p ds (after context T) (instances_after number front T)) _ (first (table_rules context T)) _ walk more does rest
 
-    pub row_last : (walk : Result State DefFault) → Does context front T walk → DoesRow context front (T ▹ nothing) walk
+    pub row_last : (walk : Result State PlacedFault) → Does context front T walk → DoesRow context front (T ▹ nothing) walk
     row_last walk does =
-        subst (λ (r : Result State DefFault). DoesRow context front (T ▹ nothing) r) (then_end walk)
+        subst (λ (r : Result State PlacedFault). DoesRow context front (T ▹ nothing) r) (then_end walk)
         (row_then nothing walk (λ s. Ok s) does (λ s h. row_end (after context T) (instances_after number front T) s h))
 
-  by_checks : (P : State → Type 0) (r : Result (Unit {0}) DefFault) (s : State) (run : Result State DefFault) → P s → run ≡ (r >>= λ _. Ok s) → Matches P r run
+  by_checks : (P : State → Type 0) (r : Result (Unit {0}) PlacedFault) (s : State) (run : Result State PlacedFault) → P s → run ≡ (r >>= λ _. Ok s) → Matches P r run
   by_checks P (Ok u) s run h e = (s, e, h)
   by_checks P (Err f) s run h e = e
 
   module _ (context : Context) (front : List Instance) (s : State) (h : Stands p ds context front s) where
     -- a table that holds rules alone
-    pub rules_do : (inside : (func at : ℕ) → List ℤ → Found → Result Found DefFault) (turns : List ℤ) (xs : List Action) (R : Rules DefFault)
+    pub rules_do : (inside : (func at : ℕ) → List ℤ → Found → Result Found PlacedFault) (turns : List ℤ) (xs : List Action) (R : Rules PlacedFault)
         → Checks inside turns xs (first R) → Does context front (rules R) (walk inside turns xs s)
     rules_do inside turns xs R checks = by_checks (Stands p ds context front) (first R) s (walk inside turns xs s) h (checks s)
 

@@ -8,8 +8,8 @@ use Rattle.silage_syntax.specs.Tree.{Manifest, Place, Program}
 use Rattle.silage_syntax.specs.Manifests.{Indices, manifest_value}
 use Rattle.silage_syntax.specs.Names.{element_count}
 use Rattle.single_def.specs.declared.elements.Instance.{Instance}
-use Rattle.single_def.specs.declared.fault.DefFault.{DefFault}
-use Rattle.single_def.specs.declared.fault.DefFault.TheVariants.{Delay}
+use Rattle.single_def.specs.declared.fault.PlacedFault.{PlacedFault}
+use Rattle.single_def.specs.declared.fault.PlacedFault.TheVariants.{Delay}
 use Rattle.single_def.specs.Tables.{defines, counts, Table, rules, mark, in_order, Row, nothing, ◌▹◌, each, Context, after}
 use Rattle.single_def.specs.Expansion.{instances_after}
 use Rattle.single_def.specs.ElementRules.{samples, subscript_rules, number_rules, picked, counted, definition, target_table, array_table, initial_value, initial_table}
@@ -23,15 +23,15 @@ use Rattle.single_def.proofs.CheckRules.{subscripts_kept, number_kept}
 use Rattle.single_def.proofs.PickedPlaces.{picked_within, picked_sized, place_is}
 use Rattle.single_def.proofs.Standing.{Stands, Does, DoesRow, row_end, row_then, row_last, rules_do, define_does, preset_does, counted_does}
 
-in_known_then : (s : State) (f g : Known → Result Known DefFault) → in_known s (λ known. f known >>= g) ≡ in_known s f >>= λ s. in_known s g
+in_known_then : (s : State) (f g : Known → Result Known PlacedFault) → in_known s (λ known. f known >>= g) ≡ in_known s f >>= λ s. in_known s g
 in_known_then s f g = by (f s.known)
   where
-    by : (r : Result Known DefFault) → ((r >>= g) >>= λ known. Ok (record s { known = known })) ≡ ((r >>= λ known. Ok (record s { known = known })) >>= λ s. in_known s g)
+    by : (r : Result Known PlacedFault) → ((r >>= g) >>= λ known. Ok (record s { known = known })) ≡ ((r >>= λ known. Ok (record s { known = known })) >>= λ s. in_known s g)
     by (Ok known) = refl
     by (Err e) = refl
 
-module _ (p : Program) (ds : List Decl) (number : ℕ) (inside : (func at : ℕ) → List ℤ → Found → Result Found DefFault) (indices : Indices) where
-  abbrev pub acts : List Action → State → Result State DefFault
+module _ (p : Program) (ds : List Decl) (number : ℕ) (inside : (func at : ℕ) → List ℤ → Found → Result Found PlacedFault) (indices : Indices) where
+  abbrev pub acts : List Action → State → Result State PlacedFault
   acts xs s = walk inside (values_of indices) xs s
 
   -- the actions of a table, and of what stands behind it
@@ -40,7 +40,7 @@ module _ (p : Program) (ds : List Decl) (number : ℕ) (inside : (func at : ℕ)
       → ((s : State) → Stands p ds (after context T) (instances_after number front T) s → DoesRow p ds number (after context T) (instances_after number front T) row (acts ys s))
       → DoesRow p ds number context front (T ▹ row) (acts (xs ++ ys) s)
   acts_then context front T row xs ys s does rest =
-      subst (λ (r : Result State DefFault). DoesRow p ds number context front (T ▹ row) r) (sym (walk-append inside (values_of indices) xs ys s))
+      subst (λ (r : Result State PlacedFault). DoesRow p ds number context front (T ▹ row) r) (sym (walk-append inside (values_of indices) xs ys s))
       (row_then p ds number context front T row (acts xs s) (acts ys) does rest)
 
   pub three_do : (context : Context) (front : List Instance) (row : Row) (xs ys zs : List Action) (s : State)
@@ -54,7 +54,7 @@ module _ (p : Program) (ds : List Decl) (number : ℕ) (inside : (func at : ℕ)
 
   one_does : (at : ℕ) (context : Context) (front : List Instance) (s : State) → Stands p ds context front s → Does p ds number context front (mark (counts 1 at)) (acts (count 1 at ∷ []) s)
   one_does at context front s h =
-      subst (λ (r : Result State DefFault). Does p ds number context front (mark (counts 1 at)) r) (sym (walk-one inside (values_of indices) (count 1 at) s))
+      subst (λ (r : Result State PlacedFault). Does p ds number context front (mark (counts 1 at)) r) (sym (walk-one inside (values_of indices) (count 1 at) s))
       (counted_does p ds number context front s h 1 at)
 
   -- what is added to the load, if anything is
@@ -68,7 +68,7 @@ module _ (p : Program) (ds : List Decl) (number : ℕ) (inside : (func at : ℕ)
       | inl none ↦ absurd (some.1 (omega (arith, none.1)))
       | inr more ↦
           rw (some.0, more.0)
-          (subst (λ (r : Result State DefFault). Does p ds number context front (mark (counts load at)) r) (sym (walk-one inside (values_of indices) (count (capped load) at) s))
+          (subst (λ (r : Result State PlacedFault). Does p ds number context front (mark (counts load at)) r) (sym (walk-one inside (values_of indices) (count (capped load) at) s))
           (counted_does p ds number context front s h load at))
     ]
   ]
@@ -78,7 +78,7 @@ module _ (p : Program) (ds : List Decl) (number : ℕ) (inside : (func at : ℕ)
     abbrev defined_at : ℕ → Table
     defined_at k = mark (defines d k at)
 
-    abbrev define_number : ℕ → Known → Result Known DefFault
+    abbrev define_number : ℕ → Known → Result Known PlacedFault
     define_number k known = define_at k at known
 
     pub each_defined : (n a : ℕ) → ((k : ℕ) → a ≤ k → k < a + n → IsPlace ds d k) → (context : Context) (front : List Instance) (s : State) → Stands p ds context front s
@@ -113,7 +113,7 @@ module _ (p : Program) (ds : List Decl) (number : ℕ) (inside : (func at : ℕ)
           | inl same ↦
               let is = place_is indices decl.dims place.subs same.1 in
               let does = definition_does d place.at decl stands (picked indices decl.dims place.subs) (picked_within indices decl.dims place.subs) context s h in
-              rw same.0 (subst (λ (r : Result State DefFault). Does p ds number context front (definition d (picked indices decl.dims place.subs) place.at) r)
+              rw same.0 (subst (λ (r : Result State PlacedFault). Does p ds number context front (definition d (picked indices decl.dims place.subs) place.at) r)
               (sym (walk-one inside (values_of indices) (define (first_of ds d) (subscripts (names_of indices) decl.dims place.subs) place.at) s))
               (rw is does))
           | inr other ↦
@@ -148,7 +148,7 @@ module _ (p : Program) (ds : List Decl) (number : ℕ) (inside : (func at : ℕ)
             | inl same ↦
                 let is = place_is indices decl.dims place.subs same.1 in
                 let does = value_does place.at (picked indices decl.dims place.subs) (manifest_value indices amount) (picked_within indices decl.dims place.subs) context s h in
-                rw same.0 (subst (λ (r : Result State DefFault). Does p ds number context front the_value r)
+                rw same.0 (subst (λ (r : Result State PlacedFault). Does p ds number context front the_value r)
                 (sym (walk-one inside (values_of indices) (preset (first_of ds d) (subscripts (names_of indices) decl.dims place.subs) (number_of (names_of indices) amount) place.at) s))
                 (rw (is, number_is indices amount) does))
             | inr other ↦
@@ -181,6 +181,6 @@ module _ (p : Program) (ds : List Decl) (number : ℕ) (inside : (func at : ℕ)
         array_does context s h =
             let none : first_of ds d + 0 ≡ first_of ds d = omega arith in
             let does = each_defined d place.at (element_count decl.dims) 0 (λ k least most. record { decl = decl; stands = stands; within = omega arith }) context front s h in
-            subst (λ (r : Result State DefFault). Does p ds number context front (array_table (Some (d, decl)) place) r)
+            subst (λ (r : Result State PlacedFault). Does p ds number context front (array_table (Some (d, decl)) place) r)
             (sym (walk-one inside (values_of indices) (define_all (first_of ds d) (element_count decl.dims) place.at) s))
             (rw none at does)

@@ -10,8 +10,8 @@ use Rattle.name_check.specs.TopNames.{top_names}
 use Rattle.name_check.specs.Private.FirstTops.{IsDistinct}
 use Rattle.single_def.specs.declared.actions.Signal.{Signal}
 use Rattle.single_def.specs.declared.elements.Instance.{Instance}
-use Rattle.single_def.specs.declared.fault.DefFault.{DefFault}
-use Rattle.single_def.specs.declared.fault.DefFault.TheVariants.{TooLarge}
+use Rattle.single_def.specs.declared.fault.PlacedFault.{PlacedFault}
+use Rattle.single_def.specs.declared.fault.PlacedFault.TheVariants.{TooLarge}
 use Rattle.single_def.specs.Tables.{Mark, given, needs, counts, Table, mark, in_order, enters, Row, nothing, ◌▹◌, each_from, Context, at_entry, load_before, after, after_row, table_rules, row_rules, max_load}
 use Rattle.single_def.specs.Expansion.{entered, instances_after, row_instances, elements_in}
 use Rattle.single_def.specs.ElementRules.{each_place, elements_of, items_row, instance_row, instance_table, position_of}
@@ -24,7 +24,7 @@ use Rattle.single_def.proofs.ItemTables.{Enters, items_do}
 use Rattle.single_def.proofs.InstanceTables.{signal_elements-from, elements_in-append, quiet_params, known_begun, all_needed, first_next}
 
 -- a check in front of the end
-ends : {A : Type 0} (P : A → Type 0) (r : Result (Unit {0}) DefFault) (x : A) → P x → Matches P (r >> Ok tt) (r >>= λ _. Ok x)
+ends : {A : Type 0} (P : A → Type 0) (r : Result (Unit {0}) PlacedFault) (x : A) → P x → Matches P (r >> Ok tt) (r >>= λ _. Ok x)
 ends P (Ok u) x h = (x, refl, h)
 ends P (Err e) x h = refl
 
@@ -80,7 +80,7 @@ module _ (p : Program) (apart : IsDistinct (top_names p)) (calls : ℕ)
       abbrev given_first : ℕ
       given_first = capped (elements_of g.params)
 
-      abbrev inner : (func at : ℕ) → List ℤ → Found → Result Found DefFault
+      abbrev inner : (func at : ℕ) → List ℤ → Found → Result Found PlacedFault
       inner = run_instance (plan_of p) calls (length front)
 
       abbrev final : Context
@@ -89,7 +89,7 @@ module _ (p : Program) (apart : IsDistinct (top_names p)) (calls : ℕ)
       abbrev In_end : Found → Type 0
       In_end found = In final (row_instances (length front) (row_instances (length front) (row_instances (length front) (front ++ own ∷ []) given_row) the_items) needs_row) found
 
-      abbrev checked : State → Result Found DefFault
+      abbrev checked : State → Result Found PlacedFault
       checked s = all_defined s.known signals >>= λ _. Ok s.found
 
       all_checked : (now : List Instance) (s : State) → Stands p (decls g) ended now s
@@ -97,7 +97,7 @@ module _ (p : Program) (apart : IsDistinct (top_names p)) (calls : ℕ)
       all_checked now s stands =
           let same : (i : ℕ) → 0 + i ≡ i = λ i. omega arith in
           let needed = all_needed (decls g) s.known 0 0 (decls g) (λ i x e. subst (λ n. slice_get (decls g) n ≡ Some x) (sym (same i)) e) refl (first_next (decls g)) ended stands.known.defined in
-          subst (λ (r : Result (Unit {0}) DefFault). Matches (In final (row_instances (length front) now needs_row)) (r >> Ok tt) (checked s)) (sym needed.holds)
+          subst (λ (r : Result (Unit {0}) PlacedFault). Matches (In final (row_instances (length front) now needs_row)) (r >> Ok tt) (checked s)) (sym needed.holds)
           (ends (In final (row_instances (length front) now needs_row)) (all_defined s.known signals) s.found (record {
             load = stands.found.load ∙ sym needed.load;
             instances = stands.found.instances ∙ sym (needed.instances (length front) now);
@@ -107,7 +107,7 @@ module _ (p : Program) (apart : IsDistinct (top_names p)) (calls : ℕ)
       abbrev begun_state : Found → State
       begun_state counted = record { known = at_first given_first all; found = with_instance func number step.at step.turns signals counted }
 
-      abbrev walk_items : Found → Result Found DefFault
+      abbrev walk_items : Found → Result Found PlacedFault
       walk_items counted = run_actions inner [] (small_body p g all given_first).actions (begun_state counted) >>= checked
 
       after_count : (counted : Found) → In counted_now front counted
@@ -115,7 +115,7 @@ module _ (p : Program) (apart : IsDistinct (top_names p)) (calls : ℕ)
       after_count counted stands =
           let quiet = quiet_params 0 g.params counted_now in
           let now = front ++ own ∷ [] in
-          subst (λ (r : Result (Unit {0}) DefFault). Matches In_end (r >> (first_in (row_rules begun the_items) >> (first_in (row_rules ended needs_row) >> Ok tt))) (walk_items counted)) (sym quiet.holds)
+          subst (λ (r : Result (Unit {0}) PlacedFault). Matches In_end (r >> (first_in (row_rules begun the_items) >> (first_in (row_rules ended needs_row) >> Ok tt))) (walk_items counted)) (sym quiet.holds)
           (subst (λ (now : List Instance). Matches (In final (row_instances (length front) (row_instances (length front) now the_items) needs_row)) (first_in (row_rules begun the_items) >> (first_in (row_rules ended needs_row) >> Ok tt)) (walk_items counted))
           (sym (quiet.instances (length front) now))
           (then_matches (Stands p (decls g) ended (row_instances (length front) now the_items)) (In final (row_instances (length front) (row_instances (length front) now the_items) needs_row))
@@ -124,7 +124,7 @@ module _ (p : Program) (apart : IsDistinct (top_names p)) (calls : ℕ)
           (record { known = known_begun g few marks (elements_of (decls g)); found = entered_stands counted stands }))
           (all_checked (row_instances (length front) now the_items))))
 
-      abbrev body_walk : Result Found DefFault
+      abbrev body_walk : Result Found PlacedFault
       body_walk = run_body (run_instance (plan_of p) calls) (small_body p g all given_first) func number step.at step.turns found
 
       body_is : count_in all g.at found >>= walk_items ≡ body_walk
@@ -134,7 +134,7 @@ module _ (p : Program) (apart : IsDistinct (top_names p)) (calls : ℕ)
 
       pub body_does : Matches In_end (first_in (row_rules (at_entry marks) (instance_row p g (instance_table p calls)))) body_walk
       body_does =
-          subst (λ (r : Result Found DefFault). Matches In_end (first_in (row_rules (at_entry marks) (instance_row p g (instance_table p calls)))) r) body_is
+          subst (λ (r : Result Found PlacedFault). Matches In_end (first_in (row_rules (at_entry marks) (instance_row p g (instance_table p calls)))) r) body_is
           (then_matches (In counted_now front) In_end (first (table_rules (at_entry marks) the_count)) _ (count_in all g.at found) walk_items
           (found_counted p (at_entry marks) front found h (elements_of (decls g)) g.at) after_count)
 
@@ -165,7 +165,7 @@ module _ (p : Program) (apart : IsDistinct (top_names p)) where
       let func = position_of p name in
       let inside = run_instance (plan_of p) calls in
       let stands : FoundStands p (at_entry context.of_program) front found = record { load = h.load; instances = h.instances; elements = h.elements } in
-      subst (λ (r : Result Found DefFault). Matches (FoundStands p (after context (enters func step (instance_table p (suc calls) g))) (instances_after number front (enters func step (instance_table p (suc calls) g))))
+      subst (λ (r : Result Found PlacedFault). Matches (FoundStands p (after context (enters func step (instance_table p (suc calls) g))) (instances_after number front (enters func step (instance_table p (suc calls) g))))
       (first (table_rules (at_entry context.of_program) (instance_table p (suc calls) g))) r)
       (sym (ap (λ o. run_some (suc calls) inside o func number step.at step.turns found) (body_named p name g apart named)))
       (elim (leb_tells (capped (elements_of (decls g))) max_load) [

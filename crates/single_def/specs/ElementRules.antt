@@ -18,8 +18,8 @@ use Rattle.silage_meaning.specs.Instances.{turns_of}
 use Rattle.name_check.specs.TopNames.{top_names}
 use Rattle.single_def.specs.Tables.{Mark, given, defines, presets, needs, counts, at_entry, table_rules}
 use Rattle.single_def.specs.Tables.{Table, rules, mark, in_order, enters, Row, nothing, ◌▹◌, each, each_from}
-use Rattle.single_def.specs.declared.fault.DefFault.{DefFault}
-use Rattle.single_def.specs.declared.fault.DefFault.TheVariants.{Index, Bounds, Delay, Shift, TooLarge}
+use Rattle.single_def.specs.declared.fault.PlacedFault.{PlacedFault}
+use Rattle.single_def.specs.declared.fault.PlacedFault.TheVariants.{Index, Bounds, Delay, Shift, TooLarge}
 
 -- Manifest constants in an item. The indices are those of the loops around it, outermost first, each with its value.
 
@@ -55,18 +55,18 @@ abbrev pub samples : Range
 samples = record { least = pos 1; most = pos max_delay }
 
 -- a manifest constant has a value
-abbrev pub value_rules : Indices → Manifest → Rules DefFault
+abbrev pub value_rules : Indices → Manifest → Rules PlacedFault
 value_rules indices m = unless (is_some (manifest_value indices m)) (Index (manifest_at m))
 
 -- it has a value, and one in the range
-abbrev pub number_rules : Indices → Range → (outside : (at : ℕ) → DefFault) → Manifest → Rules DefFault
+abbrev pub number_rules : Indices → Range → (outside : (at : ℕ) → PlacedFault) → Manifest → Rules PlacedFault
 number_rules indices range outside m = parts (
     value_rules indices m
     ▸ unless (option_map_or (is_in range) (manifest_value indices m) true) (outside (manifest_at m))
     ▸ none)
 
 -- each subscript is below its dim, from left to right
-abbrev pub subscript_rules : Indices → (dims : List ℕ) → (subs : List Manifest) → RuleRow DefFault
+abbrev pub subscript_rules : Indices → (dims : List ℕ) → (subs : List Manifest) → RuleRow PlacedFault
 subscript_rules indices (dim ∷ dims) (sub ∷ subs) =
     number_rules indices (below dim) Bounds sub ▸ subscript_rules indices dims subs
 subscript_rules indices _ _ = none
@@ -86,7 +86,7 @@ picked indices _ _ = None
 
 -- Expressions.
 
-abbrev pub amount_rules : Indices → Range → (delay : Option Manifest) → Rules DefFault
+abbrev pub amount_rules : Indices → Range → (delay : Option Manifest) → Rules PlacedFault
 amount_rules indices range None = parts none
 amount_rules indices range (Some m) = number_rules indices range Delay m
 
@@ -176,14 +176,14 @@ module _ (p : Program) (f : Func) where
       option_or (option_map (λ (d : ℕ × Decl). (d.1.dims, delays)) (declared f name))
       (option_map (λ (c : ConstDef). (c.dims, no_delays)) (table_named p name))
 
-  abbrev pub read_rules : Indices → Option (List ℕ × Range) → Place → (delay : Option Manifest) → Rules DefFault
+  abbrev pub read_rules : Indices → Option (List ℕ × Range) → Place → (delay : Option Manifest) → Rules PlacedFault
   read_rules indices None place delay = parts none
   read_rules indices (Some r) place delay =
       parts (parts (subscript_rules indices r.0 place.subs) ▸ amount_rules indices r.1 delay ▸ none)
 
   -- the subscripts, delays and shifts of an expression, from left to right
   abbrev mutual
-    pub expr_rules : Indices → Expr → Rules DefFault
+    pub expr_rules : Indices → Expr → Rules PlacedFault
     expr_rules indices (literal l) = parts none
     expr_rules indices (read place delay) = read_rules indices (readable place.name) place delay
     expr_rules indices (negate at x) = expr_rules indices x
@@ -195,7 +195,7 @@ module _ (p : Program) (f : Func) where
     expr_rules indices (choose at branches last) =
         parts (parts (branch_rules indices branches) ▸ expr_rules indices last ▸ none)
 
-    pub branch_rules : Indices → Branches → RuleRow DefFault
+    pub branch_rules : Indices → Branches → RuleRow PlacedFault
     branch_rules indices no_branch = none
     branch_rules indices (branch condition x rest) =
         parts (expr_rules indices condition ▸ expr_rules indices x ▸ none) ▸ branch_rules indices rest
@@ -264,7 +264,7 @@ instance_table p zero f = rules (unless false (TooLarge f.at))
 instance_table p (suc calls) f = in_order (instance_row p f (instance_table p calls))
 
 -- main has at most 16 input words, and as many output words
-abbrev pub word_rules : Func → Rules DefFault
+abbrev pub word_rules : Func → Rules PlacedFault
 word_rules f = unless (nat_le (elements_of f.params) 16 && nat_le (elements_of f.results) 16) (TooLarge f.at)
 
 -- an instance is inside 64 calls at most, so at most this many instances are each inside the one before
@@ -282,5 +282,5 @@ abbrev pub program_table : Program → Table
 program_table p = main_table p (main_of p)
 
 -- the rules on the elements of a program
-abbrev pub element_rules : Program → Rules DefFault
+abbrev pub element_rules : Program → Rules PlacedFault
 element_rules p = table_rules (at_entry []) (program_table p)

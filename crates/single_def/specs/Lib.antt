@@ -1,3 +1,4 @@
+pub mod Signatures
 pub mod Tables
 pub mod ElementRules
 pub mod ElementFaults

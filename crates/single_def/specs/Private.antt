@@ -8,3 +8,4 @@ pub mod Functions
 pub mod States
 pub mod Plans
 pub mod Scopes
+pub mod Names

@@ -4,8 +4,8 @@ use Rattle.std.specs.Prelude.{ℕ, ◌+◌, ◌&&◌, not, Bool, false, List, []
 use Rattle.std.specs.List.{list_any}
 use Rattle.ranked_faults.specs.Rules.{Rules, RuleRow, parts, none, ◌▸◌, unless}
 use Rattle.silage_meaning.specs.Instances.{Step}
-use Rattle.single_def.specs.declared.fault.DefFault.{DefFault}
-use Rattle.single_def.specs.declared.fault.DefFault.TheVariants.{DefinedTwice, NotDefined, TooLarge}
+use Rattle.single_def.specs.declared.fault.PlacedFault.{PlacedFault}
+use Rattle.single_def.specs.declared.fault.PlacedFault.TheVariants.{DefinedTwice, NotDefined, TooLarge}
 
 -- the most load of a program
 abbrev pub max_load : ℕ
@@ -27,7 +27,7 @@ pub data Mark : Type 0 where
 mutual
   pub data Table : Type 0 where
     -- rules that depend on nothing else in the table
-    rules : Rules DefFault → Table
+    rules : Rules PlacedFault → Table
     mark : Mark → Table
     in_order : Row → Table
     -- an instance of the function at this position among the tops, made by this step
@@ -82,7 +82,7 @@ abbrev pub load_before : Context → ℕ
 load_before context = sum_by load_of context.of_program
 
 -- an element is defined once, has one initial value for a sample, and the load is at most 8,192
-abbrev pub mark_rules : Context → Mark → Rules DefFault
+abbrev pub mark_rules : Context → Mark → Rules PlacedFault
 mark_rules context (given d k) = parts none
 mark_rules context (defines d k at) = unless (not (is_defined context d k)) (DefinedTwice at)
 mark_rules context (presets d k s at) = unless (not (is_preset context d k s)) (DefinedTwice at)
@@ -104,12 +104,12 @@ abbrev mutual
 
 -- the rules of a table, each mark with what comes before it
 abbrev mutual
-  pub table_rules : Context → Table → Rules DefFault
+  pub table_rules : Context → Table → Rules PlacedFault
   table_rules context (rules R) = R
   table_rules context (mark m) = mark_rules context m
   table_rules context (in_order row) = parts (row_rules context row)
   table_rules context (enters func step table) = table_rules (at_entry context.of_program) table
 
-  pub row_rules : Context → Row → RuleRow DefFault
+  pub row_rules : Context → Row → RuleRow PlacedFault
   row_rules context nothing = none
   row_rules context (x ▹ row) = table_rules context x ▸ row_rules (after context x) row

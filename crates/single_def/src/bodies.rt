@@ -1,6 +1,6 @@
 //! The functions of a program, each as what its instances do.
 
-ghost use Rattle.std.specs.Prelude.{◌≡◌, ◌+◌, ◌++◌, ◌≤◌, [], map, IfOk, OnOk};
+ghost use Rattle.std.specs.Prelude.{◌≡◌, ◌+◌, ◌++◌, ◌≤◌, [], All, map, length, IfOk, OnOk};
 ghost use Rattle.silage_syntax.specs.Tree.{view, view_func, view_top};
 ghost use Rattle.silage_syntax.specs.Names as meaning;
 ghost use Rattle.name_check.specs.TopNames.{top_names};
@@ -8,7 +8,9 @@ ghost use Rattle.name_check.specs.Private.FirstTops.{IsDistinct};
 ghost use Rattle.single_def.specs.ElementRules.{elements_of};
 ghost use Rattle.single_def.specs.Private.Actions.{view_body};
 ghost use Rattle.single_def.specs.Private.Plans as plan;
-ghost use Rattle.single_def.specs.Private.Plans.{AreSized, AreAllSized, IsTopSized};
+ghost use Rattle.single_def.specs.Signatures.{HaveResults};
+ghost use Rattle.single_def.specs.Private.Plans.{AreSized, AreAllSized, IsTopSized, HasResult};
+ghost use Rattle.single_def.specs.Private.Names.{HaveNames, HasTopNames};
 ghost use Rattle.single_def.specs.Private.Plans.{capped, signals_from, body_of, plan_of};
 
 use crate::actions::{Body, Signal};
@@ -88,7 +90,7 @@ fn signals(alloc: Global, func: &Func) -> Result<List<Signal>, AllocError>
     Ok(signals)
 }
 
-/// What instances of a function do that has no more than 8,192 elements.
+/// What instances of a function do that has no more than 8,192 elements, and one or more.
 fn small_body(
     alloc: Global,
     program: &Program,
@@ -101,6 +103,8 @@ fn small_body(
     requires apart { IsDistinct (top_names (view program.now)) }
     requires sized { AreSized (meaning.decls (view_func func.now)) }
     requires few { elements_of (meaning.decls (view_func func.now)) ≤ 8192 }
+    requires some { 1 ≤ count }
+    requires names { HaveNames (view program.now) (view_func func.now) (view_func func.now).items }
     ensures { IfOk result (λ body. view_body body
         ≡ plan.small_body (view program.now) (view_func func.now) count given) }
 {
@@ -129,6 +133,8 @@ fn body(alloc: Global, program: &Program, names: &NameMap, func: &Func) -> Resul
     requires named { names.now ≡ top_names (view program.now) }
     requires apart { IsDistinct (top_names (view program.now)) }
     requires sized { AreSized (meaning.decls (view_func func.now)) }
+    requires results { 1 ≤ length (view_func func.now).results }
+    requires names { HaveNames (view program.now) (view_func func.now) (view_func func.now).items }
     ensures { IfOk result (λ body. view_body body ≡ body_of (view program.now) (view_func func.now)) }
 {
     let given = count(&func.params);
@@ -154,12 +160,15 @@ fn top_body(
     requires named { names.now ≡ top_names (view program.now) }
     requires apart { IsDistinct (top_names (view program.now)) }
     requires sized { IsTopSized (view_top top.now) }
+    requires result { HasResult (view_top top.now) }
+    requires names { HasTopNames (view program.now) (view_top top.now) }
     ensures { IfOk result (λ body. view_body body ≡ plan.top_body (view program.now) (view_top top.now)) }
 {
     match top {
+        // No call names a table.
         Top::Const(_) => Ok(Body {
             at: 0,
-            count: 0,
+            count: 1,
             given: 0,
             signals: List::new(alloc),
             actions: Vec::new(alloc),
@@ -177,6 +186,8 @@ pub(crate) fn bodies(
     requires named { names.now ≡ top_names (view program.now) }
     requires apart { IsDistinct (top_names (view program.now)) }
     requires sized { AreAllSized (view program.now) }
+    requires results { HaveResults (view program.now) }
+    requires names { All (HasTopNames (view program.now)) (view program.now).tops }
     ensures { IfOk result (λ bodies. map view_body bodies.items ≡ plan_of (view program.now)) }
 {
     let mut bodies = Vec::with_capacity(alloc, program.tops.len())?;

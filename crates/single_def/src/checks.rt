@@ -4,16 +4,20 @@ ghost use Rattle.std.specs.Prelude.{◌≡◌, ◌-◌, ◌<◌, ◌^◌, IfOk, 
 ghost use Rattle.single_def.specs.Private.Actions as run;
 ghost use Rattle.single_def.specs.Private.Actions.{Gives, GivesValue, check_of, place_of, bound_of};
 
-use crate::DefFault;
+use crate::PlacedFault;
 use crate::actions::{Bound, Check, Subscript};
 use std::alloc::AllocError;
 
 /// The value of a check's number is there and in its range.
-pub(crate) fn run_check(check: &Check, turns: &[i32], stack: &mut Vec<i32>) -> Result<(), DefFault>
+pub(crate) fn run_check(
+    check: &Check,
+    turns: &[i32],
+    stack: &mut Vec<i32>,
+) -> Result<(), PlacedFault>
     ensures { Gives tt result (check_of turns.now check.now) }
 {
     match check.number.value(turns, stack)? {
-        None => Err(DefFault::Index(check.at)),
+        None => Err(PlacedFault::Index(check.at)),
         Some(value) => {
             let value = i64::from(value);
             if check.least <= value && value <= check.most {
@@ -64,11 +68,11 @@ pub(crate) fn place(
     }
 }
 
-pub(crate) fn bound(bound: &Bound, turns: &[i32], stack: &mut Vec<i32>) -> Result<i32, DefFault>
+pub(crate) fn bound(bound: &Bound, turns: &[i32], stack: &mut Vec<i32>) -> Result<i32, PlacedFault>
     ensures { run.GivesValue result (bound_of turns.now bound.now) }
 {
     match bound.number.value(turns, stack)? {
-        None => Err(DefFault::Index(bound.at)),
+        None => Err(PlacedFault::Index(bound.at)),
         Some(value) => Ok(value),
     }
 }

@@ -24,9 +24,9 @@ pub enum DefFault {
     /// A second definition of an element, or a second initial value for one sample.
     #[error("defined twice")]
     DefinedTwice(u32),
-    /// An element without a definition: the position of its declaration, and its row-major place in that.
+    /// An element without a definition: the position of its declaration.
     #[error("not defined")]
-    NotDefined { at: u32, place: u32 },
+    NotDefined(u32),
     /// A load above 8,192, an instance inside 65 calls, or more than 16 input or output words.
     #[error("too large")]
     TooLarge(u32),
@@ -35,22 +35,62 @@ pub enum DefFault {
     Memory,
 }
 
-impl<T: Drop> From<AllocFailed<T>> for DefFault {
-    ghost use Rattle.single_def.specs.declared.fault.DefFault.TheVariants.{Memory};
+/// The same, where an element without a definition has its row-major place in its declaration besides.
+#[derive(Debug, Clone, Copy, PartialEq, Eq, Drop, Error)]
+pub enum PlacedFault {
+    #[error("bad index")]
+    Index(u32),
+    #[error("out of bounds")]
+    Bounds(u32),
+    #[error("bad delay")]
+    Delay(u32),
+    #[error("bad shift")]
+    Shift(u32),
+    #[error("defined twice")]
+    DefinedTwice(u32),
+    #[error("not defined")]
+    NotDefined { at: u32, place: u32 },
+    #[error("too large")]
+    TooLarge(u32),
+    #[error("no memory")]
+    Memory,
+}
 
-    ghost from_gives = { λ _ fault. fault ≡ Memory };
+impl From<PlacedFault> for DefFault {
+    ghost use Rattle.single_def.specs.ElementFaults.{without_place};
 
-    fn from(_: AllocFailed<T>) -> DefFault {
-        DefFault::Memory
+    ghost from_gives = { λ placed fault. fault ≡ without_place placed };
+
+    fn from(placed: PlacedFault) -> DefFault {
+        match placed {
+            PlacedFault::Index(at) => DefFault::Index(at),
+            PlacedFault::Bounds(at) => DefFault::Bounds(at),
+            PlacedFault::Delay(at) => DefFault::Delay(at),
+            PlacedFault::Shift(at) => DefFault::Shift(at),
+            PlacedFault::DefinedTwice(at) => DefFault::DefinedTwice(at),
+            PlacedFault::NotDefined { at, .. } => DefFault::NotDefined(at),
+            PlacedFault::TooLarge(at) => DefFault::TooLarge(at),
+            PlacedFault::Memory => DefFault::Memory,
+        }
     }
 }
 
-impl From<AllocError> for DefFault {
-    ghost use Rattle.single_def.specs.declared.fault.DefFault.TheVariants.{Memory};
+impl<T: Drop> From<AllocFailed<T>> for PlacedFault {
+    ghost use Rattle.single_def.specs.declared.fault.PlacedFault.TheVariants.{Memory};
 
     ghost from_gives = { λ _ fault. fault ≡ Memory };
 
-    fn from(_: AllocError) -> DefFault {
-        DefFault::Memory
+    fn from(_: AllocFailed<T>) -> PlacedFault {
+        PlacedFault::Memory
+    }
+}
+
+impl From<AllocError> for PlacedFault {
+    ghost use Rattle.single_def.specs.declared.fault.PlacedFault.TheVariants.{Memory};
+
+    ghost from_gives = { λ _ fault. fault ≡ Memory };
+
+    fn from(_: AllocError) -> PlacedFault {
+        PlacedFault::Memory
     }
 }

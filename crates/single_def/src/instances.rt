@@ -10,12 +10,13 @@ ghost use Rattle.single_def.specs.Private.States.{found_of, state_of, made_in};
 use crate::actions::{Action, Bound};
 use crate::blocks::{Block, block_at};
 use crate::checks::{bound, place, run_check};
-use crate::found::{Found, count, enter_instance};
+use crate::entries::{count, enter_instance};
+use crate::found::Found;
 use crate::function::Function;
 use crate::known::{Known, check_all_defined, define_all, define_place, preset_place};
 use crate::parts::Part;
 use crate::turns::{turn_at, turn_count};
-use crate::{DefFault, Instance};
+use crate::{Instance, PlacedFault};
 use lists::List;
 use std::alloc::{AllocError, Global};
 
@@ -43,17 +44,15 @@ fn with_turn(alloc: Global, outer: &[i32], turn: i32) -> Result<List<i32>, Alloc
     Ok(turns)
 }
 
-/// An action in these turns of the loops around it. Calls and loops nest no deeper than `depth`: a deeper program has
-/// no room in memory.
+/// An action in these turns of the loops around it.
 #[cycle(instances)]
 fn run_action(
     inside: Inside,
-    depth: u32,
     turns: &[i32],
     action: &Action,
     known: &mut Known,
     found: &mut Found,
-) -> Result<(), DefFault>
+) -> Result<(), PlacedFault>
     ensures { Gives (state_of known.new found.new) result
         (run.run_action (made_in inside.entry) turns.now (view_action action.now) (state_of known.old found.old)) }
 {
@@ -75,18 +74,13 @@ fn run_action(
             preset_place(known, *first, place, sample, *at)
         }
         Action::Count { load, at } => count(found, *load, *at),
-        Action::Enter { func, at } => {
-            if depth == 0 {
-                return Err(DefFault::Memory);
-            }
-            enter(inside, depth - 1, *func, *at, turns, found)
-        }
+        Action::Enter { func, at } => enter(inside, *func, *at, turns, found),
         Action::Repeat {
             lo,
             hi,
             actions,
             at,
-        } => run_loop(inside, depth, turns, lo, hi, actions, *at, known, found),
+        } => run_loop(inside, turns, lo, hi, actions, *at, known, found),
     }
 }
 
@@ -94,19 +88,18 @@ fn run_action(
 #[cycle(instances)]
 fn run_part(
     inside: Inside,
-    depth: u32,
     turns: &[i32],
     part: &Part,
     known: &mut Known,
     found: &mut Found,
-) -> Result<(), DefFault>
+) -> Result<(), PlacedFault>
     ensures { Gives (state_of known.new found.new) result
         (run.run_action (made_in inside.entry) turns.now (view_part part.now) (state_of known.old found.old)) }
 {
     match part {
-        Part::Whole(action) => run_action(inside, depth, turns, action, known, found),
+        Part::Whole(action) => run_action(inside, turns, action, known, found),
         Part::Loop { lo, hi, parts, at } => {
-            run_part_loop(inside, depth, turns, lo, hi, parts, *at, known, found)
+            run_part_loop(inside, turns, lo, hi, parts, *at, known, found)
         }
     }
 }
@@ -114,18 +107,17 @@ fn run_part(
 #[cycle(instances)]
 fn run_parts(
     inside: Inside,
-    depth: u32,
     turns: &[i32],
     parts: &[Part],
     known: &mut Known,
     found: &mut Found,
-) -> Result<(), DefFault>
+) -> Result<(), PlacedFault>
     ensures { Gives (state_of known.new found.new) result
         (run.run_actions (made_in inside.entry) turns.now (actions_of (map view_part parts.now))
         (state_of known.old found.old)) }
 {
     for part in parts {
-        run_part(inside, depth, turns, part, known, found)?;
+        run_part(inside, turns, part, known, found)?;
     }
     Ok(())
 }
@@ -134,31 +126,26 @@ fn run_parts(
 #[cycle(instances)]
 fn run_turn(
     inside: Inside,
-    depth: u32,
     outer: &[i32],
     turn: i32,
     parts: &[Part],
     at: u32,
     known: &mut Known,
     found: &mut Found,
-) -> Result<(), DefFault>
+) -> Result<(), PlacedFault>
     ensures { Gives (state_of known.new found.new) result
         (run.run_turn (made_in inside.entry) outer.now (actions_of (map view_part parts.now)) at turn
         (state_of known.old found.old)) }
 {
-    if depth == 0 {
-        return Err(DefFault::Memory);
-    }
     count(found, 1, at)?;
     let turns = with_turn(inside.alloc, outer, turn)?;
-    run_parts(inside, depth - 1, &turns, parts, known, found)
+    run_parts(inside, &turns, parts, known, found)
 }
 
 /// What is done in each turn of a loop with these bounds.
 #[cycle(instances)]
 fn run_part_turns(
     inside: Inside,
-    depth: u32,
     outer: &[i32],
     first: i32,
     last: i32,
@@ -166,14 +153,14 @@ fn run_part_turns(
     at: u32,
     known: &mut Known,
     found: &mut Found,
-) -> Result<(), DefFault>
+) -> Result<(), PlacedFault>
     ensures { Gives (state_of known.new found.new) result
         (run.run_turns (made_in inside.entry) outer.now (actions_of (map view_part parts.now)) at first last
         (state_of known.old found.old)) }
 {
     for k in 0..turn_count(first, last) {
         let turn = turn_at(first, last, k);
-        run_turn(inside, depth, outer, turn, parts, at, known, found)?;
+        run_turn(inside, outer, turn, parts, at, known, found)?;
     }
     Ok(())
 }
@@ -181,7 +168,6 @@ fn run_part_turns(
 #[cycle(instances)]
 fn run_part_loop(
     inside: Inside,
-    depth: u32,
     outer: &[i32],
     lo: &Bound,
     hi: &Bound,
@@ -189,21 +175,20 @@ fn run_part_loop(
     at: u32,
     known: &mut Known,
     found: &mut Found,
-) -> Result<(), DefFault>
+) -> Result<(), PlacedFault>
     ensures { Gives (state_of known.new found.new) result
         (run.run_loop (made_in inside.entry) outer.now lo.now hi.now (actions_of (map view_part parts.now)) at
         (state_of known.old found.old)) }
 {
     let first = bound(lo, outer, &mut found.stack)?;
     let last = bound(hi, outer, &mut found.stack)?;
-    run_part_turns(inside, depth, outer, first, last, parts, at, known, found)
+    run_part_turns(inside, outer, first, last, parts, at, known, found)
 }
 
 /// Actions in each turn of a loop with these bounds.
 #[cycle(instances)]
 fn run_turns(
     inside: Inside,
-    depth: u32,
     outer: &[i32],
     first: i32,
     last: i32,
@@ -211,7 +196,7 @@ fn run_turns(
     at: u32,
     known: &mut Known,
     found: &mut Found,
-) -> Result<(), DefFault>
+) -> Result<(), PlacedFault>
     ensures { Gives (state_of known.new found.new) result
         (run.run_turns (made_in inside.entry) outer.now (view_actions actions.now) at first last
         (state_of known.old found.old)) }
@@ -229,7 +214,7 @@ fn run_turns(
             actions,
             &mut found.look,
         )?;
-        run_turn(inside, depth, outer, turn, &block.parts, at, known, found)?;
+        run_turn(inside, outer, turn, &block.parts, at, known, found)?;
     }
     Ok(())
 }
@@ -237,7 +222,6 @@ fn run_turns(
 #[cycle(instances)]
 fn run_loop(
     inside: Inside,
-    depth: u32,
     outer: &[i32],
     lo: &Bound,
     hi: &Bound,
@@ -245,25 +229,24 @@ fn run_loop(
     at: u32,
     known: &mut Known,
     found: &mut Found,
-) -> Result<(), DefFault>
+) -> Result<(), PlacedFault>
     ensures { Gives (state_of known.new found.new) result
         (run.run_loop (made_in inside.entry) outer.now lo.now hi.now (view_actions actions.now) at
         (state_of known.old found.old)) }
 {
     let first = bound(lo, outer, &mut found.stack)?;
     let last = bound(hi, outer, &mut found.stack)?;
-    run_turns(inside, depth, outer, first, last, actions, at, known, found)
+    run_turns(inside, outer, first, last, actions, at, known, found)
 }
 
 /// An instance that a call makes.
 #[cycle(instances)]
 fn run_body(
     inside: Inside,
-    depth: u32,
     function: &Function,
     instance: Instance,
     found: &mut Found,
-) -> Result<(), DefFault>
+) -> Result<(), PlacedFault>
     ensures { Gives (found_of found.new) result
         (run.run_body (run_instance (map view_function inside.entry.plan.now) inside.entry.calls)
         (view_function function.now) instance.func instance.parent instance.site instance.turns (found_of found.old)) }
@@ -277,7 +260,7 @@ fn run_body(
         number,
     };
     let mut known = Known::at_first(inside.alloc, body.given, body.count)?;
-    run_parts(within, depth, &[], &function.parts, &mut known, found)?;
+    run_parts(within, &[], &function.parts, &mut known, found)?;
     check_all_defined(&known, &body.signals)
 }
 
@@ -285,12 +268,11 @@ fn run_body(
 #[cycle(instances)]
 pub(crate) fn enter(
     inside: Inside,
-    depth: u32,
     func: u32,
     site: u32,
     turns: &[i32],
     found: &mut Found,
-) -> Result<(), DefFault>
+) -> Result<(), PlacedFault>
     ensures { Gives (found_of found.new) result (made_in inside.entry func site turns.now (found_of found.old)) }
 {
     let function = match function_at(inside.plan, func) {
@@ -298,7 +280,7 @@ pub(crate) fn enter(
         Some(function) => function,
     };
     if inside.calls == 0 {
-        return Err(DefFault::TooLarge(function.body.at));
+        return Err(PlacedFault::TooLarge(function.body.at));
     }
     let instance = Instance {
         func,
@@ -312,5 +294,5 @@ pub(crate) fn enter(
         calls: inside.calls - 1,
         number: inside.number,
     };
-    run_body(within, depth, function, instance, found)
+    run_body(within, function, instance, found)
 }

@@ -1,6 +1,6 @@
 //! Items as actions.
 
-ghost use Rattle.std.specs.Prelude.{◌≡◌, ◌++◌, [], ◌∷◌, IsTrue, IfOk, OnOk, map};
+ghost use Rattle.std.specs.Prelude.{◌≡◌, ◌++◌, [], ◌∷◌, All, IsTrue, IfOk, OnOk, map, length};
 ghost use Rattle.silage_syntax.specs.Tree.{view_manifest, view_place, view_expr, view_item, view_items};
 ghost use Rattle.name_check.specs.Meanings.{are_dims};
 ghost use Rattle.single_def.specs.Private.Actions as run;
@@ -8,8 +8,9 @@ ghost use Rattle.single_def.specs.Private.Actions.{view_action};
 ghost use Rattle.single_def.specs.Private.Plans as plan;
 ghost use Rattle.single_def.specs.Private.Plans.{viewed, planned_item, planned_items};
 ghost use Rattle.single_def.specs.Private.Scopes.{program_of, function_of, located_in};
+ghost use Rattle.single_def.specs.Private.Names.{IsElementOf, IsCallee, HasReads, HasNames, HaveNames};
 
-use crate::DefFault;
+use crate::PlacedFault;
 use crate::actions::{Action, Bound};
 use crate::lookups::{MAX_DELAY, function, located};
 use crate::numbers::Number;
@@ -36,15 +37,14 @@ fn put_call(
     at: u32,
     actions: &mut Vec<Action>,
 ) -> Result<(), AllocError>
+    requires callee { IsCallee (program_of scope.now) (function_of scope.now) func.now (map view_place places.now) }
+    requires reads { All (HasReads (program_of scope.now) (function_of scope.now)) (map view_expr args.now) }
     ensures { OnOk result (viewed actions.new ≡ viewed actions.old
         ++ plan.planned_call (program_of scope.now) (function_of scope.now) loops.now
         (plan.callee_of (program_of scope.now) func.now) (map view_place places.now) (map view_expr args.now)
         at) }
 {
-    let (position, callee) = match function(scope, func) {
-        None => return Ok(()),
-        Some(callee) => callee,
-    };
+    let (position, callee) = function(scope, func);
     put_takers(scope, loops, &callee.results, places, actions)?;
     put_args(scope, loops, args, actions)?;
     put_count(args_weight(args), at, actions)?;
@@ -61,13 +61,11 @@ fn put_value(
     k: &Manifest,
     actions: &mut Vec<Action>,
 ) -> Result<(), AllocError>
-    requires { IsTrue (are_dims dims.now) }
+    requires sized { IsTrue (are_dims dims.now) }
+    requires element { length dims.now ≡ length (view_place place.now).subs }
     ensures { OnOk result (viewed actions.new ≡ viewed actions.old
         ++ plan.planned_value loops.now first dims.now (view_place place.now) (view_manifest k.now)) }
 {
-    if dims.len() != place.subs.len() {
-        return Ok(());
-    }
     let preset = Action::Preset {
         first,
         subs: subscripts(scope.alloc, loops, dims, &place.subs)?,
@@ -84,14 +82,12 @@ fn put_initial(
     k: &Manifest,
     actions: &mut Vec<Action>,
 ) -> Result<(), AllocError>
+    requires element { IsElementOf (function_of scope.now) (view_place place.now) }
     ensures { OnOk result (viewed actions.new ≡ viewed actions.old
         ++ plan.planned_initial loops.now (located_in scope.now place.now.name) (view_place place.now)
         (view_manifest k.now)) }
 {
-    let (first, decl) = match located(scope, &place.name) {
-        None => return Ok(()),
-        Some(signal) => signal,
-    };
+    let (first, decl) = located(scope, &place.name);
     put_subscripts(scope.alloc, loops, &decl.dims, &place.subs, actions)?;
     put_number(
         scope.alloc,
@@ -99,7 +95,7 @@ fn put_initial(
         k,
         MIN_SAMPLE,
         MAX_DELAY,
-        DefFault::Delay(manifest_at(k)),
+        PlacedFault::Delay(manifest_at(k)),
         actions,
     )?;
     put_value(scope, loops, first, &decl.dims, place, k, actions)?;
@@ -170,13 +166,13 @@ fn with_loop(loops: &[Name], index: &Name, scope: &Scope) -> Result<Vec<Name>, A
     Ok(inner)
 }
 
-#[cycle(items)]
 fn put_item(
     scope: &Scope,
     loops: &[Name],
     item: &Item,
     actions: &mut Vec<Action>,
 ) -> Result<(), AllocError>
+    requires names { HasNames (program_of scope.now) (function_of scope.now) (view_item item.now) }
     ensures { OnOk result (viewed actions.new ≡ viewed actions.old
         ++ planned_item (program_of scope.now) (function_of scope.now) loops.now (view_item item.now)) }
 {
@@ -202,21 +198,24 @@ fn put_item(
             let lo = bound(scope, loops, lo)?;
             let hi = bound(scope, loops, hi)?;
             let loops = with_loop(loops, index, scope)?;
+            let items = items.as_slice();
             let mut inner = Vec::with_capacity(scope.alloc, items.len())?;
-            put_items(scope, &loops, items, &mut inner)?;
+            for item in items {
+                put_item(scope, &loops, item, &mut inner)?;
+            }
             put_loop(lo, hi, inner, *at, actions)
         }
         Item::Initial { place, k, value: _ } => put_initial(scope, loops, place, k, actions),
     }
 }
 
-#[cycle(items)]
 pub(crate) fn put_items(
     scope: &Scope,
     loops: &[Name],
     items: &[Item],
     actions: &mut Vec<Action>,
 ) -> Result<(), AllocError>
+    requires names { HaveNames (program_of scope.now) (function_of scope.now) (view_items items.now) }
     ensures { OnOk result (viewed actions.new ≡ viewed actions.old
         ++ planned_items (program_of scope.now) (function_of scope.now) loops.now (view_items items.now)) }
 {

@@ -5,7 +5,7 @@ ghost use Rattle.single_def.specs.Private.Actions as run;
 ghost use Rattle.single_def.specs.Private.Actions.{Gives, are_defined, all_defined};
 ghost use Rattle.single_def.specs.Private.States.{known_of};
 
-use crate::DefFault;
+use crate::PlacedFault;
 use crate::actions::Signal;
 use indexmap::IndexSet;
 use std::alloc::{AllocError, Global};
@@ -49,7 +49,7 @@ fn element_at(first: u32, place: u32) -> u64
     u64::from(first) + u64::from(place)
 }
 
-fn define(known: &mut Known, element: u64, at: u32) -> Result<(), DefFault>
+fn define(known: &mut Known, element: u64, at: u32) -> Result<(), PlacedFault>
     ensures { Gives (known_of known.new) result (run.define_at element at (known_of known.old)) }
 {
     if element >= known.defined.len() as u64 {
@@ -57,7 +57,7 @@ fn define(known: &mut Known, element: u64, at: u32) -> Result<(), DefFault>
     }
     let element = element as usize;
     if known.defined[element] {
-        return Err(DefFault::DefinedTwice(at));
+        return Err(PlacedFault::DefinedTwice(at));
     }
     known.defined[element] = true;
     Ok(())
@@ -68,7 +68,7 @@ pub(crate) fn define_place(
     first: u32,
     place: Option<u64>,
     at: u32,
-) -> Result<(), DefFault>
+) -> Result<(), PlacedFault>
     requires { IfSome place (λ k. k < 2 ^ 64 - 2 ^ 32) }
     ensures { Gives (known_of known.new) result (run.define_place first place at (known_of known.old)) }
 {
@@ -78,7 +78,12 @@ pub(crate) fn define_place(
     }
 }
 
-pub(crate) fn define_all(known: &mut Known, first: u32, count: u32, at: u32) -> Result<(), DefFault>
+pub(crate) fn define_all(
+    known: &mut Known,
+    first: u32,
+    count: u32,
+    at: u32,
+) -> Result<(), PlacedFault>
     ensures { Gives (known_of known.new) result (run.define_from first count at (known_of known.old)) }
 {
     for k in 0..count {
@@ -87,11 +92,11 @@ pub(crate) fn define_all(known: &mut Known, first: u32, count: u32, at: u32) -> 
     Ok(())
 }
 
-fn preset(known: &mut Known, element: u64, sample: u32, at: u32) -> Result<(), DefFault>
+fn preset(known: &mut Known, element: u64, sample: u32, at: u32) -> Result<(), PlacedFault>
     ensures { Gives (known_of known.new) result (run.preset_at element sample at (known_of known.old)) }
 {
     if !known.presets.insert((element, sample))? {
-        return Err(DefFault::DefinedTwice(at));
+        return Err(PlacedFault::DefinedTwice(at));
     }
     Ok(())
 }
@@ -102,7 +107,7 @@ pub(crate) fn preset_place(
     place: Option<u64>,
     sample: Option<i32>,
     at: u32,
-) -> Result<(), DefFault>
+) -> Result<(), PlacedFault>
     requires { IfSome place (λ k. k < 2 ^ 64 - 2 ^ 32) }
     ensures { Gives (known_of known.new) result (run.preset_place first place sample at (known_of known.old)) }
 {
@@ -116,18 +121,18 @@ pub(crate) fn preset_place(
 }
 
 /// The element at a number is defined.
-fn check_defined(known: &Known, element: u64, at: u32, place: u32) -> Result<(), DefFault>
+fn check_defined(known: &Known, element: u64, at: u32, place: u32) -> Result<(), PlacedFault>
     ensures { result ≡ run.is_defined_at (known_of known.now) element at place }
 {
     if element < known.defined.len() as u64 && known.defined[element as usize] {
         Ok(())
     } else {
-        Err(DefFault::NotDefined { at, place })
+        Err(PlacedFault::NotDefined { at, place })
     }
 }
 
 /// Each element of a signal is defined.
-fn check_signal(known: &Known, signal: &Signal) -> Result<(), DefFault>
+fn check_signal(known: &Known, signal: &Signal) -> Result<(), PlacedFault>
     ensures { result ≡ are_defined (known_of known.now) signal.now }
 {
     for k in 0..signal.count {
@@ -137,7 +142,7 @@ fn check_signal(known: &Known, signal: &Signal) -> Result<(), DefFault>
 }
 
 /// Each element of the signals is defined.
-pub(crate) fn check_all_defined(known: &Known, signals: &[Signal]) -> Result<(), DefFault>
+pub(crate) fn check_all_defined(known: &Known, signals: &[Signal]) -> Result<(), PlacedFault>
     ensures { result ≡ all_defined (known_of known.now) signals.now }
 {
     for signal in signals {

@@ -1,8 +1,8 @@
 //! What names mean in a function.
 
-ghost use Rattle.std.specs.Prelude.{◌≡◌, find, bytes_eq, option_map, option_copied, IsTrue, IfSome};
+ghost use Rattle.std.specs.Prelude.{◌≡◌, find, bytes_eq, option_map, option_copied, Some, IsTrue, IsSome};
 ghost use Rattle.silage_syntax.specs.Tree.{view_top, view_func};
-ghost use Rattle.silage_syntax.specs.Names.{declared, table_named};
+ghost use Rattle.silage_syntax.specs.Names.{declared, table_named, function_named};
 ghost use Rattle.name_check.specs.Meanings.{are_dims};
 ghost use Rattle.name_check.specs.TopNames.{top_name};
 ghost use Rattle.single_def.specs.ElementRules as rules;
@@ -33,13 +33,14 @@ fn signal<'a>(scope: &Scope<'a>, name: &Name) -> Option<(usize, &'a Decl)>
 }
 
 /// The signal with the name, and the number of its first element.
-pub(crate) fn located<'a>(scope: &Scope<'a>, name: &Name) -> Option<(u32, &'a Decl)>
-    ensures signal { option_map (λ q. (q.0, q.1.now)) result ≡ located_in scope.now name.now }
-    ensures sized { IfSome result (λ q. IsTrue (are_dims q.1.now.dims)) }
+pub(crate) fn located<'a>(scope: &Scope<'a>, name: &Name) -> (u32, &'a Decl)
+    requires { IsSome (located_in scope.now name.now) }
+    ensures signal { Some (result.0, result.1.now) ≡ located_in scope.now name.now }
+    ensures sized { IsTrue (are_dims result.1.now.dims) }
 {
     match signal(scope, name) {
-        Some((d, decl)) => Some((scope.signals[d].first, decl)),
-        None => None,
+        Some((d, decl)) => (scope.signals[d].first, decl),
+        None => unreachable!(),
     }
 }
 
@@ -61,8 +62,8 @@ fn table<'a>(scope: &Scope<'a>, name: &Name) -> Option<&'a ConstDef>
     }
 }
 
-/// The function with the name, and where it is among the tops.
-pub(crate) fn function<'a>(scope: &Scope<'a>, name: &Name) -> Option<(u32, &'a Func)>
+/// The function with the name, if there is one, and where it is among the tops.
+fn callee<'a>(scope: &Scope<'a>, name: &Name) -> Option<(u32, &'a Func)>
     ensures { option_map (λ q. (q.0, view_func q.1.now)) result ≡ callee_of (program_of scope.now) name.now }
 {
     let position = scope.names.position(name)?;
@@ -72,16 +73,28 @@ pub(crate) fn function<'a>(scope: &Scope<'a>, name: &Name) -> Option<(u32, &'a F
     }
 }
 
+/// The same of a name that is a function's by the rules on names.
+pub(crate) fn function<'a>(scope: &Scope<'a>, name: &Name) -> (u32, &'a Func)
+    requires { IsSome (function_named (program_of scope.now) name.now) }
+    ensures { Some (result.0, view_func result.1.now) ≡ callee_of (program_of scope.now) name.now }
+{
+    match callee(scope, name) {
+        Some(callee) => callee,
+        None => unreachable!(),
+    }
+}
+
 /// The dims of what is read by a name, and the longest delay that it may have.
-pub(crate) fn readable<'a>(scope: &Scope<'a>, name: &Name) -> Option<(&'a [u32], i64)>
-    ensures { option_map (λ q. (q.0.now, allowed q.1)) result
+pub(crate) fn readable<'a>(scope: &Scope<'a>, name: &Name) -> (&'a [u32], i64)
+    requires { IsSome (rules.readable (program_of scope.now) (function_of scope.now) name.now) }
+    ensures { Some (result.0.now, allowed result.1)
         ≡ rules.readable (program_of scope.now) (function_of scope.now) name.now }
 {
     match signal(scope, name) {
-        Some((_, decl)) => Some((&decl.dims, MAX_DELAY)),
+        Some((_, decl)) => (&decl.dims, MAX_DELAY),
         None => match table(scope, name) {
-            Some(c) => Some((&c.dims, NO_DELAY)),
-            None => None,
+            Some(c) => (&c.dims, NO_DELAY),
+            None => unreachable!(),
         },
     }
 }

@@ -1,15 +1,16 @@
 //! The items of a function as actions.
 
-ghost use Rattle.std.specs.Prelude.{◌≡◌, ◌++◌, [], ◌∷◌, map, IsTrue, IfOk, OnOk, Option, min};
-ghost use Rattle.silage_syntax.specs.Tree.{view_manifest, view_place, view_delay, view_expr, view_arms, view_item, view_items};
+ghost use Rattle.std.specs.Prelude.{◌≡◌, ◌++◌, [], ◌∷◌, map, All, IsTrue, IsSome, IfOk, OnOk, Option, min};
+ghost use Rattle.silage_syntax.specs.Tree.{view_manifest, view_place, view_delay, view_expr, view_item, view_items};
 ghost use Rattle.name_check.specs.Meanings.{are_dims};
 ghost use Rattle.single_def.specs.ElementRules as rules;
 ghost use Rattle.single_def.specs.Private.Actions.{view_action};
 ghost use Rattle.single_def.specs.Private.Plans as plan;
 ghost use Rattle.single_def.specs.Private.Plans.{viewed};
 ghost use Rattle.single_def.specs.Private.Scopes.{program_of, function_of, located_in};
+ghost use Rattle.single_def.specs.Private.Names.{IsElementOf, IsSignalOf, Takes, TakeAll, HasReads};
 
-use crate::DefFault;
+use crate::PlacedFault;
 use crate::actions::{Action, Bound, Check, Subscript};
 use crate::lookups::{function, located, readable};
 use crate::numbers::Number;
@@ -71,7 +72,7 @@ pub(crate) fn put_number(
     m: &Manifest,
     least: i64,
     most: i64,
-    outside: DefFault,
+    outside: PlacedFault,
     actions: &mut Vec<Action>,
 ) -> Result<(), AllocError>
     ensures { OnOk result (viewed actions.new ≡ viewed actions.old
@@ -102,7 +103,7 @@ pub(crate) fn put_subscripts(
         [dim, dims @ ..] => match subs {
             [] => Ok(()),
             [sub, subs @ ..] => {
-                let outside = DefFault::Bounds(manifest_at(sub));
+                let outside = PlacedFault::Bounds(manifest_at(sub));
                 put_number(alloc, loops, sub, 0, i64::from(*dim) - 1, outside, actions)?;
                 put_subscripts(alloc, loops, dims, subs, actions)
             }
@@ -158,17 +159,12 @@ pub(crate) fn put_target(
     place: &Place,
     actions: &mut Vec<Action>,
 ) -> Result<(), AllocError>
+    requires element { IsElementOf (function_of scope.now) (view_place place.now) }
     ensures { OnOk result (viewed actions.new ≡ viewed actions.old
         ++ plan.planned_target loops.now (located_in scope.now place.now.name) (view_place place.now)) }
 {
-    let (first, decl) = match located(scope, &place.name) {
-        None => return Ok(()),
-        Some(signal) => signal,
-    };
+    let (first, decl) = located(scope, &place.name);
     put_subscripts(scope.alloc, loops, &decl.dims, &place.subs, actions)?;
-    if decl.dims.len() != place.subs.len() {
-        return Ok(());
-    }
     let subs = subscripts(scope.alloc, loops, &decl.dims, &place.subs)?;
     put(
         actions,
@@ -182,13 +178,11 @@ pub(crate) fn put_target(
 
 /// Appends the definitions of the elements of the array that a place names.
 fn put_array(scope: &Scope, place: &Place, actions: &mut Vec<Action>) -> Result<(), AllocError>
+    requires signal { IsSignalOf (function_of scope.now) (view_place place.now) }
     ensures { OnOk result (viewed actions.new ≡ viewed actions.old
         ++ plan.planned_array (located_in scope.now place.now.name) (view_place place.now)) }
 {
-    let (first, decl) = match located(scope, &place.name) {
-        None => return Ok(()),
-        Some(signal) => signal,
-    };
+    let (first, decl) = located(scope, &place.name);
     put(
         actions,
         Action::DefineAll {
@@ -207,6 +201,7 @@ fn put_taker(
     place: &Place,
     actions: &mut Vec<Action>,
 ) -> Result<(), AllocError>
+    requires takes { Takes (function_of scope.now) taken.now (view_place place.now) }
     ensures { OnOk result (viewed actions.new ≡ viewed actions.old
         ++ plan.planned_taker (function_of scope.now) loops.now taken.now (view_place place.now)) }
 {
@@ -224,6 +219,7 @@ pub(crate) fn put_takers(
     places: &[Place],
     actions: &mut Vec<Action>,
 ) -> Result<(), AllocError>
+    requires take { TakeAll (function_of scope.now) results.now (map view_place places.now) }
     ensures { OnOk result (viewed actions.new ≡ viewed actions.old
         ++ plan.planned_takers (function_of scope.now) loops.now results.now (map view_place places.now)) }
 {
@@ -261,7 +257,7 @@ fn put_delay(
             m,
             0,
             most,
-            DefFault::Delay(manifest_at(m)),
+            PlacedFault::Delay(manifest_at(m)),
             actions,
         ),
     }
@@ -275,27 +271,25 @@ fn put_read(
     delay: &Option<Manifest>,
     actions: &mut Vec<Action>,
 ) -> Result<(), AllocError>
+    requires read { IsSome (rules.readable (program_of scope.now) (function_of scope.now) place.now.name) }
     ensures { OnOk result (viewed actions.new ≡ viewed actions.old
         ++ plan.read_checks loops.now
         (rules.readable (program_of scope.now) (function_of scope.now) place.now.name) (view_place place.now)
         (view_delay delay.now)) }
 {
-    let (dims, most) = match readable(scope, &place.name) {
-        None => return Ok(()),
-        Some(read) => read,
-    };
+    let (dims, most) = readable(scope, &place.name);
     put_subscripts(scope.alloc, loops, dims, &place.subs, actions)?;
     put_delay(scope.alloc, loops, delay, most, actions)
 }
 
 /// Appends the checks of an expression, from left to right.
-#[cycle(exprs)]
 pub(crate) fn put_expr(
     scope: &Scope,
     loops: &[Name],
     e: &Expr,
     actions: &mut Vec<Action>,
 ) -> Result<(), AllocError>
+    requires reads { HasReads (program_of scope.now) (function_of scope.now) (view_expr e.now) }
     ensures { OnOk result (viewed actions.new ≡ viewed actions.old
         ++ plan.expr_checks (program_of scope.now) (function_of scope.now) loops.now (view_expr e.now)) }
 {
@@ -310,33 +304,19 @@ pub(crate) fn put_expr(
         }
         Expr::Shift(_, _, part, amount) => {
             put_expr(scope, loops, part, actions)?;
-            let outside = DefFault::Shift(manifest_at(amount));
+            let outside = PlacedFault::Shift(manifest_at(amount));
             put_number(scope.alloc, loops, amount, 0, MAX_SHIFT, outside, actions)
         }
         Expr::Cast(_, _, part) => put_expr(scope, loops, part, actions),
         Expr::Choose(_, arms, last) => {
-            put_arms(scope, loops, arms, actions)?;
+            let arms = arms.as_slice();
+            for arm in arms {
+                put_expr(scope, loops, &arm.0, actions)?;
+                put_expr(scope, loops, &arm.1, actions)?;
+            }
             put_expr(scope, loops, last, actions)
         }
     }
-}
-
-/// Conditions, each with its value.
-#[cycle(exprs)]
-fn put_arms(
-    scope: &Scope,
-    loops: &[Name],
-    arms: &[(Expr, Expr)],
-    actions: &mut Vec<Action>,
-) -> Result<(), AllocError>
-    ensures { OnOk result (viewed actions.new ≡ viewed actions.old
-        ++ plan.branch_checks (program_of scope.now) (function_of scope.now) loops.now (view_arms arms.now)) }
-{
-    for arm in arms {
-        put_expr(scope, loops, &arm.0, actions)?;
-        put_expr(scope, loops, &arm.1, actions)?;
-    }
-    Ok(())
 }
 
 pub(crate) fn put_args(
@@ -345,6 +325,7 @@ pub(crate) fn put_args(
     args: &[Expr],
     actions: &mut Vec<Action>,
 ) -> Result<(), AllocError>
+    requires reads { All (HasReads (program_of scope.now) (function_of scope.now)) (map view_expr args.now) }
     ensures { OnOk result (viewed actions.new ≡ viewed actions.old
         ++ plan.arg_checks (program_of scope.now) (function_of scope.now) loops.now (map view_expr args.now)) }
 {

@@ -4,36 +4,38 @@ ghost use Rattle.std.specs.Prelude.{◌≡◌, IsTrue, Some, slice_get};
 ghost use Rattle.ranked_faults.specs.Private.FirstMet.{first};
 ghost use Rattle.silage_syntax.specs.Tree.{Func as FuncTree, view, view_func, function};
 ghost use Rattle.silage_syntax.specs.Names as meaning;
+ghost use Rattle.name_check.specs.NameFaults.{IsMain};
 ghost use Rattle.single_def.specs.ElementRules.{elements_of, word_rules};
 ghost use Rattle.single_def.specs.Private.Plans.{AreSized, AreAllSized};
 
-use crate::DefFault;
+use crate::PlacedFault;
 use crate::bodies::count;
 use silage_syntax::{Func, Program, Top};
 
 /// The most words of a row.
 const MOST_WORDS: u32 = 16;
 
-fn has_few_words(func: &Func) -> Result<(), DefFault>
+fn has_few_words(func: &Func) -> Result<(), PlacedFault>
     requires { AreSized (meaning.decls (view_func func.now)) }
     ensures { result ≡ first (word_rules (view_func func.now)) }
 {
     if count(&func.params) <= MOST_WORDS && count(&func.results) <= MOST_WORDS {
         Ok(())
     } else {
-        Err(DefFault::TooLarge(func.at))
+        Err(PlacedFault::TooLarge(func.at))
     }
 }
 
 /// Main has no more than 16 input words, and no more than 16 output words.
-pub(crate) fn check_words(program: &Program, main: u32) -> Result<(), DefFault>
-    requires { AreAllSized (view program.now) }
+pub(crate) fn check_words(program: &Program, main: u32) -> Result<(), PlacedFault>
+    requires sized { AreAllSized (view program.now) }
+    requires main { IsMain (view program.now) main }
     ensures { (f : FuncTree) → slice_get (view program.now).tops main ≡ Some (function f)
         → result ≡ first (word_rules f) }
 {
     match program.tops.get(main as usize) {
         Some(Top::Func(func)) => has_few_words(func),
-        Some(Top::Const(_)) => Ok(()),
-        None => Ok(()),
+        Some(Top::Const(_)) => unreachable!(),
+        None => unreachable!(),
     }
 }

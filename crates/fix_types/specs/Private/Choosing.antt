@@ -4,7 +4,7 @@ use Rattle.fix_word.specs.declared.types.Format.{Format}
 use Rattle.fix_word.specs.declared.types.SigType.{SigType}
 use Rattle.fix_word.specs.declared.types.SigType.TheVariants.{Bool as Truths}
 use Rattle.fix_word.specs.declared.operation.Op.TheVariants as does
-use Rattle.silage_syntax.specs.Tree.{Expr, choose, Branches, no_branch, branch, Func, Program}
+use Rattle.silage_syntax.specs.Tree.{Branches, no_branch, branch, Func, Program}
 use Rattle.fix_types.specs.TypedTree.{TypedExpr, node, view_expr}
 use Rattle.fix_types.specs.Translation.{typed_expr, three}
 use Rattle.fix_types.specs.declared.typed.TypedExpr.{TypedExpr as RustExpr}
@@ -22,8 +22,3 @@ abbrev pub typed_pairs : Program → Func → SigType → Branches → List (Typ
 typed_pairs p f ty no_branch = []
 typed_pairs p f ty (branch condition x rest) =
     (typed_expr p f condition Truths, typed_expr p f x ty) ∷ typed_pairs p f ty rest
-
--- the branches of a conditional; another expression has none
-abbrev pub branches_of : Expr → Branches
-branches_of (choose at branches last) = branches
-branches_of _ = no_branch

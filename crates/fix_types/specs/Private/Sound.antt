@@ -1,9 +1,9 @@
 -- What the rules on names and the tokens of a source give: types of allowed sizes, and short numbers.
-use Rattle.std.specs.Prelude.{◌≡◌, ℕ, List, All, slice_get, Some, IsTrue}
+use Rattle.std.specs.Prelude.{◌≡◌, ℕ, List, All, slice_get, Some, IsSome, IsTrue}
 use Rattle.fix_word.specs.declared.types.SigType.{SigType}
 use Rattle.fix_word.specs.declared.types.SigType.TheVariants.{Fix}
 use Rattle.silage_syntax.specs.declared.tree.Decl.{Decl}
-use Rattle.silage_syntax.specs.Tree.{Expr, literal, read, negate, not, binary, shift, cast, choose}
+use Rattle.silage_syntax.specs.Tree.{Place, Expr, literal, read, negate, not, binary, shift, cast, choose}
 use Rattle.silage_syntax.specs.Tree.{Branches, no_branch, branch}
 use Rattle.silage_syntax.specs.Tree.{Item, equation, call, loop, initial, Items, no_item, item}
 use Rattle.silage_syntax.specs.Tree.{Func, Top, table, function, Program}
@@ -42,6 +42,40 @@ abbrev mutual
   AreSoundItems no_item = Unit {0}
   AreSoundItems (item x rest) = IsSoundItem x × AreSoundItems rest
 
+-- what names mean in a function of the program
+module _ (p : Program) (f : Func) where
+  abbrev pub HasType : Place → Type 0
+  HasType place = IsSome (name_type p f place.name)
+
+  -- what an expression reads has a type
+  abbrev mutual
+    pub HasTypedReads : Expr → Type 0
+    HasTypedReads (literal l) = Unit {0}
+    HasTypedReads (read place delay) = HasType place
+    HasTypedReads (negate at x) = HasTypedReads x
+    HasTypedReads (not at x) = HasTypedReads x
+    HasTypedReads (binary at o x y) = HasTypedReads x × HasTypedReads y
+    HasTypedReads (shift at left x amount) = HasTypedReads x
+    HasTypedReads (cast at c x) = HasTypedReads x
+    HasTypedReads (choose at branches last) = HaveTypedReads branches × HasTypedReads last
+
+    pub HaveTypedReads : Branches → Type 0
+    HaveTypedReads no_branch = Unit {0}
+    HaveTypedReads (branch condition x rest) = HasTypedReads condition × HasTypedReads x × HaveTypedReads rest
+
+  -- what an item reads and what it gives a value have types, and a function that it calls is there
+  abbrev mutual
+    pub HasTypedNames : Item → Type 0
+    HasTypedNames (equation place x) = HasType place × HasTypedReads x
+    HasTypedNames (call places name args at) =
+        IsSome (function_named p name) × All HasType places × All HasTypedReads args
+    HasTypedNames (loop index lo hi items at) = HaveTypedNames items
+    HasTypedNames (initial place k value) = HasType place
+
+    pub HaveTypedNames : Items → Type 0
+    HaveTypedNames no_item = Unit {0}
+    HaveTypedNames (item x rest) = HasTypedNames x × HaveTypedNames rest
+
 -- the names that may be read in a function, and the parameters of the functions that may be called
 pub record HasSoundTypes (p : Program) (f : Func) : Type 0 where
   pub names : (name : List ℕ) (ty : SigType) → name_type p f name ≡ Some ty → IsSoundType ty
@@ -52,4 +86,4 @@ pub record HasSoundTypes (p : Program) (f : Func) : Type 0 where
 
 abbrev pub IsSoundTop : Program → Top → Type 0
 IsSoundTop p (table c) = IsSoundType (Fix c.ty) × All IsShort c.words
-IsSoundTop p (function f) = HasSoundTypes p f × AreSoundItems f.items
+IsSoundTop p (function f) = HasSoundTypes p f × AreSoundItems f.items × HaveTypedNames p f f.items

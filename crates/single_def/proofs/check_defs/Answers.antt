@@ -1,23 +1,27 @@
+use Rattle.std.proofs.Common.{refl}
+use Rattle.std.proofs.lemmas.Result.{err_from_is_err_and}
 use Rattle.silage_syntax.specs.Tree.{view}
-use Rattle.single_def.proofs.SoundNames.{all_sized}
-use Rattle.single_def.proofs.DefAnswers.{told_answer, words_fail, walk_answer}
+use Rattle.single_def.specs.ElementFaults.{without_place}
+use Rattle.single_def.proofs.PlacedFaults.{told_first, told_ok, told_fault}
 use Rattle.single_def.proofs.check_defs.Goals as goal
 
-pub check_words-requires : goal.check_words-requires
-check_words-requires c = all_sized (view c.args.program.now) c.requires.clear
+pub returns-in_err-check_elements-clause-fault : goal.returns-in_err-check_elements-clause-fault
+returns-in_err-check_elements-clause-fault c =
+    let p = err_from_is_err_and c.from_residual.result c.from_residual.ensures.1 in
+    let fault = c.in_err-check_elements.field-0.0 in
+    rw (p.1, p.2)
+    (told_first (view c.args.program.now) fault (without_place fault) refl c.in_err-check_elements.ensures.fault)
 
-pub returns-in_err-check_words : goal.returns-in_err-check_words
-returns-in_err-check_words c =
-    let p = view c.args.program.now in
-    let main = c.requires.main in
-    let fault = c.in_err-check_words.field-0.0 in
-    let a = told_answer p fault c.from_residual.result c.from_residual.ensures.1
-    (λ n. words_fail p c.requires.clear c.args.names.now.main main fault (c.in_err-check_words.ensures main.func main.stands)) in
-    record { ok = a.ok; fault = a.fault; elements = a.elements; numbering = a.numbering; single = a.single; each_ok = a.each_ok; each_fault = a.each_fault }
+pub returns-in_err-check_elements-clause-each_ok : goal.returns-in_err-check_elements-clause-each_ok
+returns-in_err-check_elements-clause-each_ok c =
+    let p = err_from_is_err_and c.from_residual.result c.from_residual.ensures.1 in
+    let fault = c.in_err-check_elements.field-0.0 in
+    rw (p.1, p.2)
+    (told_ok (view c.args.program.now) fault (without_place fault) refl c.in_err-check_elements.ensures.each_ok)
 
-pub returns : goal.returns
-returns c =
-    let p = view c.args.program.now in
-    let main = c.requires.main in
-    let a = walk_answer p c.requires.clear c.args.names.now.main main (c.in_ok-check_words.ensures main.func main.stands) c.walk_program.result c.walk_program.ensures in
-    record { ok = a.ok; fault = a.fault; elements = a.elements; numbering = a.numbering; single = a.single; each_ok = a.each_ok; each_fault = a.each_fault }
+pub returns-in_err-check_elements-clause-each_fault : goal.returns-in_err-check_elements-clause-each_fault
+returns-in_err-check_elements-clause-each_fault c =
+    let p = err_from_is_err_and c.from_residual.result c.from_residual.ensures.1 in
+    let fault = c.in_err-check_elements.field-0.0 in
+    rw (p.1, p.2)
+    (told_fault (view c.args.program.now) fault (without_place fault) refl c.in_err-check_elements.ensures.each_fault)

@@ -1,11 +1,12 @@
 use Rattle.std.proofs.Common.{◌∙◌, Result, ap, map, subst}
 use Rattle.silage_syntax.specs.Tree.{view}
 use Rattle.single_def.specs.declared.elements.Elements.{Elements}
-use Rattle.single_def.specs.declared.fault.DefFault.{DefFault}
+use Rattle.single_def.specs.declared.fault.PlacedFault.{PlacedFault}
 use Rattle.single_def.specs.Private.Actions.{GivesValue}
 use Rattle.single_def.specs.Private.Functions.{view_function}
 use Rattle.single_def.specs.Private.Plans.{run_plan}
 use Rattle.single_def.proofs.SoundNames.{names_apart, all_sized}
+use Rattle.single_def.proofs.KnownNames.{names_known}
 use Rattle.single_def.proofs.SamePlans.{program_same}
 use Rattle.single_def.proofs.walk_program.Goals as goal
 
@@ -15,7 +16,10 @@ bodies-requires-clause-apart c = names_apart (view c.args.program.now) c.require
 pub bodies-requires-clause-sized : goal.bodies-requires-clause-sized
 bodies-requires-clause-sized c = all_sized (view c.args.program.now) c.requires.clear
 
+pub bodies-requires-clause-names : goal.bodies-requires-clause-names
+bodies-requires-clause-names c = names_known (view c.args.program.now) c.requires.clear
+
 pub returns : goal.returns
 returns c =
-    subst (λ (run : Result Elements DefFault). GivesValue c.walk.result run)
+    subst (λ (run : Result Elements PlacedFault). GivesValue c.walk.result run)
     (ap (λ fs. run_plan (map view_function fs) c.args.names.now.main) c.deref-2.ensures.value ∙ program_same (view c.args.program.now) c.args.names.now.main c.in_ok-plan.plan.items c.in_ok-bodies.bodies.items c.in_ok-plan.ensures.looked (c.in_ok-plan.ensures.bodies ∙ c.deref.ensures.value) c.in_ok-bodies.ensures) c.walk.ensures

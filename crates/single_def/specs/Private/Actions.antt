@@ -17,8 +17,8 @@ use Rattle.single_def.specs.declared.actions.Action.TheVariants as a
 use Rattle.single_def.specs.declared.actions.Body.{Body as RustBody}
 use Rattle.single_def.specs.declared.elements.Instance.{Instance}
 use Rattle.single_def.specs.declared.elements.Element.{Element}
-use Rattle.single_def.specs.declared.fault.DefFault.{DefFault}
-use Rattle.single_def.specs.declared.fault.DefFault.TheVariants.{Index, DefinedTwice, NotDefined, TooLarge, Memory}
+use Rattle.single_def.specs.declared.fault.PlacedFault.{PlacedFault}
+use Rattle.single_def.specs.declared.fault.PlacedFault.TheVariants.{Index, DefinedTwice, NotDefined, TooLarge, Memory}
 
 mutual
   pub data Action : Type 0 where
@@ -72,22 +72,22 @@ view_body b = record {
 }
 
 infixl 10 ◌>>=◌
-abbrev pub ◌>>=◌ : {A B : Type 0} → Result A DefFault → (A → Result B DefFault) → Result B DefFault
+abbrev pub ◌>>=◌ : {A B : Type 0} → Result A PlacedFault → (A → Result B PlacedFault) → Result B PlacedFault
 (Ok x) >>= f = f x
 (Err e) >>= f = Err e
 
 -- the walk gives x where the call answers Ok, and the same fault else, unless memory runs out
-abbrev pub Gives : {A B : Type 0} → A → Result B DefFault → Result A DefFault → Type 0
+abbrev pub Gives : {A B : Type 0} → A → Result B PlacedFault → Result A PlacedFault → Type 0
 Gives x (Ok _) run = run ≡ Ok x
 Gives x (Err fault) run = fault ≢ Memory → run ≡ Err fault
 
 -- the same for a call that answers what the walk gives
-abbrev pub GivesValue : {A : Type 0} → Result A DefFault → Result A DefFault → Type 0
+abbrev pub GivesValue : {A : Type 0} → Result A PlacedFault → Result A PlacedFault → Type 0
 GivesValue (Ok x) run = run ≡ Ok x
 GivesValue (Err fault) run = fault ≢ Memory → run ≡ Err fault
 
 -- what is done for each of a list in order
-abbrev pub for_each : {A S : Type 0} → (A → S → Result S DefFault) → List A → S → Result S DefFault
+abbrev pub for_each : {A S : Type 0} → (A → S → Result S PlacedFault) → List A → S → Result S PlacedFault
 for_each f [] s = Ok s
 for_each f (x ∷ xs) s = f x s >>= for_each f xs
 
@@ -106,11 +106,11 @@ pub record State : Type 0 where
   pub known : Known
   pub found : Found
 
-abbrev pub check_value : Check → Option ℤ → Result (Unit {0}) DefFault
+abbrev pub check_value : Check → Option ℤ → Result (Unit {0}) PlacedFault
 check_value c None = Err (Index c.at)
 check_value c (Some v) = if int_le c.least v && int_le v c.most then Ok tt else Err c.outside
 
-abbrev pub check_of : List ℤ → Check → Result (Unit {0}) DefFault
+abbrev pub check_of : List ℤ → Check → Result (Unit {0}) PlacedFault
 check_of turns c = check_value c (number_value turns c.number)
 
 abbrev pub index_of : (dim : ℕ) → Option ℤ → Option ℕ
@@ -124,34 +124,34 @@ place_of turns (s ∷ subs) =
     (place_of turns subs))
     (index_of s.dim (number_value turns s.number))
 
-abbrev pub marked : Known → ℕ → (at : ℕ) → Option Bool → Result Known DefFault
+abbrev pub marked : Known → ℕ → (at : ℕ) → Option Bool → Result Known PlacedFault
 marked known n at None = Ok known
 marked known n at (Some true) = Err (DefinedTwice at)
 marked known n at (Some false) = Ok (record known { defined = slice_set known.defined n true })
 
-abbrev pub define_at : ℕ → (at : ℕ) → Known → Result Known DefFault
+abbrev pub define_at : ℕ → (at : ℕ) → Known → Result Known PlacedFault
 define_at n at known = marked known n at (slice_get known.defined n)
 
-abbrev pub define_place : (first : ℕ) → Option ℕ → (at : ℕ) → Known → Result Known DefFault
+abbrev pub define_place : (first : ℕ) → Option ℕ → (at : ℕ) → Known → Result Known PlacedFault
 define_place first None at known = Ok known
 define_place first (Some k) at known = define_at (first + k) at known
 
-abbrev pub define_from : (first n at : ℕ) → Known → Result Known DefFault
+abbrev pub define_from : (first n at : ℕ) → Known → Result Known PlacedFault
 define_from first n at known = for_each (λ k. define_at k at) (range_with_len first n) known
 
 abbrev pub is_preset : ℕ → ℕ → (ℕ × ℕ) → Bool
 is_preset n s q = nat_eq n q.0 && nat_eq s q.1
 
-abbrev pub preset_at : ℕ → ℕ → (at : ℕ) → Known → Result Known DefFault
+abbrev pub preset_at : ℕ → ℕ → (at : ℕ) → Known → Result Known PlacedFault
 preset_at n s at known =
     if list_any (is_preset n s) known.presets then Err (DefinedTwice at)
     else Ok (record known { presets = known.presets ++ (n, s) ∷ [] })
 
-abbrev pub preset_place : (first : ℕ) → Option ℕ → Option ℤ → (at : ℕ) → Known → Result Known DefFault
+abbrev pub preset_place : (first : ℕ) → Option ℕ → Option ℤ → (at : ℕ) → Known → Result Known PlacedFault
 preset_place first (Some k) (Some (pos s)) at known = preset_at (first + k) s at known
 preset_place first _ _ at known = Ok known
 
-abbrev pub count_in : (load at : ℕ) → Found → Result Found DefFault
+abbrev pub count_in : (load at : ℕ) → Found → Result Found PlacedFault
 count_in load at found =
     if nat_le (found.load + load) max_load then Ok (record found { load = found.load + load }) else Err (TooLarge at)
 
@@ -162,38 +162,38 @@ abbrev pub signal_elements : (number : ℕ) → (decl : ℕ) → List Signal →
 signal_elements number d [] = []
 signal_elements number d (s ∷ signals) = places_of number d s.count ++ signal_elements number (d + 1) signals
 
-abbrev pub defined_or : (at place : ℕ) → Option Bool → Result (Unit {0}) DefFault
+abbrev pub defined_or : (at place : ℕ) → Option Bool → Result (Unit {0}) PlacedFault
 defined_or at k (Some true) = Ok tt
 defined_or at k _ = Err (NotDefined at k)
 
 -- the element with the number n, at a place of the declaration that stands at this byte
-abbrev pub is_defined_at : Known → (n at place : ℕ) → Result (Unit {0}) DefFault
+abbrev pub is_defined_at : Known → (n at place : ℕ) → Result (Unit {0}) PlacedFault
 is_defined_at known n at k = defined_or at k (slice_get known.defined n)
 
 -- each element of a signal is defined
-abbrev pub are_defined : Known → Signal → Result (Unit {0}) DefFault
+abbrev pub are_defined : Known → Signal → Result (Unit {0}) PlacedFault
 are_defined known s = for_each (λ k _. is_defined_at known (s.first + k) s.at k) (range_with_len 0 s.count) tt
 
-abbrev pub all_defined : Known → List Signal → Result (Unit {0}) DefFault
+abbrev pub all_defined : Known → List Signal → Result (Unit {0}) PlacedFault
 all_defined known signals = for_each (λ s _. are_defined known s) signals tt
 
-abbrev pub in_known : State → (Known → Result Known DefFault) → Result State DefFault
+abbrev pub in_known : State → (Known → Result Known PlacedFault) → Result State PlacedFault
 in_known s f = f s.known >>= λ known. Ok (record s { known = known })
 
-abbrev pub in_found : State → (Found → Result Found DefFault) → Result State DefFault
+abbrev pub in_found : State → (Found → Result Found PlacedFault) → Result State PlacedFault
 in_found s f = f s.found >>= λ found. Ok (record s { found = found })
 
-abbrev pub value_or : (at : ℕ) → Option ℤ → Result ℤ DefFault
+abbrev pub value_or : (at : ℕ) → Option ℤ → Result ℤ PlacedFault
 value_or at None = Err (Index at)
 value_or at (Some v) = Ok v
 
-abbrev pub bound_of : List ℤ → Bound → Result ℤ DefFault
+abbrev pub bound_of : List ℤ → Bound → Result ℤ PlacedFault
 bound_of turns b = value_or b.at (number_value turns b.number)
 
 -- `inside` is what an instance of the function at a position does that a call makes, with its place and turns
-module _ (inside : (func at : ℕ) → List ℤ → Found → Result Found DefFault) where
+module _ (inside : (func at : ℕ) → List ℤ → Found → Result Found PlacedFault) where
   abbrev mutual
-    pub run_action : List ℤ → Action → State → Result State DefFault
+    pub run_action : List ℤ → Action → State → Result State PlacedFault
     run_action turns (check c) s = check_of turns c >>= λ _. Ok s
     run_action turns (define first subs at) s = in_known s (define_place first (place_of turns subs) at)
     run_action turns (define_all first n at) s = in_known s (define_from first n at)
@@ -207,19 +207,19 @@ module _ (inside : (func at : ℕ) → List ℤ → Found → Result Found DefFa
         for_each (λ k s. in_found s (count_in 1 at) >>= run_actions (turns ++ (first +ℤ pos k) ∷ []) actions)
         (range_with_len 0 (count_up first last)) s
 
-    pub run_actions : List ℤ → Actions → State → Result State DefFault
+    pub run_actions : List ℤ → Actions → State → Result State PlacedFault
     run_actions turns no_action s = Ok s
     run_actions turns (action x xs) s = run_action turns x s >>= run_actions turns xs
 
   -- one turn of a loop inside loops with these turns
-  abbrev pub run_turn : List ℤ → Actions → (at : ℕ) → ℤ → State → Result State DefFault
+  abbrev pub run_turn : List ℤ → Actions → (at : ℕ) → ℤ → State → Result State PlacedFault
   run_turn turns actions at turn s = in_found s (count_in 1 at) >>= run_actions (turns ++ turn ∷ []) actions
 
-  abbrev pub run_turns : List ℤ → Actions → (at : ℕ) → (first last : ℤ) → State → Result State DefFault
+  abbrev pub run_turns : List ℤ → Actions → (at : ℕ) → (first last : ℤ) → State → Result State PlacedFault
   run_turns turns actions at first last s =
       for_each (λ k. run_turn turns actions at (first +ℤ pos k)) (range_with_len 0 (count_up first last)) s
 
-  abbrev pub run_loop : List ℤ → (lo hi : Bound) → Actions → (at : ℕ) → State → Result State DefFault
+  abbrev pub run_loop : List ℤ → (lo hi : Bound) → Actions → (at : ℕ) → State → Result State PlacedFault
   run_loop turns lo hi actions at s =
       bound_of turns lo >>= λ first. bound_of turns hi >>= λ last. run_turns turns actions at first last s
 
@@ -233,15 +233,15 @@ with_instance func parent at turns signals found = record found {
 abbrev pub at_first : (given all : ℕ) → Known
 at_first given all = record { defined = replicate given true ++ replicate (all - given) false; presets = [] }
 
-abbrev pub entered_in : Body → (func parent at : ℕ) → List ℤ → Found → Result Found DefFault
+abbrev pub entered_in : Body → (func parent at : ℕ) → List ℤ → Found → Result Found PlacedFault
 entered_in body func parent at turns found =
     count_in body.count body.at found >>= λ counted. Ok (with_instance func parent at turns body.signals counted)
 
 -- `inside` is what an instance of the function at a position does that a call makes in the one with the number `parent`
 abbrev pub Instances : Type 0
-Instances = (parent func at : ℕ) → List ℤ → Found → Result Found DefFault
+Instances = (parent func at : ℕ) → List ℤ → Found → Result Found PlacedFault
 
-abbrev pub run_body : (inside : Instances) → Body → (func parent at : ℕ) → List ℤ → Found → Result Found DefFault
+abbrev pub run_body : (inside : Instances) → Body → (func parent at : ℕ) → List ℤ → Found → Result Found PlacedFault
 run_body inside body func parent at turns found =
     entered_in body func parent at turns found >>= λ entered.
     run_actions (inside (length found.instances)) [] body.actions
@@ -250,7 +250,7 @@ run_body inside body func parent at turns found =
     Ok s.found
 
 abbrev pub run_some : (calls : ℕ) → (inside : Instances) → Option Body → (func parent at : ℕ) → List ℤ → Found
-    → Result Found DefFault
+    → Result Found PlacedFault
 run_some calls inside None func parent at turns found = Ok found
 run_some zero inside (Some body) func parent at turns found = Err (TooLarge body.at)
 run_some (suc calls) inside (Some body) func parent at turns found = run_body inside body func parent at turns found

@@ -6,12 +6,12 @@ use Rattle.single_def.specs.Private.Actions.{Action, actions_of, Found, State, r
 use Rattle.single_def.specs.declared.numbers.Number.{Number}
 use Rattle.single_def.specs.declared.ahead.Turns.{Turns}
 use Rattle.single_def.specs.declared.lanes.Group.{Group}
-use Rattle.single_def.specs.declared.fault.DefFault.{DefFault}
+use Rattle.single_def.specs.declared.fault.PlacedFault.{PlacedFault}
 
 -- the ones do inside loops with these turns what all do
 abbrev pub DoSame : (turns : List ℤ) → (kept all : List Action) → Type 0
 DoSame turns kept all =
-    (inside : (func at : ℕ) → List ℤ → Found → Result Found DefFault) → (s : State)
+    (inside : (func at : ℕ) → List ℤ → Found → Result Found PlacedFault) → (s : State)
     → run_actions inside turns (actions_of kept) s ≡ run_actions inside turns (actions_of all) s
 
 -- the turns are in a lane of the group

@@ -1,6 +1,6 @@
 -- The items of a function as actions for all instances and turns: what needs no index is worked out, and what cannot
 -- fail is left out.
-use Rattle.std.specs.Prelude.{ℕ, ◌+◌, min, nat_eq, nat_le, ℤ, pos, int_le, int_lt}
+use Rattle.std.specs.Prelude.{ℕ, ◌+◌, ◌≤◌, min, nat_eq, nat_le, ℤ, pos, int_le, int_lt}
 use Rattle.std.specs.Prelude.{◌&&◌, Bool, true, false, IsTrue, if◌then◌else◌}
 use Rattle.std.specs.Prelude.{Option, Some, None, option_map, Result, Ok}
 use Rattle.std.specs.Prelude.{List, Vec, [], ◌∷◌, ◌++◌, map, sum_by, length, take}
@@ -28,8 +28,8 @@ use Rattle.single_def.specs.declared.actions.Subscript.{Subscript}
 use Rattle.single_def.specs.declared.actions.Bound.{Bound}
 use Rattle.single_def.specs.declared.actions.Signal.{Signal}
 use Rattle.single_def.specs.declared.elements.Elements.{Elements}
-use Rattle.single_def.specs.declared.fault.DefFault.{DefFault}
-use Rattle.single_def.specs.declared.fault.DefFault.TheVariants.{Bounds, Delay, Shift}
+use Rattle.single_def.specs.declared.fault.PlacedFault.{PlacedFault}
+use Rattle.single_def.specs.declared.fault.PlacedFault.TheVariants.{Bounds, Delay, Shift}
 
 -- each array has 1 to 8,192 elements
 abbrev pub AreSized : List Decl → Type 0
@@ -41,6 +41,11 @@ top_is_sized (function f) = list_all (λ (d : Decl). are_dims d.dims) (decls f)
 
 abbrev pub IsTopSized : Top → Type 0
 IsTopSized top = IsTrue (top_is_sized top)
+
+-- a function has a result
+abbrev pub HasResult : Top → Type 0
+HasResult (table c) = Unit {0}
+HasResult (function f) = 1 ≤ length f.results
 
 abbrev pub AreAllSized : Program → Type 0
 AreAllSized p = IsTrue (list_all top_is_sized p.tops)
@@ -67,7 +72,7 @@ callee_of p name = option_map (λ g. (position_of p name, g)) (function_named p 
 abbrev pub allowed : ℤ → Range
 allowed most = record { least = pos 0; most = most }
 
-abbrev pub number_check : (loops : List (List ℕ)) → (least most : ℤ) → DefFault → Manifest → Check
+abbrev pub number_check : (loops : List (List ℕ)) → (least most : ℤ) → PlacedFault → Manifest → Check
 number_check loops least most outside m = record {
   number = number_of loops m;
   at = manifest_at m;
@@ -76,7 +81,7 @@ number_check loops least most outside m = record {
   outside = outside;
 }
 
-abbrev pub planned_check : (loops : List (List ℕ)) → Range → (outside : ℕ → DefFault) → Manifest → Check
+abbrev pub planned_check : (loops : List (List ℕ)) → Range → (outside : ℕ → PlacedFault) → Manifest → Check
 planned_check loops range outside m = number_check loops range.least range.most (outside (manifest_at m)) m
 
 abbrev pub passes_with : Check → Number → Bool
@@ -230,7 +235,7 @@ abbrev pub body_of : Program → Func → Body
 body_of p f = planned_body p f (capped (elements_of (decls f)))
 
 abbrev pub top_body : Program → Top → Body
-top_body p (table c) = record { at = 0; count = 0; given = 0; signals = []; actions = actions_of [] }
+top_body p (table c) = record { at = 0; count = 1; given = 0; signals = []; actions = actions_of [] }
 top_body p (function f) = body_of p f
 
 abbrev pub plan_of : Program → List Body
@@ -243,9 +248,9 @@ abbrev pub elements_found : Found → Elements
 elements_found found = record { instances = found.instances; elements = found.elements }
 
 -- the walk over the instances of a plan, from the function at this position on
-abbrev pub run_plan : List Body → (main : ℕ) → Result Elements DefFault
+abbrev pub run_plan : List Body → (main : ℕ) → Result Elements PlacedFault
 run_plan plan main = run_instance plan max_nested 0 main 0 [] nothing_found >>= λ found. Ok (elements_found found)
 
 -- the same for a program's own plan
-abbrev pub run_program : Program → (main : ℕ) → Result Elements DefFault
+abbrev pub run_program : Program → (main : ℕ) → Result Elements PlacedFault
 run_program p main = run_plan (plan_of p) main

@@ -5,7 +5,7 @@ use Rattle.single_def.specs.Private.Functions.{view_function}
 use Rattle.single_def.specs.declared.known.Known.{Known as RustKnown}
 use Rattle.single_def.specs.declared.found.Found.{Found as RustFound}
 use Rattle.single_def.specs.declared.instances.Inside.{Inside}
-use Rattle.single_def.specs.declared.fault.DefFault.{DefFault}
+use Rattle.single_def.specs.declared.fault.PlacedFault.{PlacedFault}
 
 abbrev pub known_of : RustKnown → Known
 known_of k = record { defined = k.defined.items; presets = k.presets.keys }
@@ -17,5 +17,5 @@ abbrev pub state_of : RustKnown → RustFound → State
 state_of k f = record { known = known_of k; found = found_of f }
 
 -- what an instance does that a call makes here
-abbrev pub made_in : Inside → (func at : ℕ) → List ℤ → Found → Result Found DefFault
+abbrev pub made_in : Inside → (func at : ℕ) → List ℤ → Found → Result Found PlacedFault
 made_in inside = run_instance (map view_function inside.plan.now) inside.calls inside.number

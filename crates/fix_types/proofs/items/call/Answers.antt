@@ -1,6 +1,6 @@
-use Rattle.fix_types.specs.Private.Scopes.{program_of, function_of}
-use Rattle.fix_types.proofs.ItemSteps.{callee_sound}
+use Rattle.std.proofs.Common.{sym}
+use Rattle.silage_syntax.specs.Tree.{view_func}
 use Rattle.fix_types.proofs.items.call.Goals as goal
 
 pub called-requires-clause-params : goal.called-requires-clause-params
-called-requires-clause-params c = callee_sound (program_of c.args.scope.now) (function_of c.args.scope.now) c.args.scope.now.sound c.args.func.now _ c.function.ensures
+called-requires-clause-params c = λ k d at. c.args.scope.now.sound.callees c.args.func.now (view_func c.function.result.now) k d (sym c.function.ensures) at

@@ -6,11 +6,12 @@ use Rattle.fix_types.specs.TypeRules.{items_rules}
 use Rattle.fix_types.specs.TypedTree.{view_item}
 use Rattle.fix_types.specs.Private.ItemLists.{typed_list}
 use Rattle.fix_types.specs.Private.Scopes.{program_of, function_of}
-use Rattle.fix_types.specs.Private.Sound.{AreSoundItems}
+use Rattle.fix_types.specs.Private.Sound.{AreSoundItems, HaveTypedNames}
 use Rattle.fix_types.proofs.items.typed_items.Given as goal
 
 abbrev pub invariant-loop-item : goal.invariant-loop-item
 invariant-loop-item l = record {
+  names : HaveTypedNames (program_of l.scope) (function_of l.scope) (view_items (drop l.item-index l.items));
   sound : AreSoundItems (view_items (drop l.item-index l.items));
   met : first (parts (items_rules (program_of l.scope) (function_of l.scope) (view_items (drop l.item-index l.items))))
       ≡ first (parts (items_rules (program_of l.scope) (function_of l.scope) (view_items l.items)));

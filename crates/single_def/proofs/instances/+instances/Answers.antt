@@ -8,16 +8,17 @@ use Rattle.single_def.specs.Private.Actions.{Action, Gives, State, Found, action
 use Rattle.single_def.specs.ElementRules.{count_up}
 use Rattle.single_def.specs.Private.Functions.{view_function}
 use Rattle.single_def.specs.Private.States.{known_of, found_of, state_of, made_in}
-use Rattle.single_def.specs.declared.fault.DefFault.{DefFault}
+use Rattle.single_def.specs.declared.fault.PlacedFault.{PlacedFault}
 use Rattle.single_def.proofs.Each.{each_passes, each_gives}
 use Rattle.single_def.proofs.ActionRows.{repeat_is}
 use Rattle.single_def.proofs.PartRows.{part_is}
 use Rattle.single_def.proofs.Entering.{body_err, body_ok, enter_is}
+use Rattle.single_def.proofs.GrowingLoads.{next_load, part_done, part_load}
 use Rattle.single_def.proofs.instances.+instances.Goals as goal
 
 pub run_action-returns-in-Repeat : goal.run_action-returns-in-Repeat
 run_action-returns-in-Repeat t c =
-    subst (λ (r : Result State DefFault). Gives (state_of c.run_loop.new.known c.run_loop.new.found) c.run_loop.result r)
+    subst (λ (r : Result State PlacedFault). Gives (state_of c.run_loop.new.known c.run_loop.new.found) c.run_loop.result r)
     (sym (repeat_is (made_in c.args.inside) c.args.turns.now c.args.action.now c.in-Repeat.lo c.in-Repeat.hi c.in-Repeat.actions c.in-Repeat.at c.in-Repeat.is c.deref-in-Repeat.result.now c.deref-in-Repeat.ensures.value _))
     c.run_loop.ensures
 
@@ -61,6 +62,7 @@ run_turns-loop-k-preserved t c =
       each_passes (λ k. turn (c.args.first +ℤ pos k)) 0 c.loop-k.k count less s _ so_far
           c.loop-k.k (omega arith) (state_of c.run_turn.new.known c.run_turn.new.found) (same ∙ passes),
       block_after c.args.outer.now c.args.first c.args.last c.loop-k.k c.in_ok-block.block.until (seen c.in_ok-block.block.parts) all block,
+      next_load c.args.inside c.args.outer.now (actions_of all) c.args.at (c.args.first +ℤ pos c.loop-k.k) c.args.found.now.load s (state_of c.run_turn.new.known c.run_turn.new.found) c.loop-k.invariant.2 (same ∙ passes),
     )
 
 pub enter-returns : goal.enter-returns
@@ -68,7 +70,7 @@ enter-returns t c =
     let plan = c.args.inside.plan.now in
     let more = enter_is plan c.args.inside.calls c.args.inside.number c.args.func c.args.site c.args.turns.now (found_of c.args.found.now) c.in-Some.function.now (omega arith) (sym c.in-Some.ensures) in
     let same = ap (λ turns. run_body (run_instance (map view_function plan) (c.args.inside.calls - 1)) (view_function c.in-Some.function.now) c.args.func c.args.inside.number c.args.site turns (found_of c.args.found.now)) (sym c.in_ok-from_slice.ensures) in
-    subst (λ (r : Result Found DefFault). Gives (found_of c.run_body.new.found) c.run_body.result r) (sym (more ∙ same)) c.run_body.ensures
+    subst (λ (r : Result Found PlacedFault). Gives (found_of c.run_body.new.found) c.run_body.result r) (sym (more ∙ same)) c.run_body.ensures
 
 pub run_body-returns-in_err-run_parts : goal.run_body-returns-in_err-run_parts
 run_body-returns-in_err-run_parts t c =
@@ -89,7 +91,7 @@ run_body-returns t c =
 
 pub run_part-returns-in-Loop : goal.run_part-returns-in-Loop
 run_part-returns-in-Loop t c =
-    subst (λ (r : Result State DefFault). Gives (state_of c.run_part_loop.new.known c.run_part_loop.new.found) c.run_part_loop.result r)
+    subst (λ (r : Result State PlacedFault). Gives (state_of c.run_part_loop.new.known c.run_part_loop.new.found) c.run_part_loop.result r)
     (sym (part_is (made_in c.args.inside) c.args.turns.now c.args.part.now c.in-Loop.lo c.in-Loop.hi c.in-Loop.parts c.in-Loop.at c.in-Loop.is c.deref.result.now c.deref.ensures.value _))
     c.run_part_loop.ensures
 
@@ -97,7 +99,7 @@ pub run_part_turns-returns-in_err-run_turn : goal.run_part_turns-returns-in_err-
 run_part_turns-returns-in_err-run_turn t c =
     let turn = run_turn (made_in c.args.inside) c.args.outer.now (actions_of (map view_part c.args.parts.now)) c.args.at in
     let end = simp (to_z-of_z, c.ranges.first, c.ranges.last) at c.turn_count-k-end.ensures in
-    let so_far = simp (to_z-of_z, c.ranges.first, c.ranges.last) at c.loop-k.invariant in
+    let so_far = simp (to_z-of_z, c.ranges.first, c.ranges.last) at c.loop-k.invariant.0 in
     let at_k = simp (to_z-of_z, c.ranges.first) at c.turn_at-turn.ensures in
     let fits : SFits w32 c.turn_at-turn.result = search rules in
     let count = count_up c.args.first c.args.last in
@@ -112,13 +114,25 @@ pub run_part_turns-loop-k-preserved : goal.run_part_turns-loop-k-preserved
 run_part_turns-loop-k-preserved t c =
     let turn = run_turn (made_in c.args.inside) c.args.outer.now (actions_of (map view_part c.args.parts.now)) c.args.at in
     let end = simp (to_z-of_z, c.ranges.first, c.ranges.last) at c.turn_count-k-end.ensures in
-    let so_far = simp (to_z-of_z, c.ranges.first, c.ranges.last) at c.loop-k.invariant in
+    let so_far = simp (to_z-of_z, c.ranges.first, c.ranges.last) at c.loop-k.invariant.0 in
     let at_k = simp (to_z-of_z, c.ranges.first) at c.turn_at-turn.ensures in
     let fits : SFits w32 c.turn_at-turn.result = search rules in
     let count = count_up c.args.first c.args.last in
     let less : c.loop-k.k < count = omega (arith, end) in
     let s = state_of c.loop-k.known c.loop-k.found in
     let passes = simp (to_z-of_z, fits) at c.in_ok-run_turn.ensures in
-    simp (to_z-of_z, c.ranges.first, c.ranges.last)
-    (each_passes (λ k. turn (c.args.first +ℤ pos k)) 0 c.loop-k.k count less s _ so_far
-    c.loop-k.k (omega arith) (state_of c.run_turn.new.known c.run_turn.new.found) (ap (λ z. turn z s) (sym at_k) ∙ passes))
+    simp (to_z-of_z, c.ranges.first, c.ranges.last) (
+      each_passes (λ k. turn (c.args.first +ℤ pos k)) 0 c.loop-k.k count less s _ so_far
+          c.loop-k.k (omega arith) (state_of c.run_turn.new.known c.run_turn.new.found) (ap (λ z. turn z s) (sym at_k) ∙ passes),
+      next_load c.args.inside c.args.outer.now (actions_of (map view_part c.args.parts.now)) c.args.at (c.args.first +ℤ pos c.loop-k.k) c.args.found.now.load s (state_of c.run_turn.new.known c.run_turn.new.found) c.loop-k.invariant.1 (ap (λ z. turn z s) (sym at_k) ∙ passes),
+    )
+
+pub run_parts-loop-part-preserved : goal.run_parts-loop-part-preserved
+run_parts-loop-part-preserved t c =
+    let parts = c.args.parts.now in
+    let i = c.loop-part.part-index in
+    let s = state_of c.loop-part.known c.loop-part.found in
+    let ended = state_of c.run_part.new.known c.run_part.new.found in (
+      part_done c.args.inside c.args.turns.now parts i c.part-item.result c.loop-part-test.true c.part-item.is s ended c.in_ok-run_part.ensures _ c.loop-part.invariant.0,
+      part_load c.args.inside c.args.turns.now parts i c.part-item.result c.loop-part-test.true c.part-item.is s ended c.in_ok-run_part.ensures c.args.found.now.load c.loop-part.invariant.1,
+    )

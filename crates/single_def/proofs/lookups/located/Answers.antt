@@ -7,6 +7,7 @@ use Rattle.name_check.specs.Meanings.{are_dims}
 use Rattle.single_def.specs.Private.Plans.{first_of}
 use Rattle.single_def.specs.Private.Scopes.{function_of}
 use Rattle.single_def.proofs.Callees.{within, length-signals_from, first_signal, all_pass}
+use Rattle.single_def.proofs.KnownNames.{not_located}
 use Rattle.single_def.proofs.lookups.located.Goals as goal
 
 pub bounds-scope-d : goal.bounds-scope-d
@@ -22,8 +23,8 @@ offset_bounds-scope-d c =
     let inside : c.in-Some.d < length c.args.scope.now.signals.now = omega (arith, within (decls f) c.in-Some.d c.in-Some.decl.now here, ap length c.args.scope.now.counted, length-signals_from 0 (decls f)) in
     search rules
 
-pub returns-in-Some-clause-signal : goal.returns-in-Some-clause-signal
-returns-in-Some-clause-signal c =
+pub returns-clause-signal : goal.returns-clause-signal
+returns-clause-signal c =
     let f = function_of c.args.scope.now in
     let d = c.in-Some.d in
     let decl = c.in-Some.decl.now in
@@ -32,8 +33,12 @@ returns-in-Some-clause-signal c =
     let first = ap (λ (signals : List Signal). (slice_index_or signals d other).first) c.args.scope.now.counted ∙ first_signal 0 (decls f) d decl other here ∙ zero-add (first_of (decls f) d) in
     ap (λ n. Some (n, decl)) first ∙ ap (option_map (λ (q : ℕ × Decl). (first_of (decls f) q.0, q.1))) c.in-Some.ensures
 
-pub returns-in-Some-clause-sized : goal.returns-in-Some-clause-sized
-returns-in-Some-clause-sized c =
+pub returns-clause-sized : goal.returns-clause-sized
+returns-clause-sized c =
     let f = function_of c.args.scope.now in
     let here = declared_at f c.args.name.now c.in-Some.d c.in-Some.decl.now (sym c.in-Some.ensures) in
     all_pass (λ d. are_dims d.dims) (decls f) c.in-Some.d c.in-Some.decl.now c.args.scope.now.sized here
+
+pub unreachable-requires : goal.unreachable-requires
+unreachable-requires c =
+    not_located (function_of c.args.scope.now) c.args.name.now (rw c.in-None.is at c.signal.ensures) c.requires

@@ -9,4 +9,4 @@ returns c =
     let i = c.loop-i.i in
     let over : (length c.args.results.now ≤ i) ⊎ (length c.args.places.now ≤ i) = grind arith in
     let none = takers_end (function_of c.args.scope.now) c.args.loops.now c.args.results.now c.args.places.now i over in
-    sym (append-nil (viewed c.loop-i.actions)) ∙ sym (ap (λ xs. viewed c.loop-i.actions ++ xs) none) ∙ c.loop-i.invariant
+    sym (append-nil (viewed c.loop-i.actions)) ∙ sym (ap (λ xs. viewed c.loop-i.actions ++ xs) none) ∙ c.loop-i.invariant.planned

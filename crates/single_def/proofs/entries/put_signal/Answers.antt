@@ -2,7 +2,7 @@ use Rattle.std.proofs.Common.{ℕ, arith}
 use Rattle.std.proofs.lemmas.Grind.{common_steps}
 use Rattle.std.proofs.lemmas.List.FromFn.{map-range_with_len_more}
 use Rattle.single_def.specs.declared.elements.Element.{Element}
-use Rattle.single_def.proofs.found.put_signal.Goals as goal
+use Rattle.single_def.proofs.entries.put_signal.Goals as goal
 
 pub loop-place-preserved : goal.loop-place-preserved
 loop-place-preserved c =

@@ -1,0 +1,11 @@
+use Rattle.silage_syntax.specs.Tree.{Func, view_place}
+use Rattle.std.proofs.Common.{map}
+use Rattle.silage_syntax.specs.Names.{function_named}
+use Rattle.single_def.specs.Private.Names.{TakeAll}
+use Rattle.single_def.specs.Private.Scopes.{program_of, function_of}
+use Rattle.single_def.proofs.KnownNames.{some_there}
+use Rattle.single_def.proofs.items.put_call.Goals as goal
+
+pub function-position-requires : goal.function-position-requires
+function-position-requires c =
+    some_there (λ (g : Func). TakeAll (function_of c.args.scope.now) g.results (map view_place c.args.places.now)) (function_named (program_of c.args.scope.now) c.args.func.now) c.requires.callee

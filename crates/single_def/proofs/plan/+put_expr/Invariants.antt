@@ -1,0 +1,13 @@
+use Rattle.std.proofs.Common.{◌≡◌, ◌++◌, drop}
+use Rattle.silage_syntax.specs.Tree.{view_arms}
+use Rattle.single_def.specs.Private.Plans.{viewed, branch_checks}
+use Rattle.single_def.specs.Private.Names.{HaveReads}
+use Rattle.single_def.specs.Private.Scopes.{program_of, function_of}
+use Rattle.single_def.proofs.plan.+put_expr.Given as goal
+
+abbrev pub invariant-loop-arm : goal.invariant-loop-arm
+invariant-loop-arm l = record {
+  reads : HaveReads (program_of l.scope) (function_of l.scope) (view_arms (drop l.arm-index l.arms));
+  planned : viewed l.actions ++ branch_checks (program_of l.scope) (function_of l.scope) l.loops (view_arms (drop l.arm-index l.arms))
+      ≡ viewed l.fn.actions ++ branch_checks (program_of l.scope) (function_of l.scope) l.loops (view_arms l.arms);
+}
