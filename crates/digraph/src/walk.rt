@@ -48,7 +48,7 @@ struct Group {
 #[derive(Drop)]
 struct Walk {
     marks: Vec<Mark>,
-    /// Functions in the order in which the walk met them. Each reaches those after it.
+    /// Vertices in the order in which the walk met them. Each reaches those after it.
     active: Vec<u32>,
     /// The heads of their arcs that the walk has not followed.
     pending: Vec<u32>,

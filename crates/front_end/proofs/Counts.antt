@@ -1,12 +1,14 @@
 -- What is so of a program that a source is: it has no more tables and functions than the source has bytes, its numbers
--- are short, and it is a checked one where it has no fault.
+-- are short, its functions have results, and it is a checked one where it has no fault.
 use Rattle.std.proofs.Common.{arith, ℕ, ◌≤◌, List, length}
 use Rattle.fix_types.specs.Numbers.{AreNumbersShort}
 use Rattle.fix_types.proofs.ShortNumbers.{short_numbers as short_numbers_of_tokens}
 use Rattle.name_check.proofs.FewTops.{few_tops as few_tops_of_tokens}
 use Rattle.silage_lex.proofs.FewTokens.{few_tokens}
 use Rattle.silage_syntax.specs.Tree.{Program}
+use Rattle.single_def.specs.Signatures.{HaveResults}
 use Rattle.loop_expand.specs.Checked.{IsChecked}
+use Rattle.loop_expand.proofs.SomeSignals.{parameters_and_results}
 use Rattle.loop_expand.proofs.SourceChecked.{source_checked}
 use Rattle.front_end.specs.Faults.{IsRead}
 use Rattle.front_end.specs.Private.Checks.{HasNoFault}
@@ -17,6 +19,9 @@ few_tops source program h =
 
 pub short_numbers : (source : List ℕ) (program : Program) → IsRead source program → AreNumbersShort program
 short_numbers source program h = short_numbers_of_tokens source h.tokens program h.lexed h.parsed.is.derives
+
+pub results : (source : List ℕ) (program : Program) → IsRead source program → HaveResults program
+results source program h k f e = (parameters_and_results h.tokens program h.parsed.is.derives k f e).1
 
 pub checked : (source : List ℕ) (program : Program) → IsRead source program → HasNoFault program → IsChecked program
 checked source program h none =

@@ -5,9 +5,10 @@ use Rattle.silage_syntax.specs.Tree.{Program}
 use Rattle.name_check.specs.NameFaults.{name_faults}
 use Rattle.name_check.specs.declared.fault.NameFault.{NameFault}
 use Rattle.name_check.specs.declared.fault.NameFault.TheVariants as name
-use Rattle.single_def.specs.ElementFaults.{element_faults}
-use Rattle.single_def.specs.declared.fault.DefFault.{DefFault}
-use Rattle.single_def.specs.declared.fault.DefFault.TheVariants as def
+use Rattle.single_def.specs.ElementFaults.{placed_faults, without_place, element_faults}
+use Rattle.single_def.specs.declared.fault.PlacedFault.{PlacedFault}
+use Rattle.single_def.specs.declared.fault.PlacedFault.TheVariants as placed
+use Rattle.single_def.proofs.PlacedFaults.{element_first}
 use Rattle.fix_types.specs.TypeFaults.{type_faults}
 use Rattle.fix_types.specs.declared.fault.TypeFault.{TypeFault}
 use Rattle.fix_types.specs.declared.fault.TypeFault.TheVariants as kind
@@ -29,16 +30,16 @@ module _ (program : Program) where
   name_error (name.Size at) first = (tt, first (λ e. cc))
   name_error name.Memory first = tt
 
-  pub def_error : IsClear (name_faults program) → (fault : DefFault) → (fault ≢ def.Memory → IsFirst (element_faults program) fault)
-      → IsCheckError program (of_defs fault)
-  def_error clear (def.Index at) first = (tt, (clear, first (λ e. cc)))
-  def_error clear (def.Bounds at) first = (tt, (clear, first (λ e. cc)))
-  def_error clear (def.Delay at) first = (tt, (clear, first (λ e. cc)))
-  def_error clear (def.Shift at) first = (tt, (clear, first (λ e. cc)))
-  def_error clear (def.DefinedTwice at) first = (tt, (clear, first (λ e. cc)))
-  def_error clear (def.NotDefined at k) first = (tt, (clear, first (λ e. cc)))
-  def_error clear (def.TooLarge at) first = (tt, (clear, first (λ e. cc)))
-  def_error clear def.Memory first = tt
+  pub def_error : IsClear (name_faults program) → (fault : PlacedFault) → (fault ≢ placed.Memory → IsFirst (placed_faults program) fault)
+      → IsCheckError program (of_defs (without_place fault))
+  def_error clear (placed.Index at) first = (tt, (clear, element_first program (placed.Index at) (first (λ e. cc))))
+  def_error clear (placed.Bounds at) first = (tt, (clear, element_first program (placed.Bounds at) (first (λ e. cc))))
+  def_error clear (placed.Delay at) first = (tt, (clear, element_first program (placed.Delay at) (first (λ e. cc))))
+  def_error clear (placed.Shift at) first = (tt, (clear, element_first program (placed.Shift at) (first (λ e. cc))))
+  def_error clear (placed.DefinedTwice at) first = (tt, (clear, element_first program (placed.DefinedTwice at) (first (λ e. cc))))
+  def_error clear (placed.NotDefined at k) first = (tt, (clear, element_first program (placed.NotDefined at k) (first (λ e. cc))))
+  def_error clear (placed.TooLarge at) first = (tt, (clear, element_first program (placed.TooLarge at) (first (λ e. cc))))
+  def_error clear placed.Memory first = tt
 
   pub type_error : IsClear (name_faults program) → IsClear (element_faults program) → (fault : TypeFault)
       → (fault ≢ kind.Memory → IsFirst (type_faults program) fault) → IsCheckError program (of_types fault)

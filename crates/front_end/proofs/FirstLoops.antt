@@ -1,8 +1,8 @@
 -- The first delay-free loop of a program is that of its flat program.
 use Rattle.std.proofs.Common.{◌≡◌, sym, subst, ◌∙◌, ap, ap₂, arith, ℕ, ◌<◌, List, length}
 use Rattle.silage_syntax.specs.Tree.{Program}
-use Rattle.silage_meaning.specs.Instances.{Element, IsElement}
-use Rattle.silage_meaning.specs.Rules.{DependsNow, HasNoDelaylessLoop}
+use Rattle.silage_meaning.specs.Instances.{IsElement}
+use Rattle.silage_meaning.specs.Rules.{HasNoDelaylessLoop}
 use Rattle.single_def.specs.declared.elements.Element.{Element as Entry}
 use Rattle.single_def.specs.declared.elements.Elements.{Elements}
 use Rattle.single_def.specs.declared.elements.Instance.{Instance}
@@ -19,7 +19,7 @@ use Rattle.front_end.specs.Loops.{IsInLoop, IsFirstLoop}
 use Rattle.loop_expand.proofs.FlatLoops.{depends_back, depends_on}
 
 -- a program has one expansion
-one_expansion : (p : Program) (a b : Elements) → IsExpansion p a → IsExpansion p b → a ≡ b
+pub one_expansion : (p : Program) (a b : Elements) → IsExpansion p a → IsExpansion p b → a ≡ b
 one_expansion p a b h k =
     let instances : a.instances ≡ b.instances = h.instances ∙ sym k.instances in
     let elements : a.elements ≡ b.elements = h.elements ∙ ap (λ (is : List Instance). elements_in p 0 is) instances ∙ sym k.elements in

@@ -1,5 +1,5 @@
 -- A source has one program, or one first fault, and not both.
-use Rattle.std.proofs.Common.{◌≡◌, refl, sym, subst, ◌∙◌, ap, arith, ◌⊎◌, ℕ, ◌<◌, ◌≤◌, inl, inr, List, length}
+use Rattle.std.proofs.Common.{◌≡◌, refl, subst, ap, arith, ◌⊎◌, ℕ, ◌<◌, ◌≤◌, inl, inr, List, length}
 use Rattle.ranked_faults.specs.Ranked.{FaultSet, IsClear, IsFirst}
 use Rattle.ranked_faults.proofs.FirstFaults.{one_first}
 use Rattle.ranked_faults.proofs.TableFaults.{single_faults}
@@ -16,7 +16,7 @@ use Rattle.silage_parse.proofs.OneAnswer.{one_fault, within_no_fault}
 use Rattle.name_check.specs.NameFaults.{name_faults}
 use Rattle.name_check.proofs.NameAnswers.{names_single}
 use Rattle.single_def.specs.ElementFaults.{element_faults}
-use Rattle.single_def.specs.ElementRules.{element_rules}
+use Rattle.single_def.proofs.PlacedFaults.{single_elements}
 use Rattle.fix_types.specs.TypeFaults.{type_faults}
 use Rattle.fix_types.specs.TypeRules.{type_rules}
 use Rattle.front_end.specs.Answers.{IsFrontError}
@@ -53,7 +53,7 @@ module _ (program : Program) where
   first_once (Name f) (Kind g) a b = absurd (not_both (name_faults program) f b.0 a)
   first_once (Name f) (Loop g) a b = absurd (not_both (name_faults program) f b.0 a)
   first_once (Def f) (Name g) a b = absurd (not_both (name_faults program) g a.0 b)
-  first_once (Def f) (Def g) a b = ap Def (one_first (element_faults program) f g (single_faults (element_rules program)) a.1 b.1)
+  first_once (Def f) (Def g) a b = ap Def (one_first (element_faults program) f g (single_elements program) a.1 b.1)
   first_once (Def f) (Kind g) a b = absurd (not_both (element_faults program) f b.1 a.1)
   first_once (Def f) (Loop g) a b = absurd (not_both (element_faults program) f b.1 a.1)
   first_once (Kind f) (Name g) a b = absurd (not_both (name_faults program) g a.0 b)
@@ -72,7 +72,7 @@ module _ (program : Program) where
   first_once f (Parse g) a b = absurd b
 
 module _ (source : List ℕ) where
-  one_read : (p q : Program) → IsRead source p → IsRead source q → p ≡ q
+  pub one_read : (p q : Program) → IsRead source p → IsRead source q → p ≡ q
   one_read p q a b =
       let same : a.tokens ≡ b.tokens = tokens_once source a.tokens b.tokens a.lexed b.lexed in
       b.parsed.is.only p (subst (λ (ts : List Token). Derives ts p) same a.parsed.is.derives)

@@ -1,5 +1,7 @@
 pub mod Loops
 pub mod Faults
+pub mod Places
+pub mod Rejections
 pub mod Answers
 pub mod GraphOf
 pub mod Private

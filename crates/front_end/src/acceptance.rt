@@ -1,11 +1,13 @@
 //! From the bytes of a source to its program and its graph.
 
-ghost use Rattle.std.specs.Prelude.{◌≤◌, length, IfOk, IfErr};
+ghost use Rattle.std.specs.Prelude.{◌≡◌, ◌≤◌, length, None, IfOk, IfErr};
 ghost use Rattle.silage_syntax.specs.Tree.{Program as Tree, view};
 ghost use Rattle.signal_graph.specs.GraphRules.{IsGraph};
 ghost use Rattle.signal_graph.specs.GraphSolves.{IsGraphLoopless};
 ghost use Rattle.loop_expand.specs.KeepsProgram.{KeepsProgramSolutions};
 ghost use Rattle.front_end.specs.Answers.{IsFrontError, AnswersProgram, AnswersFault};
+ghost use Rattle.front_end.specs.Places.{IsLineOf, IsAbout};
+ghost use Rattle.front_end.specs.Rejections.{HasLine, HasElement};
 ghost use Rattle.front_end.specs.Faults.{source_limit, IsRead, HasProgram, IsFrontFault};
 ghost use Rattle.front_end.specs.GraphOf.{IsProgramGraph};
 ghost use Rattle.front_end.specs.declared.fault.FrontFault.{FrontFault as FaultType};
@@ -35,6 +37,9 @@ fn read_program(alloc: Global, source: &[u8]) -> Result<Program, Rejection>
     requires { length source.now ≤ source_limit }
     ensures ok { IfOk result (λ program. IsRead source.now (view program)) }
     ensures err { IfErr result (λ rejection. IsFrontError source.now rejection.error) }
+    ensures line { IfErr result (λ rejection. IsLineOf source.now rejection.error None rejection.line) }
+    ensures about { IfErr result (λ rejection. (p : Tree) → IsAbout p rejection.error None) }
+    ensures element { IfErr result (λ rejection. rejection.element ≡ None) }
 {
     let tokens = match lex(alloc, source) {
         Ok(tokens) => tokens,
@@ -56,6 +61,10 @@ pub fn accept(alloc: Global, source: &[u8]) -> Result<Accepted, Rejection>
     ensures loopless { IfOk result (λ accepted. IsGraphLoopless accepted.graph) }
     ensures keeps { IfOk result (λ accepted. KeepsProgramSolutions (view accepted.program) accepted.graph) }
     ensures err { IfErr result (λ rejection. IsFrontError source.now rejection.error) }
+
+    // Where the fault is, for a text that tells it.
+    ensures line { IfErr result (HasLine source.now) }
+    ensures element { IfErr result (HasElement source.now) }
 
     // What the source has is what the call answers, unless memory runs out.
     ensures each_program { (program : Tree) → HasProgram source.now program → AnswersProgram program result }

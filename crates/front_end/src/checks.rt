@@ -1,20 +1,25 @@
 //! The checks of a program that was read, and its graph.
 
-ghost use Rattle.std.specs.Prelude.{◌≡◌, IfOk, IfErr, OnOk};
+ghost use Rattle.std.specs.Prelude.{◌≡◌, ℕ, None, IfSome, IfOk, IfErr, OnOk};
 ghost use Rattle.silage_syntax.specs.Tree.{view};
 ghost use Rattle.single_def.specs.Expansion.{IsExpansion};
 ghost use Rattle.fix_types.specs.Translation.{typed_program};
 ghost use Rattle.fix_types.specs.TypedTree.{view_typed};
+ghost use Rattle.front_end.specs.Places.{IsNumbered, IsAbout};
+ghost use Rattle.front_end.specs.declared.fault.FrontError.TheVariants.{Fault, Memory};
+ghost use Rattle.front_end.specs.declared.fault.FrontFault.TheVariants.{Loop};
 ghost use Rattle.front_end.specs.Private.Checks.{HasSource, HasNoFault, IsCheckError, IsGraphFor};
+ghost use Rattle.front_end.specs.Private.Errors.{of_names, of_types};
+ghost use Rattle.front_end.specs.Private.Findings.{element_of, without_element, of_placed};
 
 use crate::fault::{FrontError, FrontFault};
 use crate::graph::graph_of;
 use crate::names::{ElementPlace, numbered_element};
-use fix_types::{Typed, check_types};
-use name_check::check_names;
+use fix_types::{TypeFault, Typed, check_types};
+use name_check::{NameFault, check_names};
 use signal_graph::Graph;
 use silage_syntax::Program;
-use single_def::{DefFault, Elements, check_defs};
+use single_def::{DefFault, Elements, PlacedFault, check_elements};
 use std::alloc::Global;
 
 /// What the checks give of a program.
@@ -31,37 +36,66 @@ pub(crate) struct Finding {
     pub element: Option<ElementPlace>,
 }
 
-impl From<FrontError> for Finding {
-    ghost from_gives = { λ error finding. finding.error ≡ error };
+impl From<NameFault> for Finding {
+    ghost from_gives = { λ fault finding. finding ≡ without_element (of_names fault) };
+
+    fn from(fault: NameFault) -> Self {
+        Finding {
+            error: FrontError::from(fault),
+            element: None,
+        }
+    }
+}
+
+impl From<PlacedFault> for Finding {
+    ghost from_gives = { λ fault finding. finding ≡ of_placed fault };
 
     /// Of the checks' faults, only that an element has no definition is about an element.
-    fn from(error: FrontError) -> Self {
-        let element = match error {
-            FrontError::Fault(FrontFault::Def(DefFault::NotDefined { at, place })) => {
-                Some(ElementPlace { at, place })
-            }
+    fn from(fault: PlacedFault) -> Self {
+        let element = match fault {
+            PlacedFault::NotDefined { at, place } => Some(ElementPlace { at, place }),
             _ => None,
         };
-        Finding { error, element }
+        Finding {
+            error: FrontError::from(DefFault::from(fault)),
+            element,
+        }
+    }
+}
+
+impl From<TypeFault> for Finding {
+    ghost from_gives = { λ fault finding. finding ≡ without_element (of_types fault) };
+
+    fn from(fault: TypeFault) -> Self {
+        Finding {
+            error: FrontError::from(fault),
+            element: None,
+        }
     }
 }
 
 /// Checks the names of a program, then its elements, then its types.
-fn check(alloc: Global, program: &Program) -> Result<Checked, FrontError>
+fn check(alloc: Global, program: &Program) -> Result<Checked, Finding>
     requires { HasSource (view program.now) }
     ensures ok { OnOk result (HasNoFault (view program.now)) }
     ensures elements { IfOk result (λ checked. IsExpansion (view program.now) checked.elements) }
     ensures typed { IfOk result (λ checked. view_typed checked.typed ≡ typed_program (view program.now)) }
-    ensures err { IfErr result (IsCheckError (view program.now)) }
+    ensures err { IfErr result (λ finding. IsCheckError (view program.now) finding.error) }
+    ensures about { IfErr result (λ finding. IsAbout (view program.now) finding.error (element_of finding)) }
 {
     let names = check_names(alloc, program)?;
-    let elements = check_defs(alloc, program, &names)?;
+    let elements = check_elements(alloc, program, &names)?;
     let typed = check_types(alloc, program, &names)?;
     Ok(Checked { elements, typed })
 }
 
 /// The element that a delay-free loop is about.
-fn looped(program: &Program, elements: &Elements, error: FrontError) -> Option<ElementPlace> {
+fn looped(program: &Program, elements: &Elements, error: FrontError) -> Option<ElementPlace>
+    requires { IsExpansion (view program.now) elements.now }
+    ensures found { (k : ℕ) → error ≡ Fault (Loop k)
+        → IfSome result (λ e. IsNumbered (view program.now) k e.at e.place) }
+    ensures none { error ≡ Memory → result ≡ None }
+{
     match error {
         FrontError::Fault(FrontFault::Loop { elem }) => numbered_element(program, elements, elem),
         _ => None,
@@ -74,6 +108,7 @@ pub(crate) fn checked_graph(alloc: Global, program: &Program) -> Result<Graph, F
     ensures ok { OnOk result (HasNoFault (view program.now)) }
     ensures graph { IfOk result (IsGraphFor (view program.now)) }
     ensures err { IfErr result (λ finding. IsCheckError (view program.now) finding.error) }
+    ensures about { IfErr result (λ finding. IsAbout (view program.now) finding.error (element_of finding)) }
 {
     let checked = check(alloc, program)?;
     match graph_of(alloc, &checked.typed, &checked.elements) {

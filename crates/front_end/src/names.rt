@@ -1,6 +1,10 @@
 //! The element that a fault is about, by which the text of the fault names it.
 
-ghost use Rattle.std.specs.Prelude.{◌≡◌, IfSome};
+ghost use Rattle.std.specs.Prelude.{◌≡◌, IfSome, option_copied, slice_get};
+ghost use Rattle.silage_syntax.specs.Names.{decls};
+ghost use Rattle.silage_syntax.specs.Tree.{view, view_func};
+ghost use Rattle.single_def.specs.Expansion.{IsExpansion};
+ghost use Rattle.front_end.specs.Places.{IsNumbered};
 
 use silage_syntax::{Decl, Func, Program, Top};
 use single_def::Elements;
@@ -63,7 +67,10 @@ pub(crate) fn numbered_element(
     program: &Program,
     elements: &Elements,
     number: u32,
-) -> Option<ElementPlace> {
+) -> Option<ElementPlace>
+    requires { IsExpansion (view program.now) elements.now }
+    ensures { IfSome result (λ e. IsNumbered (view program.now) number e.at e.place) }
+{
     let element = elements.elements.get(number as usize)?;
     let instance = elements.instances.get(element.inst as usize)?;
     let Top::Func(func) = program.tops.get(instance.func as usize)? else {
@@ -77,7 +84,9 @@ pub(crate) fn numbered_element(
 }
 
 /// The declaration with this position among the parameters, results and locals.
-fn declaration(func: &Func, position: usize) -> Option<&Decl> {
+fn declaration(func: &Func, position: usize) -> Option<&Decl>
+    ensures { option_copied result ≡ slice_get (decls (view_func func.now)) position }
+{
     func.params
         .iter()
         .chain(func.results.iter())

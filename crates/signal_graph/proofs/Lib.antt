@@ -6,6 +6,7 @@ pub mod OneSolution
 pub mod Heights
 pub mod Prefix
 pub mod Same
+pub mod OneRising
 pub mod OneGraph
 pub mod OnePruned
 pub mod PrunedSolves

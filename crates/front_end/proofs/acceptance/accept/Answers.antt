@@ -5,6 +5,7 @@ use Rattle.signal_graph.specs.declared.graph.Graph.{Graph}
 use Rattle.front_end.specs.Faults.{IsRead, HasProgram}
 use Rattle.front_end.specs.Private.Checks.{HasNoFault, IsGraphFor}
 use Rattle.front_end.proofs.FirstFaults.{source_error}
+use Rattle.front_end.proofs.FaultPlaces.{early_line, early_element, late_line, late_element}
 use Rattle.front_end.proofs.OneAnswer.{one_program, program_error, fault_error, no_fault}
 use Rattle.front_end.proofs.acceptance.accept.Goals as goal
 
@@ -48,12 +49,12 @@ returns-in-Ok-clause-each_fault c = λ fault has.
 
 pub returns-in-Err-clause-err : goal.returns-in-Err-clause-err
 returns-in-Err-clause-err c =
-    rw c.reject.ensures
+    rw c.reject.ensures.error
     (source_error (view c.in_ok-program.program) c.args.source.now c.in_ok-program.ensures.ok c.in-Err.finding.error c.in-Err.ensures.err)
 
 pub returns-in-Err-clause-each_program : goal.returns-in-Err-clause-each_program
 returns-in-Err-clause-each_program c =
-    rw c.reject.ensures
+    rw c.reject.ensures.error
     (λ program has.
     program_error c.args.source.now c.in-Err.finding.error
     (source_error (view c.in_ok-program.program) c.args.source.now c.in_ok-program.ensures.ok c.in-Err.finding.error c.in-Err.ensures.err)
@@ -61,8 +62,30 @@ returns-in-Err-clause-each_program c =
 
 pub returns-in-Err-clause-each_fault : goal.returns-in-Err-clause-each_fault
 returns-in-Err-clause-each_fault c =
-    rw c.reject.ensures
+    rw c.reject.ensures.error
     (λ fault has.
     fault_error c.args.source.now c.in-Err.finding.error
     (source_error (view c.in_ok-program.program) c.args.source.now c.in_ok-program.ensures.ok c.in-Err.finding.error c.in-Err.ensures.err)
     fault has)
+
+pub returns-in_err-program-clause-line : goal.returns-in_err-program-clause-line
+returns-in_err-program-clause-line c =
+    let p = err_from_is_err_and c.from_residual.result c.from_residual.ensures.1 in
+    rw (p.1, p.2)
+    (early_line c.args.source.now c.in_err-program.field-0.0 c.in_err-program.ensures.element c.in_err-program.ensures.line)
+
+pub returns-in_err-program-clause-element : goal.returns-in_err-program-clause-element
+returns-in_err-program-clause-element c =
+    let p = err_from_is_err_and c.from_residual.result c.from_residual.ensures.1 in
+    rw (p.1, p.2)
+    (early_element c.args.source.now c.in_err-program.field-0.0 c.in_err-program.ensures.element c.in_err-program.ensures.about)
+
+pub returns-in-Err-clause-line : goal.returns-in-Err-clause-line
+returns-in-Err-clause-line c =
+    late_line c.args.source.now c.in_ok-program.program c.in_ok-program.ensures.ok c.in-Err.finding c.reject.result
+    c.reject.ensures.error c.reject.ensures.element c.in-Err.ensures.err c.reject.ensures.line
+
+pub returns-in-Err-clause-element : goal.returns-in-Err-clause-element
+returns-in-Err-clause-element c =
+    late_element c.args.source.now c.in_ok-program.program c.in_ok-program.ensures.ok c.in-Err.finding c.reject.result
+    c.reject.ensures.error c.reject.ensures.element c.in-Err.ensures.about

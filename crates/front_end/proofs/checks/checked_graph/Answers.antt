@@ -1,6 +1,7 @@
 use Rattle.silage_syntax.specs.Tree.{view}
 use Rattle.front_end.proofs.Counts.{checked}
 use Rattle.front_end.proofs.FirstFaults.{graph_error}
+use Rattle.front_end.proofs.FaultPlaces.{graph_about}
 use Rattle.front_end.proofs.checks.checked_graph.Goals as goal
 
 pub graph_of-requires : goal.graph_of-requires
@@ -29,3 +30,13 @@ returns-clause-err c =
       program = c.in_ok-checked.ensures.typed;
       elements = c.in_ok-checked.ensures.elements;
     }))
+
+pub returns-clause-about : goal.returns-clause-about
+returns-clause-about c =
+    graph_about (view c.args.program.now) c.in-Err.error c.looped.result
+    (c.in-Err.ensures.err (view c.args.program.now) (record {
+      checked = checked c.requires.0 (view c.args.program.now) c.requires.1 c.in_ok-checked.ensures.ok;
+      program = c.in_ok-checked.ensures.typed;
+      elements = c.in_ok-checked.ensures.elements;
+    }))
+    c.looped.ensures.found c.looped.ensures.none
