@@ -14,14 +14,15 @@ use Rattle.sample_io.specs.declared.read.Part.{Part}
 use Rattle.sample_io.specs.declared.read.Part.TheVariants.{Empty, Minus, Digits, Return}
 use Rattle.sample_io.specs.Channels.{IsInChannel, IsChannel, AreChannels}
 use Rattle.sample_io.specs.Samples.{signed, signed_text, IsWord, no_words, one_more, RowText, IsLine, BeginsRow}
-use Rattle.sample_io.specs.Private.Reading.{IsPart, with_comma, LineSoFar, HasDigit, TakesByte}
+use Rattle.sample_io.specs.Begun.{IsPart, with_comma, LineSoFar}
+use Rattle.sample_io.specs.Private.Reading.{HasDigit, TakesByte}
 use Rattle.sample_io.specs.declared.read.Progress.{Progress}
 use Rattle.sample_io.specs.declared.read.Progress.TheVariants.{Within, Word, Row}
 use Rattle.std.proofs.lemmas.Int.{ints}
 use Rattle.std.proofs.lemmas.Str.Parse.{digit_from_value}
 use Rattle.std.proofs.Math.Seq.{get_or-append_seam}
 use Rattle.sample_io.proofs.Machine.{Reached, At, Ended, opened, at_last, step, run, run_line, run_line_on, digit, digit_refused}
-use Rattle.sample_io.proofs.Rows.{AreWords-append, row_text}
+use Rattle.sample_io.proofs.Texts.{AreWords-append, row_text}
 use Rattle.sample_io.proofs.Runs.{line_run, so_far_run, of_middle}
 
 -- a line without a line feed, and a byte that is none

@@ -1,8 +1,6 @@
 -- One byte more of a file, and its end.
-use Rattle.std.proofs.Common.{◌≡◌, ℕ, ◌+◌, ◌<◌, ◌≤◌, Bool, List, [], ◌∷◌, ◌++◌, length, take, Contains, ℤ, Option, Some, None, refl, ap, sym, ◌∙◌, subst, append_assoc, arith, inl, inr}
+use Rattle.std.proofs.Common.{◌≡◌, ℕ, ◌+◌, ◌<◌, ◌≤◌, Bool, List, [], ◌∷◌, ◌++◌, length, take, Contains, ℤ, Some, Ok, refl, ap, sym, ◌∙◌, subst, append_assoc, arith, inl, inr}
 use Rattle.std.specs.List.{flat_map}
-use Rattle.std.specs.Option.{option_to_list}
-use Rattle.std.proofs.lemmas.Grind.{flat_map-append}
 use Rattle.std.proofs.lemmas.List.{append-nil, length-append, nil_from_length}
 use Rattle.std.proofs.Math.Seq.{take-append_seam, take-append-add, take-length}
 use Rattle.sample_io.specs.declared.channel.Channel.{Channel}
@@ -12,16 +10,13 @@ use Rattle.sample_io.specs.declared.read.Progress.{Progress}
 use Rattle.sample_io.specs.declared.read.Progress.TheVariants.{Within, Word, Row}
 use Rattle.sample_io.specs.declared.read.Reader.{Reader}
 use Rattle.sample_io.specs.Channels.{AreChannels}
-use Rattle.sample_io.specs.Samples.{AreWords, no_words, one_more, RowText, IsLine, Lines, RowsOf, BeginsRow, IsFirstBadPlace, signed}
-use Rattle.sample_io.specs.Private.Reading.{LineSoFar, TakesByte, ReadSoFar, with_comma, IsPart, word_of}
+use Rattle.sample_io.specs.Begun.{LineSoFar, ReadSoFar, with_comma, IsPart}
+use Rattle.sample_io.specs.Samples.{AreWords, no_words, one_more, RowText, IsLine, Lines, LacksLastEnd, BeginsRow, IsFirstBadPlace, StopsAfter, signed}
+use Rattle.sample_io.specs.Private.Reading.{TakesByte, ReadsByte}
 use Rattle.sample_io.proofs.Bytes.{word_of_digits, last_text, left_length}
 use Rattle.sample_io.proofs.Machine.{At}
-use Rattle.sample_io.proofs.Rows.{so_far_begins}
+use Rattle.sample_io.proofs.Texts.{so_far_begins}
 use Rattle.sample_io.proofs.Runs.{so_far_run, text_run}
-
--- the words of rows, one after another
-abbrev all_words : List (List ℤ) → List ℤ
-all_words rows = flat_map (λ r. r) rows
 
 -- no byte yet
 fresh : (channels : List Channel) → AreChannels channels → LineSoFar channels [] [] (record { column = 0; part = Empty })
@@ -41,15 +36,12 @@ fresh (channel ∷ channels) are = record {
 }
 
 -- no byte of the file yet
-pub nothing_read : (channels : List Channel) → AreChannels channels → (words : List ℤ) (reader : Reader) → words ≡ [] → reader ≡ record { line = 1; at = 0; state = record { column = 0; part = Empty } }
-    → ReadSoFar channels [] words reader
-nothing_read channels are words reader none is = record {
-  rows = [];
-  row = [];
+pub nothing_read : (channels : List Channel) → AreChannels channels → (reader : Reader) → reader ≡ record { line = 1; at = 0; state = record { column = 0; part = Empty } }
+    → ReadSoFar channels [] [] [] reader
+nothing_read channels are reader is = record {
   front = [];
   line = [];
   bytes_are = refl;
-  words_are = none;
   before = refl;
   so_far = subst (λ (r : Reader). LineSoFar channels [] [] r.state) (sym is) (fresh channels are);
   number = ap (λ (r : Reader). r.line) is;
@@ -73,10 +65,10 @@ pub record Small (bytes : List ℕ) (reader : Reader) : Type 0 where
   pub line : reader.line ≤ length bytes + 1
   pub at : reader.at ≤ length bytes
 
-pub small : (channels : List Channel) (bytes : List ℕ) (words : List ℤ) (reader : Reader) → ReadSoFar channels bytes words reader → Small bytes reader
-small channels bytes words reader h =
+pub small : (channels : List Channel) (bytes : List ℕ) (rows : List (List ℤ)) (words : List ℤ) (reader : Reader) → ReadSoFar channels bytes rows words reader → Small bytes reader
+small channels bytes rows words reader h =
     let all = ap length h.bytes_are ∙ length-append h.front h.line in
-    record { line = omega (arith, all, lines_few h.front channels h.rows h.before, h.number); at = omega (arith, all, h.at) }
+    record { line = omega (arith, all, lines_few h.front channels rows h.before, h.number); at = omega (arith, all, h.at) }
 
 Lines-push : (bytes : List ℕ) (channels : List Channel) (rows : List (List ℤ)) (line : List ℕ) (row : List ℤ) → Lines bytes channels rows → IsLine channels line row
     → Lines (bytes ++ line) channels (rows ++ row ∷ [])
@@ -85,100 +77,95 @@ Lines-push bytes channels (first ∷ rows) line row h is =
     (h.0, h.1 ++ line, ap (λ b. b ++ line) h.2 ∙ append_assoc h.0 h.1 line, h.3, Lines-push h.1 channels rows line row h.4 is)
 
 -- the byte goes on with the line
-goes_on : (channels : List Channel) (bytes : List ℕ) (words : List ℤ) (reader new : Reader) (h : ReadSoFar channels bytes words reader) (byte : ℕ) (last : Option ℤ)
-    → LineSoFar channels (h.line ++ byte ∷ []) (h.row ++ option_to_list last) new.state → new.line ≡ reader.line → new.at ≡ reader.at + 1
-    → ReadSoFar channels (bytes ++ byte ∷ []) (words ++ option_to_list last) new
-goes_on channels bytes words reader new h byte last now line at = record {
-  rows = h.rows;
-  row = h.row ++ option_to_list last;
+goes_on : (channels : List Channel) (bytes : List ℕ) (rows : List (List ℤ)) (words : List ℤ) (reader new : Reader) (h : ReadSoFar channels bytes rows words reader) (byte : ℕ) (more : List ℤ)
+    → LineSoFar channels (h.line ++ byte ∷ []) more new.state → new.line ≡ reader.line → new.at ≡ reader.at + 1
+    → ReadSoFar channels (bytes ++ byte ∷ []) rows more new
+goes_on channels bytes rows words reader new h byte more now line at = record {
   front = h.front;
   line = h.line ++ byte ∷ [];
   bytes_are = ap (λ b. b ++ byte ∷ []) h.bytes_are ∙ append_assoc h.front h.line (byte ∷ []);
-  words_are = ap (λ w. w ++ option_to_list last) h.words_are ∙ append_assoc (all_words h.rows) h.row (option_to_list last);
   before = h.before;
   so_far = now;
   number = line ∙ h.number;
   at = at ∙ ap (λ n. n + 1) h.at ∙ sym (length-append h.line (byte ∷ []));
 }
 
-all_words-push : (rows : List (List ℤ)) (row : List ℤ) → all_words (rows ++ row ∷ []) ≡ all_words rows ++ row
-all_words-push rows row = flat_map-append (λ r. r) rows (row ∷ []) ∙ ap (λ l. all_words rows ++ l) (append-nil row)
-
 -- the byte ends the line as a row
-ends_line : (channels : List Channel) → AreChannels channels → (bytes : List ℕ) (words : List ℤ) (reader new : Reader) (h : ReadSoFar channels bytes words reader) (byte : ℕ) (word : ℤ)
-    → IsLine channels (h.line ++ byte ∷ []) (h.row ++ word ∷ []) → new.line ≡ reader.line + 1 → new.at ≡ 0 → new.state ≡ record { column = 0; part = Empty }
-    → ReadSoFar channels (bytes ++ byte ∷ []) (words ++ word ∷ []) new
-ends_line channels are bytes words reader new h byte word is line at state =
-    let row = h.row ++ word ∷ [] in
-    record {
-      rows = h.rows ++ row ∷ [];
-      row = [];
-      front = h.front ++ (h.line ++ byte ∷ []);
-      line = [];
-      bytes_are = ap (λ b. b ++ byte ∷ []) h.bytes_are ∙ append_assoc h.front h.line (byte ∷ []) ∙ sym (append-nil (h.front ++ (h.line ++ byte ∷ [])));
-      words_are = ap (λ w. w ++ word ∷ []) h.words_are ∙ append_assoc (all_words h.rows) h.row (word ∷ []) ∙ sym (append-nil (all_words (h.rows ++ row ∷ [])) ∙ all_words-push h.rows row);
-      before = Lines-push h.front channels h.rows (h.line ++ byte ∷ []) row h.before is;
-      so_far = subst (LineSoFar channels [] []) (sym state) (fresh channels are);
-      number = line ∙ ap (λ n. n + 1) (h.number ∙ sym (length-append h.rows (row ∷ [])));
-      at = at;
-    }
+ends_line : (channels : List Channel) → AreChannels channels → (bytes : List ℕ) (rows : List (List ℤ)) (words : List ℤ) (reader new : Reader) (h : ReadSoFar channels bytes rows words reader) (byte : ℕ) (row : List ℤ)
+    → IsLine channels (h.line ++ byte ∷ []) row → new.line ≡ reader.line + 1 → new.at ≡ 0 → new.state ≡ record { column = 0; part = Empty }
+    → Lines (bytes ++ byte ∷ []) channels (rows ++ row ∷ []) × ReadSoFar channels (bytes ++ byte ∷ []) (rows ++ row ∷ []) [] new
+ends_line channels are bytes rows words reader new h byte row is line at state =
+    let all : bytes ++ byte ∷ [] ≡ h.front ++ (h.line ++ byte ∷ []) = ap (λ b. b ++ byte ∷ []) h.bytes_are ∙ append_assoc h.front h.line (byte ∷ []) in
+    let lines = Lines-push h.front channels rows (h.line ++ byte ∷ []) row h.before is in (
+      subst (λ b. Lines b channels (rows ++ row ∷ [])) (sym all) lines,
+      record {
+        front = h.front ++ (h.line ++ byte ∷ []);
+        line = [];
+        bytes_are = all ∙ sym (append-nil (h.front ++ (h.line ++ byte ∷ [])));
+        before = lines;
+        so_far = subst (LineSoFar channels [] []) (sym state) (fresh channels are);
+        number = line ∙ ap (λ n. n + 1) (h.number ∙ sym (length-append rows (row ∷ [])));
+        at = at;
+      },
+    )
 
 -- the byte begins no row, whatever comes behind it
-pub bad_byte : (channels : List Channel) → AreChannels channels → (bytes : List ℕ) (words : List ℤ) (reader : Reader) (h : ReadSoFar channels bytes words reader) (byte : ℕ)
-    → (BeginsRow channels (h.line ++ byte ∷ []) → ⊥) → (more : List ℕ) → IsFirstBadPlace (bytes ++ byte ∷ more) channels (record { line = reader.line; at = reader.at })
-bad_byte channels are bytes words reader h byte none more =
+pub bad_byte : (channels : List Channel) → AreChannels channels → (bytes : List ℕ) (rows : List (List ℤ)) (words : List ℤ) (reader : Reader) (h : ReadSoFar channels bytes rows words reader) (byte : ℕ)
+    → (BeginsRow channels (h.line ++ byte ∷ []) → ⊥) → (more : List ℕ) → StopsAfter channels (bytes ++ byte ∷ more) rows (record { line = reader.line; at = reader.at })
+bad_byte channels are bytes rows words reader h byte none more =
     let rest = h.line ++ byte ∷ more in
     let front_is : take reader.at rest ≡ h.line = ap (λ n. take n rest) h.at ∙ take-append_seam h.line (byte ∷ more) in
     let next_is : take (reader.at + 1) rest ≡ h.line ++ byte ∷ [] = ap (λ n. take (n + 1) rest) h.at ∙ take-append-add h.line (byte ∷ more) 1 in
-    record {
-      rows = h.rows;
+    let bad : IsFirstBadPlace (bytes ++ byte ∷ more) channels (record { line = reader.line; at = reader.at }) = record {
+      rows = rows;
       front = h.front;
       rest = rest;
       bytes_are = ap (λ b. b ++ byte ∷ more) h.bytes_are ∙ append_assoc h.front h.line (byte ∷ more);
       before = h.before;
       line = h.number;
       same_line = subst (λ l. Contains l 10 → ⊥) (sym front_is) h.so_far.unended;
-      begins = subst (BeginsRow channels) (sym front_is) (so_far_begins channels are h.line h.row reader.state h.so_far);
+      begins = subst (BeginsRow channels) (sym front_is) (so_far_begins channels are h.line words reader.state h.so_far);
       stops = inl (omega (arith, h.at, length-append h.line (byte ∷ more)), λ b. none (subst (BeginsRow channels) next_is b));
-    }
+    } in
+    (bad, refl)
 
 -- the input ends within a line that is no row
-pub bad_end : (channels : List Channel) → AreChannels channels → (bytes : List ℕ) (words : List ℤ) (reader : Reader) (h : ReadSoFar channels bytes words reader)
-    → 0 < reader.at → ((row : List ℤ) → RowText channels h.line row → ⊥) → IsFirstBadPlace bytes channels (record { line = reader.line; at = reader.at })
-bad_end channels are bytes words reader h some none =
+pub bad_end : (channels : List Channel) → AreChannels channels → (bytes : List ℕ) (rows : List (List ℤ)) (words : List ℤ) (reader : Reader) (h : ReadSoFar channels bytes rows words reader)
+    → 0 < reader.at → ((row : List ℤ) → RowText channels h.line row → ⊥) → StopsAfter channels bytes rows (record { line = reader.line; at = reader.at })
+bad_end channels are bytes rows words reader h some none =
     let front_is : take reader.at h.line ≡ h.line = ap (λ n. take n h.line) h.at ∙ take-length h.line in
-    record {
-      rows = h.rows;
+    let bad : IsFirstBadPlace bytes channels (record { line = reader.line; at = reader.at }) = record {
+      rows = rows;
       front = h.front;
       rest = h.line;
       bytes_are = h.bytes_are;
       before = h.before;
       line = h.number;
       same_line = subst (λ l. Contains l 10 → ⊥) (sym front_is) h.so_far.unended;
-      begins = subst (BeginsRow channels) (sym front_is) (so_far_begins channels are h.line h.row reader.state h.so_far);
+      begins = subst (BeginsRow channels) (sym front_is) (so_far_begins channels are h.line words reader.state h.so_far);
       stops = inr (h.at, some, none);
-    }
+    } in
+    (bad, refl)
 
 -- a byte that ended a row
-pub row_read : (channels : List Channel) → AreChannels channels → (bytes : List ℕ) (words : List ℤ) (reader : Reader) (h : ReadSoFar channels bytes words reader) (byte : ℕ)
-    → (progress : Progress) (word : ℤ) (state : LineState) → TakesByte channels h.line h.row byte (Some progress) state → progress ≡ Row word
-    → ReadSoFar channels (bytes ++ byte ∷ []) (words ++ option_to_list (word_of progress)) (record { line = reader.line + 1; at = 0; state = state })
-row_read channels are bytes words reader h byte progress word state takes is =
-    let ended : TakesByte channels h.line h.row byte (Some (Row word)) state = subst (λ p. TakesByte channels h.line h.row byte (Some p) state) is takes in
+pub row_read : (channels : List Channel) → AreChannels channels → (bytes : List ℕ) (rows : List (List ℤ)) (words : List ℤ) (reader : Reader) (h : ReadSoFar channels bytes rows words reader) (byte : ℕ)
+    → (progress : Progress) (word : ℤ) (state : LineState) → TakesByte channels h.line words byte (Some progress) state → progress ≡ Row word
+    → ReadsByte channels bytes rows words byte (Ok progress) (record { line = reader.line + 1; at = 0; state = state })
+row_read channels are bytes rows words reader h byte progress word state takes is =
+    let ended : TakesByte channels h.line words byte (Some (Row word)) state = subst (λ p. TakesByte channels h.line words byte (Some p) state) is takes in
     let new : Reader = record { line = reader.line + 1; at = 0; state = state } in
-    subst (λ p. ReadSoFar channels (bytes ++ byte ∷ []) (words ++ option_to_list (word_of p)) new) (sym is)
-    (ends_line channels are bytes words reader new h byte word ended.0 refl refl ended.1)
+    subst (λ p. ReadsByte channels bytes rows words byte (Ok p) new) (sym is)
+    (ends_line channels are bytes rows words reader new h byte (words ++ word ∷ []) ended.0 refl refl ended.1)
 
 -- a byte that ended none
-pub byte_read : (channels : List Channel) (bytes : List ℕ) (words : List ℤ) (reader : Reader) (h : ReadSoFar channels bytes words reader) (byte : ℕ)
-    → (progress : Progress) (state : LineState) → TakesByte channels h.line h.row byte (Some progress) state → ((word : ℤ) → progress ≡ Row word → ⊥)
-    → ReadSoFar channels (bytes ++ byte ∷ []) (words ++ option_to_list (word_of progress)) (record { line = reader.line; at = reader.at + 1; state = state })
-byte_read channels bytes words reader h byte Within state takes no_row =
-    goes_on channels bytes words reader (record { line = reader.line; at = reader.at + 1; state = state }) h byte None
-    (subst (λ r. LineSoFar channels (h.line ++ byte ∷ []) r state) (sym (append-nil h.row)) takes) refl refl
-byte_read channels bytes words reader h byte (Word word) state takes no_row =
-    goes_on channels bytes words reader (record { line = reader.line; at = reader.at + 1; state = state }) h byte (Some word) takes refl refl
-byte_read channels bytes words reader h byte (Row word) state takes no_row = absurd (no_row word refl)
+pub byte_read : (channels : List Channel) (bytes : List ℕ) (rows : List (List ℤ)) (words : List ℤ) (reader : Reader) (h : ReadSoFar channels bytes rows words reader) (byte : ℕ)
+    → (progress : Progress) (state : LineState) → TakesByte channels h.line words byte (Some progress) state → ((word : ℤ) → progress ≡ Row word → ⊥)
+    → ReadsByte channels bytes rows words byte (Ok progress) (record { line = reader.line; at = reader.at + 1; state = state })
+byte_read channels bytes rows words reader h byte Within state takes no_row =
+    goes_on channels bytes rows words reader (record { line = reader.line; at = reader.at + 1; state = state }) h byte words takes refl refl
+byte_read channels bytes rows words reader h byte (Word word) state takes no_row =
+    goes_on channels bytes rows words reader (record { line = reader.line; at = reader.at + 1; state = state }) h byte (words ++ word ∷ []) takes refl refl
+byte_read channels bytes rows words reader h byte (Row word) state takes no_row = absurd (no_row word refl)
 
 -- the line so far is a row's text where its last word is digits in the last column
 pub is_text : (channels : List Channel) (line : List ℕ) (words : List ℤ) (state : LineState) (h : LineSoFar channels line words state) (negative : Bool) (magnitude : ℕ)
@@ -212,23 +199,16 @@ no_texts done texts words text (one_more {text = first} {texts = others} here re
     absurd (omega (arith, e, length-append (with_comma first ++ flat_map with_comma others) text, length-append (with_comma first) (flat_map with_comma others), length-append first (44 ∷ [])))
 
 -- the end of input behind whole lines
-pub end_of_lines : (channels : List Channel) (bytes : List ℕ) (words : List ℤ) (reader : Reader) → ReadSoFar channels bytes words reader → reader.at ≡ 0
-    → (rows : List (List ℤ)) × RowsOf bytes channels rows × (words ++ [] ≡ all_words rows)
-end_of_lines channels bytes words reader h e =
+pub end_of_lines : (channels : List Channel) (bytes : List ℕ) (rows : List (List ℤ)) (words : List ℤ) (reader : Reader) → ReadSoFar channels bytes rows words reader → reader.at ≡ 0
+    → Lines bytes channels rows × (words ≡ [])
+end_of_lines channels bytes rows words reader h e =
     let none : length h.line ≡ 0 = omega (arith, h.at, e) in
-    let no_row : h.row ≡ [] = no_texts h.so_far.done h.so_far.texts h.row h.so_far.text h.so_far.whole (sym (ap length h.so_far.line_is) ∙ none) in
-    let all : bytes ≡ h.front = h.bytes_are ∙ ap (λ l. h.front ++ l) (nil_from_length h.line none) ∙ append-nil h.front in (
-      h.rows,
-      inl (subst (λ b. Lines b channels h.rows) (sym all) h.before),
-      append-nil words ∙ h.words_are ∙ ap (λ r. all_words h.rows ++ r) no_row ∙ append-nil (all_words h.rows),
-    )
+    let no_word : words ≡ [] = no_texts h.so_far.done h.so_far.texts words h.so_far.text h.so_far.whole (sym (ap length h.so_far.line_is) ∙ none) in
+    let all : bytes ≡ h.front = h.bytes_are ∙ ap (λ l. h.front ++ l) (nil_from_length h.line none) ∙ append-nil h.front in
+    (subst (λ b. Lines b channels rows) (sym all) h.before, no_word)
 
 -- the end of input behind a row's text
-pub end_of_text : (channels : List Channel) (bytes : List ℕ) (words : List ℤ) (reader : Reader) (h : ReadSoFar channels bytes words reader) (word : ℤ)
-    → RowText channels h.line (h.row ++ word ∷ []) → (rows : List (List ℤ)) × RowsOf bytes channels rows × (words ++ word ∷ [] ≡ all_words rows)
-end_of_text channels bytes words reader h word text =
-    let row = h.row ++ word ∷ [] in (
-      h.rows ++ row ∷ [],
-      inr (record { front = h.front; text = h.line; before = h.rows; last = row; bytes_are = h.bytes_are; rows_are = refl; lines = h.before; row_text = text }),
-      ap (λ w. w ++ word ∷ []) h.words_are ∙ append_assoc (all_words h.rows) h.row (word ∷ []) ∙ sym (all_words-push h.rows row),
-    )
+pub end_of_text : (channels : List Channel) (bytes : List ℕ) (rows : List (List ℤ)) (words : List ℤ) (reader : Reader) (h : ReadSoFar channels bytes rows words reader) (word : ℤ)
+    → RowText channels h.line (words ++ word ∷ []) → LacksLastEnd bytes channels (rows ++ (words ++ word ∷ []) ∷ [])
+end_of_text channels bytes rows words reader h word text =
+    record { front = h.front; text = h.line; before = rows; last = words ++ word ∷ []; bytes_are = h.bytes_are; rows_are = refl; lines = h.before; row_text = text }

@@ -1,10 +1,12 @@
 pub mod Printing
 mod Machine
 mod Runs
-mod Rows
+mod Texts
 mod Bytes
 mod Files
+mod Words
 pub mod Streams
 mod Lists
 mod Outcomes
+mod Feeding
 pub mod Held

@@ -12,7 +12,7 @@ use Rattle.sample_io.specs.Samples.{HoldsRows}
 all_words : List (List ℤ) → List ℤ
 all_words rows = flat_map (λ row. row) rows
 
-row_length : (channels : List Channel) (row : List ℤ) → IsRow channels row → length row ≡ length channels
+pub row_length : (channels : List Channel) (row : List ℤ) → IsRow channels row → length row ≡ length channels
 row_length [] [] h = refl
 row_length [] (word ∷ row) h = absurd h
 row_length (channel ∷ channels) [] h = absurd h

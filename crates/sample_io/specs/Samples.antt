@@ -111,6 +111,10 @@ pub record IsFirstBadPlace (bytes : List ℕ) (channels : List Channel) (fault :
   pub begins : BeginsRow channels (take fault.at rest)
   pub stops : StopsAt channels rest fault.at
 
+-- the fault names the first bad place of the bytes, and these are the rows of the lines before it
+abbrev pub StopsAfter : List Channel → List ℕ → Rows → RowFault → Type 0
+StopsAfter channels bytes rows fault = (bad : IsFirstBadPlace bytes channels fault) × (bad.rows ≡ rows)
+
 -- a row as it is written: no leading zeros, `0` for zero, and LF at the end
 abbrev pub printed_row : List ℤ → List ℕ
 printed_row row = join_with_byte comma (map signed_decimal row) ++ line_feed ∷ []

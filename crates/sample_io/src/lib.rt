@@ -4,11 +4,13 @@
 ghost use Rattle.std.specs.Prelude.{◌≡◌};
 
 mod channel;
+mod pieces;
 mod read;
 mod write;
 
 pub use channel::Channel;
 use lists::List;
+pub use pieces::{Rows, RowsFault, Step};
 pub use read::read_rows;
 use std::alloc::AllocError;
 use thiserror::Error;

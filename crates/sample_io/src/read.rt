@@ -14,7 +14,7 @@ use std::alloc::{AllocError, Global};
 
 /// What a line has of its last word.
 #[derive(Clone, Copy)]
-enum Part {
+pub(crate) enum Part {
     /// Nothing, at the start of the line or after a comma.
     Empty,
     /// A minus.
@@ -27,7 +27,7 @@ enum Part {
 
 /// What the last byte of a line has completed.
 #[derive(Clone, Copy)]
-enum Progress {
+pub(crate) enum Progress {
     /// Nothing.
     Within,
     /// A word. The line goes on.
@@ -50,7 +50,7 @@ impl Progress {
 
 /// The state of a line: the position of its last word in the row, and what there is of this word.
 #[derive(Clone, Copy)]
-struct LineState {
+pub(crate) struct LineState {
     column: usize,
     part: Part,
 }
@@ -212,7 +212,7 @@ fn signed_word(negative: bool, magnitude: u64) -> i64
 
 /// The position in a sample file, and the state of the line there.
 #[derive(Clone, Copy)]
-struct Reader {
+pub(crate) struct Reader {
     line: u64,
     at: u64,
     state: LineState,
@@ -220,7 +220,7 @@ struct Reader {
 
 impl Reader {
     /// A reader at the start of a sample file.
-    fn new() -> Reader
+    pub(crate) fn new() -> Reader
         ensures { result ≡ record { line = 1; at = 0; state = record { column = 0; part = Part.Empty } } }
     {
         Reader {
@@ -231,7 +231,7 @@ impl Reader {
     }
 
     /// Takes the next byte, unless it is the first bad one.
-    fn step(&mut self, channels: &[Channel], byte: u8) -> Result<Progress, RowFault>
+    pub(crate) fn step(&mut self, channels: &[Channel], byte: u8) -> Result<Progress, RowFault>
         requires channels { AreChannels channels.now }
         requires reader { IsReader channels.now self.old }
         ensures { Reads channels.now self.old byte result self.new }
@@ -249,7 +249,7 @@ impl Reader {
     }
 
     /// The end of input. Gives the last word of a row that lacks its end of line.
-    fn finish(&self, channels: &[Channel]) -> Result<Option<i64>, RowFault>
+    pub(crate) fn finish(&self, channels: &[Channel]) -> Result<Option<i64>, RowFault>
         requires channels { AreChannels channels.now }
         requires reader { IsReader channels.now self.now }
         ensures { Ends channels.now self.now result }
@@ -261,6 +261,13 @@ impl Reader {
             Some(word) => Ok(Some(word)),
             None => Err(self.fault()),
         }
+    }
+
+    /// The position in its row of the word that comes or is begun.
+    pub(crate) fn column(&self) -> usize
+        ensures { result ≡ self.now.state.column }
+    {
+        self.state.column
     }
 
     /// The position as a fault.

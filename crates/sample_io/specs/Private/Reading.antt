@@ -1,48 +1,18 @@
 -- What a reader knows of a sample file after the bytes that it has taken.
-use Rattle.std.specs.Prelude.{◌≡◌, ℕ, ◌+◌, ◌*◌, ◌<◌, ◌^◌, List, [], ◌∷◌, ◌++◌, length, Bool, Contains, ℤ, Option, Some, None, Result, Ok, Err, MatchOption}
+use Rattle.std.specs.Prelude.{◌≡◌, ℕ, ◌+◌, ◌*◌, ◌<◌, ◌^◌, List, [], ◌∷◌, ◌++◌, length, Bool, ℤ, Option, Some, None, Result, Ok, Err, MatchOption}
 use Rattle.std.specs.Char.{digit_value}
 use Rattle.std.specs.List.{flat_map}
-use Rattle.std.specs.Option.{option_to_list}
-use Rattle.std.specs.Str.Parse.{IsNumeral, digits_value}
 use Rattle.lists.specs.Rows.{Rows}
 use Rattle.sample_io.specs.declared.RowFault.{RowFault}
 use Rattle.sample_io.specs.declared.channel.Channel.{Channel}
 use Rattle.sample_io.specs.declared.read.LineState.{LineState}
-use Rattle.sample_io.specs.declared.read.Part.{Part}
-use Rattle.sample_io.specs.declared.read.Part.TheVariants.{Empty, Minus, Digits, Return}
+use Rattle.sample_io.specs.declared.read.Part.TheVariants.{Empty}
 use Rattle.sample_io.specs.declared.read.Progress.{Progress}
 use Rattle.sample_io.specs.declared.read.Progress.TheVariants.{Within, Word, Row}
 use Rattle.sample_io.specs.declared.read.Reader.{Reader}
+use Rattle.sample_io.specs.Begun.{LineSoFar, ReadSoFar}
 use Rattle.sample_io.specs.Channels.{IsInChannel}
-use Rattle.sample_io.specs.Samples.{minus, comma, carriage_return, line_feed, signed, signed_text, IsWord, AreWords, RowText, IsLine, Lines, RowsOf, BeginsRow, IsFirstBadPlace}
-
--- the word's bytes so far, where `left` are the channels of the words after it
-abbrev pub IsPart : Channel → List Channel → List ℕ → Part → Type 0
-IsPart channel left text Empty = text ≡ []
-IsPart channel left text Minus = text ≡ minus ∷ []
-IsPart channel left text (Digits negative magnitude) =
-    (digits : List ℕ) × (text ≡ signed_text negative digits) × IsNumeral 10 digits
-    × (magnitude ≡ digits_value 10 digits) × IsInChannel channel (signed negative magnitude)
-IsPart channel left text (Return word) =
-    (whole : List ℕ) × (text ≡ whole ++ carriage_return ∷ []) × IsWord channel whole word × (left ≡ [])
-
--- a word's text and a comma
-abbrev pub with_comma : List ℕ → List ℕ
-with_comma text = text ++ comma ∷ []
-
--- the line so far: the texts of whole words, each with a comma, and what there is of the next word
-pub record LineSoFar (channels : List Channel) (line : List ℕ) (words : List ℤ) (state : LineState) : Type 0 where
-  pub done : List Channel
-  pub channel : Channel
-  pub left : List Channel
-  pub channels_are : channels ≡ done ++ channel ∷ left
-  pub column : state.column ≡ length done
-  pub texts : List (List ℕ)
-  pub text : List ℕ
-  pub line_is : line ≡ flat_map with_comma texts ++ text
-  pub whole : AreWords done texts words
-  pub part : IsPart channel left text state.part
-  pub unended : Contains line line_feed → ⊥
+use Rattle.sample_io.specs.Samples.{signed, RowText, IsLine, Lines, LacksLastEnd, BeginsRow, StopsAfter}
 
 -- some line has led to this state
 abbrev pub IsLineState : List Channel → LineState → Type 0
@@ -73,23 +43,11 @@ EndsWith channels state last = (line : List ℕ) (words : List ℤ) → LineSoFa
     → MatchOption last ((row : List ℤ) → RowText channels line row → ⊥)
     (λ word. RowText channels line (words ++ word ∷ []))
 
--- the bytes so far: the lines of rows, and the line begun; `words` are all the words of both
-pub record ReadSoFar (channels : List Channel) (bytes : List ℕ) (words : List ℤ) (reader : Reader) : Type 0 where
-  pub rows : Rows
-  pub row : List ℤ
-  pub front : List ℕ
-  pub line : List ℕ
-  pub bytes_are : bytes ≡ front ++ line
-  pub words_are : words ≡ flat_map (λ r. r) rows ++ row
-  pub before : Lines front channels rows
-  pub so_far : LineSoFar channels line row reader.state
-  pub number : reader.line ≡ length rows + 1
-  pub at : reader.at ≡ length line
-
 -- fewer bytes than there are addresses have led to this reader
 abbrev pub IsReader : List Channel → Reader → Type 0
 IsReader channels reader =
-    (bytes : List ℕ) × (words : List ℤ) × (length bytes < 2 ^ 63) × ReadSoFar channels bytes words reader
+    (bytes : List ℕ) × (rows : Rows) × (words : List ℤ)
+    × (length bytes < 2 ^ 63) × ReadSoFar channels bytes rows words reader
 
 -- the word that the byte made whole
 abbrev pub word_of : Progress → Option ℤ
@@ -97,26 +55,40 @@ word_of Within = None
 word_of (Word word) = Some word
 word_of (Row word) = Some word
 
--- the byte was taken, or it is the first bad place, whatever comes after it
-abbrev pub ReadsByte : List Channel → List ℕ → List ℤ → ℕ → Result Progress RowFault → Reader → Type 0
-ReadsByte channels bytes words byte (Ok progress) new =
-    ReadSoFar channels (bytes ++ byte ∷ []) (words ++ option_to_list (word_of progress)) new
-ReadsByte channels bytes words byte (Err fault) new =
-    (more : List ℕ) → IsFirstBadPlace (bytes ++ byte ∷ more) channels fault
+-- The byte was taken, within a word, or as the end of a word or of a line; or it is the first bad place, whatever comes
+-- after it.
+abbrev pub ReadsByte : List Channel → List ℕ → Rows → List ℤ → ℕ → Result Progress RowFault → Reader → Type 0
+ReadsByte channels bytes rows words byte (Ok Within) new = ReadSoFar channels (bytes ++ byte ∷ []) rows words new
+ReadsByte channels bytes rows words byte (Ok (Word word)) new =
+    ReadSoFar channels (bytes ++ byte ∷ []) rows (words ++ word ∷ []) new
+ReadsByte channels bytes rows words byte (Ok (Row word)) new =
+    Lines (bytes ++ byte ∷ []) channels (rows ++ (words ++ word ∷ []) ∷ [])
+    × ReadSoFar channels (bytes ++ byte ∷ []) (rows ++ (words ++ word ∷ []) ∷ []) [] new
+ReadsByte channels bytes rows words byte (Err fault) new =
+    (more : List ℕ) → StopsAfter channels (bytes ++ byte ∷ more) rows fault
 
 -- so it is for all bytes that have led to the reader
 abbrev pub Reads : List Channel → Reader → ℕ → Result Progress RowFault → Reader → Type 0
 Reads channels old byte result new =
-    (bytes : List ℕ) (words : List ℤ) → ReadSoFar channels bytes words old
-    → ReadsByte channels bytes words byte result new
+    (bytes : List ℕ) (rows : Rows) (words : List ℤ) → ReadSoFar channels bytes rows words old
+    → ReadsByte channels bytes rows words byte result new
 
--- the bytes are a stream's, whose words are complete with the last one; or the end of input is the first bad place
-abbrev pub ReadsEnd : List Channel → List ℕ → List ℤ → Result (Option ℤ) RowFault → Type 0
-ReadsEnd channels bytes words (Ok last) =
-    (rows : Rows) × RowsOf bytes channels rows × (words ++ option_to_list last ≡ flat_map (λ row. row) rows)
-ReadsEnd channels bytes words (Err fault) = IsFirstBadPlace bytes channels fault
+-- no line is begun; or the line begun is the text of a row with this last word; or the end of input is the first bad
+-- place
+abbrev pub ReadsEnd : List Channel → List ℕ → Rows → List ℤ → Result (Option ℤ) RowFault → Type 0
+ReadsEnd channels bytes rows words (Ok None) = Lines bytes channels rows × (words ≡ [])
+ReadsEnd channels bytes rows words (Ok (Some word)) = LacksLastEnd bytes channels (rows ++ (words ++ word ∷ []) ∷ [])
+ReadsEnd channels bytes rows words (Err fault) = StopsAfter channels bytes rows fault
 
 -- so it is for all bytes that have led to the reader
 abbrev pub Ends : List Channel → Reader → Result (Option ℤ) RowFault → Type 0
 Ends channels reader result =
-    (bytes : List ℕ) (words : List ℤ) → ReadSoFar channels bytes words reader → ReadsEnd channels bytes words result
+    (bytes : List ℕ) (rows : Rows) (words : List ℤ) → ReadSoFar channels bytes rows words reader
+    → ReadsEnd channels bytes rows words result
+
+-- the bytes have led to this reader, and these are all their words that are whole
+pub record WordsSoFar (channels : List Channel) (bytes : List ℕ) (words : List ℤ) (reader : Reader) : Type 0 where
+  pub rows : Rows
+  pub begun : List ℤ
+  pub words_are : words ≡ flat_map (λ row. row) rows ++ begun
+  pub so_far : ReadSoFar channels bytes rows begun reader

@@ -1,0 +1,4 @@
+mod Appending
+mod Passing
+mod Piecing
+mod Stops
