@@ -26,24 +26,24 @@ use Rattle.silage_meaning.specs.Types.{IsInType}
 use Rattle.silage_syntax.specs.Tree.{Program}
 use Rattle.cascade.specs.Cascade.{cascade_source, cascade_datapath, cascade_word, cascade_rows, cascade_line, words_of, sum_of, last_of}
 use Rattle.silc.specs.Demo.{IsCascadeRun, IsDemoDone, IsDemoCutShort, IsDemoAnswer}
-use Rattle.silc.specs.Refusals.{IsRefusal}
-use Rattle.silc.specs.Headline.{RunsTheSolution}
-use Rattle.silc.specs.Schedule.{PrintsOnly}
-use Rattle.silc.specs.Sim.{HasRun, IsFirstConflict}
-use Rattle.silc.specs.Private.Compiling.{IsMicrocodeOf}
+use Rattle.plan_commands.specs.Refusals.{IsRefusal}
+use Rattle.plan_commands.specs.Headline.{RunsTheSolution}
+use Rattle.silc_files.specs.Printing.{PrintsOnly}
+use Rattle.sample_commands.specs.Sim.{HasRun, IsFirstConflict}
+use Rattle.plan_commands.specs.Compiling.{IsMicrocodeOf}
 use Rattle.silc.specs.Private.Demonstrating.{IsCascadePlan, IsCascadeMachine, RunsCascade, HasPutWords, HasTotals}
-use Rattle.silc.specs.Private.Planning.{IsInputPlan}
-use Rattle.silc.specs.Private.Running.{IsFresh, IsMachineOf}
+use Rattle.plan_commands.specs.Planning.{IsInputPlan}
+use Rattle.sample_commands.specs.Private.Running.{IsFresh, IsMachineOf}
 use Rattle.cascade.specs.declared.Totals.{Totals}
-use Rattle.silc.specs.declared.files.Input.TheVariants.{Whole}
-use Rattle.silc.specs.declared.planning.Planned.{Planned}
-use Rattle.silc.specs.declared.sim.Kept.{Kept}
-use Rattle.silc.specs.declared.status.Status.{Status}
-use Rattle.silc.specs.declared.status.Status.TheVariants.{Done}
+use Rattle.silc_files.specs.declared.files.Input.TheVariants.{Whole}
+use Rattle.plan_commands.specs.declared.planning.Planned.{Planned}
+use Rattle.sample_commands.specs.declared.simulator.Kept.{Kept}
+use Rattle.statuses.specs.declared.status.Status.{Status}
+use Rattle.statuses.specs.declared.status.Status.TheVariants.{Done}
 use Rattle.cascade.proofs.CascadeProgram.{HasOneWordEach, one_word_each}
-use Rattle.silc.proofs.Compiled.{runs_the_solution}
-use Rattle.silc.proofs.Plans.{planned_over}
-use Rattle.silc.proofs.Simulating.{spread_row, one_more, at_sample, conflict_in_row}
+use Rattle.plan_commands.proofs.Compiled.{runs_the_solution}
+use Rattle.plan_commands.proofs.Plans.{planned_over}
+use Rattle.sample_commands.proofs.Simulating.{spread_row, one_more, at_sample, conflict_in_row}
 
 -- with one more sample there is one more row
 rows_more : (n : ℕ) → cascade_rows (n + 1) ≡ cascade_rows n ++ (cascade_word n ∷ []) ∷ []
@@ -171,7 +171,7 @@ module _ (sections : ℕ) (few : sections ≤ 32) (planned : Planned) (plan : Is
         over = plan.over;
         image_of = image_of;
         runs = subst (RunsTheSolution plan.program) same
-            (runs_the_solution plan.program plan.graph made.image plan.keeps (made.runs plan.graph plan.keeps.sound (inr plan.plan)));
+            (runs_the_solution plan.program plan.graph made.image plan.keeps (made.runs plan.graph plan.keeps.sound plan.plan));
         one_word = record {
           inputs = image_of.inputs ∙ ap (map width_of) (plan.plan.inputs ∙ plan.keeps.keeps.inputs ∙ has.inputs);
           outs = image_of.outs ∙ plan.plan.outs ∙ plan.keeps.keeps.outs ∙ ap length has.outputs;

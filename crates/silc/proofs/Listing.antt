@@ -5,19 +5,19 @@ use Rattle.desk_core.specs.Desk.{FaultsNeverFall, IfSpecified, IsUnchanged, Prin
 use Rattle.desk_core.specs.Whole.{IsReadThrough}
 use Rattle.desk_core.proofs.DeskLemmas.{rose_later, rose_earlier, specified_from}
 use Rattle.desk_core.proofs.WholeLemmas.{through_stays}
-use Rattle.silc.specs.Limits.{microcode_limit}
+use Rattle.silc_files.specs.Limits.{microcode_limit}
 use Rattle.silc.specs.Listing.{IsListed, IsListingCutShort, IsListError, IsListAnswer}
-use Rattle.silc.specs.Schedule.{IsPrintedMore, IsPrintedInPart, PrintsOnly}
-use Rattle.silc.specs.Sim.{IsOfMicrocode, HasImageFault}
+use Rattle.silc_files.specs.Printing.{IsPrintedMore, IsPrintedInPart, PrintsOnly}
+use Rattle.sample_commands.specs.Sim.{IsOfMicrocode, HasImageFault}
 use Rattle.silc.specs.Private.Listing.{IsMadeListing}
-use Rattle.silc.specs.Private.Reading.{OnlyReads}
-use Rattle.silc.specs.Private.Running.{IsBadMicrocode, IsLoadError, not_spelled}
-use Rattle.silc.specs.declared.status.ImageFault.{ImageFault}
-use Rattle.silc.specs.declared.status.ImageFault.TheVariants as image_fault
-use Rattle.silc.specs.declared.status.Status.{Status}
-use Rattle.silc.specs.declared.status.Status.TheVariants as status
-use Rattle.silc.proofs.Endings.{unchanged_still, through_still, rejected_still}
-use Rattle.silc.proofs.Scheduling.{printed_still}
+use Rattle.silc_files.specs.Reading.{OnlyReads}
+use Rattle.sample_commands.specs.Private.Running.{IsBadMicrocode, IsLoadError, not_spelled}
+use Rattle.statuses.specs.declared.status.ImageFault.{ImageFault}
+use Rattle.statuses.specs.declared.status.ImageFault.TheVariants as image_fault
+use Rattle.statuses.specs.declared.status.Status.{Status}
+use Rattle.statuses.specs.declared.status.Status.TheVariants as status
+use Rattle.silc_files.proofs.Endings.{unchanged_still, through_still, rejected_still}
+use Rattle.plan_commands.proofs.Scheduling.{printed_still}
 
 -- MIC is no microcode
 module _ (mic : Name) (old new : View) (reads : OnlyReads mic mic old new) where

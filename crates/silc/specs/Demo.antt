@@ -11,13 +11,13 @@ use Rattle.silage_syntax.specs.Tree.{Program}
 use Rattle.silage_meaning.specs.Solves.{IsOneSolution, out}
 use Rattle.silage_meaning.specs.Value.{Words}
 use Rattle.cascade.specs.Cascade.{cascade_source, cascade_datapath, cascade_rows, cascade_line, words_of}
-use Rattle.silc.specs.Plans.{IsPlannedOver}
-use Rattle.silc.specs.Refusals.{IsNoPlan}
-use Rattle.silc.specs.Schedule.{IsPrintedMore, IsPrintedInPart}
-use Rattle.silc.specs.declared.sim.Kept.{Kept}
-use Rattle.silc.specs.declared.sim.Kept.TheVariants.{One}
-use Rattle.silc.specs.declared.status.Status.{Status}
-use Rattle.silc.specs.declared.status.Status.TheVariants.{Done, Desk}
+use Rattle.plan_commands.specs.Plans.{IsPlannedOver}
+use Rattle.plan_commands.specs.Refusals.{IsNoPlan}
+use Rattle.silc_files.specs.Printing.{IsPrintedMore, IsPrintedInPart}
+use Rattle.sample_commands.specs.declared.simulator.Kept.{Kept}
+use Rattle.sample_commands.specs.declared.simulator.Kept.TheVariants.{One}
+use Rattle.statuses.specs.declared.status.Status.{Status}
+use Rattle.statuses.specs.declared.status.Status.TheVariants.{Done, Desk}
 
 -- The cascade's program has exactly one solution over the samples, and the line tells the sum and the last of its output
 -- words. The machine is in the state of the image of the program's plan after the samples, with each row for a whole

@@ -1,41 +1,50 @@
--- What the ways in which a command ends have in common.
-use Rattle.std.specs.Prelude.{◌≡◌, ◌≢◌, ℕ, None, Bool, true}
-use Rattle.desk_core.specs.View.{Name, Content, Files, View}
-use Rattle.desk_core.specs.Desk.{IfSpecified, WhereSpecified, WriteFaultsRose, HasOutput, NoOtherBegins}
-use Rattle.desk_core.specs.Whole.{IsUnchangedButInput, IsReadThrough, IsPutInPart}
+-- How each command ends: when each status comes, what it leaves alone, and what it keeps.
+use Rattle.std.specs.Prelude.{◌≡◌, ◌≢◌}
+use Rattle.command_words.specs.Command.{Command, compile, schedule, list, sim, eval, run, demo}
+use Rattle.desk_core.specs.View.{View}
+use Rattle.desk_core.specs.Desk.{FaultsNeverFall, IsUnchanged}
+use Rattle.plan_commands.specs.Compile.{IsAnswer}
+use Rattle.plan_commands.specs.Schedule.{IsScheduleAnswer}
+use Rattle.sample_commands.specs.Eval.{IsEvalAnswer}
+use Rattle.sample_commands.specs.Run.{IsRunAnswer, RunUsesOnly}
+use Rattle.sample_commands.specs.Sim.{IsSimAnswer}
+use Rattle.sample_commands.specs.declared.simulator.Kept.{Kept}
+use Rattle.sample_commands.specs.declared.simulator.Kept.TheVariants.{Nothing}
+use Rattle.silc.specs.Demo.{IsDemoAnswer}
+use Rattle.silc.specs.Listing.{IsListAnswer}
+use Rattle.silc_files.specs.Endings.{UsesOnly}
+use Rattle.silc_files.specs.Printing.{ChangesNoFile, PrintsOnly}
+use Rattle.statuses.specs.declared.status.Status.{Status}
+use Rattle.statuses.specs.declared.status.Status.TheVariants.{Done}
 
--- The files were rejected for this reason, after the inputs up to this last one were read through. At most the input
--- and the faults changed.
-pub record IsRejected (last : Name) (limit : ℕ) (reason : Files → Type 0) (old new : View) : Type 0 where
-  pub unchanged : IsUnchangedButInput old new
-  pub read : IsReadThrough last limit old new
-  pub why : WhereSpecified old reason
+-- a machine is kept only where the command is done
+abbrev pub KeepsAtMost : Kept → Status → Type 0
+KeepsAtMost kept status = status ≢ Done → kept ≡ Nothing
 
--- Writing OUT failed, after the last input was read through. OUT was not created, or has a prefix of these bytes, and
--- every other file is as it was.
-pub record IsNotWritten (last : Name) (limit : ℕ) (out : Name) (bytes : Content) (old new : View) : Type 0 where
-  pub rose : WriteFaultsRose out old new
-  pub read : IsReadThrough last limit old new
-  pub files : IfSpecified (IsPutInPart out bytes) old.files new.files
+abbrev pub IsEnding : Command → View → View → Kept → Status → Type 0
+IsEnding (compile src datapath out) old new kept status =
+    IsAnswer src datapath out old new status × UsesOnly src datapath out old new × (kept ≡ Nothing)
+IsEnding (schedule src datapath) old new kept status =
+    IsScheduleAnswer src datapath old new status × ChangesNoFile src datapath old new × (kept ≡ Nothing)
+IsEnding (list mic) old new kept status =
+    IsListAnswer mic old new status × ChangesNoFile mic mic old new × (kept ≡ Nothing)
+IsEnding (sim mic samples out) old new kept status =
+    IsSimAnswer mic samples out old new kept status × UsesOnly mic samples out old new × KeepsAtMost kept status
+IsEnding (eval src samples out) old new kept status =
+    IsEvalAnswer src samples out old new status × UsesOnly src samples out old new × (kept ≡ Nothing)
+IsEnding (run src datapath samples out) old new kept status =
+    IsRunAnswer src datapath samples out old new kept status
+    × RunUsesOnly src datapath samples out old new
+    × KeepsAtMost kept status
+IsEnding (demo sections samples) old new kept status =
+    IsDemoAnswer sections samples old new kept status × PrintsOnly old new × KeepsAtMost kept status
 
--- the last input was read through, and OUT was closed
-pub record IsFinished (last : Name) (limit : ℕ) (old new : View) : Type 0 where
-  pub read : IsReadThrough last limit old new
-  pub closed : HasOutput None new
-
--- no name but these two begins to be read
-abbrev pub BeginsOnly : Name → Name → (Name → Bool) → (Name → Bool) → Type 0
-BeginsOnly first second old new =
-    (name : Name) → name ≢ first → name ≢ second → new name ≡ true → old name ≡ true
-
--- every file but OUT is as it was
-abbrev pub ChangesOnly : Name → Files → Files → Type 0
-ChangesOnly out before after = (name : Name) → name ≢ out → after name ≡ before name
-
--- No file but OUT changed, and nothing was printed. No name but the two inputs began to be read, and none but OUT to be
--- written.
-pub record UsesOnly (first second out : Name) (old new : View) : Type 0 where
-  pub files : IfSpecified (ChangesOnly out) old.files new.files
-  pub printed : new.printed ≡ old.printed
-  pub reads : BeginsOnly first second old.reads new.reads
-  pub writes : NoOtherBegins out old.writes new.writes
+-- So it was before an error was reported. The report changes nothing but counts of faults, which do not fall. Where the
+-- command is done, nothing changes after that.
+pub record Reported (P : View → Type 0) (status : Status) (old new : View) : Type 0 where
+  pub mid : View
+  pub holds : P mid
+  pub before : FaultsNeverFall old mid
+  pub unchanged : IsUnchanged mid new
+  pub later : FaultsNeverFall mid new
+  pub silent : status ≡ Done → new ≡ mid

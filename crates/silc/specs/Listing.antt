@@ -5,13 +5,13 @@ use Rattle.desk_core.specs.Desk.{IfSpecified, WhereSpecified, PrintFaultsRose, R
 use Rattle.desk_core.specs.Whole.{IsUnchangedButInput, IsReadThrough}
 use Rattle.micro_image.specs.declared.image.Image.{Image}
 use Rattle.microcode_asm.specs.Listing.{listing_text}
-use Rattle.silc.specs.Endings.{IsRejected}
-use Rattle.silc.specs.Limits.{microcode_limit}
-use Rattle.silc.specs.Schedule.{IsPrintedMore, IsPrintedInPart}
-use Rattle.silc.specs.Sim.{IsOfMicrocode, HasImage, HasImageFault}
-use Rattle.silc.specs.declared.status.ImageFault.{ImageFault}
-use Rattle.silc.specs.declared.status.Status.{Status}
-use Rattle.silc.specs.declared.status.Status.TheVariants as status
+use Rattle.silc_files.specs.Endings.{IsRejected}
+use Rattle.silc_files.specs.Limits.{microcode_limit}
+use Rattle.silc_files.specs.Printing.{IsPrintedMore, IsPrintedInPart}
+use Rattle.sample_commands.specs.Sim.{IsOfMicrocode, HasImage, HasImageFault}
+use Rattle.statuses.specs.declared.status.ImageFault.{ImageFault}
+use Rattle.statuses.specs.declared.status.Status.{Status}
+use Rattle.statuses.specs.declared.status.Status.TheVariants as status
 
 -- the listing of MIC's image was printed, after MIC was read through
 pub record IsListed (mic : Name) (old new : View) : Type 0 where

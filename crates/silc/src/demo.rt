@@ -1,81 +1,24 @@
 //! `demo K N`: compiles a cascade of biquad sections, runs it, and prints what its output words come to.
-ghost use Rattle.std.specs.Prelude.{◌≡◌, ◌≢◌, length, ◌+◌, ◌-◌, ◌<◌, ◌≤◌, ◌^◌, ℕ, ℤ, true, false, List, [], ◌∷◌, ◌++◌, IfOk, IfErr, IsOk, IsOkAnd, MatchOption};
+ghost use Rattle.std.specs.Prelude.{◌≡◌, ◌≢◌, length, ◌+◌, ◌<◌, ◌≤◌, ◌^◌, ℤ, List, [], ◌∷◌, ◌++◌, IfOk, IfErr, IsOk, IsOkAnd};
 ghost use Rattle.desk_core.specs.Desk.{FaultsNeverFall};
-ghost use Rattle.silage_lex.specs.Bytes.{is_digit};
 ghost use Rattle.micro_image.specs.Valid.{IsValid};
 ghost use Rattle.cascade.specs.Cascade as spec;
-ghost use Rattle.silc.specs.Command.{IsNumeral, IsDemo};
 ghost use Rattle.silc.specs.Demo.{IsCascadeRun, IsDemoAnswer};
-ghost use Rattle.silc.specs.Refusals.{IsNoPlan};
+ghost use Rattle.plan_commands.specs.Refusals.{IsNoPlan};
 ghost use Rattle.silc.specs.Private.Demonstrating.{IsCascadePlan, IsCascadeMachine, HasOneWord, RunsCascade, HasPutWords, HasTotals};
-ghost use Rattle.silc.specs.Schedule.{PrintsOnly};
-ghost use Rattle.silc.specs.Private.Running.{IsFresh};
-ghost use Rattle.silc.specs.declared.sim.Kept.TheVariants.{Nothing};
+ghost use Rattle.silc_files.specs.Printing.{PrintsOnly};
+ghost use Rattle.sample_commands.specs.Private.Running.{IsFresh};
+ghost use Rattle.sample_commands.specs.declared.simulator.Kept.TheVariants.{Nothing};
 
-use crate::compile::microcode_of;
-use crate::files::Input;
-use crate::planning::{Planned, planned_of};
-use crate::print::print_whole;
-use crate::sim::{Kept, machine_of};
-use crate::status::{Ending, Status};
 use cascade::{Totals, cascade_datapath, cascade_line, cascade_source, cascade_word};
 use cycle_sim::Machine;
 use desk_core::Desk;
 use lists::Bytes;
+use plan_commands::{Planned, microcode_of, planned_of};
+use sample_commands::{Kept, machine_of};
+use silc_files::{Input, print_whole};
+use statuses::{Ending, Status};
 use std::alloc::Global;
-
-/// The most sections of a cascade.
-const MOST_SECTIONS: u64 = 32;
-
-/// The most samples that it is run over.
-const MOST_SAMPLES: u64 = 100_000;
-
-/// The numbers of the words of `demo`.
-#[derive(Drop)]
-pub(crate) struct DemoWords {
-    pub sections: u64,
-    pub samples: u64,
-}
-
-/// What a digit counts.
-fn digit_of(byte: u8) -> Option<u64>
-    ensures { MatchOption result (is_digit byte ≡ false) (λ digit. (is_digit byte ≡ true) × (digit ≡ byte - 48)) }
-{
-    if byte.is_ascii_digit() {
-        Some(u64::from(byte - b'0'))
-    } else {
-        None
-    }
-}
-
-/// The number that the text spells in decimal, where it is one from 1 to `most`.
-fn number_in(text: &[u8], most: u64) -> Option<u64>
-    requires { most < 2 ^ 32 }
-    ensures { MatchOption result ((n : ℕ) → IsNumeral text.now n → 1 ≤ n → n ≤ most → ⊥)
-        (λ n. IsNumeral text.now n × (1 ≤ n) × (n ≤ most)) }
-{
-    let mut number = 0;
-    for byte in text {
-        number = 10 * number + digit_of(*byte)?;
-        if number > most {
-            return None;
-        }
-    }
-    if number == 0 { None } else { Some(number) }
-}
-
-pub(crate) fn demo_words(words: &[String]) -> Option<DemoWords>
-    ensures { MatchOption result ((sections samples : ℕ) → IsDemo words.now sections samples → ⊥)
-        (λ found. IsDemo words.now found.sections found.samples) }
-{
-    match words {
-        [word, sections, samples] if word.as_str() == "demo" => Some(DemoWords {
-            sections: number_in(sections.as_bytes(), MOST_SECTIONS)?,
-            samples: number_in(samples.as_bytes(), MOST_SAMPLES)?,
-        }),
-        _ => None,
-    }
-}
 
 /// The plan of a cascade.
 fn plan_cascade(alloc: Global, sections: u64) -> Result<Planned, Ending>

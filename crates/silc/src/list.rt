@@ -1,34 +1,20 @@
 //! `list MIC`: prints the image that microcode spells.
-ghost use Rattle.std.specs.Prelude.{◌≤◌, length, IfOk, IfErr, MatchOption};
+ghost use Rattle.std.specs.Prelude.{◌≤◌, length, IfOk, IfErr};
 ghost use Rattle.desk_core.specs.Desk.{FaultsNeverFall};
-ghost use Rattle.desk_core.specs.View.{Name};
-ghost use Rattle.silc.specs.Command.{IsList};
-ghost use Rattle.silc.specs.Limits.{microcode_limit};
+ghost use Rattle.silc_files.specs.Limits.{microcode_limit};
 ghost use Rattle.silc.specs.Listing.{IsListAnswer};
-ghost use Rattle.silc.specs.Schedule.{ChangesNoFile};
+ghost use Rattle.silc_files.specs.Printing.{ChangesNoFile};
 ghost use Rattle.silc.specs.Private.Listing.{IsListingOf, IsMadeListing};
-ghost use Rattle.silc.specs.Private.Reading.{OnlyReads};
-ghost use Rattle.silc.specs.Private.Running.{IsNoMachine, IsLoadError};
+ghost use Rattle.silc_files.specs.Reading.{OnlyReads};
+ghost use Rattle.sample_commands.specs.Private.Running.{IsNoMachine, IsLoadError};
 
-use crate::files::read_file;
-use crate::print::print_whole;
-use crate::sim::MICROCODE_LIMIT;
-use crate::status::{ImageFault, Status};
 use desk_core::Desk;
 use lists::Bytes;
 use micro_file::decode;
 use microcode_asm::listing;
+use silc_files::{MICROCODE_LIMIT, print_whole, read_file};
+use statuses::{ImageFault, Status};
 use std::alloc::Global;
-
-/// The file of the words of `list`.
-pub(crate) fn list_words(words: &[String]) -> Option<&str>
-    ensures { MatchOption result ((mic : Name) → IsList words.now mic → ⊥) (λ mic. IsList words.now mic.now) }
-{
-    match words {
-        [word, microcode] if word.as_str() == "list" => Some(microcode.as_str()),
-        _ => None,
-    }
-}
 
 /// The listing of the image that the bytes spell.
 fn listing_of(alloc: Global, microcode: &Bytes) -> Result<Bytes, Status>

@@ -64,23 +64,24 @@ fn unread(error: &io::Error) -> Status {
     }
 }
 
+/// Reports why the program did not do what it was asked, in one line. What can't be written there is lost.
+fn refused(rt: &HostRuntime, status: Status) -> ExitCode {
+    let _ = eprintln!(rt; "silc: {status}");
+    ExitCode::from(code(&status))
+}
+
 fn main(rt: HostRuntime) -> ExitCode {
     let alloc = rt.alloc();
-    let status = match words(&rt) {
-        Ok(words) => {
-            if let Some(text) = about(&words) {
-                return match println!(rt; "{text}") {
-                    Ok(()) => ExitCode::SUCCESS,
-                    Err(_) => ExitCode::from(code(&Status::Desk)),
-                };
-            }
-            silc(alloc, &words, &mut HostDesk::new(rt), &mut Kept::Nothing)
-        }
-        Err(error) => {
-            let status = unread(&error);
-            let _ = eprintln!(rt; "silc: {status}");
-            status
-        }
+    let words = match words(&rt) {
+        Ok(words) => words,
+        Err(error) => return refused(&rt, unread(&error)),
     };
+    if let Some(text) = about(&words) {
+        return match println!(rt; "{text}") {
+            Ok(()) => ExitCode::SUCCESS,
+            Err(_) => refused(&rt, Status::Desk),
+        };
+    }
+    let status = silc(alloc, &words, &mut HostDesk::new(rt), &mut Kept::Nothing);
     ExitCode::from(code(&status))
 }

@@ -1,6 +1,6 @@
 use desk_core::{Desk, Failed, MemDesk};
 use lists::Bytes;
-use silc::{FrontFault, Kept, LexFault, Status, silc};
+use silc::{FrontFault, Kept, LexFault, Status, UnitRefusal, plan_of, silc};
 use std::alloc::Global;
 use std::test::Fail;
 
@@ -126,6 +126,141 @@ fn a_call_that_fails_leaves_a_prefix_of_the_plan(rt: HostRuntime) -> Result<(), 
         assert_eq!(rt; desk.printed().len(), *printed, "call {call}");
         assert!(rt; PLAN.starts_with(desk.printed()), "call {call}");
     }
+    Ok(())
+}
+
+/// The commands, each with how many calls of a desk it takes with pieces of 100 bytes: an input is opened and read to its
+/// end (SRC in 3 calls, DP in 5, MIC in 6, SAMPLES in 3), OUT is created, written in pieces and closed, a text is printed in
+/// pieces.
+const CALLS: [(&[&str], u64); 7] = [
+    (&COMPILE, 14),
+    (&SCHEDULE, 11),
+    (&["list", "MIC"], 9),
+    (&["sim", "MIC", "SAMPLES", "OUT"], 12),
+    (&["eval", "SRC", "SAMPLES", "OUT"], 9),
+    (&["run", "SRC", "DP", "SAMPLES", "OUT"], 14),
+    (&["demo", "1", "3"], 1),
+];
+
+/// What a command leaves on a desk where the call of this number fails, and none where there is no such call.
+fn failing_at(
+    alloc: Global,
+    words: &[&str],
+    microcode: &[u8],
+    call: u64,
+) -> Result<(MemDesk, Status), Fail> {
+    let mut desk = desk_with(alloc, 100, SOURCE)?;
+    desk.put("SAMPLES", b"0\n127\n-128\n")?;
+    desk.put("MIC", microcode)?;
+    desk.fail_at(call)?;
+    let status = carry_out(alloc, words, &mut desk)?;
+    Ok((desk, status))
+}
+
+#[test]
+fn each_call_of_each_command_that_fails_is_a_file_fault(rt: HostRuntime) -> Result<(), Fail> {
+    let alloc = rt.alloc();
+    let mut compiled = desk_with(alloc, 100, SOURCE)?;
+    carry_out(alloc, &COMPILE, &mut compiled)?;
+    let microcode = compiled.get("OUT").ok_or("no file")?;
+    for (words, calls) in CALLS {
+        let (whole, status) = failing_at(alloc, words, microcode, calls)?;
+        assert_eq!(rt; (status, whole.faults()), (Status::Done, 0));
+        let written = whole.get("OUT").unwrap_or_default();
+        for call in 0..calls {
+            let (desk, status) = failing_at(alloc, words, microcode, call)?;
+            assert_eq!(rt; (status, desk.faults()), (Status::Desk, 1), "call {call}");
+            let left = desk.get("OUT").unwrap_or_default();
+            assert!(rt; written.starts_with(left), "call {call}");
+            assert!(rt; whole.printed().starts_with(desk.printed()), "call {call}");
+        }
+    }
+    Ok(())
+}
+
+/// A source with its samples, what OUT is to hold, and what is to be reported.
+type Worked = (
+    &'static [u8],
+    &'static [u8],
+    Option<&'static [u8]>,
+    &'static [u8],
+);
+
+/// Initial values of signals that pass one on to another, two instances with their own delays, a choice, casts that cut and
+/// round; a delay-free loop, a loop without turns.
+const WORKED: [Worked; 6] = [
+    (
+        b"func main(x : fix<8,0>) y : fix<8,0> = begin var p, q : fix<8,0>; q = x; p = q; y = p@1; q@@1 = 7; p@@1 = 2; end;",
+        b"5\n6\n",
+        Some(b"2\n5\n"),
+        b"",
+    ),
+    (
+        b"func acc(x : fix<8,0>) y : fix<8,0> = begin y = y@1 + x; end; func main(a : fix<8,0>, b : fix<8,0>) (p : fix<8,0>, q : fix<8,0>) = begin p = acc(a); q = acc(b); end;",
+        b"1,10\n2,20\n",
+        Some(b"1,10\n3,30\n"),
+        b"",
+    ),
+    (
+        b"func main(x : fix<8,0>) y : fix<8,0> = begin y = if x > 3 -> 3 || x < -3 -> -3 || x fi; end;",
+        b"5\n-9\n2\n",
+        Some(b"3\n-3\n2\n"),
+        b"",
+    ),
+    (
+        b"func main(x : fix<16,8>) (y : fix<8,0>, z : fix<8,0,round>) = begin y = fix<8,0>(x); z = fix<8,0,round>(x); end;",
+        b"384\n-384\n",
+        Some(b"1,2\n-2,-1\n"),
+        b"",
+    ),
+    (
+        b"func main(x : fix<8,0>) y : fix<8,0> = begin y = y + x; end;",
+        b"0\n",
+        None,
+        b"silc: line 1: loop y\n",
+    ),
+    (
+        b"func main(x : fix<8,0>) y : fix<8,0> = begin (i : 3 .. 0) :: begin y = x; end; end;",
+        b"0\n",
+        None,
+        b"silc: line 1: not defined y\n",
+    ),
+];
+
+#[test]
+fn eval_writes_the_rows_of_worked_sources(rt: HostRuntime) -> Result<(), Fail> {
+    let alloc = rt.alloc();
+    for (source, samples, rows, line) in WORKED {
+        let mut desk = desk_with(alloc, 4096, source)?;
+        desk.put("SAMPLES", samples)?;
+        let mut listener = Listener {
+            desk,
+            reported: Bytes::new(alloc),
+            pieces: 0,
+        };
+        carry_out(alloc, &["eval", "SRC", "SAMPLES", "OUT"], &mut listener)?;
+        assert_eq!(rt; listener.desk.get("OUT"), rows);
+        assert_eq!(rt; listener.reported.as_slice(), line);
+    }
+    Ok(())
+}
+
+#[test]
+fn a_source_has_a_plan_without_files(rt: HostRuntime) -> Result<(), Fail> {
+    let planned = plan_of(rt.alloc(), SOURCE, PLAIN)?;
+    assert_eq!(rt; planned.plan.assigned.lowered.nodes.len(), 4);
+    assert_eq!(rt; planned.plan.unroll, 1);
+    assert_eq!(rt; planned.path.period, 16);
+    Ok(())
+}
+
+#[test]
+fn a_source_without_a_plan_has_the_status_that_compile_answers(
+    rt: HostRuntime,
+) -> Result<(), Fail> {
+    let source = b"func main(x : fix<8,0>) y : fix<8,0> = begin y = x@1; end;";
+    let status = plan_of(rt.alloc(), source, PLAIN).err();
+    assert_eq!(rt; status, Some(Status::Unit(UnitRefusal::NoRam { node: 0 })));
     Ok(())
 }
 

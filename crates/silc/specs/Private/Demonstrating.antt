@@ -8,16 +8,16 @@ use Rattle.micro_image.specs.declared.image.Image.{Image}
 use Rattle.micro_image.specs.Run.{Stands, IsRunOut, spread}
 use Rattle.plan_core.specs.declared.plan.Plan.{Plan}
 use Rattle.plan_run.specs.ImageOf.{IsImageOf}
-use Rattle.plan_run.specs.PrivateRegisters.{IsPrivatePlan}
+use Rattle.plan_core.specs.IsPlan.{IsPlan}
 use Rattle.signal_graph.specs.declared.graph.Graph.{Graph}
 use Rattle.silage_syntax.specs.Tree.{Program}
 use Rattle.cascade.specs.Cascade.{cascade_source, cascade_datapath, cascade_rows, words_of, sum_of, last_of}
-use Rattle.silc.specs.Headline.{RunsTheSolution}
-use Rattle.silc.specs.Plans.{IsPlannedOver}
-use Rattle.silc.specs.Private.Planning.{IsGraphFor}
-use Rattle.silc.specs.Private.Running.{IsFresh}
+use Rattle.plan_commands.specs.Headline.{RunsTheSolution}
+use Rattle.plan_commands.specs.Plans.{IsPlannedOver}
+use Rattle.plan_commands.specs.Planning.{IsGraphFor}
+use Rattle.sample_commands.specs.Private.Running.{IsFresh}
 use Rattle.cascade.specs.declared.Totals.{Totals}
-use Rattle.silc.specs.declared.planning.Planned.{Planned}
+use Rattle.plan_commands.specs.declared.planning.Planned.{Planned}
 
 -- the plan of the cascade's program over its datapath
 pub record IsCascadePlan (sections : ℕ) (planned : Planned) : Type 0 where
@@ -25,7 +25,7 @@ pub record IsCascadePlan (sections : ℕ) (planned : Planned) : Type 0 where
   pub graph : Graph
   pub keeps : IsGraphFor program graph
   pub allowed : IsDatapath planned.path
-  pub plan : IsPrivatePlan graph planned.path planned.plan
+  pub plan : IsPlan graph planned.path planned.plan
   pub over : IsPlannedOver (cascade_source sections) (cascade_datapath sections) program planned.path planned.plan
 
 -- the image takes one word of 16 bits a sample, and puts one word

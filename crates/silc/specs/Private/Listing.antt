@@ -6,8 +6,8 @@ use Rattle.desk_core.specs.Whole.{IsReadThrough}
 use Rattle.micro_image.specs.declared.image.Image.{Image}
 use Rattle.micro_image.specs.Spells.{Spells}
 use Rattle.microcode_asm.specs.Listing.{listing_text}
-use Rattle.silc.specs.Limits.{microcode_limit}
-use Rattle.silc.specs.Sim.{HasImage}
+use Rattle.silc_files.specs.Limits.{microcode_limit}
+use Rattle.sample_commands.specs.Sim.{HasImage}
 
 -- the text is the listing of the image that the bytes spell
 pub record IsListingOf (content text : Content) : Type 0 where

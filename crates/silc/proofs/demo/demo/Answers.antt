@@ -1,8 +1,8 @@
 use Rattle.std.proofs.Common.{refl, ap, subst, inl, inr}
 use Rattle.desk_core.specs.View.{Content}
 use Rattle.desk_core.specs.Desk.{IfSpecified}
-use Rattle.silc.specs.Schedule.{IsPrintedMore, IsPrintedInPart}
-use Rattle.silc.specs.declared.status.Ending.{Ending}
+use Rattle.silc_files.specs.Printing.{IsPrintedMore, IsPrintedInPart}
+use Rattle.statuses.specs.declared.status.Ending.{Ending}
 use Rattle.silc.proofs.demo.demo.Goals as goal
 
 pub returns-in-Ok-print_whole-clause-answer : goal.returns-in-Ok-print_whole-clause-answer

@@ -1,5 +1,5 @@
 use Rattle.silc.proofs.Demonstrating.{cascade_plan}
-use Rattle.silc.proofs.Results.{if_ok}
+use Rattle.silc_files.proofs.Results.{if_ok}
 use Rattle.silc.proofs.demo.plan_cascade.Goals as goal
 
 pub returns-clause-ok : goal.returns-clause-ok

@@ -1,7 +1,7 @@
 use Rattle.std.proofs.Common.{refl, subst, inl, inr}
 use Rattle.desk_core.specs.View.{Content}
 use Rattle.desk_core.specs.Desk.{IfSpecified}
-use Rattle.silc.specs.Schedule.{IsPrintedMore, IsPrintedInPart}
+use Rattle.silc_files.specs.Printing.{IsPrintedMore, IsPrintedInPart}
 use Rattle.silc.proofs.Listing.{list_error, listed, listing_cut_short}
 use Rattle.silc.proofs.list.list.Goals as goal
 

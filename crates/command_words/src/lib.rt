@@ -1,0 +1,7 @@
+//! Which words are which command, and the names and numbers in them. `Command` in `specs/` has each form.
+#![tactic(auto)]
+
+mod forms;
+mod numbers;
+
+pub use forms::{Command, command_in};

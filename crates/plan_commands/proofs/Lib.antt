@@ -1,0 +1,6 @@
+pub mod Plans
+pub mod PlanAnswers
+pub mod Compiled
+pub mod Errors
+pub mod Making
+pub mod Scheduling

@@ -1,0 +1,41 @@
+-- What `compile` promises of the microcode that it writes.
+use Rattle.std.specs.Prelude.{◌≡◌, ◌≤◌, ℕ, List, length}
+use Rattle.lists.specs.Rows.{Rows}
+use Rattle.datapath.specs.declared.types.Datapath.{Datapath}
+use Rattle.micro_image.specs.declared.image.Image.{Image}
+use Rattle.micro_image.specs.Run.{IsRunOut}
+use Rattle.micro_image.specs.Spells.{Spells}
+use Rattle.plan_core.specs.declared.plan.Plan.{Plan}
+use Rattle.plan_run.specs.ImageOf.{IsImageOf}
+use Rattle.silage_syntax.specs.Tree.{Program}
+use Rattle.silage_meaning.specs.Value.{Words}
+use Rattle.silage_meaning.specs.Solves.{IsStream, IsOneSolution, out}
+use Rattle.silc_files.specs.Limits.{microcode_limit}
+use Rattle.plan_commands.specs.Plans.{IsPlannedOver}
+
+-- the bytes spell the image, and no other
+pub record SpellsOnly (bytes : List ℕ) (image : Image) : Type 0 where
+  pub spells : Spells bytes image
+  pub unique : (other : Image) → Spells bytes other → other ≡ image
+
+-- Over each stream of valid rows the program has exactly one solution, and the image, run without a conflict, puts
+-- exactly its output words, each sample in the image's period of cycles.
+abbrev pub RunsTheSolution : Program → Image → Type 0
+RunsTheSolution program image =
+    (stream : Rows) → IsStream program stream
+    → (words : Words) × IsOneSolution program stream words × IsRunOut image stream (out program words (length stream))
+
+-- The program of the source has a plan over the datapath of the file. The microcode spells the image of that plan and
+-- nothing else, and that image runs the program's one solution in the datapath's period.
+pub record IsCompiled (source datapath microcode : List ℕ) : Type 0 where
+  pub program : Program
+  pub path : Datapath
+  pub plan : Plan
+  pub planned : IsPlannedOver source datapath program path plan
+  pub image : Image
+  pub image_of : IsImageOf path plan image
+  pub spelled : SpellsOnly microcode image
+  -- so that every command reads it
+  pub short : length microcode ≤ microcode_limit
+  pub runs : RunsTheSolution program image
+  pub period : image.period ≡ path.period

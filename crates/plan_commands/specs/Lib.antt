@@ -1,0 +1,10 @@
+pub mod Sources
+pub mod Plans
+pub mod PlanOf
+pub mod Refusals
+pub mod Headline
+pub mod Compile
+pub mod Schedule
+pub mod Planning
+pub mod Compiling
+pub mod Private

@@ -1,0 +1,97 @@
+-- The plan that `compile` and `schedule` make of their inputs.
+use Rattle.std.specs.Prelude.{◌≡◌, ◌⊎◌, Result, Ok, Err}
+use Rattle.desk_core.specs.View.{Name, Content, View}
+use Rattle.desk_core.specs.Desk.{WhereSpecified, content_of}
+use Rattle.desk_core.specs.Whole.{IsReadThrough}
+use Rattle.datapath.specs.Allowed.{IsDatapath}
+use Rattle.datapath.specs.Described.{IsPathOf}
+use Rattle.datapath.specs.PathRules.{IsPathFault}
+use Rattle.datapath.specs.declared.types.Datapath.{Datapath}
+use Rattle.signal_graph.specs.GraphRules.{IsGraph}
+use Rattle.signal_graph.specs.GraphSolves.{IsGraphLoopless}
+use Rattle.signal_graph.specs.declared.graph.Graph.{Graph}
+use Rattle.plan_core.specs.declared.plan.Plan.{Plan}
+use Rattle.plan_core.specs.IsPlan.{IsPlan}
+use Rattle.loop_expand.specs.KeepsProgram.{KeepsProgramSolutions}
+use Rattle.silage_syntax.specs.Tree.{Program}
+use Rattle.front_end.specs.Faults.{HasProgram, IsFrontFault, IsOfSource}
+use Rattle.front_end.specs.GraphOf.{IsProgramGraph}
+use Rattle.silc_files.specs.Limits.{text_limit}
+use Rattle.plan_commands.specs.Plans.{IsPlannedOver, IsUnplanned}
+use Rattle.plan_commands.specs.Refusals.{IsOfPath, IsRefusal, IsRefused}
+use Rattle.silc_files.specs.Reading.{IsInput}
+use Rattle.silc_files.specs.declared.files.Input.{Input}
+use Rattle.plan_commands.specs.declared.planning.Planned.{Planned}
+use Rattle.statuses.specs.declared.status.Status.{Status}
+use Rattle.statuses.specs.declared.status.Status.TheVariants.{Memory, FrontEnd, Path}
+
+-- the graph can be evaluated and planned, and keeps the solutions of the program
+pub record IsGraphFor (p : Program) (g : Graph) : Type 0 where
+  pub sound : IsGraph g
+  pub loopless : IsGraphLoopless g
+  pub keeps : KeepsProgramSolutions p g
+
+-- the source has the program with this graph
+pub record HasGraph (source : Content) (program : Program) (g : Graph) : Type 0 where
+  pub read : HasProgram source program
+  pub graph : IsProgramGraph program g
+
+abbrev pub IsSourceIn : Input → Program → Graph → Type 0
+IsSourceIn input program g = (s : Content) → IsInput s input → HasGraph s program g
+
+-- why the input has no program
+abbrev pub IsNoSource : Input → Status → Type 0
+IsNoSource input Memory = Unit {0}
+IsNoSource input (FrontEnd fault) = IsOfSource fault × ((s : Content) → IsInput s input → IsFrontFault s fault)
+IsNoSource input _ = ⊥
+
+-- the input describes the datapath
+abbrev pub IsPathIn : Input → Datapath → Type 0
+IsPathIn input path = (d : Content) → IsInput d input → IsPathOf d path
+
+-- why the input describes none
+abbrev pub IsNoPath : Input → Status → Type 0
+IsNoPath input Memory = Unit {0}
+IsNoPath input (Path fault) = IsOfPath fault × ((d : Content) → IsInput d input → IsPathFault d fault)
+IsNoPath input _ = ⊥
+
+-- why a graph has no plan over the datapath
+abbrev pub IsWithoutPlan : Graph → Datapath → Status → Type 0
+IsWithoutPlan g d status = (status ≡ Memory) ⊎ IsUnplanned status g d
+
+-- the plan that was found, where there was memory
+abbrev pub FindsPlan : Plan → Result Plan Status → Type 0
+FindsPlan plan (Ok found) = found ≡ plan
+FindsPlan plan (Err status) = status ≡ Memory
+
+-- the refusal that is told, where there was memory
+abbrev pub TellsWhy : Status → Result Plan Status → Type 0
+TellsWhy why (Ok found) = ⊥
+TellsWhy why (Err status) = (status ≡ why) ⊎ (status ≡ Memory)
+
+-- the plan of the program of the one input, over the datapath of the other
+pub record IsInputPlan (source datapath : Input) (planned : Planned) : Type 0 where
+  pub program : Program
+  pub graph : Graph
+  pub source_is : IsSourceIn source program graph
+  pub keeps : IsGraphFor program graph
+  pub path_is : IsPathIn datapath planned.path
+  pub allowed : IsDatapath planned.path
+  pub plan : IsPlan graph planned.path planned.plan
+
+-- why the inputs have none
+abbrev pub IsNoInputPlan : Input → Input → Status → Type 0
+IsNoInputPlan source datapath status =
+    (status ≡ Memory)
+    ⊎ (IsRefusal status × ((s d : Content) → IsInput s source → IsInput d datapath → IsRefused status s d))
+
+-- the plan of the program of SRC over the datapath of DP, which were read through
+pub record IsReadPlan (src datapath : Name) (old new : View) (planned : Planned) : Type 0 where
+  pub read : IsReadThrough datapath text_limit old new
+  pub program : Program
+  pub graph : Graph
+  pub keeps : IsGraphFor program graph
+  pub allowed : IsDatapath planned.path
+  pub plan : IsPlan graph planned.path planned.plan
+  pub specified : WhereSpecified old (λ files.
+      IsPlannedOver (content_of (files src)) (content_of (files datapath)) program planned.path planned.plan)

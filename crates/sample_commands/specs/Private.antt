@@ -1,0 +1,4 @@
+pub mod SampleRows
+pub mod Running
+pub mod Evaluating
+pub mod Executing

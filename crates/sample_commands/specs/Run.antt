@@ -1,0 +1,92 @@
+-- What `run SRC DP SAMPLES OUT` compiles and runs, when each of its statuses comes, and what it leaves.
+use Rattle.std.specs.Prelude.{◌≡◌, ◌≢◌, ◌⊎◌, Bool, true}
+use Rattle.datapath.specs.declared.types.Datapath.{Datapath}
+use Rattle.cycle_sim.specs.Machine.{Snapshot}
+use Rattle.desk_core.specs.View.{Name, Files, View}
+use Rattle.desk_core.specs.Desk.{IfSpecified, WhereSpecified, ReadFaultsRose, NoOtherBegins, content_of}
+use Rattle.desk_core.specs.Whole.{IsUnchangedButInput}
+use Rattle.micro_image.specs.declared.image.Image.{Image}
+use Rattle.plan_core.specs.declared.plan.Plan.{Plan}
+use Rattle.plan_run.specs.ImageOf.{IsImageOf}
+use Rattle.silage_syntax.specs.Tree.{Program}
+use Rattle.silc_files.specs.Endings.{IsRejected, ChangesOnly}
+use Rattle.sample_commands.specs.Eval.{HasNoSamples, IsEvalDone, IsEvalCutShort}
+use Rattle.silc_files.specs.Limits.{samples_limit}
+use Rattle.plan_commands.specs.Plans.{IsPlannedOver}
+use Rattle.plan_commands.specs.Refusals.{IsPlanError}
+use Rattle.sample_commands.specs.Sim.{HasRun}
+use Rattle.sample_commands.specs.declared.simulator.Kept.{Kept}
+use Rattle.sample_commands.specs.declared.simulator.Kept.TheVariants.{One}
+use Rattle.statuses.specs.declared.status.SampleFault.{SampleFault}
+use Rattle.statuses.specs.declared.status.Status.{Status}
+use Rattle.statuses.specs.declared.status.Status.TheVariants as status
+
+-- SRC has the program, which has the plan over DP's datapath
+abbrev pub HasPlanIn : Name → Name → Program → Datapath → Plan → Files → Type 0
+HasPlanIn src datapath program d plan files =
+    IsPlannedOver (content_of (files src)) (content_of (files datapath)) program d plan
+
+-- SRC's program has a plan over DP's datapath
+abbrev pub HasSomePlan : Name → Name → Files → Type 0
+HasSomePlan src datapath files =
+    (program : Program) × (d : Datapath) × (plan : Plan) × HasPlanIn src datapath program d plan files
+
+-- SRC's program has a plan over DP's datapath, and SAMPLES no stream for the program
+abbrev pub HasPlanAlone : Name → Name → Name → SampleFault → Files → Type 0
+HasPlanAlone src datapath samples fault files = HasSomePlan src datapath files × HasNoSamples src samples fault files
+
+-- SRC's program has a plan over DP's datapath, and SAMPLES could not be read; at most the input and the faults changed
+pub record AreSamplesUnread (src datapath samples : Name) (old new : View) : Type 0 where
+  pub unchanged : IsUnchangedButInput old new
+  pub rose : ReadFaultsRose samples old new
+  pub planned : WhereSpecified old (HasSomePlan src datapath)
+
+-- Why `run` ends before it creates OUT. The source is refused as `compile` refuses it, before SAMPLES is opened. The
+-- microcode of a plan is an image, whose run meets no conflict.
+abbrev pub IsNotRun : Name → Name → Name → View → View → Status → Type 0
+IsNotRun src datapath samples old new status.Desk =
+    IsPlanError src datapath old new status.Desk ⊎ AreSamplesUnread src datapath samples old new
+IsNotRun src datapath samples old new (status.Samples fault) =
+    IsRejected samples samples_limit (HasPlanAlone src datapath samples fault) old new
+IsNotRun src datapath samples old new (status.Image fault) = ⊥
+IsNotRun src datapath samples old new (status.Conflict conflict) = ⊥
+IsNotRun src datapath samples old new error = IsPlanError src datapath old new error
+
+-- OUT has what `eval` writes, the output rows of the one solution of SRC's program over the stream of SAMPLES. The
+-- image of the program's plan over DP's datapath ran this stream to its end and put these rows, and the machine that
+-- ran it is kept.
+pub record IsRunDone (src datapath samples out : Name) (old new : View) (kept : Kept) : Type 0 where
+  pub solved : IsEvalDone src samples out old new
+  pub path : Datapath
+  pub plan : Plan
+  pub planned : WhereSpecified old (HasPlanIn src datapath solved.program path plan)
+  pub image : Image
+  pub image_of : IsImageOf path plan image
+  pub machine : Snapshot
+  pub ran : HasRun image solved.stream machine solved.text
+  pub kept_is : kept ≡ One machine
+
+-- writing OUT failed, after the image of the plan ran the stream of SAMPLES to its end
+pub record IsRunCutShort (src datapath samples out : Name) (old new : View) : Type 0 where
+  pub cut_short : IsEvalCutShort src samples out old new
+  pub planned : WhereSpecified old (HasSomePlan src datapath)
+
+-- when each status comes
+abbrev pub IsRunAnswer : Name → Name → Name → Name → View → View → Kept → Status → Type 0
+IsRunAnswer src datapath samples out old new kept status.Done = IsRunDone src datapath samples out old new kept
+IsRunAnswer src datapath samples out old new kept status.Desk =
+    IsNotRun src datapath samples old new status.Desk ⊎ IsRunCutShort src datapath samples out old new
+IsRunAnswer src datapath samples out old new kept error = IsNotRun src datapath samples old new error
+
+-- no name but these three begins to be read
+abbrev pub BeginsOnlyThree : Name → Name → Name → (Name → Bool) → (Name → Bool) → Type 0
+BeginsOnlyThree src datapath samples old new =
+    (name : Name) → name ≢ src → name ≢ datapath → name ≢ samples → new name ≡ true → old name ≡ true
+
+-- No file but OUT changed, and nothing was printed. No name but the three inputs began to be read, and none but OUT to
+-- be written.
+pub record RunUsesOnly (src datapath samples out : Name) (old new : View) : Type 0 where
+  pub files : IfSpecified (ChangesOnly out) old.files new.files
+  pub printed : new.printed ≡ old.printed
+  pub reads : BeginsOnlyThree src datapath samples old.reads new.reads
+  pub writes : NoOtherBegins out old.writes new.writes

@@ -1,0 +1,5 @@
+pub mod Limits
+pub mod Endings
+pub mod Printing
+pub mod Reading
+pub mod Private

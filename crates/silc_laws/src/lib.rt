@@ -1,0 +1,115 @@
+//! What `silc` promises, a sentence a clause. Each call has the two clauses of `silc` that say which words are a command
+//! and how each command ends (`words`, `ending`), and the sentences follow from these.
+#![tactic(auto)]
+
+ghost use Rattle.std.specs.Prelude.{◌≡◌, ◌≢◌, ℕ, None};
+ghost use Rattle.command_words.specs.Command.{Command, IsCommand, IsCommandIn};
+ghost use Rattle.command_words.specs.Command.{IsCompile, IsSchedule, IsList, IsSim, IsEval, IsRun, IsDemo};
+ghost use Rattle.desk_core.specs.Desk.{HasOutput};
+ghost use Rattle.desk_core.specs.View.{Name, View};
+ghost use Rattle.plan_commands.specs.Compile.{IsAnswer};
+ghost use Rattle.plan_commands.specs.Schedule.{IsScheduled, IsScheduleAnswer};
+ghost use Rattle.sample_commands.specs.Eval.{IsEvalDone, IsEvalAnswer};
+ghost use Rattle.sample_commands.specs.Run.{IsRunDone, IsRunAnswer, RunUsesOnly};
+ghost use Rattle.sample_commands.specs.Sim.{IsSimDone, IsSimAnswer};
+ghost use Rattle.sample_commands.specs.declared.simulator.Kept.TheVariants.{Nothing};
+ghost use Rattle.silc.specs.Demo.{IsDemoDone, IsDemoAnswer};
+ghost use Rattle.silc.specs.Endings.{IsEnding, Reported};
+ghost use Rattle.silc.specs.Listing.{IsListed, IsListAnswer};
+ghost use Rattle.silc_files.specs.Endings.{UsesOnly};
+ghost use Rattle.silc_files.specs.Printing.{ChangesNoFile, PrintsOnly};
+ghost use Rattle.silc_laws.specs.Forms.{IsCommandOn, IsCommandTo};
+
+use desk_core::Desk;
+use silc::{Kept, Status, silc};
+use std::alloc::Global;
+
+/// What the commands print, write and keep where they are done.
+pub fn silc_done<D: Desk>(alloc: Global, words: &[String], desk: &mut D, kept: &mut Kept) -> Status
+    requires { kept.old ≡ Nothing }
+    ensures words { result ≢ Status.Words → IsCommand words.now }
+    ensures ending { (command : Command) → IsCommandIn words.now command
+        → Reported (λ (mid : View). IsEnding command (D.view desk.old) mid kept.new result) result
+        (D.view desk.old) (D.view desk.new) }
+
+    ensures printed { result ≡ Status.Done → (src datapath : Name) → IsSchedule words.now src datapath
+        → IsScheduled src datapath (D.view desk.old) (D.view desk.new) }
+    ensures listed { result ≡ Status.Done → (mic : Name) → IsList words.now mic
+        → IsListed mic (D.view desk.old) (D.view desk.new) }
+    ensures demonstrated { result ≡ Status.Done → (sections samples : ℕ) → IsDemo words.now sections samples
+        → IsDemoDone sections samples (D.view desk.old) (D.view desk.new) kept.new }
+    ensures simulated { result ≡ Status.Done → (mic samples out : Name) → IsSim words.now mic samples out
+        → IsSimDone mic samples out (D.view desk.old) (D.view desk.new) kept.new }
+    ensures one_solution { result ≡ Status.Done → (src samples out : Name) → IsEval words.now src samples out
+        → IsEvalDone src samples out (D.view desk.old) (D.view desk.new) }
+    ensures equals_eval { result ≡ Status.Done
+        → (src datapath samples out : Name) → IsRun words.now src datapath samples out
+        → IsRunDone src datapath samples out (D.view desk.old) (D.view desk.new) kept.new }
+    ensures closed { result ≡ Status.Done → (out : Name) → IsCommandTo words.now out
+        → HasOutput None (D.view desk.new) }
+{
+    silc(alloc, words, desk, kept)
+}
+
+/// When each status of a command comes, and in which order.
+pub fn silc_answers<D: Desk>(
+    alloc: Global,
+    words: &[String],
+    desk: &mut D,
+    kept: &mut Kept,
+) -> Status
+    requires { kept.old ≡ Nothing }
+    ensures words { result ≢ Status.Words → IsCommand words.now }
+    ensures ending { (command : Command) → IsCommandIn words.now command
+        → Reported (λ (mid : View). IsEnding command (D.view desk.old) mid kept.new result) result
+        (D.view desk.old) (D.view desk.new) }
+
+    ensures answer { (src datapath out : Name) → IsCompile words.now src datapath out
+        → IsAnswer src datapath out (D.view desk.old) (D.view desk.new) result }
+    ensures schedule_answer { (src datapath : Name) → IsSchedule words.now src datapath
+        → IsScheduleAnswer src datapath (D.view desk.old) (D.view desk.new) result }
+    ensures list_answer { (mic : Name) → IsList words.now mic
+        → IsListAnswer mic (D.view desk.old) (D.view desk.new) result }
+    ensures demo_answer { (sections samples : ℕ) → IsDemo words.now sections samples
+        → IsDemoAnswer sections samples (D.view desk.old) (D.view desk.new) kept.new result }
+    ensures sim_answer { (mic samples out : Name) → IsSim words.now mic samples out
+        → IsSimAnswer mic samples out (D.view desk.old) (D.view desk.new) kept.new result }
+    ensures eval_answer { (src samples out : Name) → IsEval words.now src samples out
+        → IsEvalAnswer src samples out (D.view desk.old) (D.view desk.new) result }
+    ensures run_answer { (src datapath samples out : Name) → IsRun words.now src datapath samples out
+        → IsRunAnswer src datapath samples out (D.view desk.old) (D.view desk.new) kept.new result }
+{
+    silc(alloc, words, desk, kept)
+}
+
+/// What a command leaves alone.
+pub fn silc_leaves<D: Desk>(
+    alloc: Global,
+    words: &[String],
+    desk: &mut D,
+    kept: &mut Kept,
+) -> Status
+    requires { kept.old ≡ Nothing }
+    ensures words { result ≢ Status.Words → IsCommand words.now }
+    ensures ending { (command : Command) → IsCommandIn words.now command
+        → Reported (λ (mid : View). IsEnding command (D.view desk.old) mid kept.new result) result
+        (D.view desk.old) (D.view desk.new) }
+
+    ensures only { (first second out : Name) → IsCommandOn words.now first second out
+        → UsesOnly first second out (D.view desk.old) (D.view desk.new) }
+    ensures run_only { (src datapath samples out : Name) → IsRun words.now src datapath samples out
+        → RunUsesOnly src datapath samples out (D.view desk.old) (D.view desk.new) }
+    ensures schedule_only { (src datapath : Name) → IsSchedule words.now src datapath
+        → ChangesNoFile src datapath (D.view desk.old) (D.view desk.new) }
+    ensures list_only { (mic : Name) → IsList words.now mic
+        → ChangesNoFile mic mic (D.view desk.old) (D.view desk.new) }
+    ensures demo_only { (sections samples : ℕ) → IsDemo words.now sections samples
+        → PrintsOnly (D.view desk.old) (D.view desk.new) }
+    ensures compile_keeps_nothing { (src datapath out : Name) → IsCompile words.now src datapath out
+        → kept.new ≡ Nothing }
+    ensures eval_keeps_nothing { (src samples out : Name) → IsEval words.now src samples out → kept.new ≡ Nothing }
+    ensures schedule_keeps_nothing { (src datapath : Name) → IsSchedule words.now src datapath → kept.new ≡ Nothing }
+    ensures list_keeps_nothing { (mic : Name) → IsList words.now mic → kept.new ≡ Nothing }
+{
+    silc(alloc, words, desk, kept)
+}

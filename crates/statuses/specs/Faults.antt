@@ -1,0 +1,54 @@
+-- The statuses that faults of other crates come to.
+use Rattle.datapath.specs.declared.fault.PathFault.{PathFault}
+use Rattle.datapath.specs.declared.fault.PathFault.TheVariants as path
+use Rattle.delay_memory.specs.declared.fault.LineFault.TheVariants as line
+use Rattle.front_end.specs.declared.fault.FrontError.{FrontError}
+use Rattle.front_end.specs.declared.fault.FrontError.TheVariants.{Fault}
+use Rattle.front_end.specs.declared.fault.FrontError.TheVariants as front
+use Rattle.micro_file.specs.declared.fault.FormFault.{FormFault}
+use Rattle.micro_file.specs.declared.fault.FormFault.TheVariants as form
+use Rattle.planner.specs.declared.fault.PlanFault.{PlanFault}
+use Rattle.planner.specs.declared.fault.PlanFault.TheVariants as plan
+use Rattle.sample_io.specs.declared.RowsReadFault.{RowsReadFault}
+use Rattle.sample_io.specs.declared.RowsReadFault.TheVariants as rows
+use Rattle.statuses.specs.declared.status.ImageFault.TheVariants.{File}
+use Rattle.statuses.specs.declared.status.SampleFault.TheVariants as sample
+use Rattle.statuses.specs.declared.status.Status.{Status}
+use Rattle.statuses.specs.declared.status.Status.TheVariants.{Memory, FrontEnd, Path, Image, Samples}
+use Rattle.statuses.specs.declared.status.Status.TheVariants as status
+use Rattle.statuses.specs.declared.status.UnitRefusal.TheVariants.{NoUnit, NoRoute, TooWide, NoRam, NoAcu}
+use Rattle.unit_assign.specs.declared.fault.UnitFault.TheVariants as unit
+
+-- the status where a source has no program
+abbrev pub of_front : FrontError → Status
+of_front (Fault fault) = FrontEnd fault
+of_front front.Memory = Memory
+
+-- the status where a file describes no datapath
+abbrev pub of_path : PathFault → Status
+of_path path.Memory = Memory
+of_path fault = Path fault
+
+-- the status where a graph has no plan
+abbrev pub of_plan : PlanFault → Status
+of_plan (plan.Line (line.NoRam v)) = status.Unit (NoRam v)
+of_plan (plan.Line (line.NoAcu ram v)) = status.Unit (NoAcu ram v)
+of_plan (plan.Line (line.LinesFull v)) = status.LinesFull v
+of_plan (plan.Line line.Memory) = Memory
+of_plan (plan.Unit (unit.TooWide v)) = status.Unit (TooWide v)
+of_plan (plan.Unit (unit.NoUnit kind v)) = status.Unit (NoUnit kind v)
+of_plan (plan.Unit (unit.NoRoute u port v)) = status.Unit (NoRoute u port v)
+of_plan (plan.Unit unit.Memory) = Memory
+of_plan (plan.Period v) = status.Period v
+of_plan (plan.FileFull u port v) = status.FileFull u port v
+of_plan plan.Memory = Memory
+
+-- the status where microcode is not decoded
+abbrev pub of_form : FormFault → Status
+of_form form.NotSpelled = Image (File form.NotSpelled)
+of_form form.Memory = Memory
+
+-- the status where samples are not read
+abbrev pub of_rows : RowsReadFault → Status
+of_rows (rows.Row fault) = Samples (sample.Row fault.line fault.at)
+of_rows rows.Memory = Memory
