@@ -1,2 +1,7 @@
 mod ZeroRows
 mod Planned
+mod NodeOrigins
+mod ShortLifetimes
+mod Outputs
+mod RowLists
+mod TypedRows

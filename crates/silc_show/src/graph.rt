@@ -2,12 +2,14 @@
 //! one for each node.
 
 ghost use Rattle.std.specs.Prelude.{IfOk};
+ghost use Rattle.silage_syntax.specs.Tree.{view};
+ghost use Rattle.front_end.specs.Faults.{HasProgram};
 ghost use Rattle.signal_graph.specs.GraphRules.{IsGraph};
 ghost use Rattle.signal_graph.specs.GraphSolves.{IsGraphLoopless};
 
 use crate::page::Page;
 use crate::source::{Refusal, refusal};
-use front_end::{FrontError, Rejection, accept};
+use front_end::{Accepted, FrontError, Rejection, accept};
 use operations::operation_name;
 use signal_graph::{Graph, Node};
 use std::alloc::Global;
@@ -19,17 +21,26 @@ fn rejected(alloc: Global, rejection: &Rejection) -> Refusal {
     }
 }
 
-pub fn graph_of(alloc: Global, source: &[u8]) -> Result<Graph, Refusal>
-    ensures sound { IfOk result IsGraph }
-    ensures loopless { IfOk result IsGraphLoopless }
+/// The program of a source, and its graph.
+pub fn accepted_of(alloc: Global, source: &[u8]) -> Result<Accepted, Refusal>
+    ensures program { IfOk result (λ accepted. HasProgram source.now (view accepted.program)) }
+    ensures sound { IfOk result (λ accepted. IsGraph accepted.graph) }
+    ensures loopless { IfOk result (λ accepted. IsGraphLoopless accepted.graph) }
 {
     match accept(alloc, source) {
-        Ok(accepted) => Ok(accepted.graph),
+        Ok(accepted) => Ok(accepted),
         Err(rejection) => Err(rejected(alloc, &rejection)),
     }
 }
 
-fn put_operands(page: &mut Page, node: &Node) {
+pub fn graph_of(alloc: Global, source: &[u8]) -> Result<Graph, Refusal>
+    ensures sound { IfOk result IsGraph }
+    ensures loopless { IfOk result IsGraphLoopless }
+{
+    Ok(accepted_of(alloc, source)?.graph)
+}
+
+pub fn put_operands(page: &mut Page, node: &Node) {
     page.text(" operands");
     for edge in &node.edges {
         page.number(" ", edge.node);

@@ -1,13 +1,17 @@
 //! Prints what a layer of the compiler answers for a file, one fact a line.
 #![tactic(auto)]
 
+mod definitions;
 mod elements;
 mod expressions;
 mod graph;
 mod image;
+mod lifetimes;
 mod manifests;
 mod names;
 mod operation_names;
+mod origins;
+mod owners;
 mod page;
 mod path;
 mod plans;
@@ -18,6 +22,7 @@ mod text;
 mod tokens;
 mod tree;
 mod types;
+mod values;
 mod words;
 
 use crate::page::Page;
@@ -31,8 +36,9 @@ use std::rt::{Env, Files};
 use std::{env, fs};
 
 const USAGE: &str =
-    "usage: silc_show tokens|tree|text|names|elements|types|graph SRC | manifests|words TABLE | image MIC \
-     | datapath DP | rows WIDTHS SAMPLES | repeat CALL TURNS FILE | repeat assign|plan|assemble TURNS SRC DP";
+    "usage: silc_show tokens|tree|text|names|elements|types|graph SRC | origins SRC DP | values SRC SAMPLES \
+     | manifests|words TABLE | image MIC | datapath DP | rows WIDTHS SAMPLES | repeat CALL TURNS FILE \
+     | repeat assign|plan|allot|assemble TURNS SRC DP";
 
 const BAD_WORDS: u8 = 2;
 
@@ -115,6 +121,26 @@ fn show_layer<R: Files + Print + AllocGlobal>(rt: &R, layer: &str, file: &str) -
     Ok(true)
 }
 
+/// Shows where the nodes of a source that are planned for a datapath come from.
+fn show_origins<R: Files + Print + AllocGlobal>(rt: &R, source: &str, path: &str) -> Result<bool> {
+    let source = read(rt, source)?;
+    let path = read(rt, path)?;
+    print(rt, origins::page(rt.alloc(), &source, &path))?;
+    Ok(true)
+}
+
+/// Shows the words of all elements of a source over the rows of a sample file.
+fn show_values<R: Files + Print + AllocGlobal>(
+    rt: &R,
+    source: &str,
+    samples: &str,
+) -> Result<bool> {
+    let source = read(rt, source)?;
+    let samples = read(rt, samples)?;
+    print(rt, values::page(rt.alloc(), &source, &samples))?;
+    Ok(true)
+}
+
 /// Shows the rows of a sample file. `false`: these are no widths.
 fn show_rows<R: Files + Print + AllocGlobal>(rt: &R, widths: &str, file: &str) -> Result<bool> {
     let Some(channels) = rows::channels(rt.alloc(), widths)? else {
@@ -168,6 +194,12 @@ fn show<R: Env + Files + Print + AllocGlobal>(rt: &R) -> Result<bool> {
             widths.as_str(),
             file.as_str(),
         ),
+        [_, origins, source, path] if origins.as_str() == "origins" => {
+            show_origins(rt, source.as_str(), path.as_str())
+        }
+        [_, values, source, samples] if values.as_str() == "values" => {
+            show_values(rt, source.as_str(), samples.as_str())
+        }
         [_, repeat, call, turns, file] if repeat.as_str() == "repeat" => {
             show_repeat(rt, call.as_str(), turns.as_str(), file.as_str())
         }

@@ -8,6 +8,7 @@ ghost use Rattle.signal_graph.specs.GraphSolves.{IsGraphLoopless};
 ghost use Rattle.microcode_asm.specs.Planned.{IsPlanned};
 
 use crate::graph::graph_of;
+use crate::lifetimes::{allot_again, without_registers};
 use crate::page::Page;
 use crate::path::datapath_of;
 use crate::source::{Refusal, told};
@@ -27,6 +28,8 @@ pub enum PlanCall {
     Assign,
     /// From a source to its plan: the lifetimes.
     Plan,
+    /// From the lifetimes of a plan to their registers: the lifetimes.
+    Allot,
     /// From a plan to its image: the words.
     Assemble,
 }
@@ -35,6 +38,7 @@ pub fn plan_call_named(word: &str) -> Option<PlanCall> {
     match word {
         "assign" => Some(PlanCall::Assign),
         "plan" => Some(PlanCall::Plan),
+        "allot" => Some(PlanCall::Allot),
         "assemble" => Some(PlanCall::Assemble),
         _ => None,
     }
@@ -116,6 +120,17 @@ fn plan_again(alloc: Global, turns: u32, source: &[u8], path: &Datapath) -> Resu
     Ok(count)
 }
 
+#[tactic(auto, using(crate::proofs::Planned::lifetimes_allottable))]
+fn allot_source(alloc: Global, turns: u32, source: &[u8], path: &Datapath) -> Result<u64, Refusal>
+    requires { IsDatapath path.now }
+{
+    let plan = plan_of(alloc, source, path)?;
+    match allot_again(alloc, turns, &plan.arcs, path) {
+        Ok(count) => Ok(count),
+        Err(fault) => Err(without_registers(alloc, fault)),
+    }
+}
+
 /// How many microwords the image has.
 fn words(alloc: Global, plan: &Plan, path: &Datapath) -> Result<u64, AsmFault>
     requires path { IsDatapath path.now }
@@ -162,6 +177,7 @@ pub fn sum(
     match call {
         PlanCall::Assign => assign_source(alloc, turns, source, &path),
         PlanCall::Plan => plan_again(alloc, turns, source, &path),
+        PlanCall::Allot => allot_source(alloc, turns, source, &path),
         PlanCall::Assemble => assemble_source(alloc, turns, source, &path),
     }
 }

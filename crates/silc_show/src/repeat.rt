@@ -9,11 +9,13 @@ ghost use Rattle.signal_graph.specs.Rules.{IsInType};
 ghost use Rattle.silage_syntax.specs.Tree.{view};
 ghost use Rattle.name_check.specs.NameFaults.{name_faults, IsMain};
 ghost use Rattle.name_check.specs.TopNames.{top_names};
+ghost use Rattle.single_def.specs.Signatures.{HaveResults};
 ghost use Rattle.fix_types.specs.Numbers.{AreNumbersShort};
 
 use crate::elements::{elements_of, expanded};
 use crate::graph::graph_of;
 use crate::image::{bytes_of, image_of};
+use crate::lifetimes::allot_path;
 use crate::names::names_of;
 use crate::page::Page;
 use crate::path::datapath_of;
@@ -54,6 +56,8 @@ pub enum Call {
     Step,
     /// From a datapath file to its datapath: the units.
     Datapath,
+    /// From short lifetimes at a port of a datapath to their registers: the lifetimes.
+    Allot,
 }
 
 pub fn call_named(word: &str) -> Option<Call> {
@@ -70,6 +74,7 @@ pub fn call_named(word: &str) -> Option<Call> {
         "graph" => Some(Call::Graph),
         "step" => Some(Call::Step),
         "datapath" => Some(Call::Datapath),
+        "allot" => Some(Call::Allot),
         _ => None,
     }
 }
@@ -178,6 +183,7 @@ fn elements_again(
     requires clear { IsClear (name_faults (view program.now)) }
     requires tops { names.now.tops ≡ top_names (view program.now) }
     requires main { IsMain (view program.now) names.now.main }
+    requires results { HaveResults (view program.now) }
 {
     let mut count = 0u64;
     for _ in 0..turns {
@@ -312,5 +318,6 @@ pub fn sum(alloc: Global, call: Call, turns: u32, bytes: &[u8]) -> Result<u64, R
         Call::Graph => graph_again(alloc, turns, bytes),
         Call::Step => step_source(alloc, turns, bytes),
         Call::Datapath => datapath_again(alloc, turns, bytes),
+        Call::Allot => allot_path(alloc, turns, bytes),
     }
 }

@@ -3,6 +3,7 @@
 ghost use Rattle.std.specs.Prelude.{IfOk};
 ghost use Rattle.silage_lex.specs.Tokens.{HasTokens};
 ghost use Rattle.silage_syntax.specs.Tree.{view};
+ghost use Rattle.single_def.specs.Signatures.{HaveResults};
 ghost use Rattle.fix_types.specs.Numbers.{AreNumbersShort};
 
 use crate::page::Page;
@@ -11,7 +12,7 @@ use name_check::NameFault;
 use silage_lex::{LexFault, Tokens, lex};
 use silage_parse::{ParseFault, parse};
 use silage_tree::Program;
-use single_def::DefFault;
+use single_def::PlacedFault;
 use std::alloc::Global;
 use std::fmt::{Debug, Display};
 use std::str;
@@ -77,16 +78,16 @@ pub fn of_names(alloc: Global, source: &[u8], fault: NameFault) -> Refusal {
     }
 }
 
-pub fn of_elements(alloc: Global, source: &[u8], fault: DefFault) -> Refusal {
+pub fn of_elements(alloc: Global, source: &[u8], fault: PlacedFault) -> Refusal {
     match fault {
-        DefFault::Index(at)
-        | DefFault::Bounds(at)
-        | DefFault::Delay(at)
-        | DefFault::Shift(at)
-        | DefFault::DefinedTwice(at)
-        | DefFault::NotDefined { at, .. }
-        | DefFault::TooLarge(at) => refusal(alloc, &fault, line_of(source, at)),
-        DefFault::Memory => Page::cut(alloc),
+        PlacedFault::Index(at)
+        | PlacedFault::Bounds(at)
+        | PlacedFault::Delay(at)
+        | PlacedFault::Shift(at)
+        | PlacedFault::DefinedTwice(at)
+        | PlacedFault::NotDefined { at, .. }
+        | PlacedFault::TooLarge(at) => refusal(alloc, &fault, line_of(source, at)),
+        PlacedFault::Memory => Page::cut(alloc),
     }
 }
 
@@ -111,7 +112,7 @@ fn last_line(bytes: &[u8]) -> u64 {
     line
 }
 
-fn line_of(source: &[u8], at: u32) -> Option<u64> {
+pub fn line_of(source: &[u8], at: u32) -> Option<u64> {
     match source.get(..at as usize) {
         Some(before) => Some(last_line(before)),
         None => None,
@@ -148,7 +149,8 @@ pub fn tokens_of(alloc: Global, source: &[u8]) -> Result<Tokens, Refusal>
 /// The program of the tokens of a source.
 pub fn parsed(alloc: Global, source: &[u8], tokens: &Tokens) -> Result<Program, Refusal>
     requires { HasTokens source.now tokens.now }
-    ensures { IfOk result (λ program. AreNumbersShort (view program)) }
+    ensures numbers { IfOk result (λ program. AreNumbersShort (view program)) }
+    ensures results { IfOk result (λ program. HaveResults (view program)) }
 {
     if tokens.len() > SOURCE_LIMIT {
         return Err(too_long(alloc));
@@ -160,7 +162,8 @@ pub fn parsed(alloc: Global, source: &[u8], tokens: &Tokens) -> Result<Program, 
 }
 
 pub fn program_of(alloc: Global, source: &[u8]) -> Result<Program, Refusal>
-    ensures { IfOk result (λ program. AreNumbersShort (view program)) }
+    ensures numbers { IfOk result (λ program. AreNumbersShort (view program)) }
+    ensures results { IfOk result (λ program. HaveResults (view program)) }
 {
     let tokens = tokens_of(alloc, source)?;
     parsed(alloc, source, &tokens)

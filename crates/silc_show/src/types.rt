@@ -1,12 +1,14 @@
 //! The types of a source: a line for each table, declaration and item of its typed program. An operation stands before
 //! its parts with its format: the shift, which the amount of a source's shift multiplies, the mode and the width.
 
-ghost use Rattle.std.specs.Prelude.{◌≡◌, ◌<◌, ◌^◌, length};
+ghost use Rattle.std.specs.Prelude.{◌≡◌, ◌<◌, ◌^◌, length, IfOk};
 ghost use Rattle.ranked_faults.specs.Ranked.{IsClear};
 ghost use Rattle.silage_syntax.specs.Tree.{view};
 ghost use Rattle.name_check.specs.NameFaults.{name_faults};
 ghost use Rattle.name_check.specs.TopNames.{top_names};
 ghost use Rattle.fix_types.specs.Numbers.{AreNumbersShort};
+ghost use Rattle.fix_types.specs.Translation.{typed_program};
+ghost use Rattle.fix_types.specs.TypedTree.{view_typed};
 
 use crate::names::names_of;
 use crate::page::{Lead, Page, mode_text};
@@ -193,6 +195,7 @@ pub fn typed(
     requires tops { names.now.tops ≡ top_names (view program.now) }
     requires few { length (view program.now).tops < 2 ^ 32 }
     requires numbers { AreNumbersShort (view program.now) }
+    ensures { IfOk result (λ typed. view_typed typed ≡ typed_program (view program.now)) }
 {
     match check_types(alloc, program, names) {
         Ok(typed) => Ok(typed),

@@ -1,0 +1,148 @@
+//! The element that each node of a graph belongs to. Page `docs/GRAPH.md`, "The graph of a flat program".
+
+use fix_word::Op;
+use signal_graph::{FlatBody, FlatExpr, FlatProgram, Graph};
+use std::alloc::{AllocError, Global};
+
+/// The elements of the nodes that are made so far, and the raw words that have a constant.
+#[derive(Drop)]
+struct Owners {
+    elements: Vec<u32>,
+    words: Vec<i64>,
+}
+
+/// Marks the elements that an expression reads with a delay.
+fn mark_delayed(value: &FlatExpr, delayed: &mut [bool]) {
+    match value {
+        FlatExpr::Raw(_) => {}
+        FlatExpr::Read { elem, delay } => {
+            if *delay > 0
+                && let Some(mark) = delayed.get_mut(*elem as usize)
+            {
+                *mark = true;
+            }
+        }
+        FlatExpr::Node { parts, .. } => {
+            for part in parts {
+                mark_delayed(part, delayed);
+            }
+        }
+    }
+}
+
+/// Adds the nodes that an expression of an element makes, each operation after its parts.
+fn add_nodes(owners: &mut Owners, element: u32, value: &FlatExpr) -> Result<(), AllocError> {
+    match value {
+        FlatExpr::Raw(word) => {
+            if !owners.words.contains(word) {
+                owners.words.push(*word)?;
+                owners.elements.push(element)?;
+            }
+        }
+        FlatExpr::Read { .. } => {}
+        FlatExpr::Node { parts, .. } => {
+            for part in parts {
+                add_nodes(owners, element, part)?;
+            }
+            owners.elements.push(element)?;
+        }
+    }
+    Ok(())
+}
+
+/// Whether a `Pass` is made after the value of an element that is read with a delay or not.
+fn has_pass(value: &FlatExpr, is_delayed: bool) -> bool {
+    match value {
+        FlatExpr::Raw(_) => is_delayed,
+        FlatExpr::Read { delay, .. } => *delay > 0 || is_delayed,
+        FlatExpr::Node { .. } => false,
+    }
+}
+
+fn add_element(
+    owners: &mut Owners,
+    element: u32,
+    body: &FlatBody,
+    is_delayed: bool,
+) -> Result<(), AllocError> {
+    match body {
+        FlatBody::Word(_) => owners.elements.push(element)?,
+        FlatBody::Value(value) => {
+            add_nodes(owners, element, value)?;
+            if has_pass(value, is_delayed) {
+                owners.elements.push(element)?;
+            }
+        }
+    }
+    Ok(())
+}
+
+/// For each node of the graph of a flat program, before nodes are left out, the number of its element.
+fn owners_of_all(alloc: Global, flat: &FlatProgram) -> Result<Vec<u32>, AllocError> {
+    let mut delayed = vec![in alloc; false; flat.elems.len()]?;
+    for element in &flat.elems {
+        if let FlatBody::Value(value) = &element.body {
+            mark_delayed(value, &mut delayed);
+        }
+    }
+    let mut owners = Owners {
+        elements: Vec::new(alloc),
+        words: Vec::new(alloc),
+    };
+    let mut number = 0u32;
+    for (element, is_delayed) in flat.elems.iter().zip(delayed.iter()) {
+        add_element(&mut owners, number, &element.body, *is_delayed)?;
+        number = number.saturating_add(1);
+    }
+    for out in &flat.outs {
+        owners.elements.push(*out)?;
+    }
+    Ok(owners.elements)
+}
+
+/// Marks a node, which is then followed.
+fn reach(node: u32, marks: &mut [bool], waiting: &mut Vec<u32>) -> Result<(), AllocError> {
+    if let Some(mark) = marks.get_mut(node as usize)
+        && !*mark
+    {
+        *mark = true;
+        waiting.push(node)?;
+    }
+    Ok(())
+}
+
+/// Whether an output is reached from each node.
+fn kept(alloc: Global, graph: &Graph) -> Result<Vec<bool>, AllocError> {
+    let mut marks = vec![in alloc; false; graph.nodes.len()]?;
+    let mut waiting = Vec::new(alloc);
+    let mut number = 0u32;
+    for node in &graph.nodes {
+        if matches!(node.op, Op::Output) {
+            reach(number, &mut marks, &mut waiting)?;
+        }
+        number = number.saturating_add(1);
+    }
+    for _ in 0..graph.nodes.len() {
+        if let Some(number) = waiting.pop()
+            && let Some(node) = graph.nodes.get(number as usize)
+        {
+            for edge in &node.edges {
+                reach(edge.node, &mut marks, &mut waiting)?;
+            }
+        }
+    }
+    Ok(marks)
+}
+
+/// For each node of the graph of a flat program from which an output is reached, the number of its element.
+pub fn owners_of(alloc: Global, flat: &FlatProgram, whole: &Graph) -> Result<Vec<u32>, AllocError> {
+    let mut owners = Vec::new(alloc);
+    let all = owners_of_all(alloc, flat)?;
+    let kept = kept(alloc, whole)?;
+    for (owner, is_kept) in all.iter().zip(kept.iter()) {
+        if *is_kept {
+            owners.push(*owner)?;
+        }
+    }
+    Ok(owners)
+}

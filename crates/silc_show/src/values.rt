@@ -1,0 +1,200 @@
+//! The words of all elements of a source over the rows of a sample file, for `tools/ranges` and `tools/noise`. The elements
+//! are outputs of the flat program, as many at a time as a row has words: a line for each of them with its name and type,
+//! and then a line for each sample with their words. So a word is the evaluator's. Page `docs/GRAPH.md`, "Evaluation".
+
+ghost use Rattle.std.specs.Prelude.{◌≡◌, ◌<◌, ◌≤◌, length, All, IfOk, OnOk};
+ghost use Rattle.front_end.specs.Faults.{HasProgram};
+ghost use Rattle.sample_io.specs.Samples.{stream_of};
+ghost use Rattle.signal_graph.specs.Flat as flat_form;
+ghost use Rattle.signal_graph.specs.FlatRules.{IsFlat};
+ghost use Rattle.signal_graph.specs.Keeps.{IsStreamOf};
+ghost use Rattle.signal_graph.specs.Rules.{IsWithin};
+ghost use Rattle.silage_syntax.specs.Tree.{view};
+
+use crate::definitions::declaration;
+use crate::elements::{expanded, put_subscripts};
+use crate::graph::accepted_of;
+use crate::names::names_of;
+use crate::page::Page;
+use crate::rows::{MAX_CHANNELS, put_words, read_typed, row, row_count};
+use crate::source::{Refusal, told};
+use crate::types::typed;
+use equation_eval::Evaluator;
+use flow_graph::{GraphFault, build};
+use lists::List;
+use loop_expand::expand;
+use sample_io::RowList;
+use signal_graph::FlatProgram;
+use silage_tree::{Program, Top};
+use single_def::{Element, Elements, Instance, subscripts_at};
+use std::alloc::{AllocError, Global};
+
+/// As many elements are outputs at a time: a row has at most 16 words.
+const GROUP: u32 = MAX_CHANNELS as u32;
+
+/// The elements of a program, and its flat program.
+#[derive(Drop)]
+struct Expanded {
+    elements: Elements,
+    flat: FlatProgram,
+}
+
+fn expanded_of(alloc: Global, source: &[u8], program: &Program) -> Result<Expanded, Refusal>
+    requires { HasProgram source.now (view program.now) }
+    ensures { IfOk result (λ expanded. IsFlat (flat_form.view expanded.flat)) }
+{
+    let names = names_of(alloc, source, program)?;
+    let elements = expanded(alloc, source, program, &names)?;
+    let typed = typed(alloc, source, program, &names)?;
+    match expand(alloc, &typed, &elements) {
+        Ok(flat) => Ok(Expanded { elements, flat }),
+        Err(_) => Err(Page::cut(alloc)),
+    }
+}
+
+/// Which of its function's instances, from 1, the instance with this number is.
+fn count_of(instances: &[Instance], number: u32, func: u32) -> u32 {
+    let mut count = 0u32;
+    let mut at = 0u32;
+    for instance in instances {
+        if at <= number && instance.func == func {
+            count = count.saturating_add(1);
+        }
+        at = at.saturating_add(1);
+    }
+    count
+}
+
+/// The name of an element, after that of its function and the count of its instance where this is not main's.
+fn put_name(page: &mut Page, program: &Program, instances: &[Instance], element: &Element) {
+    let Some(instance) = instances.get(element.inst as usize) else {
+        return;
+    };
+    let Some(Top::Func(func)) = program.tops.get(instance.func as usize) else {
+        return;
+    };
+    if element.inst > 0 {
+        page.name("", &func.name);
+        page.number("#", count_of(instances, element.inst, instance.func));
+        page.text(".");
+    }
+    if let Some(decl) = declaration(func, element.decl) {
+        page.name("", &decl.name);
+        put_subscripts(page, subscripts_at(decl.dims.as_slice(), element.place));
+    }
+}
+
+/// The lines of the elements with these numbers.
+fn put_elements(page: &mut Page, program: &Program, of: &Expanded, numbers: &[u32]) {
+    for number in numbers {
+        if let (Some(element), Some(signal)) = (
+            of.elements.elements.get(*number as usize),
+            of.flat.elems.get(*number as usize),
+        ) {
+            page.text("element ");
+            put_name(page, program, of.elements.instances.as_slice(), element);
+            page.sig_type(" : ", signal.ty);
+            page.end();
+        }
+    }
+}
+
+/// The numbers from the first on, below the end, as many as a row has words at most.
+fn numbers_from(alloc: Global, first: u32, end: u32) -> Result<List<u32>, AllocError>
+    requires there { first < end }
+    requires few { end ≤ 8192 }
+    ensures count { IfOk result (λ numbers. IsWithin 1 16 (length numbers)) }
+    ensures each { IfOk result (λ numbers. All (λ number. number < end) numbers) }
+{
+    let mut numbers = List::new(alloc);
+    for number in first..end.min(first + GROUP) {
+        numbers.push(number)?;
+    }
+    Ok(numbers)
+}
+
+/// An evaluator of a flat program.
+fn evaluator_of(alloc: Global, flat: &FlatProgram) -> Result<Evaluator, Refusal>
+    requires { IsFlat (flat_form.view flat.now) }
+    ensures inputs { IfOk result (λ evaluator. evaluator.inputs ≡ flat.now.inputs) }
+    ensures outs { IfOk result (λ evaluator. length evaluator.outputs ≤ 16) }
+{
+    let graph = match build(alloc, flat) {
+        Ok(graph) => graph,
+        Err(GraphFault::Memory) => return Err(Page::cut(alloc)),
+        Err(fault) => return Err(told(alloc, &fault)),
+    };
+    match Evaluator::new(alloc, &graph) {
+        Ok(evaluator) => Ok(evaluator),
+        Err(_) => Err(Page::cut(alloc)),
+    }
+}
+
+/// A line for each row of samples, with the output words.
+fn put_samples(page: &mut Page, evaluator: &mut Evaluator, list: &RowList)
+    requires width { 1 ≤ list.now.width }
+    requires rows { IsStreamOf evaluator.old.inputs (stream_of list.now) }
+    requires outs { length evaluator.old.outputs ≤ 16 }
+{
+    let mut words = [0i64; MAX_CHANNELS];
+    let put = &mut words[..evaluator.outs()];
+    for n in 0..row_count(list) {
+        evaluator.step(row(list, n), put);
+        put_words(page, put);
+    }
+}
+
+/// The elements from this number on, as many as are outputs at a time, and their words.
+#[tactic(auto, using(crate::proofs::Outputs::flat_with))]
+fn put_group(
+    alloc: Global,
+    page: &mut Page,
+    program: &Program,
+    of: &mut Expanded,
+    first: u32,
+    list: &RowList,
+) -> Result<(), Refusal>
+    requires flat { IsFlat (flat_form.view of.old.flat) }
+    requires there { first < length of.old.flat.elems }
+    requires width { 1 ≤ list.now.width }
+    requires rows { IsStreamOf of.old.flat.inputs (stream_of list.now) }
+    ensures flat { OnOk result (IsFlat (flat_form.view of.new.flat)) }
+    ensures elements { of.new.flat.elems ≡ of.old.flat.elems }
+    ensures inputs { of.new.flat.inputs ≡ of.old.flat.inputs }
+{
+    let Ok(numbers) = numbers_from(alloc, first, of.flat.elems.len() as u32) else {
+        return Err(Page::cut(alloc));
+    };
+    put_elements(page, program, of, &numbers);
+    of.flat.outs = numbers;
+    let mut evaluator = evaluator_of(alloc, &of.flat)?;
+    put_samples(page, &mut evaluator, list);
+    Ok(())
+}
+
+fn put_groups(
+    alloc: Global,
+    page: &mut Page,
+    program: &Program,
+    of: &mut Expanded,
+    list: &RowList,
+) -> Result<(), Refusal>
+    requires flat { IsFlat (flat_form.view of.old.flat) }
+    requires width { 1 ≤ list.now.width }
+    requires rows { IsStreamOf of.old.flat.inputs (stream_of list.now) }
+{
+    let count = of.flat.elems.len() as u32;
+    for first in (0..count).step_by(MAX_CHANNELS) {
+        put_group(alloc, page, program, of, first, list)?;
+    }
+    Ok(())
+}
+
+pub fn page(alloc: Global, source: &[u8], samples: &[u8]) -> Result<Page, Refusal> {
+    let program = accepted_of(alloc, source)?.program;
+    let mut of = expanded_of(alloc, source, &program)?;
+    let list = read_typed(alloc, &of.flat.inputs, samples)?;
+    let mut page = Page::new(alloc);
+    put_groups(alloc, &mut page, &program, &mut of, &list)?;
+    Ok(page)
+}
