@@ -1,0 +1,187 @@
+#!/usr/bin/env python3
+"""Whether tools/explain says of each mistake in tests/explain/cases what is written there, and whether the cure helps.
+
+usage: tests/explain/check_cases.py [NAME ..]             the cases with these words in their names, or all
+       tests/explain/check_cases.py --write [NAME ..]     writes what is said now into them, to be read and judged
+
+A case is a folder with the files of a command, `case.toml` and `stderr.txt`, the whole text that is expected. In
+`case.toml` are `words`, the `code` with which the command ends, and `cure`: edits of files, each with `file`, `old` and
+`new`, or other `words`. After the cure the command is done, or it ends with the line `then`. Further keys: `large`, files
+that are filled up with a text to a size; `links` and `folders`; `closed`, names that no one has a right to; `before`,
+commands of silc that run first; `without_show`, where it is tried as if `silc_show` were not built; `example`, at the case of
+a refusal that docs/ERRORS.md shows whole.
+
+Without a name it compares docs/ERRORS.md too. It runs the built `silc` and `silc_show`, or those that `SILC` and `SILC_SHOW` name.
+"""
+import os
+import re
+import shutil
+import subprocess
+import sys
+import tempfile
+import tomllib
+from concurrent.futures import ThreadPoolExecutor
+from pathlib import Path
+
+HERE = Path(__file__).resolve().parent
+ROOT = HERE.parent.parent
+CASES = HERE / "cases"
+PAGE = ROOT / "docs" / "ERRORS.md"
+SILC = Path(os.environ.get("SILC", ROOT / "crates" / "silc_main" / "out" / "silc_main")).resolve()
+SHOW = Path(os.environ.get("SILC_SHOW", ROOT / "crates" / "silc_show" / "out" / "silc_show")).resolve()
+EXPLAIN = ROOT / "tools" / "explain"
+SAID, EXPECTED = "case.toml", "stderr.txt"
+KEYS = {"words", "code", "cure", "then", "large", "links", "folders", "closed", "before", "without_show", "example"}
+SECONDS = 600
+NOWHERE = Path("/nowhere/silc_show")
+# What takes from root the right to read and write what the mode of a file forbids.
+WITHOUT_RIGHTS = ["setpriv", "--bounding-set=-dac_override,-dac_read_search"]
+
+
+class BadCase(Exception):
+    """A case that can't be run."""
+
+
+class Skipped(Exception):
+    """Why a case is left out on this machine."""
+
+
+def prepare(case, said, room):
+    """Makes the files of a case."""
+    for file in case.iterdir():
+        if file.name not in (SAID, EXPECTED):
+            shutil.copy2(file, room / file.name)
+    for name, large in said.get("large", {}).items():
+        data = (room / name).read_bytes() if (room / name).exists() else b""
+        text = large["text"].encode()
+        (room / name).write_bytes((data + text * (large["size"] // len(text) + 1))[:large["size"]])
+    for name in said.get("folders", []):
+        (room / name).mkdir()
+    for name, to in said.get("links", {}).items():
+        (room / name).symlink_to(to)
+    for words in said.get("before", []):
+        subprocess.run([SILC, *words], cwd=room, check=True, timeout=SECONDS)
+    for name in said.get("closed", []):
+        (room / name).chmod(0)
+
+
+def ran(program, words, room, lead=(), show=SHOW):
+    return subprocess.run([*lead, program, *words], cwd=room, stdin=subprocess.DEVNULL, capture_output=True, text=True,
+                          timeout=SECONDS, env=os.environ | {"SILC": str(SILC), "SILC_SHOW": str(show), "LANG": "C.UTF-8"})
+
+
+def lead_of(said):
+    """The command before the program by which root has no more rights than others."""
+    if not said.get("closed") or os.geteuid() != 0:
+        return []
+    if not shutil.which(WITHOUT_RIGHTS[0]):
+        raise Skipped("it needs setpriv (apt-get install util-linux) where root runs it")
+    return WITHOUT_RIGHTS
+
+
+def cured(said, room):
+    """Applies the cure. Gives the words of the command after it."""
+    words = said["words"]
+    for cure in said["cure"]:
+        if "words" in cure:
+            words = cure["words"]
+        elif "open" in cure:
+            (room / cure["open"]).chmod(0o755)
+        elif "resize" in cure:
+            os.truncate(room / cure["resize"], cure["to"])
+        elif "make" in cure:
+            (room / cure["make"]).mkdir(parents=True)
+        elif "at" in cure:
+            data = bytearray((room / cure["file"]).read_bytes())
+            data[cure["at"]:cure["at"] + cure["remove"]] = bytes.fromhex(cure["put"])
+            (room / cure["file"]).write_bytes(data)
+        else:
+            text = (room / cure["file"]).read_text()
+            if text.count(cure["old"]) != 1:
+                raise BadCase(f"{cure['old']!r} stands {text.count(cure['old'])} times in {cure['file']}, and not once")
+            (room / cure["file"]).write_text(text.replace(cure["old"], cure["new"]))
+    return words
+
+
+def judged(case, writes):
+    """What is wrong with a case."""
+    said = tomllib.loads((case / SAID).read_text())
+    unknown = said.keys() - KEYS
+    if unknown or not {"words", "code", "cure"} <= said.keys():
+        raise BadCase(f"unknown keys {sorted(unknown)}, or words, code or cure are missing")
+    with tempfile.TemporaryDirectory(prefix="silc-explain-") as folder:
+        room = Path(folder)
+        prepare(case, said, room)
+        lead = lead_of(said)
+        done = ran(EXPLAIN, said["words"], room, lead, NOWHERE if said.get("without_show") else SHOW)
+        if writes:
+            (case / EXPECTED).write_text(done.stderr)
+        return [*compared(case, said, done), *cure_compared(said, room, lead)]
+
+
+def compared(case, said, done):
+    faults = [] if done.returncode == said["code"] else [f"exit code: expected {said['code']}, got {done.returncode}"]
+    if done.stderr != (case / EXPECTED).read_text():
+        faults.append(f"it says\n{done.stderr}in the place of\n{(case / EXPECTED).read_text()}")
+    return faults
+
+
+def cure_compared(said, room, lead):
+    """How the command ends after the cure, where that is not what the case says."""
+    words = cured(said, room)
+    done = ran(SILC, words, room, lead)
+    expected = said.get("then", "")
+    if done.stderr.strip() != expected or (done.returncode == 0) != (not expected):
+        return [f"after the cure: expected {expected or 'done'}, got {done.stderr.strip() or done.returncode}"]
+    return []
+
+
+def outcome(case, writes):
+    try:
+        return case, judged(case, writes), None
+    except Skipped as why:
+        return case, [], str(why)
+    except (BadCase, OSError, ValueError, subprocess.SubprocessError) as fault:
+        return case, [f"it can't be run: {fault}"], None
+
+
+def lost_rules():
+    """The rules that are told and name a section that no page has."""
+    said = {line.removeprefix("rule: ") for case in CASES.iterdir() for line in (case / EXPECTED).read_text().splitlines()
+            if line.startswith("rule: ")}
+    said |= set(re.findall(r"The rule: (.*)\.\n", PAGE.read_text()))
+    for rule in sorted(said):
+        page, _, section = rule.partition(", ")
+        heads = {line.lstrip("#").strip() for line in (ROOT / page).read_text().splitlines() if line.startswith("#")}
+        if section.strip('"') not in heads:
+            yield f"no section of the repository is {rule}"
+
+
+def main(words):
+    writes = words[:1] == ["--write"]
+    names = words[1:] if writes else words
+    cases = [case for case in sorted(CASES.iterdir()) if not names or any(name in case.name for name in names)]
+    for program in (SILC, SHOW):
+        if not os.access(program, os.X_OK):
+            print(f"explain: there is no program {program}; `tools/build silc_main silc_show` builds it")
+            return 1
+    failed = skipped = 0
+    with ThreadPoolExecutor(2) as pool:
+        for case, faults, why in pool.map(lambda case: outcome(case, writes), cases):
+            failed, skipped = failed + bool(faults), skipped + (why is not None)
+            if why:
+                print(f"{case.name}: left out: {why}")
+            if faults:
+                print("\n".join([f"{case.name}:", *faults]), flush=True)
+    print(f"explain: {len(cases) - failed - skipped} of {len(cases)} cases as expected, {failed} failed, {skipped} left out")
+    if not names and subprocess.run([EXPLAIN, "--page"], capture_output=True, text=True, check=True).stdout != PAGE.read_text():
+        failed += 1
+        print("docs/ERRORS.md is not what `tools/explain --page` prints; write it anew: tools/explain --page > docs/ERRORS.md")
+    for fault in lost_rules() if not names else ():
+        failed += 1
+        print(fault)
+    return 1 if failed or not cases else 0
+
+
+if __name__ == "__main__":
+    sys.exit(main(sys.argv[1:]))

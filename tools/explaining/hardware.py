@@ -1,0 +1,122 @@
+"""A datapath that silc has read, and the nodes of a source that are planned for it."""
+import re
+from dataclasses import dataclass, field
+
+KIND_OF = {"input": "in", "output": "out", "const": "rom", "mul": "mul", "sel": "sel", "load": "ram", "store": "ram",
+           "addr": "acu", **dict.fromkeys("add sub neg pass lt le eq ne and or not".split(), "alu")}
+# How many ports a unit of a kind has, and what it does.
+PORTS = {"in": 0, "out": 1, "rom": 0, "alu": 2, "mul": 2, "sel": 3, "ram": 2, "acu": 0}
+DONE_BY = {"in": "the input words", "out": "the output words", "rom": "constants", "alu": "sums, differences, comparisons and logic",
+           "mul": "products", "sel": "choices", "ram": "memory", "acu": "addresses"}
+DOES = {"add": "addition", "sub": "subtraction", "neg": "negation", "pass": "copy", "mul": "product", "sel": "choice",
+        **dict.fromkeys("lt le eq ne".split(), "comparison"), "and": "logical and", "or": "logical or", "not": "logical not",
+        "input": "input word", "output": "output word", "const": "constant"}
+NODE = re.compile(r"node (\d+) graph (\d+) line (\d+) element (\d+) (\S+) op (\w+) argument (-?\d+) bits (\d+) "
+                  r"ram (\d+) operands(.*)")
+
+
+@dataclass
+class Node:
+    """A node that is planned, the node of the graph that it belongs to, and where that comes from."""
+    number: int
+    graph: int
+    line: int
+    element: str
+    op: str
+    argument: int
+    bits: int
+    ram: int
+    operands: list = field(default_factory=list)
+
+
+def nodes_of(text):
+    """The nodes that `silc_show origins` prints."""
+    made = []
+    for line in text.splitlines():
+        found = NODE.fullmatch(line)
+        if found:
+            number, graph, place, _, element, op, argument, bits, ram, reads = found.groups()
+            node = Node(int(number), int(graph), int(place), element, op, int(argument), int(bits), int(ram))
+            for word in reads.split():
+                read, _, delay = word.partition("@")
+                node.operands.append((int(read), int(delay or 0)))
+            made.append(node)
+    return made
+
+
+def readers_of(nodes):
+    """For each node those that read it, each with its port and the delay."""
+    made = {node.number: [] for node in nodes}
+    for node in nodes:
+        for port, (read, delay) in enumerate(node.operands):
+            made[read].append((node, port, delay))
+    return made
+
+
+def delay_in_line(nodes, node):
+    """How many samples ago the word was stored that a node of a delay line is for."""
+    address = nodes[node.operands[0][0]] if node.op == "load" else node
+    first = next(other for other in nodes if other.graph == node.graph and other.op == "addr")
+    return address.argument - first.argument
+
+
+def words_of(nodes, node):
+    """What a node does, in words."""
+    if node.op == "store":
+        return f"the store into the delay line of `{node.element}`"
+    if node.op in ("addr", "load"):
+        delay = delay_in_line(nodes, node)
+        ago = "of this sample" if delay == 0 else f"{delay} sample{'s' if delay > 1 else ''} ago"
+        if node.op == "addr":
+            return f"the address of `{node.element}` {ago} in its delay line"
+        return f"the load of `{node.element}` {ago} from its delay line"
+    if node.op == "const":
+        return f"the constant {node.argument} for `{node.element}`"
+    if node.op in ("input", "output"):
+        return f"the {DOES[node.op]} `{node.element}`"
+    article = "an" if DOES[node.op][0] in "aeiou" else "a"
+    return f"{article} {DOES[node.op]} for `{node.element}`"
+
+
+class Hardware:
+    """The units and buses of a datapath file."""
+
+    def __init__(self, tree):
+        self.units, self.buses = tree["unit"], tree["bus"]
+        self.number = {unit["name"]: number for number, unit in enumerate(self.units)}
+        self.routes = {(self.number[name], end) for bus in self.buses for name in bus["from"] for end in bus["to"]}
+
+    def right_units(self, node):
+        """The units that do the operation of a node."""
+        kind = KIND_OF[node.op]
+        if node.op in ("load", "store"):
+            return [node.ram]
+        right = [number for number, unit in enumerate(self.units) if unit["kind"] == kind]
+        return [u for u in right if self.number[self.units[u]["ram"]] == node.ram] if node.op == "addr" else right
+
+    def port(self, unit, port):
+        return f"{self.units[unit]['name']}.{port}"
+
+    def missing(self, nodes, readers, bound, node, unit):
+        """The first route that a node would lack on a unit: the node whose word it is, its unit, and the port."""
+        bound = {**bound, node.number: unit}
+        for port, (read, _) in enumerate(node.operands):
+            if read in bound and read <= node.number and (bound[read], self.port(unit, port)) not in self.routes:
+                return nodes[read], bound[read], self.port(unit, port)
+        for reader, port, _ in readers[node.number]:
+            if reader.number < node.number and (unit, self.port(bound[reader.number], port)) not in self.routes:
+                return node, unit, self.port(bound[reader.number], port)
+        return None
+
+    def without_route(self, nodes):
+        """The first node that gets no unit, and the first route that it lacks on the first unit for it."""
+        readers, bound, counts = readers_of(nodes), {}, [0] * len(self.units)
+        for node in nodes:
+            right = self.right_units(node)
+            fit = [unit for unit in right if self.missing(nodes, readers, bound, node, unit) is None]
+            if not fit:
+                return node, self.missing(nodes, readers, bound, node, right[0]) if right else None
+            unit = min(fit, key=lambda u: (counts[u], u))
+            bound[node.number] = unit
+            counts[unit] += 1
+        return None

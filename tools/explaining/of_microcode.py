@@ -1,0 +1,175 @@
+"""Why a file is no microcode, and which parts of microcode are in conflict."""
+from explaining.kinds import other_kind
+from explaining.microcode import BadImage, image_of
+from explaining.refusals import CONFLICTS, MICROCODE
+from explaining.report import Report, counted, listed
+
+MOST_BYTES = 1 << 26
+PORTS_OF_UNIT = 4
+
+
+def report_of(case):
+    text = case.text("MIC")
+    if case.status == 12:
+        return Conflict(image_of(text.data), case).report()
+    if len(text.data) > MOST_BYTES:
+        return Report(f"the file has {len(text.data)} bytes, and at most {MOST_BYTES} are read",
+                      "compile the source again.", MICROCODE, about=text.name)
+    return other_kind(case, "MIC") or no_image(text)
+
+
+def no_image(text):
+    try:
+        image_of(text.data)
+    except BadImage as fault:
+        return bad_field(text, fault)
+    return None
+
+
+def bad_field(text, fault):
+    cure = "compile the source again, or write what is allowed there."
+    if not text.data:
+        return Report("the file is empty", "compile the source again.", MICROCODE, about=text.name)
+    if fault.name == "the end of the file":
+        return Report(f"the image ends at byte {fault.at}, and {counted(fault.size, 'byte follows', 'bytes follow')}",
+                      f"take away what comes from byte {fault.at} on.", MICROCODE, about=text.name)
+    if fault.found is None:
+        return Report(f"the file ends at byte {fault.at}, inside {fault.name}",
+                      "compile the source again: the file was cut off.", MICROCODE, about=text.name)
+    if isinstance(fault.found, bytes):
+        return Report(f"a microcode file begins with `SILM`, and this one with {shown_bytes(fault.found)}",
+                      "give a file that `silc compile` has written.", MICROCODE, about=text.name)
+    return Report(f"byte {fault.at} is {fault.name}, which is {fault.allowed}, and {fault.found} stands there", cure, MICROCODE,
+                  about=text.name)
+
+
+def shown_bytes(data):
+    """Bytes as letters where they are some, or else as numbers."""
+    text = data.decode("latin-1")
+    return f"`{text}`" if text.isascii() and text.isprintable() else "the bytes " + data.hex(" ")
+
+
+class Conflict:
+    """A conflict of an image: the cycle and the place that `silc` names."""
+
+    def __init__(self, image, case):
+        self.image, self.name = image, case.files["MIC"]
+        self.cycle, self.place = int(case.values["cycle"]), int(case.values["place"])
+        self.kind = case.refusal.text.partition(": ")[2].removesuffix(" PLACE")
+        self.word = self.number(self.cycle)
+
+    def number(self, cycle):
+        return cycle % len(self.image.words)
+
+    def at(self, cycle):
+        return self.image.words[self.number(cycle)]
+
+    def unit(self, number):
+        return f"unit {number} ({self.image.units[number].kind})"
+
+    def issue(self, cycle, unit):
+        """The issue on a unit in a cycle."""
+        if cycle < 0:
+            return None
+        return next((issue for issue in self.at(cycle).issues if issue.unit == unit), None)
+
+    def begun(self, unit):
+        """The issue whose result a unit has in the cycle of the conflict, or nothing."""
+        return self.issue(self.cycle - self.image.units[unit].latency + 1, unit)
+
+    def result(self, unit):
+        """What the word on the buses of a unit is, in the cycle of the conflict."""
+        issue = self.begun(unit)
+        begun = self.cycle - self.image.units[unit].latency + 1
+        return f"the result of `{issue.text()}`, which begins in cycle {begun}" if issue else "no result"
+
+    def report(self):
+        report = {"busy": self.busy, "two drivers": self.two_drivers, "file twice": self.file_twice,
+                  "no driver": self.no_driver, "no result": self.no_result, "address": self.address}[self.kind]()
+        report.about = self.name
+        sample = self.cycle // self.image.period
+        report.notes.insert(0, type(report)("", "", "").note(
+            f"Cycle {self.cycle} is in sample {sample}, and obeys word {self.word} (`silc list {self.name}`).").notes[0])
+        return report
+
+    def busy(self):
+        unit = self.image.units[self.place]
+        earlier = next(cycle for cycle in range(self.cycle - 1, self.cycle - unit.gap, -1) if self.issue(cycle, self.place))
+        report = Report(f"{self.unit(self.place)} is issued {counted(self.cycle - earlier, 'cycle')} after its last issue, and its "
+                        f"gap is {unit.gap}", f"issue one of the two in another cycle: {unit.gap} after the other, or more.",
+                        CONFLICTS)
+        report.note(f"In cycle {earlier} it begins `{self.issue(earlier, self.place).text()}`.")
+        return report.note(f"In cycle {self.cycle} it begins `{self.issue(self.cycle, self.place).text()}`.")
+
+    def two_drivers(self):
+        units = [unit for unit, bus in self.at(self.cycle).drives if bus == self.place]
+        report = Report(f"{listed(map(self.unit, units))} drive bus {self.place} in one cycle",
+                        "drive another bus with one of them, or issue one of the two in another cycle.", CONFLICTS)
+        for unit in units:
+            report.note(f"{self.unit(unit).capitalize()} drives it with {self.result(unit)}.")
+        idle = [unit for unit in units if not self.begun(unit)]
+        if idle:
+            report.cure = f"leave the drive of unit {idle[0]} out."
+        return report
+
+    def file_twice(self):
+        unit, port = divmod(self.place, PORTS_OF_UNIT)
+        takes = [(bus, register) for u, p, bus, register in self.at(self.cycle).takes if (u, p) == (unit, port)]
+        report = Report(f"the register file at {unit}.{port} takes {counted(len(takes), 'word')} in one cycle, and one is the most",
+                        "issue one of the operations in another cycle.", CONFLICTS)
+        for bus, register in takes:
+            report.note(f"Register {register} takes from bus {bus} {self.on_bus(bus)}.")
+        if len({bus for bus, _ in takes}) == 1:
+            report.cure = "leave one of the two takes out: both take the same word."
+        return report
+
+    def on_bus(self, bus):
+        unit = next((unit for unit, driven in self.at(self.cycle).drives if driven == bus), None)
+        return "a word that nothing drives" if unit is None else f"{self.result(unit)} on {self.unit(unit)}"
+
+    def no_driver(self):
+        takes = [take for take in self.at(self.cycle).takes if take[2] == self.place]
+        report = Report(f"nothing drives bus {self.place}, and {counted(len(takes), 'register takes', 'registers take')} from it",
+                        f"let a unit drive bus {self.place} in this cycle, or leave the take out.", CONFLICTS)
+        for unit, port, _, register in takes:
+            report.note(f"Register {register} at {unit}.{port} takes from it.")
+        drives = self.at(self.cycle).drives
+        ready = next((unit for unit in range(len(self.image.units)) if self.begun(unit)), None)
+        if ready is not None:
+            report.cure = f"let unit {ready} drive bus {self.place} in this cycle, or leave the take out."
+            report.note(f"{self.unit(ready).capitalize()} has a result in this cycle: {self.result(ready)}.")
+        return report.note("In this cycle " + (listed([f"unit {unit} drives bus {bus}" for unit, bus in drives]) if drives
+                                               else "no bus is driven") + ".")
+
+    def no_result(self):
+        unit = self.image.units[self.place]
+        begun = self.cycle - unit.latency + 1
+        buses = [bus for number, bus in self.at(self.cycle).drives if number == self.place]
+        report = Report(f"{self.unit(self.place)} drives {listed([f'bus {bus}' for bus in buses])}, and has no result in this cycle",
+                        f"drive the bus in the cycle of the result, which is there {counted(unit.latency - 1, 'cycle')} after its "
+                        f"issue and then no more, or leave the drive out.", CONFLICTS)
+        report.note(f"Its latency is {unit.latency}, so the operation would have to begin in cycle {begun}, and none does.")
+        near = [cycle for cycle in range(max(0, self.cycle - self.image.period), self.cycle + 1) if self.issue(cycle, self.place)]
+        if near:
+            report.note(f"It begins `{self.issue(near[-1], self.place).text()}` in cycle {near[-1]}, with the result in cycle "
+                        f"{near[-1] + unit.latency - 1}.")
+        return report
+
+    def address(self):
+        unit, issue = self.image.units[self.place], self.issue(self.cycle, self.place)
+        register = issue.registers[0]
+        report = Report(f"`{issue.text()}` on {self.unit(self.place)} has an address that is not 0 to {unit.cells - 1}",
+                        f"write an address from 0 to {unit.cells - 1} into register {register} at {self.place}.0: an acu makes "
+                        f"no other.", CONFLICTS)
+        report.note(f"The unit has {counted(unit.cells, 'cell')}, and reads the address from register {register} at {self.place}.0.")
+        written = self.last_write(self.place, 0, register)
+        return report.note(written) if written else report.note("Nothing was written there before: it has its first word.")
+
+    def last_write(self, unit, port, register):
+        for cycle in range(self.cycle - 1, max(-1, self.cycle - 1 - 2 * len(self.image.words)), -1):
+            for u, p, bus, r in self.at(cycle).takes:
+                if (u, p, r) == (unit, port, register):
+                    other = Conflict.__new__(Conflict)
+                    other.image, other.cycle = self.image, cycle
+                    return f"That register was written in cycle {cycle}, with {other.on_bus(bus)}."
+        return None

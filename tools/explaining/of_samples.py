@@ -1,0 +1,149 @@
+"""Why a line of a sample file is no row."""
+import codecs
+import math
+import re
+from dataclasses import dataclass
+from fractions import Fraction
+
+from explaining.kinds import other_kind
+from explaining.refusals import ROWS
+from explaining.report import Report, counted, listed
+
+MOST_BYTES = 1 << 20
+TRUTHS = {"true": 1, "false": 0}
+EXPONENT = re.compile(r"[-+]?\d+(\.\d+)?[eE][-+]?\d{1,2}")
+NUMBER = re.compile(r"[-+]?\d*\.\d+|[-+]?\d+\.\d*")
+
+
+@dataclass
+class Channel:
+    """An input word: its name where there is one, its type, and how many of its bits are after the point."""
+    name: str
+    width: int
+    places: int | None
+
+    def range(self):
+        return (0, 1) if self.width == 0 else (-(2 ** (self.width - 1)), 2 ** (self.width - 1) - 1)
+
+    def words(self):
+        least, most = self.range()
+        return f"{least} to {most}"
+
+
+def channels_of(case):
+    """The input words of the command: of the source, or of the microcode."""
+    if "MIC" in case.files:
+        from explaining.microcode import image_of
+        return [Channel(f"word {k}", width, None) for k, width in enumerate(image_of(case.text("MIC").data).inputs)]
+    from explaining.program import Source, element_name
+    made = []
+    for decl in Source(case.text("SRC")).funcs["main"].params:
+        for place in range(math.prod(decl.dims)):
+            made.append(Channel(element_name(decl, place), decl.type.width or 0, decl.type.places))
+    return made
+
+
+def report_of(case):
+    text = case.text("SAMPLES")
+    if "l" not in case.values:
+        return Report(f"the file has {len(text.data)} bytes, and at most {MOST_BYTES} are read",
+                      "run the samples in several files.", case.refusal.rule, about=text.name)
+    other = other_kind(case, "SAMPLES")
+    if other:
+        return other
+    line, byte = int(case.values["l"]), int(case.values["b"])
+    return broken(text, line, byte, channels_of(case))
+
+
+def broken(text, line, byte, channels):
+    row = text.line(line).decode("latin-1")
+    if "\r" in row:
+        return Report("a line ends with LF or CR LF, and here is a CR alone", "save the file with the ends of lines of Unix.", ROWS,
+                      text.span(text.starts[line - 1], text.starts[line - 1] + row.index("\r")))
+    start = text.starts[line - 1]
+    names = listed([f"`{channel.name}`" for channel in channels])
+    number = row[:byte].count(",")
+    left = row.rfind(",", 0, byte) + 1
+    word = row[left:].partition(",")[0]
+    span = text.span(start + left, start + left + max(len(word), 1))
+    wanted = f"a row has {counted(len(channels), 'word')}"
+    if line == 1 and text.data.startswith(codecs.BOM_UTF8):
+        return Report("the file begins with a byte order mark, which is no number", "save it without one.", ROWS, span)
+    if row.endswith(",") and row.count(",") == len(channels):
+        return Report("a comma ends the line", "take it away.", ROWS, text.span(start + len(row) - 1))
+    if not row.strip():
+        return Report(f"the line is empty, and {wanted}", "take the line away.", ROWS, span)
+    if number >= len(channels) or byte < len(row) and row[byte] == "," and number + 1 >= len(channels):
+        count = row.count(",") + 1
+        return Report(f"the line has {counted(count, 'word')}, and {wanted}: {names}",
+                      f"write {counted(len(channels), 'word')} a line.", ROWS, text.span(start, start + len(row)))
+    channel = channels[number]
+    if byte == len(row) and not word.strip():
+        return Report(f"the line ends where {channel.name} has to come", f"write a word for `{channel.name}`.", ROWS,
+                      text.span(start + len(row), start + len(row) + 1))
+    if byte >= len(row.rstrip("\r")) and re.fullmatch(r"-?\d+", word) and number + 1 < len(channels):
+        return Report(f"the line has {counted(number + 1, 'word')}, and {wanted}: {names}",
+                      f"write {counted(len(channels), 'word')} a line, with a comma between two.", ROWS,
+                      text.span(start, start + len(row)))
+    if not word:
+        return Report(f"no word stands before the comma, where `{channel.name}` has to come", f"write a word for `{channel.name}`.",
+                      ROWS, span)
+    if line == 1 and is_header(row):
+        return Report(f"`{decoded(row.strip())}` is no row: a sample file has rows only, without a header", "take the line away.", ROWS,
+                      text.span(start, start + len(row)))
+    report = bad_word(decoded(word), channel, len(channels))
+    report.span = span
+    return report.note(f"`{channel.name}` has the raw words {channel.words()}.") if channel.name not in report.short else report
+
+
+def decoded(text):
+    """The characters of a text that has one for each byte."""
+    return text.encode("latin-1").decode(errors="replace")
+
+
+def is_header(row):
+    """Whether a line has names in the place of numbers."""
+    has_names = re.search("[A-Za-z]", row) and not re.search(r"\d", re.sub(r"[A-Za-z_]\w*", "", row))
+    return has_names and not all(number_of(word.strip()) is not None for word in row.split(","))
+
+
+def number_of(text):
+    """The number that a word stands for elsewhere, or nothing."""
+    if text.lower() in TRUTHS:
+        return Fraction(TRUTHS[text.lower()])
+    if re.fullmatch(r"0[xX][0-9A-Fa-f]+", text):
+        return Fraction(int(text, 16))
+    if re.fullmatch(r"[-+]?\d[\d_]*", text):
+        return Fraction(int(text))
+    return Fraction(text) if EXPONENT.fullmatch(text) else None
+
+
+def bad_word(word, channel, count):
+    stripped = word.strip()
+    if re.fullmatch(r"-?\d+", word):
+        least, most = channel.range()
+        return Report(f"{word} is out of range: the raw words of `{channel.name}` are {channel.words()}",
+                      f"write a number from {least} to {most}, as {min(max(int(word), least), most)}.", ROWS)
+    if re.fullmatch(r"-?\d+(\s+-?\d+)+", stripped):
+        words = stripped.split()
+        cure = f"write `{','.join(words)}`." if count == len(words) else "write a comma between two words, and no blank." \
+            if count > 1 else "write one word a line."
+        return Report(f"`{stripped}` is {counted(len(stripped.split()), 'word')}, with a blank between them", cure, ROWS)
+    if re.fullmatch(r"-?\d+", stripped):
+        return Report(f"a blank stands beside {stripped}, and a row has none", f"write `{stripped}` without the blank.", ROWS)
+    if NUMBER.fullmatch(stripped):
+        if channel.places is None:
+            return Report(f"{stripped} is no whole number", "write a raw word, which is a whole number.", ROWS)
+        raw = math.floor(Fraction(stripped) * 2**channel.places + Fraction(1, 2))
+        least, most = channel.range()
+        return Report(f"{stripped} is no whole number: samples are raw words, and `{channel.name}` has {channel.places} of its bits "
+                      f"after the point", f"write {min(max(raw, least), most)} for {stripped}.", ROWS)
+    if stripped.startswith("+"):
+        return Report("a number has no plus sign here", f"write `{stripped[1:]}`.", ROWS)
+    number = number_of(stripped.replace("\u2212", "-").strip("\"'"))
+    if number is not None and number == int(number):
+        return Report(f"`{stripped}` is no word of a row, which has an optional `-` and digits", f"write {int(number)}.", ROWS)
+    if re.fullmatch(r"-?\d+([;:|]-?\d+)+", stripped):
+        return Report(f"two words have a comma between them, and `{stripped}` another sign", f"write `{re.sub('[;:|]', ',', stripped)}`.",
+                      ROWS)
+    return Report(f"`{stripped}` is no whole number", "write a raw word, which is a whole number.", ROWS)

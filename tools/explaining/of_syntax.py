@@ -1,0 +1,484 @@
+"""Why the bytes of a source are no tokens, or its tokens no program: the mistake that is likely, or else what was wanted."""
+import re
+from dataclasses import dataclass
+
+from explaining.edits import edit_for
+from explaining.grammar import COMPARISONS, Unexpected
+from explaining.refusals import language
+from explaining.report import Report, counted
+from explaining.text import KEPT_FOR_LATER
+
+TEXT, GRAMMAR, DECLARATIONS = language("Text"), language("Grammar"), language("Declarations")
+DELAYS, CONDITIONALS = language("Delays and initial values"), language("Conditionals")
+LONGEST_NUMBER, DEEPEST = 18, 256
+# Words and symbols of other languages, with what is written here.
+OTHERS = {"then": ("a condition is followed by `->`", "write `->`"), "else": ("the other case begins with `||`", "write `||`"),
+          "and": ("`and` is no operator", "write `&`"), "or": ("`or` is no operator", "write `|`"),
+          "not": ("`not` is no operator", "write `!`"), "for": ("there is no `for`", "write `(i : 0 .. 3) :: begin .. end;`"),
+          "return": ("nothing is returned", "define the result by an equation, as `y = ..;`")}
+# Names of types elsewhere, with the type that is likely to be meant.
+TYPES = {"int": "fix<16,0>", "integer": "fix<16,0>", "short": "fix<16,0>", "float": "fix<16,15>", "double": "fix<16,15>",
+         "real": "fix<16,15>", "fixed": "fix<16,15>", "boolean": "bool", "bit": "bool"}
+OPERATORS = ("+", "-", "*", "<<", ">>", "&", "|", *COMPARISONS)
+# Characters that look like others, with what is written here.
+LOOKALIKES = {"\u2212": "-", "\u2013": "-", "\u2014": "-", "\u00d7": "*", "\u00b7": "*", "\u22c5": "*", "\u2264": "<=",
+              "\u2265": ">=", "\u2260": "!=", "\u00a0": " ", "\uff1b": ";", "\u2026": ".."}
+BYTE_ORDER_MARK = "\ufeff"
+CURES = {
+    "/": ("there is no division", "divide by a power of two by a shift, as `x >> 1`, and else multiply by the inverse, as "
+          "`x * 0.5`.", "Equations"),
+    "%": ("there is no remainder", "write a subtraction or a shift.", "Equations"),
+    "^": ("there is no power", "write a product.", "Equations"),
+    "#": ("a comment begins with `/*`", "write `/* .. */`.", "Text"),
+    "{": ("a body stands between `begin` and `end;`", "write `begin`.", "Grammar"),
+    "}": ("a body stands between `begin` and `end;`", "write `end;`.", "Grammar"),
+    "?": ("a choice is `if .. -> .. || .. fi`", "write `if condition -> value || other fi`.", "Conditionals"),
+}
+
+
+def report_of(source, kind, at):
+    if kind == "BadByte":
+        return bad_byte(source, at)
+    if kind == "BadNumber":
+        return bad_number(source, at)
+    if kind == "OpenComment":
+        return open_comment(source, at)
+    return syntax(source, at) if kind == "Syntax" else too_deep(source, at)
+
+
+# Bytes
+
+
+def bad_byte(source, at):
+    text, chars = source.text, source.text.chars
+    char, after = chars[at], chars[at + 1:at + 2]
+    if char == "/" and after == "/":
+        end = chars.find("\n", at)
+        return Report("a comment begins with `/*` and ends with `*/`", "write `/* .. */` in the place of `// ..`.", TEXT,
+                      text.span(at, len(chars) if end < 0 else end))
+    if char == ".":
+        return bad_point(source, at)
+    before = source.tokens
+    if char in "/%^{" and in_words(before, len(before)):
+        return words_of_table(char, text.span(at))
+    if char == "/":
+        return division(source, at)
+    if char in CURES:
+        short, cure, section = CURES[char]
+        return Report(short, cure, language(section), text.span(at))
+    return other_character(source, at)
+
+
+def other_character(source, at):
+    """The report on a character that is none of the language's."""
+    text, end = source.text, at + width_of(source.text, at)
+    char = text.data[at:end].decode(errors="replace")
+    span = text.span(at, end)
+    if char in LOOKALIKES:
+        return Report(f"{byte_name(text, at)} looks like `{LOOKALIKES[char]}`, and is another character",
+                      f"write `{LOOKALIKES[char]}`.", TEXT, span)
+    if char == BYTE_ORDER_MARK:
+        return Report("the file begins with a byte order mark, which is no blank", "save it as UTF-8 without one.", TEXT, span)
+    if char.isalpha():
+        return Report(f"a name has the letters `a` to `z` and `A` to `Z`, digits and `_`, and no `{char}`",
+                      "take another name, or put the text into a comment `/* .. */`.", TEXT, span)
+    return Report(f"{byte_name(text, at)} is no part of the language, which has letters, digits, `_` and the operators of its "
+                  f"table", "take it out, or put it into a comment `/* .. */`.", TEXT, span)
+
+
+def division(source, at):
+    """A division, with the shift or the product that does it where the divisor is a number."""
+    found = re.match(r"/\s*(\d{1,6}(?:\.\d{1,6})?)(?![\w.])", source.text.chars[at:at + 40])
+    by = float(found[1]) if found else 0
+    if by <= 1:
+        short, cure, section = CURES["/"]
+        return Report(short, cure, language(section), source.text.span(at))
+    power = int(by).bit_length() - 1
+    cure = f"write `>> {power}` for `/ {found[1]}`." if by == 2**power else \
+        f"write `* {1 / by:.10f}".rstrip("0") + f"` for `/ {found[1]}`."
+    return Report("there is no division", cure, language("Equations"), source.text.span(at, at + found.end()))
+
+
+def bad_point(source, at):
+    before = re.search(r"\d+$", source.text.chars[:at])
+    after = re.match(r"\d+", source.text.chars[at + 1:])
+    if before:
+        number = before[0]
+        return Report(f"a number has digits on both sides of its point, and `{number}.` has none after it",
+                      f"write `{number}.0`, or `{number}` for a whole number.", TEXT, source.text.span(before.start(), at + 1))
+    if after:
+        return Report(f"a number has digits on both sides of its point, and `.{after[0]}` has none before it",
+                      f"write `0.{after[0]}`.", TEXT, source.text.span(at, at + 1 + after.end()))
+    return Report("a point stands in numbers only", "take it out, or write `..` for a range.", TEXT, source.text.span(at))
+
+
+def width_of(text, at):
+    """How many bytes the character has that begins there."""
+    for count in range(1, 5):
+        try:
+            text.data[at:at + count].decode()
+            return count
+        except UnicodeDecodeError:
+            continue
+    return 1
+
+
+def byte_name(text, at):
+    data = text.data[at:at + width_of(text, at)]
+    try:
+        char = data.decode()
+        return f"`{char}`" if char.isprintable() else f"the byte 0x{data[0]:02x}"
+    except UnicodeDecodeError:
+        return f"the byte 0x{data[0]:02x}"
+
+
+def bad_number(source, at):
+    found = re.match(r"\d+(\.\d+)?", source.text.chars[at:])
+    word = re.match(r"[\w.]+", source.text.chars[at:], re.A)[0]
+    rest = word[found.end():]
+    span = source.text.span(at, at + len(word))
+    if sum(char.isdigit() for char in found[0]) > LONGEST_NUMBER:
+        return Report(f"a number has at most {LONGEST_NUMBER} digits", "write fewer digits: a word has at most 32 bits.", TEXT, span)
+    cure = f"write a blank or an operator between them, as `{found[0]} * {rest}`."
+    if re.fullmatch(r"0[xX][0-9A-Fa-f]+|0[bB][01]+", word):
+        return Report("numbers are decimal", f"write `{int(word, 0)}`.", TEXT, span)
+    if re.fullmatch(r"[eE]\d*", rest):
+        cure = "write all digits, as `0.001` for `1e-3`."
+    return Report(f"the letter `{rest[:1]}` follows directly on the number {found[0]}", cure, TEXT, span)
+
+
+def open_comment(source, at):
+    end = source.text.chars.find("\n", at)
+    return Report("this comment has no end", "write `*/` at its end.", TEXT,
+                  source.text.span(at, len(source.text.chars) if end < 0 else end))
+
+
+# Tokens
+
+
+def end_of_last(source):
+    """The place after the last token, where something is wanted."""
+    last = source.tokens[-1].end if source.tokens else 0
+    return source.text.span(last, last + 1)
+
+
+@dataclass
+class Stop:
+    """The token with which no program goes on, the one before it, and what the grammar wants there in words."""
+    source: object
+    position: int
+    token: object
+    before: object
+    wanted: str
+
+    def tokens(self):
+        return self.source.tokens
+
+    def ahead(self, by=1):
+        """The text of a token after it, or nothing."""
+        tokens, position = self.source.tokens, self.position + by
+        return tokens[position].text if 0 <= position < len(tokens) else ""
+
+    def is_at(self, *texts):
+        return self.token is not None and self.token.text in texts
+
+    def is_after(self, *texts):
+        return self.before is not None and self.before.text in texts
+
+    def span(self, first, last):
+        """The place from a token to another one, by how far they are from this."""
+        tokens = self.source.tokens
+        return self.source.text.span(tokens[self.position + first].start, tokens[self.position + last].end)
+
+    def is_joined(self):
+        """Whether the next token follows directly on this one."""
+        tokens, position = self.source.tokens, self.position
+        return position + 1 < len(tokens) and tokens[position].end == tokens[position + 1].start
+
+    def is_item(self):
+        """Whether an equation or a loop may begin here."""
+        return self.wanted.startswith("an equation")
+
+    def is_equals(self):
+        """Whether the `=` of an equation is wanted here."""
+        return self.wanted.startswith("`=`")
+
+
+def syntax(source, position):
+    tokens = source.tokens
+    token = tokens[position] if position < len(tokens) else None
+    stop = Stop(source, position, token, tokens[position - 1] if position else None, wanted_at(source, position))
+    span = source.text.span(token.start, token.end) if token else end_of_last(source)
+    for rule in RULES:
+        report = rule(stop)
+        if report:
+            report.span = report.span or span
+            return report
+    there = f"`{token.text}` stands there" if token else "the source ends"
+    what = stop.wanted or "something else"
+    return Report(f"{what} is wanted here, and {there}", edit_for(source, position, stop.wanted) or f"write {what}.", GRAMMAR, span)
+
+
+def wanted_at(source, position):
+    """What the grammar wants at a token, where it names that token."""
+    fault = source.unexpected
+    return fault.wanted if isinstance(fault, Unexpected) and fault.position == position else ""
+
+
+def missing_semicolon(stop):
+    if "`;`" not in stop.wanted or stop.before is None or stop.is_at(")"):
+        return None
+    line = stop.source.line
+    if stop.token and not stop.is_at("end") and line(stop.token.start) == line(stop.before.end - 1):
+        return None
+    return Report(f"a `;` is missing after `{stop.before.text}`", f"write `;` after `{stop.before.text}`.", GRAMMAR,
+                  stop.source.text.span(stop.before.end, stop.before.end + 1))
+
+
+def kept_word(stop):
+    token = stop.token
+    if stop.is_at("=") and stop.is_after("end"):
+        return Report("`end` is a word of the language, and no name", "take another name.", TEXT, stop.span(-1, -1))
+    if token and token.kind == "reserved" and re.search(r"\bname\b", stop.wanted):
+        what = "is kept for later" if token.text in KEPT_FOR_LATER else "is a word of the language"
+        return Report(f"`{token.text}` {what}, and no name", "take another name.", TEXT)
+    if token and token.text in KEPT_FOR_LATER:
+        return Report(f"`{token.text}` is kept for later, and has no meaning yet", "take it out, or take another name.", TEXT)
+    return None
+
+
+def other_word(stop):
+    """A word of another language, which is a name here."""
+    for token, by in ((stop.token, 0), (stop.before, -1)):
+        if token and token.text in OTHERS and token.kind == "name" and (by == 0 or stop.is_equals()):
+            short, cure = OTHERS[token.text]
+            return Report(short, f"{cure} in the place of `{token.text}`.",
+                          CONDITIONALS if token.text in ("then", "else") else GRAMMAR, stop.span(by, by))
+    return None
+
+
+def other_type(stop):
+    if stop.token and stop.token.kind == "name" and stop.wanted == "a type":
+        name = stop.token.text
+        return Report(f"`{name}` is no type: the types are `fix<W,F>`, words of W bits with F of them after the point, and `bool`",
+                      f"write `{TYPES.get(name, 'fix<16,15>')}` in the place of `{name}`.", language("Words and types"))
+    return None
+
+
+def late_var(stop):
+    if not stop.is_at("var"):
+        return None
+    tokens, position = stop.tokens(), stop.position
+    if stop.wanted == "`begin`":
+        return Report("`var` stands after `begin`", "move `begin` up, to before this line.", GRAMMAR)
+    begin = next((k for k in range(position - 1, -1, -1) if tokens[k].text == "begin"), None)
+    if begin is None:
+        return None
+    first = next((k for k in range(begin + 1, position) if tokens[k].text == ";" and k + 1 < position
+                  and tokens[k + 1].text != "var"), begin)
+    return Report("`var` stands before the first equation", "move this line up, to after `begin`.", GRAMMAR) \
+        .note("This is the first equation.", stop.source.text.span(tokens[first + 1].start, tokens[first + 1].end))
+
+
+def table_inside(stop):
+    if stop.is_at("const") and stop.is_item():
+        return Report("a table is declared outside of the functions", "move this line up, to before `func`.", DECLARATIONS)
+    return None
+
+
+def valued_var(stop):
+    """A value where a signal is declared."""
+    tokens = stop.tokens()
+    head = next((k for k in range(stop.position - 1, -1, -1) if tokens[k].text in (";", "begin")), None)
+    if not stop.is_at("=") or stop.wanted != "`;`" or head is None or tokens[head + 1].text != "var":
+        return None
+    name = tokens[head + 2].text
+    return Report("`var` declares signals, and an equation defines one",
+                  f"write `;` here, and below the declarations the equation `{name} = ..;`.", DECLARATIONS)
+
+
+def in_words(tokens, position):
+    """Whether a token is among the words of a table."""
+    for k in range(position - 1, -1, -1):
+        if tokens[k].text in (";", "func", "begin"):
+            return False
+        if tokens[k].text == "const":
+            return any(token.text == "=" for token in tokens[k:position])
+    return False
+
+
+def words_of_table(char, span=None):
+    """What is wrong among the words of a table, by the character that can't stand there."""
+    if char in ("[", "{", ","):
+        return Report("the numbers of a table stand in parentheses", "write `( .. )` around them, as `(0.5, 0.25)`.", DECLARATIONS, span)
+    return Report("a table has numbers, and no expressions", "write the number that it gives, as `0.25` for `0.5 * 0.5`.",
+                  DECLARATIONS, span)
+
+
+def table_words(stop):
+    if stop.token and in_words(stop.tokens(), stop.position) and (stop.is_at("[", ",", *OPERATORS) or stop.token.kind == "name"):
+        return words_of_table(stop.token.text)
+    return None
+
+
+def untyped_table(stop):
+    if stop.is_at("=") and stop.wanted == "`:`" and stop.ahead(-2) == "const":
+        name = stop.before.text
+        return Report(f"a table has a type, and `{name}` has none", f"write it after the name, as `{name} : fix<16,15> = ..;`.",
+                      DECLARATIONS)
+    return None
+
+
+def named_dim(stop):
+    if stop.token and stop.token.kind == "name" and stop.wanted == "the number of elements":
+        return Report(f"the number of elements is written there, and `{stop.token.text}` is a name",
+                      f"write the number in the place of `{stop.token.text}`.", DECLARATIONS)
+    return None
+
+
+def no_parameter(stop):
+    if not (stop.is_at(")") and stop.is_after("(")):
+        return None
+    if stop.wanted == "a name" and stop.ahead(-3) == "func":
+        return Report("a function has one parameter or more", "write one, as `x : fix<16,15>`.", language("Functions"))
+    if stop.wanted == "an expression" and stop.ahead(-2) not in ("(", "="):
+        return Report("a call has an argument for each parameter", "write the arguments.", language("Functions"))
+    return None
+
+
+def delayed_sum(stop):
+    if not stop.is_at("@") or not stop.is_after(")", "fi"):
+        return None
+    return Report("a delay stands after a name", "define a signal by the expression, as `t = ..;`, and write `t@..` here.", DELAYS)
+
+
+def delayed_target(stop):
+    if stop.is_at("@") and stop.is_equals():
+        return Report("an equation defines the word of this sample, and what a signal had before the first one is written with `@@`",
+                      "write `@@` in the place of `@`, and a number on the right.", DELAYS)
+    return None
+
+
+def signed_amount(stop):
+    """A delay or a shift by less than 0."""
+    number = stop.ahead()
+    if not stop.is_at("-") or not number.isdecimal():
+        return None
+    if stop.is_after("@"):
+        return Report("a delay is how many samples ago, 0 or more",
+                      f"write `@{number}` for the word of {counted(int(number), 'sample')} ago.", DELAYS,
+                      stop.span(0, 1))
+    if stop.is_after("<<", ">>"):
+        other = "<<" if stop.before.text == ">>" else ">>"
+        return Report("a shift is by 0 or more bits", f"write the other shift, `{other} {number}`.", language("Equations"),
+                      stop.span(-1, 1))
+    return None
+
+
+def subscript_in_number(stop):
+    if stop.is_at("[") and stop.before and stop.before.kind == "name" and stop.wanted in ("`)`", "`..`", "`]`"):
+        return Report(f"`{stop.before.text}[..]` is a word, and a number is wanted that is known before the first sample",
+                      "write the number itself, or the index of a loop around it.", language("Loops"), stop.span(-1, 0))
+    return None
+
+
+def lone_equals(stop):
+    if stop.is_at("=") and "operator" in stop.wanted:
+        if stop.ahead() == ">" and stop.is_joined():
+            return Report("at least is `>=`", "write `>=` in the place of `=>`.", GRAMMAR, stop.span(0, 1))
+        return Report("`=` defines a signal, and `==` compares", "write `==`.", GRAMMAR)
+    if stop.is_at(">") and stop.is_after("<") and stop.wanted == "an expression":
+        return Report("unequal is `!=`", "write `!=` in the place of `<>`.", GRAMMAR, stop.span(-1, 0))
+    if stop.is_at("=") and stop.ahead(-2) == "(" and stop.wanted == "`,` or `)`":
+        return Report("the index of a loop is followed by `:`", "write `:` in the place of `=`.", language("Loops"))
+    return None
+
+
+def chained_comparison(stop):
+    if stop.token and stop.token.text in COMPARISONS and "operator" in stop.wanted:
+        return Report("a comparison has two sides", "join two comparisons by `&`, as `a < x & x < b`.", GRAMMAR)
+    return None
+
+
+def doubled(stop):
+    if stop.is_at("&") and stop.is_after("&"):
+        return Report("`and` is `&`", "write `&` in the place of `&&`.", GRAMMAR, stop.span(-1, 0))
+    if stop.is_at("*") and stop.is_after("*"):
+        return Report("there is no power", "write a product, as `x * x`.", language("Equations"), stop.span(-1, 0))
+    if stop.is_at("||") and "`||`" not in stop.wanted and "operator" in stop.wanted:
+        return Report("`or` is `|`, and `||` begins the next case of `if`", "write `|` in the place of `||`.", GRAMMAR)
+    if stop.is_at("-") and stop.ahead() == "-" and stop.is_item():
+        return Report("a comment begins with `/*` and ends with `*/`", "write `/* .. */` in the place of `-- ..`.", TEXT, stop.span(0, 1))
+    return None
+
+
+def updated(stop):
+    """An equation as an assignment: `y += x`."""
+    if stop.token and stop.token.text in OPERATORS and stop.ahead() == "=" and stop.is_equals():
+        name, sign = stop.before.text, stop.token.text
+        return Report(f"there is no `{sign}=`: an equation says what a signal is in each sample",
+                      f"write `{name} = {name}@1 {sign} ..;` for the word of one sample ago and more.", language("Equations"),
+                      stop.span(0, 1))
+    return None
+
+
+def choice_as_item(stop):
+    if stop.is_at("if") and stop.is_item():
+        return Report("an `if` gives a word, and stands on the right of `=`", "write `y = if condition -> value || other fi;`.",
+                      CONDITIONALS)
+    return None
+
+
+def bare_results(stop):
+    if stop.is_at(",") and stop.is_equals():
+        return Report("the places of several results stand in parentheses", "write `( .. )` around them, as `(p, q) = f(..);`.",
+                      language("Functions"))
+    return None
+
+
+def bodiless_loop(stop):
+    if stop.wanted == "`begin`" and stop.is_after("::"):
+        return Report("the equations of a loop stand between `begin` and `end;`",
+                      "write `begin` before them, and `end;` after the last one.", language("Loops"))
+    return None
+
+
+def call_inside(stop):
+    token, before = stop.token, stop.before
+    if stop.is_at("(") and before and before.kind == "name":
+        return Report(f"a call stands by itself on the right of `=`, and `{before.text}(..)` is inside an expression",
+                      f"define a signal by the call, as `t = {before.text}(..);`, and write `t` here. Where no call is meant, "
+                      f"write `*` for a product.", language("Functions"), stop.span(-1, 0))
+    if token and stop.is_after(")") and stop.wanted == "`;`" and token.text in OPERATORS:
+        return Report("a call stands by itself on the right of `=`, and an operator follows it",
+                      "define a signal by the call, as `t = ..;`, and write the expression with `t` in an equation of its own.",
+                      language("Functions"))
+    return None
+
+
+def glued(stop):
+    if stop.is_at(">=") and "`>`" in stop.wanted:
+        return Report("`>=` is one symbol, and `>` ends the type", "write a blank between them, as `> =`.", TEXT)
+    return None
+
+
+def assigned(stop):
+    if stop.is_at(":") and stop.ahead() == "=":
+        return Report("an equation has `=`", "write `=` in the place of `:=`.", GRAMMAR, stop.span(0, 1))
+    return None
+
+
+# The mistakes that are likely, the likelier first.
+RULES = (kept_word, other_word, other_type, late_var, table_inside, valued_var, untyped_table, table_words, named_dim, no_parameter,
+         delayed_sum, delayed_target, signed_amount, subscript_in_number, lone_equals, doubled, chained_comparison, updated,
+         choice_as_item, bare_results, bodiless_loop, call_inside, glued, assigned, missing_semicolon)
+
+
+def too_deep(source, position):
+    token = source.tokens[position]
+    if token.text == "begin":
+        return Report("this loop is inside 16 others, and 16 is the most", "put the inner loops into a function.",
+                      language("Nesting limits"), source.text.span(token.start, token.end))
+    return Report(f"this is the {DEEPEST + 1}th operator or opening of one expression, and {DEEPEST} are the most",
+                  "define a part of the expression as a signal of its own.", language("Nesting limits"),
+                  source.text.span(token.start, token.end))

@@ -1,0 +1,92 @@
+"""A text file by its lines: places, tokens, and a place as it is shown."""
+import re
+from bisect import bisect_right
+from dataclasses import dataclass
+from typing import NamedTuple
+
+SYMBOLS = r"->|\.\.|::|\|\||<<|>>|<=|>=|==|!=|@@|[-+*@&|!<>=;:,()\[\]]"
+TOKEN = re.compile(rf"(?P<space>\s+|/\*.*?\*/)|(?P<number>\d+(?:\.\d+)?)|(?P<name>[A-Za-z_]\w*)|(?P<symbol>{SYMBOLS})",
+                   re.S | re.A)
+RESERVED = set("func const var begin end fix bool trunc round if fi true false sat down up".split())
+KEPT_FOR_LATER = ("sat", "down", "up")
+# Characters that take no place, or another, on a screen; a tab stays.
+UNSEEN = re.compile("[\x00-\x08\x0a-\x1f\x7f\ufeff]")
+# A line is shown up to this many characters.
+SHOWN = 160
+
+
+class Token(NamedTuple):
+    """A token of a source, with the places of its first character and of the one after its last."""
+    kind: str
+    text: str
+    start: int
+    end: int
+
+
+class Text:
+    """A file as characters, one for each byte, so that a place is the number of a byte."""
+
+    def __init__(self, name, data):
+        self.name, self.data = name, data
+        self.chars = data.decode("latin-1")
+        self.starts = [0, *(found.end() for found in re.finditer("\n", self.chars))]
+
+    def line_of(self, place):
+        return bisect_right(self.starts, place)
+
+    def line(self, number):
+        """The bytes of a line, without its end."""
+        end = self.starts[number] if number < len(self.starts) else len(self.data)
+        return self.data[self.starts[number - 1]:end].rstrip(b"\r\n")
+
+    def column_of(self, place):
+        """The column of a place from 1 on, in characters."""
+        before = self.data[self.starts[self.line_of(place) - 1]:place]
+        return len(before.decode(errors="replace")) + 1
+
+    def span(self, start, end=None):
+        """A place of this file, which ends at the end of its line where it would go on after it."""
+        line = self.line_of(start)
+        last = self.starts[line - 1] + len(self.line(line))
+        end = max(min(start + 1 if end is None else end, last), start)
+        length = len(self.data[start:end].decode(errors="replace"))
+        return Span(self.name, line, self.column_of(start), max(length, 1), self.line(line).decode(errors="replace"))
+
+    def line_span(self, number):
+        """A whole line, without the blanks around it."""
+        number = min(max(number, 1), len(self.starts))
+        line = self.line(number)
+        start = self.starts[number - 1] + len(line) - len(line.lstrip())
+        return self.span(start, self.starts[number - 1] + len(line.rstrip()))
+
+
+@dataclass(frozen=True)
+class Span:
+    """A place in a line of a file: the column, how many characters from there on, and the whole line."""
+    file: str
+    line: int
+    column: int
+    length: int
+    shown: str
+
+    def lines(self, width):
+        """The line with its number, and the place underlined."""
+        start = max(0, self.column - SHOWN // 2) if len(self.shown) > SHOWN else 0
+        shown = UNSEEN.sub("?", self.shown[start:start + SHOWN])
+        lead = re.sub(r"[^\t]", " ", shown[:self.column - 1 - start])
+        length = max(1, min(self.length, len(shown) - len(lead)))
+        return [f"{self.line:>{width}} | {shown}", f"{'':>{width}} | {lead}{'^' * length}"]
+
+
+def tokens_of(chars):
+    """The tokens of a source up to the first place at which none begins, and that place, or None."""
+    made, place = [], 0
+    while place < len(chars):
+        found = TOKEN.match(chars, place)
+        if not found or (found.lastgroup == "number" and re.match(r"\w", chars[found.end():found.end() + 1], re.A)):
+            return made, place
+        if found.lastgroup != "space":
+            kind = "reserved" if found.lastgroup == "name" and found[0] in RESERVED else found.lastgroup
+            made.append(Token(kind, found[0], place, found.end()))
+        place = found.end()
+    return made, None
