@@ -1,0 +1,422 @@
+#!/usr/bin/env python3
+"""Whether cores that tools/verilog makes give the rows that they should.
+
+usage: tests/hardware/check_cores.py [--long] [PART ..]
+
+Without --long it takes less than four minutes on a machine with nothing else to do. Each part has more with it:
+  images       images of this folder: 42 directed ones and 30 random ones, or 300; both builds in turn, or each
+  hazards      images with structural hazards, 200 or 1000, are refused for the first one of a run without end
+  examples     the processors of the examples, on the first 10 rows or on all, without waits, and with waits at both sides
+               and a reset; both builds
+  planted      wrong lines in the parts and the module, each of which some image shows
+  full         two programs in one module; datapaths whose names are words of Verilog, or of the core's own files
+  restart      cores whose memories hold nothing before a reset, and cores that a reset fills with nothing
+  missing      what the tools say where a program is not there
+  board        two channels over the I2S lines of examples/biquads/board
+  lint         Icarus and Verilator without a warning but of what is not used
+  verilator    rows under Verilator, of one example or of three
+  synthesis    Yosys for ice40 and xilinx; the netlist of an example gives the same rows
+A check whose program is not there is skipped. Rows of images come from the model of machine.py, which is compared with `silc
+sim` where that is built; those of the examples are their expected rows. The last line is 'N passed, M failed, K skipped', and
+the exit status 1 where one failed, and 77 where none failed and some were skipped.
+"""
+import os
+import re
+import shutil
+import subprocess
+import sys
+import tempfile
+import time
+from importlib.machinery import SourceFileLoader
+from itertools import islice
+from pathlib import Path
+
+from bench import ROOT, Fault, built_by_icarus, built_by_verilator, is_there, made, ran
+from cores import SILC, as_silc_has_it, check_image, check_rows, modelled, ways, write_rows
+from hardware.hazards import first_hazard
+from hardware.image import image_of
+from images import broken_images, directed_images, random_images
+from machine import Wordless
+from planted import PARTS as PARTS_FILE, PLANTED
+
+EXAMPLES = ROOT / "examples"
+SHORT_ROWS, SHORT_IMAGES, LONG_IMAGES, NETLIST_ROWS = 10, 30, 300, 40
+SHORT_BROKEN, LONG_BROKEN = 200, 1000
+KINDS_OF_HAZARDS = ("busy", "two drivers", "file twice", "no driver", "no result")
+ICARUS, VERILATOR, YOSYS = ("iverilog", "vvp"), ("verilator", "g++", "make"), ("yosys",)
+FAST = ["biquads/one_multiplier", "mulaw/telephone", "echo/two_multipliers"]
+INCREMENT, BIQUADS, REVERB = "increment/plain", "biquads/one_multiplier", "reverb/one_multiplier"
+SECONDS_BETWEEN = 10
+NOT_ALL_THERE = 77
+WORDS_AS_NAMES = """
+period = 4
+word = 16
+unit = [{ name = "until", kind = "in" }, { name = "0", kind = "rom" }, { name = "module", kind = "alu", files = [1, 1] },
+        { name = "module_0", kind = "out", files = [1] }]
+bus = [{ name = "until", from = ["until", "0", "module"], to = ["module.0", "module.1", "module_0.0"] }]
+"""
+# A memory of the name that the file of the microprogram has, and others that are called as ports of units are.
+FILES_AS_NAMES = """
+period = 12
+word = 16
+unit = [{ name = "i", kind = "in" }, { name = "a", kind = "alu", files = [2, 2] },
+        { name = "code", kind = "ram", files = [2, 2], cells = 4 }, { name = "code_0", kind = "acu", ram = "code" },
+        { name = "a_0", kind = "ram", files = [2, 2], cells = 4 }, { name = "a_1", kind = "acu", ram = "a_0" },
+        { name = "a_0_cells", kind = "out", files = [2] }]
+bus = [{ name = "b", from = ["i", "a", "code", "a_0"], to = ["a.0", "a.1", "code.1", "a_0.1", "a_0_cells.0"] },
+       { name = "c", from = ["code_0"], to = ["code.0"] }, { name = "d", from = ["a_1"], to = ["a_0.0"] }]
+"""
+
+
+class Skipped(Exception):
+    """A check whose program is not there."""
+
+
+def need(*programs):
+    if not is_there(*programs):
+        raise Skipped(f"there is no {programs[0]}; apt-get install {programs[0]}")
+
+
+def need_silc():
+    if not os.access(SILC, os.X_OK):
+        raise Skipped("silc is not built")
+
+
+def words_in(text):
+    return [list(map(int, line.split(","))) for line in text.splitlines()]
+
+
+def processors():
+    """The names of all examples with a datapath each."""
+    return [f"{file.parent.name}/{file.stem}" for file in sorted(EXAMPLES.glob("*/*.toml"))]
+
+
+class Example:
+    """An example over one of its datapaths, compiled in a folder."""
+
+    def __init__(self, name, folder, most=None):
+        need_silc()
+        self.home, self.datapath = EXAMPLES / name.split("/")[0], EXAMPLES / f"{name}.toml"
+        self.microcode = folder / "example.mic"
+        ran([SILC, "compile", next(self.home.glob("*.sil")), self.datapath, self.microcode], folder, True)
+        self.period = image_of(self.microcode.read_bytes()).period
+        self.samples, self.rows = (words_in((self.home / name).read_text())[:most] for name in ("samples.txt", "expected.txt"))
+
+    def core(self, folder, *options):
+        why = made(self.microcode, folder, "--name", "core", "--datapath", self.datapath, *options)
+        if why:
+            raise Fault(why)
+        write_rows(folder, self.samples, self.rows)
+        return folder
+
+
+# The parts. Each check is a name and what is called with a new folder.
+
+
+def image_checks(is_long):
+    images = [*directed_images(), *islice(random_images(LONG_IMAGES), LONG_IMAGES if is_long else SHORT_IMAGES)]
+    for place, (name, microcode, samples) in enumerate(images):
+        for is_full in (False, True) if is_long else (place % 2 == 1,):
+            yield f"{name}{', full' if is_full else ''}", lambda folder, one=(microcode, samples, is_full): (
+                need(*ICARUS), check_image(folder, *one))
+
+
+def check_broken(folder, count):
+    """The first hazard of each image is the one that the model comes to. Their rows are longer than two circles."""
+    kinds = set()
+    for name, microcode, samples in broken_images(count):
+        image = image_of(microcode)
+        as_silc_has_it(folder, microcode, image, samples)
+        found, (_, hazard) = first_hazard(image), modelled(image, samples, Wordless)
+        if found != (hazard.args if hazard else None):
+            raise Fault(f"{name}: the first hazard is {found}, and that of the model {hazard}")
+        kinds.add(found and found[1])
+    if len(kinds) != len(KINDS_OF_HAZARDS) + 1:
+        raise Fault(f"the images come to {kinds} alone")
+
+
+def hazard_checks(is_long):
+    yield "broken images", lambda folder: check_broken(folder, LONG_BROKEN if is_long else SHORT_BROKEN)
+
+
+def check_example(folder, name, options, most):
+    need(*ICARUS)
+    example = Example(name, folder, most)
+    core = example.core(folder / "core", *options)
+    plain, *_, with_all = ways(example.period, len(example.rows))
+    check_rows(core, built_by_icarus(core), example.period, example.rows, None, [plain, with_all])
+
+
+def example_checks(is_long):
+    for name in processors():
+        for options in ([], ["--full"]):
+            yield " ".join([name, *options]), lambda folder, one=(name, options, None if is_long else SHORT_ROWS): (
+                check_example(folder, *one))
+
+
+def check_planted(folder, planted):
+    need(*ICARUS)
+
+    def plant(core):
+        text = (core / planted.file).read_text()
+        if text.count(planted.old) < 1:
+            raise ValueError(f"{planted.file} has no line {planted.old}")
+        (core / planted.file).write_text(text.replace(planted.old, planted.new))
+
+    images = [*directed_images(), *islice(random_images(LONG_IMAGES), 60)]
+    for place, (name, microcode, samples) in enumerate(images):
+        if name.startswith(planted.images):
+            try:
+                check_image(folder / str(place), microcode, samples, planted.is_full, plant)
+            except Fault:
+                return
+    raise Fault("no image shows it")
+
+
+def planted_checks(_):
+    for planted in PLANTED:
+        yield planted.what, lambda folder, one=planted: check_planted(folder, one)
+
+
+def check_two_programs(folder):
+    """Two programs over one datapath have one module, and each program runs in it."""
+    need(*ICARUS)
+    need_silc()
+    datapath, texts = EXAMPLES / f"{BIQUADS}.toml", []
+    for place, source in enumerate(("y = x@1 * 0.5 + x;", "y = if x > 0.25 -> x || x@2 fi;")):
+        room = folder / str(place)
+        room.mkdir()
+        (room / "a.sil").write_text(f"func main(x : fix<16,15>) y : fix<16,15> = begin {source} end;\n")
+        ran([SILC, "compile", "a.sil", datapath, "a.mic"], room, True)
+        samples = [[(number * 7919) % 65536 - 32768] for number in range(30)]
+        write_rows(room, samples, [])
+        ran([SILC, "sim", "a.mic", "samples.txt", "expected.txt"], room, True)
+        rows = words_in((room / "expected.txt").read_text())
+        for name, options in (("core", ["--full"]), ("core16", ["--full", "16,16"])):
+            if made(room / "a.mic", room / name, "--name", "core", "--datapath", datapath, *options):
+                raise Fault("no full core")
+            texts.append((name, (room / name / "core.v").read_text()))
+        write_rows(room / "core", samples, rows)
+    first, second = folder / "0" / "core", folder / "1" / "core"
+    if len(set(texts)) != 2:
+        raise Fault("the modules of two programs differ")
+    for file in second.glob("*.hex"):
+        (first / file.name).write_bytes(file.read_bytes())
+    write_rows(first, samples, rows)
+    check_rows(first, built_by_icarus(first), 27, rows, None, ways(27, len(rows)))
+
+
+def check_names(folder, datapath, equation):
+    """A program over a datapath of odd names, in both builds."""
+    need(*ICARUS)
+    need_silc()
+    (folder / "a.toml").write_text(datapath)
+    (folder / "a.sil").write_text(f"func main(x : fix<8,0>) y : fix<8,0> = begin y = {equation}; end;\n")
+    write_rows(folder, [[0], [127], [-128], [5], [-7], [1]], [])
+    ran([SILC, "compile", "a.sil", "a.toml", "a.mic"], folder, True)
+    ran([SILC, "sim", "a.mic", "samples.txt", "expected.txt"], folder, True)
+    samples, rows = (words_in((folder / name).read_text()) for name in ("samples.txt", "expected.txt"))
+    period = image_of((folder / "a.mic").read_bytes()).period
+    for name, options in (("one", []), ("any", ["--full"])):
+        if made(folder / "a.mic", folder / name, "--name", "core", "--datapath", folder / "a.toml", *options):
+            raise Fault("no core")
+        write_rows(folder / name, samples, rows)
+        check_rows(folder / name, built_by_icarus(folder / name), period, rows, None, ways(period, len(rows)))
+
+
+def full_checks(_):
+    yield "two programs in one module", check_two_programs
+    yield "names that are words of Verilog", lambda folder: check_names(folder, WORDS_AS_NAMES, "x + 1")
+    yield "names as files have them", lambda folder: check_names(folder, FILES_AS_NAMES, "x@1 + x")
+
+
+INITIALS = re.compile(r"generate\n\s+if \(FILE != \"\"\) begin : some\n\s+initial .*?end else begin : zeros\n.*?end\n", re.S)
+RESTARTED = ("first words everywhere", "ring of 7, unroll 1", "memory 2 1", "random 0", "random 1", "random 4")
+
+
+def hold_nothing(core):
+    """Takes the initial content from the register files and memories of a core."""
+    text = (core / PARTS_FILE).read_text()
+    changed, count = INITIALS.subn("generate\n", text)
+    if count != 2:
+        raise Fault(f"{PARTS_FILE} has {count} initial contents of that form")
+    (core / PARTS_FILE).write_text(changed)
+
+
+def fill_nothing(core):
+    text = (core / "core.v").read_text()
+    (core / "core.v").write_text(text.replace("parameter RESTART = 1", "parameter RESTART = 0"))
+
+
+def without_reset(period, rows):
+    return ways(period, rows)[:-1]
+
+
+def restart_checks(_):
+    images = [*directed_images(), *islice(random_images(LONG_IMAGES), SHORT_IMAGES)]
+    for name, microcode, samples in images:
+        for is_full in (False, True) if name in RESTARTED else ():
+            for what, given in (("nothing before", (hold_nothing, ways)), ("nothing filled", (fill_nothing, without_reset))):
+                yield f"{name}{', full' if is_full else ''}, {what}", lambda folder, one=(microcode, samples, is_full, *given): (
+                    need(*ICARUS), check_image(folder, *one))
+
+
+def check_missing(folder, words, others, package):
+    """A tool says in one line what to install, where of the programs that it needs it finds these others alone."""
+    need_silc()
+    (folder / "bin").mkdir()
+    for name in ("python3", *others):
+        (folder / "bin" / name).symlink_to(sys.executable)
+    shutil.copy(ROOT / "tests" / "increment" / "add-8-1.mic", folder / "MIC")
+    (folder / "SAMPLES").write_text("0\n")
+    before = sorted(os.listdir(folder))
+    done = subprocess.run([ROOT / words[0], *words[1:]], cwd=folder, capture_output=True, text=True,
+                          env=os.environ | {"PATH": str(folder / "bin")})
+    said = f"{Path(words[0]).name}: there is no {package[0]}; apt-get install {package[1]}\n"
+    if done.returncode != 1 or done.stderr != said or done.stdout or sorted(os.listdir(folder)) != before:
+        raise Fault(f"it ended with {done.returncode}: {done.stderr}")
+
+
+def missing_checks(_):
+    board = "examples/biquads/board/board"
+    for text, others, package in (
+            ("tools/cosimulate MIC SAMPLES", (), ("iverilog", "iverilog")),
+            ("tools/cosimulate MIC SAMPLES --with verilator", (), ("verilator", "verilator g++ make")),
+            ("tools/synthesize MIC", (), ("yosys", "yosys")),
+            ("tools/synthesize MIC --route", ("yosys",), ("nextpnr-ice40", "nextpnr-ice40")),
+            (f"{board} build OUT", (), ("yosys", "yosys")),
+            (f"{board} build OUT", ("yosys", "nextpnr-ice40"), ("icepack", "fpga-icestorm")),
+            (f"{board} simulate SAMPLES OUT", (), ("iverilog", "iverilog"))):
+        yield f"{text} without {package[0]}", lambda folder, one=(text.split(), others, package): check_missing(folder, *one)
+
+
+def check_lint(folder, name, options):
+    need("verilator")
+    core = Example(name, folder, 1).core(folder / "core", *options)
+    done = subprocess.run(["verilator", "--lint-only", "-Wall", "silc_parts.v", "core.v", "--top-module", "core"], cwd=core,
+                          capture_output=True, text=True)
+    told = [line for line in done.stderr.splitlines() if line.startswith("%Warning") and "UNUSEDSIGNAL" not in line]
+    if told or "%Error:" in done.stderr and "Exiting due to" not in done.stderr:
+        raise Fault("; ".join(told) or done.stderr[-300:])
+
+
+def lint_checks(is_long):
+    for name in processors() if is_long else [BIQUADS, REVERB]:
+        for options in ([], ["--full"]):
+            yield " ".join([name, *options]), lambda folder, one=(name, options): check_lint(folder, *one)
+
+
+def check_verilator(folder, name):
+    need(*VERILATOR)
+    example = Example(name, folder)
+    core = example.core(folder / "core")
+    bench = built_by_verilator(core, "core")
+    check_rows(core, bench, example.period, example.rows, None, ways(example.period, len(example.rows)))
+
+
+def verilator_checks(is_long):
+    for name in FAST if is_long else FAST[:1]:
+        yield name, lambda folder, one=name: check_verilator(folder, one)
+
+
+def check_board(folder, most):
+    """What comes back over the I2S lines of the board is what the filter makes of each channel."""
+    need(*ICARUS)
+    need_silc()
+    example = Example(BIQUADS, folder, most)
+    board = SourceFileLoader("board", str(EXAMPLES / "biquads" / "board" / "board")).load_module()
+    one = [row[0] for row in example.samples]
+    other = [-(word + 1) for word in reversed(one)]
+    rows, _ = modelled(image_of(example.microcode.read_bytes()), [[word] for word in other])
+    expected = [f"{a},{b}" for (a,), (b,) in zip(example.rows, rows)]
+    text = "".join(f"{a},{b}\n" for a, b in zip(one, other))
+    if board.simulate_rows(folder, text) != expected:
+        raise Fault("the rows over the lines are others")
+
+
+def board_checks(is_long):
+    yield "two channels over I2S", lambda folder: check_board(folder, None if is_long else SHORT_ROWS)
+
+
+def cells_of_yosys(core, script):
+    """Synthesizes a core, and returns how many cells of each type it takes."""
+    whole = f"read_verilog -defer silc_parts.v; read_verilog core.v; {script}; tee -q -o stat.txt stat"
+    ran(["yosys", "-q", "-p", whole], core)
+    lines = (core / "stat.txt").read_text().rpartition("Number of cells:")[2].splitlines()
+    return {line.split()[0]: int(line.split()[1]) for line in lines if len(line.split()) == 2}
+
+
+def check_netlist(folder, name):
+    """The netlist of an example gives the same rows."""
+    need(*YOSYS)
+    need(*ICARUS)
+    example = Example(name, folder, NETLIST_ROWS)
+    core = example.core(folder / "core")
+    cells_of_yosys(core, "synth_ice40 -top core; write_verilog -noattr netlist.v")
+    models = Path(shutil.which("yosys")).resolve().parent.parent / "share" / "yosys" / "ice40" / "cells_sim.v"
+    ran(["iverilog", "-g2012", "-DNO_ICE40_DEFAULT_ASSIGNMENTS", "-o", "bench", "netlist.v", "core_tb.v", models], core)
+    check_rows(core, ["vvp", "-n", "bench"], example.period, example.rows, None, ways(example.period, len(example.rows))[:1])
+
+
+def check_sizes(folder, name, options, script, most):
+    """The core takes no more of each kind of cell than here."""
+    need(*YOSYS)
+    cells = cells_of_yosys(Example(name, folder, 1).core(folder / "core", *options), script)
+    for start, count in most.items():
+        found = sum(number for cell, number in cells.items() if cell.startswith(start))
+        if found > count:
+            raise Fault(f"it takes {found} {start}, and {count} at most are allowed")
+
+
+def synthesis_checks(is_long):
+    yield "netlist of increment", lambda folder: check_netlist(folder, INCREMENT)
+    ice40, xilinx = "synth_ice40 -top core", "synth_xilinx -top core"
+    sizes = [(INCREMENT, [], xilinx, {"FD": 80}),
+             (BIQUADS, [], ice40, {"SB_LUT4": 1700, "SB_DFF": 520}),
+             (BIQUADS, [], ice40 + " -dsp", {"SB_LUT4": 770, "SB_DFF": 520})]
+    if is_long:
+        yield "netlist of biquads", lambda folder: check_netlist(folder, BIQUADS)
+        sizes += [(BIQUADS, ["--full"], ice40, {"SB_LUT4": 2800}), (REVERB, [], ice40, {"SB_DFF": 700}),
+                  (REVERB, [], xilinx, {"FD": 700}), (BIQUADS, ["--full"], xilinx, {"FD": 700})]
+    for one in sizes:
+        yield f"{one[0]} {' '.join(one[1])} by {one[2].split()[0]}", lambda folder, one=one: check_sizes(folder, *one)
+
+
+PARTS = {"images": image_checks, "hazards": hazard_checks, "examples": example_checks, "planted": planted_checks, "full": full_checks,
+         "restart": restart_checks, "missing": missing_checks, "board": board_checks, "lint": lint_checks, "verilator": verilator_checks, "synthesis": synthesis_checks}
+
+
+def judged(check):
+    """How a check went: nothing, or why not, with whether it was skipped."""
+    with tempfile.TemporaryDirectory(prefix="silc-core-") as folder:
+        try:
+            check(Path(folder))
+        except Skipped as why:
+            return str(why), True
+        except (Fault, ValueError, OSError, subprocess.TimeoutExpired) as why:
+            return str(why), False
+    return None, False
+
+
+def main(words):
+    is_long, names = "--long" in words, [word for word in words if word != "--long"]
+    if any(name not in PARTS for name in names):
+        print(__doc__, file=sys.stderr)
+        return 2
+    checks = [(f"{part}: {name}", check) for part in names or PARTS for name, check in PARTS[part](is_long)]
+    counts, last, told = {"passed": 0, "failed": 0, "skipped": 0}, time.monotonic(), set()
+    for place, (name, check) in enumerate(checks):
+        why, is_skipped = judged(check)
+        counts["skipped" if is_skipped else "failed" if why else "passed"] += 1
+        if why and not (is_skipped and why in told):
+            told.add(why)
+            print(f"{'skipped: ' if is_skipped else ''}{name}: {why}", flush=True)
+        if time.monotonic() - last > SECONDS_BETWEEN:
+            last = time.monotonic()
+            print(f"check_cores: {place + 1} of {len(checks)}", file=sys.stderr, flush=True)
+    print(", ".join(f"{count} {what}" for what, count in counts.items()))
+    return 1 if counts["failed"] else NOT_ALL_THERE if counts["skipped"] else 0
+
+
+if __name__ == "__main__":
+    sys.exit(main(sys.argv[1:]))

@@ -1,0 +1,65 @@
+"""Wrong lines: each is put in the place of a right one of a core, and is to be caught by some image.
+
+Each names the file, where `top` is the generated module, the line and what replaces it, and words that the names of the
+images begin with, one of which shows it.
+"""
+from dataclasses import dataclass
+
+PARTS, TOP = "silc_parts.v", "core.v"
+
+
+@dataclass(frozen=True)
+class Planted:
+    what: str
+    file: str
+    old: str
+    new: str
+    images: tuple
+    is_full: bool = False
+
+
+PLANTED = [
+    Planted("a register that is read as it is written has its old word", PARTS,
+            "assign word_next = write && register == register_next ? data : words[register_next];",
+            "assign word_next = words[register_next];", ("random",)),
+    Planted("a row that waits is overwritten", PARTS, "assign put_row = due && (!full || out_ready);",
+            "assign put_row = due;", ("memory 1 1",)),
+    Planted("a row is taken in the last cycle of a sample that waits", PARTS,
+            "(!held || (run && last));", "(!held || last);", ("random",)),
+    Planted("the cycle after a reset has the register numbers of another", PARTS,
+            "at <= FIRST_AT;", "at <= {BITS{1'b0}};", ("random", "first words")),
+    Planted("a fault's sample puts its row", PARTS, "if (run && last && !stray) due <= 1'b1;",
+            "if (run && last) due <= 1'b1;", ("random 42",)),
+    Planted("rounding takes another bit", PARTS, "{moved[WIDTH:1], moved[0] && ROUNDS[8*f]};",
+            "{moved[WIDTH:1], moved[1] && ROUNDS[8*f]};", ("pass", "add", "mul")),
+    Planted("a format's sign is not its own", PARTS, "{{(OUT - WIDTH){rounded[WIDTH-1]}}, rounded[WIDTH-1:0]};",
+            "{{(OUT - WIDTH){rounded[OUT-1]}}, rounded[WIDTH-1:0]};", ("random",)),
+    Planted("a load sees a store of its own cycle", PARTS, "if (run) read <= cells[address];",
+            "if (run) read <= write && into == address ? data : cells[address];", ("memory",)),
+    Planted("a load of one cycle does not see the store before it", PARTS,
+            "read <= write && into == address_next ? data : cells[address_next];", "read <= cells[address_next];",
+            ("memory 1",)),
+    Planted("a store ends a cycle too early", PARTS, ".CYCLES(LATENCY - 1)) stores (",
+            ".CYCLES(LATENCY > 1 ? LATENCY - 2 : 0)) stores (", ("memory",)),
+    Planted("a circular buffer turns the other way", PARTS, "? HIGHEST : origin -", "? HIGHEST : origin +",
+            ("ring of 3", "ring of 4")),
+    Planted("an address is not taken around", PARTS, "assign address = around[BITS] ? sum", "assign address = 1'b1 ? sum",
+            ("ring of 3", "ring of 7")),
+    Planted("less or equal is less", PARTS, "LE: truth = less || same;", "LE: truth = less;", ("truth input le",)),
+    Planted("or is and", PARTS, "OR: truth = a_holds || b_holds;", "OR: truth = a_holds && b_holds;", ("truth input or",)),
+    Planted("a factor has no sign", PARTS, "{{A{right[B-1]}}, right};", "{{A{1'b0}}, right};", ("mul",)),
+    Planted("a reset leaves what is under way", PARTS, "if (clear) line <= {WIDTH{1'b0}};", "if (1'b0) line <= {WIDTH{1'b0}};",
+            ("latch twice 2", "memory 2", "random")),
+    Planted("a reset brings zeros in the place of first words", PARTS, "if (fill) words[fill_at[BITS-1:0]] <= first;",
+            "if (fill) words[fill_at[BITS-1:0]] <= {WIDTH{1'b0}};", ("first words",)),
+    Planted("a reset leaves the cells", PARTS, "if (fill) cells[fill_at[BITS-1:0]] <= first;", "if (1'b0) cells[0] <= first;",
+            ("memory 2 1", "ring of 7")),
+    Planted("the latches keep their words over a reset", TOP, "        if (rst) begin", "        if (1'b0) begin",
+            ("latch twice", "random")),
+    Planted("an input row is not held", TOP, "if (take_row) begin", "if (1'b1) begin", ("truth input", "random")),
+    Planted("an address outside of its memory goes on", TOP, "    assign stray = ", "    assign stray = 1'b0 && ",
+            ("random 42", "random 37")),
+    Planted("a wide shift is one too short", PARTS, "wide >>> shift;", "wide >>> (shift - 7'd1);", ("pass", "neg"), True),
+    Planted("any width has the sign of another bit", PARTS, "(above & {OUT{rounded[width]}});", "(above & {OUT{rounded[0]}});",
+            ("pass 1", "random"), True),
+]

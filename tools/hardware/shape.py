@@ -1,0 +1,264 @@
+"""What a core is made of: units with the register files at their ports, buses, and which words each can hold.
+
+There are two ways to it: what one image needs, or what any image over a datapath may need.
+"""
+from dataclasses import dataclass, field
+
+from .image import FORMATTED, TRUTHS
+from .words import TRUTH, Range, index_bits, of_width, of_words
+
+NUMBERED_BY_OPCODE = FORMATTED[:4] + TRUTHS
+
+
+class NoCore(Exception):
+    """Why there is no core for an image."""
+
+
+@dataclass
+class File:
+    """A register file, or the cells of a memory, with what it holds first."""
+    words: Range
+    first: list
+    sources: list = field(default_factory=list)
+
+    @property
+    def size(self):
+        return len(self.first)
+
+    def address_bits(self):
+        return index_bits(self.size)
+
+
+@dataclass
+class Part:
+    """A unit. Of its operations and formats each has a number where they are listed; without lists any may come."""
+    kind: str
+    latency: int
+    name: str
+    files: dict = field(default_factory=dict)
+    result: Range | None = None
+    inputs: list = field(default_factory=list)
+    operations: list = field(default_factory=list)
+    formats: list = field(default_factory=list)
+    cells: File | None = None
+    ram: int | None = None
+    loads: bool = True
+    stores: bool = True
+
+
+@dataclass
+class Bus:
+    name: str
+    drivers: list
+    words: Range
+
+
+@dataclass
+class Core:
+    """The parts by the number of their unit, the buses by theirs, and the words of each input and output port."""
+    name: str
+    is_full: bool
+    word: int | None
+    period: int
+    rows: int
+    start: int
+    inputs: list
+    outputs: list
+    parts: dict = field(default_factory=dict)
+    buses: dict = field(default_factory=dict)
+
+    def memories(self):
+        """Each file with its name."""
+        for part in self.parts.values():
+            for port, file in part.files.items():
+                yield f"{part.name}_{port}", file
+            if part.cells:
+                yield f"{part.name}_cells", part.cells
+
+
+def transfers_of(image):
+    """Each issue whose result is taken, with the take."""
+    for cycle, word in enumerate(image.words):
+        driver = {bus: unit for unit, bus in word.enables}
+        for take in word.takes:
+            yield image.issue_for_result(cycle, driver[take.bus]), take
+
+
+def issues_of(image, unit):
+    return [word.issues[unit] for word in image.words if unit in word.issues]
+
+
+# For one image
+
+
+def files_needed(image, issues):
+    """The files of a unit at the ports that are read, cut behind the last register that is read or taken."""
+    unit = image.units[issues[0].unit]
+    last = {}
+    for issue in issues:
+        for port, register in issue.operands():
+            last[port] = max(last.get(port, 0), register)
+    for word in image.words:
+        for take in word.takes:
+            if take.unit == issues[0].unit and take.port in last:
+                last[take.port] = max(last[take.port], take.register)
+    firsts = {port: unit.files[port][: last[port] + 1] for port in sorted(last)}
+    return {port: File(of_words(first), first) for port, first in firsts.items()}
+
+
+def part_needed(image, issues, name):
+    """The part for a unit that has these issues, with the ranges of what it holds first."""
+    unit = image.units[issues[0].unit]
+    part = Part(unit.kind, unit.latency, name, files_needed(image, issues), ram=unit.ram)
+    operations = [issue.operation for issue in issues]
+    part.inputs = sorted({issue.argument for issue in issues if issue.operation == "input"})
+    part.operations = sorted({(name, format_of(issue)) for issue, name in zip(issues, operations)}, key=str)
+    part.formats = sorted({form for _, form in part.operations if form}, key=lambda form: (-form[2], form))
+    part.loads, part.stores = "load" in operations, "store" in operations
+    if unit.cells:
+        part.cells = File(of_words(unit.cells), unit.cells)
+    return part
+
+
+def format_of(issue):
+    """The format of an issue as a tuple, which sorts."""
+    form = issue.format
+    return (form.shift, form.mode, form.width) if form else None
+
+
+def result_of(image, core, issue):
+    """The words that an issue may give, by what the files hold so far."""
+    part = core.parts[issue.unit]
+    if issue.format:
+        return of_width(issue.format.width)
+    if issue.operation == "input":
+        return of_width(image.inputs[issue.argument])
+    if issue.operation == "const":
+        return Range(issue.argument, issue.argument)
+    if issue.operation == "sel":
+        return part.files[1].words.with_(part.files[2].words)
+    if issue.operation == "load":
+        return part.cells.words
+    if issue.operation == "addr":
+        return Range(0, len(image.units[part.ram].cells) - 1)
+    return TRUTH
+
+
+def widen(image, core, transfers):
+    """Widens each file by what is taken into it once, and answers whether something changed."""
+    files = [file for part in core.parts.values() for file in (*part.files.values(), part.cells) if file]
+    before = [file.words for file in files]
+    for issue, take in transfers:
+        file = core.parts[take.unit].files[take.port]
+        file.words = file.words.with_(result_of(image, core, issue))
+    for part in core.parts.values():
+        if part.cells and part.stores:
+            part.cells.words = part.cells.words.with_(part.files[1].words)
+    return before != [file.words for file in files]
+
+
+def needed_buses(image, core, transfers, names):
+    """The buses that something is taken from, with those that drive them, and where each file takes from."""
+    for issue, take in transfers:
+        words = result_of(image, core, issue)
+        bus = core.buses.setdefault(take.bus, Bus(names.buses[take.bus], [], words))
+        bus.words = bus.words.with_(words)
+        if issue.unit not in bus.drivers:
+            bus.drivers.append(issue.unit)
+        file = core.parts[take.unit].files[take.port]
+        if take.bus not in file.sources:
+            file.sources.append(take.bus)
+    core.buses = dict(sorted(core.buses.items()))
+    for made in (*(bus.drivers for bus in core.buses.values()), *(file.sources for _, file in core.memories())):
+        made.sort()
+
+
+def core_for_image(image, name, names):
+    """The core that runs this image alone: what never occurs in it is not there."""
+    circle = image.circle()
+    core = Core(name, False, None, image.period, circle, circle - 1, [of_width(width) for width in image.inputs], [])
+    for number in range(len(image.units)):
+        issues = issues_of(image, number)
+        if issues:
+            core.parts[number] = part_needed(image, issues, names.units[number])
+    transfers = [(issue, take) for issue, take in transfers_of(image)
+                 if take.unit in core.parts and take.port in core.parts[take.unit].files]
+    while widen(image, core, transfers):
+        pass
+    needed_buses(image, core, transfers, names)
+    core.outputs = [Range(0, 0)] * image.outputs
+    for number, part in core.parts.items():
+        for issue in issues_of(image, number):
+            if issue.gives():
+                part.result = result_of(image, core, issue).with_(part.result)
+            elif issue.operation == "output":
+                core.outputs[issue.argument] = core.outputs[issue.argument].with_(part.files[0].words)
+    return core
+
+
+# For any image over a datapath
+
+
+def any_part(unit, name, word):
+    part = Part(unit.kind, unit.latency, name, ram=unit.ram)
+    part.files = {port: File(word, first) for port, first in enumerate(unit.files)}
+    part.result = None if unit.kind == "out" else word
+    if unit.cells:
+        part.cells = File(word, unit.cells)
+    return part
+
+
+def widen_any(core, buses):
+    """Widens buses, files, cells and results by each other once, and answers whether something changed."""
+    before = str(core)
+    for number, bus in core.buses.items():
+        for unit in bus.drivers:
+            bus.words = core.parts[unit].result.with_(bus.words)
+        for unit, port in buses[number].to:
+            file = core.parts[unit].files[port]
+            file.words = file.words.with_(bus.words)
+    for part in core.parts.values():
+        if part.kind == "sel":
+            part.result = part.files[1].words.with_(part.files[2].words)
+        elif part.kind == "ram":
+            part.cells.words = part.result = part.files[1].words
+    return before != str(core)
+
+
+def core_for_datapath(image, name, datapath, inputs, outputs):
+    """The core that runs any image over this datapath with so many input and output words."""
+    word = of_width(datapath.word)
+    most = 4 * image.period
+    core = Core(name, True, datapath.word, image.period, most + 1, most, [word] * inputs, [])
+    for number, unit in enumerate(image.units):
+        part = core.parts[number] = any_part(unit, datapath.units[number], word)
+        part.inputs = list(range(inputs))
+        if unit.kind == "acu":
+            part.result = Range(0, len(image.units[unit.ram].cells) - 1)
+    for number, bus in enumerate(datapath.ends):
+        core.buses[number] = Bus(bus.name, [unit for unit in bus.from_ if core.parts[unit].result], word)
+        for unit, port in bus.to:
+            core.parts[unit].files[port].sources.append(number)
+    while widen_any(core, datapath.ends):
+        pass
+    made = [part.files[0].words for part in core.parts.values() if part.kind == "out"]
+    core.outputs = [Range(min([word.low, *(one.low for one in made)]), max([word.high, *(one.high for one in made)]))] * outputs
+    check_fits(image, core)
+    return core
+
+
+def check_fits(image, core):
+    """Refuses an image with words that the datapath's are too narrow for."""
+    for part in core.parts.values():
+        for file in (*part.files.values(), *([part.cells] if part.cells else [])):
+            if not file.words.covers(of_words(file.first)):
+                raise NoCore(f"{part.name} has a first word that is out of the range of the datapath's words")
+    wide = of_width(core.word)
+    if any(not wide.covers(of_width(width)) for width in image.inputs):
+        raise NoCore(f"an input word has more than the {core.word} bits of the datapath's word")
+    for number, part in core.parts.items():
+        for issue in issues_of(image, number):
+            if issue.format and issue.format.width > core.word:
+                raise NoCore(f"{part.name} gives a word of {issue.format.width} bits, and the datapath's word has {core.word}")
+            if issue.operation == "const" and not wide.has(issue.argument):
+                raise NoCore(f"{part.name} gives {issue.argument}, which is out of the range of the datapath's words")
