@@ -5,4 +5,4 @@ endif
 let current_compiler = 'silc'
 let s:check = resolve(expand('<sfile>:p:h')) . '/../../../tools/check'
 execute 'CompilerSet makeprg=' . escape(fnameescape(simplify(s:check)) . ' %:S', ' \|"')
-CompilerSet errorformat=%f:%l:%c:\ %m
+CompilerSet errorformat=%f:%l:%c-%*\\d:\ %m

@@ -1,0 +1,1 @@
+"""What the designer's bench is made of: filters in real numbers, their coefficients as words, sources, and rows of silc."""

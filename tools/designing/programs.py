@@ -1,0 +1,183 @@
+"""Runs of the built programs: rows of `silc eval`, words of `silc_show values`, nodes of `silc_show graph`."""
+import os
+import re
+import subprocess
+import sys
+import tempfile
+from dataclasses import dataclass
+from pathlib import Path
+
+from designing.shapes import Shape
+
+CRATES = Path(__file__).resolve().parent.parent.parent / "crates"
+PROGRAMS = {"silc": ("SILC", CRATES / "silc_main" / "out" / "silc_main"),
+            "silc_show": ("SILC_SHOW", CRATES / "silc_show" / "out" / "silc_show")}
+ELEMENT = re.compile(r"element (\S+) : (?:fix<(\d+),(\d+),(\w+)>|bool)")
+# What `silc_show` prints in the place of a page.
+FAULT = "fault "
+
+
+class Unrun(Exception):
+    """Why a program gave no answer."""
+
+
+def program(name):
+    variable, built = PROGRAMS[name]
+    file = Path(os.environ.get(variable, built))
+    if not os.access(file, os.X_OK):
+        raise Unrun(f"there is no program {file}; tools/build {built.name} builds one")
+    return file.resolve()
+
+
+def ran(name, *words, room=None):
+    done = subprocess.run([program(name), *words], cwd=room, stdin=subprocess.DEVNULL, capture_output=True, text=True)
+    if done.returncode:
+        raise Unrun(done.stderr.strip().removeprefix(f"{name}: ") or f"{name} ended with {done.returncode}")
+    return done.stdout
+
+
+def text_of(rows):
+    return "".join(",".join(map(str, row)) + "\n" for row in rows)
+
+
+def in_room(source, rows, run):
+    """What a run gives in a folder where the source and the rows are."""
+    with tempfile.TemporaryDirectory(prefix="silc-bench-") as folder:
+        room = Path(folder)
+        (room / "source").write_text(source)
+        (room / "samples").write_text(text_of(rows))
+        return run(room)
+
+
+def evaluated(source, rows):
+    """The output rows of a source over rows of samples."""
+    def run(room):
+        ran("silc", "eval", "source", "samples", "rows", room=room)
+        return rows_of((room / "rows").read_text())
+    return in_room(source, rows, run)
+
+
+def refuse(source, fault):
+    """Raises why `silc_show` prints a fault, in the words of `silc` where the source is refused."""
+    evaluated(source, [])
+    raise Unrun(fault)
+
+
+def fall_silent():
+    """Lets nothing more be written to standard output, whose reader has seen enough."""
+    os.dup2(os.open(os.devnull, os.O_WRONLY), sys.stdout.fileno())
+
+
+def rows_of(text):
+    """Rows of whole numbers; `ValueError` has the line of the first that is none."""
+    rows = []
+    for number, line in enumerate(text.splitlines(), 1):
+        try:
+            rows.append(tuple(map(int, line.split(","))))
+        except ValueError as fault:
+            raise ValueError(f"line {number}: {line!r} is no row of whole numbers") from fault
+    return rows
+
+
+@dataclass
+class Element:
+    """An element by its name, the shape of its words (`None` for a truth value), and its word at each sample."""
+    name: str
+    shape: Shape | None
+    words: list
+
+
+def element_of(line):
+    name, width, places, _ = ELEMENT.fullmatch(line).groups()
+    return Element(name, Shape(int(width), int(places)) if width else None, [])
+
+
+def valued(source, rows):
+    """The elements of a source, each with its words over rows of samples."""
+    text = in_room(source, rows, lambda room: ran("silc_show", "values", "source", "samples", room=room))
+    elements, group = [], []
+    for line in text.splitlines():
+        if line.startswith(FAULT):
+            refuse(source, line)
+        if line.startswith("element "):
+            group = [] if group and group[0].words else group
+            group.append(element_of(line))
+            elements.append(group[-1])
+        else:
+            for element, word in zip(group, line.split(",")):
+                element.words.append(int(word))
+    return elements
+
+
+@dataclass(frozen=True)
+class Node:
+    """An operation of a source's graph, with the nodes that it reads and their delays."""
+    operation: str
+    operands: tuple
+
+
+def graph_of(source):
+    """The nodes of a source's graph."""
+    nodes = []
+    for line in in_room(source, [], lambda room: ran("silc_show", "graph", "source", room=room)).splitlines():
+        if line.startswith(FAULT):
+            refuse(source, line)
+        if line.startswith("node "):
+            words = line.split()
+            reads = words[words.index("operands") + 1:]
+            reads = reads[: reads.index("initial")] if "initial" in reads else reads
+            nodes.append(Node(words[2], tuple((int(node), int(delay or 0)) for node, _, delay in
+                                              (read.partition("@") for read in reads))))
+    return nodes
+
+
+def longest_delay(nodes):
+    return max((delay for node in nodes for _, delay in node.operands), default=0)
+
+
+def has_feedback(nodes):
+    """Whether a node depends on itself by some delays."""
+    state = [0] * len(nodes)
+    for start in range(len(nodes)):
+        stack = [(start, iter(nodes[start].operands))] if not state[start] else []
+        if stack:
+            state[start] = 1
+        while stack:
+            node, reads = stack[-1]
+            following = next(reads, None)
+            if following is None:
+                state[node] = 2
+                stack.pop()
+            elif state[following[0]] == 1:
+                return True
+            elif not state[following[0]]:
+                state[following[0]] = 1
+                stack.append((following[0], iter(nodes[following[0]].operands)))
+    return False
+
+
+CALCULATED = ("add", "sub", "neg", "pass", "mul")
+LINEAR = (*CALCULATED, "input", "const", "output")
+
+
+def constants(nodes):
+    """Whether each node has the same word at each sample."""
+    constant, before = [node.operation == "const" for node in nodes], None
+    while constant != before:
+        before = list(constant)
+        for number, node in enumerate(nodes):
+            reads = node.operands if node.operation in CALCULATED else ()
+            constant[number] |= bool(reads) and all(before[read] and not delay for read, delay in reads)
+    return constant
+
+
+def unlinear(nodes):
+    """The operation of the first node that makes a program unlinear, or nothing: a choice, a truth value, or a product of
+    two signals."""
+    constant = constants(nodes)
+    for node in nodes:
+        if node.operation not in LINEAR:
+            return node.operation
+        if node.operation == "mul" and not any(constant[read] and not delay for read, delay in node.operands):
+            return "a product of two signals"
+    return None

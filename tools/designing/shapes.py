@@ -1,0 +1,80 @@
+"""Shapes of words, fix<W,F>, and the words that numbers become in them."""
+import math
+import re
+from dataclasses import dataclass
+from fractions import Fraction
+
+WIDEST = 32
+# A source's number has this many digits at most.
+MOST_DIGITS = 18
+
+
+@dataclass(frozen=True)
+class Shape:
+    """The words of fix<W,F>: W bits, F of them after the point."""
+    width: int
+    places: int
+
+    def __str__(self):
+        return f"fix<{self.width},{self.places}>"
+
+    @property
+    def whole_bits(self):
+        """The bits before the point, the sign among them."""
+        return self.width - self.places
+
+    @property
+    def least(self):
+        return -(1 << (self.width - 1))
+
+    @property
+    def greatest(self):
+        return (1 << (self.width - 1)) - 1
+
+    @property
+    def step(self):
+        """The value of the last bit."""
+        return 2.0**-self.places
+
+    def has(self, word):
+        return self.least <= word <= self.greatest
+
+    def value(self, word):
+        return word * self.step
+
+    def nearest(self, value):
+        """The word that a source's number becomes: the nearest one, and up from the middle."""
+        return math.floor(Fraction(value) * 2**self.places + Fraction(1, 2))
+
+    def text(self, word):
+        """The shortest decimal number that becomes this word."""
+        exact = Fraction(word, 2**self.places)
+        for digits in range(1, MOST_DIGITS):
+            scaled = exact * 10**digits
+            near = math.floor(abs(scaled) + Fraction(1, 2))
+            signed = -near if word < 0 else near
+            if self.nearest(Fraction(signed, 10**digits)) == word:
+                return decimal(signed, digits)
+        raise ValueError(f"{self} has words that no number of {MOST_DIGITS} digits becomes")
+
+
+def decimal(number, digits):
+    """A number of so many digits after the point."""
+    text = f"{abs(number):0{digits + 1}d}"
+    return ("-" if number < 0 else "") + f"{text[:-digits]}.{text[-digits:]}"
+
+
+def shape_of(words):
+    """The shape that `W,F` names."""
+    found = re.fullmatch(r"(\d{1,2}),(\d{1,2})", words)
+    if not found:
+        raise ValueError(f"{words} is no shape W,F")
+    width, places = map(int, found.groups())
+    if not 1 <= width <= WIDEST or places > width:
+        raise ValueError(f"fix<{width},{places}> is no type: it has 1 to {WIDEST} bits, and at most all after the point")
+    return Shape(width, places)
+
+
+def bits_of(least, greatest):
+    """The bits that words from the least to the greatest need in two's complement."""
+    return 1 + max(greatest, -least - 1, 0).bit_length()

@@ -1,0 +1,36 @@
+"""Spectra of samples by the fast Fourier transform, and of long rows of them by the mean over windows (Welch)."""
+import cmath
+import math
+
+HALF = 2
+
+
+def fft(samples):
+    """The discrete Fourier transform of 2^k samples."""
+    length = len(samples)
+    if length == 1:
+        return list(samples)
+    even, odd = fft(samples[::2]), fft(samples[1::2])
+    turns = [cmath.exp(-2j * math.pi * k / length) * x for k, x in enumerate(odd)]
+    return [a + b for a, b in zip(even, turns)] + [a - b for a, b in zip(even, turns)]
+
+
+def magnitudes(response, least):
+    """The magnitudes of a response over 0 to half of the rate, at `least` frequencies or more."""
+    size = 1 << (max(len(response), 2 * least) - 1).bit_length()
+    spectrum = fft([*response, *[0.0] * (size - len(response))])
+    return [abs(x) for x in spectrum[: size // 2 + 1]]
+
+
+def welch(samples, size):
+    """The power in each of size / 2 + 1 bins, whose sum is the mean square: windows of Hann that overlap by half."""
+    window = [0.5 - 0.5 * math.cos(2 * math.pi * n / size) for n in range(size)]
+    scale = 1 / (size * sum(w * w for w in window))
+    starts = range(0, max(len(samples) - size, 0) + 1, size // HALF)
+    powers = [0.0] * (size // 2 + 1)
+    for start in starts:
+        part = samples[start : start + size]
+        part = [w * x for w, x in zip(window, [*part, *[0.0] * (size - len(part))])]
+        for k, x in enumerate(fft(part)[: size // 2 + 1]):
+            powers[k] += abs(x) ** 2 * scale * (1 if k in (0, size // 2) else 2)
+    return [power / len(starts) for power in powers]
