@@ -67,13 +67,13 @@ def matcher_faults():
     if task["problemMatcher"] != f"${matcher['name']}":
         yield f"the task has another problem matcher than {matcher['name']}"
     pattern = matcher["pattern"]
-    places = [pattern[part] for part in ("file", "line", "column", "message")]
+    places = [pattern[part] for part in ("file", "line", "column", "endColumn", "message")]
     cases = tomllib.loads(CHECK_CASES.read_text())["case"]
     for fault in [row["fault"] for case in cases for row in case.get("rows", [])]:
-        line, column, message = re.fullmatch(r"(\d+):(\d+): (.*)", fault).groups()
+        line, column, end, message = re.fullmatch(r"(\d+):(\d+)-(\d+): (.*)", fault).groups()
         for file in ("SRC", "/a folder/one:two.sil"):
             found = re.search(pattern["regexp"], f"{file}:{fault}")
-            if not found or [found[place] for place in places] != [file, line, column, message]:
+            if not found or [found[place] for place in places] != [file, line, column, end, message]:
                 yield f"the problem matcher does not take {file}:{fault} apart"
 
 

@@ -1,11 +1,15 @@
 #!/usr/bin/env python3
-"""Whether docs/TUTORIAL.md says what happens: its files are made and its commands run, one after another, in one shell.
+"""Whether docs/TUTORIAL.md and docs/DESIGNING.md say what happens: the files of a page are made and its commands run, one
+after another, in one shell.
 
-usage: tests/check_tutorial.py            ends with 1 where an output or the picture is another, and prints what differs
-       tests/check_tutorial.py --write    writes what the commands print into the tutorial, and the picture that they draw
+usage: tests/check_tutorial.py [--silc PROGRAM]            ends with 1 where an output or the picture is another, and prints
+                                                           what differs
+       tests/check_tutorial.py [--silc PROGRAM] --write    writes what the commands print into the pages, and the picture
+                                                           that they draw
 
 A block of `console` has commands after `$ `, which go on after `> `, each with its output. A block with a second word after
-its language is the file of that name. It runs the built `silc`, or the one that `SILC` names.
+its language is the file of that name. It runs the built `silc`, or PROGRAM; what `SILC` names in the environment is not
+asked.
 """
 import os
 import re
@@ -15,9 +19,10 @@ import tempfile
 from pathlib import Path
 
 ROOT = Path(__file__).resolve().parent.parent
-SILC = Path(os.environ.get("SILC", ROOT / "crates" / "silc_main" / "out" / "silc_main")).resolve()
-PAGE = ROOT / "docs" / "TUTORIAL.md"
-DRAWN, PICTURE = "smooth.svg", ROOT / "docs" / "pictures" / "smooth.svg"
+BUILT = ROOT / "crates" / "silc_main" / "out" / "silc_main"
+# The pages, each with the pictures that its commands draw, as files of docs/pictures.
+PAGES = {ROOT / "docs" / "TUTORIAL.md": ["smooth.svg"], ROOT / "docs" / "DESIGNING.md": []}
+PICTURES = ROOT / "docs" / "pictures"
 BLOCK = re.compile(r"^```(\w+)(?: (\S+))?\n(.*?)^```$", re.M | re.S)
 CONSOLE, MARK = "console", "-- end of a command --"
 SECONDS = 60
@@ -55,20 +60,21 @@ def script_of(blocks):
     return "\n".join(lines) + "\n"
 
 
-def run(blocks, room):
+def run(blocks, room, silc):
     """What each command prints, and the folder in which the last one ran."""
     top = room / "top"
     top.mkdir()
-    (top / "silc").symlink_to(SILC)
-    (top / "tools").symlink_to(ROOT / "tools")
+    (top / "silc").symlink_to(silc)
+    for folder in ("tools", "examples"):
+        (top / folder).symlink_to(ROOT / folder)
     done = subprocess.run(["bash", "-c", script_of(blocks) + "pwd"], cwd=top, stdin=subprocess.DEVNULL, timeout=SECONDS,
-                          env=os.environ | {"TMPDIR": str(room), "SILC": str(SILC)}, stdout=subprocess.PIPE, text=True)
+                          env=os.environ | {"TMPDIR": str(room), "SILC": str(silc)}, stdout=subprocess.PIPE, text=True)
     *outputs, folder = done.stdout.split(MARK + "\n")
     return outputs, Path(folder.strip())
 
 
 def page_with(text, outputs):
-    """The tutorial with these outputs in the place of its own."""
+    """The page with these outputs in the place of its own."""
     outputs = iter(outputs)
 
     def block(found):
@@ -80,28 +86,52 @@ def page_with(text, outputs):
     return BLOCK.sub(block, text)
 
 
+def carried_out(page, silc):
+    """The commands of a page, what each prints, and the pictures that they draw."""
+    blocks = [found.groups() for found in BLOCK.finditer(page.read_text())]
+    shown = [command for language, _, part in blocks if language == CONSOLE for command in commands_in(part)]
+    with tempfile.TemporaryDirectory(prefix="silc-tutorial-") as folder:
+        outputs, last = run(blocks, Path(folder).resolve(), silc)
+        drawn = {name: (last / name).read_text() if (last / name).is_file() else "" for name in PAGES[page]}
+    return shown, outputs, drawn
+
+
+def write(page, shown, outputs, drawn):
+    """Writes what was printed and drawn, and tells whether all commands were carried out."""
+    if len(outputs) != len(shown):
+        return False
+    page.write_text(page_with(page.read_text(), outputs))
+    for name, picture in drawn.items():
+        (PICTURES / name).write_text(picture)
+    return True
+
+
+def faults_of(page, shown, outputs, drawn):
+    name = page.relative_to(ROOT)
+    for command, output in zip(shown, outputs):
+        if command.output != output:
+            yield f"{name}: {command.words[0]} prints\n{output}in the place of\n{command.output}"
+    if len(shown) != len(outputs):
+        yield f"{name}: {len(outputs)} of {len(shown)} commands are carried out"
+    for file, picture in drawn.items():
+        if not (PICTURES / file).exists() or picture != (PICTURES / file).read_text():
+            yield f"docs/pictures/{file} is not what {name} draws; run tests/check_tutorial.py --write"
+
+
 def main(words):
+    silc = BUILT
+    if words[:1] == ["--silc"] and len(words) > 1:
+        silc, words = Path(words[1]).resolve(), words[2:]
     if words not in ([], ["--write"]):
         print(__doc__, file=sys.stderr)
         return 2
-    text = PAGE.read_text()
-    blocks = [found.groups() for found in BLOCK.finditer(text)]
-    shown = [command for language, _, part in blocks if language == CONSOLE for command in commands_in(part)]
-    with tempfile.TemporaryDirectory(prefix="silc-tutorial-") as folder:
-        outputs, last = run(blocks, Path(folder).resolve())
-        picture = (last / DRAWN).read_text() if (last / DRAWN).is_file() else ""
-    if words and len(outputs) == len(shown):
-        PAGE.write_text(page_with(text, outputs))
-        PICTURE.write_text(picture)
+    done = {page: carried_out(page, silc) for page in PAGES}
+    if words and all([write(page, *what) for page, what in done.items()]):
         return 0
-    wrong = [(command, output) for command, output in zip(shown, outputs) if command.output != output]
-    for command, output in wrong:
-        print(f"docs/TUTORIAL.md: {command.words[0]} prints\n{output}in the place of\n{command.output}")
-    faults = len(wrong) + abs(len(shown) - len(outputs))
-    if not PICTURE.exists() or picture != PICTURE.read_text():
-        faults += 1
-        print(f"docs/pictures/{PICTURE.name} is not what the tutorial draws; run tests/check_tutorial.py --write")
-    print(f"tutorial: {len(outputs)} of {len(shown)} commands, {faults} faults")
+    faults = [fault for page, what in done.items() for fault in faults_of(page, *what)]
+    for fault in faults:
+        print(fault)
+    print(f"tutorial: {sum(len(outputs) for _, outputs, _ in done.values())} commands, {len(faults)} faults")
     return 1 if faults else 0
 
 

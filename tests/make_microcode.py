@@ -104,10 +104,10 @@ def one_latch_twice():
     return program(1, units, [word([issue(0, "output", [0]), issue(1, "output", [0])])])
 
 
-def sliding_addresses():
-    """The address of offset 1 in a ram of three cells."""
+def sliding_addresses(offset):
+    """The address of an offset in a ram of three cells."""
     units = [unit("acu", ram=1), unit("ram", files=[[0], [0]], cells=[0] * 3), unit("out", files=[[0]])]
-    words = [word([issue(0, "addr", argument=1)], [(0, 0)], [(2, 0, 0, 0)]), word([issue(2, "output", [0])])]
+    words = [word([issue(0, "addr", argument=offset)], [(0, 0)], [(2, 0, 0, 0)]), word([issue(2, "output", [0])])]
     return program(3, units, words)
 
 
@@ -167,7 +167,9 @@ FILES = {
     "machine/read-and-written.mic": read_and_written(),
     "machine/overlap.mic": overlap(),
     "machine/one-latch-twice.mic": one_latch_twice(),
-    "machine/sliding-addresses.mic": sliding_addresses(),
+    "machine/sliding-addresses.mic": sliding_addresses(1),
+    "machine/sliding-addresses-above.mic": sliding_addresses(4),
+    "machine/sliding-addresses-far-above.mic": sliding_addresses(65533),
     "machine/accumulator.mic": accumulator(),
     "machine/difference.mic": difference(),
     "machine/two-channels.mic": two_channels(),

@@ -4,9 +4,11 @@
 It knows nothing of the layout: columns and axes are found by the numbers beside them, bars and curves by their titles.
 """
 import math
+import os
 import re
 import subprocess
 import sys
+import tempfile
 import xml.etree.ElementTree as Xml
 from pathlib import Path
 
@@ -17,8 +19,14 @@ NODE = re.compile(r"node (\d+) cycle (\d+) unit (\S+) op (\S+)((?: -?\d+(?:@\d+)
 TRANSFER = re.compile(r" to (\S+) bus (\S+) regs (\S+)")
 WITHOUT_OPERANDS = ("input", "const", "addr")
 # The texts, each with its datapath file and the latencies above 1 there.
-TEXTS = [("increment", None, {}), ("biquad", "biquad", {"mul": 2}), ("held", None, {}), ("long", "long", {"mul": 8}),
-         ("long", None, {})]
+TEXTS = [("increment", None, {}), ("biquad", "biquad", {"mul": 2}), ("accumulator", None, {}), ("held_difference", None, {}),
+         ("held_three", None, {}), ("long", "long", {"mul": 8}), ("long", None, {})]
+
+
+# A source for the text `increment`, with the line and the element of each of its nodes.
+SHOW = Path(os.environ.get("SILC_SHOW", ROOT / "crates" / "silc_show" / "out" / "silc_show"))
+SOURCE = "func main(x : fix<8,0>)\n  y : fix<8,0> =\nbegin\n  y = x + 1;\nend;\n"
+ORIGINS = [(1, "x"), (4, "y"), (4, "y"), (4, "y")]
 
 
 class Faults(list):
@@ -109,33 +117,75 @@ def check_schedule(text, latency, picture, faults):
     faults.unless(is_inside(picture), "words outside the picture")
 
 
+def reads_of(node, file, nodes, period):
+    """The cycles in which a word is read from a file, counted from the start of the sample in which it is written."""
+    for (_, at, reader, op, operands), _ in nodes:
+        words = operands.split()[1 if op in (*WITHOUT_OPERANDS, "output") else 0 :]
+        for port, word in enumerate(words):
+            read, _, delay = word.partition("@")
+            if read == node and f"{reader}.{port}" == file:
+                yield int(at) + int(delay or 0) * period
+
+
 def lives(text, latency):
-    """Of each register, node and sample the cycles of its word, counted from the start of sample 0."""
+    """Of each register, node and sample the cycles of its word's write and of its reads, from the start of sample 0."""
     period, unroll = map(int, re.match(r"period (\d+) unroll (\d+)", text).groups())
     nodes = [(NODE.match(line).groups(), TRANSFER.findall(line)) for line in text.splitlines()[1:]]
     for (node, cycle, unit, *_), transfers in nodes:
         write = int(cycle) + latency.get(unit, 1) - 1
         for file, _, registers in transfers:
-            last = 0
-            for (_, at, reader, op, operands), _ in nodes:
-                words = operands.split()[1 if op in (*WITHOUT_OPERANDS, "output") else 0 :]
-                for port, word in enumerate(words):
-                    read, _, delay = word.partition("@")
-                    if read == node and f"{reader}.{port}" == file:
-                        last = max(last, int(at) + int(delay or 0) * period)
-            copies = registers.split(",")
+            reads, copies = list(reads_of(node, file, nodes, period)), registers.split(",")
             for sample in range(unroll):
                 shift = sample * period
-                yield node, file, copies[sample % len(copies)], write + 1 + shift, last + shift, period * unroll
+                yield (f"node {node} of sample {sample}", f"{file} register {copies[sample % len(copies)]}", write + shift,
+                       [read + shift for read in reads], period * unroll)
+
+
+def marks(picture):
+    """Of each write and read that is marked, by its title, the cycle on the circle and how far down it stands."""
+    columns = centres(picture)
+    (one, x1, _), (two, x2, _) = columns[:2]
+    step = (x2 - x1) / (two - one)
+
+    def cycle_at(x, y):
+        above = max(top for _, _, top in columns if top < y)
+        cycle, centre, _ = next(column for column in columns if column[2] == above)
+        return cycle + (x - centre) / step
+
+    for shape in picture.iter():
+        title = shape.find(SVG + "title")
+        if title is not None and shape.tag == SVG + "circle":
+            x, y = number(shape, "cx", "cy")
+            yield title.text, round(cycle_at(x, y)), y
+        elif title is not None and " goes into " in (title.text or "") and shape.tag == SVG + "path":
+            x, y = map(float, shape.get("d").split("L")[2].split()[:2])
+            # The tip is at the end of the cycle.
+            yield title.text, round(cycle_at(x, y) - 0.5), y
+
+
+def check_marks(wanted, picture, faults):
+    """Each write and read is marked once, in its cycle, and in the row of its register."""
+    rows = {}
+    for title, _, _, (_, y, _, height) in bars(picture):
+        rows.setdefault(re.search(r"in (\S+ register \d+),", title)[1], set()).add((y, y + height))
+    shown = sorted((title, cycle) for title, cycle, _ in marks(picture))
+    faults.unless(shown == sorted(wanted), f"marks {set(shown) ^ set(wanted)}")
+    for title, _, y in marks(picture):
+        register = re.search(r"(?:into|from) (\S+ register \d+) in", title)[1]
+        faults.unless(any(top < y < bottom for top, bottom in rows[register]), f"the mark {title} is in another row")
 
 
 def check_lifetimes(text, latency, picture, faults):
     shown = list(bars(picture))
-    wanted = {f"node {node} in {file} register {register}, cycles {first} to {last}":
-              sorted(cycle % circle for cycle in range(first, last + 1))
-              for node, file, register, first, last, circle in lives(text, latency)}
+    wanted, marked = {}, []
+    for word, register, write, reads, circle in lives(text, latency):
+        cycles = range(write + 1, max(reads) + 1)
+        wanted[f"{word} in {register}, cycles {cycles[0]} to {cycles[-1]}"] = sorted(cycle % circle for cycle in cycles)
+        marked.append((f"{word} goes into {register} in cycle {write}", write))
+        marked += [(f"{word} is read from {register} in cycle {read}", read % circle) for read in reads]
     faults.unless(covered(shown) == wanted, f"lives {set(covered(shown)) ^ set(wanted)}")
     faults.unless(not overlaps(shown), "two words in one register")
+    check_marks(marked, picture, faults)
     faults.unless(is_inside(picture), "words outside the picture")
 
 
@@ -145,7 +195,7 @@ def scale(marks):
     return lambda place: one + (place - at) * (two - one) / (to - at)
 
 
-def check_response(picture, known, faults):
+def check_response(picture, known, rate, faults):
     """Each point of each curve is on the one that is known, but for a tenth of a decibel and what is below the axis."""
     texts = [shape for shape in picture.iter(SVG + "text") if shape.get("font-size") == "10"]
     across = scale([(math.log(float(t.text)), *number(t, "x")) for t in texts if t.get("text-anchor") == "middle"])
@@ -156,7 +206,7 @@ def check_response(picture, known, faults):
     for curve in curves:
         points = [tuple(map(float, point.split())) for point in curve[1:].split(" L")]
         for x, y in points:
-            wanted = max(20 * math.log10(max(known(math.exp(across(x))), 1e-9)), lowest)
+            wanted = max(20 * math.log10(max(known(math.exp(across(x)) / rate), 1e-9)), lowest)
             if abs(down(y) - wanted) > 0.1 + (0.02 * abs(wanted) if wanted < -20 else 0):
                 faults.append(f"{down(y):.2f} dB in the place of {wanted:.2f}")
                 break
@@ -170,6 +220,8 @@ RESPONSES = {
                  lambda share: 1 / math.sqrt(1.25 - math.cos(2 * math.pi * share))),
     "delay": ("0\n0\n-5\n", "10", "0,0,-0.5", lambda share: 0.5),
 }
+# The samples a second at which each is drawn again, with an axis in hertz.
+RATES = (8000, 44100)
 
 
 def judged(name, check, *given):
@@ -181,8 +233,34 @@ def judged(name, check, *given):
     return not faults
 
 
+def check_origins(picture, faults):
+    """The bars and the table have the element of each node, and its line."""
+    titles = {number: title for title in (shape.text for shape in picture.iter(SVG + "title"))
+              for number in re.findall(r"^node (\d+): .* on \S+ in cycle", title)}
+    texts = [shape.text for shape in picture.iter(SVG + "text")]
+    table = texts[texts.index("operation") + 1:]
+    rows = [table[k:k + 4] for k in range(0, len(table), 4)]
+    for number, (line, element) in enumerate(ORIGINS):
+        title = titles.get(str(number), "")
+        faults.unless(title.endswith(f"; {element} in line {line}"), f"the bar of node {number} says {title}")
+        faults.unless(rows[number][:3] == [str(number), str(line), element], f"the table has {rows[number]} for node {number}")
+    faults.unless(len(rows) == len(ORIGINS), f"the table has {len(rows)} rows")
+
+
+def origins_right():
+    """Whether a picture with the origins of its nodes shows them, where the program that knows them is built."""
+    if not os.access(SHOW, os.X_OK):
+        print(f"the origins of nodes are left out: `tools/build silc_show` builds {SHOW}")
+        return []
+    with tempfile.TemporaryDirectory(prefix="silc-draw-") as folder:
+        source = Path(folder, "source.sil")
+        source.write_text(SOURCE)
+        plain = ROOT / "examples" / "increment" / "plain.toml"
+        return [judged("schedule with origins", check_origins, drawn("schedule", found("increment", "schedule"), plain, source))]
+
+
 def main():
-    right = []
+    right = origins_right()
     for name, datapath, latency in TEXTS:
         file = found(name, "schedule")
         words = [file, *([found(datapath, "toml")] if datapath else [])]
@@ -191,7 +269,10 @@ def main():
             right.append(judged(f"{subject} {name}", check, file.read_text(), latency if datapath else {}, picture))
     for name, (rows, unit, design, known) in RESPONSES.items():
         picture = drawn("response", "-", unit, design, given=rows)
-        right.append(judged(f"response {name}", check_response, picture, known))
+        right.append(judged(f"response {name}", check_response, picture, known, 1))
+        for rate in RATES:
+            picture = drawn("response", "--rate", str(rate), "-", unit, design, given=rows)
+            right.append(judged(f"response {name} at {rate} samples a second", check_response, picture, known, rate))
     print(f"pictures: {right.count(True)} show what they should, and {right.count(False)} do not")
     return 1 if False in right else 0
 

@@ -3,10 +3,12 @@
 written here by hand, the front against its definition, a table that was cut off against one that was not, and some rows of
 the biquads' table against what is made of them now.
 
-usage: tests/explore/check_tables.py
+usage: tests/explore/check_tables.py [--silc PROGRAM]
 
-It runs the built `silc`, or the one that `SILC` names. Where GNU parallel is installed, it is tried too.
+It runs the built `silc`, or PROGRAM; what `SILC` names in the environment is not asked. Where GNU parallel is installed, it
+is tried too.
 """
+import collections
 import csv
 import itertools
 import os
@@ -24,15 +26,17 @@ ROOT = HERE.parent.parent
 sys.path.insert(0, str(ROOT / "tools"))
 from exploring.template import Template, text_of  # noqa: E402
 
-SILC = Path(os.environ.get("SILC", ROOT / "crates" / "silc_main" / "out" / "silc_main")).resolve()
+BUILT = ROOT / "crates" / "silc_main" / "out" / "silc_main"
 TEMPLATE = HERE / "small.ranges"
 SOURCE = "func main(x : fix<8,0>) y : fix<8,0> = begin y = (x + 1) + (x + 2); end;\n"
 HEAD = "period,adders,add.latency,size,b.times,units,buses,registers,taken,cells,cycles,answer,front,made_from".split(",")
 RANGES = {"period": (6, 10, 14), "adders": (1, 2), "add.latency": (1, 2), "size": (2, 4), "b.times": (1, 2)}
 COSTS = ("period", "units", "buses", "registers")
 SVG = "{http://www.w3.org/2000/svg}"
+# The calls by which explore finds what combinations lack, at most.
+MOST_TRIALS = 40
 # The table that docs/pictures shows, and of how many of its rows one is made anew.
-BIQUADS, SHOWN, EACH = ROOT / "examples" / "biquads", ROOT / "docs" / "pictures" / "biquads_processors.csv", 97
+BIQUADS, SHOWN, EACH = ROOT / "examples" / "biquads", ROOT / "docs" / "pictures" / "biquads_processors.csv", 11
 # Three memories with an acu each, no multiplier, two buses of one kind, none for the multiplier.
 NUMBERED = ("", "_2", "_3")
 COPIES = """
@@ -74,14 +78,14 @@ def measured(text, latency):
     return sum(register + 1 for register in last.values()), max(ends)
 
 
-def expected(room):
+def expected(room, silc):
     """Each combination with what it has and takes, or with the refusal, and whether it is on the front."""
     (room / "source").write_text(SOURCE)
     rows = {}
     for choice in itertools.product(*RANGES.values()):
         _, adders, latency, size, buses = choice
         (room / "datapath").write_text(datapath(*choice))
-        done = subprocess.run([SILC, "schedule", "source", "datapath"], cwd=room, capture_output=True, text=True)
+        done = subprocess.run([silc, "schedule", "source", "datapath"], cwd=room, capture_output=True, text=True)
         row = dict(zip(RANGES, choice)) | {"units": 3 + adders, "buses": buses, "registers": 2 * adders * size + 1}
         if done.returncode:
             rows[choice] = row | {"answer": done.stderr.strip().removeprefix("silc: ")}
@@ -95,10 +99,15 @@ def expected(room):
     return [{name: str(row.get(name, "")) for name in HEAD[:-1]} for row in rows.values()]
 
 
-def explored(room, *options, silc=SILC, source="source", template=TEMPLATE):
-    """What a run leaves, and what it says."""
-    done = subprocess.run([ROOT / "tools" / "explore", *options, "--out", "made", source, template], cwd=room,
+def tried(room, silc, *options, source="source", template=TEMPLATE, out="made"):
+    """How a run ends."""
+    return subprocess.run([ROOT / "tools" / "explore", *options, "--out", out, source, template], cwd=room,
                           env=os.environ | {"SILC": str(silc)}, capture_output=True, text=True)
+
+
+def explored(room, silc, *options, **others):
+    """What a run leaves, and what it says."""
+    done = tried(room, silc, *options, **others)
     if done.returncode:
         sys.exit(f"tools/explore {' '.join(options)} ended with {done.returncode}: {done.stderr}")
     return (room / "made.csv").read_text(), done
@@ -129,21 +138,21 @@ def picture_faults(room, rows):
             yield f"the points of {one} and {other} are in another order"
 
 
-def resumed_faults(room, whole):
+def resumed_faults(room, silc, whole):
     """A table whose end was cut off, in the middle of a row, becomes whole again by the calls that are lacking."""
     lacking = 5
     kept = whole.splitlines(True)[:-lacking]
     (room / "made.csv").write_text("".join(kept) + "14,2,2")
     (room / "count").write_text("")
     counting = room / "counting"
-    counting.write_text(COUNTING.format(count=room / "count", silc=SILC))
+    counting.write_text(COUNTING.format(count=room / "count", silc=silc))
     counting.chmod(0o755)
-    text, _ = explored(room, "--pool", silc=counting)
+    text, _ = explored(room, counting, "--pool")
     calls = len((room / "count").read_text().splitlines())
     if text != whole:
         yield "a table that was cut off does not become the same again"
-    # One call more sees whether silc takes the source.
-    if calls != lacking + 1:
+    # One call more sees whether silc takes the source, and then come those that find what is lacking.
+    if calls < lacking + 1 or calls > lacking + 1 + MOST_TRIALS:
         yield f"{calls} calls for {lacking} rows that are lacking"
 
 
@@ -160,30 +169,99 @@ def copies_faults():
         yield f"copies are {made}"
 
 
-def shown_faults(room):
+def shown_faults(room, silc):
     """The table of the biquads, with some rows made anew, is as it was."""
     whole = SHOWN.read_text()
     kept = [line for number, line in enumerate(whole.splitlines(True)) if number % EACH or not number]
     (room / "made.csv").write_text("".join(kept))
-    text, _ = explored(room, "--pool", source=BIQUADS / "biquads.sil", template=BIQUADS / "processors.ranges")
+    text, _ = explored(room, silc, "--pool", source=BIQUADS / "biquads.sil", template=BIQUADS / "processors.ranges")
     if text != whole:
         yield f"{SHOWN.name} is not as tools/explore makes it now"
 
 
-def main():
+def reason_faults(rows, said):
+    """The reasons are told with their numbers, the commonest one first, and so is the least period that fits."""
+    counts = collections.Counter(re.sub(r" (at|for) node \d+", "", row["answer"]) for row in rows if row["answer"] != "fits")
+    told = re.findall(r"^explore:   (\d+) by ([^:\n]+)", said, re.M)
+    if {reason: int(count) for count, reason in told} != counts:
+        yield f"the reasons are {told}, and not {counts}"
+    if [int(count) for count, _ in told] != sorted(counts.values(), reverse=True):
+        yield f"the commonest reason is not the first of {told}"
+    least = min(int(row["period"]) for row in rows if row["answer"] == "fits")
+    if f"the least period that fits is {least}\n" not in said:
+        yield f"the least period, {least}, is not told"
+
+
+def best_faults(room, silc, rows):
+    """The datapath file of a row of the front has its plan and its costs; of a row that is not there none is written."""
+    _, done = explored(room, silc, "--pool", "--best", "1")
+    row, *costs = map(int, done.stdout.splitlines()[1].split()[:1 + len(COSTS)])
+    made = tomllib.loads((room / "made.toml").read_text())
+    registers = sum(size for unit in made["unit"] for size in unit.get("files", []))
+    if [row, *costs] != [1, made["period"], len(made["unit"]), len(made["bus"]), registers]:
+        yield f"row 1 has {costs}, and made.toml another datapath"
+    if subprocess.run([silc, "schedule", "source", "made.toml"], cwd=room, capture_output=True).returncode:
+        yield "there is no plan on made.toml"
+    (room / "made.toml").unlink()
+    done = tried(room, silc, "--pool", "--best", "99")
+    if done.returncode != 1 or (room / "made.toml").exists():
+        yield f"a row that is not there: {done.returncode} {done.stderr}"
+
+
+def fit_faults(room, silc, rows):
+    """Files that are to fit have as many registers as the plan takes, and the best datapath file has a plan with them and none
+    with one fewer."""
+    (room / "fit.ranges").write_text(TEMPLATE.read_text().replace("{size: 2, 4}, {size}", "{fit}, {fit}"))
+    if tried(room, silc, "--pool", "--best", "1", template="fit.ranges", out="fit").returncode:
+        yield "there is no table of files that fit"
+        return
+    made = [row for row in csv.DictReader((room / "fit.csv").read_text().splitlines()) if row["answer"] == "fits"]
+    if not made or any(row["registers"] != row["taken"] for row in made):
+        yield "files that are to fit have other registers than the plan takes"
+    if len(made) < len([row for row in rows if row["answer"] == "fits"]) / len(RANGES["size"]):
+        yield "fewer combinations fit where files are to fit"
+    best = tomllib.loads((room / "fit.toml").read_text())
+    for unit in best["unit"]:
+        for port, size in enumerate(unit.get("files", [])):
+            files = [*unit["files"][:port], size - 1, *unit["files"][port + 1:]]
+            smaller = [other | {"files": files} if other is unit else other for other in best["unit"]]
+            (room / "smaller.toml").write_text(text_of(best | {"unit": smaller}))
+            done = subprocess.run([silc, "schedule", "source", "smaller.toml"], cwd=room, capture_output=True, text=True)
+            if size > 1 and not done.stderr.startswith(f"silc: file full {unit['name']}.{port} "):
+                yield f"{unit['name']}.{port} has a plan with {size - 1} registers too: {done.stderr}"
+    if subprocess.run([silc, "schedule", "source", "fit.toml"], cwd=room, capture_output=True).returncode:
+        yield "there is no plan on fit.toml"
+
+
+def unfit_faults(room, silc):
+    """Where no combination fits, the exit status is 1, and the period that would be needed is told."""
+    (room / "short.ranges").write_text(TEMPLATE.read_text().replace("{6..14 step 4}", "{3..4}"))
+    done = tried(room, silc, "--pool", template="short.ranges", out="short")
+    # Over one bus go six words, one in a cycle: the input, two constants, three sums. Then the output is put.
+    if done.returncode != 1 or "none fits\n" not in done.stderr or "has 3 cycles, and needs 7" not in done.stderr:
+        yield f"where none fits: {done.returncode} {done.stderr}"
+
+
+def main(words):
+    if words and (words[0] != "--silc" or len(words) != 2):
+        print(__doc__, file=sys.stderr)
+        return 2
+    silc = Path(words[1] if words else BUILT).resolve()
     with tempfile.TemporaryDirectory(prefix="silc-explore-test-") as folder:
         room = Path(folder)
-        rows = expected(room)
-        text, done = explored(room, "--pool")
-        faults = [*faults_of(text, rows), *picture_faults(room, rows), *resumed_faults(room, text), *copies_faults()]
+        rows = expected(room, silc)
+        text, done = explored(room, silc, "--pool")
+        faults = [*faults_of(text, rows), *picture_faults(room, rows), *resumed_faults(room, silc, text), *copies_faults(),
+                  *reason_faults(rows, done.stderr), *best_faults(room, silc, rows),
+                  *fit_faults(room, silc, rows), *unfit_faults(room, silc)]
         front = done.stdout.splitlines()[1:]
         if len(front) != sum(row["front"] == "yes" for row in rows):
             faults.append(f"standard output has {len(front)} rows of the front")
         if shutil.which("parallel"):
             (room / "made.csv").unlink()
-            if explored(room)[0] != text:
+            if explored(room, silc)[0] != text:
                 faults.append("GNU parallel makes another table")
-        faults += shown_faults(room)
+        faults += shown_faults(room, silc)
     for fault in faults:
         print(fault)
     fit = sum(row["answer"] == "fits" for row in rows)
@@ -192,4 +270,4 @@ def main():
 
 
 if __name__ == "__main__":
-    sys.exit(main())
+    sys.exit(main(sys.argv[1:]))

@@ -11,8 +11,8 @@ WORDS = range(-(1 << 15), 1 << 15)
 SHAPES = [("16,15", 1, 1), ("32,30", 1 << 15, 2)]
 
 
-def rows(*words):
-    return subprocess.run([TOOL, *words], capture_output=True, text=True, check=True).stdout
+def rows(*words, given=b""):
+    return subprocess.run([TOOL, *words], input=given, capture_output=True, check=True).stdout.decode()
 
 
 def comes_back(room, shape, factor, channels):
@@ -22,8 +22,9 @@ def comes_back(room, shape, factor, channels):
     rows("to-wav", room / "rows", shape, "48000", room / "first.wav")
     back = rows("from-wav", room / "first.wav", shape)
     (room / "back").write_text(back)
-    rows("to-wav", room / "back", shape, "48000", room / "second.wav")
-    return back == text and (room / "first.wav").read_bytes() == (room / "second.wav").read_bytes()
+    rows("to-wav", "-", shape, "48000", room / "second.wav", given=back.encode())
+    sound = (room / "first.wav").read_bytes()
+    return back == text and sound == (room / "second.wav").read_bytes() and rows("from-wav", "-", shape, given=sound) == text
 
 
 def main():

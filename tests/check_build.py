@@ -1,0 +1,112 @@
+#!/usr/bin/env python3
+"""Whether tools/build and ./silc build a program exactly where that is to be done: in a repository of two crates, with a
+toolchain that is played by a script and counts its builds.
+
+usage: tests/check_build.py
+"""
+import os
+import shutil
+import subprocess
+import sys
+import tempfile
+import time
+from pathlib import Path
+
+ROOT = Path(__file__).resolve().parent.parent
+# The toolchain: a program says by which line it was made, and what its source held.
+RT = """#!/bin/sh
+case $1 in
+version) cat "{kit}/line" ;;
+doc) echo "{kit}/page" ;;
+lib) mkdir -p out/rlib && echo built >out/rlib/low.rlib ;;
+run) echo run >>"{kit}/runs"
+    grep -q broken src/main.rt && exit 1
+    mkdir -p out && echo "#!/bin/sh" >out/silc_main && echo "echo $(cat "{kit}/line") $(cat src/main.rt) \\"\\$@\\"" >>out/silc_main
+    chmod +x out/silc_main ;;
+esac
+"""
+LONG_AGO = time.time() - 10**6
+
+
+class Room:
+    """A repository whose `silc` is built by the script, and what has been seen to be wrong there."""
+
+    def __init__(self, folder):
+        self.kit, self.top, self.faults = folder / "kit", folder / "top", []
+        self.kit.mkdir()
+        self.source, self.low = (self.top / "crates" / name / "src" / file for name, file in
+                                 (("silc_main", "main.rt"), ("low", "lib.rt")))
+        for file, text in ((self.source, "first"), (self.low, "low")):
+            file.parent.mkdir(parents=True)
+            file.write_text(text)
+        for name in ("specs", "proofs"):
+            (self.low.parent.parent / name).mkdir()
+        (self.top / "crates.txt").write_text("low:\nsilc_main: low\n")
+        (self.top / "HANDLES").write_text("Handles allowed: none.\n")
+        (self.top / "tools").mkdir()
+        for name in ("tools/build", "silc"):
+            shutil.copy2(ROOT / name, self.top / name)
+        for name, text in (("line", "kit-1\n"), ("page", "a page\n"), ("rt", RT.format(kit=self.kit))):
+            (self.kit / name).write_text(text)
+        (self.kit / "rt").chmod(0o755)
+
+    def run(self, *words):
+        path = f"{self.kit}:{Path(sys.executable).parent}:/usr/bin:/bin"
+        done = subprocess.run(words, env=os.environ | {"PATH": path}, stdin=subprocess.DEVNULL, capture_output=True, text=True)
+        return done.returncode, done.stdout.strip()
+
+    def builds(self):
+        runs = self.kit / "runs"
+        return runs.read_text().count("run") if runs.exists() else 0
+
+    def expect(self, what, said, more, *words, status=0):
+        """Runs the words, or ./silc, which are to end so, print so, and build so many times."""
+        before = self.builds()
+        ended = self.run(*(words or (self.top / "silc", "a", "b")))
+        if ended != (status, said) or self.builds() - before != more:
+            self.faults.append(f"{what}: {ended}, {self.builds() - before} builds, in the place of {(status, said)}, {more}")
+
+
+def check(room):
+    room.expect("nothing is built", "kit-1 first a b", 1)
+    room.expect("nothing has changed", "kit-1 first a b", 0)
+    link = room.kit / "link"
+    link.symlink_to(room.top / "silc")
+    room.expect("through a symbolic link", "kit-1 first a b", 0, link, "a", "b")
+    room.source.touch()
+    room.expect("a source is touched and holds the same", "kit-1 first a b", 0)
+    room.source.write_text("second")
+    os.utime(room.source, (LONG_AGO, LONG_AGO))
+    room.expect("a source has other bytes and an old time", "kit-1 second a b", 1)
+    room.low.write_text("lower")
+    room.expect("a source below has other bytes", "kit-1 second a b", 1)
+    (room.low.parent / "more.rt").write_text("more")
+    room.expect("a source more", "kit-1 second a b", 1)
+    (room.low.parent / "more.rt").unlink()
+    room.expect("a source less", "kit-1 second a b", 1)
+    (room.kit / "line").write_text("kit-2\n")
+    (room.kit / "page").write_text("another page\n")
+    room.expect("another toolchain", "kit-2 second a b", 1)
+    room.source.write_text("broken")
+    room.expect("a source that is not built", "", 1, status=70)
+    room.source.write_text("third")
+    room.expect("a source that is mended", "kit-2 third a b", 1)
+    room.expect("no program of this name", "", 0, room.top / "tools" / "build", "low", status=2)
+    (room.kit / "rt").unlink()
+    room.expect("no toolchain, and nothing has changed", "kit-2 third a b", 0)
+    room.source.write_text("fourth")
+    room.expect("no toolchain, and another source", "", 0, status=70)
+
+
+def main():
+    with tempfile.TemporaryDirectory(prefix="silc-build-test-") as folder:
+        room = Room(Path(folder).resolve())
+        check(room)
+    for fault in room.faults:
+        print(fault)
+    print(f"build: {len(room.faults)} faults")
+    return 1 if room.faults else 0
+
+
+if __name__ == "__main__":
+    sys.exit(main())
