@@ -14,6 +14,17 @@ def chain(load, delay=1):
     )
 
 
+def held(load):
+    """A chain, and at its end sums of its words of up to three samples ago. A turn counts 9."""
+    count = load // 9
+    return (
+        f"func main(x : fix<16,8>, z : fix<16,8>) y : fix<16,8> =\nbegin\nvar s[{count + 1}] : fix<16,8>;\n"
+        f"s[0] = x;\n(i : 1 .. {count}) ::\nbegin\n"
+        f"s[i] = s[i - 1] + 0.5 * z - (s[i - 1] >> 3) + (-(s[i - 1] << 1));\nend;\n"
+        f"y = s[{count}] + s[{count // 2}]@3 + s[{count // 3}]@2 + s[{count // 4}]@1;\nend;\n"
+    )
+
+
 def taps(count):
     return (
         f"func main(x : fix<16,14>) y : fix<16,15> = begin\nvar s[{count + 1}] : fix<16,15>;\ns[0] = 0.0;\n"
@@ -41,8 +52,3 @@ def cascade(equation, count):
 
 def biquads(count):
     return cascade("y = 0.5 * x + 0.25 * x@1 + 0.125 * x@2 - 0.25 * y@1 - 0.125 * y@2;", count)
-
-
-def undelayed_biquads(count):
-    """The operations of biquads, all on words of one sample."""
-    return cascade("y = 0.5 * x + 0.25 * x + 0.125 * x - 0.25 * x - 0.125 * x;", count)
