@@ -1,13 +1,22 @@
-"""Runs of `silc schedule` on many datapaths, by GNU parallel or by a pool of this process."""
+"""Runs of `silc schedule` on many datapaths, and of tools/synthesize on some, by GNU parallel or by a pool of this process."""
 import os
 import shutil
 import subprocess
 from multiprocessing.pool import ThreadPool
+from pathlib import Path
 
-SOURCE, PROGRAM, LIST = "source", "silc", "list"
+# The ending of the source of a datapath.
+SOURCE, PROGRAM, LIST = ".sil", "silc", "list"
 # The lines before and after what silc says of a datapath.
 BEGIN, END = "datapath", "status"
-COMMAND = f"echo {BEGIN} {{}}; ./{PROGRAM} schedule {SOURCE} {{}} 2>&1; echo {END} $?"
+SCHEDULE = f"./{PROGRAM} schedule {{}}{SOURCE} {{}}"
+SYNTHESIZE = Path(__file__).resolve().parent.parent / "synthesize"
+
+
+def area(family):
+    """The command that says what the core of a datapath takes of an FPGA."""
+    return (f"./{PROGRAM} compile {{}}{SOURCE} {{}} {{}}.mic && "
+            f"'{SYNTHESIZE}' {{}}.mic --datapath {{}} --for {family} --json")
 
 
 def is_there():
@@ -17,28 +26,29 @@ def is_there():
     return done is not None and done.stdout.startswith("GNU parallel")
 
 
-def run(room, name):
-    """The status of silc on the datapath of that name, and what it says."""
-    done = subprocess.run([room / PROGRAM, "schedule", SOURCE, name], cwd=room, stdin=subprocess.DEVNULL,
+def run(room, name, command=SCHEDULE):
+    """The status of the command on the datapath of that name, and what it says."""
+    done = subprocess.run(command.replace("{}", name), shell=True, cwd=room, stdin=subprocess.DEVNULL,
                           stdout=subprocess.PIPE, stderr=subprocess.STDOUT, text=True)
     return done.returncode, done.stdout
 
 
-def by_pool(room, names, jobs):
-    """Each name with the status and what silc says, in the order in which they are done."""
+def by_pool(room, names, jobs, command=SCHEDULE):
+    """Each name with the status and what the command says, in the order in which they are done."""
     with ThreadPool(jobs or len(os.sched_getaffinity(0))) as pool:
-        yield from pool.imap_unordered(lambda name: (name, *run(room, name)), names)
+        yield from pool.imap_unordered(lambda name: (name, *run(room, name, command)), names)
 
 
-def by_parallel(room, names, jobs, logins):
+def by_parallel(room, names, jobs, logins, command=SCHEDULE):
     """The same. On other machines, by ssh and rsync, the program and the files lie in a folder of this one's name."""
     (room / LIST).write_text("".join(f"{name}\n" for name in names))
     words = ["parallel", "--plain", "--will-cite", "--arg-file", LIST, *(["--jobs", str(jobs)] if jobs else [])]
     if logins:
-        words += ["--workdir", ".", "--basefile", PROGRAM, "--basefile", SOURCE, "--transferfile", "{}", "--cleanup"]
+        words += ["--workdir", ".", "--basefile", PROGRAM, "--transferfile", "{}", "--transferfile", "{}" + SOURCE, "--cleanup"]
         words += [word for login in logins for word in ("--sshlogin", login)]
     how = {"cwd": room, "stdin": subprocess.DEVNULL, "stdout": subprocess.PIPE, "text": True}
-    with subprocess.Popen([*words, COMMAND], **how) as running:
+    command = f"echo {BEGIN} {{}}; ( {command} ) 2>&1; echo {END} $?"
+    with subprocess.Popen([*words, command], **how) as running:
         try:
             yield from answers(running.stdout)
         finally:

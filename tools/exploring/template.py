@@ -13,6 +13,8 @@ NUMBERS = re.compile(r"(\d+)(?:\s*\.\.\s*(\d+)(?:\s+step\s+(\d+))?)?")
 # The text that replaces a range, for TOML to read: its name, or else its number among all ranges.
 MARK = re.compile(r"\{(\w+)\}")
 MOST = 100_000
+# The size of a file that is to have as many registers as the plan takes, and the most that there can be.
+FIT, LARGEST_FILE = "fit", 256
 PERIOD, TIMES, TABLES = "period", "times", ("unit", "bus")
 DIGITS = 8
 
@@ -42,6 +44,23 @@ def marks_in(value, place):
             yield from marks_in(part, [*place, str(number)])
 
 
+class Fitting(int):
+    """The size of a file that gives a plan all registers that it asks for, until the plan is known."""
+
+
+def fitted(datapath, taken):
+    """The datapath with as many registers in its fitting files as a plan takes of each, and at least one."""
+    def size_of(unit, port, size):
+        return max(1, taken.get(f"{unit['name']}.{port}", 0)) if isinstance(size, Fitting) else size
+
+    def unit_of(unit):
+        if not isinstance(unit.get("files"), list):
+            return unit
+        return unit | {"files": [size_of(unit, port, size) for port, size in enumerate(unit["files"])]}
+
+    return datapath | {"unit": list(map(unit_of, datapath["unit"]))}
+
+
 def is_number(value):
     return isinstance(value, int) or isinstance(value, str) and MARK.fullmatch(value)
 
@@ -49,7 +68,7 @@ def is_number(value):
 class Template:
     """A datapath file with ranges: the numbers of each, and what has them."""
 
-    def __init__(self, text):
+    def __init__(self, text, is_plain_allowed=False):
         self.found = []
         self.tree = tomllib.loads("".join(map(self.marked, text.splitlines(True))))
         self.check()
@@ -58,7 +77,7 @@ class Template:
         if len(self.ranges) < len(self.found):
             raise ValueError("two ranges have one name")
         self.count = math.prod(map(len, self.ranges.values()))
-        if not self.found or self.count > MOST:
+        if not self.found and not is_plain_allowed or self.count > MOST:
             raise ValueError(f"it has {self.count} combinations, and {MOST} is the most" if self.found else
                              "it has no range, such as {1, 2} or {32..256 step 8}")
 
@@ -90,9 +109,12 @@ class Template:
         """The name of each range, or its place."""
         parts = [(part, [part["name"]]) for table in TABLES for part in self.tree[table]]
         parts += [(value, [key]) for key, value in self.tree.items() if key not in TABLES]
-        places = dict(mark for part in parts for mark in marks_in(*part))
+        marks = [mark for part in parts for mark in marks_in(*part)]
+        places = dict(marks)
         named = [name for name, _ in self.found if name]
-        unknown = [mark for mark in places if not mark.isdigit() and mark not in named]
+        if any(".files." not in place for mark, place in marks if mark == FIT) or FIT in named:
+            raise ValueError(f"{{{FIT}}} is the size of a file alone")
+        unknown = [mark for mark in places if not mark.isdigit() and mark not in (*named, FIT)]
         if unknown or PERIOD in named:
             raise ValueError(f"no range is called {unknown[0]}" if unknown else f"no range is to have the name {PERIOD}")
         return [name or places[str(number)] for number, (name, _) in enumerate(self.found)]
@@ -115,6 +137,8 @@ class Template:
             if isinstance(value, list):
                 return [filled(part) for part in value]
             mark = MARK.fullmatch(value) if isinstance(value, str) else None
+            if mark and mark[1] == FIT:
+                return Fitting(LARGEST_FILE)
             return choice[self.names[int(mark[1])] if mark[1].isdigit() else mark[1]] if mark else value
 
         return repeated(filled(self.tree))

@@ -5,6 +5,7 @@ import os
 from dataclasses import dataclass
 from pathlib import Path
 
+from exploring.template import Fitting, fitted
 from pictures.plan import plan_of
 
 PERIOD = "period"
@@ -12,6 +13,8 @@ COSTS = (PERIOD, "units", "buses", "registers")
 MEASURES = ("units", "buses", "registers", "taken", "cells", "cycles")
 VERDICT = ("answer", "front", "made_from")
 LAST = [*MEASURES, *VERDICT]
+# What a table has too where sources are judged on samples.
+JUDGED = ("noise", "wraps")
 FITS, ON_FRONT = "fits", "yes"
 
 
@@ -22,23 +25,29 @@ class Trade:
     period: int
     units: int
     buses: int
-    registers: int
+    registers: int | None
     taken: int | None = None
     cells: int | None = None
     cycles: int | None = None
     answer: str = FITS
     is_on_front: bool = False
+    noise: float | None = None
+    wraps: int | None = None
 
     def fits(self):
         return self.answer == FITS
 
     def costs(self):
-        return tuple(getattr(self, cost) for cost in COSTS)
+        """The costs, and with them the noise where there is one."""
+        return tuple(getattr(self, cost) for cost in COSTS) + (() if self.noise is None else (self.noise,))
 
 
 def registers_in(datapath):
-    """How many registers the files of a datapath have. A file whose size is no number has none."""
+    """How many registers the files of a datapath have; nothing where a file is to fit a plan. A file whose size is no number
+    has none."""
     sizes = [size for unit in datapath["unit"] for size in list_in(unit, "files")]
+    if any(isinstance(size, Fitting) for size in sizes):
+        return None
     return sum(size for size in sizes if isinstance(size, int))
 
 
@@ -46,13 +55,18 @@ def list_in(part, key):
     return part[key] if isinstance(part.get(key), list) else []
 
 
-def registers_of(plan):
-    """How many registers a plan takes: in each file those up to the last one that it uses."""
-    last = {}
+def registers_by_file(plan):
+    """How many registers a plan takes of each file that it uses: those up to the last one."""
+    count = {}
     for node in plan.nodes:
         for transfer in node.transfers:
-            last[transfer.file] = max(last.get(transfer.file, 0), *transfer.registers)
-    return sum(register + 1 for register in last.values())
+            count[transfer.file] = max(count.get(transfer.file, 0), *(register + 1 for register in transfer.registers))
+    return count
+
+
+def registers_of(plan):
+    """How many registers a plan takes in all."""
+    return sum(registers_by_file(plan).values())
 
 
 def cells_of(plan):
@@ -77,6 +91,7 @@ def trade_of(choice, datapath, status, said):
         trade.answer = said.strip().removeprefix("silc: ")
         return trade
     plan = plan_of(said, datapath)
+    trade.registers = registers_in(fitted(datapath, registers_by_file(plan)))
     trade.taken, trade.cells, trade.cycles = registers_of(plan), cells_of(plan), cycles_of(plan)
     return trade
 
@@ -109,14 +124,17 @@ def trade_in(names, row):
     """The combination of a row."""
     cells = dict(zip(names, row))
     measures = [int(cells[name]) if cells[name] else None for name in MEASURES]
-    choice = {name: int(cell) for name, cell in cells.items() if name not in (*MEASURES, *VERDICT)}
-    return Trade(choice, choice[PERIOD], *measures, cells["answer"], cells["front"] == ON_FRONT)
+    choice = {name: int(cell) for name, cell in cells.items() if name not in (*MEASURES, *JUDGED, *VERDICT)}
+    noise, wraps = (cells.get(name) or None for name in JUDGED)
+    return Trade(choice, choice[PERIOD], *measures, cells["answer"], cells["front"] == ON_FRONT,
+                 float(noise) if noise else None, int(wraps) if wraps else None)
 
 
 def trades_of(text):
     """The combinations in the text of a table."""
     names, rows = rows_of(text)
-    if names[:1] != [PERIOD] or names[-len(LAST) :] != LAST:
+    kept = [name for name in names if name not in JUDGED]
+    if names[:1] != [PERIOD] or kept[-len(LAST) :] != LAST:
         raise ValueError("it is no table of tools/explore")
     return [trade_in(names, row) for row in rows]
 
@@ -130,14 +148,15 @@ def line_of(cells):
 class Table:
     """The CSV file of an exploration. It is also the state from which one goes on that was stopped."""
 
-    def __init__(self, file, ranges, made_from):
+    def __init__(self, file, ranges, made_from, is_judged=False):
         self.file, self.made_from = Path(file), made_from
-        self.head = [PERIOD, *(name for name in ranges if name != PERIOD), *LAST]
+        judged = JUDGED if is_judged else ()
+        self.head = [PERIOD, *(name for name in ranges if name != PERIOD), *MEASURES, *judged, *VERDICT]
         if len(set(self.head)) < len(self.head):
-            raise ValueError(f"no range may be called {' or '.join(LAST)}")
+            raise ValueError(f"no range may be called {' or '.join([*LAST, *JUDGED])}")
 
     def line(self, trade):
-        cells = {name: getattr(trade, name) for name in MEASURES} | trade.choice
+        cells = {name: getattr(trade, name) for name in (*MEASURES, *JUDGED)} | trade.choice
         cells |= {PERIOD: trade.period, "answer": trade.answer, "front": ON_FRONT if trade.is_on_front else "",
                   "made_from": self.made_from}
         return line_of(cells[name] for name in self.head)

@@ -57,5 +57,10 @@ class Picture:
         tip, base = (y, y - 7) if down else (y, y + 7)
         self.lines.append(f"<path d='M{x - 4:g} {base:g} L{x + 4:g} {base:g} L{x:g} {tip:g} Z' fill='{colour}'/>")
 
+    def pointer(self, x, y, height, colour, title):
+        """A triangle whose tip points to the right, to x, in the middle of the height."""
+        self.lines.append(f"<path d='M{x - 5:g} {y:g} L{x - 5:g} {y + height:g} L{x:g} {y + height / 2:g} Z' fill='{colour}'>"
+                          f"<title>{escape(title)}</title></path>")
+
     def whole(self):
         return "\n".join([*self.lines, "</svg>"])

@@ -7,7 +7,9 @@ from pictures.picture import BLACK, BLUE, FAINT, MARGIN, ORANGE, Picture
 WIDTH, HEIGHT, LEFT, TOP = 760, 380, 84, 56
 # The axes: shares of the sample rate, and decibels below the greatest magnitude.
 LOWEST, HIGHEST, POINTS, DEPTH, STEP = 0.001, 0.5, 600, 100, 10
-TICKS = [0.001, 0.002, 0.005, 0.01, 0.02, 0.05, 0.1, 0.2, 0.5]
+# The first digits of the numbers at the axis of frequencies.
+DIGITS = (1, 2, 5)
+SHARES, HERTZ = "frequency, as a share of the sample rate", "frequency in hertz, at {rate:g} samples a second"
 LEAST = 1e-12
 
 
@@ -51,12 +53,29 @@ def designed(sections, share):
     return math.prod(abs(value(b, share)) / max(abs(value(a, share)), LEAST) for b, a in sections)
 
 
-class Axes:
-    """Where a share of the sample rate and a number of decibels stand."""
+def ticks(lowest, highest):
+    """The numbers 1, 2 and 5, times a power of ten, from the one to the other."""
+    powers = range(math.floor(math.log10(lowest)), math.ceil(math.log10(highest)) + 1)
+    numbers = [float(f"{digit}e{power}") for power in powers for digit in DIGITS]
+    return [number for number in numbers if lowest <= number <= highest]
 
-    def __init__(self, highest):
+
+def rate_of(words):
+    """The samples a second that are given after --rate."""
+    rate = float(words)
+    if not 0 < rate < math.inf:
+        raise ValueError(f"{words} is no rate")
+    return rate
+
+
+class Axes:
+    """Where a share of the sample rate and a number of decibels stand. The numbers are in hertz where there is a rate."""
+
+    def __init__(self, highest, rate):
         self.highest = STEP * math.ceil(highest / STEP)
         self.lowest = self.highest - DEPTH
+        self.rate = rate or 1
+        self.words = HERTZ.format(rate=rate) if rate else SHARES
 
     def x(self, share):
         return LEFT + WIDTH * math.log(share / LOWEST) / math.log(HIGHEST / LOWEST)
@@ -65,17 +84,18 @@ class Axes:
         return TOP + HEIGHT * (self.highest - min(max(decibels, self.lowest), self.highest)) / DEPTH
 
     def draw(self, picture):
-        for share in TICKS:
-            picture.line(self.x(share), TOP, self.x(share), TOP + HEIGHT, FAINT, 1)
-            picture.text(self.x(share), TOP + HEIGHT + 16, f"{share:g}", 10)
+        for frequency in ticks(LOWEST * self.rate, HIGHEST * self.rate):
+            x = self.x(frequency / self.rate)
+            picture.line(x, TOP, x, TOP + HEIGHT, FAINT, 1)
+            picture.text(x, TOP + HEIGHT + 16, f"{frequency:g}", 10)
         for level in range(self.lowest, self.highest + 1, STEP):
             picture.line(LEFT, self.y(level), LEFT + WIDTH, self.y(level), FAINT, 1)
             picture.text(LEFT - 8, self.y(level) + 4, str(level), 10, BLACK, "end")
-        picture.text(LEFT + WIDTH / 2, TOP + HEIGHT + 36, "frequency, as a share of the sample rate", 11)
+        picture.text(LEFT + WIDTH / 2, TOP + HEIGHT + 36, self.words, 11)
         picture.text(LEFT - 8, TOP - 14, "dB", 11, BLACK, "end")
 
 
-def draw_response(text, unit, *sections):
+def draw_response(text, unit, *sections, rate=None):
     impulse = words_of(text, float(unit))
     filters = [section_of(place, words) for place, words in enumerate(sections, 1)]
     shares = [LOWEST * (HIGHEST / LOWEST) ** (k / POINTS) for k in range(POINTS + 1)]
@@ -84,7 +104,7 @@ def draw_response(text, unit, *sections):
     if filters:
         curves.append(([decibels(designed(filters, share)) for share in shares], BLUE, 1.5, "6 4",
                        "the design in real numbers"))
-    axes = Axes(max(level for levels, *_ in curves for level in levels))
+    axes = Axes(max(level for levels, *_ in curves for level in levels), rate)
     picture = Picture(LEFT + WIDTH + MARGIN, TOP + HEIGHT + 56, "magnitude over frequency")
     axes.draw(picture)
     for number, (levels, colour, width, dashes, words) in enumerate(curves):

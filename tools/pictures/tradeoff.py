@@ -1,4 +1,6 @@
 """The trade-off of an exploration: registers over the period, a panel for each number of units, a colour for each of buses."""
+import math
+
 from pictures.picture import BLACK, BLUE, FAINT, GREY, MARGIN, ORANGE, Picture
 
 PANEL, TALL, LEFT, BETWEEN, HEAD, FOOT, ACROSS = 300, 230, 44, 70, 96, 50, 3
@@ -7,6 +9,7 @@ STEPS = (1, 2, 5)
 MARKS = 6
 DOT, FRONT_DOT = 1.6, 4.5
 KEY = 92
+NOISE_WIDE = 560
 
 
 def marks_of(low, high):
@@ -101,3 +104,40 @@ def draw_key(picture, colours, y):
     picture.dot(MARGIN + 6, y + 16, GREY, FRONT_DOT)
     words = "on the Pareto front: no other has less of one of period, units, buses, registers and no more of the rest"
     picture.text(MARGIN + 16, y + 20, words, 11, BLACK, "start")
+
+
+def draw_noise(trades):
+    """The noise of the combinations that fit over the registers of their hardware, a colour for each number of buses."""
+    fit = [trade for trade in trades if trade.fits() and trade.noise is not None]
+    said = f"{len(trades)} combinations, of which {len(fit)} fit: noise beside the signal in dB, over registers"
+    registers = marks_of(min((trade.registers for trade in fit), default=0), max((trade.registers for trade in fit), default=1))
+    levels = marks_of(math.floor(min((trade.noise for trade in fit), default=-1)),
+                      math.ceil(max((trade.noise for trade in fit), default=0)))
+    picture = Picture(2 * MARGIN + LEFT + NOISE_WIDE, HEAD + TALL + FOOT, said)
+    picture.text(MARGIN, 28, said, 13, BLACK, "start")
+    colours = {buses: COLOURS[k % len(COLOURS)] for k, buses in enumerate(sorted({trade.buses for trade in trades}))}
+    place = noise_axes(picture, registers, levels)
+    for trade in sorted(fit, key=lambda trade: trade.is_on_front):
+        words = f"{trade.noise:.1f} dB, {said_of(trade)}" if trade.is_on_front else ""
+        picture.dot(*place(trade.registers, trade.noise), colours[trade.buses], FRONT_DOT if trade.is_on_front else DOT, words)
+    for number, (buses, colour) in enumerate(colours.items()):
+        picture.dot(MARGIN + 6 + number * KEY, 48, colour)
+        picture.text(MARGIN + 16 + number * KEY, 52, f"{buses} buses", 11, BLACK, "start")
+    return picture.whole()
+
+
+def noise_axes(picture, registers, levels):
+    """The axes of a picture of noise, and where a number of registers and a level stand."""
+    left, top = MARGIN + LEFT, HEAD
+
+    def place(number, level):
+        return (left + (number - registers[0]) * NOISE_WIDE / max(1, registers[-1] - registers[0]),
+                top + (levels[-1] - level) * TALL / max(1, levels[-1] - levels[0]))
+
+    for number in registers:
+        picture.line(place(number, levels[0])[0], top, place(number, levels[0])[0], top + TALL, FAINT, 1)
+        picture.text(place(number, levels[0])[0], top + TALL + 15, str(number), 10)
+    for level in levels:
+        picture.line(left, place(registers[0], level)[1], left + NOISE_WIDE, place(registers[0], level)[1], FAINT, 1)
+        picture.text(left - 6, place(registers[0], level)[1] + 4, str(level), 10, BLACK, "end")
+    return place
