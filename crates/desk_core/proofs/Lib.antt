@@ -1,3 +1,4 @@
 pub mod DeskLemmas
 pub mod WholeLemmas
 pub mod StoredLemmas
+pub mod InputLemmas

@@ -16,7 +16,7 @@ use Rattle.desk_core.specs.declared.stored.Stored.{Stored}
 pub same_name : (a b : Name) → a ≡ b → bytes_eq a b ≡ true
 same_name a b e = (bytes_eq-Decides a b).1 e
 
-other_name : (a b : Name) → a ≢ b → bytes_eq a b ≡ false
+pub other_name : (a b : Name) → a ≢ b → bytes_eq a b ≡ false
 other_name a b ne = false_from_ne_true _ (λ t. ne ((bytes_eq-Decides a b).0 t))
 
 -- the file that an index gives
@@ -203,7 +203,7 @@ position_is fs gs s i at k found h named =
     let above : at < i → ⊥ = λ lt. h.first at lt (sym (k.names at (omega arith)) ∙ found.named ∙ sym named) in
     omega arith
 
-open_kept : (fs gs : List Stored) (s : Name) (input : OpenInput) → KeepsPositions s fs gs → IsOpen fs input → name_at fs input.file ≢ s → IsOpen gs input
+pub open_kept : (fs gs : List Stored) (s : Name) (input : OpenInput) → KeepsPositions s fs gs → IsOpen fs input → name_at fs input.file ≢ s → IsOpen gs input
 open_kept fs gs s input k h ne = record { first = first_kept fs gs s input.file k h.first; within = subst (λ (b : Content). input.len ≤ length b) (sym (k.others input.file h.first.inside ne)) h.within }
 
 -- the input is the file that was put, or another

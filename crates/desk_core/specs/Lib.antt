@@ -3,3 +3,5 @@ pub mod Desk
 pub mod Whole
 pub mod Stored
 pub mod MemDesk
+pub mod Inputs
+pub mod NeverFails

@@ -3,10 +3,13 @@
 #![tactic(auto)]
 
 mod desk;
+mod input;
 mod memory;
+mod never_fails;
 mod stored;
 mod whole;
 
 pub use desk::{Desk, Failed};
 pub use memory::{DeskFault, MemDesk};
+pub use never_fails::NeverFails;
 pub use whole::{ReadFault, read_whole, write_whole};
