@@ -1,4 +1,6 @@
 pub mod Masks
 pub mod Rings
 pub mod Order
+pub mod Past
 pub mod Program
+pub mod Stands

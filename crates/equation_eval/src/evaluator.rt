@@ -1,16 +1,17 @@
-//! The evaluator, which callers see as a snapshot.
-ghost use Rattle.std.specs.Prelude.{◌≡◌, ◌+◌, ◌%◌, ◌<◌, [], length, IfOk};
+//! The evaluator, which callers see as its graph and the rows that it ran.
+ghost use Rattle.std.specs.Prelude.{◌≡◌, ◌+◌, ◌%◌, ◌<◌, [], ◌∷◌, ◌++◌, length, IfOk};
 ghost use Rattle.std.specs.List.{AllZip};
 ghost use Rattle.lists.specs.Rows.{Rows};
 ghost use Rattle.signal_graph.specs.GraphRules.{IsGraph};
 ghost use Rattle.signal_graph.specs.GraphSolves.{IsGraphLoopless, IsOneGraphSolution};
 ghost use Rattle.signal_graph.specs.Rules.{IsInType};
 ghost use Rattle.signal_graph.specs.Values.{Words};
-ghost use Rattle.equation_eval.specs.Evaluation.{Stands, RanRow, IsOutputRow};
+ghost use Rattle.equation_eval.specs.Evaluation.{IsOutputRow};
 
 use crate::layout::lay_out;
 use crate::memory::{PERIOD, Source};
 use crate::order::order_of;
+use crate::past::{Past, past_of};
 use crate::program::{Instruction, outputs_of, program_of};
 use crate::run::{put_outputs, run};
 use fix_word::SigType;
@@ -19,6 +20,7 @@ use operations::Operand;
 use signal_graph::Graph;
 use std::alloc::{AllocError, Global};
 use std::marker::Model;
+use std::snapshot::Snapshot;
 use thiserror::Error;
 
 /// An evaluator of a graph: it takes rows of input words, one a sample, and gives rows of output words. It remembers
@@ -30,24 +32,21 @@ pub struct Evaluator {
     outputs: List<Source>,
     phase: u16,
     memory: List<Operand>,
+    // The graph and the rows that were run: clauses alone read them.
+    graph: Snapshot<Graph>,
+    ran: Past<Past<i64>>,
 }
 
 impl Model for Evaluator {
-    ghost use Rattle.std.specs.Prelude.{◌<◌, length};
-    ghost use Rattle.equation_eval.specs.Evaluation.{Snapshot};
-    ghost use Rattle.equation_eval.specs.Private.Program.{IsProgram};
+    ghost use Rattle.equation_eval.specs.Evaluation.{Evaluation};
 
-    ghost Value = { Snapshot };
+    ghost Value = { Evaluation };
 
-    ghost view = { λ e. record {
-      inputs = e.inputs;
-      program = e.program;
-      outputs = e.outputs;
-      phase = e.phase;
-      memory = e.memory;
-    } };
+    ghost use Rattle.equation_eval.specs.Private.Stands.{evaluation, IsEvaluator};
 
-    ghost invariant = { λ e. (e.phase < 1024) × IsProgram e.inputs e.program e.outputs (length e.memory) };
+    ghost view = { evaluation };
+
+    ghost invariant = { IsEvaluator };
 }
 
 /// Why there is no evaluator of a graph.
@@ -80,9 +79,8 @@ fn next_phase(phase: u16) -> u16
 fn made(alloc: Global, graph: &Graph) -> Result<Evaluator, AllocError>
     requires graph { IsGraph graph.now }
     requires loopless { IsGraphLoopless graph.now }
-    ensures stands { IfOk result (λ evaluator. Stands evaluator graph.now []) }
-    ensures inputs { IfOk result (λ evaluator. evaluator.inputs ≡ graph.now.inputs) }
-    ensures outs { IfOk result (λ evaluator. length evaluator.outputs ≡ graph.now.outs) }
+    ensures graph { IfOk result (λ evaluator. evaluator.graph ≡ graph.now) }
+    ensures ran { IfOk result (λ evaluator. evaluator.ran ≡ []) }
 {
     let order = order_of(alloc, graph)?;
     let (rings, memory) = lay_out(alloc, graph)?;
@@ -95,17 +93,22 @@ fn made(alloc: Global, graph: &Graph) -> Result<Evaluator, AllocError>
         outputs,
         phase: 0,
         memory,
+        graph: Snapshot::of(graph),
+        ran: Past::none(),
     })
 }
 
 impl Evaluator {
     /// An evaluator of the graph before sample 0. It has a copy of what it needs of the graph.
+    ///
+    /// # Errors
+    ///
+    /// `Memory` where no memory is left.
     pub fn new(alloc: Global, graph: &Graph) -> Result<Evaluator, EvalFault>
         requires graph { IsGraph graph.now }
         requires loopless { IsGraphLoopless graph.now }
-        ensures stands { IfOk result (λ evaluator. Stands evaluator graph.now []) }
-        ensures inputs { IfOk result (λ evaluator. evaluator.inputs ≡ graph.now.inputs) }
-        ensures outs { IfOk result (λ evaluator. length evaluator.outputs ≡ graph.now.outs) }
+        ensures graph { IfOk result (λ evaluator. evaluator.graph ≡ graph.now) }
+        ensures ran { IfOk result (λ evaluator. evaluator.ran ≡ []) }
         ensures one_solution { (stream : Rows) → (words : Words) × IsOneGraphSolution graph.now stream words }
     {
         Ok(made(alloc, graph)?)
@@ -114,12 +117,11 @@ impl Evaluator {
     /// Takes the row of input words of the next sample, each in the range of its type, and puts the row of output
     /// words. It takes no memory.
     pub fn step(&mut self, row: &[i64], put: &mut [i64])
-        requires row { AllZip IsInType self.old.inputs row.now }
-        requires put { length put.old ≡ length self.old.outputs }
-        ensures stands { RanRow self.old self.new row.now }
+        requires row { AllZip IsInType self.old.graph.inputs row.now }
+        requires put { length put.old ≡ self.old.graph.outs }
+        ensures graph { self.new.graph ≡ self.old.graph }
+        ensures ran { self.new.ran ≡ self.old.ran ++ row.now ∷ [] }
         ensures puts { IsOutputRow self.old row.now put.new }
-        ensures inputs { self.new.inputs ≡ self.old.inputs }
-        ensures outputs { self.new.outputs ≡ self.old.outputs }
     {
         run(
             &self.inputs,
@@ -130,18 +132,23 @@ impl Evaluator {
         );
         put_outputs(&self.outputs, self.phase, &self.memory, put);
         self.phase = next_phase(self.phase);
+        self.ran.push(&past_of(row));
     }
 
     /// The type of each input word.
     pub fn inputs(&self) -> &[SigType]
-        ensures { result.now ≡ self.now.inputs }
+        ensures types { result.now ≡ self.now.graph.inputs }
+        ensures sound { IsGraph self.now.graph }
+        ensures loopless { IsGraphLoopless self.now.graph }
     {
         self.inputs.as_slice()
     }
 
     /// How many output words there are.
     pub fn outs(&self) -> usize
-        ensures { result ≡ length self.now.outputs }
+        ensures count { result ≡ self.now.graph.outs }
+        ensures sound { IsGraph self.now.graph }
+        ensures loopless { IsGraphLoopless self.now.graph }
     {
         self.outputs.len()
     }

@@ -5,6 +5,7 @@ mod evaluator;
 mod layout;
 mod memory;
 mod order;
+mod past;
 mod program;
 mod run;
 
