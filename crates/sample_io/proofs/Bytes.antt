@@ -14,7 +14,7 @@ use Rattle.sample_io.specs.declared.read.Part.{Part}
 use Rattle.sample_io.specs.declared.read.Part.TheVariants.{Empty, Minus, Digits, Return}
 use Rattle.sample_io.specs.Channels.{IsInChannel, IsChannel, AreChannels}
 use Rattle.sample_io.specs.Samples.{signed, signed_text, IsWord, no_words, one_more, RowText, IsLine, BeginsRow}
-use Rattle.sample_io.specs.Begun.{IsPart, with_comma, LineSoFar}
+use Rattle.sample_io.specs.Private.Begun.{IsPart, with_comma, LineSoFar}
 use Rattle.sample_io.specs.Private.Reading.{HasDigit, TakesByte}
 use Rattle.sample_io.specs.declared.read.Progress.{Progress}
 use Rattle.sample_io.specs.declared.read.Progress.TheVariants.{Within, Word, Row}

@@ -7,12 +7,13 @@ use Rattle.sample_io.specs.declared.channel.Channel.{Channel}
 use Rattle.sample_io.specs.declared.read.LineState.{LineState}
 use Rattle.sample_io.specs.declared.read.Progress.TheVariants.{Within, Word, Row}
 use Rattle.sample_io.specs.declared.read.Reader.{Reader}
-use Rattle.sample_io.specs.Begun.{LineSoFar, ReadSoFar}
-use Rattle.sample_io.specs.Channels.{IsRow}
+use Rattle.sample_io.specs.Private.Begun.{LineSoFar, ReadSoFar}
+use Rattle.sample_io.specs.Channels.{AreChannels, IsRow}
+use Rattle.sample_io.specs.FedRows.{FedRows}
 use Rattle.sample_io.specs.Pieces.{HasTaken, CanTake, MeetsFault}
 use Rattle.sample_io.specs.Samples.{AreWords, no_words, one_more, Lines, LacksLastEnd, RowsOf, StopsAfter}
-use Rattle.sample_io.specs.Snapshot.{Snapshot}
 use Rattle.sample_io.specs.Private.Filling.{TakesNextByte, TakesSoFar}
+use Rattle.sample_io.specs.Private.Places.{Kept, HasLed}
 use Rattle.sample_io.specs.Private.Reading.{Reads, Ends}
 use Rattle.sample_io.proofs.Bytes.{column_within}
 use Rattle.sample_io.proofs.Lists.{row_length}
@@ -34,7 +35,7 @@ last_length : (bytes : List ℕ) (channels : List Channel) (before : List (List 
 last_length bytes channels before row h = row_length channels row (last_of_all (IsRow channels) before row (RowsOf-stream bytes channels (before ++ row ∷ []) h))
 
 -- the words of the line begun and one more
-filled : (old : Snapshot) (bytes : List ℕ) (before : List (List ℤ)) (word : ℤ) (h : HasTaken old bytes before) → length old.begun ≡ length old.channels
+filled : (old : Kept) (bytes : List ℕ) (before : List (List ℤ)) (word : ℤ) (h : HasLed old bytes before) → length old.begun ≡ length old.channels
     → take (length h.words + 1) (set old.begun old.reader.state.column word) ≡ h.words ++ word ∷ []
 filled old bytes before word h places =
     let line = h.so_far in
@@ -46,7 +47,7 @@ filled old bytes before word h places =
     ∙ ap (λ l. l ++ word ∷ []) h.begun
 
 -- the word that ends a row fills it
-filled_row : (old : Snapshot) (bytes : List ℕ) (before : List (List ℤ)) (word : ℤ) (h : HasTaken old bytes before) → length old.begun ≡ length old.channels
+filled_row : (old : Kept) (bytes : List ℕ) (before : List (List ℤ)) (word : ℤ) (h : HasLed old bytes before) → length old.begun ≡ length old.channels
     → length (h.words ++ word ∷ []) ≡ length old.channels → set old.begun old.reader.state.column word ≡ h.words ++ word ∷ []
 filled_row old bytes before word h places whole =
     let all = length-set old.begun old.reader.state.column word in
@@ -54,13 +55,14 @@ filled_row old bytes before word h places whole =
     ∙ filled old bytes before word h places
 
 -- no byte yet
-pub none_taken : (rows : Snapshot) → rows.fault ≡ None → ReadSoFar rows.channels [] [] [] rows.reader → HasTaken rows [] []
-none_taken rows running h = record { running = running; words = []; begun = refl; so_far = h }
+pub none_led : (rows : Kept) → AreChannels rows.channels → rows.fault ≡ None → ReadSoFar rows.channels [] [] [] rows.reader → HasLed rows [] []
+none_led rows sound running h = record { sound = sound; running = running; words = []; begun = refl; so_far = h }
 
 -- a byte within a word
-pub within_taken : (old new : Snapshot) (byte : ℕ) → new.channels ≡ old.channels → new.fault ≡ old.fault → new.begun ≡ old.begun
-    → Reads old.channels old.reader byte (Ok Within) new.reader → (bytes : List ℕ) (before : List (List ℤ)) → HasTaken old bytes before → HasTaken new (bytes ++ byte ∷ []) before
-within_taken old new byte channels fault begun reads bytes before h = record {
+pub within_led : (old new : Kept) (byte : ℕ) → new.channels ≡ old.channels → new.fault ≡ old.fault → new.begun ≡ old.begun
+    → Reads old.channels old.reader byte (Ok Within) new.reader → (bytes : List ℕ) (before : List (List ℤ)) → HasLed old bytes before → HasLed new (bytes ++ byte ∷ []) before
+within_led old new byte channels fault begun reads bytes before h = record {
+  sound = subst AreChannels (sym channels) h.sound;
   running = fault ∙ h.running;
   words = h.words;
   begun = ap (take (length h.words)) begun ∙ h.begun;
@@ -68,10 +70,11 @@ within_taken old new byte channels fault begun reads bytes before h = record {
 }
 
 -- a byte that ends a word
-pub word_taken : (old new : Snapshot) (byte : ℕ) (word : ℤ) → new.channels ≡ old.channels → new.fault ≡ old.fault → new.begun ≡ set old.begun old.reader.state.column word
+pub word_led : (old new : Kept) (byte : ℕ) (word : ℤ) → new.channels ≡ old.channels → new.fault ≡ old.fault → new.begun ≡ set old.begun old.reader.state.column word
     → length old.begun ≡ length old.channels → Reads old.channels old.reader byte (Ok (Word word)) new.reader
-    → (bytes : List ℕ) (before : List (List ℤ)) → HasTaken old bytes before → HasTaken new (bytes ++ byte ∷ []) before
-word_taken old new byte word channels fault begun places reads bytes before h = record {
+    → (bytes : List ℕ) (before : List (List ℤ)) → HasLed old bytes before → HasLed new (bytes ++ byte ∷ []) before
+word_led old new byte word channels fault begun places reads bytes before h = record {
+  sound = subst AreChannels (sym channels) h.sound;
   running = fault ∙ h.running;
   words = h.words ++ word ∷ [];
   begun = ap (take (length (h.words ++ word ∷ []))) begun
@@ -81,16 +84,17 @@ word_taken old new byte word channels fault begun places reads bytes before h = 
 }
 
 -- a byte that ends a row
-pub row_taken : (old new : Snapshot) (byte : ℕ) (word : ℤ) → new.channels ≡ old.channels → new.fault ≡ old.fault → new.row ≡ set old.begun old.reader.state.column word
+pub row_led : (old new : Kept) (byte : ℕ) (word : ℤ) → new.channels ≡ old.channels → new.fault ≡ old.fault → new.row ≡ set old.begun old.reader.state.column word
     → length old.begun ≡ length old.channels → Reads old.channels old.reader byte (Ok (Row word)) new.reader
-    → (bytes : List ℕ) (before : List (List ℤ)) → HasTaken old bytes before
-    → Lines (bytes ++ byte ∷ []) old.channels (before ++ new.row ∷ []) × HasTaken new (bytes ++ byte ∷ []) (before ++ new.row ∷ [])
-row_taken old new byte word channels fault row places reads bytes before h =
+    → (bytes : List ℕ) (before : List (List ℤ)) → HasLed old bytes before
+    → Lines (bytes ++ byte ∷ []) old.channels (before ++ new.row ∷ []) × HasLed new (bytes ++ byte ∷ []) (before ++ new.row ∷ [])
+row_led old new byte word channels fault row places reads bytes before h =
     let read = reads bytes before h.words h.so_far in
     let whole = last_length (bytes ++ byte ∷ []) old.channels before (h.words ++ word ∷ []) (inl read.0) in
     let is : new.row ≡ h.words ++ word ∷ [] = row ∙ filled_row old bytes before word h places whole in (
       subst (λ r. Lines (bytes ++ byte ∷ []) old.channels (before ++ r ∷ [])) (sym is) read.0,
       record {
+        sound = subst AreChannels (sym channels) h.sound;
         running = fault ∙ h.running;
         words = [];
         begun = refl;
@@ -100,20 +104,21 @@ row_taken old new byte word channels fault row places reads bytes before h =
     )
 
 -- the first bad byte
-pub fault_met : (old : Snapshot) (byte : ℕ) (fault : RowFault) (new : Reader) → Reads old.channels old.reader byte (Err fault) new → MeetsFault old (byte ∷ []) fault
+pub fault_met : (old : Kept) (byte : ℕ) (fault : RowFault) (new : Reader) → Reads old.channels old.reader byte (Err fault) new
+    → (bytes : List ℕ) (before : List (List ℤ)) → HasLed old bytes before → (more : List ℕ) → StopsAfter old.channels ((bytes ++ byte ∷ []) ++ more) before fault
 fault_met old byte fault new reads bytes before h more =
     subst (λ b. StopsAfter old.channels b before fault) (sym (append_assoc bytes (byte ∷ []) more)) (reads bytes before h.words h.so_far more)
 
 -- the end of input behind the text of a row
-pub row_ended : (old : Snapshot) (row : List ℤ) (word : ℤ) → row ≡ set old.begun old.reader.state.column word → length old.begun ≡ length old.channels
-    → Ends old.channels old.reader (Ok (Some word)) → (bytes : List ℕ) (before : List (List ℤ)) → HasTaken old bytes before → LacksLastEnd bytes old.channels (before ++ row ∷ [])
+pub row_ended : (old : Kept) (row : List ℤ) (word : ℤ) → row ≡ set old.begun old.reader.state.column word → length old.begun ≡ length old.channels
+    → Ends old.channels old.reader (Ok (Some word)) → (bytes : List ℕ) (before : List (List ℤ)) → HasLed old bytes before → LacksLastEnd bytes old.channels (before ++ row ∷ [])
 row_ended old row word row_is places ends bytes before h =
     let read = ends bytes before h.words h.so_far in
     let whole = last_length bytes old.channels before (h.words ++ word ∷ []) (inr read) in
     subst (λ r. LacksLastEnd bytes old.channels (before ++ r ∷ [])) (sym (row_is ∙ filled_row old bytes before word h places whole)) read
 
 -- room for a piece is room for its next byte
-pub room_left : (old new : Snapshot) (piece : List ℕ) (i : ℕ) → CanTake old (length piece) → old.fault ≡ None → i < length piece → TakesSoFar old (take i piece) new → CanTake new 1
+pub room_left : (old new : FedRows) (piece : List ℕ) (i : ℕ) → CanTake old (length piece) → old.fault ≡ None → i < length piece → TakesSoFar old (take i piece) new → CanTake new 1
 room_left old new piece i (inl kept) running within sofar = let none : IsSome {T = RowFault} None = subst IsSome running kept in absurd (cc)
 room_left old new piece i (inr (bytes, before, h, few)) running within sofar =
     let size = length-append bytes (take i piece) in
@@ -124,7 +129,7 @@ next_of : (bytes piece : List ℕ) (i : ℕ) → i < length piece → (bytes ++ 
 next_of bytes piece i within = append_assoc bytes (take i piece) (get_or piece i 0 ∷ []) ∙ ap (λ l. bytes ++ l) (sym (take_more piece i 0 within))
 
 -- a byte more of the piece, which ended no row
-pub more_taken : (old mid new : Snapshot) (piece : List ℕ) (i : ℕ) → i < length piece → TakesSoFar old (take i piece) mid → new.channels ≡ mid.channels
+pub more_taken : (old mid new : FedRows) (piece : List ℕ) (i : ℕ) → i < length piece → TakesSoFar old (take i piece) mid → new.channels ≡ mid.channels
     → new.fault ≡ None → TakesNextByte mid (get_or piece i 0) new false → TakesSoFar old (take (i + 1) piece) new
 more_taken old mid new piece i within sofar channels running takes = record {
   channels = channels ∙ sofar.channels;
@@ -134,7 +139,7 @@ more_taken old mid new piece i within sofar channels running takes = record {
 }
 
 -- and one that ended a row
-pub row_found : (old mid new : Snapshot) (piece : List ℕ) (i : ℕ) → i < length piece → TakesSoFar old (take i piece) mid → TakesNextByte mid (get_or piece i 0) new true
+pub row_found : (old mid new : FedRows) (piece : List ℕ) (i : ℕ) → i < length piece → TakesSoFar old (take i piece) mid → TakesNextByte mid (get_or piece i 0) new true
     → (bytes : List ℕ) (before : List (List ℤ)) → HasTaken old bytes before
     → Lines (bytes ++ take (i + 1) piece) old.channels (before ++ new.row ∷ []) × HasTaken new (bytes ++ take (i + 1) piece) (before ++ new.row ∷ [])
 row_found old mid new piece i within sofar takes bytes before h =
@@ -145,7 +150,7 @@ row_found old mid new piece i within sofar takes bytes before h =
     )
 
 -- and one that is bad
-pub fault_found : (old mid : Snapshot) (piece : List ℕ) (i : ℕ) (fault : RowFault) → i < length piece → TakesSoFar old (take i piece) mid → MeetsFault mid (get_or piece i 0 ∷ []) fault
+pub fault_found : (old mid : FedRows) (piece : List ℕ) (i : ℕ) (fault : RowFault) → i < length piece → TakesSoFar old (take i piece) mid → MeetsFault mid (get_or piece i 0 ∷ []) fault
     → MeetsFault old piece fault
 fault_found old mid piece i fault within sofar meets bytes before h more =
     let stops = meets (bytes ++ take i piece) before (sofar.taken bytes before h) (drop (i + 1) piece ++ more) in

@@ -10,7 +10,7 @@ use Rattle.sample_io.specs.declared.read.Progress.{Progress}
 use Rattle.sample_io.specs.declared.read.Progress.TheVariants.{Within, Word, Row}
 use Rattle.sample_io.specs.declared.read.Reader.{Reader}
 use Rattle.sample_io.specs.Channels.{AreChannels}
-use Rattle.sample_io.specs.Begun.{LineSoFar, ReadSoFar, with_comma, IsPart}
+use Rattle.sample_io.specs.Private.Begun.{LineSoFar, ReadSoFar, with_comma, IsPart}
 use Rattle.sample_io.specs.Samples.{AreWords, no_words, one_more, RowText, IsLine, Lines, LacksLastEnd, BeginsRow, IsFirstBadPlace, StopsAfter, signed}
 use Rattle.sample_io.specs.Private.Reading.{TakesByte, ReadsByte}
 use Rattle.sample_io.proofs.Bytes.{word_of_digits, last_text, left_length}
@@ -70,7 +70,7 @@ small channels bytes rows words reader h =
     let all = ap length h.bytes_are ∙ length-append h.front h.line in
     record { line = omega (arith, all, lines_few h.front channels rows h.before, h.number); at = omega (arith, all, h.at) }
 
-Lines-push : (bytes : List ℕ) (channels : List Channel) (rows : List (List ℤ)) (line : List ℕ) (row : List ℤ) → Lines bytes channels rows → IsLine channels line row
+pub Lines-push : (bytes : List ℕ) (channels : List Channel) (rows : List (List ℤ)) (line : List ℕ) (row : List ℤ) → Lines bytes channels rows → IsLine channels line row
     → Lines (bytes ++ line) channels (rows ++ row ∷ [])
 Lines-push bytes channels [] line row h is = (line, [], ap (λ b. b ++ line) h ∙ sym (append-nil line), is, refl)
 Lines-push bytes channels (first ∷ rows) line row h is =

@@ -9,4 +9,6 @@ pub mod Streams
 mod Lists
 mod Outcomes
 mod Feeding
+mod Fed
+pub mod Taken
 pub mod Held

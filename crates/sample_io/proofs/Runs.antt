@@ -14,7 +14,7 @@ use Rattle.sample_io.specs.declared.read.Part.{Part}
 use Rattle.sample_io.specs.declared.read.Part.TheVariants.{Empty, Minus, Digits, Return}
 use Rattle.sample_io.specs.Channels.{IsInChannel, IsChannel, AreChannels}
 use Rattle.sample_io.specs.Samples.{signed, signed_text, IsWord, AreWords, no_words, one_more, RowText, IsLine}
-use Rattle.sample_io.specs.Begun.{IsPart, with_comma, LineSoFar}
+use Rattle.sample_io.specs.Private.Begun.{IsPart, with_comma, LineSoFar}
 use Rattle.sample_io.proofs.Machine.{Reached, At, Ended, opened, at_last, step, run, run-append, run_line, run_on, run_line_on, digit_taken, no_mark}
 
 -- digits behind a number make it no smaller

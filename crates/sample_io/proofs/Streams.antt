@@ -300,3 +300,34 @@ printed_lines channels (row ∷ rows) all h = (
 -- a stream that was written is read as it was
 pub printed-RowsOf : (channels : List Channel) (rows : List (List ℤ)) → AreChannels channels → IsStream channels rows → RowsOf (printed rows) channels rows
 printed-RowsOf channels rows are h = inl (printed_lines channels rows are.each h)
+
+-- no whole line stands in bytes without a line feed
+unended_no_line : (channels : List Channel) (line : List ℕ) → (Contains line 10 → ⊥) → NoLine channels line
+unfolding NoLine
+unended_no_line channels line unended first more row is ended =
+    unended (subst (λ l. Contains l 10) (sym is) (Contains-append_left first more 10 (line_feed_in channels first row ended)))
+
+-- lines at the front of bytes are no more than all lines of them
+fewer_lines : (channels : List Channel) → AreChannels channels → (front other rest rest' : List ℕ) (some rows : List (List ℤ)) → Lines front channels some → Lines other channels rows
+    → front ++ rest ≡ other ++ rest' → NoLine channels rest' → length some ≤ length rows
+unfolding NoLine
+fewer_lines channels are front other rest rest' [] rows h k e none = omega arith
+fewer_lines channels are front other rest rest' (row ∷ some) [] h k e none =
+    absurd (none h.0 (h.1 ++ rest) row (ap (λ l. l ++ rest') (sym k) ∙ sym e ∙ ap (λ l. l ++ rest) h.2 ∙ append_assoc h.0 h.1 rest) h.3)
+fewer_lines channels are front other rest rest' (row ∷ some) (row' ∷ rows) h k e none =
+    let all : h.0 ++ (h.1 ++ rest) ≡ k.0 ++ (k.1 ++ rest') =
+    sym (append_assoc h.0 h.1 rest) ∙ ap (λ l. l ++ rest) (sym h.2) ∙ e ∙ ap (λ l. l ++ rest') k.2 ∙ append_assoc k.0 k.1 rest' in
+    let first = line_once channels are h.0 k.0 (h.1 ++ rest) (k.1 ++ rest') row row' h.3 k.3 all in
+    let others = fewer_lines channels are h.1 k.1 rest rest' some rows h.4 k.4 first.1 none in
+    omega (arith, others)
+
+pub lines_at_front : (channels : List Channel) → AreChannels channels → (front rest other line : List ℕ) (some rows : List (List ℤ)) → front ++ rest ≡ other ++ line
+    → Lines front channels some → Lines other channels rows → (Contains line 10 → ⊥) → length some ≤ length rows
+lines_at_front channels are front rest other line some rows e h k unended =
+    fewer_lines channels are front other rest line some rows h k e (unended_no_line channels line unended)
+
+-- the lines of bytes are the same wherever they are found in front of a line begun
+pub lines_once : (channels : List Channel) → AreChannels channels → (front rest other line : List ℕ) (rows rows' : List (List ℤ)) → front ++ rest ≡ other ++ line
+    → Lines front channels rows → Lines other channels rows' → (Contains rest 10 → ⊥) → (Contains line 10 → ⊥) → rows ≡ rows'
+lines_once channels are front rest other line rows rows' e h k none none' =
+    (same_front channels are front other rest line rows rows' h k e (unended_no_line channels rest none) (unended_no_line channels line none')).0

@@ -9,7 +9,7 @@ use Rattle.sample_io.specs.declared.read.Part.{Part}
 use Rattle.sample_io.specs.declared.read.Part.TheVariants.{Empty, Minus, Digits, Return}
 use Rattle.sample_io.specs.Channels.{IsChannel, AreChannels}
 use Rattle.sample_io.specs.Samples.{signed, IsWord, AreWords, no_words, one_more, RowText, BeginsRow}
-use Rattle.sample_io.specs.Begun.{IsPart, with_comma, LineSoFar}
+use Rattle.sample_io.specs.Private.Begun.{IsPart, with_comma, LineSoFar}
 use Rattle.sample_io.proofs.Runs.{of_middle, of_back, join_more}
 
 pub AreWords-append : (channels : List Channel) (texts : List (List ℕ)) (words : List ℤ) (others : List Channel) (more_texts : List (List ℕ)) (more_words : List ℤ)

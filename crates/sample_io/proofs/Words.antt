@@ -8,7 +8,7 @@ use Rattle.sample_io.specs.declared.channel.Channel.{Channel}
 use Rattle.sample_io.specs.declared.read.Progress.{Progress}
 use Rattle.sample_io.specs.declared.read.Progress.TheVariants.{Within, Word, Row}
 use Rattle.sample_io.specs.declared.read.Reader.{Reader}
-use Rattle.sample_io.specs.Begun.{ReadSoFar}
+use Rattle.sample_io.specs.Private.Begun.{ReadSoFar}
 use Rattle.sample_io.specs.Samples.{RowsOf}
 use Rattle.sample_io.specs.Private.Reading.{ReadsByte, ReadsEnd, WordsSoFar, word_of}
 

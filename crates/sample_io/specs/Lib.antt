@@ -1,6 +1,5 @@
 pub mod Channels
 pub mod Samples
-pub mod Begun
-pub mod Snapshot
+pub mod FedRows
 pub mod Pieces
 pub mod Private

@@ -4,6 +4,7 @@
 ghost use Rattle.std.specs.Prelude.{◌≡◌};
 
 mod channel;
+mod past;
 mod pieces;
 mod read;
 mod write;

@@ -5,6 +5,7 @@ ghost use Rattle.sample_io.specs.Channels.{AreChannels};
 ghost use Rattle.sample_io.specs.Pieces.{HasTaken, CanTake, TakesPiece, MeetsFault, EndsInput, EndsInFault};
 ghost use Rattle.sample_io.specs.Private.Filling.{TakesNextByte};
 
+use crate::past::Past;
 use crate::read::{Progress, Reader};
 use crate::{Channel, RowFault};
 use lists::List;
@@ -21,18 +22,21 @@ pub struct Rows {
     begun: List<i64>,
     shown: List<i64>,
     fault: Option<RowFault>,
+    taken: Past,
 }
 
 impl Model for Rows {
-    ghost use Rattle.sample_io.specs.Snapshot.{Snapshot};
+    ghost use Rattle.sample_io.specs.FedRows.{FedRows};
 
-    ghost Value = { Snapshot };
+    ghost Value = { FedRows };
 
-    ghost use Rattle.sample_io.specs.Private.Places.{snapshot_of, HasPlaces};
+    ghost use Rattle.sample_io.specs.Private.Places.{kept_of, fed_rows, AreFed};
 
-    ghost view = { λ rows. snapshot_of rows.channels rows.shown rows.fault rows.reader rows.begun };
+    ghost view = { λ rows.
+        fed_rows (kept_of rows.channels rows.shown rows.fault rows.reader rows.begun) rows.taken };
 
-    ghost invariant = { λ rows. HasPlaces rows.channels rows.shown rows.begun };
+    ghost invariant = { λ rows.
+        AreFed (kept_of rows.channels rows.shown rows.fault rows.reader rows.begun) rows.taken };
 }
 
 /// What a piece gave.
@@ -80,6 +84,16 @@ fn end_row(begun: &mut List<i64>, shown: &mut List<i64>, column: usize, word: i6
     mem::swap(begun, shown);
 }
 
+/// Shows the row that was begun, with this last word.
+fn show_last(begun: &List<i64>, shown: &mut List<i64>, column: usize, word: i64)
+    requires column { column < length begun.now }
+    requires places { length shown.old ≡ length begun.now }
+    ensures { shown.new ≡ slice_set begun.now column word }
+{
+    shown.copy_from_slice(begun.as_slice());
+    shown[column] = word;
+}
+
 impl Rows {
     /// The rows of a file of which no byte was taken yet.
     pub fn new(alloc: Global, channels: &[Channel]) -> Result<Rows, RowsFault>
@@ -94,6 +108,7 @@ impl Rows {
             begun: zeros(alloc, channels.len())?,
             shown: zeros(alloc, channels.len())?,
             fault: None,
+            taken: Past::none(),
         })
     }
 
@@ -137,6 +152,7 @@ impl Rows {
         ensures shown { OnErr result (self.new.row ≡ self.old.row) }
         ensures stays { IfErr result (λ fault. self.new.fault ≡ Some fault) }
     {
+        self.taken.push(byte);
         let column = self.reader.column();
         match self.reader.step(&self.channels, byte) {
             Ok(Progress::Within) => Ok(false),
@@ -159,6 +175,7 @@ impl Rows {
     pub fn finish(&mut self) -> Result<Step, RowFault>
         requires { CanTake self.old 0 }
         ensures channels { self.new.channels ≡ self.old.channels }
+        ensures taken { self.new.taken ≡ self.old.taken }
         ensures ends { IfOk result (EndsInput self.old self.new) }
         ensures fault { IfErr result (EndsInFault self.old) }
         ensures shown { OnErr result (self.new.row ≡ self.old.row) }
@@ -172,7 +189,7 @@ impl Rows {
             Ok(None) => Ok(Step::Need),
             Ok(Some(word)) => {
                 let column = self.reader.column();
-                end_row(&mut self.begun, &mut self.shown, column, word);
+                show_last(&self.begun, &mut self.shown, column, word);
                 Ok(Step::Row(0))
             }
             Err(fault) => {

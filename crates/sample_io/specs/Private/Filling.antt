@@ -1,12 +1,12 @@
 -- One byte of a sample file that comes in pieces.
 use Rattle.std.specs.Prelude.{◌≡◌, ℕ, List, [], ◌∷◌, ◌++◌, Bool, true, false, None}
 use Rattle.lists.specs.Rows.{Rows as Stream}
+use Rattle.sample_io.specs.FedRows.{FedRows}
 use Rattle.sample_io.specs.Pieces.{HasTaken}
 use Rattle.sample_io.specs.Samples.{Lines}
-use Rattle.sample_io.specs.Snapshot.{Snapshot}
 
 -- the byte was taken, and ended a row, which is shown now, or none
-abbrev pub TakesNextByte : Snapshot → ℕ → Snapshot → Bool → Type 0
+abbrev pub TakesNextByte : FedRows → ℕ → FedRows → Bool → Type 0
 TakesNextByte old byte new false =
     (new.row ≡ old.row)
     × ((bytes : List ℕ) (before : Stream) → HasTaken old bytes before → HasTaken new (bytes ++ byte ∷ []) before)
@@ -16,7 +16,7 @@ TakesNextByte old byte new true =
     × HasTaken new (bytes ++ byte ∷ []) (before ++ new.row ∷ [])
 
 -- these bytes were taken, and none ended a row
-pub record TakesSoFar (old : Snapshot) (piece : List ℕ) (new : Snapshot) : Type 0 where
+pub record TakesSoFar (old : FedRows) (piece : List ℕ) (new : FedRows) : Type 0 where
   pub channels : new.channels ≡ old.channels
   pub row : new.row ≡ old.row
   pub running : new.fault ≡ None

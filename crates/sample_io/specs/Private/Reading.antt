@@ -10,7 +10,7 @@ use Rattle.sample_io.specs.declared.read.Part.TheVariants.{Empty}
 use Rattle.sample_io.specs.declared.read.Progress.{Progress}
 use Rattle.sample_io.specs.declared.read.Progress.TheVariants.{Within, Word, Row}
 use Rattle.sample_io.specs.declared.read.Reader.{Reader}
-use Rattle.sample_io.specs.Begun.{LineSoFar, ReadSoFar}
+use Rattle.sample_io.specs.Private.Begun.{LineSoFar, ReadSoFar}
 use Rattle.sample_io.specs.Channels.{IsInChannel}
 use Rattle.sample_io.specs.Samples.{signed, RowText, IsLine, Lines, LacksLastEnd, BeginsRow, StopsAfter}
 
