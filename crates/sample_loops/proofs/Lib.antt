@@ -2,3 +2,10 @@ mod Appending
 mod Passing
 mod Piecing
 mod Stops
+mod SampleRuns
+mod RowWords
+mod Growing
+mod Streaming
+mod PieceRuns
+mod Endings
+pub mod TypedRows

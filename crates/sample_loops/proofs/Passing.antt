@@ -69,3 +69,9 @@ passes_still waited more mid waits start then now a same b = (
   ap (λ l. a.0 ++ l) same ∙ a.1,
   subst (λ text. IsAppended text start now) (append-nil a.0) (appended_twice a.0 [] start then now a.2 b),
 )
+
+-- a row more of each
+pub as_many_more : (rows puts : Rows) (row put : List ℤ)
+    → length puts ≡ length rows
+    → length (puts ++ put ∷ []) ≡ length (rows ++ row ∷ [])
+as_many_more rows puts row put same = length-append puts (put ∷ []) ∙ ap (λ n. n + 1) same ∙ sym (length-append rows (row ∷ []))

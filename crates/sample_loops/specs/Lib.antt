@@ -1,3 +1,5 @@
 pub mod Output
 pub mod Streams
+pub mod Machines
+pub mod Evaluators
 pub mod Private

@@ -1,2 +1,7 @@
 pub mod Buffers
 pub mod Running
+pub mod InputRows
+pub mod Ranges
+pub mod MachineLaws
+pub mod EvaluatorLaws
+pub mod Streaming

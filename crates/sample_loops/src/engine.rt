@@ -13,7 +13,7 @@ pub(crate) trait Engine {
     /// How many output words it has.
     ghost width: { Self → ℕ };
 
-    /// How many samples it ran.
+    /// How many samples it ran, where it can run only so many; else 0.
     ghost age: { Self → ℕ };
 
     /// It has no conflict, and is at the start of a sample.
@@ -30,6 +30,7 @@ pub(crate) trait Engine {
 
     /// How many output words there are.
     fn outs(&self) -> usize
+        requires { ready self.now }
         ensures outs { result ≡ width self.now }
         ensures most { result ≤ 16 }
         ensures some { 1 ≤ result };
@@ -41,7 +42,7 @@ pub(crate) trait Engine {
         requires row { accepts self.old row.now }
         requires put { length put.old ≡ width self.old }
         ensures ready { OnOk result (ready self.new) }
-        ensures age { OnOk result (age self.new ≡ age self.old + 1) }
+        ensures age { OnOk result (age self.new ≤ age self.old + 1) }
         ensures accepts { OnOk result ((other : List ℤ) → accepts self.old other → accepts self.new other) }
         ensures width { width self.new ≡ width self.old }
         ensures ran { OnOk result (ran self.old (row.now ∷ []) (put.new ∷ []) self.new) }

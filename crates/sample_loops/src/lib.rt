@@ -2,8 +2,12 @@
 #![tactic(auto)]
 
 mod engine;
+mod evaluator;
+mod machine;
 mod output;
 mod stream;
 mod writing;
 
+pub use evaluator::eval_stream;
+pub use machine::run_stream;
 pub use stream::StreamFault;

@@ -20,6 +20,7 @@ const LINE: usize = 21 * ROW_WORDS + 1;
 const SIZE: usize = 8192;
 
 /// Printed rows that wait to be written.
+#[derive(Drop)]
 pub(crate) struct RowBuffer {
     bytes: [u8; SIZE],
     len: usize,

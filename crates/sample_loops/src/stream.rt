@@ -2,8 +2,10 @@
 ghost use Rattle.std.specs.Prelude.{◌≡◌, ◌<◌, ◌≤◌, ◌+◌, ◌^◌, [], ◌∷◌, length, None, IfErr, OnOk, ℤ, List};
 ghost use Rattle.desk_core.specs.Desk.{FaultsNeverFall};
 ghost use Rattle.sample_io.specs.Channels.{IsRow};
-ghost use Rattle.sample_io.specs.Pieces.{CanTake};
+ghost use Rattle.sample_io.specs.Pieces.{CanTake, HasTaken};
 ghost use Rattle.sample_loops.specs.Private.Running.{RunsRow, EndsAtRow, RunsPiece, EndsInPiece, RunsEnd, StopsAtEnd};
+ghost use Rattle.sample_loops.specs.Private.Streaming.{CanRun, IsAtEnd, RunsInput, StopsInInput};
+ghost use Rattle.sample_loops.specs.Streams.{ChangesOutputAlone, IsRunThrough, IsStopped};
 
 use crate::engine::Engine;
 use crate::output::{ROW_WORDS, RowBuffer};
@@ -74,7 +76,7 @@ fn run_row<E: Engine, D: Desk>(
     requires row { E.accepts engine.old row.now }
     ensures never_fall { FaultsNeverFall (D.view desk.old) (D.view desk.new) }
     ensures ready { OnOk result (E.ready engine.new) }
-    ensures age { OnOk result (E.age engine.new ≡ E.age engine.old + 1) }
+    ensures age { OnOk result (E.age engine.new ≤ E.age engine.old + 1) }
     ensures accepts { OnOk result ((other : List ℤ) → E.accepts engine.old other → E.accepts engine.new other) }
     ensures ok { OnOk result (RunsRow (λ put. E.ran engine.old (row.now ∷ []) (put ∷ []) engine.new)
         output.old output.new (D.view desk.old) (D.view desk.new)) }
@@ -106,8 +108,8 @@ fn run_piece<E: Engine, D: Desk>(
     ensures fits { OnOk result ((row : List ℤ) → IsRow rows.old.channels row → E.accepts engine.new row) }
     ensures ok { OnOk result (RunsPiece (λ ran puts. E.ran engine.old ran puts engine.new) rows.old piece.now
         output.old (D.view desk.old) rows.new output.new (D.view desk.new)) }
-    ensures err { IfErr result (EndsInPiece (E.gives engine.old) (E.meets engine.old) rows.old piece.now
-        output.old (D.view desk.old) output.new (D.view desk.new)) }
+    ensures err { IfErr result (EndsInPiece (λ ran puts. (mid : E) × E.ran engine.old ran puts mid) (E.meets engine.old)
+        rows.old piece.now output.old (D.view desk.old) output.new (D.view desk.new)) }
 {
     let mut at = 0;
     'rows: while let Step::Row(count) = rows.feed(&piece[at..])? {
@@ -139,4 +141,126 @@ fn run_end<E: Engine, D: Desk>(
         run_row(engine, rows.row(), output, desk)?;
     }
     Ok(())
+}
+
+/// The most bytes of a piece of the input.
+const PIECE: usize = 4096;
+
+/// How many bytes to ask for where so many are left.
+fn room_for(left: u64) -> usize
+    requires { 0 < left }
+    ensures some { 0 < result }
+    ensures piece { result ≤ 4096 }
+    ensures left { result ≤ left }
+{
+    if left < PIECE as u64 {
+        left as usize
+    } else {
+        PIECE
+    }
+}
+
+/// Runs the rows that end in the input's pieces, up to its end. What the rows of a piece put is written before the next
+/// is read.
+fn run_pieces<E: Engine, D: Desk>(
+    engine: &mut E,
+    rows: &mut Rows,
+    output: &mut RowBuffer,
+    desk: &mut D,
+    limit: u64,
+) -> Result<(), StreamFault>
+    requires ready { E.ready engine.old }
+    requires young { E.age engine.old < 2 ^ 47 }
+    requires fits { (row : List ℤ) → IsRow rows.old.channels row → E.accepts engine.old row }
+    requires fresh { HasTaken rows.old [] [] }
+    requires start { (D.view desk.old).place ≡ 0 }
+    requires limit { limit ≤ 2 ^ 32 }
+    requires empty { output.old ≡ [] }
+    ensures never_fall { FaultsNeverFall (D.view desk.old) (D.view desk.new) }
+    ensures can_run { OnOk result (CanRun (E.ready engine.new) (E.accepts engine.new) rows.old.channels
+        (E.age engine.new) (E.age engine.old) 0 limit) }
+    ensures ok { OnOk result (IsAtEnd rows.old.channels (λ ran puts. E.ran engine.old ran puts engine.new) limit
+        rows.new output.new (D.view desk.old) (D.view desk.new)) }
+    ensures err { IfErr result (StopsInInput limit rows.old.channels (E.gives engine.old) (E.meets engine.old)
+        (D.view desk.old) output.new (D.view desk.new)) }
+{
+    let mut piece = [0u8; PIECE];
+    let mut left = limit;
+    'pieces: loop {
+        output.flush(desk)?;
+        if left == 0 {
+            return Err(StreamFault::TooLong);
+        }
+        let room = room_for(left);
+        let count = desk.read(&mut piece[..room])?;
+        if count == 0 {
+            return Ok(());
+        }
+        run_piece(engine, rows, &piece[..count], output, desk)?;
+        left -= count as u64;
+    }
+}
+
+/// Runs the rows of the input, from its start to its end. What the last of them put may wait.
+fn run_input<E: Engine, D: Desk>(
+    engine: &mut E,
+    rows: &mut Rows,
+    output: &mut RowBuffer,
+    desk: &mut D,
+    limit: u64,
+) -> Result<(), StreamFault>
+    requires ready { E.ready engine.old }
+    requires young { E.age engine.old < 2 ^ 47 }
+    requires fits { (row : List ℤ) → IsRow rows.old.channels row → E.accepts engine.old row }
+    requires fresh { HasTaken rows.old [] [] }
+    requires start { (D.view desk.old).place ≡ 0 }
+    requires limit { limit ≤ 2 ^ 32 }
+    requires empty { output.old ≡ [] }
+    ensures never_fall { FaultsNeverFall (D.view desk.old) (D.view desk.new) }
+    ensures ok { OnOk result (RunsInput limit rows.old.channels (λ ran puts. E.ran engine.old ran puts engine.new)
+        output.new (D.view desk.old) (D.view desk.new)) }
+    ensures err { IfErr result (StopsInInput limit rows.old.channels (E.gives engine.old) (E.meets engine.old)
+        (D.view desk.old) output.new (D.view desk.new)) }
+{
+    run_pieces(engine, rows, output, desk, limit)?;
+    run_end(engine, rows, output, desk)
+}
+
+/// Runs the rows of the input, from its start to its end, writes what they put, and closes the output. The input is
+/// read in pieces, and what a piece's rows put is written before the next is read. At `limit` bytes the samples are too
+/// long.
+pub(crate) fn run_all<E: Engine, D: Desk>(
+    engine: &mut E,
+    rows: &mut Rows,
+    desk: &mut D,
+    limit: u64,
+) -> Result<(), StreamFault>
+    requires ready { E.ready engine.old }
+    requires young { E.age engine.old < 2 ^ 47 }
+    requires fits { (row : List ℤ) → IsRow rows.old.channels row → E.accepts engine.old row }
+    requires fresh { HasTaken rows.old [] [] }
+    requires start { (D.view desk.old).place ≡ 0 }
+    requires limit { limit ≤ 2 ^ 32 }
+    ensures never_fall { FaultsNeverFall (D.view desk.old) (D.view desk.new) }
+    ensures only { ChangesOutputAlone (D.view desk.old) (D.view desk.new) }
+    ensures ok { OnOk result (IsRunThrough limit rows.old.channels (λ ran puts. E.ran engine.old ran puts engine.new)
+        (D.view desk.old) (D.view desk.new)) }
+    ensures err { IfErr result (IsStopped limit rows.old.channels (E.gives engine.old) (E.meets engine.old)
+        (D.view desk.old) (D.view desk.new)) }
+{
+    let mut output = RowBuffer::new();
+    match run_input(engine, rows, &mut output, desk, limit) {
+        Ok(()) => {
+            output.flush(desk)?;
+            Ok(desk.close()?)
+        }
+        Err(fault) => match fault {
+            StreamFault::Desk => Err(fault),
+            _ => {
+                output.flush(desk)?;
+                let _ = desk.close();
+                Err(fault)
+            }
+        },
+    }
 }

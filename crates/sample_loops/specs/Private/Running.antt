@@ -7,9 +7,9 @@ use Rattle.micro_image.specs.declared.conflict.Conflict.{Conflict as ConflictVal
 use Rattle.sample_io.specs.declared.RowFault.{RowFault}
 use Rattle.sample_io.specs.declared.channel.Channel.{Channel}
 use Rattle.sample_io.specs.Channels.{IsRow}
+use Rattle.sample_io.specs.FedRows.{FedRows}
 use Rattle.sample_io.specs.Pieces.{HasTaken, EndsInFault}
 use Rattle.sample_io.specs.Samples.{Lines, RowsOf, StopsAfter, printed, printed_row}
-use Rattle.sample_io.specs.Snapshot.{Snapshot}
 use Rattle.sample_loops.specs.Output.{IsAppended, IsAppendedInPart}
 use Rattle.sample_loops.specs.Private.Buffers.{PassesOn}
 use Rattle.sample_loops.specs.declared.stream.StreamFault.{StreamFault}
@@ -27,21 +27,25 @@ EndsAtRow meets waited waits old new (Row fault) = ⊥
 EndsAtRow meets waited waits old new TooLong = ⊥
 
 -- these bytes were taken, and these rows are what they end
-pub record TakesRows (old : Snapshot) (bytes : Content) (rows : Rows) (new : Snapshot) : Type 0 where
+pub record TakesRows (old : FedRows) (bytes : Content) (rows : Rows) (new : FedRows) : Type 0 where
   pub channels : new.channels ≡ old.channels
-  pub taken : (front : Content) (before : Rows) → HasTaken old front before → HasTaken new (front ++ bytes) (before ++ rows)
+  pub taken : (front : Content) (before : Rows)
+      → HasTaken old front before → HasTaken new (front ++ bytes) (before ++ rows)
 
 -- The rows that end in these bytes ran, and what they put is passed on.
-pub record RunsPiece (ran : Rows → Rows → Type 0) (old : Snapshot) (bytes waited : Content) (start : View) (new : Snapshot)
+pub record RunsPiece (ran : Rows → Rows → Type 0) (old : FedRows) (bytes waited : Content) (start : View)
+    (new : FedRows)
     (waits : Content) (now : View) : Type 0 where
   pub rows : Rows
   pub puts : Rows
   pub takes : TakesRows old bytes rows new
+  pub as_many : length puts ≡ length rows
   pub ran_rows : ran rows puts
   pub passes : PassesOn waited (printed puts) waits start now
 
 -- what is true of an engine between two rows of a piece, of which so many bytes were taken
-pub record RunsSoFar (ready : Type 0) (accepts : List ℤ → Type 0) (age first at : ℕ) (channels : List Channel) (piece : Content)
+pub record RunsSoFar (ready : Type 0) (accepts : List ℤ → Type 0) (age first at : ℕ) (channels : List Channel)
+    (piece : Content)
     (start now : View) : Type 0 where
   pub never_fall : FaultsNeverFall start now
   pub within : at ≤ length piece
@@ -50,13 +54,13 @@ pub record RunsSoFar (ready : Type 0) (accepts : List ℤ → Type 0) (age first
   pub young : age ≤ first + at
 
 -- the first bad place is in the piece, whatever comes after it, behind the lines of these rows of the piece
-abbrev pub MeetsAfter : Snapshot → Content → Rows → RowFault → Type 0
+abbrev pub MeetsAfter : FedRows → Content → Rows → RowFault → Type 0
 MeetsAfter old piece rows fault =
     (front : Content) (before : Rows) → HasTaken old front before
     → (more : Content) → StopsAfter old.channels (front ++ piece ++ more) (before ++ rows) fault
 
 -- so many bytes of the piece end the last of these rows
-abbrev pub EndsLines : Snapshot → Content → Rows → Type 0
+abbrev pub EndsLines : FedRows → Content → Rows → Type 0
 EndsLines old piece rows =
     (count : ℕ) × (count ≤ length piece)
     × ((front : Content) (before : Rows) → HasTaken old front before
@@ -64,7 +68,7 @@ EndsLines old piece rows =
 
 -- Why the rows of a piece did not all run: a line is no row, or in a row a conflict was met, or what waited could not be
 -- written. What the rows before it put is passed on, or a prefix of it.
-abbrev pub EndsInPiece : (Rows → Rows → Type 0) → (Rows → ConflictValue → Type 0) → Snapshot → (piece waited : Content)
+abbrev pub EndsInPiece : (Rows → Rows → Type 0) → (Rows → ConflictValue → Type 0) → FedRows → (piece waited : Content)
     → (start : View) → (waits : Content) → (now : View) → StreamFault → Type 0
 EndsInPiece gives meets old piece waited start waits now (Row fault) =
     (rows : Rows) × (puts : Rows) × gives rows puts × PassesOn waited (printed puts) waits start now
@@ -78,12 +82,13 @@ EndsInPiece gives meets old piece waited start waits now Desk =
 EndsInPiece gives meets old piece waited start waits now TooLong = ⊥
 
 -- these are the rows that the end of input ends: none, or one that lacks its end of line
-abbrev pub EndsRows : Snapshot → Rows → Type 0
+abbrev pub EndsRows : FedRows → Rows → Type 0
 EndsRows old rows =
     (front : Content) (before : Rows) → HasTaken old front before → RowsOf front old.channels (before ++ rows)
 
 -- the row that the end of input ends ran, where there is one, and what it put is passed on
-pub record RunsEnd (gives : Rows → Rows → Type 0) (old : Snapshot) (waited : Content) (start : View) (waits : Content) (now : View)
+pub record RunsEnd (gives : Rows → Rows → Type 0) (old : FedRows) (waited : Content) (start : View) (waits : Content)
+    (now : View)
     : Type 0 where
   pub rows : Rows
   pub puts : Rows
@@ -92,7 +97,8 @@ pub record RunsEnd (gives : Rows → Rows → Type 0) (old : Snapshot) (waited :
   pub passes : PassesOn waited (printed puts) waits start now
 
 -- why it did not
-abbrev pub StopsAtEnd : (Rows → ConflictValue → Type 0) → Snapshot → Content → View → Content → View → StreamFault → Type 0
+abbrev pub StopsAtEnd : (Rows → ConflictValue → Type 0) → FedRows → Content → View → Content → View → StreamFault
+    → Type 0
 StopsAtEnd meets old waited start waits now (Row fault) =
     EndsInFault old fault × (waits ≡ waited) × IsAppended [] start now
 StopsAtEnd meets old waited start waits now (Conflict conflict) =

@@ -1,16 +1,40 @@
 -- A row that ends in the piece runs, and what it puts is passed on.
-use Rattle.std.proofs.Common.{[], ◌∷◌, ◌++◌, length, drop, IfErr, sym, subst, arith, length-drop}
+use Rattle.std.proofs.Common.{[], ◌∷◌, ◌++◌, length, drop, IfErr, refl, sym, subst, arith, length-drop}
+use Rattle.std.proofs.lemmas.List.{append-nil}
 use Rattle.std.proofs.lemmas.Result.{err_from_is_err_and}
+use Rattle.lists.specs.Rows.{Rows}
 use Rattle.desk_core.proofs.DeskLemmas.{never_fall_trans}
 use Rattle.sample_io.specs.declared.pieces.Step.TheVariants.{Row}
 use Rattle.sample_io.specs.Pieces.{CanTake, TakesPiece, MeetsFault}
 use Rattle.sample_io.specs.Samples.{printed, printed_row}
 use Rattle.sample_loops.specs.Private.Buffers.{PassesOn}
 use Rattle.sample_loops.specs.Private.Running.{EndsInPiece}
-use Rattle.sample_loops.proofs.Passing.{passes_more, printed-push}
-use Rattle.sample_loops.proofs.Piecing.{rest_of, room_for_rest, row_shown, takes_more, takes_end, fault_after, lines_ended}
+use Rattle.sample_loops.proofs.Appending.{appended_none}
+use Rattle.sample_loops.proofs.Growing.{never_fall_same}
+use Rattle.sample_loops.proofs.Passing.{passes_more, printed-push, as_many_more}
+use Rattle.sample_loops.proofs.Piecing.{takes_none, rest_of, room_for_rest, row_shown, takes_more, takes_end, fault_after, lines_ended}
 use Rattle.sample_loops.proofs.Stops.{ends_at_row}
 use Rattle.sample_loops.proofs.stream.run_piece.Goals as goal
+
+pub rows-init : goal.rows-init
+rows-init g c =
+    let now = g.D.Desk.view c.args.desk.now in (
+      record {
+        never_fall = never_fall_same now;
+        within = omega arith;
+        is_ready = c.requires.ready;
+        fits = c.requires.fits;
+        young = omega arith;
+      },
+      record {
+        rows = [];
+        puts = [];
+        takes = takes_none c.args.rows.now c.args.piece.now;
+        as_many = refl;
+        ran_rows = g.met.E.Engine.none_ran c.args.engine.now;
+        passes = ([], sym (append-nil c.args.output.now), appended_none now);
+      },
+    )
 
 pub feed-requires : goal.feed-requires
 feed-requires g c =
@@ -54,6 +78,7 @@ rows-preserved g c =
       record {
         rows = run.rows ++ row ∷ [];
         puts = run.puts ++ put ∷ [];
+        as_many = as_many_more run.rows run.puts row put run.as_many;
         takes = takes_more c.args.rows.now c.rows.rows c.feed.new.self piece c.rows.at c.in-Row.count run.rows run.takes c.in_ok-count.ensures.channels found;
         ran_rows = g.met.E.Engine.ran_on c.args.engine.now c.rows.engine c.run_row.new.engine run.rows run.puts (row ∷ []) (put ∷ []) run.ran_rows step;
         passes = subst (λ text. PassesOn c.args.output.now text c.run_row.new.output start now) (sym (printed-push run.puts put))
@@ -69,6 +94,7 @@ returns-clause-ok g c =
     record {
       rows = run.rows;
       puts = run.puts;
+      as_many = run.as_many;
       takes = takes_end c.args.rows.now c.rows.rows c.feed.new.self piece c.rows.at run.rows c.in_ok-count.field-0 run.takes c.in_ok-count.ensures.channels ended c.in_default.not-Row;
       ran_rows = run.ran_rows;
       passes = run.passes;
@@ -78,7 +104,7 @@ pub returns-in_err-count-clause-err : goal.returns-in_err-count-clause-err
 returns-in_err-count-clause-err g c =
     let (sofar, run) = c.rows.invariant in
     let piece = c.args.piece.now in
-    let ends = EndsInPiece (g.E.Engine.gives c.args.engine.now) (g.E.Engine.meets c.args.engine.now) c.args.rows.now piece c.args.output.now (g.D.Desk.view c.args.desk.now)
+    let ends = EndsInPiece (λ ran puts. (mid : g.row.E.Denot) × g.E.Engine.ran c.args.engine.now ran puts mid) (g.E.Engine.meets c.args.engine.now) c.args.rows.now piece c.args.output.now (g.D.Desk.view c.args.desk.now)
     c.rows.output (g.D.Desk.view c.rows.desk) in
     let p = err_from_is_err_and c.from_residual.result c.from_residual.ensures.1 in
     let meets = subst (λ b. MeetsFault c.rows.rows b c.in_err-count.field-0.0) (rest_of piece c.rows.at sofar.within) c.in_err-count.ensures.fault in
@@ -86,7 +112,7 @@ returns-in_err-count-clause-err g c =
     (subst ends (sym p.2) (
       run.rows,
       run.puts,
-      g.met.E.Engine.ran_gives c.args.engine.now c.rows.engine run.rows run.puts run.ran_rows,
+      (c.rows.engine, run.ran_rows),
       run.passes,
       fault_after c.args.rows.now c.rows.rows piece c.rows.at run.rows c.in_err-count.field-0.0 run.takes meets,
     ))
@@ -98,14 +124,14 @@ returns-in_err-run_row-clause-err g c =
     let start = g.D.Desk.view c.args.desk.now in
     let before = g.D.Desk.view c.rows.desk in
     let now = g.D.Desk.view c.run_row.new.desk in
-    let gives = g.E.Engine.gives c.args.engine.now in
+    let gives : Rows → Rows → Type 0 = λ ran puts. (mid : g.row.E.Denot) × g.E.Engine.ran c.args.engine.now ran puts mid in
     let meets = g.E.Engine.meets c.args.engine.now in
     let ends = EndsInPiece gives meets c.args.rows.now piece c.args.output.now start c.run_row.new.output now in
     let found : TakesPiece c.rows.rows (drop c.rows.at piece) c.feed.new.self (Row c.in-Row.count) =
     subst (TakesPiece c.rows.rows (drop c.rows.at piece) c.feed.new.self) c.in-Row.is
     (subst (λ b. TakesPiece c.rows.rows b c.feed.new.self c.in_ok-count.field-0) (rest_of piece c.rows.at sofar.within) c.in_ok-count.ensures.takes) in
     let row = c.feed.new.self.row in
-    let given = g.met.E.Engine.ran_gives c.args.engine.now c.rows.engine run.rows run.puts run.ran_rows in
+    let given : gives run.rows run.puts = (c.rows.engine, run.ran_rows) in
     let lines = lines_ended c.args.rows.now c.rows.rows c.feed.new.self piece c.rows.at c.in-Row.count run.rows sofar.within run.takes found in
     let p = err_from_is_err_and c.from_residual-in_err-run_row.result c.from_residual-in_err-run_row.ensures.1 in
     subst (λ r. IfErr r ends) (sym p.1)

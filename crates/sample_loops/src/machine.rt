@@ -1,0 +1,77 @@
+//! The machine of an image over a stream of samples.
+ghost use Rattle.std.specs.Prelude.{◌≡◌, ◌*◌, ◌/◌, ◌<◌, ◌≤◌, ◌^◌, [], IfErr, OnOk};
+ghost use Rattle.desk_core.specs.Desk.{FaultsNeverFall};
+ghost use Rattle.sample_io.specs.Pieces.{HasTaken};
+ghost use Rattle.sample_loops.specs.Machines.{channels_of, IsReady, RunsRows, PutsRows, MeetsInLast};
+ghost use Rattle.sample_loops.specs.Private.InputRows.{IsInputRow};
+ghost use Rattle.sample_loops.specs.Streams.{IsRunThrough, IsStopped, ChangesOutputAlone};
+
+use crate::engine::Engine;
+use crate::stream::{StreamFault, run_all};
+use cycle_sim::Machine;
+use desk_core::Desk;
+use micro_image::Conflict;
+use sample_io::Rows;
+
+impl Engine for Machine {
+    ghost use Rattle.sample_loops.specs.Private.MachineLaws.{runs_none, runs_more, runs_clear, meets_after};
+
+    ghost accepts = { λ machine row. IsInputRow machine.image row };
+
+    ghost width = { λ machine. machine.image.outs };
+
+    ghost age = { λ machine. machine.cycle / machine.image.period };
+
+    ghost ready = { IsReady };
+
+    ghost ran = { RunsRows };
+
+    ghost gives = { PutsRows };
+
+    ghost meets = { MeetsInLast };
+
+    fn outs(&self) -> usize {
+        self.outs()
+    }
+
+    fn step(&mut self, row: &[i64], put: &mut [i64]) -> Result<(), Conflict> {
+        self.sample(row, put)
+    }
+
+    ghost none_ran = { runs_none };
+
+    ghost ran_on = { runs_more };
+
+    ghost ran_gives = { runs_clear };
+
+    ghost meets_later = { meets_after };
+}
+
+/// Runs the machine over the rows of the desk's current input, from its start to its end, writes the rows that it puts
+/// to the current output, and closes it (docs/SAMPLES.md). The machine is at the start of a sample, `rows` is fresh, for
+/// the machine's input words, and `limit` is in bytes, at most 2^32. The input is read in pieces of at most 4,096 bytes,
+/// and what the rows of a piece put is written before the next is read.
+///
+/// A line that is no row, a conflict and `limit` bytes end the run: the output then has the rows of the samples before,
+/// and is closed. After a failed call of the desk it has a prefix of them. No memory is taken.
+pub fn run_stream<D: Desk>(
+    machine: &mut Machine,
+    rows: &mut Rows,
+    desk: &mut D,
+    limit: u64,
+) -> Result<(), StreamFault>
+    requires ready { IsReady machine.old }
+    requires young { machine.old.cycle < 2 ^ 47 * machine.old.image.period }
+    requires channels { rows.old.channels ≡ channels_of machine.old.image }
+    requires fresh { HasTaken rows.old [] [] }
+    requires start { (D.view desk.old).place ≡ 0 }
+    requires limit { limit ≤ 2 ^ 32 }
+    ensures never_fall { FaultsNeverFall (D.view desk.old) (D.view desk.new) }
+    ensures only { ChangesOutputAlone (D.view desk.old) (D.view desk.new) }
+    ensures ok { OnOk result (IsRunThrough limit (channels_of machine.old.image)
+        (λ ran puts. RunsRows machine.old ran puts machine.new) (D.view desk.old) (D.view desk.new)) }
+    ensures err { IfErr result (IsStopped limit (channels_of machine.old.image)
+        (PutsRows machine.old) (MeetsInLast machine.old) (D.view desk.old) (D.view desk.new)) }
+{
+    run_all(machine, rows, desk, limit)
+}
