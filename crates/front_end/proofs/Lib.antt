@@ -6,3 +6,4 @@ pub mod OneGraph
 pub mod Graphs
 pub mod TokenLines
 pub mod FaultPlaces
+pub mod SoundGraph

@@ -4,3 +4,4 @@ pub mod Compiled
 pub mod Errors
 pub mod Making
 pub mod Scheduling
+pub mod Complete

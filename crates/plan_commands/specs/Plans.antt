@@ -32,6 +32,10 @@ pub record IsPlannedOver (source datapath : List ℕ) (program : Program) (d : D
 abbrev pub HasPlan : (source datapath : List ℕ) → Datapath → Plan → Type 0
 HasPlan source datapath d plan = (program : Program) × IsPlannedOver source datapath program d plan
 
+-- it has one
+abbrev pub IsPlannable : (source datapath : List ℕ) → Type 0
+IsPlannable source datapath = (d : Datapath) × (plan : Plan) × HasPlan source datapath d plan
+
 -- the refusal as a fault of a plan
 abbrev pub fault_of : UnitRefusal → PlanFault
 fault_of (NoUnit kind v) = plan.Unit (unit.NoUnit kind v)

@@ -3,3 +3,4 @@ pub mod Asked
 pub mod Stages
 pub mod Answers
 pub mod Exits
+pub mod OneOutcome
