@@ -1,44 +1,54 @@
 -- How the parts of `run` make up its answer.
-use Rattle.std.proofs.Common.{◌≡◌, ◌≢◌, refl, sym, ap, ap₂, subst, ◌∙◌, inl, inr, ⊎_elim, List, [], ◌∷◌, map, Bool}
+use Rattle.std.proofs.Common.{◌≡◌, ◌≢◌, refl, sym, ap, ap₂, subst, ◌∙◌, inl, inr, ⊎_elim, ◌+◌, List, [], ◌∷◌, map, Bool}
+use Rattle.lists.specs.Rows.{Rows}
 use Rattle.cycle_sim.specs.Machine.{Snapshot}
 use Rattle.desk_core.specs.View.{Name, Content, View}
-use Rattle.desk_core.specs.Desk.{WhereSpecified, WriteFaultsRose, FaultsNeverFall, IsUnchanged, IsPut, content_of}
-use Rattle.desk_core.specs.Whole.{IsWrittenWhole, IsWrittenInPart}
+use Rattle.desk_core.specs.Desk.{WhereSpecified, FaultsNeverFall, IsUnchanged, content_of}
 use Rattle.desk_core.proofs.DeskLemmas.{rose_later, rose_earlier, never_fall_trans, specified_from}
-use Rattle.desk_core.proofs.WholeLemmas.{through_from}
 use Rattle.fix_word.specs.declared.types.SigType.{SigType}
 use Rattle.fix_word.specs.declared.types.SigType.TheVariants as sig
+use Rattle.micro_image.specs.declared.conflict.Conflict.{Conflict as ConflictValue}
 use Rattle.plan_run.specs.ImageOf.{IsImageOf, width_of}
-use Rattle.sample_io.specs.declared.RowList.{RowList}
 use Rattle.sample_io.specs.Channels.{IsStream, channel_of}
-use Rattle.sample_io.specs.Samples.{printed, stream_of}
+use Rattle.sample_io.specs.Samples.{printed}
+use Rattle.sample_loops.specs.Machines.{channels_of, RunsRows, PutsRows, MeetsInLast}
+use Rattle.sample_loops.specs.Private.MachineLaws.{runs_clear}
+use Rattle.sample_loops.specs.Streams.{IsRunThrough}
+use Rattle.sample_loops.specs.declared.stream.StreamFault.{StreamFault}
+use Rattle.sample_loops.specs.declared.stream.StreamFault.TheVariants as stream
 use Rattle.silage_meaning.specs.Solves as program
 use Rattle.silc_files.specs.Endings.{ChangesOnly}
-use Rattle.sample_commands.specs.Eval.{type_channel, IsEvalDone, IsEvalCutShort}
-use Rattle.plan_commands.specs.Headline.{RunsTheSolution}
 use Rattle.silc_files.specs.Limits.{samples_limit}
-use Rattle.plan_commands.specs.Refusals.{IsPlanError}
-use Rattle.sample_commands.specs.Run.{HasSomePlan, AreSamplesUnread, IsNotRun, IsRunDone, IsRunAnswer, RunUsesOnly}
-use Rattle.sample_commands.specs.Samples.{AreSamples, IsSampleFault}
-use Rattle.sample_commands.specs.Sim.{channels_of, HasRun}
-use Rattle.plan_commands.specs.Sources.{IsProgramIn}
-use Rattle.plan_commands.specs.Compiling.{IsMicrocodeOf}
-use Rattle.sample_commands.specs.Private.Executing.{OnlyReadsThree, IsCompiledMachine, IsExecuted}
-use Rattle.plan_commands.specs.Planning.{IsReadPlan}
 use Rattle.silc_files.specs.Reading.{OnlyReads}
-use Rattle.sample_commands.specs.Private.Running.{IsMachineOf, IsRunError, IsRunPut}
-use Rattle.sample_commands.specs.Private.SampleRows.{AreRowsRead, IsRowsError}
+use Rattle.silc_files.proofs.Endings.{unchanged_trans, unchanged_still, specified_still}
+use Rattle.plan_commands.specs.Compiling.{IsMicrocodeOf}
+use Rattle.plan_commands.specs.Headline.{RunsTheSolution}
+use Rattle.plan_commands.specs.Planning.{IsReadPlan}
+use Rattle.plan_commands.specs.Refusals.{IsRefusal, IsPlanError}
+use Rattle.plan_commands.specs.Sources.{IsProgramIn}
 use Rattle.plan_commands.specs.declared.planning.Planned.{Planned}
+use Rattle.plan_commands.proofs.Compiled.{runs_the_solution}
+use Rattle.plan_commands.proofs.Errors.{error_still}
+use Rattle.sample_commands.specs.Eval.{type_channel, program_channels, IsSolutionRows}
+use Rattle.sample_commands.specs.Run.{AreSamplesUnread, IsNotRun, IsRunStopped, IsRunDone, IsRunAnswer, RunUsesOnly}
+use Rattle.sample_commands.specs.Samples.{AreSamples, IsEndedEarly}
+use Rattle.sample_commands.specs.StreamEnds.{status_of}
+use Rattle.sample_commands.specs.Private.Executing.{IsCompiledMachine}
+use Rattle.sample_commands.specs.Private.Running.{IsMachineOf}
+use Rattle.sample_commands.specs.Private.Streaming.{IsOpened, IsNotOpened, StreamsOnly, RunsFiles, IsRunOver}
 use Rattle.sample_commands.specs.declared.simulator.Kept.{Kept}
 use Rattle.sample_commands.specs.declared.simulator.Kept.TheVariants.{One}
+use Rattle.statuses.specs.declared.status.SampleFault.TheVariants as sample_fault
 use Rattle.statuses.specs.declared.status.Status.{Status}
 use Rattle.statuses.specs.declared.status.Status.TheVariants as status
 use Rattle.statuses.specs.declared.status.Status.TheVariants.{Done, Memory, Words, Desk, FrontEnd, Path, LinesFull, Period, FileFull, Image, Samples, Conflict}
-use Rattle.plan_commands.proofs.Compiled.{runs_the_solution}
-use Rattle.silc_files.proofs.Endings.{unchanged_trans, finished, not_written, unchanged_still, specified_still, rejected_still}
-use Rattle.plan_commands.proofs.Errors.{error_still}
-use Rattle.sample_commands.proofs.SampleErrors.{each_rows_error}
-use Rattle.sample_commands.proofs.Solving.{program_stream, eval_done_still, eval_cut_short_still}
+use Rattle.sample_commands.proofs.EarlyEnds.{ended_early, run_finished, run_samples_are, run_stream_is, run_put, opened_from, ended_still}
+use Rattle.sample_commands.proofs.Simulating.{fresh_puts, fresh_meets, fresh_run}
+use Rattle.sample_commands.proofs.Solving.{program_stream, eval_done_still}
+
+-- neither want of memory nor a fault of the desk, and no refusal
+no_error : {src datapath : Name} {old new : View} (status : Status) → IsPlanError src datapath old new status → (status ≡ Memory → ⊥) → (status ≡ Desk → ⊥) → IsRefusal status
+no_error status h not_memory not_desk = ⊎_elim (λ m. absurd (not_memory m.0)) (λ rest. ⊎_elim (λ d. absurd (not_desk d.0)) (λ r. r.0) rest) h
 
 same_channel : (ty : SigType) → channel_of (width_of ty) ≡ type_channel ty
 same_channel (sig.Fix t) = refl
@@ -70,18 +80,16 @@ module _ (src datapath : Name) (old new : View) (planned : Planned) (plan : IsRe
         channels = ap (map channel_of) image_of.inputs ∙ same_channels planned.plan.inputs ∙ ap (map type_channel) (plan.plan.inputs ∙ plan.keeps.keeps.inputs);
       }
 
--- the machine was made, and then SAMPLES was read
-module _ (src datapath samples : Name) (old mid new : View) (machine : Snapshot) (first : OnlyReads src datapath old mid)
-    (second : OnlyReads samples samples mid new) (compiled : IsCompiledMachine src datapath old machine) where
-  pub reads_three : OnlyReadsThree src datapath samples old new
-  reads_three = record {
-    never_fall = never_fall_trans old mid new first.never_fall second.never_fall;
-    unchanged = unchanged_trans old mid new first.unchanged second.unchanged;
-    begins = λ s not_src not_datapath not_samples is. first.begins s not_src not_datapath (second.begins s not_samples not_samples is);
+-- the machine was made, and then it ran over the files
+module _ (src datapath samples out : Name) (old mid new : View) (machine : Snapshot) (first : OnlyReads src datapath old mid)
+    (compiled : IsCompiledMachine src datapath old machine) where
+  pub run_uses : StreamsOnly samples out mid new → RunUsesOnly src datapath samples out old new
+  run_uses only = record {
+    files = specified_from (ChangesOnly out) old.files mid.files new.files first.unchanged.files only.files;
+    printed = only.printed ∙ first.unchanged.printed;
+    reads = λ s not_src not_datapath not_samples is. first.begins s not_src not_datapath (only.reads s not_samples is);
+    writes = λ s ne is. ap (λ (f : Name → Bool). f s) (sym first.unchanged.writes) ∙ only.writes s ne is;
   }
-
-  some_plan : WhereSpecified old (HasSomePlan src datapath)
-  some_plan files is = (compiled.program, compiled.path, compiled.plan, compiled.planned files is)
 
   program_in : WhereSpecified old (IsProgramIn src compiled.program)
   program_in files is = record {
@@ -90,121 +98,125 @@ module _ (src datapath samples : Name) (old mid new : View) (machine : Snapshot)
     solved = λ stream valid. let (words, one, run) = compiled.runs stream valid in (words, one);
   }
 
-  -- why no rows were read is why `run` ends
-  pub no_rows : (status : Status) → IsRowsError samples (channels_of machine.image) mid new status → IsNotRun src datapath samples old new status
-  no_rows =
-      each_rows_error samples (channels_of machine.image) mid new (IsNotRun src datapath samples old new) (inl (refl, reads_three.unchanged))
-      (λ rose. inr (record {
-        unchanged = reads_three.unchanged;
-        rose = rose_later _ _ _ (first.never_fall.reading samples) rose;
-        planned = some_plan;
+  its_stream : (rows : Rows) → IsStream (channels_of machine.image) rows → program.IsStream compiled.program rows
+  its_stream rows is =
+      program_stream compiled.program compiled.graph compiled.keeps rows
+      (subst (λ cs. IsStream cs rows) (compiled.channels ∙ sym (ap (map type_channel) compiled.keeps.keeps.inputs)) is)
+
+  -- the rows of the run are those of the program's one solution
+  solution_rows : (rows puts : Rows) → IsStream (channels_of machine.image) rows → PutsRows machine rows puts → IsSolutionRows compiled.program rows puts
+  solution_rows rows puts is h =
+      let (words, one, run) = compiled.runs rows (its_stream rows is) in
+      record { words = words; one = one; puts_are = (fresh_puts machine compiled.fresh rows puts h).put ∙ sym run.put }
+
+  -- and it has no conflict
+  no_conflict : (rows : Rows) (conflict : ConflictValue) → IsStream (channels_of machine.image) rows → MeetsInLast machine rows conflict → ⊥
+  no_conflict rows conflict is h =
+      let (words, one, run) = compiled.runs rows (its_stream rows is) in
+      let met = (fresh_meets machine compiled.fresh rows conflict h).first in
+      run.clear conflict.cycle met.within conflict.kind conflict.place met.there.there
+
+  -- SAMPLES or OUT could not be opened
+  run_not_opened : (kept : Kept) → IsNotOpened samples out mid new → IsRunAnswer src datapath samples out old new kept Desk
+  run_not_opened kept = ⊎_elim
+      (λ unread. inl (inr (record {
+        unchanged = unchanged_trans old mid new first.unchanged unread.0;
+        rose = rose_later _ _ _ (first.never_fall.reading samples) unread.1;
+        planned = λ files is. (compiled.program, compiled.path, compiled.plan, compiled.planned files is);
+      })))
+      (λ not. inr (record {
+        program = compiled.program;
+        path = compiled.path;
+        plan = compiled.plan;
+        planned = compiled.planned;
+        ended = inl (record { rose = rose_later _ _ _ (first.never_fall.writing out) not.rose; files = not.files ∙ first.unchanged.files });
       }))
-      (λ fault bad. record {
-        unchanged = reads_three.unchanged;
-        read = through_from samples samples_limit old mid new first.unchanged.files bad.read;
-        why = λ files is. (
-          some_plan files is,
-          (
-            compiled.program,
-            program_in files is,
-            subst (λ cs. IsSampleFault cs (content_of (files samples)) fault) compiled.channels (bad.why files (first.unchanged.files ∙ is)),
-          ),
-        );
-      })
 
-  module _ (list : RowList) (rows : AreRowsRead samples (channels_of machine.image) mid new list) where
-    its_stream : program.IsStream compiled.program (stream_of list)
-    its_stream =
-        program_stream compiled.program compiled.graph compiled.keeps (stream_of list)
-        (subst (λ cs. IsStream cs (stream_of list)) (compiled.channels ∙ sym (ap (map type_channel) compiled.keeps.keeps.inputs)) rows.stream)
+  module _ (kept : Kept) (after : Snapshot) (ending : Status) (ran : RunsFiles samples out machine after mid new ending) where
+    fall : FaultsNeverFall old ran.mid
+    fall = never_fall_trans old mid ran.mid first.never_fall ran.never_fall
 
-    -- the rows of the run are those of the program's one solution
-    pub executed : (after : Snapshot) (text : Content) → HasRun machine.image (stream_of list) after text
-        → IsExecuted src datapath samples old new after text
-    executed after text ran =
-        let (words, one, run) = compiled.runs (stream_of list) its_stream in
+    opened : IsOpened samples out old ran.mid
+    opened = opened_from samples out old mid ran.mid first.unchanged.files ran.opened
+
+    stopped_run : (fault : StreamFault) → IsEndedEarly samples out (channels_of machine.image) (IsSolutionRows compiled.program) (λ rows conflict. ⊥) old new fault
+        → IsRunStopped src datapath samples out old new fault
+    stopped_run fault h = record {
+      program = compiled.program;
+      path = compiled.path;
+      plan = compiled.plan;
+      planned = compiled.planned;
+      ended = subst (λ cs. IsEndedEarly samples out cs (IsSolutionRows compiled.program) (λ rows conflict. ⊥) old new fault) compiled.channels h;
+    }
+
+    run_stopped : (fault : StreamFault) → IsEndedEarly samples out (channels_of machine.image) (IsSolutionRows compiled.program) (λ rows conflict. ⊥) old new fault
+        → IsRunAnswer src datapath samples out old new kept (status_of fault)
+    run_stopped stream.Desk h = inr (stopped_run stream.Desk h)
+    run_stopped (stream.Row fault) h = stopped_run (stream.Row fault) h
+    run_stopped stream.TooLong h = stopped_run stream.TooLong h
+    run_stopped (stream.Conflict conflict) h = absurd h.met
+
+    run_done : kept ≡ One after → IsRunThrough (samples_limit + 1) (channels_of machine.image) (λ rows puts. RunsRows machine rows puts after) ran.mid new
+        → IsRunDone src datapath samples out old new kept
+    run_done keeps h =
+        let is = run_stream_is samples out old ran.mid new fall opened ran.only (channels_of machine.image) _ h in
+        let rows = solution_rows h.rows h.put.puts is (runs_clear machine after h.rows h.put.puts h.put.given) in
         record {
-          read = through_from samples samples_limit old mid new first.unchanged.files rows.read;
-          program = compiled.program;
+          solved = record {
+            finished = run_finished samples out old ran.mid new fall opened ran.only (channels_of machine.image) _ h;
+            program = compiled.program;
+            stream = h.rows;
+            text = printed h.put.puts;
+            solution = record { words = rows.words; one = rows.one; text_is = ap printed rows.puts_are };
+            specified = λ files is. record {
+              source = program_in files is;
+              samples_are = subst (λ cs. AreSamples cs (content_of (files samples)) h.rows) compiled.channels
+                  (run_samples_are samples out old ran.mid new fall opened ran.only (channels_of machine.image) _ h files is);
+            };
+            put = run_put samples out old ran.mid new fall opened ran.only (channels_of machine.image) _ h;
+          };
           path = compiled.path;
           plan = compiled.plan;
           planned = compiled.planned;
           image = machine.image;
           image_of = compiled.image_of;
-          stream = stream_of list;
-          ran = ran;
-          solution = record { words = words; one = one; text_is = ran.text_is ∙ ap printed (ran.run.put ∙ sym run.put) };
-          specified = λ files is. record {
-            source = program_in files is;
-            samples_are = subst (λ cs. AreSamples cs (content_of (files samples)) (stream_of list)) compiled.channels (rows.specified files (first.unchanged.files ∙ is));
-          };
+          machine = after;
+          ran = fresh_run machine compiled.fresh h.rows h.put.puts after h.put.given;
+          kept_is = keeps;
         }
 
-    -- and it has no conflict
-    pub not_executed : (status : Status) → IsRunError machine.image (stream_of list) status → IsNotRun src datapath samples old new status
-    not_executed Memory h = inl (refl, reads_three.unchanged)
-    not_executed (Conflict conflict) h =
-        let (words, one, run) = compiled.runs (stream_of list) its_stream in
-        run.clear conflict.cycle h.within conflict.kind conflict.place h.there.there
-    not_executed Done h = absurd h
-    not_executed Words h = absurd h
-    not_executed Desk h = absurd h
-    not_executed (FrontEnd fault) h = absurd h
-    not_executed (Path fault) h = absurd h
-    not_executed (status.Unit refusal) h = absurd h
-    not_executed (LinesFull node) h = absurd h
-    not_executed (Period node) h = absurd h
-    not_executed (FileFull unit port node) h = absurd h
-    not_executed (Image fault) h = absurd h
-    not_executed (Samples fault) h = absurd h
+    run_ran : (ending ≡ Done → kept ≡ One after) → IsRunAnswer src datapath samples out old new kept ending
+    run_ran keeps = ⊎_elim
+        (λ done. subst (IsRunAnswer src datapath samples out old new kept) (sym done.0) (run_done (keeps done.0) done.1))
+        (λ stopped.
+        subst (IsRunAnswer src datapath samples out old new kept) (sym stopped.1)
+        (run_stopped stopped.0
+        (ended_early samples out old ran.mid new fall opened ran.only (channels_of machine.image) (PutsRows machine) (IsSolutionRows compiled.program)
+        (MeetsInLast machine) (λ rows conflict. ⊥) solution_rows no_conflict stopped.0 stopped.2)))
+        ran.ends
 
--- OUT was written, or writing it failed
-module _ (src datapath samples out : Name) (old mid new : View) (machine : Snapshot) (text : Content) (kept : Kept) (status : Status)
-    (apart : out ≢ samples) (reads : OnlyReadsThree src datapath samples old mid) (done : IsExecuted src datapath samples old mid machine text) where
-  solved : IsWrittenWhole out text mid new → IsEvalDone src samples out old new
-  solved written = record {
-    finished = finished samples out samples_limit text old mid new apart done.read written;
-    program = done.program;
-    stream = done.stream;
-    text = text;
-    solution = done.solution;
-    specified = done.specified;
-    put = specified_from (IsPut out text) old.files mid.files new.files reads.unchanged.files written.files;
-  }
+  pub run_answer : (kept : Kept) (ending : Status) → IsRunOver samples out machine mid new kept ending → IsRunAnswer src datapath samples out old new kept ending
+  run_answer kept ending = ⊎_elim
+      (λ desk. subst (IsRunAnswer src datapath samples out old new kept) (sym desk.0) (run_not_opened kept desk.1))
+      (λ ran. run_ran kept ran.0 ending ran.2 ran.1)
 
-  cut_short : WriteFaultsRose out mid new → IsWrittenInPart out text mid new → IsEvalCutShort src samples out old new
-  cut_short rose written = record {
-    program = done.program;
-    stream = done.stream;
-    text = text;
-    solution = done.solution;
-    specified = done.specified;
-    written = not_written samples out samples_limit text old mid new apart done.read reads.unchanged.files reads.never_fall rose written;
-  }
-
-  run_done : kept ≡ One machine → IsWrittenWhole out text mid new → IsRunDone src datapath samples out old new kept
-  unfolding solved
-  run_done is written = record {
-    solved = solved written;
-    path = done.path;
-    plan = done.plan;
-    planned = done.planned;
-    image = done.image;
-    image_of = done.image_of;
-    machine = machine;
-    ran = done.ran;
-    kept_is = is;
-  }
-
-  pub run_put : IsRunPut out machine text mid new kept status → IsRunAnswer src datapath samples out old new kept status
-  run_put h =
-      ⊎_elim
-      (λ put. subst (IsRunAnswer src datapath samples out old new kept) (sym put.0) (run_done put.1 put.2))
-      (λ failed. subst (IsRunAnswer src datapath samples out old new kept) (sym failed.0) (inr (record {
-        cut_short = cut_short failed.1 failed.2;
-        planned = λ files is. (done.program, done.path, done.plan, done.planned files is);
-      })))
-      h
+-- why there is no plan is why `run` ends
+pub no_plan : (src datapath samples out : Name) (old new : View) (kept : Kept) (status : Status) → IsPlanError src datapath old new status
+    → IsRunAnswer src datapath samples out old new kept status
+no_plan src datapath samples out old new kept Desk h = inl (inl h)
+no_plan src datapath samples out old new kept Memory h = h
+no_plan src datapath samples out old new kept Words h = h
+no_plan src datapath samples out old new kept (FrontEnd fault) h = h
+no_plan src datapath samples out old new kept (Path fault) h = h
+no_plan src datapath samples out old new kept (status.Unit refusal) h = h
+no_plan src datapath samples out old new kept (LinesFull node) h = h
+no_plan src datapath samples out old new kept (Period node) h = h
+no_plan src datapath samples out old new kept (FileFull unit port node) h = h
+no_plan src datapath samples out old new kept Done h = absurd (no_error Done h (λ e. cc) (λ e. cc))
+no_plan src datapath samples out old new kept (Image fault) h = absurd (no_error (Image fault) h (λ e. cc) (λ e. cc))
+no_plan src datapath samples out old new kept (Samples (sample_fault.Row line at)) h = absurd (no_error (Samples (sample_fault.Row line at)) h (λ e. cc) (λ e. cc))
+no_plan src datapath samples out old new kept (Samples sample_fault.TooLong) h = absurd (no_error (Samples sample_fault.TooLong) h (λ e. cc) (λ e. cc))
+no_plan src datapath samples out old new kept (Conflict conflict) h = absurd (no_error (Conflict conflict) h (λ e. cc) (λ e. cc))
 
 -- a report of the error leaves the answer of `run` as it is
 module _ (src datapath samples out : Name) (old mid new : View) (same : IsUnchanged mid new) (later : FaultsNeverFall mid new) (before : FaultsNeverFall old mid) where
@@ -220,6 +232,15 @@ module _ (src datapath samples out : Name) (old mid new : View) (same : IsUnchan
 
   not_run_still : IsNotRun src datapath samples old mid Desk → IsNotRun src datapath samples old new Desk
   not_run_still h = ⊎_elim (λ early. inl (still Desk early)) (λ unread. inr (unread_still unread)) h
+
+  stopped_still : (fault : StreamFault) → IsRunStopped src datapath samples out old mid fault → IsRunStopped src datapath samples out old new fault
+  stopped_still fault h = record {
+    program = h.program;
+    path = h.path;
+    plan = h.plan;
+    planned = h.planned;
+    ended = ended_still samples out old mid new same later before (program_channels h.program) (IsSolutionRows h.program) (λ rows conflict. ⊥) fault h.ended;
+  }
 
   pub run_uses_still : RunUsesOnly src datapath samples out old mid → RunUsesOnly src datapath samples out old new
   run_uses_still h = record {
@@ -242,11 +263,9 @@ module _ (src datapath samples out : Name) (old mid new : View) (same : IsUnchan
     ran = h.ran;
     kept_is = h.kept_is;
   }
-  run_reported kept Desk h =
-      ⊎_elim (λ early. inl (not_run_still early))
-      (λ late. inr (record { cut_short = eval_cut_short_still src samples out old mid new same later before late.cut_short; planned = late.planned }))
-      h
-  run_reported kept (Samples fault) h = rejected_still old mid new same samples samples_limit _ h
+  run_reported kept Desk h = ⊎_elim (λ early. inl (not_run_still early)) (λ late. inr (stopped_still stream.Desk late)) h
+  run_reported kept (Samples (sample_fault.Row line at)) h = stopped_still (stream.Row (record { line = line; at = at })) h
+  run_reported kept (Samples sample_fault.TooLong) h = stopped_still stream.TooLong h
   run_reported kept Memory h = still Memory h
   run_reported kept Words h = still Words h
   run_reported kept (FrontEnd fault) h = still (FrontEnd fault) h

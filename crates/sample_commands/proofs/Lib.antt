@@ -1,9 +1,6 @@
 mod Examples
-pub mod RowLists
-pub mod SampleErrors
-pub mod Printing
+pub mod Opening
+pub mod EarlyEnds
 pub mod Simulating
-pub mod Evaluating
-pub mod TypedRows
 pub mod Solving
 pub mod Executing

@@ -1,39 +1,46 @@
 -- How the parts of `eval` make up its answer.
-use Rattle.std.proofs.Common.{◌≡◌, refl, sym, ap, subst, ◌∙◌, inl, inr, ⊎_elim, List, map}
+use Rattle.std.proofs.Common.{◌≡◌, refl, sym, ap, subst, ◌∙◌, inl, inr, ⊎_elim, ◌+◌, [], map, Bool, length}
 use Rattle.lists.specs.Rows.{Rows}
 use Rattle.desk_core.specs.View.{Name, Content, View}
-use Rattle.desk_core.specs.Desk.{IfSpecified, WhereSpecified, IsPut, FaultsNeverFall, IsUnchanged, content_of}
+use Rattle.desk_core.specs.Desk.{WhereSpecified, IsPut, FaultsNeverFall, IsUnchanged, content_of}
 use Rattle.desk_core.specs.Whole.{IsReadThrough}
-use Rattle.desk_core.proofs.DeskLemmas.{rose_later, rose_earlier, specified_from}
-use Rattle.desk_core.proofs.WholeLemmas.{through_from}
+use Rattle.desk_core.proofs.DeskLemmas.{rose_later, rose_earlier, never_fall_trans, specified_from}
+use Rattle.equation_eval.specs.Evaluation.{Evaluation}
 use Rattle.front_end.specs.Faults.{HasProgram}
 use Rattle.front_end.specs.declared.fault.FrontFault.TheVariants as front
-use Rattle.sample_io.specs.declared.channel.Channel.{Channel}
-use Rattle.sample_io.specs.declared.RowList.{RowList}
+use Rattle.front_end.proofs.OneAnswer.{one_program}
+use Rattle.loop_expand.proofs.ProgramKeeps.{rows_are}
+use Rattle.loop_expand.proofs.ProgramSystem.{solves_system}
 use Rattle.sample_io.specs.Channels.{IsStream}
-use Rattle.sample_io.specs.Samples.{printed, stream_of}
+use Rattle.sample_io.specs.Samples.{printed}
+use Rattle.sample_loops.specs.Evaluators.{type_channel, graph_channels, SolvesRows, EvaluatesRows}
+use Rattle.sample_loops.specs.Streams.{IsRunThrough}
+use Rattle.sample_loops.specs.declared.stream.StreamFault.{StreamFault}
+use Rattle.sample_loops.specs.declared.stream.StreamFault.TheVariants as stream
+use Rattle.sample_loops.proofs.TypedRows.{graph_stream}
 use Rattle.signal_graph.specs.declared.graph.Graph.{Graph}
+use Rattle.signal_graph.specs.GraphSolves.{GraphSolves, graph_out}
 use Rattle.signal_graph.specs.Keeps.{IsStreamOf}
-use Rattle.loop_expand.proofs.ProgramKeeps.{rows_are, any_rows}
+use Rattle.signal_graph.specs.Values as graph
 use Rattle.silage_syntax.specs.Tree.{Program}
 use Rattle.silage_meaning.specs.Solves as program
 use Rattle.silc_files.specs.declared.files.Input.{Input}
 use Rattle.silc_files.specs.declared.files.Input.TheVariants.{Whole, TooLong}
+use Rattle.silc_files.specs.Endings.{ChangesOnly, UsesOnly}
+use Rattle.silc_files.specs.Limits.{text_limit, samples_limit}
+use Rattle.silc_files.specs.Reading.{OnlyReads, IsInput}
+use Rattle.silc_files.proofs.Endings.{unchanged_trans, unchanged_still, specified_still, rejected_still, finished_still}
+use Rattle.plan_commands.specs.Planning.{IsGraphFor}
+use Rattle.sample_commands.specs.Eval.{program_channels, IsSolutionRows, IsEvalUnread, IsEvalStopped, IsEvalDone, IsEvalAnswer}
+use Rattle.sample_commands.specs.Samples.{AreSamples, IsEndedEarly}
+use Rattle.sample_commands.specs.StreamEnds.{status_of}
+use Rattle.sample_commands.specs.Private.Evaluating.{IsSourceRead, IsSourceError, IsEvaluatorOf, EvaluatesFiles, IsEvalOver}
+use Rattle.sample_commands.specs.Private.Streaming.{IsOpened, IsNotOpened, StreamsOnly}
+use Rattle.sample_commands.proofs.EarlyEnds.{ended_early, run_finished, run_samples_are, run_stream_is, run_put, opened_from, ended_still}
+use Rattle.statuses.specs.declared.status.SampleFault.TheVariants as sample_fault
 use Rattle.statuses.specs.declared.status.Status.{Status}
 use Rattle.statuses.specs.declared.status.Status.TheVariants as status
 use Rattle.statuses.specs.declared.status.Status.TheVariants.{Done, Memory, Words, Desk, FrontEnd, Path, LinesFull, Period, FileFull, Image, Samples, Conflict}
-use Rattle.silc_files.specs.Endings.{IsNotWritten, IsFinished}
-use Rattle.sample_commands.specs.Eval.{type_channel, program_channels, IsEvalUnread, IsEvalError, IsEvalDone, IsEvalCutShort, IsEvalAnswer}
-use Rattle.silc_files.specs.Limits.{text_limit, samples_limit}
-use Rattle.sample_commands.specs.Samples.{AreSamples, IsSampleFault}
-use Rattle.sample_commands.specs.Private.Evaluating.{AreGraphRows, IsEvaluated, IsSourceRead, IsSourceError, IsMadeText}
-use Rattle.plan_commands.specs.Planning.{IsGraphFor}
-use Rattle.silc_files.specs.Reading.{OnlyReads, IsInput}
-use Rattle.sample_commands.specs.Private.SampleRows.{AreRowsRead, IsRowsError}
-use Rattle.front_end.proofs.OneAnswer.{one_program}
-use Rattle.silc_files.proofs.Endings.{reads_both, unchanged_still, specified_still, rejected_still, finished_still, not_written_still}
-use Rattle.sample_commands.proofs.SampleErrors.{each_rows_error}
-use Rattle.sample_commands.proofs.TypedRows.{graph_stream}
 
 -- SRC was accepted
 pub source_read : (src : Name) (desk : View) (input : Input) (bytes : Content) (p : Program) (g : Graph) → input ≡ Whole bytes
@@ -52,98 +59,128 @@ pub source_too_long : (src : Name) (old new : View) (input : Input) → ((bytes 
 source_too_long src old new (Whole bytes) other read long status e = absurd (other bytes refl)
 source_too_long src old new TooLong other read long status e = subst (IsSourceError src old new) (sym e) (tt, read, long)
 
+-- the evaluator of its graph was made
+pub its_evaluator : (src : Name) (desk : View) (p : Program) (g : Graph) (e : Evaluation) → IsSourceRead src desk p g → e.graph ≡ g → e.ran ≡ []
+    → IsEvaluatorOf src desk e
+its_evaluator src desk p g e read same fresh = record { program = p; source = subst (IsSourceRead src desk p) (sym same) read; fresh = fresh }
+
 -- rows of the channels of the graph's inputs are valid rows of the program
 pub program_stream : (p : Program) (g : Graph) → IsGraphFor p g → (stream : Rows) → IsStream (map type_channel g.inputs) stream → program.IsStream p stream
 program_stream p g graph stream rows =
     (rows_are p stream).1 (subst (λ types. IsStreamOf types stream) graph.keeps.inputs (graph_stream g.inputs stream graph.sound.inputs rows))
 
--- the channels of the graph's inputs are those of the program's
-module _ (src samples : Name) (old mid new : View) (first : OnlyReads src src old mid) (second : OnlyReads samples samples mid new)
-    (p : Program) (g : Graph) (source : IsSourceRead src old p g) (channels : List Channel) (are : channels ≡ map type_channel g.inputs) where
-  same_channels : channels ≡ program_channels p
-  same_channels = are ∙ ap (map type_channel) source.graph.keeps.inputs
+-- what an evaluator puts from its first sample on
+fresh_solves : (e : Evaluation) → e.ran ≡ [] → (rows puts : Rows) → SolvesRows e rows puts
+    → (words : graph.Words) → GraphSolves e.graph rows words → puts ≡ graph_out e.graph words (length rows)
+fresh_solves e fresh rows puts h = subst (λ (ran : Rows). SolvesRows (record { graph = e.graph; ran = ran }) rows puts) fresh h
 
-  both : OnlyReads src samples old new
-  both = reads_both src samples old mid new first second
+-- the evaluator was made, and then it was run over the files
+module _ (src samples out : Name) (old mid new : View) (evaluator : Evaluation) (first : OnlyReads src src old mid) (is : IsEvaluatorOf src old evaluator) where
+  pub eval_uses : StreamsOnly samples out mid new → UsesOnly src samples out old new
+  eval_uses only = record {
+    files = specified_from (ChangesOnly out) old.files mid.files new.files first.unchanged.files only.files;
+    printed = only.printed ∙ first.unchanged.printed;
+    reads = λ s not_src not_samples t. first.begins s not_src not_src (only.reads s not_samples t);
+    writes = λ s ne t. ap (λ (f : Name → Bool). f s) (sym first.unchanged.writes) ∙ only.writes s ne t;
+  }
 
-  -- why no rows were read is why `eval` ends
-  pub rows_error : (status : Status) → IsRowsError samples channels mid new status → IsEvalError src samples old new status
-  rows_error =
-      each_rows_error samples channels mid new (IsEvalError src samples old new) both.unchanged
-      (λ rose. record {
-        unchanged = both.unchanged;
-        rose = inr (rose_later _ _ _ (first.never_fall.reading samples) rose, λ files is. (p, source.specified files is));
-      })
-      (λ fault bad. record {
-        unchanged = both.unchanged;
-        read = through_from samples samples_limit old mid new first.unchanged.files bad.read;
-        why = λ files is.
-            (p, source.specified files is, subst (λ cs. IsSampleFault cs (content_of (files samples)) fault) same_channels (bad.why files (first.unchanged.files ∙ is)));
-      })
+  its_channels : graph_channels evaluator.graph ≡ program_channels is.program
+  its_channels = ap (map type_channel) is.source.graph.keeps.inputs
 
-  module _ (list : RowList) (rows : AreRowsRead samples channels mid new list) where
-    -- the rows are rows for the graph
-    pub list_rows : AreGraphRows g list
-    list_rows = record {
-      width = rows.width;
-      rows = graph_stream g.inputs (stream_of list) source.graph.sound.inputs (subst (λ cs. IsStream cs (stream_of list)) are rows.stream);
-      few = rows.few;
+  -- the rows that it puts are those of the program's one solution
+  solution_rows : (rows puts : Rows) → IsStream (graph_channels evaluator.graph) rows → SolvesRows evaluator rows puts → IsSolutionRows is.program rows puts
+  solution_rows rows puts valid h =
+      let keeps = is.source.graph.keeps in
+      let stream = program_stream is.program evaluator.graph is.source.graph rows valid in
+      let (its, one) = keeps.one_solution rows stream in
+      let (words, theirs, equal) = (keeps.solutions rows stream).forth its ((solves_system is.program rows its).0 one.solves) in
+      record { words = its; one = one; puts_are = fresh_solves evaluator is.fresh rows puts h words theirs.solves ∙ equal }
+
+  -- SAMPLES or OUT could not be opened
+  eval_not_opened : IsNotOpened samples out mid new → IsEvalAnswer src samples out old new Desk
+  eval_not_opened = ⊎_elim
+      (λ unread. inl (record {
+        unchanged = unchanged_trans old mid new first.unchanged unread.0;
+        rose = inr (rose_later _ _ _ (first.never_fall.reading samples) unread.1, λ files at. (is.program, is.source.specified files at));
+      }))
+      (λ not. inr (record {
+        program = is.program;
+        specified = is.source.specified;
+        ended = inl (record { rose = rose_later _ _ _ (first.never_fall.writing out) not.rose; files = not.files ∙ first.unchanged.files });
+      }))
+
+  module _ (ending : Status) (ran : EvaluatesFiles samples out evaluator mid new ending) where
+    fall : FaultsNeverFall old ran.mid
+    fall = never_fall_trans old mid ran.mid first.never_fall ran.never_fall
+
+    opened : IsOpened samples out old ran.mid
+    opened = opened_from samples out old mid ran.mid first.unchanged.files ran.opened
+
+    stopped_eval : (fault : StreamFault) → IsEndedEarly samples out (graph_channels evaluator.graph) (IsSolutionRows is.program) (λ rows conflict. ⊥) old new fault
+        → IsEvalStopped src samples out old new fault
+    stopped_eval fault h = record {
+      program = is.program;
+      specified = is.source.specified;
+      ended = subst (λ cs. IsEndedEarly samples out cs (IsSolutionRows is.program) (λ rows conflict. ⊥) old new fault) its_channels h;
     }
 
-    its_stream : program.IsStream p (stream_of list)
-    its_stream = program_stream p g source.graph (stream_of list) (subst (λ cs. IsStream cs (stream_of list)) are rows.stream)
+    eval_stopped : (fault : StreamFault) → IsEndedEarly samples out (graph_channels evaluator.graph) (IsSolutionRows is.program) (λ rows conflict. ⊥) old new fault
+        → IsEvalAnswer src samples out old new (status_of fault)
+    eval_stopped stream.Desk h = inr (stopped_eval stream.Desk h)
+    eval_stopped (stream.Row fault) h = stopped_eval (stream.Row fault) h
+    eval_stopped stream.TooLong h = stopped_eval stream.TooLong h
+    eval_stopped (stream.Conflict conflict) h = absurd h.met
 
-    -- the text of the graph's solution is that of the program's
-    pub made_text : (text : Content) → IsEvaluated g (stream_of list) text → IsMadeText src samples old new text
-    made_text text done =
-        let (its, one) = source.graph.keeps.one_solution (stream_of list) its_stream in
-        let rows_same = any_rows p g source.graph.sound source.graph.keeps (stream_of list) its_stream its done.words one.solves done.one.solves in
+    eval_done : IsRunThrough (samples_limit + 1) (graph_channels evaluator.graph) (λ rows puts. EvaluatesRows evaluator rows puts ran.after) ran.mid new
+        → IsEvalDone src samples out old new
+    eval_done h =
+        let valid = run_stream_is samples out old ran.mid new fall opened ran.only (graph_channels evaluator.graph) _ h in
+        let rows = solution_rows h.rows h.put.puts valid h.put.given.put in
         record {
-          read = through_from samples samples_limit old mid new first.unchanged.files rows.read;
-          p = p;
-          stream = stream_of list;
-          solution = record { words = its; one = one; text_is = done.text_is ∙ ap printed rows_same };
-          specified = λ files is. record {
-            source = source.specified files is;
-            samples_are = subst (λ cs. AreSamples cs (content_of (files samples)) (stream_of list)) same_channels (rows.specified files (first.unchanged.files ∙ is));
+          finished = run_finished samples out old ran.mid new fall opened ran.only (graph_channels evaluator.graph) _ h;
+          program = is.program;
+          stream = h.rows;
+          text = printed h.put.puts;
+          solution = record { words = rows.words; one = rows.one; text_is = ap printed rows.puts_are };
+          specified = λ files at. record {
+            source = is.source.specified files at;
+            samples_are = subst (λ cs. AreSamples cs (content_of (files samples)) h.rows) its_channels
+                (run_samples_are samples out old ran.mid new fall opened ran.only (graph_channels evaluator.graph) _ h files at);
           };
+          put = run_put samples out old ran.mid new fall opened ran.only (graph_channels evaluator.graph) _ h;
         }
 
+    eval_ran : IsEvalAnswer src samples out old new ending
+    eval_ran = ⊎_elim
+        (λ done. subst (IsEvalAnswer src samples out old new) (sym done.0) (eval_done done.1))
+        (λ stopped.
+        subst (IsEvalAnswer src samples out old new) (sym stopped.1)
+        (eval_stopped stopped.0
+        (ended_early samples out old ran.mid new fall opened ran.only (graph_channels evaluator.graph) (SolvesRows evaluator) (IsSolutionRows is.program)
+        (λ rows conflict. ⊥) (λ rows conflict. ⊥) solution_rows (λ rows conflict valid met. met) stopped.0 stopped.2)))
+        ran.ends
+
+  pub eval_answer : (ending : Status) → IsEvalOver samples out evaluator mid new ending → IsEvalAnswer src samples out old new ending
+  eval_answer ending = ⊎_elim
+      (λ desk. subst (IsEvalAnswer src samples out old new) (sym desk.0) (eval_not_opened desk.1))
+      (λ ran. eval_ran ending ran)
+
 -- why SRC has no program is why `eval` ends
-pub source_error : (src samples : Name) (old new : View) → OnlyReads src src old new → (status : Status) → IsSourceError src old new status → IsEvalError src samples old new status
-source_error src samples old new reads Memory h = reads.unchanged
-source_error src samples old new reads Desk h = record { unchanged = reads.unchanged; rose = inl h }
-source_error src samples old new reads (FrontEnd fault) h = (h.0, record { unchanged = reads.unchanged; read = h.1; why = h.2 })
-source_error src samples old new reads Done h = absurd h
-source_error src samples old new reads Words h = absurd h
-source_error src samples old new reads (Path fault) h = absurd h
-source_error src samples old new reads (status.Unit refusal) h = absurd h
-source_error src samples old new reads (LinesFull node) h = absurd h
-source_error src samples old new reads (Period node) h = absurd h
-source_error src samples old new reads (FileFull unit port node) h = absurd h
-source_error src samples old new reads (Image fault) h = absurd h
-source_error src samples old new reads (Samples fault) h = absurd h
-source_error src samples old new reads (Conflict conflict) h = absurd h
-
--- OUT was written
-pub solved : (src samples out : Name) (old mid new : View) (text : Content) → IsMadeText src samples old mid text → mid.files ≡ old.files
-    → IsFinished samples samples_limit old new → IfSpecified (IsPut out text) mid.files new.files → IsEvalDone src samples out old new
-solved src samples out old mid new text made same finished written = record {
-  finished = finished;
-  program = made.p;
-  stream = made.stream;
-  text = text;
-  solution = made.solution;
-  specified = made.specified;
-  put = specified_from (IsPut out text) old.files mid.files new.files same written;
-}
-
--- writing it failed
-pub not_solved : (src samples out : Name) (old mid new : View) (text : Content) (status : Status) → status ≡ Desk → IsMadeText src samples old mid text
-    → IsNotWritten samples samples_limit out text old new → IsEvalAnswer src samples out old new status
-not_solved src samples out old mid new text status desk made written =
-    subst (IsEvalAnswer src samples out old new) (sym desk)
-    (inr (record { program = made.p; stream = made.stream; text = text; solution = made.solution; specified = made.specified; written = written }))
+pub source_error : (src samples out : Name) (old new : View) → OnlyReads src src old new → (status : Status) → IsSourceError src old new status
+    → IsEvalAnswer src samples out old new status
+source_error src samples out old new reads Memory h = reads.unchanged
+source_error src samples out old new reads Desk h = inl (record { unchanged = reads.unchanged; rose = inl h })
+source_error src samples out old new reads (FrontEnd fault) h = (h.0, record { unchanged = reads.unchanged; read = h.1; why = h.2 })
+source_error src samples out old new reads Done h = absurd h
+source_error src samples out old new reads Words h = absurd h
+source_error src samples out old new reads (Path fault) h = absurd h
+source_error src samples out old new reads (status.Unit refusal) h = absurd h
+source_error src samples out old new reads (LinesFull node) h = absurd h
+source_error src samples out old new reads (Period node) h = absurd h
+source_error src samples out old new reads (FileFull unit port node) h = absurd h
+source_error src samples out old new reads (Image fault) h = absurd h
+source_error src samples out old new reads (Samples fault) h = absurd h
+source_error src samples out old new reads (Conflict conflict) h = absurd h
 
 -- a report of the error leaves the answer of `eval` as it is
 module _ (src samples out : Name) (old mid new : View) (same : IsUnchanged mid new) (later : FaultsNeverFall mid new) (before : FaultsNeverFall old mid) where
@@ -153,14 +190,11 @@ module _ (src samples out : Name) (old mid new : View) (same : IsUnchanged mid n
     rose = ⊎_elim (λ r. inl (rose_earlier _ _ _ (before.reading src) r (later.reading src))) (λ r. inr (rose_earlier _ _ _ (before.reading samples) r.0 (later.reading samples), r.1)) h.rose;
   }
 
-  pub eval_cut_short_still : IsEvalCutShort src samples out old mid → IsEvalCutShort src samples out old new
-  eval_cut_short_still h = record {
+  eval_stopped_still : (fault : StreamFault) → IsEvalStopped src samples out old mid fault → IsEvalStopped src samples out old new fault
+  eval_stopped_still fault h = record {
     program = h.program;
-    stream = h.stream;
-    text = h.text;
-    solution = h.solution;
     specified = h.specified;
-    written = not_written_still old mid new same samples out samples_limit h.text before later h.written;
+    ended = ended_still samples out old mid new same later before (program_channels h.program) (IsSolutionRows h.program) (λ rows conflict. ⊥) fault h.ended;
   }
 
   abbrev pub eval_done_still : IsEvalDone src samples out old mid → IsEvalDone src samples out old new
@@ -177,9 +211,10 @@ module _ (src samples out : Name) (old mid new : View) (same : IsUnchanged mid n
   pub eval_reported : (status : Status) → IsEvalAnswer src samples out old mid status → IsEvalAnswer src samples out old new status
   eval_reported Done h = eval_done_still h
   eval_reported Memory h = unchanged_still old mid new same h
-  eval_reported Desk h = ⊎_elim (λ early. inl (eval_unread_still early)) (λ late. inr (eval_cut_short_still late)) h
+  eval_reported Desk h = ⊎_elim (λ early. inl (eval_unread_still early)) (λ late. inr (eval_stopped_still stream.Desk late)) h
   eval_reported (FrontEnd fault) h = (h.0, rejected_still old mid new same src text_limit _ h.1)
-  eval_reported (Samples fault) h = rejected_still old mid new same samples samples_limit _ h
+  eval_reported (Samples (sample_fault.Row line at)) h = eval_stopped_still (stream.Row (record { line = line; at = at })) h
+  eval_reported (Samples sample_fault.TooLong) h = eval_stopped_still stream.TooLong h
   eval_reported Words h = h
   eval_reported (Path fault) h = h
   eval_reported (status.Unit refusal) h = h

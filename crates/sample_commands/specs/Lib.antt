@@ -1,4 +1,5 @@
 pub mod Samples
+pub mod StreamEnds
 pub mod Sim
 pub mod Eval
 pub mod Run

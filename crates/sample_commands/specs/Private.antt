@@ -1,4 +1,4 @@
-pub mod SampleRows
 pub mod Running
+pub mod Streaming
 pub mod Evaluating
 pub mod Executing

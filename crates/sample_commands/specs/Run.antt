@@ -9,15 +9,17 @@ use Rattle.micro_image.specs.declared.image.Image.{Image}
 use Rattle.plan_core.specs.declared.plan.Plan.{Plan}
 use Rattle.plan_run.specs.ImageOf.{IsImageOf}
 use Rattle.silage_syntax.specs.Tree.{Program}
-use Rattle.silc_files.specs.Endings.{IsRejected, ChangesOnly}
-use Rattle.sample_commands.specs.Eval.{HasNoSamples, IsEvalDone, IsEvalCutShort}
-use Rattle.silc_files.specs.Limits.{samples_limit}
+use Rattle.silc_files.specs.Endings.{ChangesOnly}
+use Rattle.sample_loops.specs.declared.stream.StreamFault.{StreamFault}
+use Rattle.sample_loops.specs.declared.stream.StreamFault.TheVariants as stream
+use Rattle.sample_commands.specs.Eval.{IsSolutionRows, IsEvalDone, program_channels}
 use Rattle.plan_commands.specs.Plans.{IsPlannedOver}
 use Rattle.plan_commands.specs.Refusals.{IsPlanError}
+use Rattle.sample_commands.specs.Samples.{IsEndedEarly}
 use Rattle.sample_commands.specs.Sim.{HasRun}
 use Rattle.sample_commands.specs.declared.simulator.Kept.{Kept}
 use Rattle.sample_commands.specs.declared.simulator.Kept.TheVariants.{One}
-use Rattle.statuses.specs.declared.status.SampleFault.{SampleFault}
+use Rattle.statuses.specs.declared.status.SampleFault.TheVariants as sample_fault
 use Rattle.statuses.specs.declared.status.Status.{Status}
 use Rattle.statuses.specs.declared.status.Status.TheVariants as status
 
@@ -31,26 +33,27 @@ abbrev pub HasSomePlan : Name → Name → Files → Type 0
 HasSomePlan src datapath files =
     (program : Program) × (d : Datapath) × (plan : Plan) × HasPlanIn src datapath program d plan files
 
--- SRC's program has a plan over DP's datapath, and SAMPLES no stream for the program
-abbrev pub HasPlanAlone : Name → Name → Name → SampleFault → Files → Type 0
-HasPlanAlone src datapath samples fault files = HasSomePlan src datapath files × HasNoSamples src samples fault files
-
--- SRC's program has a plan over DP's datapath, and SAMPLES could not be read; at most the input and the faults changed
+-- SRC's program has a plan over DP's datapath, and SAMPLES could not be opened; at most the input and the faults changed
 pub record AreSamplesUnread (src datapath samples : Name) (old new : View) : Type 0 where
   pub unchanged : IsUnchangedButInput old new
   pub rose : ReadFaultsRose samples old new
   pub planned : WhereSpecified old (HasSomePlan src datapath)
 
--- Why `run` ends before it creates OUT. The source is refused as `compile` refuses it, before SAMPLES is opened. The
--- microcode of a plan is an image, whose run meets no conflict.
+-- Why `run` ends before it opens SAMPLES: the source is refused as `compile` refuses it. Or SAMPLES could not be opened.
 abbrev pub IsNotRun : Name → Name → Name → View → View → Status → Type 0
 IsNotRun src datapath samples old new status.Desk =
     IsPlanError src datapath old new status.Desk ⊎ AreSamplesUnread src datapath samples old new
-IsNotRun src datapath samples old new (status.Samples fault) =
-    IsRejected samples samples_limit (HasPlanAlone src datapath samples fault) old new
-IsNotRun src datapath samples old new (status.Image fault) = ⊥
-IsNotRun src datapath samples old new (status.Conflict conflict) = ⊥
 IsNotRun src datapath samples old new error = IsPlanError src datapath old new error
+
+-- SRC's program has a plan over DP's datapath, and the run over SAMPLES, which was opened, did not come to its end. What
+-- OUT has is of the program's one solution over the rows before.
+pub record IsRunStopped (src datapath samples out : Name) (old new : View) (fault : StreamFault) : Type 0 where
+  pub program : Program
+  pub path : Datapath
+  pub plan : Plan
+  pub planned : WhereSpecified old (HasPlanIn src datapath program path plan)
+  pub ended : IsEndedEarly samples out (program_channels program) (IsSolutionRows program) (λ rows conflict. ⊥)
+      old new fault
 
 -- OUT has what `eval` writes, the output rows of the one solution of SRC's program over the stream of SAMPLES. The
 -- image of the program's plan over DP's datapath ran this stream to its end and put these rows, and the machine that
@@ -66,16 +69,17 @@ pub record IsRunDone (src datapath samples out : Name) (old new : View) (kept : 
   pub ran : HasRun image solved.stream machine solved.text
   pub kept_is : kept ≡ One machine
 
--- writing OUT failed, after the image of the plan ran the stream of SAMPLES to its end
-pub record IsRunCutShort (src datapath samples out : Name) (old new : View) : Type 0 where
-  pub cut_short : IsEvalCutShort src samples out old new
-  pub planned : WhereSpecified old (HasSomePlan src datapath)
-
--- when each status comes
+-- When each status comes. The microcode of a plan is an image, whose run meets no conflict.
 abbrev pub IsRunAnswer : Name → Name → Name → Name → View → View → Kept → Status → Type 0
 IsRunAnswer src datapath samples out old new kept status.Done = IsRunDone src datapath samples out old new kept
 IsRunAnswer src datapath samples out old new kept status.Desk =
-    IsNotRun src datapath samples old new status.Desk ⊎ IsRunCutShort src datapath samples out old new
+    IsNotRun src datapath samples old new status.Desk ⊎ IsRunStopped src datapath samples out old new stream.Desk
+IsRunAnswer src datapath samples out old new kept (status.Samples (sample_fault.Row line at)) =
+    IsRunStopped src datapath samples out old new (stream.Row (record { line = line; at = at }))
+IsRunAnswer src datapath samples out old new kept (status.Samples sample_fault.TooLong) =
+    IsRunStopped src datapath samples out old new stream.TooLong
+IsRunAnswer src datapath samples out old new kept (status.Image fault) = ⊥
+IsRunAnswer src datapath samples out old new kept (status.Conflict conflict) = ⊥
 IsRunAnswer src datapath samples out old new kept error = IsNotRun src datapath samples old new error
 
 -- no name but these three begins to be read

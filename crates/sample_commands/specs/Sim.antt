@@ -1,33 +1,28 @@
 -- What `sim MIC SAMPLES OUT` reads and runs, when each of its statuses comes, and what it leaves.
-use Rattle.std.specs.Prelude.{◌≡◌, ◌⊎◌, ◌*◌, ◌<◌, ◌≤◌, List, length, map}
+use Rattle.std.specs.Prelude.{◌≡◌, ◌⊎◌, ◌<◌, ◌≤◌, length}
 use Rattle.lists.specs.Rows.{Rows}
 use Rattle.cycle_sim.specs.Machine.{Snapshot, state_of}
 use Rattle.desk_core.specs.View.{Name, Content, Files, View}
 use Rattle.desk_core.specs.Desk.{IfSpecified, WhereSpecified, ReadFaultsRose, IsPut, content_of}
 use Rattle.desk_core.specs.Whole.{IsUnchangedButInput}
 use Rattle.micro_file.specs.declared.fault.FormFault.TheVariants as form
-use Rattle.micro_image.specs.declared.conflict.Conflict.{Conflict}
 use Rattle.micro_image.specs.declared.image.Image.{Image}
-use Rattle.micro_image.specs.Conflict.{IsConflict, IsClearBelow}
 use Rattle.micro_image.specs.Run.{Stands, IsRunOut, spread}
 use Rattle.micro_image.specs.Spells.{Spells}
-use Rattle.sample_io.specs.declared.channel.Channel.{Channel}
-use Rattle.sample_io.specs.Channels.{channel_of}
 use Rattle.sample_io.specs.Samples.{printed}
-use Rattle.silc_files.specs.Endings.{IsRejected, IsNotWritten, IsFinished}
+use Rattle.sample_loops.specs.Machines.{channels_of, IsConflictInLast}
+use Rattle.sample_loops.specs.declared.stream.StreamFault.{StreamFault}
+use Rattle.sample_loops.specs.declared.stream.StreamFault.TheVariants as stream
+use Rattle.silc_files.specs.Endings.{IsRejected, IsFinished}
 use Rattle.silc_files.specs.Limits.{microcode_limit, samples_limit}
-use Rattle.sample_commands.specs.Samples.{AreSamples, IsSampleFault}
+use Rattle.sample_commands.specs.Samples.{AreSamples, IsEndedEarly}
 use Rattle.sample_commands.specs.declared.simulator.Kept.{Kept}
 use Rattle.sample_commands.specs.declared.simulator.Kept.TheVariants.{One}
 use Rattle.statuses.specs.declared.status.ImageFault.{ImageFault}
 use Rattle.statuses.specs.declared.status.ImageFault.TheVariants as image_fault
-use Rattle.statuses.specs.declared.status.SampleFault.{SampleFault}
+use Rattle.statuses.specs.declared.status.SampleFault.TheVariants as sample_fault
 use Rattle.statuses.specs.declared.status.Status.{Status}
 use Rattle.statuses.specs.declared.status.Status.TheVariants as status
-
--- a channel for each input word
-abbrev pub channels_of : Image → List Channel
-channels_of image = map channel_of image.inputs
 
 -- the bytes are within the limit and spell the image
 pub record IsMicrocodeOf (content : Content) (image : Image) : Type 0 where
@@ -42,12 +37,6 @@ pub record HasRun (image : Image) (stream : Rows) (machine : Snapshot) (text : C
   pub rows : Rows
   pub run : IsRunOut image stream rows
   pub text_is : text ≡ printed rows
-
--- the first conflict of the image's run over the stream
-pub record IsFirstConflict (image : Image) (stream : Rows) (conflict : Conflict) : Type 0 where
-  pub there : IsConflict image (spread image.period stream) conflict
-  pub clear : IsClearBelow image (spread image.period stream) conflict.cycle
-  pub within : conflict.cycle < length stream * image.period
 
 -- the bytes spell no image
 abbrev pub SpellsNone : Content → Type 0
@@ -81,33 +70,16 @@ pub record HasStream (mic samples : Name) (image : Image) (stream : Rows) (files
 abbrev pub HasImageFault : Name → ImageFault → Files → Type 0
 HasImageFault mic fault files = IsImageFault (content_of (files mic)) fault
 
--- MIC has an image, and SAMPLES has no stream for it
-abbrev pub HasSampleFault : Name → Name → SampleFault → Files → Type 0
-HasSampleFault mic samples fault files =
-    (image : Image) × HasImage mic files image × IsSampleFault (channels_of image) (content_of (files samples)) fault
-
--- MIC's image has a conflict in its run over the stream of SAMPLES
-abbrev pub HasConflict : Name → Name → Conflict → Files → Type 0
-HasConflict mic samples conflict files =
-    (image : Image) × (stream : Rows) × HasStream mic samples image stream files × IsFirstConflict image stream conflict
-
--- MIC could not be read, or it has an image and SAMPLES could not be read; at most the input and the faults changed
+-- MIC could not be read, or it has an image and SAMPLES could not be opened; at most the input and the faults changed
 pub record IsSimUnread (mic samples : Name) (old new : View) : Type 0 where
   pub unchanged : IsUnchangedButInput old new
   pub rose : ReadFaultsRose mic old new ⊎ (ReadFaultsRose samples old new × WhereSpecified old (HasSomeImage mic))
 
--- Why `sim` ends before it creates OUT. Each input is read through before it is judged, and an error of SAMPLES comes
--- only where MIC has an image.
-abbrev pub IsSimError : Name → Name → View → View → Status → Type 0
-IsSimError mic samples old new status.Memory = IsUnchangedButInput old new
-IsSimError mic samples old new status.Desk = IsSimUnread mic samples old new
-IsSimError mic samples old new (status.Image fault) =
-    IsOfMicrocode fault × IsRejected mic microcode_limit (HasImageFault mic fault) old new
-IsSimError mic samples old new (status.Samples fault) =
-    IsRejected samples samples_limit (HasSampleFault mic samples fault) old new
-IsSimError mic samples old new (status.Conflict conflict) =
-    IsRejected samples samples_limit (HasConflict mic samples conflict) old new
-IsSimError mic samples old new _ = ⊥
+-- MIC has the image, and its run over SAMPLES, which was opened, did not come to its end
+pub record IsSimStopped (mic samples out : Name) (old new : View) (fault : StreamFault) : Type 0 where
+  pub image : Image
+  pub specified : WhereSpecified old (λ files. HasImage mic files image)
+  pub ended : IsEndedEarly samples out (channels_of image) (IsRunOut image) (IsConflictInLast image) old new fault
 
 -- MIC's image ran the stream of SAMPLES, as the files were at the start, to its end; OUT has the rows of the run, and
 -- every other file is as it was
@@ -120,23 +92,24 @@ pub record IsSimulated (mic samples out : Name) (machine : Snapshot) (old new : 
   pub specified : WhereSpecified old (HasStream mic samples image stream)
   pub put : IfSpecified (IsPut out text) old.files new.files
 
--- writing OUT failed, after MIC's image ran the stream of SAMPLES to its end
-pub record IsSimCutShort (mic samples out : Name) (old new : View) : Type 0 where
-  pub image : Image
-  pub stream : Rows
-  pub rows : Rows
-  pub run : IsRunOut image stream rows
-  pub specified : WhereSpecified old (HasStream mic samples image stream)
-  pub written : IsNotWritten samples samples_limit out (printed rows) old new
-
 -- `sim` is done: it wrote the rows of the run, and keeps the machine that ran
 abbrev pub IsSimDone : Name → Name → Name → View → View → Kept → Type 0
 IsSimDone mic samples out old new kept =
     (machine : Snapshot) × (kept ≡ One machine) × IsSimulated mic samples out machine old new
 
--- when each status comes
+-- When each status comes. MIC is read through and judged before SAMPLES is opened and OUT created, and all memory is
+-- taken before.
 abbrev pub IsSimAnswer : Name → Name → Name → View → View → Kept → Status → Type 0
 IsSimAnswer mic samples out old new kept status.Done = IsSimDone mic samples out old new kept
+IsSimAnswer mic samples out old new kept status.Memory = IsUnchangedButInput old new
 IsSimAnswer mic samples out old new kept status.Desk =
-    IsSimUnread mic samples old new ⊎ IsSimCutShort mic samples out old new
-IsSimAnswer mic samples out old new kept status = IsSimError mic samples old new status
+    IsSimUnread mic samples old new ⊎ IsSimStopped mic samples out old new stream.Desk
+IsSimAnswer mic samples out old new kept (status.Image fault) =
+    IsOfMicrocode fault × IsRejected mic microcode_limit (HasImageFault mic fault) old new
+IsSimAnswer mic samples out old new kept (status.Samples (sample_fault.Row line at)) =
+    IsSimStopped mic samples out old new (stream.Row (record { line = line; at = at }))
+IsSimAnswer mic samples out old new kept (status.Samples sample_fault.TooLong) =
+    IsSimStopped mic samples out old new stream.TooLong
+IsSimAnswer mic samples out old new kept (status.Conflict conflict) =
+    IsSimStopped mic samples out old new (stream.Conflict conflict)
+IsSimAnswer mic samples out old new kept _ = ⊥

@@ -1,31 +1,42 @@
 //! `eval SRC SAMPLES OUT`: from the bytes of a source and samples to the output rows of the source's one solution.
-ghost use Rattle.std.specs.Prelude.{◌≡◌, ◌≢◌, ◌<◌, ◌≤◌, [], ◌∷◌, ◌++◌, length, map, IfOk, IfErr, OnOk};
-ghost use Rattle.std.specs.List.{All, AllZip};
-ghost use Rattle.lists.specs.Rows.{Rows};
+ghost use Rattle.std.specs.Prelude.{◌≡◌, ◌≢◌, ◌≤◌, ◌^◌, [], map, IfOk, IfErr};
+ghost use Rattle.std.specs.List.{All};
 ghost use Rattle.desk_core.specs.Desk.{FaultsNeverFall};
 ghost use Rattle.sample_io.specs.Channels.{IsChannel};
-ghost use Rattle.sample_io.specs.Samples.{stream_of};
+ghost use Rattle.sample_io.specs.Pieces.{HasTaken};
+ghost use Rattle.sample_loops.specs.Evaluators.{channel_width, type_channel, graph_channels, EvaluatesRows, SolvesRows};
+ghost use Rattle.sample_loops.specs.Streams.{ChangesOutputAlone};
 ghost use Rattle.signal_graph.specs.GraphRules.{IsGraph};
 ghost use Rattle.signal_graph.specs.GraphSolves.{IsGraphLoopless};
-ghost use Rattle.signal_graph.specs.Rules.{IsType, IsInType};
-ghost use Rattle.signal_graph.specs.declared.graph.Graph.{Graph};
+ghost use Rattle.signal_graph.specs.Rules.{IsType};
 ghost use Rattle.silage_syntax.specs.Tree.{view};
 ghost use Rattle.silc_files.specs.Endings.{UsesOnly};
-ghost use Rattle.sample_commands.specs.Eval.{channel_width, type_channel, IsEvalError, IsEvalAnswer};
-ghost use Rattle.sample_commands.specs.Private.Evaluating.{AreGraphRows, HasEvaluated, IsEvaluated, IsSourceRead, IsSourceError, IsMadeText};
 ghost use Rattle.silc_files.specs.Reading.{OnlyReads};
+ghost use Rattle.sample_commands.specs.Eval.{IsEvalAnswer};
+ghost use Rattle.sample_commands.specs.StreamEnds.{EndsStream};
+ghost use Rattle.sample_commands.specs.Private.Evaluating.{IsSourceRead, IsSourceError, IsEvaluatorOf, IsEvalOver};
+ghost use Rattle.sample_commands.specs.Private.Streaming.{StreamsOnly};
+ghost use Rattle.statuses.specs.declared.status.Status.TheVariants.{Memory};
 
-use crate::samples::{ROW_WORDS, add_row, read_samples, row, row_count};
-use desk_core::{Desk, write_whole};
-use equation_eval::{EvalFault, Evaluator};
+use crate::streams::{SAMPLES_END, open_files, stream_status};
+use desk_core::Desk;
+use equation_eval::Evaluator;
 use fix_word::SigType;
 use front_end::{Accepted, FrontFault, accept};
-use lists::{Bytes, List};
-use sample_io::{Channel, RowList};
+use lists::List;
+use sample_io::{Channel, Rows};
+use sample_loops::eval_stream;
 use signal_graph::Graph;
 use silc_files::{Input, read_input};
 use statuses::{Ending, Status};
 use std::alloc::{AllocError, Global};
+
+/// An evaluator before its first sample, and the rows that its samples are read into.
+#[derive(Drop)]
+struct Ready {
+    evaluator: Evaluator,
+    rows: Rows,
+}
 
 /// Reads SRC, and makes the graph of its program.
 fn read_source<D: Desk>(alloc: Global, desk: &mut D, name: &str) -> Result<Accepted, Ending>
@@ -63,46 +74,87 @@ fn type_channels(alloc: Global, types: &[SigType]) -> Result<List<Channel>, Allo
     Ok(channels)
 }
 
-/// Evaluates a sample, and adds its output row to the text.
-fn evaluate_row(evaluator: &mut Evaluator, row: &[i64], text: &mut Bytes) -> Result<(), AllocError>
-    requires row { AllZip IsInType evaluator.old.inputs row.now }
-    requires some { 1 ≤ length evaluator.old.outputs }
-    requires few { length evaluator.old.outputs ≤ 16 }
-    ensures { (g : Graph) (stream : Rows) → HasEvaluated g stream evaluator.old text.old
-        → OnOk result (HasEvaluated g (stream ++ row.now ∷ []) evaluator.new text.new) }
-{
-    let mut words = [0i64; ROW_WORDS];
-    let put = &mut words[..evaluator.outs()];
-    evaluator.step(row, put);
-    add_row(text, put)
-}
-
-/// Evaluates the rows of the list, one a sample.
-fn evaluate(alloc: Global, graph: &Graph, list: &RowList) -> Result<Bytes, EvalFault>
+/// The evaluator of the graph before its first sample, and the rows that its samples are read into.
+fn ready_for(alloc: Global, graph: &Graph) -> Result<Ready, Status>
     requires sound { IsGraph graph.now }
     requires loopless { IsGraphLoopless graph.now }
-    requires rows { AreGraphRows graph.now list.now }
-    ensures { IfOk result (IsEvaluated graph.now (stream_of list.now)) }
+    ensures graph { IfOk result (λ ready. ready.evaluator.graph ≡ graph.now) }
+    ensures ran { IfOk result (λ ready. ready.evaluator.ran ≡ []) }
+    ensures channels { IfOk result (λ ready. ready.rows.channels ≡ graph_channels graph.now) }
+    ensures fresh { IfOk result (λ ready. HasTaken ready.rows [] []) }
+    ensures err { IfErr result (λ status. status ≡ Memory) }
 {
-    let mut evaluator = Evaluator::new(alloc, graph)?;
-    let mut text = Bytes::new(alloc);
-    for n in 0..row_count(list) {
-        evaluate_row(&mut evaluator, row(list, n), &mut text)?;
-    }
-    Ok(text)
+    let channels = type_channels(alloc, &graph.inputs)?;
+    let rows = Rows::new(alloc, &channels)?;
+    let evaluator = Evaluator::new(alloc, graph)?;
+    Ok(Ready { evaluator, rows })
 }
 
-/// Reads SRC and SAMPLES, and evaluates the one over the other.
-fn solve<D: Desk>(alloc: Global, desk: &mut D, source: &str, samples: &str) -> Result<Bytes, Ending>
-    ensures reads { OnlyReads source.now samples.now (D.view desk.old) (D.view desk.new) }
-    ensures ok { IfOk result (IsMadeText source.now samples.now (D.view desk.old) (D.view desk.new)) }
+/// Reads SRC, and takes all memory that an evaluation of its program needs.
+fn read_ready<D: Desk>(alloc: Global, desk: &mut D, source: &str) -> Result<Ready, Ending>
+    ensures reads { OnlyReads source.now source.now (D.view desk.old) (D.view desk.new) }
+    ensures evaluator { IfOk result (λ ready. IsEvaluatorOf source.now (D.view desk.old) ready.evaluator) }
+    ensures channels { IfOk result (λ ready. ready.rows.channels ≡ graph_channels ready.evaluator.graph) }
+    ensures fresh { IfOk result (λ ready. HasTaken ready.rows [] []) }
     ensures err { IfErr result (λ ending.
-        IsEvalError source.now samples.now (D.view desk.old) (D.view desk.new) ending.status) }
+        IsSourceError source.now (D.view desk.old) (D.view desk.new) ending.status) }
 {
     let accepted = read_source(alloc, desk, source)?;
-    let channels = type_channels(alloc, &accepted.graph.inputs)?;
-    let list = read_samples(alloc, desk, samples, &channels)?;
-    Ok(evaluate(alloc, &accepted.graph, &list)?)
+    Ok(ready_for(alloc, &accepted.graph)?)
+}
+
+/// Evaluates the rows of the desk's current input, writes the rows of output words to the current output, and closes it
+/// (docs/SAMPLES.md). `rows` is fresh, for the evaluator's input words, `outs` is how many output words it has, and
+/// `limit` is in bytes, at most 2^32.
+///
+/// `Samples` with the place where a line is no row, or `TooLong` at `limit` bytes, ends the evaluation: the output then
+/// has the rows of the samples before, and is closed. After `Desk`, where a call of the desk failed, it has a prefix of
+/// them. No memory is taken.
+pub fn eval_samples<D: Desk>(
+    evaluator: &mut Evaluator,
+    rows: &mut Rows,
+    outs: usize,
+    desk: &mut D,
+    limit: u64,
+) -> Status
+    requires outs { outs ≡ evaluator.old.graph.outs }
+    requires channels { rows.old.channels ≡ graph_channels evaluator.old.graph }
+    requires fresh { HasTaken rows.old [] [] }
+    requires start { (D.view desk.old).place ≡ 0 }
+    requires limit { limit ≤ 2 ^ 32 }
+    ensures never_fall { FaultsNeverFall (D.view desk.old) (D.view desk.new) }
+    ensures only { ChangesOutputAlone (D.view desk.old) (D.view desk.new) }
+    ensures ends { EndsStream limit (graph_channels evaluator.old.graph)
+        (λ ran puts. EvaluatesRows evaluator.old ran puts evaluator.new) (SolvesRows evaluator.old)
+        (λ ran conflict. ⊥) (D.view desk.old) (D.view desk.new) result }
+{
+    prove_eq!(outs, evaluator.outs());
+    match eval_stream(evaluator, rows, desk, limit) {
+        Ok(()) => Status::Done,
+        Err(fault) => stream_status(fault),
+    }
+}
+
+/// Evaluates SAMPLES into OUT.
+fn eval_ready<D: Desk>(ready: Ready, desk: &mut D, samples: &str, output: &str) -> Status
+    requires apart { output.now ≢ samples.now }
+    requires channels { ready.rows.channels ≡ graph_channels ready.evaluator.graph }
+    requires fresh { HasTaken ready.rows [] [] }
+    ensures faults { FaultsNeverFall (D.view desk.old) (D.view desk.new) }
+    ensures only { StreamsOnly samples.now output.now (D.view desk.old) (D.view desk.new) }
+    ensures over { IsEvalOver samples.now output.now ready.evaluator (D.view desk.old) (D.view desk.new) result }
+{
+    let Ready {
+        mut evaluator,
+        mut rows,
+    } = ready;
+    match open_files(desk, samples, output) {
+        Ok(()) => {
+            let outs = evaluator.outs();
+            eval_samples(&mut evaluator, &mut rows, outs, desk, SAMPLES_END)
+        }
+        Err(failed) => Status::from(failed),
+    }
 }
 
 /// Carries out `eval`.
@@ -118,11 +170,8 @@ pub fn eval<D: Desk>(
     ensures answer { IsEvalAnswer source.now samples.now output.now (D.view desk.old) (D.view desk.new) result.status }
     ensures only { UsesOnly source.now samples.now output.now (D.view desk.old) (D.view desk.new) }
 {
-    match solve(alloc, desk, source, samples) {
-        Ok(text) => match write_whole(desk, output, &text) {
-            Ok(()) => Ending::from(Status::Done),
-            Err(failed) => Ending::from(failed),
-        },
+    match read_ready(alloc, desk, source) {
+        Ok(ready) => Ending::from(eval_ready(ready, desk, samples, output)),
         Err(ending) => ending,
     }
 }

@@ -2,52 +2,38 @@
 ghost use Rattle.std.specs.Prelude.{◌≡◌, ◌≢◌, IfOk, IfErr};
 ghost use Rattle.desk_core.specs.Desk.{FaultsNeverFall};
 ghost use Rattle.plan_commands.specs.Refusals.{IsPlanError};
-ghost use Rattle.sample_commands.specs.Run.{IsNotRun, IsRunAnswer, RunUsesOnly};
-ghost use Rattle.sample_commands.specs.Private.Executing.{IsCompiledMachine, IsExecuted, OnlyReadsThree};
 ghost use Rattle.silc_files.specs.Reading.{OnlyReads};
+ghost use Rattle.sample_commands.specs.Run.{IsRunAnswer, RunUsesOnly};
+ghost use Rattle.sample_commands.specs.Private.Executing.{IsCompiledMachine};
+ghost use Rattle.sample_commands.specs.Private.Streaming.{AreFreshRows};
 ghost use Rattle.sample_commands.specs.declared.simulator.Kept.TheVariants.{Nothing};
 
-use crate::simulator::{Kept, Run, machine_of, put_rows, read_stream, run_rows};
-use cycle_sim::Machine;
+use crate::simulator::{Kept, Ready, machine_of, machine_rows, run_ready};
 use desk_core::Desk;
 use plan_commands::{microcode_of, read_plan};
 use statuses::{Ending, Status};
 use std::alloc::Global;
 
-/// Reads SRC and DP, and loads the microcode to which the one is compiled for the other, from its bytes.
-fn compiled_machine<D: Desk>(
+/// Reads SRC and DP, loads the microcode to which the one is compiled for the other, from its bytes, and takes all memory
+/// that a run of it needs.
+fn compiled_ready<D: Desk>(
     alloc: Global,
     desk: &mut D,
     source: &str,
     datapath: &str,
-) -> Result<Machine, Ending>
+) -> Result<Ready, Ending>
     ensures reads { OnlyReads source.now datapath.now (D.view desk.old) (D.view desk.new) }
-    ensures ok { IfOk result (IsCompiledMachine source.now datapath.now (D.view desk.old)) }
+    ensures machine { IfOk result (λ ready.
+        IsCompiledMachine source.now datapath.now (D.view desk.old) ready.machine) }
+    ensures rows { IfOk result (λ ready. AreFreshRows ready.machine.image ready.rows) }
     ensures err { IfErr result (λ ending.
         IsPlanError source.now datapath.now (D.view desk.old) (D.view desk.new) ending.status) }
 {
     let planned = read_plan(alloc, desk, source, datapath)?;
     let microcode = microcode_of(alloc, &planned)?;
-    Ok(machine_of(alloc, &microcode)?)
-}
-
-/// Reads SRC, DP and SAMPLES, and runs the microcode over the samples.
-fn execute<D: Desk>(
-    alloc: Global,
-    desk: &mut D,
-    source: &str,
-    datapath: &str,
-    samples: &str,
-) -> Result<Run, Ending>
-    ensures reads { OnlyReadsThree source.now datapath.now samples.now (D.view desk.old) (D.view desk.new) }
-    ensures ok { IfOk result (λ run.
-        IsExecuted source.now datapath.now samples.now (D.view desk.old) (D.view desk.new) run.machine run.text) }
-    ensures err { IfErr result (λ ending.
-        IsNotRun source.now datapath.now samples.now (D.view desk.old) (D.view desk.new) ending.status) }
-{
-    let machine = compiled_machine(alloc, desk, source, datapath)?;
-    let stream = read_stream(alloc, desk, samples, &machine)?;
-    Ok(run_rows(alloc, machine, &stream)?)
+    let machine = machine_of(alloc, &microcode)?;
+    let rows = machine_rows(alloc, &machine)?;
+    Ok(Ready { machine, rows })
 }
 
 /// Carries out `run`.
@@ -68,8 +54,8 @@ pub fn run<D: Desk>(
     ensures nothing_kept { result.status ≢ Status.Done → kept.new ≡ Nothing }
     ensures only { RunUsesOnly source.now datapath.now samples.now output.now (D.view desk.old) (D.view desk.new) }
 {
-    match execute(alloc, desk, source, datapath, samples) {
-        Ok(run) => Ending::from(put_rows(desk, output, run, kept)),
+    match compiled_ready(alloc, desk, source, datapath) {
+        Ok(ready) => Ending::from(run_ready(ready, desk, samples, output, kept)),
         Err(ending) => ending,
     }
 }

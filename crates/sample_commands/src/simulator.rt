@@ -1,27 +1,23 @@
 //! `sim MIC SAMPLES OUT`: from the bytes of microcode and samples to the rows that the microcode puts.
-ghost use Rattle.std.specs.Prelude.{◌≡◌, ◌≢◌, ◌<◌, ◌≤◌, ◌^◌, [], ◌∷◌, ◌++◌, length, map, Err, IfOk, IfErr, OnOk};
+ghost use Rattle.std.specs.Prelude.{◌≡◌, ◌≢◌, ◌<◌, ◌≤◌, ◌^◌, length, map, IfOk, IfErr};
 ghost use Rattle.std.specs.List.{All};
-ghost use Rattle.lists.specs.Rows.{Rows};
-ghost use Rattle.cycle_sim.specs.Machine.{IsOperand};
-ghost use Rattle.desk_core.specs.Desk.{FaultsNeverFall, WhereSpecified, content_of};
-ghost use Rattle.desk_core.specs.Whole.{IsReadThrough};
+ghost use Rattle.desk_core.specs.Desk.{FaultsNeverFall};
 ghost use Rattle.micro_image.specs.Valid.{IsValid};
 ghost use Rattle.sample_io.specs.Channels.{IsChannel, channel_of};
-ghost use Rattle.sample_io.specs.Samples.{stream_of};
 ghost use Rattle.silc_files.specs.Endings.{UsesOnly};
-ghost use Rattle.sample_commands.specs.Sim.{channels_of, HasRun, IsSimError, IsSimAnswer};
 ghost use Rattle.silc_files.specs.Reading.{OnlyReads};
-ghost use Rattle.sample_commands.specs.Private.Running.{IsMachineOf, IsNoMachine, IsLoaded, IsLoadError, IsFresh, AreImageRows, IsRunError, IsMadeRun};
-ghost use Rattle.sample_commands.specs.Private.Running.{WritesOnly, IsRunPut};
-ghost use Rattle.sample_commands.specs.Private.SampleRows.{AreRowsRead, IsRowsError};
+ghost use Rattle.sample_commands.specs.Sim.{IsSimAnswer};
+ghost use Rattle.sample_commands.specs.Private.Running.{IsMachineOf, IsNoMachine, IsLoaded, IsLoadError, IsFresh};
+ghost use Rattle.sample_commands.specs.Private.Streaming.{AreFreshRows, AreRunOver, StreamsOnly, IsRunOver};
 ghost use Rattle.sample_commands.specs.declared.simulator.Kept.TheVariants.{Nothing};
+ghost use Rattle.statuses.specs.declared.status.Status.TheVariants.{Memory};
 
-use crate::samples::{ROW_WORDS, add_row, read_samples, row, row_count};
+use crate::streams::{SAMPLES_END, open_files, run_samples};
 use cycle_sim::Machine;
-use desk_core::{Desk, write_whole};
+use desk_core::Desk;
 use lists::{Bytes, List};
 use micro_file::decode;
-use sample_io::{Channel, RowList};
+use sample_io::{Channel, Rows};
 use silc_files::{MICROCODE_LIMIT, read_file};
 use statuses::{ImageFault, Status};
 use std::alloc::{AllocError, Global};
@@ -34,11 +30,11 @@ pub enum Kept {
     One(Machine),
 }
 
-/// A machine after the samples that it ran, and the rows that it put, as text.
+/// A machine before its first sample, and the rows that its samples are read into.
 #[derive(Drop)]
-pub(crate) struct Run {
+pub(crate) struct Ready {
     pub machine: Machine,
-    pub text: Bytes,
+    pub rows: Rows,
 }
 
 /// The machine of the image that the bytes spell.
@@ -75,89 +71,77 @@ fn input_channels(alloc: Global, widths: &[u8]) -> Result<List<Channel>, AllocEr
     Ok(channels)
 }
 
-/// Reads SAMPLES, which has a row for each sample of the machine.
-pub(crate) fn read_stream<D: Desk>(
-    alloc: Global,
-    desk: &mut D,
-    name: &str,
-    machine: &Machine,
-) -> Result<RowList, Status>
+/// The rows that samples of the machine are read into.
+pub(crate) fn machine_rows(alloc: Global, machine: &Machine) -> Result<Rows, Status>
     requires { IsValid machine.now.image }
-    ensures reads { OnlyReads name.now name.now (D.view desk.old) (D.view desk.new) }
-    ensures ok { IfOk result
-        (AreRowsRead name.now (channels_of machine.now.image) (D.view desk.old) (D.view desk.new)) }
-    ensures rows { IfOk result (AreImageRows machine.now.image) }
-    ensures err { IfErr result
-        (IsRowsError name.now (channels_of machine.now.image) (D.view desk.old) (D.view desk.new)) }
+    ensures ok { IfOk result (AreFreshRows machine.now.image) }
+    ensures err { IfErr result (λ status. status ≡ Memory) }
 {
     let channels = input_channels(alloc, machine.inputs())?;
-    read_samples(alloc, desk, name, &channels)
+    Ok(Rows::new(alloc, &channels)?)
 }
 
-/// Runs a sample, and adds the row that it puts to the text.
-fn run_row(machine: &mut Machine, row: &[i64], text: &mut Bytes) -> Result<(), Status>
-    requires valid { IsValid machine.old.image }
-    requires width { length row.now ≡ length machine.old.image.inputs }
-    requires words { All IsOperand row.now }
-    requires stands { (stream : Rows) × (length stream < 2 ^ 48)
-        × HasRun machine.old.image stream machine.old text.old }
-    ensures ok { (stream : Rows) → HasRun machine.old.image stream machine.old text.old
-        → OnOk result (HasRun machine.old.image (stream ++ row.now ∷ []) machine.new text.new) }
-    ensures err { (stream : Rows) → HasRun machine.old.image stream machine.old text.old
-        → IfErr result (IsRunError machine.old.image (stream ++ row.now ∷ [])) }
+/// Reads MIC, makes the machine of its image, and takes all memory that a run of it needs.
+fn read_ready<D: Desk>(alloc: Global, desk: &mut D, microcode: &str) -> Result<Ready, Status>
+    ensures reads { OnlyReads microcode.now microcode.now (D.view desk.old) (D.view desk.new) }
+    ensures machine { IfOk result (λ ready. IsLoaded microcode.now (D.view desk.old) ready.machine) }
+    ensures rows { IfOk result (λ ready. AreFreshRows ready.machine.image ready.rows) }
+    ensures err { IfErr result (IsLoadError microcode.now (D.view desk.old) (D.view desk.new)) }
 {
-    let mut words = [0i64; ROW_WORDS];
-    let put = &mut words[..machine.outs()];
-    machine.sample(row, put)?;
-    Ok(add_row(text, put)?)
+    let machine = read_machine(alloc, desk, microcode)?;
+    let rows = machine_rows(alloc, &machine)?;
+    Ok(Ready { machine, rows })
 }
 
-/// Runs the rows of the list, one a sample.
-pub(crate) fn run_rows(alloc: Global, mut machine: Machine, list: &RowList) -> Result<Run, Status>
-    requires fresh { IsFresh machine }
-    requires rows { AreImageRows machine.image list.now }
-    ensures ok { IfOk result (λ run. HasRun machine.image (stream_of list.now) run.machine run.text) }
-    ensures err { IfErr result (IsRunError machine.image (stream_of list.now)) }
-{
-    let mut text = Bytes::new(alloc);
-    for n in 0..row_count(list) {
-        run_row(&mut machine, row(list, n), &mut text)?;
-    }
-    Ok(Run { machine, text })
-}
-
-/// Writes the rows of a run to OUT, and keeps the machine that ran.
-pub(crate) fn put_rows<D: Desk>(desk: &mut D, output: &str, run: Run, kept: &mut Kept) -> Status
-    requires { kept.old ≡ Nothing }
+/// Opens SAMPLES, creates OUT, and runs the machine over the one into the other.
+fn run_files<D: Desk>(
+    machine: &mut Machine,
+    rows: &mut Rows,
+    desk: &mut D,
+    samples: &str,
+    output: &str,
+) -> Status
+    requires apart { output.now ≢ samples.now }
+    requires fresh { IsFresh machine.old }
+    requires rows { AreFreshRows machine.old.image rows.old }
     ensures faults { FaultsNeverFall (D.view desk.old) (D.view desk.new) }
-    ensures only { WritesOnly output.now (D.view desk.old) (D.view desk.new) }
-    ensures put { IsRunPut output.now run.machine run.text (D.view desk.old) (D.view desk.new) kept.new result }
-    ensures nothing_kept { result ≢ Status.Done → kept.new ≡ Nothing }
+    ensures only { StreamsOnly samples.now output.now (D.view desk.old) (D.view desk.new) }
+    ensures over { AreRunOver samples.now output.now machine.old machine.new (D.view desk.old) (D.view desk.new) result }
 {
-    match write_whole(desk, output, &run.text) {
-        Ok(()) => {
-            *kept = Kept::One(run.machine);
-            Status::Done
-        }
+    match open_files(desk, samples, output) {
+        Ok(()) => run_samples(machine, rows, desk, SAMPLES_END),
         Err(failed) => Status::from(failed),
     }
 }
 
-/// Reads MIC and SAMPLES, and runs the one over the other.
-fn simulate<D: Desk>(
-    alloc: Global,
+/// Runs the machine over SAMPLES into OUT, and keeps it where it came to the end.
+pub(crate) fn run_ready<D: Desk>(
+    ready: Ready,
     desk: &mut D,
-    microcode: &str,
     samples: &str,
-) -> Result<Run, Status>
-    ensures reads { OnlyReads microcode.now samples.now (D.view desk.old) (D.view desk.new) }
-    ensures ok { IfOk result (λ run.
-        IsMadeRun microcode.now samples.now (D.view desk.old) (D.view desk.new) run.machine run.text) }
-    ensures err { IfErr result (IsSimError microcode.now samples.now (D.view desk.old) (D.view desk.new)) }
+    output: &str,
+    kept: &mut Kept,
+) -> Status
+    requires empty { kept.old ≡ Nothing }
+    requires apart { output.now ≢ samples.now }
+    requires fresh { IsFresh ready.machine }
+    requires rows { AreFreshRows ready.machine.image ready.rows }
+    ensures faults { FaultsNeverFall (D.view desk.old) (D.view desk.new) }
+    ensures only { StreamsOnly samples.now output.now (D.view desk.old) (D.view desk.new) }
+    ensures over { IsRunOver samples.now output.now ready.machine (D.view desk.old) (D.view desk.new) kept.new result }
+    ensures nothing_kept { result ≢ Status.Done → kept.new ≡ Nothing }
 {
-    let machine = read_machine(alloc, desk, microcode)?;
-    let stream = read_stream(alloc, desk, samples, &machine)?;
-    run_rows(alloc, machine, &stream)
+    let Ready {
+        mut machine,
+        mut rows,
+    } = ready;
+    match run_files(&mut machine, &mut rows, desk, samples, output) {
+        Status::Done => {
+            *kept = Kept::One(machine);
+            Status::Done
+        }
+        status => status,
+    }
 }
 
 /// Carries out `sim`.
@@ -177,8 +161,8 @@ pub fn sim<D: Desk>(
     ensures nothing_kept { result ≢ Status.Done → kept.new ≡ Nothing }
     ensures only { UsesOnly microcode.now samples.now output.now (D.view desk.old) (D.view desk.new) }
 {
-    match simulate(alloc, desk, microcode, samples) {
-        Ok(run) => put_rows(desk, output, run, kept),
+    match read_ready(alloc, desk, microcode) {
+        Ok(ready) => run_ready(ready, desk, samples, output, kept),
         Err(status) => status,
     }
 }

@@ -29,7 +29,8 @@ use Rattle.silc.specs.Demo.{IsCascadeRun, IsDemoDone, IsDemoCutShort, IsDemoAnsw
 use Rattle.plan_commands.specs.Refusals.{IsRefusal}
 use Rattle.plan_commands.specs.Headline.{RunsTheSolution}
 use Rattle.silc_files.specs.Printing.{PrintsOnly}
-use Rattle.sample_commands.specs.Sim.{HasRun, IsFirstConflict}
+use Rattle.sample_loops.specs.Machines.{IsFirstConflict}
+use Rattle.sample_commands.specs.Sim.{HasRun}
 use Rattle.plan_commands.specs.Compiling.{IsMicrocodeOf}
 use Rattle.silc.specs.Private.Demonstrating.{IsCascadePlan, IsCascadeMachine, RunsCascade, HasPutWords, HasTotals}
 use Rattle.plan_commands.specs.Planning.{IsInputPlan}
@@ -43,7 +44,7 @@ use Rattle.statuses.specs.declared.status.Status.TheVariants.{Done}
 use Rattle.cascade.proofs.CascadeProgram.{HasOneWordEach, one_word_each}
 use Rattle.plan_commands.proofs.Compiled.{runs_the_solution}
 use Rattle.plan_commands.proofs.Plans.{planned_over}
-use Rattle.sample_commands.proofs.Simulating.{spread_row, one_more, at_sample, conflict_in_row}
+use Rattle.silc.proofs.MachineSamples.{spread_row, one_more, at_sample, conflict_in_row}
 
 -- with one more sample there is one more row
 rows_more : (n : ℕ) → cascade_rows (n + 1) ≡ cascade_rows n ++ (cascade_word n ∷ []) ∷ []

@@ -1,3 +1,5 @@
 pub mod Listing
+pub mod MachineSamples
 pub mod Demonstrating
 pub mod Endings
+pub mod Complete

@@ -11,7 +11,7 @@ use Rattle.silage_syntax.specs.Tree.{Program}
 use Rattle.silage_meaning.specs.Solves.{IsOneSolution, out}
 use Rattle.silage_meaning.specs.Value.{Words}
 use Rattle.cascade.specs.Cascade.{cascade_source, cascade_datapath, cascade_rows, cascade_line, words_of}
-use Rattle.plan_commands.specs.Plans.{IsPlannedOver}
+use Rattle.plan_commands.specs.Plans.{IsPlannedOver, IsPlannable}
 use Rattle.plan_commands.specs.Refusals.{IsNoPlan}
 use Rattle.silc_files.specs.Printing.{IsPrintedMore, IsPrintedInPart}
 use Rattle.sample_commands.specs.declared.simulator.Kept.{Kept}
@@ -53,6 +53,10 @@ pub record IsDemoCutShort (sections samples : ℕ) (old new : View) : Type 0 whe
 pub record IsDemoError (sections : ℕ) (old new : View) (status : Status) : Type 0 where
   pub unchanged : IsUnchanged old new
   pub why : IsNoPlan (cascade_source sections) (cascade_datapath sections) status
+
+-- the program of so many sections has a plan over their datapath
+abbrev pub IsCascadePlannable : ℕ → Type 0
+IsCascadePlannable sections = IsPlannable (cascade_source sections) (cascade_datapath sections)
 
 -- when each status comes
 abbrev pub IsDemoAnswer : (sections samples : ℕ) → View → View → Kept → Status → Type 0

@@ -15,5 +15,5 @@ pub use front_end::{DefFault, FrontFault, LexFault, NameFault, ParseFault, TypeF
 pub use micro_file::FormFault;
 pub use micro_image::{Conflict, ConflictKind};
 pub use plan_commands::{Planned, plan_of};
-pub use sample_commands::Kept;
+pub use sample_commands::{Kept, eval_samples, run_samples};
 pub use statuses::{ImageFault, SampleFault, Status, UnitRefusal, code};

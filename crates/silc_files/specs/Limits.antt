@@ -1,5 +1,5 @@
 -- How many bytes a file may have.
-use Rattle.std.specs.Prelude.{ℕ, ◌^◌}
+use Rattle.std.specs.Prelude.{ℕ, ◌-◌, ◌^◌}
 use Rattle.micro_image.specs.Size.{most_bytes}
 
 -- a source or a datapath
@@ -10,4 +10,4 @@ abbrev pub microcode_limit : ℕ
 microcode_limit = most_bytes
 
 abbrev pub samples_limit : ℕ
-samples_limit = 2 ^ 20
+samples_limit = 2 ^ 32 - 1

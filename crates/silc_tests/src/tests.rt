@@ -1,6 +1,9 @@
-use desk_core::{Desk, Failed, MemDesk};
+use desk_core::{Desk, Failed, MemDesk, NeverFails};
 use lists::Bytes;
-use silc::{FrontFault, Kept, LexFault, Status, UnitRefusal, plan_of, silc};
+use silc::{
+    Conflict, ConflictKind, FrontFault, Kept, LexFault, SampleFault, Status, UnitRefusal, plan_of,
+    silc,
+};
 use std::alloc::Global;
 use std::test::Fail;
 
@@ -280,6 +283,16 @@ fn pieces_of_any_size_make_the_same_file(rt: HostRuntime) -> Result<(), Fail> {
 }
 
 #[test]
+fn a_source_is_compiled_over_a_desk_that_never_fails(rt: HostRuntime) -> Result<(), Fail> {
+    let alloc = rt.alloc();
+    let mut desk = NeverFails::new(alloc);
+    desk.put("SRC", SOURCE)?;
+    desk.put("DP", PLAIN)?;
+    assert_eq!(rt; carry_out(alloc, &COMPILE, &mut desk)?, Status::Done);
+    Ok(())
+}
+
+#[test]
 fn a_missing_datapath_comes_before_a_fault_of_the_source(rt: HostRuntime) -> Result<(), Fail> {
     let alloc = rt.alloc();
     let mut desk = MemDesk::new(alloc, 10);
@@ -315,6 +328,74 @@ fn sim_and_run_keep_the_machine_after_the_last_sample(rt: HostRuntime) -> Result
         };
         assert_eq!(rt; samples, Some(3));
     }
+    Ok(())
+}
+
+/// Samples, how a run over them ends, and what OUT is to hold.
+const STREAMS: [(&[u8], Status, &[u8]); 6] = [
+    (b"", Status::Done, b""),
+    (b"0\r\n5", Status::Done, b"1\n6\n"),
+    (
+        b"0\n1\n128\n",
+        Status::Samples(SampleFault::Row { line: 3, at: 2 }),
+        b"1\n2\n",
+    ),
+    (
+        b"0\n1,2\n",
+        Status::Samples(SampleFault::Row { line: 2, at: 1 }),
+        b"1\n",
+    ),
+    (
+        b"0\n\n",
+        Status::Samples(SampleFault::Row { line: 2, at: 0 }),
+        b"1\n",
+    ),
+    (
+        b"-",
+        Status::Samples(SampleFault::Row { line: 1, at: 1 }),
+        b"",
+    ),
+];
+
+#[test]
+fn a_bad_row_leaves_the_rows_before_it(rt: HostRuntime) -> Result<(), Fail> {
+    let alloc = rt.alloc();
+    for words in [RUNS[0], RUNS[1], &["eval", "SRC", "SAMPLES", "ROWS"]] {
+        for (samples, status, rows) in STREAMS {
+            for piece in [1, 4096] {
+                let mut desk = desk_with(alloc, piece, SOURCE)?;
+                desk.put("SAMPLES", samples)?;
+                carry_out(alloc, &COMPILE, &mut desk)?;
+                assert_eq!(rt; carry_out(alloc, words, &mut desk)?, status);
+                assert_eq!(rt; desk.get("ROWS"), Some(rows));
+            }
+        }
+    }
+    Ok(())
+}
+
+#[test]
+fn a_conflict_comes_before_a_bad_row_behind_it(rt: HostRuntime) -> Result<(), Fail> {
+    let alloc = rt.alloc();
+    let mut desk = desk_with(alloc, 4096, SOURCE)?;
+    carry_out(alloc, &COMPILE, &mut desk)?;
+    let compiled = desk.get("OUT").ok_or("no file")?;
+    let mut microcode = Bytes::new(alloc);
+    microcode.extend_from_slice(compiled.get(..239).ok_or("short")?)?;
+    microcode.extend_from_slice(&[0, 2, 1, 0, 2, 0])?;
+    microcode.extend_from_slice(compiled.get(243..).ok_or("short")?)?;
+    desk.put("OUT", &microcode)?;
+    desk.put("SAMPLES", b"0\nx\n")?;
+    let conflict = Conflict {
+        cycle: 2,
+        kind: ConflictKind::TwoDrivers,
+        place: 0,
+    };
+    assert_eq!(rt;
+        carry_out(alloc, RUNS[0], &mut desk)?,
+        Status::Conflict(conflict)
+    );
+    assert_eq!(rt; desk.get("ROWS"), Some(b"".as_slice()));
     Ok(())
 }
 

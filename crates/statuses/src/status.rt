@@ -14,7 +14,7 @@ use micro_file::{CodeFault, FormFault};
 use micro_image::Conflict;
 use microcode_asm::AsmFault;
 use planner::PlanFault;
-use sample_io::RowsReadFault;
+use sample_io::{RowsFault, RowsReadFault};
 use std::alloc::AllocError;
 use thiserror::Error;
 use unit_assign::UnitFault;
@@ -65,7 +65,7 @@ pub enum SampleFault {
         /// line, the line's length.
         at: u64,
     },
-    /// There are more than 2^20 bytes.
+    /// There are 2^32 bytes or more.
     #[error("samples too long")]
     TooLong,
 }
@@ -255,6 +255,14 @@ impl From<RowsReadFault> for Status {
             }),
             RowsReadFault::Memory => Status::Memory,
         }
+    }
+}
+
+impl From<RowsFault> for Status {
+    ghost from_gives = { λ _ status. status ≡ Memory };
+
+    fn from(_: RowsFault) -> Self {
+        Status::Memory
     }
 }
 

@@ -1,25 +1,15 @@
--- What the steps of `sim` give: a machine, a stream, and the run of the one over the other.
-use Rattle.std.specs.Prelude.{◌≡◌, ◌⊎◌, ◌<◌, ◌^◌, List, [], length, ℤ}
-use Rattle.std.specs.List.{All}
-use Rattle.lists.specs.Rows.{Rows}
-use Rattle.cycle_sim.specs.Machine.{IsOperand, Snapshot, state_of}
+-- The machine of MIC's image.
+use Rattle.std.specs.Prelude.{◌≡◌, ◌⊎◌, []}
+use Rattle.cycle_sim.specs.Machine.{Snapshot, state_of}
 use Rattle.desk_core.specs.View.{Name, Content, View}
-use Rattle.desk_core.specs.Desk.{IfSpecified, WhereSpecified, NoneBegins, NoOtherBegins}
-use Rattle.desk_core.specs.Desk.{ReadFaultsRose, WriteFaultsRose}
-use Rattle.desk_core.specs.Whole.{IsReadThrough, IsWrittenWhole, IsWrittenInPart}
+use Rattle.desk_core.specs.Desk.{WhereSpecified, ReadFaultsRose}
+use Rattle.desk_core.specs.Whole.{IsReadThrough}
 use Rattle.micro_file.specs.declared.fault.FormFault.TheVariants as form
-use Rattle.micro_image.specs.declared.image.Image.{Image}
 use Rattle.micro_image.specs.Run.{Stands}
 use Rattle.micro_image.specs.Spells.{Spells}
 use Rattle.micro_image.specs.Valid.{IsValid}
-use Rattle.sample_io.specs.declared.RowList.{RowList}
-use Rattle.sample_io.specs.Samples.{stream_of}
-use Rattle.silc_files.specs.Endings.{ChangesOnly}
-use Rattle.silc_files.specs.Limits.{microcode_limit, samples_limit}
-use Rattle.sample_commands.specs.Private.SampleRows.{HasRowWidth}
-use Rattle.sample_commands.specs.Sim.{HasRun, IsFirstConflict, SpellsNone, HasImage, HasImageFault, HasStream}
-use Rattle.sample_commands.specs.declared.simulator.Kept.{Kept}
-use Rattle.sample_commands.specs.declared.simulator.Kept.TheVariants.{One}
+use Rattle.silc_files.specs.Limits.{microcode_limit}
+use Rattle.sample_commands.specs.Sim.{SpellsNone, HasImage, HasImageFault}
 use Rattle.statuses.specs.declared.status.ImageFault.{ImageFault}
 use Rattle.statuses.specs.declared.status.ImageFault.TheVariants as image_fault
 use Rattle.statuses.specs.declared.status.Status.{Status}
@@ -61,41 +51,3 @@ IsLoadError mic old new error =
     ⊎ ((error ≡ status.Desk) × ReadFaultsRose mic old new)
     ⊎ ((error ≡ status.Image image_fault.TooLong) × IsBadMicrocode mic image_fault.TooLong old new)
     ⊎ ((error ≡ status.Image not_spelled) × IsBadMicrocode mic not_spelled old new)
-
--- a raw word of magnitude at most 2^39 for each input word
-pub record IsInputRow (image : Image) (row : List ℤ) : Type 0 where
-  pub count : length row ≡ length image.inputs
-  pub words : All IsOperand row
-
--- the list holds a stream that the image can run
-pub record AreImageRows (image : Image) (list : RowList) : Type 0 where
-  pub width : HasRowWidth list
-  pub rows : All (IsInputRow image) (stream_of list)
-  pub few : length (stream_of list) < 2 ^ 48
-
--- why an image did not run the stream to its end
-abbrev pub IsRunError : Image → Rows → Status → Type 0
-IsRunError image stream (status.Memory) = Unit {0}
-IsRunError image stream (status.Conflict conflict) = IsFirstConflict image stream conflict
-IsRunError image stream _ = ⊥
-
--- the machine and the text of the run of MIC's image over SAMPLES, which was read through
-pub record IsMadeRun (mic samples : Name) (old new : View) (machine : Snapshot) (text : Content) : Type 0 where
-  pub read : IsReadThrough samples samples_limit old new
-  pub image : Image
-  pub stream : Rows
-  pub ran : HasRun image stream machine text
-  pub specified : WhereSpecified old (HasStream mic samples image stream)
-
--- OUT alone changed or began to be written
-pub record WritesOnly (out : Name) (old new : View) : Type 0 where
-  pub files : IfSpecified (ChangesOnly out) old.files new.files
-  pub printed : new.printed ≡ old.printed
-  pub reads : NoneBegins old.reads new.reads
-  pub writes : NoOtherBegins out old.writes new.writes
-
--- OUT has the text and the machine is kept, or writing failed
-abbrev pub IsRunPut : Name → Snapshot → Content → View → View → Kept → Status → Type 0
-IsRunPut out machine text old new kept error =
-    ((error ≡ status.Done) × (kept ≡ One machine) × IsWrittenWhole out text old new)
-    ⊎ ((error ≡ status.Desk) × WriteFaultsRose out old new × IsWrittenInPart out text old new)

@@ -1,0 +1,24 @@
+use Rattle.std.proofs.Common.{inl, inr}
+use Rattle.sample_commands.proofs.Opening.{streams_only}
+use Rattle.sample_commands.proofs.Simulating.{fresh_ready, fresh_young}
+use Rattle.sample_commands.proofs.simulator.run_files.Goals as goal
+
+pub run_samples-requires-clause-ready : goal.run_samples-requires-clause-ready
+run_samples-requires-clause-ready g c = fresh_ready c.args.machine.now c.requires.fresh
+
+pub run_samples-requires-clause-young : goal.run_samples-requires-clause-young
+run_samples-requires-clause-young g c = fresh_young c.args.machine.now c.requires.fresh
+
+pub returns-in-Ok-clause-only : goal.returns-in-Ok-clause-only
+returns-in-Ok-clause-only g c =
+    streams_only c.args.samples.now c.args.output.now (g.D.Desk.view c.args.desk.now) (g.D.Desk.view c.open_files.new.desk) (g.D.Desk.view c.run_samples.new.desk)
+    c.in-Ok.ensures.ok c.in-Ok.ensures.only c.run_samples.ensures.only
+
+pub returns-in-Ok-clause-over : goal.returns-in-Ok-clause-over
+returns-in-Ok-clause-over g c = inr (record {
+  mid = g.D.Desk.view c.open_files.new.desk;
+  never_fall = c.in-Ok.ensures.never_fall;
+  opened = c.in-Ok.ensures.ok;
+  only = c.run_samples.ensures.only;
+  ends = c.run_samples.ensures.ends;
+})

@@ -1,0 +1,65 @@
+-- SAMPLES run as a stream: what opening the files does, and what a run of a machine over them comes to.
+use Rattle.std.specs.Prelude.{◌≡◌, ◌⊎◌, ◌+◌, [], Some, true}
+use Rattle.lists.specs.Rows.{Rows}
+use Rattle.cycle_sim.specs.Machine.{Snapshot}
+use Rattle.desk_core.specs.View.{Name, View}
+use Rattle.desk_core.specs.Desk.{IfSpecified, ReadFaultsRose, FaultsNeverFall, HasInput, HasOutput, NoOtherBegins, IsPut}
+use Rattle.desk_core.specs.Whole.{IsUnchangedButInput}
+use Rattle.micro_image.specs.declared.image.Image.{Image}
+use Rattle.sample_io.specs.Pieces.{HasTaken}
+use Rattle.sample_io.specs.FedRows.{FedRows}
+use Rattle.sample_loops.specs.Machines.{channels_of, RunsRows, PutsRows, MeetsInLast}
+use Rattle.sample_loops.specs.Streams.{ChangesOutputAlone}
+use Rattle.silc_files.specs.Endings.{ChangesOnly}
+use Rattle.silc_files.specs.Limits.{samples_limit}
+use Rattle.sample_commands.specs.Samples.{IsNotCreated}
+use Rattle.sample_commands.specs.StreamEnds.{EndsStream}
+use Rattle.sample_commands.specs.declared.simulator.Kept.{Kept}
+use Rattle.sample_commands.specs.declared.simulator.Kept.TheVariants.{One}
+use Rattle.statuses.specs.declared.status.Status.{Status}
+use Rattle.statuses.specs.declared.status.Status.TheVariants.{Done, Desk}
+
+-- rows for the image's input words, of which no byte was taken
+pub record AreFreshRows (image : Image) (rows : FedRows) : Type 0 where
+  pub channels : rows.channels ≡ channels_of image
+  pub taken : HasTaken rows [] []
+
+-- SAMPLES is the input, at its start, and OUT the output, with no bytes
+pub record IsOpened (samples out : Name) (old new : View) : Type 0 where
+  pub input : HasInput samples old new
+  pub place : new.place ≡ 0
+  pub files : IfSpecified (IsPut out []) old.files new.files
+  pub output : HasOutput (Some out) new
+  pub writes : new.writes out ≡ true
+
+-- SAMPLES could not be opened, or OUT not created
+abbrev pub IsNotOpened : Name → Name → View → View → Type 0
+IsNotOpened samples out old new =
+    (IsUnchangedButInput old new × ReadFaultsRose samples old new) ⊎ IsNotCreated out old new
+
+-- no file but OUT changed, nothing was printed, and no name but SAMPLES began to be read, and none but OUT to be written
+pub record StreamsOnly (samples out : Name) (old new : View) : Type 0 where
+  pub files : IfSpecified (ChangesOnly out) old.files new.files
+  pub printed : new.printed ≡ old.printed
+  pub reads : NoOtherBegins samples old.reads new.reads
+  pub writes : NoOtherBegins out old.writes new.writes
+
+-- the files were opened, and then the stream of the one was run into the other
+pub record RunsFiles (samples out : Name) (machine after : Snapshot) (old new : View) (ending : Status) : Type 0 where
+  pub mid : View
+  pub never_fall : FaultsNeverFall old mid
+  pub opened : IsOpened samples out old mid
+  pub only : ChangesOutputAlone mid new
+  pub ends : EndsStream (samples_limit + 1) (channels_of machine.image) (λ ran puts. RunsRows machine ran puts after)
+      (PutsRows machine) (MeetsInLast machine) mid new ending
+
+-- the files could not be opened; or the stream of the one was run into the other
+abbrev pub AreRunOver : Name → Name → Snapshot → Snapshot → View → View → Status → Type 0
+AreRunOver samples out machine after old new ending =
+    ((ending ≡ Desk) × IsNotOpened samples out old new) ⊎ RunsFiles samples out machine after old new ending
+
+-- the files could not be opened; or the stream was run, and the machine is kept where it came to its end
+abbrev pub IsRunOver : Name → Name → Snapshot → View → View → Kept → Status → Type 0
+IsRunOver samples out machine old new kept ending =
+    ((ending ≡ Desk) × IsNotOpened samples out old new)
+    ⊎ ((after : Snapshot) × (ending ≡ Done → kept ≡ One after) × RunsFiles samples out machine after old new ending)

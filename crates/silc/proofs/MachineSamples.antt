@@ -1,0 +1,40 @@
+-- A machine sample by sample: one more row, and the first conflict in it.
+use Rattle.std.proofs.Common.{◌≡◌, sym, ap, subst, ◌∙◌, arith, ℕ, ◌+◌, ◌*◌, ◌%◌, ◌<◌, ◌≤◌, ◌^◌, List, [], ◌∷◌, ◌++◌, length, replicate, ℤ, length-append}
+use Rattle.std.proofs.Math.Nat.{mul-mod_left, mul-lt-mul_of_pos_right}
+use Rattle.std.proofs.lemmas.List.{append-nil}
+use Rattle.lists.specs.Rows.{Rows}
+use Rattle.cycle_sim.specs.Machine.{Snapshot, IsAtSample, IsFirstOfSample}
+use Rattle.desk_core.specs.View.{Content}
+use Rattle.micro_image.specs.declared.conflict.Conflict.{Conflict}
+use Rattle.micro_image.specs.declared.image.Image.{Image}
+use Rattle.micro_image.specs.Conflict.{IsConflict, IsClearBelow}
+use Rattle.micro_image.specs.Run.{spread}
+use Rattle.micro_image.proofs.Streams.{length-spread, spread-append}
+use Rattle.sample_loops.specs.Machines.{IsFirstConflict}
+use Rattle.sample_commands.specs.Sim.{HasRun}
+
+-- one more row, for a whole period
+pub spread_row : (period : ℕ) (stream : Rows) (row : List ℤ) → spread period (stream ++ row ∷ []) ≡ spread period stream ++ replicate period row
+spread_row period stream row = spread-append period stream (row ∷ []) ∙ ap (λ cycles. spread period stream ++ cycles) (append-nil (replicate period row))
+
+pub one_more : (period : ℕ) (stream : Rows) → length (spread period stream) + period ≡ (length stream + 1) * period
+one_more period stream = omega (arith, length-spread period stream)
+
+-- a machine after whole samples is ready for the next one
+pub at_sample : (machine : Snapshot) (stream : Rows) (text : Content) → 1 ≤ machine.image.period → length stream < 2 ^ 48 → HasRun machine.image stream machine text → IsAtSample machine
+at_sample machine stream text some few ran =
+    let cycle : machine.cycle ≡ length stream * machine.image.period = ran.stands.cycle ∙ length-spread machine.image.period stream in
+    record {
+      whole = ap (λ n. n % machine.image.period) cycle ∙ mul-mod_left (length stream) machine.image.period;
+      young = subst (λ n. n < 2 ^ 48 * machine.image.period) (sym cycle) (mul-lt-mul_of_pos_right few some);
+    }
+
+-- the first conflict in one more sample is the first of all
+pub conflict_in_row : (image : Image) (stream : Rows) (row : List ℤ) (conflict : Conflict) → IsFirstOfSample image (spread image.period stream) row conflict → IsFirstConflict image (stream ++ row ∷ []) conflict
+conflict_in_row image stream row conflict first =
+    let cycles = sym (spread_row image.period stream row) in
+    record {
+      there = subst (λ z. IsConflict image z conflict) cycles first.there;
+      clear = subst (λ z. IsClearBelow image z conflict.cycle) cycles first.clear;
+      within = omega (arith, first.within, one_more image.period stream, ap (λ n. n * image.period) (length-append stream (row ∷ [])));
+    }
