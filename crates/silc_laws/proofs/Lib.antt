@@ -1,2 +1,4 @@
 pub mod Closed
 pub mod Laws
+pub mod Faults
+pub mod Complete

@@ -1,8 +1,9 @@
-//! What `silc` promises, a sentence a clause. Each call has the two clauses of `silc` that say which words are a command
-//! and how each command ends (`words`, `ending`), and the sentences follow from these.
+//! What `silc` promises, a sentence a clause. The sentences follow from the two clauses of `silc` that say which words are
+//! a command and how each command ends (`words`, `ending`).
 #![tactic(auto)]
 
 ghost use Rattle.std.specs.Prelude.{◌≡◌, ◌≢◌, ℕ, None};
+ghost use Rattle.command_words.specs.Command as spec;
 ghost use Rattle.command_words.specs.Command.{Command, IsCommand, IsCommandIn};
 ghost use Rattle.command_words.specs.Command.{IsCompile, IsSchedule, IsList, IsSim, IsEval, IsRun, IsDemo};
 ghost use Rattle.desk_core.specs.Desk.{HasOutput};
@@ -11,16 +12,18 @@ ghost use Rattle.plan_commands.specs.Compile.{IsAnswer};
 ghost use Rattle.plan_commands.specs.Schedule.{IsScheduled, IsScheduleAnswer};
 ghost use Rattle.sample_commands.specs.Eval.{IsEvalDone, IsEvalAnswer};
 ghost use Rattle.sample_commands.specs.Run.{IsRunDone, IsRunAnswer, RunUsesOnly};
-ghost use Rattle.sample_commands.specs.Sim.{IsSimDone, IsSimAnswer};
+ghost use Rattle.sample_commands.specs.Sim.{HasSomeImage, IsSimDone, IsSimAnswer};
 ghost use Rattle.sample_commands.specs.declared.simulator.Kept.TheVariants.{Nothing};
-ghost use Rattle.silc.specs.Demo.{IsDemoDone, IsDemoAnswer};
+ghost use Rattle.silc.specs.Demo.{IsCascadePlannable, IsDemoDone, IsDemoAnswer};
 ghost use Rattle.silc.specs.Endings.{IsEnding, Reported};
 ghost use Rattle.silc.specs.Listing.{IsListed, IsListAnswer};
 ghost use Rattle.silc_files.specs.Endings.{UsesOnly};
 ghost use Rattle.silc_files.specs.Printing.{ChangesNoFile, PrintsOnly};
+ghost use Rattle.silc_laws.specs.Complete.{Specifies, ArePlannable, IsDoneOrMemory};
+ghost use Rattle.silc_laws.specs.Faults.{HasFaultRisen, HasNoFaultRisen};
 ghost use Rattle.silc_laws.specs.Forms.{IsCommandOn, IsCommandTo};
 
-use desk_core::Desk;
+use desk_core::{Desk, NeverFails};
 use silc::{Kept, Status, silc};
 use std::alloc::Global;
 
@@ -110,6 +113,59 @@ pub fn silc_leaves<D: Desk>(
     ensures eval_keeps_nothing { (src samples out : Name) → IsEval words.now src samples out → kept.new ≡ Nothing }
     ensures schedule_keeps_nothing { (src datapath : Name) → IsSchedule words.now src datapath → kept.new ≡ Nothing }
     ensures list_keeps_nothing { (mic : Name) → IsList words.now mic → kept.new ≡ Nothing }
+{
+    silc(alloc, words, desk, kept)
+}
+
+/// Which faults let a command answer that a file fault ended it.
+pub fn silc_fails<D: Desk>(alloc: Global, words: &[String], desk: &mut D, kept: &mut Kept) -> Status
+    requires { kept.old ≡ Nothing }
+    ensures words { result ≢ Status.Words → IsCommand words.now }
+    ensures fault { result ≡ Status.Desk → (command : Command) → IsCommandIn words.now command
+        → HasFaultRisen command (D.view desk.old) (D.view desk.new) }
+{
+    silc(alloc, words, desk, kept)
+}
+
+/// Over a desk that never fails, no command answers that a file fault ended it.
+pub fn silc_never_fails(
+    alloc: Global,
+    words: &[String],
+    desk: &mut NeverFails,
+    kept: &mut Kept,
+) -> Status
+    requires { kept.old ≡ Nothing }
+    ensures { result ≢ Status.Desk }
+{
+    silc_fails(alloc, words, desk, kept)
+}
+
+/// Where a command is done, unless memory runs out: the files are such that no refusal is due, and no fault of the
+/// command's own rose.
+pub fn silc_completes<D: Desk>(
+    alloc: Global,
+    words: &[String],
+    desk: &mut D,
+    kept: &mut Kept,
+) -> Status
+    requires { kept.old ≡ Nothing }
+    ensures words { result ≢ Status.Words → IsCommand words.now }
+    ensures ending { (command : Command) → IsCommandIn words.now command
+        → Reported (λ (mid : View). IsEnding command (D.view desk.old) mid kept.new result) result
+        (D.view desk.old) (D.view desk.new) }
+
+    ensures compiles { (src datapath out : Name) → IsCompile words.now src datapath out
+        → HasNoFaultRisen (spec.compile src datapath out) (D.view desk.old) (D.view desk.new)
+        → Specifies (ArePlannable src datapath) (D.view desk.old) → IsDoneOrMemory result }
+    ensures schedules { (src datapath : Name) → IsSchedule words.now src datapath
+        → HasNoFaultRisen (spec.schedule src datapath) (D.view desk.old) (D.view desk.new)
+        → Specifies (ArePlannable src datapath) (D.view desk.old) → IsDoneOrMemory result }
+    ensures lists { (mic : Name) → IsList words.now mic
+        → HasNoFaultRisen (spec.list mic) (D.view desk.old) (D.view desk.new)
+        → Specifies (HasSomeImage mic) (D.view desk.old) → IsDoneOrMemory result }
+    ensures demonstrates { (sections samples : ℕ) → IsDemo words.now sections samples
+        → HasNoFaultRisen (spec.demo sections samples) (D.view desk.old) (D.view desk.new)
+        → IsCascadePlannable sections → IsDoneOrMemory result }
 {
     silc(alloc, words, desk, kept)
 }

@@ -1,0 +1,121 @@
+-- A command answers that a file fault ended it only where a count of faults of its own rose.
+use Rattle.std.proofs.Common.{◌≡◌, ◌⊎◌, subst, inl, inr, ⊎_elim, arith, ℕ, List}
+use Rattle.std.specs.Prelude.{String}
+use Rattle.std.specs.declared.alloc.Global.{Global}
+use Rattle.command_words.specs.Command.{Command, compile, schedule, list, sim, eval, run, demo, IsCommandIn}
+use Rattle.desk_core.specs.View.{Name, View}
+use Rattle.desk_core.specs.Desk.{Rose, ReadFaultsRose}
+use Rattle.desk_core.specs.NeverFails.{view_of}
+use Rattle.desk_core.specs.declared.never_fails.NeverFails.{NeverFails}
+use Rattle.plan_commands.specs.Compile.{IsAnswer}
+use Rattle.plan_commands.specs.Refusals.{IsPlanError}
+use Rattle.plan_commands.specs.Schedule.{IsScheduleAnswer}
+use Rattle.sample_commands.specs.Eval.{IsEvalAnswer}
+use Rattle.sample_commands.specs.Run.{IsRunAnswer}
+use Rattle.sample_commands.specs.Sim.{IsSimAnswer}
+use Rattle.sample_commands.specs.declared.simulator.Kept.{Kept}
+use Rattle.silc.specs.Demo.{IsDemoAnswer}
+use Rattle.silc.specs.Endings.{IsEnding, Reported}
+use Rattle.silc.specs.Listing.{IsListAnswer}
+use Rattle.silc_laws.specs.Faults.{HasFaultRisen}
+use Rattle.silc_laws.proofs.Laws.{answer_law, schedule_law, list_law, demo_law, sim_law, eval_law, run_law}
+use Rattle.statuses.specs.declared.status.Status.{Status}
+use Rattle.statuses.specs.declared.status.Status.TheVariants.{Desk}
+
+module _ (old new : View) (kept : Kept) where
+  planning : (src datapath : Name) → IsPlanError src datapath old new Desk
+      → ReadFaultsRose src old new ⊎ ReadFaultsRose datapath old new
+  planning src datapath (inl memory) = absurd (let e = memory.0 in cc)
+  planning src datapath (inr (inl unread)) = unread.1.rose
+  planning src datapath (inr (inr refused)) = absurd refused.0
+
+  compiling : (src datapath out : Name) → IsAnswer src datapath out old new Desk
+      → HasFaultRisen (compile src datapath out) old new
+  compiling src datapath out (inl error) = ⊎_elim (λ r. inl r) (λ r. inr (inl r)) (planning src datapath error)
+  compiling src datapath out (inr cut) = inr (inr cut.written.rose)
+
+  scheduling : (src datapath : Name) → IsScheduleAnswer src datapath old new Desk
+      → HasFaultRisen (schedule src datapath) old new
+  scheduling src datapath (inl error) = ⊎_elim (λ r. inl r) (λ r. inr (inl r)) (planning src datapath error)
+  scheduling src datapath (inr cut) = inr (inr cut.rose)
+
+  listing : (mic : Name) → IsListAnswer mic old new Desk → HasFaultRisen (list mic) old new
+  listing mic (inl done) = absurd (let e = done.0 in cc)
+  listing mic (inr (inl cut)) = inr cut.1.rose
+  listing mic (inr (inr (inl memory))) = absurd (let e = memory.0 in cc)
+  listing mic (inr (inr (inr (inl unread)))) = inl unread.1.rose
+  listing mic (inr (inr (inr (inr (fault, e, rejected))))) = absurd (cc)
+
+  simulating : (mic samples out : Name) → IsSimAnswer mic samples out old new kept Desk
+      → HasFaultRisen (sim mic samples out) old new
+  simulating mic samples out (inl unread) = ⊎_elim (λ r. inl r) (λ r. inr (inl r.0)) unread.rose
+  simulating mic samples out (inr stopped) = inr (⊎_elim (λ not. inr not.rose) (λ cut. cut.rose) stopped.ended)
+
+  evaluating : (src samples out : Name) → IsEvalAnswer src samples out old new Desk
+      → HasFaultRisen (eval src samples out) old new
+  evaluating src samples out (inl unread) = ⊎_elim (λ r. inl r) (λ r. inr (inl r.0)) unread.rose
+  evaluating src samples out (inr stopped) = inr (⊎_elim (λ not. inr not.rose) (λ cut. cut.rose) stopped.ended)
+
+  running : (src datapath samples out : Name) → IsRunAnswer src datapath samples out old new kept Desk
+      → HasFaultRisen (run src datapath samples out) old new
+  running src datapath samples out (inl (inl error)) =
+      ⊎_elim (λ r. inl r) (λ r. inr (inl r)) (planning src datapath error)
+  running src datapath samples out (inl (inr unread)) = inr (inr (inl unread.rose))
+  running src datapath samples out (inr stopped) =
+      inr (inr (⊎_elim (λ not. inr not.rose) (λ cut. cut.rose) stopped.ended))
+
+  demonstrating : (sections samples : ℕ) → IsDemoAnswer sections samples old new kept Desk
+      → HasFaultRisen (demo sections samples) old new
+  demonstrating sections samples (inl done) = absurd (let e = done.0 in cc)
+  demonstrating sections samples (inr (inl cut)) = cut.1.rose
+  demonstrating sections samples (inr (inr error)) =
+      absurd (⊎_elim (λ memory. cc) (λ refused. refused.0) error.why)
+
+module _ (words : List (String Global)) (old new : View) (kept : Kept) (status : Status)
+    (ending : (command : Command) → IsCommandIn words command → Reported (λ (mid : View). IsEnding command old mid kept status) status old new)
+    (fault : status ≡ Desk) where
+  pub fault_law : (command : Command) → IsCommandIn words command → HasFaultRisen command old new
+  fault_law (compile src datapath out) form =
+      compiling old new kept src datapath out
+      (subst (λ (s : Status). IsAnswer src datapath out old new s) fault
+      (answer_law words old new kept status ending src datapath out form))
+  fault_law (schedule src datapath) form =
+      scheduling old new kept src datapath
+      (subst (λ (s : Status). IsScheduleAnswer src datapath old new s) fault
+      (schedule_law words old new kept status ending src datapath form))
+  fault_law (list mic) form =
+      listing old new kept mic
+      (subst (λ (s : Status). IsListAnswer mic old new s) fault (list_law words old new kept status ending mic form))
+  fault_law (sim mic samples out) form =
+      simulating old new kept mic samples out
+      (subst (λ (s : Status). IsSimAnswer mic samples out old new kept s) fault
+      (sim_law words old new kept status ending mic samples out form))
+  fault_law (eval src samples out) form =
+      evaluating old new kept src samples out
+      (subst (λ (s : Status). IsEvalAnswer src samples out old new s) fault
+      (eval_law words old new kept status ending src samples out form))
+  fault_law (run src datapath samples out) form =
+      running old new kept src datapath samples out
+      (subst (λ (s : Status). IsRunAnswer src datapath samples out old new kept s) fault
+      (run_law words old new kept status ending src datapath samples out form))
+  fault_law (demo sections samples) form =
+      demonstrating old new kept sections samples
+      (subst (λ (s : Status). IsDemoAnswer sections samples old new kept s) fault
+      (demo_law words old new kept status ending sections samples form))
+
+-- over a desk that never fails none rises
+never : Rose 0 0 → ⊥
+never (inl more) = omega arith
+never (inr top) = omega arith
+
+either : {A B : Type 0} → (A → ⊥) → (B → ⊥) → A ⊎ B → ⊥
+either no_left no_right h = ⊎_elim no_left no_right h
+
+pub none_risen : (command : Command) (old new : NeverFails) → HasFaultRisen command (view_of old) (view_of new) → ⊥
+none_risen (compile src datapath out) old new h = either never (either never never) h
+none_risen (schedule src datapath) old new h = either never (either never never) h
+none_risen (list mic) old new h = either never never h
+none_risen (sim mic samples out) old new h = either never (either never never) h
+none_risen (eval src samples out) old new h = either never (either never never) h
+none_risen (run src datapath samples out) old new h = either never (either never (either never never)) h
+none_risen (demo sections samples) old new h = never h

@@ -1,0 +1,18 @@
+use Rattle.silc_laws.proofs.Complete.{compile_law, plan_text_law, listing_law, demonstration_law}
+use Rattle.silc_laws.proofs.silc_completes.Goals as goal
+
+pub returns-clause-compiles : goal.returns-clause-compiles
+returns-clause-compiles g c =
+    compile_law c.args.words.now (g.D.Desk.view c.args.desk.now) (g.D.Desk.view c.silc.new.desk) c.silc.new.kept c.silc.result c.silc.ensures.ending
+
+pub returns-clause-schedules : goal.returns-clause-schedules
+returns-clause-schedules g c =
+    plan_text_law c.args.words.now (g.D.Desk.view c.args.desk.now) (g.D.Desk.view c.silc.new.desk) c.silc.new.kept c.silc.result c.silc.ensures.ending
+
+pub returns-clause-lists : goal.returns-clause-lists
+returns-clause-lists g c =
+    listing_law c.args.words.now (g.D.Desk.view c.args.desk.now) (g.D.Desk.view c.silc.new.desk) c.silc.new.kept c.silc.result c.silc.ensures.ending
+
+pub returns-clause-demonstrates : goal.returns-clause-demonstrates
+returns-clause-demonstrates g c =
+    demonstration_law c.args.words.now (g.D.Desk.view c.args.desk.now) (g.D.Desk.view c.silc.new.desk) c.silc.new.kept c.silc.result c.silc.ensures.ending
