@@ -2,19 +2,19 @@
 ghost use Rattle.std.specs.Prelude.{◌≡◌, ◌≤◌};
 ghost use Rattle.desk_core.specs.Desk.{Rose};
 
+use crate::streams::{Sink, Source};
 use arrayvec::ArrayString;
 use desk_core::{Desk, Failed};
-use std::fs::{self, File};
-use std::io::{self, ErrorKind, Read, Write};
+use std::io::{Read, Write};
 
 /// The name of a file that could be opened. The host opens no path of 4,096 bytes or more, so each such name has room.
 type FileName = ArrayString<4096>;
 
-/// A file that is read, and its name.
+/// What is read, and its name.
 #[derive(Drop)]
 struct Input {
     name: FileName,
-    file: File,
+    source: Source,
 }
 
 /// The environment of the process. What a file holds is not specified, and each `Err` of the host is a fault.
@@ -24,7 +24,7 @@ pub struct HostDesk {
     input: Option<Input>,
     /// Bytes read since the input was opened.
     place: u64,
-    output: Option<File>,
+    output: Option<Sink>,
     faults: u64,
 }
 
@@ -52,20 +52,12 @@ fn raised(faults: u64) -> u64
     faults.saturating_add(1)
 }
 
-/// Opens a file to be read, which takes no memory for its name. A name that is too long for the host is a fault of it.
+/// Opens an input, which takes no memory for its name. A name that is too long for the host is a fault of it.
 fn opened(rt: &HostRuntime, name: &str) -> Result<Input, Failed> {
     Ok(Input {
         name: FileName::from(name).map_err(|_| Failed)?,
-        file: fs::open(rt, name).map_err(|_| Failed)?,
+        source: Source::open(rt, name).map_err(|_| Failed)?,
     })
-}
-
-/// Whether a file that can't be synced, as a pipe or a terminal, said so. It has nothing to report late.
-fn is_unsynced(error: &io::Error) -> bool {
-    matches!(
-        error.kind(),
-        ErrorKind::InvalidInput | ErrorKind::Unsupported
-    )
 }
 
 impl Desk for HostDesk {
@@ -91,7 +83,7 @@ impl Desk for HostDesk {
 
     fn read(&mut self, buf: &mut [u8]) -> Result<usize, Failed> {
         if let Some(input) = &mut self.input
-            && let Ok(count) = input.file.read(buf)
+            && let Ok(count) = input.source.read(buf)
         {
             self.place += count as u64;
             return Ok(count);
@@ -102,9 +94,9 @@ impl Desk for HostDesk {
 
     /// The input of that name ends.
     fn create(&mut self, name: &str) -> Result<(), Failed> {
-        match fs::create(&self.rt, name) {
-            Ok(file) => {
-                self.output = Some(file);
+        match Sink::create(&self.rt, name) {
+            Ok(sink) => {
+                self.output = Some(sink);
                 if self
                     .input
                     .as_ref()
@@ -123,8 +115,8 @@ impl Desk for HostDesk {
 
     /// A host that takes nothing of a piece has failed.
     fn write(&mut self, piece: &[u8]) -> Result<usize, Failed> {
-        if let Some(file) = &mut self.output
-            && let Ok(count) = file.write(piece)
+        if let Some(sink) = &mut self.output
+            && let Ok(count) = sink.write(piece)
             && (count > 0 || piece.is_empty())
         {
             return Ok(count);
@@ -133,12 +125,10 @@ impl Desk for HostDesk {
         Err(Failed)
     }
 
-    /// Waits until the host has stored the output, and fails where it could not, as it may find out after the last
-    /// write.
+    /// Waits until the host has stored the output, where that is a file.
     fn close(&mut self) -> Result<(), Failed> {
-        if let Some(file) = self.output.take()
-            && let Err(error) = file.sync_all()
-            && !is_unsynced(&error)
+        if let Some(sink) = self.output.take()
+            && sink.store().is_err()
         {
             self.faults = raised(self.faults);
             return Err(Failed);

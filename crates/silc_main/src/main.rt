@@ -2,6 +2,7 @@
 #![tactic(auto)]
 
 mod host;
+mod streams;
 
 use host::HostDesk;
 use silc::{Kept, Status, code, silc};
@@ -32,8 +33,9 @@ The exit code is 0 where all was done, 1 without memory, 2 at words that are no 
 that can't be read or written, 4 at a source that is no program, 5 at a file that describes no datapath,
 6 to 9 at a program for which the datapath has no unit, no cells for a delay, no cycle or no register,
 10 at a file that is no microcode, 11 at a line that is no row of samples, and 12 at microcode that asks
-for what the hardware can't do. An error is reported in one line on standard error, and only a fault of
-writing OUT itself can leave a part of OUT.";
+for what the hardware can't do. An error is reported in one line on standard error. Up to 10 no OUT is
+made; from SAMPLES on, it has the rows before the fault. /dev/stdin and /dev/stdout are the streams of a
+pipe: rows go out as they come in.";
 
 const VERSION: &str = "silc 0.1.0";
 
