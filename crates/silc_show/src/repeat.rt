@@ -272,8 +272,8 @@ fn zero_row(alloc: Global, types: &[SigType]) -> Result<Vec<i64>, AllocError>
 }
 
 fn step_again(evaluator: &mut Evaluator, turns: u32, row: &[i64], put: &mut [i64])
-    requires row { AllZip IsInType evaluator.old.inputs row.now }
-    requires put { length put.old ≡ length evaluator.old.outputs }
+    requires row { AllZip IsInType evaluator.old.graph.inputs row.now }
+    requires put { length put.old ≡ evaluator.old.graph.outs }
 {
     for _turn in 0..turns {
         evaluator.step(row, put);

@@ -116,8 +116,8 @@ fn numbers_from(alloc: Global, first: u32, end: u32) -> Result<List<u32>, AllocE
 /// An evaluator of a flat program.
 fn evaluator_of(alloc: Global, flat: &FlatProgram) -> Result<Evaluator, Refusal>
     requires { IsFlat (flat_form.view flat.now) }
-    ensures inputs { IfOk result (λ evaluator. evaluator.inputs ≡ flat.now.inputs) }
-    ensures outs { IfOk result (λ evaluator. length evaluator.outputs ≤ 16) }
+    ensures inputs { IfOk result (λ evaluator. evaluator.graph.inputs ≡ flat.now.inputs) }
+    ensures outs { IfOk result (λ evaluator. evaluator.graph.outs ≤ 16) }
 {
     let graph = match build(alloc, flat) {
         Ok(graph) => graph,
@@ -133,8 +133,8 @@ fn evaluator_of(alloc: Global, flat: &FlatProgram) -> Result<Evaluator, Refusal>
 /// A line for each row of samples, with the output words.
 fn put_samples(page: &mut Page, evaluator: &mut Evaluator, list: &RowList)
     requires width { 1 ≤ list.now.width }
-    requires rows { IsStreamOf evaluator.old.inputs (stream_of list.now) }
-    requires outs { length evaluator.old.outputs ≤ 16 }
+    requires rows { IsStreamOf evaluator.old.graph.inputs (stream_of list.now) }
+    requires outs { evaluator.old.graph.outs ≤ 16 }
 {
     let mut words = [0i64; MAX_CHANNELS];
     let put = &mut words[..evaluator.outs()];

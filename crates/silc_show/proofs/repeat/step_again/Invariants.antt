@@ -5,4 +5,4 @@ use Rattle.silc_show.proofs.repeat.step_again.Given as goal
 
 abbrev pub invariant-loop-turn : goal.invariant-loop-turn
 invariant-loop-turn l =
-    AllZip IsInType l.evaluator.inputs l.row × (length l.put ≡ length l.evaluator.outputs)
+    AllZip IsInType l.evaluator.graph.inputs l.row × (length l.put ≡ l.evaluator.graph.outs)

@@ -5,6 +5,6 @@ use Rattle.silc_show.proofs.values.put_samples.Given as goal
 
 abbrev pub invariant-loop-n : goal.invariant-loop-n
 invariant-loop-n l = record {
-  rows : IsStreamOf l.evaluator.inputs (stream_of l.list);
-  put : length l.put ≡ length l.evaluator.outputs;
+  rows : IsStreamOf l.evaluator.graph.inputs (stream_of l.list);
+  put : length l.put ≡ l.evaluator.graph.outs;
 }
