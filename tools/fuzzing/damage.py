@@ -1,0 +1,78 @@
+"""Damage of files: of bytes, of tokens, of numbers."""
+import re
+
+TOKENS = re.compile(rb"\s+|\w+(?:\.\d+)?|[^\w\s]")
+NUMBERS = re.compile(rb"\d+")
+# Numbers that stand at the ends of ranges, or past them.
+ENDS = [b"0", b"1", b"2", b"3", b"7", b"8", b"15", b"16", b"17", b"31", b"32", b"33", b"64", b"65", b"127", b"128", b"255",
+        b"256", b"257", b"1023", b"1024", b"4096", b"4097", b"8191", b"8192", b"8193", b"65535", b"65536", b"65537",
+        b"2147483647", b"2147483648", b"4294967296", b"9223372036854775807", b"9223372036854775808", b"999999999999999999",
+        b"1000000000000000000", b"00", b"0.5", b"1.5"]
+WORDS = [b"func", b"const", b"var", b"begin", b"end", b"fix", b"bool", b"trunc", b"round", b"if", b"fi", b"true", b"false",
+         b"sat", b"main", b"x", b"y", b"::", b"..", b"==", b"!=", b"<=", b">=", b"<<", b">>", b"->", b"||", b"@@", b"(", b")",
+         b"[", b"]", b",", b";", b":", b"=", b"<", b">", b"+", b"-", b"*", b"&", b"|", b"!", b"@", b"1.5", b"/*", b"*/",
+         b"name", b"kind", b"period", b"word", b"hold", b"unit", b"bus", b"from", b"to", b"cells", b"ram", b"files",
+         b"latency", b"gap", b'"', b"'", b"#", b"[[", b"]]", b"{", b"}", b".", b"\n", b"\\"]
+
+
+def of_bytes(rng, data):
+    data = bytearray(data)
+    for _ in range(rng.choice([1, 1, 1, 2, 5])):
+        at = rng.randrange(len(data) + 1)
+        way = rng.randrange(6)
+        if way == 0:
+            data[at:at] = bytes([rng.randrange(256)])
+        elif way == 1:
+            del data[at:at + rng.choice([1, 1, 2, 8, 100])]
+        elif way == 2:
+            data[at:at + 1] = bytes([rng.choice([0, 1, 2, 4, 32, 127, 128, 255, rng.randrange(256)])])
+        elif way == 3 and at < len(data):
+            data[at] ^= 1 << rng.randrange(8)
+        elif way == 4:
+            data[at:at] = data[at:at + rng.choice([1, 4, 30])]
+        elif rng.random() < 0.3:
+            del data[at:]
+    return bytes(data)
+
+
+def of_tokens(rng, data):
+    tokens = TOKENS.findall(data) or [b""]
+    for _ in range(rng.choice([1, 1, 2, 3])):
+        at, other = rng.randrange(len(tokens)), rng.randrange(len(tokens))
+        way = rng.randrange(5)
+        if way == 0:
+            tokens[at] = b""
+        elif way == 1:
+            tokens[at] += b" " + tokens[at]
+        elif way == 2:
+            tokens[at], tokens[other] = tokens[other], tokens[at]
+        elif way == 3:
+            tokens[at] = rng.choice(WORDS)
+        else:
+            tokens[at] = tokens[other]
+    return b"".join(tokens)
+
+
+def of_numbers(rng, data):
+    places = list(NUMBERS.finditer(data))
+    for found in sorted(rng.sample(places, min(len(places), rng.choice([1, 1, 2]))), key=lambda found: -found.start()):
+        near = str(max(0, int(found[0]) + rng.choice([-1, 1]))).encode()
+        data = data[:found.start()] + rng.choice([rng.choice(ENDS), near]) + data[found.end():]
+    return data
+
+
+def of_lines(rng, data):
+    lines = data.splitlines(keepends=True) or [b""]
+    at, other = rng.randrange(len(lines)), rng.randrange(len(lines))
+    way = rng.randrange(3)
+    if way == 0:
+        del lines[at]
+    elif way == 1:
+        lines.insert(other, lines[at])
+    else:
+        lines[at], lines[other] = lines[other], lines[at]
+    return b"".join(lines)
+
+
+def of_text(rng, data):
+    return rng.choice([of_bytes, of_tokens, of_tokens, of_numbers, of_numbers, of_lines])(rng, data)
