@@ -64,6 +64,23 @@ def crowded(size):
     return image(count // 4, 4, [16], 1, units, 1, [full] * count)
 
 
+def verbose(size):
+    """A valid image of at most so many bytes whose listing is as long as one can be: takes with three digits in each number
+    that may have them."""
+    units = [unit("alu", files=[[0] * 256] * 2) for _ in range(32)]
+    takes = [(number, port, bus, register) for number in range(20, 32) for port in range(2) for bus in range(10, 32)
+             for register in range(254, 256)][:1024]
+    full = word(takes=takes)
+    count = min((size - 200000) // len(full) // 4 * 4, 4 * 4096)
+    return image(count // 4, 4, [16], 1, units, 32, [full] * count)
+
+
+def roomy():
+    """A valid image of 16 MiB that is nearly all cells of memories."""
+    units = [unit("ram", files=[[0], [0]], cells=[0] * 65536) for _ in range(32)]
+    return image(1, 1, [16], 1, units, 1, [word()])
+
+
 def busy(period=256):
     """An image that runs without a conflict: eight units, of which seven drive a bus each cycle."""
     units = [unit("in"), unit("rom"), unit("alu"), unit("alu"), unit("alu"), unit("mul", latency=2),
