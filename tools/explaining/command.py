@@ -27,8 +27,11 @@ class Case:
         self.said = said
 
     def text(self, what):
-        """The file that a word names."""
-        return Text(self.files[what], Path(self.files[what]).read_bytes())
+        """The file that a word names. What a pipe has given is gone."""
+        file = Path(self.files[what])
+        if not file.is_file():
+            raise OSError(f"{file} can't be read again")
+        return Text(self.files[what], file.read_bytes())
 
     def has_show(self):
         return os.access(SHOW, os.X_OK)

@@ -1,6 +1,7 @@
 """Why a line of a sample file is no row."""
 import codecs
 import math
+import os
 import re
 from dataclasses import dataclass
 from fractions import Fraction
@@ -9,7 +10,7 @@ from explaining.kinds import other_kind
 from explaining.refusals import ROWS
 from explaining.report import Report, counted, listed
 
-MOST_BYTES = 1 << 20
+END = 1 << 32
 TRUTHS = {"true": 1, "false": 0}
 EXPONENT = re.compile(r"[-+]?\d+(\.\d+)?[eE][-+]?\d{1,2}")
 NUMBER = re.compile(r"[-+]?\d*\.\d+|[-+]?\d+\.\d*")
@@ -44,10 +45,11 @@ def channels_of(case):
 
 
 def report_of(case):
-    text = case.text("SAMPLES")
     if "l" not in case.values:
-        return Report(f"the file has {len(text.data)} bytes, and at most {MOST_BYTES} are read",
-                      "run the samples in several files.", case.refusal.rule, about=text.name)
+        name = case.files["SAMPLES"]
+        has = f"the file has {os.path.getsize(name)} bytes" if os.path.isfile(name) else "more came"
+        return Report(f"{has}, and fewer than {END} are read", "run the samples in several files.", case.refusal.rule, about=name)
+    text = case.text("SAMPLES")
     other = other_kind(case, "SAMPLES")
     if other:
         return other

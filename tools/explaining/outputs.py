@@ -14,11 +14,12 @@ def named(words):
 
 
 def same_input(files):
-    """The input that OUT is by another name."""
+    """The input that OUT is by another name, where OUT is a file: a terminal or a socket may be both."""
     out = files.get("OUT")
+    if out is None or not os.path.isfile(out):
+        return None
     for what, name in files.items():
-        if what != "OUT" and out is not None and name != out and os.path.exists(name) and os.path.exists(out) \
-                and os.path.samefile(name, out):
+        if what != "OUT" and name != out and os.path.exists(name) and os.path.samefile(name, out):
             return name
     return None
 

@@ -18,7 +18,7 @@ TITLES = {1: "Memory", 2: "Words", 3: "Files", 4: "Sources", 5: "Datapath files"
 # A line of a file as it is shown, and the place before what is wrong.
 SHOWN = re.compile(r" *\d* \| ")
 PLACED = r"(?:[\w./-]+(?::\d+)*: )?"
-UNSHOWN = "No example: how much memory there is depends on the machine."
+UNSHOWN = {"no memory": "how much memory there is depends on the machine", "samples too long": "its file would have 4 GiB"}
 
 
 class Example:
@@ -99,5 +99,5 @@ def page():
             parts.append(f"## {code}: {TITLES[code]}\n")
         cases = by_refusal.get(refusal.text, [])
         parts.append(f"### `silc: {refusal.text}`\n\n{refusal.means} The rule: {refusal.rule}.\n")
-        parts.append(shown(cases[0]) + others(cases[1:]) if cases else UNSHOWN + "\n")
+        parts.append(shown(cases[0]) + others(cases[1:]) if cases else f"No example: {UNSHOWN[refusal.text]}.\n")
     return "\n".join(parts)
