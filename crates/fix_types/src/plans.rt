@@ -86,15 +86,17 @@ fn comparison(
 
 /// The operation of a comparison, and whether it has the right side first.
 fn compared(op: BinOp) -> (Op, bool)
+    requires { IsComparing op }
     ensures { result ≡ comparing op }
 {
     match op {
         BinOp::Lt => (Op::Lt, false),
         BinOp::Le => (Op::Le, false),
         BinOp::Eq => (Op::Eq, false),
+        BinOp::Ne => (Op::Ne, false),
         BinOp::Gt => (Op::Lt, true),
         BinOp::Ge => (Op::Le, true),
-        _ => (Op::Ne, false),
+        BinOp::Add | BinOp::Sub | BinOp::Mul | BinOp::And | BinOp::Or => unreachable!(),
     }
 }
 

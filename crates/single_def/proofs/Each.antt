@@ -1,7 +1,7 @@
 -- Loops that do something for each number of a range.
 use Rattle.std.proofs.Common.{◌≡◌, ◌≢◌, ◌<◌, ◌+◌, ◌-◌, ◌∙◌, ℕ, suc, Result, Ok, Err, IsErrAnd, ◌∷◌, refl, sym, ap, arith}
 use Rattle.std.specs.List.{range_with_len}
-use Rattle.single_def.specs.Private.Actions.{for_each, ◌>>=◌, Gives}
+use Rattle.single_def.specs.Private.Actions.{for_each, ◌>>=◌, Gives, HasMeaning}
 use Rattle.single_def.specs.declared.fault.PlacedFault.{PlacedFault}
 use Rattle.single_def.specs.declared.fault.PlacedFault.TheVariants.{Memory}
 
@@ -28,3 +28,7 @@ module _ {S : Type 0} (f : ℕ → S → Result S PlacedFault) (a k n : ℕ) (lt
 
   pub each_gives : (x : S) (m : ℕ) → m ≡ a + k → (e : PlacedFault) (r : Result (Unit {0}) PlacedFault) → IsErrAnd r (λ g. g ≡ e) → (e ≢ Memory → f m s ≡ Err e) → Gives x r whole
   each_gives x m is e r err fails = gives_err x e r whole err (λ n. each_fails e (sym (ap (λ j. f j s) is) ∙ fails n))
+
+  -- what is done for the next number of a walk that has a meaning has one
+  pub each_meant : HasMeaning whole → (m : ℕ) → m ≡ a + k → HasMeaning (f m s)
+  each_meant h m is e = h (each_fails Memory (sym (ap (λ j. f j s) is) ∙ e))

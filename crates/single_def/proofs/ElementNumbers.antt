@@ -1,13 +1,12 @@
 -- The elements of declarations are numbered one behind the other.
-use Rattle.std.proofs.Common.{◌≡◌, ◌≢◌, ◌∙◌, ◌<◌, ◌+◌, ◌&&◌, inl, inr, ℕ, zero, suc, List, [], ◌∷◌, take, slice_get, Some, refl, sym, ap, subst, arith}
-use Rattle.std.specs.Prelude.{nat_eq, slice_set}
+use Rattle.std.proofs.Common.{◌≡◌, ◌∙◌, ◌<◌, ◌+◌, ◌&&◌, inl, inr, ℕ, zero, suc, List, [], ◌∷◌, take, slice_get, Some, refl, sym, ap, subst, arith}
+use Rattle.std.specs.Prelude.{nat_eq}
 use Rattle.std.proofs.lemmas.Bool.Decides.{eqb_tells}
 use Rattle.std.proofs.lemmas.List.Sums.{sum_by-cons}
 use Rattle.silage_syntax.specs.declared.tree.Decl.{Decl}
 use Rattle.silage_syntax.specs.Tree.{Func}
 use Rattle.silage_syntax.specs.Names.{decls, declared, element_count}
 use Rattle.silage_meaning.proofs.Elements.{declared_at}
-use Rattle.single_def.specs.ElementRules.{elements_of}
 use Rattle.single_def.specs.Private.Plans.{first_of}
 
 -- the declaration at a position has this row-major place
@@ -61,28 +60,5 @@ pub is_same_place : (ds : List Decl) (d e k j : ℕ) → IsPlace ds d k → IsPl
 is_same_place ds d e k j h g =
     both d e k j (first_of ds d + k) (first_of ds e + j) (same_place ds d e k j h g) (λ p q. rw (p, q) refl)
 
-pub number_within : (ds : List Decl) (d k : ℕ) → IsPlace ds d k → first_of ds d + k < elements_of ds
-number_within [] d k h = absurd (cc (h.stands))
-number_within (x ∷ ds) zero k h =
-    let less = in_first x ds k h in let all = sum_by-cons (λ (d : Decl). element_count d.dims) x ds in omega arith
-number_within (x ∷ ds) (suc d) k h =
-    let first = first_behind x ds d in
-    let all = sum_by-cons (λ (d : Decl). element_count d.dims) x ds in
-    let rest = number_within ds d k (behind_first x ds d k h) in
-    omega arith
-
 pub declared_stands : (f : Func) (name : List ℕ) (q : ℕ × Decl) → declared f name ≡ Some q → slice_get (decls f) q.0 ≡ Some q.1
 declared_stands f name q e = declared_at f name q.0 q.1 e
-
--- Lists of which one element is set.
-pub set_same : {A : Type 0} (xs : List A) (n : ℕ) (a v : A) → slice_get xs n ≡ Some a → slice_get (slice_set xs n v) n ≡ Some v
-set_same [] n a v e = absurd (cc)
-set_same (x ∷ xs) zero a v e = refl
-set_same (x ∷ xs) (suc n) a v e = set_same xs n a v e
-
-pub set_other : {A : Type 0} (xs : List A) (n m : ℕ) (v : A) → n ≢ m → slice_get (slice_set xs n v) m ≡ slice_get xs m
-set_other [] n m v other = refl
-set_other (x ∷ xs) zero zero v other = absurd (other refl)
-set_other (x ∷ xs) zero (suc m) v other = refl
-set_other (x ∷ xs) (suc n) zero v other = refl
-set_other (x ∷ xs) (suc n) (suc m) v other = set_other xs n m v (λ e. other (ap suc e))

@@ -1,5 +1,5 @@
 -- The load never falls, and what is counted is at most the most load.
-use Rattle.std.proofs.Common.{if◌then◌else◌, ◌≡◌, ◌∙◌, ◌<◌, drop, get_or, ◌≤◌, ◌+◌, ℕ, zero, suc, ℤ, pos, ◌+ℤ◌, List, [], ◌∷◌, ◌++◌, length, map, slice_get, Option, Some, None, Bool, true, false, Result, Ok, Err, nat_le, refl, sym, ap, arith}
+use Rattle.std.proofs.Common.{if◌then◌else◌, ◌≡◌, ◌∙◌, ◌<◌, drop, get_or, ◌≤◌, ◌+◌, ℕ, zero, suc, ℤ, pos, ◌+ℤ◌, List, [], ◌∷◌, ◌++◌, length, map, Option, Some, None, Bool, true, false, Result, Ok, Err, nat_le, refl, sym, ap, arith}
 use Rattle.std.specs.List.{range_with_len}
 use Rattle.std.proofs.lemmas.Bool.{leb-true}
 use Rattle.std.proofs.lemmas.List.{drop_more}
@@ -8,13 +8,12 @@ use Rattle.single_def.specs.ElementRules.{count_up}
 use Rattle.single_def.specs.declared.fault.PlacedFault.{PlacedFault}
 use Rattle.single_def.specs.declared.fault.PlacedFault.TheVariants.{TooLarge}
 use Rattle.single_def.specs.declared.instances.Inside.{Inside}
-use Rattle.single_def.specs.Private.Functions.{view_function}
+use Rattle.single_def.specs.Private.Functions.{view_planned}
 use Rattle.single_def.specs.Private.States.{made_in}
 use Rattle.single_def.specs.Private.Parts.{view_part}
 use Rattle.single_def.specs.declared.parts.Part.{Part}
-use Rattle.single_def.specs.Private.Numbers.{number_value}
 use Rattle.single_def.specs.Private.Actions.{Action, check, define, define_all, preset, count, enter, repeat, Actions, no_action, action, Body, Known, Found, State, Instances, for_each, ◌>>=◌}
-use Rattle.single_def.specs.Private.Actions.{actions_of, count_in, in_known, in_found, check_of, bound_of, place_of, define_place, define_from, preset_place, run_action, run_actions, run_turn, entered_in, at_first, all_defined, run_body, run_some, run_instance}
+use Rattle.single_def.specs.Private.Actions.{actions_of, count_in, in_known, in_found, check_of, bound_of, element_of, sample_of, define_at, define_from, preset_at, run_action, run_actions, run_turn, entered_in, at_first, all_defined, run_body, run_some, function_at, run_instance}
 
 -- what both steps come to, where they come to something
 record Through {A B : Type 0} (r : Result A PlacedFault) (f : A → Result B PlacedFault) (t : B) : Type 0 where
@@ -85,9 +84,14 @@ module _ (inside : (func at : ℕ) → List ℤ → Found → Result Found Place
         let h = through (check_of turns c) _ t e in
         let same = ap loaded (ok_same s t h.rest) in
         omega (arith, same)
-    action_adds turns (define first subs at) s t e = known_adds (define_place first (place_of turns subs) at) s t e
+    action_adds turns (define first subs at) s t e =
+        let h = through (element_of turns first subs) _ t e in
+        known_adds (define_at h.middle at) s t h.rest
     action_adds turns (define_all first n at) s t e = known_adds (define_from first n at) s t e
-    action_adds turns (preset first subs sample at) s t e = known_adds (preset_place first (place_of turns subs) (number_value turns sample) at) s t e
+    action_adds turns (preset first subs sample at) s t e =
+        let h = through (element_of turns first subs) _ t e in
+        let before = through (sample_of turns sample) _ t h.rest in
+        known_adds (preset_at h.middle before.middle at) s t before.rest
     action_adds turns (count load at) s t e = found_adds (count_in load at) (count_adds load at) s t e
     action_adds turns (enter func at) s t e = found_adds (inside func at turns) (adds func at turns) s t e
     action_adds turns (repeat lo hi actions at) s t e =
@@ -130,7 +134,7 @@ AllAdd inside = (parent func at : ℕ) (turns : List ℤ) → Adds load_in (insi
 body_adds : (inside : Instances) → AllAdd inside → (body : Body) (func parent at : ℕ) (turns : List ℤ) → Adds load_in (run_body inside body func parent at turns)
 body_adds inside adds body func parent at turns s t e =
     let entered = through (entered_in body func parent at turns s) _ t e in
-    let begun : State = record { known = at_first body.given body.count; found = entered.middle } in
+    let begun : State = record { known = at_first body.given; found = entered.middle } in
     let ran = through (run_actions (inside (length s.instances)) [] body.actions begun) _ t entered.rest in
     let ended = through (all_defined ran.middle.known body.signals) _ t ran.rest in
     let one = entered_adds body func parent at turns s entered.middle entered.first in
@@ -139,20 +143,20 @@ body_adds inside adds body func parent at turns s t e =
     omega (arith, one, rest, same)
 
 some_adds : (calls : ℕ) (inside : Instances) → AllAdd inside → (o : Option Body) (func parent at : ℕ) (turns : List ℤ) → Adds load_in (run_some calls inside o func parent at turns)
-some_adds calls inside adds None func parent at turns s t e = let same = ap load_in (ok_same s t e) in omega (arith, same)
+some_adds calls inside adds None func parent at turns s t e = absurd (cc e)
 some_adds zero inside adds (Some body) func parent at turns s t e = absurd (cc e)
 some_adds (suc calls) inside adds (Some body) func parent at turns s t e = body_adds inside adds body func parent at turns s t e
 
 -- an instance adds to the load, or leaves it
-pub instances_add : (plan : List Body) (calls : ℕ) → AllAdd (run_instance plan calls)
+pub instances_add : (plan : List (Option Body)) (calls : ℕ) → AllAdd (run_instance plan calls)
 instances_add plan zero parent func at turns s t e =
-    some_adds zero (λ parent func at turns found. Ok found) (λ parent func at turns s t e. let same = ap load_in (ok_same s t e) in omega (arith, same)) (slice_get plan func) func parent at turns s t e
+    some_adds zero (λ parent func at turns found. Ok found) (λ parent func at turns s t e. let same = ap load_in (ok_same s t e) in omega (arith, same)) (function_at plan func) func parent at turns s t e
 instances_add plan (suc calls) parent func at turns s t e =
-    some_adds (suc calls) (run_instance plan calls) (instances_add plan calls) (slice_get plan func) func parent at turns s t e
+    some_adds (suc calls) (run_instance plan calls) (instances_add plan calls) (function_at plan func) func parent at turns s t e
 
 -- what an instance does that a call makes here
 pub made_adds : (inside : Inside) (func at : ℕ) (turns : List ℤ) → Adds load_in (made_in inside func at turns)
-made_adds inside func at turns = instances_add (map view_function inside.plan.now) inside.calls inside.number func at turns
+made_adds inside func at turns = instances_add (map view_planned inside.plan.now) inside.calls inside.number func at turns
 
 pub next_load : (inside : Inside) (turns : List ℤ) (actions : Actions) (at : ℕ) (turn : ℤ) (first : ℕ) (s t : State) → first ≤ s.found.load
     → run_turn (made_in inside) turns actions at turn s ≡ Ok t → first ≤ t.found.load

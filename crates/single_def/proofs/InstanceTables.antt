@@ -1,8 +1,8 @@
 -- An instance does what is in its table.
-use Rattle.std.proofs.Common.{◌≡◌, ◌≢◌, ◌∙◌, ◌<◌, ◌≤◌, ◌+◌, ◌-◌, ◌++◌, ◌⊎◌, ◌||◌, ◌&&◌, inl, inr, ℕ, zero, suc, List, [], ◌∷◌, map, length, replicate, Bool, true, false, slice_get, Some, Result, Ok, Err, refl, sym, ap, subst, arith, append_assoc, append-nil}
-use Rattle.std.specs.Prelude.{nat_eq}
+use Rattle.std.proofs.Common.{◌≡◌, ◌≢◌, ◌∙◌, ◌<◌, ◌≤◌, ◌+◌, ◌++◌, ◌⊎◌, ◌||◌, ◌&&◌, inl, inr, ℕ, zero, suc, List, [], ◌∷◌, map, length, Bool, true, false, slice_get, Some, Result, Ok, Err, refl, sym, ap, subst, arith, append_assoc, append-nil}
+use Rattle.std.specs.Prelude.{nat_eq, nat_lt}
 use Rattle.std.specs.List.{range_with_len}
-use Rattle.std.proofs.lemmas.Bool.Decides.{eqb_tells}
+use Rattle.std.proofs.lemmas.Bool.Decides.{eqb_tells, leb_tells}
 use Rattle.std.proofs.lemmas.List.Sums.{sum_by-cons, sum_by-append}
 use Rattle.ranked_faults.specs.Private.FirstMet.{first, first_in, ◌>>◌}
 use Rattle.silage_syntax.specs.declared.tree.Decl.{Decl}
@@ -13,9 +13,9 @@ use Rattle.single_def.specs.declared.fault.PlacedFault.{PlacedFault}
 use Rattle.single_def.specs.Tables.{Mark, given, needs, counts, load_of, load_before, is_preset, Table, mark, Row, each, each_from, Context, at_entry, is_defined, after, after_row, table_rules, row_rules, max_load}
 use Rattle.single_def.specs.Expansion.{row_instances, elements_from, signals_of, elements_in}
 use Rattle.single_def.specs.ElementRules.{each_place, elements_of}
-use Rattle.single_def.specs.Private.Actions.{Known, for_each, signal_elements, is_defined_at, are_defined, all_defined, at_first, ◌>>=◌}
+use Rattle.single_def.specs.Private.Actions.{Known, for_each, signal_elements, is_there, is_defined_at, are_defined, all_defined, at_first, ◌>>=◌}
 use Rattle.single_def.specs.Private.Plans.{first_of, signals_from, capped}
-use Rattle.single_def.proofs.ElementNumbers.{IsPlace, behind_first, first_behind, number_within}
+use Rattle.single_def.proofs.ElementNumbers.{IsPlace, behind_first, first_behind}
 use Rattle.single_def.proofs.Standing.{KnownStands}
 
 -- The elements of an instance.
@@ -119,18 +119,12 @@ quiet_params a (x ∷ ps) context =
       instances = λ number front. ap (λ f. row_instances number f (each_from (λ d decl. each_place (given d) decl) (a + 1) ps)) (own.instances number front) ∙ rest.instances number front;
     }
 
--- The bits of an instance that is entered.
-bit_given : (n : ℕ) (rest : List Bool) (m : ℕ) → m < n → slice_get (replicate n true ++ rest) m ≡ Some true
-bit_given zero rest m less = absurd (omega arith)
-bit_given (suc n) rest zero less = refl
-bit_given (suc n) rest (suc m) less = bit_given n rest m (omega arith)
+-- What an instance that is entered knows of an element.
+given_below : (m n : ℕ) → m < n → nat_lt m n || false ≡ true
+given_below m n less = elim (leb_tells (suc m) n) [ inl is ↦ rw is.0 refl | inr other ↦ absurd (omega (arith, other.1)) ]
 
-bit_not_given : (n all m : ℕ) → n ≤ m → m < n + all → slice_get (replicate n true ++ replicate all false) m ≡ Some false
-bit_not_given zero zero m least most = absurd (omega arith)
-bit_not_given zero (suc all) zero least most = refl
-bit_not_given zero (suc all) (suc m) least most = bit_not_given zero all m (omega arith) (omega arith)
-bit_not_given (suc n) all zero least most = absurd (omega arith)
-bit_not_given (suc n) all (suc m) least most = bit_not_given n all m (omega arith) (omega arith)
+not_given : (m n : ℕ) → n ≤ m → nat_lt m n || false ≡ false
+not_given m n least = elim (leb_tells (suc m) n) [ inl is ↦ absurd (omega (arith, is.1)) | inr other ↦ rw other.0 refl ]
 
 record InFront (ps rest : List Decl) (e j : ℕ) : Type 0 where
   decl : Decl
@@ -177,26 +171,23 @@ module _ (g : Func) (few : elements_of (decls g) ≤ max_load) (marks : List Mar
   all_of : elements_of (decls g) ≡ elements_of g.params + elements_of (g.results ++ g.locals)
   all_of = sum_by-append (λ (d : Decl). element_count d.dims) g.params (g.results ++ g.locals)
 
-  bits_begun : (e j : ℕ) → IsPlace (decls g) e j
-      → slice_get (at_first (capped (elements_of g.params)) (capped (elements_of (decls g)))).defined (first_of (decls g) e + j) ≡ Some (is_defined begun e j)
-  bits_begun e j is =
+  there_begun : (e j : ℕ) → IsPlace (decls g) e j → is_there (at_first (capped (elements_of g.params))) (first_of (decls g) e + j) ≡ is_defined begun e j
+  there_begun e j is =
       let every = all_of in
       let params : capped (elements_of g.params) ≡ elements_of g.params = omega arith in
-      let all : capped (elements_of (decls g)) ≡ elements_of (decls g) = omega arith in
       elim (either_side g.params (g.results ++ g.locals) e j is) [
         | inl front ↦
             let given_now = param_given e j 0 g.params counted_context e front.decl (omega arith) front.stands front.within in
-            rw (params, given_now) (bit_given (elements_of g.params) _ (first_of (decls g) e + j) front.number)
+            rw (params, given_now) (given_below (first_of (decls g) e + j) (elements_of g.params) front.number)
         | inr behind ↦
             let past = behind.position in
             let far = behind.number in
-            let most = number_within (decls g) e j is in
             let not_now = past_params e j 0 g.params counted_context (omega arith) refl in
-            rw (params, all, not_now) (bit_not_given (elements_of g.params) (elements_of (decls g) - elements_of g.params) (first_of (decls g) e + j) (omega arith) (omega arith))
+            rw (params, not_now) (not_given (first_of (decls g) e + j) (elements_of g.params) (omega arith))
       ]
 
-  pub known_begun : KnownStands (decls g) begun (at_first (capped (elements_of g.params)) (capped (elements_of (decls g))))
-  known_begun = record { defined = bits_begun; presets = λ e j s is. sym ((quiet_params 0 g.params counted_context).presets e j s) }
+  pub known_begun : KnownStands (decls g) begun (at_first (capped (elements_of g.params)))
+  known_begun = record { defined = there_begun; presets = λ e j s is. sym ((quiet_params 0 g.params counted_context).presets e j s) }
 
 -- Each element of an instance is defined in the end.
 pub record IsNeeded (context : Context) (row : Row) (checks : Result (Unit {0}) PlacedFault) : Type 0 where
@@ -210,21 +201,21 @@ unit_then (Ok tt) q more e = e
 unit_then (Err f) q more e = refl
 
 module _ (ds : List Decl) (known : Known) where
-  abbrev Bits : Context → Type 0
-  Bits context = (e j : ℕ) → IsPlace ds e j → slice_get known.defined (first_of ds e + j) ≡ Some (is_defined context e j)
+  abbrev Knows : Context → Type 0
+  Knows context = (e j : ℕ) → IsPlace ds e j → is_there known (first_of ds e + j) ≡ is_defined context e j
 
-  need_is : (context : Context) (d k at : ℕ) (b : Bool) → is_defined context d k ≡ b → slice_get known.defined (first_of ds d + k) ≡ Some b
+  need_is : (context : Context) (d k at : ℕ) (b : Bool) → is_defined context d k ≡ b → is_there known (first_of ds d + k) ≡ b
       → first (table_rules context (mark (needs d k at))) ≡ is_defined_at known (first_of ds d + k) at k
-  need_is context d k at true e bit = rw (e, bit) refl
-  need_is context d k at false e bit = rw (e, bit) refl
+  need_is context d k at true e there = rw (e, there) refl
+  need_is context d k at false e there = rw (e, there) refl
 
-  place_needed : (d at n a : ℕ) → ((k : ℕ) → a ≤ k → k < a + n → IsPlace ds d k) → (context : Context) → Bits context
+  place_needed : (d at n a : ℕ) → ((k : ℕ) → a ≤ k → k < a + n → IsPlace ds d k) → (context : Context) → Knows context
       → IsNeeded context (each (λ k. mark (needs d k at)) (range_with_len a n)) (for_each (λ k _. is_defined_at known (first_of ds d + k) at k) (range_with_len a n) tt)
-  place_needed d at zero a is context bits = record { holds = refl; load = refl; defined = λ e j. refl; instances = λ number front. refl }
-  place_needed d at (suc n) a is context bits =
+  place_needed d at zero a is context knows = record { holds = refl; load = refl; defined = λ e j. refl; instances = λ number front. refl }
+  place_needed d at (suc n) a is context knows =
       let place = is a (omega arith) (omega arith) in
-      let rest = place_needed d at n (a + 1) (λ k least most. is k (omega arith) (omega arith)) (after context (mark (needs d a at))) (λ e j other. bits e j other) in
-      let own = need_is context d a at (is_defined context d a) refl (bits d a place) in
+      let rest = place_needed d at n (a + 1) (λ k least most. is k (omega arith) (omega arith)) (after context (mark (needs d a at))) (λ e j other. knows e j other) in
+      let own = need_is context d a at (is_defined context d a) refl (knows d a place) in
       let more = sum_by-cons load_of (needs d a at) context.of_program in
       record {
         holds = ap (λ (r : Result (Unit {0}) PlacedFault). r >> first_in (row_rules (after context (mark (needs d a at))) (each (λ k. mark (needs d k at)) (range_with_len (a + 1) n)))) own
@@ -237,16 +228,16 @@ module _ (ds : List Decl) (known : Known) where
 
   -- the declarations from the one at position d on, of which the first element has number m
   pub all_needed : (d m : ℕ) (xs : List Decl) → ((i : ℕ) (x : Decl) → slice_get xs i ≡ Some x → slice_get ds (d + i) ≡ Some x) → m ≡ first_of ds d
-      → ((i : ℕ) (x : Decl) → slice_get ds i ≡ Some x → first_of ds (i + 1) ≡ first_of ds i + element_count x.dims) → (context : Context) → Bits context
+      → ((i : ℕ) (x : Decl) → slice_get ds i ≡ Some x → first_of ds (i + 1) ≡ first_of ds i + element_count x.dims) → (context : Context) → Knows context
       → IsNeeded context (each_from (λ d decl. each_place (λ k. needs d k decl.at) decl) d xs) (all_defined known (signals_from m xs))
-  all_needed d m [] stand is step context bits = record { holds = refl; load = refl; defined = λ e j. refl; instances = λ number front. refl }
-  all_needed d m (x ∷ xs) stand is step context bits =
+  all_needed d m [] stand is step context knows = record { holds = refl; load = refl; defined = λ e j. refl; instances = λ number front. refl }
+  all_needed d m (x ∷ xs) stand is step context knows =
       let here : slice_get ds d ≡ Some x = subst (λ e. slice_get ds e ≡ Some x) (omega arith) (stand 0 x refl) in
-      let own = place_needed d x.at (element_count x.dims) 0 (λ k least most. record { decl = x; stands = here; within = omega arith }) context bits in
+      let own = place_needed d x.at (element_count x.dims) 0 (λ k least most. record { decl = x; stands = here; within = omega arith }) context knows in
       let later = after_row context (each (λ k. mark (needs d k x.at)) (range_with_len 0 (element_count x.dims))) in
       let next : m + element_count x.dims ≡ first_of ds (d + 1) = ap (λ n. n + element_count x.dims) is ∙ sym (step d x here) in
       let rest = all_needed (d + 1) (m + element_count x.dims) xs (λ i y e. subst (λ e. slice_get ds e ≡ Some y) (omega arith) (stand (suc i) y e)) next
-      step later (λ e j other. bits e j other ∙ ap Some (sym (own.defined e j))) in
+      step later (λ e j other. knows e j other ∙ sym (own.defined e j)) in
       record {
         holds = ap (λ (r : Result (Unit {0}) PlacedFault). r >> first_in (row_rules later (each_from (λ d decl. each_place (λ k. needs d k decl.at) decl) (d + 1) xs))) own.holds
             ∙ ap (λ (q : Result (Unit {0}) PlacedFault). for_each (λ k _. is_defined_at known (first_of ds d + k) x.at k) (range_with_len 0 (element_count x.dims)) tt >> q) rest.holds

@@ -1,5 +1,5 @@
 -- What the names of items stand for, by the rules on names, and the actions of what they stand for.
-use Rattle.std.proofs.Common.{◌≡◌, ◌∙◌, refl, sym, ap, subst, arith, ℕ, zero, suc, ◌+◌, ◌<◌, Bool, true, false, cond, List, [], ◌∷◌, ◌++◌, inl, inr, length, map, get_or, slice_get, Option, Some, None, option_map, Ok}
+use Rattle.std.proofs.Common.{◌≡◌, ◌∙◌, refl, sym, ap, subst, arith, ℕ, zero, suc, ◌+◌, ◌<◌, ◌≤◌, Bool, true, false, cond, List, [], ◌∷◌, inl, inr, length, map, get_or, slice_get, Option, Some, None, option_map, Ok}
 use Rattle.std.specs.Prelude.{All, IsSome, IsSomeAnd, is_none, nat_eq, ◌&&◌}
 use Rattle.std.specs.Option.{option_or}
 use Rattle.std.proofs.lemmas.Bool.Decides.{eqb_tells}
@@ -10,7 +10,7 @@ use Rattle.lists.proofs.Places.{some_once}
 use Rattle.ranked_faults.specs.Ranked.{IsClear}
 use Rattle.ranked_faults.specs.Rules.{RuleRow, parts, own, none, ◌▸◌, each, each_from}
 use Rattle.ranked_faults.specs.Private.FirstMet.{first, first_in}
-use Rattle.ranked_faults.proofs.TableFaults.{then_parts}
+use Rattle.ranked_faults.proofs.TableFaults.{then_parts, rule_holds}
 use Rattle.silage_syntax.specs.declared.tree.ConstDef.{ConstDef}
 use Rattle.silage_syntax.specs.declared.tree.Decl.{Decl}
 use Rattle.silage_syntax.specs.declared.tree.Expr.{Expr as RustExpr}
@@ -26,8 +26,8 @@ use Rattle.name_check.specs.declared.fault.NameFault.TheVariants.{Size}
 use Rattle.single_def.specs.ElementRules.{Range, readable, delays, no_delays, position_of}
 use Rattle.single_def.specs.Private.Actions.{define}
 use Rattle.single_def.specs.Private.Plans.{first_of, located, callee_of, subscript_checks, subscripts, planned_target}
-use Rattle.single_def.specs.Private.Names.{IsElementOf, IsSignalOf, TakesAs, Takes, TakeAll, HasReads, HaveReads, HasNames, HaveNames, HasTopNames}
-use Rattle.single_def.proofs.NamedItems.{Fits, place_fits, equal}
+use Rattle.single_def.specs.Private.Names.{IsElementOf, IsSignalOf, TakesAs, Takes, TakeEach, TakeAll, HasReads, HaveReads, HasNames, HaveNames, HasTopNames}
+use Rattle.single_def.proofs.NamedItems.{Fits, place_fits, both_true, equal, whole}
 use Rattle.single_def.proofs.SoundNames.{clear_first}
 
 -- what is there
@@ -45,16 +45,18 @@ all_at P xs k x all e = subst P (get_or_from_slice_get xs k x x e) (all k x (sli
 pub expr_at : (P : Expr → Type 0) (xs : List RustExpr) (i : ℕ) (x : RustExpr) → All P (map view_expr xs) → i < length xs → x ≡ get_or xs i x → P (view_expr x)
 expr_at P xs i x all within is = subst P (get_or-map view_expr xs i x (view_expr x) within ∙ ap view_expr (sym is)) (all i (view_expr x) (omega (arith, within, length-map xs view_expr)))
 
-told : (m n : ℕ) → m ≡ n → nat_eq m n ≡ true
+pub told : (m n : ℕ) → m ≡ n → nat_eq m n ≡ true
 told m n e = elim (eqb_tells m n) [ inl same ↦ same.0 | inr other ↦ absurd (other.1 e) ]
 
--- a place that is an element is defined
+-- a place that is an element has a subscript for each dim, and is defined
+pub each_dim : (f : Func) (place : Place) (n : ℕ) (d : Decl) → IsElementOf f place → Some (n, d) ≡ located f place.name → length d.dims ≡ length place.subs
+each_dim f place n d there is = holds_of (λ (q : ℕ × Decl). length q.1.dims ≡ length place.subs) (located f place.name) (n, d) there is
+
 pub target_actions : (f : Func) (loops : List (List ℕ)) (place : Place) (n : ℕ) (d : Decl) → IsElementOf f place → Some (n, d) ≡ located f place.name
-    → planned_target loops (located f place.name) place ≡ subscript_checks loops d.dims place.subs ++ define n (subscripts loops d.dims place.subs) place.at ∷ []
+    → planned_target loops (located f place.name) place ≡ define n (subscripts loops d.dims place.subs) place.at ∷ []
 target_actions f loops place n d there is =
-    let same : length d.dims ≡ length place.subs = holds_of (λ (q : ℕ × Decl). length q.1.dims ≡ length place.subs) (located f place.name) (n, d) there is in
     ap (λ (o : Option (ℕ × Decl)). planned_target loops o place) (sym is)
-    ∙ ap (λ (b : Bool). subscript_checks loops d.dims place.subs ++ cond b (define n (subscripts loops d.dims place.subs) place.at ∷ []) []) (told (length d.dims) (length place.subs) same)
+    ∙ ap (λ (b : Bool). cond b (define n (subscripts loops d.dims place.subs) place.at ∷ []) (subscript_checks loops d.dims place.subs)) (told (length d.dims) (length place.subs) (each_dim f place n d there is))
 
 -- targets
 element_of : (c : Context) (place : Place) → first (rules.target_rules c (is_element place.subs) place) ≡ Ok tt → IsElementOf c.func place
@@ -80,7 +82,7 @@ takes_one c result place ok = by (nat_eq (length result.dims) 0) ok
     by false h = signal_of c (is_whole_array result.dims place.subs) place h
 
 take_from : (c : Context) (all : List Decl) (k : ℕ) (places : List Place) → first_in (each_from (rules.taking_rules c all) k places) ≡ Ok tt
-    → (results : List Decl) → ((j : ℕ) → slice_get all (k + j) ≡ slice_get results j) → TakeAll c.func results places
+    → (results : List Decl) → ((j : ℕ) → slice_get all (k + j) ≡ slice_get results j) → TakeEach c.func results places
 take_from c all k places ok [] e = tt
 take_from c all k [] ok (r ∷ results) e = tt
 take_from c all k (place ∷ places) ok (r ∷ results) e =
@@ -92,15 +94,16 @@ take_from c all k (place ∷ places) ok (r ∷ results) e =
     )
 
 -- reads
-read_there : (c : Context) (fits : List ℕ → Bool) (place : Place) (delay : Option Manifest) → first (rules.read_rules c fits place delay) ≡ Ok tt → HasReads c.program c.func (read place delay)
-read_there c fits place delay ok =
+read_there : (c : Context) (fits : List ℕ → Bool) (place : Place) (delay : Option Manifest) → ((dims : List ℕ) → fits dims ≡ true → length place.subs ≤ length dims)
+    → first (rules.read_rules c fits place delay) ≡ Ok tt → HasReads c.program c.func (read place delay)
+read_there c fits place delay few ok =
     let two = then_parts (first (rules.place_rules c (option_map fits (read_dims c place.name)) place)) (first_in (rules.delay_rules c delay ▸ none)) ok in
     by (declared c.func place.name) (table_named c.program place.name) (place_fits c (option_map fits (read_dims c place.name)) place two.0)
   where
     by : (o : Option (ℕ × Decl)) (t : Option ConstDef) → Fits (option_map fits (option_or (option_map (λ (d : ℕ × Decl). d.1.dims) o) (option_map (λ (u : ConstDef). u.dims) t)))
-        → IsSome {T = List ℕ × Range} (option_or (option_map (λ (d : ℕ × Decl). (d.1.dims, delays)) o) (option_map (λ (u : ConstDef). (u.dims, no_delays)) t))
-    by (Some q) t h = refl
-    by None (Some u) h = refl
+        → IsSomeAnd {T = List ℕ × Range} (option_or (option_map (λ (d : ℕ × Decl). (d.1.dims, delays)) o) (option_map (λ (u : ConstDef). (u.dims, no_delays)) t)) (λ (r : List ℕ × Range). length place.subs ≤ length r.0)
+    by (Some q) t h = few q.1.dims h.fitting
+    by None (Some u) h = few u.dims h.fitting
     by None None h = absurd (cc (h.known))
 
 own_parts : (b : Bool) (fault : NameFault) (row : RuleRow NameFault) → first (own b fault row) ≡ Ok tt → first_in row ≡ Ok tt
@@ -110,7 +113,8 @@ own_parts false fault row ok = absurd (cc (ok))
 mutual
   reads_there : (c : Context) (x : Expr) → first (rules.expr_rules c x) ≡ Ok tt → HasReads c.program c.func x
   reads_there c (literal l) ok = tt
-  reads_there c (read place delay) ok = read_there c (is_element place.subs) place delay ok
+  reads_there c (read place delay) ok =
+      read_there c (is_element place.subs) place delay (λ dims e. let same = equal (length place.subs) (length dims) e in omega arith) ok
   reads_there c (negate at x) ok = reads_there c x ok
   reads_there c (denied at x) ok = reads_there c x ok
   reads_there c (binary at o x y) ok =
@@ -130,7 +134,9 @@ mutual
       (reads_there c condition pair.0, reads_there c x (then_parts (first (rules.expr_rules c x)) (Ok tt) pair.1).0, branch_reads_there c rest two.1)
 
 array_there : (c : Context) (dims : List ℕ) (x : Expr) → first (rules.array_rules c dims x) ≡ Ok tt → HasReads c.program c.func x
-array_there c dims (read place delay) ok = read_there c (λ its_dims. is_none delay && is_whole_array dims place.subs its_dims) place delay ok
+array_there c dims (read place delay) ok =
+    read_there c (λ its_dims. is_none delay && is_whole_array dims place.subs its_dims) place delay
+    (λ its_dims e. let bare = (whole dims place.subs its_dims (both_true (is_none delay) (is_whole_array dims place.subs its_dims) e).1).bare in rw bare (omega arith)) ok
 array_there c dims (literal l) ok = absurd (cc (ok))
 array_there c dims (negate at x) ok = absurd (cc (ok))
 array_there c dims (denied at x) ok = absurd (cc (ok))
@@ -159,7 +165,9 @@ callee_there c None places args at ok =
     absurd (cc (one.1))
 callee_there c (Some g) places args at ok =
     let one = then_parts (first (rules.places_rules c g.results places)) (first_in (rules.callee_rules (Some g) (length places) (length args) at ▸ rules.arguments_rules c g.params args ▸ none)) ok in
-    take_from c g.results 0 places one.0 g.results (λ j. ap (slice_get g.results) (omega arith))
+    let own = then_parts (first (rules.callee_rules (Some g) (length places) (length args) at)) (first_in (rules.arguments_rules c g.params args ▸ none)) one.1 in
+    let counts = both_true (nat_eq (length args) (length g.params)) (nat_eq (length places) (length g.results)) (rule_holds _ _ own.0) in
+    (sym (equal (length places) (length g.results) counts.1), take_from c g.results 0 places one.0 g.results (λ j. ap (slice_get g.results) (omega arith)))
 
 -- items
 mutual

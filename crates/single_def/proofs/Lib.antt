@@ -20,6 +20,7 @@ pub mod SamePlans
 pub mod Walks
 pub mod CheckRules
 pub mod ElementNumbers
+pub mod Strides
 pub mod PickedPlaces
 pub mod Standing
 pub mod PlannedFunctions
@@ -27,6 +28,7 @@ pub mod TargetTables
 pub mod ItemTables
 pub mod InstanceTables
 pub mod WalkedInstances
+pub mod MeantRules
 pub mod ProgramTables
 pub mod QuietTables
 pub mod LoopTurns

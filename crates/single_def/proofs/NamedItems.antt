@@ -33,7 +33,7 @@ first_each_from G a (y ∷ xs) zero x j is ok e =
     rw (here, ← same) ((then_parts (first (G a y)) (first_in (each_from G (a + 1) xs)) ok).0)
 first_each_from G a (y ∷ xs) (suc k) x j is ok e = first_each_from G (a + 1) xs k x j (omega arith) (then_parts (first (G a y)) (first_in (each_from G (a + 1) xs)) ok).1 e
 
-both_true : (a b : Bool) → a && b ≡ true → (a ≡ true) × (b ≡ true)
+pub both_true : (a b : Bool) → a && b ≡ true → (a ≡ true) × (b ≡ true)
 both_true true b e = (refl, e)
 both_true false b e = absurd (cc (e))
 

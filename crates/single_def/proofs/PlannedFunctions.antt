@@ -1,5 +1,5 @@
 -- The body at the position of a name is that of its function.
-use Rattle.std.proofs.Common.{◌≡◌, ◌∙◌, ◌↔◌, ℕ, List, find, position, slice_get, Option, Some, None, option_map, unwrap_or, bytes_eq, refl, ap}
+use Rattle.std.proofs.Common.{◌≡◌, ◌∙◌, ◌↔◌, ℕ, List, find, position, slice_get, Option, Some, None, option_map, option_and_then, unwrap_or, bytes_eq, refl, ap}
 use Rattle.std.proofs.lemmas.Option.{slice_get-map}
 use Rattle.silage_syntax.specs.Tree.{Func, Top, table, function, Program}
 use Rattle.silage_syntax.specs.Names.{function_named}
@@ -9,6 +9,7 @@ use Rattle.name_check.proofs.ApartNames.{function_is}
 use Rattle.name_check.proofs.FirstPlaces.{first_place, place_found}
 use Rattle.name_check.proofs.FoundNames.{found_at}
 use Rattle.single_def.specs.ElementRules.{position_of}
+use Rattle.single_def.specs.Private.Actions.{function_at}
 use Rattle.single_def.specs.Private.Plans.{body_of, top_body, plan_of}
 
 module _ (p : Program) (name : List ℕ) (g : Func) (apart : IsDistinct (top_names p)) (named : function_named p name ≡ Some g) where
@@ -29,5 +30,5 @@ module _ (p : Program) (name : List ℕ) (g : Func) (apart : IsDistinct (top_nam
           absurd (cc (none, first_top))
       by (Some k) at = found_at top_name p.tops name (Some k) at ∙ first_top
 
-  pub body_named : slice_get (plan_of p) (position_of p name) ≡ Some (body_of p g)
-  body_named = slice_get-map (top_body p) p.tops (position_of p name) ∙ ap (option_map (top_body p)) top_named
+  pub body_named : function_at (plan_of p) (position_of p name) ≡ Some (body_of p g)
+  body_named = ap (option_and_then (λ o. o)) (slice_get-map (top_body p) p.tops (position_of p name) ∙ ap (option_map (top_body p)) top_named)

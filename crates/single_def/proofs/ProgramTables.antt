@@ -1,5 +1,5 @@
 -- The walk over a program does what is in its table.
-use Rattle.std.proofs.Common.{◌≡◌, ◌∙◌, inl, inr, ℕ, [], codes, slice_get, Some, refl, sym, ap, subst, arith, option_map}
+use Rattle.std.proofs.Common.{◌≡◌, ◌∙◌, inl, inr, ℕ, [], codes, slice_get, Some, Result, Ok, Err, refl, sym, ap, subst, arith, option_map}
 use Rattle.std.proofs.lemmas.Bool.{cases_lt}
 use Rattle.std.proofs.lemmas.Option.{slice_get-map}
 use Rattle.ranked_faults.specs.Private.FirstMet.{first, ◌>>◌}
@@ -11,10 +11,14 @@ use Rattle.name_check.specs.NameFaults.{IsMain}
 use Rattle.single_def.specs.Tables.{at_entry, enters, table_rules}
 use Rattle.single_def.specs.Expansion.{instances_after, elements_in, IsExpansion}
 use Rattle.single_def.specs.ElementRules.{word_rules, instance_table, max_nested, main_table, program_table, position_of, element_rules}
+use Rattle.single_def.specs.declared.fault.PlacedFault.{PlacedFault}
+use Rattle.single_def.specs.declared.fault.PlacedFault.TheVariants.{Memory}
+use Rattle.single_def.specs.Private.Actions.{HasMeaning}
 use Rattle.single_def.specs.Private.Plans.{nothing_found, elements_found, run_program}
 use Rattle.single_def.proofs.PlannedFunctions.{top_named}
 use Rattle.single_def.proofs.Walks.{Matches, map_matches}
 use Rattle.single_def.proofs.WalkedInstances.{instances_do}
+use Rattle.single_def.proofs.MeantRules.{instance_meant}
 
 -- a top has one position
 one_position : (p : Program) (t : Top) (k j : ℕ) → IsDistinct (top_names p) → slice_get p.tops k ≡ Some t → slice_get p.tops j ≡ Some t → k ≡ j
@@ -48,3 +52,13 @@ module _ (p : Program) (apart : IsDistinct (top_names p)) (k : ℕ) (main : IsMa
   rules_of =
       ap (λ o. first (table_rules (at_entry []) (main_table p o))) main.is_main
       ∙ ap (λ r. first (word_rules main.func) >> r) (then_ok (first (table_rules (at_entry []) (instance_table p max_nested main.func))))
+
+matches_meant : {S : Type 0} (P : S → Type 0) (r : Result (Unit {0}) PlacedFault) (walk : Result S PlacedFault) → Matches P r walk → HasMeaning r → HasMeaning walk
+matches_meant P (Ok u) walk m h e = absurd (cc (m.1, e))
+matches_meant P (Err f) walk m h e = let same : f ≡ Memory = cc (m, e) in h (ap Err same)
+
+-- the walk over a program has a meaning
+pub program_meant : (p : Program) (apart : IsDistinct (top_names p)) (k : ℕ) (main : IsMain p k) → HasMeaning (run_program p k)
+program_meant p apart k main =
+    matches_meant (IsExpansion p) (first (table_rules (at_entry []) (instance_table p max_nested main.func))) (run_program p k) (program_does p apart k main)
+    (instance_meant p max_nested main.func (at_entry []))

@@ -1,8 +1,8 @@
 -- What a walk knows of an instance, beside what comes before a place in its table.
-use Rattle.std.proofs.Common.{◌≡◌, ◌∙◌, ◌+◌, ◌++◌, ◌||◌, ◌&&◌, not, inl, inr, ℕ, ℤ, List, [], ◌∷◌, Bool, true, false, cond, slice_get, Some, Result, Ok, Err, refl, sym, ap, subst, arith}
-use Rattle.std.specs.Prelude.{nat_eq, slice_set}
+use Rattle.std.proofs.Common.{◌≡◌, ◌∙◌, ◌+◌, ◌++◌, ◌||◌, ◌&&◌, not, inl, inr, ℕ, ℤ, List, [], ◌∷◌, Bool, true, false, cond, Result, Ok, Err, refl, ap, subst, arith}
+use Rattle.std.specs.Prelude.{nat_eq, nat_lt}
 use Rattle.std.specs.List.{list_any}
-use Rattle.std.proofs.lemmas.Bool.Decides.{eqb_tells, leb_tells}
+use Rattle.std.proofs.lemmas.Bool.Decides.{leb_tells}
 use Rattle.std.proofs.lemmas.List.Folds.{list_any-append}
 use Rattle.std.proofs.lemmas.List.Sums.{sum_by-cons}
 use Rattle.ranked_faults.specs.Rules.{Rules, unless}
@@ -14,14 +14,14 @@ use Rattle.single_def.specs.declared.fault.PlacedFault.{PlacedFault}
 use Rattle.single_def.specs.declared.fault.PlacedFault.TheVariants.{DefinedTwice}
 use Rattle.single_def.specs.Tables.{defines, presets, counts, Table, rules, mark, Row, nothing, ◌▹◌, Context, load_of, is_defined, is_preset, load_before, after, after_row, table_rules, row_rules, max_load}
 use Rattle.single_def.specs.Expansion.{instances_after, row_instances, elements_in}
-use Rattle.single_def.specs.Private.Actions.{Action, Known, Found, State, is_preset as is_preset_of, marked, define_at, preset_at, count_in, in_known, in_found, ◌>>=◌}
+use Rattle.single_def.specs.Private.Actions.{Action, Known, Found, State, is_preset as is_preset_of, is_there, define_at, preset_at, count_in, in_known, in_found, ◌>>=◌}
 use Rattle.single_def.specs.Private.Plans.{first_of, capped}
-use Rattle.single_def.proofs.ElementNumbers.{IsPlace, is_same_place, set_same, set_other}
+use Rattle.single_def.proofs.ElementNumbers.{IsPlace, is_same_place}
 use Rattle.single_def.proofs.Walks.{Matches, then_matches, map_matches, then_end, walk, Checks}
 
--- each element's bit says whether it is defined, and the initial values are those of the marks
+-- the elements that are given or defined, and the initial values, are those of the marks
 pub record KnownStands (ds : List Decl) (context : Context) (known : Known) : Type 0 where
-  pub defined : (d k : ℕ) → IsPlace ds d k → slice_get known.defined (first_of ds d + k) ≡ Some (is_defined context d k)
+  pub defined : (d k : ℕ) → IsPlace ds d k → is_there known (first_of ds d + k) ≡ is_defined context d k
   pub presets : (d k s : ℕ) → IsPlace ds d k → list_any (is_preset_of (first_of ds d + k) s) known.presets ≡ is_preset context d k s
 
 pub record FoundStands (p : Program) (context : Context) (front : List Instance) (found : Found) : Type 0 where
@@ -82,34 +82,38 @@ module _ (p : Program) (ds : List Decl) (number : ℕ) where
     -- Definitions.
     module _ (d k at : ℕ) (is : IsPlace ds d k) where
       abbrev defined_now : Known
-      defined_now = record s.known { defined = slice_set s.known.defined (first_of ds d + k) true }
+      defined_now = record s.known { defined = s.known.defined ++ (first_of ds d + k) ∷ [] }
 
-      bit_after : (e j : ℕ) → IsPlace ds e j → slice_get defined_now.defined (first_of ds e + j) ≡ Some (is_defined (after context (mark (defines d k at))) e j)
-      bit_after e j other = elim (eqb_tells (first_of ds e + j) (first_of ds d + k)) [
-        | inl same ↦
-            let both : nat_eq e d && nat_eq j k ≡ true = sym (is_same_place ds e d j k other is) ∙ same.0 in
-            rw (same.1, both) (set_same s.known.defined (first_of ds d + k) _ true (h.known.defined d k is))
-        | inr apart ↦
-            let one : nat_eq e d && nat_eq j k ≡ false = sym (is_same_place ds e d j k other is) ∙ apart.0 in
-            rw one (set_other s.known.defined (first_of ds d + k) (first_of ds e + j) true (λ m. apart.1 (sym m)) ∙ h.known.defined e j other)
-      ]
+      one_more : (a b c : Bool) → a || (b || (c || false)) ≡ c || (a || b)
+      one_more true b true = refl
+      one_more true b false = refl
+      one_more false true true = refl
+      one_more false true false = refl
+      one_more false false true = refl
+      one_more false false false = refl
 
-      define_by : (b : Bool) → slice_get s.known.defined (first_of ds d + k) ≡ Some b
-          → Matches (Stands p ds (after context (mark (defines d k at))) front) (first (unless (not b) (DefinedTwice at))) (marked s.known (first_of ds d + k) at (Some b) >>= λ known. Ok (record s { known = known }))
-      define_by true e = refl
-      define_by false e = (
+      there_after : (e j : ℕ) → IsPlace ds e j → is_there defined_now (first_of ds e + j) ≡ is_defined (after context (mark (defines d k at))) e j
+      there_after e j other =
+          let n = first_of ds e + j in
+          ap (λ (b : Bool). nat_lt n s.known.given || b) (list_any-append (nat_eq n) s.known.defined ((first_of ds d + k) ∷ []))
+          ∙ one_more (nat_lt n s.known.given) (list_any (nat_eq n) s.known.defined) (nat_eq n (first_of ds d + k))
+          ∙ ap (λ (b : Bool). b || is_there s.known n) (is_same_place ds e d j k other is)
+          ∙ ap (λ (b : Bool). (nat_eq e d && nat_eq j k) || b) (h.known.defined e j other)
+
+      define_by : (b : Bool) → Matches (Stands p ds (after context (mark (defines d k at))) front) (first (unless (not b) (DefinedTwice at)))
+          (in_known s (λ known. cond b (Err (DefinedTwice at)) (Ok (record known { defined = known.defined ++ (first_of ds d + k) ∷ [] }))))
+      define_by true = refl
+      define_by false = (
         record s { known = defined_now },
         refl,
         record {
-          known = record { defined = bit_after; presets = λ e j r other. h.known.presets e j r other };
+          known = record { defined = there_after; presets = λ e j r other. h.known.presets e j r other };
           found = record { load = h.found.load; instances = h.found.instances; elements = h.found.elements };
         },
       )
 
       pub define_does : Does context front (mark (defines d k at)) (in_known s (define_at (first_of ds d + k) at))
-      define_does =
-          let bit = h.known.defined d k is in
-          rw bit (define_by (is_defined context d k) bit)
+      define_does = rw (h.known.defined d k is) (define_by (is_defined context d k))
 
     -- Initial values.
     module _ (d k r at : ℕ) (is : IsPlace ds d k) where

@@ -1,8 +1,9 @@
 -- Places on the left, and initial values, as the plan has them and as the table does.
-use Rattle.std.proofs.Common.{◌≡◌, ◌≢◌, ◌∙◌, ◌<◌, ◌≤◌, ◌+◌, ◌++◌, inl, inr, ℕ, zero, suc, ℤ, pos, negsuc, List, [], ◌∷◌, length, slice_get, Option, Some, None, Result, Ok, Err, refl, sym, subst, arith, append_assoc}
+use Rattle.std.proofs.Common.{◌≡◌, ◌≢◌, ◌∙◌, ◌<◌, ◌≤◌, ◌+◌, ◌++◌, inl, inr, ℕ, zero, suc, ℤ, pos, List, [], ◌∷◌, length, slice_get, Option, Some, None, Result, Ok, Err, refl, sym, subst, arith, append_assoc, append-nil}
 use Rattle.std.specs.List.{range_with_len}
 use Rattle.std.proofs.lemmas.Bool.Decides.{eqb_tells}
-use Rattle.ranked_faults.specs.Rules.{parts}
+use Rattle.ranked_faults.specs.Rules.{RuleRow, parts}
+use Rattle.ranked_faults.specs.Private.FirstMet.{first, first_in}
 use Rattle.silage_syntax.specs.declared.tree.Decl.{Decl}
 use Rattle.silage_syntax.specs.Tree.{Manifest, Place, Program}
 use Rattle.silage_syntax.specs.Manifests.{Indices, manifest_value}
@@ -10,17 +11,16 @@ use Rattle.silage_syntax.specs.Names.{element_count}
 use Rattle.single_def.specs.declared.elements.Instance.{Instance}
 use Rattle.single_def.specs.declared.fault.PlacedFault.{PlacedFault}
 use Rattle.single_def.specs.declared.fault.PlacedFault.TheVariants.{Delay}
-use Rattle.single_def.specs.Tables.{defines, counts, Table, rules, mark, in_order, Row, nothing, ◌▹◌, each, Context, after}
+use Rattle.single_def.specs.Tables.{defines, presets, counts, Table, rules, mark, in_order, Row, nothing, ◌▹◌, each, Context, after, row_rules}
 use Rattle.single_def.specs.Expansion.{instances_after}
 use Rattle.single_def.specs.ElementRules.{samples, subscript_rules, number_rules, picked, counted, definition, target_table, array_table, initial_value, initial_table}
-use Rattle.single_def.specs.Private.Numbers.{number_of}
-use Rattle.single_def.specs.Private.Actions.{Action, define, define_all, preset, count, Known, Found, State, define_at, define_place, preset_place, for_each, in_known, ◌>>=◌}
-use Rattle.single_def.specs.Private.Plans.{first_of, capped, planned_count, subscripts, subscript_checks, planned_check, kept, planned_definition, planned_target, planned_array, planned_value, planned_initial}
-use Rattle.single_def.proofs.CodeValues.{names_of, values_of, number_is}
+use Rattle.single_def.specs.Private.Actions.{Action, define, define_all, preset, count, Known, Found, State, element_of, sample_of, define_at, preset_at, for_each, in_known, ◌>>=◌}
+use Rattle.single_def.specs.Private.Plans.{first_of, capped, planned_count, subscripts, subscript_checks, planned_check, kept, sample_at, planned_target, planned_array, planned_initial}
+use Rattle.single_def.proofs.CodeValues.{names_of, values_of}
 use Rattle.single_def.proofs.ElementNumbers.{IsPlace}
-use Rattle.single_def.proofs.Walks.{walk, walk-one, walk-append}
+use Rattle.single_def.proofs.Walks.{walk, walk-one, walk-append, then_then, then_matches}
 use Rattle.single_def.proofs.CheckRules.{subscripts_kept, number_kept}
-use Rattle.single_def.proofs.PickedPlaces.{picked_within, picked_sized, place_is}
+use Rattle.single_def.proofs.PickedPlaces.{picked_within, picked_sized, IsElement, element_matches, sample_matches}
 use Rattle.single_def.proofs.Standing.{Stands, Does, DoesRow, row_end, row_then, row_last, rules_do, define_does, preset_does, counted_does}
 
 in_known_then : (s : State) (f g : Known → Result Known PlacedFault) → in_known s (λ known. f known >>= g) ≡ in_known s f >>= λ s. in_known s g
@@ -96,84 +96,122 @@ module _ (p : Program) (ds : List Decl) (number : ℕ) (inside : (func at : ℕ)
     nothing_does : (context : Context) (s : State) → Stands p ds context front s → Does p ds number context front (in_order nothing) (Ok s)
     nothing_does context s h = (s, refl, h)
 
-    definition_does : (d at : ℕ) (decl : Decl) → slice_get ds d ≡ Some decl → (o : Option ℕ) → ((k : ℕ) → o ≡ Some k → k < element_count decl.dims)
-        → (context : Context) (s : State) → Stands p ds context front s → Does p ds number context front (definition d o at) (in_known s (define_place (first_of ds d) o at))
-    definition_does d at decl stands None within context s h = nothing_does context s h
-    definition_does d at decl stands (Some k) within context s h = define_does p ds number context front s h d k at (record { decl = decl; stands = stands; within = within k refl })
-
     module _ (d : ℕ) (decl : Decl) (stands : slice_get ds d ≡ Some decl) where
       none_picked : (o : Option ℕ) (dims : List ℕ) (subs : List Manifest) → length dims ≢ length subs → ((k : ℕ) → o ≡ Some k → length dims ≡ length subs) → o ≡ None
       none_picked None dims subs other sized = refl
       none_picked (Some k) dims subs other sized = absurd (other (sized k refl))
 
       module _ (place : Place) where
-        planned_definition_does : (context : Context) (s : State) → Stands p ds context front s
-            → Does p ds number context front (definition d (picked indices decl.dims place.subs) place.at) (acts (planned_definition (names_of indices) (first_of ds d) decl.dims place) s)
-        planned_definition_does context s h = elim (eqb_tells (length decl.dims) (length place.subs)) [
-          | inl same ↦
-              let is = place_is indices decl.dims place.subs same.1 in
-              let does = definition_does d place.at decl stands (picked indices decl.dims place.subs) (picked_within indices decl.dims place.subs) context s h in
-              rw same.0 (subst (λ (r : Result State PlacedFault). Does p ds number context front (definition d (picked indices decl.dims place.subs) place.at) r)
-              (sym (walk-one inside (values_of indices) (define (first_of ds d) (subscripts (names_of indices) decl.dims place.subs) place.at) s))
-              (rw is does))
-          | inr other ↦
-              let none = none_picked (picked indices decl.dims place.subs) decl.dims place.subs other.1 (picked_sized indices decl.dims place.subs) in
-              rw (other.0, none) (nothing_does context s h)
-        ]
+        abbrev checks : List Action
+        checks = subscript_checks (names_of indices) decl.dims place.subs
+
+        abbrev checked : RuleRow PlacedFault
+        checked = subscript_rules indices decl.dims place.subs
+
+        abbrev the_place : Option ℕ
+        the_place = picked indices decl.dims place.subs
+
+        abbrev the_element : Result ℕ PlacedFault
+        the_element = element_of (values_of indices) (first_of ds d) (subscripts (names_of indices) decl.dims place.subs)
+
+        abbrev the_target : Table
+        the_target = target_table indices (Some (d, decl)) place
+
+        is_place : (k : ℕ) → the_place ≡ Some k → IsPlace ds d k
+        is_place k is = record { decl = decl; stands = stands; within = picked_within indices decl.dims place.subs k is }
+
+        subs_do : (context : Context) (s : State) → Stands p ds context front s → Does p ds number context front (rules (parts checked)) (acts checks s)
+        subs_do context s h = rules_do p ds number context front s h inside (values_of indices) checks (parts checked) (subscripts_kept inside indices decl.dims place.subs)
+
+        -- where each dim has a subscript, the definition checks them
+        defined_does : length decl.dims ≡ length place.subs → (context : Context) (s : State) → Stands p ds context front s
+            → Does p ds number context front the_target (acts (define (first_of ds d) (subscripts (names_of indices) decl.dims place.subs) place.at ∷ []) s)
+        defined_does same context s h =
+            subst (λ (r : Result State PlacedFault). Does p ds number context front the_target r)
+            (sym (walk-one inside (values_of indices) (define (first_of ds d) (subscripts (names_of indices) decl.dims place.subs) place.at) s))
+            (then_matches (IsElement (first_of ds d) the_place) (Stands p ds (after context the_target) (instances_after number front the_target))
+            (first_in checked) (first_in (row_rules context (definition d the_place place.at ▹ nothing))) the_element (λ n. in_known s (define_at n place.at))
+            (element_matches indices (first_of ds d) decl.dims place.subs same)
+            (λ n is. rw (is.picks, is.number)
+            (row_last p ds number context front (mark (defines d is.place place.at)) (in_known s (define_at (first_of ds d + is.place) place.at))
+            (define_does p ds number context front s h d is.place place.at (is_place is.place is.picks)))))
+
+        -- and else nothing is defined
+        undefined_does : the_place ≡ None → (context : Context) (s : State) → Stands p ds context front s → Does p ds number context front the_target (acts checks s)
+        undefined_does none context s h =
+            subst (λ (xs : List Action). Does p ds number context front the_target (acts xs s)) (append-nil checks)
+            (acts_then context front (rules (parts checked)) (definition d the_place place.at ▹ nothing) checks [] s (subs_do context s h)
+            (λ s h. rw none (row_last p ds number context front (in_order nothing) (Ok s) (nothing_does context s h))))
 
         -- a place on the left
         pub place_does : (context : Context) (s : State) → Stands p ds context front s
-            → Does p ds number context front (target_table indices (Some (d, decl)) place) (acts (planned_target (names_of indices) (Some (first_of ds d, decl)) place) s)
-        place_does context s h =
-            acts_then context front (rules (parts (subscript_rules indices decl.dims place.subs))) (definition d (picked indices decl.dims place.subs) place.at ▹ nothing)
-            (subscript_checks (names_of indices) decl.dims place.subs) (planned_definition (names_of indices) (first_of ds d) decl.dims place) s
-            (rules_do p ds number context front s h inside (values_of indices) (subscript_checks (names_of indices) decl.dims place.subs) (parts (subscript_rules indices decl.dims place.subs)) (subscripts_kept inside indices decl.dims place.subs))
-            (λ s h. row_last p ds number context front (definition d (picked indices decl.dims place.subs) place.at) (acts (planned_definition (names_of indices) (first_of ds d) decl.dims place) s) (planned_definition_does context s h))
+            → Does p ds number context front the_target (acts (planned_target (names_of indices) (Some (first_of ds d, decl)) place) s)
+        place_does context s h = elim (eqb_tells (length decl.dims) (length place.subs)) [
+          | inl same ↦ rw same.0 (defined_does same.1 context s h)
+          | inr other ↦ rw other.0 (undefined_does (none_picked the_place decl.dims place.subs other.1 (picked_sized indices decl.dims place.subs)) context s h)
+        ]
 
         -- an initial value
-        value_does : (at : ℕ) (o : Option ℕ) (v : Option ℤ) → ((k : ℕ) → o ≡ Some k → k < element_count decl.dims) → (context : Context) (s : State) → Stands p ds context front s
-            → Does p ds number context front (initial_value d o v at) (in_known s (preset_place (first_of ds d) o v at))
-        value_does at None v within context s h = nothing_does context s h
-        value_does at (Some k) None within context s h = nothing_does context s h
-        value_does at (Some k) (Some (negsuc n)) within context s h = nothing_does context s h
-        value_does at (Some k) (Some (pos n)) within context s h = preset_does p ds number context front s h d k n at (record { decl = decl; stands = stands; within = within k refl })
-
         module _ (amount : Manifest) where
-          abbrev the_value : Table
-          the_value = initial_value d (picked indices decl.dims place.subs) (manifest_value indices amount) place.at
+          abbrev the_initial : Table
+          the_initial = initial_table indices (Some (d, decl)) place amount
 
-          planned_value_does : (context : Context) (s : State) → Stands p ds context front s
-              → Does p ds number context front the_value (acts (planned_value (names_of indices) (first_of ds d) decl.dims place amount) s)
-          planned_value_does context s h = elim (eqb_tells (length decl.dims) (length place.subs)) [
-            | inl same ↦
-                let is = place_is indices decl.dims place.subs same.1 in
-                let does = value_does place.at (picked indices decl.dims place.subs) (manifest_value indices amount) (picked_within indices decl.dims place.subs) context s h in
-                rw same.0 (subst (λ (r : Result State PlacedFault). Does p ds number context front the_value r)
-                (sym (walk-one inside (values_of indices) (preset (first_of ds d) (subscripts (names_of indices) decl.dims place.subs) (number_of (names_of indices) amount) place.at) s))
-                (rw (is, number_is indices amount) does))
-            | inr other ↦
-                let none = none_picked (picked indices decl.dims place.subs) decl.dims place.subs other.1 (picked_sized indices decl.dims place.subs) in
-                rw (other.0, none) (nothing_does context s h)
-          ]
+          abbrev the_value : Table
+          the_value = initial_value d the_place (manifest_value indices amount) place.at
+
+          abbrev counted_row : Row
+          counted_row = mark (counts 1 place.at) ▹ nothing
+
+          abbrev number_row : Row
+          number_row = rules (number_rules indices samples Delay amount) ▹ the_value ▹ counted_row
+
+          abbrev number_checks : List Action
+          number_checks = kept (planned_check (names_of indices) samples Delay amount)
+
+          abbrev the_sample : Result ℕ PlacedFault
+          the_sample = sample_of (values_of indices) (sample_at (names_of indices) amount)
+
+          abbrev one_counted : List Action
+          one_counted = count 1 place.at ∷ []
+
+          counts_one : (context : Context) (s : State) → Stands p ds context front s → DoesRow p ds number context front counted_row (acts one_counted s)
+          counts_one context s h = row_last p ds number context front (mark (counts 1 place.at)) (acts one_counted s) (one_does place.at context front s h)
+
+          preset_does_then : (context : Context) (s : State) → Stands p ds context front s → (k n : ℕ) → the_place ≡ Some k
+              → DoesRow p ds number context front (mark (presets d k n place.at) ▹ counted_row) (in_known s (preset_at (first_of ds d + k) n place.at) >>= acts one_counted)
+          preset_does_then context s h k n is =
+              row_then p ds number context front (mark (presets d k n place.at)) counted_row (in_known s (preset_at (first_of ds d + k) n place.at)) (acts one_counted)
+              (preset_does p ds number context front s h d k n place.at (is_place k is)) (counts_one (after context (mark (presets d k n place.at))))
+
+          value_does : length decl.dims ≡ length place.subs → (context : Context) (s : State) → Stands p ds context front s
+              → Does p ds number context front the_initial (acts (preset (first_of ds d) (subscripts (names_of indices) decl.dims place.subs) (sample_at (names_of indices) amount) place.at ∷ one_counted) s)
+          value_does same context s h =
+              let ends = Stands p ds (after context the_initial) (instances_after number front the_initial) in
+              let given : ℕ → ℕ → Result State PlacedFault = λ n r. in_known s (preset_at n r place.at) in
+              subst (λ (r : Result State PlacedFault). Does p ds number context front the_initial r)
+              (then_then the_element (λ n. the_sample >>= given n) (acts one_counted) (λ n. the_sample >>= λ r. given n r >>= acts one_counted)
+              (λ n. then_then the_sample (given n) (acts one_counted) (λ r. given n r >>= acts one_counted) (λ r. refl)))
+              (then_matches (IsElement (first_of ds d) the_place) ends (first_in checked) (first_in (row_rules context number_row)) the_element (λ n. the_sample >>= λ r. given n r >>= acts one_counted)
+              (element_matches indices (first_of ds d) decl.dims place.subs same)
+              (λ n is. then_matches (λ r. manifest_value indices amount ≡ Some (pos r)) ends (first (number_rules indices samples Delay amount)) (first_in (row_rules context (the_value ▹ counted_row)))
+              the_sample (λ r. given n r >>= acts one_counted) (sample_matches indices amount)
+              (λ r before. rw (is.picks, before, is.number) (preset_does_then context s h is.place r is.picks))))
+
+          no_value_does : the_place ≡ None → (context : Context) (s : State) → Stands p ds context front s
+              → Does p ds number context front the_initial (acts (checks ++ number_checks ++ one_counted) s)
+          no_value_does none context s h =
+              three_do context front (rules (parts checked) ▹ number_row) checks number_checks one_counted s
+              (acts_then context front (rules (parts checked)) number_row checks (number_checks ++ one_counted) s (subs_do context s h)
+              (λ s h. acts_then context front (rules (number_rules indices samples Delay amount)) (the_value ▹ counted_row) number_checks one_counted s
+              (rules_do p ds number context front s h inside (values_of indices) number_checks (number_rules indices samples Delay amount) (number_kept inside indices samples Delay amount))
+              (λ s h. rw none (row_then p ds number context front (in_order nothing) counted_row (Ok s) (acts one_counted) (nothing_does context s h) (counts_one context)))))
 
           pub initial_does : (context : Context) (s : State) → Stands p ds context front s
-              → Does p ds number context front (initial_table indices (Some (d, decl)) place amount) (acts (planned_initial (names_of indices) (Some (first_of ds d, decl)) place amount) s)
-          initial_does context s h =
-              let subs = subscript_checks (names_of indices) decl.dims place.subs in
-              let checks = kept (planned_check (names_of indices) samples Delay amount) in
-              let value = planned_value (names_of indices) (first_of ds d) decl.dims place amount in
-              let counted_row = mark (counts 1 place.at) ▹ nothing in
-              let number_row = rules (number_rules indices samples Delay amount) ▹ the_value ▹ counted_row in
-              let subs_rules = parts (subscript_rules indices decl.dims place.subs) in
-              four_do context front (rules subs_rules ▹ number_row) subs checks value (count 1 place.at ∷ []) s
-              (acts_then context front (rules subs_rules) number_row subs (checks ++ (value ++ count 1 place.at ∷ [])) s
-              (rules_do p ds number context front s h inside (values_of indices) subs subs_rules (subscripts_kept inside indices decl.dims place.subs))
-              (λ s h. acts_then context front (rules (number_rules indices samples Delay amount)) (the_value ▹ counted_row) checks (value ++ count 1 place.at ∷ []) s
-              (rules_do p ds number context front s h inside (values_of indices) checks (number_rules indices samples Delay amount) (number_kept inside indices samples Delay amount))
-              (λ s h. acts_then context front the_value counted_row value (count 1 place.at ∷ []) s
-              (planned_value_does context s h)
-              (λ s h. row_last p ds number (after context the_value) (instances_after number front the_value) (mark (counts 1 place.at)) (acts (count 1 place.at ∷ []) s)
-              (one_does place.at (after context the_value) (instances_after number front the_value) s h)))))
+              → Does p ds number context front the_initial (acts (planned_initial (names_of indices) (Some (first_of ds d, decl)) place amount) s)
+          initial_does context s h = elim (eqb_tells (length decl.dims) (length place.subs)) [
+            | inl same ↦ rw same.0 (value_does same.1 context s h)
+            | inr other ↦ rw other.0 (no_value_does (none_picked the_place decl.dims place.subs other.1 (picked_sized indices decl.dims place.subs)) context s h)
+          ]
 
         -- the place of an array result
         pub array_does : (context : Context) (s : State) → Stands p ds context front s

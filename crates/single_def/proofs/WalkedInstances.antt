@@ -105,7 +105,7 @@ module _ (p : Program) (apart : IsDistinct (top_names p)) (calls : ℕ)
           }))
 
       abbrev begun_state : Found → State
-      begun_state counted = record { known = at_first given_first all; found = with_instance func number step.at step.turns signals counted }
+      begun_state counted = record { known = at_first given_first; found = with_instance func number step.at step.turns signals counted }
 
       abbrev walk_items : Found → Result Found PlacedFault
       walk_items counted = run_actions inner [] (small_body p g all given_first).actions (begun_state counted) >>= checked

@@ -1,5 +1,7 @@
+pub mod Waits
 pub mod Numbers
 pub mod Lanes
+pub mod Strides
 pub mod Actions
 pub mod Parts
 pub mod Ahead

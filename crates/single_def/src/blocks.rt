@@ -41,39 +41,28 @@ impl<'a> Block<'a> {
 /// Fewer turns are not looked at before.
 const FEW: usize = 2;
 
-/// The index of the turn so many turns later, or the last one.
-fn turn_after(turn: i32, k: usize, last: i32) -> i32
-    requires { k < 32 }
-    ensures { (turn +ℤ pos k) ≤ℤ last → result ≡ turn +ℤ pos k }
-{
-    let index = i64::from(turn) + k as i64;
-    if index <= i64::from(last) {
-        index as i32
-    } else {
-        last
-    }
-}
-
 /// The indices of turns one after another. The lanes behind them repeat the first.
-fn index_row(turn: i32, last: i32, count: usize) -> Row
-    requires { count ≤ 32 }
-    ensures { (k : ℕ) → k < count → (turn +ℤ pos k) ≤ℤ last → at result k ≡ turn +ℤ pos k }
+fn index_row(turn: i32, count: usize) -> Row
+    requires few { count ≤ 32 }
+    requires inside { (turn +ℤ pos count) ≤ℤ pos (2 ^ 31) }
+    ensures { (k : ℕ) → k < count → at result k ≡ turn +ℤ pos k }
 {
     let mut row = same_row(turn);
     for k in 0..count {
-        row[k] = turn_after(turn, k, last);
+        row[k] = turn + k as i32;
     }
     row
 }
 
 /// How many turns there are from one on, or 32 if that is less.
 fn turns_left(turn: i32, last: i32) -> usize
-    ensures { result ≤ 32 }
+    requires { turn ≤ℤ last }
+    ensures some { 1 ≤ result }
+    ensures few { result ≤ 32 }
+    ensures inside { (turn +ℤ pos result) ≤ℤ (last +ℤ pos 1) }
 {
-    match usize::try_from(i64::from(last) - i64::from(turn) + 1) {
-        Ok(left) => left.min(LANES),
-        Err(_) => 0,
-    }
+    let left = i64::from(last) - i64::from(turn) + 1;
+    (left as usize).min(LANES)
 }
 
 /// A turn in which all is done.
@@ -106,7 +95,8 @@ fn block_from<'a>(
     actions: &'a [Action],
     look: &mut Look,
 ) -> Result<Block<'a>, AllocError>
-    requires { k < 2 ^ 33 }
+    requires turns { k < 2 ^ 33 }
+    requires inside { turn ≤ℤ last }
     ensures more { IfOk result (λ block. k < block.until) }
     ensures same { IfOk result (λ block. (j : ℕ) → k + j < block.until → (turn +ℤ pos j) ≤ℤ last
         → DoSame (outer.now ++ (turn +ℤ pos j) ∷ []) (seen block.parts)
@@ -116,7 +106,7 @@ fn block_from<'a>(
     if count < FEW {
         return one_turn(alloc, k, actions, FEW);
     }
-    let rows = List::from_slice(alloc, &[index_row(turn, last, count)])?;
+    let rows = List::from_slice(alloc, &[index_row(turn, count)])?;
     let turns = Turns {
         outer,
         groups: &[Group { rows, count }],

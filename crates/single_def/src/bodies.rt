@@ -1,6 +1,6 @@
 //! The functions of a program, each as what its instances do.
 
-ghost use Rattle.std.specs.Prelude.{◌≡◌, ◌+◌, ◌++◌, ◌≤◌, [], All, map, length, IfOk, OnOk};
+ghost use Rattle.std.specs.Prelude.{◌≡◌, ◌+◌, ◌++◌, ◌≤◌, [], All, map, length, option_map, IfOk, OnOk};
 ghost use Rattle.silage_syntax.specs.Tree.{view, view_func, view_top};
 ghost use Rattle.silage_syntax.specs.Names as meaning;
 ghost use Rattle.name_check.specs.TopNames.{top_names};
@@ -156,39 +156,32 @@ fn top_body(
     program: &Program,
     names: &NameMap,
     top: &Top,
-) -> Result<Body, AllocError>
+) -> Result<Option<Body>, AllocError>
     requires named { names.now ≡ top_names (view program.now) }
     requires apart { IsDistinct (top_names (view program.now)) }
     requires sized { IsTopSized (view_top top.now) }
     requires result { HasResult (view_top top.now) }
     requires names { HasTopNames (view program.now) (view_top top.now) }
-    ensures { IfOk result (λ body. view_body body ≡ plan.top_body (view program.now) (view_top top.now)) }
+    ensures { IfOk result (λ body. option_map view_body body ≡ plan.top_body (view program.now) (view_top top.now)) }
 {
     match top {
-        // No call names a table.
-        Top::Const(_) => Ok(Body {
-            at: 0,
-            count: 1,
-            given: 0,
-            signals: List::new(alloc),
-            actions: Vec::new(alloc),
-        }),
-        Top::Func(func) => body(alloc, program, names, func),
+        Top::Const(_) => Ok(None),
+        Top::Func(func) => Ok(Some(body(alloc, program, names, func)?)),
     }
 }
 
-/// The bodies of all tops, by their positions.
+/// The bodies of all tops, by their positions. A table has none.
 pub(crate) fn bodies(
     alloc: Global,
     program: &Program,
     names: &NameMap,
-) -> Result<Vec<Body>, AllocError>
+) -> Result<Vec<Option<Body>>, AllocError>
     requires named { names.now ≡ top_names (view program.now) }
     requires apart { IsDistinct (top_names (view program.now)) }
     requires sized { AreAllSized (view program.now) }
     requires results { HaveResults (view program.now) }
     requires names { All (HasTopNames (view program.now)) (view program.now).tops }
-    ensures { IfOk result (λ bodies. map view_body bodies.items ≡ plan_of (view program.now)) }
+    ensures { IfOk result (λ bodies. map (option_map view_body) bodies.items ≡ plan_of (view program.now)) }
 {
     let mut bodies = Vec::with_capacity(alloc, program.tops.len())?;
     for top in program.tops.as_slice() {

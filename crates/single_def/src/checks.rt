@@ -1,12 +1,22 @@
 //! The values of manifest constants of actions in a turn of the loops.
 
-ghost use Rattle.std.specs.Prelude.{◌≡◌, ◌-◌, ◌<◌, ◌^◌, IfOk, IfSome};
+ghost use Rattle.std.specs.Prelude.{◌≡◌, ◌-◌, ◌<◌, ◌^◌, IfOk};
+ghost use Rattle.single_def.specs.ElementRules as rules;
+ghost use Rattle.single_def.specs.Private.Numbers.{number_value};
+ghost use Rattle.single_def.specs.Private.Strides.{size_of, AreStrided};
 ghost use Rattle.single_def.specs.Private.Actions as run;
-ghost use Rattle.single_def.specs.Private.Actions.{Gives, GivesValue, check_of, place_of, bound_of};
+ghost use Rattle.single_def.specs.Private.Actions.{Gives, GivesValue, value_or, check_of, index_of, place_of};
+ghost use Rattle.single_def.specs.Private.Actions.{element_of, sample_of, bound_of};
 
 use crate::PlacedFault;
-use crate::actions::{Bound, Check, Subscript};
-use std::alloc::AllocError;
+use crate::actions::{Bound, Check, Sample, Subscript, Target};
+use crate::numbers::Number;
+
+/// The nearest sample before sample 0 that may have an initial value.
+const MIN_SAMPLE: u32 = 1;
+
+/// The farthest one.
+const MAX_SAMPLE: u32 = 1023;
 
 /// The value of a check's number is there and in its range.
 pub(crate) fn run_check(
@@ -29,50 +39,92 @@ pub(crate) fn run_check(
     }
 }
 
-/// The value of a subscript, if it is below its dim.
-fn index_below(dim: u32, value: Option<i32>) -> Option<u32>
-    ensures { result ≡ run.index_of dim value }
+/// The value of a manifest constant.
+fn value(number: &Number, at: u32, turns: &[i32], stack: &mut Vec<i32>) -> Result<i32, PlacedFault>
+    ensures { GivesValue result (value_or at (number_value turns.now number.now)) }
 {
-    let index = u32::try_from(value?).ok()?;
+    match number.value(turns, stack)? {
+        None => Err(PlacedFault::Index(at)),
+        Some(value) => Ok(value),
+    }
+}
+
+fn index_below(dim: u32, value: i32) -> Option<u32>
+    ensures { result ≡ rules.index_below dim value }
+{
+    let index = u32::try_from(value).ok()?;
     if index < dim { Some(index) } else { None }
 }
 
+/// The value of a subscript, which is below its dim.
+fn index(sub: &Subscript, turns: &[i32], stack: &mut Vec<i32>) -> Result<u32, PlacedFault>
+    ensures value { GivesValue result (index_of turns.now sub.now) }
+    ensures below { IfOk result (λ index. index < sub.now.dim) }
+{
+    let value = value(&sub.number, sub.at, turns, stack)?;
+    match index_below(sub.dim, value) {
+        Some(index) => Ok(index),
+        None => Err(PlacedFault::Bounds(sub.at)),
+    }
+}
+
 /// The row-major place that subscripts pick.
-pub(crate) fn place(
-    subs: &[Subscript],
-    turns: &[i32],
-    stack: &mut Vec<i32>,
-) -> Result<Option<u64>, AllocError>
-    ensures value { IfOk result (λ place. place ≡ place_of turns.now subs.now) }
-    ensures small { IfOk result (λ place. IfSome place (λ k. k < 2 ^ 64 - 2 ^ 32)) }
+fn place(subs: &[Subscript], turns: &[i32], stack: &mut Vec<i32>) -> Result<u64, PlacedFault>
+    requires { AreStrided subs.now }
+    ensures value { GivesValue result (place_of turns.now subs.now) }
+    ensures within { IfOk result (λ place. place < size_of subs.now) }
+    ensures small { IfOk result (λ place. place < 2 ^ 64 - 2 ^ 32) }
 {
     match subs {
-        [] => Ok(Some(0)),
+        [] => Ok(0),
         [sub, rest @ ..] => {
-            let index = match index_below(sub.dim, sub.number.value(turns, stack)?) {
-                None => return Ok(None),
-                Some(index) => u64::from(index),
-            };
-            let stride = u64::from(sub.stride);
-            match place(rest, turns, stack)? {
-                Some(rest) => {
-                    if rest < stride {
-                        Ok(Some(index * stride + rest))
-                    } else {
-                        Ok(None)
-                    }
-                }
-                None => Ok(None),
-            }
+            let index = index(sub, turns, stack)?;
+            let rest = place(rest, turns, stack)?;
+            Ok(u64::from(index) * u64::from(sub.stride) + rest)
         }
     }
 }
 
-pub(crate) fn bound(bound: &Bound, turns: &[i32], stack: &mut Vec<i32>) -> Result<i32, PlacedFault>
-    ensures { run.GivesValue result (bound_of turns.now bound.now) }
+/// The number of an element.
+pub(crate) fn element(
+    target: &Target,
+    turns: &[i32],
+    stack: &mut Vec<i32>,
+) -> Result<u64, PlacedFault>
+    ensures { GivesValue result (element_of turns.now target.now.first target.now.subs) }
 {
-    match bound.number.value(turns, stack)? {
-        None => Err(PlacedFault::Index(bound.at)),
-        Some(value) => Ok(value),
+    let place = place(&target.subs, turns, stack)?;
+    Ok(u64::from(target.first) + place)
+}
+
+fn sample_in(value: i32) -> Option<u32>
+    ensures { result ≡ run.sample_in value }
+{
+    let sample = u32::try_from(value).ok()?;
+    if MIN_SAMPLE <= sample && sample <= MAX_SAMPLE {
+        Some(sample)
+    } else {
+        None
     }
+}
+
+/// How many samples before sample 0 an initial value is for.
+pub(crate) fn sample(
+    sample: &Sample,
+    turns: &[i32],
+    stack: &mut Vec<i32>,
+) -> Result<u32, PlacedFault>
+    ensures { GivesValue result (sample_of turns.now sample.now) }
+{
+    let value = value(&sample.number, sample.at, turns, stack)?;
+    match sample_in(value) {
+        Some(sample) => Ok(sample),
+        None => Err(PlacedFault::Delay(sample.at)),
+    }
+}
+
+pub(crate) fn bound(bound: &Bound, turns: &[i32], stack: &mut Vec<i32>) -> Result<i32, PlacedFault>
+    ensures { GivesValue result (bound_of turns.now bound.now) }
+{
+    value(&bound.number, bound.at, turns, stack)
 }

@@ -1,11 +1,11 @@
 //! The functions of a program, each looked at before it has instances.
 
-ghost use Rattle.std.specs.Prelude.{◌≡◌, [], map, IfOk};
+ghost use Rattle.std.specs.Prelude.{◌≡◌, [], map, option_map, IfOk};
 ghost use Rattle.std.specs.List.{All};
 ghost use Rattle.single_def.specs.Private.Actions.{view_action};
 ghost use Rattle.single_def.specs.Private.Parts.{seen};
 ghost use Rattle.single_def.specs.Private.Ahead.{DoSame};
-ghost use Rattle.single_def.specs.Private.Functions.{IsLookedAt};
+ghost use Rattle.single_def.specs.Private.Functions.{IsLookedAt, IsPlanned};
 
 use crate::actions::{Action, Body};
 use crate::ahead::{Look, MOST_TURNS, Turns, busy};
@@ -70,19 +70,34 @@ fn function<'a>(alloc: Global, body: &'a Body, look: &mut Look) -> Result<Functi
     Ok(Function { body, parts })
 }
 
+/// The function with the body, if there is one.
+fn planned<'a>(
+    alloc: Global,
+    body: &'a Option<Body>,
+    look: &mut Look,
+) -> Result<Option<Function<'a>>, AllocError>
+    ensures body { IfOk result (λ planned. option_map (λ f. f.body.now) planned ≡ body.now) }
+    ensures looked { IfOk result IsPlanned }
+{
+    match body {
+        None => Ok(None),
+        Some(body) => Ok(Some(function(alloc, body, look)?)),
+    }
+}
+
 /// The functions with these bodies.
 pub(crate) fn functions<'a>(
     alloc: Global,
-    bodies: &'a [Body],
-) -> Result<Vec<Function<'a>>, AllocError>
-    ensures bodies { IfOk result (λ functions. map (λ f. f.body.now) functions.items ≡ bodies.now) }
-    ensures looked { IfOk result (λ functions. All IsLookedAt functions.items) }
+    bodies: &'a [Option<Body>],
+) -> Result<Vec<Option<Function<'a>>>, AllocError>
+    ensures bodies { IfOk result (λ functions. map (option_map (λ f. f.body.now)) functions.items ≡ bodies.now) }
+    ensures looked { IfOk result (λ functions. All IsPlanned functions.items) }
 {
     let mut look = Look::new(alloc);
     let mut functions = Vec::with_capacity(alloc, bodies.len())?;
     for body in bodies {
-        let function = function(alloc, body, &mut look)?;
-        functions.push(function)?;
+        let planned = planned(alloc, body, &mut look)?;
+        functions.push(planned)?;
     }
     Ok(functions)
 }

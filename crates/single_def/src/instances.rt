@@ -1,19 +1,20 @@
 //! Instances, from main on: each does the actions of its function.
 
-ghost use Rattle.std.specs.Prelude.{◌≡◌, ◌∷◌, ◌++◌, [], map, slice_get, option_copied, IfOk};
+ghost use Rattle.std.specs.Prelude.{◌≡◌, ◌∷◌, ◌++◌, [], map, option_copied, IfOk};
 ghost use Rattle.single_def.specs.Private.Actions as run;
-ghost use Rattle.single_def.specs.Private.Actions.{Gives, actions_of, view_action, view_actions, run_instance};
-ghost use Rattle.single_def.specs.Private.Functions.{view_function};
+ghost use Rattle.single_def.specs.Private.Actions.{Gives, HasMeaning, run_instance};
+ghost use Rattle.single_def.specs.Private.Actions.{actions_of, view_action, view_actions};
+ghost use Rattle.single_def.specs.Private.Functions.{view_function, view_planned};
 ghost use Rattle.single_def.specs.Private.Parts.{view_part};
 ghost use Rattle.single_def.specs.Private.States.{found_of, state_of, made_in};
 
 use crate::actions::{Action, Bound};
 use crate::blocks::{Block, block_at};
-use crate::checks::{bound, place, run_check};
+use crate::checks::{bound, element, run_check, sample};
 use crate::entries::{count, enter_instance};
 use crate::found::Found;
 use crate::function::Function;
-use crate::known::{Known, check_all_defined, define_all, define_place, preset_place};
+use crate::known::{Known, check_all_defined, define, define_all, preset};
 use crate::parts::Part;
 use crate::turns::{turn_at, turn_count};
 use crate::{Instance, PlacedFault};
@@ -24,15 +25,19 @@ use std::alloc::{AllocError, Global};
 #[derive(Clone, Copy)]
 pub(crate) struct Inside<'a, 'b> {
     pub alloc: Global,
-    pub plan: &'a [Function<'b>],
+    pub plan: &'a [Option<Function<'b>>],
     pub calls: u32,
     pub number: u32,
 }
 
-fn function_at<'a, 'b>(plan: &'a [Function<'b>], func: u32) -> Option<&'a Function<'b>>
-    ensures { option_copied result ≡ slice_get plan.now func }
+fn function_at<'a, 'b>(plan: &'a [Option<Function<'b>>], func: u32) -> Option<&'a Function<'b>>
+    ensures { option_copied result ≡ run.function_at plan.now func }
 {
-    plan.get(func as usize)
+    match plan.get(func as usize) {
+        Some(Some(function)) => Some(function),
+        Some(None) => None,
+        None => None,
+    }
 }
 
 /// The turns of loops and of one inside of them.
@@ -53,25 +58,22 @@ fn run_action(
     known: &mut Known,
     found: &mut Found,
 ) -> Result<(), PlacedFault>
+    requires { HasMeaning
+        (run.run_action (made_in inside) turns.now (view_action action.now) (state_of known.old found.old)) }
     ensures { Gives (state_of known.new found.new) result
         (run.run_action (made_in inside.entry) turns.now (view_action action.now) (state_of known.old found.old)) }
 {
     match action {
         Action::Check(check) => run_check(check, turns, &mut found.stack),
-        Action::Define { first, subs, at } => {
-            let place = place(subs, turns, &mut found.stack)?;
-            define_place(known, *first, place, *at)
+        Action::Define(target) => {
+            let element = element(target, turns, &mut found.stack)?;
+            define(known, element, target.at)
         }
         Action::DefineAll { first, count, at } => define_all(known, *first, *count, *at),
-        Action::Preset {
-            first,
-            subs,
-            sample,
-            at,
-        } => {
-            let place = place(subs, turns, &mut found.stack)?;
-            let sample = sample.value(turns, &mut found.stack)?;
-            preset_place(known, *first, place, sample, *at)
+        Action::Preset(target, before) => {
+            let element = element(target, turns, &mut found.stack)?;
+            let sample = sample(before, turns, &mut found.stack)?;
+            preset(known, element, sample, target.at)
         }
         Action::Count { load, at } => count(found, *load, *at),
         Action::Enter { func, at } => enter(inside, *func, *at, turns, found),
@@ -93,6 +95,8 @@ fn run_part(
     known: &mut Known,
     found: &mut Found,
 ) -> Result<(), PlacedFault>
+    requires { HasMeaning
+        (run.run_action (made_in inside) turns.now (view_part part.now) (state_of known.old found.old)) }
     ensures { Gives (state_of known.new found.new) result
         (run.run_action (made_in inside.entry) turns.now (view_part part.now) (state_of known.old found.old)) }
 {
@@ -112,6 +116,8 @@ fn run_parts(
     known: &mut Known,
     found: &mut Found,
 ) -> Result<(), PlacedFault>
+    requires { HasMeaning (run.run_actions (made_in inside) turns.now (actions_of (map view_part parts.now))
+        (state_of known.old found.old)) }
     ensures { Gives (state_of known.new found.new) result
         (run.run_actions (made_in inside.entry) turns.now (actions_of (map view_part parts.now))
         (state_of known.old found.old)) }
@@ -133,6 +139,8 @@ fn run_turn(
     known: &mut Known,
     found: &mut Found,
 ) -> Result<(), PlacedFault>
+    requires { HasMeaning (run.run_turn (made_in inside) outer.now (actions_of (map view_part parts.now)) at turn
+        (state_of known.old found.old)) }
     ensures { Gives (state_of known.new found.new) result
         (run.run_turn (made_in inside.entry) outer.now (actions_of (map view_part parts.now)) at turn
         (state_of known.old found.old)) }
@@ -154,6 +162,8 @@ fn run_part_turns(
     known: &mut Known,
     found: &mut Found,
 ) -> Result<(), PlacedFault>
+    requires { HasMeaning (run.run_turns (made_in inside) outer.now (actions_of (map view_part parts.now)) at first
+        last (state_of known.old found.old)) }
     ensures { Gives (state_of known.new found.new) result
         (run.run_turns (made_in inside.entry) outer.now (actions_of (map view_part parts.now)) at first last
         (state_of known.old found.old)) }
@@ -176,6 +186,8 @@ fn run_part_loop(
     known: &mut Known,
     found: &mut Found,
 ) -> Result<(), PlacedFault>
+    requires { HasMeaning (run.run_loop (made_in inside) outer.now lo.now hi.now
+        (actions_of (map view_part parts.now)) at (state_of known.old found.old)) }
     ensures { Gives (state_of known.new found.new) result
         (run.run_loop (made_in inside.entry) outer.now lo.now hi.now (actions_of (map view_part parts.now)) at
         (state_of known.old found.old)) }
@@ -197,6 +209,8 @@ fn run_turns(
     known: &mut Known,
     found: &mut Found,
 ) -> Result<(), PlacedFault>
+    requires { HasMeaning (run.run_turns (made_in inside) outer.now (view_actions actions.now) at first last
+        (state_of known.old found.old)) }
     ensures { Gives (state_of known.new found.new) result
         (run.run_turns (made_in inside.entry) outer.now (view_actions actions.now) at first last
         (state_of known.old found.old)) }
@@ -230,6 +244,8 @@ fn run_loop(
     known: &mut Known,
     found: &mut Found,
 ) -> Result<(), PlacedFault>
+    requires { HasMeaning (run.run_loop (made_in inside) outer.now lo.now hi.now (view_actions actions.now) at
+        (state_of known.old found.old)) }
     ensures { Gives (state_of known.new found.new) result
         (run.run_loop (made_in inside.entry) outer.now lo.now hi.now (view_actions actions.now) at
         (state_of known.old found.old)) }
@@ -247,8 +263,10 @@ fn run_body(
     instance: Instance,
     found: &mut Found,
 ) -> Result<(), PlacedFault>
+    requires { HasMeaning (run.run_body (run_instance (map view_planned inside.plan.now) inside.calls)
+        (view_function function.now) instance.func instance.parent instance.site instance.turns (found_of found.old)) }
     ensures { Gives (found_of found.new) result
-        (run.run_body (run_instance (map view_function inside.entry.plan.now) inside.entry.calls)
+        (run.run_body (run_instance (map view_planned inside.entry.plan.now) inside.entry.calls)
         (view_function function.now) instance.func instance.parent instance.site instance.turns (found_of found.old)) }
 {
     let body = function.body;
@@ -259,7 +277,7 @@ fn run_body(
         calls: inside.calls,
         number,
     };
-    let mut known = Known::at_first(inside.alloc, body.given, body.count)?;
+    let mut known = Known::at_first(inside.alloc, body.given);
     run_parts(within, &[], &function.parts, &mut known, found)?;
     check_all_defined(&known, &body.signals)
 }
@@ -273,10 +291,11 @@ pub(crate) fn enter(
     turns: &[i32],
     found: &mut Found,
 ) -> Result<(), PlacedFault>
+    requires { HasMeaning (made_in inside func site turns.now (found_of found.old)) }
     ensures { Gives (found_of found.new) result (made_in inside.entry func site turns.now (found_of found.old)) }
 {
     let function = match function_at(inside.plan, func) {
-        None => return Ok(()),
+        None => unreachable!(),
         Some(function) => function,
     };
     if inside.calls == 0 {

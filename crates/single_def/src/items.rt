@@ -10,22 +10,17 @@ ghost use Rattle.single_def.specs.Private.Plans.{viewed, planned_item, planned_i
 ghost use Rattle.single_def.specs.Private.Scopes.{program_of, function_of, located_in};
 ghost use Rattle.single_def.specs.Private.Names.{IsElementOf, IsCallee, HasReads, HasNames, HaveNames};
 
-use crate::PlacedFault;
-use crate::actions::{Action, Bound};
-use crate::lookups::{MAX_DELAY, function, located};
+use crate::actions::{Action, Bound, Sample};
+use crate::lookups::{function, located};
 use crate::numbers::Number;
 use crate::plan::{
-    manifest_at, put, put_args, put_count, put_expr, put_number, put_subscripts, put_takers,
-    put_target, subscripts,
+    manifest_at, put, put_args, put_count, put_expr, put_takers, put_target, target,
 };
 use crate::scope::Scope;
 use crate::weights::{args_weight, weight};
 use lists::Name;
 use silage_syntax::{Expr, Item, Manifest, Place};
 use std::alloc::AllocError;
-
-/// The nearest sample before sample 0 that may have an initial value.
-const MIN_SAMPLE: i64 = 1;
 
 /// Appends a call.
 fn put_call(
@@ -51,7 +46,7 @@ fn put_call(
     put(actions, Action::Enter { func: position, at })
 }
 
-/// Appends the initial value of an element.
+/// Appends the initial value of an element of an array with these dims.
 fn put_value(
     scope: &Scope,
     loops: &[Name],
@@ -66,13 +61,12 @@ fn put_value(
     ensures { OnOk result (viewed actions.new ≡ viewed actions.old
         ++ plan.planned_value loops.now first dims.now (view_place place.now) (view_manifest k.now)) }
 {
-    let preset = Action::Preset {
-        first,
-        subs: subscripts(scope.alloc, loops, dims, &place.subs)?,
-        sample: Number::of(scope.alloc, loops, k)?,
-        at: place.at,
+    let target = target(scope.alloc, loops, first, dims, place)?;
+    let sample = Sample {
+        number: Number::of(scope.alloc, loops, k)?,
+        at: manifest_at(k),
     };
-    put(actions, preset)
+    put(actions, Action::Preset(target, sample))
 }
 
 fn put_initial(
@@ -88,16 +82,6 @@ fn put_initial(
         (view_manifest k.now)) }
 {
     let (first, decl) = located(scope, &place.name);
-    put_subscripts(scope.alloc, loops, &decl.dims, &place.subs, actions)?;
-    put_number(
-        scope.alloc,
-        loops,
-        k,
-        MIN_SAMPLE,
-        MAX_DELAY,
-        PlacedFault::Delay(manifest_at(k)),
-        actions,
-    )?;
     put_value(scope, loops, first, &decl.dims, place, k, actions)?;
     put(
         actions,

@@ -1,6 +1,6 @@
 //! What is known of the elements of an instance.
 
-ghost use Rattle.std.specs.Prelude.{◌≡◌, ◌+◌, ◌-◌, ◌<◌, ◌^◌, ◌++◌, replicate, IfOk, OnOk, IfSome};
+ghost use Rattle.std.specs.Prelude.{◌≡◌, ◌+◌};
 ghost use Rattle.single_def.specs.Private.Actions as run;
 ghost use Rattle.single_def.specs.Private.Actions.{Gives, are_defined, all_defined};
 ghost use Rattle.single_def.specs.Private.States.{known_of};
@@ -8,37 +8,27 @@ ghost use Rattle.single_def.specs.Private.States.{known_of};
 use crate::PlacedFault;
 use crate::actions::Signal;
 use indexmap::IndexSet;
-use std::alloc::{AllocError, Global};
+use std::alloc::Global;
 
-/// Which elements of an instance are defined, and which have an initial value for which sample.
+/// Which elements of an instance are given or defined, and which have an initial value for which sample.
 #[derive(Drop)]
 pub(crate) struct Known {
-    defined: Vec<bool>,
+    /// How many elements are given. These are the first ones.
+    given: u32,
+    defined: IndexSet<u64>,
     presets: IndexSet<(u64, u32)>,
-}
-
-/// Appends so many values.
-fn push_all(values: &mut Vec<bool>, value: bool, n: u32) -> Result<(), AllocError>
-    ensures { OnOk result (values.new.items ≡ values.old.items ++ replicate n value) }
-{
-    for _ in 0..n {
-        values.push(value)?;
-    }
-    Ok(())
 }
 
 impl Known {
     /// Nothing is known, but that the first elements are given.
-    pub(crate) fn at_first(alloc: Global, given: u32, count: u32) -> Result<Known, AllocError>
-        ensures { IfOk result (λ known. known_of known ≡ run.at_first given count) }
+    pub(crate) fn at_first(alloc: Global, given: u32) -> Known
+        ensures { known_of result ≡ run.at_first given }
     {
-        let mut defined = Vec::new(alloc);
-        push_all(&mut defined, true, given)?;
-        push_all(&mut defined, false, count.saturating_sub(given))?;
-        Ok(Known {
-            defined,
+        Known {
+            given,
+            defined: IndexSet::new(alloc),
             presets: IndexSet::new(alloc),
-        })
+        }
     }
 }
 
@@ -49,33 +39,14 @@ fn element_at(first: u32, place: u32) -> u64
     u64::from(first) + u64::from(place)
 }
 
-fn define(known: &mut Known, element: u64, at: u32) -> Result<(), PlacedFault>
+/// Defines the element at a number.
+pub(crate) fn define(known: &mut Known, element: u64, at: u32) -> Result<(), PlacedFault>
     ensures { Gives (known_of known.new) result (run.define_at element at (known_of known.old)) }
 {
-    if element >= known.defined.len() as u64 {
-        return Ok(());
-    }
-    let element = element as usize;
-    if known.defined[element] {
+    if element < u64::from(known.given) || !known.defined.insert(element)? {
         return Err(PlacedFault::DefinedTwice(at));
     }
-    known.defined[element] = true;
     Ok(())
-}
-
-pub(crate) fn define_place(
-    known: &mut Known,
-    first: u32,
-    place: Option<u64>,
-    at: u32,
-) -> Result<(), PlacedFault>
-    requires { IfSome place (λ k. k < 2 ^ 64 - 2 ^ 32) }
-    ensures { Gives (known_of known.new) result (run.define_place first place at (known_of known.old)) }
-{
-    match place {
-        None => Ok(()),
-        Some(place) => define(known, u64::from(first) + place, at),
-    }
 }
 
 pub(crate) fn define_all(
@@ -92,7 +63,13 @@ pub(crate) fn define_all(
     Ok(())
 }
 
-fn preset(known: &mut Known, element: u64, sample: u32, at: u32) -> Result<(), PlacedFault>
+/// Gives the element at a number an initial value for a sample.
+pub(crate) fn preset(
+    known: &mut Known,
+    element: u64,
+    sample: u32,
+    at: u32,
+) -> Result<(), PlacedFault>
     ensures { Gives (known_of known.new) result (run.preset_at element sample at (known_of known.old)) }
 {
     if !known.presets.insert((element, sample))? {
@@ -101,30 +78,11 @@ fn preset(known: &mut Known, element: u64, sample: u32, at: u32) -> Result<(), P
     Ok(())
 }
 
-pub(crate) fn preset_place(
-    known: &mut Known,
-    first: u32,
-    place: Option<u64>,
-    sample: Option<i32>,
-    at: u32,
-) -> Result<(), PlacedFault>
-    requires { IfSome place (λ k. k < 2 ^ 64 - 2 ^ 32) }
-    ensures { Gives (known_of known.new) result (run.preset_place first place sample at (known_of known.old)) }
-{
-    match (place, sample) {
-        (Some(place), Some(sample)) => match u32::try_from(sample) {
-            Ok(sample) => preset(known, u64::from(first) + place, sample, at),
-            Err(_) => Ok(()),
-        },
-        _ => Ok(()),
-    }
-}
-
 /// The element at a number is defined.
 fn check_defined(known: &Known, element: u64, at: u32, place: u32) -> Result<(), PlacedFault>
     ensures { result ≡ run.is_defined_at (known_of known.now) element at place }
 {
-    if element < known.defined.len() as u64 && known.defined[element as usize] {
+    if element < u64::from(known.given) || known.defined.contains(&element) {
         Ok(())
     } else {
         Err(PlacedFault::NotDefined { at, place })

@@ -10,6 +10,7 @@ mod ahead;
 mod blocks;
 mod bodies;
 mod checks;
+mod codes;
 mod elements;
 mod entries;
 mod fault;
@@ -43,9 +44,9 @@ ghost use Rattle.single_def.specs.ElementFaults.{placed_faults, element_faults};
 ghost use Rattle.single_def.specs.Expansion.{IsExpansion};
 ghost use Rattle.single_def.specs.Numbering.{IsNumbering};
 ghost use Rattle.single_def.specs.Signatures.{HaveResults};
-ghost use Rattle.single_def.specs.Private.Actions.{GivesValue};
+ghost use Rattle.single_def.specs.Private.Actions.{GivesValue, HasMeaning};
 ghost use Rattle.single_def.specs.Private.Plans.{run_plan, run_program};
-ghost use Rattle.single_def.specs.Private.Functions.{view_function};
+ghost use Rattle.single_def.specs.Private.Functions.{view_planned};
 ghost use Rattle.single_def.specs.declared.fault.DefFault.{DefFault as FaultType};
 ghost use Rattle.single_def.specs.declared.fault.PlacedFault.{PlacedFault as PlacedType};
 
@@ -66,8 +67,9 @@ use words::check_words;
 const MAX_NESTED: u32 = 65;
 
 /// The walk over the instances of a plan: the instances and elements on it, or the first fault on it.
-fn walk(alloc: Global, plan: &[Function], main: u32) -> Result<Elements, PlacedFault>
-    ensures { GivesValue result (run_plan (map view_function plan.now) main) }
+fn walk(alloc: Global, plan: &[Option<Function>], main: u32) -> Result<Elements, PlacedFault>
+    requires { HasMeaning (run_plan (map view_planned plan.now) main) }
+    ensures { GivesValue result (run_plan (map view_planned plan.now) main) }
 {
     let mut found = Found::new(alloc);
     let inside = Inside {
@@ -87,6 +89,7 @@ fn walk(alloc: Global, plan: &[Function], main: u32) -> Result<Elements, PlacedF
 fn walk_program(alloc: Global, program: &Program, names: &Names) -> Result<Elements, PlacedFault>
     requires clear { IsClear (name_faults (view program.now)) }
     requires tops { names.now.tops ≡ top_names (view program.now) }
+    requires main { IsMain (view program.now) names.now.main }
     requires results { HaveResults (view program.now) }
     ensures { GivesValue result (run_program (view program.now) names.now.main) }
 {

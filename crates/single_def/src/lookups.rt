@@ -14,7 +14,7 @@ use lists::Name;
 use silage_syntax::{ConstDef, Decl, Func, Top};
 
 /// The longest delay, in samples.
-pub(crate) const MAX_DELAY: i64 = 1023;
+const MAX_DELAY: i64 = 1023;
 
 /// That of a table, which may not even be delayed by 0.
 const NO_DELAY: i64 = -1;

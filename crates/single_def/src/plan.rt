@@ -1,6 +1,6 @@
 //! The items of a function as actions.
 
-ghost use Rattle.std.specs.Prelude.{◌≡◌, ◌++◌, [], ◌∷◌, map, All, IsTrue, IsSome, IfOk, OnOk, Option, min};
+ghost use Rattle.std.specs.Prelude.{◌≡◌, ◌≤◌, ◌++◌, [], ◌∷◌, map, length, All, IsTrue, IsSomeAnd, IfOk, OnOk, Option};
 ghost use Rattle.silage_syntax.specs.Tree.{view_manifest, view_place, view_delay, view_expr, view_item, view_items};
 ghost use Rattle.name_check.specs.Meanings.{are_dims};
 ghost use Rattle.single_def.specs.ElementRules as rules;
@@ -8,10 +8,10 @@ ghost use Rattle.single_def.specs.Private.Actions.{view_action};
 ghost use Rattle.single_def.specs.Private.Plans as plan;
 ghost use Rattle.single_def.specs.Private.Plans.{viewed};
 ghost use Rattle.single_def.specs.Private.Scopes.{program_of, function_of, located_in};
-ghost use Rattle.single_def.specs.Private.Names.{IsElementOf, IsSignalOf, Takes, TakeAll, HasReads};
+ghost use Rattle.single_def.specs.Private.Names.{IsElementOf, IsSignalOf, Takes, TakeEach, HasReads};
 
 use crate::PlacedFault;
-use crate::actions::{Action, Bound, Check, Subscript};
+use crate::actions::{Action, Check, Subscript, Target};
 use crate::lookups::{function, located, readable};
 use crate::numbers::Number;
 use crate::scope::Scope;
@@ -19,7 +19,6 @@ use crate::sizes::element_count;
 use lists::{List, Name};
 use silage_syntax::{Decl, Expr, Manifest, Place};
 use std::alloc::{AllocError, Global};
-use std::cmp::min;
 
 /// The widest shift, in bits.
 const MAX_SHIFT: i64 = 31;
@@ -66,7 +65,7 @@ fn put_check(actions: &mut Vec<Action>, check: Check) -> Result<(), AllocError>
 }
 
 /// Appends a check of a manifest constant.
-pub(crate) fn put_number(
+fn put_number(
     alloc: Global,
     loops: &[Name],
     m: &Manifest,
@@ -88,13 +87,14 @@ pub(crate) fn put_number(
     put_check(actions, check)
 }
 
-pub(crate) fn put_subscripts(
+fn put_subscripts(
     alloc: Global,
     loops: &[Name],
     dims: &[u32],
     subs: &[Manifest],
     actions: &mut Vec<Action>,
 ) -> Result<(), AllocError>
+    requires { length subs.now ≤ length dims.now }
     ensures { OnOk result (viewed actions.new ≡ viewed actions.old
         ++ plan.subscript_checks loops.now dims.now (map view_manifest subs.now)) }
 {
@@ -118,17 +118,19 @@ fn push_subscripts(
     subs: &[Manifest],
     subscripts: &mut List<Subscript>,
 ) -> Result<(), AllocError>
-    requires { IsTrue (are_dims dims.now) }
+    requires sized { IsTrue (are_dims dims.now) }
+    requires each { length dims.now ≡ length subs.now }
     ensures { OnOk result (subscripts.new
         ≡ subscripts.old ++ plan.subscripts loops.now dims.now (map view_manifest subs.now)) }
 {
     match dims {
         [] => Ok(()),
         [dim, dims @ ..] => match subs {
-            [] => Ok(()),
+            [] => unreachable!(),
             [sub, subs @ ..] => {
                 subscripts.push(Subscript {
                     number: Number::of(alloc, loops, sub)?,
+                    at: manifest_at(sub),
                     dim: *dim,
                     stride: element_count(dims),
                 })?;
@@ -138,18 +140,28 @@ fn push_subscripts(
     }
 }
 
-pub(crate) fn subscripts(
+/// The element of an array with these dims that a place names.
+pub(crate) fn target(
     alloc: Global,
     loops: &[Name],
+    first: u32,
     dims: &[u32],
-    subs: &[Manifest],
-) -> Result<List<Subscript>, AllocError>
-    requires { IsTrue (are_dims dims.now) }
-    ensures { IfOk result (λ subscripts. subscripts ≡ plan.subscripts loops.now dims.now (map view_manifest subs.now)) }
+    place: &Place,
+) -> Result<Target, AllocError>
+    requires sized { IsTrue (are_dims dims.now) }
+    requires each { length dims.now ≡ length (view_place place.now).subs }
+    ensures first { IfOk result (λ target. target.first ≡ first) }
+    ensures subs { IfOk result (λ target. target.subs
+        ≡ plan.subscripts loops.now dims.now (view_place place.now).subs) }
+    ensures at { IfOk result (λ target. target.at ≡ place.now.at) }
 {
-    let mut subscripts = List::new(alloc);
-    push_subscripts(alloc, loops, dims, subs, &mut subscripts)?;
-    Ok(subscripts)
+    let mut subs = List::new(alloc);
+    push_subscripts(alloc, loops, dims, &place.subs, &mut subs)?;
+    Ok(Target {
+        first,
+        subs,
+        at: place.at,
+    })
 }
 
 /// Appends the definition of the element that a place names.
@@ -164,16 +176,8 @@ pub(crate) fn put_target(
         ++ plan.planned_target loops.now (located_in scope.now place.now.name) (view_place place.now)) }
 {
     let (first, decl) = located(scope, &place.name);
-    put_subscripts(scope.alloc, loops, &decl.dims, &place.subs, actions)?;
-    let subs = subscripts(scope.alloc, loops, &decl.dims, &place.subs)?;
-    put(
-        actions,
-        Action::Define {
-            first,
-            subs,
-            at: place.at,
-        },
-    )
+    let target = target(scope.alloc, loops, first, &decl.dims, place)?;
+    put(actions, Action::Define(target))
 }
 
 /// Appends the definitions of the elements of the array that a place names.
@@ -219,11 +223,12 @@ pub(crate) fn put_takers(
     places: &[Place],
     actions: &mut Vec<Action>,
 ) -> Result<(), AllocError>
-    requires take { TakeAll (function_of scope.now) results.now (map view_place places.now) }
+    requires all { length results.now ≡ length places.now }
+    requires take { TakeEach (function_of scope.now) results.now (map view_place places.now) }
     ensures { OnOk result (viewed actions.new ≡ viewed actions.old
         ++ plan.planned_takers (function_of scope.now) loops.now results.now (map view_place places.now)) }
 {
-    for i in 0..min(results.len(), places.len()) {
+    for i in 0..results.len() {
         put_taker(scope, loops, &results[i], &places[i], actions)?;
     }
     Ok(())
@@ -271,7 +276,8 @@ fn put_read(
     delay: &Option<Manifest>,
     actions: &mut Vec<Action>,
 ) -> Result<(), AllocError>
-    requires read { IsSome (rules.readable (program_of scope.now) (function_of scope.now) place.now.name) }
+    requires read { IsSomeAnd (rules.readable (program_of scope.now) (function_of scope.now) place.now.name)
+        (λ r. length (view_place place.now).subs ≤ length r.0) }
     ensures { OnOk result (viewed actions.new ≡ viewed actions.old
         ++ plan.read_checks loops.now
         (rules.readable (program_of scope.now) (function_of scope.now) place.now.name) (view_place place.now)

@@ -1,14 +1,15 @@
 -- The items of a function as actions, wherever they are in memory, and what they do.
-use Rattle.std.specs.Prelude.{◌≡◌, ◌≢◌, ℕ, zero, suc, ◌+◌, ◌-◌, ◌*◌, ◌&&◌, nat_eq, nat_lt, nat_le, ℤ, pos, ◌+ℤ◌, int_le}
-use Rattle.std.specs.Prelude.{Bool, true, false, if◌then◌else◌, Option, Some, None, option_and_then, Result, Ok, Err}
-use Rattle.std.specs.Prelude.{List, [], ◌∷◌, ◌++◌, map, length, replicate, slice_get, slice_set}
+use Rattle.std.specs.Prelude.{◌≡◌, ◌≢◌}
+use Rattle.std.specs.Prelude.{ℕ, zero, suc, ◌+◌, ◌*◌, ◌&&◌, ◌||◌, nat_eq, nat_lt, nat_le, ℤ, pos, negsuc, ◌+ℤ◌, int_le}
+use Rattle.std.specs.Prelude.{Bool, if◌then◌else◌, Option, Some, None, option_and_then, Result, Ok, Err}
+use Rattle.std.specs.Prelude.{List, [], ◌∷◌, ◌++◌, map, length, slice_get}
 use Rattle.std.specs.List.{list_any, range_with_len}
 use Rattle.single_def.specs.Tables.{max_load}
-use Rattle.single_def.specs.ElementRules.{index_below, count_up}
+use Rattle.single_def.specs.ElementRules.{is_in, index_below, samples, count_up}
 use Rattle.single_def.specs.Private.Numbers.{number_value}
-use Rattle.single_def.specs.declared.numbers.Number.{Number}
 use Rattle.single_def.specs.declared.actions.Check.{Check}
 use Rattle.single_def.specs.declared.actions.Subscript.{Subscript}
+use Rattle.single_def.specs.declared.actions.Sample.{Sample}
 use Rattle.single_def.specs.declared.actions.Bound.{Bound}
 use Rattle.single_def.specs.declared.actions.Signal.{Signal}
 use Rattle.single_def.specs.declared.actions.Action.{Action as RustAction, Repeat'}
@@ -18,14 +19,15 @@ use Rattle.single_def.specs.declared.actions.Body.{Body as RustBody}
 use Rattle.single_def.specs.declared.elements.Instance.{Instance}
 use Rattle.single_def.specs.declared.elements.Element.{Element}
 use Rattle.single_def.specs.declared.fault.PlacedFault.{PlacedFault}
-use Rattle.single_def.specs.declared.fault.PlacedFault.TheVariants.{Index, DefinedTwice, NotDefined, TooLarge, Memory}
+use Rattle.single_def.specs.declared.fault.PlacedFault.TheVariants.{Index, Bounds, Delay, TooLarge, Memory}
+use Rattle.single_def.specs.declared.fault.PlacedFault.TheVariants.{DefinedTwice, NotDefined}
 
 mutual
   pub data Action : Type 0 where
     check : Check → Action
     define : (first : ℕ) → List Subscript → (at : ℕ) → Action
     define_all : (first count at : ℕ) → Action
-    preset : (first : ℕ) → List Subscript → Number → (at : ℕ) → Action
+    preset : (first : ℕ) → List Subscript → Sample → (at : ℕ) → Action
     count : (load at : ℕ) → Action
     enter : (func at : ℕ) → Action
     repeat : (lo hi : Bound) → Actions → (at : ℕ) → Action
@@ -48,9 +50,9 @@ actions_of (x ∷ xs) = action x (actions_of xs)
 abbrev mutual
   pub view_action : RustAction → Action
   view_action (a.Check c) = check c
-  view_action (a.Define first subs at) = define first subs at
+  view_action (a.Define target) = define target.first target.subs target.at
   view_action (a.DefineAll first n at) = define_all first n at
-  view_action (a.Preset first subs sample at) = preset first subs sample at
+  view_action (a.Preset target sample) = preset target.first target.subs sample target.at
   view_action (a.Count load at) = count load at
   view_action (a.Enter func at) = enter func at
   view_action (a.Repeat' lo hi shape row at) = repeat lo hi (view_row row) at
@@ -97,9 +99,11 @@ pub record Found : Type 0 where
   pub instances : List Instance
   pub elements : List Element
 
--- which elements of an instance are defined, and which have an initial value for which sample
+-- how many elements of an instance are given, which are the first ones, which are defined besides, and which have an
+-- initial value for which sample
 pub record Known : Type 0 where
-  pub defined : List Bool
+  pub given : ℕ
+  pub defined : List ℕ
   pub presets : List (ℕ × ℕ)
 
 pub record State : Type 0 where
@@ -113,28 +117,43 @@ check_value c (Some v) = if int_le c.least v && int_le v c.most then Ok tt else 
 abbrev pub check_of : List ℤ → Check → Result (Unit {0}) PlacedFault
 check_of turns c = check_value c (number_value turns c.number)
 
-abbrev pub index_of : (dim : ℕ) → Option ℤ → Option ℕ
-index_of dim value = option_and_then (index_below dim) value
+abbrev pub value_or : (at : ℕ) → Option ℤ → Result ℤ PlacedFault
+value_or at None = Err (Index at)
+value_or at (Some v) = Ok v
 
--- where each subscript is below its dim and picks one of the elements that it has
-abbrev pub place_of : List ℤ → List Subscript → Option ℕ
-place_of turns [] = Some 0
-place_of turns (s ∷ subs) =
-    option_and_then (λ i. option_and_then (λ rest. if nat_lt rest s.stride then Some (i * s.stride + rest) else None)
-    (place_of turns subs))
-    (index_of s.dim (number_value turns s.number))
+abbrev pub number_or : (outside : PlacedFault) → Option ℕ → Result ℕ PlacedFault
+number_or outside None = Err outside
+number_or outside (Some n) = Ok n
 
-abbrev pub marked : Known → ℕ → (at : ℕ) → Option Bool → Result Known PlacedFault
-marked known n at None = Ok known
-marked known n at (Some true) = Err (DefinedTwice at)
-marked known n at (Some false) = Ok (record known { defined = slice_set known.defined n true })
+-- the value of a subscript, which is below its dim
+abbrev pub index_of : List ℤ → Subscript → Result ℕ PlacedFault
+index_of turns s =
+    value_or s.at (number_value turns s.number) >>= λ v. number_or (Bounds s.at) (index_below s.dim v)
+
+-- the row-major place that subscripts pick
+abbrev pub place_of : List ℤ → List Subscript → Result ℕ PlacedFault
+place_of turns [] = Ok 0
+place_of turns (s ∷ subs) = index_of turns s >>= λ i. place_of turns subs >>= λ rest. Ok (i * s.stride + rest)
+
+-- the number of the element that subscripts pick in a declaration whose elements begin with this number
+abbrev pub element_of : List ℤ → (first : ℕ) → List Subscript → Result ℕ PlacedFault
+element_of turns first subs = place_of turns subs >>= λ k. Ok (first + k)
+
+-- the number as so many samples before sample 0, if it may have an initial value for that
+abbrev pub sample_in : ℤ → Option ℕ
+sample_in (pos n) = if is_in samples (pos n) then Some n else None
+sample_in (negsuc n) = None
+
+abbrev pub sample_of : List ℤ → Sample → Result ℕ PlacedFault
+sample_of turns s = value_or s.at (number_value turns s.number) >>= λ v. number_or (Delay s.at) (sample_in v)
+
+-- the element with the number n is given or defined
+abbrev pub is_there : Known → ℕ → Bool
+is_there known n = nat_lt n known.given || list_any (nat_eq n) known.defined
 
 abbrev pub define_at : ℕ → (at : ℕ) → Known → Result Known PlacedFault
-define_at n at known = marked known n at (slice_get known.defined n)
-
-abbrev pub define_place : (first : ℕ) → Option ℕ → (at : ℕ) → Known → Result Known PlacedFault
-define_place first None at known = Ok known
-define_place first (Some k) at known = define_at (first + k) at known
+define_at n at known =
+    if is_there known n then Err (DefinedTwice at) else Ok (record known { defined = known.defined ++ n ∷ [] })
 
 abbrev pub define_from : (first n at : ℕ) → Known → Result Known PlacedFault
 define_from first n at known = for_each (λ k. define_at k at) (range_with_len first n) known
@@ -147,10 +166,6 @@ preset_at n s at known =
     if list_any (is_preset n s) known.presets then Err (DefinedTwice at)
     else Ok (record known { presets = known.presets ++ (n, s) ∷ [] })
 
-abbrev pub preset_place : (first : ℕ) → Option ℕ → Option ℤ → (at : ℕ) → Known → Result Known PlacedFault
-preset_place first (Some k) (Some (pos s)) at known = preset_at (first + k) s at known
-preset_place first _ _ at known = Ok known
-
 abbrev pub count_in : (load at : ℕ) → Found → Result Found PlacedFault
 count_in load at found =
     if nat_le (found.load + load) max_load then Ok (record found { load = found.load + load }) else Err (TooLarge at)
@@ -162,13 +177,9 @@ abbrev pub signal_elements : (number : ℕ) → (decl : ℕ) → List Signal →
 signal_elements number d [] = []
 signal_elements number d (s ∷ signals) = places_of number d s.count ++ signal_elements number (d + 1) signals
 
-abbrev pub defined_or : (at place : ℕ) → Option Bool → Result (Unit {0}) PlacedFault
-defined_or at k (Some true) = Ok tt
-defined_or at k _ = Err (NotDefined at k)
-
 -- the element with the number n, at a place of the declaration that stands at this byte
 abbrev pub is_defined_at : Known → (n at place : ℕ) → Result (Unit {0}) PlacedFault
-is_defined_at known n at k = defined_or at k (slice_get known.defined n)
+is_defined_at known n at k = if is_there known n then Ok tt else Err (NotDefined at k)
 
 -- each element of a signal is defined
 abbrev pub are_defined : Known → Signal → Result (Unit {0}) PlacedFault
@@ -183,10 +194,6 @@ in_known s f = f s.known >>= λ known. Ok (record s { known = known })
 abbrev pub in_found : State → (Found → Result Found PlacedFault) → Result State PlacedFault
 in_found s f = f s.found >>= λ found. Ok (record s { found = found })
 
-abbrev pub value_or : (at : ℕ) → Option ℤ → Result ℤ PlacedFault
-value_or at None = Err (Index at)
-value_or at (Some v) = Ok v
-
 abbrev pub bound_of : List ℤ → Bound → Result ℤ PlacedFault
 bound_of turns b = value_or b.at (number_value turns b.number)
 
@@ -195,10 +202,10 @@ module _ (inside : (func at : ℕ) → List ℤ → Found → Result Found Place
   abbrev mutual
     pub run_action : List ℤ → Action → State → Result State PlacedFault
     run_action turns (check c) s = check_of turns c >>= λ _. Ok s
-    run_action turns (define first subs at) s = in_known s (define_place first (place_of turns subs) at)
+    run_action turns (define first subs at) s = element_of turns first subs >>= λ n. in_known s (define_at n at)
     run_action turns (define_all first n at) s = in_known s (define_from first n at)
     run_action turns (preset first subs sample at) s =
-        in_known s (preset_place first (place_of turns subs) (number_value turns sample) at)
+        element_of turns first subs >>= λ n. sample_of turns sample >>= λ r. in_known s (preset_at n r at)
     run_action turns (count load at) s = in_found s (count_in load at)
     run_action turns (enter func at) s = in_found s (inside func at turns)
     run_action turns (repeat lo hi actions at) s =
@@ -229,9 +236,9 @@ with_instance func parent at turns signals found = record found {
   elements = found.elements ++ signal_elements (length found.instances) 0 signals;
 }
 
--- of so many elements the first ones, which are the parameters', are defined
-abbrev pub at_first : (given all : ℕ) → Known
-at_first given all = record { defined = replicate given true ++ replicate (all - given) false; presets = [] }
+-- so many elements are given, which are the parameters'
+abbrev pub at_first : (given : ℕ) → Known
+at_first given = record { given = given; defined = []; presets = [] }
 
 abbrev pub entered_in : Body → (func parent at : ℕ) → List ℤ → Found → Result Found PlacedFault
 entered_in body func parent at turns found =
@@ -245,19 +252,27 @@ abbrev pub run_body : (inside : Instances) → Body → (func parent at : ℕ) �
 run_body inside body func parent at turns found =
     entered_in body func parent at turns found >>= λ entered.
     run_actions (inside (length found.instances)) [] body.actions
-    (record { known = at_first body.given body.count; found = entered }) >>= λ s.
+    (record { known = at_first body.given; found = entered }) >>= λ s.
     all_defined s.known body.signals >>= λ _.
     Ok s.found
 
+-- a walk that enters a function which the plan lacks has no meaning, and comes to `Memory`; no other does
+abbrev pub HasMeaning : {A : Type 0} → Result A PlacedFault → Type 0
+HasMeaning walk = walk ≢ Err Memory
+
 abbrev pub run_some : (calls : ℕ) → (inside : Instances) → Option Body → (func parent at : ℕ) → List ℤ → Found
     → Result Found PlacedFault
-run_some calls inside None func parent at turns found = Ok found
+run_some calls inside None func parent at turns found = Err Memory
 run_some zero inside (Some body) func parent at turns found = Err (TooLarge body.at)
 run_some (suc calls) inside (Some body) func parent at turns found = run_body inside body func parent at turns found
 
+-- the function at a position of a plan, which has none for a table
+abbrev pub function_at : {A : Type 0} → (plan : List (Option A)) → (func : ℕ) → Option A
+function_at plan func = option_and_then (λ o. o) (slice_get plan func)
+
 -- an instance of a function of the plan, inside which so many calls may nest
-abbrev pub run_instance : (plan : List Body) → (calls : ℕ) → Instances
+abbrev pub run_instance : (plan : List (Option Body)) → (calls : ℕ) → Instances
 run_instance plan zero parent func at turns found =
-    run_some zero (λ parent func at turns found. Ok found) (slice_get plan func) func parent at turns found
+    run_some zero (λ parent func at turns found. Ok found) (function_at plan func) func parent at turns found
 run_instance plan (suc calls) parent func at turns found =
-    run_some (suc calls) (run_instance plan calls) (slice_get plan func) func parent at turns found
+    run_some (suc calls) (run_instance plan calls) (function_at plan func) func parent at turns found

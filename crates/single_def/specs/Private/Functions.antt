@@ -1,5 +1,5 @@
 -- The functions of a plan, each with what is done of its actions.
-use Rattle.std.specs.Prelude.{[], map}
+use Rattle.std.specs.Prelude.{[], map, Option, option_map, IfSome}
 use Rattle.single_def.specs.Private.Actions.{Body, actions_of, view_action}
 use Rattle.single_def.specs.Private.Parts.{seen}
 use Rattle.single_def.specs.Private.Ahead.{DoSame}
@@ -14,6 +14,12 @@ view_function f = record {
   actions = actions_of (seen f.parts);
 }
 
+abbrev pub view_planned : Option Function → Option Body
+view_planned planned = option_map view_function planned
+
 -- an instance does with the parts what it does with all actions of the body
 abbrev pub IsLookedAt : Function → Type 0
 IsLookedAt f = DoSame [] (seen f.parts) (map view_action f.body.now.actions.items)
+
+abbrev pub IsPlanned : Option Function → Type 0
+IsPlanned planned = IfSome planned IsLookedAt

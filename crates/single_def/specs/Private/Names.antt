@@ -1,5 +1,5 @@
 -- What the names of an item stand for, where no rule on names is broken.
-use Rattle.std.specs.Prelude.{◌≡◌, List, ◌∷◌, All, length, nat_eq, Bool, true, false, IsSome, IsSomeAnd, ℕ}
+use Rattle.std.specs.Prelude.{◌≡◌, ◌≤◌, List, ◌∷◌, All, length, nat_eq, Bool, true, false, IsSome, IsSomeAnd, ℕ}
 use Rattle.silage_syntax.specs.declared.tree.Decl.{Decl}
 use Rattle.silage_syntax.specs.Tree.{Place}
 use Rattle.silage_syntax.specs.Tree.{Expr, literal, read, negate, not as denied, binary, shift, cast, choose}
@@ -7,7 +7,7 @@ use Rattle.silage_syntax.specs.Tree.{Branches, no_branch, branch}
 use Rattle.silage_syntax.specs.Tree.{Item, equation, call, loop, initial, Items, no_item, item}
 use Rattle.silage_syntax.specs.Tree.{Func, Top, table, function, Program}
 use Rattle.silage_syntax.specs.Names.{function_named}
-use Rattle.single_def.specs.ElementRules.{readable}
+use Rattle.single_def.specs.ElementRules.{Range, readable}
 use Rattle.single_def.specs.Private.Plans.{located}
 
 -- the place is one element of a signal
@@ -25,16 +25,21 @@ TakesAs false f place = IsSignalOf f place
 abbrev pub Takes : Func → Decl → Place → Type 0
 Takes f result place = TakesAs (nat_eq (length result.dims) 0) f place
 
+abbrev pub TakeEach : Func → List Decl → List Place → Type 0
+TakeEach f (result ∷ results) (place ∷ places) = Takes f result place × TakeEach f results places
+TakeEach f _ _ = Unit {0}
+
+-- the places take the results, each the one at its position
 abbrev pub TakeAll : Func → List Decl → List Place → Type 0
-TakeAll f (result ∷ results) (place ∷ places) = Takes f result place × TakeAll f results places
-TakeAll f _ _ = Unit {0}
+TakeAll f results places = (length results ≡ length places) × TakeEach f results places
 
 module _ (p : Program) (f : Func) where
-  -- what is read is there
+  -- what is read is there, with no more subscripts than dims: with none of them it is a whole array
   abbrev mutual
     pub HasReads : Expr → Type 0
     HasReads (literal l) = Unit {0}
-    HasReads (read place delay) = IsSome (readable p f place.name)
+    HasReads (read place delay) =
+        IsSomeAnd (readable p f place.name) (λ (r : List ℕ × Range). length place.subs ≤ length r.0)
     HasReads (negate at x) = HasReads x
     HasReads (denied at x) = HasReads x
     HasReads (binary at o x y) = HasReads x × HasReads y

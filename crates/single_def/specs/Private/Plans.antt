@@ -25,6 +25,7 @@ use Rattle.single_def.specs.declared.numbers.Number.{Number}
 use Rattle.single_def.specs.declared.numbers.Number.TheVariants.{Known}
 use Rattle.single_def.specs.declared.actions.Check.{Check}
 use Rattle.single_def.specs.declared.actions.Subscript.{Subscript}
+use Rattle.single_def.specs.declared.actions.Sample.{Sample}
 use Rattle.single_def.specs.declared.actions.Bound.{Bound}
 use Rattle.single_def.specs.declared.actions.Signal.{Signal}
 use Rattle.single_def.specs.declared.elements.Elements.{Elements}
@@ -105,18 +106,15 @@ subscript_checks loops _ _ = []
 
 abbrev pub subscripts : (loops : List (List ℕ)) → (dims : List ℕ) → (subs : List Manifest) → List Subscript
 subscripts loops (dim ∷ dims) (sub ∷ subs) =
-    record { number = number_of loops sub; dim = dim; stride = element_count dims } ∷ subscripts loops dims subs
+    record { number = number_of loops sub; at = manifest_at sub; dim = dim; stride = element_count dims }
+    ∷ subscripts loops dims subs
 subscripts loops _ _ = []
-
-abbrev pub planned_definition : (loops : List (List ℕ)) → (first : ℕ) → (dims : List ℕ) → Place → List Action
-planned_definition loops first dims place =
-    if nat_eq (length dims) (length place.subs) then define first (subscripts loops dims place.subs) place.at ∷ []
-    else []
 
 abbrev pub planned_target : (loops : List (List ℕ)) → Option (ℕ × Decl) → Place → List Action
 planned_target loops None place = []
 planned_target loops (Some q) place =
-    subscript_checks loops q.1.dims place.subs ++ planned_definition loops q.0 q.1.dims place
+    if nat_eq (length q.1.dims) (length place.subs) then define q.0 (subscripts loops q.1.dims place.subs) place.at ∷ []
+    else subscript_checks loops q.1.dims place.subs
 
 abbrev pub planned_array : Option (ℕ × Decl) → Place → List Action
 planned_array None place = []
@@ -129,18 +127,20 @@ planned_count load at = if nat_eq load 0 then [] else count load at ∷ []
 abbrev pub capped : ℕ → ℕ
 capped load = min load (max_load + 1)
 
+abbrev pub sample_at : (loops : List (List ℕ)) → (amount : Manifest) → Sample
+sample_at loops amount = record { number = number_of loops amount; at = manifest_at amount }
+
 abbrev pub planned_value : (loops : List (List ℕ)) → (first : ℕ) → (dims : List ℕ) → Place → (amount : Manifest)
     → List Action
 planned_value loops first dims place amount =
     if nat_eq (length dims) (length place.subs)
-    then preset first (subscripts loops dims place.subs) (number_of loops amount) place.at ∷ []
-    else []
+    then preset first (subscripts loops dims place.subs) (sample_at loops amount) place.at ∷ []
+    else subscript_checks loops dims place.subs ++ kept (planned_check loops samples Delay amount)
 
 abbrev pub planned_initial : (loops : List (List ℕ)) → Option (ℕ × Decl) → Place → (amount : Manifest) → List Action
 planned_initial loops None place amount = []
 planned_initial loops (Some q) place amount =
-    subscript_checks loops q.1.dims place.subs ++ kept (planned_check loops samples Delay amount)
-    ++ planned_value loops q.0 q.1.dims place amount ++ count 1 place.at ∷ []
+    planned_value loops q.0 q.1.dims place amount ++ count 1 place.at ∷ []
 
 abbrev pub bound_at : (loops : List (List ℕ)) → Manifest → Bound
 bound_at loops m = record { number = number_of loops m; at = manifest_at m }
@@ -234,11 +234,12 @@ planned_body p f all =
 abbrev pub body_of : Program → Func → Body
 body_of p f = planned_body p f (capped (elements_of (decls f)))
 
-abbrev pub top_body : Program → Top → Body
-top_body p (table c) = record { at = 0; count = 1; given = 0; signals = []; actions = actions_of [] }
-top_body p (function f) = body_of p f
+-- no instance is of a table
+abbrev pub top_body : Program → Top → Option Body
+top_body p (table c) = None
+top_body p (function f) = Some (body_of p f)
 
-abbrev pub plan_of : Program → List Body
+abbrev pub plan_of : Program → List (Option Body)
 plan_of p = map (top_body p) p.tops
 
 abbrev pub nothing_found : Found
@@ -248,7 +249,7 @@ abbrev pub elements_found : Found → Elements
 elements_found found = record { instances = found.instances; elements = found.elements }
 
 -- the walk over the instances of a plan, from the function at this position on
-abbrev pub run_plan : List Body → (main : ℕ) → Result Elements PlacedFault
+abbrev pub run_plan : List (Option Body) → (main : ℕ) → Result Elements PlacedFault
 run_plan plan main = run_instance plan max_nested 0 main 0 [] nothing_found >>= λ found. Ok (elements_found found)
 
 -- the same for a program's own plan

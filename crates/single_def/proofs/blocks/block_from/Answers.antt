@@ -7,6 +7,6 @@ pub returns-clause-same : goal.returns-clause-same
 returns-clause-same c j before inside =
     let outer = c.args.outer.now in
     let turn = c.args.turn +ℤ pos j in
-    let row = simp (to_z-of_z, c.ranges.turn, c.ranges.last) at c.index_row.ensures in
+    let row = simp (to_z-of_z, c.ranges.turn) at c.index_row.ensures in
     c.in_ok-parts.ensures (outer ++ turn ∷ [])
-    (inl (j, omega arith, one_row outer c.in_ok-rows.rows c.index_row.result j turn c.in_ok-rows.ensures (row j (omega arith) inside)))
+    (inl (j, omega arith, one_row outer c.in_ok-rows.rows c.index_row.result j turn c.in_ok-rows.ensures (row j (omega arith))))

@@ -1,7 +1,6 @@
-use Rattle.std.proofs.Common.{◌≡◌, ◌<◌, ◌+ℤ◌, ◌≤ℤ◌, ℕ, pos, length}
+use Rattle.std.proofs.Common.{◌≡◌, ◌<◌, ◌+ℤ◌, ℕ, pos, length}
 use Rattle.single_def.specs.Private.Lanes.{at}
 use Rattle.single_def.proofs.blocks.index_row.Given as goal
 
 abbrev pub invariant-loop-k : goal.invariant-loop-k
-invariant-loop-k l =
-    (length l.row ≡ 32) × ((j : ℕ) → j < l.k → (l.turn +ℤ pos j) ≤ℤ l.last → at l.row j ≡ l.turn +ℤ pos j)
+invariant-loop-k l = (length l.row ≡ 32) × ((j : ℕ) → j < l.k → at l.row j ≡ l.turn +ℤ pos j)

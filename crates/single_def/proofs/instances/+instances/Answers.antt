@@ -6,20 +6,20 @@ use Rattle.single_def.specs.declared.parts.Part.{Part}
 use Rattle.single_def.proofs.IdleActions.{turn_same, block_after}
 use Rattle.single_def.specs.Private.Actions.{Action, Gives, State, Found, actions_of, view_action, run_actions, run_body, run_turn, run_instance, all_defined}
 use Rattle.single_def.specs.ElementRules.{count_up}
-use Rattle.single_def.specs.Private.Functions.{view_function}
+use Rattle.single_def.specs.Private.Functions.{view_function, view_planned}
 use Rattle.single_def.specs.Private.States.{known_of, found_of, state_of, made_in}
 use Rattle.single_def.specs.declared.fault.PlacedFault.{PlacedFault}
-use Rattle.single_def.proofs.Each.{each_passes, each_gives}
+use Rattle.single_def.proofs.Each.{each_passes, each_gives, each_meant}
 use Rattle.single_def.proofs.ActionRows.{repeat_is}
 use Rattle.single_def.proofs.PartRows.{part_is}
-use Rattle.single_def.proofs.Entering.{body_err, body_ok, enter_is}
+use Rattle.single_def.proofs.Entering.{body_err, body_meant, body_ok, enter_is}
 use Rattle.single_def.proofs.GrowingLoads.{next_load, part_done, part_load}
 use Rattle.single_def.proofs.instances.+instances.Goals as goal
 
 pub run_action-returns-in-Repeat : goal.run_action-returns-in-Repeat
 run_action-returns-in-Repeat t c =
     subst (λ (r : Result State PlacedFault). Gives (state_of c.run_loop.new.known c.run_loop.new.found) c.run_loop.result r)
-    (sym (repeat_is (made_in c.args.inside) c.args.turns.now c.args.action.now c.in-Repeat.lo c.in-Repeat.hi c.in-Repeat.actions c.in-Repeat.at c.in-Repeat.is c.deref-in-Repeat.result.now c.deref-in-Repeat.ensures.value _))
+    (sym (repeat_is (made_in c.args.inside) c.args.turns.now c.args.action.now c.in-Repeat.lo c.in-Repeat.hi c.in-Repeat.actions c.in-Repeat.at c.in-Repeat.is c.deref.result.now c.deref.ensures.value _))
     c.run_loop.ensures
 
 pub run_turns-returns-in_err-run_turn : goal.run_turns-returns-in_err-run_turn
@@ -69,24 +69,24 @@ pub enter-returns : goal.enter-returns
 enter-returns t c =
     let plan = c.args.inside.plan.now in
     let more = enter_is plan c.args.inside.calls c.args.inside.number c.args.func c.args.site c.args.turns.now (found_of c.args.found.now) c.in-Some.function.now (omega arith) (sym c.in-Some.ensures) in
-    let same = ap (λ turns. run_body (run_instance (map view_function plan) (c.args.inside.calls - 1)) (view_function c.in-Some.function.now) c.args.func c.args.inside.number c.args.site turns (found_of c.args.found.now)) (sym c.in_ok-from_slice.ensures) in
+    let same = ap (λ turns. run_body (run_instance (map view_planned plan) (c.args.inside.calls - 1)) (view_function c.in-Some.function.now) c.args.func c.args.inside.number c.args.site turns (found_of c.args.found.now)) (sym c.in_ok-from_slice.ensures) in
     subst (λ (r : Result Found PlacedFault). Gives (found_of c.run_body.new.found) c.run_body.result r) (sym (more ∙ same)) c.run_body.ensures
 
 pub run_body-returns-in_err-run_parts : goal.run_body-returns-in_err-run_parts
 run_body-returns-in_err-run_parts t c =
-    let inside = run_instance (map view_function c.args.inside.plan.now) c.args.inside.calls in
+    let inside = run_instance (map view_planned c.args.inside.plan.now) c.args.inside.calls in
     let all = ap (λ (xs : List Part). map view_part xs) c.deref.ensures.value in
-    body_err inside (view_function c.args.function.now) c.args.instance.func c.args.instance.parent c.args.instance.site c.args.instance.turns (found_of c.args.found.now) (found_of c.enter_instance.new.found) (known_of c.in_ok-known.known) c.in_ok-number.number
-    c.in_ok-number.ensures.found c.in_ok-number.ensures.number c.in_ok-known.ensures _ _ _ c.from_residual-in_err-run_parts.ensures.1
-    (λ n. ap (λ (actions : List Action). run_actions (inside c.in_ok-number.number) [] (actions_of actions) (state_of c.in_ok-known.known c.enter_instance.new.found)) (sym all) ∙ c.in_err-run_parts.ensures n)
+    body_err inside (view_function c.args.function.now) c.args.instance.func c.args.instance.parent c.args.instance.site c.args.instance.turns (found_of c.args.found.now) (found_of c.enter_instance.new.found) (known_of c.at_first-known.result) c.in_ok-number.number
+    c.in_ok-number.ensures.found c.in_ok-number.ensures.number c.at_first-known.ensures _ _ _ c.from_residual-in_err-run_parts.ensures.1
+    (λ n. ap (λ (actions : List Action). run_actions (inside c.in_ok-number.number) [] (actions_of actions) (state_of c.at_first-known.result c.enter_instance.new.found)) (sym all) ∙ c.in_err-run_parts.ensures n)
 
 pub run_body-returns : goal.run_body-returns
 run_body-returns t c =
-    let inside = run_instance (map view_function c.args.inside.plan.now) c.args.inside.calls in
+    let inside = run_instance (map view_planned c.args.inside.plan.now) c.args.inside.calls in
     let all = ap (λ (xs : List Part). map view_part xs) c.deref.ensures.value in
-    body_ok inside (view_function c.args.function.now) c.args.instance.func c.args.instance.parent c.args.instance.site c.args.instance.turns (found_of c.args.found.now) (found_of c.enter_instance.new.found) (known_of c.in_ok-known.known) c.in_ok-number.number
-    c.in_ok-number.ensures.found c.in_ok-number.ensures.number c.in_ok-known.ensures (state_of c.run_parts.new.known c.run_parts.new.found) c.check_all_defined.result
-    (ap (λ (actions : List Action). run_actions (inside c.in_ok-number.number) [] (actions_of actions) (state_of c.in_ok-known.known c.enter_instance.new.found)) (sym all) ∙ c.in_ok-run_parts.ensures)
+    body_ok inside (view_function c.args.function.now) c.args.instance.func c.args.instance.parent c.args.instance.site c.args.instance.turns (found_of c.args.found.now) (found_of c.enter_instance.new.found) (known_of c.at_first-known.result) c.in_ok-number.number
+    c.in_ok-number.ensures.found c.in_ok-number.ensures.number c.at_first-known.ensures (state_of c.run_parts.new.known c.run_parts.new.found) c.check_all_defined.result
+    (ap (λ (actions : List Action). run_actions (inside c.in_ok-number.number) [] (actions_of actions) (state_of c.at_first-known.result c.enter_instance.new.found)) (sym all) ∙ c.in_ok-run_parts.ensures)
     (c.check_all_defined.ensures ∙ ap (all_defined (known_of c.run_parts.new.known)) c.deref-2.ensures)
 
 pub run_part-returns-in-Loop : goal.run_part-returns-in-Loop
@@ -135,4 +135,64 @@ run_parts-loop-part-preserved t c =
     let ended = state_of c.run_part.new.known c.run_part.new.found in (
       part_done c.args.inside c.args.turns.now parts i c.part-item.result c.loop-part-test.true c.part-item.is s ended c.in_ok-run_part.ensures _ c.loop-part.invariant.0,
       part_load c.args.inside c.args.turns.now parts i c.part-item.result c.loop-part-test.true c.part-item.is s ended c.in_ok-run_part.ensures c.args.found.now.load c.loop-part.invariant.1,
+    )
+
+pub run_action-run_loop-requires : goal.run_action-run_loop-requires
+run_action-run_loop-requires t c = (
+  search rules,
+  λ e. c.requires (repeat_is (made_in c.args.inside) c.args.turns.now c.args.action.now c.in-Repeat.lo c.in-Repeat.hi c.in-Repeat.actions c.in-Repeat.at c.in-Repeat.is c.deref.result.now c.deref.ensures.value _ ∙ e),
+)
+
+pub run_part-run_part_loop-requires : goal.run_part-run_part_loop-requires
+run_part-run_part_loop-requires t c = (
+  search rules,
+  λ e. c.requires (part_is (made_in c.args.inside) c.args.turns.now c.args.part.now c.in-Loop.lo c.in-Loop.hi c.in-Loop.parts c.in-Loop.at c.in-Loop.is c.deref.result.now c.deref.ensures.value _ ∙ e),
+)
+
+pub run_part_turns-run_turn-requires : goal.run_part_turns-run_turn-requires
+run_part_turns-run_turn-requires t c =
+    let turn = run_turn (made_in c.args.inside) c.args.outer.now (actions_of (map view_part c.args.parts.now)) c.args.at in
+    let end = simp (to_z-of_z, c.ranges.first, c.ranges.last) at c.turn_count-k-end.ensures in
+    let so_far = simp (to_z-of_z, c.ranges.first, c.ranges.last) at c.loop-k.invariant.0 in
+    let at_k = simp (to_z-of_z, c.ranges.first) at c.turn_at-turn.ensures in
+    let fits : SFits w32 c.turn_at-turn.result = search rules in
+    let count = count_up c.args.first c.args.last in
+    let less : c.loop-k.k < count = omega (arith, end) in
+    let s = state_of c.loop-k.known c.loop-k.found in
+    let own = each_meant (λ k. turn (c.args.first +ℤ pos k)) 0 c.loop-k.k count less s _ so_far c.requires c.loop-k.k (omega arith) in
+    (search rules, simp (to_z-of_z, fits) (λ e. own (ap (λ z. turn z s) (sym at_k) ∙ e)))
+
+pub run_turns-run_turn-requires : goal.run_turns-run_turn-requires
+run_turns-run_turn-requires t c =
+    let inside = made_in c.args.inside in
+    let all = map view_action c.args.actions.now in
+    let turn = run_turn inside c.args.outer.now (actions_of all) c.args.at in
+    let end = simp (to_z-of_z, c.ranges.first, c.ranges.last) at c.turn_count-k-end.ensures in
+    let so_far = simp (to_z-of_z, c.ranges.first, c.ranges.last) at c.loop-k.invariant.0 in
+    let at_k = simp (to_z-of_z, c.ranges.first) at c.turn_at-turn.ensures in
+    let fits : SFits w32 c.turn_at-turn.result = search rules in
+    let block = simp (to_z-of_z, c.ranges.first, c.ranges.last) at c.in_ok-block.ensures.block in
+    let count = count_up c.args.first c.args.last in
+    let less : c.loop-k.k < count = omega (arith, end) in
+    let s = state_of c.loop-k.known c.loop-k.found in
+    let same = turn_same inside c.args.outer.now c.args.at c.args.first c.args.last c.turn_at-turn.result c.loop-k.k c.in_ok-block.block.until (seen c.in_ok-block.block.parts) all at_k block c.in_ok-block.ensures.more less s
+    ∙ ap (λ (xs : List Part). run_turn inside c.args.outer.now (actions_of (map view_part xs)) c.args.at c.turn_at-turn.result s) (sym c.deref.ensures.value) in
+    let own = each_meant (λ k. turn (c.args.first +ℤ pos k)) 0 c.loop-k.k count less s _ so_far c.requires c.loop-k.k (omega arith) in
+    (search rules, simp (to_z-of_z, fits) (λ e. own (same ∙ e)))
+
+pub enter-run_body-requires : goal.enter-run_body-requires
+enter-run_body-requires t c =
+    let plan = c.args.inside.plan.now in
+    let more = enter_is plan c.args.inside.calls c.args.inside.number c.args.func c.args.site c.args.turns.now (found_of c.args.found.now) c.in-Some.function.now (omega arith) (sym c.in-Some.ensures) in
+    let same = ap (λ turns. run_body (run_instance (map view_planned plan) (c.args.inside.calls - 1)) (view_function c.in-Some.function.now) c.args.func c.args.inside.number c.args.site turns (found_of c.args.found.now)) (sym c.in_ok-from_slice.ensures) in
+    (search rules, λ e. c.requires (more ∙ same ∙ e))
+
+pub run_body-run_parts-requires : goal.run_body-run_parts-requires
+run_body-run_parts-requires t c =
+    let inside = run_instance (map view_planned c.args.inside.plan.now) c.args.inside.calls in
+    let all = ap (λ (xs : List Part). map view_part xs) c.deref.ensures.value in
+    let meant = body_meant inside (view_function c.args.function.now) c.args.instance.func c.args.instance.parent c.args.instance.site c.args.instance.turns (found_of c.args.found.now) (found_of c.enter_instance.new.found) (known_of c.at_first-known.result) c.in_ok-number.number
+    c.in_ok-number.ensures.found c.in_ok-number.ensures.number c.at_first-known.ensures c.requires in (
+      search rules,
+      λ e. meant (ap (λ (actions : List Action). run_actions (inside c.in_ok-number.number) [] (actions_of actions) (state_of c.at_first-known.result c.enter_instance.new.found)) (sym all) ∙ e),
     )

@@ -1,16 +1,10 @@
-use Rattle.std.proofs.Common.{◌≡◌, ℕ, length, arith}
-use Rattle.std.proofs.lemmas.Grind.{common_steps}
+use Rattle.std.proofs.Common.{◌≡◌, ℕ, length}
 use Rattle.silage_syntax.specs.declared.tree.Decl.{Decl}
 use Rattle.silage_syntax.specs.Tree.{view_place}
 use Rattle.single_def.specs.Private.Scopes.{located_in}
-use Rattle.single_def.proofs.KnownNames.{some_there, holds_of}
+use Rattle.single_def.proofs.KnownNames.{some_there}
 use Rattle.single_def.proofs.items.put_initial.Goals as goal
 
 pub located-first-requires : goal.located-first-requires
 located-first-requires c =
     some_there (λ (q : ℕ × Decl). length q.1.dims ≡ length (view_place c.args.place.now).subs) (located_in c.args.scope.now c.args.place.now.name) c.requires.element
-
-pub put_value-requires-clause-element : goal.put_value-requires-clause-element
-put_value-requires-clause-element c =
-    let same = holds_of (λ (q : ℕ × Decl). length q.1.dims ≡ length (view_place c.args.place.now).subs) (located_in c.args.scope.now c.args.place.now.name) (c.located-first.result.0, c.located-first.result.1.now) c.requires.element c.located-first.ensures.signal in
-    grind (arith, common_steps)

@@ -1,4 +1,4 @@
-use Rattle.std.proofs.Common.{◌≤◌, ◌⊎◌, ◌++◌, length, arith, ◌∙◌, sym, ap, append-nil}
+use Rattle.std.proofs.Common.{◌++◌, arith, ◌∙◌, sym, ap, append-nil}
 use Rattle.single_def.specs.Private.Plans.{viewed}
 use Rattle.single_def.specs.Private.Scopes.{function_of}
 use Rattle.single_def.proofs.Takers.{takers_end}
@@ -6,7 +6,5 @@ use Rattle.single_def.proofs.plan.put_takers.Goals as goal
 
 pub returns : goal.returns
 returns c =
-    let i = c.loop-i.i in
-    let over : (length c.args.results.now ≤ i) ⊎ (length c.args.places.now ≤ i) = grind arith in
-    let none = takers_end (function_of c.args.scope.now) c.args.loops.now c.args.results.now c.args.places.now i over in
+    let none = takers_end (function_of c.args.scope.now) c.args.loops.now c.args.results.now c.args.places.now c.loop-i.i (omega arith) in
     sym (append-nil (viewed c.loop-i.actions)) ∙ sym (ap (λ xs. viewed c.loop-i.actions ++ xs) none) ∙ c.loop-i.invariant.planned
