@@ -1,9 +1,9 @@
 -- How facts are put into elements, one after another.
-use Rattle.std.proofs.Common.{◌≡◌, refl, sym, ◌∙◌, ap, ap₂, append_assoc, zero-add, arith, ℕ, zero, suc, ◌+◌, ◌-◌, ◌<◌, ◌≤◌, ◌⊎◌, ◌++◌, inl, inr, true, false, List, [], ◌∷◌, map, length, drop, take, get_or, Option, Some, None, Result, Ok, Err, OnOk, slice_get, slice_index_or, ℤ, pos}
+use Rattle.std.proofs.Common.{◌≡◌, refl, sym, ◌∙◌, ap, ap₂, append_assoc, zero-add, arith, ℕ, zero, suc, ◌+◌, ◌-◌, ◌<◌, ◌≤◌, ◌⊎◌, ◌++◌, inl, inr, true, false, List, [], ◌∷◌, map, length, drop, take, get_or, Some, None, Result, Ok, Err, OnOk, slice_get, slice_index_or, ℤ, pos}
 use Rattle.std.specs.Prelude.{nat_eq, nat_lt, slice_set}
 use Rattle.std.proofs.lemmas.Bool.Decides.{eqb_tells, leb_tells}
 use Rattle.std.proofs.lemmas.List.FromFn.{map-range_with_len_more}
-use Rattle.std.proofs.lemmas.List.{length-drop, map-append, take_all}
+use Rattle.std.proofs.lemmas.List.{map-append}
 use Rattle.std.proofs.lemmas.List.Sums.{sum_by-cons}
 use Rattle.std.proofs.lemmas.Option.{slice_get_within}
 use Rattle.std.specs.List.{range_with_len}
@@ -20,10 +20,11 @@ use Rattle.signal_graph.specs.declared.flat.FlatElem.{FlatElem}
 use Rattle.signal_graph.specs.declared.flat.FlatExpr.{FlatExpr}
 use Rattle.silage_syntax.specs.Manifests.{Indices}
 use Rattle.loop_expand.specs.Private.Elements.{view_elems, inserted, changed, with_fact, with_facts, Puts}
-use Rattle.loop_expand.specs.Private.Facts.{Fact, joined, flat_of, flat_parts, facts_in, facts_from}
+use Rattle.loop_expand.specs.Private.Facts.{Fact, joined, zipped, flat_of, flat_parts, facts_in, facts_from}
 use Rattle.loop_expand.specs.Private.Groups.{Group, groups_of}
 use Rattle.loop_expand.specs.Private.Rows.{parts_of, parts_after, view_exprs, typed_exprs}
-use Rattle.loop_expand.specs.Private.Scopes.{Signal, Body, Scope, signals_from, decls_of, body_for, body_of}
+use Rattle.loop_expand.specs.Private.Scopes.{Signal, Body, Scope, signals_from, body_for, body_of, body_at}
+use Rattle.loop_expand.specs.Private.Sizes.{decls_of}
 
 abbrev Lt : ℕ → ℕ → Type 0
 Lt m n = ((nat_lt m n ≡ true) × (m < n)) ⊎ ((nat_lt m n ≡ false) × (n ≤ m))
@@ -128,10 +129,6 @@ index_none [] k e = refl
 index_none (x ∷ xs) zero e = absurd (cc e)
 index_none (x ∷ xs) (suc k) e = index_none xs k e
 
-pub no_value : (o : Option ℤ) → ((v : ℤ) → o ≡ Some v → ⊥) → None ≡ o
-no_value None none = refl
-no_value (Some v) none = absurd (none v refl)
-
 pub on_ok : {A E : Type 0} (r : Result A E) {P Q : Type 0} → (P → Q) → OnOk r P → OnOk r Q
 on_ok (Ok x) f h = f h
 on_ok (Err e) f h = h
@@ -178,16 +175,21 @@ drop_item (y ∷ xs) (suc i) x less e =
     let next : suc i + 1 ≡ suc (i + 1) = omega arith in
     drop_item xs i x (omega arith) e ∙ ap (λ (n : ℕ). x ∷ drop n (y ∷ xs)) (sym next)
 
+-- an item of a list stands in what is made of each
+pub item_at : {A B : Type 0} (F : A → B) (xs : List A) (i : ℕ) (x : A) → i < length xs → x ≡ get_or xs i x → slice_get (map F xs) i ≡ Some (F x)
+item_at F [] i x less e = absurd (omega arith)
+item_at F (y ∷ xs) zero x less e = ap (λ z. Some (F z)) (sym e)
+item_at F (y ∷ xs) (suc i) x less e = item_at F xs i x (omega arith) e
+
+pub map_long : {A B : Type 0} (F : A → B) (xs : List A) → length (map F xs) ≡ length xs
+map_long F [] = refl
+map_long F (x ∷ xs) = ap suc (map_long F xs)
+
 pub drop_end : {A : Type 0} (xs : List A) (i : ℕ) → length xs ≤ i → drop i xs ≡ []
 drop_end [] zero past = refl
 drop_end [] (suc i) past = refl
 drop_end (x ∷ xs) zero past = absurd (omega arith)
 drop_end (x ∷ xs) (suc i) past = drop_end xs i (omega arith)
-
-pub first_rest : {A : Type 0} (xs : List A) (x : A) → 1 ≤ length xs → x ≡ get_or xs 0 x → xs ≡ x ∷ take (length xs - 1) (drop 1 xs)
-first_rest {A} xs x some e =
-    let long = length-drop 1 xs in
-    drop_item xs 0 x (omega arith) e ∙ ap (λ (ys : List A). x ∷ ys) (sym (take_all (length xs - 1) (drop 1 xs) (omega arith)))
 
 item_is : {A : Type 0} (xs : List A) (k : ℕ) (x d : A) → slice_get xs k ≡ Some x → d ≡ get_or xs k d → d ≡ x
 item_is [] k x d e is = absurd (cc e)
@@ -236,11 +238,39 @@ module _ {A B : Type 0} (F : B → List Fact) (V : A → B) (xs : List A) where
   pub joined_end : (i : ℕ) (elems : List FlatElem) (whole : List flat.Element) → length xs ≤ i → with_facts (joined F (map V (drop i xs))) (view_elems elems) ≡ whole → view_elems elems ≡ whole
   joined_end i elems whole past so_far = sym (ap (λ (ys : List A). with_facts (joined F (map V ys)) (view_elems elems)) (drop_end xs i past)) ∙ so_far
 
+-- The facts of pairs, one behind the other.
+module _ {A B C D : Type 0} (F : C → D → List Fact) (V : A → C) (W : B → D) (xs : List A) (ys : List B) where
+  pub zipped_more : (k : ℕ) (x : A) (y : B) (old new : List FlatElem) (whole : List flat.Element) → k < length xs → k < length ys → x ≡ get_or xs k x → y ≡ get_or ys k y → Puts (F (V x) (W y)) old new
+      → with_facts (zipped F (map V (drop k xs)) (map W (drop k ys))) (view_elems old) ≡ whole → with_facts (zipped F (map V (drop (k + 1) xs)) (map W (drop (k + 1) ys))) (view_elems new) ≡ whole
+  zipped_more k x y old new whole less within is_x is_y puts so_far =
+      let rest = zipped F (map V (drop (k + 1) xs)) (map W (drop (k + 1) ys)) in
+      ap (with_facts rest) puts ∙ sym (facts-append (F (V x) (W y)) rest (view_elems old))
+      ∙ sym (ap₂ (λ (us : List A) (vs : List B). with_facts (zipped F (map V us) (map W vs)) (view_elems old)) (drop_item xs k x less is_x) (drop_item ys k y within is_y)) ∙ so_far
+
+  pub zipped_end : (k : ℕ) (elems : List FlatElem) (whole : List flat.Element) → length ys ≤ k → with_facts (zipped F (map V (drop k xs)) (map W (drop k ys))) (view_elems elems) ≡ whole → view_elems elems ≡ whole
+  zipped_end k elems whole past so_far =
+      sym (ap (λ (fs : List Fact). with_facts fs (view_elems elems)) (ap (λ (vs : List B). zipped F (map V (drop k xs)) (map W vs)) (drop_end ys k past) ∙ none (map V (drop k xs)))) ∙ so_far
+    where
+      none : (us : List C) → zipped F us [] ≡ []
+      none [] = refl
+      none (u ∷ us) = refl
+
 -- Instances one behind the other.
-pub instances_more : (tables : List TypedConst) (bodies : List Body) (all : List Instance) (firsts : List ℕ) (is : List Instance) (n : ℕ) (x : Instance) (old new : List FlatElem) (whole : List flat.Element) → n < length is → x ≡ get_or is n x
-    → Puts (facts_in tables bodies all firsts n (body_of bodies x.func)) old new → with_facts (facts_from tables bodies all firsts n (drop n is)) (view_elems old) ≡ whole
-    → with_facts (facts_from tables bodies all firsts (n + 1) (drop (n + 1) is)) (view_elems new) ≡ whole
-instances_more tables bodies all firsts is n x old new whole less at puts so_far =
-    let rest = facts_from tables bodies all firsts (n + 1) (drop (n + 1) is) in
-    ap (with_facts rest) puts ∙ sym (facts-append (facts_in tables bodies all firsts n (body_of bodies x.func)) rest (view_elems old))
-    ∙ sym (ap (λ (ys : List Instance). with_facts (facts_from tables bodies all firsts n ys) (view_elems old)) (drop_item is n x less at)) ∙ so_far
+next_there : {A : Type 0} (xs : List A) (n : ℕ) → n < length xs → (x : A) × (slice_get xs n ≡ Some x) × (drop n xs ≡ x ∷ drop (n + 1) xs)
+next_there [] n less = absurd (omega arith)
+next_there (x ∷ xs) zero less = (x, refl, refl)
+next_there (x ∷ xs) (suc n) less =
+    let (y, there, next) = next_there xs n (omega arith) in
+    let more : suc n + 1 ≡ suc (n + 1) = omega arith in
+    (y, there, next ∙ ap (λ m. y ∷ drop m (x ∷ xs)) (sym more))
+
+pub instances_more : (tables : List TypedConst) (bodies : List Body) (is : List Instance) (firsts : List ℕ) (n : ℕ) (old new : List FlatElem) (whole : List flat.Element) → n < length is
+    → Puts (facts_in tables bodies is firsts n (body_at bodies (slice_get is n))) old new → with_facts (facts_from tables bodies is firsts n (drop n is)) (view_elems old) ≡ whole
+    → with_facts (facts_from tables bodies is firsts (n + 1) (drop (n + 1) is)) (view_elems new) ≡ whole
+instances_more tables bodies is firsts n old new whole less puts so_far =
+    let (x, there, next) = next_there is n less in
+    let own = facts_in tables bodies is firsts n (body_of bodies x.func) in
+    let rest = facts_from tables bodies is firsts (n + 1) (drop (n + 1) is) in
+    let put : view_elems new ≡ with_facts own (view_elems old) = puts ∙ ap (λ o. with_facts (facts_in tables bodies is firsts n (body_at bodies o)) (view_elems old)) there in
+    ap (with_facts rest) put ∙ sym (facts-append own rest (view_elems old))
+    ∙ sym (ap (λ (ys : List Instance). with_facts (facts_from tables bodies is firsts n ys) (view_elems old)) next) ∙ so_far

@@ -4,6 +4,7 @@ use Rattle.std.specs.Prelude.{nat_le}
 use Rattle.std.proofs.lemmas.Bool.{leb-true}
 use Rattle.std.proofs.lemmas.List.FromFn.{length-map-range_with_len}
 use Rattle.std.proofs.lemmas.List.Sums.{sum_by-cons}
+use Rattle.lists.proofs.Places.{some_once}
 use Rattle.ranked_faults.specs.Private.FirstMet.{first, first_in}
 use Rattle.ranked_faults.proofs.TableFaults.{then_parts, rule_holds}
 use Rattle.silage_syntax.specs.declared.tree.Decl.{Decl}
@@ -70,10 +71,10 @@ elements_length n d (x ∷ ds) =
 
 module _ (p : Program) where
   -- how many elements instances have
-  abbrev own_size : Instance → ℕ
+  abbrev pub own_size : Instance → ℕ
   own_size i = elements_of (signals_of (slice_get p.tops i.func))
 
-  abbrev size : List Instance → ℕ
+  abbrev pub size : List Instance → ℕ
   size [] = 0
   size (i ∷ is) = own_size i + size is
 
@@ -201,10 +202,20 @@ module _ (p : Program) (checked : IsChecked p) (es : Elements) (made : IsExpansi
       let few : size p (instances_after 0 [] (main_table p (Some m.0))) ≤ max_load = omega arith in
       subst (λ o. size p (instances_after 0 [] (main_table p o)) ≤ max_load) (sym m.1) few
 
-  -- there are at most 8,192 elements
+  own_within : (is : List Instance) (j : ℕ) (i : Instance) → slice_get is j ≡ Some i → own_size p i ≤ size p is
+  own_within [] j i at = absurd (cc at)
+  own_within (x ∷ is) zero i at = omega (arith, ap (own_size p) (some_once at refl))
+  own_within (x ∷ is) (suc j) i at = omega (arith, own_within is j i at)
+
+  -- there are at most 8,192 elements, in an instance and in all
+  pub instance_small : (j : ℕ) (i : Instance) → slice_get es.instances j ≡ Some i → elements_of (signals_of (slice_get p.tops i.func)) ≤ 8192
+  instance_small j i at = omega (arith, own_within es.instances j i at, ap (size p) made.instances, few_instances)
+
+  pub few_in_all : size p es.instances ≤ 8192
+  few_in_all = omega (arith, ap (size p) made.instances, few_instances)
+
+  pub few_elements : length es.elements ≤ 8192
+  few_elements = omega (arith, ap length made.elements, size_is p 0 es.instances, ap (size p) made.instances, few_instances)
+
   pub element_count_is : (f : flat.Program) → IsFlatOf p es f → length f.elems ≤ 8192
-  element_count_is f flat_of =
-      let same : length es.elements ≡ size p (instances_after 0 [] (program_table p)) = ap length made.elements ∙ size_is p 0 es.instances ∙ ap (size p) made.instances in
-      let few = few_instances in
-      let count = flat_of.count in
-      omega arith
+  element_count_is f flat_of = omega (arith, flat_of.count, few_elements)

@@ -1,5 +1,5 @@
 -- The flat program that is made is that of the program.
-use Rattle.std.proofs.Common.{◌≡◌, refl, sym, subst, ◌∙◌, ap, ap₂, arith, zero-add, ℕ, zero, suc, ◌+◌, ◌<◌, ◌⊎◌, ◌++◌, inl, inr, List, [], ◌∷◌, map, take, length, replicate, slice_get, slice_index_or, Option, Some, ℤ}
+use Rattle.std.proofs.Common.{◌≤◌, ◌≡◌, refl, sym, subst, ◌∙◌, ap, ap₂, arith, zero-add, ℕ, zero, suc, ◌+◌, ◌<◌, ◌⊎◌, ◌++◌, inl, inr, List, [], ◌∷◌, map, take, length, replicate, slice_get, slice_index_or, Option, Some, ℤ}
 use Rattle.std.specs.Prelude.{Contains}
 use Rattle.std.specs.List.{AllZip, range_with_len}
 use Rattle.std.proofs.lemmas.Bool.Decides.{leb_tells}
@@ -33,7 +33,8 @@ use Rattle.signal_graph.specs.Flat as flat
 use Rattle.loop_expand.specs.Checked.{IsChecked}
 use Rattle.loop_expand.specs.Numbers.{IsNumberOf}
 use Rattle.loop_expand.specs.FlatOf.{IsBodyOf, AreInitsOf, IsFlatElement, IsFlatOf}
-use Rattle.loop_expand.specs.Private.Scopes.{Body, body_of, body_at, body_for, size_in, firsts_from, decls_of}
+use Rattle.loop_expand.specs.Private.Scopes.{Body, body_of, body_at, body_for, size_in, firsts_from}
+use Rattle.loop_expand.specs.Private.Sizes.{decls_of}
 use Rattle.loop_expand.specs.Private.Facts.{Fact, defines, presets}
 use Rattle.loop_expand.specs.Private.Elements.{types_in, types_of, first_body, first_element, first_elements, with_facts}
 use Rattle.loop_expand.specs.Private.Expansions.{flat_by, main_inputs, main_outs}
@@ -248,7 +249,7 @@ module _ (p : Program) (checked : IsChecked p) (es : Elements) (made_by : IsExpa
   Numbering : IsNumbering p es
   Numbering = numbering p checked es made_by
 
-  abbrev B : List Body
+  abbrev pub B : List Body
   B = Bodies p checked es made_by
 
   abbrev F : List ℕ
@@ -260,7 +261,7 @@ module _ (p : Program) (checked : IsChecked p) (es : Elements) (made_by : IsExpa
   have_bodies : HaveBodies p B es.instances
   have_bodies n i e =
       let it = Numbering.instances n i e in
-      let top = body_at_top p i.func it.func it.stands in
+      let top = body_at_top p es.instances n i it.func e it.stands in
       let f = typed_func p i.func it.func in
       let long : length (types_in (body_of B i.func)) ≡ elements_of (decls it.func) = ap (λ (o : Option Body). length (types_in o)) top ∙ ap length (three_words f) ∙ words_long (decls_of f) in
       (long ∙ sym (ap size_in top), long ∙ sym (elements_long 0 0 (decls it.func)) ∙ ap (λ (o : Option Top). length (elements_from 0 0 (signals_of o))) (sym it.stands))
@@ -278,7 +279,7 @@ module _ (p : Program) (checked : IsChecked p) (es : Elements) (made_by : IsExpa
       let f = typed_func p i.0.func is.function in
       let word_at = in_words (decls is.function) e.declaration e.offset is.decl is.declared is.offset in
       let own : slice_get (types_in (body_of B i.0.func)) (first_of (decls is.function) e.declaration + e.offset) ≡ Some is.decl.ty =
-      ap (λ (l : List SigType). slice_get l (first_of (decls is.function) e.declaration + e.offset)) (ap types_in (body_at_top p i.0.func is.function top) ∙ three_words f) ∙ word_at in
+      ap (λ (l : List SigType). slice_get l (first_of (decls is.function) e.declaration + e.offset)) (ap types_in (body_at_top p es.instances n i.0 is.function i.1 top) ∙ three_words f) ∙ word_at in
       let there = in_types p B 0 es.instances have_bodies n i.0 (first_of (decls is.function) e.declaration + e.offset) is.decl.ty i.1 own in
       let at = element_number p checked es made_by n e.instance is.function number.leads is.instance m e.declaration e.offset number in
       let first = there.1 in
@@ -310,7 +311,7 @@ module _ (p : Program) (checked : IsChecked p) (es : Elements) (made_by : IsExpa
   main_body : body_at B (slice_get es.instances 0) ≡ Some (body_for (typed_func p main_first.i.func Main))
   main_body =
       let top = instance_body p checked es made_by 0 main_first.i main Main main_first.there main_first.leads main_instance in
-      ap (body_at B) main_first.there ∙ body_at_top p main_first.i.func Main top
+      ap (body_at B) main_first.there ∙ body_at_top p es.instances 0 main_first.i Main main_first.there top
 
   first_zero : (b : ℕ) (is : List Instance) (i : Instance) → slice_get is 0 ≡ Some i → slice_index_or (firsts_from B b is) 0 0 ≡ b
   first_zero b [] i e = absurd (cc e)
@@ -363,11 +364,17 @@ module _ (p : Program) (checked : IsChecked p) (es : Elements) (made_by : IsExpa
       same_element : (e : Element) (path : Path) (d : ℕ) → path ≡ e.instance → d ≡ e.declaration → element path d e.offset ≡ e
       same_element e path d a b = ap₂ (λ (i : Path) (q : ℕ). element i q e.offset) a b
 
-  abbrev Inputs : List SigType
+  abbrev pub Inputs : List SigType
   Inputs = main_inputs (body_at B (slice_get es.instances 0))
 
-  inputs_are : Inputs ≡ input_types p
+  pub inputs_are : Inputs ≡ input_types p
   inputs_are = ap main_inputs main_body ∙ sym (ap (types_of_part (λ (f : Func). f.params)) main_is_there)
+
+  -- main has few input words
+  pub few_inputs : (b : Body) → Some b ≡ body_at B (slice_get es.instances 0) → length (main_inputs (Some b)) ≤ 16
+  few_inputs b is =
+      let few = (input_count p checked).1 in
+      omega (arith, few, ap (λ (o : Option Body). length (main_inputs o)) is, ap length inputs_are)
 
   outs_are : main_outs (body_at B (slice_get es.instances 0)) ≡ range_with_len (elements_of Main.params) (elements_of Main.results)
   outs_are = ap main_outs main_body

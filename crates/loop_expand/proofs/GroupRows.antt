@@ -5,7 +5,7 @@ use Rattle.silage_syntax.specs.Manifests.{Indices}
 use Rattle.fix_types.specs.TypedTree as typed
 use Rattle.fix_types.specs.declared.typed.TypedItem.{TypedItem}
 use Rattle.loop_expand.specs.Private.Groups.{Group, plain_items, loops_groups, groups_in}
-use Rattle.loop_expand.specs.declared.turns.Turns.{Turns}
+use Rattle.loop_expand.specs.declared.columns.Turns.{Turns}
 use Rattle.loop_expand.specs.Private.Turns.{indices_at, view_turns}
 use Rattle.loop_expand.proofs.FactSteps.{drop_end}
 

@@ -1,5 +1,5 @@
 -- The number of an element of an instance, by the sizes of the instances and declarations before it.
-use Rattle.std.proofs.Common.{◌≡◌, refl, sym, subst, ◌∙◌, ap, ap₂, arith, ℕ, zero, suc, ◌+◌, ◌<◌, ◌≤◌, ◌⊎◌, ◌&&◌, inl, inr, Bool, true, false, List, [], ◌∷◌, map, take, drop, length, slice_get, slice_index_or, Option, Some, None, ℤ}
+use Rattle.std.proofs.Common.{◌≡◌, refl, sym, subst, ◌∙◌, ap, ap₂, arith, ℕ, zero, suc, ◌+◌, ◌<◌, ◌≤◌, ◌⊎◌, ◌&&◌, ◌||◌, inl, inr, Bool, true, false, List, [], ◌∷◌, map, take, drop, length, slice_get, slice_index_or, Option, Some, None, ℤ}
 use Rattle.std.specs.Prelude.{nat_eq, MatchOption}
 use Rattle.std.specs.List.{range_with_len}
 use Rattle.std.specs.Ordering.{int_eq}
@@ -8,7 +8,7 @@ use Rattle.std.proofs.lemmas.List.FromFn.{length-map-range_with_len}
 use Rattle.std.proofs.lemmas.List.Sums.{sum_by-cons}
 use Rattle.std.proofs.lemmas.List.{length-append}
 use Rattle.std.proofs.lemmas.Option.{slice_get_within}
-use Rattle.lists.proofs.Places.{contains_at, at_left, at_right}
+use Rattle.lists.proofs.Places.{contains_at, at_left, at_right, some_once}
 use Rattle.silage_syntax.specs.declared.tree.Decl.{Decl}
 use Rattle.silage_syntax.specs.Tree.{Func, Top, table, function, Program}
 use Rattle.silage_syntax.specs.Names.{decls, element_count, main_of}
@@ -21,11 +21,12 @@ use Rattle.single_def.specs.ElementRules.{elements_of}
 use Rattle.single_def.specs.Expansion.{IsExpansion, elements_from, signals_of, elements_in}
 use Rattle.single_def.specs.Numbering.{HasPath, of_main, of_call, IsNumbering}
 use Rattle.single_def.specs.Private.Plans.{first_of}
+use Rattle.fix_types.specs.TypedTree as typed
 use Rattle.fix_types.specs.Translation.{typed_program, typed_func, typed_funcs}
 use Rattle.loop_expand.specs.Checked.{IsChecked}
 use Rattle.loop_expand.specs.Numbers.{IsNumberOf}
 use Rattle.loop_expand.specs.Private.Children.{AreApart, same_turns, is_child, child_from, child_of}
-use Rattle.loop_expand.specs.Private.Scopes.{Body, body_of, body_for, size_in, firsts_from}
+use Rattle.loop_expand.specs.Private.Scopes.{Body, body_of, body_for, has_instance, bodies_for, size_in, firsts_from}
 use Rattle.loop_expand.proofs.Expanded.{numbering}
 use Rattle.loop_expand.proofs.Numbers.{path_once}
 use Rattle.loop_expand.proofs.OncePaths.{number_once}
@@ -98,29 +99,49 @@ module _ (p : Program) (bodies : List Body) where
       let there_at : m + j ≡ length (elements_from a 0 (signals_of (slice_get p.tops x.func))) + (rest.0 + j) = omega arith in
       (m, omega arith, at_right (elements_from a 0 (signals_of (slice_get p.tops x.func))) (elements_in p (a + 1) is) (m + j) (rest.0 + j) e there_at rest.2)
 
--- The body of a function, by its position.
-found_body : (b : ℕ) (p : Program) (ts : List Top) (n k : ℕ) (f : Func) → slice_get ts n ≡ Some (function f) → k ≡ b + n
-    → body_of (map body_for (typed_funcs p b ts)) k ≡ Some (body_for (typed_func p k f))
-found_body b p [] n k f e at = absurd (cc e)
-found_body b p (table c ∷ ts) zero k f e at = absurd (cc e)
-found_body b p (table c ∷ ts) (suc n) k f e at = found_body (b + 1) p ts n k f e (omega arith)
-found_body b p (function g ∷ ts) zero k f e at = by (eqb_tells b k)
-  where
-    same : g ≡ f
-    same = cc e
+-- The body of a function that has an instance, by its position.
+module _ (is : List Instance) where
+  abbrev HasInstance : ℕ → Type 0
+  HasInstance k = has_instance is k ≡ true
 
-    by : ((nat_eq b k ≡ true) × (b ≡ k)) ⊎ ((nat_eq b k ≡ false) × (b ≡ k → ⊥)) → body_of (map body_for (typed_funcs p b (function g ∷ ts))) k ≡ Some (body_for (typed_func p k f))
-    by (inl h) = rw h.0 (ap₂ (λ (q : ℕ) (h : Func). Some (body_for (typed_func p q h))) h.1 same)
-    by (inr h) = absurd (h.1 (omega arith))
-found_body b p (function g ∷ ts) (suc n) k f e at = by (found_body (b + 1) p ts n k f e (omega arith)) (eqb_tells b k)
-  where
-    by : body_of (map body_for (typed_funcs p (b + 1) ts)) k ≡ Some (body_for (typed_func p k f)) → ((nat_eq b k ≡ true) × (b ≡ k)) ⊎ ((nat_eq b k ≡ false) × (b ≡ k → ⊥))
-        → body_of (map body_for (typed_funcs p b (function g ∷ ts))) k ≡ Some (body_for (typed_func p k f))
-    by rest (inl h) = let same = h.1 in absurd (omega arith)
-    by rest (inr h) = rw h.0 rest
+  skipped : (b k : ℕ) (f : typed.TypedFunc) (rest : List typed.TypedFunc) (o : Option Body) → f.func ≡ b → (b ≡ k → ⊥) → body_of (bodies_for is rest) k ≡ o → body_of (bodies_for is (f ∷ rest)) k ≡ o
+  skipped b k f rest o same other e = by (has_instance is f.func) refl (eqb_tells f.func k)
+    where
+      by : (h : Bool) → has_instance is f.func ≡ h → ((nat_eq f.func k ≡ true) × (f.func ≡ k)) ⊎ ((nat_eq f.func k ≡ false) × (f.func ≡ k → ⊥)) → body_of (bodies_for is (f ∷ rest)) k ≡ o
+      by true has (inl h) = absurd (other (sym same ∙ h.1))
+      by true has (inr h) = rw (has, h.0) e
+      by false has h = rw has e
 
-pub body_at_top : (p : Program) (k : ℕ) (f : Func) → slice_get p.tops k ≡ Some (function f) → body_of (map body_for (typed_program p).funcs) k ≡ Some (body_for (typed_func p k f))
-body_at_top p k f e = found_body 0 p p.tops k k f e (omega arith)
+  found_body : (b : ℕ) (p : Program) (ts : List Top) (n k : ℕ) (f : Func) → HasInstance k → slice_get ts n ≡ Some (function f) → k ≡ b + n
+      → body_of (bodies_for is (typed_funcs p b ts)) k ≡ Some (body_for (typed_func p k f))
+  found_body b p [] n k f has e at = absurd (cc e)
+  found_body b p (table c ∷ ts) zero k f has e at = absurd (cc e)
+  found_body b p (table c ∷ ts) (suc n) k f has e at = found_body (b + 1) p ts n k f has e (omega arith)
+  found_body b p (function g ∷ ts) zero k f has e at = by (eqb_tells b k)
+    where
+      same : g ≡ f
+      same = cc e
+
+      by : ((nat_eq b k ≡ true) × (b ≡ k)) ⊎ ((nat_eq b k ≡ false) × (b ≡ k → ⊥)) → body_of (bodies_for is (typed_funcs p b (function g ∷ ts))) k ≡ Some (body_for (typed_func p k f))
+      by (inl h) = rw (subst HasInstance (sym h.1) has, h.0) (ap₂ (λ (q : ℕ) (h : Func). Some (body_for (typed_func p q h))) h.1 same)
+      by (inr h) = absurd (h.1 (omega arith))
+  found_body b p (function g ∷ ts) (suc n) k f has e at =
+      skipped b k (typed_func p b g) (typed_funcs p (b + 1) ts) _ refl (λ same. omega (arith, at, same)) (found_body (b + 1) p ts n k f has e (omega arith))
+
+any_at : (is : List Instance) (n k : ℕ) (i : Instance) → slice_get is n ≡ Some i → i.func ≡ k → has_instance is k ≡ true
+any_at [] n k i e same = absurd (cc e)
+any_at (x ∷ is) zero k i e same =
+    let here : x.func ≡ k = ap (λ (y : Instance). y.func) (some_once refl e) ∙ same in
+    elim (eqb_tells x.func k) [ inl h ↦ rw h.0 refl | inr h ↦ absurd (h.1 here) ]
+any_at (x ∷ is) (suc n) k i e same = by (nat_eq x.func k) (any_at is n k i e same)
+  where
+    by : (b : Bool) → has_instance is k ≡ true → b || has_instance is k ≡ true
+    by true rest = refl
+    by false rest = rest
+
+pub body_at_top : (p : Program) (is : List Instance) (n : ℕ) (i : Instance) (f : Func) → slice_get is n ≡ Some i → slice_get p.tops i.func ≡ Some (function f)
+    → body_of (bodies_for is (typed_program p).funcs) i.func ≡ Some (body_for (typed_func p i.func f))
+body_at_top p is n i f there top = found_body is 0 p p.tops i.func i.func f (any_at is n i.func i there refl) top (omega arith)
 
 -- Turns.
 pub turns_equal : (xs ys : List ℤ) → same_turns xs ys ≡ true → xs ≡ ys
@@ -221,7 +242,7 @@ child_is is apart parent at turns (Some k) (i, above, e, child) = sym (child_fou
 
 module _ (p : Program) (checked : IsChecked p) (es : Elements) (made : IsExpansion p es) where
   abbrev pub Bodies : List Body
-  Bodies = map body_for (typed_program p).funcs
+  Bodies = bodies_for es.instances (typed_program p).funcs
 
   abbrev pub Firsts : List ℕ
   Firsts = firsts_from Bodies 0 es.instances
@@ -247,10 +268,10 @@ module _ (p : Program) (checked : IsChecked p) (es : Elements) (made : IsExpansi
       let same : it.func ≡ f = instance_once p checked.calls path it.func f (subst (λ (q : Path). IsInstance p q it.func) same_path it.instance) instance in
       it.stands ∙ ap (λ (g : Func). Some (function g)) same
 
-  sizes : (n : ℕ) (i : Instance) → slice_get es.instances n ≡ Some i → size_in (body_of Bodies i.func) ≡ elements_of (signals_of (slice_get p.tops i.func))
+  pub sizes : (n : ℕ) (i : Instance) → slice_get es.instances n ≡ Some i → size_in (body_of Bodies i.func) ≡ elements_of (signals_of (slice_get p.tops i.func))
   sizes n i e =
       let it = Numbering.instances n i e in
-      ap size_in (body_at_top p i.func it.func it.stands) ∙ ap (λ (o : Option Top). elements_of (signals_of o)) (sym it.stands)
+      ap size_in (body_at_top p es.instances n i it.func e it.stands) ∙ ap (λ (o : Option Top). elements_of (signals_of o)) (sym it.stands)
 
   -- an element's number
   pub element_number : (n : ℕ) (path : Path) (f : Func) → HasPath es.instances n path → IsInstance p path f → (m d k : ℕ) → IsNumberOf es m (element path d k) → m ≡ slice_index_or Firsts n 0 + first_of (decls f) d + k

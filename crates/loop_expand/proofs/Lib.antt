@@ -36,6 +36,7 @@ pub mod OwnPositions
 pub mod FlatReads
 pub mod FactSteps
 pub mod ValueRows
+pub mod ManifestRows
 pub mod TurnRows
 pub mod GroupRows
 pub mod ReadableExprs
@@ -46,4 +47,11 @@ pub mod SiteFacts
 pub mod Rows
 pub mod FactsPut
 pub mod InstanceNumbers
+pub mod Bounds
+pub mod Sites
+pub mod GroupItems
+pub mod KnownExprs
+pub mod KnownItems
+pub mod TablesSized
+pub mod Offsets
 mod Examples

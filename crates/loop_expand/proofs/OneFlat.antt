@@ -1,5 +1,5 @@
 -- A checked program has one flat program at most, for one expansion.
-use Rattle.std.proofs.Common.{◌≡◌, refl, sym, subst, ap, ap₂, ◌∙◌, arith, ℕ, ◌<◌, List, [], ◌∷◌, length, slice_get, get_or, Option, Some, None, ℤ, pos}
+use Rattle.std.proofs.Common.{◌≡◌, refl, sym, subst, ap, ap₂, ◌∙◌, arith, ℕ, ◌<◌, List, length, get_or, Option, Some, None, ℤ, pos}
 use Rattle.std.specs.Prelude.{◌*ℤ◌, Contains}
 use Rattle.std.specs.List.{AllZip}
 use Rattle.std.proofs.lemmas.List.{ext_get_or}
@@ -9,12 +9,10 @@ use Rattle.fix_word.specs.declared.types.Format.{Format}
 use Rattle.fix_word.specs.declared.types.SigType.{SigType}
 use Rattle.silage_syntax.specs.declared.tree.ConstDef.{ConstDef}
 use Rattle.silage_syntax.specs.declared.tree.Decl.{Decl}
-use Rattle.silage_syntax.specs.declared.tree.Lit.{Lit}
 use Rattle.silage_syntax.specs.Manifests.{Indices}
-use Rattle.silage_syntax.specs.Names.{declared, table_named, IsOffset}
+use Rattle.silage_syntax.specs.Names.{IsOffset}
 use Rattle.silage_syntax.specs.Tree.{Manifest, Place, Program}
-use Rattle.silage_meaning.specs.Instances.{Element, element, IsElement, Site, outputs}
-use Rattle.silage_meaning.specs.Types.{IsRawWord}
+use Rattle.silage_meaning.specs.Instances.{Element, element, Site, outputs}
 use Rattle.silage_meaning.specs.Solves.{Source, word, value, same, number}
 use Rattle.silage_meaning.proofs.Values.{manifest_once, place_once, looks_back_once, raw_word_once}
 use Rattle.signal_graph.specs.Flat as flat
@@ -26,7 +24,7 @@ use Rattle.single_def.specs.Expansion.{IsExpansion}
 use Rattle.single_def.proofs.SingleDefinitions.{single_definitions}
 use Rattle.fix_types.specs.TypedTree as typed
 use Rattle.fix_types.specs.TypedValue.{HasFormat, as_it_is, by_amount}
-use Rattle.fix_types.specs.Translation.{typed_expr, typed_table}
+use Rattle.fix_types.specs.Translation.{typed_expr}
 use Rattle.loop_expand.specs.Checked.{IsChecked}
 use Rattle.loop_expand.specs.Numbers.{IsNumberOf, HasDistinctNumbers}
 use Rattle.loop_expand.specs.FlatOf.{IsTableWord, IsFlatRead, of_signal, of_table, IsFlatExpr, AreFlatParts, AreInitsOf, IsBodyOf, IsFlatElement, IsFlatOf}
@@ -34,7 +32,6 @@ use Rattle.loop_expand.proofs.Expanded.{numbering}
 use Rattle.loop_expand.proofs.FlatTypes.{decl_once}
 use Rattle.loop_expand.proofs.Numbers.{stands}
 use Rattle.loop_expand.proofs.OnceTables.{distinct_numbers}
-use Rattle.loop_expand.proofs.PresetsOnce.{presets_once}
 
 format_once : (indices : Indices) (fmt : Format) (amount : Option Manifest) (a b : Format) → HasFormat indices fmt amount a
     → HasFormat indices fmt amount b → a ≡ b

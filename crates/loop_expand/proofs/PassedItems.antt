@@ -20,10 +20,10 @@ use Rattle.single_def.specs.ElementRules.{manifest_at, value_rules, subscript_ru
 use Rattle.single_def.proofs.LoopTurns.{IsAmong, turn_among}
 use Rattle.single_def.proofs.CheckedInstances.{items_ok, checked}
 
-front_passes : (context : Context) (T : Table) (row : Row) → first_in (row_rules context (T ▹ row)) ≡ Ok tt → first (table_rules context T) ≡ Ok tt
+pub front_passes : (context : Context) (T : Table) (row : Row) → first_in (row_rules context (T ▹ row)) ≡ Ok tt → first (table_rules context T) ≡ Ok tt
 front_passes context T row ok = (then_parts (first (table_rules context T)) (first_in (row_rules (after context T) row)) ok).0
 
-back_passes : (context : Context) (T : Table) (row : Row) → first_in (row_rules context (T ▹ row)) ≡ Ok tt → first_in (row_rules (after context T) row) ≡ Ok tt
+pub back_passes : (context : Context) (T : Table) (row : Row) → first_in (row_rules context (T ▹ row)) ≡ Ok tt → first_in (row_rules (after context T) row) ≡ Ok tt
 back_passes context T row ok = (then_parts (first (table_rules context T)) (first_in (row_rules (after context T) row)) ok).1
 
 -- after what comes before it, a table breaks no rule
@@ -31,7 +31,7 @@ pub record IsPassed (T : Table) : Type 0 where
   pub context : Context
   pub ok : first (table_rules context T) ≡ Ok tt
 
-each_passed : (G : ℤ → Table) (turns : List ℤ) (turn : ℤ) → IsAmong turn turns → (context : Context) → first_in (row_rules context (each G turns)) ≡ Ok tt → IsPassed (G turn)
+pub each_passed : (G : ℤ → Table) (turns : List ℤ) (turn : ℤ) → IsAmong turn turns → (context : Context) → first_in (row_rules context (each G turns)) ≡ Ok tt → IsPassed (G turn)
 each_passed G [] turn has context ok = absurd has
 each_passed G (t ∷ turns) turn (inl same) context ok =
     subst (λ (z : ℤ). IsPassed (G z)) (sym same) (record { context = context; ok = front_passes context (G t) (each G turns) ok })

@@ -129,7 +129,7 @@ module _ (p : Program) (checked : IsChecked p) (es : Elements) (made_by : IsExpa
     abbrev FactsAt : Indices → Item → List Fact
     FactsAt indices x = item_facts c indices (typed_item p f x)
 
-    call_known : (places : List Place) (n : List ℕ) (args : List Expr) (a : ℕ) (indices : Indices) → Occurs f.items [] (call places n args a) indices → (g : Func) × (function_named p n ≡ Some g)
+    pub call_known : (places : List Place) (n : List ℕ) (args : List Expr) (a : ℕ) (indices : Indices) → Occurs f.items [] (call places n args a) indices → (g : Func) × (function_named p n ≡ Some g)
     call_known places n args a indices occurs =
         let it = instance_named p checked.names i f instance (call places n args a) indices occurs in
         by it.indices (function_named p n) refl it.ok
@@ -327,7 +327,7 @@ module _ (p : Program) (checked : IsChecked p) (es : Elements) (made_by : IsExpa
           let it = Numbering.instances j i e in
           let number : 0 + j ≡ j = omega arith in
           subst (λ (m : ℕ). True (FactsIn m (BodyOf i))) (sym number)
-          (subst (λ (o : Option Body). True (FactsIn j o)) (sym (body_at_top p i.func it.func it.stands))
+          (subst (λ (o : Option Body). True (FactsIn j o)) (sym (body_at_top p es.instances j i it.func e it.stands))
           (all_true it.path it.func it.instance (ScopeOf j (body_for (typed_func p i.func it.func))) (at_instance j i.func it.path it.func it.leads it.instance)))
 
   some_instance : (n : ℕ) (path : Path) → HasPath es.instances n path → (i : Instance) × (slice_get es.instances n ≡ Some i)
@@ -345,7 +345,7 @@ module _ (p : Program) (checked : IsChecked p) (es : Elements) (made_by : IsExpa
       let it = gives (ScopeOf n.0 b) at in
       let own = all_has s.instance s.function found.instance (ScopeOf n.0 b) at x s.indices (Z it.0) found.occurs it.1 in
       let number : 0 + n.0 ≡ n.0 = omega arith in
-      (it.0, from_has 0 es.instances n.0 i.0 (Z it.0) i.1 (subst (λ (m : ℕ). Has (FactsIn m (BodyOf i.0)) (Z it.0)) (sym number) (subst (λ (o : Option Body). Has (FactsIn n.0 o) (Z it.0)) (sym (body_at_top p i.0.func s.function top)) own)))
+      (it.0, from_has 0 es.instances n.0 i.0 (Z it.0) i.1 (subst (λ (m : ℕ). Has (FactsIn m (BodyOf i.0)) (Z it.0)) (sym number) (subst (λ (o : Option Body). Has (FactsIn n.0 o) (Z it.0)) (sym (body_at_top p es.instances n.0 i.0 s.function i.1 top)) own)))
 
   same_fact : (m : ℕ) (y : flat.Expr) (fs gs : List Fact) → fs ≡ gs → Has gs (defines m y) → Has fs (defines m y)
   same_fact m y fs gs e h = subst (λ (l : List Fact). Has l (defines m y)) (sym e) h

@@ -27,13 +27,11 @@ use Rattle.single_def.specs.Expansion.{IsExpansion}
 use Rattle.single_def.specs.Numbering.{HasPath, of_main, of_call, IsNumbering}
 use Rattle.single_def.specs.Tables.{Table, Context as Before, table_rules, row_rules, after, rules, in_order, each}
 use Rattle.single_def.specs.declared.fault.PlacedFault.TheVariants.{Delay}
-use Rattle.single_def.specs.ElementRules.{elements_of, position_of, subscript_rules, number_rules, samples, target_table, initial_table, array_table, taker_table, takers, call_table, item_table, instance_table, expr_rules}
+use Rattle.single_def.specs.ElementRules.{elements_of, subscript_rules, number_rules, samples, target_table, initial_table, array_table, taker_table, takers, call_table, item_table, instance_table, expr_rules}
 use Rattle.single_def.specs.Private.Plans.{first_of}
 use Rattle.single_def.proofs.CheckedInstances.{checked as checked_instance, items_ok}
 use Rattle.single_def.proofs.NamedItems.{IsNamed, IsWhole, whole, place_fits, within, equal, none_of, IsCallNamed, call_named, instance_named}
-use Rattle.single_def.proofs.PlannedFunctions.{top_named}
-use Rattle.single_def.proofs.SoundNames.{names_apart}
-use Rattle.fix_types.specs.Translation.{typed_expr, typed_against, typed_item, typed_arguments, typed_table, word_of, initial_word}
+use Rattle.fix_types.specs.Translation.{typed_expr, typed_against, typed_item, typed_arguments, typed_table, typed_func, word_of, initial_word}
 use Rattle.fix_types.specs.TypeRules.{literal_rules, against}
 use Rattle.fix_types.proofs.Literals.{Passes, raw_back}
 use Rattle.signal_graph.specs.Flat as flat
@@ -41,12 +39,12 @@ use Rattle.loop_expand.specs.Checked.{IsChecked}
 use Rattle.loop_expand.specs.Numbers.{IsNumberOf}
 use Rattle.loop_expand.specs.FlatOf.{IsFlatExpr, IsBodyOf}
 use Rattle.loop_expand.specs.Private.Children.{child_of}
-use Rattle.loop_expand.specs.Private.Scopes.{Signal, Body, Scope, signals_from, body_of}
+use Rattle.loop_expand.specs.Private.Scopes.{Signal, Body, Scope, signals_from, body_at, body_for}
 use Rattle.loop_expand.specs.Private.Facts.{Fact, defines, presets, natural, signal_named, typed_named, word_at, copies, number_at, flat_of, defined_at, preset_at, passed_array, passed_whole, passed, all_passed, taken_array, taken_named, taken, all_taken, bound_by, called_by, called, item_facts}
 use Rattle.loop_expand.proofs.Expanded.{numbering}
 use Rattle.loop_expand.proofs.FactsPut.{Has}
 use Rattle.loop_expand.proofs.FlatReads.{IsScope, signal_found, signal_unknown, natural_is, number_is, table_is, word_is, flat_is}
-use Rattle.loop_expand.proofs.InstanceNumbers.{Bodies, Firsts, apart_instances, number_of_path, body_at_top, element_number, told_child, child_found}
+use Rattle.loop_expand.proofs.InstanceNumbers.{Bodies, Firsts, apart_instances, number_of_path, body_at_top, instance_body, element_number, told_child, child_found}
 use Rattle.loop_expand.proofs.Items.{site_passes}
 use Rattle.loop_expand.proofs.Numbers.{numbered}
 use Rattle.loop_expand.proofs.PassedItems.{IsPassed, item_passed}
@@ -98,7 +96,7 @@ inside_once : (i j : Path) (a b : Step) → inside i a ≡ inside j b → (i ≡
 inside_once i j a b e = (cc, cc)
 
 module _ (p : Program) (checked : IsChecked p) (es : Elements) (made_by : IsExpansion p es) where
-  Numbering : IsNumbering p es
+  pub Numbering : IsNumbering p es
   Numbering = numbering p checked es made_by
 
   -- the scope is that of an instance of the program, with all others
@@ -143,15 +141,15 @@ module _ (p : Program) (checked : IsChecked p) (es : Elements) (made_by : IsExpa
         let k = checked_instance p checked.elements s.instance F instance in
         (instance_table p k.calls, item_passed p F (instance_table p k.calls) F.items [] _ (items_ok p k.calls F k.marks k.ok) x s.indices occurs)
 
-    number_there : (place : Place) (d k : ℕ) (decl : Decl) → IsSignal s place d decl k → (n : ℕ) × IsNumberOf es n (element s.instance d k)
+    pub number_there : (place : Place) (d k : ℕ) (decl : Decl) → IsSignal s place d decl k → (n : ℕ) × IsNumberOf es n (element s.instance d k)
     number_there place d k decl signal = numbered p es Numbering (element s.instance d k) (signal_is p s place d k decl instance signal)
 
     -- A place that names an element.
-    record IsTarget (place : Place) : Type 0 where
-      d : ℕ
-      k : ℕ
-      decl : Decl
-      signal : IsSignal s place d decl k
+    pub record IsTarget (place : Place) : Type 0 where
+      pub d : ℕ
+      pub k : ℕ
+      pub decl : Decl
+      pub signal : IsSignal s place d decl k
 
     subscripts_ok : (o : Option (ℕ × Decl)) (q : ℕ × Decl) (place : Place) (context : Before) → o ≡ Some q → first (table_rules context (target_table s.indices o place)) ≡ Ok tt → first_in (subscript_rules s.indices q.1.dims place.subs) ≡ Ok tt
     subscripts_ok None q place context e ok = absurd (cc e)
@@ -176,7 +174,7 @@ module _ (p : Program) (checked : IsChecked p) (es : Elements) (made_by : IsExpa
             record { d = q.0; k = at.0; decl = q.1; signal = record { named = e; placed = at.1 } }
 
     -- An equation.
-    equation_target : (place : Place) (x : Expr) → Occurs F.items [] (equation place x) s.indices → IsTarget place
+    pub equation_target : (place : Place) (x : Expr) → Occurs F.items [] (equation place x) s.indices → IsTarget place
     equation_target place x occurs =
         let n = named_item (equation place x) occurs in
         let t = passed_item (equation place x) occurs in
@@ -184,7 +182,7 @@ module _ (p : Program) (checked : IsChecked p) (es : Elements) (made_by : IsExpa
         target_is n.indices place (is_element place.subs) (λ dims h. h) (then_parts (first (name.target_rules (within p F n.indices) (is_element place.subs) place)) _ n.ok).0
         (λ q e. subscripts_ok (declared F place.name) q place t.1.context e ok)
 
-    equation_flat : (place : Place) (x : Expr) → Occurs F.items [] (equation place x) s.indices → (ty : SigType) → HasFlat p checked.names es Numbering s instance (typed_expr p F x ty)
+    pub equation_flat : (place : Place) (x : Expr) → Occurs F.items [] (equation place x) s.indices → (ty : SigType) → HasFlat p checked.names es Numbering s instance (typed_expr p F x ty)
     equation_flat place x occurs ty =
         let n = named_item (equation place x) occurs in
         let t = passed_item (equation place x) occurs in
@@ -230,14 +228,14 @@ module _ (p : Program) (checked : IsChecked p) (es : Elements) (made_by : IsExpa
         let two = then_parts (first (number_rules s.indices samples Delay amount)) _ one.1 in
         (subst (λ (z : ℕ × Decl). first_in (subscript_rules s.indices z.1.dims place.subs) ≡ Ok tt) same one.0, two.0)
 
-    initial_target : (place : Place) (amount : Manifest) (l : Lit) → Occurs F.items [] (initial place amount l) s.indices → IsTarget place
+    pub initial_target : (place : Place) (amount : Manifest) (l : Lit) → Occurs F.items [] (initial place amount l) s.indices → IsTarget place
     initial_target place amount l occurs =
         let n = named_item (initial place amount l) occurs in
         let t = passed_item (initial place amount l) occurs in
         target_is n.indices place (is_element place.subs) (λ dims h. h) (then_parts (first (name.target_rules (within p F n.indices) (is_element place.subs) place)) _ n.ok).0
         (λ q e. (initial_ok (declared F place.name) q place amount t.1.context e t.1.ok).0)
 
-    initial_sample : (place : Place) (amount : Manifest) (l : Lit) (d k : ℕ) (decl : Decl) → Occurs F.items [] (initial place amount l) s.indices → IsSignal s place d decl k → (j : ℕ) × HasValue s.indices amount j
+    pub initial_sample : (place : Place) (amount : Manifest) (l : Lit) (d k : ℕ) (decl : Decl) → Occurs F.items [] (initial place amount l) s.indices → IsSignal s place d decl k → (j : ℕ) × HasValue s.indices amount j
     initial_sample place amount l d k decl occurs signal =
         let t = passed_item (initial place amount l) occurs in
         has_sample s.indices Delay amount (initial_ok (declared F place.name) (d, decl) place amount t.1.context signal.named t.1.ok).1
@@ -303,7 +301,7 @@ module _ (p : Program) (checked : IsChecked p) (es : Elements) (made_by : IsExpa
       abbrev pub G : Func
       G = q.callee
 
-      is_named : IsCallNamed p F G q.places q.args
+      pub is_named : IsCallNamed p F G q.places q.args
       is_named = call_named p F q.places q.name q.args q.at G q.named (named_item the_item q.found.occurs)
 
       call_ok : (inside : Func → Table) × (context : Before) × (first (table_rules context (call_table p F inside s.indices (Some G) q.places q.name q.args q.at)) ≡ Ok tt)
@@ -330,6 +328,8 @@ module _ (p : Program) (checked : IsChecked p) (es : Elements) (made_by : IsExpa
 
       pub record IsChild : Type 0 where
         pub n : ℕ
+        pub i : Instance
+        pub there : slice_get es.instances n ≡ Some i
         pub leads : HasPath es.instances n (made q)
         pub found : child_of c.number q.at (turns_of s.indices) c.instances ≡ Some n
 
@@ -346,6 +346,8 @@ module _ (p : Program) (checked : IsChecked p) (es : Elements) (made_by : IsExpa
               let is = told_child c.number q.at (turns_of s.indices) i (record { parent_is = number; at_is = sites; turns_are = turns }) in
               record {
                 n = n;
+                i = i;
+                there = e;
                 leads = subst (λ (a : Path). HasPath es.instances n a) same (of_call above e leads);
                 found = ap (λ (is : List Instance). child_of c.number q.at (turns_of s.indices) is) at.instances ∙ child_found es.instances (apart_instances p checked es made_by) c.number q.at (turns_of s.indices) n i above e is;
               }
@@ -364,13 +366,17 @@ module _ (p : Program) (checked : IsChecked p) (es : Elements) (made_by : IsExpa
       abbrev pub Taken : List Fact
       Taken = all_taken c s.indices First (signals_from (elements_of G.params) G.results) q.places
 
+      pub callee_body : body_at c.bodies (slice_get c.instances child.n) ≡ Some (body_for (typed_func p child.i.func G))
+      callee_body =
+          let top = instance_body p checked es made_by child.n child.i (made q) G child.there child.leads made_instance in
+          ap₂ (λ (bs : List Body) (is : List Instance). body_at bs (slice_get is child.n)) at.bodies at.instances ∙ ap (body_at (Bodies p checked es made_by)) child.there
+          ∙ body_at_top p es.instances child.n child.i G child.there top
+
       pub call_says : FactsOf the_item ≡ Passed ++ Taken
       call_says =
-          let top = top_named p q.name G (names_apart p checked.names) q.named in
-          let body = ap (λ (bs : List Body). body_of bs (position_of p q.name)) at.bodies ∙ body_at_top p (position_of p q.name) G top in
-          ap (λ (o : Option Func). called c s.indices (position_of p q.name) q.at q.places (typed_arguments p F (params_of o) q.args)) q.named
-          ∙ ap (λ (o : Option ℕ). called_by c s.indices o (position_of p q.name) q.places (typed_arguments p F G.params q.args)) child.found
-          ∙ ap (λ (o : Option Body). bound_by c s.indices o First q.places (typed_arguments p F G.params q.args)) body
+          ap (λ (o : Option Func). called c s.indices q.at q.places (typed_arguments p F (params_of o) q.args)) q.named
+          ∙ ap (λ (o : Option ℕ). called_by c s.indices o q.places (typed_arguments p F G.params q.args)) child.found
+          ∙ ap (λ (o : Option Body). bound_by c s.indices o First q.places (typed_arguments p F G.params q.args)) callee_body
 
       -- Elements of parameters and of results, by their numbers.
       parameter_number : (d k fd : ℕ) (decl : Decl) → slice_get G.params d ≡ Some decl → k < element_count decl.dims → fd ≡ first_of (decls G) d → IsNumberOf es (First + fd + k) (parameter_of q d k)
@@ -400,13 +406,13 @@ module _ (p : Program) (checked : IsChecked p) (es : Elements) (made_by : IsExpa
       abbrev Scalar : Decl → Bool
       Scalar decl = nat_eq (length decl.dims) 0
 
-      argument_names : (d : ℕ) (decl : Decl) (x : Expr) (b : Bool) → IsArgument q d decl x → Scalar decl ≡ b → first (cond b (name.expr_rules (within p F is_named.indices) x) (name.array_rules (within p F is_named.indices) decl.dims x)) ≡ Ok tt
+      pub argument_names : (d : ℕ) (decl : Decl) (x : Expr) (b : Bool) → IsArgument q d decl x → Scalar decl ≡ b → first (cond b (name.expr_rules (within p F is_named.indices) x) (name.array_rules (within p F is_named.indices) decl.dims x)) ≡ Ok tt
       argument_names d decl x b arg is =
           let ok = is_named.arg_ok d x arg.argument in
           let one = subst (λ (o : Option Decl). first (name.argument_rules (within p F is_named.indices) o x) ≡ Ok tt) arg.parameter ok in
           subst (λ (a : Bool). first (cond a (name.expr_rules (within p F is_named.indices) x) (name.array_rules (within p F is_named.indices) decl.dims x)) ≡ Ok tt) is one
 
-      argument_flat : (d : ℕ) (decl : Decl) (x : Expr) → IsArgument q d decl x → Scalar decl ≡ true → HasFlat p checked.names es Numbering s instance (typed_expr p F x decl.ty)
+      pub argument_flat : (d : ℕ) (decl : Decl) (x : Expr) → IsArgument q d decl x → Scalar decl ≡ true → HasFlat p checked.names es Numbering s instance (typed_expr p F x decl.ty)
       argument_flat d decl x arg one =
           expr_flat p checked.names es Numbering s instance is_named.indices x (argument_names d decl x true arg one) (arg_ok d x arg.argument) decl.ty
 
@@ -428,14 +434,14 @@ module _ (p : Program) (checked : IsChecked p) (es : Elements) (made_by : IsExpa
       many_dims decl many e = no_fault (Scalar decl) (ap (λ (dims : List ℕ). nat_eq (length dims) 0) e) many
 
       -- the argument for an array is the bare name of an array or a table with its dims
-      record IsName (dims : List ℕ) (x : Expr) : Type 0 where
-        place : Place
-        is : x ≡ read place None
-        its : List ℕ
-        known : read_dims (within p F is_named.indices) place.name ≡ Some its
-        all : IsWhole dims place.subs its
+      pub record IsName (dims : List ℕ) (x : Expr) : Type 0 where
+        pub place : Place
+        pub is : x ≡ read place None
+        pub its : List ℕ
+        pub known : read_dims (within p F is_named.indices) place.name ≡ Some its
+        pub all : IsWhole dims place.subs its
 
-      whole_name : (dims : List ℕ) (x : Expr) → first (name.array_rules (within p F is_named.indices) dims x) ≡ Ok tt → IsName dims x
+      pub whole_name : (dims : List ℕ) (x : Expr) → first (name.array_rules (within p F is_named.indices) dims x) ≡ Ok tt → IsName dims x
       whole_name dims (read place None) ok =
           let fits = place_fits (within p F is_named.indices) (option_map (λ (its : List ℕ). is_whole_array dims place.subs its) (read_dims (within p F is_named.indices) place.name)) place (then_parts _ _ ok).0 in
           by (read_dims (within p F is_named.indices) place.name) refl fits.known fits.fitting
@@ -620,7 +626,7 @@ module _ (p : Program) (checked : IsChecked p) (es : Elements) (made_by : IsExpa
       taking r theirs place res =
           subst (λ (o : Option Decl). first (name.target_rules (within p F is_named.indices) (takes o place.subs) place) ≡ Ok tt) res.result (is_named.place_ok r place res.taken)
 
-      result_target : (r : ℕ) (theirs : Decl) (place : Place) → IsResult q r theirs place → Scalar theirs ≡ true → IsTarget place
+      pub result_target : (r : ℕ) (theirs : Decl) (place : Place) → IsResult q r theirs place → Scalar theirs ≡ true → IsTarget place
       result_target r theirs place res one =
           let ok = taker_ok r theirs place res.result res.taken in
           let table : first (table_rules ok.0 (target_table s.indices (declared F place.name) place)) ≡ Ok tt =
@@ -630,12 +636,12 @@ module _ (p : Program) (checked : IsChecked p) (es : Elements) (made_by : IsExpa
           (λ z e. subscripts_ok (declared F place.name) z place ok.0 e table)
 
       -- the array that takes an array
-      record IsTaker (theirs : Decl) (place : Place) : Type 0 where
-        d : ℕ
-        decl : Decl
-        is : IsArray s place theirs.dims d decl
+      pub record IsTaker (theirs : Decl) (place : Place) : Type 0 where
+        pub d : ℕ
+        pub decl : Decl
+        pub is : IsArray s place theirs.dims d decl
 
-      result_array : (r : ℕ) (theirs : Decl) (place : Place) → IsResult q r theirs place → Scalar theirs ≡ false → IsTaker theirs place
+      pub result_array : (r : ℕ) (theirs : Decl) (place : Place) → IsResult q r theirs place → Scalar theirs ≡ false → IsTaker theirs place
       result_array r theirs place res many =
           let fits = place_fits (within p F is_named.indices) (option_map (takes (Some theirs) place.subs) (signal_dims (within p F is_named.indices) place.name)) place (taking r theirs place res) in
           by (declared F place.name) refl fits.known fits.fitting

@@ -1,16 +1,24 @@
 -- Turns of a loop in the turns around it.
-use Rattle.std.proofs.Common.{◌≡◌, ◌<◌, ◌≤◌, ◌+◌, ◌-◌, ◌∙◌, ℕ, zero, suc, ℤ, pos, negsuc, ◌+ℤ◌, ◌-ℤ◌, ◌<ℤ◌, List, [], ◌∷◌, ◌++◌, map, length, drop, get_or, slice_get, Some, refl, sym, ap, ap₂, arith, append_assoc, append-nil}
+use Rattle.std.proofs.Common.{◌≡◌, ◌<◌, ◌≤◌, ◌+◌, ◌-◌, ◌∙◌, ℕ, zero, suc, ℤ, pos, negsuc, ◌+ℤ◌, ◌-ℤ◌, ◌<ℤ◌, List, [], ◌∷◌, ◌++◌, map, length, drop, get_or, slice_get, Some, Result, Ok, Err, IfOk, ◌⊎◌, inl, inr, refl, sym, subst, ap, ap₂, arith, append_assoc, append-nil}
+use Rattle.lists.proofs.Places.{some_once}
 use Rattle.std.specs.List.{range_with_len}
 use Rattle.std.proofs.lemmas.Int.{ints}
 use Rattle.std.proofs.lemmas.List.{map-append}
 use Rattle.silage_syntax.specs.Tree.{Manifest}
 use Rattle.silage_syntax.specs.Manifests.{Indices, manifest_value}
 use Rattle.single_def.specs.ElementRules.{at_least_0, loop_turns}
-use Rattle.loop_expand.specs.declared.turns.Column.{Column as RustColumn}
-use Rattle.loop_expand.specs.declared.turns.InnerTurn.{InnerTurn}
-use Rattle.loop_expand.specs.Private.Turns.{at, view_column, view_columns, row_at, turns_within, inner_at, inner_of, inner_columns}
+use Rattle.loop_expand.specs.declared.columns.Column.{Column as RustColumn}
+use Rattle.loop_expand.specs.declared.columns.InnerTurn.{InnerTurn}
+use Rattle.loop_expand.specs.Private.Columns.{AreFull}
+use Rattle.loop_expand.specs.Private.Turns.{at, view_column, view_columns, row_at, turns_within, AreInside, inner_at, inner_of, inner_columns}
 use Rattle.single_def.proofs.Each.{range_next}
 use Rattle.loop_expand.proofs.FactSteps.{range_end, drop_item, drop_end}
+
+-- an item of two lists is one of the first or of the second
+pub at_either : {A : Type 0} (xs ys : List A) (i : ℕ) (x : A) → slice_get (xs ++ ys) i ≡ Some x → ((j : ℕ) × (slice_get xs j ≡ Some x)) ⊎ ((j : ℕ) × (slice_get ys j ≡ Some x))
+at_either [] ys i x e = inr (i, e)
+at_either (y ∷ xs) ys zero x e = inl (0, e)
+at_either (y ∷ xs) ys (suc i) x e = elim (at_either xs ys i x e) [ inl (j, h) ↦ inl (suc j, h) | inr h ↦ inr h ]
 
 -- turns one behind the other
 module _ (outer : ℕ) (lo : ℤ) where
@@ -47,6 +55,27 @@ pub inner_same : (F G : ℕ → List ℤ) (a n : ℕ) → ((k : ℕ) → k < a +
 inner_same F G a zero same = refl
 inner_same F G a (suc n) same =
     ap₂ ◌++◌ (ap (map (inner_at a)) (same a (omega arith))) (inner_same F G (a + 1) n (λ k less. same k (omega arith)))
+
+-- each of the turns is inside one of those around
+inner_before : (F : ℕ → List ℤ) (a n i : ℕ) (t : InnerTurn) → slice_get (inner_of F (range_with_len a n)) i ≡ Some t → t.outer < a + n
+inner_before F a zero i t e = absurd (cc e)
+inner_before F a (suc n) i t e = by (λ j there. inner_before F (a + 1) n j t there) (at_either (map (inner_at a) (F a)) (inner_of F (range_with_len (a + 1) n)) i t e)
+  where
+    own : (xs : List ℤ) (j : ℕ) → slice_get (map (inner_at a) xs) j ≡ Some t → t.outer ≡ a
+    own [] j e = absurd (cc e)
+    own (x ∷ xs) zero e = ap (λ (u : InnerTurn). u.outer) (some_once e refl)
+    own (x ∷ xs) (suc j) e = own xs j e
+
+    by : ((j : ℕ) → slice_get (inner_of F (range_with_len (a + 1) n)) j ≡ Some t → t.outer < a + 1 + n) → ((j : ℕ) × (slice_get (map (inner_at a) (F a)) j ≡ Some t)) ⊎ ((j : ℕ) × (slice_get (inner_of F (range_with_len (a + 1) n)) j ≡ Some t)) → t.outer < a + suc n
+    by rest (inl (j, here)) = omega (arith, own (F a) j here)
+    by rest (inr (j, there)) = omega (arith, rest j there)
+
+pub inner_inside : (F : ℕ → List ℤ) (count : ℕ) (inner : List InnerTurn) → inner ≡ inner_of F (range_with_len 0 count) → AreInside count inner
+inner_inside F count inner is i t e = omega (arith, inner_before F 0 count i t (subst (λ l. slice_get l i ≡ Some t) is e))
+
+pub if_ok : {A E : Type 0} (r : Result A E) {P Q : A → Type 0} → ((x : A) → P x → Q x) → IfOk r P → IfOk r Q
+if_ok (Ok x) f h = f x h
+if_ok (Err e) f h = h
 
 pub none_within : (F : ℕ → List ℤ) (a n : ℕ) → ((k : ℕ) → k < a + n → F k ≡ []) → inner_of F (range_with_len a n) ≡ []
 none_within F a zero none = refl
@@ -122,3 +151,25 @@ pub columns_end : (outer old new : List RustColumn) (i : ℕ) (made : RustColumn
 columns_end outer old new i made index inner whole past more column so_far =
     ap view_columns more ∙ map-append view_column old (made ∷ []) ∙ ap (λ c. view_columns old ++ c ∷ []) column
     ∙ sym (ap (λ l. view_columns old ++ inner_columns (view_columns l) index inner) (drop_end outer i past)) ∙ so_far
+
+-- so each column has a value in each turn
+pub columns_full : (outer : List (List ℕ × List ℤ)) (index : List ℕ) (inner : List InnerTurn) (made : List RustColumn) → view_columns made ≡ inner_columns outer index inner → AreFull made (length inner)
+columns_full outer index inner made is i c e = by outer made i is e
+  where
+    long : (F : InnerTurn → ℤ) (ts : List InnerTurn) → length (map F ts) ≡ length ts
+    long F [] = refl
+    long F (t ∷ ts) = ap suc (long F ts)
+
+    by : (outer : List (List ℕ × List ℤ)) (made : List RustColumn) (i : ℕ) → view_columns made ≡ inner_columns outer index inner → slice_get made i ≡ Some c → length c.values.items ≡ length inner
+    by outer [] i is e = absurd (cc e)
+    by [] (m ∷ made) zero is e =
+        let column : view_column m ≡ (index, map (λ (t : InnerTurn). t.index) inner) = cc is in
+        ap (λ (d : RustColumn). length d.values.items) (some_once e refl) ∙ ap (λ (d : List ℕ × List ℤ). length d.1) column ∙ long (λ (t : InnerTurn). t.index) inner
+    by [] (m ∷ []) (suc i) is e = absurd (cc e)
+    by [] (m ∷ n ∷ made) (suc i) is e = absurd (cc is)
+    by (o ∷ outer) (m ∷ made) zero is e =
+        let column : view_column m ≡ (o.0, map (λ (t : InnerTurn). at o.1 t.outer) inner) = cc is in
+        ap (λ (d : RustColumn). length d.values.items) (some_once e refl) ∙ ap (λ (d : List ℕ × List ℤ). length d.1) column ∙ long (λ (t : InnerTurn). at o.1 t.outer) inner
+    by (o ∷ outer) (m ∷ made) (suc i) is e =
+        let rest : view_columns made ≡ inner_columns outer index inner = cc is in
+        by outer made i rest e

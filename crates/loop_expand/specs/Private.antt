@@ -1,8 +1,14 @@
 pub mod Children
+pub mod Sizes
 pub mod Scopes
+pub mod Sites
+pub mod Views
+pub mod Columns
 pub mod Turns
 pub mod Groups
 pub mod Facts
+pub mod Amounts
+pub mod Known
 pub mod Expansions
 pub mod Elements
 pub mod Rows

@@ -1,6 +1,7 @@
 //! Calls: the parameters of the instance that a call makes, and what takes its results.
 
-ghost use Rattle.std.specs.Prelude.{◌≡◌, ◌≤◌, ℕ, map, false, true, slice_get, Some, MatchOption, OnOk};
+ghost use Rattle.std.specs.Prelude.{◌≡◌, ◌<◌, ◌≤◌, ℕ, length, map, false, true, slice_get};
+ghost use Rattle.std.specs.Prelude.{Some, IsSome, MatchOption, IfSome, OnOk};
 ghost use Rattle.signal_graph.specs.Flat as flat_program;
 ghost use Rattle.signal_graph.specs.Flat.{view_expr};
 ghost use Rattle.silage_syntax.specs.Tree.{view_place};
@@ -10,13 +11,19 @@ ghost use Rattle.fix_types.specs.TypedTree as typed;
 ghost use Rattle.loop_expand.specs.Private.Children.{AreApart, is_child, child_of};
 ghost use Rattle.loop_expand.specs.Private.Elements.{Puts};
 ghost use Rattle.loop_expand.specs.Private.Facts as is;
-ghost use Rattle.loop_expand.specs.Private.Scopes.{view_scope, view_signal, view_signals};
+ghost use Rattle.loop_expand.specs.Private.Known.{IsKnown, IsKnownArgument, AreKnownArguments};
+ghost use Rattle.loop_expand.specs.Private.Known.{IsKnownTaker, AreKnownTakers, IsKnownCall};
+ghost use Rattle.loop_expand.specs.Private.Scopes.{view_signal, view_signals, view_bodies, body_at};
+ghost use Rattle.loop_expand.specs.Private.Scopes.{Body as CalleeBody};
+ghost use Rattle.loop_expand.specs.Private.Sites.{IsItemOf};
+ghost use Rattle.loop_expand.specs.Private.Views.{view_scope};
 
 use crate::amounts::{element_count, sum};
-use crate::elements::{define, define_some};
-use crate::expressions::{flat, number_at, word_at};
-use crate::lookups::{body, first_of, signal, table};
-use crate::scope::{Scope, Signal};
+use crate::body::Signal;
+use crate::elements::define;
+use crate::expressions::{flat, target, word_at};
+use crate::lookups::{first_of, instance_body, signal, table};
+use crate::scope::Scope;
 use crate::turns::is_turn;
 use fix_types::{TypedConst, TypedExpr};
 use name_check::Env;
@@ -65,15 +72,13 @@ fn pass_array(
     count: u32,
     place: &Place,
 ) -> Result<(), AllocError>
+    requires { IsKnown (view_scope scope.now) place.now.name }
     ensures { OnOk result (Puts (is.passed_named (view_scope scope.now) (view_place place.now) to count)
         elems.old elems.new) }
 {
     match signal(scope.signals, &place.name) {
         Some(signal) => copy(elems, to, sum(scope.first, signal.first)?, count),
-        None => match table(scope.tables, &place.name) {
-            Some(table) => copy_numbers(elems, to, table, count),
-            None => Ok(()),
-        },
+        None => copy_numbers(elems, to, table(scope.tables, &place.name), count),
     }
 }
 
@@ -86,6 +91,7 @@ fn pass(
     param: Signal,
     arg: &TypedExpr,
 ) -> Result<(), AllocError>
+    requires { IsKnownArgument (view_scope scope.now) env.now (view_signal param) (typed.view_expr arg.now) }
     ensures { OnOk result (Puts (is.passed (view_scope scope.now) env.now first (view_signal param.entry)
         (typed.view_expr arg.now)) elems.old elems.new) }
 {
@@ -96,9 +102,9 @@ fn pass(
     }
     match arg {
         TypedExpr::Read { place, delay: _ } => {
-            pass_array(scope, elems, to, element_count(&param.decl.dims)?, place)
+            pass_array(scope, elems, to, element_count(&param.decl.dims), place)
         }
-        _ => Ok(()),
+        _ => unreachable!(),
     }
 }
 
@@ -110,19 +116,16 @@ fn pass_all(
     params: &[Signal],
     args: &[TypedExpr],
 ) -> Result<(), AllocError>
+    requires count { length args.now ≤ length params.now }
+    requires known { AreKnownArguments (view_scope scope.now) env.now (view_signals params.now)
+        (map typed.view_expr args.now) }
     ensures { OnOk result (Puts (is.all_passed (view_scope scope.now) env.now first (view_signals params.now)
         (map typed.view_expr args.now)) elems.old elems.new) }
 {
-    match params {
-        [] => Ok(()),
-        [param, params @ ..] => match args {
-            [] => Ok(()),
-            [arg, args @ ..] => {
-                pass(scope, env, elems, first, *param, arg)?;
-                pass_all(scope, env, elems, first, params, args)
-            }
-        },
+    for k in 0..args.len() {
+        pass(scope, env, elems, first, params[k], &args[k])?;
     }
+    Ok(())
 }
 
 /// An array that takes a result whose elements begin with this number.
@@ -133,11 +136,12 @@ fn take_array(
     count: u32,
     place: &Place,
 ) -> Result<(), AllocError>
+    requires { IsSome (is.signal_named (view_scope scope.now).signals place.now.name) }
     ensures { OnOk result (Puts (is.taken_named (view_scope scope.now) (view_place place.now) from count)
         elems.old elems.new) }
 {
     match signal(scope.signals, &place.name) {
-        None => Ok(()),
+        None => unreachable!(),
         Some(signal) => copy(elems, sum(scope.first, signal.first)?, from, count),
     }
 }
@@ -151,15 +155,16 @@ fn take(
     taken: Signal,
     place: &Place,
 ) -> Result<(), AllocError>
+    requires { IsKnownTaker (view_scope scope.now) env.now (view_signal taken) (view_place place.now) }
     ensures { OnOk result (Puts (is.taken (view_scope scope.now) env.now first (view_signal taken.entry)
         (view_place place.now)) elems.old elems.new) }
 {
     let from = sum(first, taken.first)?;
     if taken.decl.dims.is_empty() {
-        define_some(elems, number_at(scope, env, place)?, read_now(from));
+        define(elems, target(scope, env, place)?, read_now(from));
         return Ok(());
     }
-    take_array(scope, elems, from, element_count(&taken.decl.dims)?, place)
+    take_array(scope, elems, from, element_count(&taken.decl.dims), place)
 }
 
 fn take_all(
@@ -170,19 +175,16 @@ fn take_all(
     results: &[Signal],
     places: &[Place],
 ) -> Result<(), AllocError>
+    requires count { length places.now ≤ length results.now }
+    requires known { AreKnownTakers (view_scope scope.now) env.now (view_signals results.now)
+        (map view_place places.now) }
     ensures { OnOk result (Puts (is.all_taken (view_scope scope.now) env.now first (view_signals results.now)
         (map view_place places.now)) elems.old elems.new) }
 {
-    match results {
-        [] => Ok(()),
-        [taken, results @ ..] => match places {
-            [] => Ok(()),
-            [place, places @ ..] => {
-                take(scope, env, elems, first, *taken, place)?;
-                take_all(scope, env, elems, first, results, places)
-            }
-        },
+    for k in 0..places.len() {
+        take(scope, env, elems, first, results[k], &places[k])?;
     }
+    Ok(())
 }
 
 /// Whether an instance is made by the call at this position, in these turns, in the instance with this number.
@@ -208,11 +210,18 @@ fn child_from(instances: &[Instance], from: usize, parent: u32, at: u32, env: &E
     None
 }
 
-/// The instance that the call makes. The calls of a loop stand in the order of their instances, so a search for the
-/// next one begins behind the one that was entered last.
-fn child(instances: &[Instance], last: usize, parent: u32, at: u32, env: &Env) -> Option<usize>
+/// The instance that the call makes, if it makes one. The calls of a loop stand in the order of their instances, so a
+/// search for the next one begins behind the one that was entered last.
+fn found_child(
+    instances: &[Instance],
+    last: usize,
+    parent: u32,
+    at: u32,
+    env: &Env,
+) -> Option<usize>
     requires { AreApart instances.now }
-    ensures { result ≡ child_of parent at (turns_of env.now) instances.now }
+    ensures is { result ≡ child_of parent at (turns_of env.now) instances.now }
+    ensures within { IfSome result (λ k. k < length instances.now) }
 {
     match child_from(instances, last.saturating_add(1), parent, at, env) {
         Some(child) => Some(child),
@@ -220,47 +229,57 @@ fn child(instances: &[Instance], last: usize, parent: u32, at: u32, env: &Env) -
     }
 }
 
-/// The places and arguments of a call of a function, whose instance has its first element at this number.
+/// The instance that the call makes.
+fn child(instances: &[Instance], last: usize, parent: u32, at: u32, env: &Env) -> usize
+    requires apart { AreApart instances.now }
+    requires some { IsSome (child_of parent at (turns_of env.now) instances.now) }
+    ensures is { Some result ≡ child_of parent at (turns_of env.now) instances.now }
+    ensures within { result < length instances.now }
+{
+    match found_child(instances, last, parent, at, env) {
+        Some(child) => child,
+        None => unreachable!(),
+    }
+}
+
+/// The places and arguments of the call that makes this instance.
 fn bind(
     scope: &Scope,
     env: &Env,
     elems: &mut [FlatElem],
-    func: u32,
-    first: u32,
+    child: usize,
     places: &[Place],
     args: &[TypedExpr],
 ) -> Result<(), AllocError>
-    ensures { OnOk result (Puts (is.bound (view_scope scope.now) env.now func first (map view_place places.now)
+    requires child { child < length scope.now.instances.now }
+    requires known { (b : CalleeBody)
+        → body_at (view_bodies scope.now.bodies.now) (slice_get scope.now.instances.now child) ≡ Some b
+        → IsKnownCall (view_scope scope.now) env.now b (map view_place places.now) (map typed.view_expr args.now) }
+    ensures { OnOk result (Puts (is.bound (view_scope scope.now) env.now child (map view_place places.now)
         (map typed.view_expr args.now)) elems.old elems.new) }
 {
-    let callee = match body(scope.bodies, func) {
-        None => return Ok(()),
-        Some(callee) => callee,
-    };
+    let callee = instance_body(scope.bodies, scope.instances, child);
+    let first = first_of(scope.firsts, child);
     pass_all(scope, env, elems, first, &callee.signals, args)?;
     take_all(scope, env, elems, first, &callee.results, places)
 }
 
-/// A call of the function at this position among the tables and functions.
+/// The call at this position.
 pub(crate) fn call(
     scope: &Scope,
     env: &Env,
     last: &mut usize,
     elems: &mut [FlatElem],
-    func: u32,
     at: u32,
     places: &[Place],
     args: &[TypedExpr],
 ) -> Result<(), AllocError>
-    ensures { OnOk result (Puts (is.called (view_scope scope.now) env.now func at (map view_place places.now)
+    requires { (func : ℕ) × IsItemOf (view_scope scope.now) env.now
+        (typed.call (map view_place places.now) func (map typed.view_expr args.now) at) }
+    ensures { OnOk result (Puts (is.called (view_scope scope.now) env.now at (map view_place places.now)
         (map typed.view_expr args.now)) elems.old elems.new) }
 {
-    match child(scope.instances, *last, scope.number, at, env) {
-        None => Ok(()),
-        Some(child) => {
-            *last = child;
-            let first = first_of(scope.firsts, child);
-            bind(scope, env, elems, func, first, places, args)
-        }
-    }
+    let child = child(scope.instances, *last, scope.number, at, env);
+    *last = child;
+    bind(scope, env, elems, child, places, args)
 }

@@ -1,17 +1,20 @@
 //! The elements of the flat program.
 
-ghost use Rattle.std.specs.Prelude.{◌≡◌, ◌++◌, replicate, IfOk, OnOk};
+ghost use Rattle.std.specs.Prelude.{◌≡◌, ◌≤◌, ◌++◌, replicate, IfOk, OnOk};
 ghost use Rattle.silage_meaning.specs.Types.{word_types};
+ghost use Rattle.fix_types.specs.TypedTree.{view_func};
+ghost use Rattle.single_def.specs.Private.Plans.{AreSized};
+ghost use Rattle.loop_expand.specs.Private.Sizes.{decls_of};
 ghost use Rattle.signal_graph.specs.Flat.{view_elem, view_body, view_expr};
 ghost use Rattle.loop_expand.specs.Private.Elements as is;
 ghost use Rattle.loop_expand.specs.Private.Elements.{view_elems};
-ghost use Rattle.loop_expand.specs.Private.Facts.{defines, presets, defined_at, preset_at};
-ghost use Rattle.loop_expand.specs.Private.Scopes.{view_bodies};
+ghost use Rattle.loop_expand.specs.Private.Facts.{defines, presets};
+ghost use Rattle.loop_expand.specs.Private.Scopes.{view_bodies, HaveBodies};
 
 use crate::amounts::element_count;
+use crate::body::Body;
 use crate::initials::insert;
 use crate::lookups::body;
-use crate::scope::Body;
 use fix_types::TypedFunc;
 use fix_word::SigType;
 use lists::List;
@@ -33,15 +36,17 @@ fn put_type(types: &mut List<SigType>, ty: SigType, count: u32) -> Result<(), Al
 
 /// Appends the types of the elements of declarations.
 pub(crate) fn put_types(types: &mut List<SigType>, decls: &[Decl]) -> Result<(), AllocError>
+    requires { AreSized decls.now }
     ensures { OnOk result (types.new ≡ types.old ++ word_types decls.now) }
 {
     for decl in decls {
-        put_type(types, decl.ty, element_count(&decl.dims)?)?;
+        put_type(types, decl.ty, element_count(&decl.dims))?;
     }
     Ok(())
 }
 
 fn put_body_types(types: &mut List<SigType>, func: &TypedFunc) -> Result<(), AllocError>
+    requires { AreSized (decls_of (view_func func.now)) }
     ensures { OnOk result (types.new ≡ types.old ++ (word_types func.now.params
         ++ (word_types func.now.results ++ word_types func.now.locals))) }
 {
@@ -56,24 +61,25 @@ pub(crate) fn all_types(
     bodies: &[Body],
     instances: &[Instance],
 ) -> Result<List<SigType>, AllocError>
+    requires { HaveBodies (view_bodies bodies.now) instances.now }
     ensures { IfOk result (λ types. types ≡ is.types_of (view_bodies bodies.now) instances.now) }
 {
     let mut types = List::new(alloc);
     for instance in instances {
-        if let Some(body) = body(bodies, instance.func) {
-            put_body_types(&mut types, body.func)?;
-        }
+        put_body_types(&mut types, body(bodies, instance.func).func)?;
     }
     Ok(types)
 }
 
 /// The word of the input row, for one of the first elements.
 fn first_body(inputs: usize, k: usize) -> FlatBody
+    requires { inputs ≤ 16 }
     ensures { view_body result ≡ is.first_body inputs k }
 {
-    match u8::try_from(k) {
-        Ok(word) if k < inputs => FlatBody::Word(word),
-        _ => FlatBody::Value(FlatExpr::Raw(0)),
+    if k < inputs {
+        FlatBody::Word(k as u8)
+    } else {
+        FlatBody::Value(FlatExpr::Raw(0))
     }
 }
 
@@ -83,6 +89,7 @@ pub(crate) fn first_elements(
     inputs: usize,
     types: &[SigType],
 ) -> Result<Vec<FlatElem>, AllocError>
+    requires { inputs ≤ 16 }
     ensures { IfOk result (λ elems. view_elems elems.items ≡ is.first_elements inputs 0 types.now) }
 {
     let mut elems = Vec::with_capacity(alloc, types.len())?;
@@ -119,18 +126,8 @@ pub(crate) fn define(elems: &mut [FlatElem], elem: u32, value: FlatExpr)
     }
 }
 
-/// The same where there is such an element.
-pub(crate) fn define_some(elems: &mut [FlatElem], elem: Option<u32>, value: FlatExpr)
-    ensures { view_elems elems.new ≡ is.with_facts (defined_at elem (view_expr value)) (view_elems elems.old) }
-{
-    match elem {
-        None => {}
-        Some(elem) => define(elems, elem, value),
-    }
-}
-
 /// Gives an element its word at a sample before sample 0.
-fn preset(
+pub(crate) fn preset(
     alloc: Global,
     elems: &mut [FlatElem],
     elem: u32,
@@ -144,22 +141,5 @@ fn preset(
         set_init(alloc, &mut elems[elem as usize], sample, word)
     } else {
         Ok(())
-    }
-}
-
-/// The same where there is such an element.
-pub(crate) fn preset_some(
-    alloc: Global,
-    elems: &mut [FlatElem],
-    elem: Option<u32>,
-    sample: u16,
-    word: i64,
-) -> Result<(), AllocError>
-    ensures { OnOk result (view_elems elems.new
-        ≡ is.with_facts (preset_at elem sample word) (view_elems elems.old)) }
-{
-    match elem {
-        None => Ok(()),
-        Some(elem) => preset(alloc, elems, elem, sample, word),
     }
 }

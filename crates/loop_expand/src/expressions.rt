@@ -1,11 +1,14 @@
 //! Expressions, with reads, shifts and delays worked out in the turns of the loops around them.
 
-ghost use Rattle.std.specs.Prelude.{◌≡◌, map, IfOk};
+ghost use Rattle.std.specs.Prelude.{◌≡◌, ℕ, map, Some, IsSome, IfOk};
+ghost use Rattle.silage_syntax.specs.Names.{IsOffset};
+ghost use Rattle.fix_types.specs.declared.typed.TypedConst.{TypedConst as TableRow};
 ghost use Rattle.silage_syntax.specs.Tree.{view_place, view_delay};
 ghost use Rattle.fix_types.specs.TypedTree as typed;
 ghost use Rattle.signal_graph.specs.Flat.{view_expr, calculation};
-ghost use Rattle.loop_expand.specs.Private.Scopes.{view_scope};
+ghost use Rattle.loop_expand.specs.Private.Views.{view_scope};
 ghost use Rattle.loop_expand.specs.Private.Facts as is;
+ghost use Rattle.loop_expand.specs.Private.Known.{IsPlaced, IsKnownRead, IsKnownTarget, IsKnownExpr, AreKnownParts};
 ghost use Rattle.loop_expand.specs.Private.Rows.{parts_of, view_exprs, typed_exprs};
 
 use crate::amounts::{delay, format, offset, sum};
@@ -19,16 +22,28 @@ use silage_syntax::{Manifest, Place};
 use std::alloc::AllocError;
 
 /// The number of the element that a place names, if it is one of a signal.
-pub(crate) fn number_at(scope: &Scope, env: &Env, place: &Place) -> Result<Option<u32>, AllocError>
+fn number_at(scope: &Scope, env: &Env, place: &Place) -> Result<Option<u32>, AllocError>
+    requires { IsPlaced (view_scope scope.now) env.now (view_place place.now) }
     ensures { IfOk result (λ n. n ≡ is.number_at (view_scope scope.now) env.now (view_place place.now)) }
 {
     match signal(scope.signals, &place.name) {
         None => Ok(None),
         Some(signal) => {
             let first = sum(scope.first, signal.first)?;
-            let offset = offset(env, &signal.decl.dims, &place.subs)?;
+            let offset = offset(env, &signal.decl.dims, &place.subs);
             Ok(Some(sum(first, offset)?))
         }
+    }
+}
+
+/// The same of a place that names one.
+pub(crate) fn target(scope: &Scope, env: &Env, place: &Place) -> Result<u32, AllocError>
+    requires { IsKnownTarget (view_scope scope.now) env.now (view_place place.now) }
+    ensures { IfOk result (λ n. Some n ≡ is.number_at (view_scope scope.now) env.now (view_place place.now)) }
+{
+    match number_at(scope, env, place)? {
+        Some(number) => Ok(number),
+        None => unreachable!(),
     }
 }
 
@@ -43,13 +58,14 @@ pub(crate) fn word_at(table: &TypedConst, k: u32) -> i64
 }
 
 /// The number of a table that a place names.
-fn entry_at(scope: &Scope, env: &Env, place: &Place) -> Result<i64, AllocError>
-    ensures { IfOk result (λ word. word ≡ is.entry_at (view_scope scope.now) env.now (view_place place.now)) }
+fn entry_at(scope: &Scope, env: &Env, place: &Place) -> i64
+    requires some { IsSome (is.typed_named scope.now.tables.now place.now.name) }
+    requires placed { (t : TableRow) → is.typed_named scope.now.tables.now place.now.name ≡ Some t
+        → (k : ℕ) × IsOffset env.now t.dims (view_place place.now).subs k }
+    ensures { result ≡ is.entry_at (view_scope scope.now) env.now (view_place place.now) }
 {
-    match table(scope.tables, &place.name) {
-        None => Ok(0),
-        Some(table) => Ok(word_at(table, offset(env, &table.dims, &place.subs)?)),
-    }
+    let table = table(scope.tables, &place.name);
+    word_at(table, offset(env, &table.dims, &place.subs))
 }
 
 /// A read of a signal, or a number of a table.
@@ -59,15 +75,16 @@ fn read(
     place: &Place,
     ago: &Option<Manifest>,
 ) -> Result<FlatExpr, AllocError>
+    requires { IsKnownRead (view_scope scope.now) env.now (view_place place.now) (view_delay ago.now) }
     ensures { IfOk result (λ x. view_expr x
         ≡ is.flat_of (view_scope scope.now) env.now (typed.read (view_place place.now) (view_delay ago.now))) }
 {
     match number_at(scope, env, place)? {
         Some(elem) => Ok(FlatExpr::Read {
             elem,
-            delay: delay(env, ago)?,
+            delay: delay(env, ago),
         }),
-        None => Ok(FlatExpr::Raw(entry_at(scope, env, place)?)),
+        None => Ok(FlatExpr::Raw(entry_at(scope, env, place))),
     }
 }
 
@@ -79,6 +96,7 @@ fn calculation(op: Op, fmt: Format, parts: Vec<FlatExpr>) -> FlatExpr
 
 #[cycle(exprs)]
 pub(crate) fn flat(scope: &Scope, env: &Env, x: &TypedExpr) -> Result<FlatExpr, AllocError>
+    requires { IsKnownExpr (view_scope scope.now) env.now (typed.view_expr x.now) }
     ensures { IfOk result (λ y. view_expr y ≡ is.flat_of (view_scope scope.now) env.now (typed.view_expr x.now)) }
 {
     match x {
@@ -98,6 +116,7 @@ pub(crate) fn flat(scope: &Scope, env: &Env, x: &TypedExpr) -> Result<FlatExpr, 
 
 #[cycle(exprs)]
 fn flat_parts(scope: &Scope, env: &Env, parts: &[TypedExpr]) -> Result<Vec<FlatExpr>, AllocError>
+    requires { AreKnownParts (view_scope scope.now) env.now (typed_exprs parts.now) }
     ensures { IfOk result (λ ys. view_exprs ys.items
         ≡ is.flat_parts (view_scope scope.now) env.now (typed_exprs parts.now)) }
 {

@@ -1,16 +1,16 @@
 //! The functions of a program with the places of their signals.
 
-ghost use Rattle.std.specs.Prelude.{◌≡◌, ◌+◌, ◌++◌, map, nat_eq, IfOk, OnOk};
-ghost use Rattle.std.specs.List.{list_any};
+ghost use Rattle.std.specs.Prelude.{◌≡◌, ◌≤◌, ◌+◌, ◌++◌, map, IsTrue, IfOk, OnOk};
 ghost use Rattle.single_def.specs.ElementRules.{elements_of};
-ghost use Rattle.fix_types.specs.TypedTree.{view_func, view_items};
-ghost use Rattle.loop_expand.specs.Private.Groups.{groups_of, groups_known};
-ghost use Rattle.loop_expand.specs.Private.Scopes.{signals_from, view_signals, view_body, view_bodies, body_for};
+ghost use Rattle.single_def.specs.Private.Plans.{AreSized};
+ghost use Rattle.fix_types.specs.TypedTree.{view_func};
+ghost use Rattle.loop_expand.specs.Private.Scopes as is;
+ghost use Rattle.loop_expand.specs.Private.Scopes.{signals_from, view_signals, view_body, view_bodies, IsBounded};
 
-use crate::amounts::{element_count, sum};
-use crate::groups::{Group, groups_of};
-use crate::scope::{Body, Signal};
-use fix_types::{TypedFunc, TypedItem};
+use crate::amounts::element_count;
+use crate::body::{Body, Signal};
+use crate::groups::groups_of;
+use fix_types::TypedFunc;
 use silage_syntax::Decl;
 use single_def::Instance;
 use std::alloc::{AllocError, AllocFailed, Global};
@@ -21,6 +21,8 @@ fn put_signals<'a>(
     first: u32,
     decls: &'a [Decl],
 ) -> Result<u32, AllocError>
+    requires sized { AreSized decls.now }
+    requires few { first + elements_of decls.now ≤ 8192 }
     ensures signals { OnOk result (view_signals signals.new.items
         ≡ view_signals signals.old.items ++ signals_from first decls.now) }
     ensures next { IfOk result (λ next. next ≡ first + elements_of decls.now) }
@@ -28,38 +30,21 @@ fn put_signals<'a>(
     let mut next = first;
     for decl in decls {
         signals.push(Signal { decl, first: next })?;
-        next = sum(next, element_count(&decl.dims)?)?;
+        next += element_count(&decl.dims);
     }
     Ok(next)
 }
 
 /// Whether the function at this position among the tables and functions has an instance.
 fn has_instance(instances: &[Instance], func: u32) -> bool
-    ensures { result ≡ list_any (λ i. nat_eq i.func func) instances.now }
+    ensures { result ≡ is.has_instance instances.now func }
 {
     instances.iter().any(|instance| instance.func == func)
 }
 
-/// The groups of items, if they are wanted: the loops of a function without instances may have very many turns.
-fn known_groups<'a>(
-    alloc: Global,
-    items: &'a [TypedItem],
-    wanted: bool,
-) -> Result<Option<Vec<Group<'a>>>, AllocError>
-    ensures { IfOk result (λ groups. groups_known groups (view_items items.now) ≡ groups_of (view_items items.now)) }
-{
-    if !wanted {
-        return Ok(None);
-    }
-    Ok(Some(groups_of(alloc, items)?))
-}
-
-fn body_for<'a>(
-    alloc: Global,
-    func: &'a TypedFunc,
-    instances: &[Instance],
-) -> Result<Body<'a>, AllocError>
-    ensures { IfOk result (λ body. view_body body ≡ body_for (view_func func.now)) }
+fn body_for<'a>(alloc: Global, func: &'a TypedFunc) -> Result<Body<'a>, AllocError>
+    requires { IsBounded (view_func func.now) }
+    ensures { IfOk result (λ body. view_body body ≡ is.body_for (view_func func.now)) }
 {
     let mut signals = Vec::new(alloc);
     let mut results = Vec::new(alloc);
@@ -67,7 +52,7 @@ fn body_for<'a>(
     put_signals(&mut results, first, &func.results)?;
     let next = put_signals(&mut signals, first, &func.results)?;
     let size = put_signals(&mut signals, next, &func.locals)?;
-    let groups = known_groups(alloc, &func.items, has_instance(instances, func.func))?;
+    let groups = groups_of(alloc, &func.items)?;
     Ok(Body {
         func,
         signals,
@@ -77,17 +62,35 @@ fn body_for<'a>(
     })
 }
 
-/// The functions, with the groups of those that have instances.
+/// Appends a function that has an instance.
+fn put_body<'a>(
+    alloc: Global,
+    bodies: &mut Vec<Body<'a>>,
+    func: &'a TypedFunc,
+    instances: &[Instance],
+) -> Result<(), AllocError>
+    requires { IsTrue (is.has_instance instances.now (view_func func.now).func) → IsBounded (view_func func.now) }
+    ensures { OnOk result (view_bodies bodies.new.items
+        ≡ view_bodies bodies.old.items ++ is.body_in instances.now (view_func func.now)) }
+{
+    if has_instance(instances, func.func) {
+        bodies.push(body_for(alloc, func)?)?;
+    }
+    Ok(())
+}
+
+/// The functions that have instances. Another one may have very many elements, and loops with very many turns.
 pub(crate) fn bodies<'a>(
     alloc: Global,
     funcs: &'a [TypedFunc],
     instances: &[Instance],
 ) -> Result<Vec<Body<'a>>, AllocError>
-    ensures { IfOk result (λ bodies. view_bodies bodies.items ≡ map body_for (map view_func funcs.now)) }
+    requires { is.AreBounded instances.now (map view_func funcs.now) }
+    ensures { IfOk result (λ bodies. view_bodies bodies.items ≡ is.bodies_for instances.now (map view_func funcs.now)) }
 {
-    let mut bodies = Vec::with_capacity(alloc, funcs.len())?;
+    let mut bodies = Vec::new(alloc);
     for func in funcs {
-        bodies.push(body_for(alloc, func, instances)?)?;
+        put_body(alloc, &mut bodies, func, instances)?;
     }
     Ok(bodies)
 }

@@ -3,13 +3,14 @@
 //! The turns of a loop follow from the indices around it, and are worked out for all turns of the loops around at once.
 //! A loop without turns adds nothing to the load, so very many of them may be inside thousands of turns.
 
-ghost use Rattle.std.specs.Prelude.{◌≡◌, ◌++◌, ◌∷◌, [], map, IfOk, OnOk};
+ghost use Rattle.std.specs.Prelude.{◌≡◌, ◌<◌, ◌++◌, ◌∷◌, [], ℕ, map, IfOk, OnOk};
 ghost use Rattle.fix_types.specs.TypedTree as typed;
-ghost use Rattle.loop_expand.specs.Private.Turns.{view_turns};
+ghost use Rattle.loop_expand.specs.Private.Turns.{indices_at, view_turns};
 ghost use Rattle.loop_expand.specs.Private.Groups as is;
 ghost use Rattle.loop_expand.specs.Private.Groups.{view_ref, view_group, view_groups, groups_in, loop_groups};
 
-use crate::turns::{Turns, within};
+use crate::columns::Turns;
+use crate::turns::within;
 use fix_types::TypedItem;
 use std::alloc::{AllocError, AllocFailed, Global};
 
@@ -89,6 +90,8 @@ fn put_loop<'a>(
     item: &'a TypedItem,
     groups: &mut Vec<Group<'a>>,
 ) -> Result<(), AllocError>
+    requires some { 0 < turns.now.count }
+    requires bounds { (k : ℕ) → k < turns.now.count → is.HasBounds (indices_at turns.now k) (typed.view_item item.now) }
     ensures { OnOk result (view_groups groups.new.items ≡ view_groups groups.old.items
         ++ loop_groups (view_turns turns.now) (typed.view_item item.now)) }
 {
@@ -125,6 +128,7 @@ fn put_groups<'a>(
     items: &'a [TypedItem],
     groups: &mut Vec<Group<'a>>,
 ) -> Result<(), AllocError>
+    requires { is.HaveBoundsIn turns (typed.view_items items.now) }
     ensures { OnOk result (view_groups groups.new.items ≡ view_groups groups.old.items
         ++ groups_in (view_turns turns.entry) (typed.view_items items.now)) }
 {
@@ -151,6 +155,7 @@ pub(crate) fn groups_of<'a>(
     alloc: Global,
     items: &'a [TypedItem],
 ) -> Result<Vec<Group<'a>>, AllocError>
+    requires { is.HaveBounds [] (typed.view_items items.now) }
     ensures { IfOk result (λ groups. view_groups groups.items ≡ is.groups_of (typed.view_items items.now)) }
 {
     let mut groups = Vec::new(alloc);

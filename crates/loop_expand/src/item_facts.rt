@@ -1,17 +1,20 @@
 //! What items say of elements, in the turns of the loops around them.
 
-ghost use Rattle.std.specs.Prelude.{map, OnOk};
+ghost use Rattle.std.specs.Prelude.{◌≤◌, ℕ, map, OnOk};
+ghost use Rattle.silage_syntax.specs.Manifests.{HasValue};
 ghost use Rattle.silage_syntax.specs.Tree.{view_manifest, view_place};
 ghost use Rattle.fix_types.specs.TypedTree as typed;
 ghost use Rattle.loop_expand.specs.Private.Elements.{Puts};
 ghost use Rattle.loop_expand.specs.Private.Facts as is;
 ghost use Rattle.loop_expand.specs.Private.Groups.{view_ref, view_group, view_groups};
-ghost use Rattle.loop_expand.specs.Private.Scopes.{view_scope};
+ghost use Rattle.loop_expand.specs.Private.Known.{IsKnownTarget, IsKnownExpr};
+ghost use Rattle.loop_expand.specs.Private.Sites.{IsItemOf, AreItemsOf, IsGroupOf, AreGroupsOf};
+ghost use Rattle.loop_expand.specs.Private.Views.{view_scope};
 
 use crate::amounts::samples;
 use crate::calls::call;
-use crate::elements::{define_some, preset_some};
-use crate::expressions::{flat, number_at};
+use crate::elements::{define, preset};
+use crate::expressions::{flat, target};
 use crate::groups::Group;
 use crate::scope::Scope;
 use crate::turns::env_at;
@@ -29,11 +32,13 @@ fn expand_equation(
     place: &Place,
     value: &TypedExpr,
 ) -> Result<(), AllocError>
+    requires target { IsKnownTarget (view_scope scope.now) env.now (view_place place.now) }
+    requires value { IsKnownExpr (view_scope scope.now) env.now (typed.view_expr value.now) }
     ensures { OnOk result (Puts (is.item_facts (view_scope scope.now) env.now
         (typed.equation (view_place place.now) (typed.view_expr value.now))) elems.old elems.new) }
 {
-    let elem = number_at(scope, env, place)?;
-    define_some(elems, elem, flat(scope, env, value)?);
+    let elem = target(scope, env, place)?;
+    define(elems, elem, flat(scope, env, value)?);
     Ok(())
 }
 
@@ -45,11 +50,13 @@ fn expand_initial(
     k: &Manifest,
     word: i64,
 ) -> Result<(), AllocError>
+    requires target { IsKnownTarget (view_scope scope.now) env.now (view_place place.now) }
+    requires sample { (j : ℕ) × HasValue env.now (view_manifest k.now) j × (j ≤ 1023) }
     ensures { OnOk result (Puts (is.item_facts (view_scope scope.now) env.now
         (typed.initial (view_place place.now) (view_manifest k.now) word)) elems.old elems.new) }
 {
-    let elem = number_at(scope, env, place)?;
-    preset_some(scope.alloc, elems, elem, samples(env, k)?, word)
+    let elem = target(scope, env, place)?;
+    preset(scope.alloc, elems, elem, samples(env, k), word)
 }
 
 fn expand_item(
@@ -59,6 +66,7 @@ fn expand_item(
     elems: &mut [FlatElem],
     item: &TypedItem,
 ) -> Result<(), AllocError>
+    requires { IsItemOf (view_scope scope.now) env.now (typed.view_item item.now) }
     ensures { OnOk result (Puts (is.item_facts (view_scope scope.now) env.now (typed.view_item item.now))
         elems.old elems.new) }
 {
@@ -66,16 +74,16 @@ fn expand_item(
         TypedItem::Equation { place, value } => expand_equation(scope, env, elems, place, value),
         TypedItem::Call {
             places,
-            func,
+            func: _,
             args,
             at,
-        } => call(scope, env, last, elems, *func, *at, places, args),
+        } => call(scope, env, last, elems, *at, places, args),
         TypedItem::Loop {
             index: _,
             lo: _,
             hi: _,
             items: _,
-        } => Ok(()),
+        } => unreachable!(),
         TypedItem::Initial { place, k, raw } => {
             expand_initial(scope, env, elems, place, k, *raw)
         }
@@ -90,6 +98,7 @@ fn expand_items(
     elems: &mut [FlatElem],
     items: &[&TypedItem],
 ) -> Result<(), AllocError>
+    requires { AreItemsOf (view_scope scope.now) env.now (map view_ref items.now) }
     ensures { OnOk result (Puts (is.turn_facts (view_scope scope.now) (map view_ref items.now) env.now)
         elems.old elems.new) }
 {
@@ -100,6 +109,7 @@ fn expand_items(
 }
 
 fn expand_group(scope: &Scope, elems: &mut [FlatElem], group: &Group) -> Result<(), AllocError>
+    requires { IsGroupOf (view_scope scope.now) (view_group group.now) }
     ensures { OnOk result (Puts (is.group_facts (view_scope scope.now) (view_group group.now))
         elems.old elems.new) }
 {
@@ -117,6 +127,7 @@ pub(crate) fn expand_groups(
     elems: &mut [FlatElem],
     groups: &[Group],
 ) -> Result<(), AllocError>
+    requires { AreGroupsOf (view_scope scope.now) (view_groups groups.now) }
     ensures { OnOk result (Puts (is.groups_facts (view_scope scope.now) (view_groups groups.now))
         elems.old elems.new) }
 {

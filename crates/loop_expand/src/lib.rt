@@ -3,7 +3,9 @@
 
 mod amounts;
 mod arithmetic;
+mod body;
 mod calls;
+mod columns;
 mod elements;
 mod expressions;
 mod fault;

@@ -1,12 +1,15 @@
 //! What names and numbers mean.
 
-ghost use Rattle.std.specs.Prelude.{◌≡◌, option_map, option_copied, slice_index_or};
-ghost use Rattle.loop_expand.specs.Private.Scopes.{view_signal, view_signals, view_body, view_bodies, body_of};
+ghost use Rattle.std.specs.Prelude.{◌≡◌, ◌<◌, length, option_map, option_copied};
+ghost use Rattle.std.specs.Prelude.{slice_get, slice_index_or, Some, IsSome};
+ghost use Rattle.loop_expand.specs.Private.Scopes.{view_signal, view_signals, view_body, view_bodies};
+ghost use Rattle.loop_expand.specs.Private.Scopes.{body_of, body_at, HaveBodies};
 ghost use Rattle.loop_expand.specs.Private.Facts.{signal_named, typed_named};
 
-use crate::scope::{Body, Signal};
+use crate::body::{Body, Signal};
 use fix_types::TypedConst;
 use lists::Name;
+use single_def::Instance;
 
 /// The signal with the name.
 pub(crate) fn signal<'a>(signals: &[Signal<'a>], name: &Name) -> Option<Signal<'a>>
@@ -20,31 +23,53 @@ pub(crate) fn signal<'a>(signals: &[Signal<'a>], name: &Name) -> Option<Signal<'
     None
 }
 
-/// The table with the name.
-pub(crate) fn table<'a>(tables: &'a [TypedConst], name: &Name) -> Option<&'a TypedConst>
+fn found_table<'a>(tables: &'a [TypedConst], name: &Name) -> Option<&'a TypedConst>
     ensures { option_copied result ≡ typed_named tables.now name.now }
 {
     tables.iter().find(|table| table.name == *name)
 }
 
+/// The table with the name.
+pub(crate) fn table<'a>(tables: &'a [TypedConst], name: &Name) -> &'a TypedConst
+    requires { IsSome (typed_named tables.now name.now) }
+    ensures { Some result.now ≡ typed_named tables.now name.now }
+{
+    match found_table(tables, name) {
+        Some(table) => table,
+        None => unreachable!(),
+    }
+}
+
 /// The function at a position among the tables and functions of the program.
-pub(crate) fn body<'a, 'b>(bodies: &'b [Body<'a>], func: u32) -> Option<&'b Body<'a>>
-    ensures { option_map view_body (option_copied result) ≡ body_of (view_bodies bodies.now) func }
+pub(crate) fn body<'a, 'b>(bodies: &'b [Body<'a>], func: u32) -> &'b Body<'a>
+    requires { IsSome (body_of (view_bodies bodies.now) func) }
+    ensures { Some (view_body result.now) ≡ body_of (view_bodies bodies.now) func }
 {
     for body in bodies {
         if body.func.func == func {
-            return Some(body);
+            return body;
         }
     }
-    None
+    unreachable!()
+}
+
+/// The function of the instance with this number.
+pub(crate) fn instance_body<'a, 'b>(
+    bodies: &'b [Body<'a>],
+    instances: &[Instance],
+    number: usize,
+) -> &'b Body<'a>
+    requires bodies { HaveBodies (view_bodies bodies.now) instances.now }
+    requires instance { number < length instances.now }
+    ensures { Some (view_body result.now) ≡ body_at (view_bodies bodies.now) (slice_get instances.now number) }
+{
+    body(bodies, instances[number].func)
 }
 
 /// The number of the first element of an instance.
 pub(crate) fn first_of(firsts: &[u32], instance: usize) -> u32
+    requires { instance < length firsts.now }
     ensures { result ≡ slice_index_or firsts.now instance 0 }
 {
-    match firsts.get(instance) {
-        Some(first) => *first,
-        None => 0,
-    }
+    firsts[instance]
 }

@@ -1,11 +1,12 @@
 //! The flat program of a program.
 
-ghost use Rattle.std.specs.Prelude.{◌≡◌, ◌↔◌, option_map, option_copied, slice_get, IfOk};
+ghost use Rattle.std.specs.Prelude.{◌≡◌, ◌≤◌, ◌↔◌, IfOk};
 ghost use Rattle.lists.specs.Rows.{Rows};
 ghost use Rattle.silage_syntax.specs.Tree.{Program};
 ghost use Rattle.silage_meaning.specs.Rules.{HasNoDelaylessLoop};
 ghost use Rattle.silage_meaning.specs.Solves.{IsStream};
 ghost use Rattle.single_def.specs.ElementRules.{elements_of};
+ghost use Rattle.single_def.specs.Private.Plans.{AreSized};
 ghost use Rattle.fix_types.specs.TypedTree.{view_func, view_typed};
 ghost use Rattle.signal_graph.specs.Flat.{view};
 ghost use Rattle.signal_graph.specs.FlatRules.{IsFlat};
@@ -15,17 +16,18 @@ ghost use Rattle.loop_expand.specs.FlatOf.{IsFlatOf};
 ghost use Rattle.loop_expand.specs.Kept.{KeepsSolutions};
 ghost use Rattle.loop_expand.specs.Private.Elements as is;
 ghost use Rattle.loop_expand.specs.Private.Elements.{view_elems};
-ghost use Rattle.loop_expand.specs.Private.Expansions.{elements_by, flat_by, main_inputs, main_outs};
-ghost use Rattle.loop_expand.specs.Private.Children.{AreApart};
-ghost use Rattle.loop_expand.specs.Private.Scopes.{view_body, view_bodies, body_at};
+ghost use Rattle.loop_expand.specs.Private.Expansions.{elements_by, flat_by};
+ghost use Rattle.loop_expand.specs.Private.Scopes.{view_bodies};
+ghost use Rattle.loop_expand.specs.Private.Sizes.{decls_of};
+ghost use Rattle.loop_expand.specs.Private.Sites.{AreOfProgram};
 
-use crate::amounts::{element_count, sum};
+use crate::amounts::element_count;
+use crate::body::Body;
 use crate::elements::{all_types, first_elements, put_types};
 use crate::fault::ExpandFault;
 use crate::functions::bodies;
 use crate::instances::{expand_all, firsts};
-use crate::lookups::body;
-use crate::scope::Body;
+use crate::lookups::instance_body;
 use fix_types::{Typed, TypedConst, TypedFunc};
 use fix_word::SigType;
 use lists::List;
@@ -35,29 +37,34 @@ use single_def::{Elements, Instance};
 use std::alloc::{AllocError, AllocFailed, Global};
 
 /// How many elements declarations have.
-fn count(decls: &[Decl]) -> Result<u32, AllocError>
-    ensures { IfOk result (λ n. n ≡ elements_of decls.now) }
+fn count(decls: &[Decl]) -> u32
+    requires sized { AreSized decls.now }
+    requires few { elements_of decls.now ≤ 8192 }
+    ensures { result ≡ elements_of decls.now }
 {
     let mut all = 0;
     for decl in decls {
-        all = sum(all, element_count(&decl.dims)?)?;
+        all += element_count(&decl.dims);
     }
-    Ok(all)
+    all
 }
 
 /// The numbers of the elements of main's results.
 fn outs(alloc: Global, main: &TypedFunc) -> Result<List<u32>, AllocError>
+    requires sized { AreSized (decls_of (view_func main.now)) }
+    requires few { elements_of (decls_of (view_func main.now)) ≤ 8192 }
     ensures { IfOk result (λ outs. outs ≡ is.outs_of (view_func main.now)) }
 {
-    let first = count(&main.params)?;
+    let first = count(&main.params);
     let mut outs = List::new(alloc);
-    for k in 0..count(&main.results)? {
-        outs.push(sum(first, k)?)?;
+    for k in 0..count(&main.results) {
+        outs.push(first + k)?;
     }
     Ok(outs)
 }
 
 fn input_types(alloc: Global, main: &TypedFunc) -> Result<List<SigType>, AllocError>
+    requires { AreSized (decls_of (view_func main.now)) }
     ensures { IfOk result (λ types. types ≡ is.inputs_of (view_func main.now)) }
 {
     let mut types = List::new(alloc);
@@ -66,14 +73,15 @@ fn input_types(alloc: Global, main: &TypedFunc) -> Result<List<SigType>, AllocEr
 }
 
 /// The elements of all instances.
-fn elements(
+fn all_elements(
     alloc: Global,
     tables: &[TypedConst],
     bodies: &[Body],
     instances: &[Instance],
     inputs: usize,
 ) -> Result<Vec<FlatElem>, AllocError>
-    requires { AreApart instances.now }
+    requires of { AreOfProgram tables.now (view_bodies bodies.now) instances.now }
+    requires inputs { inputs ≤ 16 }
     ensures { IfOk result (λ elems. view_elems elems.items
         ≡ elements_by tables.now (view_bodies bodies.now) instances.now inputs) }
 {
@@ -84,40 +92,29 @@ fn elements(
     Ok(elems)
 }
 
-/// The function of main's instance, which is the first.
-fn main_body<'a, 'b>(bodies: &'b [Body<'a>], instances: &[Instance]) -> Option<&'b Body<'a>>
-    ensures { option_map view_body (option_copied result)
-        ≡ body_at (view_bodies bodies.now) (slice_get instances.now 0) }
-{
-    match instances.get(0) {
-        None => None,
-        Some(main) => body(bodies, main.func),
-    }
-}
-
 /// The types of main's parameters, and the numbers of the elements of its results.
-fn words(alloc: Global, main: Option<&Body>) -> Result<(List<SigType>, List<u32>), AllocError>
-    ensures { IfOk result (λ words. (words.0 ≡ main_inputs (option_map view_body (option_copied main.entry)))
-        × (words.1 ≡ main_outs (option_map view_body (option_copied main.entry)))) }
+fn words(alloc: Global, main: &TypedFunc) -> Result<(List<SigType>, List<u32>), AllocError>
+    requires sized { AreSized (decls_of (view_func main.now)) }
+    requires few { elements_of (decls_of (view_func main.now)) ≤ 8192 }
+    ensures { IfOk result (λ words. (words.0 ≡ is.inputs_of (view_func main.now))
+        × (words.1 ≡ is.outs_of (view_func main.now))) }
 {
-    match main {
-        None => Ok((List::new(alloc), List::new(alloc))),
-        Some(main) => Ok((input_types(alloc, main.func)?, outs(alloc, main.func)?)),
-    }
+    Ok((input_types(alloc, main)?, outs(alloc, main)?))
 }
 
 /// The flat program of instances, of which the first is main's.
 fn flat_program(
     alloc: Global,
     typed: &Typed,
-    instances: &[Instance],
+    elements: &Elements,
 ) -> Result<FlatProgram, AllocError>
-    requires { AreApart instances.now }
-    ensures { IfOk result (λ f. view f ≡ flat_by (view_typed typed.now) instances.now) }
+    requires { AreOfOneProgram typed.now elements.now }
+    ensures { IfOk result (λ f. view f ≡ flat_by (view_typed typed.now) elements.now.instances) }
 {
+    let instances = &elements.instances;
     let bodies = bodies(alloc, &typed.funcs, instances)?;
-    let (inputs, outs) = words(alloc, main_body(&bodies, instances))?;
-    let elems = elements(alloc, &typed.consts, &bodies, instances, inputs.len())?;
+    let (inputs, outs) = words(alloc, instance_body(&bodies, instances, 0).func)?;
+    let elems = all_elements(alloc, &typed.consts, &bodies, instances, inputs.len())?;
     Ok(FlatProgram {
         elems: List::from_vec(elems),
         inputs,
@@ -142,5 +139,5 @@ pub fn expand(alloc: Global, typed: &Typed, elements: &Elements) -> Result<FlatP
         → HasNoDelaylessLoop p ↔ IsFlatLoopless (view f)) }
     ensures sound { IfOk result (λ f. IsFlat (view f)) }
 {
-    Ok(flat_program(alloc, typed, &elements.instances)?)
+    Ok(flat_program(alloc, typed, elements)?)
 }

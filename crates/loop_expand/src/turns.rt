@@ -1,6 +1,6 @@
 //! The turns of loops.
 
-ghost use Rattle.std.specs.Prelude.{◌≡◌, ◌++◌, ◌∷◌, [], ◌+ℤ◌, ◌-ℤ◌, ◌≤ℤ◌, pos, map, ℕ, Some, IfOk, OnOk};
+ghost use Rattle.std.specs.Prelude.{◌≡◌, ◌<◌, ◌++◌, ◌+ℤ◌, ◌-ℤ◌, ◌≤ℤ◌, pos, map, length, Some, IfOk, OnOk};
 ghost use Rattle.std.specs.List.{range_with_len};
 ghost use Rattle.single_def.specs.ElementRules as rules;
 ghost use Rattle.single_def.specs.ElementRules.{loop_turns};
@@ -8,36 +8,16 @@ ghost use Rattle.silage_meaning.specs.Instances.{turns_of};
 ghost use Rattle.silage_syntax.specs.Tree.{view_manifest};
 ghost use Rattle.silage_syntax.specs.Manifests.{manifest_value};
 ghost use Rattle.loop_expand.specs.Private.Children.{same_turns};
+ghost use Rattle.loop_expand.specs.Private.Columns.{AreFull};
 ghost use Rattle.loop_expand.specs.Private.Turns.{at, value_in, view_columns, indices_at, view_turns, turns_within};
-ghost use Rattle.loop_expand.specs.Private.Turns.{inner_at, inner_of, inner_columns};
+ghost use Rattle.loop_expand.specs.Private.Turns.{HasTurns, HasValues, AreInside, inner_at, inner_of, inner_columns};
 
-use crate::amounts::bound;
+use crate::columns::{Column, InnerTurn, Turns};
 use crate::values::{Values, are_past, value_at, value_of, values_of};
 use lists::{List, Name};
 use name_check::Env;
 use silage_syntax::Manifest;
 use std::alloc::{AllocError, AllocFailed, Global};
-
-/// The index of a loop, with its value in each turn.
-#[derive(Drop)]
-pub(crate) struct Column<'a> {
-    pub index: &'a Name,
-    pub values: Vec<i32>,
-}
-
-/// Turns of loops inside each other, by their indices, outermost first.
-#[derive(Drop)]
-pub(crate) struct Turns<'a> {
-    pub columns: Vec<Column<'a>>,
-    pub count: usize,
-}
-
-/// A turn of a loop: the number of the turn around it, and its index.
-#[derive(Clone, Copy, Drop)]
-pub(crate) struct InnerTurn {
-    pub outer: usize,
-    pub index: i32,
-}
 
 fn at_least_0(count: i64) -> u64
     ensures { result ≡ rules.at_least_0 count }
@@ -71,6 +51,7 @@ fn turn_at(first: i32, last: i32, k: u64) -> i32
 
 /// The indices of the loops around a turn, in the memory of those around another one.
 pub(crate) fn env_at(other: Env, turns: &Turns, k: usize) -> Result<Env, AllocError>
+    requires { k < turns.now.count }
     ensures { IfOk result (λ env. env ≡ indices_at turns.now k) }
 {
     let mut env = other.into_vec();
@@ -95,24 +76,6 @@ fn put_turns(inner: &mut Vec<InnerTurn>, outer: usize, lo: i32, hi: i32) -> Resu
     Ok(())
 }
 
-/// The same, if the bounds have values.
-fn put_some(
-    inner: &mut Vec<InnerTurn>,
-    outer: usize,
-    lo: Option<i32>,
-    hi: Option<i32>,
-) -> Result<(), AllocError>
-    ensures { OnOk result (inner.new.items ≡ inner.old.items ++ map (inner_at outer) (loop_turns lo hi)) }
-{
-    match lo {
-        None => Ok(()),
-        Some(lo) => match hi {
-            None => Ok(()),
-            Some(hi) => put_turns(inner, outer, lo, hi),
-        },
-    }
-}
-
 /// The turns of a loop whose bounds have these values in the turns around it.
 fn known_turns(
     alloc: Global,
@@ -120,6 +83,8 @@ fn known_turns(
     lo: &Values,
     hi: &Values,
 ) -> Result<Vec<InnerTurn>, AllocError>
+    requires lo { HasTurns lo.now count }
+    requires hi { HasTurns hi.now count }
     ensures { IfOk result (λ inner. inner.items
         ≡ inner_of (λ k. loop_turns (Some (value_in lo.now k)) (Some (value_in hi.now k))) (range_with_len 0 count)) }
 {
@@ -133,26 +98,6 @@ fn known_turns(
     Ok(inner)
 }
 
-/// The turns of a loop with these bounds, worked out in each turn around it by itself.
-fn each_turns(
-    alloc: Global,
-    turns: &Turns,
-    lo: &Manifest,
-    hi: &Manifest,
-) -> Result<Vec<InnerTurn>, AllocError>
-    ensures { IfOk result (λ inner. inner.items
-        ≡ inner_of (λ k. loop_turns (manifest_value (indices_at turns.now k) (view_manifest lo.now))
-        (manifest_value (indices_at turns.now k) (view_manifest hi.now))) (range_with_len 0 turns.now.count)) }
-{
-    let mut inner = Vec::new(alloc);
-    let mut env = List::new(alloc);
-    for k in 0..turns.count {
-        env = env_at(env, turns, k)?;
-        put_some(&mut inner, k, bound(&env, lo), bound(&env, hi))?;
-    }
-    Ok(inner)
-}
-
 /// The turns of a loop with these bounds in the turns around it.
 fn inner_turns(
     alloc: Global,
@@ -160,23 +105,22 @@ fn inner_turns(
     lo: &Manifest,
     hi: &Manifest,
 ) -> Result<Vec<InnerTurn>, AllocError>
-    ensures { IfOk result (λ inner. inner.items
+    requires some { 0 < turns.now.count }
+    requires lo { HasValues turns.now (view_manifest lo.now) }
+    requires hi { HasValues turns.now (view_manifest hi.now) }
+    ensures inside { IfOk result (λ inner. AreInside turns.now.count inner.items) }
+    ensures turns { IfOk result (λ inner. inner.items
         ≡ inner_of (λ k. loop_turns (manifest_value (indices_at turns.now k) (view_manifest lo.now))
         (manifest_value (indices_at turns.now k) (view_manifest hi.now))) (range_with_len 0 turns.now.count)) }
 {
-    let first = match values_of(alloc, turns, lo)? {
-        None => return each_turns(alloc, turns, lo, hi),
-        Some(first) => first,
-    };
-    let last = match values_of(alloc, turns, hi)? {
-        None => return each_turns(alloc, turns, lo, hi),
-        Some(last) => last,
-    };
+    let first = values_of(alloc, turns, lo)?;
+    let last = values_of(alloc, turns, hi)?;
     known_turns(alloc, turns.count, &first, &last)
 }
 
 /// The values of an index around turns.
 fn outer_values(alloc: Global, values: &[i32], inner: &[InnerTurn]) -> Result<Vec<i32>, AllocError>
+    requires { AreInside (length values.now) inner.now }
     ensures { IfOk result (λ row. row.items ≡ map (λ i. at values.now i.outer) inner.now) }
 {
     let mut row = Vec::with_capacity(alloc, inner.len())?;
@@ -200,10 +144,13 @@ fn own_values(alloc: Global, inner: &[InnerTurn]) -> Result<Vec<i32>, AllocError
 /// The indices of turns and of the loops around them.
 fn columns_of<'a>(
     alloc: Global,
+    count: usize,
     outer: &[Column<'a>],
     index: &'a Name,
     inner: &[InnerTurn],
 ) -> Result<Vec<Column<'a>>, AllocError>
+    requires full { AreFull outer.now count }
+    requires inside { AreInside count inner.now }
     ensures { IfOk result (λ columns. view_columns columns.items
         ≡ inner_columns (view_columns outer.now) index.now inner.now) }
 {
@@ -229,12 +176,15 @@ pub(crate) fn within<'a>(
     lo: &Manifest,
     hi: &Manifest,
 ) -> Result<Turns<'a>, AllocError>
+    requires some { 0 < turns.now.count }
+    requires lo { HasValues turns.now (view_manifest lo.now) }
+    requires hi { HasValues turns.now (view_manifest hi.now) }
     ensures { IfOk result (λ next. view_turns next
         ≡ turns_within (view_turns turns.now) index.now (view_manifest lo.now) (view_manifest hi.now)) }
 {
     let inner = inner_turns(alloc, turns, lo, hi)?;
     Ok(Turns {
-        columns: columns_of(alloc, &turns.columns, index, &inner)?,
+        columns: columns_of(alloc, turns.count, &turns.columns, index, &inner)?,
         count: inner.len(),
     })
 }

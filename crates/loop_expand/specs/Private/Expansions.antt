@@ -1,11 +1,11 @@
 -- The flat program that a typed program and instances come to.
-use Rattle.std.specs.Prelude.{ℕ, List, [], map, length, slice_get, Option, Some, None}
+use Rattle.std.specs.Prelude.{ℕ, List, [], length, slice_get, Option, Some, None}
 use Rattle.fix_word.specs.declared.types.SigType.{SigType}
 use Rattle.single_def.specs.declared.elements.Instance.{Instance}
 use Rattle.fix_types.specs.declared.typed.TypedConst.{TypedConst}
 use Rattle.fix_types.specs.TypedTree.{Typed}
 use Rattle.signal_graph.specs.Flat as flat
-use Rattle.loop_expand.specs.Private.Scopes.{Body, body_at, body_for, firsts_from}
+use Rattle.loop_expand.specs.Private.Scopes.{Body, body_at, bodies_for, firsts_from}
 use Rattle.loop_expand.specs.Private.Facts.{facts_from}
 use Rattle.loop_expand.specs.Private.Elements.{types_of, first_elements, inputs_of, outs_of, with_facts}
 
@@ -22,8 +22,8 @@ abbrev pub main_outs : Option Body → List ℕ
 main_outs None = []
 main_outs (Some b) = outs_of b.of
 
-abbrev pub bodies_by : Typed → List Body
-bodies_by t = map body_for t.funcs
+abbrev pub bodies_by : Typed → List Instance → List Body
+bodies_by t instances = bodies_for instances t.funcs
 
 abbrev pub flat_with : List TypedConst → List Body → List Instance → flat.Program
 flat_with tables bodies instances = record {
@@ -33,4 +33,4 @@ flat_with tables bodies instances = record {
 }
 
 abbrev pub flat_by : Typed → List Instance → flat.Program
-flat_by t instances = flat_with t.consts (bodies_by t) instances
+flat_by t instances = flat_with t.consts (bodies_by t instances) instances

@@ -1,10 +1,11 @@
 -- What the items of an instance say of the elements with their numbers: their values, and their words before sample 0.
-use Rattle.std.specs.Prelude.{ℕ, ◌+◌, ◌*◌, nat_eq, List, [], ◌∷◌, ◌++◌, map, length, find, bytes_eq, if◌then◌else◌, slice_index_or, Option, Some, None, ℤ, pos, negsuc, ◌*ℤ◌}
+use Rattle.std.specs.Prelude.{◌≡◌, IsTrue, ℕ, ◌+◌, ◌*◌, nat_eq, List, [], ◌∷◌, ◌++◌, map, length, find, bytes_eq, if◌then◌else◌, slice_get, slice_index_or, Option, Some, None, ℤ, pos, negsuc, ◌*ℤ◌}
 use Rattle.std.specs.List.{range_with_len}
 use Rattle.fix_word.specs.declared.types.Format.{Format}
 use Rattle.silage_syntax.specs.Tree.{Manifest, Place}
 use Rattle.silage_syntax.specs.Manifests.{Indices, manifest_value}
 use Rattle.silage_syntax.specs.Names.{element_count}
+use Rattle.name_check.specs.Meanings.{are_dims}
 use Rattle.silage_meaning.specs.Instances.{turns_of}
 use Rattle.single_def.specs.declared.elements.Instance.{Instance}
 use Rattle.fix_types.specs.declared.typed.TypedConst.{TypedConst}
@@ -12,7 +13,7 @@ use Rattle.fix_types.specs.TypedTree as typed
 use Rattle.signal_graph.specs.Flat as flat
 use Rattle.loop_expand.specs.Private.Children.{child_of}
 use Rattle.loop_expand.specs.Private.Groups.{Group}
-use Rattle.loop_expand.specs.Private.Scopes.{Signal, Body, Scope, body_of}
+use Rattle.loop_expand.specs.Private.Scopes.{Signal, Body, Scope, body_of, body_at}
 
 pub data Fact : Type 0 where
   -- the element with the number has this value
@@ -48,6 +49,10 @@ signal_named signals name = find (λ (s : Signal). bytes_eq s.decl.name name) si
 abbrev pub typed_named : List TypedConst → List ℕ → Option TypedConst
 typed_named tables name = find (λ (t : TypedConst). bytes_eq t.name name) tables
 
+-- each table that has a name has dims that are allowed
+abbrev pub AreTablesSized : List TypedConst → Type 0
+AreTablesSized tables = (name : List ℕ) (t : TypedConst) → typed_named tables name ≡ Some t → IsTrue (are_dims t.dims)
+
 abbrev pub word_at : TypedConst → ℕ → ℤ
 word_at t k = slice_index_or t.words k (pos 0)
 
@@ -55,6 +60,11 @@ word_at t k = slice_index_or t.words k (pos 0)
 abbrev pub joined : {A : Type 0} → (A → List Fact) → List A → List Fact
 joined F [] = []
 joined F (x ∷ xs) = F x ++ joined F xs
+
+-- the facts of pairs of things in order
+abbrev pub zipped : {A B : Type 0} → (A → B → List Fact) → List A → List B → List Fact
+zipped F (x ∷ xs) (y ∷ ys) = F x y ++ zipped F xs ys
+zipped F _ _ = []
 
 -- elements of an array in order, each with the value of one of another array, or with a number of a table
 abbrev pub copies : (to from count : ℕ) → List Fact
@@ -123,9 +133,7 @@ module _ (c : Scope) where
       else passed_whole x (first + s.first) (element_count s.decl.dims)
 
   abbrev pub all_passed : Indices → (first : ℕ) → (params : List Signal) → (args : List typed.TypedExpr) → List Fact
-  all_passed indices first (s ∷ ss) (x ∷ xs) =
-      passed indices first s x ++ all_passed indices first ss xs
-  all_passed indices first _ _ = []
+  all_passed indices first params args = zipped (passed indices first) params args
 
   -- the elements of the array that takes an array result
   abbrev pub taken_array : Option Signal → (from count : ℕ) → List Fact
@@ -143,32 +151,30 @@ module _ (c : Scope) where
       else taken_named place (first + s.first) (element_count s.decl.dims)
 
   abbrev pub all_taken : Indices → (first : ℕ) → (results : List Signal) → (places : List Place) → List Fact
-  all_taken indices first (s ∷ ss) (place ∷ places) =
-      taken indices first s place ++ all_taken indices first ss places
-  all_taken indices first _ _ = []
+  all_taken indices first results places = zipped (taken indices first) results places
 
   abbrev pub bound_by : Indices → Option Body → (first : ℕ) → List Place → (args : List typed.TypedExpr) → List Fact
   bound_by indices None first places args = []
   bound_by indices (Some b) first places args =
       all_passed indices first b.signals args ++ all_taken indices first b.results places
 
-  -- the places and arguments of a call of a function, whose instance has its first element at this number
-  abbrev pub bound : Indices → (func first : ℕ) → List Place → (args : List typed.TypedExpr) → List Fact
-  bound indices func first places args = bound_by indices (body_of c.bodies func) first places args
+  -- the places and arguments of the call that makes this instance
+  abbrev pub bound : Indices → (child : ℕ) → List Place → (args : List typed.TypedExpr) → List Fact
+  bound indices child places args =
+      bound_by indices (body_at c.bodies (slice_get c.instances child)) (slice_index_or c.firsts child 0) places args
 
-  abbrev pub called_by : Indices → Option ℕ → (func : ℕ) → List Place → (args : List typed.TypedExpr) → List Fact
-  called_by indices None func places args = []
-  called_by indices (Some child) func places args =
-      bound indices func (slice_index_or c.firsts child 0) places args
+  abbrev pub called_by : Indices → (child : Option ℕ) → List Place → (args : List typed.TypedExpr) → List Fact
+  called_by indices None places args = []
+  called_by indices (Some child) places args = bound indices child places args
 
-  abbrev pub called : Indices → (func at : ℕ) → List Place → (args : List typed.TypedExpr) → List Fact
-  called indices func at places args =
-      called_by indices (child_of c.number at (turns_of indices) c.instances) func places args
+  abbrev pub called : Indices → (at : ℕ) → List Place → (args : List typed.TypedExpr) → List Fact
+  called indices at places args =
+      called_by indices (child_of c.number at (turns_of indices) c.instances) places args
 
   -- an item in one turn of the loops around it; the items of a loop have turns of their own
   abbrev pub item_facts : Indices → typed.TypedItem → List Fact
   item_facts indices (typed.equation place x) = defined_at (number_at indices place) (flat_of indices x)
-  item_facts indices (typed.call places func args at) = called indices func at places args
+  item_facts indices (typed.call places func args at) = called indices at places args
   item_facts indices (typed.loop index lo hi items) = []
   item_facts indices (typed.initial place k word) =
       preset_at (number_at indices place) (natural indices k) word

@@ -1,13 +1,14 @@
 -- The items of a function that are no loops, in groups: those of a loop, with its turns in all turns of the loops
 -- around it.
 use denote.Ref.{Bor}
-use Rattle.std.specs.Prelude.{List, [], ◌∷◌, ◌++◌, map, Bool, true, false, if◌then◌else◌, Option, Some, None, Vec}
-use Rattle.std.specs.Global.{Global}
-use Rattle.silage_syntax.specs.Manifests.{Indices}
+use Rattle.std.specs.Prelude.{◌<◌, ℕ, ℤ, List, [], ◌∷◌, ◌++◌, map, Bool, true, false, if◌then◌else◌, IsSome, ⊤}
+use Rattle.silage_syntax.specs.Manifests.{Indices, manifest_value}
+use Rattle.silage_meaning.specs.Instances.{IsTurn}
 use Rattle.fix_types.specs.TypedTree as typed
 use Rattle.fix_types.specs.declared.typed.TypedItem.{TypedItem as RustItem}
 use Rattle.loop_expand.specs.declared.groups.Group.{Group as RustGroup}
-use Rattle.loop_expand.specs.Private.Turns.{view_turns, turns_within}
+use Rattle.loop_expand.specs.declared.columns.Turns.{Turns}
+use Rattle.loop_expand.specs.Private.Turns.{indices_at, view_turns, turns_within}
 
 pub record Group : Type 0 where
   pub turns : List Indices
@@ -55,11 +56,22 @@ abbrev mutual
 abbrev pub groups_in : List Indices → typed.TypedItems → List Group
 groups_in turns items = grouped turns items (loops_groups turns items)
 
+-- the bounds of each loop have values in the turns around it
+abbrev mutual
+  pub HasBounds : Indices → typed.TypedItem → Type 0
+  HasBounds outer (typed.loop index lo hi items) =
+      IsSome (manifest_value outer lo) × IsSome (manifest_value outer hi)
+      × ((turn : ℤ) → IsTurn outer lo hi turn → HaveBounds (outer ++ (index, turn) ∷ []) items)
+  HasBounds outer _ = ⊤
+
+  pub HaveBounds : Indices → typed.TypedItems → Type 0
+  HaveBounds outer typed.no_item = ⊤
+  HaveBounds outer (typed.item x rest) = HasBounds outer x × HaveBounds outer rest
+
+-- the same in each of these turns
+abbrev pub HaveBoundsIn : Turns → typed.TypedItems → Type 0
+HaveBoundsIn turns items = (k : ℕ) → k < turns.count → HaveBounds (indices_at turns k) items
+
 -- outside of loops there is one turn, with no index
 abbrev pub groups_of : typed.TypedItems → List Group
 groups_of items = groups_in ([] ∷ []) items
-
--- the groups of these items, where they are known, or to be worked out
-abbrev pub groups_known : Option (Vec RustGroup Global) → typed.TypedItems → List Group
-groups_known None items = groups_of items
-groups_known (Some groups) items = view_groups groups.items

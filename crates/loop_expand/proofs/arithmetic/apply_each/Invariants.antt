@@ -1,8 +1,7 @@
-use Rattle.std.proofs.Common.{◌≤◌, length}
 use Rattle.loop_expand.specs.Private.Turns.{at}
 use Rattle.silage_syntax.specs.Manifests.{combined}
 use Rattle.loop_expand.proofs.ValueRows.{Done}
 use Rattle.loop_expand.proofs.arithmetic.apply_each.Given as goal
 
 abbrev pub invariant-loop-k : goal.invariant-loop-k
-invariant-loop-k l = (l.count ≤ length l.left) × Done (combined l.op) l.fn.left (at l.right) l.past l.k l.left
+invariant-loop-k l = Done (combined l.op) l.fn.left (at l.right) l.k l.left

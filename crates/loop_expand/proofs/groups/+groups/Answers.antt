@@ -1,10 +1,12 @@
-use Rattle.std.proofs.Common.{◌∙◌, ◌++◌, List, ap, sym, arith}
+use Rattle.std.proofs.Common.{◌≡◌, ◌<◌, ◌∙◌, ◌++◌, length, List, ap, sym, subst, arith}
 use Rattle.silage_syntax.specs.Manifests.{Indices}
 use Rattle.fix_types.specs.TypedTree as typed
 use Rattle.fix_types.specs.declared.typed.TypedItem.{TypedItem}
 use Rattle.fix_types.proofs.TypedRows.{view_Loop}
-use Rattle.loop_expand.specs.Private.Turns.{view_turns}
-use Rattle.loop_expand.specs.Private.Groups.{Group, view_groups, groups_in, loop_groups}
+use Rattle.silage_syntax.specs.Tree.{view_manifest}
+use Rattle.loop_expand.specs.Private.Turns.{indices_at, view_turns}
+use Rattle.loop_expand.specs.Private.Groups.{Group, view_groups, HasBounds, HaveBoundsIn, groups_in, loop_groups}
+use Rattle.loop_expand.proofs.Bounds.{size_of, size_in, smaller, bounded_at, inner_bounds}
 use Rattle.loop_expand.proofs.FactSteps.{on_ok}
 use Rattle.loop_expand.proofs.GroupRows.{loops_end, group_last, some_turns}
 use Rattle.loop_expand.proofs.groups.+groups.Goals as goal
@@ -27,3 +29,27 @@ put_loop-returns-in_ok-inner-in-Loop t c =
     ∙ ap (λ (ts : List Indices). groups_in ts (typed.view_items c.in-Loop.items.items)) c.in_ok-inner-in-Loop.ensures
     ∙ sym (ap (λ (x : TypedItem). loop_groups turns (typed.view_item x)) c.in-Loop.is ∙ ap (loop_groups turns) (view_Loop c.in-Loop.index c.in-Loop.lo c.in-Loop.hi c.in-Loop.items)) in
     on_ok c.put_groups.result (λ h. h ∙ ap (λ (gs : List Group). view_groups c.args.groups.now.items ++ gs) step) c.put_groups.ensures
+
+pub put_groups-put_loop-requires : goal.put_groups-put_loop-requires
+put_groups-put_loop-requires t c =
+    let items = c.args.items.now in
+    let i = c.loop-item.item-index in
+    let x = c.item-item.result in
+    let inside : i < length items = omega arith in
+    let whole : size_in (typed.view_items items) ≡ t = c.decreases in
+    let less : size_of (typed.view_item x) < t = omega (arith, smaller items i x inside c.item-item.is) in
+    (less, (omega (arith, c.if-turns-eq0.false), λ k below. bounded_at (indices_at c.args.turns k) items i x inside c.item-item.is (c.requires k below)))
+
+pub put_loop-put_groups-requires : goal.put_loop-put_groups-requires
+put_loop-put_groups-requires t c =
+    let at = c.in-Loop in
+    let turns = c.args.turns.now in
+    let inner = c.in_ok-inner-in-Loop.inner in
+    let is = ap typed.view_item at.is ∙ view_Loop at.index at.lo at.hi at.items in
+    let whole : size_of (typed.view_item c.args.item.now) ≡ t = c.decreases in
+    let same = ap typed.view_items c.deref.ensures.value in
+    let less : size_in (typed.view_items c.deref.result.now) < t = omega (arith, ap size_of is, ap size_in same) in (
+      less,
+      subst (HaveBoundsIn inner) (sym same) (inner_bounds turns inner at.index (view_manifest at.lo) (view_manifest at.hi) (typed.view_items at.items.items) c.in_ok-inner-in-Loop.ensures
+          (λ k below. subst (HasBounds (indices_at turns k)) is (c.requires.bounds k below))),
+    )

@@ -4,9 +4,11 @@ use Rattle.fix_types.specs.TypedTree as typed
 use Rattle.loop_expand.specs.Private.Elements.{view_elems, with_facts}
 use Rattle.loop_expand.specs.Private.Facts.{turn_facts}
 use Rattle.loop_expand.specs.Private.Groups.{view_ref}
-use Rattle.loop_expand.specs.Private.Scopes.{view_scope}
+use Rattle.loop_expand.specs.Private.Sites.{AreItemsOf}
+use Rattle.loop_expand.specs.Private.Views.{view_scope}
 use Rattle.loop_expand.specs.Private.Turns.{indices_at}
 use Rattle.loop_expand.proofs.FactSteps.{next_joined}
+use Rattle.loop_expand.proofs.GroupItems.{turn_there}
 use Rattle.loop_expand.proofs.item_facts.expand_group.Goals as goal
 
 pub loop-k-preserved : goal.loop-k-preserved
@@ -17,3 +19,11 @@ loop-k-preserved c =
     (c.in_ok-expand_items.ensures
     ∙ ap₂ (λ (items : List typed.TypedItem) (env : Indices). with_facts (turn_facts scope items env) (view_elems c.loop-k.elems)) (ap (map view_ref) c.deref.ensures.value) c.in_ok-env.ensures)
     c.loop-k.invariant
+
+pub expand_items-requires : goal.expand_items-requires
+expand_items-requires c =
+    let scope = view_scope c.args.scope.now in
+    let group = c.args.group.now in
+    let k = c.loop-k.k in
+    let all : AreItemsOf scope (indices_at group.turns k) (map view_ref group.items.items) = λ n y at. c.requires k n (indices_at group.turns k) y (turn_there group.turns k (omega arith)) at in
+    rw (c.deref.ensures.value, c.in_ok-env.ensures) all

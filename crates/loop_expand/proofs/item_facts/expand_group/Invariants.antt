@@ -3,7 +3,7 @@ use Rattle.std.specs.List.{range_with_len}
 use Rattle.loop_expand.specs.Private.Elements.{view_elems, with_facts}
 use Rattle.loop_expand.specs.Private.Facts.{joined, turn_facts, group_facts}
 use Rattle.loop_expand.specs.Private.Groups.{view_ref, view_group}
-use Rattle.loop_expand.specs.Private.Scopes.{view_scope}
+use Rattle.loop_expand.specs.Private.Views.{view_scope}
 use Rattle.loop_expand.specs.Private.Turns.{indices_at}
 use Rattle.loop_expand.proofs.item_facts.expand_group.Given as goal
 

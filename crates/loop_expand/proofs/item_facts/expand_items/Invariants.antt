@@ -2,7 +2,7 @@ use Rattle.std.proofs.Common.{◌≡◌, drop, map}
 use Rattle.loop_expand.specs.Private.Elements.{view_elems, with_facts}
 use Rattle.loop_expand.specs.Private.Facts.{turn_facts}
 use Rattle.loop_expand.specs.Private.Groups.{view_ref}
-use Rattle.loop_expand.specs.Private.Scopes.{view_scope}
+use Rattle.loop_expand.specs.Private.Views.{view_scope}
 use Rattle.loop_expand.proofs.item_facts.expand_items.Given as goal
 
 abbrev pub invariant-loop-item : goal.invariant-loop-item

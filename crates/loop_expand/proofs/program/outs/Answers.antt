@@ -1,8 +1,8 @@
-use Rattle.std.proofs.Common.{◌++◌, ◌∷◌, [], sym, ◌∙◌, ap₂, List, ℕ}
+use Rattle.std.proofs.Common.{◌+◌, ◌++◌, ◌∷◌, [], sym, ◌∙◌, ap, List, ℕ}
 use Rattle.loop_expand.proofs.FactSteps.{range_more}
 use Rattle.loop_expand.proofs.program.outs.Goals as goal
 
 pub loop-k-preserved : goal.loop-k-preserved
 loop-k-preserved c =
-    c.in_ok-push.ensures.ok ∙ ap₂ (λ (ks : List ℕ) (k : ℕ). ks ++ k ∷ []) c.loop-k.invariant c.in_ok-sum.ensures
-    ∙ sym (range_more c.in_ok-first.first c.loop-k.k)
+    c.in_ok-push.ensures.ok ∙ ap (λ (ks : List ℕ). ks ++ (c.count-first.result + c.loop-k.k) ∷ []) c.loop-k.invariant
+    ∙ sym (range_more c.count-first.result c.loop-k.k)

@@ -1,5 +1,5 @@
 use Rattle.std.proofs.Common.{◌∙◌, ℤ, List, map, ap, arith}
-use Rattle.loop_expand.specs.declared.turns.InnerTurn.{InnerTurn}
+use Rattle.loop_expand.specs.declared.columns.InnerTurn.{InnerTurn}
 use Rattle.loop_expand.specs.Private.Turns.{at}
 use Rattle.loop_expand.proofs.TurnRows.{columns_more}
 use Rattle.loop_expand.proofs.turns.columns_of.Goals as goal

@@ -1,0 +1,84 @@
+-- What is known where items are expanded: the names in them have their meanings there.
+use Rattle.std.specs.Prelude.{◌≡◌, ◌≤◌, ℕ, List, length, slice_get, Option, Some, None, IsSome, ⊤}
+use Rattle.silage_syntax.specs.Tree.{Manifest, Place}
+use Rattle.silage_syntax.specs.Names.{IsOffset}
+use Rattle.fix_types.specs.declared.typed.TypedConst.{TypedConst}
+use Rattle.silage_syntax.specs.Manifests.{Indices, LooksBack}
+use Rattle.fix_types.specs.TypedTree as typed
+use Rattle.loop_expand.specs.Private.Amounts.{IsKnownAmount}
+use Rattle.loop_expand.specs.Private.Facts.{signal_named, typed_named, number_at}
+use Rattle.loop_expand.specs.Private.Scopes.{Signal, Body, Scope}
+
+module _ (c : Scope) where
+  -- a name that is no signal's is a table's
+  abbrev pub IsKnown : List ℕ → Type 0
+  IsKnown name = signal_named c.signals name ≡ None → IsSome (typed_named c.tables name)
+
+  -- the subscripts of a place pick an element of its signal, or a number of its table
+  abbrev pub IsPlaced : Indices → Place → Type 0
+  IsPlaced indices place =
+      (s : Signal) → signal_named c.signals place.name ≡ Some s → (k : ℕ) × IsOffset indices s.decl.dims place.subs k
+
+  abbrev pub IsEntry : Indices → Place → Type 0
+  IsEntry indices place =
+      (t : TypedConst) → signal_named c.signals place.name ≡ None → typed_named c.tables place.name ≡ Some t
+      → (k : ℕ) × IsOffset indices t.dims place.subs k
+
+  -- the name of a whole array
+  abbrev pub IsKnownArray : typed.TypedExpr → Type 0
+  IsKnownArray (typed.read place delay) = IsKnown place.name
+  IsKnownArray _ = ⊥
+
+  module _ (indices : Indices) where
+    -- a read has its place, and looks back
+    pub record IsKnownRead (place : Place) (delay : Option Manifest) : Type 0 where
+      pub known : IsKnown place.name
+      pub placed : IsPlaced indices place
+      pub entry : IsEntry indices place
+      pub back : (ago : ℕ) × LooksBack indices delay ago
+
+    -- each read and each shift in an expression is known
+    abbrev mutual
+      pub IsKnownExpr : typed.TypedExpr → Type 0
+      IsKnownExpr (typed.raw z) = ⊤
+      IsKnownExpr (typed.read place delay) = IsKnownRead place delay
+      IsKnownExpr (typed.node o fmt parts amount) = IsKnownAmount indices amount × AreKnownParts parts
+
+      pub AreKnownParts : typed.Parts → Type 0
+      AreKnownParts typed.no_part = ⊤
+      AreKnownParts (typed.part x rest) = IsKnownExpr x × AreKnownParts rest
+
+    -- what a parameter takes: an expression, or an array
+    pub record IsKnownArgument (s : Signal) (x : typed.TypedExpr) : Type 0 where
+      pub one : length s.decl.dims ≡ 0 → IsKnownExpr x
+      pub all : (length s.decl.dims ≡ 0 → ⊥) → IsKnownArray x
+
+    -- the place names an element
+    abbrev pub IsKnownTarget : Place → Type 0
+    IsKnownTarget place = IsSome (number_at c indices place) × IsPlaced indices place
+
+    -- what takes a result: an element, or an array
+    pub record IsKnownTaker (s : Signal) (place : Place) : Type 0 where
+      pub one : length s.decl.dims ≡ 0 → IsKnownTarget place
+      pub all : (length s.decl.dims ≡ 0 → ⊥) → IsSome (signal_named c.signals place.name)
+
+    abbrev pub AreKnownArguments : List Signal → List typed.TypedExpr → Type 0
+    AreKnownArguments params args =
+        (k : ℕ) (s : Signal) (x : typed.TypedExpr)
+        → slice_get params k ≡ Some s
+        → slice_get args k ≡ Some x
+        → IsKnownArgument s x
+
+    abbrev pub AreKnownTakers : List Signal → List Place → Type 0
+    AreKnownTakers results places =
+        (k : ℕ) (s : Signal) (place : Place)
+        → slice_get results k ≡ Some s
+        → slice_get places k ≡ Some place
+        → IsKnownTaker s place
+
+    -- a call of the function: no more arguments and places than it has signals and results
+    pub record IsKnownCall (b : Body) (places : List Place) (args : List typed.TypedExpr) : Type 0 where
+      pub few_args : length args ≤ length b.signals
+      pub few_places : length places ≤ length b.results
+      pub passed : AreKnownArguments b.signals args
+      pub taken : AreKnownTakers b.results places

@@ -1,0 +1,36 @@
+//! What is known of a function.
+
+ghost use Rattle.std.specs.Prelude.{◌≤◌, IsTrue};
+ghost use Rattle.fix_types.specs.TypedTree.{view_func};
+ghost use Rattle.name_check.specs.Meanings.{are_dims};
+ghost use Rattle.single_def.specs.ElementRules.{elements_of};
+ghost use Rattle.single_def.specs.Private.Plans.{AreSized};
+ghost use Rattle.loop_expand.specs.Private.Sizes.{decls_of};
+
+use crate::groups::Group;
+use fix_types::TypedFunc;
+use silage_syntax::Decl;
+
+/// A parameter, a result or a local.
+#[derive(Clone, Copy)]
+pub(crate) struct Signal<'a> {
+    pub decl: &'a Decl,
+    /// The number of its first element among those of an instance.
+    pub first: u32,
+    ghost sized: { IsTrue (are_dims decl.now.dims) },
+}
+
+/// A function that has an instance.
+#[derive(Drop)]
+pub(crate) struct Body<'a> {
+    pub func: &'a TypedFunc,
+    /// Its parameters, results and locals.
+    pub signals: Vec<Signal<'a>>,
+    pub results: Vec<Signal<'a>>,
+    /// How many elements an instance of it has.
+    pub size: u32,
+    /// The groups of its items, which are the same in all its instances.
+    pub groups: Vec<Group<'a>>,
+    ghost sized: { AreSized (decls_of (view_func func.now)) },
+    ghost few: { elements_of (decls_of (view_func func.now)) ≤ 8192 },
+}
