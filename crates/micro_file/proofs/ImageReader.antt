@@ -1,5 +1,5 @@
 -- The reader of an image: what it reads is spelled so, and what is spelled so is read.
-use Rattle.std.proofs.Common.{◌≡◌, ℕ, ◌*◌, ◌≤◌, true, eqb, List, [], ◌∷◌, ◌++◌, length, Option, Some, refl, sym, ap, subst, ◌∙◌, append_assoc, arith}
+use Rattle.std.proofs.Common.{◌≡◌, ℕ, ◌*◌, ◌≤◌, true, cond, eqb, List, [], ◌∷◌, ◌++◌, length, Result, Ok, Err, refl, sym, ap, subst, ◌∙◌, append_assoc, arith}
 use Rattle.std.specs.Prelude.{◌⊎◌, slice_index_or}
 use Rattle.std.specs.Int.{w16}
 use Rattle.std.specs.List.{All, flat_map}
@@ -10,13 +10,15 @@ use Rattle.micro_image.specs.declared.image.UnitDesc.{UnitDesc}
 use Rattle.micro_image.specs.declared.image.Word.{Word}
 use Rattle.micro_image.specs.Spells.{two_bytes, spelled_unit, spelled_word, spelling, Spells}
 use Rattle.micro_image.specs.Valid.{IsWithin, IsWordOf, IsValid}
-use Rattle.micro_file.specs.Private.Fields.{kept, byte_within, number_within, many_at}
-use Rattle.micro_file.specs.Private.Units.{units_at}
-use Rattle.micro_file.specs.Private.Words.{word_at}
-use Rattle.micro_file.specs.Private.File.{head_at, is_unroll, unroll_at, inputs_at, hardware_at, image_at, whole_at}
-use Rattle.micro_file.proofs.Readers.{IsBytes, Takes, ◌⨟◌, Took, IsReader, tested, such_reader, so_spelled, some_is, bound, joined, was_kept}
+use Rattle.micro_file.specs.declared.misread.Misread.{Misread}
+use Rattle.micro_file.specs.declared.misread.Misread.TheVariants.{Magic, Version, Trailing}
+use Rattle.micro_file.specs.Fields.{Reading, only_byte, byte_within, number_within, many_at}
+use Rattle.micro_file.specs.Units.{units_at}
+use Rattle.micro_file.specs.Words.{word_at}
+use Rattle.micro_file.specs.File.{head_at, is_unroll, unroll_at, inputs_at, hardware_at, image_at, whole_at}
+use Rattle.micro_file.proofs.Readers.{IsBytes, Takes, ◌⨟◌, Took, IsReader, tested, such_reader, so_spelled, ok_is, bound, joined}
 use Rattle.micro_file.proofs.Several.{all_from, grows_all, many_reader, counted}
-use Rattle.micro_file.proofs.Leaves.{one_byte, byte_reader, within_reader, two_reader}
+use Rattle.micro_file.proofs.Leaves.{one_byte, or_misread, only_reader, byte_reader, within_reader, two_reader}
 use Rattle.micro_file.proofs.UnitReader.{AreUnits, units_reader}
 use Rattle.micro_file.proofs.IssueParts.{bytes_alone}
 use Rattle.micro_file.proofs.IssueReader.{HasFewWords, AllHave}
@@ -25,45 +27,42 @@ use Rattle.micro_file.proofs.Steps.{bound3, joined3, bound5, bound6, joined6}
 
 -- ---- the head
 
-abbrev i_behind : ℕ × List ℕ → Option (ℕ × List ℕ)
-i_behind s = byte_within 73 73 s.1
+abbrev i_behind : ℕ × List ℕ → Reading ℕ
+i_behind s = only_byte Magic 73 s.1
 
-abbrev l_behind : ℕ × List ℕ → ℕ × List ℕ → Option (ℕ × List ℕ)
-l_behind s i = byte_within 76 76 i.1
+abbrev l_behind : ℕ × List ℕ → ℕ × List ℕ → Reading ℕ
+l_behind s i = only_byte Magic 76 i.1
 
-abbrev m_behind : ℕ × List ℕ → ℕ × List ℕ → ℕ × List ℕ → Option (ℕ × List ℕ)
-m_behind s i l = byte_within 77 77 l.1
+abbrev m_behind : ℕ × List ℕ → ℕ × List ℕ → ℕ × List ℕ → Reading ℕ
+m_behind s i l = only_byte Magic 77 l.1
 
-abbrev version_behind : ℕ × List ℕ → ℕ × List ℕ → ℕ × List ℕ → ℕ × List ℕ → Option (ℕ × List ℕ)
-version_behind s i l m = byte_within 1 1 m.1
+abbrev version_behind : ℕ × List ℕ → ℕ × List ℕ → ℕ × List ℕ → ℕ × List ℕ → Reading ℕ
+version_behind s i l m = only_byte Version 1 m.1
 
-abbrev behind_all : ℕ × List ℕ → ℕ × List ℕ → ℕ × List ℕ → ℕ × List ℕ → ℕ × List ℕ → Option (List ℕ)
-behind_all s i l m v = Some v.1
+abbrev behind_all : ℕ × List ℕ → ℕ × List ℕ → ℕ × List ℕ → ℕ × List ℕ → ℕ × List ℕ → Result (List ℕ) Misread
+behind_all s i l m v = Ok v.1
 
 -- SILM and the version
 abbrev head : List ℕ
 head = 83 ∷ 73 ∷ 76 ∷ 77 ∷ 1 ∷ []
 
-is_only : (n b : ℕ) → IsWithin n n b → b ≡ n
-is_only n b h = omega arith
-
 is_head : (bytes rest : List ℕ) (s i l m v : ℕ) → s ≡ 83 → i ≡ 73 → l ≡ 76 → m ≡ 77 → v ≡ 1 → Takes bytes (s ∷ i ∷ l ∷ m ∷ v ∷ []) rest → Takes bytes head rest
 is_head bytes rest s i l m v a b c d e h = rw (a, b, c, d, e) at h
 
-head_took : (bytes : List ℕ) → IsBytes bytes → (rest : List ℕ) → head_at bytes ≡ Some rest → Takes bytes head rest
+head_took : (bytes : List ℕ) → IsBytes bytes → (rest : List ℕ) → head_at bytes ≡ Ok rest → Takes bytes head rest
 unfolding head_at
 head_took bytes fits rest e =
-    let s = bound5 (byte_within 83 83 bytes) i_behind l_behind m_behind version_behind behind_all rest e in
-    let a = (within_reader 83 83).took bytes fits s.0 s.5 in
-    let b = (within_reader 73 73).took s.0.1 a.text.rest_fits s.1 s.6 in
-    let c = (within_reader 76 76).took s.1.1 b.text.rest_fits s.2 s.7 in
-    let d = (within_reader 77 77).took s.2.1 c.text.rest_fits s.3 s.8 in
-    let v = (within_reader 1 1).took s.3.1 d.text.rest_fits s.4 s.9 in
-    subst (Takes bytes head) (some_is s.4.1 rest s.10)
-    (is_head bytes s.4.1 s.0.0 s.1.0 s.2.0 s.3.0 s.4.0 (is_only 83 s.0.0 a.allowed) (is_only 73 s.1.0 b.allowed) (is_only 76 s.2.0 c.allowed) (is_only 77 s.3.0 d.allowed) (is_only 1 s.4.0 v.allowed)
+    let s = bound5 (only_byte Magic 83 bytes) i_behind l_behind m_behind version_behind behind_all rest e in
+    let a = (only_reader Magic 83).took bytes fits s.0 s.5 in
+    let b = (only_reader Magic 73).took s.0.1 a.text.rest_fits s.1 s.6 in
+    let c = (only_reader Magic 76).took s.1.1 b.text.rest_fits s.2 s.7 in
+    let d = (only_reader Magic 77).took s.2.1 c.text.rest_fits s.3 s.8 in
+    let v = (only_reader Version 1).took s.3.1 d.text.rest_fits s.4 s.9 in
+    subst (Takes bytes head) (ok_is s.4.1 rest s.10)
+    (is_head bytes s.4.1 s.0.0 s.1.0 s.2.0 s.3.0 s.4.0 a.allowed b.allowed c.allowed d.allowed v.allowed
     (a.text ⨟ b.text ⨟ c.text ⨟ d.text ⨟ v.text))
 
-head_again : (rest : List ℕ) → head_at (head ++ rest) ≡ Some rest
+head_again : (rest : List ℕ) → head_at (head ++ rest) ≡ Ok rest
 unfolding head_at
 head_again rest = refl
 
@@ -110,25 +109,25 @@ spelled_hardware image =
     ++ (one_byte (length image.units) ++ flat_map spelled_unit image.units)
     ++ one_byte image.buses
 
-abbrev unroll_behind : ℕ × List ℕ → Option (ℕ × List ℕ)
+abbrev unroll_behind : ℕ × List ℕ → Reading ℕ
 unroll_behind p = unroll_at p.1
 
-abbrev inputs_behind : ℕ × List ℕ → ℕ × List ℕ → Option (List ℕ × List ℕ)
+abbrev inputs_behind : ℕ × List ℕ → ℕ × List ℕ → Reading (List ℕ)
 inputs_behind p u = inputs_at u.1
 
-abbrev outs_behind : ℕ × List ℕ → ℕ × List ℕ → List ℕ × List ℕ → Option (ℕ × List ℕ)
+abbrev outs_behind : ℕ × List ℕ → ℕ × List ℕ → List ℕ × List ℕ → Reading ℕ
 outs_behind p u i = byte_within 1 16 i.1
 
-abbrev units_behind : ℕ × List ℕ → ℕ × List ℕ → List ℕ × List ℕ → ℕ × List ℕ → Option (List UnitDesc × List ℕ)
+abbrev units_behind : ℕ × List ℕ → ℕ × List ℕ → List ℕ × List ℕ → ℕ × List ℕ → Reading (List UnitDesc)
 units_behind p u i o = units_at o.1
 
-abbrev buses_behind : ℕ × List ℕ → ℕ × List ℕ → List ℕ × List ℕ → ℕ × List ℕ → List UnitDesc × List ℕ → Option (ℕ × List ℕ)
+abbrev buses_behind : ℕ × List ℕ → ℕ × List ℕ → List ℕ × List ℕ → ℕ × List ℕ → List UnitDesc × List ℕ → Reading ℕ
 buses_behind p u i o n = byte_within 1 32 n.1
 
-abbrev whole_hardware : ℕ × List ℕ → ℕ × List ℕ → List ℕ × List ℕ → ℕ × List ℕ → List UnitDesc × List ℕ → ℕ × List ℕ → Option (Image × List ℕ)
-whole_hardware p u i o n b = Some (record { period = p.0; unroll = u.0; inputs = i.0; outs = o.0; units = n.0; buses = b.0; words = [] }, b.1)
+abbrev whole_hardware : ℕ × List ℕ → ℕ × List ℕ → List ℕ × List ℕ → ℕ × List ℕ → List UnitDesc × List ℕ → ℕ × List ℕ → Reading Image
+whole_hardware p u i o n b = Ok (record { period = p.0; unroll = u.0; inputs = i.0; outs = o.0; units = n.0; buses = b.0; words = [] }, b.1)
 
-hardware_took : (bytes : List ℕ) → IsBytes bytes → (x : Image × List ℕ) → hardware_at bytes ≡ Some x → Took IsHardware spelled_hardware bytes x
+hardware_took : (bytes : List ℕ) → IsBytes bytes → (x : Image × List ℕ) → hardware_at bytes ≡ Ok x → Took IsHardware spelled_hardware bytes x
 unfolding hardware_at
 hardware_took bytes fits x e =
     let s = bound6 (number_within w16 1 4096 bytes) unroll_behind inputs_behind outs_behind units_behind buses_behind whole_hardware x e in
@@ -139,12 +138,12 @@ hardware_took bytes fits x e =
     let n = units_reader.took s.3.1 o.text.rest_fits s.4 s.10 in
     let b = (within_reader 1 32).took s.4.1 n.text.rest_fits s.5 s.11 in
     let image : Image = record { period = s.0.0; unroll = s.1.0; inputs = s.2.0; outs = s.3.0; units = s.4.0; buses = s.5.0; words = [] } in
-    subst (λ (q : Image × List ℕ). Took IsHardware spelled_hardware bytes q) (some_is (image, s.5.1) x s.12) (record {
+    subst (λ (q : Image × List ℕ). Took IsHardware spelled_hardware bytes q) (ok_is (image, s.5.1) x s.12) (record {
       allowed = record { period = p.allowed; unroll = u.allowed; inputs = i.allowed; outs = o.allowed; units = n.allowed; buses = b.allowed; no_words = refl };
       text = p.text ⨟ u.text ⨟ i.text ⨟ o.text ⨟ n.text ⨟ b.text;
     })
 
-hardware_again : (image : Image) (rest : List ℕ) → IsHardware image → hardware_at (spelled_hardware image ++ rest) ≡ Some (image, rest)
+hardware_again : (image : Image) (rest : List ℕ) → IsHardware image → hardware_at (spelled_hardware image ++ rest) ≡ Ok (image, rest)
 unfolding hardware_at
 hardware_again image rest ok =
     let P = two_bytes image.period in
@@ -161,7 +160,7 @@ hardware_again image rest ok =
     ((within_reader 1 16).again image.outs _ ok.outs)
     (units_reader.again image.units _ ok.units)
     ((within_reader 1 32).again image.buses _ ok.buses)
-    ∙ ap (λ (words : List Word). Some (record image { words = words }, rest)) (sym ok.no_words)
+    ∙ ap (λ (words : List Word). Ok (record image { words = words }, rest)) (sym ok.no_words)
 
 -- ---- the image
 
@@ -219,16 +218,16 @@ words_reader hardware ok count =
     such_reader (λ words h. (h.0, all_from (IsWordOf hardware) words h.1)) (λ words h. (h.0, grows_all (IsWordOf hardware) words h.1))
     (many_reader (λ _. IsWordOf hardware) spelled_word (λ _. word_at hardware) (λ _. word_reader hardware (few_words hardware ok) (all_have hardware ok)) count)
 
-abbrev hardware_behind : List ℕ → Option (Image × List ℕ)
+abbrev hardware_behind : List ℕ → Reading Image
 hardware_behind rest = hardware_at rest
 
-abbrev words_behind : List ℕ → Image × List ℕ → Option (List Word × List ℕ)
+abbrev words_behind : List ℕ → Image × List ℕ → Reading (List Word)
 words_behind rest h = many_at (λ _. word_at h.0) [] (h.0.period * h.0.unroll) h.1
 
-abbrev whole_image : List ℕ → Image × List ℕ → List Word × List ℕ → Option (Image × List ℕ)
-whole_image rest h w = Some (record h.0 { words = w.0 }, w.1)
+abbrev whole_image : List ℕ → Image × List ℕ → List Word × List ℕ → Reading Image
+whole_image rest h w = Ok (record h.0 { words = w.0 }, w.1)
 
-image_took : (bytes : List ℕ) → IsBytes bytes → (x : Image × List ℕ) → image_at bytes ≡ Some x → Took IsValid spelling bytes x
+image_took : (bytes : List ℕ) → IsBytes bytes → (x : Image × List ℕ) → image_at bytes ≡ Ok x → Took IsValid spelling bytes x
 unfolding image_at
 image_took bytes fits x e =
     let s = bound3 (head_at bytes) hardware_behind words_behind whole_image x e in
@@ -236,12 +235,12 @@ image_took bytes fits x e =
     let h = hardware_took s.0 a.rest_fits s.1 s.4 in
     let w = (words_reader s.1.0 h.allowed (s.1.0.period * s.1.0.unroll)).took s.1.1 h.text.rest_fits s.2 s.5 in
     let image : Image = record s.1.0 { words = s.2.0 } in
-    subst (λ (q : Image × List ℕ). Took IsValid spelling bytes q) (some_is (image, s.2.1) x s.6) (record {
+    subst (λ (q : Image × List ℕ). Took IsValid spelling bytes q) (ok_is (image, s.2.1) x s.6) (record {
       allowed = valid_image s.1.0 s.2.0 h.allowed w.allowed.0 w.allowed.1;
       text = subst (λ (text : List ℕ). Takes bytes text s.2.1) (in_parts image) (a ⨟ h.text ⨟ w.text);
     })
 
-image_again : (image : Image) (rest : List ℕ) → IsValid image → image_at (spelling image ++ rest) ≡ Some (image, rest)
+image_again : (image : Image) (rest : List ℕ) → IsValid image → image_at (spelling image ++ rest) ≡ Ok (image, rest)
 unfolding image_at
 image_again image rest ok =
     let H = spelled_hardware image in
@@ -263,19 +262,23 @@ nothing n e = grind (arith, nat_tests)
 no_more : (bytes : List ℕ) → eqb (length bytes) 0 ≡ true → bytes ≡ []
 no_more bytes e = nil_from_length bytes (nothing (length bytes) e)
 
+-- the image, if no byte follows
+abbrev with_end : Image × List ℕ → Result Image Misread
+with_end x = cond (eqb (length x.1) 0) (Ok x.0) (Err (Trailing (length x.1)))
+
 -- what is read is spelled by exactly these bytes
-pub whole_spells : (bytes : List ℕ) → IsBytes bytes → (image : Image) → whole_at bytes ≡ Some image → Spells bytes image
+pub whole_spells : (bytes : List ℕ) → IsBytes bytes → (image : Image) → whole_at bytes ≡ Ok image → Spells bytes image
 unfolding whole_at
 whole_spells bytes fits image e =
-    let s = bound (image_at bytes) (λ (x : Image × List ℕ). kept (eqb (length x.1) 0) x.0) image e in
-    let k = was_kept (eqb (length s.0.1) 0) s.0.0 image s.2 in
+    let s = bound (image_at bytes) with_end image e in
+    let k = or_misread (Trailing (length s.0.1)) (eqb (length s.0.1) 0) s.0.0 image s.2 in
     let t = image_took bytes fits s.0 s.1 in
     let none : s.0.1 ≡ [] = no_more s.0.1 k.0 in
     subst (Spells bytes) k.1 (record { valid = t.allowed; spelled = t.text.parts ∙ ap (λ (rest : List ℕ). spelling s.0.0 ++ rest) none ∙ append-nil (spelling s.0.0) })
 
 -- and what is spelled is read
-pub spelled_whole : (bytes : List ℕ) (image : Image) → Spells bytes image → whole_at bytes ≡ Some image
+pub spelled_whole : (bytes : List ℕ) (image : Image) → Spells bytes image → whole_at bytes ≡ Ok image
 unfolding whole_at
 spelled_whole bytes image h =
-    let found : image_at bytes ≡ Some (image, []) = ap image_at (h.spelled ∙ sym (append-nil (spelling image))) ∙ image_again image [] h.valid in
-    joined (image_at bytes) (λ (x : Image × List ℕ). kept (eqb (length x.1) 0) x.0) (image, []) (Some image) found refl
+    let found : image_at bytes ≡ Ok (image, []) = ap image_at (h.spelled ∙ sym (append-nil (spelling image))) ∙ image_again image [] h.valid in
+    joined (image_at bytes) with_end (image, []) (Ok image) found refl

@@ -1,5 +1,5 @@
 -- The readers of an issue's parts: format, argument, registers.
-use Rattle.std.proofs.Common.{◌≡◌, ℕ, zero, suc, ◌^◌, ◌<◌, ◌≤◌, Bool, true, false, cond, ltb, ◌&&◌, List, [], ◌∷◌, ◌++◌, length, get_or, Option, Some, ℤ, pos, negsuc, refl, sym, subst, ◌∙◌, arith, inl, inr}
+use Rattle.std.proofs.Common.{◌≡◌, ℕ, zero, suc, ◌^◌, ◌<◌, ◌≤◌, Bool, true, false, cond, ltb, ◌&&◌, List, [], ◌∷◌, ◌++◌, length, get_or, Ok, ℤ, pos, negsuc, refl, sym, subst, ◌∙◌, arith, inl, inr}
 use Rattle.std.specs.Prelude.{int_le, ◌≤ℤ◌}
 use Rattle.std.specs.Int.{w8, w64, cast_signed, cast_unsigned}
 use Rattle.std.specs.Int.RustNames.{FitsSigned}
@@ -19,19 +19,19 @@ use Rattle.micro_image.specs.Fields.{nth}
 use Rattle.micro_image.specs.Operations.{is_formatted}
 use Rattle.micro_image.specs.Spells.{eight_bytes, mode_byte, spelled_format}
 use Rattle.micro_image.specs.Valid.{IsWithin, IsBelow, IsNoFormat, IsFormatWhere, IsFormatFor, IsArgument, AreRegisters}
-use Rattle.micro_file.specs.declared.reader.TheConstants.{MODES}
-use Rattle.micro_file.specs.Private.Fields.{kept, byte_at, byte_within, entry_at, many_at}
-use Rattle.micro_file.specs.Private.Words.{some_format_at, no_format_at, format_at, is_below, is_argument, argument_at, register_at}
-use Rattle.micro_file.proofs.Readers.{IsBytes, Takes, ◌⨟◌, Took, IsReader, IsTestOf, tested, such_reader, so_spelled, some_is, was_kept}
+use Rattle.micro_file.specs.Tables.{modes}
+use Rattle.micro_file.specs.Fields.{Reading, kept, byte_at, byte_within, entry_at, many_at}
+use Rattle.micro_file.specs.Words.{some_format_at, no_format_at, format_at, is_below, is_argument, argument_at, register_at}
+use Rattle.micro_file.proofs.Readers.{IsBytes, Takes, ◌⨟◌, Took, IsReader, IsTestOf, tested, such_reader, so_spelled, ok_is, was_kept}
 use Rattle.micro_file.proofs.Several.{Grows, grows_at, grows_from, many_reader}
 use Rattle.micro_file.proofs.Leaves.{one_byte, byte_reader, within_reader, below_reader, signed_reader, raw_word_test, word_fits, mode_reader}
 use Rattle.micro_file.proofs.Steps.{bound3, bound4, joined4}
 
 -- ---- formats
 
-byte_fits : (bytes : List ℕ) → IsBytes bytes → (x : ℕ × List ℕ) → byte_at bytes ≡ Some x → x.0 < 256
+byte_fits : (bytes : List ℕ) → IsBytes bytes → (x : ℕ × List ℕ) → byte_at bytes ≡ Ok x → x.0 < 256
 byte_fits [] fits x e = absurd cc
-byte_fits (b ∷ bytes) fits x e = subst (λ (p : ℕ × List ℕ). p.0 < 256) (some_is (b, bytes) x e) (fits.byte 0)
+byte_fits (b ∷ bytes) fits x e = subst (λ (p : ℕ × List ℕ). p.0 < 256) (ok_is (b, bytes) x e) (fits.byte 0)
 
 -- a shift that the processor has
 abbrev is_shift : ℤ → Bool
@@ -50,42 +50,42 @@ shift_fits : (z : ℤ) → negsuc 31 ≤ℤ z → z ≤ℤ pos 64 → FitsSigned
 shift_fits (pos n) low high = record { sfits = omega (arith, ints, high) }
 shift_fits (negsuc n) low high = record { sfits = omega (arith, ints, low) }
 
-abbrev shift_kept : ℕ × List ℕ → Option (ℕ × List ℕ)
-shift_kept b = kept (is_shift (cast_signed w8 b.0)) b
+abbrev shift_kept : List ℕ → ℕ × List ℕ → Reading ℕ
+shift_kept bytes b = kept bytes (is_shift (cast_signed w8 b.0)) b
 
-abbrev mode_behind : ℕ × List ℕ → ℕ × List ℕ → Option (Mode × List ℕ)
-mode_behind b s = entry_at MODES s.1
+abbrev mode_behind : ℕ × List ℕ → ℕ × List ℕ → Reading Mode
+mode_behind b s = entry_at modes s.1
 
-abbrev width_behind : ℕ × List ℕ → ℕ × List ℕ → Mode × List ℕ → Option (ℕ × List ℕ)
+abbrev width_behind : ℕ × List ℕ → ℕ × List ℕ → Mode × List ℕ → Reading ℕ
 width_behind b s m = byte_within 1 32 m.1
 
-abbrev whole_format : ℕ × List ℕ → ℕ × List ℕ → Mode × List ℕ → ℕ × List ℕ → Option (Format × List ℕ)
-whole_format b s m w = Some (record { shift = cast_signed w8 s.0; mode = m.0; width = w.0 }, w.1)
+abbrev whole_format : ℕ × List ℕ → ℕ × List ℕ → Mode × List ℕ → ℕ × List ℕ → Reading Format
+whole_format b s m w = Ok (record { shift = cast_signed w8 s.0; mode = m.0; width = w.0 }, w.1)
 
-some_format_took : (bytes : List ℕ) → IsBytes bytes → (x : Format × List ℕ) → some_format_at bytes ≡ Some x → Took IsFormat spelled_format bytes x
+some_format_took : (bytes : List ℕ) → IsBytes bytes → (x : Format × List ℕ) → some_format_at bytes ≡ Ok x → Took IsFormat spelled_format bytes x
 unfolding some_format_at spelled_format
 some_format_took bytes fits x e =
-    let s = bound4 (byte_at bytes) shift_kept mode_behind width_behind whole_format x e in
+    let s = bound4 (byte_at bytes) (shift_kept bytes) mode_behind width_behind whole_format x e in
     let b = byte_reader.took bytes fits s.0 s.4 in
-    let k = was_kept (is_shift (cast_signed w8 s.0.0)) s.0 s.1 s.5 in
+    let k = was_kept bytes (is_shift (cast_signed w8 s.0.0)) s.0 s.1 s.5 in
     let shift : Takes bytes (one_byte s.1.0) s.1.1 = subst (λ (p : ℕ × List ℕ). Takes bytes (one_byte p.0) p.1) k.1 b.text in
     let good : is_shift (cast_signed w8 s.1.0) ≡ true = subst (λ (p : ℕ × List ℕ). is_shift (cast_signed w8 p.0) ≡ true) k.1 k.0 in
     let small : s.1.0 < 2 ^ 8 = subst (λ (p : ℕ × List ℕ). p.0 < 2 ^ 8) k.1 (byte_fits bytes fits s.0 s.4) in
     let m = mode_reader.took s.1.1 shift.rest_fits s.2 s.6 in
     let w = (within_reader 1 32).took s.2.1 m.text.rest_fits s.3 s.7 in
     let fmt : Format = record { shift = cast_signed w8 s.1.0; mode = s.2.0; width = s.3.0 } in
-    subst (λ (p : Format × List ℕ). Took IsFormat spelled_format bytes p) (some_is (fmt, s.3.1) x s.8) (record {
+    subst (λ (p : Format × List ℕ). Took IsFormat spelled_format bytes p) (ok_is (fmt, s.3.1) x s.8) (record {
       allowed = record { lowest = shift_low fmt.shift good; highest = shift_high fmt.shift good; narrowest = w.allowed.0; widest = w.allowed.1 };
       text = rw (of_z-to_z w8 s.1.0 small) (shift ⨟ m.text ⨟ w.text);
     })
 
-some_format_again : (fmt : Format) (rest : List ℕ) → IsFormat fmt → some_format_at (spelled_format fmt ++ rest) ≡ Some (fmt, rest)
+some_format_again : (fmt : Format) (rest : List ℕ) → IsFormat fmt → some_format_at (spelled_format fmt ++ rest) ≡ Ok (fmt, rest)
 unfolding some_format_at spelled_format
 some_format_again fmt rest ok =
     let back : cast_signed w8 (cast_unsigned w8 fmt.shift) ≡ fmt.shift = to_z-of_z w8 fmt.shift (shift_fits fmt.shift ok.lowest ok.highest) in
     let good : is_shift (cast_signed w8 (cast_unsigned w8 fmt.shift)) ≡ true = rw back (shift_is fmt.shift ok.lowest ok.highest) in
     let byte = cast_unsigned w8 fmt.shift in
-    joined4 (byte_at (byte ∷ mode_byte fmt.mode ∷ fmt.width ∷ rest)) shift_kept mode_behind width_behind whole_format
+    joined4 (byte_at (byte ∷ mode_byte fmt.mode ∷ fmt.width ∷ rest)) (shift_kept (byte ∷ mode_byte fmt.mode ∷ fmt.width ∷ rest)) mode_behind width_behind whole_format
     (byte, mode_byte fmt.mode ∷ fmt.width ∷ rest) (byte, mode_byte fmt.mode ∷ fmt.width ∷ rest) (fmt.mode, fmt.width ∷ rest) (fmt.width, rest)
     refl
     (rw good refl)
@@ -99,14 +99,14 @@ some_format_reader = record { took = some_format_took; again = some_format_again
 abbrev no_format : Format
 no_format = record { shift = pos 0; mode = Trunc; width = 0 }
 
-abbrev zero_behind : ℕ × List ℕ → Option (ℕ × List ℕ)
+abbrev zero_behind : ℕ × List ℕ → Reading ℕ
 zero_behind a = byte_within 0 0 a.1
 
-abbrev last_zero : ℕ × List ℕ → ℕ × List ℕ → Option (ℕ × List ℕ)
+abbrev last_zero : ℕ × List ℕ → ℕ × List ℕ → Reading ℕ
 last_zero a b = byte_within 0 0 b.1
 
-abbrev format_of_zeros : ℕ × List ℕ → ℕ × List ℕ → ℕ × List ℕ → Option (Format × List ℕ)
-format_of_zeros a b c = Some (no_format, c.1)
+abbrev format_of_zeros : ℕ × List ℕ → ℕ × List ℕ → ℕ × List ℕ → Reading Format
+format_of_zeros a b c = Ok (no_format, c.1)
 
 is_zero : (n : ℕ) → IsWithin 0 0 n → n ≡ 0
 is_zero n h = omega arith
@@ -114,7 +114,7 @@ is_zero n h = omega arith
 three_zeros : (bytes : List ℕ) (a b c : ℕ) (rest : List ℕ) → a ≡ 0 → b ≡ 0 → c ≡ 0 → Takes bytes (a ∷ b ∷ c ∷ []) rest → Takes bytes (0 ∷ 0 ∷ 0 ∷ []) rest
 three_zeros bytes a b c rest p q r h = rw (p, q, r) at h
 
-no_format_took : (bytes : List ℕ) → IsBytes bytes → (x : Format × List ℕ) → no_format_at bytes ≡ Some x → Took IsNoFormat spelled_format bytes x
+no_format_took : (bytes : List ℕ) → IsBytes bytes → (x : Format × List ℕ) → no_format_at bytes ≡ Ok x → Took IsNoFormat spelled_format bytes x
 unfolding no_format_at spelled_format
 no_format_took bytes fits x e =
     let s = bound3 (byte_within 0 0 bytes) zero_behind last_zero format_of_zeros x e in
@@ -122,7 +122,7 @@ no_format_took bytes fits x e =
     let b = (within_reader 0 0).took s.0.1 a.text.rest_fits s.1 s.4 in
     let c = (within_reader 0 0).took s.1.1 b.text.rest_fits s.2 s.5 in
     let zeros = three_zeros bytes s.0.0 s.1.0 s.2.0 s.2.1 (is_zero s.0.0 a.allowed) (is_zero s.1.0 b.allowed) (is_zero s.2.0 c.allowed) (a.text ⨟ b.text ⨟ c.text) in
-    subst (λ (p : Format × List ℕ). Took IsNoFormat spelled_format bytes p) (some_is (no_format, s.2.1) x s.6) (record { allowed = refl; text = zeros })
+    subst (λ (p : Format × List ℕ). Took IsNoFormat spelled_format bytes p) (ok_is (no_format, s.2.1) x s.6) (record { allowed = refl; text = zeros })
 
 no_format_reader : IsReader IsNoFormat spelled_format no_format_at
 unfolding no_format_at spelled_format

@@ -1,5 +1,5 @@
 -- The readers of single fields.
-use Rattle.std.proofs.Common.{◌≡◌, ℕ, suc, ◌+◌, ◌^◌, ◌<◌, ◌≤◌, Bool, true, false, cond, ltb, leb, List, [], ◌∷◌, ◌++◌, length, get_or, take, drop, map, Some, None, ℤ, pos, negsuc, refl, sym, ap, subst, arith}
+use Rattle.std.proofs.Common.{◌≡◌, ℕ, suc, ◌+◌, ◌^◌, ◌<◌, ◌≤◌, Bool, true, false, cond, ltb, leb, eqb, List, [], ◌∷◌, ◌++◌, length, get_or, take, drop, map, Some, Result, Ok, Err, ℤ, pos, negsuc, refl, sym, ap, subst, arith}
 use Rattle.std.proofs.Math.Facts.{sfits_to_z}
 use Rattle.std.proofs.lemmas.List.FromFn.{get_or-range_with_len, length-range_with_len}
 use Rattle.std.proofs.lemmas.Option.{slice_get_within, get_or_from_slice_get}
@@ -22,18 +22,20 @@ use Rattle.operations.specs.declared.units.Kind.TheVariants as kind
 use Rattle.micro_image.specs.Operations.{opcode}
 use Rattle.micro_image.specs.Spells.{two_bytes, four_bytes, eight_bytes, kind_byte, mode_byte}
 use Rattle.micro_image.specs.Valid.{IsWithin}
-use Rattle.micro_file.specs.declared.reader.TheConstants.{KINDS, OPERATIONS, MODES}
-use Rattle.micro_file.specs.Private.Fields.{◌>>=◌, byte_at, byte_within, byte_below, byte_upto, number_at, number_within, signed_at, is_raw_word, raw_word_at, entry_at}
-use Rattle.micro_file.proofs.Readers.{IsBytes, IsBytes-take, IsBytes-drop, Took, IsReader, IsTestOf, tested, such_reader, bound, some_is, joined}
+use Rattle.micro_file.specs.Tables.{kinds, operations, modes}
+use Rattle.micro_file.specs.declared.misread.Misread.{Misread}
+use Rattle.micro_file.specs.declared.misread.Misread.TheVariants.{Short}
+use Rattle.micro_file.specs.Fields.{◌>>=◌, found, only_byte, byte_at, byte_within, byte_below, byte_upto, number_at, number_within, signed_at, is_raw_word, raw_word_at, entry_at}
+use Rattle.micro_file.proofs.Readers.{IsBytes, IsBytes-take, IsBytes-drop, Took, IsReader, IsTestOf, tested, such_reader, well, bound, ok_is, was_found, joined}
 
 -- a field of one byte
 abbrev pub one_byte : ℕ → List ℕ
 one_byte b = b ∷ []
 
-took_byte : (bytes : List ℕ) → IsBytes bytes → (x : ℕ × List ℕ) → byte_at bytes ≡ Some x → Took (λ _. Unit {0}) one_byte bytes x
+took_byte : (bytes : List ℕ) → IsBytes bytes → (x : ℕ × List ℕ) → byte_at bytes ≡ Ok x → Took (λ _. Unit {0}) one_byte bytes x
 took_byte [] fits x e = absurd cc
 took_byte (b ∷ bytes) fits x e =
-    subst (λ (p : ℕ × List ℕ). Took (λ (_ : ℕ). Unit {0}) one_byte (b ∷ bytes) p) (some_is (b, bytes) x e) (record { allowed = tt; text = record { parts = refl; rest_fits = record { byte = λ i. fits.byte (suc i) } } })
+    subst (λ (p : ℕ × List ℕ). Took (λ (_ : ℕ). Unit {0}) one_byte (b ∷ bytes) p) (ok_is (b, bytes) x e) (record { allowed = tt; text = record { parts = refl; rest_fits = record { byte = λ i. fits.byte (suc i) } } })
 
 pub byte_reader : IsReader (λ _. Unit {0}) one_byte byte_at
 byte_reader = record {
@@ -79,6 +81,26 @@ within_reader low high = such_reader (λ n h. h.1) (λ n h. (tt, h)) (tested byt
 pub below_reader : (limit : ℕ) → IsReader (λ n. n < limit) one_byte (byte_below limit)
 below_reader limit = such_reader (λ n h. h.1) (λ n h. (tt, h)) (tested byte_reader (below_test limit))
 
+same_byte : (only n : ℕ) → eqb n only ≡ true → n ≡ only
+same_byte only n e = grind (arith, nat_tests)
+
+byte_same : (only n : ℕ) → n ≡ only → eqb n only ≡ true
+byte_same only n h = grind (arith, nat_tests)
+
+pub or_misread : {A : Type 0} (misread : Misread) (b : Bool) (x y : A) → cond b (Ok x) (Err misread) ≡ well y → (b ≡ true) × (x ≡ y)
+or_misread misread true x y e = (refl, cc)
+or_misread misread false x y e = absurd cc
+
+pub only_reader : (misread : Misread) (only : ℕ) → IsReader (λ n. n ≡ only) one_byte (only_byte misread only)
+only_reader misread only = record {
+  took = λ bytes fits x e.
+      let s = bound (byte_at bytes) (λ (b : ℕ × List ℕ). cond (eqb b.0 only) (Ok b) (Err misread)) x e in
+      let k = or_misread misread (eqb s.0.0 only) s.0 x s.2 in
+      let t = byte_reader.took bytes fits s.0 s.1 in
+      subst (λ (a : ℕ × List ℕ). Took (λ (n : ℕ). n ≡ only) one_byte bytes a) k.1 (record { allowed = same_byte only s.0.0 k.0; text = t.text });
+  again = λ x rest ok. rw (byte_same only x ok) refl;
+}
+
 upto_test : (limit : ℕ) → IsTestOf (λ n. leb n limit) (λ n. n ≤ limit)
 upto_test limit = record {
   sound = λ n e. upto_limit limit n e;
@@ -121,11 +143,15 @@ wide64 = record {
   below = λ bytes fits. omega (arith, fits.byte 0, fits.byte 1, fits.byte 2, fits.byte 3, fits.byte 4, fits.byte 5, fits.byte 6, fits.byte 7);
 }
 
-guarded : {A : Type 0} (b : Bool) (x y : A) → cond b None (Some x) ≡ Some y → (b ≡ false) × (x ≡ y)
+-- what is read, where there are enough bytes
+abbrev unless_short : {A : Type 0} → Bool → A → Result A Misread
+unless_short short x = cond short (Err Short) (Ok x)
+
+guarded : {A : Type 0} (b : Bool) (x y : A) → unless_short b x ≡ Ok y → (b ≡ false) × (x ≡ y)
 guarded true x y e = absurd cc
 guarded false x y e = (refl, cc)
 
-number_took : (w : Width) (limit : ℕ) → IsWide w limit → (bytes : List ℕ) → IsBytes bytes → (x : ℕ × List ℕ) → number_at w bytes ≡ Some x → Took (λ n. n < limit) (to_be_bytes w) bytes x
+number_took : (w : Width) (limit : ℕ) → IsWide w limit → (bytes : List ℕ) → IsBytes bytes → (x : ℕ × List ℕ) → number_at w bytes ≡ Ok x → Took (λ n. n < limit) (to_be_bytes w) bytes x
 number_took w limit wide bytes fits x e =
     let g = guarded (ltb (length bytes) (byte_len w)) (from_be_bytes w (take (byte_len w) bytes), drop (byte_len w) bytes) x e in
     let long : byte_len w ≤ length bytes = ltb-false _ _ g.0 in
@@ -135,7 +161,7 @@ number_took w limit wide bytes fits x e =
       text = record { parts = rw front (sym (take-append-drop (byte_len w) bytes)); rest_fits = IsBytes-drop (byte_len w) bytes fits };
     })
 
-number_again : (w : Width) (limit : ℕ) → IsWide w limit → (n : ℕ) (rest : List ℕ) → n < limit → number_at w (to_be_bytes w n ++ rest) ≡ Some (n, rest)
+number_again : (w : Width) (limit : ℕ) → IsWide w limit → (n : ℕ) (rest : List ℕ) → n < limit → number_at w (to_be_bytes w n ++ rest) ≡ Ok (n, rest)
 number_again w limit wide n rest lt =
     let len = wide.len n in
     let long : ltb (length (to_be_bytes w n ++ rest)) (byte_len w) ≡ false = le-ltb _ _ (omega (arith, length-append (to_be_bytes w n) rest)) in
@@ -161,18 +187,18 @@ bits_below (negsuc n) fits = omega (arith, fits.sfits)
 bits_fit : (n : ℕ) → n < 2 ^ 64 → FitsSigned w64 (cast_signed w64 n)
 bits_fit n lt = sfits_to_z (record { fits = lt })
 
-signed_again : (z : ℤ) (rest : List ℕ) → FitsSigned w64 z → signed_at (eight_bytes z ++ rest) ≡ Some (z, rest)
+signed_again : (z : ℤ) (rest : List ℕ) → FitsSigned w64 z → signed_at (eight_bytes z ++ rest) ≡ Ok (z, rest)
 unfolding eight_bytes
 signed_again z rest fits =
-    joined (number_at w64 (to_be_bytes w64 (cast_unsigned w64 z) ++ rest)) (λ (n : ℕ × List ℕ). Some (cast_signed w64 n.0, n.1)) (cast_unsigned w64 z, rest) (Some (z, rest))
+    joined (number_at w64 (to_be_bytes w64 (cast_unsigned w64 z) ++ rest)) (λ (n : ℕ × List ℕ). Ok (cast_signed w64 n.0, n.1)) (cast_unsigned w64 z, rest) (Ok (z, rest))
     (number_again w64 (2 ^ 64) wide64 (cast_unsigned w64 z) rest (bits_below z fits)) (rw (to_z-of_z w64 z fits) refl)
 
-signed_took : (bytes : List ℕ) → IsBytes bytes → (x : ℤ × List ℕ) → signed_at bytes ≡ Some x → Took (FitsSigned w64) eight_bytes bytes x
+signed_took : (bytes : List ℕ) → IsBytes bytes → (x : ℤ × List ℕ) → signed_at bytes ≡ Ok x → Took (FitsSigned w64) eight_bytes bytes x
 unfolding eight_bytes
 signed_took bytes fits x e =
-    let s = bound (number_at w64 bytes) (λ (n : ℕ × List ℕ). Some (cast_signed w64 n.0, n.1)) x e in
+    let s = bound (number_at w64 bytes) (λ (n : ℕ × List ℕ). Ok (cast_signed w64 n.0, n.1)) x e in
     let t = number_took w64 (2 ^ 64) wide64 bytes fits s.0 s.1 in
-    subst (λ (p : ℤ × List ℕ). Took (FitsSigned w64) eight_bytes bytes p) (some_is (cast_signed w64 s.0.0, s.0.1) x s.2) (record {
+    subst (λ (p : ℤ × List ℕ). Took (FitsSigned w64) eight_bytes bytes p) (ok_is (cast_signed w64 s.0.0, s.0.1) x s.2) (record {
       allowed = bits_fit s.0.0 t.allowed;
       text = rw (of_z-to_z w64 s.0.0 t.allowed) t.text;
     })
@@ -210,10 +236,10 @@ record IsTable {A : Type 0} (table : List A) (byte : A → ℕ) : Type 0 where
 entry_reader : {A : Type 0} (table : List A) (byte : A → ℕ) → IsTable table byte → IsReader (λ _. Unit {0}) (λ x. one_byte (byte x)) (entry_at table)
 entry_reader {A} table byte is = record {
   took = λ bytes fits x e.
-      let s = bound (byte_at bytes) (λ (b : ℕ × List ℕ). slice_get table b.0 >>= λ x. Some (x, b.1)) x e in
+      let s = bound (byte_at bytes) (λ (b : ℕ × List ℕ). found bytes (slice_get table b.0) >>= λ x. Ok (x, b.1)) x e in
       let t = byte_reader.took bytes fits s.0 s.1 in
-      let u = bound (slice_get table s.0.0) (λ (y : A). Some (y, s.0.1)) x s.2 in
-      subst (λ (p : A × List ℕ). Took (λ (_ : A). Unit {0}) (λ (y : A). one_byte (byte y)) bytes p) (some_is (u.0, s.0.1) x u.2) (record { allowed = tt; text = rw (is.only s.0.0 u.0 u.1) t.text });
+      let u = bound (found bytes (slice_get table s.0.0)) (λ (y : A). Ok (y, s.0.1)) x s.2 in
+      subst (λ (p : A × List ℕ). Took (λ (_ : A). Unit {0}) (λ (y : A). one_byte (byte y)) bytes p) (ok_is (u.0, s.0.1) x u.2) (record { allowed = tt; text = rw (is.only s.0.0 u.0 (was_found bytes (slice_get table s.0.0) u.0 u.1)) t.text });
   again = λ x rest ok. rw (is.there x) refl;
 }
 
@@ -228,7 +254,7 @@ place table byte count e b x h =
     let there : get_or (range_with_len 0 count) b 0 ≡ 0 + b = get_or-range_with_len 0 count b 0 (omega arith) in
     omega arith
 
-pub kind_there : (x : Kind) → slice_get KINDS (kind_byte x) ≡ Some x
+pub kind_there : (x : Kind) → slice_get kinds (kind_byte x) ≡ Some x
 kind_there kind.Input = refl
 kind_there kind.Output = refl
 kind_there kind.Rom = refl
@@ -239,13 +265,13 @@ kind_there kind.Ram = refl
 kind_there kind.Acu = refl
 
 -- the places of the table, one after the other
-kind_places : map kind_byte KINDS ≡ range_with_len 0 8
+kind_places : map kind_byte kinds ≡ range_with_len 0 8
 kind_places = refl
 
-kind_only : (b : ℕ) (x : Kind) → slice_get KINDS b ≡ Some x → kind_byte x ≡ b
-kind_only b x e = place KINDS kind_byte 8 kind_places b x e
+kind_only : (b : ℕ) (x : Kind) → slice_get kinds b ≡ Some x → kind_byte x ≡ b
+kind_only b x e = place kinds kind_byte 8 kind_places b x e
 
-operation_there : (x : Op) → slice_get OPERATIONS (opcode x) ≡ Some x
+operation_there : (x : Op) → slice_get operations (opcode x) ≡ Some x
 operation_there op.Input = refl
 operation_there op.Output = refl
 operation_there op.Const = refl
@@ -267,28 +293,28 @@ operation_there op.Store = refl
 operation_there op.Addr = refl
 
 -- the places of the table, one after the other
-operation_places : map opcode OPERATIONS ≡ range_with_len 0 19
+operation_places : map opcode operations ≡ range_with_len 0 19
 operation_places = refl
 
-operation_only : (b : ℕ) (x : Op) → slice_get OPERATIONS b ≡ Some x → opcode x ≡ b
-operation_only b x e = place OPERATIONS opcode 19 operation_places b x e
+operation_only : (b : ℕ) (x : Op) → slice_get operations b ≡ Some x → opcode x ≡ b
+operation_only b x e = place operations opcode 19 operation_places b x e
 
-mode_there : (x : Mode) → slice_get MODES (mode_byte x) ≡ Some x
+mode_there : (x : Mode) → slice_get modes (mode_byte x) ≡ Some x
 mode_there Trunc = refl
 mode_there Round = refl
 
 -- the places of the table, one after the other
-mode_places : map mode_byte MODES ≡ range_with_len 0 2
+mode_places : map mode_byte modes ≡ range_with_len 0 2
 mode_places = refl
 
-mode_only : (b : ℕ) (x : Mode) → slice_get MODES b ≡ Some x → mode_byte x ≡ b
-mode_only b x e = place MODES mode_byte 2 mode_places b x e
+mode_only : (b : ℕ) (x : Mode) → slice_get modes b ≡ Some x → mode_byte x ≡ b
+mode_only b x e = place modes mode_byte 2 mode_places b x e
 
-pub kind_reader : IsReader (λ _. Unit {0}) (λ k. one_byte (kind_byte k)) (entry_at KINDS)
-kind_reader = entry_reader KINDS kind_byte (record { there = kind_there; only = kind_only })
+pub kind_reader : IsReader (λ _. Unit {0}) (λ k. one_byte (kind_byte k)) (entry_at kinds)
+kind_reader = entry_reader kinds kind_byte (record { there = kind_there; only = kind_only })
 
-pub operation_reader : IsReader (λ _. Unit {0}) (λ o. one_byte (opcode o)) (entry_at OPERATIONS)
-operation_reader = entry_reader OPERATIONS opcode (record { there = operation_there; only = operation_only })
+pub operation_reader : IsReader (λ _. Unit {0}) (λ o. one_byte (opcode o)) (entry_at operations)
+operation_reader = entry_reader operations opcode (record { there = operation_there; only = operation_only })
 
-pub mode_reader : IsReader (λ _. Unit {0}) (λ m. one_byte (mode_byte m)) (entry_at MODES)
-mode_reader = entry_reader MODES mode_byte (record { there = mode_there; only = mode_only })
+pub mode_reader : IsReader (λ _. Unit {0}) (λ m. one_byte (mode_byte m)) (entry_at modes)
+mode_reader = entry_reader modes mode_byte (record { there = mode_there; only = mode_only })

@@ -5,10 +5,16 @@ pub mod Readers
 pub mod Several
 pub mod Leaves
 pub mod Steps
+pub mod Judgement
 pub mod UnitReader
 pub mod IssueParts
 pub mod IssueReader
 pub mod TransferReader
 pub mod WordReader
 pub mod ImageReader
+pub mod Inside
+pub mod InsideUnits
+pub mod InsideWords
+pub mod InsideFile
 pub mod Unique
+pub mod FirstFault

@@ -1,8 +1,9 @@
 -- A reader takes a value's bytes from the front and no others, and reads again what spells an allowed value.
-use Rattle.std.proofs.Common.{◌≡◌, ℕ, ◌+◌, ◌<◌, Bool, true, false, List, [], ◌++◌, get_or, take, drop, Option, Some, None, refl, sym, ap, subst, ◌∙◌, append_assoc, arith, inl, inr}
+use Rattle.std.proofs.Common.{◌≡◌, ℕ, ◌+◌, ◌<◌, Bool, true, false, List, [], ◌++◌, get_or, take, drop, Option, Some, None, Result, Ok, Err, refl, sym, ap, subst, ◌∙◌, append_assoc, arith, inl, inr}
 use Rattle.std.proofs.lemmas.Bool.{cases_lt}
 use Rattle.std.proofs.lemmas.List.{length-take, get_or-drop, get_or-take, get_or_past}
-use Rattle.micro_file.specs.Private.Fields.{◌>>=◌, kept}
+use Rattle.micro_file.specs.declared.misread.Misread.{Misread}
+use Rattle.micro_file.specs.Fields.{Reading, ◌>>=◌, kept, found}
 
 -- each element is a byte
 pub record IsBytes (bytes : List ℕ) : Type 0 where
@@ -37,24 +38,46 @@ pub record Took {A : Type 0} (Allowed : A → Type 0) (spell : A → List ℕ) (
   pub allowed : Allowed x.0
   pub text : Takes bytes (spell x.0) x.1
 
-pub record IsReader {A : Type 0} (Allowed : A → Type 0) (spell : A → List ℕ) (read : List ℕ → Option (A × List ℕ)) : Type 0 where
-  pub took : (bytes : List ℕ) → IsBytes bytes → (x : A × List ℕ) → read bytes ≡ Some x → Took Allowed spell bytes x
-  pub again : (x : A) (rest : List ℕ) → Allowed x → read (spell x ++ rest) ≡ Some (x, rest)
+pub record IsReader {A : Type 0} (Allowed : A → Type 0) (spell : A → List ℕ) (read : List ℕ → Reading A) : Type 0 where
+  pub took : (bytes : List ℕ) → IsBytes bytes → (x : A × List ℕ) → read bytes ≡ Ok x → Took Allowed spell bytes x
+  pub again : (x : A) (rest : List ℕ) → Allowed x → read (spell x ++ rest) ≡ Ok (x, rest)
 
 -- ---- steps, one after another
 
 pub some_is : {A : Type 0} (x y : A) → Some x ≡ Some y → x ≡ y
 some_is x y e = cc
 
-pub bound : {A B : Type 0} (r : Option A) (f : A → Option B) (y : B) → (r >>= f) ≡ Some y → (a : A) × (r ≡ Some a) × (f a ≡ Some y)
-bound (Some x) f y e = (x, refl, e)
-bound None f y e = absurd cc
+-- what was read, and nothing misread
+abbrev pub well : {A : Type 0} → A → Result A Misread
+well x = Ok x
 
-pub was_kept : {A : Type 0} (b : Bool) (x y : A) → kept b x ≡ Some y → (b ≡ true) × (x ≡ y)
-was_kept true x y e = (refl, cc)
-was_kept false x y e = absurd cc
+abbrev pub misread_as : (A : Type 0) → Misread → Result A Misread
+misread_as A misread = Err misread
 
-pub joined : {A B : Type 0} (r : Option A) (f : A → Option B) (a : A) (y : Option B) → r ≡ Some a → f a ≡ y → (r >>= f) ≡ y
+pub ok_is : {A : Type 0} (x y : A) → well x ≡ Ok y → x ≡ y
+ok_is x y e = cc
+
+-- what is read is not misread
+pub not_both : {A : Type 0} (r : Result A Misread) (x : A) (misread : Misread) → r ≡ Ok x → r ≡ Err misread → ⊥
+not_both (Ok y) x misread well bad = absurd cc
+not_both (Err other) x misread well bad = absurd cc
+
+pub bound : {A B : Type 0} (r : Result A Misread) (f : A → Result B Misread) (y : B) → (r >>= f) ≡ Ok y → (a : A) × (r ≡ Ok a) × (f a ≡ Ok y)
+bound (Ok x) f y e = (x, refl, e)
+bound (Err misread) f y e = absurd cc
+
+pub was_kept : {A : Type 0} (bytes : List ℕ) (b : Bool) (x y : A) → kept bytes b x ≡ Ok y → (b ≡ true) × (x ≡ y)
+was_kept bytes true x y e = (refl, cc)
+was_kept bytes false x y e = absurd cc
+
+pub was_found : {A : Type 0} (bytes : List ℕ) (o : Option A) (x : A) → found bytes o ≡ Ok x → o ≡ Some x
+was_found bytes None x e = absurd cc
+was_found bytes (Some y) x e = cc
+
+pub found_is : {A : Type 0} (bytes : List ℕ) (o : Option A) (x : A) → o ≡ Some x → found bytes o ≡ Ok x
+found_is bytes o x e = rw e refl
+
+pub joined : {A B : Type 0} (r : Result A Misread) (f : A → Result B Misread) (a : A) (y : Result B Misread) → r ≡ Ok a → f a ≡ y → (r >>= f) ≡ y
 joined r f a y e h = rw e h
 
 -- ---- a test of the value
@@ -64,26 +87,26 @@ pub record IsTestOf {A : Type 0} (test : A → Bool) (Such : A → Type 0) : Typ
   pub sound : (x : A) → test x ≡ true → Such x
   pub whole : (x : A) → Such x → test x ≡ true
 
-pub tested : {A : Type 0} {Allowed : A → Type 0} {spell : A → List ℕ} {read : List ℕ → Option (A × List ℕ)} (reader : IsReader Allowed spell read) {test : A → Bool} {Such : A → Type 0} (is : IsTestOf test Such)
-    → IsReader (λ x. Allowed x × Such x) spell (λ bytes. read bytes >>= λ x. kept (test x.0) x)
+pub tested : {A : Type 0} {Allowed : A → Type 0} {spell : A → List ℕ} {read : List ℕ → Reading A} (reader : IsReader Allowed spell read) {test : A → Bool} {Such : A → Type 0} (is : IsTestOf test Such)
+    → IsReader (λ x. Allowed x × Such x) spell (λ bytes. read bytes >>= λ x. kept bytes (test x.0) x)
 tested {A} {Allowed} {spell} {read} reader {test} {Such} is = record {
   took = λ bytes fits x e.
-      let s = bound (read bytes) (λ (a : A × List ℕ). kept (test a.0) a) x e in
-      let k = was_kept (test s.0.0) s.0 x s.2 in
+      let s = bound (read bytes) (λ (a : A × List ℕ). kept bytes (test a.0) a) x e in
+      let k = was_kept bytes (test s.0.0) s.0 x s.2 in
       let t = reader.took bytes fits s.0 s.1 in
       subst (λ (a : A × List ℕ). Took (λ (v : A). Allowed v × Such v) spell bytes a) k.1 (record { allowed = (t.allowed, is.sound s.0.0 k.0); text = t.text });
-  again = λ x rest ok. joined (read (spell x ++ rest)) (λ (a : A × List ℕ). kept (test a.0) a) (x, rest) (Some (x, rest)) (reader.again x rest ok.0) (rw (is.whole x ok.1) refl);
+  again = λ x rest ok. joined (read (spell x ++ rest)) (λ (a : A × List ℕ). kept (spell x ++ rest) (test a.0) a) (x, rest) (Ok (x, rest)) (reader.again x rest ok.0) (rw (is.whole x ok.1) refl);
 }
 
 -- the same reader, at a fact that says the same
-pub such_reader : {A : Type 0} {Allowed Such : A → Type 0} {spell : A → List ℕ} {read : List ℕ → Option (A × List ℕ)} → ((x : A) → Allowed x → Such x) → ((x : A) → Such x → Allowed x) → IsReader Allowed spell read → IsReader Such spell read
+pub such_reader : {A : Type 0} {Allowed Such : A → Type 0} {spell : A → List ℕ} {read : List ℕ → Reading A} → ((x : A) → Allowed x → Such x) → ((x : A) → Such x → Allowed x) → IsReader Allowed spell read → IsReader Such spell read
 such_reader to from reader = record {
   took = λ bytes fits x e. let t = reader.took bytes fits x e in record { allowed = to x.0 t.allowed; text = t.text };
   again = λ x rest ok. reader.again x rest (from x ok);
 }
 
 -- the same reader, where the spelling is the same
-pub so_spelled : {A : Type 0} {Allowed : A → Type 0} {spell other : A → List ℕ} {read : List ℕ → Option (A × List ℕ)} → ((x : A) → spell x ≡ other x) → IsReader Allowed spell read → IsReader Allowed other read
+pub so_spelled : {A : Type 0} {Allowed : A → Type 0} {spell other : A → List ℕ} {read : List ℕ → Reading A} → ((x : A) → spell x ≡ other x) → IsReader Allowed spell read → IsReader Allowed other read
 so_spelled same reader = record {
   took = λ bytes fits x e. let t = reader.took bytes fits x e in record { allowed = t.allowed; text = rw (← same x.0) t.text };
   again = λ x rest ok. rw (← same x) (reader.again x rest ok);

@@ -1,13 +1,13 @@
 -- Many values, one after another, each allowed behind those before it.
-use Rattle.std.proofs.Common.{◌≡◌, ℕ, zero, suc, ◌+◌, ◌-◌, ◌<◌, List, [], ◌∷◌, ◌++◌, length, get_or, take, Option, Some, None, refl, sym, ap, subst, ◌∙◌, append_assoc, arith}
+use Rattle.std.proofs.Common.{◌≡◌, ℕ, zero, suc, ◌+◌, ◌-◌, ◌<◌, List, [], ◌∷◌, ◌++◌, length, get_or, take, Option, Some, None, Ok, refl, sym, ap, subst, ◌∙◌, append_assoc, arith}
 use Rattle.std.specs.Prelude.{slice_get}
 use Rattle.std.specs.List.{All, AllAdjacentBelow, flat_map}
 use Rattle.std.proofs.lemmas.List.{append-nil, length-take-le, get_or-take}
 use Rattle.std.proofs.lemmas.List.Concat.{flat_map-cons}
 use Rattle.std.proofs.lemmas.Option.{slice_get-get_or}
-use Rattle.micro_file.specs.Private.Fields.{◌>>=◌, many_at}
-use Rattle.micro_file.specs.Private.Words.{last_of}
-use Rattle.micro_file.proofs.Readers.{IsBytes, Takes, ◌⨟◌, takes_none, IsReader, bound, some_is, joined}
+use Rattle.micro_file.specs.Fields.{Reading, ◌>>=◌, many_at}
+use Rattle.micro_file.specs.Words.{last_of}
+use Rattle.micro_file.proofs.Readers.{IsBytes, Takes, ◌⨟◌, takes_none, IsReader, bound, ok_is, joined}
 
 -- each value is allowed behind those before it, the first ones being in front
 pub data Grows {A : Type 0} (Next : List A → A → Type 0) : List A → List A → Type 0 where
@@ -34,11 +34,11 @@ pub record Read {A : Type 0} (Next : List A → A → Type 0) (spell : A → Lis
   pub grows : Grows Next front back
   pub text : Takes bytes (flat_map spell back) x.1
 
-module _ {A : Type 0} (Next : List A → A → Type 0) (spell : A → List ℕ) (one : List A → List ℕ → Option (A × List ℕ)) (each : (front : List A) → IsReader (Next front) spell (one front)) where
-  many_took : (front : List A) (count : ℕ) (bytes : List ℕ) → IsBytes bytes → (x : List A × List ℕ) → many_at one front count bytes ≡ Some x → Read Next spell front count bytes x
+module _ {A : Type 0} (Next : List A → A → Type 0) (spell : A → List ℕ) (one : List A → List ℕ → Reading A) (each : (front : List A) → IsReader (Next front) spell (one front)) where
+  many_took : (front : List A) (count : ℕ) (bytes : List ℕ) → IsBytes bytes → (x : List A × List ℕ) → many_at one front count bytes ≡ Ok x → Read Next spell front count bytes x
   unfolding many_at
   many_took front zero bytes fits x e =
-      subst (λ (p : List A × List ℕ). Read Next spell front 0 bytes p) (some_is (front, bytes) x e) (record { back = []; whole = sym (append-nil front); counted = refl; grows = Whole front; text = takes_none bytes fits })
+      subst (λ (p : List A × List ℕ). Read Next spell front 0 bytes p) (ok_is (front, bytes) x e) (record { back = []; whole = sym (append-nil front); counted = refl; grows = Whole front; text = takes_none bytes fits })
   many_took front (suc count) bytes fits x e =
       let s = bound (one front bytes) (λ (a : A × List ℕ). many_at one (front ++ a.0 ∷ []) count a.1) x e in
       let t = (each front).took bytes fits s.0 s.1 in
@@ -52,14 +52,14 @@ module _ {A : Type 0} (Next : List A → A → Type 0) (spell : A → List ℕ) 
         text = rw (flat_map-cons spell s.0.0 more.back) text;
       }
 
-  many_again : (front back : List A) (rest : List ℕ) → Grows Next front back → many_at one front (length back) (flat_map spell back ++ rest) ≡ Some (front ++ back, rest)
+  many_again : (front back : List A) (rest : List ℕ) → Grows Next front back → many_at one front (length back) (flat_map spell back ++ rest) ≡ Ok (front ++ back, rest)
   unfolding many_at
-  many_again front [] rest g = ap (λ (xs : List A). Some (xs, rest)) (sym (append-nil front))
+  many_again front [] rest g = ap (λ (xs : List A). Ok (xs, rest)) (sym (append-nil front))
   many_again front (x ∷ xs) rest (More _ _ _ next g) =
       let texts : flat_map spell (x ∷ xs) ++ rest ≡ spell x ++ (flat_map spell xs ++ rest) = rw (flat_map-cons spell x xs) (append_assoc (spell x) (flat_map spell xs) rest) in
-      let first : one front (flat_map spell (x ∷ xs) ++ rest) ≡ Some (x, flat_map spell xs ++ rest) = ap (one front) texts ∙ (each front).again x (flat_map spell xs ++ rest) next in
-      joined (one front (flat_map spell (x ∷ xs) ++ rest)) (λ (a : A × List ℕ). many_at one (front ++ a.0 ∷ []) (length xs) a.1) (x, flat_map spell xs ++ rest) (Some (front ++ x ∷ xs, rest)) first
-      (many_again (front ++ x ∷ []) xs rest g ∙ ap (λ (ys : List A). Some (ys, rest)) (append_assoc front (x ∷ []) xs))
+      let first : one front (flat_map spell (x ∷ xs) ++ rest) ≡ Ok (x, flat_map spell xs ++ rest) = ap (one front) texts ∙ (each front).again x (flat_map spell xs ++ rest) next in
+      joined (one front (flat_map spell (x ∷ xs) ++ rest)) (λ (a : A × List ℕ). many_at one (front ++ a.0 ∷ []) (length xs) a.1) (x, flat_map spell xs ++ rest) (Ok (front ++ x ∷ xs, rest)) first
+      (many_again (front ++ x ∷ []) xs rest g ∙ ap (λ (ys : List A). Ok (ys, rest)) (append_assoc front (x ∷ []) xs))
 
   pub many_reader : (count : ℕ) → IsReader (λ xs. (length xs ≡ count) × Grows Next [] xs) (flat_map spell) (many_at one [] count)
   many_reader count = record {
@@ -70,7 +70,7 @@ module _ {A : Type 0} (Next : List A → A → Type 0) (spell : A → List ℕ) 
           allowed = subst (λ (xs : List A). (length xs ≡ count) × Grows Next [] xs) same (r.counted, r.grows);
           text = subst (λ (xs : List A). Takes bytes (flat_map spell xs) x.1) same r.text;
         };
-    again = λ xs rest ok. subst (λ (n : ℕ). many_at one [] n (flat_map spell xs ++ rest) ≡ Some (xs, rest)) ok.0 (many_again [] xs rest ok.1);
+    again = λ xs rest ok. subst (λ (n : ℕ). many_at one [] n (flat_map spell xs ++ rest) ≡ Ok (xs, rest)) ok.0 (many_again [] xs rest ok.1);
   }
 
 -- ---- what holds of each, and of each beside the next
@@ -117,20 +117,25 @@ module _ {A : Type 0} (P : A → Type 0) (R : A → A → Type 0) where
 
 -- ---- a count, and that many values
 
-pub counted : {A : Type 0} {P : ℕ → Type 0} {spell_count : ℕ → List ℕ} {count_at : List ℕ → Option (ℕ × List ℕ)} (counter : IsReader P spell_count count_at)
-    (Next : List A → A → Type 0) (spell : A → List ℕ) (one : List A → List ℕ → Option (A × List ℕ)) (each : (front : List A) → IsReader (Next front) spell (one front))
-    → IsReader (λ xs. P (length xs) × Grows Next [] xs) (λ xs. spell_count (length xs) ++ flat_map spell xs) (λ bytes. count_at bytes >>= λ n. many_at one [] n.0 n.1)
-counted {A} {P} {spell_count} {count_at} counter Next spell one each = record {
+pub counted_by : {A : Type 0} {P : ℕ → Type 0} {spell_count : ℕ → List ℕ} {count_at : List ℕ → Reading ℕ} (counter : IsReader P spell_count count_at)
+    (Q : List A → Type 0) (spell : A → List ℕ) (several : ℕ → List ℕ → Reading (List A)) (each : (n : ℕ) → IsReader (λ xs. (length xs ≡ n) × Q xs) (flat_map spell) (several n))
+    → IsReader (λ xs. P (length xs) × Q xs) (λ xs. spell_count (length xs) ++ flat_map spell xs) (λ bytes. count_at bytes >>= λ n. several n.0 n.1)
+counted_by {A} {P} {spell_count} {count_at} counter Q spell several each = record {
   took = λ bytes fits x e.
-      let s = bound (count_at bytes) (λ (n : ℕ × List ℕ). many_at one [] n.0 n.1) x e in
+      let s = bound (count_at bytes) (λ (n : ℕ × List ℕ). several n.0 n.1) x e in
       let t = counter.took bytes fits s.0 s.1 in
-      let m = (many_reader Next spell one each s.0.0).took s.0.1 t.text.rest_fits x s.2 in
+      let m = (each s.0.0).took s.0.1 t.text.rest_fits x s.2 in
       record {
         allowed = (subst P (sym m.allowed.0) t.allowed, m.allowed.1);
         text = subst (λ (n : ℕ). Takes bytes (spell_count n ++ flat_map spell x.0) x.1) (sym m.allowed.0) (t.text ⨟ m.text);
       };
   again = λ xs rest ok.
-      joined (count_at ((spell_count (length xs) ++ flat_map spell xs) ++ rest)) (λ (n : ℕ × List ℕ). many_at one [] n.0 n.1) (length xs, flat_map spell xs ++ rest) (Some (xs, rest))
+      joined (count_at ((spell_count (length xs) ++ flat_map spell xs) ++ rest)) (λ (n : ℕ × List ℕ). several n.0 n.1) (length xs, flat_map spell xs ++ rest) (Ok (xs, rest))
       (ap count_at (append_assoc (spell_count (length xs)) (flat_map spell xs) rest) ∙ counter.again (length xs) (flat_map spell xs ++ rest) ok.0)
-      ((many_reader Next spell one each (length xs)).again xs rest (refl, ok.1));
+      ((each (length xs)).again xs rest (refl, ok.1));
 }
+
+pub counted : {A : Type 0} {P : ℕ → Type 0} {spell_count : ℕ → List ℕ} {count_at : List ℕ → Reading ℕ} (counter : IsReader P spell_count count_at)
+    (Next : List A → A → Type 0) (spell : A → List ℕ) (one : List A → List ℕ → Reading A) (each : (front : List A) → IsReader (Next front) spell (one front))
+    → IsReader (λ xs. P (length xs) × Grows Next [] xs) (λ xs. spell_count (length xs) ++ flat_map spell xs) (λ bytes. count_at bytes >>= λ n. many_at one [] n.0 n.1)
+counted counter Next spell one each = counted_by counter (Grows Next []) spell (many_at one []) (many_reader Next spell one each)

@@ -1,5 +1,5 @@
 -- The readers of enables and takes.
-use Rattle.std.proofs.Common.{◌≡◌, ℕ, ◌<◌, Bool, true, List, ◌∷◌, ◌++◌, length, Option, Some, None, ℤ, refl, subst, ◌∙◌, arith}
+use Rattle.std.proofs.Common.{◌≡◌, ℕ, ◌<◌, Bool, true, List, ◌∷◌, ◌++◌, length, Option, Some, None, Result, Ok, ℤ, refl, subst, ◌∙◌, arith}
 use Rattle.std.specs.Prelude.{IsSomeAnd, slice_get}
 use Rattle.std.specs.List.{All, AllAdjacentBelow, flat_map}
 use Rattle.std.proofs.lemmas.Bool.Decides.{nat_tests}
@@ -9,9 +9,10 @@ use Rattle.micro_image.specs.declared.image.Take.{Take}
 use Rattle.micro_image.specs.declared.image.UnitDesc.{UnitDesc}
 use Rattle.micro_image.specs.Spells.{two_bytes, spelled_enable, spelled_take}
 use Rattle.micro_image.specs.Valid.{IsWithin, IsEnable, IsTake, IsRegister, EnableBefore, TakeBefore}
-use Rattle.micro_file.specs.Private.Fields.{kept, byte_at, byte_below}
-use Rattle.micro_file.specs.Private.Words.{enable_at, enables_at, take_at, takes_at, enable_before, take_before, is_next, last_of}
-use Rattle.micro_file.proofs.Readers.{IsBytes, ◌⨟◌, Took, IsReader, such_reader, was_kept}
+use Rattle.micro_file.specs.declared.misread.Misread.{Misread}
+use Rattle.micro_file.specs.Fields.{Reading, kept, found, byte_at, byte_below}
+use Rattle.micro_file.specs.Words.{enable_at, enables_at, take_at, takes_at, enable_before, take_before, is_next, last_of}
+use Rattle.micro_file.proofs.Readers.{IsBytes, ◌⨟◌, Took, IsReader, such_reader, was_kept, was_found, found_is}
 use Rattle.micro_file.proofs.Several.{counted, Behind, Rising, risen_all, risen_beside, grows_risen}
 use Rattle.micro_file.proofs.Leaves.{byte_reader, below_reader, two_reader}
 use Rattle.micro_file.proofs.IssueReader.{some_and}
@@ -34,33 +35,33 @@ enable_whole : (a b : Enable) → EnableBefore a b → enable_before a b ≡ tru
 enable_whole a b h = grind (arith, nat_tests)
 
 module _ (image : Image) where
-  abbrev bus_behind : ℕ × List ℕ → Option (ℕ × List ℕ)
+  abbrev bus_behind : ℕ × List ℕ → Reading ℕ
   bus_behind u = byte_below image.buses u.1
 
   abbrev pub AreEnables : List Enable → Type 0
   AreEnables enables = IsWithin 0 1024 (length enables) × All (IsEnable image) enables × AllAdjacentBelow EnableBefore enables (length enables)
 
   module _ (front : List Enable) where
-    abbrev whole_enable : ℕ × List ℕ → ℕ × List ℕ → Option (Enable × List ℕ)
-    whole_enable u b = kept (is_next enable_before (last_of front) (record { unit = u.0; bus = b.0 })) (record { unit = u.0; bus = b.0 }, b.1)
+    abbrev whole_enable : List ℕ → ℕ × List ℕ → ℕ × List ℕ → Reading Enable
+    whole_enable bytes u b = kept bytes (is_next enable_before (last_of front) (record { unit = u.0; bus = b.0 })) (record { unit = u.0; bus = b.0 }, b.1)
 
-    enable_took : (bytes : List ℕ) → IsBytes bytes → (x : Enable × List ℕ) → enable_at image front bytes ≡ Some x → Took (Rising (IsEnable image) EnableBefore front) spelled_enable bytes x
+    enable_took : (bytes : List ℕ) → IsBytes bytes → (x : Enable × List ℕ) → enable_at image front bytes ≡ Ok x → Took (Rising (IsEnable image) EnableBefore front) spelled_enable bytes x
     unfolding enable_at spelled_enable
     enable_took bytes fits x e =
-        let s = bound2 (byte_below (length image.units) bytes) bus_behind whole_enable x e in
+        let s = bound2 (byte_below (length image.units) bytes) bus_behind (whole_enable bytes) x e in
         let u = (below_reader (length image.units)).took bytes fits s.0 s.2 in
         let b = (below_reader image.buses).took s.0.1 u.text.rest_fits s.1 s.3 in
         let enable : Enable = record { unit = s.0.0; bus = s.1.0 } in
-        let k = was_kept (is_next enable_before (last_of front) enable) (enable, s.1.1) x s.4 in
+        let k = was_kept bytes (is_next enable_before (last_of front) enable) (enable, s.1.1) x s.4 in
         subst (λ (p : Enable × List ℕ). Took (Rising (IsEnable image) EnableBefore front) spelled_enable bytes p) k.1 (record {
           allowed = (record { unit = u.allowed; bus = b.allowed }, next_sound enable_before EnableBefore enable_sound (last_of front) enable k.0);
           text = u.text ⨟ b.text;
         })
 
-    enable_again : (enable : Enable) (rest : List ℕ) → Rising (IsEnable image) EnableBefore front enable → enable_at image front (spelled_enable enable ++ rest) ≡ Some (enable, rest)
+    enable_again : (enable : Enable) (rest : List ℕ) → Rising (IsEnable image) EnableBefore front enable → enable_at image front (spelled_enable enable ++ rest) ≡ Ok (enable, rest)
     unfolding enable_at spelled_enable
     enable_again enable rest ok =
-        joined2 (byte_below (length image.units) (enable.unit ∷ enable.bus ∷ rest)) bus_behind whole_enable (enable.unit, enable.bus ∷ rest) (enable.bus, rest)
+        joined2 (byte_below (length image.units) (enable.unit ∷ enable.bus ∷ rest)) bus_behind (whole_enable (enable.unit ∷ enable.bus ∷ rest)) (enable.unit, enable.bus ∷ rest) (enable.bus, rest)
         ((below_reader (length image.units)).again enable.unit _ ok.0.unit)
         ((below_reader image.buses).again enable.bus _ ok.0.bus)
         ∙ rw (next_whole enable_before EnableBefore enable_whole (last_of front) enable ok.1) refl
@@ -89,19 +90,19 @@ is_register : (image : Image) (take : Take) (unit : UnitDesc) (file : List ℤ) 
 is_register image take unit file there has lt = rw (there, has) lt
 
 module _ (image : Image) where
-  abbrev unit_of_take : ℕ × List ℕ → Option UnitDesc
-  unit_of_take n = slice_get image.units n.0
+  abbrev unit_of_take : List ℕ → ℕ × List ℕ → Result UnitDesc Misread
+  unit_of_take bytes n = found bytes (slice_get image.units n.0)
 
-  abbrev port_behind : ℕ × List ℕ → UnitDesc → Option (ℕ × List ℕ)
+  abbrev port_behind : ℕ × List ℕ → UnitDesc → Reading ℕ
   port_behind n u = byte_at n.1
 
-  abbrev file_of_port : ℕ × List ℕ → UnitDesc → ℕ × List ℕ → Option (List ℤ)
-  file_of_port n u p = slice_get u.files p.0
+  abbrev file_of_port : ℕ × List ℕ → UnitDesc → ℕ × List ℕ → Result (List ℤ) Misread
+  file_of_port n u p = found n.1 (slice_get u.files p.0)
 
-  abbrev bus_of_take : ℕ × List ℕ → UnitDesc → ℕ × List ℕ → List ℤ → Option (ℕ × List ℕ)
+  abbrev bus_of_take : ℕ × List ℕ → UnitDesc → ℕ × List ℕ → List ℤ → Reading ℕ
   bus_of_take n u p f = byte_below image.buses p.1
 
-  abbrev register_behind : ℕ × List ℕ → UnitDesc → ℕ × List ℕ → List ℤ → ℕ × List ℕ → Option (ℕ × List ℕ)
+  abbrev register_behind : ℕ × List ℕ → UnitDesc → ℕ × List ℕ → List ℤ → ℕ × List ℕ → Reading ℕ
   register_behind n u p f b = byte_below (length f) b.1
 
   abbrev made_take : ℕ → ℕ → ℕ → ℕ → Take
@@ -111,32 +112,33 @@ module _ (image : Image) where
   AreTakes takes = IsWithin 0 1024 (length takes) × All (IsTake image) takes × AllAdjacentBelow TakeBefore takes (length takes)
 
   module _ (front : List Take) where
-    abbrev whole_take : ℕ × List ℕ → UnitDesc → ℕ × List ℕ → List ℤ → ℕ × List ℕ → ℕ × List ℕ → Option (Take × List ℕ)
-    whole_take n u p f b r = kept (is_next take_before (last_of front) (made_take n.0 p.0 b.0 r.0)) (made_take n.0 p.0 b.0 r.0, r.1)
+    abbrev whole_take : List ℕ → ℕ × List ℕ → UnitDesc → ℕ × List ℕ → List ℤ → ℕ × List ℕ → ℕ × List ℕ → Reading Take
+    whole_take bytes n u p f b r = kept bytes (is_next take_before (last_of front) (made_take n.0 p.0 b.0 r.0)) (made_take n.0 p.0 b.0 r.0, r.1)
 
-    take_took : (bytes : List ℕ) → IsBytes bytes → (x : Take × List ℕ) → take_at image front bytes ≡ Some x → Took (Rising (IsTake image) TakeBefore front) spelled_take bytes x
+    take_took : (bytes : List ℕ) → IsBytes bytes → (x : Take × List ℕ) → take_at image front bytes ≡ Ok x → Took (Rising (IsTake image) TakeBefore front) spelled_take bytes x
     unfolding take_at spelled_take
     take_took bytes fits x e =
-        let s = bound6 (byte_at bytes) unit_of_take port_behind file_of_port bus_of_take register_behind whole_take x e in
+        let s = bound6 (byte_at bytes) (unit_of_take bytes) port_behind file_of_port bus_of_take register_behind (whole_take bytes) x e in
         let n = byte_reader.took bytes fits s.0 s.6 in
         let p = byte_reader.took s.0.1 n.text.rest_fits s.2 s.8 in
         let b = (below_reader image.buses).took s.2.1 p.text.rest_fits s.4 s.10 in
         let r = (below_reader (length s.3)).took s.4.1 b.text.rest_fits s.5 s.11 in
         let take = made_take s.0.0 s.2.0 s.4.0 s.5.0 in
-        let k = was_kept (is_next take_before (last_of front) take) (take, s.5.1) x s.12 in
+        let k = was_kept bytes (is_next take_before (last_of front) take) (take, s.5.1) x s.12 in
         subst (λ (q : Take × List ℕ). Took (Rising (IsTake image) TakeBefore front) spelled_take bytes q) k.1 (record {
-          allowed = (record { register = is_register image take s.1 s.3 s.7 s.9 r.allowed; bus = b.allowed }, next_sound take_before TakeBefore take_sound (last_of front) take k.0);
+          allowed = (record { register = is_register image take s.1 s.3 (was_found bytes (slice_get image.units s.0.0) s.1 s.7) (was_found s.0.1 (slice_get s.1.files s.2.0) s.3 s.9) r.allowed; bus = b.allowed }, next_sound take_before TakeBefore take_sound (last_of front) take k.0);
           text = n.text ⨟ p.text ⨟ b.text ⨟ r.text;
         })
 
-    take_again : (take : Take) (rest : List ℕ) → Rising (IsTake image) TakeBefore front take → take_at image front (spelled_take take ++ rest) ≡ Some (take, rest)
+    take_again : (take : Take) (rest : List ℕ) → Rising (IsTake image) TakeBefore front take → take_at image front (spelled_take take ++ rest) ≡ Ok (take, rest)
     unfolding take_at spelled_take
     take_again take rest ok =
+        let bytes = take.port.unit ∷ take.port.port ∷ take.bus ∷ take.reg ∷ rest in
         let unit = some_and (λ (u : UnitDesc). IsSomeAnd (slice_get u.files take.port.port) (λ file. take.reg < length file)) (slice_get image.units take.port.unit) ok.0.register in
         let file = some_and (λ (f : List ℤ). take.reg < length f) (slice_get unit.0.files take.port.port) unit.2 in
-        joined6 (byte_at (take.port.unit ∷ take.port.port ∷ take.bus ∷ take.reg ∷ rest)) unit_of_take port_behind file_of_port bus_of_take register_behind whole_take
+        joined6 (byte_at bytes) (unit_of_take bytes) port_behind file_of_port bus_of_take register_behind (whole_take bytes)
         (take.port.unit, take.port.port ∷ take.bus ∷ take.reg ∷ rest) unit.0 (take.port.port, take.bus ∷ take.reg ∷ rest) file.0 (take.bus, take.reg ∷ rest) (take.reg, rest)
-        refl unit.1 refl file.1
+        refl (found_is bytes (slice_get image.units take.port.unit) unit.0 unit.1) refl (found_is (take.port.port ∷ take.bus ∷ take.reg ∷ rest) (slice_get unit.0.files take.port.port) file.0 file.1)
         ((below_reader image.buses).again take.bus _ ok.0.bus)
         ((below_reader (length file.0)).again take.reg _ file.2)
         ∙ rw (next_whole take_before TakeBefore take_whole (last_of front) take ok.1) refl

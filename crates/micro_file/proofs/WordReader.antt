@@ -1,5 +1,5 @@
 -- The reader of words.
-use Rattle.std.proofs.Common.{◌≡◌, ℕ, List, ◌++◌, length, Option, Some, sym, ap, subst, ◌∙◌, append_assoc, arith}
+use Rattle.std.proofs.Common.{◌≡◌, ℕ, List, ◌++◌, length, Ok, sym, ap, subst, ◌∙◌, append_assoc, arith}
 use Rattle.std.specs.List.{flat_map}
 use Rattle.micro_image.specs.declared.image.Image.{Image}
 use Rattle.micro_image.specs.declared.image.Enable.{Enable}
@@ -8,8 +8,9 @@ use Rattle.micro_image.specs.declared.image.Take.{Take}
 use Rattle.micro_image.specs.declared.image.Word.{Word}
 use Rattle.micro_image.specs.Spells.{two_bytes, spelled_issue, spelled_enable, spelled_take, spelled_word}
 use Rattle.micro_image.specs.Valid.{IsWordOf}
-use Rattle.micro_file.specs.Private.Words.{enables_at, takes_at, issues_at, word_at}
-use Rattle.micro_file.proofs.Readers.{IsBytes, Takes, ◌⨟◌, Took, IsReader, some_is}
+use Rattle.micro_file.specs.Fields.{Reading}
+use Rattle.micro_file.specs.Words.{enables_at, takes_at, issues_at, word_at}
+use Rattle.micro_file.proofs.Readers.{IsBytes, Takes, ◌⨟◌, Took, IsReader, ok_is}
 use Rattle.micro_file.proofs.Leaves.{one_byte}
 use Rattle.micro_file.proofs.TransferReader.{enables_reader, takes_reader}
 use Rattle.micro_file.proofs.IssueReader.{HasFewWords, AllHave, issues_reader}
@@ -21,16 +22,16 @@ unfolding spelled_word
 in_lists word = simp append_assoc
 
 module _ (image : Image) (few : HasFewWords image) (have : AllHave image) where
-  abbrev enables_behind : List Issue × List ℕ → Option (List Enable × List ℕ)
+  abbrev enables_behind : List Issue × List ℕ → Reading (List Enable)
   enables_behind i = enables_at image i.1
 
-  abbrev takes_behind : List Issue × List ℕ → List Enable × List ℕ → Option (List Take × List ℕ)
+  abbrev takes_behind : List Issue × List ℕ → List Enable × List ℕ → Reading (List Take)
   takes_behind i e = takes_at image e.1
 
-  abbrev whole_word : List Issue × List ℕ → List Enable × List ℕ → List Take × List ℕ → Option (Word × List ℕ)
-  whole_word i e t = Some (record { issues = i.0; enables = e.0; takes = t.0 }, t.1)
+  abbrev whole_word : List Issue × List ℕ → List Enable × List ℕ → List Take × List ℕ → Reading Word
+  whole_word i e t = Ok (record { issues = i.0; enables = e.0; takes = t.0 }, t.1)
 
-  word_took : (bytes : List ℕ) → IsBytes bytes → (x : Word × List ℕ) → word_at image bytes ≡ Some x → Took (IsWordOf image) spelled_word bytes x
+  word_took : (bytes : List ℕ) → IsBytes bytes → (x : Word × List ℕ) → word_at image bytes ≡ Ok x → Took (IsWordOf image) spelled_word bytes x
   unfolding word_at
   word_took bytes fits x e =
       let s = bound3 (issues_at image bytes) enables_behind takes_behind whole_word x e in
@@ -38,7 +39,7 @@ module _ (image : Image) (few : HasFewWords image) (have : AllHave image) where
       let n = (enables_reader image).took s.0.1 i.text.rest_fits s.1 s.4 in
       let t = (takes_reader image).took s.1.1 n.text.rest_fits s.2 s.5 in
       let word : Word = record { issues = s.0.0; enables = s.1.0; takes = s.2.0 } in
-      subst (λ (p : Word × List ℕ). Took (IsWordOf image) spelled_word bytes p) (some_is (word, s.2.1) x s.6) (record {
+      subst (λ (p : Word × List ℕ). Took (IsWordOf image) spelled_word bytes p) (ok_is (word, s.2.1) x s.6) (record {
         allowed = record {
           issues = i.allowed.0;
           issues_rise = i.allowed.1;
@@ -52,7 +53,7 @@ module _ (image : Image) (few : HasFewWords image) (have : AllHave image) where
         text = subst (λ (text : List ℕ). Takes bytes text s.2.1) (in_lists word) (i.text ⨟ n.text ⨟ t.text);
       })
 
-  word_again : (word : Word) (rest : List ℕ) → IsWordOf image word → word_at image (spelled_word word ++ rest) ≡ Some (word, rest)
+  word_again : (word : Word) (rest : List ℕ) → IsWordOf image word → word_at image (spelled_word word ++ rest) ≡ Ok (word, rest)
   unfolding word_at
   word_again word rest ok =
       let I = one_byte (length word.issues) ++ flat_map spelled_issue word.issues in

@@ -1,5 +1,4 @@
 pub mod Sizes
-pub mod Fields
-pub mod Units
-pub mod Words
-pub mod File
+pub mod Reads
+pub mod Ends
+pub mod Places

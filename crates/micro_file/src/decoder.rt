@@ -1,10 +1,14 @@
-ghost use Rattle.std.specs.Prelude.{◌≡◌, ◌<◌, ◌^◌, ◌*◌, [], length, IfOk, IfErr, MatchResult};
+ghost use Rattle.std.specs.Prelude.{◌≡◌, ◌≢◌, ◌<◌, ◌^◌, ◌*◌, [], length, IfOk, IfErr, MatchResult};
 ghost use Rattle.micro_image.specs.Spells.{Spells};
-ghost use Rattle.micro_file.specs.declared.fault.FormFault.TheVariants.{NotSpelled, Memory};
-ghost use Rattle.micro_file.specs.Private.Fields.{Gives, Reads, Passes, byte_within, many_at};
-ghost use Rattle.micro_file.specs.Private.File.{head_at, unroll_at, inputs_at, hardware_at, image_at, whole_at};
+ghost use Rattle.micro_file.specs.declared.fault.FormFault.TheVariants.{Memory};
+ghost use Rattle.micro_file.specs.Fields.{byte_within, many_at};
+ghost use Rattle.micro_file.specs.Faults.{placed, IsFormFault};
+ghost use Rattle.micro_file.specs.Private.Places.{IsIn};
+ghost use Rattle.micro_file.specs.Private.Reads.{Gives, Reads, Passes};
+ghost use Rattle.micro_file.specs.File.{head_at, unroll_at, inputs_at, hardware_at, image_at, whole_at};
 
 use crate::fault::FormFault;
+use crate::misread::{Misread, Unread, refused};
 use crate::reader::Reader;
 use crate::units::read_units;
 use crate::words::read_words;
@@ -28,31 +32,32 @@ const MAX_WIDTH: u8 = 32;
 const MAX_BUSES: u8 = 32;
 
 /// Passes the magic bytes and the version.
-#[tactic(auto, unfolding(crate::specs::Private::File::head_at))]
-fn pass_head(reader: &mut Reader<'_>) -> Result<(), FormFault>
+#[tactic(auto, unfolding(crate::specs::File::head_at))]
+fn pass_head(reader: &mut Reader<'_>) -> Result<(), Unread>
     ensures { Passes head_at reader.old result reader.new }
 {
-    reader.byte_in(b'S', b'S')?;
-    reader.byte_in(b'I', b'I')?;
-    reader.byte_in(b'L', b'L')?;
-    reader.byte_in(b'M', b'M')?;
-    reader.byte_in(VERSION, VERSION)?;
+    reader.only(Misread::Magic, b'S')?;
+    reader.only(Misread::Magic, b'I')?;
+    reader.only(Misread::Magic, b'L')?;
+    reader.only(Misread::Magic, b'M')?;
+    reader.only(Misread::Version, VERSION)?;
     Ok(())
 }
 
 /// The unroll factor.
-fn read_unroll(reader: &mut Reader<'_>) -> Result<u8, FormFault>
+fn read_unroll(reader: &mut Reader<'_>) -> Result<u8, Unread>
     ensures { Reads unroll_at reader.old result reader.new }
 {
+    let left = reader.left();
     let unroll = reader.byte()?;
     if unroll == 1 || unroll == 2 || unroll == 4 {
         Ok(unroll)
     } else {
-        Err(FormFault::NotSpelled)
+        Err(refused(left))
     }
 }
 
-fn read_widths(alloc: Global, count: usize, reader: &mut Reader<'_>) -> Result<List<u8>, FormFault>
+fn read_widths(alloc: Global, count: usize, reader: &mut Reader<'_>) -> Result<List<u8>, Unread>
     ensures { Reads (many_at (λ _. byte_within 0 32) [] count) reader.old result reader.new }
 {
     let mut widths = List::with_capacity(alloc, count)?;
@@ -63,8 +68,8 @@ fn read_widths(alloc: Global, count: usize, reader: &mut Reader<'_>) -> Result<L
     Ok(widths)
 }
 
-#[tactic(auto, unfolding(crate::specs::Private::File::inputs_at))]
-fn read_inputs(alloc: Global, reader: &mut Reader<'_>) -> Result<List<u8>, FormFault>
+#[tactic(auto, unfolding(crate::specs::File::inputs_at))]
+fn read_inputs(alloc: Global, reader: &mut Reader<'_>) -> Result<List<u8>, Unread>
     ensures { Reads inputs_at reader.old result reader.new }
 {
     let count = reader.byte_in(1, MAX_CHANNELS)?;
@@ -72,8 +77,8 @@ fn read_inputs(alloc: Global, reader: &mut Reader<'_>) -> Result<List<u8>, FormF
 }
 
 /// All but the words.
-#[tactic(auto, unfolding(crate::specs::Private::File::hardware_at))]
-fn read_hardware(alloc: Global, reader: &mut Reader<'_>) -> Result<Image, FormFault>
+#[tactic(auto, unfolding(crate::specs::File::hardware_at))]
+fn read_hardware(alloc: Global, reader: &mut Reader<'_>) -> Result<Image, Unread>
     ensures { Reads hardware_at reader.old result reader.new }
 {
     let period = reader.short_in(1, MAX_PERIOD)?;
@@ -99,8 +104,8 @@ fn word_count(image: &Image) -> usize
     usize::from(image.period) * usize::from(image.unroll)
 }
 
-#[tactic(auto, unfolding(crate::specs::Private::File::image_at))]
-fn read_image(alloc: Global, reader: &mut Reader<'_>) -> Result<Image, FormFault>
+#[tactic(auto, unfolding(crate::specs::File::image_at))]
+fn read_image(alloc: Global, reader: &mut Reader<'_>) -> Result<Image, Unread>
     ensures { Reads image_at reader.old result reader.new }
 {
     pass_head(reader)?;
@@ -110,30 +115,52 @@ fn read_image(alloc: Global, reader: &mut Reader<'_>) -> Result<Image, FormFault
     Ok(image)
 }
 
-#[tactic(auto, unfolding(crate::specs::Private::File::whole_at))]
-fn read_whole(alloc: Global, bytes: &[u8]) -> Result<Image, FormFault>
+#[tactic(auto, unfolding(crate::specs::File::whole_at))]
+fn read_whole(alloc: Global, bytes: &[u8]) -> Result<Image, Unread>
     ensures { Gives result (whole_at bytes.now) }
 {
     let mut reader = Reader::new(bytes);
     let image = read_image(alloc, &mut reader)?;
-    if reader.is_at_end() {
+    let left = reader.left();
+    if left == 0 {
         Ok(image)
     } else {
-        Err(FormFault::NotSpelled)
+        Err(Unread::Misread(Misread::Trailing { left }))
     }
 }
 
-/// The image that the bytes spell. `NotSpelled` says that they spell none, `Memory` that no memory was left.
+/// What was misread, with its place in a file of this many bytes.
+fn fault_at(misread: Misread, size: usize) -> FormFault
+    requires short { size < 2 ^ 32 }
+    requires inside { IsIn size misread }
+    ensures { result ≡ placed size misread }
+{
+    match misread {
+        Misread::Magic => FormFault::Magic,
+        Misread::Version => FormFault::Version,
+        Misread::Short => FormFault::Short(size as u32),
+        Misread::Field { left } => FormFault::Field((size - left) as u32),
+        Misread::Ram { behind } => FormFault::Field((size - behind - 1) as u32),
+        Misread::Trailing { left } => FormFault::Trailing((size - left) as u32),
+    }
+}
+
+/// The image that the bytes spell. Where they spell none, the fault is the first in reading order. `Memory` says that
+/// no memory was left.
 pub fn decode(alloc: Global, bytes: &[u8]) -> Result<Image, FormFault>
     requires { length bytes.now < 2 ^ 32 }
     ensures spelled { IfOk result (λ image. Spells bytes.now image) }
     ensures every_spelling { (image : Image)
         → Spells bytes.now image
         → MatchResult result (λ decoded. decoded ≡ image) (λ fault. fault ≡ Memory) }
-    ensures not_spelled { IfErr result (λ fault. fault ≡ NotSpelled
-        → (image : Image)
-        → Spells bytes.now image
-        → ⊥) }
+    ensures fault { IfErr result (λ fault. fault ≢ Memory → IsFormFault bytes.now fault) }
+    ensures every_fault { (first : FormFault)
+        → IsFormFault bytes.now first
+        → MatchResult result (λ _. ⊥) (λ fault. fault ≢ Memory → fault ≡ first) }
 {
-    read_whole(alloc, bytes)
+    match read_whole(alloc, bytes) {
+        Ok(image) => Ok(image),
+        Err(Unread::Misread(misread)) => Err(fault_at(misread, bytes.len())),
+        Err(Unread::Memory) => Err(FormFault::Memory),
+    }
 }

@@ -1,6 +1,6 @@
 ghost use Rattle.std.specs.Prelude.{◌≡◌};
 
-use std::alloc::{AllocError, AllocFailed};
+use std::alloc::AllocError;
 use thiserror::Error;
 
 /// Why an image could not be encoded.
@@ -21,33 +21,25 @@ impl From<AllocError> for CodeFault {
     }
 }
 
-/// Why bytes could not be decoded.
+/// Why bytes could not be decoded: the first place, in reading order, at which they cease to spell an image.
 #[derive(Clone, Copy, Debug, PartialEq, Eq, Error)]
 pub enum FormFault {
-    /// The bytes spell no image.
-    #[error("bad microcode")]
-    NotSpelled,
+    /// One of the first four bytes is not that of the magic.
+    #[error("bad magic")]
+    Magic,
+    /// The byte after the magic is no version that is known.
+    #[error("bad version")]
+    Version,
+    /// The bytes, which are this many, end before a field is whole.
+    #[error("short at {0}")]
+    Short(u32),
+    /// The field that begins at this byte is not allowed.
+    #[error("bad field at {0}")]
+    Field(u32),
+    /// Bytes follow the last field, from this one on.
+    #[error("trailing bytes at {0}")]
+    Trailing(u32),
     /// No memory was left.
     #[error("no memory")]
     Memory,
-}
-
-impl From<AllocError> for FormFault {
-    ghost use Rattle.micro_file.specs.declared.fault.FormFault.TheVariants.{Memory};
-
-    ghost from_gives = { λ _ fault. fault ≡ Memory };
-
-    fn from(_: AllocError) -> FormFault {
-        FormFault::Memory
-    }
-}
-
-impl<T: Drop> From<AllocFailed<T>> for FormFault {
-    ghost use Rattle.micro_file.specs.declared.fault.FormFault.TheVariants.{Memory};
-
-    ghost from_gives = { λ _ fault. fault ≡ Memory };
-
-    fn from(_: AllocFailed<T>) -> FormFault {
-        FormFault::Memory
-    }
 }

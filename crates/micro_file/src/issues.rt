@@ -1,9 +1,10 @@
 //! The issues of a microword.
 ghost use Rattle.std.specs.Prelude.{◌≡◌, [], length};
-ghost use Rattle.micro_file.specs.Private.Fields.{Reads, many_at};
-ghost use Rattle.micro_file.specs.Private.Words.{same_kind, some_format_at, no_format_at, format_at, is_below, is_argument, argument_at, register_count, register_at, is_above, last_of, issue_on_at, issue_at, issues_at};
+ghost use Rattle.micro_file.specs.Fields.{many_at};
+ghost use Rattle.micro_file.specs.Private.Reads.{Reads};
+ghost use Rattle.micro_file.specs.Words.{same_kind, some_format_at, no_format_at, format_at, is_below, is_argument, argument_at, register_count, register_at, is_above, last_of, issue_on_at, issue_at, issues_at};
 
-use crate::fault::FormFault;
+use crate::misread::{Unread, refused};
 use crate::reader::{Reader, is_word};
 use fix_word::{Format, Mode, Op};
 use lists::List;
@@ -28,21 +29,22 @@ fn is_one_kind(a: Kind, b: Kind) -> bool
     a as u8 == b as u8
 }
 
-#[tactic(auto, unfolding(crate::specs::Private::Words::some_format_at))]
-fn read_some_format(reader: &mut Reader<'_>) -> Result<Format, FormFault>
+#[tactic(auto, unfolding(crate::specs::Words::some_format_at))]
+fn read_some_format(reader: &mut Reader<'_>) -> Result<Format, Unread>
     ensures { Reads some_format_at reader.old result reader.new }
 {
+    let left = reader.left();
     let shift = reader.byte()?.cast_signed();
     if shift < MIN_SHIFT || MAX_SHIFT < shift {
-        return Err(FormFault::NotSpelled);
+        return Err(refused(left));
     }
     let mode = reader.mode()?;
     let width = reader.byte_in(1, MAX_WIDTH)?;
     Ok(Format { shift, mode, width })
 }
 
-#[tactic(auto, unfolding(crate::specs::Private::Words::no_format_at))]
-fn read_no_format(reader: &mut Reader<'_>) -> Result<Format, FormFault>
+#[tactic(auto, unfolding(crate::specs::Words::no_format_at))]
+fn read_no_format(reader: &mut Reader<'_>) -> Result<Format, Unread>
     ensures { Reads no_format_at reader.old result reader.new }
 {
     reader.byte_in(0, 0)?;
@@ -55,7 +57,7 @@ fn read_no_format(reader: &mut Reader<'_>) -> Result<Format, FormFault>
     })
 }
 
-fn read_format(op: Op, reader: &mut Reader<'_>) -> Result<Format, FormFault>
+fn read_format(op: Op, reader: &mut Reader<'_>) -> Result<Format, Unread>
     ensures { Reads (format_at op) reader.old result reader.new }
 {
     if is_formatted(op) {
@@ -85,15 +87,16 @@ fn fits_operation(op: Op, inputs: usize, outs: usize, argument: i64) -> bool
     }
 }
 
-#[tactic(auto, unfolding(crate::specs::Private::Words::argument_at))]
-fn read_argument(op: Op, image: &Image, reader: &mut Reader<'_>) -> Result<i64, FormFault>
+#[tactic(auto, unfolding(crate::specs::Words::argument_at))]
+fn read_argument(op: Op, image: &Image, reader: &mut Reader<'_>) -> Result<i64, Unread>
     ensures { Reads (argument_at op (length image.now.inputs) image.now.outs) reader.old result reader.new }
 {
+    let left = reader.left();
     let argument = reader.signed()?;
     if fits_operation(op, image.inputs.len(), usize::from(image.outs), argument) {
         Ok(argument)
     } else {
-        Err(FormFault::NotSpelled)
+        Err(refused(left))
     }
 }
 
@@ -116,7 +119,7 @@ fn read_register(
     read: usize,
     regs: &PortRegisters,
     reader: &mut Reader<'_>,
-) -> Result<u8, FormFault>
+) -> Result<u8, Unread>
     ensures { Reads (register_at files.now read regs.now) reader.old result reader.new }
 {
     reader.byte_under(registers_at(files, read, regs.len()))
@@ -128,7 +131,7 @@ fn read_registers(
     read: usize,
     count: usize,
     reader: &mut Reader<'_>,
-) -> Result<PortRegisters, FormFault>
+) -> Result<PortRegisters, Unread>
     ensures { Reads (many_at (register_at files.now read) [] count) reader.old result reader.new }
 {
     let mut regs = PortRegisters::with_capacity(alloc, count)?;
@@ -139,19 +142,20 @@ fn read_registers(
     Ok(regs)
 }
 
-#[tactic(auto, unfolding(crate::specs::Private::Words::issue_on_at))]
+#[tactic(auto, unfolding(crate::specs::Words::issue_on_at))]
 fn read_issue_on(
     alloc: Global,
     image: &Image,
     number: u8,
     unit: &UnitDesc,
     reader: &mut Reader<'_>,
-) -> Result<Issue, FormFault>
+) -> Result<Issue, Unread>
     ensures { Reads (issue_on_at image.now number unit.now) reader.old result reader.new }
 {
+    let left = reader.left();
     let op = reader.operation()?;
     if !is_one_kind(Kind::of(op), unit.kind) {
-        return Err(FormFault::NotSpelled);
+        return Err(refused(left));
     }
     let fmt = read_format(op, reader)?;
     let arg = read_argument(op, image, reader)?;
@@ -177,19 +181,20 @@ fn rises(issues: &List<Issue>, number: u8) -> bool
 }
 
 /// An issue after others.
-#[tactic(auto, unfolding(crate::specs::Private::Words::issue_at))]
+#[tactic(auto, unfolding(crate::specs::Words::issue_at))]
 fn read_issue(
     alloc: Global,
     image: &Image,
     issues: &List<Issue>,
     reader: &mut Reader<'_>,
-) -> Result<Issue, FormFault>
+) -> Result<Issue, Unread>
     ensures { Reads (issue_at image.now issues.now) reader.old result reader.new }
 {
+    let left = reader.left();
     let number = reader.byte()?;
     match image.units.get(usize::from(number)) {
         Some(unit) if rises(issues, number) => read_issue_on(alloc, image, number, unit, reader),
-        _ => Err(FormFault::NotSpelled),
+        _ => Err(refused(left)),
     }
 }
 
@@ -198,7 +203,7 @@ fn read_several(
     image: &Image,
     count: usize,
     reader: &mut Reader<'_>,
-) -> Result<List<Issue>, FormFault>
+) -> Result<List<Issue>, Unread>
     ensures { Reads (many_at (issue_at image.now) [] count) reader.old result reader.new }
 {
     let mut issues = List::with_capacity(alloc, count)?;
@@ -209,12 +214,12 @@ fn read_several(
     Ok(issues)
 }
 
-#[tactic(auto, unfolding(crate::specs::Private::Words::issues_at))]
+#[tactic(auto, unfolding(crate::specs::Words::issues_at))]
 pub(crate) fn read_issues(
     alloc: Global,
     image: &Image,
     reader: &mut Reader<'_>,
-) -> Result<List<Issue>, FormFault>
+) -> Result<List<Issue>, Unread>
     ensures { Reads (issues_at image.now) reader.old result reader.new }
 {
     let count = reader.byte_up_to(image.units.len())?;

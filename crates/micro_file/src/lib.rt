@@ -5,6 +5,7 @@ mod decoder;
 mod encoder;
 mod fault;
 mod issues;
+mod misread;
 mod reader;
 mod transfers;
 mod units;

@@ -1,8 +1,8 @@
 //! A reader of a microcode file, and the fields that it reads.
 ghost use Rattle.std.specs.Prelude.{◌≡◌};
-ghost use Rattle.micro_file.specs.Private.Fields.{is_raw_word};
+ghost use Rattle.micro_file.specs.Fields.{is_raw_word};
 
-use crate::fault::FormFault;
+use crate::misread::{Misread, Unread, refused};
 use fix_word::{Mode, Op};
 use lists::List;
 use micro_image::Kind;
@@ -70,9 +70,11 @@ impl<'a> Model for Reader<'a> {
 }
 
 impl<'a> Reader<'a> {
-    ghost use Rattle.std.specs.Prelude.{◌==◌, length};
+    ghost use Rattle.std.specs.Prelude.{length};
     ghost use Rattle.std.specs.Int.{w16, w32};
-    ghost use Rattle.micro_file.specs.Private.Fields.{Reads, byte_at, byte_within, byte_below, byte_upto, number_within, signed_at, raw_word_at, raw_words_at, entry_at};
+    ghost use Rattle.micro_file.specs.Private.Reads.{Reads};
+    ghost use Rattle.micro_file.specs.Tables.{kinds, operations, modes};
+    ghost use Rattle.micro_file.specs.Fields.{byte_at, only_byte, byte_within, byte_below, byte_upto, number_within, signed_at, raw_word_at, raw_words_at, entry_at};
 
     pub(crate) fn new(bytes: &'a [u8]) -> Reader<'a>
         ensures { result ≡ bytes.now }
@@ -80,18 +82,20 @@ impl<'a> Reader<'a> {
         Reader { rest: bytes }
     }
 
-    pub(crate) fn is_at_end(&self) -> bool
-        ensures { result ≡ (length self.now == 0) }
+    /// How many bytes are left.
+    #[inline]
+    pub(crate) fn left(&self) -> usize
+        ensures { result ≡ length self.now }
     {
-        self.rest.is_empty()
+        self.rest.len()
     }
 
     #[inline]
-    pub(crate) fn byte(&mut self) -> Result<u8, FormFault>
+    pub(crate) fn byte(&mut self) -> Result<u8, Unread>
         ensures { Reads byte_at self.old result self.new }
     {
         match self.rest {
-            [] => Err(FormFault::NotSpelled),
+            [] => Err(Unread::Misread(Misread::Short)),
             [byte, rest @ ..] => {
                 self.rest = rest;
                 Ok(*byte)
@@ -99,48 +103,64 @@ impl<'a> Reader<'a> {
         }
     }
 
+    /// A byte that has to be this one; another is misread so.
+    pub(crate) fn only(&mut self, misread: Misread, only: u8) -> Result<u8, Unread>
+        ensures { Reads (only_byte misread only) self.old result self.new }
+    {
+        let byte = self.byte()?;
+        if byte == only {
+            Ok(byte)
+        } else {
+            Err(Unread::Misread(misread))
+        }
+    }
+
     #[inline]
-    pub(crate) fn byte_in(&mut self, low: u8, high: u8) -> Result<u8, FormFault>
+    pub(crate) fn byte_in(&mut self, low: u8, high: u8) -> Result<u8, Unread>
         ensures { Reads (byte_within low high) self.old result self.new }
     {
+        let left = self.left();
         let byte = self.byte()?;
         if low <= byte && byte <= high {
             Ok(byte)
         } else {
-            Err(FormFault::NotSpelled)
+            Err(refused(left))
         }
     }
 
     #[inline]
-    pub(crate) fn byte_under(&mut self, limit: usize) -> Result<u8, FormFault>
+    pub(crate) fn byte_under(&mut self, limit: usize) -> Result<u8, Unread>
         ensures { Reads (byte_below limit) self.old result self.new }
     {
+        let left = self.left();
         let byte = self.byte()?;
         if usize::from(byte) < limit {
             Ok(byte)
         } else {
-            Err(FormFault::NotSpelled)
+            Err(refused(left))
         }
     }
 
     #[inline]
-    pub(crate) fn byte_up_to(&mut self, limit: usize) -> Result<u8, FormFault>
+    pub(crate) fn byte_up_to(&mut self, limit: usize) -> Result<u8, Unread>
         ensures { Reads (byte_upto limit) self.old result self.new }
     {
+        let left = self.left();
         let byte = self.byte()?;
         if usize::from(byte) <= limit {
             Ok(byte)
         } else {
-            Err(FormFault::NotSpelled)
+            Err(refused(left))
         }
     }
 
     /// A number in two bytes.
-    pub(crate) fn short_in(&mut self, low: u16, high: u16) -> Result<u16, FormFault>
+    pub(crate) fn short_in(&mut self, low: u16, high: u16) -> Result<u16, Unread>
         ensures { Reads (number_within w16 low high) self.old result self.new }
     {
-        if self.rest.len() < 2 {
-            return Err(FormFault::NotSpelled);
+        let left = self.left();
+        if left < 2 {
+            return Err(Unread::Misread(Misread::Short));
         }
         let (front, rest) = self.rest.split_at(2);
         self.rest = rest;
@@ -148,16 +168,17 @@ impl<'a> Reader<'a> {
         if low <= number && number <= high {
             Ok(number)
         } else {
-            Err(FormFault::NotSpelled)
+            Err(refused(left))
         }
     }
 
     /// A number in four bytes.
-    pub(crate) fn long_in(&mut self, low: u32, high: u32) -> Result<u32, FormFault>
+    pub(crate) fn long_in(&mut self, low: u32, high: u32) -> Result<u32, Unread>
         ensures { Reads (number_within w32 low high) self.old result self.new }
     {
-        if self.rest.len() < 4 {
-            return Err(FormFault::NotSpelled);
+        let left = self.left();
+        if left < 4 {
+            return Err(Unread::Misread(Misread::Short));
         }
         let (front, rest) = self.rest.split_at(4);
         self.rest = rest;
@@ -165,17 +186,17 @@ impl<'a> Reader<'a> {
         if low <= number && number <= high {
             Ok(number)
         } else {
-            Err(FormFault::NotSpelled)
+            Err(refused(left))
         }
     }
 
     /// A number in two's complement, in eight bytes.
     #[inline]
-    pub(crate) fn signed(&mut self) -> Result<i64, FormFault>
+    pub(crate) fn signed(&mut self) -> Result<i64, Unread>
         ensures { Reads signed_at self.old result self.new }
     {
-        if self.rest.len() < 8 {
-            return Err(FormFault::NotSpelled);
+        if self.left() < 8 {
+            return Err(Unread::Misread(Misread::Short));
         }
         let (front, rest) = self.rest.split_at(8);
         self.rest = rest;
@@ -186,19 +207,20 @@ impl<'a> Reader<'a> {
     }
 
     #[inline]
-    #[tactic(auto, unfolding(crate::specs::Private::Fields::raw_word_at))]
-    fn raw_word(&mut self) -> Result<i64, FormFault>
+    #[tactic(auto, unfolding(crate::specs::Fields::raw_word_at))]
+    fn raw_word(&mut self) -> Result<i64, Unread>
         ensures { Reads raw_word_at self.old result self.new }
     {
+        let left = self.left();
         let number = self.signed()?;
         if is_word(number) {
             Ok(number)
         } else {
-            Err(FormFault::NotSpelled)
+            Err(refused(left))
         }
     }
 
-    pub(crate) fn raw_words(&mut self, alloc: Global, count: usize) -> Result<List<i64>, FormFault>
+    pub(crate) fn raw_words(&mut self, alloc: Global, count: usize) -> Result<List<i64>, Unread>
         ensures { Reads (raw_words_at count) self.old result self.new }
     {
         let mut raw_words = List::with_capacity(alloc, count)?;
@@ -209,35 +231,38 @@ impl<'a> Reader<'a> {
         Ok(raw_words)
     }
 
-    pub(crate) fn kind(&mut self) -> Result<Kind, FormFault>
-        ensures { Reads (entry_at KINDS) self.old result self.new }
+    pub(crate) fn kind(&mut self) -> Result<Kind, Unread>
+        ensures { Reads (entry_at kinds) self.old result self.new }
     {
+        let left = self.left();
         let byte = self.byte()?;
         match KINDS.get(usize::from(byte)) {
             Some(kind) => Ok(*kind),
-            None => Err(FormFault::NotSpelled),
+            None => Err(refused(left)),
         }
     }
 
     #[inline]
-    pub(crate) fn operation(&mut self) -> Result<Op, FormFault>
-        ensures { Reads (entry_at OPERATIONS) self.old result self.new }
+    pub(crate) fn operation(&mut self) -> Result<Op, Unread>
+        ensures { Reads (entry_at operations) self.old result self.new }
     {
+        let left = self.left();
         let byte = self.byte()?;
         match OPERATIONS.get(usize::from(byte)) {
             Some(op) => Ok(*op),
-            None => Err(FormFault::NotSpelled),
+            None => Err(refused(left)),
         }
     }
 
     #[inline]
-    pub(crate) fn mode(&mut self) -> Result<Mode, FormFault>
-        ensures { Reads (entry_at MODES) self.old result self.new }
+    pub(crate) fn mode(&mut self) -> Result<Mode, Unread>
+        ensures { Reads (entry_at modes) self.old result self.new }
     {
+        let left = self.left();
         let byte = self.byte()?;
         match MODES.get(usize::from(byte)) {
             Some(mode) => Ok(*mode),
-            None => Err(FormFault::NotSpelled),
+            None => Err(refused(left)),
         }
     }
 }

@@ -1,9 +1,10 @@
 //! What a microword moves: enables drive buses with results, and takes write registers from buses.
 ghost use Rattle.std.specs.Prelude.{◌≡◌, []};
-ghost use Rattle.micro_file.specs.Private.Fields.{Reads, many_at};
-ghost use Rattle.micro_file.specs.Private.Words.{last_of, is_next, enable_before, enable_at, enables_at, take_before, take_at, takes_at};
+ghost use Rattle.micro_file.specs.Fields.{many_at};
+ghost use Rattle.micro_file.specs.Private.Reads.{Reads};
+ghost use Rattle.micro_file.specs.Words.{last_of, is_next, enable_before, enable_at, enables_at, take_before, take_at, takes_at};
 
-use crate::fault::FormFault;
+use crate::misread::{Unread, refused};
 use crate::reader::Reader;
 use micro_image::{Enable, Enables, Image, PortRef, Take, Takes};
 use std::alloc::Global;
@@ -27,21 +28,18 @@ fn is_next_enable(enables: &Enables, enable: &Enable) -> bool
     }
 }
 
-#[tactic(auto, unfolding(crate::specs::Private::Words::enable_at))]
-fn read_enable(
-    image: &Image,
-    enables: &Enables,
-    reader: &mut Reader<'_>,
-) -> Result<Enable, FormFault>
+#[tactic(auto, unfolding(crate::specs::Words::enable_at))]
+fn read_enable(image: &Image, enables: &Enables, reader: &mut Reader<'_>) -> Result<Enable, Unread>
     ensures { Reads (enable_at image.now enables.now) reader.old result reader.new }
 {
+    let left = reader.left();
     let unit = reader.byte_under(image.units.len())?;
     let bus = reader.byte_under(usize::from(image.buses))?;
     let enable = Enable { unit, bus };
     if is_next_enable(enables, &enable) {
         Ok(enable)
     } else {
-        Err(FormFault::NotSpelled)
+        Err(refused(left))
     }
 }
 
@@ -50,7 +48,7 @@ fn read_some_enables(
     image: &Image,
     count: usize,
     reader: &mut Reader<'_>,
-) -> Result<Enables, FormFault>
+) -> Result<Enables, Unread>
     ensures { Reads (many_at (enable_at image.now) [] count) reader.old result reader.new }
 {
     let mut enables = Enables::with_capacity(alloc, count)?;
@@ -61,12 +59,12 @@ fn read_some_enables(
     Ok(enables)
 }
 
-#[tactic(auto, unfolding(crate::specs::Private::Words::enables_at))]
+#[tactic(auto, unfolding(crate::specs::Words::enables_at))]
 pub(crate) fn read_enables(
     alloc: Global,
     image: &Image,
     reader: &mut Reader<'_>,
-) -> Result<Enables, FormFault>
+) -> Result<Enables, Unread>
     ensures { Reads (enables_at image.now) reader.old result reader.new }
 {
     let count = reader.short_in(0, MAX_TRANSFERS)?;
@@ -95,17 +93,19 @@ fn is_next_take(takes: &Takes, take: &Take) -> bool
     }
 }
 
-#[tactic(auto, unfolding(crate::specs::Private::Words::take_at))]
-fn read_take(image: &Image, takes: &Takes, reader: &mut Reader<'_>) -> Result<Take, FormFault>
+#[tactic(auto, unfolding(crate::specs::Words::take_at))]
+fn read_take(image: &Image, takes: &Takes, reader: &mut Reader<'_>) -> Result<Take, Unread>
     ensures { Reads (take_at image.now takes.now) reader.old result reader.new }
 {
+    let left = reader.left();
     let number = reader.byte()?;
     let Some(unit) = image.units.get(usize::from(number)) else {
-        return Err(FormFault::NotSpelled);
+        return Err(refused(left));
     };
+    let left_at_port = reader.left();
     let port = reader.byte()?;
     let Some(file) = unit.files.get(usize::from(port)) else {
-        return Err(FormFault::NotSpelled);
+        return Err(refused(left_at_port));
     };
     let bus = reader.byte_under(usize::from(image.buses))?;
     let reg = reader.byte_under(file.len())?;
@@ -114,7 +114,7 @@ fn read_take(image: &Image, takes: &Takes, reader: &mut Reader<'_>) -> Result<Ta
     if is_next_take(takes, &take) {
         Ok(take)
     } else {
-        Err(FormFault::NotSpelled)
+        Err(refused(left))
     }
 }
 
@@ -123,7 +123,7 @@ fn read_some_takes(
     image: &Image,
     count: usize,
     reader: &mut Reader<'_>,
-) -> Result<Takes, FormFault>
+) -> Result<Takes, Unread>
     ensures { Reads (many_at (take_at image.now) [] count) reader.old result reader.new }
 {
     let mut takes = Takes::with_capacity(alloc, count)?;
@@ -134,12 +134,12 @@ fn read_some_takes(
     Ok(takes)
 }
 
-#[tactic(auto, unfolding(crate::specs::Private::Words::takes_at))]
+#[tactic(auto, unfolding(crate::specs::Words::takes_at))]
 pub(crate) fn read_takes(
     alloc: Global,
     image: &Image,
     reader: &mut Reader<'_>,
-) -> Result<Takes, FormFault>
+) -> Result<Takes, Unread>
     ensures { Reads (takes_at image.now) reader.old result reader.new }
 {
     let count = reader.short_in(0, MAX_TRANSFERS)?;

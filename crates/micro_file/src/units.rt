@@ -1,9 +1,11 @@
 //! The units of a file.
-ghost use Rattle.std.specs.Prelude.{◌≡◌, []};
-ghost use Rattle.micro_file.specs.Private.Fields.{Reads, many_at};
-ghost use Rattle.micro_file.specs.Private.Units.{file_at, cells_at, ram_at, unit_at, is_tied, are_tied, some_units_at, units_at};
+ghost use Rattle.std.specs.Prelude.{◌≡◌, [], ◌++◌, length, OnOk};
+ghost use Rattle.micro_file.specs.Fields.{many_at};
+ghost use Rattle.micro_file.specs.Private.Reads.{Gives, Reads};
+ghost use Rattle.micro_file.specs.Private.Ends.{ends_of, all_judged};
+ghost use Rattle.micro_file.specs.Units.{file_at, cells_at, ram_at, unit_at, is_tied, some_units_at, units_at};
 
-use crate::fault::FormFault;
+use crate::misread::{Misread, Unread};
 use crate::reader::Reader;
 use lists::List;
 use micro_image::{Kind, UnitDesc};
@@ -21,8 +23,8 @@ const MAX_REGISTERS: u16 = 256;
 /// The most cells of a ram.
 const MAX_CELLS: u32 = 65536;
 
-#[tactic(auto, unfolding(crate::specs::Private::Units::file_at))]
-fn read_file(alloc: Global, reader: &mut Reader<'_>) -> Result<List<i64>, FormFault>
+#[tactic(auto, unfolding(crate::specs::Units::file_at))]
+fn read_file(alloc: Global, reader: &mut Reader<'_>) -> Result<List<i64>, Unread>
     ensures { Reads file_at reader.old result reader.new }
 {
     let size = reader.short_in(1, MAX_REGISTERS)?;
@@ -33,7 +35,7 @@ fn read_files(
     alloc: Global,
     count: usize,
     reader: &mut Reader<'_>,
-) -> Result<List<List<i64>>, FormFault>
+) -> Result<List<List<i64>>, Unread>
     ensures { Reads (many_at (λ _. file_at) [] count) reader.old result reader.new }
 {
     let mut files = List::with_capacity(alloc, count)?;
@@ -45,8 +47,8 @@ fn read_files(
 }
 
 /// The cells of a ram, and none of another unit.
-#[tactic(auto, unfolding(crate::specs::Private::Units::cells_at))]
-fn read_cells(alloc: Global, kind: Kind, reader: &mut Reader<'_>) -> Result<List<i64>, FormFault>
+#[tactic(auto, unfolding(crate::specs::Units::cells_at))]
+fn read_cells(alloc: Global, kind: Kind, reader: &mut Reader<'_>) -> Result<List<i64>, Unread>
     ensures { Reads (cells_at kind) reader.old result reader.new }
 {
     match kind {
@@ -59,8 +61,8 @@ fn read_cells(alloc: Global, kind: Kind, reader: &mut Reader<'_>) -> Result<List
 }
 
 /// The number of an acu's ram, and 0 at another unit.
-#[tactic(auto, unfolding(crate::specs::Private::Units::ram_at))]
-fn read_ram(kind: Kind, reader: &mut Reader<'_>) -> Result<u8, FormFault>
+#[tactic(auto, unfolding(crate::specs::Units::ram_at))]
+fn read_ram(kind: Kind, reader: &mut Reader<'_>) -> Result<u8, Unread>
     ensures { Reads (ram_at kind) reader.old result reader.new }
 {
     match kind {
@@ -69,8 +71,8 @@ fn read_ram(kind: Kind, reader: &mut Reader<'_>) -> Result<u8, FormFault>
     }
 }
 
-#[tactic(auto, unfolding(crate::specs::Private::Units::unit_at))]
-fn read_unit(alloc: Global, reader: &mut Reader<'_>) -> Result<UnitDesc, FormFault>
+#[tactic(auto, unfolding(crate::specs::Units::unit_at))]
+fn read_unit(alloc: Global, reader: &mut Reader<'_>) -> Result<UnitDesc, Unread>
     ensures { Reads unit_at reader.old result reader.new }
 {
     let kind = reader.kind()?;
@@ -89,28 +91,23 @@ fn read_unit(alloc: Global, reader: &mut Reader<'_>) -> Result<UnitDesc, FormFau
     })
 }
 
+/// So many units, and how many bytes are left behind each.
 fn read_several(
     alloc: Global,
     count: usize,
+    ends: &mut List<usize>,
     reader: &mut Reader<'_>,
-) -> Result<List<UnitDesc>, FormFault>
-    ensures { Reads (many_at (λ _. unit_at) [] count) reader.old result reader.new }
+) -> Result<List<UnitDesc>, Unread>
+    ensures units { Reads (many_at (λ _. unit_at) [] count) reader.old result reader.new }
+    ensures ends { OnOk result (ends.new ≡ ends.old ++ ends_of count reader.old) }
 {
     let mut units = List::with_capacity(alloc, count)?;
     for _ in 0..count {
         let unit = read_unit(alloc, reader)?;
+        ends.push(reader.left())?;
         units.push(unit)?;
     }
     Ok(units)
-}
-
-/// A count, and this many units.
-#[tactic(auto, unfolding(crate::specs::Private::Units::some_units_at))]
-fn read_counted(alloc: Global, reader: &mut Reader<'_>) -> Result<List<UnitDesc>, FormFault>
-    ensures { Reads some_units_at reader.old result reader.new }
-{
-    let count = reader.byte_in(1, MAX_UNITS)?;
-    read_several(alloc, usize::from(count), reader)
 }
 
 /// Whether the unit is no acu, or an acu with a ram among the units.
@@ -126,28 +123,37 @@ fn has_ram(units: &List<UnitDesc>, unit: &UnitDesc) -> bool
     }
 }
 
-fn have_rams(units: &List<UnitDesc>) -> bool
-    ensures { result ≡ are_tied units.now units.now }
+/// Passes the units if each acu has a ram.
+fn judge(units: &List<UnitDesc>, ends: &List<usize>) -> Result<(), Unread>
+    requires { length ends.now ≡ length units.now }
+    ensures { Gives result (all_judged units.now units.now ends.now) }
 {
-    for unit in units.iter() {
+    for (k, unit) in units.iter().enumerate() {
         if !has_ram(units, unit) {
-            return false;
+            return Err(Unread::Misread(Misread::Ram { behind: ends[k] }));
         }
     }
-    true
+    Ok(())
 }
 
-#[tactic(auto, unfolding(crate::specs::Private::Units::units_at))]
-pub(crate) fn read_units(
+/// So many units, each acu with its ram.
+fn read_counted(
     alloc: Global,
+    count: usize,
     reader: &mut Reader<'_>,
-) -> Result<List<UnitDesc>, FormFault>
+) -> Result<List<UnitDesc>, Unread>
+    ensures { Reads (some_units_at count) reader.old result reader.new }
+{
+    let mut ends = List::with_capacity(alloc, count)?;
+    let units = read_several(alloc, count, &mut ends, reader)?;
+    judge(&units, &ends)?;
+    Ok(units)
+}
+
+#[tactic(auto, unfolding(crate::specs::Units::units_at))]
+pub(crate) fn read_units(alloc: Global, reader: &mut Reader<'_>) -> Result<List<UnitDesc>, Unread>
     ensures { Reads units_at reader.old result reader.new }
 {
-    let units = read_counted(alloc, reader)?;
-    if have_rams(&units) {
-        Ok(units)
-    } else {
-        Err(FormFault::NotSpelled)
-    }
+    let count = reader.byte_in(1, MAX_UNITS)?;
+    read_counted(alloc, usize::from(count), reader)
 }

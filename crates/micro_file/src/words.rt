@@ -1,18 +1,19 @@
 //! The microwords of a file.
 ghost use Rattle.std.specs.Prelude.{[]};
-ghost use Rattle.micro_file.specs.Private.Fields.{Reads, many_at};
-ghost use Rattle.micro_file.specs.Private.Words.{word_at};
+ghost use Rattle.micro_file.specs.Fields.{many_at};
+ghost use Rattle.micro_file.specs.Private.Reads.{Reads};
+ghost use Rattle.micro_file.specs.Words.{word_at};
 
-use crate::fault::FormFault;
 use crate::issues::read_issues;
+use crate::misread::Unread;
 use crate::reader::Reader;
 use crate::transfers::{read_enables, read_takes};
 use lists::List;
 use micro_image::{Image, Word};
 use std::alloc::Global;
 
-#[tactic(auto, unfolding(crate::specs::Private::Words::word_at))]
-fn read_word(alloc: Global, image: &Image, reader: &mut Reader<'_>) -> Result<Word, FormFault>
+#[tactic(auto, unfolding(crate::specs::Words::word_at))]
+fn read_word(alloc: Global, image: &Image, reader: &mut Reader<'_>) -> Result<Word, Unread>
     ensures { Reads (word_at image.now) reader.old result reader.new }
 {
     let issues = read_issues(alloc, image, reader)?;
@@ -30,7 +31,7 @@ pub(crate) fn read_words(
     image: &Image,
     count: usize,
     reader: &mut Reader<'_>,
-) -> Result<List<Word>, FormFault>
+) -> Result<List<Word>, Unread>
     ensures { Reads (many_at (λ _. word_at image.now) [] count) reader.old result reader.new }
 {
     let mut words = List::with_capacity(alloc, count)?;

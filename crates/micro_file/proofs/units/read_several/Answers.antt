@@ -1,18 +1,27 @@
-use Rattle.std.proofs.Common.{[]}
+use Rattle.std.proofs.Common.{[], sym, ◌∙◌}
 use Rattle.std.proofs.lemmas.Result.{err_from_is_err_and}
-use Rattle.micro_file.specs.Private.Fields.{many_at}
-use Rattle.micro_file.specs.Private.Units.{unit_at}
+use Rattle.micro_file.specs.Fields.{many_at}
+use Rattle.micro_file.specs.Units.{unit_at}
+use Rattle.micro_file.proofs.Judgement.{ends_go_on, ends_done}
 use Rattle.micro_file.proofs.Many.{goes_on, ends, is_done}
 use Rattle.micro_file.proofs.units.read_several.Goals as goal
 
 pub returns-in_err-unit : goal.returns-in_err-unit
 returns-in_err-unit c =
     let p = err_from_is_err_and c.from_residual-in_err-unit.result c.from_residual-in_err-unit.ensures.1 in
-    rw (p.1, p.2) (ends (λ _. unit_at) c.loop.units c.args.count c.loop.counter c.loop.reader (many_at (λ _. unit_at) [] c.args.count c.args.reader.now) c.loop.invariant c.in_err-unit.field-0.0 c.loop-test.true c.in_err-unit.ensures)
+    rw (p.1, p.2) (record {
+      units = ends (λ _. unit_at) c.loop.units c.args.count c.loop.counter c.loop.reader (many_at (λ _. unit_at) [] c.args.count c.args.reader.now) c.loop.invariant.0 c.in_err-unit.field-0.0 c.loop-test.true c.in_err-unit.ensures;
+      ends = tt;
+    })
 
 pub loop-preserved : goal.loop-preserved
-loop-preserved c =
-    rw c.in_ok-push.ensures.ok (goes_on (λ _. unit_at) c.loop.units c.args.count c.loop.counter c.loop.reader (many_at (λ _. unit_at) [] c.args.count c.args.reader.now) c.loop.invariant c.in_ok-unit.unit c.read_unit.new.reader c.loop-test.true c.in_ok-unit.ensures)
+loop-preserved c = (
+  rw c.in_ok-push-2.ensures.ok (goes_on (λ _. unit_at) c.loop.units c.args.count c.loop.counter c.loop.reader (many_at (λ _. unit_at) [] c.args.count c.args.reader.now) c.loop.invariant.0 c.in_ok-unit.unit c.read_unit.new.reader c.loop-test.true c.in_ok-unit.ensures),
+  rw (c.in_ok-push.ensures.ok, c.left.ensures) (ends_go_on c.loop.ends c.args.count c.loop.counter c.loop.reader c.in_ok-unit.unit c.read_unit.new.reader c.loop-test.true c.in_ok-unit.ensures) ∙ c.loop.invariant.1,
+)
 
 pub returns : goal.returns
-returns c = is_done (λ _. unit_at) c.loop.units c.args.count c.loop.counter c.loop.reader (many_at (λ _. unit_at) [] c.args.count c.args.reader.now) c.loop.invariant c.loop-test.false
+returns c = record {
+  units = is_done (λ _. unit_at) c.loop.units c.args.count c.loop.counter c.loop.reader (many_at (λ _. unit_at) [] c.args.count c.args.reader.now) c.loop.invariant.0 c.loop-test.false;
+  ends = sym (ends_done c.loop.ends c.args.count c.loop.counter c.loop.reader c.loop-test.false) ∙ c.loop.invariant.1;
+}

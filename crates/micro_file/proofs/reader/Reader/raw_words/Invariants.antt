@@ -1,5 +1,5 @@
 use Rattle.std.proofs.Common.{◌≡◌, ◌-◌, []}
-use Rattle.micro_file.specs.Private.Fields.{many_at, raw_word_at}
+use Rattle.micro_file.specs.Fields.{many_at, raw_word_at}
 use Rattle.micro_file.proofs.reader.Reader.raw_words.Given as goal
 
 abbrev pub invariant-loop : goal.invariant-loop

@@ -1,0 +1,23 @@
+-- The fault of bytes that spell no image: the first place, in reading order, at which they cease to spell one.
+use Rattle.std.specs.Prelude.{◌≡◌, ℕ, ◌+◌, ◌-◌, List, length, Err}
+use Rattle.micro_file.specs.declared.fault.FormFault.{FormFault}
+use Rattle.micro_file.specs.declared.fault.FormFault.TheVariants as form
+use Rattle.micro_file.specs.declared.misread.Misread.{Misread}
+use Rattle.micro_file.specs.declared.misread.Misread.TheVariants.{Magic, Version, Short, Field, Ram, Trailing}
+use Rattle.micro_file.specs.File.{whole_at}
+
+-- what was misread, with its place in a file of so many bytes: the first byte of a field that is not allowed, the first
+-- byte behind the last field, or where a file that is too short ends
+abbrev pub placed : ℕ → Misread → FormFault
+placed size Magic = form.Magic
+placed size Version = form.Version
+placed size Short = form.Short size
+placed size (Field left) = form.Field (size - left)
+placed size (Ram behind) = form.Field (size - (behind + 1))
+placed size (Trailing left) = form.Trailing (size - left)
+
+-- read as a file from the front, the bytes are misread, and this is the fault; want of memory is none
+pub record IsFormFault (bytes : List ℕ) (fault : FormFault) : Type 0 where
+  pub misread : Misread
+  pub stopped : whole_at bytes ≡ Err misread
+  pub place : fault ≡ placed (length bytes) misread

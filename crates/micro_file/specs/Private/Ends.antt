@@ -1,0 +1,22 @@
+-- Where the units of a file end.
+use Rattle.std.specs.Prelude.{ℕ, zero, suc, List, [], ◌∷◌, length, Result, Ok, Err}
+use Rattle.micro_image.specs.declared.image.UnitDesc.{UnitDesc}
+use Rattle.micro_file.specs.declared.misread.Misread.{Misread}
+use Rattle.micro_file.specs.Fields.{Reading, ◌>>=◌}
+use Rattle.micro_file.specs.Units.{unit_at, judged}
+
+-- the end of the unit that was read, and those behind it
+abbrev pub end_and : (List ℕ → List ℕ) → Reading UnitDesc → List ℕ
+end_and more (Ok unit) = length unit.1 ∷ more unit.1
+end_and more (Err misread) = []
+
+-- how many bytes are left behind each of so many units, as far as they can be read
+unfoldable pub ends_of : ℕ → List ℕ → List ℕ
+ends_of zero bytes = []
+ends_of (suc n) bytes = end_and (ends_of n) (unit_at bytes)
+
+-- each of the others, which end where so many bytes are left, is tied to a ram of the units
+unfoldable pub all_judged : List UnitDesc → List UnitDesc → List ℕ → Result (Unit {0}) Misread
+all_judged units [] ends = Ok tt
+all_judged units (unit ∷ others) [] = Ok tt
+all_judged units (unit ∷ others) (behind ∷ ends) = judged units unit behind >>= λ _. all_judged units others ends

@@ -1,0 +1,53 @@
+//! Why a field is not read, before its place in the file is known.
+ghost use Rattle.std.specs.Prelude.{◌≡◌};
+ghost use Rattle.micro_file.specs.declared.misread.Misread.TheVariants.{Field};
+ghost use Rattle.micro_file.specs.declared.misread.Unread.TheVariants.{Misread as misread, Memory};
+
+use std::alloc::{AllocError, AllocFailed};
+
+/// Why the bytes that are left do not begin with a field. Its place is told by how many bytes are left there.
+#[derive(Clone, Copy)]
+pub(crate) enum Misread {
+    /// A byte of the magic is another.
+    Magic,
+    /// The version is another.
+    Version,
+    /// The bytes end before the field is whole.
+    Short,
+    /// The field is not allowed. This many bytes are left from its first on.
+    Field { left: usize },
+    /// The number of an acu's ram, which is one byte, is no ram's. This many bytes are left behind it.
+    Ram { behind: usize },
+    /// Nothing should follow, and this many bytes are left.
+    Trailing { left: usize },
+}
+
+/// Why nothing was read.
+#[derive(Clone, Copy)]
+pub(crate) enum Unread {
+    Misread(Misread),
+    Memory,
+}
+
+/// The field that begins where this many bytes are left is not allowed.
+pub(crate) fn refused(left: usize) -> Unread
+    ensures { result ≡ misread (Field left) }
+{
+    Unread::Misread(Misread::Field { left })
+}
+
+impl From<AllocError> for Unread {
+    ghost from_gives = { λ _ unread. unread ≡ Memory };
+
+    fn from(_: AllocError) -> Unread {
+        Unread::Memory
+    }
+}
+
+impl<T: Drop> From<AllocFailed<T>> for Unread {
+    ghost from_gives = { λ _ unread. unread ≡ Memory };
+
+    fn from(_: AllocFailed<T>) -> Unread {
+        Unread::Memory
+    }
+}
