@@ -3,7 +3,8 @@ use Rattle.std.proofs.Common.{◌≡◌, ◌≢◌, refl, ◌∙◌, ap, subst, 
 use Rattle.std.specs.Prelude.{bytes_eq, if◌then◌else◌}
 use Rattle.desk_core.specs.View.{Name, Content}
 use Rattle.desk_core.specs.Stored.{name_at, IsOpen, KeepsPositions}
-use Rattle.desk_core.specs.Inputs.{name_of, held_by, apart_from, InputStands}
+use Rattle.desk_core.specs.Inputs.{name_of, held_by}
+use Rattle.desk_core.specs.Private.Inputs.{apart_from, InputStands}
 use Rattle.desk_core.specs.declared.input.CurrentInput.{CurrentInput}
 use Rattle.desk_core.specs.declared.input.CurrentInput.TheVariants.{Absent, Missing, File}
 use Rattle.desk_core.specs.declared.stored.OpenInput.{OpenInput}

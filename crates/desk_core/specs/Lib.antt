@@ -5,3 +5,4 @@ pub mod Stored
 pub mod MemDesk
 pub mod Inputs
 pub mod NeverFails
+pub mod Private

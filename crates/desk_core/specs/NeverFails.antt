@@ -1,7 +1,7 @@
 -- What a desk that never fails holds.
 use Rattle.std.specs.Prelude.{◌≡◌, ◌≢◌, ℕ, ◌+◌, Option, Some, None, Bool, true, false, if◌then◌else◌}
 use Rattle.desk_core.specs.View.{Name, Content, Files, View}
-use Rattle.desk_core.specs.Desk.{IsPut, IsOutputSpecified, content_of}
+use Rattle.desk_core.specs.Desk.{IsPut, content_of}
 use Rattle.desk_core.specs.Stored.{lookup}
 use Rattle.desk_core.specs.Inputs.{name_of, held_by, opened_name}
 use Rattle.desk_core.specs.declared.never_fails.NeverFails.{NeverFails}
@@ -84,11 +84,3 @@ opened name desk = record desk {
 -- so many bytes of the input were read
 abbrev pub after_read : ℕ → NeverState → NeverState
 after_read n desk = record desk { place = desk.place + n }
-
-pub output_always_specified : (desk : NeverFails) → IsOutputSpecified (view_of desk)
-output_always_specified desk files is unspecified = go desk.created is unspecified
-  where
-    go : (b : Bool) → ◌≡◌ {A = Option Files} (if b then None else Some (lookup desk.files)) (Some files)
-        → ◌≡◌ {A = Option (Option Name)} (if b then None else Some None) None → ⊥
-    go true is none = cc
-    go false is none = cc

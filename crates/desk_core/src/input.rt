@@ -2,7 +2,8 @@
 ghost use Rattle.std.specs.Prelude.{◌≡◌, Some};
 ghost use Rattle.desk_core.specs.Desk.{content_of};
 ghost use Rattle.desk_core.specs.Stored.{lookup};
-ghost use Rattle.desk_core.specs.Inputs.{name_of, held_by, opened_name, apart_from, InputStands};
+ghost use Rattle.desk_core.specs.Inputs.{name_of, held_by, opened_name};
+ghost use Rattle.desk_core.specs.Private.Inputs.{apart_from, InputStands};
 
 use crate::stored::{OpenInput, Stored, find};
 

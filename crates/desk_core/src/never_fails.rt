@@ -1,4 +1,4 @@
-ghost use Rattle.desk_core.specs.Inputs.{InputStands};
+ghost use Rattle.desk_core.specs.Private.Inputs.{InputStands};
 
 use crate::desk::{Desk, Failed};
 use crate::input::CurrentInput;
@@ -53,7 +53,8 @@ impl NeverFails {
 impl Desk for NeverFails {
     ghost use Rattle.std.specs.Prelude.{◌≡◌, ◌<◌, ◌^◌, true, IsOk, IsErr, IfOk, OnOk, OnErr, [], length};
     ghost use Rattle.desk_core.specs.Desk.{FaultsNeverFall, ReadFaultsRose, WriteFaultsRose, PrintFaultsRose, ReadFailed, WriteFailed, IsUnchanged, IsUnchangedButOutput, IsReading, IsRead, IsWriting, IsWritten, IsClosed, IsPrinted};
-    ghost use Rattle.desk_core.specs.NeverFails.{state, view_of, output_always_specified, opened, after_read};
+    ghost use Rattle.desk_core.specs.NeverFails.{state, view_of, opened, after_read};
+    ghost use Rattle.desk_core.specs.Private.NeverOutput.{output_always_specified};
 
     ghost view = { λ desk. view_of desk };
 

@@ -1,7 +1,6 @@
 -- What callers see of rows that come in pieces, and what lies in them.
-use Rattle.std.proofs.Common.{◌≡◌, ℕ, ◌<◌, List, [], ◌∷◌, ◌++◌, length, ℤ, None, IsSome, ap, sym, ◌∙◌, subst, arith, inl, inr}
+use Rattle.std.proofs.Common.{◌≡◌, ℕ, List, [], ◌∷◌, ◌++◌, ℤ, None, IsSome, ap, sym, ◌∙◌, subst, arith, inl, inr}
 use Rattle.sample_io.specs.declared.RowFault.{RowFault}
-use Rattle.sample_io.specs.FedRows.{FedRows}
 use Rattle.sample_io.specs.Pieces.{HasTaken, CanTake}
 use Rattle.sample_io.specs.Private.Places.{Kept, fed_rows, HasLed, AreFed}
 use Rattle.sample_io.specs.Private.Reading.{IsReader}

@@ -4,11 +4,9 @@ mod Runs
 mod Texts
 mod Bytes
 mod Files
-mod Words
 pub mod Streams
+pub mod Widths
 mod Lists
-mod Outcomes
 mod Feeding
 mod Fed
 pub mod Taken
-pub mod Held

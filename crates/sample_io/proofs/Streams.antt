@@ -1,5 +1,5 @@
 -- A file has one stream of rows at most, or one first bad place; and a printed stream is read again.
-use Rattle.std.proofs.Common.{◌≡◌, ℕ, suc, ◌+◌, ◌-◌, ◌<◌, ◌≤◌, Bool, true, false, List, [], ◌∷◌, ◌++◌, length, take, drop, map, Contains, All, ℤ, pos, negsuc, neg_ℤ, Some, None, refl, ap, sym, ◌∙◌, take-add, subst, append_assoc, arith, inl, inr, ◌⊎◌, get_or}
+use Rattle.std.proofs.Common.{◌≡◌, ℕ, suc, ◌+◌, ◌-◌, ◌<◌, ◌≤◌, Bool, true, false, List, [], ◌∷◌, ◌++◌, length, take, drop, map, Contains, All, ℤ, pos, negsuc, neg_ℤ, Some, None, refl, ap, sym, ◌∙◌, take-add, subst, append_assoc, arith, inl, inr, ⊎_elim, ◌⊎◌, get_or}
 use Rattle.std.specs.Fmt.{signed_decimal, decimal}
 use Rattle.std.specs.List.{join_with_byte}
 use Rattle.std.specs.Option.{option_and_then}
@@ -307,24 +307,61 @@ unfolding NoLine
 unended_no_line channels line unended first more row is ended =
     unended (subst (λ l. Contains l 10) (sym is) (Contains-append_left first more 10 (line_feed_in channels first row ended)))
 
--- lines at the front of bytes are no more than all lines of them
-fewer_lines : (channels : List Channel) → AreChannels channels → (front other rest rest' : List ℕ) (some rows : List (List ℤ)) → Lines front channels some → Lines other channels rows
-    → front ++ rest ≡ other ++ rest' → NoLine channels rest' → length some ≤ length rows
+-- lines at the front of bytes are those of the first of all rows of them
+first_rows : (channels : List Channel) → AreChannels channels → (front other rest rest' : List ℕ) (some rows : List (List ℤ)) → Lines front channels some → Lines other channels rows
+    → front ++ rest ≡ other ++ rest' → NoLine channels rest' → (more : List (List ℤ)) × (rows ≡ some ++ more)
 unfolding NoLine
-fewer_lines channels are front other rest rest' [] rows h k e none = omega arith
-fewer_lines channels are front other rest rest' (row ∷ some) [] h k e none =
+first_rows channels are front other rest rest' [] rows h k e none = (rows, refl)
+first_rows channels are front other rest rest' (row ∷ some) [] h k e none =
     absurd (none h.0 (h.1 ++ rest) row (ap (λ l. l ++ rest') (sym k) ∙ sym e ∙ ap (λ l. l ++ rest) h.2 ∙ append_assoc h.0 h.1 rest) h.3)
-fewer_lines channels are front other rest rest' (row ∷ some) (row' ∷ rows) h k e none =
+first_rows channels are front other rest rest' (row ∷ some) (row' ∷ rows) h k e none =
     let all : h.0 ++ (h.1 ++ rest) ≡ k.0 ++ (k.1 ++ rest') =
     sym (append_assoc h.0 h.1 rest) ∙ ap (λ l. l ++ rest) (sym h.2) ∙ e ∙ ap (λ l. l ++ rest') k.2 ∙ append_assoc k.0 k.1 rest' in
     let first = line_once channels are h.0 k.0 (h.1 ++ rest) (k.1 ++ rest') row row' h.3 k.3 all in
-    let others = fewer_lines channels are h.1 k.1 rest rest' some rows h.4 k.4 first.1 none in
-    omega (arith, others)
+    let others = first_rows channels are h.1 k.1 rest rest' some rows h.4 k.4 first.1 none in
+    (others.0, ap (λ r. r ∷ rows) (sym first.2) ∙ ap (λ rs. row ∷ rs) others.1)
 
+-- before a line begun
+pub first_lines : (channels : List Channel) → AreChannels channels → (front rest other line : List ℕ) (some rows : List (List ℤ)) → front ++ rest ≡ other ++ line
+    → Lines front channels some → Lines other channels rows → (Contains line 10 → ⊥) → (more : List (List ℤ)) × (rows ≡ some ++ more)
+first_lines channels are front rest other line some rows e h k unended =
+    first_rows channels are front other rest line some rows h k e (unended_no_line channels line unended)
+
+-- in a stream
+pub RowsOf_first : (channels : List Channel) → AreChannels channels → (front rest : List ℕ) (some rows : List (List ℤ)) → Lines front channels some
+    → RowsOf (front ++ rest) channels rows → (more : List (List ℤ)) × (rows ≡ some ++ more)
+RowsOf_first channels are front rest some rows h of =
+    let d = divided (front ++ rest) channels rows of in
+    let (more, before) = first_rows channels are front d.front rest d.rest some d.before h d.lines d.bytes_are
+    (divided_no_line (front ++ rest) channels are rows d) in
+    (more ++ d.last, d.rows_are ∙ ap (λ l. l ++ d.last) before ∙ append_assoc some more d.last)
+
+-- before the first bad place
+pub bad_place_first : (channels : List Channel) → AreChannels channels → (front rest : List ℕ) (some : List (List ℤ)) (fault : RowFault) → Lines front channels some
+    → (bad : IsFirstBadPlace (front ++ rest) channels fault) → (more : List (List ℤ)) × (bad.rows ≡ some ++ more)
+bad_place_first channels are front rest some fault h bad =
+    first_rows channels are front bad.front rest bad.rest some bad.rows h bad.before bad.bytes_are
+    (bad_no_line (front ++ rest) channels fault bad)
+
+-- of lines at the front of the same bytes, the one rows begin with the others
+pub lines_compare : (channels : List Channel) → AreChannels channels → (front rest other rest' : List ℕ) (some rows : List (List ℤ)) → front ++ rest ≡ other ++ rest'
+    → Lines front channels some → Lines other channels rows → ((more : List (List ℤ)) × (rows ≡ some ++ more)) ⊎ ((more : List (List ℤ)) × (some ≡ rows ++ more))
+lines_compare channels are front rest other rest' [] rows e h k = inl (rows, refl)
+lines_compare channels are front rest other rest' (row ∷ some) [] e h k = inr (row ∷ some, refl)
+lines_compare channels are front rest other rest' (row ∷ some) (row' ∷ rows) e h k =
+    let all : h.0 ++ (h.1 ++ rest) ≡ k.0 ++ (k.1 ++ rest') =
+    sym (append_assoc h.0 h.1 rest) ∙ ap (λ l. l ++ rest) (sym h.2) ∙ e ∙ ap (λ l. l ++ rest') k.2 ∙ append_assoc k.0 k.1 rest' in
+    let first = line_once channels are h.0 k.0 (h.1 ++ rest) (k.1 ++ rest') row row' h.3 k.3 all in
+    ⊎_elim (λ more. inl (more.0, ap (λ r. r ∷ rows) (sym first.2) ∙ ap (λ rs. row ∷ rs) more.1))
+    (λ more. inr (more.0, ap (λ r. r ∷ some) first.2 ∙ ap (λ rs. row' ∷ rs) more.1))
+    (lines_compare channels are h.1 rest k.1 rest' some rows first.1 h.4 k.4)
+
+-- so they are no more than all lines
 pub lines_at_front : (channels : List Channel) → AreChannels channels → (front rest other line : List ℕ) (some rows : List (List ℤ)) → front ++ rest ≡ other ++ line
     → Lines front channels some → Lines other channels rows → (Contains line 10 → ⊥) → length some ≤ length rows
 lines_at_front channels are front rest other line some rows e h k unended =
-    fewer_lines channels are front other rest line some rows h k e (unended_no_line channels line unended)
+    let (more, all) = first_lines channels are front rest other line some rows e h k unended in
+    omega (arith, ap length all, length-append some more)
 
 -- the lines of bytes are the same wherever they are found in front of a line begun
 pub lines_once : (channels : List Channel) → AreChannels channels → (front rest other line : List ℕ) (rows rows' : List (List ℤ)) → front ++ rest ≡ other ++ line

@@ -1,13 +1,12 @@
 -- The text of a sample file: one row a line, a row's words in decimal with a comma between two of them.
-use Rattle.std.specs.Prelude.{◌≡◌, ℕ, ◌+◌, ◌*◌, ◌/◌, ◌<◌, ◌⊎◌, Bool, if◌then◌else◌, ℤ, pos, neg_ℤ}
-use Rattle.std.specs.Prelude.{List, [], ◌∷◌, ◌++◌, length, take, map, slice_range, slice_index_or, Contains}
+use Rattle.std.specs.Prelude.{◌≡◌, ℕ, ◌+◌, ◌<◌, ◌⊎◌, Bool, if◌then◌else◌, ℤ, pos, neg_ℤ}
+use Rattle.std.specs.Prelude.{List, [], ◌∷◌, ◌++◌, length, take, map, Contains}
 use Rattle.std.specs.Fmt.{signed_decimal}
-use Rattle.std.specs.List.{join_with_byte, flat_map, range_with_len}
+use Rattle.std.specs.List.{join_with_byte, flat_map}
 use Rattle.std.specs.Str.Parse.{IsNumeral, digits_value}
 use Rattle.lists.specs.Rows.{Rows}
 use Rattle.sample_io.specs.declared.channel.Channel.{Channel}
 use Rattle.sample_io.specs.declared.RowFault.{RowFault}
-use Rattle.sample_io.specs.declared.RowList.{RowList}
 use Rattle.sample_io.specs.Channels.{IsInChannel}
 
 -- the bytes other than digits that have a meaning
@@ -122,21 +121,3 @@ printed_row row = join_with_byte comma (map signed_decimal row) ++ line_feed ∷
 -- a stream as it is written
 abbrev pub printed : Rows → List ℕ
 printed rows = flat_map printed_row rows
-
--- the words of row n are at the positions from n * width on
-abbrev pub row_of : RowList → ℕ → List ℤ
-row_of list n = slice_range list.words (n * list.width) ((n + 1) * list.width)
-
--- the rows of the list
-abbrev pub stream_of : RowList → Rows
-stream_of list = map (row_of list) (range_with_len 0 (length list.words / list.width))
-
--- these are the rows of the list, and it has no other words
-pub record HoldsRows (list : RowList) (rows : Rows) : Type 0 where
-  pub count : length list.words ≡ length rows * list.width
-  pub row : (n : ℕ) (d : List ℤ) → n < length rows → row_of list n ≡ slice_index_or rows n d
-
--- the list has the rows of the bytes, and their width
-abbrev pub HoldsRowsOf : List ℕ → List Channel → RowList → Type 0
-HoldsRowsOf bytes channels list =
-    (rows : Rows) × RowsOf bytes channels rows × HoldsRows list rows × (list.width ≡ length channels)

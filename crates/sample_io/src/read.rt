@@ -1,16 +1,12 @@
 //! Sample files, read byte by byte.
 
-ghost use Rattle.std.specs.Prelude.{◌≡◌, ◌<◌, ◌+◌, ◌*◌, ◌^◌, ◌++◌, length, Err, IfOk, OnOk, IfSome, IfNone, IsOkAnd, ◌⊎◌};
+ghost use Rattle.std.specs.Prelude.{◌≡◌, ◌<◌, ◌+◌, ◌*◌, ◌^◌, length, IfSome, IfNone};
 ghost use Rattle.std.specs.Char.{digit_value};
-ghost use Rattle.std.specs.Option.{option_to_list};
-ghost use Rattle.lists.specs.Rows.{Rows};
 ghost use Rattle.sample_io.specs.Channels.{AreChannels};
-ghost use Rattle.sample_io.specs.Samples.{signed, RowsOf, IsFirstBadPlace, HoldsRows, HoldsRowsOf, stream_of};
-ghost use Rattle.sample_io.specs.Private.Reading.{HasDigit, IsLineState, Takes, EndsWith, IsReader, Reads, Ends, word_of};
+ghost use Rattle.sample_io.specs.Samples.{signed};
+ghost use Rattle.sample_io.specs.Private.Reading.{HasDigit, IsLineState, Takes, EndsWith, IsReader, Reads, Ends};
 
-use crate::{Channel, RowFault, RowList, RowsReadFault};
-use lists::List;
-use std::alloc::{AllocError, Global};
+use crate::{Channel, RowFault};
 
 /// What a line has of its last word.
 #[derive(Clone, Copy)]
@@ -34,18 +30,6 @@ pub(crate) enum Progress {
     Word(i64),
     /// The line, a row with this last word.
     Row(i64),
-}
-
-impl Progress {
-    /// The word that is complete now.
-    fn word(self) -> Option<i64>
-        ensures { result ≡ word_of self }
-    {
-        match self {
-            Progress::Within => None,
-            Progress::Word(word) | Progress::Row(word) => Some(word),
-        }
-    }
 }
 
 /// The state of a line: the position of its last word in the row, and what there is of this word.
@@ -279,47 +263,4 @@ impl Reader {
             at: self.at,
         }
     }
-}
-
-/// Reads a whole sample file: one row of the channels a line, its words in decimal with a comma between two of them.
-/// The fault is the first bad place of the bytes, unless there is no memory for the rows.
-pub fn read_rows(
-    alloc: Global,
-    bytes: &[u8],
-    channels: &[Channel],
-) -> Result<RowList, RowsReadFault>
-    requires { AreChannels channels.now }
-    ensures stream { IfOk result (λ list. RowsOf bytes.now channels.now (stream_of list)) }
-    ensures rows { IfOk result (HoldsRowsOf bytes.now channels.now) }
-    ensures fault { (fault : _) → result ≡ Err (RowsReadFault.Row fault)
-        → IsFirstBadPlace bytes.now channels.now fault }
-
-    // Rows are read and a bad place is reported, unless memory runs out.
-    ensures all_rows { (rows : Rows) → RowsOf bytes.now channels.now rows
-        → (result ≡ Err RowsReadFault.Memory) ⊎ IsOkAnd result (λ list. HoldsRows list rows) }
-    ensures all_faults { (fault : _) → IsFirstBadPlace bytes.now channels.now fault
-        → (result ≡ Err RowsReadFault.Memory) ⊎ (result ≡ Err (RowsReadFault.Row fault)) }
-{
-    let mut words = List::new(alloc);
-    let mut reader = Reader::new();
-    for byte in bytes {
-        let progress = reader.step(channels, *byte)?;
-        push_word(&mut words, progress.word())?;
-    }
-    let last = reader.finish(channels)?;
-    push_word(&mut words, last)?;
-    Ok(RowList {
-        width: channels.len() as u8,
-        words,
-    })
-}
-
-/// Adds the word, if there is one.
-fn push_word(words: &mut List<i64>, word: Option<i64>) -> Result<(), AllocError>
-    ensures { OnOk result (words.new ≡ words.old ++ option_to_list word) }
-{
-    if let Some(word) = word {
-        words.push(word)?;
-    }
-    Ok(())
 }

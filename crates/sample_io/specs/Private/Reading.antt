@@ -1,7 +1,6 @@
 -- What a reader knows of a sample file after the bytes that it has taken.
 use Rattle.std.specs.Prelude.{◌≡◌, ℕ, ◌+◌, ◌*◌, ◌<◌, ◌^◌, List, [], ◌∷◌, ◌++◌, length, Bool, ℤ, Option, Some, None, Result, Ok, Err, MatchOption}
 use Rattle.std.specs.Char.{digit_value}
-use Rattle.std.specs.List.{flat_map}
 use Rattle.lists.specs.Rows.{Rows}
 use Rattle.sample_io.specs.declared.RowFault.{RowFault}
 use Rattle.sample_io.specs.declared.channel.Channel.{Channel}
@@ -49,12 +48,6 @@ IsReader channels reader =
     (bytes : List ℕ) × (rows : Rows) × (words : List ℤ)
     × (length bytes < 2 ^ 63) × ReadSoFar channels bytes rows words reader
 
--- the word that the byte made whole
-abbrev pub word_of : Progress → Option ℤ
-word_of Within = None
-word_of (Word word) = Some word
-word_of (Row word) = Some word
-
 -- The byte was taken, within a word, or as the end of a word or of a line; or it is the first bad place, whatever comes
 -- after it.
 abbrev pub ReadsByte : List Channel → List ℕ → Rows → List ℤ → ℕ → Result Progress RowFault → Reader → Type 0
@@ -85,10 +78,3 @@ abbrev pub Ends : List Channel → Reader → Result (Option ℤ) RowFault → T
 Ends channels reader result =
     (bytes : List ℕ) (rows : Rows) (words : List ℤ) → ReadSoFar channels bytes rows words reader
     → ReadsEnd channels bytes rows words result
-
--- the bytes have led to this reader, and these are all their words that are whole
-pub record WordsSoFar (channels : List Channel) (bytes : List ℕ) (words : List ℤ) (reader : Reader) : Type 0 where
-  pub rows : Rows
-  pub begun : List ℤ
-  pub words_are : words ≡ flat_map (λ row. row) rows ++ begun
-  pub so_far : ReadSoFar channels bytes rows begun reader

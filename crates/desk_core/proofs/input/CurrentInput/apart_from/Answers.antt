@@ -1,7 +1,7 @@
 use Rattle.std.proofs.Common.{rules, ◌≡◌, sym, ◌∙◌, ap, true, false}
 use Rattle.std.specs.Prelude.{bytes_eq}
 use Rattle.std.proofs.lemmas.Slice.Eq.{bytes_eq-Decides}
-use Rattle.desk_core.specs.Inputs.{apart_from}
+use Rattle.desk_core.specs.Private.Inputs.{apart_from}
 use Rattle.desk_core.specs.declared.input.CurrentInput.{CurrentInput}
 use Rattle.desk_core.proofs.InputLemmas.{apart_same, apart_other}
 use Rattle.desk_core.proofs.StoredLemmas.{name_is}

@@ -1,5 +1,5 @@
 -- A byte ends a word or a row, or is the first bad one.
-use Rattle.std.proofs.Common.{rules, ◌≡◌, ◌++◌, ◌∷◌, [], List, length, ℕ, ℤ, Ok, Err, refl, ap, sym, ◌∙◌, subst, FitsSigned, w64, to_z, of_z, set}
+use Rattle.std.proofs.Common.{rules, ◌++◌, ◌∷◌, [], List, length, ℕ, ℤ, Ok, Err, refl, ap, sym, ◌∙◌, subst, FitsSigned, w64, to_z, of_z, set}
 use Rattle.std.proofs.lemmas.Int.{to_z-of_z}
 use Rattle.std.proofs.lemmas.List.{length-set}
 use Rattle.sample_io.specs.declared.read.Progress.TheVariants.{Within, Word, Row}
