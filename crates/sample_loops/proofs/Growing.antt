@@ -1,19 +1,22 @@
 -- The output grows while the input is read.
-use Rattle.std.proofs.Common.{arith, ◌≡◌, ℕ, [], ◌++◌, Some, Bool, Result, Ok, Err, OnOk, OnErr, inl, refl, ap, sym, ◌∙◌, append_assoc}
-use Rattle.std.proofs.lemmas.List.{append-nil}
-use Rattle.desk_core.specs.Desk.{FaultsNeverFall, IsRead, IsUnchanged, IsUnchangedButOutput, IsClosed, ReadFailed, WriteFailed}
+use Rattle.std.proofs.Common.{arith, ◌≡◌, ℕ, [], ◌++◌, Bool, Result, Ok, Err, OnOk, OnErr, IsErr, inl, inr, ⊎_elim}
+use Rattle.std.proofs.Common.{refl, ap, sym, ◌∙◌}
+use Rattle.desk_core.specs.Desk.{FaultsNeverFall, IsRead, IsUnchanged, IsUnchangedButOutput, IsClosed}
+use Rattle.desk_core.specs.Desk.{ReadFailed, WriteFailed}
 use Rattle.desk_core.specs.View.{Name, Content, View}
 use Rattle.desk_core.proofs.DeskLemmas.{rose_later}
-use Rattle.sample_loops.specs.Output.{IsAppended}
-use Rattle.sample_loops.specs.Streams.{HasPut, ChangesOutputAlone}
+use Rattle.sample_loops.specs.Output.{HasPut}
+use Rattle.sample_loops.specs.Streams.{IsCloseTried, ChangesOutputAlone}
+use Rattle.sample_loops.specs.Private.Buffers.{IsAppended}
 use Rattle.sample_loops.specs.Private.Streaming.{HasGrown}
+use Rattle.sample_loops.proofs.Appending.{put_none, put_twice}
 
 pub never_fall_same : (desk : View) → FaultsNeverFall desk desk
 never_fall_same desk = record { reading = λ s. omega arith; writing = λ s. omega arith; printing = omega arith }
 
 pub grown_none : (desk : View) → HasGrown [] desk desk
 grown_none desk = record {
-  files = λ after is. (after, is, λ name out. record { here = λ bytes there. there ∙ ap (λ b. Some b) (sym (append-nil bytes)); others = λ s other. refl });
+  files = put_none desk;
   output = refl;
   input = record { named = refl; bytes = refl };
   printed = refl;
@@ -27,19 +30,7 @@ pub grown_more : (first second : Content) (old mid new : View)
     → IsAppended second mid new
     → HasGrown (first ++ second) old new
 grown_more first second old mid new before now = record {
-  files = λ after is.
-      let middle = now.files after is in
-      let start = before.files middle.0 middle.1 in (
-        start.0,
-        start.1,
-        λ name out.
-            let a = start.2 name out in
-            let b = middle.2 name (before.output ∙ out) in
-            record {
-              here = λ bytes there. b.here (bytes ++ first) (a.here bytes there) ∙ ap (λ c. Some c) (append_assoc bytes first second);
-              others = λ s other. b.others s other ∙ a.others s other;
-            },
-      );
+  files = put_twice first second old mid new before.output before.files now.files;
   output = now.output ∙ before.output;
   input = record { named = now.input.named ∙ before.input.named; bytes = now.input.bytes ∙ before.input.bytes };
   printed = now.printed ∙ before.printed;
@@ -84,6 +75,7 @@ pub grown_alone : (more : Content) (old new : View) → HasGrown more old new �
 grown_alone more old new h = record {
   files = (more, h.files);
   input = h.input;
+  output = λ known is. inr (sym h.output ∙ is);
   printed = h.printed;
   reads = h.reads;
   writes = λ s writes. ap (λ (w : Name → Bool). w s) (sym h.writes) ∙ writes;
@@ -97,6 +89,7 @@ pub grown_closed : (more : Content) (old mid new : View)
 grown_closed more old mid new before now = record {
   files = (more, put_kept more old mid new before.files now.files);
   input = record { named = now.input.named ∙ before.input.named; bytes = now.input.bytes ∙ before.input.bytes };
+  output = λ known is. inl (now.output.only known is);
   printed = now.printed ∙ before.printed;
   reads = now.reads ∙ before.reads;
   writes = λ s writes. ap (λ (w : Name → Bool). w s) (sym before.writes) ∙ now.no_new_output s writes;
@@ -109,6 +102,7 @@ pub grown_perhaps_closed : (more : Content) (old mid new : View)
 grown_perhaps_closed more old mid new before now = record {
   files = (more, put_kept more old mid new before.files now.files);
   input = record { named = now.input.named ∙ before.input.named; bytes = now.input.bytes ∙ before.input.bytes };
+  output = λ known is. ⊎_elim (λ none. inl none) (λ same. inr (sym before.output ∙ same)) (now.output known is);
   printed = now.printed ∙ before.printed;
   reads = now.reads ∙ before.reads;
   writes = λ s writes. ap (λ (w : Name → Bool). w s) (sym before.writes) ∙ now.no_new_output s writes;
@@ -148,3 +142,10 @@ perhaps_closed (Ok done) old new closed failed = record {
   no_new_output = closed.no_new_output;
 }
 perhaps_closed (Err fault) old new closed failed = failed
+
+pub close_tried : {T E : Type 0} (result : Result T E) (old new : View)
+    → OnOk result (IsClosed old new)
+    → (IsErr result → WriteFailed old new)
+    → IsCloseTried old new
+close_tried (Ok done) old new closed failed = inl closed.output
+close_tried (Err fault) old new closed failed = inr (failed refl)

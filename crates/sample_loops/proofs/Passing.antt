@@ -1,5 +1,5 @@
 -- What rows put is passed on, one row after another.
-use Rattle.std.proofs.Common.{◌≡◌, ℕ, ◌+◌, Bool, length, take, arith, List, [], ◌∷◌, ◌++◌, ℤ, Some, ap, sym, ◌∙◌, subst, append_assoc}
+use Rattle.std.proofs.Common.{◌≡◌, ℕ, ◌+◌, Bool, length, take, arith, List, [], ◌∷◌, ◌++◌, ℤ, ap, sym, ◌∙◌, subst, append_assoc}
 use Rattle.std.proofs.lemmas.Grind.{flat_map-append}
 use Rattle.std.proofs.lemmas.List.{append-nil, length-append}
 use Rattle.std.proofs.Math.Seq.{take-append-add}
@@ -8,25 +8,16 @@ use Rattle.desk_core.specs.Desk.{FaultsNeverFall, WriteFailed}
 use Rattle.desk_core.specs.View.{Content, View}
 use Rattle.desk_core.proofs.DeskLemmas.{rose_later}
 use Rattle.sample_io.specs.Samples.{printed, printed_row}
-use Rattle.sample_loops.specs.Output.{IsAppended, IsAppendedInPart}
-use Rattle.sample_loops.specs.Private.Buffers.{PassesOn}
+use Rattle.sample_loops.specs.Private.Buffers.{IsAppended, IsAppendedInPart, PassesOn}
+use Rattle.sample_loops.proofs.Appending.{put_twice}
 
 -- bytes behind bytes
-pub appended_twice : (first second : Content) (old mid new : View) → IsAppended first old mid → IsAppended second mid new → IsAppended (first ++ second) old new
+pub appended_twice : (first second : Content) (old mid new : View)
+    → IsAppended first old mid
+    → IsAppended second mid new
+    → IsAppended (first ++ second) old new
 appended_twice first second old mid new before now = record {
-  files = λ after is.
-      let middle = now.files after is in
-      let start = before.files middle.0 middle.1 in (
-        start.0,
-        start.1,
-        λ name out.
-            let a = start.2 name out in
-            let b = middle.2 name (before.output ∙ out) in
-            record {
-              here = λ bytes there. b.here (bytes ++ first) (a.here bytes there) ∙ ap (λ c. Some c) (append_assoc bytes first second);
-              others = λ s other. b.others s other ∙ a.others s other;
-            },
-      );
+  files = put_twice first second old mid new before.output before.files now.files;
   output = now.output ∙ before.output;
   input = record { named = now.input.named ∙ before.input.named; bytes = now.input.bytes ∙ before.input.bytes };
   place = now.place ∙ before.place;

@@ -1,5 +1,6 @@
 -- A piece was read, and the rows that it ends run, up to a fault or all of them.
-use Rattle.std.proofs.Common.{arith, ◌≡◌, ℕ, ◌+◌, ◌≤◌, List, [], ◌∷◌, ◌++◌, length, take, drop, refl, ap, sym, ◌∙◌, subst, append_assoc, inl}
+use Rattle.std.proofs.Common.{arith, ◌≡◌, ℕ, ◌+◌, ◌≤◌, List, [], ◌∷◌, ◌++◌, length, take, drop, length-drop, inl}
+use Rattle.std.proofs.Common.{refl, ap, sym, ◌∙◌, subst, append_assoc}
 use Rattle.std.proofs.lemmas.List.{append-nil, length-append, length-take-le, take-append-le, take-append-drop}
 use Rattle.lists.specs.Rows.{Rows}
 use Rattle.desk_core.specs.Desk.{FaultsNeverFall, IsRead}
@@ -11,7 +12,8 @@ use Rattle.sample_io.specs.declared.channel.Channel.{Channel}
 use Rattle.sample_io.specs.FedRows.{FedRows}
 use Rattle.sample_io.specs.Pieces.{HasTaken}
 use Rattle.sample_io.specs.Samples.{Lines, StopsAfter, printed}
-use Rattle.sample_loops.specs.Streams.{BeginsWith, HasRead}
+use Rattle.sample_loops.specs.Reading.{BeginsWith, EndsInLastPiece}
+use Rattle.sample_loops.specs.Streams.{HasRead}
 use Rattle.sample_loops.specs.Private.Buffers.{PassesOn}
 use Rattle.sample_loops.specs.Private.Running.{RunsPiece, EndsInPiece, EndsLines}
 use Rattle.sample_loops.specs.Private.Streaming.{HasGrown, HasPassed, IsHeld, IsRunning, StopsInInput}
@@ -52,28 +54,28 @@ piece_is buf behind n m room size =
     (front, ap length front ∙ length-take-le n buf fits)
 
 -- a piece was read; the rows before it ran, and all that they put is written
-pub record HasPiece (limit : ℕ) (channels : List Channel) (rows : FedRows) (bytes piece : Content) (before puts : Rows)
+pub record HasPiece (end : ℕ) (channels : List Channel) (rows : FedRows) (bytes piece : Content) (before puts : Rows)
     (start now : View) : Type 0 where
   pub never_fall : FaultsNeverFall start now
   pub read : HasRead (bytes ++ piece) start now
-  pub within : length (bytes ++ piece) ≤ limit
+  pub within : length (bytes ++ piece) ≤ end
   pub channels_are : rows.channels ≡ channels
   pub taken : HasTaken rows bytes before
   pub as_many : length puts ≡ length before
   pub few : length piece ≤ 4096
   pub grown : HasGrown (printed puts) start now
 
-pub has_piece : (channels : List Channel) (ran : Rows → Rows → Type 0) (left limit n : ℕ) (rows : FedRows)
+pub has_piece : (channels : List Channel) (ran : Rows → Rows → Type 0) (left end n : ℕ) (rows : FedRows)
     → (old_buf new_buf piece : Content) (start mid now : View)
-    → (run : IsRunning channels ran left limit rows [] start mid)
+    → (run : IsRunning channels ran left end rows [] start mid)
     → FaultsNeverFall mid now
     → IsRead n old_buf new_buf mid now
     → piece ≡ take n new_buf
     → length piece ≡ n
     → n ≤ 4096
     → n ≤ left
-    → HasPiece limit channels rows run.bytes piece run.before run.puts start now
-has_piece channels ran left limit n rows old_buf new_buf piece start mid now run never step is size few room =
+    → HasPiece end channels rows run.bytes piece run.before run.puts start now
+has_piece channels ran left end n rows old_buf new_buf piece start mid now run never step is size few room =
     let h = run.passed in
     record {
       never_fall = never_fall_trans start mid now h.never_fall never;
@@ -88,13 +90,13 @@ has_piece channels ran left limit n rows old_buf new_buf piece start mid now run
     }
 
 -- what rows of the piece put is passed on
-pub piece_passed : (limit : ℕ) (channels : List Channel) (rows : FedRows) (bytes piece : Content)
+pub piece_passed : (end : ℕ) (channels : List Channel) (rows : FedRows) (bytes piece : Content)
     → (before puts others next : Rows) (waits : Content) (start then now : View)
-    → HasPiece limit channels rows bytes piece before puts start then
+    → HasPiece end channels rows bytes piece before puts start then
     → FaultsNeverFall then now
     → PassesOn [] (printed next) waits then now
     → HasPassed channels (bytes ++ piece) (before ++ others) (puts ++ next) waits start now
-piece_passed limit channels rows bytes piece before puts others next waits start then now h never (more, text, added) = record {
+piece_passed end channels rows bytes piece before puts others next waits start then now h never (more, text, added) = record {
   never_fall = never_fall_trans start then now h.never_fall never;
   written = printed puts ++ more;
   text = append_assoc (printed puts) more waits ∙ ap (λ l. printed puts ++ l) text ∙ sym (printed-append puts next);
@@ -105,9 +107,9 @@ piece_passed limit channels rows bytes piece before puts others next waits start
 }
 
 -- the rows of the piece ran
-pub piece_ran : (channels : List Channel) (ran more next : Rows → Rows → Type 0) (left limit n later : ℕ)
+pub piece_ran : (channels : List Channel) (ran more next : Rows → Rows → Type 0) (left end n later : ℕ)
     → (rows new : FedRows) (old_buf new_buf piece waits : Content) (start mid then now : View)
-    → (run : IsRunning channels ran left limit rows [] start mid)
+    → (run : IsRunning channels ran left end rows [] start mid)
     → FaultsNeverFall mid then
     → IsRead n old_buf new_buf mid then
     → piece ≡ take n new_buf
@@ -117,9 +119,9 @@ pub piece_ran : (channels : List Channel) (ran more next : Rows → Rows → Typ
     → FaultsNeverFall then now
     → (p : RunsPiece more rows piece [] then new waits now)
     → next (run.before ++ p.rows) (run.puts ++ p.puts)
-    → IsRunning channels next later limit new waits start now
-piece_ran channels ran more next left limit n later rows new old_buf new_buf piece waits start mid then now run never step is size few behind on p ran_all =
-    let h = has_piece channels ran left limit n rows old_buf new_buf piece start mid then run never step is size few (omega (arith, behind)) in
+    → IsRunning channels next later end new waits start now
+piece_ran channels ran more next left end n later rows new old_buf new_buf piece waits start mid then now run never step is size few behind on p ran_all =
+    let h = has_piece channels ran left end n rows old_buf new_buf piece start mid then run never step is size few (omega (arith, behind)) in
     record {
       bytes = run.bytes ++ piece;
       before = run.before ++ p.rows;
@@ -130,45 +132,52 @@ piece_ran channels ran more next left limit n later rows new old_buf new_buf pie
       taken = p.takes.taken run.bytes run.before run.taken;
       as_many = omega (arith, length-append run.puts p.puts, length-append run.before p.rows, run.as_many, p.as_many);
       ran_rows = ran_all;
-      passed = piece_passed limit channels rows run.bytes piece run.before run.puts p.rows p.puts waits start then now h on p.passes;
+      passed = piece_passed end channels rows run.bytes piece run.before run.puts p.rows p.puts waits start then now h on p.passes;
     }
 
 -- rows of the piece before a fault are held
-piece_held : (limit : ℕ) (channels : List Channel) (gives : Rows → Rows → Type 0) (rows : FedRows)
+piece_held : (end : ℕ) (channels : List Channel) (gives : Rows → Rows → Type 0) (rows : FedRows)
     → (bytes piece : Content) (before puts others next : Rows) (waits : Content) (start then now : View)
-    → HasPiece limit channels rows bytes piece before puts start then
+    → HasPiece end channels rows bytes piece before puts start then
     → FaultsNeverFall then now
     → PassesOn [] (printed next) waits then now
     → BeginsWith (bytes ++ piece) channels (before ++ others)
     → gives (before ++ others) (puts ++ next)
-    → IsHeld limit channels gives (before ++ others) (puts ++ next) waits start now
-piece_held limit channels gives rows bytes piece before puts others next waits start then now h never passes begins given = record {
+    → IsHeld end channels gives (before ++ others) (puts ++ next) waits start now
+piece_held end channels gives rows bytes piece before puts others next waits start then now h never passes begins given = record {
   bytes = bytes ++ piece;
   read = record { read = record { place = passes.2.place ∙ h.read.place; prefix = h.read.prefix }; within = h.within; rows_are = inl begins };
   given = given;
-  passed = piece_passed limit channels rows bytes piece before puts others next waits start then now h never passes;
+  passed = piece_passed end channels rows bytes piece before puts others next waits start then now h never passes;
 }
 
 -- lines that end in the piece
-lines_begin : (channels : List Channel) (rows : FedRows) (bytes piece : Content) (before others : Rows)
+lines_end : (channels : List Channel) (rows : FedRows) (bytes piece : Content) (before others : Rows)
     → rows.channels ≡ channels
+    → length piece ≤ 4096
     → HasTaken rows bytes before
     → EndsLines rows piece others
-    → BeginsWith (bytes ++ piece) channels (before ++ others)
-lines_begin channels rows bytes piece before others same taken (count, within, ends) =
+    → EndsInLastPiece (bytes ++ piece) channels (before ++ others)
+lines_end channels rows bytes piece before others same few taken (count, some, within, ends) =
     let lines = subst (λ c. Lines (bytes ++ take count piece) c (before ++ others)) same (ends bytes before taken) in
     let whole : (bytes ++ take count piece) ++ drop count piece ≡ bytes ++ piece =
-    append_assoc bytes (take count piece) (drop count piece) ∙ ap (λ l. bytes ++ l) (take-append-drop count piece) in
-    (bytes ++ take count piece, drop count piece, sym whole, lines)
+    append_assoc bytes (take count piece) (drop count piece) ∙ ap (λ l. bytes ++ l) (take-append-drop count piece) in (
+      bytes ++ take count piece,
+      drop count piece,
+      sym whole,
+      lines,
+      omega (arith, length-drop count piece, some, within, few),
+    )
 
 -- some of the lines that end in the piece
 some_begin : (channels : List Channel) (rows : FedRows) (bytes piece : Content) (before others more : Rows)
     → rows.channels ≡ channels
+    → length piece ≤ 4096
     → HasTaken rows bytes before
     → EndsLines rows piece (others ++ more)
     → BeginsWith (bytes ++ piece) channels (before ++ others)
-some_begin channels rows bytes piece before others more same taken ends =
-    let (front, rest, is, lines) = lines_begin channels rows bytes piece before (others ++ more) same taken ends in
+some_begin channels rows bytes piece before others more same few taken ends =
+    let (front, rest, is, lines, near) = lines_end channels rows bytes piece before (others ++ more) same few taken ends in
     let some = lines_front front channels (before ++ others) more (subst (Lines front channels) (sym (append_assoc before others more)) lines) in
     subst (λ b. BeginsWith b channels (before ++ others)) (sym is) (begins_more front rest channels (before ++ others) some)
 
@@ -178,10 +187,10 @@ fault_begins : (channels : List Channel) (bytes : Content) (rows : Rows) (fault 
     → BeginsWith bytes channels rows
 fault_begins channels bytes rows fault (bad, same) = (bad.front, bad.rest, bad.bytes_are, subst (Lines bad.front channels) same bad.before)
 
-module _ (limit : ℕ) (channels : List Channel) (gives some : Rows → Rows → Type 0)
+module _ (end : ℕ) (channels : List Channel) (gives some : Rows → Rows → Type 0)
     (meets meets_some : Rows → ConflictValue → Type 0)
     (rows : FedRows) (bytes piece : Content) (before puts : Rows) (start then now : View) (waits : Content)
-    (h : HasPiece limit channels rows bytes piece before puts start then)
+    (h : HasPiece end channels rows bytes piece before puts start then)
     (never : FaultsNeverFall then now)
     (later : (others next : Rows) → some others next → gives (before ++ others) (puts ++ next))
     (meets_later : (others : Rows) (conflict : ConflictValue)
@@ -190,33 +199,41 @@ module _ (limit : ℕ) (channels : List Channel) (gives some : Rows → Rows →
   -- the rows of the piece did not all run
   pub piece_stops : (fault : StreamFault)
       → EndsInPiece some meets_some rows piece [] then waits now fault
-      → StopsInInput limit channels gives meets start waits now fault
+      → StopsInInput end channels gives meets start waits now fault
   piece_stops (Row fault) (others, next, given, passes, after) =
-      let stops : (more : Content) → StopsAfter channels (bytes ++ piece ++ more) (before ++ others) fault = λ more. subst (λ c. StopsAfter c (bytes ++ piece ++ more) (before ++ others) fault) h.channels_are (after bytes before h.taken more) in
-      let front = subst (λ b. StopsAfter channels b (before ++ others) fault) (append-nil (bytes ++ piece)) (stops []) in (
-        before ++ others,
-        puts ++ next,
-        piece_held limit channels gives rows bytes piece before puts others next waits start then now h never passes
-            (fault_begins channels (bytes ++ piece) (before ++ others) fault front) (later others next given),
-        record { bytes = bytes ++ piece; read = record { place = passes.2.place ∙ h.read.place; prefix = h.read.prefix }; within = h.within; stops = inl stops },
-      )
-  piece_stops (Conflict conflict) (others, row, next, given, met, passes, ends) = (
-    before ++ others,
-    puts ++ next,
-    piece_held limit channels gives rows bytes piece before puts others next waits start then now h never passes
-        (some_begin channels rows bytes piece before others (row ∷ []) h.channels_are h.taken ends) (later others next given),
-    bytes ++ piece,
-    row,
-    record {
+      let stops : (more : Content) → StopsAfter channels (bytes ++ piece ++ more) (before ++ others) fault =
+      λ more. subst (λ c. StopsAfter c (bytes ++ piece ++ more) (before ++ others) fault) h.channels_are (after bytes before h.taken more) in
+      let front = subst (λ b. StopsAfter channels b (before ++ others) fault) (append-nil (bytes ++ piece)) (stops []) in
+      record {
+        rows = before ++ others;
+        puts = puts ++ next;
+        held = piece_held end channels gives rows bytes piece before puts others next waits start then now h never passes
+            (fault_begins channels (bytes ++ piece) (before ++ others) fault front) (later others next given);
+        shown = record {
+          bytes = bytes ++ piece;
+          read = record { place = passes.2.place ∙ h.read.place; prefix = h.read.prefix };
+          within = h.within;
+          stops = inl stops;
+          sound = (piece_passed end channels rows bytes piece before puts others next waits start then now h never passes).sound;
+        };
+      }
+  piece_stops (Conflict conflict) (others, row, next, given, met, passes, ends) = record {
+    rows = before ++ others;
+    puts = puts ++ next;
+    held = piece_held end channels gives rows bytes piece before puts others next waits start then now h never passes
+        (some_begin channels rows bytes piece before others (row ∷ []) h.channels_are h.few h.taken ends) (later others next given);
+    shown = record {
+      bytes = bytes ++ piece;
+      row = row;
       read = record { place = passes.2.place ∙ h.read.place; prefix = h.read.prefix };
       within = h.within;
-      rows_are = inl (subst (BeginsWith (bytes ++ piece) channels) (sym (append_assoc before others (row ∷ [])))
-          (lines_begin channels rows bytes piece before (others ++ row ∷ []) h.channels_are h.taken ends));
-    },
-    subst (λ r. meets r conflict) (sym (append_assoc before others (row ∷ []))) (meets_later (others ++ row ∷ []) conflict met),
-  )
+      rows_are = inl (subst (EndsInLastPiece (bytes ++ piece) channels) (sym (append_assoc before others (row ∷ [])))
+          (lines_end channels rows bytes piece before (others ++ row ∷ []) h.channels_are h.few h.taken ends));
+      met = subst (λ r. meets r conflict) (sym (append_assoc before others (row ∷ []))) (meets_later (others ++ row ∷ []) conflict met);
+    };
+  }
   piece_stops Desk (others, row, next, given, failed, added, ends) =
-      let held = piece_held limit channels gives rows bytes piece before puts others next (printed next) start then then h (never_fall_same then)
-      ([], refl, appended_none then) (some_begin channels rows bytes piece before others (row ∷ []) h.channels_are h.taken ends) (later others next given) in
-      held_cut limit channels gives (before ++ others) (puts ++ next) (printed next) start then now held failed added
+      let held = piece_held end channels gives rows bytes piece before puts others next (printed next) start then then h (never_fall_same then)
+      ([], refl, appended_none then) (some_begin channels rows bytes piece before others (row ∷ []) h.channels_are h.few h.taken ends) (later others next given) in
+      held_cut end channels gives (before ++ others) (puts ++ next) (printed next) start then now held failed added
   piece_stops TooLong ends = absurd ends

@@ -86,6 +86,7 @@ pub lines_ended : (old mid new : FedRows) (piece : Content) (at count : ℕ) (ro
     → TakesPiece mid (drop at piece) new (Row count) → EndsLines old piece (rows ++ new.row ∷ [])
 lines_ended old mid new piece at count rows within takes now = (
   at + count,
+  omega (arith, now.0),
   omega (arith, within, now.1, length-drop at piece),
   λ front before h.
       let lines = (now.2 (front ++ take at piece) (before ++ rows) (takes.taken front before h)).0 in

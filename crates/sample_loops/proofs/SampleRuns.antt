@@ -1,57 +1,92 @@
 -- A sample of a machine.
-use Rattle.std.proofs.Common.{◌≡◌, ◌+◌, ◌*◌, ◌%◌, ◌∙◌, sym, ap, ap₂, subst, arith, List, [], ◌∷◌, ◌++◌, length, replicate, ℕ, ℤ, None}
-use Rattle.std.proofs.Math.Nat.{add-mod_right}
-use Rattle.std.proofs.lemmas.List.{append-nil, length-append}
+use Rattle.std.proofs.Common.{◌≡◌, ◌+◌, ◌*◌, ◌/◌, ◌%◌, ◌<◌, ◌≤◌, ◌∙◌, sym, ap, ap₂, subst, arith}
+use Rattle.std.proofs.Common.{List, [], ◌∷◌, ◌++◌, length, replicate, ℕ, zero, suc, ℤ, Some, None}
+use Rattle.std.proofs.Math.Nat.{add-div_right, add-mod_right, div-lt_iff_lt-mul}
+use Rattle.std.proofs.lemmas.List.{append-nil, length-append, length-replicate}
 use Rattle.lists.specs.Rows.{Rows}
 use Rattle.cycle_sim.specs.Machine.{Snapshot, state_of, sample_rows, RanRows, IsOutputRow, MeetsConflictInSample}
 use Rattle.micro_image.specs.declared.conflict.Conflict.{Conflict}
 use Rattle.micro_image.specs.declared.image.Image.{Image}
 use Rattle.micro_image.specs.Conflict.{IsConflict, IsClearBelow}
-use Rattle.micro_image.specs.Run.{Stands, spread, latches}
-use Rattle.micro_image.specs.Valid.{IsValid}
-use Rattle.micro_image.proofs.Streams.{length-spread, spread-append}
-use Rattle.sample_loops.specs.Machines.{IsReady, RunsRows, MeetsInLast}
+use Rattle.micro_image.specs.Run.{Stands, latches}
+use Rattle.sample_loops.specs.Machines.{cycles_with, IsReady, RunsRows, StopsInLast}
 
--- one more row, for a whole period
-spread_row : (period : ℕ) (stream : Rows) (row : List ℤ) → spread period (stream ++ row ∷ []) ≡ spread period stream ++ replicate period row
-spread_row period stream row = spread-append period stream (row ∷ []) ∙ ap (λ cycles. spread period stream ++ cycles) (append-nil (replicate period row))
+-- the cycles of one row
+cycles_of_row : (image : Image) (cycles : Rows) (row : List ℤ)
+    → cycles ++ sample_rows image row ≡ cycles_with image cycles (row ∷ [])
+cycles_of_row image cycles row = ap (λ sample. cycles ++ sample) (sym (append-nil (replicate image.period row)))
 
-one_more : (period : ℕ) (stream : Rows) → length (spread period stream) + period ≡ (length stream + 1) * period
-one_more period stream = omega (arith, length-spread period stream)
+length-row : (image : Image) (cycles : Rows) (row : List ℤ)
+    → length (cycles_with image cycles (row ∷ [])) ≡ length cycles + image.period
+length-row image cycles row =
+    ap length (sym (cycles_of_row image cycles row)) ∙ length-append cycles (sample_rows image row)
+    ∙ ap (λ n. length cycles + n) (length-replicate image.period row)
 
 -- a sample
-pub runs_row : (old new : Snapshot) (row put : List ℤ) → new.image ≡ old.image → RanRows old new (sample_rows old.image row) → IsOutputRow old row put → RunsRows old (row ∷ []) (put ∷ []) new
+pub runs_row : (old new : Snapshot) (row put : List ℤ)
+    → new.image ≡ old.image
+    → RanRows old new (sample_rows old.image row)
+    → IsOutputRow old row put
+    → RunsRows old (row ∷ []) (put ∷ []) new
 runs_row old new row put same ran puts =
     let image = old.image in
     record {
       image = same;
-      stands = λ before stands. subst (Stands (state_of new) image) (sym (spread_row image.period before row)) (ran (spread image.period before) stands);
-      put = λ before stands.
+      stands = λ cycles stands.
+          subst (Stands (state_of new) image) (cycles_of_row image cycles row) (ran cycles stands);
+      put = λ cycles stands.
           ap (λ words. words ∷ [])
-          (puts (spread image.period before) stands ∙ ap₂ (latches image) (sym (spread_row image.period before row)) (one_more image.period before));
+          (puts cycles stands
+          ∙ ap₂ (latches image) (cycles_of_row image cycles row)
+          (let e : length cycles + image.period ≡ length cycles + (0 + 1) * image.period = omega arith in e));
     }
 
 -- its first conflict
-pub meets_in_row : (old : Snapshot) (row : List ℤ) (conflict : Conflict) → MeetsConflictInSample old row conflict → MeetsInLast old (row ∷ []) conflict
-meets_in_row old row conflict meets =
+pub meets_in_row : (old new : Snapshot) (row : List ℤ) (conflict : Conflict)
+    → MeetsConflictInSample old row conflict
+    → new.conflict ≡ Some conflict
+    → StopsInLast old (row ∷ []) conflict new
+meets_in_row old new row conflict meets kept =
     let image = old.image in
-    let cycles : (before : Rows) → spread image.period before ++ sample_rows image row ≡ spread image.period (before ++ row ∷ []) = λ before. sym (spread_row image.period before row) in
-    λ before stands.
-    let found = meets (spread image.period before) stands in
-    let size = ap (λ n. n * image.period) (length-append before (row ∷ [])) in
     record {
-      first = record {
-        there = subst (λ z. IsConflict image z conflict) (cycles before) found.there;
-        clear = subst (λ z. IsClearBelow image z conflict.cycle) (cycles before) found.clear;
-        within = omega (arith, found.within, one_more image.period before, size);
-      };
-      last = omega (arith, found.after, one_more image.period before, size);
+      met = λ cycles stands.
+          let found = meets cycles stands in
+          let same = cycles_of_row image cycles row in
+          let size = length-row image cycles row in
+          record {
+            first = record {
+              there = subst (λ z. IsConflict image z conflict) same found.there;
+              clear = subst (λ z. IsClearBelow image z conflict.cycle) same found.clear;
+              within = omega (arith, found.within, size);
+            };
+            last = omega (arith, found.after, size);
+          };
+      kept = kept;
     }
 
 -- a sample later the machine is at the start of the next
-pub ready_after : (old new : Snapshot) → IsReady old → new.image ≡ old.image → new.cycle ≡ old.cycle + old.image.period → new.conflict ≡ None → IsReady new
+pub ready_after : (old new : Snapshot)
+    → IsReady old
+    → new.image ≡ old.image
+    → new.cycle ≡ old.cycle + old.image.period
+    → new.conflict ≡ None
+    → IsReady new
 ready_after old new ready same cycle running = record {
-  valid = subst IsValid (sym same) ready.valid;
   whole = ap₂ ◌%◌ cycle (ap (λ (i : Image). i.period) same) ∙ add-mod_right old.cycle old.image.period ∙ ready.whole;
   running = running;
 }
+
+-- fewer cycles than some samples have are of fewer samples
+pub samples_below : (cycle samples period : ℕ) → cycle < samples * period → cycle / period < samples
+samples_below cycle samples zero young = absurd (omega (arith, young))
+samples_below cycle samples (suc n) young = (div-lt_iff_lt-mul (omega arith)).1 young
+
+-- a sample later
+pub sample_later : (old new : Snapshot)
+    → 0 < old.image.period
+    → new.image ≡ old.image
+    → new.cycle ≡ old.cycle + old.image.period
+    → new.cycle / new.image.period ≤ old.cycle / old.image.period + 1
+sample_later old new some same cycle =
+    let one_more = ap₂ ◌/◌ cycle (ap (λ (i : Image). i.period) same) ∙ add-div_right old.cycle some in
+    omega (arith, one_more)

@@ -9,12 +9,14 @@ use Rattle.desk_core.specs.View.{Content, View}
 use Rattle.desk_core.proofs.DeskLemmas.{never_fall_trans}
 use Rattle.sample_io.specs.declared.channel.Channel.{Channel}
 use Rattle.sample_io.specs.FedRows.{FedRows}
-use Rattle.sample_io.specs.Pieces.{HasTaken}
-use Rattle.sample_io.specs.Samples.{Lines, BeginsRow, StopsAfter, printed, printed_row}
+use Rattle.sample_io.specs.Pieces.{HasTaken, AreLinesSoFar}
+use Rattle.sample_io.specs.Samples.{Lines, StopsAfter, printed, printed_row}
 use Rattle.sample_io.proofs.Taken.{taken_lines, taken_sound}
-use Rattle.sample_loops.specs.Output.{IsAppended, IsAppendedInPart}
-use Rattle.sample_loops.specs.Streams.{HasRead, HasReadAll, HasReadRows, HasReadLimit, HasPut, IsCutShort, ChangesOutputAlone, piece_size}
-use Rattle.sample_loops.specs.Private.Streaming.{HasEarly, IsSoundEarly, HasPassed, IsHeld, IsRunning, IsAtEnd}
+use Rattle.sample_loops.specs.Output.{HasPut}
+use Rattle.sample_loops.specs.Reading.{piece_size, HasEarly, IsSoundEarly}
+use Rattle.sample_loops.specs.Streams.{HasRead, HasReadAll, HasReadRows, HasReadLines, HasReadTooMany}
+use Rattle.sample_loops.specs.Private.Buffers.{IsAppended, IsAppendedInPart}
+use Rattle.sample_loops.specs.Private.Streaming.{HasPassed, IsHeld, IsRunning, IsAtEnd, IsCut}
 use Rattle.sample_loops.proofs.Growing.{never_fall_same, grown_none, grown_more, grown_read, grown_unchanged, grown_alone, read_failed, write_failed}
 
 pub printed-append : (puts more : Rows) → printed (puts ++ more) ≡ printed puts ++ printed more
@@ -95,36 +97,36 @@ pub read_at : (bytes : Content) (start mid now : View)
     → HasRead bytes start now
 read_at bytes start mid now read same = record { place = same ∙ read.place; prefix = read.prefix }
 
-pub read_all_at : (limit : ℕ) (bytes : Content) (start mid now : View)
-    → HasReadAll limit bytes start mid
+pub read_all_at : (end : ℕ) (bytes : Content) (start mid now : View)
+    → HasReadAll end bytes start mid
     → now.place ≡ mid.place
-    → HasReadAll limit bytes start now
-read_all_at limit bytes start mid now all same =
+    → HasReadAll end bytes start now
+read_all_at end bytes start mid now all same =
     record { read = read_at bytes start mid now all.read same; all = all.all; within = all.within }
 
-pub read_rows_at : (limit : ℕ) (channels : List Channel) (bytes : Content) (rows : Rows) (start mid now : View)
-    → HasReadRows limit channels bytes rows start mid
+pub read_rows_at : (end : ℕ) (channels : List Channel) (bytes : Content) (rows : Rows) (start mid now : View)
+    → HasReadRows end channels bytes rows start mid
     → now.place ≡ mid.place
-    → HasReadRows limit channels bytes rows start now
-read_rows_at limit channels bytes rows start mid now read same = record {
+    → HasReadRows end channels bytes rows start now
+read_rows_at end channels bytes rows start mid now read same = record {
   read = read_at bytes start mid now read.read same;
   within = read.within;
   rows_are = elim read.rows_are [
     | inl begins ↦ inl begins
-    | inr whole ↦ inr (read_all_at limit bytes start mid now whole.0 same, whole.1)
+    | inr whole ↦ inr (read_all_at end bytes start mid now whole.0 same, whole.1)
   ];
 }
 
 -- no byte was read yet
-pub starts : (channels : List Channel) (ran : Rows → Rows → Type 0) (limit : ℕ) (rows : FedRows) (waits : Content)
+pub starts : (channels : List Channel) (ran : Rows → Rows → Type 0) (end : ℕ) (rows : FedRows) (waits : Content)
     → (start : View)
     → rows.channels ≡ channels
     → HasTaken rows [] []
     → start.place ≡ 0
     → waits ≡ []
     → ran [] []
-    → IsRunning channels ran limit limit rows waits start start
-starts channels ran limit rows waits start same taken at none ran_none = record {
+    → IsRunning channels ran end end rows waits start start
+starts channels ran end rows waits start same taken at none ran_none = record {
   bytes = [];
   before = [];
   puts = [];
@@ -161,13 +163,13 @@ passed_flushed channels bytes rows puts waits start mid now h never added = reco
   sound = sound_more channels bytes mid.place now.place h.sound added.place;
 }
 
-pub running_flushed : (channels : List Channel) (ran : Rows → Rows → Type 0) (left limit : ℕ) (rows : FedRows)
+pub running_flushed : (channels : List Channel) (ran : Rows → Rows → Type 0) (left end : ℕ) (rows : FedRows)
     → (waits : Content) (start mid now : View)
-    → IsRunning channels ran left limit rows waits start mid
+    → IsRunning channels ran left end rows waits start mid
     → FaultsNeverFall mid now
     → IsAppended waits mid now
-    → IsRunning channels ran left limit rows [] start now
-running_flushed channels ran left limit rows waits start mid now run never added = record {
+    → IsRunning channels ran left end rows [] start now
+running_flushed channels ran left end rows waits start mid now run never added = record {
   bytes = run.bytes;
   before = run.before;
   puts = run.puts;
@@ -181,107 +183,112 @@ running_flushed channels ran left limit rows waits start mid now run never added
 }
 
 -- the rows that ran are rows that were read
-pub running_rows : (limit : ℕ) (channels : List Channel) (rows : FedRows) (bytes : Content) (before : Rows)
+pub running_rows : (end : ℕ) (channels : List Channel) (rows : FedRows) (bytes : Content) (before : Rows)
     → (start now : View)
     → HasRead bytes start now
     → rows.channels ≡ channels
     → HasTaken rows bytes before
-    → length bytes ≤ limit
-    → HasReadRows limit channels bytes before start now
-running_rows limit channels rows bytes before start now read same taken within =
+    → length bytes ≤ end
+    → HasReadRows end channels bytes before start now
+running_rows end channels rows bytes before start now read same taken within =
     let so = taken.so_far in
     record { read = read; within = within; rows_are = inl (so.front, so.line, so.bytes_are, subst (λ c. Lines so.front c before) same so.before) }
 
-pub running_held : (channels : List Channel) (ran gives : Rows → Rows → Type 0) (left limit : ℕ) (rows : FedRows)
+pub running_held : (channels : List Channel) (ran gives : Rows → Rows → Type 0) (left end : ℕ) (rows : FedRows)
     → (waits : Content) (start now : View)
-    → (run : IsRunning channels ran left limit rows waits start now)
+    → (run : IsRunning channels ran left end rows waits start now)
     → gives run.before run.puts
-    → IsHeld limit channels gives run.before run.puts waits start now
-running_held channels ran gives left limit rows waits start now run given = record {
+    → IsHeld end channels gives run.before run.puts waits start now
+running_held channels ran gives left end rows waits start now run given = record {
   bytes = run.bytes;
-  read = running_rows limit channels rows run.bytes run.before start now run.read run.channels_are run.taken (omega (arith, run.left_is));
+  read = running_rows end channels rows run.bytes run.before start now run.read run.channels_are run.taken (omega (arith, run.left_is));
   given = given;
   passed = run.passed;
 }
 
 -- what waits could not be written
-pub held_cut : (limit : ℕ) (channels : List Channel) (gives : Rows → Rows → Type 0) (rows puts : Rows)
+pub held_cut : (end : ℕ) (channels : List Channel) (gives : Rows → Rows → Type 0) (rows puts : Rows)
     → (waits : Content) (start mid now : View)
-    → IsHeld limit channels gives rows puts waits start mid
+    → IsHeld end channels gives rows puts waits start mid
     → WriteFailed mid now
     → IsAppendedInPart waits mid now
-    → IsCutShort limit piece_size channels gives start now × ChangesOutputAlone start now
-held_cut limit channels gives rows puts waits start mid now held failed (k, within, added) =
+    → IsCut end channels gives start now
+held_cut end channels gives rows puts waits start mid now held failed (k, within, added) =
     let h = held.passed in
     let text : take (length h.written + k) (printed puts) ≡ h.written ++ take k waits =
     ap (take (length h.written + k)) (sym h.text) ∙ take-append-add h.written waits k in
-    let grown = grown_more h.written (take k waits) start mid now h.grown added in (
-      record {
-        failed = inr (write_failed h.written start mid now h.never_fall h.grown failed);
+    let size = ap length (sym h.text) ∙ length-append h.written waits in
+    let grown = grown_more h.written (take k waits) start mid now h.grown added in
+    record {
+      cut = inr (inl (record {
+        failed = write_failed h.written start mid now h.never_fall h.grown failed;
         bytes = held.bytes;
         rows = rows;
         puts = puts;
         count = length h.written + k;
-        read = read_rows_at limit channels held.bytes rows start mid now held.read added.place;
+        read = read_rows_at end channels held.bytes rows start mid now held.read added.place;
         given = held.given;
+        short = omega (arith, size, within);
         put = subst (λ t. HasPut t start now) (sym text) grown.files;
         early = early_more channels held.bytes rows puts (length h.written) (length h.written + k) mid.place now.place h.early (omega arith) added.place;
         sound = sound_more channels held.bytes mid.place now.place h.sound added.place;
-      },
-      grown_alone (h.written ++ take k waits) start now grown,
-    )
+      }));
+      alone = grown_alone (h.written ++ take k waits) start now grown;
+    }
 
 -- nothing waits, so all is written
 pub all_written : (written : Content) (puts : Rows) → written ++ [] ≡ printed puts → written ≡ printed puts
 all_written written puts text = sym (append-nil written) ∙ text
 
--- the next bytes could not be read
-pub reading_cut : (channels : List Channel) (ran gives : Rows → Rows → Type 0) (left limit : ℕ) (rows : FedRows)
+-- the bytes that were read are lines and a line begun
+lines_read : (channels : List Channel) (ran : Rows → Rows → Type 0) (left end : ℕ) (rows : FedRows) (waits : Content)
     → (start mid now : View)
-    → (run : IsRunning channels ran left limit rows [] start mid)
+    → (run : IsRunning channels ran left end rows waits start mid)
+    → now.place ≡ mid.place
+    → HasReadLines channels run.before start now
+lines_read channels ran left end rows waits start mid now run same = record {
+  bytes = run.bytes;
+  read = read_at run.bytes start mid now run.read same;
+  lines = subst (λ c. AreLinesSoFar c run.bytes run.before) run.channels_are run.taken.so_far;
+}
+
+-- the next bytes could not be read
+pub reading_cut : (channels : List Channel) (ran gives : Rows → Rows → Type 0) (left end : ℕ) (rows : FedRows)
+    → (start mid now : View)
+    → (run : IsRunning channels ran left end rows [] start mid)
     → gives run.before run.puts
+    → 0 < left
     → ReadFailed mid now
     → IsUnchanged mid now
-    → IsCutShort limit piece_size channels gives start now × ChangesOutputAlone start now
-reading_cut channels ran gives left limit rows start mid now run given failed same =
+    → IsCut end channels gives start now
+reading_cut channels ran gives left end rows start mid now run given some failed same =
     let h = run.passed in
-    let all = all_written h.written run.puts h.text in
     let grown = grown_unchanged h.written start mid now h.grown same in
-    let text : take (length h.written) (printed run.puts) ≡ h.written =
-    ap (take (length h.written)) (sym all) ∙ take_all (length h.written) h.written (omega arith) in (
-      record {
-        failed = inl (read_failed h.written start mid now h.never_fall h.grown failed);
-        bytes = run.bytes;
+    record {
+      cut = inl (record {
+        failed = read_failed h.written start mid now h.never_fall h.grown failed;
         rows = run.before;
-        puts = run.puts;
-        count = length h.written;
-        read = read_rows_at limit channels run.bytes run.before start mid now
-            (running_rows limit channels rows run.bytes run.before start mid run.read run.channels_are run.taken (omega (arith, run.left_is))) same.place;
-        given = given;
-        put = subst (λ t. HasPut t start now) (sym text) grown.files;
-        early = early_more channels run.bytes run.before run.puts (length h.written) (length h.written) mid.place now.place h.early (omega arith) same.place;
-        sound = sound_more channels run.bytes mid.place now.place h.sound same.place;
-      },
-      grown_alone h.written start now grown,
-    )
+        before_end = omega (arith, run.left_is, run.read.place, same.place, some);
+        lines = lines_read channels ran left end rows [] start mid now run same.place;
+        put = record {
+          puts = run.puts;
+          given = given;
+          put = subst (λ t. HasPut t start now) (all_written h.written run.puts h.text) grown.files;
+        };
+      });
+      alone = grown_alone h.written start now grown;
+    }
 
 -- no byte is left
-pub at_limit : (channels : List Channel) (ran : Rows → Rows → Type 0) (left limit : ℕ) (rows : FedRows)
+pub too_many : (channels : List Channel) (ran : Rows → Rows → Type 0) (left end : ℕ) (rows : FedRows)
     → (waits : Content) (start now : View)
-    → (run : IsRunning channels ran left limit rows waits start now)
+    → (run : IsRunning channels ran left end rows waits start now)
     → left ≡ 0
-    → HasReadLimit limit channels run.before start now
-at_limit channels ran left limit rows waits start now run none =
-    let so = run.taken.so_far in
-    record {
-      front = so.front;
-      rest = so.line;
-      at_limit = run.read.place ∙ omega (arith, run.left_is, none);
-      read = subst (λ b. HasRead b start now) so.bytes_are run.read;
-      lines = subst (λ c. Lines so.front c run.before) run.channels_are so.before;
-      unended = so.unended;
-      begins = subst (λ c. BeginsRow c so.line) run.channels_are so.begins;
-    }
+    → HasReadTooMany end channels run.before start now
+too_many channels ran left end rows waits start now run none = record {
+  place = run.read.place ∙ omega (arith, run.left_is, none);
+  lines = lines_read channels ran left end rows waits start now now run refl;
+}
 
 -- the next bytes
 pub read_more : (bytes piece : Content) (n : ℕ) (old_buf new_buf : Content) (start mid now : View)
@@ -301,17 +308,17 @@ read_more bytes piece n old_buf new_buf start mid now read same step is size = r
 }
 
 -- no byte came
-pub at_end : (channels : List Channel) (ran : Rows → Rows → Type 0) (left limit n : ℕ) (rows : FedRows)
+pub at_end : (channels : List Channel) (ran : Rows → Rows → Type 0) (left end n : ℕ) (rows : FedRows)
     → (waits : Content) (old_buf new_buf : Content) (start mid now : View)
-    → IsRunning channels ran left limit rows [] start mid
+    → IsRunning channels ran left end rows [] start mid
     → waits ≡ []
     → 0 < left
     → FaultsNeverFall mid now
     → IsRead n old_buf new_buf mid now
     → n ≡ 0
     → 0 < length old_buf
-    → IsAtEnd channels ran limit rows waits start now
-at_end channels ran left limit n rows waits old_buf new_buf start mid now run none some never step nothing room =
+    → IsAtEnd channels ran end rows waits start now
+at_end channels ran left end n rows waits old_buf new_buf start mid now run none some never step nothing room =
     let h = run.passed in
     let same : now.place ≡ mid.place = step.place ∙ omega (arith, nothing) in
     let read = read_at run.bytes start mid now run.read same in

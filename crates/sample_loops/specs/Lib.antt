@@ -1,4 +1,5 @@
 pub mod Output
+pub mod Reading
 pub mod Streams
 pub mod Machines
 pub mod Evaluators

@@ -1,6 +1,5 @@
 pub mod Buffers
 pub mod Running
-pub mod InputRows
 pub mod Ranges
 pub mod MachineLaws
 pub mod EvaluatorLaws

@@ -19,14 +19,17 @@ pub(crate) trait Engine {
     /// It has no conflict, and is at the start of a sample.
     ghost ready: { Self → Type 0 };
 
+    /// They have the same image or graph.
+    ghost same: { Self → Self → Type 0 };
+
     /// From the first it becomes the second by running these rows, and it puts these.
     ghost ran: { Self → Rows → Rows → Self → Type 0 };
 
     /// Over these rows it puts these.
     ghost gives: { Self → Rows → Rows → Type 0 };
 
-    /// In the last of these rows it meets the conflict first.
-    ghost meets: { Self → Rows → ConflictValue → Type 0 };
+    /// In the last of these rows the first meets the conflict first, and the second keeps it.
+    ghost meets: { Self → Rows → ConflictValue → Self → Type 0 };
 
     /// How many output words there are.
     fn outs(&self) -> usize
@@ -41,12 +44,17 @@ pub(crate) trait Engine {
         requires young { age self.old < 2 ^ 48 }
         requires row { accepts self.old row.now }
         requires put { length put.old ≡ width self.old }
+        ensures same { same self.old self.new }
         ensures ready { OnOk result (ready self.new) }
         ensures age { OnOk result (age self.new ≤ age self.old + 1) }
         ensures accepts { OnOk result ((other : List ℤ) → accepts self.old other → accepts self.new other) }
         ensures width { width self.new ≡ width self.old }
         ensures ran { OnOk result (ran self.old (row.now ∷ []) (put.new ∷ []) self.new) }
-        ensures meets { IfErr result (meets self.old (row.now ∷ [])) };
+        ensures meets { IfErr result (λ conflict. meets self.old (row.now ∷ []) conflict self.new) };
+
+    ghost same_self: { (engine : Self) → same engine engine };
+
+    ghost same_on: { (old mid new : Self) → same old mid → same mid new → same old new };
 
     ghost none_ran: { (engine : Self) → ran engine [] [] engine };
 
@@ -55,6 +63,6 @@ pub(crate) trait Engine {
 
     ghost ran_gives: { (old new : Self) (rows puts : Rows) → ran old rows puts new → gives old rows puts };
 
-    ghost meets_later: { (old mid : Self) (rows puts more : Rows) (conflict : ConflictValue)
-        → ran old rows puts mid → meets mid more conflict → meets old (rows ++ more) conflict };
+    ghost meets_later: { (old mid new : Self) (rows puts more : Rows) (conflict : ConflictValue)
+        → ran old rows puts mid → meets mid more conflict new → meets old (rows ++ more) conflict new };
 }

@@ -1,10 +1,10 @@
 //! The machine of an image over a stream of samples.
 ghost use Rattle.std.specs.Prelude.{◌≡◌, ◌*◌, ◌/◌, ◌<◌, ◌≤◌, ◌^◌, [], IfErr, OnOk};
 ghost use Rattle.desk_core.specs.Desk.{FaultsNeverFall};
+ghost use Rattle.sample_io.specs.Channels.{IsRow};
 ghost use Rattle.sample_io.specs.Pieces.{HasTaken};
-ghost use Rattle.sample_loops.specs.Machines.{channels_of, IsReady, RunsRows, PutsRows, MeetsInLast};
-ghost use Rattle.sample_loops.specs.Private.InputRows.{IsInputRow};
-ghost use Rattle.sample_loops.specs.Streams.{IsRunThrough, IsStopped, ChangesOutputAlone};
+ghost use Rattle.sample_loops.specs.Machines.{channels_of, IsReady, RunsRows, PutsRows, StopsInLast};
+ghost use Rattle.sample_loops.specs.Streams.{IsRunThrough, IsStopped, IsKept, ChangesOutputAlone};
 
 use crate::engine::Engine;
 use crate::stream::{StreamFault, run_all};
@@ -14,9 +14,9 @@ use micro_image::Conflict;
 use sample_io::Rows;
 
 impl Engine for Machine {
-    ghost use Rattle.sample_loops.specs.Private.MachineLaws.{runs_none, runs_more, runs_clear, meets_after};
+    ghost use Rattle.sample_loops.specs.Private.MachineLaws.{same_image, same_on, runs_none, runs_more, runs_clear, meets_after};
 
-    ghost accepts = { λ machine row. IsInputRow machine.image row };
+    ghost accepts = { λ machine row. IsRow (channels_of machine.image) row };
 
     ghost width = { λ machine. machine.image.outs };
 
@@ -24,19 +24,26 @@ impl Engine for Machine {
 
     ghost ready = { IsReady };
 
+    ghost same = { λ old new. new.image ≡ old.image };
+
     ghost ran = { RunsRows };
 
     ghost gives = { PutsRows };
 
-    ghost meets = { MeetsInLast };
+    ghost meets = { StopsInLast };
 
     fn outs(&self) -> usize {
         self.outs()
     }
 
     fn step(&mut self, row: &[i64], put: &mut [i64]) -> Result<(), Conflict> {
+        prove_eq!(put.len(), self.outs());
         self.sample(row, put)
     }
+
+    ghost same_self = { same_image };
+
+    ghost same_on = { same_on };
 
     ghost none_ran = { runs_none };
 
@@ -49,11 +56,12 @@ impl Engine for Machine {
 
 /// Runs the machine over the rows of the desk's current input, from its start to its end, writes the rows that it puts
 /// to the current output, and closes it (docs/SAMPLES.md). The machine is at the start of a sample, `rows` is fresh, for
-/// the machine's input words, and `limit` is in bytes, at most 2^32. The input is read in pieces of at most 4,096 bytes,
-/// and what the rows of a piece put is written before the next is read.
+/// the machine's input words, and `limit` is the least number of bytes that are too many, at most 2^32. The input is read
+/// in pieces of at most 4,096 bytes, and what the rows of a piece put is written before the next is read.
 ///
 /// A line that is no row, a conflict and `limit` bytes end the run: the output then has the rows of the samples before,
-/// and is closed. After a failed call of the desk it has a prefix of them. No memory is taken.
+/// and is closed, where the close does not fail. After a failed call of the desk it has a prefix of them. The machine
+/// keeps its conflict, and the rows their fault. No memory is taken.
 pub fn run_stream<D: Desk>(
     machine: &mut Machine,
     rows: &mut Rows,
@@ -68,10 +76,13 @@ pub fn run_stream<D: Desk>(
     requires limit { limit ≤ 2 ^ 32 }
     ensures never_fall { FaultsNeverFall (D.view desk.old) (D.view desk.new) }
     ensures only { ChangesOutputAlone (D.view desk.old) (D.view desk.new) }
+    ensures image { machine.new.image ≡ machine.old.image }
+    ensures channels { rows.new.channels ≡ rows.old.channels }
+    ensures kept { IfErr result (IsKept rows.new) }
     ensures ok { OnOk result (IsRunThrough limit (channels_of machine.old.image)
         (λ ran puts. RunsRows machine.old ran puts machine.new) (D.view desk.old) (D.view desk.new)) }
-    ensures err { IfErr result (IsStopped limit (channels_of machine.old.image)
-        (PutsRows machine.old) (MeetsInLast machine.old) (D.view desk.old) (D.view desk.new)) }
+    ensures err { IfErr result (IsStopped limit (channels_of machine.old.image) (PutsRows machine.old)
+        (λ ran conflict. StopsInLast machine.old ran conflict machine.new) (D.view desk.old) (D.view desk.new)) }
 {
     run_all(machine, rows, desk, limit)
 }

@@ -2,8 +2,7 @@
 ghost use Rattle.std.specs.Prelude.{◌≡◌, ◌<◌, ◌≤◌, ◌+◌, ◌++◌, [], length, OnOk, OnErr, IsErr};
 ghost use Rattle.desk_core.specs.Desk.{FaultsNeverFall, WriteFailed};
 ghost use Rattle.sample_io.specs.Samples.{printed_row};
-ghost use Rattle.sample_loops.specs.Output.{IsAppended, IsAppendedInPart};
-ghost use Rattle.sample_loops.specs.Private.Buffers.{PassesOn};
+ghost use Rattle.sample_loops.specs.Private.Buffers.{IsAppended, IsAppendedInPart, PassesOn};
 
 use crate::writing::write_all;
 use desk_core::{Desk, Failed};

@@ -5,7 +5,7 @@ ghost use Rattle.sample_io.specs.Channels.{IsRow};
 ghost use Rattle.sample_io.specs.Pieces.{CanTake, HasTaken};
 ghost use Rattle.sample_loops.specs.Private.Running.{RunsRow, EndsAtRow, RunsPiece, EndsInPiece, RunsEnd, StopsAtEnd};
 ghost use Rattle.sample_loops.specs.Private.Streaming.{CanRun, IsAtEnd, RunsInput, StopsInInput};
-ghost use Rattle.sample_loops.specs.Streams.{ChangesOutputAlone, IsRunThrough, IsStopped};
+ghost use Rattle.sample_loops.specs.Streams.{ChangesOutputAlone, IsRunThrough, IsStopped, IsKept};
 
 use crate::engine::Engine;
 use crate::output::{ROW_WORDS, RowBuffer};
@@ -23,7 +23,7 @@ pub enum StreamFault {
     /// A line is no row.
     #[error(transparent)]
     Row(RowFault),
-    /// There are more bytes than the limit allows.
+    /// There are too many bytes.
     #[error("samples too long")]
     TooLong,
     /// The machine met a conflict.
@@ -75,12 +75,13 @@ fn run_row<E: Engine, D: Desk>(
     requires young { E.age engine.old < 2 ^ 48 }
     requires row { E.accepts engine.old row.now }
     ensures never_fall { FaultsNeverFall (D.view desk.old) (D.view desk.new) }
+    ensures same { E.same engine.old engine.new }
     ensures ready { OnOk result (E.ready engine.new) }
     ensures age { OnOk result (E.age engine.new ≤ E.age engine.old + 1) }
     ensures accepts { OnOk result ((other : List ℤ) → E.accepts engine.old other → E.accepts engine.new other) }
     ensures ok { OnOk result (RunsRow (λ put. E.ran engine.old (row.now ∷ []) (put ∷ []) engine.new)
         output.old output.new (D.view desk.old) (D.view desk.new)) }
-    ensures err { IfErr result (EndsAtRow (E.meets engine.old (row.now ∷ []))
+    ensures err { IfErr result (EndsAtRow (λ conflict. E.meets engine.old (row.now ∷ []) conflict engine.new)
         output.old output.new (D.view desk.old) (D.view desk.new)) }
 {
     let mut words = [0i64; ROW_WORDS];
@@ -103,12 +104,16 @@ fn run_piece<E: Engine, D: Desk>(
     requires running { rows.old.fault ≡ None }
     requires room { CanTake rows.old (length piece.now) }
     ensures never_fall { FaultsNeverFall (D.view desk.old) (D.view desk.new) }
+    ensures same { E.same engine.old engine.new }
+    ensures channels { rows.new.channels ≡ rows.old.channels }
+    ensures kept { IfErr result (IsKept rows.new) }
     ensures ready { OnOk result (E.ready engine.new) }
     ensures age { OnOk result (E.age engine.new ≤ E.age engine.old + length piece.now) }
     ensures fits { OnOk result ((row : List ℤ) → IsRow rows.old.channels row → E.accepts engine.new row) }
     ensures ok { OnOk result (RunsPiece (λ ran puts. E.ran engine.old ran puts engine.new) rows.old piece.now
         output.old (D.view desk.old) rows.new output.new (D.view desk.new)) }
-    ensures err { IfErr result (EndsInPiece (λ ran puts. (mid : E) × E.ran engine.old ran puts mid) (E.meets engine.old)
+    ensures err { IfErr result (EndsInPiece (λ ran puts. (mid : E) × E.ran engine.old ran puts mid)
+        (λ ran conflict. E.meets engine.old ran conflict engine.new)
         rows.old piece.now output.old (D.view desk.old) output.new (D.view desk.new)) }
 {
     let mut at = 0;
@@ -132,9 +137,12 @@ fn run_end<E: Engine, D: Desk>(
     requires running { rows.old.fault ≡ None }
     requires room { CanTake rows.old 0 }
     ensures never_fall { FaultsNeverFall (D.view desk.old) (D.view desk.new) }
+    ensures same { E.same engine.old engine.new }
+    ensures channels { rows.new.channels ≡ rows.old.channels }
+    ensures kept { IfErr result (IsKept rows.new) }
     ensures ok { OnOk result (RunsEnd (λ ran puts. E.ran engine.old ran puts engine.new) rows.old
         output.old (D.view desk.old) output.new (D.view desk.new)) }
-    ensures err { IfErr result (StopsAtEnd (E.meets engine.old) rows.old
+    ensures err { IfErr result (StopsAtEnd (λ ran conflict. E.meets engine.old ran conflict engine.new) rows.old
         output.old (D.view desk.old) output.new (D.view desk.new)) }
 {
     if let Step::Row(_) = rows.finish()? {
@@ -177,12 +185,15 @@ fn run_pieces<E: Engine, D: Desk>(
     requires limit { limit ≤ 2 ^ 32 }
     requires empty { output.old ≡ [] }
     ensures never_fall { FaultsNeverFall (D.view desk.old) (D.view desk.new) }
-    ensures can_run { OnOk result (CanRun (E.ready engine.new) (E.accepts engine.new) rows.old.channels
-        (E.age engine.new) (E.age engine.old) 0 limit) }
+    ensures same { E.same engine.old engine.new }
+    ensures channels { rows.new.channels ≡ rows.old.channels }
+    ensures kept { IfErr result (IsKept rows.new) }
+    ensures can_run { OnOk result (CanRun (E.same engine.old engine.new) (E.ready engine.new) (E.accepts engine.new)
+        rows.old.channels (E.age engine.new) (E.age engine.old) 0 limit) }
     ensures ok { OnOk result (IsAtEnd rows.old.channels (λ ran puts. E.ran engine.old ran puts engine.new) limit
         rows.new output.new (D.view desk.old) (D.view desk.new)) }
-    ensures err { IfErr result (StopsInInput limit rows.old.channels (E.gives engine.old) (E.meets engine.old)
-        (D.view desk.old) output.new (D.view desk.new)) }
+    ensures err { IfErr result (StopsInInput limit rows.old.channels (E.gives engine.old)
+        (λ ran conflict. E.meets engine.old ran conflict engine.new) (D.view desk.old) output.new (D.view desk.new)) }
 {
     let mut piece = [0u8; PIECE];
     let mut left = limit;
@@ -217,10 +228,13 @@ fn run_input<E: Engine, D: Desk>(
     requires limit { limit ≤ 2 ^ 32 }
     requires empty { output.old ≡ [] }
     ensures never_fall { FaultsNeverFall (D.view desk.old) (D.view desk.new) }
+    ensures same { E.same engine.old engine.new }
+    ensures channels { rows.new.channels ≡ rows.old.channels }
+    ensures kept { IfErr result (IsKept rows.new) }
     ensures ok { OnOk result (RunsInput limit rows.old.channels (λ ran puts. E.ran engine.old ran puts engine.new)
         output.new (D.view desk.old) (D.view desk.new)) }
-    ensures err { IfErr result (StopsInInput limit rows.old.channels (E.gives engine.old) (E.meets engine.old)
-        (D.view desk.old) output.new (D.view desk.new)) }
+    ensures err { IfErr result (StopsInInput limit rows.old.channels (E.gives engine.old)
+        (λ ran conflict. E.meets engine.old ran conflict engine.new) (D.view desk.old) output.new (D.view desk.new)) }
 {
     run_pieces(engine, rows, output, desk, limit)?;
     run_end(engine, rows, output, desk)
@@ -243,10 +257,13 @@ pub(crate) fn run_all<E: Engine, D: Desk>(
     requires limit { limit ≤ 2 ^ 32 }
     ensures never_fall { FaultsNeverFall (D.view desk.old) (D.view desk.new) }
     ensures only { ChangesOutputAlone (D.view desk.old) (D.view desk.new) }
+    ensures same { E.same engine.old engine.new }
+    ensures channels { rows.new.channels ≡ rows.old.channels }
+    ensures kept { IfErr result (IsKept rows.new) }
     ensures ok { OnOk result (IsRunThrough limit rows.old.channels (λ ran puts. E.ran engine.old ran puts engine.new)
         (D.view desk.old) (D.view desk.new)) }
-    ensures err { IfErr result (IsStopped limit rows.old.channels (E.gives engine.old) (E.meets engine.old)
-        (D.view desk.old) (D.view desk.new)) }
+    ensures err { IfErr result (IsStopped limit rows.old.channels (E.gives engine.old)
+        (λ ran conflict. E.meets engine.old ran conflict engine.new) (D.view desk.old) (D.view desk.new)) }
 {
     let mut output = RowBuffer::new();
     match run_input(engine, rows, &mut output, desk, limit) {

@@ -1,7 +1,7 @@
 //! Bytes for the current output of a desk.
 ghost use Rattle.std.specs.Prelude.{OnOk, OnErr, IsErr};
 ghost use Rattle.desk_core.specs.Desk.{FaultsNeverFall, WriteFailed};
-ghost use Rattle.sample_loops.specs.Output.{IsAppended, IsAppendedInPart};
+ghost use Rattle.sample_loops.specs.Private.Buffers.{IsAppended, IsAppendedInPart};
 
 use desk_core::{Desk, Failed};
 

@@ -1,74 +1,133 @@
 -- The laws of a machine that runs rows: stretches of rows follow one another.
-use Rattle.std.proofs.Common.{◌≡◌, ◌≤◌, ◌+◌, ◌*◌, ◌∙◌, sym, ap, ap₂, subst, arith, mul-le-mul_right, ℕ, List, [], ◌++◌, length, map, append_assoc, refl, ℤ}
+use Rattle.std.proofs.Common.{◌≡◌, ◌≤◌, ◌+◌, ◌*◌, ◌∙◌, sym, ap, ap₂, subst, arith, mul-le-mul_right}
+use Rattle.std.proofs.Common.{ℕ, List, [], ◌++◌, length, map, append_assoc, refl, ℤ}
 use Rattle.std.proofs.lemmas.List.{append-nil, length-append}
 use Rattle.std.specs.List.{range_with_len}
 use Rattle.lists.specs.Rows.{Rows}
-use Rattle.cycle_sim.specs.Machine.{Snapshot}
+use Rattle.cycle_sim.specs.Machine.{Snapshot, state_of}
 use Rattle.micro_image.specs.declared.conflict.Conflict.{Conflict}
 use Rattle.micro_image.specs.declared.image.Image.{Image}
-use Rattle.micro_image.specs.Conflict.{IsClearBelow}
-use Rattle.micro_image.specs.Run.{spread, row_of}
+use Rattle.micro_image.specs.Run.{Stands, spread, latches}
 use Rattle.micro_image.proofs.Lists.{In-range, map-same}
-use Rattle.micro_image.proofs.Streams.{length-spread, latches-more}
-use Rattle.sample_loops.specs.Private.Ranges.{range_more}
-use Rattle.sample_loops.specs.Machines.{StandsFor, rows_put, IsConflictInLast, RunsRows, PutsRows, MeetsInLast}
+use Rattle.micro_image.proofs.Prefix.{latches-prefix}
+use Rattle.micro_image.proofs.Streams.{length-spread, spread-append}
+use Rattle.sample_loops.specs.Private.Ranges.{range_more, range_from}
+use Rattle.sample_loops.specs.Machines.{cycles_with, rows_put, IsFirstConflict, IsConflictInLast}
+use Rattle.sample_loops.specs.Machines.{RunsRows, PutsRows, StopsInLast}
+
+pub same_image : (machine : Snapshot) → machine.image ≡ machine.image
+same_image machine = refl
+
+pub same_on : (old mid new : Snapshot) → mid.image ≡ old.image → new.image ≡ mid.image → new.image ≡ old.image
+same_on old mid new first second = second ∙ first
+
+-- the samples of rows and then of more
+pub cycles_more : (image : Image) (cycles rows more : Rows)
+    → cycles_with image (cycles_with image cycles rows) more ≡ cycles_with image cycles (rows ++ more)
+cycles_more image cycles rows more =
+    append_assoc cycles (spread image.period rows) (spread image.period more)
+    ∙ ap (λ samples. cycles ++ samples) (sym (spread-append image.period rows more))
+
+pub length-cycles : (image : Image) (cycles rows : Rows)
+    → length (cycles_with image cycles rows) ≡ length cycles + length rows * image.period
+length-cycles image cycles rows =
+    length-append cycles (spread image.period rows) ∙ ap (λ n. length cycles + n) (length-spread image.period rows)
+
+-- what the latches hold when sample n of the rows ends
+abbrev latches_at : (image : Image) (cycles rows : Rows) (n : ℕ) → List ℤ
+latches_at image cycles rows n = latches image (cycles_with image cycles rows) (length cycles + (n + 1) * image.period)
 
 -- what is put does not depend on the rows that come after
-put_before : (image : Image) (stream after : Rows) (a n : ℕ) → a + n ≤ length stream
-    → map (λ k. row_of image (stream ++ after) k) (range_with_len a n) ≡ map (λ k. row_of image stream k) (range_with_len a n)
-put_before image stream after a n within =
-    map-same _ _ (range_with_len a n) (λ k is.
-    let range = In-range a n k is in
-    latches-more image stream after ((k + 1) * image.period) (mul-le-mul_right image.period (omega (arith, range.1, within))))
+put_before : (image : Image) (cycles rows more : Rows)
+    → map (latches_at image cycles (rows ++ more)) (range_with_len 0 (length rows)) ≡ rows_put image cycles rows
+put_before image cycles rows more =
+    map-same _ _ (range_with_len 0 (length rows)) (λ k is.
+    let range = In-range 0 (length rows) k is in
+    let end = (k + 1) * image.period in
+    let below : end ≤ length rows * image.period = mul-le-mul_right image.period (omega (arith, range.1)) in
+    ap (λ z. latches image z (length cycles + end)) (sym (cycles_more image cycles rows more))
+    ∙ latches-prefix image (cycles_with image cycles rows) (spread image.period more) (length cycles + end)
+    (omega (arith, below, length-cycles image cycles rows)))
 
-put_more : (image : Image) (before rows more : Rows) → rows_put image before rows ++ rows_put image (before ++ rows) more ≡ rows_put image before (rows ++ more)
-put_more image before rows more =
-    let all = append_assoc before rows more in
-    let size = length-append before rows in
-    let f : ℕ → List ℤ = λ k. row_of image (before ++ (rows ++ more)) k in
-    ap₂ ◌++◌
-    (sym (put_before image (before ++ rows) more (length before) (length rows) (omega (arith, size)))
-    ∙ ap (λ z. map (λ k. row_of image z k) (range_with_len (length before) (length rows))) all)
-    (ap₂ (λ z a. map (λ k. row_of image z k) (range_with_len a (length more))) all size)
-    ∙ sym (range_more f (length before) (length rows) (length more))
-    ∙ ap (λ n. map f (range_with_len (length before) n)) (sym (length-append rows more))
+later_end : (image : Image) (cycles rows : Rows) (k : ℕ)
+    → length (cycles_with image cycles rows) + (k + 1) * image.period
+    ≡ length cycles + ((length rows + k) + 1) * image.period
+later_end image cycles rows k = omega (arith, length-cycles image cycles rows)
+
+-- the samples of more rows, after those of the rows
+put_after : (image : Image) (cycles rows more : Rows)
+    → rows_put image (cycles_with image cycles rows) more
+    ≡ map (latches_at image cycles (rows ++ more)) (range_with_len (length rows) (length more))
+put_after image cycles rows more =
+    map-same _ _ (range_with_len 0 (length more)) (λ k is.
+    ap₂ (latches image) (cycles_more image cycles rows more) (later_end image cycles rows k))
+    ∙ range_from (latches_at image cycles (rows ++ more)) (length rows) (length more)
+
+put_more : (image : Image) (cycles rows more : Rows)
+    → rows_put image cycles rows ++ rows_put image (cycles_with image cycles rows) more
+    ≡ rows_put image cycles (rows ++ more)
+put_more image cycles rows more =
+    let put = latches_at image cycles (rows ++ more) in
+    ap₂ ◌++◌ (sym (put_before image cycles rows more)) (put_after image cycles rows more)
+    ∙ ap (λ a. map put (range_with_len 0 (length rows)) ++ map put (range_with_len a (length more)))
+    (let e : length rows ≡ 0 + length rows = omega arith in e)
+    ∙ sym (range_more put 0 (length rows) (length more))
+    ∙ ap (λ n. map put (range_with_len 0 n)) (sym (length-append rows more))
 
 -- no rows
 pub runs_none : (machine : Snapshot) → RunsRows machine [] [] machine
 runs_none machine = record {
   image = refl;
-  stands = λ before stands. subst (λ z. StandsFor machine.image z machine) (sym (append-nil before)) stands;
-  put = λ before stands. refl;
+  stands = λ cycles stands. subst (Stands (state_of machine) machine.image) (sym (append-nil cycles)) stands;
+  put = λ cycles stands. refl;
 }
 
+-- the machine stands after rows that ran
+ran_to : (old mid : Snapshot) (rows puts cycles : Rows)
+    → RunsRows old rows puts mid
+    → Stands (state_of old) old.image cycles
+    → Stands (state_of mid) mid.image (cycles_with old.image cycles rows)
+ran_to old mid rows puts cycles ran stands =
+    subst (λ image. Stands (state_of mid) image (cycles_with old.image cycles rows)) (sym ran.image)
+    (ran.stands cycles stands)
+
 -- rows and then more
-pub runs_more : (old mid new : Snapshot) (rows puts more others : Rows) → RunsRows old rows puts mid → RunsRows mid more others new → RunsRows old (rows ++ more) (puts ++ others) new
-runs_more old mid new rows puts more others first second =
-    let then : (before : Rows) → StandsFor old.image before old → StandsFor mid.image (before ++ rows) mid =
-    λ before stands. subst (λ i. StandsFor i (before ++ rows) mid) (sym first.image) (first.stands before stands) in
-    record {
-      image = second.image ∙ first.image;
-      stands = λ before stands.
-          subst (λ z. StandsFor old.image z new) (append_assoc before rows more)
-          (subst (λ i. StandsFor i ((before ++ rows) ++ more) new) first.image (second.stands (before ++ rows) (then before stands)));
-      put = λ before stands.
-          ap₂ ◌++◌ (first.put before stands) (second.put (before ++ rows) (then before stands) ∙ ap (λ i. rows_put i (before ++ rows) more) first.image)
-          ∙ put_more old.image before rows more;
-    }
+pub runs_more : (old mid new : Snapshot) (rows puts more others : Rows)
+    → RunsRows old rows puts mid
+    → RunsRows mid more others new
+    → RunsRows old (rows ++ more) (puts ++ others) new
+runs_more old mid new rows puts more others first second = record {
+  image = second.image ∙ first.image;
+  stands = λ cycles stands.
+      let then = cycles_with old.image cycles rows in
+      subst (Stands (state_of new) old.image) (cycles_more old.image cycles rows more)
+      (subst (λ (image : Image). Stands (state_of new) image (cycles_with image then more)) first.image
+      (second.stands then (ran_to old mid rows puts cycles first stands)));
+  put = λ cycles stands.
+      ap₂ ◌++◌ (first.put cycles stands)
+      (second.put (cycles_with old.image cycles rows) (ran_to old mid rows puts cycles first stands)
+      ∙ ap (λ (image : Image). rows_put image (cycles_with old.image cycles rows) more) first.image)
+      ∙ put_more old.image cycles rows more;
+}
 
 -- a machine that ran met no conflict
 pub runs_clear : (old new : Snapshot) (rows puts : Rows) → RunsRows old rows puts new → PutsRows old rows puts
-runs_clear old new rows puts ran = record {
-  clear = λ before stands.
-      subst (IsClearBelow old.image (spread old.image.period (before ++ rows))) (length-spread old.image.period (before ++ rows)) (ran.stands before stands).clear;
-  put = ran.put;
-}
+runs_clear old new rows puts ran = record { clear = λ cycles stands. (ran.stands cycles stands).clear; put = ran.put }
 
 -- a conflict after rows that ran
-pub meets_after : (old mid : Snapshot) (rows puts more : Rows) (conflict : Conflict) → RunsRows old rows puts mid → MeetsInLast mid more conflict → MeetsInLast old (rows ++ more) conflict
-meets_after old mid rows puts more conflict ran meets =
-    let then : (before : Rows) → StandsFor old.image before old → StandsFor mid.image (before ++ rows) mid =
-    λ before stands. subst (λ i. StandsFor i (before ++ rows) mid) (sym ran.image) (ran.stands before stands) in
-    λ before stands.
-    subst (λ z. IsConflictInLast old.image z conflict) (append_assoc before rows more)
-    (subst (λ i. IsConflictInLast i ((before ++ rows) ++ more) conflict) ran.image (meets (before ++ rows) (then before stands)))
+pub meets_after : (old mid new : Snapshot) (rows puts more : Rows) (conflict : Conflict)
+    → RunsRows old rows puts mid
+    → StopsInLast mid more conflict new
+    → StopsInLast old (rows ++ more) conflict new
+meets_after old mid new rows puts more conflict ran stops = record {
+  met = λ cycles stands.
+      let same = cycles_more old.image cycles rows more in
+      let found : IsConflictInLast old.image (cycles_with old.image cycles rows) more conflict =
+      subst (λ (image : Image). IsConflictInLast image (cycles_with old.image cycles rows) more conflict) ran.image
+      (stops.met (cycles_with old.image cycles rows) (ran_to old mid rows puts cycles ran stands)) in
+      record {
+        first = subst (λ z. IsFirstConflict old.image z conflict) same found.first;
+        last = subst (λ (z : Rows). length z ≤ conflict.cycle + old.image.period) same found.last;
+      };
+  kept = stops.kept;
+}

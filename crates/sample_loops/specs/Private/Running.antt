@@ -1,5 +1,5 @@
 -- A row, and a piece, of a stream of samples.
-use Rattle.std.specs.Prelude.{◌≡◌, ◌+◌, ◌≤◌, ℕ, List, [], ◌∷◌, ◌++◌, length, take, ℤ}
+use Rattle.std.specs.Prelude.{◌≡◌, ◌+◌, ◌<◌, ◌≤◌, ℕ, List, [], ◌∷◌, ◌++◌, length, take, ℤ}
 use Rattle.lists.specs.Rows.{Rows}
 use Rattle.desk_core.specs.Desk.{FaultsNeverFall, WriteFailed}
 use Rattle.desk_core.specs.View.{Content, View}
@@ -10,8 +10,7 @@ use Rattle.sample_io.specs.Channels.{IsRow}
 use Rattle.sample_io.specs.FedRows.{FedRows}
 use Rattle.sample_io.specs.Pieces.{HasTaken, EndsInFault}
 use Rattle.sample_io.specs.Samples.{Lines, RowsOf, StopsAfter, printed, printed_row}
-use Rattle.sample_loops.specs.Output.{IsAppended, IsAppendedInPart}
-use Rattle.sample_loops.specs.Private.Buffers.{PassesOn}
+use Rattle.sample_loops.specs.Private.Buffers.{IsAppended, IsAppendedInPart, PassesOn}
 use Rattle.sample_loops.specs.declared.stream.StreamFault.{StreamFault}
 use Rattle.sample_loops.specs.declared.stream.StreamFault.TheVariants.{Desk, Row, TooLong, Conflict}
 
@@ -44,11 +43,12 @@ pub record RunsPiece (ran : Rows → Rows → Type 0) (old : FedRows) (bytes wai
   pub passes : PassesOn waited (printed puts) waits start now
 
 -- what is true of an engine between two rows of a piece, of which so many bytes were taken
-pub record RunsSoFar (ready : Type 0) (accepts : List ℤ → Type 0) (age first at : ℕ) (channels : List Channel)
+pub record RunsSoFar (same ready : Type 0) (accepts : List ℤ → Type 0) (age first at : ℕ) (channels : List Channel)
     (piece : Content)
     (start now : View) : Type 0 where
   pub never_fall : FaultsNeverFall start now
   pub within : at ≤ length piece
+  pub is_same : same
   pub is_ready : ready
   pub fits : (row : List ℤ) → IsRow channels row → accepts row
   pub young : age ≤ first + at
@@ -62,7 +62,7 @@ MeetsAfter old piece rows fault =
 -- so many bytes of the piece end the last of these rows
 abbrev pub EndsLines : FedRows → Content → Rows → Type 0
 EndsLines old piece rows =
-    (count : ℕ) × (count ≤ length piece)
+    (count : ℕ) × (0 < count) × (count ≤ length piece)
     × ((front : Content) (before : Rows) → HasTaken old front before
     → Lines (front ++ take count piece) old.channels (before ++ rows))
 

@@ -2,6 +2,8 @@
 use Rattle.std.proofs.Common.{[], ◌∷◌, IfErr, sym, subst}
 use Rattle.std.proofs.lemmas.List.{append-nil}
 use Rattle.std.proofs.lemmas.Result.{err_from_is_err_and}
+use Rattle.lists.specs.Rows.{Rows}
+use Rattle.micro_image.specs.declared.conflict.Conflict.{Conflict as ConflictValue}
 use Rattle.sample_io.specs.Pieces.{EndsInput}
 use Rattle.sample_loops.specs.Private.Running.{StopsAtEnd, EndsAtRow}
 use Rattle.sample_loops.proofs.Appending.{appended_none}
@@ -19,7 +21,7 @@ pub returns-in_err-run_row-clause-err : goal.returns-in_err-run_row-clause-err
 returns-in_err-run_row-clause-err g c =
     let start = g.D.Desk.view c.args.desk.now in
     let now = g.D.Desk.view c.run_row.new.desk in
-    let meets = g.E.Engine.meets c.args.engine.now in
+    let meets : Rows → ConflictValue → Type 0 = λ ran conflict. g.E.Engine.meets c.args.engine.now ran conflict c.run_row.new.engine in
     let row = c.finish.new.self.row in
     let ends = subst (EndsInput c.args.rows.now c.finish.new.self) c.in-Row.is c.in_ok-finish.ensures.ends in
     let stops = StopsAtEnd meets c.args.rows.now c.args.output.now start c.run_row.new.output now in

@@ -3,6 +3,7 @@ use Rattle.std.proofs.Common.{[], ◌∷◌, ◌++◌, length, drop, IfErr, refl
 use Rattle.std.proofs.lemmas.List.{append-nil}
 use Rattle.std.proofs.lemmas.Result.{err_from_is_err_and}
 use Rattle.lists.specs.Rows.{Rows}
+use Rattle.micro_image.specs.declared.conflict.Conflict.{Conflict as ConflictValue}
 use Rattle.desk_core.proofs.DeskLemmas.{never_fall_trans}
 use Rattle.sample_io.specs.declared.pieces.Step.TheVariants.{Row}
 use Rattle.sample_io.specs.Pieces.{CanTake, TakesPiece, MeetsFault}
@@ -22,6 +23,7 @@ rows-init g c =
       record {
         never_fall = never_fall_same now;
         within = omega arith;
+        is_same = g.met.E.Engine.same_self c.args.engine.now;
         is_ready = c.requires.ready;
         fits = c.requires.fits;
         young = omega arith;
@@ -71,6 +73,7 @@ rows-preserved g c =
       record {
         never_fall = never_fall_trans _ _ _ sofar.never_fall ran.never_fall;
         within = omega (arith, length-drop c.rows.at piece, found.1, sofar.within);
+        is_same = g.met.E.Engine.same_on c.args.engine.now c.rows.engine c.run_row.new.engine sofar.is_same ran.same;
         is_ready = ran.ready;
         fits = λ other is. ran.accepts other (sofar.fits other is);
         young = omega (arith, ran.age, sofar.young, found.0);
@@ -104,7 +107,7 @@ pub returns-in_err-count-clause-err : goal.returns-in_err-count-clause-err
 returns-in_err-count-clause-err g c =
     let (sofar, run) = c.rows.invariant in
     let piece = c.args.piece.now in
-    let ends = EndsInPiece (λ ran puts. (mid : g.row.E.Denot) × g.E.Engine.ran c.args.engine.now ran puts mid) (g.E.Engine.meets c.args.engine.now) c.args.rows.now piece c.args.output.now (g.D.Desk.view c.args.desk.now)
+    let ends = EndsInPiece (λ ran puts. (mid : g.row.E.Denot) × g.E.Engine.ran c.args.engine.now ran puts mid) (λ ran conflict. g.E.Engine.meets c.args.engine.now ran conflict c.rows.engine) c.args.rows.now piece c.args.output.now (g.D.Desk.view c.args.desk.now)
     c.rows.output (g.D.Desk.view c.rows.desk) in
     let p = err_from_is_err_and c.from_residual.result c.from_residual.ensures.1 in
     let meets = subst (λ b. MeetsFault c.rows.rows b c.in_err-count.field-0.0) (rest_of piece c.rows.at sofar.within) c.in_err-count.ensures.fault in
@@ -125,7 +128,7 @@ returns-in_err-run_row-clause-err g c =
     let before = g.D.Desk.view c.rows.desk in
     let now = g.D.Desk.view c.run_row.new.desk in
     let gives : Rows → Rows → Type 0 = λ ran puts. (mid : g.row.E.Denot) × g.E.Engine.ran c.args.engine.now ran puts mid in
-    let meets = g.E.Engine.meets c.args.engine.now in
+    let meets : Rows → ConflictValue → Type 0 = λ ran conflict. g.E.Engine.meets c.args.engine.now ran conflict c.run_row.new.engine in
     let ends = EndsInPiece gives meets c.args.rows.now piece c.args.output.now start c.run_row.new.output now in
     let found : TakesPiece c.rows.rows (drop c.rows.at piece) c.feed.new.self (Row c.in-Row.count) =
     subst (TakesPiece c.rows.rows (drop c.rows.at piece) c.feed.new.self) c.in-Row.is
@@ -136,9 +139,9 @@ returns-in_err-run_row-clause-err g c =
     let p = err_from_is_err_and c.from_residual-in_err-run_row.result c.from_residual-in_err-run_row.ensures.1 in
     subst (λ r. IfErr r ends) (sym p.1)
     (subst ends (sym p.2)
-    (ends_at_row gives meets (g.E.Engine.meets c.rows.engine (c.row.result.now ∷ [])) c.args.rows.now piece c.args.output.now start c.rows.output before c.run_row.new.output now
+    (ends_at_row gives meets (λ conflict. g.E.Engine.meets c.rows.engine (c.row.result.now ∷ []) conflict c.run_row.new.engine) c.args.rows.now piece c.args.output.now start c.rows.output before c.run_row.new.output now
     run.rows run.puts row given
     (λ conflict one.
-    g.met.E.Engine.meets_later c.args.engine.now c.rows.engine run.rows run.puts (row ∷ []) conflict run.ran_rows
-    (subst (λ r. g.E.Engine.meets c.rows.engine (r ∷ []) conflict) c.row.ensures.row one))
+    g.met.E.Engine.meets_later c.args.engine.now c.rows.engine c.run_row.new.engine run.rows run.puts (row ∷ []) conflict run.ran_rows
+    (subst (λ r. g.E.Engine.meets c.rows.engine (r ∷ []) conflict c.run_row.new.engine) c.row.ensures.row one))
     lines sofar.never_fall run.passes c.in_err-run_row.field-0.0 c.in_err-run_row.ensures.err))

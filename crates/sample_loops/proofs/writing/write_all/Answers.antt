@@ -3,7 +3,7 @@ use Rattle.std.proofs.Common.{arith, ◌≡◌, sym, ap, subst, ◌∙◌, ◌-�
 use Rattle.std.proofs.Math.Seq.{take-add}
 use Rattle.std.proofs.lemmas.Grind.{common_steps}
 use Rattle.desk_core.proofs.DeskLemmas.{never_fall_trans}
-use Rattle.sample_loops.specs.Output.{IsAppended}
+use Rattle.sample_loops.specs.Private.Buffers.{IsAppended}
 use Rattle.sample_loops.proofs.Appending.{appended_more}
 use Rattle.sample_loops.proofs.writing.write_all.Goals as goal
 

@@ -1,7 +1,7 @@
 -- What waited is written before, or waits still.
 use Rattle.std.proofs.Common.{[], ◌++◌, ap, ◌∙◌, sym, subst}
 use Rattle.sample_io.specs.Samples.{printed_row}
-use Rattle.sample_loops.specs.Output.{IsAppended}
+use Rattle.sample_loops.specs.Private.Buffers.{IsAppended}
 use Rattle.sample_loops.proofs.Appending.{appended_none}
 use Rattle.sample_loops.proofs.output.RowBuffer.add.Goals as goal
 use Rattle.sample_loops.proofs.output.RowBuffer.add.Goals.{then-len-lt-LINE+in_ok-flush, else-len-lt-LINE}
