@@ -15,7 +15,7 @@ use Rattle.planner.proofs.OneOutcome.{plan_or_not}
 use Rattle.silage_syntax.specs.Tree.{Program}
 use Rattle.front_end.proofs.SoundGraph.{program_graph_sound, program_graph_loopless}
 use Rattle.plan_commands.specs.Compile.{IsAnswer}
-use Rattle.plan_commands.specs.Plans.{IsPlannedOver, IsPlannable}
+use Rattle.plan_commands.specs.Plans.{IsPlanOver, IsPlannable}
 use Rattle.plan_commands.specs.Refusals.{IsRefusal, IsRefused, IsPlanError}
 use Rattle.plan_commands.specs.Schedule.{IsScheduleAnswer}
 use Rattle.plan_commands.proofs.PlanAnswers.{fault_for, its_refusal}
@@ -33,7 +33,7 @@ path_allowed bytes d is = allowed_from_gives is.table (Ok d) (sym at ∙ is_read
 
 -- a source that has a plan is not refused
 module _ (s d : Content) where
-  planned : (program : Program) (at : Datapath) (plan : Plan) → IsPlannedOver s d program at plan → (why : Status)
+  planned : (program : Program) (at : Datapath) (plan : Plan) → IsPlanOver s d program at plan → (why : Status)
       → IsRefusal why → IsRefused why s d → ⊥
   planned program at plan over why is h =
       let fault = fault_for over.graph at why
@@ -57,7 +57,7 @@ module _ (src datapath : Name) (old new : View) (files : Files) (told : old.file
       (refused.1.why files told))
 
   module _ (no_src : ReadFaultsRose src old new → ⊥) (no_datapath : ReadFaultsRose datapath old new → ⊥) where
-    plan_memory : (error : Status) → IsPlanError src datapath old new error → error ≡ Memory
+    pub plan_memory : (error : Status) → IsPlanError src datapath old new error → error ≡ Memory
     plan_memory error h =
         ⊎_elim (λ memory. memory) (λ desk. absurd (⊎_elim no_src no_datapath desk.1)) (error_is error h)
 

@@ -1,9 +1,8 @@
 -- What the source and the datapath have is what the call of a plan answers, unless memory runs out.
-use Rattle.std.proofs.Common.{◌≡◌, ◌≢◌, refl, sym, subst, ap, ◌∙◌, inl, inr, ⊎_elim, ◌⊎◌, ℕ, List, Result, Ok, Err}
+use Rattle.std.proofs.Common.{◌≡◌, refl, sym, subst, ap, ◌∙◌, inl, inr, ⊎_elim, ◌⊎◌, Result, Ok, Err}
 use Rattle.std.specs.Prelude.{IsErrAnd, IfErr}
 use Rattle.std.proofs.lemmas.Result.{err_from_is_err_and}
 use Rattle.datapath.specs.Described.{IsPathOf}
-use Rattle.datapath.specs.PathOf.{path_of}
 use Rattle.datapath.specs.PathRules.{IsPathFault}
 use Rattle.datapath.specs.declared.fault.PathFault.{PathFault}
 use Rattle.datapath.specs.declared.fault.PathFault.TheVariants as path
@@ -26,7 +25,7 @@ use Rattle.planner.specs.declared.fault.PlanFault.TheVariants as plan
 use Rattle.delay_memory.specs.declared.fault.LineFault.TheVariants as line
 use Rattle.signal_graph.specs.declared.graph.Graph.{Graph}
 use Rattle.silage_syntax.specs.Tree.{Program}
-use Rattle.plan_commands.specs.Plans.{IsPlannedOver, HasPlan, IsUnplanned, IsUnplannedOver, fault_of}
+use Rattle.plan_commands.specs.Plans.{HasPlan, IsUnplanned, IsUnplannedOver, fault_of}
 use Rattle.plan_commands.proofs.Plans.{file_fault}
 use Rattle.plan_commands.specs.PlanOf.{AnswersPlan, AnswersRefusal}
 use Rattle.plan_commands.specs.Refusals.{IsOfPath, IsRefusal, IsRefused, IsNoPlan}

@@ -81,12 +81,8 @@ module _ (s d : Content) (program : Program) (read : HasProgram s program) (g : 
     (path : Datapath) (described : IsPathOf d path) where
   pub planned_over : (plan : Plan) → IsPlan g path plan → IsPlannedOver s d program path plan
   planned_over plan is = record {
-    read = read;
+    has = record { read = read; described = described; graph = g; graph_of = graph_of; planned = is };
     unique = λ other its. one_program s program other read its;
-    described = described;
-    graph = g;
-    graph_of = graph_of;
-    planned = is;
   }
 
   unplanned_over : (status : Status) → IsUnplanned status g path → IsUnplannedOver status s d

@@ -1,5 +1,5 @@
 -- Which plan the program of a source has over the datapath of a file, or why it has none.
-use Rattle.std.specs.Prelude.{◌≡◌, ℕ, List, Ok}
+use Rattle.std.specs.Prelude.{◌≡◌, ℕ, List}
 use Rattle.datapath.specs.Described.{IsPathOf}
 use Rattle.datapath.specs.declared.types.Datapath.{Datapath}
 use Rattle.signal_graph.specs.declared.graph.Graph.{Graph}
@@ -18,23 +18,31 @@ use Rattle.statuses.specs.declared.status.Status.TheVariants.{Unit as Unbound, L
 use Rattle.statuses.specs.declared.status.UnitRefusal.{UnitRefusal}
 use Rattle.statuses.specs.declared.status.UnitRefusal.TheVariants.{NoUnit, NoRoute, TooWide, NoRam, NoAcu}
 
--- The source has this program and no other, the file describes this datapath, and the plan is that of the program's
--- graph over the datapath.
-pub record IsPlannedOver (source datapath : List ℕ) (program : Program) (d : Datapath) (plan : Plan) : Type 0 where
+-- The source has this program, the file describes this datapath, and the plan is that of the program's graph over the
+-- datapath.
+pub record IsPlanOver (source datapath : List ℕ) (program : Program) (d : Datapath) (plan : Plan) : Type 0 where
   pub read : HasProgram source program
-  pub unique : (other : Program) → HasProgram source other → other ≡ program
   pub described : IsPathOf datapath d
   pub graph : Graph
   pub graph_of : IsProgramGraph program graph
   pub planned : IsPlan graph d plan
 
+-- so it is, and the source has no other program
+pub record IsPlannedOver (source datapath : List ℕ) (program : Program) (d : Datapath) (plan : Plan) : Type 0 where
+  pub has : IsPlanOver source datapath program d plan
+  pub unique : (other : Program) → HasProgram source other → other ≡ program
+
 -- the program of the source has the plan over the datapath of the file
 abbrev pub HasPlan : (source datapath : List ℕ) → Datapath → Plan → Type 0
-HasPlan source datapath d plan = (program : Program) × IsPlannedOver source datapath program d plan
+HasPlan source datapath d plan = (program : Program) × IsPlanOver source datapath program d plan
 
 -- it has one
 abbrev pub IsPlannable : (source datapath : List ℕ) → Type 0
 IsPlannable source datapath = (d : Datapath) × (plan : Plan) × HasPlan source datapath d plan
+
+-- and the source has no other program
+abbrev pub HasOnlyPlan : (source datapath : List ℕ) → Datapath → Plan → Type 0
+HasOnlyPlan source datapath d plan = (program : Program) × IsPlannedOver source datapath program d plan
 
 -- the refusal as a fault of a plan
 abbrev pub fault_of : UnitRefusal → PlanFault

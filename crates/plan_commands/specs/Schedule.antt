@@ -8,7 +8,7 @@ use Rattle.plan_core.specs.declared.plan.Plan.{Plan}
 use Rattle.microcode_asm.specs.ScheduleText.{schedule_text}
 use Rattle.silc_files.specs.Limits.{text_limit}
 use Rattle.silc_files.specs.Printing.{IsPrintedMore, IsPrintedInPart}
-use Rattle.plan_commands.specs.Plans.{HasPlan}
+use Rattle.plan_commands.specs.Plans.{HasOnlyPlan}
 use Rattle.plan_commands.specs.Refusals.{IsPlanError}
 use Rattle.statuses.specs.declared.status.Status.{Status}
 use Rattle.statuses.specs.declared.status.Status.TheVariants.{Done, Desk}
@@ -17,7 +17,7 @@ use Rattle.statuses.specs.declared.status.Status.TheVariants.{Done, Desk}
 pub record IsPlanText (source datapath text : List ℕ) : Type 0 where
   pub path : Datapath
   pub plan : Plan
-  pub planned : HasPlan source datapath path plan
+  pub planned : HasOnlyPlan source datapath path plan
   pub text_is : text ≡ schedule_text path plan
 
 abbrev pub IsTextOf : Name → Name → Content → Files → Type 0

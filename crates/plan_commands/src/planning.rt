@@ -9,7 +9,7 @@ ghost use Rattle.datapath.specs.declared.types.Datapath as of_path;
 ghost use Rattle.plan_core.specs.declared.plan.Plan as of_plan;
 ghost use Rattle.statuses.specs.declared.status.Status as of_status;
 ghost use Rattle.plan_commands.specs.PlanOf.{AnswersPlan, AnswersRefusal};
-ghost use Rattle.plan_commands.specs.Plans.{HasPlan, IsUnplanned};
+ghost use Rattle.plan_commands.specs.Plans.{HasPlan, HasOnlyPlan, IsUnplanned};
 ghost use Rattle.plan_commands.specs.Refusals.{IsNoPlan, IsRefusal, IsRefused, IsPlanError};
 ghost use Rattle.plan_commands.specs.Planning.{IsGraphFor, IsSourceIn, IsNoSource, IsPathIn, IsNoPath, IsWithoutPlan, FindsPlan, TellsWhy};
 ghost use Rattle.plan_commands.specs.Planning.{IsInputPlan, IsNoInputPlan, IsReadPlan};
@@ -119,7 +119,7 @@ pub fn read_plan<D: Desk>(
 /// `LinesFull` where a node has no delay line; else `Unit`, `Period` and `FileFull` where a node has no unit, no cycle
 /// and no register. `Memory` where no memory is left.
 pub fn plan_of(alloc: Global, src: &[u8], path: &[u8]) -> Result<Planned, Status>
-    ensures ok { IfOk result (λ planned. HasPlan src.now path.now planned.path planned.plan) }
+    ensures ok { IfOk result (λ planned. HasOnlyPlan src.now path.now planned.path planned.plan) }
     ensures allowed { IfOk result (λ planned. IsDatapath planned.path) }
     ensures err { IfErr result (IsNoPlan src.now path.now) }
 

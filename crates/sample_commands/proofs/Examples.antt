@@ -1,13 +1,8 @@
--- Channels and rows, worked out.
+-- Channels, worked out.
 use Rattle.std.proofs.Common.{◌≡◌, refl, [], ◌∷◌, pos, neg_ℤ}
 use Rattle.micro_image.proofs.Increment.{increment}
-use Rattle.sample_io.specs.Samples.{stream_of}
 use Rattle.sample_loops.specs.Machines.{channels_of}
 
 -- the input word of y = x + 1 on 8 bits
 its_channel : channels_of increment ≡ record { low = neg_ℤ (pos 128); high = pos 127 } ∷ []
 its_channel = refl
-
--- three samples of one word
-its_stream : stream_of (record { width = 1; words = pos 0 ∷ pos 127 ∷ neg_ℤ (pos 128) ∷ [] }) ≡ (pos 0 ∷ []) ∷ (pos 127 ∷ []) ∷ (neg_ℤ (pos 128) ∷ []) ∷ []
-its_stream = refl

@@ -1,26 +1,30 @@
 -- How the parts of `run` make up its answer.
-use Rattle.std.proofs.Common.{◌≡◌, ◌≢◌, refl, sym, ap, ap₂, subst, ◌∙◌, inl, inr, ⊎_elim, ◌+◌, List, [], ◌∷◌, map, Bool}
+use Rattle.std.proofs.Common.{◌≡◌, refl, sym, ap, ap₂, subst, ◌∙◌, arith, inl, inr, ⊎_elim, ◌+◌, List, [], ◌∷◌, map, Bool}
 use Rattle.lists.specs.Rows.{Rows}
 use Rattle.cycle_sim.specs.Machine.{Snapshot}
 use Rattle.desk_core.specs.View.{Name, Content, View}
 use Rattle.desk_core.specs.Desk.{WhereSpecified, FaultsNeverFall, IsUnchanged, content_of}
-use Rattle.desk_core.proofs.DeskLemmas.{rose_later, rose_earlier, never_fall_trans, specified_from}
+use Rattle.desk_core.proofs.DeskLemmas.{never_fall_trans, specified_from}
 use Rattle.fix_word.specs.declared.types.SigType.{SigType}
 use Rattle.fix_word.specs.declared.types.SigType.TheVariants as sig
+use Rattle.micro_file.proofs.FirstFault.{spelled_no_fault}
+use Rattle.micro_image.specs.declared.image.Image.{Image as MicroImage}
+use Rattle.micro_image.specs.Spells.{Spells}
 use Rattle.micro_image.specs.declared.conflict.Conflict.{Conflict as ConflictValue}
+use Rattle.micro_image.proofs.Streams.{length-spread}
 use Rattle.plan_run.specs.ImageOf.{IsImageOf, width_of}
 use Rattle.sample_io.specs.Channels.{IsStream, channel_of}
 use Rattle.sample_io.specs.Samples.{printed}
-use Rattle.sample_loops.specs.Machines.{channels_of, RunsRows, PutsRows, MeetsInLast}
+use Rattle.sample_loops.specs.Machines.{channels_of, RunsRows, PutsRows, StopsInLast}
 use Rattle.sample_loops.specs.Private.MachineLaws.{runs_clear}
 use Rattle.sample_loops.specs.Streams.{IsRunThrough}
 use Rattle.sample_loops.specs.declared.stream.StreamFault.{StreamFault}
 use Rattle.sample_loops.specs.declared.stream.StreamFault.TheVariants as stream
 use Rattle.silage_meaning.specs.Solves as program
 use Rattle.silc_files.specs.Endings.{ChangesOnly}
-use Rattle.silc_files.specs.Limits.{samples_limit}
+use Rattle.silc_files.specs.Limits.{text_limit, samples_limit}
 use Rattle.silc_files.specs.Reading.{OnlyReads}
-use Rattle.silc_files.proofs.Endings.{unchanged_trans, unchanged_still, specified_still}
+use Rattle.silc_files.proofs.Endings.{unchanged_still, specified_still}
 use Rattle.plan_commands.specs.Compiling.{IsMicrocodeOf}
 use Rattle.plan_commands.specs.Headline.{RunsTheSolution}
 use Rattle.plan_commands.specs.Planning.{IsReadPlan}
@@ -30,11 +34,11 @@ use Rattle.plan_commands.specs.declared.planning.Planned.{Planned}
 use Rattle.plan_commands.proofs.Compiled.{runs_the_solution}
 use Rattle.plan_commands.proofs.Errors.{error_still}
 use Rattle.sample_commands.specs.Eval.{type_channel, program_channels, IsSolutionRows}
-use Rattle.sample_commands.specs.Run.{AreSamplesUnread, IsNotRun, IsRunStopped, IsRunDone, IsRunAnswer, RunUsesOnly}
+use Rattle.sample_commands.specs.Loaded.{IsMachineOf, IsNoMachine}
+use Rattle.sample_commands.specs.Run.{AreSamplesUnread, IsNotRun, IsRunStopped, IsRunDone, IsRunAnswer, RunUsesOnly, HasSomePlan}
 use Rattle.sample_commands.specs.Samples.{AreSamples, IsEndedEarly}
 use Rattle.sample_commands.specs.StreamEnds.{status_of}
 use Rattle.sample_commands.specs.Private.Executing.{IsCompiledMachine}
-use Rattle.sample_commands.specs.Private.Running.{IsMachineOf}
 use Rattle.sample_commands.specs.Private.Streaming.{IsOpened, IsNotOpened, StreamsOnly, RunsFiles, IsRunOver}
 use Rattle.sample_commands.specs.declared.simulator.Kept.{Kept}
 use Rattle.sample_commands.specs.declared.simulator.Kept.TheVariants.{One}
@@ -42,9 +46,13 @@ use Rattle.statuses.specs.declared.status.SampleFault.TheVariants as sample_faul
 use Rattle.statuses.specs.declared.status.Status.{Status}
 use Rattle.statuses.specs.declared.status.Status.TheVariants as status
 use Rattle.statuses.specs.declared.status.Status.TheVariants.{Done, Memory, Words, Desk, FrontEnd, Path, LinesFull, Period, FileFull, Image, Samples, Conflict}
-use Rattle.sample_commands.proofs.EarlyEnds.{ended_early, run_finished, run_samples_are, run_stream_is, run_put, opened_from, ended_still}
+use Rattle.sample_commands.proofs.EarlyEnds.{ended_early, run_finished, run_samples_are, run_stream_is, run_put, opened_from, unopened_from, not_created_from, unopened_still, ended_still}
 use Rattle.sample_commands.proofs.Simulating.{fresh_puts, fresh_meets, fresh_run}
 use Rattle.sample_commands.proofs.Solving.{program_stream, eval_done_still}
+
+-- where bytes spell an image, a machine lacks nothing but memory
+pub only_memory : (content : Content) (image : MicroImage) → Spells content image → (error : Status) → IsNoMachine content error → error ≡ Memory
+only_memory content image spells error = ⊎_elim (λ m. m) (λ bad. absurd (spelled_no_fault content image bad.0 spells bad.2))
 
 -- neither want of memory nor a fault of the desk, and no refusal
 no_error : {src datapath : Name} {old new : View} (status : Status) → IsPlanError src datapath old new status → (status ≡ Memory → ⊥) → (status ≡ Desk → ⊥) → IsRefusal status
@@ -62,11 +70,12 @@ same_channels (ty ∷ types) = ap₂ ◌∷◌ (same_channel ty) (same_channels 
 module _ (src datapath : Name) (old new : View) (planned : Planned) (plan : IsReadPlan src datapath old new planned)
     (microcode : Content) (made : IsMicrocodeOf planned.path planned.plan microcode) where
   -- its bytes spell the image of the plan and no other
-  pub compiled_machine : (machine : Snapshot) → IsMachineOf microcode machine → IsCompiledMachine src datapath old machine
+  pub compiled_machine : (machine : Snapshot) → IsMachineOf microcode machine → IsCompiledMachine src datapath old new machine
   compiled_machine machine is =
       let same : made.image ≡ machine.image = sym (made.spelled.unique machine.image is.spells) in
       let image_of : IsImageOf planned.path planned.plan machine.image = subst (IsImageOf planned.path planned.plan) same made.image_of in
       record {
+        read = plan.read;
         fresh = is.fresh;
         program = plan.program;
         graph = plan.graph;
@@ -82,7 +91,7 @@ module _ (src datapath : Name) (old new : View) (planned : Planned) (plan : IsRe
 
 -- the machine was made, and then it ran over the files
 module _ (src datapath samples out : Name) (old mid new : View) (machine : Snapshot) (first : OnlyReads src datapath old mid)
-    (compiled : IsCompiledMachine src datapath old machine) where
+    (compiled : IsCompiledMachine src datapath old mid machine) where
   pub run_uses : StreamsOnly samples out mid new → RunUsesOnly src datapath samples out old new
   run_uses only = record {
     files = specified_from (ChangesOnly out) old.files mid.files new.files first.unchanged.files only.files;
@@ -93,7 +102,7 @@ module _ (src datapath samples out : Name) (old mid new : View) (machine : Snaps
 
   program_in : WhereSpecified old (IsProgramIn src compiled.program)
   program_in files is = record {
-    read = (compiled.planned files is).read;
+    read = (compiled.planned files is).has.read;
     unique = (compiled.planned files is).unique;
     solved = λ stream valid. let (words, one, run) = compiled.runs stream valid in (words, one);
   }
@@ -110,26 +119,30 @@ module _ (src datapath samples out : Name) (old mid new : View) (machine : Snaps
       record { words = words; one = one; puts_are = (fresh_puts machine compiled.fresh rows puts h).put ∙ sym run.put }
 
   -- and it has no conflict
-  no_conflict : (rows : Rows) (conflict : ConflictValue) → IsStream (channels_of machine.image) rows → MeetsInLast machine rows conflict → ⊥
-  no_conflict rows conflict is h =
+  no_conflict : (after : Snapshot) (rows : Rows) (conflict : ConflictValue)
+      → IsStream (channels_of machine.image) rows
+      → StopsInLast machine rows conflict after
+      → ⊥
+  no_conflict after rows conflict is h =
       let (words, one, run) = compiled.runs rows (its_stream rows is) in
-      let met = (fresh_meets machine compiled.fresh rows conflict h).first in
-      run.clear conflict.cycle met.within conflict.kind conflict.place met.there.there
+      let met = (fresh_meets machine compiled.fresh after rows conflict h).first in
+      run.clear conflict.cycle (omega (arith, met.within, length-spread machine.image.period rows)) conflict.kind conflict.place
+      met.there.there
 
   -- SAMPLES or OUT could not be opened
   run_not_opened : (kept : Kept) → IsNotOpened samples out mid new → IsRunAnswer src datapath samples out old new kept Desk
   run_not_opened kept = ⊎_elim
       (λ unread. inl (inr (record {
-        unchanged = unchanged_trans old mid new first.unchanged unread.0;
-        rose = rose_later _ _ _ (first.never_fall.reading samples) unread.1;
-        planned = λ files is. (compiled.program, compiled.path, compiled.plan, compiled.planned files is);
+        unchanged = unchanged_still old mid new unread.0 first.unchanged;
+        unopened = unopened_from samples datapath text_limit (HasSomePlan src datapath) old mid new first.never_fall compiled.read
+            (λ files is. (compiled.program, compiled.path, compiled.plan, compiled.planned files is)) unread.0 unread.1;
       })))
       (λ not. inr (record {
         program = compiled.program;
         path = compiled.path;
         plan = compiled.plan;
         planned = compiled.planned;
-        ended = inl (record { rose = rose_later _ _ _ (first.never_fall.writing out) not.rose; files = not.files ∙ first.unchanged.files });
+        ended = inl (not_created_from samples out old mid new first.unchanged.files first.never_fall not);
       }))
 
   module _ (kept : Kept) (after : Snapshot) (ending : Status) (ran : RunsFiles samples out machine after mid new ending) where
@@ -160,17 +173,17 @@ module _ (src datapath samples out : Name) (old mid new : View) (machine : Snaps
         → IsRunDone src datapath samples out old new kept
     run_done keeps h =
         let is = run_stream_is samples out old ran.mid new fall opened ran.only (channels_of machine.image) _ h in
-        let rows = solution_rows h.rows h.put.puts is (runs_clear machine after h.rows h.put.puts h.put.given) in
+        let rows = solution_rows h.run.rows h.run.put.puts is (runs_clear machine after h.run.rows h.run.put.puts h.run.put.given) in
         record {
           solved = record {
             finished = run_finished samples out old ran.mid new fall opened ran.only (channels_of machine.image) _ h;
             program = compiled.program;
-            stream = h.rows;
-            text = printed h.put.puts;
+            stream = h.run.rows;
+            text = printed h.run.put.puts;
             solution = record { words = rows.words; one = rows.one; text_is = ap printed rows.puts_are };
             specified = λ files is. record {
               source = program_in files is;
-              samples_are = subst (λ cs. AreSamples cs (content_of (files samples)) h.rows) compiled.channels
+              samples_are = subst (λ cs. AreSamples cs (content_of (files samples)) h.run.rows) compiled.channels
                   (run_samples_are samples out old ran.mid new fall opened ran.only (channels_of machine.image) _ h files is);
             };
             put = run_put samples out old ran.mid new fall opened ran.only (channels_of machine.image) _ h;
@@ -181,7 +194,7 @@ module _ (src datapath samples out : Name) (old mid new : View) (machine : Snaps
           image = machine.image;
           image_of = compiled.image_of;
           machine = after;
-          ran = fresh_run machine compiled.fresh h.rows h.put.puts after h.put.given;
+          ran = fresh_run machine compiled.fresh h.run.rows h.run.put.puts after h.run.put.given;
           kept_is = keeps;
         }
 
@@ -192,7 +205,7 @@ module _ (src datapath samples out : Name) (old mid new : View) (machine : Snaps
         subst (IsRunAnswer src datapath samples out old new kept) (sym stopped.1)
         (run_stopped stopped.0
         (ended_early samples out old ran.mid new fall opened ran.only (channels_of machine.image) (PutsRows machine) (IsSolutionRows compiled.program)
-        (MeetsInLast machine) (λ rows conflict. ⊥) solution_rows no_conflict stopped.0 stopped.2)))
+        (λ rows conflict. StopsInLast machine rows conflict after) (λ rows conflict. ⊥) solution_rows (no_conflict after) stopped.0 stopped.2)))
         ran.ends
 
   pub run_answer : (kept : Kept) (ending : Status) → IsRunOver samples out machine mid new kept ending → IsRunAnswer src datapath samples out old new kept ending
@@ -223,8 +236,7 @@ module _ (src datapath samples out : Name) (old mid new : View) (same : IsUnchan
   unread_still : AreSamplesUnread src datapath samples old mid → AreSamplesUnread src datapath samples old new
   unread_still h = record {
     unchanged = unchanged_still old mid new same h.unchanged;
-    rose = rose_earlier _ _ _ (before.reading samples) h.rose (later.reading samples);
-    planned = h.planned;
+    unopened = unopened_still samples out old mid new same later before datapath text_limit (HasSomePlan src datapath) h.unopened;
   }
 
   still : (status : Status) → IsPlanError src datapath old mid status → IsPlanError src datapath old new status

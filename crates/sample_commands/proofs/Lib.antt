@@ -1,3 +1,4 @@
+mod Keeping
 mod Examples
 pub mod Opening
 pub mod EarlyEnds

@@ -3,8 +3,8 @@ use Rattle.std.proofs.Common.{◌≡◌, ◌≢◌, refl, sym, ap, ◌∙◌, in
 use Rattle.desk_core.specs.View.{Name, Content, View}
 use Rattle.desk_core.specs.Desk.{IfSpecified, ReadFaultsRose, WriteFaultsRose, FaultsNeverFall, IsUnchanged, IsUnchangedButOutput, IsReading, IsWriting, IsPut}
 use Rattle.desk_core.proofs.DeskLemmas.{rose_later, specified_from, input_stays}
+use Rattle.sample_loops.specs.Output.{HasPut}
 use Rattle.sample_loops.specs.Streams.{ChangesOutputAlone}
-use Rattle.sample_loops.specs.Streams as stream
 use Rattle.sample_commands.specs.Private.Streaming.{IsOpened, IsNotOpened, StreamsOnly}
 
 -- a result of each kind
@@ -22,7 +22,7 @@ once a b e = cc
 -- SAMPLES could not be opened
 module _ (samples out : Name) (old new : View) (same : IsUnchanged old new) where
   pub unopened : ReadFaultsRose samples old new → IsNotOpened samples out old new
-  unopened rose = inl (record { files = same.files; output = same.output; printed = same.printed; writes = same.writes }, rose)
+  unopened rose = inl (same, rose)
 
   pub unopened_only : StreamsOnly samples out old new
   unopened_only = record {
@@ -36,7 +36,12 @@ module _ (samples out : Name) (old new : View) (same : IsUnchanged old new) wher
 module _ (samples out : Name) (old mid new : View) (reading : IsReading samples 0 old mid) where
   -- OUT could not be created
   pub uncreated : FaultsNeverFall old mid → IsUnchangedButOutput mid new → WriteFaultsRose out mid new → IsNotOpened samples out old new
-  uncreated le same rose = inr (record { rose = rose_later _ _ _ (le.writing out) rose; files = same.files ∙ reading.files })
+  uncreated le same rose = inr (record {
+    rose = rose_later _ _ _ (le.writing out) rose;
+    input = input_stays samples old mid new reading.input same.input (ap (λ (f : Name → Bool). f samples) same.reads);
+    place = same.place ∙ reading.place;
+    files = same.files ∙ reading.files;
+  })
 
   pub uncreated_only : IsUnchangedButOutput mid new → StreamsOnly samples out old new
   uncreated_only same = record {
@@ -66,12 +71,12 @@ module _ (samples out : Name) (old mid new : View) (reading : IsReading samples 
   }
 
 -- what OUT has after a stream
-pub put_from : (samples out : Name) (old mid new : View) (bytes : Content) → IsOpened samples out old mid → stream.HasPut bytes mid new
+pub put_from : (samples out : Name) (old mid new : View) (bytes : Content) → IsOpened samples out old mid → HasPut bytes mid new
     → IfSpecified (IsPut out bytes) old.files new.files
 put_from samples out old mid new bytes opened put = λ after is.
     let step = put after is in
     let start = opened.files step.0 step.1 in
-    let longer = step.2 out (opened.output.specified step.0 step.1) in
+    let longer = step.2.named out (opened.output.specified step.0 step.1) in
     (start.0, start.1, record { here = longer.here [] start.2.here; others = λ s ne. longer.others s ne ∙ start.2.others s ne })
 
 -- and what else changed

@@ -1,29 +1,31 @@
 -- A machine before its first cycle over a stream, and how the parts of `sim` make up its answer.
-use Rattle.std.proofs.Common.{◌≡◌, ◌≢◌, refl, sym, ap, subst, ◌∙◌, arith, inl, inr, ⊎_elim, ◌+◌, ◌*◌, ◌<◌, ◌^◌, ◌%◌, [], Bool}
+use Rattle.std.proofs.Common.{◌≡◌, refl, sym, ap, subst, ◌∙◌, arith, inl, inr, ⊎_elim, ◌+◌, ◌*◌, ◌<◌, ◌^◌, ◌%◌, [], length, Bool}
 use Rattle.std.proofs.Math.Nat.{zero-mod}
+use Rattle.std.specs.List.{range_with_len}
 use Rattle.lists.specs.Rows.{Rows}
 use Rattle.cycle_sim.specs.Machine.{Snapshot}
 use Rattle.desk_core.specs.View.{Name, View}
-use Rattle.desk_core.specs.Desk.{ReadFaultsRose, FaultsNeverFall, IsUnchanged, IsPut}
-use Rattle.desk_core.specs.Whole.{IsUnchangedButInput}
-use Rattle.desk_core.proofs.DeskLemmas.{rose_later, rose_earlier, never_fall_trans, specified_from}
+use Rattle.desk_core.specs.Desk.{FaultsNeverFall, IsUnchanged, IsPut}
+use Rattle.desk_core.proofs.DeskLemmas.{rose_earlier, never_fall_trans, specified_from}
 use Rattle.micro_image.specs.declared.conflict.Conflict.{Conflict as ConflictValue}
-use Rattle.micro_image.specs.Run.{IsRunOut}
-use Rattle.sample_io.specs.Channels.{IsStream}
+use Rattle.micro_image.specs.Conflict.{IsClearBelow}
+use Rattle.micro_image.specs.Run.{IsRunOut, latches, spread}
+use Rattle.micro_image.proofs.Lists.{map-same}
+use Rattle.micro_image.proofs.Streams.{length-spread}
 use Rattle.sample_io.specs.Samples.{printed}
-use Rattle.sample_loops.specs.Machines.{channels_of, IsReady, RunsRows, PutsRows, MeetsInLast, IsConflictInLast}
+use Rattle.sample_loops.specs.Machines.{channels_of, IsReady, RunsRows, PutsRows, StopsInLast, IsConflictInLast}
 use Rattle.sample_loops.specs.Private.MachineLaws.{runs_clear}
-use Rattle.sample_loops.specs.Streams.{ChangesOutputAlone}
 use Rattle.sample_loops.specs.declared.stream.StreamFault.{StreamFault}
 use Rattle.sample_loops.specs.declared.stream.StreamFault.TheVariants as stream
 use Rattle.silc_files.specs.Endings.{ChangesOnly, UsesOnly}
 use Rattle.silc_files.specs.Limits.{microcode_limit, samples_limit}
 use Rattle.silc_files.specs.Reading.{OnlyReads}
-use Rattle.silc_files.proofs.Endings.{unchanged_trans, unchanged_still, specified_still, rejected_still, finished_still}
-use Rattle.sample_commands.specs.Samples.{IsNotCreated, IsEndedEarly}
-use Rattle.sample_commands.specs.Sim.{HasRun, IsSimUnread, IsSimStopped, IsSimulated, IsSimAnswer}
-use Rattle.sample_commands.specs.StreamEnds.{status_of, EndsStream}
-use Rattle.sample_commands.specs.Private.Running.{IsFresh, IsLoaded, IsLoadError}
+use Rattle.silc_files.proofs.Endings.{unchanged_still, specified_still, rejected_still, finished_still}
+use Rattle.sample_commands.specs.Samples.{IsEndedEarly}
+use Rattle.sample_commands.specs.Sim.{HasRun, IsSimUnread, IsSimStopped, IsSimAnswer, HasSomeImage}
+use Rattle.sample_commands.specs.StreamEnds.{status_of}
+use Rattle.sample_commands.specs.Loaded.{IsFresh}
+use Rattle.sample_commands.specs.Private.Running.{IsLoaded, IsLoadError}
 use Rattle.sample_commands.specs.Private.Streaming.{AreRunOver, IsOpened, IsNotOpened, StreamsOnly, RunsFiles, IsRunOver}
 use Rattle.sample_commands.specs.declared.simulator.Kept.{Kept}
 use Rattle.sample_commands.specs.declared.simulator.Kept.TheVariants.{One}
@@ -31,13 +33,12 @@ use Rattle.statuses.specs.declared.status.SampleFault.TheVariants as sample_faul
 use Rattle.statuses.specs.declared.status.Status.{Status}
 use Rattle.statuses.specs.declared.status.Status.TheVariants as status
 use Rattle.statuses.specs.declared.status.Status.TheVariants.{Done, Memory, Words, Desk, FrontEnd, Path, LinesFull, Period, FileFull, Image as bad_image, Samples as bad_samples, Conflict as in_conflict}
-use Rattle.sample_commands.proofs.EarlyEnds.{ended_early, run_finished, run_samples_are, run_put, opened_from, ended_still}
+use Rattle.sample_commands.proofs.EarlyEnds.{ended_early, run_finished, run_samples_are, run_put, opened_from, unopened_from, not_created_from, unopened_still, ended_still}
 
 -- a fresh machine, and what it is over rows
 module _ (machine : Snapshot) (fresh : IsFresh machine) where
   pub fresh_ready : IsReady machine
   fresh_ready = record {
-    valid = fresh.valid;
     whole = ap (λ n. n % machine.image.period) fresh.stands.cycle ∙ zero-mod machine.image.period;
     running = fresh.stands.conflict;
   }
@@ -46,10 +47,20 @@ module _ (machine : Snapshot) (fresh : IsFresh machine) where
   fresh_young = omega (arith, fresh.stands.cycle, fresh.valid.period.0)
 
   pub fresh_puts : (rows puts : Rows) → PutsRows machine rows puts → IsRunOut machine.image rows puts
-  fresh_puts rows puts h = record { clear = h.clear [] fresh.stands; put = h.put [] fresh.stands }
+  fresh_puts rows puts h = record {
+    clear = subst (IsClearBelow machine.image (spread machine.image.period rows)) (length-spread machine.image.period rows)
+        (h.clear [] fresh.stands);
+    put = h.put [] fresh.stands
+        ∙ map-same _ _ (range_with_len 0 (length rows)) (λ k is.
+        let period = machine.image.period in
+        ap (latches machine.image (spread period rows))
+        (let e : 0 + (k + 1) * period ≡ (k + 1) * period = omega arith in e));
+  }
 
-  pub fresh_meets : (rows : Rows) (conflict : ConflictValue) → MeetsInLast machine rows conflict → IsConflictInLast machine.image rows conflict
-  fresh_meets rows conflict h = h [] fresh.stands
+  pub fresh_meets : (after : Snapshot) (rows : Rows) (conflict : ConflictValue)
+      → StopsInLast machine rows conflict after
+      → IsConflictInLast machine.image [] rows conflict
+  fresh_meets after rows conflict h = h.met [] fresh.stands
 
   pub fresh_run : (rows puts : Rows) (after : Snapshot) → RunsRows machine rows puts after → HasRun machine.image rows after (printed puts)
   fresh_run rows puts after h = record {
@@ -66,7 +77,7 @@ pub kept_over : (samples out : Name) (old new : View) (machine after : Snapshot)
 kept_over samples out old new machine after kept ending over keeps = ⊎_elim (λ not. inl not) (λ ran. inr (after, keeps, ran)) over
 
 -- the machine was loaded, and then it ran over the files
-module _ (mic samples out : Name) (old mid new : View) (machine : Snapshot) (first : OnlyReads mic mic old mid) (loaded : IsLoaded mic old machine) where
+module _ (mic samples out : Name) (old mid new : View) (machine : Snapshot) (first : OnlyReads mic mic old mid) (loaded : IsLoaded mic old mid machine) where
   pub sim_uses : StreamsOnly samples out mid new → UsesOnly mic samples out old new
   sim_uses only = record {
     files = specified_from (ChangesOnly out) old.files mid.files new.files first.unchanged.files only.files;
@@ -79,13 +90,14 @@ module _ (mic samples out : Name) (old mid new : View) (machine : Snapshot) (fir
   sim_not_opened : (kept : Kept) → IsNotOpened samples out mid new → IsSimAnswer mic samples out old new kept Desk
   sim_not_opened kept = ⊎_elim
       (λ unread. inl (record {
-        unchanged = unchanged_trans old mid new first.unchanged unread.0;
-        rose = inr (rose_later _ _ _ (first.never_fall.reading samples) unread.1, λ files is. (machine.image, loaded.specified files is));
+        unchanged = unchanged_still old mid new unread.0 first.unchanged;
+        rose = inr (unopened_from samples mic microcode_limit (HasSomeImage mic) old mid new first.never_fall loaded.read
+            (λ files is. (machine.image, loaded.specified files is)) unread.0 unread.1);
       }))
       (λ not. inr (record {
         image = machine.image;
         specified = loaded.specified;
-        ended = inl (record { rose = rose_later _ _ _ (first.never_fall.writing out) not.rose; files = not.files ∙ first.unchanged.files });
+        ended = inl (not_created_from samples out old mid new first.unchanged.files first.never_fall not);
       }))
 
   module _ (kept : Kept) (after : Snapshot) (ending : Status) (ran : RunsFiles samples out machine after mid new ending) where
@@ -95,7 +107,7 @@ module _ (mic samples out : Name) (old mid new : View) (machine : Snapshot) (fir
     opened : IsOpened samples out old ran.mid
     opened = opened_from samples out old mid ran.mid first.unchanged.files ran.opened
 
-    sim_stopped : (fault : StreamFault) → IsEndedEarly samples out (channels_of machine.image) (IsRunOut machine.image) (IsConflictInLast machine.image) old new fault
+    sim_stopped : (fault : StreamFault) → IsEndedEarly samples out (channels_of machine.image) (IsRunOut machine.image) (IsConflictInLast machine.image []) old new fault
         → IsSimAnswer mic samples out old new kept (status_of fault)
     sim_stopped stream.Desk h = inr (record { image = machine.image; specified = loaded.specified; ended = h })
     sim_stopped (stream.Row fault) h = record { image = machine.image; specified = loaded.specified; ended = h }
@@ -113,9 +125,9 @@ module _ (mic samples out : Name) (old mid new : View) (machine : Snapshot) (fir
           record {
             finished = run_finished samples out old ran.mid new fall opened ran.only (channels_of machine.image) _ done.1;
             image = machine.image;
-            stream = done.1.rows;
-            text = printed done.1.put.puts;
-            ran = fresh_run machine fresh done.1.rows done.1.put.puts after done.1.put.given;
+            stream = done.1.run.rows;
+            text = printed done.1.run.put.puts;
+            ran = fresh_run machine fresh done.1.run.rows done.1.run.put.puts after done.1.run.put.given;
             specified = λ files is. record {
               microcode = loaded.specified files is;
               samples_are = run_samples_are samples out old ran.mid new fall opened ran.only (channels_of machine.image) _ done.1 files is;
@@ -127,8 +139,8 @@ module _ (mic samples out : Name) (old mid new : View) (machine : Snapshot) (fir
         subst (IsSimAnswer mic samples out old new kept) (sym stopped.1)
         (sim_stopped stopped.0
         (ended_early samples out old ran.mid new fall opened ran.only (channels_of machine.image) (PutsRows machine) (IsRunOut machine.image)
-        (MeetsInLast machine) (IsConflictInLast machine.image) (λ rows puts is. fresh_puts machine fresh rows puts)
-        (λ rows conflict is. fresh_meets machine fresh rows conflict) stopped.0 stopped.2)))
+        (λ rows conflict. StopsInLast machine rows conflict after) (IsConflictInLast machine.image [])
+        (λ rows puts is. fresh_puts machine fresh rows puts) (λ rows conflict is. fresh_meets machine fresh after rows conflict) stopped.0 stopped.2)))
         ran.ends
 
   pub sim_answer : (kept : Kept) (ending : Status) → IsRunOver samples out machine mid new kept ending → IsSimAnswer mic samples out old new kept ending
@@ -143,22 +155,22 @@ sim_unloaded mic samples out old new kept status reads =
     let answer : Status → Type 0 = IsSimAnswer mic samples out old new kept in
     ⊎_elim (λ m. subst answer (sym m) reads.unchanged)
     (⊎_elim (λ d. subst answer (sym d.0) (inl (record { unchanged = reads.unchanged; rose = inl d.1 })))
-    (⊎_elim (λ l. subst answer (sym l.0) (tt, record { unchanged = reads.unchanged; read = l.1.read; why = l.1.why }))
-    (λ l. subst answer (sym l.0) (tt, record { unchanged = reads.unchanged; read = l.1.read; why = l.1.why }))))
+    (λ l. subst answer (sym l.1) (l.2, record { unchanged = reads.unchanged; read = l.3.read; why = l.3.why })))
 
 -- a report of the error leaves the answer of `sim` as it is
 module _ (mic samples out : Name) (old mid new : View) (same : IsUnchanged mid new) (later : FaultsNeverFall mid new) (before : FaultsNeverFall old mid) where
   sim_unread_still : IsSimUnread mic samples old mid → IsSimUnread mic samples old new
   sim_unread_still h = record {
     unchanged = unchanged_still old mid new same h.unchanged;
-    rose = ⊎_elim (λ r. inl (rose_earlier _ _ _ (before.reading mic) r (later.reading mic))) (λ r. inr (rose_earlier _ _ _ (before.reading samples) r.0 (later.reading samples), r.1)) h.rose;
+    rose = ⊎_elim (λ r. inl (rose_earlier _ _ _ (before.reading mic) r (later.reading mic)))
+        (λ r. inr (unopened_still samples out old mid new same later before mic microcode_limit (HasSomeImage mic) r)) h.rose;
   }
 
   sim_stopped_still : (fault : StreamFault) → IsSimStopped mic samples out old mid fault → IsSimStopped mic samples out old new fault
   sim_stopped_still fault h = record {
     image = h.image;
     specified = h.specified;
-    ended = ended_still samples out old mid new same later before (channels_of h.image) (IsRunOut h.image) (IsConflictInLast h.image) fault h.ended;
+    ended = ended_still samples out old mid new same later before (channels_of h.image) (IsRunOut h.image) (IsConflictInLast h.image []) fault h.ended;
   }
 
   pub sim_reported : (kept : Kept) (status : Status) → IsSimAnswer mic samples out old mid kept status

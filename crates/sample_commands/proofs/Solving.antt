@@ -4,7 +4,7 @@ use Rattle.lists.specs.Rows.{Rows}
 use Rattle.desk_core.specs.View.{Name, Content, View}
 use Rattle.desk_core.specs.Desk.{WhereSpecified, IsPut, FaultsNeverFall, IsUnchanged, content_of}
 use Rattle.desk_core.specs.Whole.{IsReadThrough}
-use Rattle.desk_core.proofs.DeskLemmas.{rose_later, rose_earlier, never_fall_trans, specified_from}
+use Rattle.desk_core.proofs.DeskLemmas.{rose_earlier, never_fall_trans, specified_from}
 use Rattle.equation_eval.specs.Evaluation.{Evaluation}
 use Rattle.front_end.specs.Faults.{HasProgram}
 use Rattle.front_end.specs.declared.fault.FrontFault.TheVariants as front
@@ -29,23 +29,30 @@ use Rattle.silc_files.specs.declared.files.Input.TheVariants.{Whole, TooLong}
 use Rattle.silc_files.specs.Endings.{ChangesOnly, UsesOnly}
 use Rattle.silc_files.specs.Limits.{text_limit, samples_limit}
 use Rattle.silc_files.specs.Reading.{OnlyReads, IsInput}
-use Rattle.silc_files.proofs.Endings.{unchanged_trans, unchanged_still, specified_still, rejected_still, finished_still}
+use Rattle.silc_files.proofs.Endings.{unchanged_still, specified_still, rejected_still, finished_still}
 use Rattle.plan_commands.specs.Planning.{IsGraphFor}
+use Rattle.plan_commands.specs.Sources.{HasSomeProgram}
 use Rattle.sample_commands.specs.Eval.{program_channels, IsSolutionRows, IsEvalUnread, IsEvalStopped, IsEvalDone, IsEvalAnswer}
 use Rattle.sample_commands.specs.Samples.{AreSamples, IsEndedEarly}
 use Rattle.sample_commands.specs.StreamEnds.{status_of}
 use Rattle.sample_commands.specs.Private.Evaluating.{IsSourceRead, IsSourceError, IsEvaluatorOf, EvaluatesFiles, IsEvalOver}
 use Rattle.sample_commands.specs.Private.Streaming.{IsOpened, IsNotOpened, StreamsOnly}
-use Rattle.sample_commands.proofs.EarlyEnds.{ended_early, run_finished, run_samples_are, run_stream_is, run_put, opened_from, ended_still}
+use Rattle.sample_commands.proofs.EarlyEnds.{ended_early, run_finished, run_samples_are, run_stream_is, run_put, opened_from, unopened_from, not_created_from, unopened_still, ended_still}
 use Rattle.statuses.specs.declared.status.SampleFault.TheVariants as sample_fault
 use Rattle.statuses.specs.declared.status.Status.{Status}
 use Rattle.statuses.specs.declared.status.Status.TheVariants as status
 use Rattle.statuses.specs.declared.status.Status.TheVariants.{Done, Memory, Words, Desk, FrontEnd, Path, LinesFull, Period, FileFull, Image, Samples, Conflict}
 
 -- SRC was accepted
-pub source_read : (src : Name) (desk : View) (input : Input) (bytes : Content) (p : Program) (g : Graph) → input ≡ Whole bytes
-    → WhereSpecified desk (λ files. IsInput (content_of (files src)) input) → HasProgram bytes p → IsGraphFor p g → IsSourceRead src desk p g
-source_read src desk input bytes p g whole content read graph = record {
+pub source_read : (src : Name) (old new : View) (input : Input) (bytes : Content) (p : Program) (g : Graph)
+    → input ≡ Whole bytes
+    → IsReadThrough src text_limit old new
+    → WhereSpecified old (λ files. IsInput (content_of (files src)) input)
+    → HasProgram bytes p
+    → IsGraphFor p g
+    → IsSourceRead src old new p g
+source_read src old new input bytes p g whole through content read graph = record {
+  read = through;
   graph = graph;
   specified = λ files is.
       let same : bytes ≡ content_of (files src) = subst (λ (i : Input). IsInput (content_of (files src)) i) whole (content files is) in
@@ -60,9 +67,13 @@ source_too_long src old new (Whole bytes) other read long status e = absurd (oth
 source_too_long src old new TooLong other read long status e = subst (IsSourceError src old new) (sym e) (tt, read, long)
 
 -- the evaluator of its graph was made
-pub its_evaluator : (src : Name) (desk : View) (p : Program) (g : Graph) (e : Evaluation) → IsSourceRead src desk p g → e.graph ≡ g → e.ran ≡ []
-    → IsEvaluatorOf src desk e
-its_evaluator src desk p g e read same fresh = record { program = p; source = subst (IsSourceRead src desk p) (sym same) read; fresh = fresh }
+pub its_evaluator : (src : Name) (old new : View) (p : Program) (g : Graph) (e : Evaluation)
+    → IsSourceRead src old new p g
+    → e.graph ≡ g
+    → e.ran ≡ []
+    → IsEvaluatorOf src old new e
+its_evaluator src old new p g e read same fresh =
+    record { program = p; source = subst (IsSourceRead src old new p) (sym same) read; fresh = fresh }
 
 -- rows of the channels of the graph's inputs are valid rows of the program
 pub program_stream : (p : Program) (g : Graph) → IsGraphFor p g → (stream : Rows) → IsStream (map type_channel g.inputs) stream → program.IsStream p stream
@@ -75,7 +86,7 @@ fresh_solves : (e : Evaluation) → e.ran ≡ [] → (rows puts : Rows) → Solv
 fresh_solves e fresh rows puts h = subst (λ (ran : Rows). SolvesRows (record { graph = e.graph; ran = ran }) rows puts) fresh h
 
 -- the evaluator was made, and then it was run over the files
-module _ (src samples out : Name) (old mid new : View) (evaluator : Evaluation) (first : OnlyReads src src old mid) (is : IsEvaluatorOf src old evaluator) where
+module _ (src samples out : Name) (old mid new : View) (evaluator : Evaluation) (first : OnlyReads src src old mid) (is : IsEvaluatorOf src old mid evaluator) where
   pub eval_uses : StreamsOnly samples out mid new → UsesOnly src samples out old new
   eval_uses only = record {
     files = specified_from (ChangesOnly out) old.files mid.files new.files first.unchanged.files only.files;
@@ -100,13 +111,14 @@ module _ (src samples out : Name) (old mid new : View) (evaluator : Evaluation) 
   eval_not_opened : IsNotOpened samples out mid new → IsEvalAnswer src samples out old new Desk
   eval_not_opened = ⊎_elim
       (λ unread. inl (record {
-        unchanged = unchanged_trans old mid new first.unchanged unread.0;
-        rose = inr (rose_later _ _ _ (first.never_fall.reading samples) unread.1, λ files at. (is.program, is.source.specified files at));
+        unchanged = unchanged_still old mid new unread.0 first.unchanged;
+        rose = inr (unopened_from samples src text_limit (HasSomeProgram src) old mid new first.never_fall is.source.read
+            (λ files at. (is.program, is.source.specified files at)) unread.0 unread.1);
       }))
       (λ not. inr (record {
         program = is.program;
         specified = is.source.specified;
-        ended = inl (record { rose = rose_later _ _ _ (first.never_fall.writing out) not.rose; files = not.files ∙ first.unchanged.files });
+        ended = inl (not_created_from samples out old mid new first.unchanged.files first.never_fall not);
       }))
 
   module _ (ending : Status) (ran : EvaluatesFiles samples out evaluator mid new ending) where
@@ -135,16 +147,16 @@ module _ (src samples out : Name) (old mid new : View) (evaluator : Evaluation) 
         → IsEvalDone src samples out old new
     eval_done h =
         let valid = run_stream_is samples out old ran.mid new fall opened ran.only (graph_channels evaluator.graph) _ h in
-        let rows = solution_rows h.rows h.put.puts valid h.put.given.put in
+        let rows = solution_rows h.run.rows h.run.put.puts valid h.run.put.given.put in
         record {
           finished = run_finished samples out old ran.mid new fall opened ran.only (graph_channels evaluator.graph) _ h;
           program = is.program;
-          stream = h.rows;
-          text = printed h.put.puts;
+          stream = h.run.rows;
+          text = printed h.run.put.puts;
           solution = record { words = rows.words; one = rows.one; text_is = ap printed rows.puts_are };
           specified = λ files at. record {
             source = is.source.specified files at;
-            samples_are = subst (λ cs. AreSamples cs (content_of (files samples)) h.rows) its_channels
+            samples_are = subst (λ cs. AreSamples cs (content_of (files samples)) h.run.rows) its_channels
                 (run_samples_are samples out old ran.mid new fall opened ran.only (graph_channels evaluator.graph) _ h files at);
           };
           put = run_put samples out old ran.mid new fall opened ran.only (graph_channels evaluator.graph) _ h;
@@ -187,7 +199,8 @@ module _ (src samples out : Name) (old mid new : View) (same : IsUnchanged mid n
   eval_unread_still : IsEvalUnread src samples old mid → IsEvalUnread src samples old new
   eval_unread_still h = record {
     unchanged = unchanged_still old mid new same h.unchanged;
-    rose = ⊎_elim (λ r. inl (rose_earlier _ _ _ (before.reading src) r (later.reading src))) (λ r. inr (rose_earlier _ _ _ (before.reading samples) r.0 (later.reading samples), r.1)) h.rose;
+    rose = ⊎_elim (λ r. inl (rose_earlier _ _ _ (before.reading src) r (later.reading src)))
+        (λ r. inr (unopened_still samples out old mid new same later before src text_limit (HasSomeProgram src) r)) h.rose;
   }
 
   eval_stopped_still : (fault : StreamFault) → IsEvalStopped src samples out old mid fault → IsEvalStopped src samples out old new fault

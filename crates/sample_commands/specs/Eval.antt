@@ -16,7 +16,7 @@ use Rattle.silage_meaning.specs.Solves.{IsOneSolution, input_types, out}
 use Rattle.silc_files.specs.Endings.{IsRejected, IsFinished}
 use Rattle.silc_files.specs.Limits.{text_limit, samples_limit}
 use Rattle.plan_commands.specs.Sources.{IsProgramIn, HasSomeProgram, HasFrontFault}
-use Rattle.sample_commands.specs.Samples.{AreSamples, IsEndedEarly}
+use Rattle.sample_commands.specs.Samples.{AreSamples, AreUnopened, IsEndedEarly}
 use Rattle.statuses.specs.declared.status.SampleFault.TheVariants as sample_fault
 use Rattle.statuses.specs.declared.status.Status.{Status}
 use Rattle.statuses.specs.declared.status.Status.TheVariants.{Done, Memory, Desk, FrontEnd, Samples}
@@ -45,10 +45,10 @@ pub record HasSamples (src samples : Name) (program : Program) (stream : Rows) (
 -- SRC could not be read, or it has a program and SAMPLES could not be opened; at most the input and the faults changed
 pub record IsEvalUnread (src samples : Name) (old new : View) : Type 0 where
   pub unchanged : IsUnchangedButInput old new
-  pub rose : ReadFaultsRose src old new ⊎ (ReadFaultsRose samples old new × WhereSpecified old (HasSomeProgram src))
+  pub rose : ReadFaultsRose src old new ⊎ AreUnopened samples src text_limit (HasSomeProgram src) old new
 
--- SRC has the program, and its evaluation over SAMPLES, which was opened, did not come to its end. What OUT has is of the
--- program's one solution over the rows before.
+-- SRC has the program, and its evaluation over SAMPLES, which was opened, did not come to its end. What OUT has is of
+-- the program's one solution over the rows before.
 pub record IsEvalStopped (src samples out : Name) (old new : View) (fault : StreamFault) : Type 0 where
   pub program : Program
   pub specified : WhereSpecified old (IsProgramIn src program)

@@ -1,6 +1,7 @@
 pub mod Samples
 pub mod StreamEnds
 pub mod Sim
+pub mod Loaded
 pub mod Eval
 pub mod Run
 pub mod Private

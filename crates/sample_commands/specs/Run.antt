@@ -3,19 +3,20 @@ use Rattle.std.specs.Prelude.{◌≡◌, ◌≢◌, ◌⊎◌, Bool, true}
 use Rattle.datapath.specs.declared.types.Datapath.{Datapath}
 use Rattle.cycle_sim.specs.Machine.{Snapshot}
 use Rattle.desk_core.specs.View.{Name, Files, View}
-use Rattle.desk_core.specs.Desk.{IfSpecified, WhereSpecified, ReadFaultsRose, NoOtherBegins, content_of}
+use Rattle.desk_core.specs.Desk.{IfSpecified, WhereSpecified, NoOtherBegins, content_of}
 use Rattle.desk_core.specs.Whole.{IsUnchangedButInput}
 use Rattle.micro_image.specs.declared.image.Image.{Image}
 use Rattle.plan_core.specs.declared.plan.Plan.{Plan}
 use Rattle.plan_run.specs.ImageOf.{IsImageOf}
 use Rattle.silage_syntax.specs.Tree.{Program}
 use Rattle.silc_files.specs.Endings.{ChangesOnly}
+use Rattle.silc_files.specs.Limits.{text_limit}
 use Rattle.sample_loops.specs.declared.stream.StreamFault.{StreamFault}
 use Rattle.sample_loops.specs.declared.stream.StreamFault.TheVariants as stream
 use Rattle.sample_commands.specs.Eval.{IsSolutionRows, IsEvalDone, program_channels}
 use Rattle.plan_commands.specs.Plans.{IsPlannedOver}
 use Rattle.plan_commands.specs.Refusals.{IsPlanError}
-use Rattle.sample_commands.specs.Samples.{IsEndedEarly}
+use Rattle.sample_commands.specs.Samples.{AreUnopened, IsEndedEarly}
 use Rattle.sample_commands.specs.Sim.{HasRun}
 use Rattle.sample_commands.specs.declared.simulator.Kept.{Kept}
 use Rattle.sample_commands.specs.declared.simulator.Kept.TheVariants.{One}
@@ -33,20 +34,21 @@ abbrev pub HasSomePlan : Name → Name → Files → Type 0
 HasSomePlan src datapath files =
     (program : Program) × (d : Datapath) × (plan : Plan) × HasPlanIn src datapath program d plan files
 
--- SRC's program has a plan over DP's datapath, and SAMPLES could not be opened; at most the input and the faults changed
+-- SRC's program has a plan over DP's datapath, and SAMPLES could not be opened. At most the input and the faults
+-- changed.
 pub record AreSamplesUnread (src datapath samples : Name) (old new : View) : Type 0 where
   pub unchanged : IsUnchangedButInput old new
-  pub rose : ReadFaultsRose samples old new
-  pub planned : WhereSpecified old (HasSomePlan src datapath)
+  pub unopened : AreUnopened samples datapath text_limit (HasSomePlan src datapath) old new
 
--- Why `run` ends before it opens SAMPLES: the source is refused as `compile` refuses it. Or SAMPLES could not be opened.
+-- Why `run` ends before it opens SAMPLES: the source is refused as `compile` refuses it. Or SAMPLES could not be
+-- opened.
 abbrev pub IsNotRun : Name → Name → Name → View → View → Status → Type 0
 IsNotRun src datapath samples old new status.Desk =
     IsPlanError src datapath old new status.Desk ⊎ AreSamplesUnread src datapath samples old new
 IsNotRun src datapath samples old new error = IsPlanError src datapath old new error
 
--- SRC's program has a plan over DP's datapath, and the run over SAMPLES, which was opened, did not come to its end. What
--- OUT has is of the program's one solution over the rows before.
+-- SRC's program has a plan over DP's datapath, and the run over SAMPLES, which was opened, did not come to its end.
+-- What OUT has is of the program's one solution over the rows before.
 pub record IsRunStopped (src datapath samples out : Name) (old new : View) (fault : StreamFault) : Type 0 where
   pub program : Program
   pub path : Datapath

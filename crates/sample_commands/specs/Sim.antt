@@ -1,11 +1,12 @@
 -- What `sim MIC SAMPLES OUT` reads and runs, when each of its statuses comes, and what it leaves.
-use Rattle.std.specs.Prelude.{◌≡◌, ◌⊎◌, ◌<◌, ◌≤◌, length}
+use Rattle.std.specs.Prelude.{◌≡◌, ◌⊎◌, ◌<◌, ◌≤◌, [], length}
 use Rattle.lists.specs.Rows.{Rows}
 use Rattle.cycle_sim.specs.Machine.{Snapshot, state_of}
 use Rattle.desk_core.specs.View.{Name, Content, Files, View}
 use Rattle.desk_core.specs.Desk.{IfSpecified, WhereSpecified, ReadFaultsRose, IsPut, content_of}
 use Rattle.desk_core.specs.Whole.{IsUnchangedButInput}
 use Rattle.micro_file.specs.declared.fault.FormFault.TheVariants as form
+use Rattle.micro_file.specs.Faults.{IsFormFault}
 use Rattle.micro_image.specs.declared.image.Image.{Image}
 use Rattle.micro_image.specs.Run.{Stands, IsRunOut, spread}
 use Rattle.micro_image.specs.Spells.{Spells}
@@ -15,7 +16,7 @@ use Rattle.sample_loops.specs.declared.stream.StreamFault.{StreamFault}
 use Rattle.sample_loops.specs.declared.stream.StreamFault.TheVariants as stream
 use Rattle.silc_files.specs.Endings.{IsRejected, IsFinished}
 use Rattle.silc_files.specs.Limits.{microcode_limit, samples_limit}
-use Rattle.sample_commands.specs.Samples.{AreSamples, IsEndedEarly}
+use Rattle.sample_commands.specs.Samples.{AreSamples, AreUnopened, IsEndedEarly}
 use Rattle.sample_commands.specs.declared.simulator.Kept.{Kept}
 use Rattle.sample_commands.specs.declared.simulator.Kept.TheVariants.{One}
 use Rattle.statuses.specs.declared.status.ImageFault.{ImageFault}
@@ -38,15 +39,10 @@ pub record HasRun (image : Image) (stream : Rows) (machine : Snapshot) (text : C
   pub run : IsRunOut image stream rows
   pub text_is : text ≡ printed rows
 
--- the bytes spell no image
-abbrev pub SpellsNone : Content → Type 0
-SpellsNone content = (image : Image) → Spells content image → ⊥
-
 -- why the bytes are no microcode
 abbrev pub IsImageFault : Content → ImageFault → Type 0
 IsImageFault content image_fault.TooLong = microcode_limit < length content
-IsImageFault content (image_fault.File form.NotSpelled) = (length content ≤ microcode_limit) × SpellsNone content
-IsImageFault content (image_fault.File form.Memory) = ⊥
+IsImageFault content (image_fault.File fault) = (length content ≤ microcode_limit) × IsFormFault content fault
 
 -- the fault is one of microcode; want of memory is a status of its own
 abbrev pub IsOfMicrocode : ImageFault → Type 0
@@ -73,13 +69,14 @@ HasImageFault mic fault files = IsImageFault (content_of (files mic)) fault
 -- MIC could not be read, or it has an image and SAMPLES could not be opened; at most the input and the faults changed
 pub record IsSimUnread (mic samples : Name) (old new : View) : Type 0 where
   pub unchanged : IsUnchangedButInput old new
-  pub rose : ReadFaultsRose mic old new ⊎ (ReadFaultsRose samples old new × WhereSpecified old (HasSomeImage mic))
+  pub rose : ReadFaultsRose mic old new ⊎ AreUnopened samples mic microcode_limit (HasSomeImage mic) old new
 
 -- MIC has the image, and its run over SAMPLES, which was opened, did not come to its end
 pub record IsSimStopped (mic samples out : Name) (old new : View) (fault : StreamFault) : Type 0 where
   pub image : Image
   pub specified : WhereSpecified old (λ files. HasImage mic files image)
-  pub ended : IsEndedEarly samples out (channels_of image) (IsRunOut image) (IsConflictInLast image) old new fault
+  pub ended : IsEndedEarly samples out (channels_of image) (IsRunOut image) (IsConflictInLast image [])
+      old new fault
 
 -- MIC's image ran the stream of SAMPLES, as the files were at the start, to its end; OUT has the rows of the run, and
 -- every other file is as it was

@@ -5,7 +5,7 @@ ghost use Rattle.desk_core.specs.Desk.{FaultsNeverFall};
 ghost use Rattle.sample_io.specs.Channels.{IsChannel};
 ghost use Rattle.sample_io.specs.Pieces.{HasTaken};
 ghost use Rattle.sample_loops.specs.Evaluators.{channel_width, type_channel, graph_channels, EvaluatesRows, SolvesRows};
-ghost use Rattle.sample_loops.specs.Streams.{ChangesOutputAlone};
+ghost use Rattle.sample_loops.specs.Streams.{ChangesOutputAlone, IsKept};
 ghost use Rattle.signal_graph.specs.GraphRules.{IsGraph};
 ghost use Rattle.signal_graph.specs.GraphSolves.{IsGraphLoopless};
 ghost use Rattle.signal_graph.specs.Rules.{IsType};
@@ -13,7 +13,7 @@ ghost use Rattle.silage_syntax.specs.Tree.{view};
 ghost use Rattle.silc_files.specs.Endings.{UsesOnly};
 ghost use Rattle.silc_files.specs.Reading.{OnlyReads};
 ghost use Rattle.sample_commands.specs.Eval.{IsEvalAnswer};
-ghost use Rattle.sample_commands.specs.StreamEnds.{EndsStream};
+ghost use Rattle.sample_commands.specs.StreamEnds.{status_of, EndsStream};
 ghost use Rattle.sample_commands.specs.Private.Evaluating.{IsSourceRead, IsSourceError, IsEvaluatorOf, IsEvalOver};
 ghost use Rattle.sample_commands.specs.Private.Streaming.{StreamsOnly};
 ghost use Rattle.statuses.specs.declared.status.Status.TheVariants.{Memory};
@@ -42,7 +42,7 @@ struct Ready {
 fn read_source<D: Desk>(alloc: Global, desk: &mut D, name: &str) -> Result<Accepted, Ending>
     ensures reads { OnlyReads name.now name.now (D.view desk.old) (D.view desk.new) }
     ensures ok { IfOk result (λ accepted.
-        IsSourceRead name.now (D.view desk.old) (view accepted.program) accepted.graph) }
+        IsSourceRead name.now (D.view desk.old) (D.view desk.new) (view accepted.program) accepted.graph) }
     ensures err { IfErr result (λ ending. IsSourceError name.now (D.view desk.old) (D.view desk.new) ending.status) }
 {
     let Input::Whole(source) = read_input(alloc, desk, name)? else {
@@ -93,7 +93,8 @@ fn ready_for(alloc: Global, graph: &Graph) -> Result<Ready, Status>
 /// Reads SRC, and takes all memory that an evaluation of its program needs.
 fn read_ready<D: Desk>(alloc: Global, desk: &mut D, source: &str) -> Result<Ready, Ending>
     ensures reads { OnlyReads source.now source.now (D.view desk.old) (D.view desk.new) }
-    ensures evaluator { IfOk result (λ ready. IsEvaluatorOf source.now (D.view desk.old) ready.evaluator) }
+    ensures evaluator { IfOk result (λ ready.
+        IsEvaluatorOf source.now (D.view desk.old) (D.view desk.new) ready.evaluator) }
     ensures channels { IfOk result (λ ready. ready.rows.channels ≡ graph_channels ready.evaluator.graph) }
     ensures fresh { IfOk result (λ ready. HasTaken ready.rows [] []) }
     ensures err { IfErr result (λ ending.
@@ -105,11 +106,11 @@ fn read_ready<D: Desk>(alloc: Global, desk: &mut D, source: &str) -> Result<Read
 
 /// Evaluates the rows of the desk's current input, writes the rows of output words to the current output, and closes it
 /// (docs/SAMPLES.md). `rows` is fresh, for the evaluator's input words, `outs` is how many output words it has, and
-/// `limit` is in bytes, at most 2^32.
+/// `limit` is the least number of bytes that are too many, at most 2^32.
 ///
 /// `Samples` with the place where a line is no row, or `TooLong` at `limit` bytes, ends the evaluation: the output then
-/// has the rows of the samples before, and is closed. After `Desk`, where a call of the desk failed, it has a prefix of
-/// them. No memory is taken.
+/// has the rows of the samples before, and is closed, where the close does not fail. After `Desk`, where a call of the
+/// desk failed, it has a prefix of them. The rows keep their fault. No memory is taken.
 pub fn eval_samples<D: Desk>(
     evaluator: &mut Evaluator,
     rows: &mut Rows,
@@ -124,6 +125,9 @@ pub fn eval_samples<D: Desk>(
     requires limit { limit ≤ 2 ^ 32 }
     ensures never_fall { FaultsNeverFall (D.view desk.old) (D.view desk.new) }
     ensures only { ChangesOutputAlone (D.view desk.old) (D.view desk.new) }
+    ensures graph { evaluator.new.graph ≡ evaluator.old.graph }
+    ensures channels { rows.new.channels ≡ rows.old.channels }
+    ensures kept { (fault : _) → result ≡ status_of fault → IsKept rows.new fault }
     ensures ends { EndsStream limit (graph_channels evaluator.old.graph)
         (λ ran puts. EvaluatesRows evaluator.old ran puts evaluator.new) (SolvesRows evaluator.old)
         (λ ran conflict. ⊥) (D.view desk.old) (D.view desk.new) result }

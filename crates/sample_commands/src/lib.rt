@@ -11,5 +11,5 @@ mod streams;
 
 pub use evaluator::{eval, eval_samples};
 pub use runner::run;
-pub use simulator::{Kept, machine_of, sim};
+pub use simulator::{Kept, machine_of, machine_rows, sim};
 pub use streams::run_samples;

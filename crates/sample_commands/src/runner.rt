@@ -3,9 +3,9 @@ ghost use Rattle.std.specs.Prelude.{◌≡◌, ◌≢◌, IfOk, IfErr};
 ghost use Rattle.desk_core.specs.Desk.{FaultsNeverFall};
 ghost use Rattle.plan_commands.specs.Refusals.{IsPlanError};
 ghost use Rattle.silc_files.specs.Reading.{OnlyReads};
+ghost use Rattle.sample_commands.specs.Loaded.{AreFreshRows};
 ghost use Rattle.sample_commands.specs.Run.{IsRunAnswer, RunUsesOnly};
 ghost use Rattle.sample_commands.specs.Private.Executing.{IsCompiledMachine};
-ghost use Rattle.sample_commands.specs.Private.Streaming.{AreFreshRows};
 ghost use Rattle.sample_commands.specs.declared.simulator.Kept.TheVariants.{Nothing};
 
 use crate::simulator::{Kept, Ready, machine_of, machine_rows, run_ready};
@@ -24,7 +24,7 @@ fn compiled_ready<D: Desk>(
 ) -> Result<Ready, Ending>
     ensures reads { OnlyReads source.now datapath.now (D.view desk.old) (D.view desk.new) }
     ensures machine { IfOk result (λ ready.
-        IsCompiledMachine source.now datapath.now (D.view desk.old) ready.machine) }
+        IsCompiledMachine source.now datapath.now (D.view desk.old) (D.view desk.new) ready.machine) }
     ensures rows { IfOk result (λ ready. AreFreshRows ready.machine.image ready.rows) }
     ensures err { IfErr result (λ ending.
         IsPlanError source.now datapath.now (D.view desk.old) (D.view desk.new) ending.status) }

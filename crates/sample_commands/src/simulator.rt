@@ -2,13 +2,13 @@
 ghost use Rattle.std.specs.Prelude.{◌≡◌, ◌≢◌, ◌<◌, ◌≤◌, ◌^◌, length, map, IfOk, IfErr};
 ghost use Rattle.std.specs.List.{All};
 ghost use Rattle.desk_core.specs.Desk.{FaultsNeverFall};
-ghost use Rattle.micro_image.specs.Valid.{IsValid};
 ghost use Rattle.sample_io.specs.Channels.{IsChannel, channel_of};
 ghost use Rattle.silc_files.specs.Endings.{UsesOnly};
 ghost use Rattle.silc_files.specs.Reading.{OnlyReads};
+ghost use Rattle.sample_commands.specs.Loaded.{IsMachineOf, IsNoMachine, IsFresh, AreFreshRows};
 ghost use Rattle.sample_commands.specs.Sim.{IsSimAnswer};
-ghost use Rattle.sample_commands.specs.Private.Running.{IsMachineOf, IsNoMachine, IsLoaded, IsLoadError, IsFresh};
-ghost use Rattle.sample_commands.specs.Private.Streaming.{AreFreshRows, AreRunOver, StreamsOnly, IsRunOver};
+ghost use Rattle.sample_commands.specs.Private.Running.{IsLoaded, IsLoadError};
+ghost use Rattle.sample_commands.specs.Private.Streaming.{AreRunOver, StreamsOnly, IsRunOver};
 ghost use Rattle.sample_commands.specs.declared.simulator.Kept.TheVariants.{Nothing};
 ghost use Rattle.statuses.specs.declared.status.Status.TheVariants.{Memory};
 
@@ -37,7 +37,8 @@ pub(crate) struct Ready {
     pub rows: Rows,
 }
 
-/// The machine of the image that the bytes spell.
+/// The machine of the image that the bytes spell, before its first cycle. `Image` with the fault where they spell none,
+/// `Memory` where no memory is left.
 pub fn machine_of(alloc: Global, microcode: &Bytes) -> Result<Machine, Status>
     requires { length microcode.now < 2 ^ 32 }
     ensures ok { IfOk result (IsMachineOf microcode.now) }
@@ -50,7 +51,7 @@ pub fn machine_of(alloc: Global, microcode: &Bytes) -> Result<Machine, Status>
 /// Reads MIC, and makes the machine of its image.
 fn read_machine<D: Desk>(alloc: Global, desk: &mut D, name: &str) -> Result<Machine, Status>
     ensures reads { OnlyReads name.now name.now (D.view desk.old) (D.view desk.new) }
-    ensures ok { IfOk result (IsLoaded name.now (D.view desk.old)) }
+    ensures ok { IfOk result (IsLoaded name.now (D.view desk.old) (D.view desk.new)) }
     ensures err { IfErr result (IsLoadError name.now (D.view desk.old) (D.view desk.new)) }
 {
     let too_long = Status::Image(ImageFault::TooLong);
@@ -71,9 +72,8 @@ fn input_channels(alloc: Global, widths: &[u8]) -> Result<List<Channel>, AllocEr
     Ok(channels)
 }
 
-/// The rows that samples of the machine are read into.
-pub(crate) fn machine_rows(alloc: Global, machine: &Machine) -> Result<Rows, Status>
-    requires { IsValid machine.now.image }
+/// The rows that samples of the machine are read into, of which no byte was taken. `Memory` where no memory is left.
+pub fn machine_rows(alloc: Global, machine: &Machine) -> Result<Rows, Status>
     ensures ok { IfOk result (AreFreshRows machine.now.image) }
     ensures err { IfErr result (λ status. status ≡ Memory) }
 {
@@ -84,7 +84,8 @@ pub(crate) fn machine_rows(alloc: Global, machine: &Machine) -> Result<Rows, Sta
 /// Reads MIC, makes the machine of its image, and takes all memory that a run of it needs.
 fn read_ready<D: Desk>(alloc: Global, desk: &mut D, microcode: &str) -> Result<Ready, Status>
     ensures reads { OnlyReads microcode.now microcode.now (D.view desk.old) (D.view desk.new) }
-    ensures machine { IfOk result (λ ready. IsLoaded microcode.now (D.view desk.old) ready.machine) }
+    ensures machine { IfOk result (λ ready.
+        IsLoaded microcode.now (D.view desk.old) (D.view desk.new) ready.machine) }
     ensures rows { IfOk result (λ ready. AreFreshRows ready.machine.image ready.rows) }
     ensures err { IfErr result (IsLoadError microcode.now (D.view desk.old) (D.view desk.new)) }
 {

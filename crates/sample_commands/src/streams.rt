@@ -2,8 +2,8 @@
 ghost use Rattle.std.specs.Prelude.{◌≡◌, ◌≢◌, ◌*◌, ◌<◌, ◌≤◌, ◌^◌, [], OnOk, OnErr};
 ghost use Rattle.desk_core.specs.Desk.{FaultsNeverFall};
 ghost use Rattle.sample_io.specs.Pieces.{HasTaken};
-ghost use Rattle.sample_loops.specs.Machines.{channels_of, IsReady, RunsRows, PutsRows, MeetsInLast};
-ghost use Rattle.sample_loops.specs.Streams.{ChangesOutputAlone};
+ghost use Rattle.sample_loops.specs.Machines.{channels_of, IsReady, RunsRows, PutsRows, StopsInLast};
+ghost use Rattle.sample_loops.specs.Streams.{ChangesOutputAlone, IsKept};
 ghost use Rattle.sample_commands.specs.StreamEnds.{status_of, EndsStream};
 ghost use Rattle.sample_commands.specs.Private.Streaming.{IsOpened, IsNotOpened, StreamsOnly};
 
@@ -45,11 +45,11 @@ pub(crate) fn open_files<D: Desk>(desk: &mut D, samples: &str, output: &str) -> 
 
 /// Runs the machine over the rows of the desk's current input, writes the rows that it puts to the current output, and
 /// closes it (docs/SAMPLES.md). The machine is at the start of a sample, `rows` is fresh, for the machine's input words,
-/// and `limit` is in bytes, at most 2^32.
+/// and `limit` is the least number of bytes that are too many, at most 2^32.
 ///
 /// `Samples` with the place where a line is no row, or `TooLong` at `limit` bytes, and `Conflict` end the run: the output
-/// then has the rows of the samples before, and is closed. After `Desk`, where a call of the desk failed, it has a prefix
-/// of them. No memory is taken.
+/// then has the rows of the samples before, and is closed, where the close does not fail. After `Desk`, where a call of
+/// the desk failed, it has a prefix of them. The machine keeps its conflict, and the rows their fault. No memory is taken.
 pub fn run_samples<D: Desk>(
     machine: &mut Machine,
     rows: &mut Rows,
@@ -64,9 +64,12 @@ pub fn run_samples<D: Desk>(
     requires limit { limit ≤ 2 ^ 32 }
     ensures never_fall { FaultsNeverFall (D.view desk.old) (D.view desk.new) }
     ensures only { ChangesOutputAlone (D.view desk.old) (D.view desk.new) }
+    ensures image { machine.new.image ≡ machine.old.image }
+    ensures channels { rows.new.channels ≡ rows.old.channels }
+    ensures kept { (fault : _) → result ≡ status_of fault → IsKept rows.new fault }
     ensures ends { EndsStream limit (channels_of machine.old.image)
-        (λ ran puts. RunsRows machine.old ran puts machine.new) (PutsRows machine.old) (MeetsInLast machine.old)
-        (D.view desk.old) (D.view desk.new) result }
+        (λ ran puts. RunsRows machine.old ran puts machine.new) (PutsRows machine.old)
+        (λ ran conflict. StopsInLast machine.old ran conflict machine.new) (D.view desk.old) (D.view desk.new) result }
 {
     match run_stream(machine, rows, desk, limit) {
         Ok(()) => Status::Done,

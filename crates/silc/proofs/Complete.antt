@@ -4,7 +4,7 @@ use Rattle.std.proofs.Common.{◌≡◌, ◌⊎◌, inl, inr, ℕ, Some, arith}
 use Rattle.cascade.specs.Cascade.{cascade_source, cascade_datapath}
 use Rattle.desk_core.specs.View.{Name, Content, Files, View}
 use Rattle.desk_core.specs.Desk.{ReadFaultsRose, PrintFaultsRose}
-use Rattle.micro_file.specs.declared.fault.FormFault.TheVariants as form
+use Rattle.micro_file.proofs.FirstFault.{spelled_no_fault}
 use Rattle.micro_image.specs.declared.image.Image.{Image as MicroImage}
 use Rattle.plan_commands.specs.Refusals.{IsNoPlan}
 use Rattle.plan_commands.proofs.Complete.{never_refused}
@@ -17,11 +17,11 @@ use Rattle.statuses.specs.declared.status.ImageFault.TheVariants as image_fault
 use Rattle.statuses.specs.declared.status.Status.{Status}
 use Rattle.statuses.specs.declared.status.Status.TheVariants.{Done, Memory}
 
-image_or_not : (content : Content) (image : MicroImage) → IsMicrocodeOf content image → (fault : ImageFault)
+-- microcode has no fault of microcode
+pub image_or_not : (content : Content) (image : MicroImage) → IsMicrocodeOf content image → (fault : ImageFault)
     → IsImageFault content fault → ⊥
 image_or_not content image is image_fault.TooLong h = let short = is.within in omega arith
-image_or_not content image is (image_fault.File form.NotSpelled) h = h.1 image is.spells
-image_or_not content image is (image_fault.File form.Memory) h = h
+image_or_not content image is (image_fault.File fault) h = spelled_no_fault content image fault is.spells h.1
 
 pub list_complete : (mic : Name) (old new : View) (files : Files) → old.files ≡ Some files → (image : MicroImage)
     → HasImage mic files image → (ReadFaultsRose mic old new → ⊥) → (PrintFaultsRose old new → ⊥)

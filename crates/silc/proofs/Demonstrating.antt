@@ -34,7 +34,7 @@ use Rattle.sample_commands.specs.Sim.{HasRun}
 use Rattle.plan_commands.specs.Compiling.{IsMicrocodeOf}
 use Rattle.silc.specs.Private.Demonstrating.{IsCascadePlan, IsCascadeMachine, RunsCascade, HasPutWords, HasTotals}
 use Rattle.plan_commands.specs.Planning.{IsInputPlan}
-use Rattle.sample_commands.specs.Private.Running.{IsFresh, IsMachineOf}
+use Rattle.sample_commands.specs.Loaded.{IsFresh, IsMachineOf}
 use Rattle.cascade.specs.declared.Totals.{Totals}
 use Rattle.silc_files.specs.declared.files.Input.TheVariants.{Whole}
 use Rattle.plan_commands.specs.declared.planning.Planned.{Planned}
@@ -75,9 +75,10 @@ pub no_conflict : (image : Image) (n : ℕ) (row : List ℤ) (conflict : Conflic
     → IsFirstOfSample image (spread image.period (cascade_rows n)) row conflict → ⊥
 no_conflict image n row conflict is runs first =
     let all : cascade_rows n ++ row ∷ [] ≡ cascade_rows (n + 1) = ap (λ r. cascade_rows n ++ r ∷ []) is ∙ sym (rows_more n) in
-    let met : IsFirstConflict image (cascade_rows (n + 1)) conflict =
-    subst (λ stream. IsFirstConflict image stream conflict) all (conflict_in_row image (cascade_rows n) row conflict first) in
-    runs.1.clear conflict.cycle met.within conflict.kind conflict.place met.there.there
+    let met : IsFirstConflict image (spread image.period (cascade_rows (n + 1))) conflict =
+    subst (λ stream. IsFirstConflict image (spread image.period stream) conflict) all (conflict_in_row image (cascade_rows n) row conflict first) in
+    runs.1.clear conflict.cycle (omega (arith, met.within, length-spread image.period (cascade_rows (n + 1)))) conflict.kind conflict.place
+    met.there.there
 
 -- the next sample was run
 pub put_more : (image : Image) (n : ℕ) (row put : List ℤ) (word : ℤ) (old new : Snapshot) (words : List ℤ) → HasPutWords image n old words
@@ -161,7 +162,7 @@ module _ (sections : ℕ) (few : sections ≤ 32) (planned : Planned) (plan : Is
     (made : IsMicrocodeOf planned.path planned.plan microcode) where
   pub cascade_machine : (machine : Snapshot) → IsMachineOf microcode machine → IsCascadeMachine sections machine
   cascade_machine machine is =
-      let has = one_word_read sections few plan.program plan.over.read in
+      let has = one_word_read sections few plan.program plan.over.has.read in
       let same : made.image ≡ machine.image = sym (made.spelled.unique machine.image is.spells) in
       let image_of : IsImageOf planned.path planned.plan machine.image = subst (IsImageOf planned.path planned.plan) same made.image_of in
       record {
@@ -182,7 +183,7 @@ module _ (sections : ℕ) (few : sections ≤ 32) (planned : Planned) (plan : Is
 -- its run
 module _ (sections samples : ℕ) (few : sections ≤ 32) (machine : Snapshot) (is : IsCascadeMachine sections machine) where
   valid : IsStream is.program (cascade_rows samples)
-  valid = rows_valid is.program (one_word_read sections few is.program is.over.read) samples
+  valid = rows_valid is.program (one_word_read sections few is.program is.over.has.read) samples
 
   -- it has no conflict
   pub runs_cascade : RunsCascade machine.image samples

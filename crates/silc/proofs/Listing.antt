@@ -11,9 +11,8 @@ use Rattle.silc_files.specs.Printing.{IsPrintedMore, IsPrintedInPart, PrintsOnly
 use Rattle.sample_commands.specs.Sim.{IsOfMicrocode, HasImageFault}
 use Rattle.silc.specs.Private.Listing.{IsMadeListing}
 use Rattle.silc_files.specs.Reading.{OnlyReads}
-use Rattle.sample_commands.specs.Private.Running.{IsBadMicrocode, IsLoadError, not_spelled}
+use Rattle.sample_commands.specs.Private.Running.{IsBadMicrocode, IsLoadError}
 use Rattle.statuses.specs.declared.status.ImageFault.{ImageFault}
-use Rattle.statuses.specs.declared.status.ImageFault.TheVariants as image_fault
 use Rattle.statuses.specs.declared.status.Status.{Status}
 use Rattle.statuses.specs.declared.status.Status.TheVariants as status
 use Rattle.silc_files.proofs.Endings.{unchanged_still, through_still, rejected_still}
@@ -36,7 +35,7 @@ module _ (mic : Name) (old new : View) (reads : OnlyReads mic mic old new) where
   list_error s h =
       ⊎_elim (λ memory. inl (memory, reads.unchanged))
       (λ rest. ⊎_elim (λ desk. inr (inl (desk.0, record { unchanged = reads.unchanged; rose = desk.1 })))
-      (λ image. ⊎_elim (λ long. rejected s image_fault.TooLong tt long.0 long.1) (λ bad. rejected s not_spelled tt bad.0 bad.1) image)
+      (λ bad. rejected s bad.0 bad.2 bad.1 bad.3)
       rest)
       h
 

@@ -30,11 +30,11 @@ at_sample machine stream text some few ran =
     }
 
 -- the first conflict in one more sample is the first of all
-pub conflict_in_row : (image : Image) (stream : Rows) (row : List ℤ) (conflict : Conflict) → IsFirstOfSample image (spread image.period stream) row conflict → IsFirstConflict image (stream ++ row ∷ []) conflict
+pub conflict_in_row : (image : Image) (stream : Rows) (row : List ℤ) (conflict : Conflict) → IsFirstOfSample image (spread image.period stream) row conflict → IsFirstConflict image (spread image.period (stream ++ row ∷ [])) conflict
 conflict_in_row image stream row conflict first =
     let cycles = sym (spread_row image.period stream row) in
     record {
       there = subst (λ z. IsConflict image z conflict) cycles first.there;
       clear = subst (λ z. IsClearBelow image z conflict.cycle) cycles first.clear;
-      within = omega (arith, first.within, one_more image.period stream, ap (λ n. n * image.period) (length-append stream (row ∷ [])));
+      within = omega (arith, first.within, one_more image.period stream, length-spread image.period (stream ++ row ∷ []), ap (λ n. n * image.period) (length-append stream (row ∷ [])));
     }

@@ -7,7 +7,7 @@ ghost use Rattle.silc.specs.Demo.{IsCascadeRun, IsDemoAnswer};
 ghost use Rattle.plan_commands.specs.Refusals.{IsNoPlan};
 ghost use Rattle.silc.specs.Private.Demonstrating.{IsCascadePlan, IsCascadeMachine, HasOneWord, RunsCascade, HasPutWords, HasTotals};
 ghost use Rattle.silc_files.specs.Printing.{PrintsOnly};
-ghost use Rattle.sample_commands.specs.Private.Running.{IsFresh};
+ghost use Rattle.sample_commands.specs.Loaded.{IsFresh};
 ghost use Rattle.sample_commands.specs.declared.simulator.Kept.TheVariants.{Nothing};
 
 use cascade::{Totals, cascade_datapath, cascade_line, cascade_source, cascade_word};

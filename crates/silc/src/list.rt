@@ -6,7 +6,8 @@ ghost use Rattle.silc.specs.Listing.{IsListAnswer};
 ghost use Rattle.silc_files.specs.Printing.{ChangesNoFile};
 ghost use Rattle.silc.specs.Private.Listing.{IsListingOf, IsMadeListing};
 ghost use Rattle.silc_files.specs.Reading.{OnlyReads};
-ghost use Rattle.sample_commands.specs.Private.Running.{IsNoMachine, IsLoadError};
+ghost use Rattle.sample_commands.specs.Loaded.{IsNoMachine};
+ghost use Rattle.sample_commands.specs.Private.Running.{IsLoadError};
 
 use desk_core::Desk;
 use lists::Bytes;

@@ -9,12 +9,9 @@ use Rattle.micro_file.specs.declared.fault.FormFault.{FormFault}
 use Rattle.micro_file.specs.declared.fault.FormFault.TheVariants as form
 use Rattle.planner.specs.declared.fault.PlanFault.{PlanFault}
 use Rattle.planner.specs.declared.fault.PlanFault.TheVariants as plan
-use Rattle.sample_io.specs.declared.RowsReadFault.{RowsReadFault}
-use Rattle.sample_io.specs.declared.RowsReadFault.TheVariants as rows
 use Rattle.statuses.specs.declared.status.ImageFault.TheVariants.{File}
-use Rattle.statuses.specs.declared.status.SampleFault.TheVariants as sample
 use Rattle.statuses.specs.declared.status.Status.{Status}
-use Rattle.statuses.specs.declared.status.Status.TheVariants.{Memory, FrontEnd, Path, Image, Samples}
+use Rattle.statuses.specs.declared.status.Status.TheVariants.{Memory, FrontEnd, Path, Image}
 use Rattle.statuses.specs.declared.status.Status.TheVariants as status
 use Rattle.statuses.specs.declared.status.UnitRefusal.TheVariants.{NoUnit, NoRoute, TooWide, NoRam, NoAcu}
 use Rattle.unit_assign.specs.declared.fault.UnitFault.TheVariants as unit
@@ -45,10 +42,5 @@ of_plan plan.Memory = Memory
 
 -- the status where microcode is not decoded
 abbrev pub of_form : FormFault → Status
-of_form form.NotSpelled = Image (File form.NotSpelled)
 of_form form.Memory = Memory
-
--- the status where samples are not read
-abbrev pub of_rows : RowsReadFault → Status
-of_rows (rows.Row fault) = Samples (sample.Row fault.line fault.at)
-of_rows rows.Memory = Memory
+of_form fault = Image (File fault)

@@ -1,6 +1,6 @@
 ghost use Rattle.std.specs.Prelude.{◌≡◌, None};
 ghost use Rattle.statuses.specs.Status.{code_of};
-ghost use Rattle.statuses.specs.Faults.{of_front, of_path, of_plan, of_form, of_rows};
+ghost use Rattle.statuses.specs.Faults.{of_front, of_path, of_plan, of_form};
 ghost use Rattle.planner.specs.declared.fault.PlanFault.TheVariants.{Line as Unstored, Unit as Unbound};
 ghost use Rattle.statuses.specs.declared.status.Status.TheVariants.{Memory, Desk, Conflict as in_conflict};
 
@@ -14,7 +14,7 @@ use micro_file::{CodeFault, FormFault};
 use micro_image::Conflict;
 use microcode_asm::AsmFault;
 use planner::PlanFault;
-use sample_io::{RowsFault, RowsReadFault};
+use sample_io::RowsFault;
 use std::alloc::AllocError;
 use thiserror::Error;
 use unit_assign::UnitFault;
@@ -238,22 +238,8 @@ impl From<FormFault> for Status {
 
     fn from(fault: FormFault) -> Self {
         match fault {
-            FormFault::NotSpelled => Status::Image(ImageFault::File(fault)),
             FormFault::Memory => Status::Memory,
-        }
-    }
-}
-
-impl From<RowsReadFault> for Status {
-    ghost from_gives = { λ fault status. status ≡ of_rows fault };
-
-    fn from(fault: RowsReadFault) -> Self {
-        match fault {
-            RowsReadFault::Row(place) => Status::Samples(SampleFault::Row {
-                line: place.line,
-                at: place.at,
-            }),
-            RowsReadFault::Memory => Status::Memory,
+            fault => Status::Image(ImageFault::File(fault)),
         }
     }
 }

@@ -1,11 +1,9 @@
 -- The text that `schedule` makes of a plan.
-use Rattle.std.specs.Prelude.{◌≤◌, ℕ, length, take}
 use Rattle.desk_core.specs.View.{Name, Content, View}
-use Rattle.desk_core.specs.Desk.{FaultsNeverFall, IfSpecified, WhereSpecified}
+use Rattle.desk_core.specs.Desk.{WhereSpecified}
 use Rattle.desk_core.specs.Whole.{IsReadThrough}
 use Rattle.silc_files.specs.Limits.{text_limit}
 use Rattle.plan_commands.specs.Schedule.{IsTextOf}
-use Rattle.silc_files.specs.Printing.{IsPrintedMore, PrintsOnly}
 
 -- the text is that of the plan of the files, which were read through
 pub record IsMadeSchedule (src datapath : Name) (old new : View) (text : Content) : Type 0 where

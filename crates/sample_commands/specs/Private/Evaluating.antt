@@ -17,10 +17,11 @@ use Rattle.silc_files.specs.Limits.{text_limit, samples_limit}
 use Rattle.statuses.specs.declared.status.Status.{Status}
 use Rattle.statuses.specs.declared.status.Status.TheVariants.{Memory, Desk, FrontEnd}
 
--- the program that SRC has, and its graph
-pub record IsSourceRead (src : Name) (desk : View) (p : Program) (g : Graph) : Type 0 where
+-- the program of SRC, which was read through, and its graph
+pub record IsSourceRead (src : Name) (old new : View) (p : Program) (g : Graph) : Type 0 where
+  pub read : IsReadThrough src text_limit old new
   pub graph : IsGraphFor p g
-  pub specified : WhereSpecified desk (IsProgramIn src p)
+  pub specified : WhereSpecified old (IsProgramIn src p)
 
 -- why SRC has no program
 abbrev pub IsSourceError : Name → View → View → Status → Type 0
@@ -30,10 +31,10 @@ IsSourceError src old new (FrontEnd fault) =
     IsOfSource fault × IsReadThrough src text_limit old new × WhereSpecified old (HasFrontFault src fault)
 IsSourceError src old new _ = ⊥
 
--- the evaluator of the program that SRC has, before its first sample
-pub record IsEvaluatorOf (src : Name) (desk : View) (evaluator : Evaluation) : Type 0 where
+-- the evaluator of the program of SRC, which was read through, before its first sample
+pub record IsEvaluatorOf (src : Name) (old new : View) (evaluator : Evaluation) : Type 0 where
   pub program : Program
-  pub source : IsSourceRead src desk program evaluator.graph
+  pub source : IsSourceRead src old new program evaluator.graph
   pub fresh : evaluator.ran ≡ []
 
 -- the files were opened, and then the stream of the one was evaluated into the other

@@ -1,14 +1,9 @@
 -- SAMPLES run as a stream: what opening the files does, and what a run of a machine over them comes to.
 use Rattle.std.specs.Prelude.{◌≡◌, ◌⊎◌, ◌+◌, [], Some, true}
-use Rattle.lists.specs.Rows.{Rows}
 use Rattle.cycle_sim.specs.Machine.{Snapshot}
 use Rattle.desk_core.specs.View.{Name, View}
-use Rattle.desk_core.specs.Desk.{IfSpecified, ReadFaultsRose, FaultsNeverFall, HasInput, HasOutput, NoOtherBegins, IsPut}
-use Rattle.desk_core.specs.Whole.{IsUnchangedButInput}
-use Rattle.micro_image.specs.declared.image.Image.{Image}
-use Rattle.sample_io.specs.Pieces.{HasTaken}
-use Rattle.sample_io.specs.FedRows.{FedRows}
-use Rattle.sample_loops.specs.Machines.{channels_of, RunsRows, PutsRows, MeetsInLast}
+use Rattle.desk_core.specs.Desk.{IfSpecified, ReadFaultsRose, FaultsNeverFall, IsUnchanged, HasInput, HasOutput, NoOtherBegins, IsPut}
+use Rattle.sample_loops.specs.Machines.{channels_of, RunsRows, PutsRows, StopsInLast}
 use Rattle.sample_loops.specs.Streams.{ChangesOutputAlone}
 use Rattle.silc_files.specs.Endings.{ChangesOnly}
 use Rattle.silc_files.specs.Limits.{samples_limit}
@@ -19,11 +14,6 @@ use Rattle.sample_commands.specs.declared.simulator.Kept.TheVariants.{One}
 use Rattle.statuses.specs.declared.status.Status.{Status}
 use Rattle.statuses.specs.declared.status.Status.TheVariants.{Done, Desk}
 
--- rows for the image's input words, of which no byte was taken
-pub record AreFreshRows (image : Image) (rows : FedRows) : Type 0 where
-  pub channels : rows.channels ≡ channels_of image
-  pub taken : HasTaken rows [] []
-
 -- SAMPLES is the input, at its start, and OUT the output, with no bytes
 pub record IsOpened (samples out : Name) (old new : View) : Type 0 where
   pub input : HasInput samples old new
@@ -32,12 +22,13 @@ pub record IsOpened (samples out : Name) (old new : View) : Type 0 where
   pub output : HasOutput (Some out) new
   pub writes : new.writes out ≡ true
 
--- SAMPLES could not be opened, or OUT not created
+-- SAMPLES could not be opened, and all else but the faults is as it was; or OUT could not be created
 abbrev pub IsNotOpened : Name → Name → View → View → Type 0
 IsNotOpened samples out old new =
-    (IsUnchangedButInput old new × ReadFaultsRose samples old new) ⊎ IsNotCreated out old new
+    (IsUnchanged old new × ReadFaultsRose samples old new) ⊎ IsNotCreated samples out old new
 
--- no file but OUT changed, nothing was printed, and no name but SAMPLES began to be read, and none but OUT to be written
+-- No file but OUT changed, and nothing was printed. No name but SAMPLES began to be read, and none but OUT to be
+-- written.
 pub record StreamsOnly (samples out : Name) (old new : View) : Type 0 where
   pub files : IfSpecified (ChangesOnly out) old.files new.files
   pub printed : new.printed ≡ old.printed
@@ -51,7 +42,7 @@ pub record RunsFiles (samples out : Name) (machine after : Snapshot) (old new : 
   pub opened : IsOpened samples out old mid
   pub only : ChangesOutputAlone mid new
   pub ends : EndsStream (samples_limit + 1) (channels_of machine.image) (λ ran puts. RunsRows machine ran puts after)
-      (PutsRows machine) (MeetsInLast machine) mid new ending
+      (PutsRows machine) (λ ran conflict. StopsInLast machine ran conflict after) mid new ending
 
 -- the files could not be opened; or the stream of the one was run into the other
 abbrev pub AreRunOver : Name → Name → Snapshot → Snapshot → View → View → Status → Type 0

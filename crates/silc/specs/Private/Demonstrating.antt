@@ -15,7 +15,7 @@ use Rattle.cascade.specs.Cascade.{cascade_source, cascade_datapath, cascade_rows
 use Rattle.plan_commands.specs.Headline.{RunsTheSolution}
 use Rattle.plan_commands.specs.Plans.{IsPlannedOver}
 use Rattle.plan_commands.specs.Planning.{IsGraphFor}
-use Rattle.sample_commands.specs.Private.Running.{IsFresh}
+use Rattle.sample_commands.specs.Loaded.{IsFresh}
 use Rattle.cascade.specs.declared.Totals.{Totals}
 use Rattle.plan_commands.specs.declared.planning.Planned.{Planned}
 

@@ -13,7 +13,7 @@ returns-in_default-clause-err g c =
 
 pub returns-clause-ok : goal.returns-clause-ok
 returns-clause-ok g c =
-    source_read c.args.name.now (g.D.Desk.view c.args.desk.now) c.in_ok-source.field-0 c.in-Whole.source (view c.in_ok-accept.field-0.program) c.in_ok-accept.field-0.graph
-    c.in-Whole.is c.in_ok-source.ensures.ok
+    source_read c.args.name.now (g.D.Desk.view c.args.desk.now) (g.D.Desk.view c.read_input.new.desk) c.in_ok-source.field-0 c.in-Whole.source
+    (view c.in_ok-accept.field-0.program) c.in_ok-accept.field-0.graph c.in-Whole.is c.in_ok-source.ensures.through c.in_ok-source.ensures.ok
     (subst (λ (bytes : Content). HasProgram bytes (view c.in_ok-accept.field-0.program)) c.as_slice.ensures c.in_ok-accept.ensures.ok)
     (record { sound = c.in_ok-accept.ensures.sound; loopless = c.in_ok-accept.ensures.loopless; keeps = c.in_ok-accept.ensures.keeps })

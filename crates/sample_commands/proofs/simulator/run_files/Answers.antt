@@ -1,4 +1,4 @@
-use Rattle.std.proofs.Common.{inl, inr}
+use Rattle.std.proofs.Common.{inr}
 use Rattle.sample_commands.proofs.Opening.{streams_only}
 use Rattle.sample_commands.proofs.Simulating.{fresh_ready, fresh_young}
 use Rattle.sample_commands.proofs.simulator.run_files.Goals as goal
