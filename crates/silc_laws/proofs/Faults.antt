@@ -14,6 +14,7 @@ use Rattle.sample_commands.specs.Eval.{IsEvalAnswer}
 use Rattle.sample_commands.specs.Run.{IsRunAnswer}
 use Rattle.sample_commands.specs.Sim.{IsSimAnswer}
 use Rattle.sample_commands.specs.declared.simulator.Kept.{Kept}
+use Rattle.sample_commands.proofs.EarlyEnds.{cut_rose}
 use Rattle.silc.specs.Demo.{IsDemoAnswer}
 use Rattle.silc.specs.Endings.{IsEnding, Reported}
 use Rattle.silc.specs.Listing.{IsListAnswer}
@@ -46,23 +47,23 @@ module _ (old new : View) (kept : Kept) where
   listing mic (inr (inr (inr (inl unread)))) = inl unread.1.rose
   listing mic (inr (inr (inr (inr (fault, e, rejected))))) = absurd (cc)
 
-  simulating : (mic samples out : Name) → IsSimAnswer mic samples out old new kept Desk
+  pub simulating : (mic samples out : Name) → IsSimAnswer mic samples out old new kept Desk
       → HasFaultRisen (sim mic samples out) old new
-  simulating mic samples out (inl unread) = ⊎_elim (λ r. inl r) (λ r. inr (inl r.0)) unread.rose
-  simulating mic samples out (inr stopped) = inr (⊎_elim (λ not. inr not.rose) (λ cut. cut.rose) stopped.ended)
+  simulating mic samples out (inl unread) = ⊎_elim (λ r. inl r) (λ r. inr (inl r.rose)) unread.rose
+  simulating mic samples out (inr stopped) = inr (⊎_elim (λ not. inr not.rose) (λ cut. cut_rose samples out _ _ old new cut) stopped.ended)
 
-  evaluating : (src samples out : Name) → IsEvalAnswer src samples out old new Desk
+  pub evaluating : (src samples out : Name) → IsEvalAnswer src samples out old new Desk
       → HasFaultRisen (eval src samples out) old new
-  evaluating src samples out (inl unread) = ⊎_elim (λ r. inl r) (λ r. inr (inl r.0)) unread.rose
-  evaluating src samples out (inr stopped) = inr (⊎_elim (λ not. inr not.rose) (λ cut. cut.rose) stopped.ended)
+  evaluating src samples out (inl unread) = ⊎_elim (λ r. inl r) (λ r. inr (inl r.rose)) unread.rose
+  evaluating src samples out (inr stopped) = inr (⊎_elim (λ not. inr not.rose) (λ cut. cut_rose samples out _ _ old new cut) stopped.ended)
 
-  running : (src datapath samples out : Name) → IsRunAnswer src datapath samples out old new kept Desk
+  pub running : (src datapath samples out : Name) → IsRunAnswer src datapath samples out old new kept Desk
       → HasFaultRisen (run src datapath samples out) old new
   running src datapath samples out (inl (inl error)) =
       ⊎_elim (λ r. inl r) (λ r. inr (inl r)) (planning src datapath error)
-  running src datapath samples out (inl (inr unread)) = inr (inr (inl unread.rose))
+  running src datapath samples out (inl (inr unread)) = inr (inr (inl unread.unopened.rose))
   running src datapath samples out (inr stopped) =
-      inr (inr (⊎_elim (λ not. inr not.rose) (λ cut. cut.rose) stopped.ended))
+      inr (inr (⊎_elim (λ not. inr not.rose) (λ cut. cut_rose samples out _ _ old new cut) stopped.ended))
 
   demonstrating : (sections samples : ℕ) → IsDemoAnswer sections samples old new kept Desk
       → HasFaultRisen (demo sections samples) old new

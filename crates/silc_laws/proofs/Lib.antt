@@ -1,4 +1,14 @@
 pub mod Closed
 pub mod Laws
 pub mod Faults
+pub mod Conflicts
+pub mod Channels
+pub mod Reading
+pub mod StreamEnds
+pub mod Inputs
+pub mod SampleEnds
 pub mod Complete
+pub mod OnePlan
+pub mod OneRefusal
+pub mod Refused
+pub mod Compiled

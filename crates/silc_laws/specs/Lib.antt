@@ -1,3 +1,4 @@
 pub mod Forms
 pub mod Faults
+pub mod Samples
 pub mod Complete

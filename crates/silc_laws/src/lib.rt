@@ -2,30 +2,45 @@
 //! a command and how each command ends (`words`, `ending`).
 #![tactic(auto)]
 
+mod streams;
+
 ghost use Rattle.std.specs.Prelude.{◌≡◌, ◌≢◌, ℕ, None};
 ghost use Rattle.command_words.specs.Command as spec;
 ghost use Rattle.command_words.specs.Command.{Command, IsCommand, IsCommandIn};
 ghost use Rattle.command_words.specs.Command.{IsCompile, IsSchedule, IsList, IsSim, IsEval, IsRun, IsDemo};
-ghost use Rattle.desk_core.specs.Desk.{HasOutput};
+ghost use Rattle.datapath.specs.declared.types.Datapath.{Datapath};
+ghost use Rattle.desk_core.specs.Desk.{HasOutput, WhereSpecified};
 ghost use Rattle.desk_core.specs.View.{Name, View};
+ghost use Rattle.front_end.specs.declared.fault.FrontFault.{FrontFault};
 ghost use Rattle.plan_commands.specs.Compile.{IsAnswer};
+ghost use Rattle.plan_commands.specs.Refusals.{IsRefusal, AreRefused};
 ghost use Rattle.plan_commands.specs.Schedule.{IsScheduled, IsScheduleAnswer};
+ghost use Rattle.plan_commands.specs.Sources.{HasFrontFault};
+ghost use Rattle.plan_core.specs.declared.plan.Plan.{Plan};
 ghost use Rattle.sample_commands.specs.Eval.{IsEvalDone, IsEvalAnswer};
 ghost use Rattle.sample_commands.specs.Run.{IsRunDone, IsRunAnswer, RunUsesOnly};
-ghost use Rattle.sample_commands.specs.Sim.{HasSomeImage, IsSimDone, IsSimAnswer};
+ghost use Rattle.sample_commands.specs.Sim.{HasSomeImage, HasImageFault, IsSimDone, IsSimAnswer};
+ghost use Rattle.sample_commands.specs.StreamEnds.{status_of};
 ghost use Rattle.sample_commands.specs.declared.simulator.Kept.TheVariants.{Nothing};
+ghost use Rattle.sample_loops.specs.declared.stream.StreamFault.{StreamFault};
 ghost use Rattle.silc.specs.Demo.{IsCascadePlannable, IsDemoDone, IsDemoAnswer};
 ghost use Rattle.silc.specs.Endings.{IsEnding, Reported};
 ghost use Rattle.silc.specs.Listing.{IsListed, IsListAnswer};
 ghost use Rattle.silc_files.specs.Endings.{UsesOnly};
 ghost use Rattle.silc_files.specs.Printing.{ChangesNoFile, PrintsOnly};
-ghost use Rattle.silc_laws.specs.Complete.{Specifies, ArePlannable, IsDoneOrMemory};
+ghost use Rattle.silc_laws.specs.Complete.{Specifies, ArePlannable, HasClearStream, HasProgramStream, HasPlannedStream};
+ghost use Rattle.silc_laws.specs.Complete.{HavePlan, HasImageOf, IsCascadeRefused, IsAccepted};
+ghost use Rattle.silc_laws.specs.Complete.{StopsSim, StopsEval, StopsPlanned};
+ghost use Rattle.silc_laws.specs.Complete.{IsThisOrMemory, IsDoneOrMemory, IsEndedBySamples, IsEndedByRun};
 ghost use Rattle.silc_laws.specs.Faults.{HasFaultRisen, HasNoFaultRisen};
 ghost use Rattle.silc_laws.specs.Forms.{IsCommandOn, IsCommandTo};
+ghost use Rattle.statuses.specs.declared.status.ImageFault.{ImageFault};
+ghost use Rattle.statuses.specs.declared.status.Status as of_status;
 
 use desk_core::{Desk, NeverFails};
 use silc::{Kept, Status, silc};
 use std::alloc::Global;
+pub use streams::{evaluation_completes, run_completes};
 
 /// What the commands print, write and keep where they are done.
 pub fn silc_done<D: Desk>(alloc: Global, words: &[String], desk: &mut D, kept: &mut Kept) -> Status
@@ -140,8 +155,8 @@ pub fn silc_never_fails(
     silc_fails(alloc, words, desk, kept)
 }
 
-/// Where a command is done, unless memory runs out: the files are such that no refusal is due, and no fault of the
-/// command's own rose.
+/// What a command answers, unless memory runs out, where no fault of its own rose: it is done where the files are such
+/// that no refusal is due, where one is due, it answers this one, and where its samples stop it, it answers why.
 pub fn silc_completes<D: Desk>(
     alloc: Global,
     words: &[String],
@@ -157,6 +172,9 @@ pub fn silc_completes<D: Desk>(
     ensures compiles { (src datapath out : Name) → IsCompile words.now src datapath out
         → HasNoFaultRisen (spec.compile src datapath out) (D.view desk.old) (D.view desk.new)
         → Specifies (ArePlannable src datapath) (D.view desk.old) → IsDoneOrMemory result }
+    ensures compiles_plan { result ≡ Status.Done → (src datapath out : Name) → IsCompile words.now src datapath out
+        → (path : Datapath) (plan : Plan) → Specifies (HavePlan src datapath path plan) (D.view desk.old)
+        → WhereSpecified (D.view desk.new) (HasImageOf out path plan) }
     ensures schedules { (src datapath : Name) → IsSchedule words.now src datapath
         → HasNoFaultRisen (spec.schedule src datapath) (D.view desk.old) (D.view desk.new)
         → Specifies (ArePlannable src datapath) (D.view desk.old) → IsDoneOrMemory result }
@@ -166,6 +184,67 @@ pub fn silc_completes<D: Desk>(
     ensures demonstrates { (sections samples : ℕ) → IsDemo words.now sections samples
         → HasNoFaultRisen (spec.demo sections samples) (D.view desk.old) (D.view desk.new)
         → IsCascadePlannable sections → IsDoneOrMemory result }
+    ensures simulates { (mic samples out : Name) → IsSim words.now mic samples out
+        → HasNoFaultRisen (spec.sim mic samples out) (D.view desk.old) (D.view desk.new)
+        → Specifies (HasClearStream mic samples) (D.view desk.old) → IsDoneOrMemory result }
+    ensures evaluates { (src samples out : Name) → IsEval words.now src samples out
+        → HasNoFaultRisen (spec.eval src samples out) (D.view desk.old) (D.view desk.new)
+        → Specifies (HasProgramStream src samples) (D.view desk.old) → IsDoneOrMemory result }
+    ensures runs { (src datapath samples out : Name) → IsRun words.now src datapath samples out
+        → HasNoFaultRisen (spec.run src datapath samples out) (D.view desk.old) (D.view desk.new)
+        → Specifies (HasPlannedStream src datapath samples) (D.view desk.old) → IsDoneOrMemory result }
+
+    // Where the files are refused, it answers the refusal.
+    ensures compile_refuses { (src datapath out : Name) → IsCompile words.now src datapath out
+        → HasNoFaultRisen (spec.compile src datapath out) (D.view desk.old) (D.view desk.new)
+        → (why : of_status.Status) → IsRefusal why
+        → Specifies (AreRefused src datapath why) (D.view desk.old) → IsThisOrMemory why result }
+    ensures schedule_refuses { (src datapath : Name) → IsSchedule words.now src datapath
+        → HasNoFaultRisen (spec.schedule src datapath) (D.view desk.old) (D.view desk.new)
+        → (why : of_status.Status) → IsRefusal why
+        → Specifies (AreRefused src datapath why) (D.view desk.old) → IsThisOrMemory why result }
+    ensures list_refuses { (mic : Name) → IsList words.now mic
+        → HasNoFaultRisen (spec.list mic) (D.view desk.old) (D.view desk.new)
+        → (fault : ImageFault) → Specifies (HasImageFault mic fault) (D.view desk.old)
+        → IsThisOrMemory (Status.Image fault) result }
+    ensures demo_refuses { (sections samples : ℕ) → IsDemo words.now sections samples
+        → HasNoFaultRisen (spec.demo sections samples) (D.view desk.old) (D.view desk.new)
+        → (why : of_status.Status) → IsRefusal why → IsCascadeRefused why sections → IsThisOrMemory why result }
+    ensures sim_refuses { (mic samples out : Name) → IsSim words.now mic samples out
+        → HasNoFaultRisen (spec.sim mic samples out) (D.view desk.old) (D.view desk.new)
+        → (fault : ImageFault) → Specifies (HasImageFault mic fault) (D.view desk.old)
+        → IsThisOrMemory (Status.Image fault) result }
+    ensures eval_refuses { (src samples out : Name) → IsEval words.now src samples out
+        → HasNoFaultRisen (spec.eval src samples out) (D.view desk.old) (D.view desk.new)
+        → (fault : FrontFault) → Specifies (HasFrontFault src fault) (D.view desk.old)
+        → IsThisOrMemory (Status.FrontEnd fault) result }
+    ensures run_refuses { (src datapath samples out : Name) → IsRun words.now src datapath samples out
+        → HasNoFaultRisen (spec.run src datapath samples out) (D.view desk.old) (D.view desk.new)
+        → (why : of_status.Status) → IsRefusal why
+        → Specifies (AreRefused src datapath why) (D.view desk.old) → IsThisOrMemory why result }
+
+    // Where its samples stop it, it answers why.
+    ensures sim_ends { (mic samples out : Name) → IsSim words.now mic samples out
+        → HasNoFaultRisen (spec.sim mic samples out) (D.view desk.old) (D.view desk.new)
+        → Specifies (HasSomeImage mic) (D.view desk.old) → IsEndedByRun result }
+    ensures eval_ends { (src samples out : Name) → IsEval words.now src samples out
+        → HasNoFaultRisen (spec.eval src samples out) (D.view desk.old) (D.view desk.new)
+        → Specifies (IsAccepted src) (D.view desk.old) → IsEndedBySamples result }
+    ensures run_ends { (src datapath samples out : Name) → IsRun words.now src datapath samples out
+        → HasNoFaultRisen (spec.run src datapath samples out) (D.view desk.old) (D.view desk.new)
+        → Specifies (ArePlannable src datapath) (D.view desk.old) → IsEndedBySamples result }
+    ensures sim_stops { (mic samples out : Name) → IsSim words.now mic samples out
+        → HasNoFaultRisen (spec.sim mic samples out) (D.view desk.old) (D.view desk.new)
+        → (fault : StreamFault) → Specifies (StopsSim mic samples fault) (D.view desk.old)
+        → IsThisOrMemory (status_of fault) result }
+    ensures eval_stops { (src samples out : Name) → IsEval words.now src samples out
+        → HasNoFaultRisen (spec.eval src samples out) (D.view desk.old) (D.view desk.new)
+        → (fault : StreamFault) → Specifies (StopsEval src samples fault) (D.view desk.old)
+        → IsThisOrMemory (status_of fault) result }
+    ensures run_stops { (src datapath samples out : Name) → IsRun words.now src datapath samples out
+        → HasNoFaultRisen (spec.run src datapath samples out) (D.view desk.old) (D.view desk.new)
+        → (fault : StreamFault) → Specifies (StopsPlanned src datapath samples fault) (D.view desk.old)
+        → IsThisOrMemory (status_of fault) result }
 {
     silc(alloc, words, desk, kept)
 }

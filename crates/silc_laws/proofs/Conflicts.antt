@@ -1,0 +1,103 @@
+-- A run has one first conflict, of which rows that come after change nothing.
+use Rattle.std.proofs.Common.{◌≡◌, ◌∙◌, refl, sym, ap, ap₂, subst, arith, inl, inr, ℕ, zero, suc, ◌<◌, ◌≤◌, ◌++◌, length, append_assoc}
+use Rattle.std.proofs.lemmas.Bool.{cases_order}
+use Rattle.std.proofs.lemmas.List.{length-append}
+use Rattle.lists.specs.Rows.{Rows}
+use Rattle.micro_image.specs.declared.conflict.Conflict.{Conflict}
+use Rattle.micro_image.specs.declared.conflict.ConflictKind.{ConflictKind}
+use Rattle.micro_image.specs.declared.conflict.ConflictKind.TheVariants.{Busy, TwoDrivers, FileTwice, NoDriver, NoResult, Address}
+use Rattle.micro_image.specs.declared.image.Image.{Image}
+use Rattle.micro_image.specs.Conflict.{HasConflict, IsConflict, IsClearBelow, rank}
+use Rattle.micro_image.specs.Run.{spread}
+use Rattle.micro_image.proofs.Prefix.{IsConflict-with, IsConflict-without}
+use Rattle.micro_image.proofs.Streams.{spread-append}
+use Rattle.sample_loops.specs.Machines.{cycles_with, IsClearOver, IsConflictInLast}
+
+-- the kind of a rank
+abbrev kind_at : ℕ → ConflictKind
+kind_at zero = Busy
+kind_at (suc zero) = TwoDrivers
+kind_at (suc (suc zero)) = FileTwice
+kind_at (suc (suc (suc zero))) = NoDriver
+kind_at (suc (suc (suc (suc zero)))) = NoResult
+kind_at (suc (suc (suc (suc (suc rest))))) = Address
+
+kind_again : (kind : ConflictKind) → kind ≡ kind_at (rank kind)
+kind_again Busy = refl
+kind_again TwoDrivers = refl
+kind_again FileTwice = refl
+kind_again NoDriver = refl
+kind_again NoResult = refl
+kind_again Address = refl
+
+same_kind : (kind other : ConflictKind) → rank kind ≤ rank other → rank other ≤ rank kind → kind ≡ other
+same_kind kind other le ge =
+    let same : rank kind ≡ rank other = omega (arith, le, ge) in
+    kind_again kind ∙ ap kind_at same ∙ sym (kind_again other)
+
+abbrev made : ℕ → ConflictKind → ℕ → Conflict
+made cycle kind place = record { cycle = cycle; kind = kind; place = place }
+
+module _ (image : Image) where
+  -- a cycle has one conflict
+  one_at : (z : Rows) (cycle : ℕ) (kind other : ConflictKind) (place there : ℕ)
+      → IsConflict image z (made cycle kind place)
+      → IsConflict image z (made cycle other there)
+      → made cycle kind place ≡ made cycle other there
+  one_at z cycle kind other place there a b =
+      let same : kind ≡ other =
+      same_kind kind other (a.least_kind other there b.there) (b.least_kind kind place a.there) in
+      let le = a.least_place there (subst (λ k. HasConflict k image z cycle there) (sym same) b.there) in
+      let ge = b.least_place place (subst (λ k. HasConflict k image z cycle place) same a.there) in
+      let least : place ≡ there = omega (arith, le, ge) in
+      ap₂ (made cycle) same least
+
+  module _ (z after : Rows) (conflict : Conflict) (is : IsConflict image z conflict) (within : conflict.cycle < length z) where
+    later : IsConflict image (z ++ after) conflict
+    later = IsConflict-with image z after conflict within is
+
+    -- cycles with a conflict are no first cycles of cycles without one
+    pub not_clear : (n : ℕ) → conflict.cycle < n → IsClearBelow image (z ++ after) n → ⊥
+    not_clear n below clear = clear conflict.cycle below conflict.kind conflict.place later.there
+
+    -- and the first conflict stays the first
+    pub first_once : (other : Conflict) → IsClearBelow image z conflict.cycle → IsConflict image (z ++ after) other
+        → IsClearBelow image (z ++ after) other.cycle → conflict ≡ other
+    first_once other clear its free = elim (cases_order conflict.cycle other.cycle) [
+      | inl same ↦
+          let moved : IsConflict image (z ++ after) (made conflict.cycle other.kind other.place) =
+          subst (λ t. IsConflict image (z ++ after) (made t other.kind other.place)) (sym same) its in
+          one_at (z ++ after) conflict.cycle conflict.kind other.kind conflict.place other.place later moved
+          ∙ ap (λ t. made t other.kind other.place) same
+      | inr (inl before) ↦ absurd (not_clear other.cycle before free)
+      | inr (inr behind) ↦
+          let early = IsConflict-without image z after other (omega (arith, behind, within)) its in
+          absurd (clear other.cycle behind other.kind other.place early.there)
+    ]
+
+-- a run of the image over rows, after other cycles
+module _ (image : Image) (cycles : Rows) where
+  cycles_more : (some more : Rows)
+      → cycles_with image cycles (some ++ more) ≡ cycles_with image cycles some ++ spread image.period more
+  cycles_more some more =
+      ap (λ z. cycles ++ z) (spread-append image.period some more)
+      ∙ sym (append_assoc cycles (spread image.period some) (spread image.period more))
+
+  pub clear_apart : (some more : Rows) (conflict : Conflict) → IsClearOver image cycles (some ++ more)
+      → IsConflictInLast image cycles some conflict → ⊥
+  clear_apart some more conflict clear met =
+      let first = cycles_with image cycles some in
+      let later = spread image.period more in
+      let all = length (cycles_with image cycles (some ++ more)) in
+      let size = ap length (cycles_more some more) ∙ length-append first later in
+      let below : conflict.cycle < all = omega (arith, met.first.within, size) in
+      not_clear image first later conflict met.first.there met.first.within all below
+      (subst (λ z. IsClearBelow image z all) (cycles_more some more) clear)
+
+  pub meets_once : (some more : Rows) (conflict other : Conflict) → IsConflictInLast image cycles some conflict
+      → IsConflictInLast image cycles (some ++ more) other → conflict ≡ other
+  meets_once some more conflict other met its =
+      first_once image (cycles_with image cycles some) (spread image.period more) conflict met.first.there
+      met.first.within other met.first.clear
+      (subst (λ z. IsConflict image z other) (cycles_more some more) its.first.there)
+      (subst (λ z. IsClearBelow image z other.cycle) (cycles_more some more) its.first.clear)

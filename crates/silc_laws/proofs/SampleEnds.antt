@@ -1,0 +1,249 @@
+-- How `sim`, `eval` and `run` end is how a run over SAMPLES does, memory aside, where no fault of the command's own rose.
+use Rattle.std.proofs.Common.{◌≡◌, ◌∙◌, refl, sym, subst, arith, inl, inr, ⊎_elim, ◌⊎◌, ℕ, ◌+◌, List, [], ◌∷◌, ◌++◌, Option, Some, None}
+use Rattle.lists.specs.Rows.{Rows}
+use Rattle.command_words.specs.Command.{sim, eval, run}
+use Rattle.datapath.specs.declared.types.Datapath.{Datapath}
+use Rattle.desk_core.specs.View.{Name, Content, Files, View}
+use Rattle.desk_core.specs.Desk.{content_of}
+use Rattle.front_end.specs.Faults.{HasProgram}
+use Rattle.front_end.proofs.OneAnswer.{one_program, no_fault}
+use Rattle.micro_file.proofs.Unique.{Spells-unique}
+use Rattle.micro_image.specs.declared.conflict.Conflict.{Conflict as ConflictValue}
+use Rattle.micro_image.specs.declared.image.Image.{Image as MicroImage}
+use Rattle.micro_image.specs.Conflict.{IsClearBelow}
+use Rattle.micro_image.specs.Run.{IsRunOut, spread}
+use Rattle.micro_image.proofs.Streams.{length-spread}
+use Rattle.plan_commands.specs.Plans.{IsPlanOver}
+use Rattle.plan_commands.specs.Refusals.{IsPlanError}
+use Rattle.plan_commands.proofs.Complete.{plan_memory}
+use Rattle.plan_core.specs.declared.plan.Plan.{Plan}
+use Rattle.sample_commands.specs.Eval.{program_channels, IsSolutionRows, IsEvalDone, IsEvalAnswer}
+use Rattle.sample_commands.specs.Run.{IsRunAnswer}
+use Rattle.sample_commands.specs.Samples.{IsEndedEarly}
+use Rattle.sample_commands.specs.Sim.{HasImage, IsSimAnswer}
+use Rattle.sample_commands.specs.declared.simulator.Kept.{Kept}
+use Rattle.sample_commands.specs.declared.simulator.Kept.TheVariants.{Nothing}
+use Rattle.sample_io.specs.declared.RowFault.{RowFault}
+use Rattle.sample_io.specs.declared.channel.Channel.{Channel}
+use Rattle.sample_loops.specs.Machines.{channels_of, IsClearOver, IsConflictInLast}
+use Rattle.sample_loops.specs.declared.stream.StreamFault.{StreamFault}
+use Rattle.sample_loops.specs.declared.stream.StreamFault.TheVariants as stream
+use Rattle.silage_syntax.specs.Tree.{Program}
+use Rattle.silc.proofs.Complete.{image_or_not}
+use Rattle.silc_files.specs.Limits.{samples_limit}
+use Rattle.silc_laws.specs.Faults.{HasNoFaultRisen}
+use Rattle.silc_laws.specs.Samples.{StopsRun, IsAlwaysClear, MeetsNone}
+use Rattle.silc_laws.proofs.Faults.{simulating, evaluating, running}
+use Rattle.silc_laws.proofs.Reading.{bad_place_read, lines_read, all_rows_read, many_read}
+use Rattle.silc_laws.proofs.StreamEnds.{IsEnd, status_at}
+use Rattle.statuses.specs.declared.status.SampleFault.TheVariants as sample_fault
+use Rattle.statuses.specs.declared.status.Status.{Status}
+use Rattle.statuses.specs.declared.status.Status.TheVariants as status
+use Rattle.statuses.specs.declared.status.Status.TheVariants.{Done, Memory, Words, Desk, FrontEnd, Path, LinesFull, Period, FileFull, Image, Samples, Conflict}
+
+-- memory ran out, or the status is that of one of these ends
+abbrev pub EndsBy : (Option StreamFault → Type 0) → Status → Type 0
+EndsBy Ends status = (status ≡ Memory) ⊎ ((end : Option StreamFault) × (status ≡ status_at end) × Ends end)
+
+-- the least number of bytes that are too many for samples
+abbrev pub samples_end : ℕ
+samples_end = samples_limit + 1
+
+-- a run of the image, and one of the program, over the bytes comes to this end
+abbrev pub RunsImage : Content → MicroImage → Option StreamFault → Type 0
+RunsImage bytes image =
+    IsEnd samples_end (channels_of image) (IsClearOver image []) (IsConflictInLast image []) bytes
+
+abbrev pub RunsProgram : Content → Program → Option StreamFault → Type 0
+RunsProgram bytes program =
+    IsEnd samples_end (program_channels program) IsAlwaysClear MeetsNone bytes
+
+-- why the run over SAMPLES did not come to its end is so of all its bytes
+module _ (samples out : Name) (channels : List Channel) (old new : View) (files : Files)
+    (specified : old.files ≡ Some files) (gives : Rows → Rows → Type 0) (meets : Rows → ConflictValue → Type 0)
+    (clear : Rows → Type 0) (runs : (rows puts : Rows) → gives rows puts → clear rows) where
+  abbrev bytes : Content
+  bytes = content_of (files samples)
+
+  abbrev Early : StreamFault → Type 0
+  Early = IsEndedEarly samples out channels gives meets old new
+
+  abbrev Stops : StreamFault → Type 0
+  Stops = StopsRun samples_end channels clear meets bytes
+
+  row_stops : (fault : RowFault) → Early (stream.Row fault) → Stops (stream.Row fault)
+  row_stops fault h = (
+    h.rows,
+    bad_place_read samples_end channels bytes h.bytes (h.read.prefix files specified) h.read.within h.rows fault
+        (⊎_elim (λ stops. inl stops)
+        (λ last. inr (last.0.content files specified, omega (arith, last.0.within), last.1)) h.stops),
+    runs h.rows h.put.puts h.put.given,
+  )
+
+  long_stops : Early stream.TooLong → Stops stream.TooLong
+  long_stops h =
+      let lines = h.lines in (
+        h.rows,
+        many_read samples_end channels bytes lines.bytes (lines.read.prefix files specified) lines.read.within h.rows
+            (sym lines.read.place ∙ h.place) lines.lines,
+        runs h.rows h.put.puts h.put.given,
+      )
+
+  conflict_stops : (conflict : ConflictValue) → Early (stream.Conflict conflict) → Stops (stream.Conflict conflict)
+  conflict_stops conflict h =
+      let rows = h.rows ++ h.row ∷ [] in
+      let prefix = h.read.prefix files specified in (
+        rows,
+        ⊎_elim
+            (λ begins. lines_read samples_end channels bytes h.bytes prefix h.read.within rows begins.0 begins.1 begins.2 begins.3)
+            (λ all.
+            all_rows_read samples_end channels bytes h.bytes prefix h.read.within rows (all.0.content files specified)
+            (omega (arith, all.0.within)) all.1)
+            h.rows_are,
+        h.met,
+      )
+
+-- no conflict comes with the rows of a run
+run_clear : (image : MicroImage) (rows puts : Rows) → IsRunOut image rows puts → IsClearOver image [] rows
+run_clear image rows puts ran =
+    subst (IsClearBelow image (spread image.period rows)) (sym (length-spread image.period rows)) ran.clear
+
+-- MIC has this image
+module _ (mic samples out : Name) (old new : View) (kept : Kept) (files : Files) (specified : old.files ≡ Some files)
+    (none : HasNoFaultRisen (sim mic samples out) old new)
+    (image : MicroImage) (has : HasImage mic files image) where
+  abbrev Ends : MicroImage → Option StreamFault → Type 0
+  Ends = RunsImage (content_of (files samples))
+
+  of_image : (other : MicroImage) → HasImage mic files other → (end : Option StreamFault) → Ends other end
+      → EndsBy (Ends image) (status_at end)
+  of_image other its end ends =
+      let same = Spells-unique (content_of (files mic)) other image its.spells has.spells in
+      inr (end, refl, subst (λ i. Ends i end) same ends)
+
+  pub sim_ends : (status : Status) → IsSimAnswer mic samples out old new kept status
+      → EndsBy (RunsImage (content_of (files samples)) image) status
+  sim_ends Done (machine, is, h) =
+      let its = h.specified files specified in
+      let few = its.samples_are.within in
+      of_image h.image its.microcode None
+      (record {
+        within = omega (arith, few);
+        stream = h.stream;
+        rows_of = its.samples_are.rows;
+        runs = run_clear h.image h.stream h.ran.rows h.ran.run;
+      })
+  sim_ends Memory h = inl refl
+  sim_ends Desk h = absurd (none (simulating old new kept mic samples out h))
+  sim_ends (Image fault) h =
+      absurd (image_or_not (content_of (files mic)) image has fault (h.1.why files specified))
+  sim_ends (Samples (sample_fault.Row line at)) h =
+      let fault : RowFault = record { line = line; at = at } in
+      of_image h.image (h.specified files specified) (Some (stream.Row fault))
+      (row_stops samples out (channels_of h.image) old new files specified _ (IsConflictInLast h.image [])
+      (IsClearOver h.image []) (run_clear h.image) fault h.ended)
+  sim_ends (Samples sample_fault.TooLong) h =
+      of_image h.image (h.specified files specified) (Some stream.TooLong)
+      (long_stops samples out (channels_of h.image) old new files specified _ (IsConflictInLast h.image [])
+      (IsClearOver h.image []) (run_clear h.image) h.ended)
+  sim_ends (Conflict conflict) h =
+      of_image h.image (h.specified files specified) (Some (stream.Conflict conflict))
+      (conflict_stops samples out (channels_of h.image) old new files specified _ (IsConflictInLast h.image [])
+      (IsClearOver h.image []) (run_clear h.image) conflict h.ended)
+  sim_ends Words h = absurd h
+  sim_ends (FrontEnd fault) h = absurd h
+  sim_ends (Path fault) h = absurd h
+  sim_ends (status.Unit refusal) h = absurd h
+  sim_ends (LinesFull node) h = absurd h
+  sim_ends (Period node) h = absurd h
+  sim_ends (FileFull unit port node) h = absurd h
+
+-- SRC has this program
+module _ (src samples out : Name) (old new : View) (files : Files) (specified : old.files ≡ Some files)
+    (program : Program) (has : HasProgram (content_of (files src)) program) where
+  abbrev EvalEnds : Program → Option StreamFault → Type 0
+  EvalEnds = RunsProgram (content_of (files samples))
+
+  of_program : (other : Program) → HasProgram (content_of (files src)) other → (end : Option StreamFault)
+      → EvalEnds other end → EndsBy (EvalEnds program) (status_at end)
+  of_program other its end ends =
+      inr (end, refl, subst (λ p. EvalEnds p end) (one_program (content_of (files src)) program other has its) ends)
+
+  done : IsEvalDone src samples out old new → EndsBy (EvalEnds program) Done
+  done h =
+      let its = h.specified files specified in
+      let few = its.samples_are.within in
+      of_program h.program its.source.read None
+      (record { within = omega (arith, few); stream = h.stream; rows_of = its.samples_are.rows; runs = tt })
+
+  abbrev EndsEarly : Program → StreamFault → Type 0
+  EndsEarly other =
+      IsEndedEarly samples out (program_channels other) (IsSolutionRows other) (λ rows conflict. ⊥) old new
+
+  bad_row : (line at : ℕ) (other : Program) → HasProgram (content_of (files src)) other
+      → EndsEarly other (stream.Row (record { line = line; at = at }))
+      → EndsBy (EvalEnds program) (Samples (sample_fault.Row line at))
+  bad_row line at other its ended =
+      let fault : RowFault = record { line = line; at = at } in
+      of_program other its (Some (stream.Row fault))
+      (row_stops samples out (program_channels other) old new files specified (IsSolutionRows other)
+      MeetsNone IsAlwaysClear (λ rows puts run. tt) fault ended)
+
+  too_long : (other : Program) → HasProgram (content_of (files src)) other → EndsEarly other stream.TooLong
+      → EndsBy (EvalEnds program) (Samples sample_fault.TooLong)
+  too_long other its ended =
+      of_program other its (Some stream.TooLong)
+      (long_stops samples out (program_channels other) old new files specified (IsSolutionRows other)
+      MeetsNone IsAlwaysClear (λ rows puts run. tt) ended)
+
+  pub eval_ends : HasNoFaultRisen (eval src samples out) old new → (status : Status)
+      → IsEvalAnswer src samples out old new status → EndsBy (EvalEnds program) status
+  eval_ends none Done h = done h
+  eval_ends none Memory h = inl refl
+  eval_ends none Desk h = absurd (none (evaluating old new Nothing src samples out h))
+  eval_ends none (FrontEnd fault) h =
+      absurd (no_fault (content_of (files src)) program has fault (h.1.why files specified))
+  eval_ends none (Samples (sample_fault.Row line at)) h =
+      bad_row line at h.program (h.specified files specified).read h.ended
+  eval_ends none (Samples sample_fault.TooLong) h = too_long h.program (h.specified files specified).read h.ended
+  eval_ends none Words h = absurd h
+  eval_ends none (Path fault) h = absurd h
+  eval_ends none (status.Unit refusal) h = absurd h
+  eval_ends none (LinesFull node) h = absurd h
+  eval_ends none (Period node) h = absurd h
+  eval_ends none (FileFull unit port node) h = absurd h
+  eval_ends none (Image fault) h = absurd h
+  eval_ends none (Conflict conflict) h = absurd h
+
+-- SRC's program has this plan over DP's datapath
+module _ (src datapath samples out : Name) (old new : View) (kept : Kept) (files : Files)
+    (specified : old.files ≡ Some files) (none : HasNoFaultRisen (run src datapath samples out) old new)
+    (program : Program) (path : Datapath) (plan : Plan)
+    (has : IsPlanOver (content_of (files src)) (content_of (files datapath)) program path plan) where
+  abbrev PlannedEnds : Status → Type 0
+  PlannedEnds = EndsBy (RunsProgram (content_of (files samples)) program)
+
+  memory : (error : Status) → IsPlanError src datapath old new error → PlannedEnds error
+  memory error h =
+      inl (plan_memory src datapath old new files specified (path, plan, (program, has)) (λ r. none (inl r))
+      (λ r. none (inr (inl r))) error h)
+
+  pub run_ends : (status : Status) → IsRunAnswer src datapath samples out old new kept status → PlannedEnds status
+  run_ends Done h = done src samples out old new files specified program has.read h.solved
+  run_ends Desk h = absurd (none (running old new kept src datapath samples out h))
+  run_ends (Samples (sample_fault.Row line at)) h =
+      bad_row src samples out old new files specified program has.read line at h.program
+      (h.planned files specified).has.read h.ended
+  run_ends (Samples sample_fault.TooLong) h =
+      too_long src samples out old new files specified program has.read h.program (h.planned files specified).has.read
+      h.ended
+  run_ends (Image fault) h = absurd h
+  run_ends (Conflict conflict) h = absurd h
+  run_ends Memory h = memory Memory h
+  run_ends Words h = memory Words h
+  run_ends (FrontEnd fault) h = memory (FrontEnd fault) h
+  run_ends (Path fault) h = memory (Path fault) h
+  run_ends (status.Unit refusal) h = memory (status.Unit refusal) h
+  run_ends (LinesFull node) h = memory (LinesFull node) h
+  run_ends (Period node) h = memory (Period node) h
+  run_ends (FileFull unit port node) h = memory (FileFull unit port node) h
