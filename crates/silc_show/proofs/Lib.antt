@@ -3,5 +3,5 @@ mod Planned
 mod NodeOrigins
 mod ShortLifetimes
 mod Outputs
-mod RowLists
+mod FedSamples
 mod TypedRows

@@ -1,18 +1,19 @@
 //! The rows of a sample file, each printed again, or the line and byte of its first bad place.
 
-ghost use Rattle.std.specs.Prelude.{◌≡◌, IfOk, IfSome, ◌≤◌, ◌<◌, ◌^◌, [], length, map, slice_index_or};
+ghost use Rattle.std.specs.Prelude.{◌≡◌, IfOk, IfSome, OnOk, ◌≤◌, ◌<◌, ◌^◌, [], ◌∷◌, ◌++◌, length, map};
 ghost use Rattle.std.specs.List.{All};
 ghost use Rattle.sample_io.specs.Channels.{AreChannels, IsChannel, IsStream};
-ghost use Rattle.sample_io.specs.Samples.{stream_of};
+ghost use Rattle.sample_io.specs.Pieces.{HasTaken};
+ghost use Rattle.sample_io.specs.Samples.{RowsOf};
 ghost use Rattle.signal_graph.specs.Keeps.{IsStreamOf};
 ghost use Rattle.signal_graph.specs.Rules.{IsType};
 ghost use Rattle.silc_show.specs.TypeChannels.{channel_width, type_channel};
 
 use crate::page::Page;
-use crate::source::Refusal;
+use crate::source::{Refusal, too_long};
 use fix_word::SigType;
 use lists::List;
-use sample_io::{Channel, RowFault, RowList, RowsReadFault, put_row, read_rows};
+use sample_io::{Channel, RowFault, Rows, Step, put_row};
 use std::alloc::{AllocError, Global};
 
 /// The most words of a row.
@@ -51,23 +52,82 @@ pub fn put_words(page: &mut Page, words: &[i64]) {
     page.bytes(&line[..size]);
 }
 
-fn put_rows(page: &mut Page, list: &RowList) {
-    for row in list.words.as_slice().chunks(usize::from(list.width.max(1))) {
+fn put_rows(page: &mut Page, rows: &[List<i64>]) {
+    for row in rows {
         put_words(page, row);
     }
 }
 
+/// The least number of bytes that are too many for samples.
+const SAMPLES_END: usize = 1 << 32;
+
+/// Why a sample file was not read.
+#[derive(Clone, Copy)]
+enum SamplesFault {
+    /// A line is no row.
+    Row(RowFault),
+    /// There was no memory for the rows.
+    Memory,
+}
+
+impl From<RowFault> for SamplesFault {
+    fn from(fault: RowFault) -> SamplesFault {
+        SamplesFault::Row(fault)
+    }
+}
+
+impl From<AllocError> for SamplesFault {
+    fn from(_: AllocError) -> SamplesFault {
+        SamplesFault::Memory
+    }
+}
+
+/// Adds a row to the list.
+fn push_row(alloc: Global, list: &mut List<List<i64>>, row: &[i64]) -> Result<(), AllocError>
+    ensures { OnOk result (list.new ≡ list.old ++ row.now ∷ []) }
+{
+    list.push(List::from_slice(alloc, row)?)?;
+    Ok(())
+}
+
+/// The rows of the whole of a sample file.
+fn rows_of(alloc: Global, rows: &mut Rows, samples: &[u8]) -> Result<List<List<i64>>, SamplesFault>
+    requires fresh { HasTaken rows.old [] [] }
+    requires few { length samples.now < 2 ^ 60 }
+    ensures { IfOk result (RowsOf samples.now rows.old.channels) }
+{
+    let mut list = List::new(alloc);
+    let mut at = 0;
+    'rows: while let Step::Row(count) = rows.feed(&samples[at..])? {
+        at += count;
+        push_row(alloc, &mut list, rows.row())?;
+    }
+    if let Step::Row(_) = rows.finish()? {
+        push_row(alloc, &mut list, rows.row())?;
+    }
+    Ok(list)
+}
+
 /// The rows of a sample file, or the page of its first bad place.
 #[tactic(auto, using(crate::proofs::TypedRows::rows_read))]
-pub fn read(alloc: Global, channels: &List<Channel>, samples: &[u8]) -> Result<RowList, Refusal>
+pub fn read(
+    alloc: Global,
+    channels: &List<Channel>,
+    samples: &[u8],
+) -> Result<List<List<i64>>, Refusal>
     requires { AreChannels channels.now }
-    ensures width { IfOk result (λ list. list.width ≡ length channels.now) }
-    ensures rows { IfOk result (λ list. IsStream channels.now (stream_of list)) }
+    ensures { IfOk result (IsStream channels.now) }
 {
-    match read_rows(alloc, samples, channels) {
+    if samples.len() >= SAMPLES_END {
+        return Err(too_long(alloc));
+    }
+    let Ok(mut rows) = Rows::new(alloc, channels) else {
+        return Err(Page::cut(alloc));
+    };
+    match rows_of(alloc, &mut rows, samples) {
         Ok(list) => Ok(list),
-        Err(RowsReadFault::Row(fault)) => Err(bad_place(alloc, fault)),
-        Err(RowsReadFault::Memory) => Err(Page::cut(alloc)),
+        Err(SamplesFault::Row(fault)) => Err(bad_place(alloc, fault)),
+        Err(SamplesFault::Memory) => Err(Page::cut(alloc)),
     }
 }
 
@@ -84,8 +144,8 @@ pub fn page(alloc: Global, channels: &List<Channel>, samples: &[u8]) -> Result<P
     requires { AreChannels channels.now }
 {
     let mut page = Page::new(alloc);
-    let list = read(alloc, channels, samples)?;
-    put_rows(&mut page, &list);
+    let rows = read(alloc, channels, samples)?;
+    put_rows(&mut page, &rows);
     Ok(page)
 }
 
@@ -114,36 +174,18 @@ fn type_channels(alloc: Global, types: &[SigType]) -> Result<List<Channel>, Allo
 
 /// The rows of a sample file whose words have these types, or the page of its first bad place.
 #[tactic(auto, using(crate::proofs::TypedRows::typed_stream, crate::proofs::TypedRows::are_channels))]
-pub fn read_typed(alloc: Global, types: &List<SigType>, samples: &[u8]) -> Result<RowList, Refusal>
+pub fn read_typed(
+    alloc: Global,
+    types: &List<SigType>,
+    samples: &[u8],
+) -> Result<List<List<i64>>, Refusal>
     requires types { All IsType types.now }
     requires some { 1 ≤ length types.now }
     requires few { length types.now ≤ 16 }
-    ensures width { IfOk result (λ list. 1 ≤ list.width) }
-    ensures rows { IfOk result (λ list. IsStreamOf types.now (stream_of list)) }
+    ensures { IfOk result (IsStreamOf types.now) }
 {
     match type_channels(alloc, types) {
         Ok(channels) => read(alloc, &channels, samples),
         Err(_) => Err(Page::cut(alloc)),
     }
-}
-
-/// How many rows the list has.
-pub fn row_count(list: &RowList) -> usize
-    requires { 1 ≤ list.now.width }
-    ensures count { result ≡ length (stream_of list.now) }
-    ensures few { length list.now.words < 2 ^ 64 }
-{
-    list.words.len() / usize::from(list.width)
-}
-
-/// Row n of the list.
-pub fn row(list: &RowList, n: usize) -> &[i64]
-    requires there { n < length (stream_of list.now) }
-    requires few { length list.now.words < 2 ^ 64 }
-    ensures { result.now ≡ slice_index_or (stream_of list.now) n [] }
-{
-    let width = usize::from(list.width);
-    let (_, rows) = list.words.split_at(n * width);
-    let (row, _) = rows.split_at(width);
-    row
 }

@@ -4,7 +4,6 @@
 
 ghost use Rattle.std.specs.Prelude.{◌≡◌, ◌<◌, ◌≤◌, length, All, IfOk, OnOk};
 ghost use Rattle.front_end.specs.Faults.{HasProgram};
-ghost use Rattle.sample_io.specs.Samples.{stream_of};
 ghost use Rattle.signal_graph.specs.Flat as flat_form;
 ghost use Rattle.signal_graph.specs.FlatRules.{IsFlat};
 ghost use Rattle.signal_graph.specs.Keeps.{IsStreamOf};
@@ -16,14 +15,13 @@ use crate::elements::{expanded, put_subscripts};
 use crate::graph::accepted_of;
 use crate::names::names_of;
 use crate::page::Page;
-use crate::rows::{MAX_CHANNELS, put_words, read_typed, row, row_count};
+use crate::rows::{MAX_CHANNELS, put_words, read_typed};
 use crate::source::{Refusal, told};
 use crate::types::typed;
 use equation_eval::Evaluator;
 use flow_graph::{GraphFault, build};
 use lists::List;
 use loop_expand::expand;
-use sample_io::RowList;
 use signal_graph::FlatProgram;
 use silage_tree::{Program, Top};
 use single_def::{Element, Elements, Instance, subscripts_at};
@@ -131,15 +129,14 @@ fn evaluator_of(alloc: Global, flat: &FlatProgram) -> Result<Evaluator, Refusal>
 }
 
 /// A line for each row of samples, with the output words.
-fn put_samples(page: &mut Page, evaluator: &mut Evaluator, list: &RowList)
-    requires width { 1 ≤ list.now.width }
-    requires rows { IsStreamOf evaluator.old.graph.inputs (stream_of list.now) }
+fn put_samples(page: &mut Page, evaluator: &mut Evaluator, rows: &[List<i64>])
+    requires rows { IsStreamOf evaluator.old.graph.inputs rows.now }
     requires outs { evaluator.old.graph.outs ≤ 16 }
 {
     let mut words = [0i64; MAX_CHANNELS];
     let put = &mut words[..evaluator.outs()];
-    for n in 0..row_count(list) {
-        evaluator.step(row(list, n), put);
+    for row in rows {
+        evaluator.step(row, put);
         put_words(page, put);
     }
 }
@@ -152,12 +149,11 @@ fn put_group(
     program: &Program,
     of: &mut Expanded,
     first: u32,
-    list: &RowList,
+    rows: &[List<i64>],
 ) -> Result<(), Refusal>
     requires flat { IsFlat (flat_form.view of.old.flat) }
     requires there { first < length of.old.flat.elems }
-    requires width { 1 ≤ list.now.width }
-    requires rows { IsStreamOf of.old.flat.inputs (stream_of list.now) }
+    requires rows { IsStreamOf of.old.flat.inputs rows.now }
     ensures flat { OnOk result (IsFlat (flat_form.view of.new.flat)) }
     ensures elements { of.new.flat.elems ≡ of.old.flat.elems }
     ensures inputs { of.new.flat.inputs ≡ of.old.flat.inputs }
@@ -168,7 +164,7 @@ fn put_group(
     put_elements(page, program, of, &numbers);
     of.flat.outs = numbers;
     let mut evaluator = evaluator_of(alloc, &of.flat)?;
-    put_samples(page, &mut evaluator, list);
+    put_samples(page, &mut evaluator, rows);
     Ok(())
 }
 
@@ -177,15 +173,14 @@ fn put_groups(
     page: &mut Page,
     program: &Program,
     of: &mut Expanded,
-    list: &RowList,
+    rows: &[List<i64>],
 ) -> Result<(), Refusal>
     requires flat { IsFlat (flat_form.view of.old.flat) }
-    requires width { 1 ≤ list.now.width }
-    requires rows { IsStreamOf of.old.flat.inputs (stream_of list.now) }
+    requires rows { IsStreamOf of.old.flat.inputs rows.now }
 {
     let count = of.flat.elems.len() as u32;
     for first in (0..count).step_by(MAX_CHANNELS) {
-        put_group(alloc, page, program, of, first, list)?;
+        put_group(alloc, page, program, of, first, rows)?;
     }
     Ok(())
 }
@@ -193,8 +188,8 @@ fn put_groups(
 pub fn page(alloc: Global, source: &[u8], samples: &[u8]) -> Result<Page, Refusal> {
     let program = accepted_of(alloc, source)?.program;
     let mut of = expanded_of(alloc, source, &program)?;
-    let list = read_typed(alloc, &of.flat.inputs, samples)?;
+    let rows = read_typed(alloc, &of.flat.inputs, samples)?;
     let mut page = Page::new(alloc);
-    put_groups(alloc, &mut page, &program, &mut of, &list)?;
+    put_groups(alloc, &mut page, &program, &mut of, &rows)?;
     Ok(page)
 }

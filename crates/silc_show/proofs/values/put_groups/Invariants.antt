@@ -1,5 +1,4 @@
 use Rattle.std.proofs.Common.{◌≡◌}
-use Rattle.sample_io.specs.Samples.{stream_of}
 use Rattle.signal_graph.specs.Flat.{view}
 use Rattle.signal_graph.specs.FlatRules.{IsFlat}
 use Rattle.signal_graph.specs.Keeps.{IsStreamOf}
@@ -9,5 +8,5 @@ abbrev pub invariant-loop-first : goal.invariant-loop-first
 invariant-loop-first l = record {
   flat : IsFlat (view l.of.flat);
   elements : l.of.flat.elems ≡ l.fn.of.flat.elems;
-  rows : IsStreamOf l.of.flat.inputs (stream_of l.list);
+  rows : IsStreamOf l.of.flat.inputs l.rows;
 }
