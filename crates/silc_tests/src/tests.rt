@@ -1,8 +1,11 @@
+ghost use Rattle.std.specs.Prelude.{◌≡◌, ◌<◌, ◌≤◌, ◌^◌, length, IfOk, OnOk};
+
 use desk_core::{Desk, Failed, MemDesk, NeverFails};
 use lists::Bytes;
+use sample_commands::{machine_of, machine_rows};
 use silc::{
     Conflict, ConflictKind, FrontFault, Kept, LexFault, SampleFault, Status, UnitRefusal, plan_of,
-    silc,
+    run_samples, silc,
 };
 use std::alloc::Global;
 use std::test::Fail;
@@ -374,6 +377,97 @@ fn a_bad_row_leaves_the_rows_before_it(rt: HostRuntime) -> Result<(), Fail> {
     Ok(())
 }
 
+/// Which call closes ROWS, with pieces of 100 bytes: OUT is opened and read five times, SAMPLES is opened, ROWS created,
+/// SAMPLES read once, and the row before the bad one written.
+const CLOSING: u64 = 10;
+
+#[test]
+fn a_close_that_fails_does_not_hide_a_bad_row(rt: HostRuntime) -> Result<(), Fail> {
+    let alloc = rt.alloc();
+    let mut compiled = desk_with(alloc, 100, SOURCE)?;
+    carry_out(alloc, &COMPILE, &mut compiled)?;
+    let mut desk = desk_with(alloc, 100, SOURCE)?;
+    desk.put("OUT", compiled.get("OUT").ok_or("no file")?)?;
+    desk.put("SAMPLES", b"0\n128\n")?;
+    desk.fail_at(CLOSING)?;
+    let bad = Status::Samples(SampleFault::Row { line: 2, at: 2 });
+    assert_eq!(rt; carry_out(alloc, RUNS[0], &mut desk)?, bad);
+    assert_eq!(rt; desk.faults(), 1);
+    assert_eq!(rt; desk.get("ROWS"), Some(b"1\n".as_slice()));
+    Ok(())
+}
+
+/// The microcode of the source.
+fn compiled(alloc: Global) -> Result<Bytes, Fail>
+    ensures { IfOk result (λ bytes. length bytes < 2 ^ 32) }
+{
+    let mut desk = desk_with(alloc, 4096, SOURCE)?;
+    carry_out(alloc, &COMPILE, &mut desk)?;
+    let written = desk.get("OUT").ok_or("no file")?;
+    let mut bytes = Bytes::new(alloc);
+    bytes.extend_from_slice(written.get(..SIZE).ok_or("short")?)?;
+    Ok(bytes)
+}
+
+fn open<D: Desk>(desk: &mut D) -> Result<(), Failed>
+    ensures { OnOk result ((D.view desk.new).place ≡ 0) }
+{
+    desk.open_input("SAMPLES")?;
+    desk.create("ROWS")
+}
+
+/// How a run over SAMPLES ends where so many bytes are too many.
+#[tactic(auto, using(sample_commands::proofs::Simulating::fresh_ready, sample_commands::proofs::Simulating::fresh_young))]
+fn run_below<D: Desk>(
+    alloc: Global,
+    microcode: &Bytes,
+    desk: &mut D,
+    limit: u64,
+) -> Result<Status, Fail>
+    requires bytes { length microcode.now < 2 ^ 32 }
+    requires limit { limit ≤ 2 ^ 32 }
+{
+    let Ok(mut machine) = machine_of(alloc, microcode) else {
+        return Err(Fail::from("no machine"));
+    };
+    let Ok(mut rows) = machine_rows(alloc, &machine) else {
+        return Err(Fail::from("no rows"));
+    };
+    let Ok(()) = open(desk) else {
+        return Err(Fail::from("no files"));
+    };
+    Ok(run_samples(&mut machine, &mut rows, desk, limit))
+}
+
+#[test]
+fn samples_are_too_long_from_their_limit_on(rt: HostRuntime) -> Result<(), Fail> {
+    let alloc = rt.alloc();
+    let microcode = compiled(alloc)?;
+    for (limit, status) in [
+        (5, Status::Done),
+        (4, Status::Samples(SampleFault::TooLong)),
+    ] {
+        for piece in [1, 3, 4096] {
+            let mut desk = desk_with(alloc, piece, SOURCE)?;
+            desk.put("SAMPLES", b"0\n1\n")?;
+            assert_eq!(rt;
+                run_below(alloc, &microcode, &mut desk, limit)?,
+                status,
+                "piece {piece}"
+            );
+            assert_eq!(rt;
+                desk.get("ROWS"),
+                Some(b"1\n2\n".as_slice()),
+                "piece {piece}"
+            );
+        }
+        let mut desk = NeverFails::new(alloc);
+        desk.put("SAMPLES", b"0\n1\n")?;
+        assert_eq!(rt; run_below(alloc, &microcode, &mut desk, limit)?, status);
+    }
+    Ok(())
+}
+
 #[test]
 fn a_conflict_comes_before_a_bad_row_behind_it(rt: HostRuntime) -> Result<(), Fail> {
     let alloc = rt.alloc();
@@ -454,7 +548,7 @@ fn an_error_is_reported_in_one_piece_which_is_its_line(rt: HostRuntime) -> Resul
             b"silc: line 2: bad byte\n".as_slice(),
         ),
         (&COMPILE, b"func main\n(x\n\n", b"silc: line 4: syntax\n"),
-        (&["sim", "SRC", "DP", "OUT"], b"", b"silc: bad microcode\n"),
+        (&["sim", "SRC", "DP", "OUT"], b"", b"silc: short at 0\n"),
         (&["compile"], b"", b"silc: bad command words\n"),
     ];
     for (words, source, line) in cases {
