@@ -1,6 +1,7 @@
 #!/usr/bin/env python3
 """Whether `/dev/stdin` and `/dev/stdout` are the streams that the program was given: files that others write to as well,
-sockets, terminals, and streams that are closed; and whether a filter can stand between two sounds in a pipeline.
+sockets, terminals, and streams that are closed; whether the pieces in which samples come change nothing; and whether a
+filter can stand between two sounds in a pipeline.
 
 usage: tests/streams/check_streams.py [--silc PROGRAM]
 
@@ -16,6 +17,7 @@ import sys
 import tempfile
 import tty
 import wave
+from contextlib import suppress
 from pathlib import Path
 
 ROOT = Path(__file__).resolve().parent.parent.parent
@@ -23,6 +25,7 @@ SILC = Path(os.environ.get("SILC", ROOT / "crates" / "silc_main" / "out" / "silc
 MICROCODE = ROOT / "tests" / "increment" / "add-8-1.mic"
 ROWS = ROOT / "tools" / "rows"
 FILTER = ROOT / "examples" / "lowpass16"
+TAPS16, PATH = ROOT / "tests" / "eval" / "filter16.sil", ROOT / "tests" / "datapath" / "filter.toml"
 FAULT = (3, b"silc: file fault\n")
 SECONDS = 120
 # How long a row may take to come back.
@@ -102,6 +105,29 @@ def gone_readers(silc, room):
     os.close(writer)
 
 
+def in_pieces(command, content, size, room):
+    """How a command ends over bytes that come in pieces of this size, each of which is taken by one read, and its rows."""
+    reader, writer = os.pipe2(os.O_DIRECT)
+    process = subprocess.Popen([*command, "/dev/stdin", room / "rows"], stdin=reader, stderr=subprocess.PIPE)
+    os.close(reader)
+    with suppress(BrokenPipeError), open(writer, "wb", buffering=0) as pipe:
+        for at in range(0, len(content), size):
+            pipe.write(content[at : at + size])
+    said = process.communicate(timeout=SECONDS)[1]
+    return process.returncode, said, (room / "rows").read_bytes()
+
+
+def pieces(silc, room):
+    """Impulses through a filter of 16 taps, of which the first gives its coefficients."""
+    (room / "path.toml").write_text(PATH.read_text().replace("period = 1024", "period = 256"))
+    content = (b"16384\n" + b"0\n" * 15) * 300
+    taps = (128, -256, 512, -1024, 2048, -4096, 8192, 16384)
+    rows = "".join(f"{word}\n" for word in (*taps, *reversed(taps))).encode() * 300
+    for command in ((silc, "run", TAPS16, room / "path.toml"), (silc, "eval", TAPS16)):
+        for size in (1, 7, 5000):
+            yield f"{command[1]} over pieces of {size} bytes", in_pieces(command, content, size, room), (0, b"", rows)
+
+
 def tone(file):
     """A second of a tone in steps, which repeats after 40 samples."""
     with wave.open(str(file), "wb") as sound:
@@ -130,7 +156,7 @@ def sounds(silc, room):
         yield f"a sound of sox {what}, and back", said, b""
 
 
-CHECKS = (shared_files, sockets, terminals, closed_streams, gone_readers, sounds)
+CHECKS = (shared_files, sockets, terminals, closed_streams, gone_readers, pieces, sounds)
 
 
 def main(words):

@@ -10,6 +10,7 @@ OPERATIONS = {"input": "in", "output": "out", "const": "rom", "add": "alu", "sub
 FORMATTED = ("add", "sub", "neg", "pass", "mul")
 READS = {"input": 0, "output": 1, "const": 0, "neg": 1, "pass": 1, "not": 1, "load": 1, "sel": 3, "addr": 0}
 LEAST, GREATEST = -(2**31), 2**31 - 1
+MAGIC, VERSION, END = "the magic", "the version", "the end of the file"
 MOST_ROUTES, WORD = 1024, 8
 
 
@@ -19,6 +20,14 @@ class BadImage(Exception):
     def __init__(self, at, size, name, allowed, found=None):
         super().__init__(name)
         self.at, self.size, self.name, self.allowed, self.found = at, size, name, allowed, found
+
+    def refusal(self):
+        """The text by which it is refused."""
+        if self.name == END:
+            return f"trailing bytes at {self.at}"
+        if self.found is None:
+            return f"short at {self.at}"
+        return {MAGIC: "bad magic", VERSION: "bad version"}.get(self.name, f"bad field at {self.at}")
 
 
 @dataclass
@@ -88,10 +97,10 @@ class Reader:
 def image_of(data):
     """The image of a file. Raises BadImage where it has none."""
     if data[:4] != b"SILM"[:len(data)]:
-        raise BadImage(0, 4, "the magic", "the letters `SILM`", data[:4])
+        raise BadImage(0, 4, MAGIC, "the letters `SILM`", data[:4])
     read = Reader(data)
-    read.field(4, "the magic", "the letters `SILM`", lambda n: True)
-    read.field(1, "the version", "1", lambda n: n == 1)
+    read.field(4, MAGIC, "the letters `SILM`", lambda n: True)
+    read.field(1, VERSION, "1", lambda n: n == 1)
     period = read.number(2, "the period", 1, 4096)
     unroll = read.field(1, "the unroll factor", "1, 2 or 4", lambda n: n in (1, 2, 4))
     inputs = [read.number(1, f"the width of input word {k}", 0, 32)
@@ -104,7 +113,7 @@ def image_of(data):
     for number in range(period * unroll):
         image.words.append(word(read, image, number))
     if read.at < len(data):
-        raise BadImage(read.at, len(data) - read.at, "the end of the file", "nothing")
+        raise BadImage(read.at, len(data) - read.at, END, "nothing")
     return image
 
 

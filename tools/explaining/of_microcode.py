@@ -1,6 +1,6 @@
 """Why a file is no microcode, and which parts of microcode are in conflict."""
 from explaining.kinds import other_kind
-from explaining.microcode import BadImage, image_of
+from explaining.microcode import END, BadImage, image_of
 from explaining.refusals import CONFLICTS, MICROCODE
 from explaining.report import Report, counted, listed
 
@@ -30,7 +30,7 @@ def bad_field(text, fault):
     cure = "compile the source again, or write what is allowed there."
     if not text.data:
         return Report("the file is empty", "compile the source again.", MICROCODE, about=text.name)
-    if fault.name == "the end of the file":
+    if fault.name == END:
         return Report(f"the image ends at byte {fault.at}, and {counted(fault.size, 'byte follows', 'bytes follow')}",
                       f"take away what comes from byte {fault.at} on.", MICROCODE, about=text.name)
     if fault.found is None:

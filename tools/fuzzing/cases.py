@@ -7,6 +7,7 @@ import re
 import tomllib
 from dataclasses import dataclass
 
+from explaining.microcode import BadImage, image_of
 from fuzzing import damage, datapaths, images, plans, samples, sources
 from fuzzing.running import CONFLICT, DONE, SAMPLES
 
@@ -108,10 +109,21 @@ def of_microcode(room, rng):
     ran = check_rows(room, rng, "SAMPLES", text, "sim", "MIC")
     room.expect(ran.code == 10 or listed.code == DONE, "sim takes what list refuses")
     room.expect(ran.code != 10 or ran.said() == listed.said(), "list and sim refuse the microcode in two ways")
+    expected = refusal_of_microcode(data)
+    room.expect(expected == listed.line, f"the microcode is refused otherwise than by the table of its fields: {expected}")
     if not is_damaged:
         room.expect(listed.code == DONE, f"an image is refused: {listed.line}")
         room.expect(listed.printed.decode() == listing, "the listing is another than that of the image")
         room.expect(not is_sound or ran.code == DONE, f"an image without a conflict ends with {ran.line}")
+
+
+def refusal_of_microcode(data):
+    """The line that refuses microcode, or nothing."""
+    try:
+        image_of(data)
+    except BadImage as fault:
+        return f"silc: {fault.refusal()}\n".encode()
+    return b""
 
 
 # What has to hold
