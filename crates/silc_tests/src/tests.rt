@@ -36,6 +36,84 @@ from = [\"inp\", \"rom\", \"add\"]
 to = [\"add.0\", \"add.1\", \"outp.0\"]
 ";
 
+/// A filter of 16 taps.
+const TAPS: &[u8] = b"const h[16] : fix<16,15> = (0.00390625, -0.0078125, 0.015625, -0.03125,
+  0.0625, -0.125, 0.25, 0.5, 0.5, 0.25, -0.125, 0.0625,
+  -0.03125, 0.015625, -0.0078125, 0.00390625);
+func main(x : fix<16,14>) y : fix<16,15> = begin
+  var s[17] : fix<16,15>;
+  s[0] = 0.0;
+  (i : 0 .. 15) :: begin s[i + 1] = s[i] + h[i] * x@i; end;
+  y = s[16];
+end;
+";
+
+/// A datapath for it, with units of each kind.
+const TAPS_PATH: &[u8] = b"period = 256
+word = 16
+hold = 0
+[[unit]]
+name = \"inp\"
+kind = \"in\"
+[[unit]]
+name = \"rom\"
+kind = \"rom\"
+[[unit]]
+name = \"add\"
+kind = \"alu\"
+files = [256, 256]
+[[unit]]
+name = \"mul\"
+kind = \"mul\"
+latency = 2
+files = [256, 256]
+[[unit]]
+name = \"pick\"
+kind = \"sel\"
+files = [64, 64, 64]
+[[unit]]
+name = \"mem\"
+kind = \"ram\"
+files = [256, 256]
+cells = 256
+[[unit]]
+name = \"adr\"
+kind = \"acu\"
+ram = \"mem\"
+[[unit]]
+name = \"outp\"
+kind = \"out\"
+files = [16]
+[[bus]]
+name = \"b0\"
+from = [\"inp\"]
+to = [\"add.0\", \"add.1\", \"mul.0\", \"mul.1\", \"pick.0\", \"pick.1\", \"pick.2\", \"mem.1\", \"outp.0\"]
+[[bus]]
+name = \"b1\"
+from = [\"rom\"]
+to = [\"add.0\", \"add.1\", \"mul.0\", \"mul.1\", \"pick.0\", \"pick.1\", \"pick.2\", \"mem.1\", \"outp.0\"]
+[[bus]]
+name = \"b2\"
+from = [\"add\"]
+to = [\"add.0\", \"add.1\", \"mul.0\", \"mul.1\", \"pick.0\", \"pick.1\", \"pick.2\", \"mem.1\", \"outp.0\"]
+[[bus]]
+name = \"b3\"
+from = [\"mul\"]
+to = [\"add.0\", \"add.1\", \"mul.0\", \"mul.1\", \"pick.0\", \"pick.1\", \"pick.2\", \"mem.1\", \"outp.0\"]
+[[bus]]
+name = \"b4\"
+from = [\"pick\"]
+to = [\"add.0\", \"add.1\", \"mul.0\", \"mul.1\", \"pick.0\", \"pick.1\", \"pick.2\", \"mem.1\", \"outp.0\"]
+[[bus]]
+name = \"b5\"
+from = [\"mem\"]
+to = [\"add.0\", \"add.1\", \"mul.0\", \"mul.1\", \"pick.0\", \"pick.1\", \"pick.2\", \"mem.1\", \"outp.0\"]
+[[bus]]
+name = \"b6\"
+from = [\"adr\"]
+to = [\"mem.0\"]
+";
+
 /// How many bytes its microcode has.
 const SIZE: usize = 328;
 
@@ -136,15 +214,16 @@ fn a_call_that_fails_leaves_a_prefix_of_the_plan(rt: HostRuntime) -> Result<(), 
 }
 
 /// The commands, each with how many calls of a desk it takes with pieces of 100 bytes: an input is opened and read to its
-/// end (SRC in 3 calls, DP in 5, MIC in 6, SAMPLES in 3), OUT is created, written in pieces and closed, a text is printed in
-/// pieces.
-const CALLS: [(&[&str], u64); 7] = [
+/// end (SRC in 3 calls, DP in 5, MIC in 6, SAMPLES in 3, TAPS in 6, PATH in 15), OUT is created, written in pieces and
+/// closed, a text is printed in pieces.
+const CALLS: [(&[&str], u64); 8] = [
     (&COMPILE, 14),
     (&SCHEDULE, 11),
     (&["list", "MIC"], 9),
     (&["sim", "MIC", "SAMPLES", "OUT"], 12),
     (&["eval", "SRC", "SAMPLES", "OUT"], 9),
     (&["run", "SRC", "DP", "SAMPLES", "OUT"], 14),
+    (&["run", "TAPS", "PATH", "SAMPLES", "OUT"], 27),
     (&["demo", "1", "3"], 1),
 ];
 
@@ -158,6 +237,8 @@ fn failing_at(
     let mut desk = desk_with(alloc, 100, SOURCE)?;
     desk.put("SAMPLES", b"0\n127\n-128\n")?;
     desk.put("MIC", microcode)?;
+    desk.put("TAPS", TAPS)?;
+    desk.put("PATH", TAPS_PATH)?;
     desk.fail_at(call)?;
     let status = carry_out(alloc, words, &mut desk)?;
     Ok((desk, status))
