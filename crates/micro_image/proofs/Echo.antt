@@ -13,7 +13,7 @@ use Rattle.operations.specs.declared.units.Kind.TheVariants as kind
 use Rattle.micro_image.specs.declared.image.Take.{Take}
 use Rattle.micro_image.specs.declared.image.UnitDesc.{UnitDesc}
 use Rattle.micro_image.specs.declared.image.Word.{Word}
-use Rattle.micro_image.specs.Fields.{no_word, issue_at}
+use Rattle.micro_image.specs.Fields.{microprogram_of, no_word, issue_at}
 use Rattle.micro_image.specs.Log.{Cell, Content, Result, value, entries_by}
 use Rattle.micro_image.specs.Run.{spread, latches, outcome, Gives, Writes}
 use Rattle.micro_image.proofs.Increment.{plain_unit, unformatted, zeros}
@@ -67,26 +67,26 @@ abbrev pub samples : Rows
 samples = spread 6 ((pos 1 ∷ []) ∷ (pos 2 ∷ []) ∷ (pos 3 ∷ []) ∷ (pos 4 ∷ []) ∷ [])
 
 -- offset 0 in sample n is cell -n mod 2, and offset 1 is the other
-pub addresses-given : map (Result echo samples 1) (0 ∷ 1 ∷ 6 ∷ 7 ∷ 18 ∷ 19 ∷ []) ≡ Some (pos 0) ∷ Some (pos 1) ∷ Some (pos 1) ∷ Some (pos 0) ∷ Some (pos 1) ∷ Some (pos 0) ∷ []
+pub addresses-given : map (Result (microprogram_of echo) samples 1) (0 ∷ 1 ∷ 6 ∷ 7 ∷ 18 ∷ 19 ∷ []) ≡ Some (pos 0) ∷ Some (pos 1) ∷ Some (pos 1) ∷ Some (pos 0) ∷ Some (pos 1) ∷ Some (pos 0) ∷ []
 unfolding value entries_by
 addresses-given = refl
 
 -- sample 0 goes to cell 0 at the end of cycle 2, sample 1 to cell 1 at the end of cycle 8
-pub cells-held : map (λ t. map (λ cell. Content echo samples (Cell 2 cell) t) (0 ∷ 1 ∷ [])) (2 ∷ 3 ∷ 8 ∷ 9 ∷ 15 ∷ []) ≡ (pos 50 ∷ pos 60 ∷ []) ∷ (pos 1 ∷ pos 60 ∷ []) ∷ (pos 1 ∷ pos 60 ∷ []) ∷ (pos 1 ∷ pos 2 ∷ []) ∷ (pos 3 ∷ pos 2 ∷ []) ∷ []
+pub cells-held : map (λ t. map (λ cell. Content (microprogram_of echo) samples (Cell 2 cell) t) (0 ∷ 1 ∷ [])) (2 ∷ 3 ∷ 8 ∷ 9 ∷ 15 ∷ []) ≡ (pos 50 ∷ pos 60 ∷ []) ∷ (pos 1 ∷ pos 60 ∷ []) ∷ (pos 1 ∷ pos 60 ∷ []) ∷ (pos 1 ∷ pos 2 ∷ []) ∷ (pos 3 ∷ pos 2 ∷ []) ∷ []
 unfolding value entries_by
 cells-held = refl
 
 -- a load's result is there in the cycle after its issue alone; a store has none
-pub loads-given : map (Result echo samples 2) (1 ∷ 2 ∷ 3 ∷ 4 ∷ 9 ∷ 15 ∷ []) ≡ None ∷ None ∷ Some (pos 60) ∷ None ∷ Some (pos 1) ∷ Some (pos 2) ∷ []
+pub loads-given : map (Result (microprogram_of echo) samples 2) (1 ∷ 2 ∷ 3 ∷ 4 ∷ 9 ∷ 15 ∷ []) ≡ None ∷ None ∷ Some (pos 60) ∷ None ∷ Some (pos 1) ∷ Some (pos 2) ∷ []
 unfolding value entries_by
 loads-given = refl
 
 -- what the store and the load of sample 1 come to, told at their issue
-pub outcomes-told : map (λ t. outcome echo samples t (issue_at echo t 2)) (7 ∷ 8 ∷ 9 ∷ []) ≡ Some (Writes (Cell 2 1) (pos 2)) ∷ Some (Gives (pos 1)) ∷ None ∷ []
+pub outcomes-told : map (λ t. outcome (microprogram_of echo) samples t (issue_at (microprogram_of echo) t 2)) (7 ∷ 8 ∷ 9 ∷ []) ≡ Some (Writes (Cell 2 1) (pos 2)) ∷ Some (Gives (pos 1)) ∷ None ∷ []
 unfolding value entries_by
 outcomes-told = refl
 
 -- each sample puts the one before; the first puts what cell 1 began as
-pub rows-put : map (latches echo samples) (6 ∷ 12 ∷ 18 ∷ 24 ∷ []) ≡ (pos 60 ∷ []) ∷ (pos 1 ∷ []) ∷ (pos 2 ∷ []) ∷ (pos 3 ∷ []) ∷ []
+pub rows-put : map (latches (microprogram_of echo) samples) (6 ∷ 12 ∷ 18 ∷ 24 ∷ []) ≡ (pos 60 ∷ []) ∷ (pos 1 ∷ []) ∷ (pos 2 ∷ []) ∷ (pos 3 ∷ []) ∷ []
 unfolding value entries_by
 rows-put = refl

@@ -13,7 +13,7 @@ use Rattle.operations.specs.declared.units.Kind.TheVariants as kind
 use Rattle.micro_image.specs.declared.image.Take.{Take}
 use Rattle.micro_image.specs.declared.image.UnitDesc.{UnitDesc}
 use Rattle.micro_image.specs.declared.image.Word.{Word}
-use Rattle.micro_image.specs.Fields.{no_word}
+use Rattle.micro_image.specs.Fields.{microprogram_of, no_word}
 use Rattle.micro_image.specs.Log.{Register, Content, Result, value, entries_by}
 use Rattle.micro_image.specs.Run.{spread, latches}
 
@@ -90,31 +90,31 @@ abbrev two_samples : Rows
 two_samples = spread 16 ((pos 127 ∷ []) ∷ (negsuc 127 ∷ []) ∷ [])
 
 -- the adder's register at port 0 holds the sample from its cycle 1 on
-pub operands-held : map (Content increment two_samples (Register 2 0 0)) (0 ∷ 1 ∷ 16 ∷ 17 ∷ []) ≡ pos 0 ∷ pos 127 ∷ pos 127 ∷ negsuc 127 ∷ []
+pub operands-held : map (Content (microprogram_of increment) two_samples (Register 2 0 0)) (0 ∷ 1 ∷ 16 ∷ 17 ∷ []) ≡ pos 0 ∷ pos 127 ∷ pos 127 ∷ negsuc 127 ∷ []
 unfolding value entries_by
 operands-held = refl
 
 -- the output unit's register holds the sum from cycle 3 on
-pub sums-held : map (Content increment two_samples (Register 3 0 0)) (2 ∷ 3 ∷ 18 ∷ 19 ∷ []) ≡ pos 0 ∷ negsuc 127 ∷ negsuc 127 ∷ negsuc 126 ∷ []
+pub sums-held : map (Content (microprogram_of increment) two_samples (Register 3 0 0)) (2 ∷ 3 ∷ 18 ∷ 19 ∷ []) ≡ pos 0 ∷ negsuc 127 ∷ negsuc 127 ∷ negsuc 126 ∷ []
 unfolding value entries_by wrap_of
 sums-held = refl
 
 -- no other register is written
-pub others-untouched : map (λ reg. Content increment two_samples (Register 2 0 reg) 20) (1 ∷ 7 ∷ []) ≡ pos 0 ∷ pos 0 ∷ []
+pub others-untouched : map (λ reg. Content (microprogram_of increment) two_samples (Register 2 0 reg) 20) (1 ∷ 7 ∷ []) ≡ pos 0 ∷ pos 0 ∷ []
 unfolding value entries_by
 others-untouched = refl
 
 -- the adder has a result in the cycle of its issue alone
-pub sum-results : map (Result increment two_samples 2) (1 ∷ 2 ∷ 3 ∷ 18 ∷ []) ≡ None ∷ Some (negsuc 127) ∷ None ∷ Some (negsuc 126) ∷ []
+pub sum-results : map (Result (microprogram_of increment) two_samples 2) (1 ∷ 2 ∷ 3 ∷ 18 ∷ []) ≡ None ∷ Some (negsuc 127) ∷ None ∷ Some (negsuc 126) ∷ []
 unfolding value entries_by wrap_of
 sum-results = refl
 
 -- an output gives no result
-pub no-output-result : Result increment two_samples 3 3 ≡ None
+pub no-output-result : Result (microprogram_of increment) two_samples 3 3 ≡ None
 unfolding value entries_by
 no-output-result = refl
 
 -- the latch changes at the end of cycle 3 of each sample
-pub latches-held : map (latches increment two_samples) (3 ∷ 4 ∷ 16 ∷ 19 ∷ 20 ∷ 32 ∷ []) ≡ (pos 0 ∷ []) ∷ (negsuc 127 ∷ []) ∷ (negsuc 127 ∷ []) ∷ (negsuc 127 ∷ []) ∷ (negsuc 126 ∷ []) ∷ (negsuc 126 ∷ []) ∷ []
+pub latches-held : map (latches (microprogram_of increment) two_samples) (3 ∷ 4 ∷ 16 ∷ 19 ∷ 20 ∷ 32 ∷ []) ≡ (pos 0 ∷ []) ∷ (negsuc 127 ∷ []) ∷ (negsuc 127 ∷ []) ∷ (negsuc 127 ∷ []) ∷ (negsuc 126 ∷ []) ∷ (negsuc 126 ∷ []) ∷ []
 unfolding value entries_by wrap_of
 latches-held = refl

@@ -1,7 +1,7 @@
 -- What a cycle writes to a place is what the place holds in the next.
 use Rattle.std.proofs.Common.{◌≡◌, ◌≤◌, ⊎_elim, refl, arith, ℕ, suc, Bool, true, false, ◌&&◌, nat_lt, List, ◌++◌, Option, ℤ}
 use Rattle.lists.specs.Rows.{Rows}
-use Rattle.micro_image.specs.declared.image.Image.{Image}
+use Rattle.micro_image.specs.Fields.{Microprogram}
 use Rattle.micro_image.specs.Log.{Place, Entry, same_place, stamp_le, initial, value_or, Log, Content, entries_by}
 use Rattle.micro_image.proofs.Each.{In, In-append_left, In-append_cases, Each, Each-at}
 use Rattle.micro_image.proofs.LogLaws.{IsBefore, entries-of_cycle, Log-before}
@@ -31,7 +31,7 @@ value_written place v start t new log e before in' same is each (greatest {e = f
     in ⊎_elim (λ k. Each-at each f k (place_of _ _ of)) (λ k. absurd (omega (arith, Each-at before f k, le, is))) (In-append_cases new in_all)
 
 -- if cycle t writes the place, and each of its writes there is v, then the place holds v at t + 1
-pub content-written : (image : Image) (z : Rows) (place : Place) (v : ℤ) (t : ℕ) (e : Entry) → In e (entries_by image z (Log image z t) t) → same_place e.place place ≡ true → Each (WritesAt place v) (entries_by image z (Log image z t) t) → Content image z place (suc t) ≡ v
-content-written image z place v t e in' same each =
-    let new = entries_by image z (Log image z t) t
-    in value_written place v (initial image place) t new (Log image z t) e (Log-before image z t) in' same (Each-at (entries-of_cycle image z (Log image z t) t) e in') each (newest-greatest place (suc t) (new ++ Log image z t))
+pub content-written : (micro : Microprogram) (z : Rows) (place : Place) (v : ℤ) (t : ℕ) (e : Entry) → In e (entries_by micro z (Log micro z t) t) → same_place e.place place ≡ true → Each (WritesAt place v) (entries_by micro z (Log micro z t) t) → Content micro z place (suc t) ≡ v
+content-written micro z place v t e in' same each =
+    let new = entries_by micro z (Log micro z t) t
+    in value_written place v (initial micro place) t new (Log micro z t) e (Log-before micro z t) in' same (Each-at (entries-of_cycle micro z (Log micro z t) t) e in') each (newest-greatest place (suc t) (new ++ Log micro z t))

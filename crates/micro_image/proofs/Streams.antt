@@ -7,9 +7,8 @@ use Rattle.std.proofs.lemmas.List.{get_or-append-add, get_or-replicate, length-a
 use Rattle.std.proofs.lemmas.List.FromFn.{take-map-range_with_len, map-range_with_len_more}
 use Rattle.std.specs.List.{range_with_len}
 use Rattle.lists.specs.Rows.{Rows}
-use Rattle.micro_image.specs.declared.image.Image.{Image}
 use Rattle.micro_image.specs.Conflict.{IsClear, IsClearBelow}
-use Rattle.micro_image.specs.Fields.{nth}
+use Rattle.micro_image.specs.Fields.{Microprogram, nth}
 use Rattle.micro_image.specs.Run.{IsRunOut, latches, spread}
 use Rattle.micro_image.proofs.Lists.{In-range, map-same}
 use Rattle.micro_image.proofs.Prefix.{IsClearBelow-with, IsClearBelow-without, latches-prefix}
@@ -24,22 +23,22 @@ pub spread-append : (period : ℕ) (stream after : Rows) → spread period (stre
 spread-append period stream after = flat_map-append (λ row. replicate period row) stream after
 
 -- the latches at a cycle of the first samples
-pub latches-more : (image : Image) (stream after : Rows) (t : ℕ) → t ≤ length stream * image.period → latches image (spread image.period (stream ++ after)) t ≡ latches image (spread image.period stream) t
-latches-more image stream after t h =
-    ap (λ z. latches image z t) (spread-append image.period stream after)
-    ∙ latches-prefix image (spread image.period stream) (spread image.period after) t (omega (arith, h, length-spread image.period stream))
+pub latches-more : (micro : Microprogram) (stream after : Rows) (t : ℕ) → t ≤ length stream * micro.period → latches micro (spread micro.period (stream ++ after)) t ≡ latches micro (spread micro.period stream) t
+latches-more micro stream after t h =
+    ap (λ z. latches micro z t) (spread-append micro.period stream after)
+    ∙ latches-prefix micro (spread micro.period stream) (spread micro.period after) t (omega (arith, h, length-spread micro.period stream))
 
 -- no conflict in the first samples
-pub IsClearBelow-more : (image : Image) (stream after : Rows) (n : ℕ) → n ≤ length stream * image.period → IsClearBelow image (spread image.period stream) n → IsClearBelow image (spread image.period (stream ++ after)) n
-IsClearBelow-more image stream after n h clear =
-    subst (λ z. IsClearBelow image z n) (sym (spread-append image.period stream after))
-    (IsClearBelow-with image (spread image.period stream) (spread image.period after) n (omega (arith, h, length-spread image.period stream)) clear)
+pub IsClearBelow-more : (micro : Microprogram) (stream after : Rows) (n : ℕ) → n ≤ length stream * micro.period → IsClearBelow micro (spread micro.period stream) n → IsClearBelow micro (spread micro.period (stream ++ after)) n
+IsClearBelow-more micro stream after n h clear =
+    subst (λ z. IsClearBelow micro z n) (sym (spread-append micro.period stream after))
+    (IsClearBelow-with micro (spread micro.period stream) (spread micro.period after) n (omega (arith, h, length-spread micro.period stream)) clear)
 
 -- and back
-pub IsClearBelow-fewer : (image : Image) (stream after : Rows) (n : ℕ) → n ≤ length stream * image.period → IsClearBelow image (spread image.period (stream ++ after)) n → IsClearBelow image (spread image.period stream) n
-IsClearBelow-fewer image stream after n h clear =
-    IsClearBelow-without image (spread image.period stream) (spread image.period after) n (omega (arith, h, length-spread image.period stream))
-    (subst (λ z. IsClearBelow image z n) (spread-append image.period stream after) clear)
+pub IsClearBelow-fewer : (micro : Microprogram) (stream after : Rows) (n : ℕ) → n ≤ length stream * micro.period → IsClearBelow micro (spread micro.period (stream ++ after)) n → IsClearBelow micro (spread micro.period stream) n
+IsClearBelow-fewer micro stream after n h clear =
+    IsClearBelow-without micro (spread micro.period stream) (spread micro.period after) n (omega (arith, h, length-spread micro.period stream))
+    (subst (λ z. IsClearBelow micro z n) (spread-append micro.period stream after) clear)
 
 next_sample : (period : ℕ) (row : List ℤ) (n c : ℕ) → suc n * period + c ≡ length (replicate period row) + (n * period + c)
 next_sample period row n c = omega (arith, length-replicate period row)
@@ -59,28 +58,28 @@ nth-spread period (row ∷ stream) (suc n) c h k =
 length_le : (stream after : Rows) → length stream ≤ length (stream ++ after)
 length_le stream after = omega (arith, length-append stream after)
 
-rows_fewer : (image : Image) (stream after : Rows) (k : ℕ) → k < length stream → latches image (spread image.period (stream ++ after)) ((k + 1) * image.period) ≡ latches image (spread image.period stream) ((k + 1) * image.period)
-rows_fewer image stream after k h = latches-more image stream after ((k + 1) * image.period) (mul-le-mul_right image.period (omega (arith, h)))
+rows_fewer : (micro : Microprogram) (stream after : Rows) (k : ℕ) → k < length stream → latches micro (spread micro.period (stream ++ after)) ((k + 1) * micro.period) ≡ latches micro (spread micro.period stream) ((k + 1) * micro.period)
+rows_fewer micro stream after k h = latches-more micro stream after ((k + 1) * micro.period) (mul-le-mul_right micro.period (omega (arith, h)))
 
-same_rows : (image : Image) (stream after : Rows) → map (λ n. latches image (spread image.period (stream ++ after)) ((n + 1) * image.period)) (range_with_len 0 (length stream)) ≡ map (λ n. latches image (spread image.period stream) ((n + 1) * image.period)) (range_with_len 0 (length stream))
-same_rows image stream after = map-same _ _ (range_with_len 0 (length stream)) (λ k in'. rows_fewer image stream after k (let range = In-range 0 (length stream) k in' in omega (arith, range.1)))
+same_rows : (micro : Microprogram) (stream after : Rows) → map (λ n. latches micro (spread micro.period (stream ++ after)) ((n + 1) * micro.period)) (range_with_len 0 (length stream)) ≡ map (λ n. latches micro (spread micro.period stream) ((n + 1) * micro.period)) (range_with_len 0 (length stream))
+same_rows micro stream after = map-same _ _ (range_with_len 0 (length stream)) (λ k in'. rows_fewer micro stream after k (let range = In-range 0 (length stream) k in' in omega (arith, range.1)))
 
 -- a run over more samples begins with the run over the first
-pub IsRunOut-fewer : (image : Image) (stream after rows : Rows) → IsRunOut image (stream ++ after) rows → IsRunOut image stream (take (length stream) rows)
-IsRunOut-fewer image stream after rows run = record {
-  clear = IsClearBelow-fewer image stream after (length stream * image.period) (omega arith) (λ t below. run.clear t (omega (arith, below, mul-le-mul_right image.period (length_le stream after))));
-  put = ap (take (length stream)) run.put ∙ take-map-range_with_len _ 0 (length (stream ++ after)) (length stream) (length_le stream after) ∙ same_rows image stream after;
+pub IsRunOut-fewer : (micro : Microprogram) (stream after rows : Rows) → IsRunOut micro (stream ++ after) rows → IsRunOut micro stream (take (length stream) rows)
+IsRunOut-fewer micro stream after rows run = record {
+  clear = IsClearBelow-fewer micro stream after (length stream * micro.period) (omega arith) (λ t below. run.clear t (omega (arith, below, mul-le-mul_right micro.period (length_le stream after))));
+  put = ap (take (length stream)) run.put ∙ take-map-range_with_len _ 0 (length (stream ++ after)) (length stream) (length_le stream after) ∙ same_rows micro stream after;
 }
 
-in_last : (image : Image) (stream : Rows) (row : List ℤ) (t : ℕ) → t < length (stream ++ row ∷ []) * image.period → t < (length stream + 1) * image.period
-in_last image stream row t below = subst (λ n. t < n * image.period) (length-append stream (row ∷ [])) below
+in_last : (micro : Microprogram) (stream : Rows) (row : List ℤ) (t : ℕ) → t < length (stream ++ row ∷ []) * micro.period → t < (length stream + 1) * micro.period
+in_last micro stream row t below = subst (λ n. t < n * micro.period) (length-append stream (row ∷ [])) below
 
 -- a run goes on by a sample whose cycles are clear
-pub IsRunOut-more : (image : Image) (stream rows : Rows) (row : List ℤ) → IsRunOut image stream rows → ((t : ℕ) → length stream * image.period ≤ t → t < (length stream + 1) * image.period → IsClear image (spread image.period (stream ++ row ∷ [])) t) → IsRunOut image (stream ++ row ∷ []) (rows ++ latches image (spread image.period (stream ++ row ∷ [])) ((length stream + 1) * image.period) ∷ [])
-IsRunOut-more image stream rows row run clear = record {
-  clear = λ t below. ⊎_elim (λ early. IsClearBelow-more image stream (row ∷ []) (length stream * image.period) (omega arith) run.clear t early) (λ late. clear t late (in_last image stream row t below)) (cases_lt t (length stream * image.period));
+pub IsRunOut-more : (micro : Microprogram) (stream rows : Rows) (row : List ℤ) → IsRunOut micro stream rows → ((t : ℕ) → length stream * micro.period ≤ t → t < (length stream + 1) * micro.period → IsClear micro (spread micro.period (stream ++ row ∷ [])) t) → IsRunOut micro (stream ++ row ∷ []) (rows ++ latches micro (spread micro.period (stream ++ row ∷ [])) ((length stream + 1) * micro.period) ∷ [])
+IsRunOut-more micro stream rows row run clear = record {
+  clear = λ t below. ⊎_elim (λ early. IsClearBelow-more micro stream (row ∷ []) (length stream * micro.period) (omega arith) run.clear t early) (λ late. clear t late (in_last micro stream row t below)) (cases_lt t (length stream * micro.period));
   put =
-      ap (λ rows'. rows' ++ latches image (spread image.period (stream ++ row ∷ [])) ((length stream + 1) * image.period) ∷ []) (run.put ∙ sym (same_rows image stream (row ∷ [])))
-      ∙ sym (map-range_with_len_more (λ n. latches image (spread image.period (stream ++ row ∷ [])) ((n + 1) * image.period)) 0 (length stream) (length stream) (omega arith))
-      ∙ ap (λ n. map (λ k. latches image (spread image.period (stream ++ row ∷ [])) ((k + 1) * image.period)) (range_with_len 0 n)) (sym (length-append stream (row ∷ [])));
+      ap (λ rows'. rows' ++ latches micro (spread micro.period (stream ++ row ∷ [])) ((length stream + 1) * micro.period) ∷ []) (run.put ∙ sym (same_rows micro stream (row ∷ [])))
+      ∙ sym (map-range_with_len_more (λ n. latches micro (spread micro.period (stream ++ row ∷ [])) ((n + 1) * micro.period)) 0 (length stream) (length stream) (omega arith))
+      ∙ ap (λ n. map (λ k. latches micro (spread micro.period (stream ++ row ∷ [])) ((k + 1) * micro.period)) (range_with_len 0 n)) (sym (length-append stream (row ∷ [])));
 }
