@@ -18,7 +18,7 @@ use Rattle.plan_core.specs.declared.plan.Plan.{Plan}
 use Rattle.micro_image.specs.declared.image.UnitDesc.{UnitDesc}
 use Rattle.micro_image.specs.declared.image.Image.{Image}
 use Rattle.micro_image.specs.Fields.{nth, no_unit}
-use Rattle.micro_image.specs.Log.{Place, Register, Cell, Latch, initial}
+use Rattle.micro_image.specs.Log.{Place, Register, Cell, Latch}
 use Rattle.plan_run.specs.Parts.{nodes_of, lines_of, node_at, arc_at, line_at, register_at, IsCopy}
 use Rattle.plan_run.specs.ImageOf.{IsImageOf, IsUnitOf, IsPreloadOf, IsCellPreload}
 use Rattle.plan_run.specs.Private.Feasible.{IsFeasible}
@@ -26,7 +26,7 @@ use Rattle.plan_run.proofs.Ordinary.{room as line_room}
 use Rattle.plan_run.proofs.Elements.{nth_past}
 use Rattle.plan_run.proofs.SomeWord.{copy_once}
 use Rattle.microcode_asm.specs.Private.Ready.{IsReady, samples_of}
-use Rattle.microcode_asm.specs.Private.Starts.{zeros, blank_unit, held, Writes, AreUnitsOf, AreStarted, ArePreloaded, AreCellsPut, inits_of, no_init}
+use Rattle.microcode_asm.specs.Private.Starts.{zeros, blank_unit, held, initial_of, Writes, AreUnitsOf, AreStarted, ArePreloaded, AreCellsPut, inits_of, no_init}
 use Rattle.microcode_asm.proofs.HeldSteps.{place_cases, file_length}
 use Rattle.microcode_asm.proofs.IssueSteps.{read_at, arc_is, register_is, register_room}
 
@@ -179,13 +179,13 @@ blank_started d p image = record {
 -- One write.
 
 module _ (d : Datapath) (p : Plan) (image : Image) (place : Place) (old new : List UnitDesc)
-    (writes : Writes place (initial image place) old new) where
+    (writes : Writes place (initial_of image place) old new) where
   -- a place that starts as in the image still does
-  kept : (other : Place) → held old other ≡ initial image other → held new other ≡ initial image other
+  kept : (other : Place) → held old other ≡ initial_of image other → held new other ≡ initial_of image other
   kept other is =
       ⊎_elim
       (λ (same : other ≡ place).
-      subst (λ place. held new place ≡ initial image place) (sym same) writes.here)
+      subst (λ place. held new place ≡ initial_of image place) (sym same) writes.here)
       (λ apart. writes.others other apart ∙ is)
       (place_cases other place)
 
@@ -197,7 +197,7 @@ module _ (d : Datapath) (p : Plan) (image : Image) (place : Place) (old new : Li
     only = λ other.
         ⊎_elim
         (λ (same : other ≡ place).
-        inl (subst (λ place. held new place ≡ initial image place) (sym same) writes.here))
+        inl (subst (λ place. held new place ≡ initial_of image place) (sym same) writes.here))
         (λ apart.
         ⊎_elim (λ is. inl (writes.others other apart ∙ is)) (λ zero_there. inr (writes.others other apart ∙ zero_there))
         (started.only other))
@@ -322,18 +322,19 @@ module _ (d : Datapath) (p : Plan) (ready : IsReady d p) where
             (subst (λ (a : Arc). a.node < length (nodes_of p)) (sym at) (feasible.arcs k in-k).node) node-is
             ∙ ap (λ (a : Arc). node_at p a.node) at
 
-        word' : word ≡ initial image (Register arc.port.unit arc.port.port reg)
+        word' : word ≡ initial_of image (Register arc.port.unit arc.port.port reg)
         word' =
             word-is ∙ ap (λ inits. word_before inits ago) (inits-are ∙ ap (λ (node : Node). node.inits) its_node)
             ∙ sym (is.starts.register arc.port reg k i ago of-it)
 
-        writes' : Writes (Register arc.port.unit arc.port.port reg) (initial image (Register arc.port.unit arc.port.port reg)) old new
+        writes' : Writes (Register arc.port.unit arc.port.port reg)
+            (initial_of image (Register arc.port.unit arc.port.port reg)) old new
         writes' = subst (λ word. Writes (Register arc.port.unit arc.port.port reg) word old new) word' writes
 
         here : (port : PortRef) (r j b : ℕ)
             → b ≡ ago
             → IsPreloadOf d p port r k j b
-            → held new (Register port.unit port.port r) ≡ initial image (Register port.unit port.port r)
+            → held new (Register port.unit port.port r) ≡ initial_of image (Register port.unit port.port r)
         here port r j b same of =
             let copy-j : IsCopy (arc_at p k).copies 0 ago j =
             subst (λ b. IsCopy (arc_at p k).copies 0 b j) same of.preload.copy in
@@ -341,9 +342,9 @@ module _ (d : Datapath) (p : Plan) (ready : IsReady d p) where
             let reg-same : reg ≡ r = register ∙ ap (register_at p k) j-is ∙ of.reg_is in
             let port-same : arc.port ≡ port = ap (λ (a : Arc). a.port) at ∙ of.port_is in
             subst (λ (port : PortRef). held new (Register port.unit port.port r)
-            ≡ initial image (Register port.unit port.port r)) port-same
+            ≡ initial_of image (Register port.unit port.port r)) port-same
             (subst (λ r. held new (Register arc.port.unit arc.port.port r)
-            ≡ initial image (Register arc.port.unit arc.port.port r)) reg-same writes'.here)
+            ≡ initial_of image (Register arc.port.unit arc.port.port r)) reg-same writes'.here)
 
     pub registers_started : (ago most : ℕ) (arc : Arc) (units : List UnitDesc)
         → arc ≡ slice_index_or p.arcs k arc
@@ -366,7 +367,7 @@ module _ (d : Datapath) (p : Plan) (ready : IsReady d p) where
         here : (port : PortRef) (reg j i b : ℕ)
             → j ≡ k
             → IsPreloadOf d p port reg j i b
-            → held units (Register port.unit port.port reg) ≡ initial image (Register port.unit port.port reg)
+            → held units (Register port.unit port.port reg) ≡ initial_of image (Register port.unit port.port reg)
         here port reg j i b same of =
             let of' : IsPreloadOf d p port reg k i b = subst (λ j. IsPreloadOf d p port reg j i b) same of in
             let low : b ≤ arc.r / d.period =
@@ -467,7 +468,7 @@ module _ (d : Datapath) (p : Plan) (ready : IsReady d p) where
               ∙ ap (λ n. line.offset + n) (sym number-is);
         }
 
-        word' : init.1 ≡ initial image (Cell line.ram (line.offset + number))
+        word' : init.1 ≡ initial_of image (Cell line.ram (line.offset + number))
         word' =
             ap (λ (x : ℕ × ℤ). x.1) init'
             ∙ sym (init_word (inits_of p l) m (ready.inits (line_at p l).node (feasible.lines l in-l).node)
@@ -475,14 +476,15 @@ module _ (d : Datapath) (p : Plan) (ready : IsReady d p) where
             ∙ ap (λ (x : ℕ × ℤ). word_before (inits_of p l) x.0) (sym init')
             ∙ sym (is.starts.cell line.ram (line.offset + number) l init.0 of-it)
 
-        writes' : Writes (Cell line.ram (line.offset + number)) (initial image (Cell line.ram (line.offset + number))) old new
+        writes' : Writes (Cell line.ram (line.offset + number))
+            (initial_of image (Cell line.ram (line.offset + number))) old new
         writes' = subst (λ word. Writes (Cell line.ram (line.offset + number)) word old new) word' writes
 
         here : (ram cell ago i : ℕ)
             → i ≡ m
             → (slice_index_or (inits_of p l) i no_init).0 ≡ ago
             → IsCellPreload p ram cell l ago
-            → held new (Cell ram cell) ≡ initial image (Cell ram cell)
+            → held new (Cell ram cell) ≡ initial_of image (Cell ram cell)
         here ram cell ago i same sample of =
             let ago-is : init.0 ≡ ago =
             ap (λ (x : ℕ × ℤ). x.0) init'
@@ -490,8 +492,8 @@ module _ (d : Datapath) (p : Plan) (ready : IsReady d p) where
             let ram-is : line.ram ≡ ram = ap (λ (line : Line). line.ram) at ∙ of.ram_is in
             let cell-is : line.offset + number ≡ cell =
             omega (arith, ap (λ (line : Line). line.offset) at, of.cell_is, number-is, ago-is) in
-            subst (λ ram. held new (Cell ram cell) ≡ initial image (Cell ram cell)) ram-is
-            (subst (λ cell. held new (Cell line.ram cell) ≡ initial image (Cell line.ram cell)) cell-is writes'.here)
+            subst (λ ram. held new (Cell ram cell) ≡ initial_of image (Cell ram cell)) ram-is
+            (subst (λ cell. held new (Cell line.ram cell) ≡ initial_of image (Cell line.ram cell)) cell-is writes'.here)
 
     -- an initial value that is not read from the line is left out
     pub cell_skipped : (m : ℕ) (line : Line) (node : Node) (inits : List (ℕ × ℤ)) (init : ℕ × ℤ) (units : List UnitDesc)
@@ -551,7 +553,7 @@ module _ (d : Datapath) (p : Plan) (ready : IsReady d p) where
 
         here : (ram cell ago : ℕ)
             → IsCellPreload p ram cell l ago
-            → held units (Cell ram cell) ≡ initial image (Cell ram cell)
+            → held units (Cell ram cell) ≡ initial_of image (Cell ram cell)
         here ram cell ago of =
             ⊎_elim
             (λ (found : (i : ℕ) × IsInitAt (inits_of p l) ago i).

@@ -18,7 +18,7 @@ use Rattle.micro_image.specs.declared.image.Take.{Take}
 use Rattle.micro_image.specs.declared.image.UnitDesc.{UnitDesc}
 use Rattle.micro_image.specs.declared.image.Word.{Word}
 use Rattle.micro_image.specs.declared.image.Image.{Image}
-use Rattle.micro_image.specs.Fields.{nth, no_word, unit_of as described_unit}
+use Rattle.micro_image.specs.Fields.{microprogram_of, nth, no_word, unit_of as described_unit}
 use Rattle.micro_image.specs.Log.{Register, Cell, initial, entries_by, value}
 use Rattle.micro_image.specs.Run.{row_of}
 use Rattle.micro_image.specs.Valid.{EnableBefore, TakeBefore}
@@ -330,7 +330,7 @@ sum_preload = record {
 
 others_zero : (u q reg : ℕ)
     → (u ≡ 2 → q ≡ 0 → reg ≡ 0 → ⊥)
-    → initial image (Register u q reg) ≡ pos 0
+    → initial (microprogram_of image) (Register u q reg) ≡ pos 0
 others_zero zero q reg other = refl
 others_zero (suc zero) q reg other = refl
 others_zero (suc (suc zero)) zero zero other = absurd (other refl refl refl)
@@ -341,7 +341,7 @@ others_zero (suc (suc (suc zero))) zero reg other = nth_same 2 reg (pos 0)
 others_zero (suc (suc (suc zero))) (suc q) reg other = refl
 others_zero (suc (suc (suc (suc u)))) q reg other = refl
 
-cells_zero : (u cell : ℕ) → initial image (Cell u cell) ≡ pos 0
+cells_zero : (u cell : ℕ) → initial (microprogram_of image) (Cell u cell) ≡ pos 0
 cells_zero zero cell = refl
 cells_zero (suc zero) cell = refl
 cells_zero (suc (suc zero)) cell = refl
@@ -350,14 +350,15 @@ cells_zero (suc (suc (suc (suc u)))) cell = refl
 
 start_of : (port : PortRef) (reg k ago : ℕ)
     → (port ≡ port_of 2 0) × (reg ≡ 0) × (k ≡ 0) × (ago ≡ 1)
-    → initial image (Register port.unit port.port reg) ≡ word_before (node_at plan (arc_at plan k).node).inits ago
+    → initial (microprogram_of image) (Register port.unit port.port reg)
+    ≡ word_before (node_at plan (arc_at plan k).node).inits ago
 start_of port reg k ago (at, first, one, before) =
-    ap (λ (port : PortRef). initial image (Register port.unit port.port reg)) at
-    ∙ ap (λ reg. initial image (Register 2 0 reg)) first
+    ap (λ (port : PortRef). initial (microprogram_of image) (Register port.unit port.port reg)) at
+    ∙ ap (λ reg. initial (microprogram_of image) (Register 2 0 reg)) first
     ∙ sym (ap (λ ago. word_before (node_at plan (arc_at plan k).node).inits ago) before
     ∙ ap (λ k. word_before (node_at plan (arc_at plan k).node).inits 1) one)
 
-starts : StartsWith path plan image
+starts : StartsWith path plan (microprogram_of image)
 starts = record {
   register = λ port reg k i ago of. start_of port reg k ago (only_preload port reg k i ago of);
   other_register = λ port reg none. others_zero port.unit port.port reg (λ u q first.
@@ -367,7 +368,7 @@ starts = record {
   other_cell = λ ram cell none. cells_zero ram cell;
 }
 
-units : (u : ℕ) → u < 4 → IsUnitOf path u (described_unit image u)
+units : (u : ℕ) → u < 4 → IsUnitOf path u (described_unit (microprogram_of image) u)
 units zero below = record { kind = refl; latency = refl; gap = refl; files = refl; cells = refl; ram = refl }
 units (suc zero) below = record { kind = refl; latency = refl; gap = refl; files = refl; cells = refl; ram = refl }
 units (suc (suc zero)) below =
@@ -392,7 +393,7 @@ is_image = record {
 }
 
 -- for the samples 1, 2 and 3 the latch holds 6, 8 and 11
-pub rows_are : map (row_of image ((pos 1 ∷ []) ∷ (pos 2 ∷ []) ∷ (pos 3 ∷ []) ∷ [])) (0 ∷ 1 ∷ 2 ∷ [])
+pub rows_are : map (row_of (microprogram_of image) ((pos 1 ∷ []) ∷ (pos 2 ∷ []) ∷ (pos 3 ∷ []) ∷ [])) (0 ∷ 1 ∷ 2 ∷ [])
     ≡ (pos 6 ∷ []) ∷ (pos 8 ∷ []) ∷ (pos 11 ∷ []) ∷ []
 unfolding entries_by value wrap_of
 rows_are = refl

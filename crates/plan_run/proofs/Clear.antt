@@ -15,9 +15,8 @@ use Rattle.micro_image.specs.declared.conflict.ConflictKind.TheVariants.{Busy, T
 use Rattle.micro_image.specs.declared.image.Enable.{Enable}
 use Rattle.micro_image.specs.declared.image.Issue.{Issue}
 use Rattle.micro_image.specs.declared.image.Take.{Take}
-use Rattle.micro_image.specs.declared.image.Image.{Image}
 use Rattle.micro_image.specs.Conflict.{IsClear, IsMemory, IsOutside, file_of}
-use Rattle.micro_image.specs.Fields.{nth, unit_of, word_at, issue_at}
+use Rattle.micro_image.specs.Fields.{Microprogram, nth, unit_of, issue_at}
 use Rattle.micro_image.specs.Log.{Log, Result, result_by, operand}
 use Rattle.micro_image.proofs.Each.{In}
 use Rattle.plan_run.specs.Parts.{nodes_of, node_at, unit_at, cycle_at, arc_at, line_at, ends_at, IsTransferOf}
@@ -58,8 +57,8 @@ file_same f a b small small' is is' =
     let e' : 4 * b.port.unit + b.port.port ≡ f = grind (arith, is') in
     port_eq a.port b.port (omega arith) (omega arith)
 
-module _ {o : Overlap} (d : Datapath) (p : Plan) (words : Counted) (plan : IsFeasibleOver o d p) (image : Image)
-    (z stream : Rows) (runs : ExecutesOver o d p image) (solves : LoweredSolves d p stream words)
+module _ {o : Overlap} (d : Datapath) (p : Plan) (words : Counted) (plan : IsFeasibleOver o d p) (micro : Microprogram)
+    (z stream : Rows) (runs : ExecutesOver o d p micro) (solves : LoweredSolves d p stream words)
     (rows : (n c : ℕ) → c < d.period → nth z (n * d.period + c) [] ≡ nth stream n []) where
   -- node v is issued on unit u in cycle t for sample n
   pub record IsIssuedAt (t u v n : ℕ) : Type 0 where
@@ -67,17 +66,17 @@ module _ {o : Overlap} (d : Datapath) (p : Plan) (words : Counted) (plan : IsFea
     pub unit : unit_at p v ≡ u
     pub at : t ≡ n * d.period + cycle_at p v
 
-  issued_at : (t u : ℕ) → IsSome (issue_at image t u) → (v : ℕ) × (n : ℕ) × IsIssuedAt t u v n
+  issued_at : (t u : ℕ) → IsSome (issue_at micro t u) → (v : ℕ) × (n : ℕ) × IsIssuedAt t u v n
   issued_at t u some =
-      let issue = some_of (issue_at image t u) some in
+      let issue = some_of (issue_at micro t u) some in
       let only = runs.issue_only t u issue.0 issue.1 in
       (only.0, only.1, record { there = only.2; unit = only.3; at = only.4 })
 
   not_busy : (t u s : ℕ)
       → s < t
       → t < s + gap_on d u
-      → IsSome (issue_at image t u)
-      → IsSome (issue_at image s u)
+      → IsSome (issue_at micro t u)
+      → IsSome (issue_at micro s u)
       → ⊥
   not_busy t u s before near at at' =
       let a = issued_at t u at in
@@ -96,14 +95,14 @@ module _ {o : Overlap} (d : Datapath) (p : Plan) (words : Counted) (plan : IsFea
       omega (arith, is-v.at, is-w.at, before)
 
   enabled_at : (t : ℕ) (e : Enable)
-      → In e (word_at image t).enables
+      → In e (micro.word_at t).enables
       → (v : ℕ) × (n : ℕ) × (t ≡ n * d.period + ends_at d p v) × IsEnableOf p v e
   enabled_at t e among = runs.enable_only t e (Contains-from_In among)
 
   taken_at : (t : ℕ) (take : Take)
-      → In take (word_at image t).takes
+      → In take (micro.word_at t).takes
       → (k : ℕ) × (n : ℕ) × (k < length p.arcs) × (t ≡ n * d.period + ends_at d p (arc_at p k).node)
-      × IsTakeIn d p image k n t take
+      × IsTakeIn d p micro k n t take
   taken_at t take among = runs.take_only t take (Contains-from_In among)
 
   -- of one file, in one cycle, is one lifetime in one sample
@@ -129,7 +128,7 @@ module _ {o : Overlap} (d : Datapath) (p : Plan) (words : Counted) (plan : IsFea
       let arc : j ≡ k = plan.file_free j k in-j in-k port one.0 in
       (arc, omega (arith, one.1, ap (shift_of d p) arc))
 
-  one_driver : (t b : ℕ) → 2 ≤ count_by (λ (e : Enable). e.bus == b) (word_at image t).enables → ⊥
+  one_driver : (t b : ℕ) → 2 ≤ count_by (λ (e : Enable). e.bus == b) (micro.word_at t).enables → ⊥
   one_driver t b h =
       two_related (λ (e f : Enable). e.unit ≡ f.unit → e.bus ≡ f.bus → ⊥) (λ (e : Enable). e.bus == b)
       (runs.enables_differ t)
@@ -142,28 +141,28 @@ module _ {o : Overlap} (d : Datapath) (p : Plan) (words : Counted) (plan : IsFea
       let node : a.0 ≡ c.0 = plan.bus_free a.0 c.0 a.1 c.1 is-e.transfer.0 is-f.transfer.0 is-e.node is-f.node
       is-e.transfer.1 is-f.transfer.1 (omega (arith, a.2, c.2)) (is-e.transfer.2 ∙ bus ∙ sym is-f.transfer.2) in
       differ (sym is-e.unit ∙ ap (unit_at p) node ∙ is-f.unit) bus)
-      (two (λ (e : Enable). e.bus == b) (word_at image t).enables h)
+      (two (λ (e : Enable). e.bus == b) (micro.word_at t).enables h)
 
-  one_write : (t f : ℕ) → 2 ≤ count_by (λ (k : Take). file_of k == f) (word_at image t).takes → ⊥
+  one_write : (t f : ℕ) → 2 ≤ count_by (λ (k : Take). file_of k == f) (micro.word_at t).takes → ⊥
   one_write t f h =
       two_related (λ (a b : Take). a.port ≡ b.port → a.bus ≡ b.bus → a.reg ≡ b.reg → ⊥) (λ (k : Take). file_of k == f)
       (runs.takes_differ t)
       (λ a b in-a in-b on-a on-b differ.
       let j = taken_at t a in-a in
       let k = taken_at t b in-b in
-      let is-a : IsTakeIn d p image j.0 j.1 t a = j.4 in
-      let is-b : IsTakeIn d p image k.0 k.1 t b = k.4 in
+      let is-a : IsTakeIn d p micro j.0 j.1 t a = j.4 in
+      let is-b : IsTakeIn d p micro k.0 k.1 t b = k.4 in
       let small : a.port.port < 4 = subst (λ (q : PortRef). q.port < 4) (sym is-a.port) (plan.ports j.0 j.2) in
       let small' : b.port.port < 4 = subst (λ (q : PortRef). q.port < 4) (sym is-b.port) (plan.ports k.0 k.2) in
       let port : a.port ≡ b.port = file_same f a b small small' on-a on-b in
       let one = one_taken t j.0 j.1 k.0 k.1 j.2 k.2 (sym is-a.port ∙ port ∙ is-b.port) j.3 k.3 in
       differ port (same_bus t j.0 k.0 j.1 k.1 a b is-a is-b j.2 one.0)
       (is-a.reg ∙ ap₂ (λ k n. register_in d p k n) one.0 one.1 ∙ sym is-b.reg))
-      (two (λ (k : Take). file_of k == f) (word_at image t).takes h)
+      (two (λ (k : Take). file_of k == f) (micro.word_at t).takes h)
     where
       same_bus : (t j k m n : ℕ) (a b : Take)
-          → IsTakeIn d p image j m t a
-          → IsTakeIn d p image k n t b
+          → IsTakeIn d p micro j m t a
+          → IsTakeIn d p micro k n t b
           → j < length p.arcs
           → j ≡ k
           → a.bus ≡ b.bus
@@ -177,27 +176,27 @@ module _ {o : Overlap} (d : Datapath) (p : Plan) (words : Counted) (plan : IsFea
           ∙ is-b.transfer.2
 
   some_driver : (t b : ℕ)
-      → 0 < count_by (λ (k : Take). k.bus == b) (word_at image t).takes
-      → count_by (λ (e : Enable). e.bus == b) (word_at image t).enables ≡ 0
+      → 0 < count_by (λ (k : Take). k.bus == b) (micro.word_at t).takes
+      → count_by (λ (e : Enable). e.bus == b) (micro.word_at t).enables ≡ 0
       → ⊥
   some_driver t b some none =
-      let take = passing (λ (k : Take). k.bus == b) (word_at image t).takes some in
+      let take = passing (λ (k : Take). k.bus == b) (micro.word_at t).takes some in
       let k = taken_at t take.it take.among in
-      let is : IsTakeIn d p image k.0 k.1 t take.it = k.4 in
+      let is : IsTakeIn d p micro k.0 k.1 t take.it = k.4 in
       let bus : take.it.bus ≡ b = grind (arith, take.passes) in
-      let count : 0 < count_by (λ (e : Enable). e.bus == take.it.bus) (word_at image t).enables =
-      find_count (λ (e : Enable). e.bus == take.it.bus) is.driver.0 (word_at image t).enables is.driver.1 in
-      let count' : 0 < count_by (λ (e : Enable). e.bus == b) (word_at image t).enables =
-      subst (λ b. 0 < count_by (λ (e : Enable). e.bus == b) (word_at image t).enables) bus count in
+      let count : 0 < count_by (λ (e : Enable). e.bus == take.it.bus) (micro.word_at t).enables =
+      find_count (λ (e : Enable). e.bus == take.it.bus) is.driver.0 (micro.word_at t).enables is.driver.1 in
+      let count' : 0 < count_by (λ (e : Enable). e.bus == b) (micro.word_at t).enables =
+      subst (λ b. 0 < count_by (λ (e : Enable). e.bus == b) (micro.word_at t).enables) bus count in
       omega arith
 
   some_result : (t u : ℕ)
       → t < length stream * d.period
-      → 0 < count_by (λ (e : Enable). e.unit == u) (word_at image t).enables
-      → IsNone (Result image z u t)
+      → 0 < count_by (λ (e : Enable). e.unit == u) (micro.word_at t).enables
+      → IsNone (Result micro z u t)
       → ⊥
   some_result t u below some none =
-      let e = passing (λ (e : Enable). e.unit == u) (word_at image t).enables some in
+      let e = passing (λ (e : Enable). e.unit == u) (micro.word_at t).enables some in
       let a = enabled_at t e.it e.among in
       let v : ℕ = a.0 in
       let n : ℕ = a.1 in
@@ -206,13 +205,13 @@ module _ {o : Overlap} (d : Datapath) (p : Plan) (words : Counted) (plan : IsFea
       let at : t ≡ n * d.period + ends_at d p v = a.2 in
       let in-n : n < length stream = below_count n d.period t (length stream) (omega (arith, at)) below in
       let le : t ≤ length stream * d.period = omega arith in
-      let result = result_right d p words plan image z stream runs solves rows v n
-      (subst (AllRight d p words plan image z stream runs solves rows) at
-      (all_right d p words plan image z stream runs solves rows t le))
+      let result = result_right d p words plan micro z stream runs solves rows v n
+      (subst (AllRight d p words plan micro z stream runs solves rows) at
+      (all_right d p words plan micro z stream runs solves rows t le))
       is.node in-n (plan.transfers v is.transfer.0 is.node is.transfer.1) in
-      not_none (Result image z u t) (words v (past + n))
-      (ap (λ u. Result image z u t) (sym unit)
-      ∙ subst (λ t. result_by image z (Log image z t) t (unit_at p v) ≡ Some (words v (past + n))) (sym at) result)
+      not_none (Result micro z u t) (words v (past + n))
+      (ap (λ u. Result micro z u t) (sym unit)
+      ∙ subst (λ t. result_by micro z (Log micro z t) t (unit_at p v) ≡ Some (words v (past + n))) (sym at) result)
       none
 
   -- the address of a cell is inside the ram
@@ -231,19 +230,19 @@ module _ {o : Overlap} (d : Datapath) (p : Plan) (words : Counted) (plan : IsFea
       → n < length stream
       → t ≤ length stream * d.period
       → t ≡ n * d.period + cycle_at p v
-      → IsIssueIn d p image v n issue
+      → IsIssueIn d p micro v n issue
       → 0 < length (node_at p v).edges
       → HasAddress d p v ram offset
       → unit_at p v ≡ ram
       → 0 < cells_on d ram
-      → IsOutside (length (unit_of image (unit_at p v)).cells) (operand image (Log image z t) t issue 0)
+      → IsOutside (length (unit_of micro (unit_at p v)).cells) (operand micro (Log micro z t) t issue 0)
       → ⊥
   address_inside t v n ram offset issue in-v in-n le at is some has unit cells out =
-      inside (cells_on d ram) past offset (past + n) (operand image (Log image z t) t issue 0) cells
-      (ap (λ b. operand image (Log image z t) b issue 0) at
-      ∙ address_right d p words plan image z stream runs solves rows t v n ram offset issue
-      (all_right d p words plan image z stream runs solves rows t le) in-v in-n some is has cells (omega arith))
-      (subst (λ cells. IsOutside cells (operand image (Log image z t) t issue 0))
+      inside (cells_on d ram) past offset (past + n) (operand micro (Log micro z t) t issue 0) cells
+      (ap (λ b. operand micro (Log micro z t) b issue 0) at
+      ∙ address_right d p words plan micro z stream runs solves rows t v n ram offset issue
+      (all_right d p words plan micro z stream runs solves rows t le) in-v in-n some is has cells (omega arith))
+      (subst (λ cells. IsOutside cells (operand micro (Log micro z t) t issue 0))
       (runs.cells (unit_at p v) ∙ ap (cells_on d) unit) out)
 
   some_edges : (v : ℕ) (o : Op)
@@ -260,9 +259,9 @@ module _ {o : Overlap} (d : Datapath) (p : Plan) (words : Counted) (plan : IsFea
 
   no_outside : (t u : ℕ) (issue : Issue)
       → t < length stream * d.period
-      → issue_at image t u ≡ Some issue
+      → issue_at micro t u ≡ Some issue
       → IsMemory issue.op
-      → IsOutside (length (unit_of image u).cells) (operand image (Log image z t) t issue 0)
+      → IsOutside (length (unit_of micro u).cells) (operand micro (Log micro z t) t issue 0)
       → ⊥
   no_outside t u issue below e memory out =
       let a = issued_at t u (ap is_some e) in
@@ -271,11 +270,11 @@ module _ {o : Overlap} (d : Datapath) (p : Plan) (words : Counted) (plan : IsFea
       let as' : IsIssuedAt t u v n = a.2 in
       let its = runs.issue v n as'.there in
       let same : its.0 ≡ issue =
-      some_same its.0 issue (issue_at image t u) (ap₂ (issue_at image) as'.at (sym as'.unit) ∙ its.1) e in
-      let is : IsIssueIn d p image v n issue = subst (IsIssueIn d p image v n) same its.2 in
+      some_same its.0 issue (issue_at micro t u) (ap₂ (issue_at micro) as'.at (sym as'.unit) ∙ its.1) e in
+      let is : IsIssueIn d p micro v n issue = subst (IsIssueIn d p micro v n) same its.2 in
       let in-n : n < length stream = below_count n d.period t (length stream) (omega (arith, as'.at)) below in
-      let out' : IsOutside (length (unit_of image (unit_at p v)).cells) (operand image (Log image z t) t issue 0) =
-      subst (λ u. IsOutside (length (unit_of image u).cells) (operand image (Log image z t) t issue 0)) (sym as'.unit)
+      let out' : IsOutside (length (unit_of micro (unit_at p v)).cells) (operand micro (Log micro z t) t issue 0) =
+      subst (λ u. IsOutside (length (unit_of micro u).cells) (operand micro (Log micro z t) t issue 0)) (sym as'.unit)
       out in
       ⊎_elim
       (λ (o : issue.op ≡ op.Load).
@@ -293,7 +292,7 @@ module _ {o : Overlap} (d : Datapath) (p : Plan) (words : Counted) (plan : IsFea
       (memory_case issue.op memory)
 
   -- no cycle of the run has a conflict
-  pub clear : (t : ℕ) → t < length stream * d.period → IsClear image z t
+  pub clear : (t : ℕ) → t < length stream * d.period → IsClear micro z t
   clear t below Busy u h =
       not_busy t u h.1.0 h.1.1 (subst (λ gap. t < h.1.0 + gap) (runs.gap u) h.1.2) h.0 h.1.3
   clear t below TwoDrivers b h = one_driver t b h

@@ -12,8 +12,7 @@ use Rattle.plan_core.specs.Hardware.{cells_on}
 use Rattle.plan_core.specs.declared.plan.Plan.{Plan}
 use Rattle.micro_image.specs.declared.image.Issue.{Issue}
 use Rattle.micro_image.specs.declared.image.Take.{Take}
-use Rattle.micro_image.specs.declared.image.Image.{Image}
-use Rattle.micro_image.specs.Fields.{nth, word_at, began, ending}
+use Rattle.micro_image.specs.Fields.{Microprogram, nth, began, ending}
 use Rattle.micro_image.specs.Log.{Place, Register, Latch, Cell, Entry, same_place, Log, Content, operand, value, entries_by, taken, written, written_of, written_by}
 use Rattle.micro_image.proofs.Each.{In, In-append_left, In-append_right, In-flat_map, In-from_Contains, Each-then}
 use Rattle.micro_image.proofs.LogLaws.{content-unwritten}
@@ -33,31 +32,31 @@ use Rattle.plan_run.proofs.LiveWords.{LiveWord, in_register, in_cell, in_latch, 
 use Rattle.plan_run.proofs.ReadsRight.{AllRight, near_now, store_place, ends_then, began_then}
 use Rattle.plan_run.proofs.Writes.{writes_of_words, live_in, taken_word, output_no_address, same_sound, same_self, not_same, from_past, in_one}
 
-module _ {o : Overlap} (d : Datapath) (p : Plan) (words : Counted) (plan : IsFeasibleOver o d p) (image : Image)
-    (z stream : Rows) (runs : ExecutesOver o d p image) (solves : LoweredSolves d p stream words)
+module _ {o : Overlap} (d : Datapath) (p : Plan) (words : Counted) (plan : IsFeasibleOver o d p) (micro : Microprogram)
+    (z stream : Rows) (runs : ExecutesOver o d p micro) (solves : LoweredSolves d p stream words)
     (rows : (n c : ℕ) → c < d.period → nth z (n * d.period + c) [] ≡ nth stream n []) where
   abbrev RightAt : ℕ → Type 0
-  RightAt t = AllRight d p words plan image z stream runs solves rows t
+  RightAt t = AllRight d p words plan micro z stream runs solves rows t
 
   unwritten : (place : Place) (t : ℕ)
       → t < length stream * d.period
       → RightAt t
       → ((b : LiveWord o p) → written_at o d p words b ≡ past * d.period + t → place_of o d p words b ≡ place → ⊥)
-      → Content image z place (suc t) ≡ Content image z place t
+      → Content micro z place (suc t) ≡ Content micro z place t
   unwritten place t below right never =
-      content-unwritten image z place t
+      content-unwritten micro z place t
       (Each-then (λ e is. not_same e.place place _ refl (λ same. never is.live is.starts (sym is.place ∙ same)))
-      (writes_of_words d p words plan image z stream runs solves rows t below right))
+      (writes_of_words d p words plan micro z stream runs solves rows t below right))
 
   -- there is a write to the place in cycle t
   pub record IsWritten (t : ℕ) (place : Place) : Type 0 where
     pub entry : Entry
-    pub among : In entry (entries_by image z (Log image z t) t)
+    pub among : In entry (entries_by micro z (Log micro z t) t)
     pub place_is : entry.place ≡ place
 
   -- the words of a lifetime and of a line in sample n
   abbrev live_at : (k n : ℕ) → k < length p.arcs → LiveWord o p
-  live_at = live_in d p words plan image z stream runs solves rows
+  live_at = live_in d p words plan micro z stream runs solves rows
 
   abbrev stored_at : (l n : ℕ) → l < length (lines_of p) → LiveWord o p
   stored_at l n there = in_cell l (past + n) there (near_now n (line_at p l).depth)
@@ -70,11 +69,11 @@ module _ {o : Overlap} (d : Datapath) (p : Plan) (words : Counted) (plan : IsFea
   unfolding entries_by
   write_register k n t in-k at in-n right =
       let take : Take = (runs.take k n in-k).0 in
-      let among : Contains (word_at image t).takes take =
-      subst (λ t. Contains (word_at image t).takes take) (sym at) (runs.take k n in-k).1 in
-      let is : IsTakeIn d p image k n t take =
-      subst (λ t. IsTakeIn d p image k n t take) (sym at) (runs.take k n in-k).2 in
-      let made = taken_word d p words plan image z stream runs solves rows k n t take in-k in-n at right is in
+      let among : Contains (micro.word_at t).takes take =
+      subst (λ t. Contains (micro.word_at t).takes take) (sym at) (runs.take k n in-k).1 in
+      let is : IsTakeIn d p micro k n t take =
+      subst (λ t. IsTakeIn d p micro k n t take) (sym at) (runs.take k n in-k).2 in
+      let made = taken_word d p words plan micro z stream runs solves rows k n t take in-k in-n at right is in
       record {
         entry = record {
           place = place_of o d p words (live_at k n in-k);
@@ -82,8 +81,8 @@ module _ {o : Overlap} (d : Datapath) (p : Plan) (words : Counted) (plan : IsFea
           unit = made.0;
           value = words (arc_at p k).node (past + n);
         };
-        among = In-append_left (flat_map (written image z (Log image z t) t) (range_with_len 0 (length image.units)))
-            (In-flat_map (taken image z (Log image z t) t) (In-from_Contains (word_at image t).takes take among)
+        among = In-append_left (flat_map (written micro z (Log micro z t) t) (range_with_len 0 (length micro.units)))
+            (In-flat_map (taken micro z (Log micro z t) t) (In-from_Contains (micro.word_at t).takes take among)
             (in_one _ _ made.1));
         place_is = refl;
       }
@@ -91,22 +90,22 @@ module _ {o : Overlap} (d : Datapath) (p : Plan) (words : Counted) (plan : IsFea
   -- what a store or an output that is issued for node v writes
   written_by_node : (v n t : ℕ) (issue : Issue) (e : Entry)
       → v < length (nodes_of p)
-      → ending image t (unit_at p v) ≡ Some issue
-      → written_by issue.op image z (Log image z t) t (began image t (unit_at p v)) issue ≡ e ∷ []
-      → In e (entries_by image z (Log image z t) t)
+      → ending micro t (unit_at p v) ≡ Some issue
+      → written_by issue.op micro z (Log micro z t) t (began micro t (unit_at p v)) issue ≡ e ∷ []
+      → In e (entries_by micro z (Log micro z t) t)
   unfolding entries_by
   written_by_node v n t issue e in-v ends is =
-      In-append_right (flat_map (taken image z (Log image z t) t) (word_at image t).takes)
-      (In-flat_map (written image z (Log image z t) t)
-      (In-range_of (length image.units) 0 (unit_at p v) (omega arith) (omega (arith, runs.known v in-v)))
-      (in_one _ _ (ap (written_of image z (Log image z t) t (began image t (unit_at p v))) ends ∙ is)))
+      In-append_right (flat_map (taken micro z (Log micro z t) t) (micro.word_at t).takes)
+      (In-flat_map (written micro z (Log micro z t) t)
+      (In-range_of (length micro.units) 0 (unit_at p v) (omega arith) (omega (arith, runs.known v in-v)))
+      (in_one _ _ (ap (written_of micro z (Log micro z t) t (began micro t (unit_at p v))) ends ∙ is)))
 
   ends_at_t : (v n t : ℕ) (in-v : v < length (nodes_of p))
       → t ≡ n * d.period + ends_at d p v
-      → ending image t (unit_at p v) ≡ Some (runs.issue v n in-v).0
+      → ending micro t (unit_at p v) ≡ Some (runs.issue v n in-v).0
   ends_at_t v n t in-v at =
-      ap (λ t. ending image t (unit_at p v)) at
-      ∙ ends_then d p words plan image z stream runs solves rows v n (runs.issue v n in-v).0 (runs.issue v n in-v).1
+      ap (λ t. ending micro t (unit_at p v)) at
+      ∙ ends_then d p words plan micro z stream runs solves rows v n (runs.issue v n in-v).0 (runs.issue v n in-v).1
 
   write_latch : (v n t : ℕ)
       → v < length (nodes_of p)
@@ -115,18 +114,18 @@ module _ {o : Overlap} (d : Datapath) (p : Plan) (words : Counted) (plan : IsFea
       → IsWritten t (Latch (to_nat (node_at p v).arg))
   write_latch v n t in-v is-output at =
       let issue : Issue = (runs.issue v n in-v).0 in
-      let is : IsIssueIn d p image v n issue = (runs.issue v n in-v).2 in
-      let b : ℕ = began image t (unit_at p v) in
+      let is : IsIssueIn d p micro v n issue = (runs.issue v n in-v).2 in
+      let b : ℕ = began micro t (unit_at p v) in
       let e : Entry = record {
         place = Latch (to_nat issue.arg);
         cycle = t;
         unit = issue.unit;
-        value = value image z (Log image z t) b issue;
+        value = value micro z (Log micro z t) b issue;
       } in
       record {
         entry = e;
         among = written_by_node v n t issue e in-v (ends_at_t v n t in-v at)
-            (ap (λ o. written_by o image z (Log image z t) t b issue) (is.op ∙ is-output));
+            (ap (λ o. written_by o micro z (Log micro z t) t b issue) (is.op ∙ is-output));
         place_is = ap (λ a. Latch (to_nat a)) (is.arg (output_no_address (node_at p v).op is-output));
       }
 
@@ -140,22 +139,22 @@ module _ {o : Overlap} (d : Datapath) (p : Plan) (words : Counted) (plan : IsFea
       let v : ℕ = store_of (line_at p l) in
       let in-v : v < length (nodes_of p) = line.store in
       let issue : Issue = (runs.issue v n in-v).0 in
-      let is : IsIssueIn d p image v n issue = (runs.issue v n in-v).2 in
-      let b : ℕ = began image t (unit_at p v) in
+      let is : IsIssueIn d p micro v n issue = (runs.issue v n in-v).2 in
+      let b : ℕ = began micro t (unit_at p v) in
       let begun : b ≡ n * d.period + cycle_at p v =
-      ap (λ t. began image t (unit_at p v)) at ∙ began_then d p words plan image z stream runs solves rows v n in
+      ap (λ t. began micro t (unit_at p v)) at ∙ began_then d p words plan micro z stream runs solves rows v n in
       let e : Entry = record {
-        place = Cell issue.unit (to_nat (operand image (Log image z t) b issue 0));
+        place = Cell issue.unit (to_nat (operand micro (Log micro z t) b issue 0));
         cycle = t;
         unit = issue.unit;
-        value = value image z (Log image z t) b issue;
+        value = value micro z (Log micro z t) b issue;
       } in
       record {
         entry = e;
         among = written_by_node v n t issue e in-v (ends_at_t v n t in-v at)
-            (ap (λ o. written_by o image z (Log image z t) t b issue) (is.op ∙ line.stores.is_store));
-        place_is = ap (λ b. Cell issue.unit (to_nat (operand image (Log image z t) b issue 0))) begun
-            ∙ store_place d p words plan image z stream runs solves rows t v n l issue right in-v in-n line.stores is
+            (ap (λ o. written_by o micro z (Log micro z t) t b issue) (is.op ∙ line.stores.is_store));
+        place_is = ap (λ b. Cell issue.unit (to_nat (operand micro (Log micro z t) b issue 0))) begun
+            ∙ store_place d p words plan micro z stream runs solves rows t v n l issue right in-v in-n line.stores is
             (omega arith);
       }
 
@@ -222,24 +221,24 @@ module _ {o : Overlap} (d : Datapath) (p : Plan) (words : Counted) (plan : IsFea
       → t < length stream * d.period
       → RightAt t
       → written_at o d p words b ≡ past * d.period + t
-      → Content image z (place_of o d p words b) (suc t) ≡ word_of o d p words b
+      → Content micro z (place_of o d p words b) (suc t) ≡ word_of o d p words b
   written_right b t below right starts =
       let is = is_written b t below right starts in
-      content-written image z (place_of o d p words b) (word_of o d p words b) t is.entry is.among
+      content-written micro z (place_of o d p words b) (word_of o d p words b) t is.entry is.among
       (subst (λ place. same_place place (place_of o d p words b) ≡ true) (sym is.place_is)
       (same_self (place_of o d p words b)))
       (Each-then (λ e of same. of.value ∙ (words_apart d p words plan of.live b (suc (past * d.period + t))
       (sym of.place ∙ same_sound e.place (place_of o d p words b) same)
       (omega (arith, of.starts)) (omega (arith, of.starts, lives d p words plan of.live))
       (omega (arith, starts)) (omega (arith, starts, lives d p words plan b))).1)
-      (writes_of_words d p words plan image z stream runs solves rows t below right))
+      (writes_of_words d p words plan micro z stream runs solves rows t below right))
 
   keeps : Keeps (place_of o d p words) (written_at o d p words) (wanted_to o d p words) (word_of o d p words)
-      (past * d.period) (length stream * d.period) (Content image z)
+      (past * d.period) (length stream * d.period) (Content micro z)
   keeps = record {
     apart = words_apart d p words plan;
     lives = lives d p words plan;
-    preloaded = preloaded d p words plan image z stream runs solves;
+    preloaded = preloaded d p words plan micro z stream runs solves;
     kept = unwritten;
     written = written_right;
   }
@@ -248,7 +247,7 @@ module _ {o : Overlap} (d : Datapath) (p : Plan) (words : Counted) (plan : IsFea
   pub all_right : (t : ℕ) → t ≤ length stream * d.period → RightAt t
   all_right =
       right (place_of o d p words) (written_at o d p words) (wanted_to o d p words) (word_of o d p words)
-      (past * d.period) (length stream * d.period) (Content image z) keeps
+      (past * d.period) (length stream * d.period) (Content micro z) keeps
 
   -- the last stage takes a period
   last_stage : o.stages * d.period ≡ (o.stages - 1) * d.period + d.period
@@ -263,7 +262,7 @@ module _ {o : Overlap} (d : Datapath) (p : Plan) (words : Counted) (plan : IsFea
       → v < length (nodes_of p)
       → (node_at p v).op ≡ op.Output
       → n + o.stages ≤ length stream
-      → Content image z (Latch (to_nat (node_at p v).arg)) ((n + o.stages) * d.period) ≡ words v (past + n)
+      → Content micro z (Latch (to_nat (node_at p v).arg)) ((n + o.stages) * d.period) ≡ words v (past + n)
   latch_right v n in-v is in-n =
       let whole : (past + n) * d.period ≡ past * d.period + n * d.period = add-mul past n d.period in
       let later : (n + o.stages) * d.period ≡ n * d.period + o.stages * d.period = add-mul n o.stages d.period in
@@ -279,7 +278,7 @@ module _ {o : Overlap} (d : Datapath) (p : Plan) (words : Counted) (plan : IsFea
       → (node_at p v).op ≡ op.Output
       → n + 1 < o.stages
       → n < length stream
-      → Content image z (Latch (to_nat (node_at p v).arg)) ((n + 1) * d.period) ≡ pos 0
+      → Content micro z (Latch (to_nat (node_at p v).arg)) ((n + 1) * d.period) ≡ pos 0
   latch_first v n in-v is early in-n =
       let le : (n + 1) * d.period ≤ length stream * d.period = mul-le-mul_right d.period (omega (arith, in-n)) in
       let before : (n + 1) * d.period ≤ (o.stages - 1) * d.period =

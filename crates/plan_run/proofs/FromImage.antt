@@ -15,7 +15,7 @@ use Rattle.micro_image.specs.declared.image.Issue.{Issue}
 use Rattle.micro_image.specs.declared.image.Take.{Take}
 use Rattle.micro_image.specs.declared.image.UnitDesc.{UnitDesc}
 use Rattle.micro_image.specs.declared.image.Image.{Image}
-use Rattle.micro_image.specs.Fields.{nth, no_word, no_unit as no_desc, unit_of, word_at, sample_of, issue_at, driver_at}
+use Rattle.micro_image.specs.Fields.{Microprogram, microprogram_of, nth, no_word, no_unit as no_desc, unit_of, word_at, sample_of, issue_at, driver_at}
 use Rattle.micro_image.specs.Log.{Register, initial}
 use Rattle.micro_image.specs.Valid.{EnableBefore, TakeBefore}
 use Rattle.micro_image.proofs.Each.{In-from_Contains}
@@ -31,6 +31,10 @@ use Rattle.plan_run.proofs.Elements.{Contains-from_In, nth_past, found, find_amo
 use Rattle.plan_run.proofs.Samples.{split, one_more}
 use Rattle.plan_run.proofs.Spans.{sample_start}
 use Rattle.plan_run.proofs.Writes.{in_turn}
+
+-- unit u of an image
+abbrev pub described : Image → ℕ → UnitDesc
+described image u = unit_of (microprogram_of image) u
 
 same_number : (n : ℕ) → (n == n) ≡ true
 same_number n = grind arith
@@ -117,6 +121,9 @@ lives_before s r q early upto =
     back s early = omega arith
 
 module _ (d : Datapath) (p : Plan) (plan : IsFeasible d p) (image : Image) (is : IsImageOf d p image) where
+  abbrev micro : Microprogram
+  micro = microprogram_of image
+
   word_is : (n c : ℕ)
       → c < d.period
       → word_at image (n * d.period + c) ≡ nth image.words (n % p.unroll * d.period + c) no_word
@@ -140,13 +147,13 @@ module _ (d : Datapath) (p : Plan) (plan : IsFeasible d p) (image : Image) (is :
   ends_in : (v : ℕ) → v < length (nodes_of p) → ends_at d p v < d.period
   ends_in = ordinary.ends_in d p plan
 
-  sample_is : (n c : ℕ) → c < d.period → sample_of image (n * d.period + c) ≡ n
+  sample_is : (n c : ℕ) → c < d.period → sample_of micro (n * d.period + c) ≡ n
   sample_is n c below = ap (λ q. (n * d.period + c) / q) is.period ∙ div-mul-add n d.period c below
 
   issue_in : (v n : ℕ) (issue : Issue)
       → v < length (nodes_of p)
       → IsIssueOf d p v (n % p.unroll) issue
-      → IsIssueIn d p image v n issue
+      → IsIssueIn d p micro v n issue
   issue_in v n issue in-v of = record {
     unit = of.unit;
     op = of.op;
@@ -176,8 +183,8 @@ module _ (d : Datapath) (p : Plan) (plan : IsFeasible d p) (image : Image) (is :
   issue_then : (v n : ℕ)
       → v < length (nodes_of p)
       → (issue : Issue)
-      × (issue_at image (n * d.period + cycle_at p v) (unit_at p v) ≡ Some issue)
-      × IsIssueIn d p image v n issue
+      × (issue_at micro (n * d.period + cycle_at p v) (unit_at p v) ≡ Some issue)
+      × IsIssueIn d p micro v n issue
   issue_then v n in-v =
       let t : ℕ = n * d.period + cycle_at p v in
       let word = word_of n (cycle_at p v) (in_period v in-v) in
@@ -196,7 +203,7 @@ module _ (d : Datapath) (p : Plan) (plan : IsFeasible d p) (image : Image) (is :
   at_cycle t c e = split t d.period ∙ ap (λ c. t / d.period * d.period + c) (sym e)
 
   issue_only : (t u : ℕ) (issue : Issue)
-      → issue_at image t u ≡ Some issue
+      → issue_at micro t u ≡ Some issue
       → (v : ℕ) × (n : ℕ) × (v < length (nodes_of p)) × (unit_at p v ≡ u) × (t ≡ n * d.period + cycle_at p v)
   issue_only t u issue at =
       let first = find_among (λ (issue : Issue). issue.unit == u) issue (word_at image t).issues at in
@@ -231,7 +238,7 @@ module _ (d : Datapath) (p : Plan) (plan : IsFeasible d p) (image : Image) (is :
   driver : (k n : ℕ) (transfer : Transfer)
       → IsTransferOf p k transfer
       → (e : Enable)
-      × (driver_at image (n * d.period + ends_at d p (arc_at p k).node) transfer.bus ≡ Some e)
+      × (driver_at micro (n * d.period + ends_at d p (arc_at p k).node) transfer.bus ≡ Some e)
       × (e.unit ≡ unit_at p (arc_at p k).node)
   driver k n transfer of =
       let v : ℕ = (arc_at p k).node in
@@ -250,7 +257,7 @@ module _ (d : Datapath) (p : Plan) (plan : IsFeasible d p) (image : Image) (is :
   take_in : (k n : ℕ) (transfer : Transfer) (take : Take)
       → IsTransferOf p k transfer
       → take ≡ take_of p k transfer (n % p.unroll)
-      → IsTakeIn d p image k n (n * d.period + ends_at d p (arc_at p k).node) take
+      → IsTakeIn d p micro k n (n * d.period + ends_at d p (arc_at p k).node) take
   take_in k n transfer take of e =
       let arc = plan.arcs k of.there in
       let bus : take.bus ≡ transfer.bus = ap (λ (take : Take). take.bus) e in
@@ -263,7 +270,7 @@ module _ (d : Datapath) (p : Plan) (plan : IsFeasible d p) (image : Image) (is :
         transfer = (transfer, of, sym bus);
         driver = (
           drives.0,
-          ap (driver_at image (n * d.period + ends_at d p (arc_at p k).node)) bus ∙ drives.1,
+          ap (driver_at micro (n * d.period + ends_at d p (arc_at p k).node)) bus ∙ drives.1,
           drives.2,
         );
       }
@@ -272,7 +279,7 @@ module _ (d : Datapath) (p : Plan) (plan : IsFeasible d p) (image : Image) (is :
       → k < length p.arcs
       → (take : Take)
       × Contains (word_at image (n * d.period + ends_at d p (arc_at p k).node)).takes take
-      × IsTakeIn d p image k n (n * d.period + ends_at d p (arc_at p k).node) take
+      × IsTakeIn d p micro k n (n * d.period + ends_at d p (arc_at p k).node) take
   take_then k n in-k =
       let transfer = (plan.arcs k in-k).transfer in (
         take_of p k transfer.0 (n % p.unroll),
@@ -284,7 +291,7 @@ module _ (d : Datapath) (p : Plan) (plan : IsFeasible d p) (image : Image) (is :
   take_only : (t : ℕ) (take : Take)
       → Contains (word_at image t).takes take
       → (k : ℕ) × (n : ℕ) × (k < length p.arcs) × (t ≡ n * d.period + ends_at d p (arc_at p k).node)
-      × IsTakeIn d p image k n t take
+      × IsTakeIn d p micro k n t take
   take_only t take among =
       let only = (word_any t).take_only take among in
       let k : ℕ = only.0 in
@@ -296,17 +303,17 @@ module _ (d : Datapath) (p : Plan) (plan : IsFeasible d p) (image : Image) (is :
         n,
         of.there,
         at,
-        subst (λ t. IsTakeIn d p image k n t take) (sym at) (take_in k n only.1 take of only.4),
+        subst (λ t. IsTakeIn d p micro k n t take) (sym at) (take_in k n only.1 take of only.4),
       )
 
   -- what holds of the units that are there and of the default holds of each number
   unit_fact : {A : Type 0} (f : UnitDesc → A) (g : ℕ → A) (u : ℕ)
-      → ((u : ℕ) → u < length d.units → f (unit_of image u) ≡ g u)
-      → ((u : ℕ) → length d.units ≤ u → f (unit_of image u) ≡ g u)
-      → f (unit_of image u) ≡ g u
+      → ((u : ℕ) → u < length d.units → f (unit_of micro u) ≡ g u)
+      → ((u : ℕ) → length d.units ≤ u → f (unit_of micro u) ≡ g u)
+      → f (unit_of micro u) ≡ g u
   unit_fact f g u there past' = ⊎_elim (there u) (past' u) (cases_lt u (length d.units))
 
-  no_unit_at : (u : ℕ) → length d.units ≤ u → unit_of image u ≡ no_desc
+  no_unit_at : (u : ℕ) → length d.units ≤ u → unit_of micro u ≡ no_desc
   no_unit_at u le = nth_past image.units u _ (omega (arith, le, is.unit_count))
 
   no_path_unit : (u : ℕ) → length d.units ≤ u → slice_index_or d.units u no_unit ≡ no_unit
@@ -317,7 +324,7 @@ module _ (d : Datapath) (p : Plan) (plan : IsFeasible d p) (image : Image) (is :
       → 0 ≤ s
       → s < past
       → past * d.period ≤ (arc_at p k).r + (s + shift_of d p k) * d.period
-      → initial image (Register (arc_at p k).port.unit (arc_at p k).port.port (register_in d p k s))
+      → initial micro (Register (arc_at p k).port.unit (arc_at p k).port.port (register_in d p k s))
       ≡ word_before (node_at p (arc_at p k).node).inits (past - s)
   preload k s in-k _ early upto =
       let life = (plan.arcs k in-k).lifetime in
@@ -336,7 +343,7 @@ module _ (d : Datapath) (p : Plan) (plan : IsFeasible d p) (image : Image) (is :
       })
 
   -- the image of a plan does at each cycle what the plan has there
-  pub executes : Executes d p image
+  pub executes : Executes d p (microprogram_of image)
   executes = record {
     period = is.period;
     latency = λ u. unit_fact (λ (unit : UnitDesc). unit.latency) (latency_on d) u

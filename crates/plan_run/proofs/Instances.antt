@@ -10,7 +10,7 @@ use Rattle.plan_core.specs.IsPlan.{IsPlan}
 use Rattle.plan_core.specs.declared.plan.Plan.{Plan}
 use Rattle.micro_image.specs.declared.image.Issue.{Issue}
 use Rattle.micro_image.specs.declared.image.Image.{Image}
-use Rattle.micro_image.specs.Fields.{nth, issue_at}
+use Rattle.micro_image.specs.Fields.{Microprogram, microprogram_of, nth, issue_at}
 use Rattle.micro_image.specs.Log.{Place, Entry, same_place, stamp_le, newest, Log, entries_by}
 use Rattle.micro_image.specs.Run.{spread}
 use Rattle.micro_image.proofs.Each.{In, In-append_left, In-append_right, In-append_cases, Each, Each-at, Each-then}
@@ -114,12 +114,12 @@ newest_written place t new log e among same now before (greatest {e = f} among' 
     (λ there. absurd (omega (arith, le, Each-at now e among, Each-at before f there)))
     (In-append_cases new among')
 
-module _ {o : Overlap} (d : Datapath) (p : Plan) (words : Counted) (plan : IsFeasibleOver o d p) (image : Image)
-    (z stream : Rows) (runs : ExecutesOver o d p image) (solves : LoweredSolves d p stream words)
+module _ {o : Overlap} (d : Datapath) (p : Plan) (words : Counted) (plan : IsFeasibleOver o d p) (micro : Microprogram)
+    (z stream : Rows) (runs : ExecutesOver o d p micro) (solves : LoweredSolves d p stream words)
     (rows : (n c : ℕ) → c < d.period → nth z (n * d.period + c) [] ≡ nth stream n []) where
   -- the cycle of the newest write of a place
   abbrev newest_cycle : Place → ℕ → Option ℕ
-  newest_cycle place t = cycle_of (newest place t (Log image z t))
+  newest_cycle place t = cycle_of (newest place t (Log micro z t))
 
   -- the cycle of the run in which a live word is written, where there is one
   abbrev write_cycle : LiveWord o p → Option ℕ
@@ -138,26 +138,26 @@ module _ {o : Overlap} (d : Datapath) (p : Plan) (words : Counted) (plan : IsFea
       → ((b : LiveWord o p) → written_at o d p words b ≡ past * d.period + t → place_of o d p words b ≡ place → ⊥)
       → newest_cycle place (suc t) ≡ newest_cycle place t
   kept place t below never =
-      newest_kept place t (entries_by image z (Log image z t) t) (Log image z t)
+      newest_kept place t (entries_by micro z (Log micro z t) t) (Log micro z t)
       (Each-then (λ e is. not_same e.place place _ refl (λ same. never is.live is.starts (sym is.place ∙ same)))
-      (writes_of_words d p words plan image z stream runs solves rows t below
-      (all_right d p words plan image z stream runs solves rows t (omega (arith, below)))))
-      (Log-before image z t)
-      (newest-greatest place (suc t) (Log image z (suc t)))
-      (newest-greatest place t (Log image z t))
+      (writes_of_words d p words plan micro z stream runs solves rows t below
+      (all_right d p words plan micro z stream runs solves rows t (omega (arith, below)))))
+      (Log-before micro z t)
+      (newest-greatest place (suc t) (Log micro z (suc t)))
+      (newest-greatest place t (Log micro z t))
 
   put : (b : LiveWord o p) (t : ℕ)
       → t < length stream * d.period
       → written_at o d p words b ≡ past * d.period + t
       → newest_cycle (place_of o d p words b) (suc t) ≡ write_cycle b
   put b t below starts =
-      let is = is_written d p words plan image z stream runs solves rows b t below
-      (all_right d p words plan image z stream runs solves rows t (omega (arith, below))) starts in
-      newest_written (place_of o d p words b) t (entries_by image z (Log image z t) t) (Log image z t) is.entry is.among
+      let is = is_written d p words plan micro z stream runs solves rows b t below
+      (all_right d p words plan micro z stream runs solves rows t (omega (arith, below))) starts in
+      newest_written (place_of o d p words b) t (entries_by micro z (Log micro z t) t) (Log micro z t) is.entry is.among
       (subst (λ place. same_place place (place_of o d p words b) ≡ true) (sym is.place_is)
       (same_self (place_of o d p words b)))
-      (entries-of_cycle image z (Log image z t) t) (Log-before image z t)
-      (newest-greatest (place_of o d p words b) (suc t) (Log image z (suc t)))
+      (entries-of_cycle micro z (Log micro z t) t) (Log-before micro z t)
+      (newest-greatest (place_of o d p words b) (suc t) (Log micro z (suc t)))
       ∙ sym (in_run (written_at o d p words b) (past * d.period) t starts)
 
   same_cycle : (a b : LiveWord o p)
@@ -231,9 +231,9 @@ module _ {o : Overlap} (d : Datapath) (p : Plan) (words : Counted) (plan : IsFea
       → v < length (nodes_of p)
       → q < length (node_at p v).edges
       → n * d.period + cycle_at p v ≤ length stream * d.period
-      → IsIssueIn d p image v n issue
+      → IsIssueIn d p micro v n issue
       → IsInstance d p (edge_at p v q).node n (edge_at p v q).delay
-      (found_write image z (n * d.period + cycle_at p v) issue q)
+      (found_write micro z (n * d.period + cycle_at p v) issue q)
   read_finds v q n issue in-v in-q in-n is =
       let through = plan.read v q in-v in-q in
       let k : ℕ = through.0 in
@@ -252,12 +252,12 @@ module _ {o : Overlap} (d : Datapath) (p : Plan) (words : Counted) (plan : IsFea
       let written : (arc_at p k).w + shift_of d p k * d.period ≡ ends_at d p (arc_at p k).node =
       (plan.arcs k in-k).written in
       let node : (arc_at p k).node ≡ (edge_at p v q).node = sym through.1.reads.node in
-      instance_by (edge_at p v q).node n ago (found_write image z t issue q)
+      instance_by (edge_at p v q).node n ago (found_write micro z t issue q)
       (written_at o d p words (in_register k m in-k from)) (omega (arith, small))
       (omega (arith, start, written, ap (ends_at d p) node))
       (λ early. omega (arith, start, written, plan.early k m in-k from early))
       (ap (λ place. newest_cycle place t)
-      (place_read d p words plan image z stream runs solves rows v n q k issue is through.1)
+      (place_read d p words plan micro z stream runs solves rows v n q k issue is through.1)
       ∙ newest_is t in-n (in_register k m in-k from) t (omega arith)
       (omega (arith, within.0, time, whole, start, written)) (omega (arith, within.1, time, whole, start)))
     where
@@ -269,18 +269,18 @@ feasible_finds : (g : Graph) (d : Datapath) (p : Plan) (image : Image)
     → IsGraph g
     → IsFeasiblePlan g d p
     → IsImageOf d p image
-    → FindsInstances g d p image
+    → FindsInstances g d p (microprogram_of image)
 feasible_finds g d p image sound plan of stream words v q n issue solves in-v in-q in-n at =
     let runs = executes d p plan.feasible image of in
     let its = runs.issue v n in-v in
     let same : its.0 ≡ issue =
-    some_same its.0 issue (issue_at image (n * d.period + cycle_at p v) (unit_at p v)) its.1 at in
-    read_finds d p (lowered_words g d p sound plan.lowered plan.assigned stream words solves) plan.feasible image
-    (spread image.period stream) stream runs
+    some_same its.0 issue (issue_at (microprogram_of image) (n * d.period + cycle_at p v) (unit_at p v)) its.1 at in
+    read_finds d p (lowered_words g d p sound plan.lowered plan.assigned stream words solves) plan.feasible
+    (microprogram_of image) (spread image.period stream) stream runs
     (lowered_solves g d p sound plan.lowered plan.assigned stream words solves)
-    (sample_rows d image stream runs.period) v q n issue in-v in-q
+    (sample_rows d (microprogram_of image) stream runs.period) v q n issue in-v in-q
     (cycle_within n (in_period d p plan.feasible v in-v) in-n)
-    (subst (IsIssueIn d p image v n) same its.2)
+    (subst (IsIssueIn d p (microprogram_of image) v n) same its.2)
   where
     cycle_within : (n : ℕ) {c : ℕ}
         → c < d.period
@@ -296,6 +296,6 @@ pub finds_instances : (g : Graph) (d : Datapath) (p : Plan) (image : Image)
     → IsMachine d
     → IsPlan g d p
     → IsImageOf d p image
-    → FindsInstances g d p image
+    → FindsInstances g d p (microprogram_of image)
 finds_instances g d p image sound machine plan of =
     feasible_finds g d p image sound (plan_feasible g d p sound machine plan) of

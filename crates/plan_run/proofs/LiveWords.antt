@@ -9,7 +9,7 @@ use Rattle.operations.specs.declared.units.PortRef.{PortRef}
 use Rattle.datapath.specs.declared.types.Datapath.{Datapath}
 use Rattle.plan_core.specs.Hardware.{cells_on, port_of}
 use Rattle.plan_core.specs.declared.plan.Plan.{Plan}
-use Rattle.micro_image.specs.declared.image.Image.{Image}
+use Rattle.micro_image.specs.Fields.{Microprogram}
 use Rattle.micro_image.specs.Log.{Place, Register, Latch, Cell, initial, Content}
 use Rattle.plan_run.specs.Parts.{nodes_of, lines_of, node_at, arc_at, line_at, register_at, ends_at}
 use Rattle.plan_run.specs.Private.Samples.{past}
@@ -254,18 +254,18 @@ module _ {o : Overlap} (d : Datapath) (p : Plan) (words : Counted) (plan : IsFea
   lives (at_first v in-v is) = let some : 0 < d.period = plan.period in omega arith
 
   -- a word of a sample before sample 0 that is still wanted stands there at the start
-  pub preloaded : (image : Image) (z stream : Rows)
-      → ExecutesOver o d p image
+  pub preloaded : (micro : Microprogram) (z stream : Rows)
+      → ExecutesOver o d p micro
       → LoweredSolves d p stream words
       → (a : LiveWord o p)
       → written_at o d p words a < past * d.period
       → past * d.period ≤ wanted_to o d p words a
-      → Content image z (place_of o d p words a) 0 ≡ word_of o d p words a
-  preloaded image z stream runs solves (in_register k s in-k from) before upto =
+      → Content micro z (place_of o d p words a) 0 ≡ word_of o d p words a
+  preloaded micro z stream runs solves (in_register k s in-k from) before upto =
       let turn : s + shift_of d p k < past = sample_below (s + shift_of d p k) past (arc_at p k).w d.period before in
       let early : s < past = omega (arith, turn) in
       runs.first k s in-k from early upto ∙ sym (solves.before (arc_at p k).node s (plan.arcs k in-k).node early)
-  preloaded image z stream runs solves (in_cell l s in-l near) before upto =
+  preloaded micro z stream runs solves (in_cell l s in-l near) before upto =
       let line : IsFeasibleLine o d p l = plan.lines l in-l in
       let cells : ℕ = cells_on d (line_at p l).ram in
       let room : (line_at p l).offset + reach o (line_at p l) < cells = line.room in
@@ -275,9 +275,9 @@ module _ {o : Overlap} (d : Datapath) (p : Plan) (words : Counted) (plan : IsFea
       let cell : cell_in cells past (line_at p l).offset s ≡ (line_at p l).offset + ago =
       past-cell cells past (line_at p l).offset ago s (omega (arith, room)) (omega (arith, room, near))
       (omega (arith, early)) in
-      ap (λ c. initial image (Cell (line_at p l).ram c)) cell
+      ap (λ c. initial micro (Cell (line_at p l).ram c)) cell
       ∙ runs.first_cells l ago in-l (omega (arith, early)) (omega (arith, near))
       ∙ sym (solves.before (line_at p l).node s line.node early)
-  preloaded image z stream runs solves (in_latch v s in-v is from) before upto =
+  preloaded micro z stream runs solves (in_latch v s in-v is from) before upto =
       absurd (let le : past * d.period ≤ s * d.period = mul-le-mul_right d.period from in omega (arith, before))
-  preloaded image z stream runs solves (at_first v in-v is) before upto = refl
+  preloaded micro z stream runs solves (at_first v in-v is) before upto = refl

@@ -7,9 +7,8 @@ use Rattle.fix_word.specs.declared.operation.Op.TheVariants as op
 use Rattle.operations.specs.Operations.{operands}
 use Rattle.operations.specs.Ranges.{to_nat}
 use Rattle.signal_graph.specs.declared.graph.Node.{Node}
-use Rattle.micro_image.specs.declared.image.Image.{Image}
 use Rattle.micro_image.specs.declared.image.Issue.{Issue}
-use Rattle.micro_image.specs.Fields.{nth}
+use Rattle.micro_image.specs.Fields.{Microprogram, nth}
 use Rattle.micro_image.specs.Log.{Entry, operand, value_by}
 use Rattle.plan_run.specs.Private.Solution.{meaning_by, IsOfGraph}
 
@@ -37,22 +36,22 @@ meaning-operands o node stream n f g of same =
     ap₂ (λ a b. apply_of o node.fmt a b (pos 0)) (same 0 (omega arith)) (same 1 (omega arith))
 
 -- the value of an issue by the node's meaning
-pub value-meaning : (o : Op) (image : Image) (z stream : Rows) (log : List Entry) (t n : ℕ)
+pub value-meaning : (o : Op) (micro : Microprogram) (z stream : Rows) (log : List Entry) (t n : ℕ)
     → (issue : Issue) (node : Node)
     → IsOfGraph o
     → (o ≡ op.Input → nth z t [] ≡ nth stream n [])
     → issue.arg ≡ node.arg
     → issue.fmt ≡ node.fmt
-    → value_by o image z log t issue ≡ meaning_by o node stream n (operand image log t issue)
-value-meaning op.Input image z stream log t n issue node of row arg fmt =
+    → value_by o micro z log t issue ≡ meaning_by o node stream n (operand micro log t issue)
+value-meaning op.Input micro z stream log t n issue node of row arg fmt =
     ap₂ (λ r a. nth r (to_nat a) (pos 0)) (row refl) arg
-value-meaning op.Const image z stream log t n issue node of row arg fmt = arg
-value-meaning op.Output image z stream log t n issue node of row arg fmt = refl
-value-meaning op.Load image z stream log t n issue node of row arg fmt = absurd of
-value-meaning op.Store image z stream log t n issue node of row arg fmt = absurd of
-value-meaning op.Addr image z stream log t n issue node of row arg fmt = absurd of
-value-meaning o image z stream log t n issue node of row arg fmt =
-    ap (λ f. apply_of o f (operand image log t issue 0) (operand image log t issue 1) (operand image log t issue 2)) fmt
+value-meaning op.Const micro z stream log t n issue node of row arg fmt = arg
+value-meaning op.Output micro z stream log t n issue node of row arg fmt = refl
+value-meaning op.Load micro z stream log t n issue node of row arg fmt = absurd of
+value-meaning op.Store micro z stream log t n issue node of row arg fmt = absurd of
+value-meaning op.Addr micro z stream log t n issue node of row arg fmt = absurd of
+value-meaning o micro z stream log t n issue node of row arg fmt =
+    ap (λ f. apply_of o f (operand micro log t issue 0) (operand micro log t issue 1) (operand micro log t issue 2)) fmt
 
 -- of a node, the format and the argument count
 pub meaning-node : (o : Op) (node other : Node) (stream : Rows) (n : ℕ) (f : ℕ → ℤ)

@@ -19,7 +19,7 @@ use Rattle.micro_image.specs.declared.image.Take.{Take}
 use Rattle.micro_image.specs.declared.image.UnitDesc.{UnitDesc}
 use Rattle.micro_image.specs.declared.image.Word.{Word}
 use Rattle.micro_image.specs.declared.image.Image.{Image}
-use Rattle.micro_image.specs.Fields.{nth, no_word, no_unit, unit_of}
+use Rattle.micro_image.specs.Fields.{Microprogram, microprogram_of, nth, no_word, no_unit}
 use Rattle.micro_image.specs.Log.{Register, Cell, initial}
 use Rattle.micro_image.specs.Valid.{EnableBefore, TakeBefore}
 use Rattle.plan_run.specs.Parts.{nodes_of, node_at, edge_at, arc_at, IsCopy}
@@ -27,7 +27,7 @@ use Rattle.plan_run.specs.ImageOf.{IsUnitOf, IsIssueOf, IsWordOf, IsImageOf, IsP
 use Rattle.plan_run.specs.Private.Samples.{past}
 use Rattle.plan_run.specs.Private.Feasible.{IsFeasible}
 use Rattle.plan_run.proofs.Ordinary.{delay_in}
-use Rattle.plan_run.proofs.FromImage.{copy_read}
+use Rattle.plan_run.proofs.FromImage.{described, copy_read}
 use Rattle.plan_run.proofs.Samples.{below_count, split}
 
 -- Values with equal fields.
@@ -189,7 +189,7 @@ module _ (d : Datapath) (p : Plan) (plan : IsFeasible d p) where
       (same_order TakeBefore never_both_takes a.takes b.takes is-a.takes_rise is-b.takes_rise
       (take_in n c a b is-a is-b) (take_in n c b a is-b is-a))
 
-module _ (d : Datapath) (p : Plan) (a b : Image) (is-a : StartsWith d p a) (is-b : StartsWith d p b) where
+module _ (d : Datapath) (p : Plan) (a b : Microprogram) (is-a : StartsWith d p a) (is-b : StartsWith d p b) where
   -- a register starts with one word
   one_register : (port : PortRef) (reg : ℕ)
       → initial a (Register port.unit port.port reg) ≡ initial b (Register port.unit port.port reg)
@@ -225,20 +225,20 @@ file_long xs ys q e below below' =
 
 module _ (d : Datapath) (p : Plan) (plan : IsFeasible d p) (a b : Image)
     (is-a : IsImageOf d p a) (is-b : IsImageOf d p b) where
-  one_unit : (u : ℕ) → u < length d.units → unit_of a u ≡ unit_of b u
+  one_unit : (u : ℕ) → u < length d.units → described a u ≡ described b u
   one_unit u below =
-      let x : IsUnitOf d u (unit_of a u) = is-a.units u below in
-      let y : IsUnitOf d u (unit_of b u) = is-b.units u below in
-      let sizes : map length (unit_of a u).files ≡ map length (unit_of b u).files = x.files ∙ sym y.files in
-      let count : length (unit_of a u).files ≡ length (unit_of b u).files =
-      sym (length-map (unit_of a u).files length) ∙ ap length sizes ∙ length-map (unit_of b u).files length in
-      unit_from (unit_of a u) (unit_of b u) (x.kind ∙ sym y.kind) (x.latency ∙ sym y.latency) (x.gap ∙ sym y.gap)
-      (ext_get_or [] (unit_of a u).files (unit_of b u).files count (λ q in-q.
-      ext_get_or (pos 0) (nth (unit_of a u).files q []) (nth (unit_of b u).files q [])
-      (file_long (unit_of a u).files (unit_of b u).files q sizes in-q (omega (arith, in-q, count)))
-      (λ r in-r. one_register d p a b is-a.starts is-b.starts (port_of u q) r)))
-      (ext_get_or (pos 0) (unit_of a u).cells (unit_of b u).cells (x.cells ∙ sym y.cells)
-      (λ c in-c. one_cell d p a b is-a.starts is-b.starts u c))
+      let x : IsUnitOf d u (described a u) = is-a.units u below in
+      let y : IsUnitOf d u (described b u) = is-b.units u below in
+      let sizes : map length (described a u).files ≡ map length (described b u).files = x.files ∙ sym y.files in
+      let count : length (described a u).files ≡ length (described b u).files =
+      sym (length-map (described a u).files length) ∙ ap length sizes ∙ length-map (described b u).files length in
+      unit_from (described a u) (described b u) (x.kind ∙ sym y.kind) (x.latency ∙ sym y.latency) (x.gap ∙ sym y.gap)
+      (ext_get_or [] (described a u).files (described b u).files count (λ q in-q.
+      ext_get_or (pos 0) (nth (described a u).files q []) (nth (described b u).files q [])
+      (file_long (described a u).files (described b u).files q sizes in-q (omega (arith, in-q, count)))
+      (λ r in-r. one_register d p (microprogram_of a) (microprogram_of b) is-a.starts is-b.starts (port_of u q) r)))
+      (ext_get_or (pos 0) (described a u).cells (described b u).cells (x.cells ∙ sym y.cells)
+      (λ c in-c. one_cell d p (microprogram_of a) (microprogram_of b) is-a.starts is-b.starts u c))
       (x.ram ∙ sym y.ram)
 
   word_here : (x : ℕ) → x < p.unroll * d.period → nth a.words x no_word ≡ nth b.words x no_word

@@ -12,9 +12,8 @@ use Rattle.operations.specs.Ranges.{to_nat}
 use Rattle.datapath.specs.declared.types.Datapath.{Datapath}
 use Rattle.plan_core.specs.Hardware.{latency_on, cells_on, tie_of}
 use Rattle.plan_core.specs.declared.plan.Plan.{Plan}
-use Rattle.micro_image.specs.declared.image.Image.{Image}
 use Rattle.micro_image.specs.declared.image.Issue.{Issue}
-use Rattle.micro_image.specs.Fields.{nth, unit_of, sample_of, issue_at, began, ending}
+use Rattle.micro_image.specs.Fields.{Microprogram, nth, unit_of, sample_of, issue_at, began, ending}
 use Rattle.micro_image.specs.Log.{Register, Cell, Entry, content, Log, Content, operand, value, value_by, given, result_by}
 use Rattle.micro_image.specs.Operations.{gives}
 use Rattle.micro_image.proofs.LogLaws.{content-old}
@@ -55,17 +54,17 @@ not_store o result e = let none : gives o ≡ false = ap gives e in absurd (cc)
 of_graph_no_address : (o : Op) → IsOfGraph o → o ≡ op.Addr → ⊥
 of_graph_no_address o of e = subst IsOfGraph e of
 
-module _ {o : Overlap} (d : Datapath) (p : Plan) (words : Counted) (plan : IsFeasibleOver o d p) (image : Image)
-    (z stream : Rows) (runs : ExecutesOver o d p image) (solves : LoweredSolves d p stream words)
+module _ {o : Overlap} (d : Datapath) (p : Plan) (words : Counted) (plan : IsFeasibleOver o d p) (micro : Microprogram)
+    (z stream : Rows) (runs : ExecutesOver o d p micro) (solves : LoweredSolves d p stream words)
     (rows : (n c : ℕ) → c < d.period → nth z (n * d.period + c) [] ≡ nth stream n []) where
   -- up to cycle t each place holds what is wanted of it
   abbrev pub AllRight : ℕ → Type 0
   AllRight t =
       Right (place_of o d p words) (written_at o d p words) (wanted_to o d p words) (word_of o d p words)
-      (past * d.period) (length stream * d.period) (Content image z) t
+      (past * d.period) (length stream * d.period) (Content micro z) t
 
   pub place_read : (v n q k : ℕ) (issue : Issue)
-      → IsIssueIn d p image v n issue
+      → IsIssueIn d p micro v n issue
       → ReadsThrough p v q k
       → Register issue.unit q (nth issue.regs q 0)
       ≡ Register (arc_at p k).port.unit (arc_at p k).port.port (register_in d p k (past + n - (edge_at p v q).delay))
@@ -80,9 +79,9 @@ module _ {o : Overlap} (d : Datapath) (p : Plan) (words : Counted) (plan : IsFea
       → AllRight t
       → v < length (nodes_of p)
       → q < length (node_at p v).edges
-      → IsIssueIn d p image v n issue
+      → IsIssueIn d p micro v n issue
       → n * d.period + cycle_at p v ≤ t
-      → operand image (Log image z t) (n * d.period + cycle_at p v) issue q ≡ operand_in words (node_at p v) n q
+      → operand micro (Log micro z t) (n * d.period + cycle_at p v) issue q ≡ operand_in words (node_at p v) n q
   reads t v n q issue right in-v in-q is below =
       let through = plan.read v q in-v in-q in
       let k : ℕ = through.0 in
@@ -98,8 +97,8 @@ module _ {o : Overlap} (d : Datapath) (p : Plan) (words : Counted) (plan : IsFea
       let time : (past + n) * d.period ≡ m * d.period + ago * d.period =
       ap (λ n. n * d.period) (back n ago (omega (arith, small))) ∙ add-mul m ago d.period in
       let whole : (past + n) * d.period ≡ past * d.period + n * d.period = add-mul past n d.period in
-      content-old image z _ _ t below
-      ∙ ap (λ place. Content image z place (n * d.period + cycle_at p v)) (place_read v n q k issue is through.1)
+      content-old micro z _ _ t below
+      ∙ ap (λ place. Content micro z place (n * d.period + cycle_at p v)) (place_read v n q k issue is through.1)
       ∙ right live (n * d.period + cycle_at p v) below (omega (arith, within.0, time, whole, start, written))
       (omega (arith, within.1, time, whole, start))
       ∙ ap (λ u. words u m) (sym through.1.reads.node)
@@ -113,11 +112,11 @@ module _ {o : Overlap} (d : Datapath) (p : Plan) (words : Counted) (plan : IsFea
       → v < length (nodes_of p)
       → n < length stream
       → 0 < length (node_at p v).edges
-      → IsIssueIn d p image v n issue
+      → IsIssueIn d p micro v n issue
       → HasAddress d p v ram offset
       → 0 < cells_on d ram
       → n * d.period + cycle_at p v ≤ t
-      → operand image (Log image z t) (n * d.period + cycle_at p v) issue 0
+      → operand micro (Log micro z t) (n * d.period + cycle_at p v) issue 0
       ≡ pos (cell_in (cells_on d ram) past offset (past + n))
   address_right t v n ram offset issue right in-v in-n some is has cells below =
       let a : ℕ = (edge_at p v 0).node in
@@ -153,9 +152,9 @@ module _ {o : Overlap} (d : Datapath) (p : Plan) (words : Counted) (plan : IsFea
       → (node_at p v).op ≡ op.Load
       → LoadsFrom d p v l ago
       → words v (past + n) ≡ words (line_at p l).node (past + n - ago)
-      → IsIssueIn d p image v n issue
+      → IsIssueIn d p micro v n issue
       → n * d.period + cycle_at p v ≤ t
-      → value_by op.Load image z (Log image z t) (n * d.period + cycle_at p v) issue ≡ words v (past + n)
+      → value_by op.Load micro z (Log micro z t) (n * d.period + cycle_at p v) issue ≡ words v (past + n)
   load_right t v n l ago issue right in-v in-n is-load loads old is below =
       let line : IsFeasibleLine o d p l = plan.lines l loads.there in
       let offset : ℕ = (line_at p l).offset in
@@ -172,16 +171,16 @@ module _ {o : Overlap} (d : Datapath) (p : Plan) (words : Counted) (plan : IsFea
       ap (λ n. n * d.period) e ∙ add-mul m ago d.period in
       let whole : (past + n) * d.period ≡ past * d.period + n * d.period = add-mul past n d.period in
       let live : LiveWord o p = in_cell l m loads.there (omega (arith, e, depth)) in
-      let address : operand image (Log image z t) (n * d.period + cycle_at p v) issue 0
+      let address : operand micro (Log micro z t) (n * d.period + cycle_at p v) issue 0
       ≡ pos (cell_in (cells_on d ram) past (offset + ago) (past + n)) =
       address_right t v n ram (offset + ago) issue right in-v in-n
       (some_operand 0 (edges_of v op.Load in-v is-load) (omega arith)) is loads.address cells below in
       let cell : cell_in (cells_on d ram) past (offset + ago) (past + n) ≡ cell_in (cells_on d ram) past offset m =
       ap (cell_in (cells_on d ram) past (offset + ago)) e
       ∙ load-cell (cells_on d ram) past offset ago m cells (omega arith) in
-      ap₂ (λ u a. content image (Log image z t) (Cell u (to_nat a)) (n * d.period + cycle_at p v))
+      ap₂ (λ u a. content micro (Log micro z t) (Cell u (to_nat a)) (n * d.period + cycle_at p v))
       (is.unit ∙ loads.unit) (address ∙ ap pos cell)
-      ∙ content-old image z (place_of o d p words live) (n * d.period + cycle_at p v) t below
+      ∙ content-old micro z (place_of o d p words live) (n * d.period + cycle_at p v) t below
       ∙ right live (n * d.period + cycle_at p v) below
       (omega (arith, stored_most m end, behind, time, whole))
       (in_time v l ago m n (n * d.period + cycle_at p v) in-v depth e refl)
@@ -191,11 +190,11 @@ module _ {o : Overlap} (d : Datapath) (p : Plan) (words : Counted) (plan : IsFea
       → v < length (nodes_of p)
       → n < length stream
       → (node_at p v).op ≡ op.Addr
-      → IsIssueIn d p image v n issue
-      → value_by op.Addr image z log (n * d.period + cycle_at p v) issue ≡ words v (past + n)
+      → IsIssueIn d p micro v n issue
+      → value_by op.Addr micro z log (n * d.period + cycle_at p v) issue ≡ words v (past + n)
   addr_right log v n issue in-v in-n is-addr is =
-      ap (λ c. int_rem_euclid (issue.arg -ℤ pos (sample_of image (n * d.period + cycle_at p v))) (pos c))
-      (runs.cells (unit_of image issue.unit).ram
+      ap (λ c. int_rem_euclid (issue.arg -ℤ pos (sample_of micro (n * d.period + cycle_at p v))) (pos c))
+      (runs.cells (unit_of micro issue.unit).ram
       ∙ ap (cells_on d) (runs.ram issue.unit ∙ ap (tie_of d) is.unit))
       ∙ is.address is-addr
       ∙ sym (solves.address v n in-v in-n is-addr)
@@ -206,11 +205,11 @@ module _ {o : Overlap} (d : Datapath) (p : Plan) (words : Counted) (plan : IsFea
       → AllRight t
       → v < length (nodes_of p)
       → n < length stream
-      → IsIssueIn d p image v n issue
+      → IsIssueIn d p micro v n issue
       → n * d.period + cycle_at p v ≤ t
-      → value_by o image z (Log image z t) (n * d.period + cycle_at p v) issue ≡ words v (past + n)
+      → value_by o micro z (Log micro z t) (n * d.period + cycle_at p v) issue ≡ words v (past + n)
   plain_right o t v n issue of e right in-v in-n is below =
-      value-meaning o image z stream (Log image z t) (n * d.period + cycle_at p v) n issue (node_at p v) of
+      value-meaning o micro z stream (Log micro z t) (n * d.period + cycle_at p v) n issue (node_at p v) of
       (λ input. rows n (cycle_at p v) (plan.inputs v in-v (e ∙ input)))
       (is.arg (of_graph_no_address (node_at p v).op (subst IsOfGraph (sym e) of))) is.fmt
       ∙ meaning-operands o (node_at p v) stream n _ _ of
@@ -224,14 +223,14 @@ module _ {o : Overlap} (d : Datapath) (p : Plan) (words : Counted) (plan : IsFea
       → AllRight t
       → v < length (nodes_of p)
       → n < length stream
-      → IsIssueIn d p image v n issue
+      → IsIssueIn d p micro v n issue
       → n * d.period + cycle_at p v ≤ t
-      → value_by o image z (Log image z t) (n * d.period + cycle_at p v) issue ≡ words v (past + n)
+      → value_by o micro z (Log micro z t) (n * d.period + cycle_at p v) issue ≡ words v (past + n)
   right_by op.Load t v n issue e never right in-v in-n is below =
       let loads = solves.load v n in-v in-n e in
       load_right t v n loads.0 loads.1 issue right in-v in-n e loads.2 loads.3 is below
   right_by op.Store t v n issue e never right in-v in-n is below = absurd (never refl)
-  right_by op.Addr t v n issue e never right in-v in-n is below = addr_right (Log image z t) v n issue in-v in-n e is
+  right_by op.Addr t v n issue e never right in-v in-n is below = addr_right (Log micro z t) v n issue in-v in-n e is
   right_by o t v n issue e never right in-v in-n is below =
       plain_right o t v n issue (tt {0}) e right in-v in-n is below
 
@@ -241,12 +240,12 @@ module _ {o : Overlap} (d : Datapath) (p : Plan) (words : Counted) (plan : IsFea
       → v < length (nodes_of p)
       → n < length stream
       → ((node_at p v).op ≡ op.Store → ⊥)
-      → IsIssueIn d p image v n issue
+      → IsIssueIn d p micro v n issue
       → n * d.period + cycle_at p v ≤ t
-      → value image z (Log image z t) (n * d.period + cycle_at p v) issue ≡ words v (past + n)
+      → value micro z (Log micro z t) (n * d.period + cycle_at p v) issue ≡ words v (past + n)
   unfolding value
   issue_right t v n issue right in-v in-n never is below =
-      ap (λ o. value_by o image z (Log image z t) (n * d.period + cycle_at p v) issue) is.op
+      ap (λ o. value_by o micro z (Log micro z t) (n * d.period + cycle_at p v) issue) is.op
       ∙ right_by (node_at p v).op t v n issue refl never right in-v in-n is below
 
   -- a store writes the word of its line's node
@@ -255,12 +254,12 @@ module _ {o : Overlap} (d : Datapath) (p : Plan) (words : Counted) (plan : IsFea
       → v < length (nodes_of p)
       → n < length stream
       → StoresTo d p v l
-      → IsIssueIn d p image v n issue
+      → IsIssueIn d p micro v n issue
       → n * d.period + cycle_at p v ≤ t
-      → value image z (Log image z t) (n * d.period + cycle_at p v) issue ≡ words (line_at p l).node (past + n)
+      → value micro z (Log micro z t) (n * d.period + cycle_at p v) issue ≡ words (line_at p l).node (past + n)
   unfolding value
   store_right t v n l issue right in-v in-n stores is below =
-      ap (λ o. value_by o image z (Log image z t) (n * d.period + cycle_at p v) issue) (is.op ∙ stores.is_store)
+      ap (λ o. value_by o micro z (Log micro z t) (n * d.period + cycle_at p v) issue) (is.op ∙ stores.is_store)
       ∙ reads t v n 1 issue right in-v (some_operand 1 (edges_of v op.Store in-v stores.is_store) (omega arith)) is
       below
       ∙ ap₂ words stores.value (back_now n (edge_at p v 1).delay stores.now)
@@ -271,9 +270,9 @@ module _ {o : Overlap} (d : Datapath) (p : Plan) (words : Counted) (plan : IsFea
       → v < length (nodes_of p)
       → n < length stream
       → (stores : StoresTo d p v l)
-      → IsIssueIn d p image v n issue
+      → IsIssueIn d p micro v n issue
       → n * d.period + cycle_at p v ≤ t
-      → Cell issue.unit (to_nat (operand image (Log image z t) (n * d.period + cycle_at p v) issue 0))
+      → Cell issue.unit (to_nat (operand micro (Log micro z t) (n * d.period + cycle_at p v) issue 0))
       ≡ place_of o d p words (in_cell l (past + n) stores.there (near_now n (line_at p l).depth))
   store_place t v n l issue right in-v in-n stores is below =
       let room : (line_at p l).offset + reach o (line_at p l) < cells_on d (line_at p l).ram =
@@ -282,22 +281,22 @@ module _ {o : Overlap} (d : Datapath) (p : Plan) (words : Counted) (plan : IsFea
       (address_right t v n (line_at p l).ram (line_at p l).offset issue right in-v in-n
       (some_operand 0 (edges_of v op.Store in-v stores.is_store) (omega arith)) is stores.address (omega arith) below)
 
-  ending_is : (t u c b : ℕ) → t ≡ c + b → (unit_of image u).latency - 1 ≡ b → ending image t u ≡ issue_at image c u
+  ending_is : (t u c b : ℕ) → t ≡ c + b → (unit_of micro u).latency - 1 ≡ b → ending micro t u ≡ issue_at micro c u
   ending_is t u c b e f = rw f (rw e (grind arith))
 
-  began_is : (t u c b : ℕ) → t ≡ c + b → (unit_of image u).latency - 1 ≡ b → began image t u ≡ c
+  began_is : (t u c b : ℕ) → t ≡ c + b → (unit_of micro u).latency - 1 ≡ b → began micro t u ≡ c
   began_is t u c b e f = omega (arith, e, f)
 
   -- the issue of a node ends in the cycle of its result
   pub ends_then : (v n : ℕ) (issue : Issue)
-      → issue_at image (n * d.period + cycle_at p v) (unit_at p v) ≡ Some issue
-      → ending image (n * d.period + ends_at d p v) (unit_at p v) ≡ Some issue
+      → issue_at micro (n * d.period + cycle_at p v) (unit_at p v) ≡ Some issue
+      → ending micro (n * d.period + ends_at d p v) (unit_at p v) ≡ Some issue
   ends_then v n issue at =
       ending_is (n * d.period + ends_at d p v) (unit_at p v) (n * d.period + cycle_at p v)
       (latency_on d (unit_at p v) - 1) (omega arith) (ap (λ l. l - 1) (runs.latency (unit_at p v)))
       ∙ at
 
-  pub began_then : (v n : ℕ) → began image (n * d.period + ends_at d p v) (unit_at p v) ≡ n * d.period + cycle_at p v
+  pub began_then : (v n : ℕ) → began micro (n * d.period + ends_at d p v) (unit_at p v) ≡ n * d.period + cycle_at p v
   began_then v n =
       began_is (n * d.period + ends_at d p v) (unit_at p v) (n * d.period + cycle_at p v)
       (latency_on d (unit_at p v) - 1) (omega arith) (ap (λ l. l - 1) (runs.latency (unit_at p v)))
@@ -308,14 +307,14 @@ module _ {o : Overlap} (d : Datapath) (p : Plan) (words : Counted) (plan : IsFea
       → v < length (nodes_of p)
       → n < length stream
       → gives (node_at p v).op ≡ true
-      → result_by image z (Log image z (n * d.period + ends_at d p v)) (n * d.period + ends_at d p v) (unit_at p v)
+      → result_by micro z (Log micro z (n * d.period + ends_at d p v)) (n * d.period + ends_at d p v) (unit_at p v)
       ≡ Some (words v (past + n))
   result_right v n right in-v in-n result =
       let issue = (runs.issue v n in-v).0 in
       let at = (runs.issue v n in-v).1 in
       let is = (runs.issue v n in-v).2 in
       let t : ℕ = n * d.period + ends_at d p v in
-      ap₂ (λ b e. given image z (Log image z t) b e) (began_then v n) (ends_then v n issue at)
-      ∙ ap (λ g. if g then Some (value image z (Log image z t) (n * d.period + cycle_at p v) issue) else None)
+      ap₂ (λ b e. given micro z (Log micro z t) b e) (began_then v n) (ends_then v n issue at)
+      ∙ ap (λ g. if g then Some (value micro z (Log micro z t) (n * d.period + cycle_at p v) issue) else None)
       (ap gives is.op ∙ result)
       ∙ ap Some (issue_right t v n issue right in-v in-n (λ e. not_store (node_at p v).op result e) is (omega arith))

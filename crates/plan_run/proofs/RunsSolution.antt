@@ -18,6 +18,7 @@ use Rattle.plan_core.specs.IsPlan.{IsPlan}
 use Rattle.plan_core.specs.Operands.{node_of}
 use Rattle.plan_core.specs.Lowered.{own, IsNumber, IsOwn}
 use Rattle.plan_core.specs.declared.plan.Plan.{Plan}
+use Rattle.micro_image.specs.Fields.{Microprogram, microprogram_of}
 use Rattle.micro_image.specs.Run.{IsRunOut}
 use Rattle.micro_image.specs.declared.image.Image.{Image}
 use Rattle.micro_image.proofs.Lists.{map-same, In-range}
@@ -156,17 +157,17 @@ module _ {o : Overlap} (g : Graph) (d : Datapath) (p : Plan) (sound : IsGraph g)
         below_of : (j : ℕ) → (0 ≤ j) × (j < 0 + g.outs) → j < g.outs
         below_of j h = omega (arith, h.1)
 
-  -- an image that does what a feasible plan has runs the solution
-  pub executed_runs : (image : Image)
-      → image.outs ≡ p.outs
-      → ExecutesOver o d p image
-      → RunsSolutionLate (o.stages - 1) g image
-  executed_runs image count runs stream words solves =
-      let outs : image.outs ≡ g.outs = count ∙ plan.outs in
-      subst (IsRunOut image stream)
+  -- a microprogram that executes a feasible plan runs the solution
+  pub executed_runs : (micro : Microprogram)
+      → micro.outs ≡ p.outs
+      → ExecutesOver o d p micro
+      → RunsSolutionLate (o.stages - 1) g micro
+  executed_runs micro count runs stream words solves =
+      let outs : micro.outs ≡ g.outs = count ∙ plan.outs in
+      subst (IsRunOut micro stream)
       (ap (λ outs. counted_out (o.stages - 1) (counted stream words solves) out_node outs (length stream)) outs
       ∙ rows_are stream words solves (o.stages - 1))
-      (runs_out o d p (counted stream words solves) image stream out_node plan.feasible runs
+      (runs_out o d p (counted stream words solves) micro stream out_node plan.feasible runs
       (lowered_solves g d p sound plan.lowered plan.assigned stream words solves)
       (λ j in-j. output_node j (omega (arith, in-j, outs))))
 
@@ -177,8 +178,9 @@ pub feasible_runs : (g : Graph) (d : Datapath) (p : Plan)
     → (image : Image) → IsImageOf d p image
     → RunsSolution g image
 feasible_runs g d p sound plan image of stream words solves =
-    subst (IsRunOut image stream) rows
-    (executed_runs g d p sound plan image of.outs (executes d p plan.feasible image of) stream words solves)
+    subst (IsRunOut (microprogram_of image) stream) rows
+    (executed_runs g d p sound plan (microprogram_of image) of.outs (executes d p plan.feasible image of) stream words
+    solves)
   where
     rows : graph_out g (late_words 0 words) (length stream) ≡ graph_out g words (length stream)
     rows =

@@ -28,7 +28,7 @@ use Rattle.plan_core.specs.declared.plan.Plan.{Plan}
 use Rattle.micro_image.specs.declared.image.UnitDesc.{UnitDesc}
 use Rattle.micro_image.specs.declared.image.Word.{Word}
 use Rattle.micro_image.specs.declared.image.Image.{Image}
-use Rattle.micro_image.specs.Fields.{nth, no_word, unit_of as described}
+use Rattle.micro_image.specs.Fields.{microprogram_of, nth, no_word}
 use Rattle.micro_image.specs.Log.{Register, Cell, initial}
 use Rattle.micro_image.specs.Valid as valid
 use Rattle.micro_image.specs.Size.{IsShort}
@@ -38,6 +38,7 @@ use Rattle.plan_run.specs.Machine.{IsMachine}
 use Rattle.plan_run.specs.ImageOf.{IsUnitOf, IsWordOf, IsImageOf, IsPreloadOf, IsCellPreload, width_of}
 use Rattle.plan_run.specs.Private.Feasible.{IsFeasible, IsFeasiblePlan}
 use Rattle.plan_run.proofs.Elements.{default_any}
+use Rattle.plan_run.proofs.FromImage.{described}
 use Rattle.plan_run.proofs.FromLowered.{made_at, made_as, own_below, graph_node}
 use Rattle.plan_run.proofs.FromRules.{all_at}
 use Rattle.plan_run.proofs.RunsSolution.{plan_feasible}
@@ -143,7 +144,8 @@ module _ (g : Graph) (d : Datapath) (p : Plan) (sound : IsGraph g) (machine : Is
           no_inits _ k (ap (λ (node : Node). node.inits) made.is)
 
   -- registers and cells start with words
-  register_word : (port : PortRef) (reg : ℕ) → IsWord 32 (initial image (Register port.unit port.port reg))
+  register_word : (port : PortRef) (reg : ℕ)
+      → IsWord 32 (initial (microprogram_of image) (Register port.unit port.port reg))
   register_word port reg =
       ⊎_elim
       (λ word. word)
@@ -153,9 +155,9 @@ module _ (g : Graph) (d : Datapath) (p : Plan) (sound : IsGraph g) (machine : Is
       never (subst (IsWord 32) (sym (is.starts.register port reg k i ago of))
       (word_of_node (arc_at p k).node ago (feasible.arcs k of.preload.there).node)))))
       zero_word)))
-      (word_cases (initial image (Register port.unit port.port reg)))
+      (word_cases (initial (microprogram_of image) (Register port.unit port.port reg)))
 
-  cell_word : (ram cell : ℕ) → IsWord 32 (initial image (Cell ram cell))
+  cell_word : (ram cell : ℕ) → IsWord 32 (initial (microprogram_of image) (Cell ram cell))
   cell_word ram cell =
       ⊎_elim
       (λ word. word)
@@ -165,7 +167,7 @@ module _ (g : Graph) (d : Datapath) (p : Plan) (sound : IsGraph g) (machine : Is
       never (subst (IsWord 32) (sym (is.starts.cell ram cell l ago of))
       (word_of_node (line_at p l).node ago (feasible.lines l of.there).node)))))
       zero_word)))
-      (word_cases (initial image (Cell ram cell)))
+      (word_cases (initial (microprogram_of image) (Cell ram cell)))
 
   -- Units.
 

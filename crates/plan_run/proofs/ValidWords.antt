@@ -28,7 +28,7 @@ use Rattle.micro_image.specs.declared.image.Issue.{Issue}
 use Rattle.micro_image.specs.declared.image.Take.{Take}
 use Rattle.micro_image.specs.declared.image.Word.{Word}
 use Rattle.micro_image.specs.declared.image.Image.{Image}
-use Rattle.micro_image.specs.Fields.{nth, unit_of as described}
+use Rattle.micro_image.specs.Fields.{nth}
 use Rattle.micro_image.specs.Operations.{kind_of, reads}
 use Rattle.micro_image.specs.Valid as valid
 use Rattle.micro_image.proofs.Length.{few_ports}
@@ -39,7 +39,7 @@ use Rattle.plan_run.specs.Private.Samples.{past}
 use Rattle.plan_run.specs.Private.Feasible.{IsFeasible, IsFeasiblePlan}
 use Rattle.plan_run.proofs.Ordinary.{delay_in, room}
 use Rattle.plan_run.proofs.Elements.{default_any, nth_past}
-use Rattle.plan_run.proofs.FromImage.{copy_read}
+use Rattle.plan_run.proofs.FromImage.{described, copy_read}
 use Rattle.plan_run.proofs.FromLowered.{made_at, made_as, own_below, graph_node, line_is, line_for}
 use Rattle.plan_run.proofs.FromRules.{all_at}
 use Rattle.plan_run.proofs.Origins.{numbered}

@@ -1,4 +1,4 @@
--- The image of a feasible plan runs the solution of its lowered list.
+-- A microprogram that executes a feasible plan runs the solution of its lowered list.
 use Rattle.std.proofs.Common.{◌≡◌, ℕ, ◌+◌, ◌-◌, ◌*◌, ◌<◌, ◌≤◌, nat_lt, refl, sym, ap, ap₂, ◌∙◌, arith, ⊎_elim, [], length, map, ℤ, pos, subst, if◌then◌else◌}
 use Rattle.std.specs.List.{range_with_len}
 use Rattle.std.proofs.lemmas.Bool.{cases_lt}
@@ -7,8 +7,7 @@ use Rattle.fix_word.specs.declared.operation.Op.TheVariants as op
 use Rattle.operations.specs.Ranges.{to_nat}
 use Rattle.datapath.specs.declared.types.Datapath.{Datapath}
 use Rattle.plan_core.specs.declared.plan.Plan.{Plan}
-use Rattle.micro_image.specs.declared.image.Image.{Image}
-use Rattle.micro_image.specs.Fields.{nth}
+use Rattle.micro_image.specs.Fields.{Microprogram, nth}
 use Rattle.micro_image.specs.Log.{Content, Latch}
 use Rattle.micro_image.specs.Run.{IsRunOut, spread}
 use Rattle.micro_image.proofs.Lists.{map-same, In-range}
@@ -51,69 +50,70 @@ below_of : (low n k : ℕ) → (low ≤ k) × (k < low + n) → low ≡ 0 → k 
 below_of low n k h e = omega (arith, h.1, e)
 
 -- each cycle of a sample has its row
-pub sample_rows : (d : Datapath) (image : Image) (stream : Rows)
-    → image.period ≡ d.period
+pub sample_rows : (d : Datapath) (micro : Microprogram) (stream : Rows)
+    → micro.period ≡ d.period
     → (n c : ℕ)
     → c < d.period
-    → nth (spread image.period stream) (n * d.period + c) [] ≡ nth stream n []
-sample_rows d image stream period n c below =
+    → nth (spread micro.period stream) (n * d.period + c) [] ≡ nth stream n []
+sample_rows d micro stream period n c below =
     ⊎_elim
     (λ (in-n : n < length stream).
     ap (λ q. nth (spread q stream) (n * d.period + c) []) period ∙ nth-spread d.period stream n c in-n below)
     (λ (le : length stream ≤ n).
-    nth_past (spread image.period stream) (n * d.period + c) []
+    nth_past (spread micro.period stream) (n * d.period + c) []
     (let whole : length stream * d.period ≤ n * d.period = mul-le-mul_right d.period le in
     omega (arith, whole, long))
     ∙ sym (nth_past stream n [] le))
     (cases_lt n (length stream))
   where
-    long : length (spread image.period stream) ≡ length stream * d.period
-    long = length-spread image.period stream ∙ ap (λ q. length stream * q) period
+    long : length (spread micro.period stream) ≡ length stream * d.period
+    long = length-spread micro.period stream ∙ ap (λ q. length stream * q) period
 
-pub runs_out : (o : Overlap) (d : Datapath) (p : Plan) (words : Counted) (image : Image) (stream : Rows) (out : ℕ → ℕ)
+pub runs_out : (o : Overlap) (d : Datapath) (p : Plan) (words : Counted) (micro : Microprogram) (stream : Rows)
+    (out : ℕ → ℕ)
     → IsFeasibleOver o d p
-    → ExecutesOver o d p image
+    → ExecutesOver o d p micro
     → LoweredSolves d p stream words
-    → ((j : ℕ) → j < image.outs → IsOutputNode p j (out j))
-    → IsRunOut image stream (counted_out (o.stages - 1) words out image.outs (length stream))
-runs_out o d p words image stream out plan runs solves outs = record {
-  clear = λ t below. clear d p words plan image z stream runs solves rows t
+    → ((j : ℕ) → j < micro.outs → IsOutputNode p j (out j))
+    → IsRunOut micro stream (counted_out (o.stages - 1) words out micro.outs (length stream))
+runs_out o d p words micro stream out plan runs solves outs = record {
+  clear = λ t below. clear d p words plan micro z stream runs solves rows t
       (subst (λ q. t < length stream * q) runs.period below);
   put = map-same _ _ (range_with_len 0 (length stream)) (λ n in-n.
-      map-same _ _ (range_with_len 0 image.outs) (λ j in-j.
+      map-same _ _ (range_with_len 0 micro.outs) (λ j in-j.
       sym (latch n j (below_of 0 (length stream) n (In-range 0 (length stream) n in-n) refl)
-      (below_of 0 image.outs j (In-range 0 image.outs j in-j) refl))));
+      (below_of 0 micro.outs j (In-range 0 micro.outs j in-j) refl))));
 }
   where
     z : Rows
-    z = spread image.period stream
+    z = spread micro.period stream
 
     rows : (n c : ℕ) → c < d.period → nth z (n * d.period + c) [] ≡ nth stream n []
-    rows = sample_rows d image stream runs.period
+    rows = sample_rows d micro stream runs.period
 
     latch_by : (v n : ℕ)
         → v < length (nodes_of p)
         → (node_at p v).op ≡ op.Output
         → n < length stream
-        → Content image z (Latch (to_nat (node_at p v).arg)) ((n + 1) * d.period) ≡ put_in (o.stages - 1) words v n
+        → Content micro z (Latch (to_nat (node_at p v).arg)) ((n + 1) * d.period) ≡ put_in (o.stages - 1) words v n
     latch_by v n in-v is in-n =
         ⊎_elim
         (λ (early : n < o.stages - 1).
-        latch_first d p words plan image z stream runs solves rows v n in-v is (omega (arith, early)) in-n
+        latch_first d p words plan micro z stream runs solves rows v n in-v is (omega (arith, early)) in-n
         ∙ sym (put_first (o.stages - 1) words v n early))
         (λ (late : o.stages - 1 ≤ n).
         let whole : n - (o.stages - 1) + o.stages ≡ n + 1 = omega (arith, late, plan.stages) in
-        ap (λ m. Content image z (Latch (to_nat (node_at p v).arg)) (m * d.period)) (sym whole)
-        ∙ latch_right d p words plan image z stream runs solves rows v (n - (o.stages - 1)) in-v is
+        ap (λ m. Content micro z (Latch (to_nat (node_at p v).arg)) (m * d.period)) (sym whole)
+        ∙ latch_right d p words plan micro z stream runs solves rows v (n - (o.stages - 1)) in-v is
         (omega (arith, whole, in-n))
         ∙ sym (put_late (o.stages - 1) words v n late))
         (cases_lt n (o.stages - 1))
 
     latch : (n j : ℕ)
         → n < length stream
-        → j < image.outs
-        → Content image z (Latch j) ((n + 1) * image.period) ≡ put_in (o.stages - 1) words (out j) n
+        → j < micro.outs
+        → Content micro z (Latch j) ((n + 1) * micro.period) ≡ put_in (o.stages - 1) words (out j) n
     latch n j in-n in-j =
         let node = outs j in-j in
-        ap₂ (λ k q. Content image z (Latch k) ((n + 1) * q)) (sym node.arg) runs.period
+        ap₂ (λ k q. Content micro z (Latch k) ((n + 1) * q)) (sym node.arg) runs.period
         ∙ latch_by (out j) n node.there node.op in-n

@@ -13,8 +13,7 @@ use Rattle.plan_core.specs.declared.plan.Plan.{Plan}
 use Rattle.micro_image.specs.declared.image.Enable.{Enable}
 use Rattle.micro_image.specs.declared.image.Issue.{Issue}
 use Rattle.micro_image.specs.declared.image.Take.{Take}
-use Rattle.micro_image.specs.declared.image.Image.{Image}
-use Rattle.micro_image.specs.Fields.{nth, unit_of, word_at, issue_at, driver_at, began, ending}
+use Rattle.micro_image.specs.Fields.{Microprogram, nth, unit_of, issue_at, driver_at, began, ending}
 use Rattle.micro_image.specs.Log.{Place, Register, Latch, Cell, Entry, same_place, Log, operand, value, entries_by, entry_of, taken, taken_from, written, written_of, written_by, result_by}
 use Rattle.micro_image.proofs.Each.{In, here, Each, none, more, Each-append, Each-flat_map}
 use Rattle.plan_run.specs.Parts.{nodes_of, node_at, unit_at, cycle_at, arc_at, line_at, register_at, ends_at}
@@ -86,11 +85,11 @@ output_no_address o e f = absurd (cc)
 output_no_store : (o : Op) → o ≡ op.Output → o ≡ op.Store → ⊥
 output_no_store o e f = absurd (cc)
 
-module _ {o : Overlap} (d : Datapath) (p : Plan) (words : Counted) (plan : IsFeasibleOver o d p) (image : Image)
-    (z stream : Rows) (runs : ExecutesOver o d p image) (solves : LoweredSolves d p stream words)
+module _ {o : Overlap} (d : Datapath) (p : Plan) (words : Counted) (plan : IsFeasibleOver o d p) (micro : Microprogram)
+    (z stream : Rows) (runs : ExecutesOver o d p micro) (solves : LoweredSolves d p stream words)
     (rows : (n c : ℕ) → c < d.period → nth z (n * d.period + c) [] ≡ nth stream n []) where
   abbrev RightAt : ℕ → Type 0
-  RightAt t = AllRight d p words plan image z stream runs solves rows t
+  RightAt t = AllRight d p words plan micro z stream runs solves rows t
 
   -- the write of cycle t is of a live word that is written then
   pub record IsOfWord (t : ℕ) (e : Entry) : Type 0 where
@@ -100,12 +99,12 @@ module _ {o : Overlap} (d : Datapath) (p : Plan) (words : Counted) (plan : IsFea
     pub value : e.value ≡ word_of o d p words live
 
   taken_is : (log : List Entry) (t : ℕ) (take : Take) (driver : Enable) (v : ℤ)
-      → driver_at image t take.bus ≡ Some driver
-      → result_by image z log t driver.unit ≡ Some v
-      → taken image z log t take
+      → driver_at micro t take.bus ≡ Some driver
+      → result_by micro z log t driver.unit ≡ Some v
+      → taken micro z log t take
       ≡ write (Register take.port.unit take.port.port take.reg) t driver.unit v ∷ []
   taken_is log t take driver v drives result =
-      ap (taken_from image z log t take) drives
+      ap (taken_from micro z log t take) drives
       ∙ ap (entry_of (Register take.port.unit take.port.port take.reg) t driver.unit) result
 
   -- the word of a lifetime in sample n
@@ -117,19 +116,19 @@ module _ {o : Overlap} (d : Datapath) (p : Plan) (words : Counted) (plan : IsFea
       → n < length stream
       → t ≡ n * d.period + ends_at d p (arc_at p k).node
       → RightAt t
-      → IsTakeIn d p image k n t take
-      → (u : ℕ) × (taken image z (Log image z t) t take
+      → IsTakeIn d p micro k n t take
+      → (u : ℕ) × (taken micro z (Log micro z t) t take
       ≡ write (place_of o d p words (live_in k n there)) t u (words (arc_at p k).node (past + n)) ∷ [])
   taken_word k n t take in-k in-n at right is =
       let driver = is.driver.0 in
       let arc : IsFeasibleArc d p k = plan.arcs k in-k in
-      let result : result_by image z (Log image z t) t driver.unit ≡ Some (words (arc_at p k).node (past + n)) =
-      ap (result_by image z (Log image z t) t) is.driver.2
+      let result : result_by micro z (Log micro z t) t driver.unit ≡ Some (words (arc_at p k).node (past + n)) =
+      ap (result_by micro z (Log micro z t) t) is.driver.2
       ∙ subst
-      (λ t. result_by image z (Log image z t) t (unit_at p (arc_at p k).node)
+      (λ t. result_by micro z (Log micro z t) t (unit_at p (arc_at p k).node)
       ≡ Some (words (arc_at p k).node (past + n)))
       (sym at)
-      (result_right d p words plan image z stream runs solves rows (arc_at p k).node n (subst RightAt at right) arc.node
+      (result_right d p words plan micro z stream runs solves rows (arc_at p k).node n (subst RightAt at right) arc.node
       in-n arc.result) in
       let reg : take.reg ≡ register_in d p k (past + n) =
       is.reg
@@ -139,7 +138,7 @@ module _ {o : Overlap} (d : Datapath) (p : Plan) (words : Counted) (plan : IsFea
       let place : Register take.port.unit take.port.port take.reg ≡ place_of o d p words (live_in k n in-k) =
       ap₂ (λ (port : PortRef) (r : ℕ). Register port.unit port.port r) is.port reg in (
         driver.unit,
-        taken_is (Log image z t) t take driver _ is.driver.1 result
+        taken_is (Log micro z t) t take driver _ is.driver.1 result
             ∙ ap (λ place. write place t driver.unit (words (arc_at p k).node (past + n)) ∷ []) place,
       )
     where
@@ -167,8 +166,8 @@ module _ {o : Overlap} (d : Datapath) (p : Plan) (words : Counted) (plan : IsFea
   take_each : (t : ℕ) (take : Take)
       → t < length stream * d.period
       → RightAt t
-      → In take (word_at image t).takes
-      → Each (IsOfWord t) (taken image z (Log image z t) t take)
+      → In take (micro.word_at t).takes
+      → Each (IsOfWord t) (taken micro z (Log micro z t) t take)
   take_each t take below right in-word =
       let only = runs.take_only t take (Contains-from_In in-word) in
       let k : ℕ = only.0 in
@@ -186,10 +185,10 @@ module _ {o : Overlap} (d : Datapath) (p : Plan) (words : Counted) (plan : IsFea
       }) none)
 
   written_each_by : (o : Op) (log : List Entry) (t b : ℕ) (issue : Issue) (P : Entry → Type 0)
-      → (o ≡ op.Output → P (write (Latch (to_nat issue.arg)) t issue.unit (value image z log b issue)))
+      → (o ≡ op.Output → P (write (Latch (to_nat issue.arg)) t issue.unit (value micro z log b issue)))
       → (o ≡ op.Store
-      → P (write (Cell issue.unit (to_nat (operand image log b issue 0))) t issue.unit (value image z log b issue)))
-      → Each P (written_by o image z log t b issue)
+      → P (write (Cell issue.unit (to_nat (operand micro log b issue 0))) t issue.unit (value micro z log b issue)))
+      → Each P (written_by o micro z log t b issue)
   written_each_by op.Output log t b issue P latch cell = more (latch refl) none
   written_each_by op.Store log t b issue P latch cell = more (cell refl) none
   written_each_by _ log t b issue P latch cell = none
@@ -199,20 +198,20 @@ module _ {o : Overlap} (d : Datapath) (p : Plan) (words : Counted) (plan : IsFea
     pub node : v < length (nodes_of p)
     pub unit : unit_at p v ≡ u
     pub at : t ≡ n * d.period + ends_at d p v
-    pub is : IsIssueIn d p image v n issue
-    pub begun : began image t u ≡ n * d.period + cycle_at p v
+    pub is : IsIssueIn d p micro v n issue
+    pub begun : began micro t u ≡ n * d.period + cycle_at p v
 
   ends_as : (t u : ℕ) (issue : Issue)
-      → ending image t u ≡ Some issue
+      → ending micro t u ≡ Some issue
       → (v : ℕ) × (n : ℕ) × EndsAs t u issue v n
   ends_as t u issue e = by (nat_le back t) refl e
     where
       back : ℕ
-      back = (unit_of image u).latency - 1
+      back = (unit_of micro u).latency - 1
 
       by : (b : Bool)
           → nat_le back t ≡ b
-          → (if b then issue_at image (t - back) u else None) ≡ Some issue
+          → (if b then issue_at micro (t - back) u else None) ≡ Some issue
           → (v : ℕ) × (n : ℕ) × EndsAs t u issue v n
       by false le at = absurd (cc)
       by true le at =
@@ -228,14 +227,14 @@ module _ {o : Overlap} (d : Datapath) (p : Plan) (words : Counted) (plan : IsFea
           ap (λ l. l - 1) (runs.latency u) ∙ ap (λ u. latency_on d u - 1) (sym unit) in
           let its = runs.issue v n in-v in
           let same : its.0 ≡ issue =
-          some_same its.0 issue (issue_at image b u) (ap₂ (issue_at image) begun (sym unit) ∙ its.1) at in (
+          some_same its.0 issue (issue_at micro b u) (ap₂ (issue_at micro) begun (sym unit) ∙ its.1) at in (
             v,
             n,
             record {
               node = in-v;
               unit = unit;
               at = omega arith;
-              is = subst (IsIssueIn d p image v n) same its.2;
+              is = subst (IsIssueIn d p micro v n) same its.2;
               begun = begun;
             },
           )
@@ -252,8 +251,8 @@ module _ {o : Overlap} (d : Datapath) (p : Plan) (words : Counted) (plan : IsFea
   written_each : (t u : ℕ) (e : Option Issue)
       → t < length stream * d.period
       → RightAt t
-      → ending image t u ≡ e
-      → Each (IsOfWord t) (written_of image z (Log image z t) t (began image t u) e)
+      → ending micro t u ≡ e
+      → Each (IsOfWord t) (written_of micro z (Log micro z t) t (began micro t u) e)
   written_each t u None below right e = none
   written_each t u (Some issue) below right e =
       let ends = ends_as t u issue e in
@@ -262,16 +261,16 @@ module _ {o : Overlap} (d : Datapath) (p : Plan) (words : Counted) (plan : IsFea
       let as' : EndsAs t u issue v n = ends.2 in
       let in-v : v < length (nodes_of p) = as'.node in
       let at : t ≡ n * d.period + ends_at d p v = as'.at in
-      let is : IsIssueIn d p image v n issue = as'.is in
+      let is : IsIssueIn d p micro v n issue = as'.is in
       let in-n : n < length stream = below_count n d.period t (length stream) (omega arith) below in
-      written_each_by issue.op (Log image z t) t (began image t u) issue (IsOfWord t)
+      written_each_by issue.op (Log micro z t) t (began micro t u) issue (IsOfWord t)
       (λ output. record {
         live = in_latch v (past + n) in-v (sym is.op ∙ output) (omega arith);
         starts = start_of (ends_at d p v) n t at;
         place = ap (λ a. Latch (to_nat a))
             (is.arg (output_no_address (node_at p v).op (sym is.op ∙ output)));
-        value = ap (λ b. value image z (Log image z t) b issue) as'.begun
-            ∙ issue_right d p words plan image z stream runs solves rows t v n issue right in-v in-n
+        value = ap (λ b. value micro z (Log micro z t) b issue) as'.begun
+            ∙ issue_right d p words plan micro z stream runs solves rows t v n issue right in-v in-n
             (output_no_store (node_at p v).op (sym is.op ∙ output)) is (omega arith);
       })
       (λ store.
@@ -281,11 +280,11 @@ module _ {o : Overlap} (d : Datapath) (p : Plan) (words : Counted) (plan : IsFea
       record {
         live = in_cell l (past + n) to.there (near_now n (line_at p l).depth);
         starts = store_start l v n t to.its_number at;
-        place = ap (λ b. Cell issue.unit (to_nat (operand image (Log image z t) b issue 0))) as'.begun
-            ∙ store_place d p words plan image z stream runs solves rows t v n l issue right in-v in-n to is
+        place = ap (λ b. Cell issue.unit (to_nat (operand micro (Log micro z t) b issue 0))) as'.begun
+            ∙ store_place d p words plan micro z stream runs solves rows t v n l issue right in-v in-n to is
             (omega arith);
-        value = ap (λ b. value image z (Log image z t) b issue) as'.begun
-            ∙ store_right d p words plan image z stream runs solves rows t v n l issue right in-v in-n to is
+        value = ap (λ b. value micro z (Log micro z t) b issue) as'.begun
+            ∙ store_right d p words plan micro z stream runs solves rows t v n l issue right in-v in-n to is
             (omega arith);
       })
 
@@ -293,11 +292,11 @@ module _ {o : Overlap} (d : Datapath) (p : Plan) (words : Counted) (plan : IsFea
   pub writes_of_words : (t : ℕ)
       → t < length stream * d.period
       → RightAt t
-      → Each (IsOfWord t) (entries_by image z (Log image z t) t)
+      → Each (IsOfWord t) (entries_by micro z (Log micro z t) t)
   unfolding entries_by
   writes_of_words t below right =
       Each-append
-      (Each-flat_map (IsOfWord t) (taken image z (Log image z t) t) (word_at image t).takes
+      (Each-flat_map (IsOfWord t) (taken micro z (Log micro z t) t) (micro.word_at t).takes
       (λ take in-word. take_each t take below right in-word))
-      (Each-flat_map (IsOfWord t) (written image z (Log image z t) t) (range_with_len 0 (length image.units))
-      (λ u in-units. written_each t u (ending image t u) below right refl))
+      (Each-flat_map (IsOfWord t) (written micro z (Log micro z t) t) (range_with_len 0 (length micro.units))
+      (λ u in-units. written_each t u (ending micro t u) below right refl))

@@ -15,7 +15,7 @@ use Rattle.micro_image.specs.declared.image.Take.{Take}
 use Rattle.micro_image.specs.declared.image.UnitDesc.{UnitDesc}
 use Rattle.micro_image.specs.declared.image.Word.{Word}
 use Rattle.micro_image.specs.declared.image.Image.{Image}
-use Rattle.micro_image.specs.Fields.{nth, no_word, unit_of as described}
+use Rattle.micro_image.specs.Fields.{Microprogram, microprogram_of, nth, no_word, unit_of as described}
 use Rattle.micro_image.specs.Log.{Register, Cell, initial}
 use Rattle.micro_image.specs.Valid.{EnableBefore, TakeBefore}
 use Rattle.plan_run.specs.Parts.{nodes_of, lines_of, node_at, edge_at, unit_at, cycle_at, transfers_at, arc_at, line_at, register_at, ReadsThrough, IsTransferOf, ends_at, IsCopy}
@@ -104,19 +104,19 @@ pub record IsCellPreload (p : Plan) (ram cell l ago : ℕ) : Type 0 where
   pub cell_is : (line_at p l).offset + ago ≡ cell
 
 -- Each register and cell that is read for a word of a sample before sample 0 starts with it. All others start with 0.
-pub record StartsWith (d : Datapath) (p : Plan) (image : Image) : Type 0 where
+pub record StartsWith (d : Datapath) (p : Plan) (micro : Microprogram) : Type 0 where
   pub register : (port : PortRef) (reg k i ago : ℕ)
       → IsPreloadOf d p port reg k i ago
-      → initial image (Register port.unit port.port reg) ≡ word_before (node_at p (arc_at p k).node).inits ago
+      → initial micro (Register port.unit port.port reg) ≡ word_before (node_at p (arc_at p k).node).inits ago
   pub other_register : (port : PortRef) (reg : ℕ)
       → ((k i ago : ℕ) → IsPreloadOf d p port reg k i ago → ⊥)
-      → initial image (Register port.unit port.port reg) ≡ pos 0
+      → initial micro (Register port.unit port.port reg) ≡ pos 0
   pub cell : (ram cell l ago : ℕ)
       → IsCellPreload p ram cell l ago
-      → initial image (Cell ram cell) ≡ word_before (node_at p (line_at p l).node).inits ago
+      → initial micro (Cell ram cell) ≡ word_before (node_at p (line_at p l).node).inits ago
   pub other_cell : (ram cell : ℕ)
       → ((l ago : ℕ) → IsCellPreload p ram cell l ago → ⊥)
-      → initial image (Cell ram cell) ≡ pos 0
+      → initial micro (Cell ram cell) ≡ pos 0
 
 -- the width of a word of the type in a microcode file
 abbrev pub width_of : SigType → ℕ
@@ -131,7 +131,7 @@ pub record IsImageOf (d : Datapath) (p : Plan) (image : Image) : Type 0 where
   pub outs : image.outs ≡ p.outs
   pub buses : image.buses ≡ length d.buses
   pub unit_count : length image.units ≡ length d.units
-  pub units : (u : ℕ) → u < length d.units → IsUnitOf d u (described image u)
-  pub starts : StartsWith d p image
+  pub units : (u : ℕ) → u < length d.units → IsUnitOf d u (described (microprogram_of image) u)
+  pub starts : StartsWith d p (microprogram_of image)
   pub word_count : length image.words ≡ p.unroll * d.period
   pub words : (n c : ℕ) → n < p.unroll → c < d.period → IsWordOf d p n c (nth image.words (n * d.period + c) no_word)

@@ -6,7 +6,7 @@ use Rattle.datapath.specs.declared.types.Unit as of_unit
 use Rattle.plan_core.specs.declared.plan.Plan.{Plan}
 use Rattle.micro_image.specs.declared.image.UnitDesc.{UnitDesc}
 use Rattle.micro_image.specs.declared.image.Image.{Image}
-use Rattle.micro_image.specs.Fields.{nth, no_unit}
+use Rattle.micro_image.specs.Fields.{microprogram_of, nth, no_unit}
 use Rattle.micro_image.specs.Log.{Place, Register, Cell, Latch, initial}
 use Rattle.plan_run.specs.Parts.{node_at, line_at}
 use Rattle.plan_run.specs.ImageOf.{IsUnitOf, IsPreloadOf, IsCellPreload}
@@ -30,6 +30,10 @@ abbrev pub held : List UnitDesc → Place → ℤ
 held units (Register u q r) = nth (nth (nth units u no_unit).files q []) r (pos 0)
 held units (Cell u c) = nth (nth units u no_unit).cells c (pos 0)
 held units (Latch j) = pos 0
+
+-- what a place holds in the image before any write
+abbrev pub initial_of : Image → Place → ℤ
+initial_of image place = initial (microprogram_of image) place
 
 -- but for what its registers and cells hold, the unit is the other
 pub record IsAlike (a b : UnitDesc) : Type 0 where
@@ -57,18 +61,18 @@ pub record AreUnitsOf (d : Datapath) (units : List UnitDesc) : Type 0 where
 pub record AreStarted (d : Datapath) (p : Plan) (image : Image) (arcs lines : ℕ) (units : List UnitDesc) : Type 0 where
   pub register : (port : PortRef) (reg k i ago : ℕ)
       → k < arcs → IsPreloadOf d p port reg k i ago
-      → held units (Register port.unit port.port reg) ≡ initial image (Register port.unit port.port reg)
+      → held units (Register port.unit port.port reg) ≡ initial_of image (Register port.unit port.port reg)
   pub cell : (ram cell l ago : ℕ)
       → l < lines → IsCellPreload p ram cell l ago
-      → held units (Cell ram cell) ≡ initial image (Cell ram cell)
-  pub only : (place : Place) → (held units place ≡ initial image place) ⊎ (held units place ≡ pos 0)
+      → held units (Cell ram cell) ≡ initial_of image (Cell ram cell)
+  pub only : (place : Place) → (held units place ≡ initial_of image place) ⊎ (held units place ≡ pos 0)
 
 -- so do the registers of lifetime k that hold words of less than so many samples before sample 0
 pub record ArePreloaded (d : Datapath) (p : Plan) (image : Image) (k most : ℕ) (units : List UnitDesc) : Type 0 where
   pub started : AreStarted d p image k 0 units
   pub register : (port : PortRef) (reg i ago : ℕ)
       → ago < most → IsPreloadOf d p port reg k i ago
-      → held units (Register port.unit port.port reg) ≡ initial image (Register port.unit port.port reg)
+      → held units (Register port.unit port.port reg) ≡ initial_of image (Register port.unit port.port reg)
 
 -- the initial values of the node whose words line l keeps
 abbrev pub inits_of : Plan → ℕ → List (ℕ × ℤ)
@@ -83,4 +87,4 @@ pub record AreCellsPut (d : Datapath) (p : Plan) (image : Image) (l values : ℕ
   pub started : AreStarted d p image (length p.arcs) l units
   pub cell : (ram cell ago i : ℕ)
       → i < values → (slice_index_or (inits_of p l) i no_init).0 ≡ ago → IsCellPreload p ram cell l ago
-      → held units (Cell ram cell) ≡ initial image (Cell ram cell)
+      → held units (Cell ram cell) ≡ initial_of image (Cell ram cell)
