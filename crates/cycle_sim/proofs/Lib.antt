@@ -3,6 +3,7 @@ pub mod Writes
 pub mod Counts
 pub mod Entries
 pub mod Folds
+pub mod Latches
 pub mod Least
 pub mod Firsts
 pub mod ValidImage
@@ -24,3 +25,9 @@ pub mod IdleRuns
 pub mod IdleCounts
 pub mod Shown
 pub mod Samples
+pub mod Acting
+pub mod Logged
+pub mod Actions
+pub mod Partition
+pub mod NextCycle
+pub mod WholeCycle

@@ -1,4 +1,5 @@
 pub mod Storage
 pub mod InFlight
 pub mod Machine
+pub mod Order
 pub mod Private

@@ -8,3 +8,5 @@ pub mod Execution
 pub mod Rings
 pub mod Hardware
 pub mod Loading
+pub mod Order
+pub mod Next

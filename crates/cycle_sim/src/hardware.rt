@@ -139,7 +139,7 @@ impl Storage {
 pub struct InFlight {
     pub values: List<Operand>,
     /// The cells that stores write.
-    pub cells: List<usize>,
+    pub cells: List<u32>,
     ghost value_slots: { length values ≡ SLOTS },
     ghost cell_slots: { length cells ≡ SLOTS },
 }

@@ -6,6 +6,7 @@ mod cycle;
 mod hardware;
 mod load;
 mod machine;
+mod order;
 mod predecode;
 mod predecoded;
 mod rings;
@@ -13,3 +14,4 @@ mod values;
 
 pub use machine::{LoadFault, Machine};
 pub use micro_image::{Conflict, ConflictKind};
+pub use order::{Spot, Wrote};

@@ -1,7 +1,7 @@
 //! Rings: rams whose offsets slide by one cell a sample. Where each stands is carried along, so that an address takes
 //! no division.
 ghost use Rattle.std.specs.Prelude.{◌≡◌, ℕ, ◌<◌, ◌+◌, length, IfOk};
-ghost use Rattle.micro_image.specs.Fields.{unit_of};
+ghost use Rattle.micro_image.specs.Fields.{microprogram_of, unit_of};
 ghost use Rattle.micro_image.specs.Log.{modulus_of};
 ghost use Rattle.cycle_sim.specs.Private.Rings.{IsRing, AreRings, AreTurned};
 
@@ -43,7 +43,7 @@ pub fn turn_all(rings: &mut List<Ring>)
 
 /// How many cells the ram of a unit has.
 fn cells_of(image: &Image, ram: u8) -> usize
-    ensures { result ≡ length (unit_of image.now ram).cells }
+    ensures { result ≡ length (unit_of (microprogram_of image.now) ram).cells }
 {
     let ram = ram as usize;
     if ram < image.units.len() {
@@ -56,7 +56,7 @@ fn cells_of(image: &Image, ram: u8) -> usize
 /// The ring of a unit before the first sample.
 fn initial_ring(image: &Image, unit: usize) -> Ring
     requires { unit < length image.now.units }
-    ensures { IsRing (modulus_of image.now unit) 0 result }
+    ensures { IsRing (modulus_of (microprogram_of image.now) unit) 0 result }
 {
     let cells = cells_of(image, image.units[unit].ram);
     Ring {
@@ -67,7 +67,7 @@ fn initial_ring(image: &Image, unit: usize) -> Ring
 
 /// The rings of all units before the first sample.
 pub fn initial_rings(alloc: Global, image: &Image) -> Result<List<Ring>, AllocError>
-    ensures { IfOk result (AreRings image.now 0) }
+    ensures { IfOk result (AreRings (microprogram_of image.now) 0) }
 {
     let mut rings = List::new(alloc);
     for unit in 0..image.units.len() {
