@@ -3,6 +3,7 @@ use Rattle.std.proofs.Common.{sym, subst, List, ℕ}
 use Rattle.desk_core.specs.View.{Name, Content, View}
 use Rattle.loop_expand.proofs.ProgramSystem.{solves_system}
 use Rattle.micro_file.proofs.Unique.{Spells-unique}
+use Rattle.micro_image.specs.Fields.{microprogram_of}
 use Rattle.micro_image.specs.Run.{IsRunOut}
 use Rattle.micro_image.specs.Spells.{Spells}
 use Rattle.micro_image.specs.declared.image.Image.{Image}
@@ -22,7 +23,7 @@ pub runs_the_solution : (p : Program) (g : Graph) (image : Image) → IsGraphFor
 runs_the_solution p g image graph runs stream valid =
     let (words, one) = graph.keeps.one_solution stream valid in
     let (others, theirs, equal) = (graph.keeps.solutions stream valid).forth words ((solves_system p stream words).0 one.solves) in
-    (words, one, subst (IsRunOut image stream) equal (runs stream others theirs.solves))
+    (words, one, subst (IsRunOut (microprogram_of image) stream) equal (runs stream others theirs.solves))
 
 module _ (src datapath : Name) (old new : View) (planned : Planned) (plan : IsReadPlan src datapath old new planned) where
   -- its microcode is compiled from the files

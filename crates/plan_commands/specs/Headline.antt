@@ -3,6 +3,7 @@ use Rattle.std.specs.Prelude.{◌≡◌, ◌≤◌, ℕ, List, length}
 use Rattle.lists.specs.Rows.{Rows}
 use Rattle.datapath.specs.declared.types.Datapath.{Datapath}
 use Rattle.micro_image.specs.declared.image.Image.{Image}
+use Rattle.micro_image.specs.Fields.{microprogram_of}
 use Rattle.micro_image.specs.Run.{IsRunOut}
 use Rattle.micro_image.specs.Spells.{Spells}
 use Rattle.plan_core.specs.declared.plan.Plan.{Plan}
@@ -23,7 +24,8 @@ pub record SpellsOnly (bytes : List ℕ) (image : Image) : Type 0 where
 abbrev pub RunsTheSolution : Program → Image → Type 0
 RunsTheSolution program image =
     (stream : Rows) → IsStream program stream
-    → (words : Words) × IsOneSolution program stream words × IsRunOut image stream (out program words (length stream))
+    → (words : Words) × IsOneSolution program stream words
+    × IsRunOut (microprogram_of image) stream (out program words (length stream))
 
 -- The program of the source has a plan over the datapath of the file. The microcode spells the image of that plan and
 -- nothing else, and that image runs the program's one solution in the datapath's period.

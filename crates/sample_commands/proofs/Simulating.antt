@@ -3,12 +3,13 @@ use Rattle.std.proofs.Common.{◌≡◌, refl, sym, ap, subst, ◌∙◌, arith,
 use Rattle.std.proofs.Math.Nat.{zero-mod}
 use Rattle.std.specs.List.{range_with_len}
 use Rattle.lists.specs.Rows.{Rows}
-use Rattle.cycle_sim.specs.Machine.{Snapshot}
+use Rattle.cycle_sim.specs.Machine.{Snapshot, micro_of}
 use Rattle.desk_core.specs.View.{Name, View}
 use Rattle.desk_core.specs.Desk.{FaultsNeverFall, IsUnchanged, IsPut}
 use Rattle.desk_core.proofs.DeskLemmas.{rose_earlier, never_fall_trans, specified_from}
 use Rattle.micro_image.specs.declared.conflict.Conflict.{Conflict as ConflictValue}
 use Rattle.micro_image.specs.Conflict.{IsClearBelow}
+use Rattle.micro_image.specs.Fields.{microprogram_of}
 use Rattle.micro_image.specs.Run.{IsRunOut, latches, spread}
 use Rattle.micro_image.proofs.Lists.{map-same}
 use Rattle.micro_image.proofs.Streams.{length-spread}
@@ -46,20 +47,20 @@ module _ (machine : Snapshot) (fresh : IsFresh machine) where
   pub fresh_young : machine.cycle < 2 ^ 47 * machine.image.period
   fresh_young = omega (arith, fresh.stands.cycle, fresh.valid.period.0)
 
-  pub fresh_puts : (rows puts : Rows) → PutsRows machine rows puts → IsRunOut machine.image rows puts
+  pub fresh_puts : (rows puts : Rows) → PutsRows machine rows puts → IsRunOut (micro_of machine) rows puts
   fresh_puts rows puts h = record {
-    clear = subst (IsClearBelow machine.image (spread machine.image.period rows)) (length-spread machine.image.period rows)
+    clear = subst (IsClearBelow (micro_of machine) (spread machine.image.period rows)) (length-spread machine.image.period rows)
         (h.clear [] fresh.stands);
     put = h.put [] fresh.stands
         ∙ map-same _ _ (range_with_len 0 (length rows)) (λ k is.
         let period = machine.image.period in
-        ap (latches machine.image (spread period rows))
+        ap (latches (micro_of machine) (spread period rows))
         (let e : 0 + (k + 1) * period ≡ (k + 1) * period = omega arith in e));
   }
 
   pub fresh_meets : (after : Snapshot) (rows : Rows) (conflict : ConflictValue)
       → StopsInLast machine rows conflict after
-      → IsConflictInLast machine.image [] rows conflict
+      → IsConflictInLast (micro_of machine) [] rows conflict
   fresh_meets after rows conflict h = h.met [] fresh.stands
 
   pub fresh_run : (rows puts : Rows) (after : Snapshot) → RunsRows machine rows puts after → HasRun machine.image rows after (printed puts)
@@ -107,7 +108,7 @@ module _ (mic samples out : Name) (old mid new : View) (machine : Snapshot) (fir
     opened : IsOpened samples out old ran.mid
     opened = opened_from samples out old mid ran.mid first.unchanged.files ran.opened
 
-    sim_stopped : (fault : StreamFault) → IsEndedEarly samples out (channels_of machine.image) (IsRunOut machine.image) (IsConflictInLast machine.image []) old new fault
+    sim_stopped : (fault : StreamFault) → IsEndedEarly samples out (channels_of machine.image) (IsRunOut (micro_of machine)) (IsConflictInLast (micro_of machine) []) old new fault
         → IsSimAnswer mic samples out old new kept (status_of fault)
     sim_stopped stream.Desk h = inr (record { image = machine.image; specified = loaded.specified; ended = h })
     sim_stopped (stream.Row fault) h = record { image = machine.image; specified = loaded.specified; ended = h }
@@ -138,8 +139,8 @@ module _ (mic samples out : Name) (old mid new : View) (machine : Snapshot) (fir
         (λ stopped.
         subst (IsSimAnswer mic samples out old new kept) (sym stopped.1)
         (sim_stopped stopped.0
-        (ended_early samples out old ran.mid new fall opened ran.only (channels_of machine.image) (PutsRows machine) (IsRunOut machine.image)
-        (λ rows conflict. StopsInLast machine rows conflict after) (IsConflictInLast machine.image [])
+        (ended_early samples out old ran.mid new fall opened ran.only (channels_of machine.image) (PutsRows machine) (IsRunOut (micro_of machine))
+        (λ rows conflict. StopsInLast machine rows conflict after) (IsConflictInLast (micro_of machine) [])
         (λ rows puts is. fresh_puts machine fresh rows puts) (λ rows conflict is. fresh_meets machine fresh after rows conflict) stopped.0 stopped.2)))
         ran.ends
 
@@ -170,7 +171,7 @@ module _ (mic samples out : Name) (old mid new : View) (same : IsUnchanged mid n
   sim_stopped_still fault h = record {
     image = h.image;
     specified = h.specified;
-    ended = ended_still samples out old mid new same later before (channels_of h.image) (IsRunOut h.image) (IsConflictInLast h.image []) fault h.ended;
+    ended = ended_still samples out old mid new same later before (channels_of h.image) (IsRunOut (microprogram_of h.image)) (IsConflictInLast (microprogram_of h.image) []) fault h.ended;
   }
 
   pub sim_reported : (kept : Kept) (status : Status) → IsSimAnswer mic samples out old mid kept status

@@ -1,6 +1,6 @@
 -- The machine of microcode, and the rows that its samples are read into.
 use Rattle.std.specs.Prelude.{◌≡◌, ◌⊎◌, []}
-use Rattle.cycle_sim.specs.Machine.{Snapshot, state_of}
+use Rattle.cycle_sim.specs.Machine.{Snapshot, micro_of, state_of}
 use Rattle.desk_core.specs.View.{Content}
 use Rattle.micro_file.specs.declared.fault.FormFault.{FormFault}
 use Rattle.micro_file.specs.Faults.{IsFormFault}
@@ -18,7 +18,7 @@ use Rattle.statuses.specs.declared.status.Status.TheVariants as status
 -- a machine before the first cycle of a valid image
 pub record IsFresh (machine : Snapshot) : Type 0 where
   pub valid : IsValid machine.image
-  pub stands : Stands (state_of machine) machine.image []
+  pub stands : Stands (state_of machine) (micro_of machine) []
 
 -- rows for the image's input words, of which no byte was taken
 pub record AreFreshRows (image : Image) (rows : FedRows) : Type 0 where

@@ -8,6 +8,7 @@ use Rattle.desk_core.specs.Whole.{IsUnchangedButInput}
 use Rattle.micro_file.specs.declared.fault.FormFault.TheVariants as form
 use Rattle.micro_file.specs.Faults.{IsFormFault}
 use Rattle.micro_image.specs.declared.image.Image.{Image}
+use Rattle.micro_image.specs.Fields.{microprogram_of}
 use Rattle.micro_image.specs.Run.{Stands, IsRunOut, spread}
 use Rattle.micro_image.specs.Spells.{Spells}
 use Rattle.sample_io.specs.Samples.{printed}
@@ -34,9 +35,9 @@ pub record IsMicrocodeOf (content : Content) (image : Image) : Type 0 where
 -- period, and the text is the rows that the run put.
 pub record HasRun (image : Image) (stream : Rows) (machine : Snapshot) (text : Content) : Type 0 where
   pub image_is : machine.image ≡ image
-  pub stands : Stands (state_of machine) image (spread image.period stream)
+  pub stands : Stands (state_of machine) (microprogram_of image) (spread image.period stream)
   pub rows : Rows
-  pub run : IsRunOut image stream rows
+  pub run : IsRunOut (microprogram_of image) stream rows
   pub text_is : text ≡ printed rows
 
 -- why the bytes are no microcode
@@ -75,8 +76,8 @@ pub record IsSimUnread (mic samples : Name) (old new : View) : Type 0 where
 pub record IsSimStopped (mic samples out : Name) (old new : View) (fault : StreamFault) : Type 0 where
   pub image : Image
   pub specified : WhereSpecified old (λ files. HasImage mic files image)
-  pub ended : IsEndedEarly samples out (channels_of image) (IsRunOut image) (IsConflictInLast image [])
-      old new fault
+  pub ended : IsEndedEarly samples out (channels_of image) (IsRunOut (microprogram_of image))
+      (IsConflictInLast (microprogram_of image) []) old new fault
 
 -- MIC's image ran the stream of SAMPLES, as the files were at the start, to its end; OUT has the rows of the run, and
 -- every other file is as it was

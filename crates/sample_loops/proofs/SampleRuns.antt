@@ -4,41 +4,42 @@ use Rattle.std.proofs.Common.{List, [], ◌∷◌, ◌++◌, length, replicate, 
 use Rattle.std.proofs.Math.Nat.{add-div_right, add-mod_right, div-lt_iff_lt-mul}
 use Rattle.std.proofs.lemmas.List.{append-nil, length-append, length-replicate}
 use Rattle.lists.specs.Rows.{Rows}
-use Rattle.cycle_sim.specs.Machine.{Snapshot, state_of, sample_rows, RanRows, IsOutputRow, MeetsConflictInSample}
+use Rattle.cycle_sim.specs.Machine.{Snapshot, micro_of, state_of, sample_rows, RanRows, IsOutputRow, MeetsConflictInSample}
 use Rattle.micro_image.specs.declared.conflict.Conflict.{Conflict}
 use Rattle.micro_image.specs.declared.image.Image.{Image}
 use Rattle.micro_image.specs.Conflict.{IsConflict, IsClearBelow}
+use Rattle.micro_image.specs.Fields.{Microprogram}
 use Rattle.micro_image.specs.Run.{Stands, latches}
 use Rattle.sample_loops.specs.Machines.{cycles_with, IsReady, RunsRows, StopsInLast}
 
 -- the cycles of one row
-cycles_of_row : (image : Image) (cycles : Rows) (row : List ℤ)
-    → cycles ++ sample_rows image row ≡ cycles_with image cycles (row ∷ [])
-cycles_of_row image cycles row = ap (λ sample. cycles ++ sample) (sym (append-nil (replicate image.period row)))
+cycles_of_row : (micro : Microprogram) (cycles : Rows) (row : List ℤ)
+    → cycles ++ sample_rows micro row ≡ cycles_with micro cycles (row ∷ [])
+cycles_of_row micro cycles row = ap (λ sample. cycles ++ sample) (sym (append-nil (replicate micro.period row)))
 
-length-row : (image : Image) (cycles : Rows) (row : List ℤ)
-    → length (cycles_with image cycles (row ∷ [])) ≡ length cycles + image.period
-length-row image cycles row =
-    ap length (sym (cycles_of_row image cycles row)) ∙ length-append cycles (sample_rows image row)
-    ∙ ap (λ n. length cycles + n) (length-replicate image.period row)
+length-row : (micro : Microprogram) (cycles : Rows) (row : List ℤ)
+    → length (cycles_with micro cycles (row ∷ [])) ≡ length cycles + micro.period
+length-row micro cycles row =
+    ap length (sym (cycles_of_row micro cycles row)) ∙ length-append cycles (sample_rows micro row)
+    ∙ ap (λ n. length cycles + n) (length-replicate micro.period row)
 
 -- a sample
 pub runs_row : (old new : Snapshot) (row put : List ℤ)
     → new.image ≡ old.image
-    → RanRows old new (sample_rows old.image row)
+    → RanRows old new (sample_rows (micro_of old) row)
     → IsOutputRow old row put
     → RunsRows old (row ∷ []) (put ∷ []) new
 runs_row old new row put same ran puts =
-    let image = old.image in
+    let micro = micro_of old in
     record {
       image = same;
       stands = λ cycles stands.
-          subst (Stands (state_of new) image) (cycles_of_row image cycles row) (ran cycles stands);
+          subst (Stands (state_of new) micro) (cycles_of_row micro cycles row) (ran cycles stands);
       put = λ cycles stands.
           ap (λ words. words ∷ [])
           (puts cycles stands
-          ∙ ap₂ (latches image) (cycles_of_row image cycles row)
-          (let e : length cycles + image.period ≡ length cycles + (0 + 1) * image.period = omega arith in e));
+          ∙ ap₂ (latches micro) (cycles_of_row micro cycles row)
+          (let e : length cycles + micro.period ≡ length cycles + (0 + 1) * micro.period = omega arith in e));
     }
 
 -- its first conflict
@@ -47,16 +48,16 @@ pub meets_in_row : (old new : Snapshot) (row : List ℤ) (conflict : Conflict)
     → new.conflict ≡ Some conflict
     → StopsInLast old (row ∷ []) conflict new
 meets_in_row old new row conflict meets kept =
-    let image = old.image in
+    let micro = micro_of old in
     record {
       met = λ cycles stands.
           let found = meets cycles stands in
-          let same = cycles_of_row image cycles row in
-          let size = length-row image cycles row in
+          let same = cycles_of_row micro cycles row in
+          let size = length-row micro cycles row in
           record {
             first = record {
-              there = subst (λ z. IsConflict image z conflict) same found.there;
-              clear = subst (λ z. IsClearBelow image z conflict.cycle) same found.clear;
+              there = subst (λ z. IsConflict micro z conflict) same found.there;
+              clear = subst (λ z. IsClearBelow micro z conflict.cycle) same found.clear;
               within = omega (arith, found.within, size);
             };
             last = omega (arith, found.after, size);

@@ -17,6 +17,7 @@ use Rattle.fix_word.specs.Words.{IsWord}
 use Rattle.front_end.specs.Faults.{HasProgram}
 use Rattle.micro_image.specs.declared.conflict.Conflict.{Conflict}
 use Rattle.micro_image.specs.declared.image.Image.{Image}
+use Rattle.micro_image.specs.Fields.{microprogram_of}
 use Rattle.micro_image.specs.Run.{Stands, IsRunOut, latches, spread}
 use Rattle.micro_image.proofs.Streams.{length-spread, IsRunOut-fewer, IsRunOut-more}
 use Rattle.plan_run.specs.ImageOf.{IsImageOf, width_of}
@@ -59,7 +60,7 @@ runs_fewer image n samples le runs =
     let first : take n (cascade_rows samples) ≡ cascade_rows n = take-map-range_with_len (λ k. cascade_word k ∷ []) 0 samples n le in
     let parts : cascade_rows samples ≡ cascade_rows n ++ drop n (cascade_rows samples) =
     sym (take-append-drop n (cascade_rows samples)) ∙ ap (λ front. front ++ drop n (cascade_rows samples)) first in
-    (_, IsRunOut-fewer image (cascade_rows n) (drop n (cascade_rows samples)) runs.0 (subst (λ stream. IsRunOut image stream runs.0) parts runs.1))
+    (_, IsRunOut-fewer (microprogram_of image) (cascade_rows n) (drop n (cascade_rows samples)) runs.0 (subst (λ stream. IsRunOut (microprogram_of image) stream runs.0) parts runs.1))
 
 -- the run of `sim` over the same rows
 as_run : (image : Image) (n : ℕ) (machine : Snapshot) (words : List ℤ) → (put : HasPutWords image n machine words)
@@ -72,33 +73,33 @@ ready machine n words some few put =
 
 -- the next sample has no conflict
 pub no_conflict : (image : Image) (n : ℕ) (row : List ℤ) (conflict : Conflict) → row ≡ cascade_word n ∷ [] → RunsCascade image (n + 1)
-    → IsFirstOfSample image (spread image.period (cascade_rows n)) row conflict → ⊥
+    → IsFirstOfSample (microprogram_of image) (spread image.period (cascade_rows n)) row conflict → ⊥
 no_conflict image n row conflict is runs first =
     let all : cascade_rows n ++ row ∷ [] ≡ cascade_rows (n + 1) = ap (λ r. cascade_rows n ++ r ∷ []) is ∙ sym (rows_more n) in
-    let met : IsFirstConflict image (spread image.period (cascade_rows (n + 1))) conflict =
-    subst (λ stream. IsFirstConflict image (spread image.period stream) conflict) all (conflict_in_row image (cascade_rows n) row conflict first) in
+    let met : IsFirstConflict (microprogram_of image) (spread image.period (cascade_rows (n + 1))) conflict =
+    subst (λ stream. IsFirstConflict (microprogram_of image) (spread image.period stream) conflict) all (conflict_in_row (microprogram_of image) (cascade_rows n) row conflict first) in
     runs.1.clear conflict.cycle (omega (arith, met.within, length-spread image.period (cascade_rows (n + 1)))) conflict.kind conflict.place
     met.there.there
 
 -- the next sample was run
 pub put_more : (image : Image) (n : ℕ) (row put : List ℤ) (word : ℤ) (old new : Snapshot) (words : List ℤ) → HasPutWords image n old words
     → new.image ≡ image → row ≡ cascade_word n ∷ [] → put ≡ word ∷ []
-    → Stands (state_of new) image (spread image.period (cascade_rows n) ++ replicate image.period row)
-    → put ≡ latches image (spread image.period (cascade_rows n) ++ replicate image.period row) (length (spread image.period (cascade_rows n)) + image.period)
+    → Stands (state_of new) (microprogram_of image) (spread image.period (cascade_rows n) ++ replicate image.period row)
+    → put ≡ latches (microprogram_of image) (spread image.period (cascade_rows n) ++ replicate image.period row) (length (spread image.period (cascade_rows n)) + image.period)
     → HasPutWords image (n + 1) new (words ++ word ∷ [])
 put_more image n row put word old new words before same row_is put_is stands puts =
     let stream : Rows = cascade_rows n in
     let more : stream ++ row ∷ [] ≡ cascade_rows (n + 1) = ap (λ r. stream ++ r ∷ []) row_is ∙ sym (rows_more n) in
     let cycles = sym (spread_row image.period stream row) in
-    let after : Stands (state_of new) image (spread image.period (stream ++ row ∷ [])) = subst (λ z. Stands (state_of new) image z) cycles stands in
+    let after : Stands (state_of new) (microprogram_of image) (spread image.period (stream ++ row ∷ [])) = subst (λ z. Stands (state_of new) (microprogram_of image) z) cycles stands in
     let size : length (spread image.period (stream ++ row ∷ [])) ≡ (length stream + 1) * image.period = length-spread image.period (stream ++ row ∷ []) ∙ ap (λ k. k * image.period) (length-append stream (row ∷ [])) in
-    let last : put ≡ latches image (spread image.period (stream ++ row ∷ [])) ((length stream + 1) * image.period) = puts ∙ ap₂ (latches image) cycles (one_more image.period stream) in
-    let run = IsRunOut-more image stream before.rows row before.run (λ t late below. after.clear t (omega (arith, below, size))) in
+    let last : put ≡ latches (microprogram_of image) (spread image.period (stream ++ row ∷ [])) ((length stream + 1) * image.period) = puts ∙ ap₂ (latches (microprogram_of image)) cycles (one_more image.period stream) in
+    let run = IsRunOut-more (microprogram_of image) stream before.rows row before.run (λ t late below. after.clear t (omega (arith, below, size))) in
     record {
       image_is = same;
-      stands = subst (λ rows. Stands (state_of new) image (spread image.period rows)) more after;
+      stands = subst (λ rows. Stands (state_of new) (microprogram_of image) (spread image.period rows)) more after;
       rows = before.rows ++ put ∷ [];
-      run = subst (λ rows. IsRunOut image rows (before.rows ++ put ∷ [])) more (subst (λ r. IsRunOut image (stream ++ row ∷ []) (before.rows ++ r ∷ [])) (sym last) run);
+      run = subst (λ rows. IsRunOut (microprogram_of image) rows (before.rows ++ put ∷ [])) more (subst (λ r. IsRunOut (microprogram_of image) (stream ++ row ∷ []) (before.rows ++ r ∷ [])) (sym last) run);
       words_are = ap₂ ◌++◌ before.words_are (sym put_is) ∙ sym (words_push before.rows put);
     }
   where
@@ -202,7 +203,7 @@ module _ (sections samples : ℕ) (few : sections ≤ 32) (machine : Snapshot) (
         plan = is.plan;
         planned = is.over;
         image_of = subst (IsImageOf is.path is.plan) (sym has.put.image_is) is.image_of;
-        stands = subst (λ image. Stands (state_of after) image (spread image.period (cascade_rows samples))) (sym has.put.image_is) has.put.stands;
+        stands = subst (λ (image : Image). Stands (state_of after) (microprogram_of image) (spread image.period (cascade_rows samples))) (sym has.put.image_is) has.put.stands;
         words = run.0;
         one = run.1;
         line_is = line_is ∙ ap (cascade_line sections samples) (has.put.words_are ∙ ap words_of rows);

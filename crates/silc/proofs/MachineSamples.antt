@@ -6,8 +6,8 @@ use Rattle.lists.specs.Rows.{Rows}
 use Rattle.cycle_sim.specs.Machine.{Snapshot, IsAtSample, IsFirstOfSample}
 use Rattle.desk_core.specs.View.{Content}
 use Rattle.micro_image.specs.declared.conflict.Conflict.{Conflict}
-use Rattle.micro_image.specs.declared.image.Image.{Image}
 use Rattle.micro_image.specs.Conflict.{IsConflict, IsClearBelow}
+use Rattle.micro_image.specs.Fields.{Microprogram}
 use Rattle.micro_image.specs.Run.{spread}
 use Rattle.micro_image.proofs.Streams.{length-spread, spread-append}
 use Rattle.sample_loops.specs.Machines.{IsFirstConflict}
@@ -30,11 +30,11 @@ at_sample machine stream text some few ran =
     }
 
 -- the first conflict in one more sample is the first of all
-pub conflict_in_row : (image : Image) (stream : Rows) (row : List ℤ) (conflict : Conflict) → IsFirstOfSample image (spread image.period stream) row conflict → IsFirstConflict image (spread image.period (stream ++ row ∷ [])) conflict
-conflict_in_row image stream row conflict first =
-    let cycles = sym (spread_row image.period stream row) in
+pub conflict_in_row : (micro : Microprogram) (stream : Rows) (row : List ℤ) (conflict : Conflict) → IsFirstOfSample micro (spread micro.period stream) row conflict → IsFirstConflict micro (spread micro.period (stream ++ row ∷ [])) conflict
+conflict_in_row micro stream row conflict first =
+    let cycles = sym (spread_row micro.period stream row) in
     record {
-      there = subst (λ z. IsConflict image z conflict) cycles first.there;
-      clear = subst (λ z. IsClearBelow image z conflict.cycle) cycles first.clear;
-      within = omega (arith, first.within, one_more image.period stream, length-spread image.period (stream ++ row ∷ []), ap (λ n. n * image.period) (length-append stream (row ∷ [])));
+      there = subst (λ z. IsConflict micro z conflict) cycles first.there;
+      clear = subst (λ z. IsClearBelow micro z conflict.cycle) cycles first.clear;
+      within = omega (arith, first.within, one_more micro.period stream, length-spread micro.period (stream ++ row ∷ []), ap (λ n. n * micro.period) (length-append stream (row ∷ [])));
     }

@@ -1,6 +1,6 @@
 -- When each status comes of `demo K N`, and what it prints and keeps.
 use Rattle.std.specs.Prelude.{◌≡◌, ◌⊎◌, ℕ}
-use Rattle.cycle_sim.specs.Machine.{Snapshot, state_of}
+use Rattle.cycle_sim.specs.Machine.{Snapshot, micro_of, state_of}
 use Rattle.datapath.specs.declared.types.Datapath.{Datapath}
 use Rattle.desk_core.specs.View.{Content, View}
 use Rattle.desk_core.specs.Desk.{IfSpecified, IsUnchanged, PrintFaultsRose}
@@ -19,16 +19,16 @@ use Rattle.sample_commands.specs.declared.simulator.Kept.TheVariants.{One}
 use Rattle.statuses.specs.declared.status.Status.{Status}
 use Rattle.statuses.specs.declared.status.Status.TheVariants.{Done, Desk}
 
--- The cascade's program has exactly one solution over the samples, and the line tells the sum and the last of its output
--- words. The machine is in the state of the image of the program's plan after the samples, with each row for a whole
--- period.
+-- The cascade's program has exactly one solution over the samples, and the line tells the sum and the last of its
+-- output words. The machine is in the state of the image of the program's plan after the samples, with each row for a
+-- whole period.
 pub record IsCascadeRun (sections samples : ℕ) (machine : Snapshot) (line : Content) : Type 0 where
   pub program : Program
   pub path : Datapath
   pub plan : Plan
   pub planned : IsPlannedOver (cascade_source sections) (cascade_datapath sections) program path plan
   pub image_of : IsImageOf path plan machine.image
-  pub stands : Stands (state_of machine) machine.image (spread machine.image.period (cascade_rows samples))
+  pub stands : Stands (state_of machine) (micro_of machine) (spread machine.image.period (cascade_rows samples))
   pub words : Words
   pub one : IsOneSolution program (cascade_rows samples) words
   pub line_is : line ≡ cascade_line sections samples (words_of (out program words samples))

@@ -11,6 +11,7 @@ use Rattle.front_end.specs.Faults.{HasProgram}
 use Rattle.lists.specs.Rows.{Rows}
 use Rattle.micro_image.specs.declared.conflict.Conflict.{Conflict as ConflictValue}
 use Rattle.micro_image.specs.declared.image.Image.{Image as MicroImage}
+use Rattle.micro_image.specs.Fields.{microprogram_of}
 use Rattle.plan_commands.specs.Compile.{IsAnswer}
 use Rattle.plan_commands.specs.Plans.{IsPlanOver}
 use Rattle.plan_commands.proofs.Complete.{compile_complete, schedule_complete}
@@ -114,7 +115,7 @@ module _ (words : List (String Global)) (old new : View) (kept : Kept) (status :
     sim_so end its =
         ends_so (RunsImage (content_of (files samples)) image)
         (one_end samples_end (channels_of image) (image_channels image has.spells.valid) (content_of (files samples)) _ _
-        (clear_apart image []) (meets_once image [])) end its status
+        (clear_apart (microprogram_of image) []) (meets_once (microprogram_of image) [])) end its status
         (sim_ends mic samples out old new kept files specified none image has status
         (sim_law words old new kept status ending mic samples out form))
 

@@ -6,8 +6,8 @@ use Rattle.lists.specs.Rows.{Rows}
 use Rattle.micro_image.specs.declared.conflict.Conflict.{Conflict}
 use Rattle.micro_image.specs.declared.conflict.ConflictKind.{ConflictKind}
 use Rattle.micro_image.specs.declared.conflict.ConflictKind.TheVariants.{Busy, TwoDrivers, FileTwice, NoDriver, NoResult, Address}
-use Rattle.micro_image.specs.declared.image.Image.{Image}
 use Rattle.micro_image.specs.Conflict.{HasConflict, IsConflict, IsClearBelow, rank}
+use Rattle.micro_image.specs.Fields.{Microprogram}
 use Rattle.micro_image.specs.Run.{spread}
 use Rattle.micro_image.proofs.Prefix.{IsConflict-with, IsConflict-without}
 use Rattle.micro_image.proofs.Streams.{spread-append}
@@ -38,66 +38,66 @@ same_kind kind other le ge =
 abbrev made : ℕ → ConflictKind → ℕ → Conflict
 made cycle kind place = record { cycle = cycle; kind = kind; place = place }
 
-module _ (image : Image) where
+module _ (micro : Microprogram) where
   -- a cycle has one conflict
   one_at : (z : Rows) (cycle : ℕ) (kind other : ConflictKind) (place there : ℕ)
-      → IsConflict image z (made cycle kind place)
-      → IsConflict image z (made cycle other there)
+      → IsConflict micro z (made cycle kind place)
+      → IsConflict micro z (made cycle other there)
       → made cycle kind place ≡ made cycle other there
   one_at z cycle kind other place there a b =
       let same : kind ≡ other =
       same_kind kind other (a.least_kind other there b.there) (b.least_kind kind place a.there) in
-      let le = a.least_place there (subst (λ k. HasConflict k image z cycle there) (sym same) b.there) in
-      let ge = b.least_place place (subst (λ k. HasConflict k image z cycle place) same a.there) in
+      let le = a.least_place there (subst (λ k. HasConflict k micro z cycle there) (sym same) b.there) in
+      let ge = b.least_place place (subst (λ k. HasConflict k micro z cycle place) same a.there) in
       let least : place ≡ there = omega (arith, le, ge) in
       ap₂ (made cycle) same least
 
-  module _ (z after : Rows) (conflict : Conflict) (is : IsConflict image z conflict) (within : conflict.cycle < length z) where
-    later : IsConflict image (z ++ after) conflict
-    later = IsConflict-with image z after conflict within is
+  module _ (z after : Rows) (conflict : Conflict) (is : IsConflict micro z conflict) (within : conflict.cycle < length z) where
+    later : IsConflict micro (z ++ after) conflict
+    later = IsConflict-with micro z after conflict within is
 
     -- cycles with a conflict are no first cycles of cycles without one
-    pub not_clear : (n : ℕ) → conflict.cycle < n → IsClearBelow image (z ++ after) n → ⊥
+    pub not_clear : (n : ℕ) → conflict.cycle < n → IsClearBelow micro (z ++ after) n → ⊥
     not_clear n below clear = clear conflict.cycle below conflict.kind conflict.place later.there
 
     -- and the first conflict stays the first
-    pub first_once : (other : Conflict) → IsClearBelow image z conflict.cycle → IsConflict image (z ++ after) other
-        → IsClearBelow image (z ++ after) other.cycle → conflict ≡ other
+    pub first_once : (other : Conflict) → IsClearBelow micro z conflict.cycle → IsConflict micro (z ++ after) other
+        → IsClearBelow micro (z ++ after) other.cycle → conflict ≡ other
     first_once other clear its free = elim (cases_order conflict.cycle other.cycle) [
       | inl same ↦
-          let moved : IsConflict image (z ++ after) (made conflict.cycle other.kind other.place) =
-          subst (λ t. IsConflict image (z ++ after) (made t other.kind other.place)) (sym same) its in
+          let moved : IsConflict micro (z ++ after) (made conflict.cycle other.kind other.place) =
+          subst (λ t. IsConflict micro (z ++ after) (made t other.kind other.place)) (sym same) its in
           one_at (z ++ after) conflict.cycle conflict.kind other.kind conflict.place other.place later moved
           ∙ ap (λ t. made t other.kind other.place) same
       | inr (inl before) ↦ absurd (not_clear other.cycle before free)
       | inr (inr behind) ↦
-          let early = IsConflict-without image z after other (omega (arith, behind, within)) its in
+          let early = IsConflict-without micro z after other (omega (arith, behind, within)) its in
           absurd (clear other.cycle behind other.kind other.place early.there)
     ]
 
--- a run of the image over rows, after other cycles
-module _ (image : Image) (cycles : Rows) where
+-- a run of the microprogram over rows, after other cycles
+module _ (micro : Microprogram) (cycles : Rows) where
   cycles_more : (some more : Rows)
-      → cycles_with image cycles (some ++ more) ≡ cycles_with image cycles some ++ spread image.period more
+      → cycles_with micro cycles (some ++ more) ≡ cycles_with micro cycles some ++ spread micro.period more
   cycles_more some more =
-      ap (λ z. cycles ++ z) (spread-append image.period some more)
-      ∙ sym (append_assoc cycles (spread image.period some) (spread image.period more))
+      ap (λ z. cycles ++ z) (spread-append micro.period some more)
+      ∙ sym (append_assoc cycles (spread micro.period some) (spread micro.period more))
 
-  pub clear_apart : (some more : Rows) (conflict : Conflict) → IsClearOver image cycles (some ++ more)
-      → IsConflictInLast image cycles some conflict → ⊥
+  pub clear_apart : (some more : Rows) (conflict : Conflict) → IsClearOver micro cycles (some ++ more)
+      → IsConflictInLast micro cycles some conflict → ⊥
   clear_apart some more conflict clear met =
-      let first = cycles_with image cycles some in
-      let later = spread image.period more in
-      let all = length (cycles_with image cycles (some ++ more)) in
+      let first = cycles_with micro cycles some in
+      let later = spread micro.period more in
+      let all = length (cycles_with micro cycles (some ++ more)) in
       let size = ap length (cycles_more some more) ∙ length-append first later in
       let below : conflict.cycle < all = omega (arith, met.first.within, size) in
-      not_clear image first later conflict met.first.there met.first.within all below
-      (subst (λ z. IsClearBelow image z all) (cycles_more some more) clear)
+      not_clear micro first later conflict met.first.there met.first.within all below
+      (subst (λ z. IsClearBelow micro z all) (cycles_more some more) clear)
 
-  pub meets_once : (some more : Rows) (conflict other : Conflict) → IsConflictInLast image cycles some conflict
-      → IsConflictInLast image cycles (some ++ more) other → conflict ≡ other
+  pub meets_once : (some more : Rows) (conflict other : Conflict) → IsConflictInLast micro cycles some conflict
+      → IsConflictInLast micro cycles (some ++ more) other → conflict ≡ other
   meets_once some more conflict other met its =
-      first_once image (cycles_with image cycles some) (spread image.period more) conflict met.first.there
+      first_once micro (cycles_with micro cycles some) (spread micro.period more) conflict met.first.there
       met.first.within other met.first.clear
-      (subst (λ z. IsConflict image z other) (cycles_more some more) its.first.there)
-      (subst (λ z. IsClearBelow image z other.cycle) (cycles_more some more) its.first.clear)
+      (subst (λ z. IsConflict micro z other) (cycles_more some more) its.first.there)
+      (subst (λ z. IsClearBelow micro z other.cycle) (cycles_more some more) its.first.clear)

@@ -1,7 +1,7 @@
 -- A run over the current input comes to the end that the input's bytes have, where no fault of the desk rose.
 use Rattle.std.proofs.Common.{◌≡◌, ◌∙◌, sym, ap, subst, arith, inl, inr, ⊎_elim, ℕ, ◌<◌, List, [], ◌∷◌, ◌++◌, length, Option, Some, None}
 use Rattle.lists.specs.Rows.{Rows}
-use Rattle.cycle_sim.specs.Machine.{Snapshot, state_of}
+use Rattle.cycle_sim.specs.Machine.{Snapshot, micro_of, state_of}
 use Rattle.desk_core.specs.View.{Content, View}
 use Rattle.desk_core.specs.Desk.{ReadFailed, WriteFailed}
 use Rattle.micro_image.specs.Run.{Stands}
@@ -90,22 +90,22 @@ module _ (end : ℕ) (channels : List Channel) (old new : View) (bytes : Content
 
 -- a machine over the input, after the cycles that it ran before
 pub run_law : (limit : ℕ) (machine after : Snapshot) (cycles : Rows) (old new : View) (bytes : Content)
-    → Stands (state_of machine) machine.image cycles
+    → Stands (state_of machine) (micro_of machine) cycles
     → ReadsWithoutFault bytes old new
     → AreChannels (channels_of machine.image)
     → (status : Status)
     → EndsStream limit (channels_of machine.image) (λ rows puts. RunsRows machine rows puts after) (PutsRows machine)
     (λ rows conflict. StopsInLast machine rows conflict after) old new status
     → (end : Option StreamFault)
-    → IsEnd limit (channels_of machine.image) (IsClearOver machine.image cycles) (IsConflictInLast machine.image cycles) bytes end
+    → IsEnd limit (channels_of machine.image) (IsClearOver (micro_of machine) cycles) (IsConflictInLast (micro_of machine) cycles) bytes end
     → status ≡ status_at end
 run_law limit machine after cycles old new bytes stands reads are status ends end its =
-    ends_so limit (channels_of machine.image) old new bytes reads.input (IsClearOver machine.image cycles)
-    (IsConflictInLast machine.image cycles) are (λ rows puts. RunsRows machine rows puts after) (PutsRows machine)
+    ends_so limit (channels_of machine.image) old new bytes reads.input (IsClearOver (micro_of machine) cycles)
+    (IsConflictInLast (micro_of machine) cycles) are (λ rows puts. RunsRows machine rows puts after) (PutsRows machine)
     (λ rows conflict. StopsInLast machine rows conflict after)
     (λ rows puts ran. (runs_clear machine after rows puts ran).clear cycles stands)
-    (λ rows puts h. h.clear cycles stands) (λ rows conflict h. h.met cycles stands) (clear_apart machine.image cycles)
-    (meets_once machine.image cycles) reads.no_read reads.no_write status ends end its
+    (λ rows puts h. h.clear cycles stands) (λ rows conflict h. h.met cycles stands) (clear_apart (micro_of machine) cycles)
+    (meets_once (micro_of machine) cycles) reads.no_read reads.no_write status ends end its
 
 -- an evaluator over the input
 pub evaluation_law : (limit : ℕ) (evaluator after : Evaluation) (old new : View) (bytes : Content)

@@ -11,6 +11,7 @@ use Rattle.micro_file.proofs.Unique.{Spells-unique}
 use Rattle.micro_image.specs.declared.conflict.Conflict.{Conflict as ConflictValue}
 use Rattle.micro_image.specs.declared.image.Image.{Image as MicroImage}
 use Rattle.micro_image.specs.Conflict.{IsClearBelow}
+use Rattle.micro_image.specs.Fields.{microprogram_of}
 use Rattle.micro_image.specs.Run.{IsRunOut, spread}
 use Rattle.micro_image.proofs.Streams.{length-spread}
 use Rattle.plan_commands.specs.Plans.{IsPlanOver}
@@ -52,7 +53,8 @@ samples_end = samples_limit + 1
 -- a run of the image, and one of the program, over the bytes comes to this end
 abbrev pub RunsImage : Content → MicroImage → Option StreamFault → Type 0
 RunsImage bytes image =
-    IsEnd samples_end (channels_of image) (IsClearOver image []) (IsConflictInLast image []) bytes
+    IsEnd samples_end (channels_of image) (IsClearOver (microprogram_of image) [])
+    (IsConflictInLast (microprogram_of image) []) bytes
 
 abbrev pub RunsProgram : Content → Program → Option StreamFault → Type 0
 RunsProgram bytes program =
@@ -104,9 +106,9 @@ module _ (samples out : Name) (channels : List Channel) (old new : View) (files 
       )
 
 -- no conflict comes with the rows of a run
-run_clear : (image : MicroImage) (rows puts : Rows) → IsRunOut image rows puts → IsClearOver image [] rows
+run_clear : (image : MicroImage) (rows puts : Rows) → IsRunOut (microprogram_of image) rows puts → IsClearOver (microprogram_of image) [] rows
 run_clear image rows puts ran =
-    subst (IsClearBelow image (spread image.period rows)) (sym (length-spread image.period rows)) ran.clear
+    subst (IsClearBelow (microprogram_of image) (spread image.period rows)) (sym (length-spread image.period rows)) ran.clear
 
 -- MIC has this image
 module _ (mic samples out : Name) (old new : View) (kept : Kept) (files : Files) (specified : old.files ≡ Some files)
@@ -140,16 +142,16 @@ module _ (mic samples out : Name) (old new : View) (kept : Kept) (files : Files)
   sim_ends (Samples (sample_fault.Row line at)) h =
       let fault : RowFault = record { line = line; at = at } in
       of_image h.image (h.specified files specified) (Some (stream.Row fault))
-      (row_stops samples out (channels_of h.image) old new files specified _ (IsConflictInLast h.image [])
-      (IsClearOver h.image []) (run_clear h.image) fault h.ended)
+      (row_stops samples out (channels_of h.image) old new files specified _ (IsConflictInLast (microprogram_of h.image) [])
+      (IsClearOver (microprogram_of h.image) []) (run_clear h.image) fault h.ended)
   sim_ends (Samples sample_fault.TooLong) h =
       of_image h.image (h.specified files specified) (Some stream.TooLong)
-      (long_stops samples out (channels_of h.image) old new files specified _ (IsConflictInLast h.image [])
-      (IsClearOver h.image []) (run_clear h.image) h.ended)
+      (long_stops samples out (channels_of h.image) old new files specified _ (IsConflictInLast (microprogram_of h.image) [])
+      (IsClearOver (microprogram_of h.image) []) (run_clear h.image) h.ended)
   sim_ends (Conflict conflict) h =
       of_image h.image (h.specified files specified) (Some (stream.Conflict conflict))
-      (conflict_stops samples out (channels_of h.image) old new files specified _ (IsConflictInLast h.image [])
-      (IsClearOver h.image []) (run_clear h.image) conflict h.ended)
+      (conflict_stops samples out (channels_of h.image) old new files specified _ (IsConflictInLast (microprogram_of h.image) [])
+      (IsClearOver (microprogram_of h.image) []) (run_clear h.image) conflict h.ended)
   sim_ends Words h = absurd h
   sim_ends (FrontEnd fault) h = absurd h
   sim_ends (Path fault) h = absurd h

@@ -9,6 +9,7 @@ use Rattle.desk_core.specs.Desk.{content_of}
 use Rattle.front_end.specs.Faults.{HasProgram}
 use Rattle.micro_image.specs.declared.conflict.Conflict.{Conflict as ConflictValue}
 use Rattle.micro_image.specs.declared.image.Image.{Image}
+use Rattle.micro_image.specs.Fields.{microprogram_of}
 use Rattle.plan_commands.specs.Plans.{IsPlanOver, HasPlan, IsPlannable}
 use Rattle.plan_commands.specs.Refusals.{IsRefused}
 use Rattle.plan_commands.specs.Sources.{IsAcceptedSource}
@@ -57,7 +58,7 @@ pub record HasClearStream (mic samples : Name) (files : Files) : Type 0 where
   pub image : Image
   pub stream : Rows
   pub has : HasStream mic samples image stream files
-  pub clear : IsClearOver image [] stream
+  pub clear : IsClearOver (microprogram_of image) [] stream
 
 -- SRC has a program, and SAMPLES a stream for it
 pub record HasProgramStream (src samples : Name) (files : Files) : Type 0 where
@@ -79,8 +80,8 @@ pub record HasPlannedStream (src datapath samples : Name) (files : Files) : Type
 abbrev pub StopsSim : Name → Name → StreamFault → Files → Type 0
 StopsSim mic samples fault files =
     (image : Image) × HasImage mic files image
-    × StopsRun (samples_limit + 1) (channels_of image) (IsClearOver image []) (IsConflictInLast image [])
-    (content_of (files samples)) fault
+    × StopsRun (samples_limit + 1) (channels_of image) (IsClearOver (microprogram_of image) [])
+    (IsConflictInLast (microprogram_of image) []) (content_of (files samples)) fault
 
 -- a run of the program over the bytes stops so; it meets no conflict
 abbrev pub StopsProgram : Program → Content → StreamFault → Type 0

@@ -1,6 +1,6 @@
 //! How a run and an evaluation over the current input end, and what they answer where no fault of the desk rose.
 ghost use Rattle.std.specs.Prelude.{◌≡◌, ◌*◌, ◌<◌, ◌≤◌, ◌^◌, []};
-ghost use Rattle.cycle_sim.specs.Machine.{state_of};
+ghost use Rattle.cycle_sim.specs.Machine.{micro_of, state_of};
 ghost use Rattle.desk_core.specs.Desk.{FaultsNeverFall};
 ghost use Rattle.desk_core.specs.View.{Content};
 ghost use Rattle.lists.specs.Rows.{Rows as Stream};
@@ -45,20 +45,23 @@ pub fn run_completes<D: Desk>(
         (λ ran conflict. StopsInLast machine.old ran conflict machine.new) (D.view desk.old) (D.view desk.new) result }
 
     // Where no fault of the desk rose, it comes to the end that the input has.
-    ensures completes { (cycles : Stream) (bytes : Content) → Stands (state_of machine.old) machine.old.image cycles
+    ensures completes { (cycles : Stream) (bytes : Content)
+        → Stands (state_of machine.old) (micro_of machine.old) cycles
         → ReadsWithoutFault bytes (D.view desk.old) (D.view desk.new)
-        → RunsThrough limit (channels_of machine.old.image) (IsClearOver machine.old.image cycles) bytes
+        → RunsThrough limit (channels_of machine.old.image) (IsClearOver (micro_of machine.old) cycles) bytes
         → result ≡ Status.Done }
-    ensures stops { (cycles : Stream) (bytes : Content) → Stands (state_of machine.old) machine.old.image cycles
+    ensures stops { (cycles : Stream) (bytes : Content)
+        → Stands (state_of machine.old) (micro_of machine.old) cycles
         → ReadsWithoutFault bytes (D.view desk.old) (D.view desk.new)
         → (fault : StreamFault) → StopsRun limit (channels_of machine.old.image)
-        (IsClearOver machine.old.image cycles) (IsConflictInLast machine.old.image cycles) bytes fault
+        (IsClearOver (micro_of machine.old) cycles) (IsConflictInLast (micro_of machine.old) cycles) bytes fault
         → result ≡ status_of fault }
 {
     run_samples(machine, rows, desk, limit)
 }
 
-/// How an evaluation over the input ends. Where no fault of the desk rose, it is done, or answers why the input stops it.
+/// How an evaluation over the input ends. Where no fault of the desk rose, it is done, or answers why the input stops
+/// it.
 pub fn evaluation_completes<D: Desk>(
     evaluator: &mut Evaluator,
     rows: &mut Rows,

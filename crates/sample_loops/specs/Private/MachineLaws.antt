@@ -4,9 +4,10 @@ use Rattle.std.proofs.Common.{ℕ, List, [], ◌++◌, length, map, append_assoc
 use Rattle.std.proofs.lemmas.List.{append-nil, length-append}
 use Rattle.std.specs.List.{range_with_len}
 use Rattle.lists.specs.Rows.{Rows}
-use Rattle.cycle_sim.specs.Machine.{Snapshot, state_of}
+use Rattle.cycle_sim.specs.Machine.{Snapshot, micro_of, state_of}
 use Rattle.micro_image.specs.declared.conflict.Conflict.{Conflict}
 use Rattle.micro_image.specs.declared.image.Image.{Image}
+use Rattle.micro_image.specs.Fields.{Microprogram, microprogram_of}
 use Rattle.micro_image.specs.Run.{Stands, spread, latches}
 use Rattle.micro_image.proofs.Lists.{In-range, map-same}
 use Rattle.micro_image.proofs.Prefix.{latches-prefix}
@@ -22,53 +23,53 @@ pub same_on : (old mid new : Snapshot) → mid.image ≡ old.image → new.image
 same_on old mid new first second = second ∙ first
 
 -- the samples of rows and then of more
-pub cycles_more : (image : Image) (cycles rows more : Rows)
-    → cycles_with image (cycles_with image cycles rows) more ≡ cycles_with image cycles (rows ++ more)
-cycles_more image cycles rows more =
-    append_assoc cycles (spread image.period rows) (spread image.period more)
-    ∙ ap (λ samples. cycles ++ samples) (sym (spread-append image.period rows more))
+pub cycles_more : (micro : Microprogram) (cycles rows more : Rows)
+    → cycles_with micro (cycles_with micro cycles rows) more ≡ cycles_with micro cycles (rows ++ more)
+cycles_more micro cycles rows more =
+    append_assoc cycles (spread micro.period rows) (spread micro.period more)
+    ∙ ap (λ samples. cycles ++ samples) (sym (spread-append micro.period rows more))
 
-pub length-cycles : (image : Image) (cycles rows : Rows)
-    → length (cycles_with image cycles rows) ≡ length cycles + length rows * image.period
-length-cycles image cycles rows =
-    length-append cycles (spread image.period rows) ∙ ap (λ n. length cycles + n) (length-spread image.period rows)
+pub length-cycles : (micro : Microprogram) (cycles rows : Rows)
+    → length (cycles_with micro cycles rows) ≡ length cycles + length rows * micro.period
+length-cycles micro cycles rows =
+    length-append cycles (spread micro.period rows) ∙ ap (λ n. length cycles + n) (length-spread micro.period rows)
 
 -- what the latches hold when sample n of the rows ends
-abbrev latches_at : (image : Image) (cycles rows : Rows) (n : ℕ) → List ℤ
-latches_at image cycles rows n = latches image (cycles_with image cycles rows) (length cycles + (n + 1) * image.period)
+abbrev latches_at : (micro : Microprogram) (cycles rows : Rows) (n : ℕ) → List ℤ
+latches_at micro cycles rows n = latches micro (cycles_with micro cycles rows) (length cycles + (n + 1) * micro.period)
 
 -- what is put does not depend on the rows that come after
-put_before : (image : Image) (cycles rows more : Rows)
-    → map (latches_at image cycles (rows ++ more)) (range_with_len 0 (length rows)) ≡ rows_put image cycles rows
-put_before image cycles rows more =
+put_before : (micro : Microprogram) (cycles rows more : Rows)
+    → map (latches_at micro cycles (rows ++ more)) (range_with_len 0 (length rows)) ≡ rows_put micro cycles rows
+put_before micro cycles rows more =
     map-same _ _ (range_with_len 0 (length rows)) (λ k is.
     let range = In-range 0 (length rows) k is in
-    let end = (k + 1) * image.period in
-    let below : end ≤ length rows * image.period = mul-le-mul_right image.period (omega (arith, range.1)) in
-    ap (λ z. latches image z (length cycles + end)) (sym (cycles_more image cycles rows more))
-    ∙ latches-prefix image (cycles_with image cycles rows) (spread image.period more) (length cycles + end)
-    (omega (arith, below, length-cycles image cycles rows)))
+    let end = (k + 1) * micro.period in
+    let below : end ≤ length rows * micro.period = mul-le-mul_right micro.period (omega (arith, range.1)) in
+    ap (λ z. latches micro z (length cycles + end)) (sym (cycles_more micro cycles rows more))
+    ∙ latches-prefix micro (cycles_with micro cycles rows) (spread micro.period more) (length cycles + end)
+    (omega (arith, below, length-cycles micro cycles rows)))
 
-later_end : (image : Image) (cycles rows : Rows) (k : ℕ)
-    → length (cycles_with image cycles rows) + (k + 1) * image.period
-    ≡ length cycles + ((length rows + k) + 1) * image.period
-later_end image cycles rows k = omega (arith, length-cycles image cycles rows)
+later_end : (micro : Microprogram) (cycles rows : Rows) (k : ℕ)
+    → length (cycles_with micro cycles rows) + (k + 1) * micro.period
+    ≡ length cycles + ((length rows + k) + 1) * micro.period
+later_end micro cycles rows k = omega (arith, length-cycles micro cycles rows)
 
 -- the samples of more rows, after those of the rows
-put_after : (image : Image) (cycles rows more : Rows)
-    → rows_put image (cycles_with image cycles rows) more
-    ≡ map (latches_at image cycles (rows ++ more)) (range_with_len (length rows) (length more))
-put_after image cycles rows more =
+put_after : (micro : Microprogram) (cycles rows more : Rows)
+    → rows_put micro (cycles_with micro cycles rows) more
+    ≡ map (latches_at micro cycles (rows ++ more)) (range_with_len (length rows) (length more))
+put_after micro cycles rows more =
     map-same _ _ (range_with_len 0 (length more)) (λ k is.
-    ap₂ (latches image) (cycles_more image cycles rows more) (later_end image cycles rows k))
-    ∙ range_from (latches_at image cycles (rows ++ more)) (length rows) (length more)
+    ap₂ (latches micro) (cycles_more micro cycles rows more) (later_end micro cycles rows k))
+    ∙ range_from (latches_at micro cycles (rows ++ more)) (length rows) (length more)
 
-put_more : (image : Image) (cycles rows more : Rows)
-    → rows_put image cycles rows ++ rows_put image (cycles_with image cycles rows) more
-    ≡ rows_put image cycles (rows ++ more)
-put_more image cycles rows more =
-    let put = latches_at image cycles (rows ++ more) in
-    ap₂ ◌++◌ (sym (put_before image cycles rows more)) (put_after image cycles rows more)
+put_more : (micro : Microprogram) (cycles rows more : Rows)
+    → rows_put micro cycles rows ++ rows_put micro (cycles_with micro cycles rows) more
+    ≡ rows_put micro cycles (rows ++ more)
+put_more micro cycles rows more =
+    let put = latches_at micro cycles (rows ++ more) in
+    ap₂ ◌++◌ (sym (put_before micro cycles rows more)) (put_after micro cycles rows more)
     ∙ ap (λ a. map put (range_with_len 0 (length rows)) ++ map put (range_with_len a (length more)))
     (let e : length rows ≡ 0 + length rows = omega arith in e)
     ∙ sym (range_more put 0 (length rows) (length more))
@@ -78,18 +79,18 @@ put_more image cycles rows more =
 pub runs_none : (machine : Snapshot) → RunsRows machine [] [] machine
 runs_none machine = record {
   image = refl;
-  stands = λ cycles stands. subst (Stands (state_of machine) machine.image) (sym (append-nil cycles)) stands;
+  stands = λ cycles stands. subst (Stands (state_of machine) (micro_of machine)) (sym (append-nil cycles)) stands;
   put = λ cycles stands. refl;
 }
 
 -- the machine stands after rows that ran
 ran_to : (old mid : Snapshot) (rows puts cycles : Rows)
     → RunsRows old rows puts mid
-    → Stands (state_of old) old.image cycles
-    → Stands (state_of mid) mid.image (cycles_with old.image cycles rows)
+    → Stands (state_of old) (micro_of old) cycles
+    → Stands (state_of mid) (micro_of mid) (cycles_with (micro_of old) cycles rows)
 ran_to old mid rows puts cycles ran stands =
-    subst (λ image. Stands (state_of mid) image (cycles_with old.image cycles rows)) (sym ran.image)
-    (ran.stands cycles stands)
+    subst (λ (image : Image). Stands (state_of mid) (microprogram_of image) (cycles_with (micro_of old) cycles rows))
+    (sym ran.image) (ran.stands cycles stands)
 
 -- rows and then more
 pub runs_more : (old mid new : Snapshot) (rows puts more others : Rows)
@@ -99,15 +100,17 @@ pub runs_more : (old mid new : Snapshot) (rows puts more others : Rows)
 runs_more old mid new rows puts more others first second = record {
   image = second.image ∙ first.image;
   stands = λ cycles stands.
-      let then = cycles_with old.image cycles rows in
-      subst (Stands (state_of new) old.image) (cycles_more old.image cycles rows more)
-      (subst (λ (image : Image). Stands (state_of new) image (cycles_with image then more)) first.image
+      let then = cycles_with (micro_of old) cycles rows in
+      subst (Stands (state_of new) (micro_of old)) (cycles_more (micro_of old) cycles rows more)
+      (subst (λ (image : Image). Stands (state_of new) (microprogram_of image)
+      (cycles_with (microprogram_of image) then more)) first.image
       (second.stands then (ran_to old mid rows puts cycles first stands)));
   put = λ cycles stands.
+      let then = cycles_with (micro_of old) cycles rows in
       ap₂ ◌++◌ (first.put cycles stands)
-      (second.put (cycles_with old.image cycles rows) (ran_to old mid rows puts cycles first stands)
-      ∙ ap (λ (image : Image). rows_put image (cycles_with old.image cycles rows) more) first.image)
-      ∙ put_more old.image cycles rows more;
+      (second.put then (ran_to old mid rows puts cycles first stands)
+      ∙ ap (λ (image : Image). rows_put (microprogram_of image) then more) first.image)
+      ∙ put_more (micro_of old) cycles rows more;
 }
 
 -- a machine that ran met no conflict
@@ -121,12 +124,13 @@ pub meets_after : (old mid new : Snapshot) (rows puts more : Rows) (conflict : C
     → StopsInLast old (rows ++ more) conflict new
 meets_after old mid new rows puts more conflict ran stops = record {
   met = λ cycles stands.
-      let same = cycles_more old.image cycles rows more in
-      let found : IsConflictInLast old.image (cycles_with old.image cycles rows) more conflict =
-      subst (λ (image : Image). IsConflictInLast image (cycles_with old.image cycles rows) more conflict) ran.image
-      (stops.met (cycles_with old.image cycles rows) (ran_to old mid rows puts cycles ran stands)) in
+      let same = cycles_more (micro_of old) cycles rows more in
+      let found : IsConflictInLast (micro_of old) (cycles_with (micro_of old) cycles rows) more conflict =
+      subst (λ (image : Image).
+      IsConflictInLast (microprogram_of image) (cycles_with (micro_of old) cycles rows) more conflict) ran.image
+      (stops.met (cycles_with (micro_of old) cycles rows) (ran_to old mid rows puts cycles ran stands)) in
       record {
-        first = subst (λ z. IsFirstConflict old.image z conflict) same found.first;
+        first = subst (λ z. IsFirstConflict (micro_of old) z conflict) same found.first;
         last = subst (λ (z : Rows). length z ≤ conflict.cycle + old.image.period) same found.last;
       };
   kept = stops.kept;

@@ -5,6 +5,7 @@ use Rattle.cycle_sim.specs.Machine.{Snapshot, state_of}
 use Rattle.datapath.specs.Allowed.{IsDatapath}
 use Rattle.datapath.specs.declared.types.Datapath.{Datapath}
 use Rattle.micro_image.specs.declared.image.Image.{Image}
+use Rattle.micro_image.specs.Fields.{microprogram_of}
 use Rattle.micro_image.specs.Run.{Stands, IsRunOut, spread}
 use Rattle.plan_core.specs.declared.plan.Plan.{Plan}
 use Rattle.plan_run.specs.ImageOf.{IsImageOf}
@@ -46,14 +47,14 @@ pub record IsCascadeMachine (sections : ℕ) (machine : Snapshot) : Type 0 where
 
 -- the image runs so many samples of the cascade without a conflict
 abbrev pub RunsCascade : Image → (samples : ℕ) → Type 0
-RunsCascade image samples = (rows : Rows) × IsRunOut image (cascade_rows samples) rows
+RunsCascade image samples = (rows : Rows) × IsRunOut (microprogram_of image) (cascade_rows samples) rows
 
 -- the image ran so many samples: the machine is in its state after them, and these are the words that it put
 pub record HasPutWords (image : Image) (samples : ℕ) (machine : Snapshot) (words : List ℤ) : Type 0 where
   pub image_is : machine.image ≡ image
-  pub stands : Stands (state_of machine) image (spread image.period (cascade_rows samples))
+  pub stands : Stands (state_of machine) (microprogram_of image) (spread image.period (cascade_rows samples))
   pub rows : Rows
-  pub run : IsRunOut image (cascade_rows samples) rows
+  pub run : IsRunOut (microprogram_of image) (cascade_rows samples) rows
   pub words_are : words ≡ words_of rows
 
 -- and this is what the words come to
