@@ -3,7 +3,7 @@ use Rattle.std.proofs.Common.{◌≡◌, ◌∙◌, ◌++◌, ◌∷◌, [], ℕ
 use Rattle.std.specs.Global.{Global}
 use Rattle.single_def.specs.declared.actions.Action.{Action as RustAction, Repeat}
 use Rattle.single_def.specs.declared.actions.Bound.{Bound}
-use Rattle.single_def.specs.declared.ahead.Turns.{Turns}
+use Rattle.single_def.specs.declared.turns.Turns.{Turns}
 use Rattle.single_def.specs.declared.lanes.Group.{Group}
 use Rattle.single_def.specs.declared.fault.PlacedFault.{PlacedFault}
 use Rattle.single_def.specs.Private.Lanes.{at, column}

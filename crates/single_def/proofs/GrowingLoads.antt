@@ -12,7 +12,7 @@ use Rattle.single_def.specs.Private.Functions.{view_planned}
 use Rattle.single_def.specs.Private.States.{made_in}
 use Rattle.single_def.specs.Private.Parts.{view_part}
 use Rattle.single_def.specs.declared.parts.Part.{Part}
-use Rattle.single_def.specs.Private.Actions.{Action, check, define, define_all, preset, count, enter, repeat, Actions, no_action, action, Body, Known, Found, State, Instances, for_each, ◌>>=◌}
+use Rattle.single_def.specs.Private.Actions.{HasMeaning, Action, check, define, define_all, preset, count, enter, repeat, Actions, no_action, action, Body, Known, Found, State, Instances, for_each, ◌>>=◌}
 use Rattle.single_def.specs.Private.Actions.{actions_of, count_in, in_known, in_found, check_of, bound_of, element_of, sample_of, define_at, define_from, preset_at, run_action, run_actions, run_turn, entered_in, at_first, all_defined, run_body, run_some, function_at, run_instance}
 
 -- what both steps come to, where they come to something
@@ -178,3 +178,11 @@ module _ (inside : Inside) (turns : List ℤ) (parts : List Part) (i : ℕ) (par
   part_load first less =
       let more = action_adds (made_in inside) (made_adds inside) turns (view_part part) s t ran in
       omega (arith, less, more)
+
+-- where the parts that are left have a meaning, the next one has
+pub part_meant : (inside : Inside) (turns : List ℤ) (parts : List Part) (i : ℕ) (part : Part) → i < length parts → part ≡ get_or parts i part → (s : State) (all : Result State PlacedFault)
+    → run_actions (made_in inside) turns (actions_of (map view_part (drop i parts))) s ≡ all → HasMeaning all → HasMeaning (run_action (made_in inside) turns (view_part part) s)
+part_meant inside turns parts i part within is s all so_far meaning e =
+    let here : drop i parts ≡ part ∷ drop (i + 1) parts = drop_more parts i part within ∙ ap (λ (x : Part). x ∷ drop (i + 1) parts) (sym is) in
+    let rest : State → Result State PlacedFault = λ s. run_actions (made_in inside) turns (actions_of (map view_part (drop (i + 1) parts))) s in
+    meaning (sym so_far ∙ ap (λ (xs : List Part). run_actions (made_in inside) turns (actions_of (map view_part xs)) s) here ∙ ap (λ r. r >>= rest) e)

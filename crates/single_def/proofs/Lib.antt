@@ -13,6 +13,10 @@ pub mod SomeElements
 pub mod Entering
 pub mod GrowingLoads
 pub mod CodeValues
+pub mod ReadyCode
+pub mod InsideActions
+pub mod ActionSizes
+pub mod GroupRows
 pub mod SoundNames
 pub mod PlacedFaults
 pub mod ProgramWalks

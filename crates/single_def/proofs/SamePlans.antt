@@ -2,12 +2,12 @@
 use Rattle.std.proofs.Common.{◌≡◌, ◌∙◌, ℕ, zero, suc, ℤ, List, [], ◌∷◌, map, length, Option, Some, None, option_map, Result, Ok, Err, refl, ap, arith}
 use Rattle.std.specs.List.{All}
 use Rattle.silage_syntax.specs.Tree.{Program}
-use Rattle.single_def.specs.declared.actions.Body.{Body as RustBody}
+use Rattle.single_def.specs.declared.body.Body.{Body as RustBody}
 use Rattle.single_def.specs.declared.function.Function.{Function}
 use Rattle.single_def.specs.declared.fault.PlacedFault.{PlacedFault}
 use Rattle.single_def.specs.ElementRules.{max_nested}
-use Rattle.single_def.specs.Private.Actions.{Body, Instances, Found, view_body, at_first, entered_in, run_body, run_some, function_at, run_instance, all_defined, ◌>>=◌}
-use Rattle.single_def.specs.Private.Functions.{view_function, view_planned, IsLookedAt, IsPlanned}
+use Rattle.single_def.specs.Private.Actions.{Body, Instances, Found, at_first, entered_in, run_body, run_some, function_at, run_instance, all_defined, ◌>>=◌}
+use Rattle.single_def.specs.Private.Functions.{view_body, view_function, view_planned, IsLookedAt, IsPlanned}
 use Rattle.single_def.specs.Private.Plans.{plan_of, nothing_found, elements_found, run_plan, run_program}
 use Rattle.single_def.proofs.Callees.{plan_is}
 

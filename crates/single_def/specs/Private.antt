@@ -3,11 +3,14 @@ pub mod Numbers
 pub mod Lanes
 pub mod Strides
 pub mod Actions
+pub mod Loops
 pub mod Parts
+pub mod Groups
 pub mod Ahead
 pub mod Blocks
 pub mod Functions
 pub mod States
 pub mod Plans
 pub mod Scopes
+pub mod KnownIndices
 pub mod Names

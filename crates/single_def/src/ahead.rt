@@ -3,28 +3,24 @@
 //! A loop without turns adds nothing to the load, so very many of them may be inside thousands of turns. Such a loop is
 //! looked at in many turns of all the loops around it at once.
 
-ghost use Rattle.std.specs.Prelude.{◌≡◌, ◌<◌, ◌≤◌, ◌++◌, ◌∷◌, ◌+ℤ◌, ◌≤ℤ◌, [], ℕ, pos, map, IsTrue, IfOk, OnOk, IfSome};
-ghost use Rattle.single_def.specs.Private.Actions.{view_action};
+ghost use Rattle.std.specs.Prelude.{◌≡◌, ◌<◌, ◌≤◌, ◌+◌, ◌++◌, ◌∷◌, ◌+ℤ◌, ◌≤ℤ◌};
+ghost use Rattle.std.specs.Prelude.{[], ℕ, pos, map, length, IsTrue, IfOk, OnOk, IfSome};
+ghost use Rattle.single_def.specs.Private.Actions.{actions_of, view_action, view_actions};
+ghost use Rattle.single_def.specs.Private.Loops.{IsInside, IsDoneInside, AreDoneInside};
+ghost use Rattle.single_def.specs.Private.Groups.{HaveRows, loops_in};
 ghost use Rattle.single_def.specs.Private.Parts.{seen, view_part};
-ghost use Rattle.single_def.specs.Private.Lanes.{at, column, turns_at};
+ghost use Rattle.single_def.specs.Private.Lanes.{at, column, turns_at, loops_of};
 ghost use Rattle.single_def.specs.Private.Ahead as spec;
-ghost use Rattle.single_def.specs.Private.Ahead.{InEach, Reaches, Holds, Keeps, DoSame};
+ghost use Rattle.single_def.specs.Private.Ahead.{InEach, Reaches, Holds, Keeps, DoSame, loops_around};
 
 use crate::actions::Action;
 use crate::groups::put_turn;
 use crate::lanes::{Group, Lanes, Row, number_row};
 use crate::numbers::Number;
 use crate::parts::Part;
-use crate::turns::{turn_at, turn_count};
+use crate::turns::{Turns, turn_at, turn_count};
 use lists::List;
 use std::alloc::{AllocError, Global};
-
-/// Turns of loops inside loops with the indices `outer`.
-#[derive(Clone, Copy)]
-pub(crate) struct Turns<'a> {
-    pub outer: &'a [i32],
-    pub groups: &'a [Group],
-}
 
 /// What a look at turns works with.
 #[derive(Drop)]
@@ -71,10 +67,12 @@ fn put_lane(
     inner: &mut Vec<Group>,
     room: &mut usize,
 ) -> Result<bool, AllocError>
-    requires { k < 32 }
+    requires lane { k < 32 }
+    requires rows { HaveRows (length lanes.inner.now + 1) inner.old.items }
     ensures kept { OnOk result (Keeps lanes.entry.outer.now inner.old.items inner.new.items) }
     ensures reached { IfOk result (λ has. IsTrue has → (j : ℕ) → (first +ℤ pos j) ≤ℤ last
         → Holds lanes.entry.outer.now inner.new.items (turns_at lanes.entry k ++ (first +ℤ pos j) ∷ [])) }
+    ensures rows { OnOk result (HaveRows (length lanes.entry.inner.now + 1) inner.new.items) }
 {
     let count = turn_count(first, last);
     if count > *room as u64 {
@@ -97,11 +95,13 @@ fn put_lanes(
     inner: &mut Vec<Group>,
     room: &mut usize,
 ) -> Result<bool, AllocError>
-    requires { lanes.count ≤ 32 }
+    requires few { lanes.count ≤ 32 }
+    requires rows { HaveRows (length lanes.inner.now + 1) inner.old.items }
     ensures kept { OnOk result (Keeps lanes.entry.outer.now inner.old.items inner.new.items) }
     ensures reached { IfOk result (λ has. IsTrue has → (k : ℕ) → k < lanes.entry.count → (j : ℕ)
         → (at first.now k +ℤ pos j) ≤ℤ at last.now k → Holds lanes.entry.outer.now inner.new.items
         (turns_at lanes.entry k ++ (at first.now k +ℤ pos j) ∷ [])) }
+    ensures rows { OnOk result (HaveRows (length lanes.entry.inner.now + 1) inner.new.items) }
 {
     for k in 0..lanes.count {
         if !put_lane(alloc, lanes, k, first[k], last[k], inner, room)? {
@@ -120,10 +120,14 @@ fn put_turns(
     inner: &mut Vec<Group>,
     look: &mut Look,
 ) -> Result<bool, AllocError>
-    requires { lanes.count ≤ 32 }
+    requires few { lanes.count ≤ 32 }
+    requires inside_lo { IsInside (loops_of lanes) lo.now }
+    requires inside_hi { IsInside (loops_of lanes) hi.now }
+    requires rows { HaveRows (length lanes.inner.now + 1) inner.old.items }
     ensures kept { OnOk result (Keeps lanes.entry.outer.now inner.old.items inner.new.items) }
     ensures reached { IfOk result (λ has. IsTrue has → (k : ℕ) → k < lanes.entry.count
         → Reaches lanes.entry.outer.now inner.new.items lo.now hi.now (turns_at lanes.entry k)) }
+    ensures rows { OnOk result (HaveRows (length lanes.entry.inner.now + 1) inner.new.items) }
 {
     let first = match number_row(lanes, lo, &mut look.stack)? {
         None => return Ok(false),
@@ -143,8 +147,11 @@ fn inner_turns(
     hi: &Number,
     look: &mut Look,
 ) -> Result<Option<Vec<Group>>, AllocError>
-    ensures { IfOk result (λ r. IfSome r (λ inner. InEach turns.entry
+    requires inside_lo { IsInside (loops_around turns) lo.now }
+    requires inside_hi { IsInside (loops_around turns) hi.now }
+    ensures reached { IfOk result (λ r. IfSome r (λ inner. InEach turns.entry
         (λ ts. Reaches turns.entry.outer.now inner.items lo.now hi.now ts))) }
+    ensures rows { IfOk result (λ r. IfSome r (λ inner. HaveRows (loops_in turns.entry.groups.now + 1) inner.items)) }
 {
     let mut inner = Vec::new(alloc);
     for group in turns.groups {
@@ -176,7 +183,10 @@ fn put_busy<'a>(
     parts: &mut Vec<Part<'a>>,
     look: &mut Look,
 ) -> Result<(), AllocError>
-    ensures { OnOk result (spec.DoesMore turns.entry (seen parts.old) (view_action action.now) (seen parts.new)) }
+    requires { IsDoneInside (loops_around turns) (view_action action.now) }
+    ensures more { OnOk result (spec.DoesMore turns.entry (seen parts.old) (view_action action.now) (seen parts.new)) }
+    ensures inside { OnOk result (AreDoneInside (loops_around turns.entry) (actions_of (seen parts.old))
+        → AreDoneInside (loops_around turns.entry) (actions_of (seen parts.new))) }
 {
     let (lo, hi, actions, at) = match action {
         Action::Repeat {
@@ -221,7 +231,10 @@ pub(crate) fn busy<'a>(
     actions: &'a [Action],
     look: &mut Look,
 ) -> Result<Vec<Part<'a>>, AllocError>
-    ensures { IfOk result (λ parts. InEach turns.entry (λ ts. DoSame ts (seen parts) (map view_action actions.now))) }
+    requires { AreDoneInside (loops_around turns) (view_actions actions.now) }
+    ensures same { IfOk result (λ parts. InEach turns.entry
+        (λ ts. DoSame ts (seen parts) (map view_action actions.now))) }
+    ensures inside { IfOk result (λ parts. AreDoneInside (loops_around turns.entry) (actions_of (seen parts))) }
 {
     let mut parts = Vec::with_capacity(alloc, actions.len())?;
     for action in actions {

@@ -1,17 +1,19 @@
 //! What is done of actions in several turns of a loop, one after another.
 
-ghost use Rattle.std.specs.Prelude.{◌≡◌, ◌+◌, ◌<◌, ◌≤◌, ◌^◌, ◌+ℤ◌, ◌≤ℤ◌, ℕ, pos, [], ◌∷◌, ◌++◌, map, IfOk};
-ghost use Rattle.single_def.specs.Private.Actions.{view_action};
+ghost use Rattle.std.specs.Prelude.{◌≡◌, ◌+◌, ◌<◌, ◌≤◌, ◌^◌, ◌+ℤ◌, ◌≤ℤ◌, ℕ, pos, [], ◌∷◌, ◌++◌};
+ghost use Rattle.std.specs.Prelude.{map, length, IfOk};
+ghost use Rattle.single_def.specs.Private.Actions.{actions_of, view_action, view_actions};
+ghost use Rattle.single_def.specs.Private.Loops.{AreDoneInside};
 ghost use Rattle.single_def.specs.Private.Lanes.{at};
 ghost use Rattle.single_def.specs.Private.Parts.{seen};
 ghost use Rattle.single_def.specs.Private.Ahead.{DoSame};
 ghost use Rattle.single_def.specs.Private.Blocks.{IsBlock};
 
 use crate::actions::Action;
-use crate::ahead::{Look, MOST_TURNS, Turns, busy};
+use crate::ahead::{Look, MOST_TURNS, busy};
 use crate::lanes::{Group, LANES, Row, same_row};
 use crate::parts::{Part, all};
-use crate::turns::turn_at;
+use crate::turns::{Turns, turn_at};
 use lists::List;
 use std::alloc::{AllocError, Global};
 
@@ -28,7 +30,8 @@ pub(crate) struct Block<'a> {
 impl<'a> Block<'a> {
     /// No turns.
     pub(crate) fn empty(alloc: Global) -> Block<'a>
-        ensures { result.until ≡ 0 }
+        ensures until { result.until ≡ 0 }
+        ensures parts { seen result.parts ≡ [] }
     {
         Block {
             until: 0,
@@ -97,10 +100,12 @@ fn block_from<'a>(
 ) -> Result<Block<'a>, AllocError>
     requires turns { k < 2 ^ 33 }
     requires inside { turn ≤ℤ last }
+    requires done { AreDoneInside (length outer.now + 1) (view_actions actions.now) }
     ensures more { IfOk result (λ block. k < block.until) }
     ensures same { IfOk result (λ block. (j : ℕ) → k + j < block.until → (turn +ℤ pos j) ≤ℤ last
         → DoSame (outer.now ++ (turn +ℤ pos j) ∷ []) (seen block.parts)
         (map view_action actions.now)) }
+    ensures done { IfOk result (λ block. AreDoneInside (length outer.now + 1) (actions_of (seen block.parts))) }
 {
     let count = turns_left(turn, last).min(most);
     if count < FEW {
@@ -136,9 +141,12 @@ pub(crate) fn block_at<'a>(
 ) -> Result<Block<'a>, AllocError>
     requires inside { (first +ℤ pos k) ≤ℤ last }
     requires block { IsBlock outer.now first last k block.until (seen block.parts) (map view_action actions.now) }
+    requires done { AreDoneInside (length outer.now + 1) (view_actions actions.now) }
+    requires parts { AreDoneInside (length outer.now + 1) (actions_of (seen block.parts)) }
     ensures more { IfOk result (λ next. k < next.until) }
     ensures block { IfOk result (λ next. IsBlock outer.now first last k next.until (seen next.parts)
         (map view_action actions.now)) }
+    ensures done { IfOk result (λ next. AreDoneInside (length outer.now + 1) (actions_of (seen next.parts))) }
 {
     let most = block.most;
     if k < block.until {

@@ -6,14 +6,15 @@ ghost use Rattle.silage_syntax.specs.Names as meaning;
 ghost use Rattle.name_check.specs.TopNames.{top_names};
 ghost use Rattle.name_check.specs.Private.FirstTops.{IsDistinct};
 ghost use Rattle.single_def.specs.ElementRules.{elements_of};
-ghost use Rattle.single_def.specs.Private.Actions.{view_body};
+ghost use Rattle.single_def.specs.Private.Functions.{view_body};
 ghost use Rattle.single_def.specs.Private.Plans as plan;
 ghost use Rattle.single_def.specs.Signatures.{HaveResults};
 ghost use Rattle.single_def.specs.Private.Plans.{AreSized, AreAllSized, IsTopSized, HasResult};
 ghost use Rattle.single_def.specs.Private.Names.{HaveNames, HasTopNames};
 ghost use Rattle.single_def.specs.Private.Plans.{capped, signals_from, body_of, plan_of};
 
-use crate::actions::{Body, Signal};
+use crate::actions::Signal;
+use crate::body::Body;
 use crate::items::put_items;
 use crate::scope::Scope;
 use crate::sizes::element_count;
@@ -104,7 +105,7 @@ fn small_body(
     requires sized { AreSized (meaning.decls (view_func func.now)) }
     requires few { elements_of (meaning.decls (view_func func.now)) ≤ 8192 }
     requires some { 1 ≤ count }
-    requires names { HaveNames (view program.now) (view_func func.now) (view_func func.now).items }
+    requires names { HaveNames (view program.now) (view_func func.now) [] (view_func func.now).items }
     ensures { IfOk result (λ body. view_body body
         ≡ plan.small_body (view program.now) (view_func func.now) count given) }
 {
@@ -134,7 +135,7 @@ fn body(alloc: Global, program: &Program, names: &NameMap, func: &Func) -> Resul
     requires apart { IsDistinct (top_names (view program.now)) }
     requires sized { AreSized (meaning.decls (view_func func.now)) }
     requires results { 1 ≤ length (view_func func.now).results }
-    requires names { HaveNames (view program.now) (view_func func.now) (view_func func.now).items }
+    requires names { HaveNames (view program.now) (view_func func.now) [] (view_func func.now).items }
     ensures { IfOk result (λ body. view_body body ≡ body_of (view program.now) (view_func func.now)) }
 {
     let given = count(&func.params);

@@ -1,8 +1,9 @@
 //! The values of manifest constants of actions in a turn of the loops.
 
-ghost use Rattle.std.specs.Prelude.{◌≡◌, ◌-◌, ◌<◌, ◌^◌, IfOk};
+ghost use Rattle.std.specs.Prelude.{◌≡◌, ◌-◌, ◌<◌, ◌^◌, length, IfOk};
 ghost use Rattle.single_def.specs.ElementRules as rules;
 ghost use Rattle.single_def.specs.Private.Numbers.{number_value};
+ghost use Rattle.single_def.specs.Private.Loops.{IsInside, AreInside};
 ghost use Rattle.single_def.specs.Private.Strides.{size_of, AreStrided};
 ghost use Rattle.single_def.specs.Private.Actions as run;
 ghost use Rattle.single_def.specs.Private.Actions.{Gives, GivesValue, value_or, check_of, index_of, place_of};
@@ -24,6 +25,7 @@ pub(crate) fn run_check(
     turns: &[i32],
     stack: &mut Vec<i32>,
 ) -> Result<(), PlacedFault>
+    requires { IsInside (length turns.now) check.now.number }
     ensures { Gives tt result (check_of turns.now check.now) }
 {
     match check.number.value(turns, stack)? {
@@ -41,6 +43,7 @@ pub(crate) fn run_check(
 
 /// The value of a manifest constant.
 fn value(number: &Number, at: u32, turns: &[i32], stack: &mut Vec<i32>) -> Result<i32, PlacedFault>
+    requires { IsInside (length turns.now) number.now }
     ensures { GivesValue result (value_or at (number_value turns.now number.now)) }
 {
     match number.value(turns, stack)? {
@@ -58,6 +61,7 @@ fn index_below(dim: u32, value: i32) -> Option<u32>
 
 /// The value of a subscript, which is below its dim.
 fn index(sub: &Subscript, turns: &[i32], stack: &mut Vec<i32>) -> Result<u32, PlacedFault>
+    requires { IsInside (length turns.now) sub.now.number }
     ensures value { GivesValue result (index_of turns.now sub.now) }
     ensures below { IfOk result (λ index. index < sub.now.dim) }
 {
@@ -70,7 +74,8 @@ fn index(sub: &Subscript, turns: &[i32], stack: &mut Vec<i32>) -> Result<u32, Pl
 
 /// The row-major place that subscripts pick.
 fn place(subs: &[Subscript], turns: &[i32], stack: &mut Vec<i32>) -> Result<u64, PlacedFault>
-    requires { AreStrided subs.now }
+    requires strided { AreStrided subs.now }
+    requires inside { AreInside (length turns.now) subs.now }
     ensures value { GivesValue result (place_of turns.now subs.now) }
     ensures within { IfOk result (λ place. place < size_of subs.now) }
     ensures small { IfOk result (λ place. place < 2 ^ 64 - 2 ^ 32) }
@@ -91,6 +96,7 @@ pub(crate) fn element(
     turns: &[i32],
     stack: &mut Vec<i32>,
 ) -> Result<u64, PlacedFault>
+    requires { AreInside (length turns.now) target.now.subs }
     ensures { GivesValue result (element_of turns.now target.now.first target.now.subs) }
 {
     let place = place(&target.subs, turns, stack)?;
@@ -114,6 +120,7 @@ pub(crate) fn sample(
     turns: &[i32],
     stack: &mut Vec<i32>,
 ) -> Result<u32, PlacedFault>
+    requires { IsInside (length turns.now) sample.now.number }
     ensures { GivesValue result (sample_of turns.now sample.now) }
 {
     let value = value(&sample.number, sample.at, turns, stack)?;
@@ -124,6 +131,7 @@ pub(crate) fn sample(
 }
 
 pub(crate) fn bound(bound: &Bound, turns: &[i32], stack: &mut Vec<i32>) -> Result<i32, PlacedFault>
+    requires { IsInside (length turns.now) bound.now.number }
     ensures { GivesValue result (bound_of turns.now bound.now) }
 {
     value(&bound.number, bound.at, turns, stack)

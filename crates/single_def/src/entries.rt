@@ -2,10 +2,12 @@
 
 ghost use Rattle.std.specs.Prelude.{◌≡◌, ◌+◌, ◌<◌, ◌≤◌, ◌++◌, length, OnOk, IfOk};
 ghost use Rattle.single_def.specs.Private.Actions as run;
-ghost use Rattle.single_def.specs.Private.Actions.{Gives, signal_elements, view_body};
+ghost use Rattle.single_def.specs.Private.Actions.{Gives, signal_elements};
+ghost use Rattle.single_def.specs.Private.Functions.{view_body};
 ghost use Rattle.single_def.specs.Private.States.{found_of};
 
-use crate::actions::{Body, Signal};
+use crate::actions::Signal;
+use crate::body::Body;
 use crate::found::Found;
 use crate::{Element, Instance, PlacedFault};
 use lists::List;

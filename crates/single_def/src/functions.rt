@@ -2,16 +2,19 @@
 
 ghost use Rattle.std.specs.Prelude.{◌≡◌, [], map, option_map, IfOk};
 ghost use Rattle.std.specs.List.{All};
-ghost use Rattle.single_def.specs.Private.Actions.{view_action};
+ghost use Rattle.single_def.specs.Private.Actions.{actions_of, view_action, view_actions};
+ghost use Rattle.single_def.specs.Private.Loops.{AreDoneInside};
 ghost use Rattle.single_def.specs.Private.Parts.{seen};
 ghost use Rattle.single_def.specs.Private.Ahead.{DoSame};
 ghost use Rattle.single_def.specs.Private.Functions.{IsLookedAt, IsPlanned};
 
-use crate::actions::{Action, Body};
-use crate::ahead::{Look, MOST_TURNS, Turns, busy};
+use crate::actions::Action;
+use crate::ahead::{Look, MOST_TURNS, busy};
+use crate::body::Body;
 use crate::function::Function;
 use crate::lanes::Group;
 use crate::parts::{Part, all};
+use crate::turns::Turns;
 use lists::List;
 use std::alloc::{AllocError, Global};
 
@@ -42,7 +45,9 @@ fn parts<'a>(
     actions: &'a [Action],
     look: &mut Look,
 ) -> Result<Vec<Part<'a>>, AllocError>
-    ensures { IfOk result (λ parts. DoSame [] (seen parts) (map view_action actions.now)) }
+    requires { AreDoneInside 0 (view_actions actions.now) }
+    ensures same { IfOk result (λ parts. DoSame [] (seen parts) (map view_action actions.now)) }
+    ensures inside { IfOk result (λ parts. AreDoneInside 0 (actions_of (seen parts))) }
 {
     if !has_nested_loops(actions) {
         return all(alloc, actions);

@@ -2,6 +2,7 @@
 
 ghost use Rattle.std.specs.Prelude.{◌≡◌, ◌<◌, ◌++◌, ◌⊎◌, [], ℕ, ℤ, List, length, slice_index_or, IfOk, OnOk};
 ghost use Rattle.single_def.specs.Private.Lanes.{at, column};
+ghost use Rattle.single_def.specs.Private.Groups.{HaveRows};
 ghost use Rattle.single_def.specs.Private.Ahead.{Holds, IsIn, IsMore};
 
 use crate::lanes::{Group, LANES, Row, same_row};
@@ -63,16 +64,18 @@ fn no_turn(alloc: Global) -> Group
 }
 
 /// Takes the last group, if it has a free lane, or a new one.
-fn take_open(alloc: Global, groups: &mut Vec<Group>, loops: usize) -> Result<Group, AllocError>
+fn take_open(alloc: Global, groups: &mut Vec<Group>) -> Result<Group, AllocError>
     ensures lane { IfOk result (λ group. group.count < 32) }
-    ensures rows { IfOk result (λ group. (k : ℕ) → k < group.count → length group.rows ≡ loops) }
+    ensures same_loops { (loops : ℕ) → HaveRows loops groups.old.items
+        → IfOk result (λ group. (k : ℕ) → k < group.count → length group.rows ≡ loops) }
+    ensures rows { (loops : ℕ) → HaveRows loops groups.old.items → OnOk result (HaveRows loops groups.new.items) }
     ensures kept { IfOk result (λ group. (outer turns : List ℤ) → Holds outer groups.old.items turns
         → Holds outer groups.new.items turns ⊎ IsIn outer group turns) }
 {
     match groups.pop() {
         None => Ok(no_turn(alloc)),
         Some(group) => {
-            if group.count < LANES && group.rows.len() == loops {
+            if group.count < LANES {
                 return Ok(group);
             }
             groups.push(group)?;
@@ -87,9 +90,11 @@ pub(crate) fn put_turn(
     turn: &[i32],
     groups: &mut Vec<Group>,
 ) -> Result<(), AllocError>
-    ensures { OnOk result ((outer : List ℤ) → IsMore outer groups.old.items groups.new.items (outer ++ turn.now)) }
+    requires { HaveRows (length turn.now) groups.old.items }
+    ensures more { OnOk result ((outer : List ℤ) → IsMore outer groups.old.items groups.new.items (outer ++ turn.now)) }
+    ensures rows { OnOk result (HaveRows (length turn.now) groups.new.items) }
 {
-    let group = take_open(alloc, groups, turn.len())?;
+    let group = take_open(alloc, groups)?;
     let rows = with_turn(alloc, &group.rows, group.count, turn)?;
     groups.push(Group {
         rows,

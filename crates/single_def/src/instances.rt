@@ -1,9 +1,10 @@
 //! Instances, from main on: each does the actions of its function.
 
-ghost use Rattle.std.specs.Prelude.{◌≡◌, ◌∷◌, ◌++◌, [], map, option_copied, IfOk};
+ghost use Rattle.std.specs.Prelude.{◌≡◌, ◌+◌, ◌∷◌, ◌++◌, [], map, length, option_copied, IfOk};
 ghost use Rattle.single_def.specs.Private.Actions as run;
 ghost use Rattle.single_def.specs.Private.Actions.{Gives, HasMeaning, run_instance};
 ghost use Rattle.single_def.specs.Private.Actions.{actions_of, view_action, view_actions};
+ghost use Rattle.single_def.specs.Private.Loops.{IsDoneInside, AreDoneInside};
 ghost use Rattle.single_def.specs.Private.Functions.{view_function, view_planned};
 ghost use Rattle.single_def.specs.Private.Parts.{view_part};
 ghost use Rattle.single_def.specs.Private.States.{found_of, state_of, made_in};
@@ -58,8 +59,9 @@ fn run_action(
     known: &mut Known,
     found: &mut Found,
 ) -> Result<(), PlacedFault>
-    requires { HasMeaning
+    requires meaning { HasMeaning
         (run.run_action (made_in inside) turns.now (view_action action.now) (state_of known.old found.old)) }
+    requires inside { IsDoneInside (length turns.now) (view_action action.now) }
     ensures { Gives (state_of known.new found.new) result
         (run.run_action (made_in inside.entry) turns.now (view_action action.now) (state_of known.old found.old)) }
 {
@@ -95,8 +97,9 @@ fn run_part(
     known: &mut Known,
     found: &mut Found,
 ) -> Result<(), PlacedFault>
-    requires { HasMeaning
+    requires meaning { HasMeaning
         (run.run_action (made_in inside) turns.now (view_part part.now) (state_of known.old found.old)) }
+    requires inside { IsDoneInside (length turns.now) (view_part part.now) }
     ensures { Gives (state_of known.new found.new) result
         (run.run_action (made_in inside.entry) turns.now (view_part part.now) (state_of known.old found.old)) }
 {
@@ -116,8 +119,9 @@ fn run_parts(
     known: &mut Known,
     found: &mut Found,
 ) -> Result<(), PlacedFault>
-    requires { HasMeaning (run.run_actions (made_in inside) turns.now (actions_of (map view_part parts.now))
+    requires meaning { HasMeaning (run.run_actions (made_in inside) turns.now (actions_of (map view_part parts.now))
         (state_of known.old found.old)) }
+    requires inside { AreDoneInside (length turns.now) (actions_of (map view_part parts.now)) }
     ensures { Gives (state_of known.new found.new) result
         (run.run_actions (made_in inside.entry) turns.now (actions_of (map view_part parts.now))
         (state_of known.old found.old)) }
@@ -139,8 +143,9 @@ fn run_turn(
     known: &mut Known,
     found: &mut Found,
 ) -> Result<(), PlacedFault>
-    requires { HasMeaning (run.run_turn (made_in inside) outer.now (actions_of (map view_part parts.now)) at turn
-        (state_of known.old found.old)) }
+    requires meaning { HasMeaning (run.run_turn (made_in inside) outer.now (actions_of (map view_part parts.now)) at
+        turn (state_of known.old found.old)) }
+    requires inside { AreDoneInside (length outer.now + 1) (actions_of (map view_part parts.now)) }
     ensures { Gives (state_of known.new found.new) result
         (run.run_turn (made_in inside.entry) outer.now (actions_of (map view_part parts.now)) at turn
         (state_of known.old found.old)) }
@@ -162,8 +167,9 @@ fn run_part_turns(
     known: &mut Known,
     found: &mut Found,
 ) -> Result<(), PlacedFault>
-    requires { HasMeaning (run.run_turns (made_in inside) outer.now (actions_of (map view_part parts.now)) at first
-        last (state_of known.old found.old)) }
+    requires meaning { HasMeaning (run.run_turns (made_in inside) outer.now (actions_of (map view_part parts.now)) at
+        first last (state_of known.old found.old)) }
+    requires inside { AreDoneInside (length outer.now + 1) (actions_of (map view_part parts.now)) }
     ensures { Gives (state_of known.new found.new) result
         (run.run_turns (made_in inside.entry) outer.now (actions_of (map view_part parts.now)) at first last
         (state_of known.old found.old)) }
@@ -186,8 +192,10 @@ fn run_part_loop(
     known: &mut Known,
     found: &mut Found,
 ) -> Result<(), PlacedFault>
-    requires { HasMeaning (run.run_loop (made_in inside) outer.now lo.now hi.now
+    requires meaning { HasMeaning (run.run_loop (made_in inside) outer.now lo.now hi.now
         (actions_of (map view_part parts.now)) at (state_of known.old found.old)) }
+    requires inside { IsDoneInside (length outer.now)
+        (run.repeat lo.now hi.now (actions_of (map view_part parts.now)) at) }
     ensures { Gives (state_of known.new found.new) result
         (run.run_loop (made_in inside.entry) outer.now lo.now hi.now (actions_of (map view_part parts.now)) at
         (state_of known.old found.old)) }
@@ -209,8 +217,9 @@ fn run_turns(
     known: &mut Known,
     found: &mut Found,
 ) -> Result<(), PlacedFault>
-    requires { HasMeaning (run.run_turns (made_in inside) outer.now (view_actions actions.now) at first last
+    requires meaning { HasMeaning (run.run_turns (made_in inside) outer.now (view_actions actions.now) at first last
         (state_of known.old found.old)) }
+    requires inside { AreDoneInside (length outer.now + 1) (view_actions actions.now) }
     ensures { Gives (state_of known.new found.new) result
         (run.run_turns (made_in inside.entry) outer.now (view_actions actions.now) at first last
         (state_of known.old found.old)) }
@@ -244,8 +253,9 @@ fn run_loop(
     known: &mut Known,
     found: &mut Found,
 ) -> Result<(), PlacedFault>
-    requires { HasMeaning (run.run_loop (made_in inside) outer.now lo.now hi.now (view_actions actions.now) at
+    requires meaning { HasMeaning (run.run_loop (made_in inside) outer.now lo.now hi.now (view_actions actions.now) at
         (state_of known.old found.old)) }
+    requires inside { IsDoneInside (length outer.now) (run.repeat lo.now hi.now (view_actions actions.now) at) }
     ensures { Gives (state_of known.new found.new) result
         (run.run_loop (made_in inside.entry) outer.now lo.now hi.now (view_actions actions.now) at
         (state_of known.old found.old)) }

@@ -8,6 +8,7 @@ ghost use Rattle.single_def.specs.Private.Actions.{view_action};
 ghost use Rattle.single_def.specs.Private.Plans as plan;
 ghost use Rattle.single_def.specs.Private.Plans.{viewed, planned_item, planned_items};
 ghost use Rattle.single_def.specs.Private.Scopes.{program_of, function_of, located_in};
+ghost use Rattle.single_def.specs.Private.KnownIndices.{IsKnown, AreKnown};
 ghost use Rattle.single_def.specs.Private.Names.{IsElementOf, IsCallee, HasReads, HasNames, HaveNames};
 
 use crate::actions::{Action, Bound, Sample};
@@ -32,8 +33,9 @@ fn put_call(
     at: u32,
     actions: &mut Vec<Action>,
 ) -> Result<(), AllocError>
-    requires callee { IsCallee (program_of scope.now) (function_of scope.now) func.now (map view_place places.now) }
-    requires reads { All (HasReads (program_of scope.now) (function_of scope.now)) (map view_expr args.now) }
+    requires callee { IsCallee (program_of scope.now) (function_of scope.now) loops.now func.now
+        (map view_place places.now) }
+    requires reads { All (HasReads (program_of scope.now) (function_of scope.now) loops.now) (map view_expr args.now) }
     ensures { OnOk result (viewed actions.new ≡ viewed actions.old
         ++ plan.planned_call (program_of scope.now) (function_of scope.now) loops.now
         (plan.callee_of (program_of scope.now) func.now) (map view_place places.now) (map view_expr args.now)
@@ -56,6 +58,8 @@ fn put_value(
     k: &Manifest,
     actions: &mut Vec<Action>,
 ) -> Result<(), AllocError>
+    requires known { AreKnown loops.now (view_place place.now).subs }
+    requires amount { IsKnown loops.now (view_manifest k.now) }
     requires sized { IsTrue (are_dims dims.now) }
     requires element { length dims.now ≡ length (view_place place.now).subs }
     ensures { OnOk result (viewed actions.new ≡ viewed actions.old
@@ -76,6 +80,8 @@ fn put_initial(
     k: &Manifest,
     actions: &mut Vec<Action>,
 ) -> Result<(), AllocError>
+    requires known { AreKnown loops.now (view_place place.now).subs }
+    requires amount { IsKnown loops.now (view_manifest k.now) }
     requires element { IsElementOf (function_of scope.now) (view_place place.now) }
     ensures { OnOk result (viewed actions.new ≡ viewed actions.old
         ++ plan.planned_initial loops.now (located_in scope.now place.now.name) (view_place place.now)
@@ -103,6 +109,7 @@ fn is_empty(lo: &Number, hi: &Number) -> bool
 }
 
 fn bound(scope: &Scope, loops: &[Name], m: &Manifest) -> Result<Bound, AllocError>
+    requires { IsKnown loops.now (view_manifest m.now) }
     ensures { IfOk result (λ bound. bound ≡ plan.bound_at loops.now (view_manifest m.now)) }
 {
     Ok(Bound {
@@ -156,7 +163,7 @@ fn put_item(
     item: &Item,
     actions: &mut Vec<Action>,
 ) -> Result<(), AllocError>
-    requires names { HasNames (program_of scope.now) (function_of scope.now) (view_item item.now) }
+    requires names { HasNames (program_of scope.now) (function_of scope.now) loops.now (view_item item.now) }
     ensures { OnOk result (viewed actions.new ≡ viewed actions.old
         ++ planned_item (program_of scope.now) (function_of scope.now) loops.now (view_item item.now)) }
 {
@@ -199,7 +206,7 @@ pub(crate) fn put_items(
     items: &[Item],
     actions: &mut Vec<Action>,
 ) -> Result<(), AllocError>
-    requires names { HaveNames (program_of scope.now) (function_of scope.now) (view_items items.now) }
+    requires names { HaveNames (program_of scope.now) (function_of scope.now) loops.now (view_items items.now) }
     ensures { OnOk result (viewed actions.new ≡ viewed actions.old
         ++ planned_items (program_of scope.now) (function_of scope.now) loops.now (view_items items.now)) }
 {

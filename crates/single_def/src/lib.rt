@@ -9,6 +9,7 @@ mod actions;
 mod ahead;
 mod blocks;
 mod bodies;
+mod body;
 mod checks;
 mod codes;
 mod elements;

@@ -8,6 +8,7 @@ ghost use Rattle.single_def.specs.Private.Actions.{view_action};
 ghost use Rattle.single_def.specs.Private.Plans as plan;
 ghost use Rattle.single_def.specs.Private.Plans.{viewed};
 ghost use Rattle.single_def.specs.Private.Scopes.{program_of, function_of, located_in};
+ghost use Rattle.single_def.specs.Private.KnownIndices.{IsKnown, AreKnown, IsKnownDelay};
 ghost use Rattle.single_def.specs.Private.Names.{IsElementOf, IsSignalOf, Takes, TakeEach, HasReads};
 
 use crate::PlacedFault;
@@ -74,6 +75,7 @@ fn put_number(
     outside: PlacedFault,
     actions: &mut Vec<Action>,
 ) -> Result<(), AllocError>
+    requires { IsKnown loops.now (view_manifest m.now) }
     ensures { OnOk result (viewed actions.new ≡ viewed actions.old
         ++ plan.kept (plan.number_check loops.now least most outside (view_manifest m.now))) }
 {
@@ -94,7 +96,8 @@ fn put_subscripts(
     subs: &[Manifest],
     actions: &mut Vec<Action>,
 ) -> Result<(), AllocError>
-    requires { length subs.now ≤ length dims.now }
+    requires few { length subs.now ≤ length dims.now }
+    requires known { AreKnown loops.now (map view_manifest subs.now) }
     ensures { OnOk result (viewed actions.new ≡ viewed actions.old
         ++ plan.subscript_checks loops.now dims.now (map view_manifest subs.now)) }
 {
@@ -118,6 +121,7 @@ fn push_subscripts(
     subs: &[Manifest],
     subscripts: &mut List<Subscript>,
 ) -> Result<(), AllocError>
+    requires known { AreKnown loops.now (map view_manifest subs.now) }
     requires sized { IsTrue (are_dims dims.now) }
     requires each { length dims.now ≡ length subs.now }
     ensures { OnOk result (subscripts.new
@@ -148,6 +152,7 @@ pub(crate) fn target(
     dims: &[u32],
     place: &Place,
 ) -> Result<Target, AllocError>
+    requires known { AreKnown loops.now (view_place place.now).subs }
     requires sized { IsTrue (are_dims dims.now) }
     requires each { length dims.now ≡ length (view_place place.now).subs }
     ensures first { IfOk result (λ target. target.first ≡ first) }
@@ -171,6 +176,7 @@ pub(crate) fn put_target(
     place: &Place,
     actions: &mut Vec<Action>,
 ) -> Result<(), AllocError>
+    requires known { AreKnown loops.now (view_place place.now).subs }
     requires element { IsElementOf (function_of scope.now) (view_place place.now) }
     ensures { OnOk result (viewed actions.new ≡ viewed actions.old
         ++ plan.planned_target loops.now (located_in scope.now place.now.name) (view_place place.now)) }
@@ -205,7 +211,7 @@ fn put_taker(
     place: &Place,
     actions: &mut Vec<Action>,
 ) -> Result<(), AllocError>
-    requires takes { Takes (function_of scope.now) taken.now (view_place place.now) }
+    requires takes { Takes (function_of scope.now) loops.now taken.now (view_place place.now) }
     ensures { OnOk result (viewed actions.new ≡ viewed actions.old
         ++ plan.planned_taker (function_of scope.now) loops.now taken.now (view_place place.now)) }
 {
@@ -224,7 +230,7 @@ pub(crate) fn put_takers(
     actions: &mut Vec<Action>,
 ) -> Result<(), AllocError>
     requires all { length results.now ≡ length places.now }
-    requires take { TakeEach (function_of scope.now) results.now (map view_place places.now) }
+    requires take { TakeEach (function_of scope.now) loops.now results.now (map view_place places.now) }
     ensures { OnOk result (viewed actions.new ≡ viewed actions.old
         ++ plan.planned_takers (function_of scope.now) loops.now results.now (map view_place places.now)) }
 {
@@ -251,6 +257,7 @@ fn put_delay(
     most: i64,
     actions: &mut Vec<Action>,
 ) -> Result<(), AllocError>
+    requires { IsKnownDelay loops.now (view_delay delay.now) }
     ensures { OnOk result (viewed actions.new ≡ viewed actions.old
         ++ plan.amount_checks loops.now (plan.allowed most) (view_delay delay.now)) }
 {
@@ -276,6 +283,8 @@ fn put_read(
     delay: &Option<Manifest>,
     actions: &mut Vec<Action>,
 ) -> Result<(), AllocError>
+    requires known { AreKnown loops.now (view_place place.now).subs }
+    requires delay { IsKnownDelay loops.now (view_delay delay.now) }
     requires read { IsSomeAnd (rules.readable (program_of scope.now) (function_of scope.now) place.now.name)
         (λ r. length (view_place place.now).subs ≤ length r.0) }
     ensures { OnOk result (viewed actions.new ≡ viewed actions.old
@@ -295,7 +304,7 @@ pub(crate) fn put_expr(
     e: &Expr,
     actions: &mut Vec<Action>,
 ) -> Result<(), AllocError>
-    requires reads { HasReads (program_of scope.now) (function_of scope.now) (view_expr e.now) }
+    requires reads { HasReads (program_of scope.now) (function_of scope.now) loops.now (view_expr e.now) }
     ensures { OnOk result (viewed actions.new ≡ viewed actions.old
         ++ plan.expr_checks (program_of scope.now) (function_of scope.now) loops.now (view_expr e.now)) }
 {
@@ -331,7 +340,7 @@ pub(crate) fn put_args(
     args: &[Expr],
     actions: &mut Vec<Action>,
 ) -> Result<(), AllocError>
-    requires reads { All (HasReads (program_of scope.now) (function_of scope.now)) (map view_expr args.now) }
+    requires reads { All (HasReads (program_of scope.now) (function_of scope.now) loops.now) (map view_expr args.now) }
     ensures { OnOk result (viewed actions.new ≡ viewed actions.old
         ++ plan.arg_checks (program_of scope.now) (function_of scope.now) loops.now (map view_expr args.now)) }
 {

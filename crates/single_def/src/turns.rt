@@ -1,8 +1,19 @@
-//! The turns of a loop, by its bounds.
+//! The turns of loops.
 
 ghost use Rattle.std.specs.Prelude.{◌≡◌, ◌+ℤ◌, ◌-ℤ◌, ◌≤ℤ◌, pos};
 ghost use Rattle.single_def.specs.ElementRules as rules;
 ghost use Rattle.single_def.specs.ElementRules.{count_up};
+ghost use Rattle.single_def.specs.Private.Groups.{HaveRows, loops_in};
+
+use crate::lanes::Group;
+
+/// Turns of loops inside loops with the indices `outer`.
+#[derive(Clone, Copy)]
+pub(crate) struct Turns<'a> {
+    pub outer: &'a [i32],
+    pub groups: &'a [Group],
+    ghost rows: { HaveRows (loops_in groups.now) groups.now },
+}
 
 fn at_least_0(count: i64) -> u64
     ensures { result ≡ rules.at_least_0 count }
@@ -19,7 +30,7 @@ fn one_more_than(first: i32, last: i32) -> i64
     i64::from(last) - i64::from(first) + 1
 }
 
-/// How many turns there are.
+/// How many turns a loop with these bounds has.
 pub(crate) fn turn_count(first: i32, last: i32) -> u64
     ensures { result ≡ count_up first last }
 {

@@ -15,7 +15,6 @@ use Rattle.single_def.specs.declared.actions.Signal.{Signal}
 use Rattle.single_def.specs.declared.actions.Action.{Action as RustAction, Repeat'}
 use Rattle.single_def.specs.declared.actions.Action.{Row_of-Action, end_of-Action, more_of-Action}
 use Rattle.single_def.specs.declared.actions.Action.TheVariants as a
-use Rattle.single_def.specs.declared.actions.Body.{Body as RustBody}
 use Rattle.single_def.specs.declared.elements.Instance.{Instance}
 use Rattle.single_def.specs.declared.elements.Element.{Element}
 use Rattle.single_def.specs.declared.fault.PlacedFault.{PlacedFault}
@@ -63,15 +62,6 @@ abbrev mutual
 
 abbrev pub view_actions : List RustAction → Actions
 view_actions xs = actions_of (map view_action xs)
-
-abbrev pub view_body : RustBody → Body
-view_body b = record {
-  at = b.at;
-  count = b.count;
-  given = b.given;
-  signals = b.signals;
-  actions = view_actions b.actions.items;
-}
 
 infixl 10 ◌>>=◌
 abbrev pub ◌>>=◌ : {A B : Type 0} → Result A PlacedFault → (A → Result B PlacedFault) → Result B PlacedFault

@@ -1,10 +1,11 @@
 -- What is done of actions in several turns of the loops around them.
-use Rattle.std.specs.Prelude.{◌≡◌, ◌<◌, ◌⊎◌, ◌≤ℤ◌, ◌+ℤ◌, ℕ, ℤ, pos, Some, Result, List, [], ◌∷◌, ◌++◌}
+use Rattle.std.specs.Prelude.{◌≡◌, ◌<◌, ◌+◌, ◌⊎◌, ◌≤ℤ◌, ◌+ℤ◌, ℕ, ℤ, pos, Some, Result, List, [], ◌∷◌, ◌++◌, length}
 use Rattle.single_def.specs.Private.Numbers.{number_value}
 use Rattle.single_def.specs.Private.Lanes.{column}
 use Rattle.single_def.specs.Private.Actions.{Action, actions_of, Found, State, run_actions}
+use Rattle.single_def.specs.Private.Groups.{loops_in}
 use Rattle.single_def.specs.declared.numbers.Number.{Number}
-use Rattle.single_def.specs.declared.ahead.Turns.{Turns}
+use Rattle.single_def.specs.declared.turns.Turns.{Turns}
 use Rattle.single_def.specs.declared.lanes.Group.{Group}
 use Rattle.single_def.specs.declared.fault.PlacedFault.{PlacedFault}
 
@@ -30,6 +31,10 @@ Keeps outer old new = (turns : List ℤ) → Holds outer old turns → Holds out
 -- these, and one turn more
 abbrev pub IsMore : (outer : List ℤ) → (old new : List Group) → (turns : List ℤ) → Type 0
 IsMore outer old new turns = Keeps outer old new × Holds outer new turns
+
+-- how many loops are around in the turns
+abbrev pub loops_around : Turns → ℕ
+loops_around t = length t.outer.now + loops_in t.groups.now
 
 -- it holds in each of the turns
 abbrev pub InEach : Turns → (List ℤ → Type 0) → Type 0

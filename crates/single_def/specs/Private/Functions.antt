@@ -1,9 +1,19 @@
 -- The functions of a plan, each with what is done of its actions.
 use Rattle.std.specs.Prelude.{[], map, Option, option_map, IfSome}
-use Rattle.single_def.specs.Private.Actions.{Body, actions_of, view_action}
+use Rattle.single_def.specs.Private.Actions.{Body, actions_of, view_action, view_actions}
 use Rattle.single_def.specs.Private.Parts.{seen}
 use Rattle.single_def.specs.Private.Ahead.{DoSame}
+use Rattle.single_def.specs.declared.body.Body.{Body as RustBody}
 use Rattle.single_def.specs.declared.function.Function.{Function}
+
+abbrev pub view_body : RustBody → Body
+view_body b = record {
+  at = b.at;
+  count = b.count;
+  given = b.given;
+  signals = b.signals;
+  actions = view_actions b.actions.items;
+}
 
 abbrev pub view_function : Function → Body
 view_function f = record {

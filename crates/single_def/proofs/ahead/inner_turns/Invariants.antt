@@ -1,7 +1,10 @@
-use Rattle.std.proofs.Common.{ℤ, List, take}
+use Rattle.std.proofs.Common.{◌+◌, ℤ, List, take}
+use Rattle.single_def.specs.Private.Groups.{HaveRows, loops_in}
 use Rattle.single_def.specs.Private.Ahead.{Holds, Reaches}
 use Rattle.single_def.proofs.ahead.inner_turns.Given as goal
 
 abbrev pub invariant-loop-group : goal.invariant-loop-group
-invariant-loop-group l =
-    (ts : List ℤ) → Holds l.turns.outer.now (take l.group-index l.turns.groups.now) ts → Reaches l.turns.outer.now l.inner.items l.lo l.hi ts
+invariant-loop-group l = record {
+  reached : (ts : List ℤ) → Holds l.turns.outer.now (take l.group-index l.turns.groups.now) ts → Reaches l.turns.outer.now l.inner.items l.lo l.hi ts;
+  rows : HaveRows (loops_in l.turns.groups.now + 1) l.inner.items;
+}

@@ -8,5 +8,5 @@ returns-clause-same c j before inside =
     let outer = c.args.outer.now in
     let turn = c.args.turn +ℤ pos j in
     let row = simp (to_z-of_z, c.ranges.turn) at c.index_row.ensures in
-    c.in_ok-parts.ensures (outer ++ turn ∷ [])
+    c.in_ok-parts.ensures.same (outer ++ turn ∷ [])
     (inl (j, omega arith, one_row outer c.in_ok-rows.rows c.index_row.result j turn c.in_ok-rows.ensures (row j (omega arith))))

@@ -1,6 +1,6 @@
 use Rattle.std.proofs.Common.{◌≡◌, map, take, option_map}
 use Rattle.silage_syntax.specs.Tree.{view, view_top}
-use Rattle.single_def.specs.Private.Actions.{view_body}
+use Rattle.single_def.specs.Private.Functions.{view_body}
 use Rattle.single_def.specs.Private.Plans.{top_body}
 use Rattle.single_def.proofs.bodies.bodies.Given as goal
 

@@ -1,7 +1,7 @@
 use Rattle.std.proofs.Common.{◌∙◌, ◌++◌, ◌∷◌, [], List, Option, option_map, map, take, sym, ap, subst}
 use Rattle.std.specs.List.{All}
 use Rattle.std.proofs.lemmas.List.Elements.{All-push}
-use Rattle.single_def.specs.declared.actions.Body.{Body}
+use Rattle.single_def.specs.declared.body.Body.{Body}
 use Rattle.single_def.specs.declared.function.Function.{Function}
 use Rattle.single_def.specs.Private.Functions.{IsPlanned}
 use Rattle.single_def.proofs.IdleActions.{with_next, mapped_more}

@@ -1,4 +1,4 @@
-use Rattle.std.proofs.Common.{◌∙◌, ◌+ℤ◌, ◌-◌, [], pos, arith, rules, w32, sym, ap, subst, map, List, Result, ◌<◌}
+use Rattle.std.proofs.Common.{◌+◌, length, ◌∙◌, ◌+ℤ◌, ◌-◌, [], pos, arith, rules, w32, sym, ap, subst, map, List, Result, ◌<◌}
 use mir.Val.{SFits}
 use Rattle.std.proofs.lemmas.Int.{to_z-of_z}
 use Rattle.single_def.specs.Private.Parts.{seen, view_part}
@@ -9,11 +9,13 @@ use Rattle.single_def.specs.ElementRules.{count_up}
 use Rattle.single_def.specs.Private.Functions.{view_function, view_planned}
 use Rattle.single_def.specs.Private.States.{known_of, found_of, state_of, made_in}
 use Rattle.single_def.specs.declared.fault.PlacedFault.{PlacedFault}
+use Rattle.single_def.specs.Private.Loops.{AreDoneInside}
+use Rattle.single_def.proofs.InsideActions.{each_inside, actions_inside, parts_inside}
 use Rattle.single_def.proofs.Each.{each_passes, each_gives, each_meant}
 use Rattle.single_def.proofs.ActionRows.{repeat_is}
 use Rattle.single_def.proofs.PartRows.{part_is}
 use Rattle.single_def.proofs.Entering.{body_err, body_meant, body_ok, enter_is}
-use Rattle.single_def.proofs.GrowingLoads.{next_load, part_done, part_load}
+use Rattle.single_def.proofs.GrowingLoads.{next_load, part_done, part_load, part_meant}
 use Rattle.single_def.proofs.instances.+instances.Goals as goal
 
 pub run_action-returns-in-Repeat : goal.run_action-returns-in-Repeat
@@ -61,8 +63,9 @@ run_turns-loop-k-preserved t c =
     simp (to_z-of_z, c.ranges.first, c.ranges.last) (
       each_passes (λ k. turn (c.args.first +ℤ pos k)) 0 c.loop-k.k count less s _ so_far
           c.loop-k.k (omega arith) (state_of c.run_turn.new.known c.run_turn.new.found) (same ∙ passes),
+      c.in_ok-block.ensures.done,
       block_after c.args.outer.now c.args.first c.args.last c.loop-k.k c.in_ok-block.block.until (seen c.in_ok-block.block.parts) all block,
-      next_load c.args.inside c.args.outer.now (actions_of all) c.args.at (c.args.first +ℤ pos c.loop-k.k) c.args.found.now.load s (state_of c.run_turn.new.known c.run_turn.new.found) c.loop-k.invariant.2 (same ∙ passes),
+      next_load c.args.inside c.args.outer.now (actions_of all) c.args.at (c.args.first +ℤ pos c.loop-k.k) c.args.found.now.load s (state_of c.run_turn.new.known c.run_turn.new.found) c.loop-k.invariant.3 (same ∙ passes),
     )
 
 pub enter-returns : goal.enter-returns
@@ -140,13 +143,19 @@ run_parts-loop-part-preserved t c =
 pub run_action-run_loop-requires : goal.run_action-run_loop-requires
 run_action-run_loop-requires t c = (
   search rules,
-  λ e. c.requires (repeat_is (made_in c.args.inside) c.args.turns.now c.args.action.now c.in-Repeat.lo c.in-Repeat.hi c.in-Repeat.actions c.in-Repeat.at c.in-Repeat.is c.deref.result.now c.deref.ensures.value _ ∙ e),
+  (
+    λ e. c.requires.meaning (repeat_is (made_in c.args.inside) c.args.turns.now c.args.action.now c.in-Repeat.lo c.in-Repeat.hi c.in-Repeat.actions c.in-Repeat.at c.in-Repeat.is c.deref.result.now c.deref.ensures.value _ ∙ e),
+    actions_inside (length c.args.turns.now) c.args.action.now c.in-Repeat.lo c.in-Repeat.hi c.in-Repeat.actions c.in-Repeat.at c.in-Repeat.is c.deref.result.now c.deref.ensures.value c.requires.inside,
+  ),
 )
 
 pub run_part-run_part_loop-requires : goal.run_part-run_part_loop-requires
 run_part-run_part_loop-requires t c = (
   search rules,
-  λ e. c.requires (part_is (made_in c.args.inside) c.args.turns.now c.args.part.now c.in-Loop.lo c.in-Loop.hi c.in-Loop.parts c.in-Loop.at c.in-Loop.is c.deref.result.now c.deref.ensures.value _ ∙ e),
+  (
+    λ e. c.requires.meaning (part_is (made_in c.args.inside) c.args.turns.now c.args.part.now c.in-Loop.lo c.in-Loop.hi c.in-Loop.parts c.in-Loop.at c.in-Loop.is c.deref.result.now c.deref.ensures.value _ ∙ e),
+    parts_inside (length c.args.turns.now) c.args.part.now c.in-Loop.lo c.in-Loop.hi c.in-Loop.parts c.in-Loop.at c.in-Loop.is c.deref.result.now c.deref.ensures.value c.requires.inside,
+  ),
 )
 
 pub run_part_turns-run_turn-requires : goal.run_part_turns-run_turn-requires
@@ -159,8 +168,8 @@ run_part_turns-run_turn-requires t c =
     let count = count_up c.args.first c.args.last in
     let less : c.loop-k.k < count = omega (arith, end) in
     let s = state_of c.loop-k.known c.loop-k.found in
-    let own = each_meant (λ k. turn (c.args.first +ℤ pos k)) 0 c.loop-k.k count less s _ so_far c.requires c.loop-k.k (omega arith) in
-    (search rules, simp (to_z-of_z, fits) (λ e. own (ap (λ z. turn z s) (sym at_k) ∙ e)))
+    let own = each_meant (λ k. turn (c.args.first +ℤ pos k)) 0 c.loop-k.k count less s _ so_far c.requires.meaning c.loop-k.k (omega arith) in
+    (search rules, (simp (to_z-of_z, fits) (λ e. own (ap (λ z. turn z s) (sym at_k) ∙ e)), c.requires.inside))
 
 pub run_turns-run_turn-requires : goal.run_turns-run_turn-requires
 run_turns-run_turn-requires t c =
@@ -177,8 +186,13 @@ run_turns-run_turn-requires t c =
     let s = state_of c.loop-k.known c.loop-k.found in
     let same = turn_same inside c.args.outer.now c.args.at c.args.first c.args.last c.turn_at-turn.result c.loop-k.k c.in_ok-block.block.until (seen c.in_ok-block.block.parts) all at_k block c.in_ok-block.ensures.more less s
     ∙ ap (λ (xs : List Part). run_turn inside c.args.outer.now (actions_of (map view_part xs)) c.args.at c.turn_at-turn.result s) (sym c.deref.ensures.value) in
-    let own = each_meant (λ k. turn (c.args.first +ℤ pos k)) 0 c.loop-k.k count less s _ so_far c.requires c.loop-k.k (omega arith) in
-    (search rules, simp (to_z-of_z, fits) (λ e. own (same ∙ e)))
+    let own = each_meant (λ k. turn (c.args.first +ℤ pos k)) 0 c.loop-k.k count less s _ so_far c.requires.meaning c.loop-k.k (omega arith) in (
+      search rules,
+      (
+        simp (to_z-of_z, fits) (λ e. own (same ∙ e)),
+        subst (λ (xs : List Part). AreDoneInside (length c.args.outer.now + 1) (actions_of (map view_part xs))) (sym c.deref.ensures.value) c.in_ok-block.ensures.done,
+      ),
+    )
 
 pub enter-run_body-requires : goal.enter-run_body-requires
 enter-run_body-requires t c =
@@ -194,5 +208,20 @@ run_body-run_parts-requires t c =
     let meant = body_meant inside (view_function c.args.function.now) c.args.instance.func c.args.instance.parent c.args.instance.site c.args.instance.turns (found_of c.args.found.now) (found_of c.enter_instance.new.found) (known_of c.at_first-known.result) c.in_ok-number.number
     c.in_ok-number.ensures.found c.in_ok-number.ensures.number c.at_first-known.ensures c.requires in (
       search rules,
-      λ e. meant (ap (λ (actions : List Action). run_actions (inside c.in_ok-number.number) [] (actions_of actions) (state_of c.at_first-known.result c.enter_instance.new.found)) (sym all) ∙ e),
+      (
+        λ e. meant (ap (λ (actions : List Action). run_actions (inside c.in_ok-number.number) [] (actions_of actions) (state_of c.at_first-known.result c.enter_instance.new.found)) (sym all) ∙ e),
+        subst (λ (actions : List Action). AreDoneInside 0 (actions_of actions)) (sym all) c.args.function.now.inside,
+      ),
+    )
+
+pub run_parts-run_part-requires : goal.run_parts-run_part-requires
+run_parts-run_part-requires t c =
+    let parts = c.args.parts.now in
+    let i = c.loop-part.part-index in
+    let part = c.part-item.result in (
+      search rules,
+      (
+        part_meant c.args.inside c.args.turns.now parts i part c.loop-part-test.true c.part-item.is (state_of c.loop-part.known c.loop-part.found) _ c.loop-part.invariant.0 c.requires.meaning,
+        each_inside (length c.args.turns.now) view_part parts i part c.loop-part-test.true c.part-item.is c.requires.inside,
+      ),
     )

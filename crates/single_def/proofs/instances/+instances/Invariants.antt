@@ -1,8 +1,9 @@
-use Rattle.std.proofs.Common.{◌≡◌, ◌≤◌, ◌+◌, ◌-◌, ◌*◌, ◌+ℤ◌, pos, map, drop}
+use Rattle.std.proofs.Common.{length, ◌≡◌, ◌≤◌, ◌+◌, ◌-◌, ◌*◌, ◌+ℤ◌, pos, map, drop}
 use Rattle.std.specs.List.{range_with_len}
 use Rattle.single_def.specs.Private.Actions.{actions_of, view_action, view_actions, run_actions, run_turn, run_turns, for_each}
 use Rattle.single_def.specs.Tables.{max_load}
 use Rattle.single_def.specs.ElementRules.{count_up}
+use Rattle.single_def.specs.Private.Loops.{AreDoneInside}
 use Rattle.single_def.specs.Private.Parts.{seen, view_part}
 use Rattle.single_def.specs.Private.Blocks.{IsBlock}
 use Rattle.single_def.specs.Private.States.{state_of, made_in}
@@ -54,5 +55,6 @@ abbrev pub invariant-run_turns-loop-k : goal.invariant-run_turns-loop-k
 invariant-run_turns-loop-k l =
     (for_each (λ k. run_turn (made_in l.inside) l.outer (view_actions l.actions) l.at (l.first +ℤ pos k)) (range_with_len (0 + l.k) (count_up l.first l.last - l.k)) (state_of l.known l.found)
     ≡ run_turns (made_in l.inside) l.outer (view_actions l.actions) l.at l.first l.last (state_of l.fn.known l.fn.found))
+    × AreDoneInside (length l.outer + 1) (actions_of (seen l.block.parts))
     × IsBlock l.outer l.first l.last l.k l.block.until (seen l.block.parts) (map view_action l.actions)
     × (l.fn.found.load ≤ l.found.load)

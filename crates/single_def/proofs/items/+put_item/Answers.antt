@@ -1,7 +1,8 @@
-use Rattle.std.proofs.Common.{arith, refl, subst}
+use Rattle.std.proofs.Common.{List, ℕ, arith, refl, subst, sym}
 use Rattle.std.proofs.lemmas.Grind.{common_steps}
-use Rattle.single_def.specs.Private.Names.{HasNames}
+use Rattle.single_def.specs.Private.Names.{HasNames, HaveNames}
 use Rattle.single_def.specs.Private.Scopes.{program_of, function_of}
+use Rattle.silage_syntax.specs.Tree.{view_items}
 use Rattle.single_def.proofs.TreeRows.{repeated}
 use Rattle.single_def.proofs.items.+put_item.Goals as goal
 
@@ -10,7 +11,7 @@ loop-item-init t c =
     let at = c.in-Loop in
     let is = repeated c.args.item.now at.index at.lo at.hi at.items at.at c.as_slice-items.result.now at.is c.as_slice-items.ensures.value in
     record {
-      names = subst (HasNames (program_of c.args.scope.now) (function_of c.args.scope.now)) is c.requires.names;
+      names = subst (λ (loops : List (List ℕ)). HaveNames (program_of c.args.scope.now) (function_of c.args.scope.now) loops (view_items c.as_slice-items.result.now)) (sym c.in_ok-loops-in-Loop.ensures) (subst (HasNames (program_of c.args.scope.now) (function_of c.args.scope.now) c.args.loops.now) is c.requires.names).2;
       planned = rw c.in_ok-inner-in-Loop.ensures.items refl;
     }
 

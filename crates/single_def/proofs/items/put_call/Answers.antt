@@ -8,4 +8,4 @@ use Rattle.single_def.proofs.items.put_call.Goals as goal
 
 pub function-position-requires : goal.function-position-requires
 function-position-requires c =
-    some_there (λ (g : Func). TakeAll (function_of c.args.scope.now) g.results (map view_place c.args.places.now)) (function_named (program_of c.args.scope.now) c.args.func.now) c.requires.callee
+    some_there (λ (g : Func). TakeAll (function_of c.args.scope.now) c.args.loops.now g.results (map view_place c.args.places.now)) (function_named (program_of c.args.scope.now) c.args.func.now) c.requires.callee

@@ -10,7 +10,7 @@ loop-arm-init t c =
     let at = c.in-Choose in
     let is = chosen c.args.e.now at.field-0 at.arms at.last c.as_slice-arms.result.now at.last.value at.is c.as_slice-arms.ensures.value refl in
     record {
-      reads = (subst (HasReads (program_of c.args.scope.now) (function_of c.args.scope.now)) is c.requires.reads).0;
+      reads = (subst (HasReads (program_of c.args.scope.now) (function_of c.args.scope.now) c.args.loops.now) is c.requires.reads).0;
       planned = refl;
     }
 

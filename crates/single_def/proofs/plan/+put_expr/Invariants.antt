@@ -7,7 +7,7 @@ use Rattle.single_def.proofs.plan.+put_expr.Given as goal
 
 abbrev pub invariant-loop-arm : goal.invariant-loop-arm
 invariant-loop-arm l = record {
-  reads : HaveReads (program_of l.scope) (function_of l.scope) (view_arms (drop l.arm-index l.arms));
+  reads : HaveReads (program_of l.scope) (function_of l.scope) l.loops (view_arms (drop l.arm-index l.arms));
   planned : viewed l.actions ++ branch_checks (program_of l.scope) (function_of l.scope) l.loops (view_arms (drop l.arm-index l.arms))
       ≡ viewed l.fn.actions ++ branch_checks (program_of l.scope) (function_of l.scope) l.loops (view_arms l.arms);
 }

@@ -5,5 +5,5 @@ use Rattle.single_def.proofs.plan.put_args.Goals as goal
 
 pub put_expr-requires : goal.put_expr-requires
 put_expr-requires c = record {
-  reads = expr_at (HasReads (program_of c.args.scope.now) (function_of c.args.scope.now)) c.args.args.now c.loop-arg.arg-index c.arg-item.result c.requires.reads c.loop-arg-test.true c.arg-item.is;
+  reads = expr_at (HasReads (program_of c.args.scope.now) (function_of c.args.scope.now) c.args.loops.now) c.args.args.now c.loop-arg.arg-index c.arg-item.result c.requires.reads c.loop-arg-test.true c.arg-item.is;
 }

@@ -7,7 +7,7 @@ use Rattle.single_def.proofs.plan.put_takers.Given as goal
 
 abbrev pub invariant-loop-i : goal.invariant-loop-i
 invariant-loop-i l = record {
-  take : TakeEach (function_of l.scope) (drop l.i l.results) (map view_place (drop l.i l.places));
+  take : TakeEach (function_of l.scope) l.loops (drop l.i l.results) (map view_place (drop l.i l.places));
   planned : viewed l.actions ++ planned_takers (function_of l.scope) l.loops (drop l.i l.results) (map view_place (drop l.i l.places))
       ≡ viewed l.fn.actions ++ planned_takers (function_of l.scope) l.loops l.results (map view_place l.places);
 }
