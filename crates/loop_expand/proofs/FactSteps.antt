@@ -1,5 +1,5 @@
 -- How facts are put into elements, one after another.
-use Rattle.std.proofs.Common.{◌≡◌, refl, sym, ◌∙◌, ap, ap₂, append_assoc, zero-add, arith, ℕ, zero, suc, ◌+◌, ◌-◌, ◌<◌, ◌≤◌, ◌⊎◌, ◌++◌, inl, inr, true, false, List, [], ◌∷◌, map, length, drop, take, get_or, Some, None, Result, Ok, Err, OnOk, slice_get, slice_index_or, ℤ, pos}
+use Rattle.std.proofs.Common.{◌≡◌, refl, sym, ◌∙◌, ap, ap₂, append_assoc, zero-add, arith, ℕ, zero, suc, ◌+◌, ◌-◌, ◌<◌, ◌≤◌, ◌⊎◌, ◌++◌, inl, inr, true, false, List, [], ◌∷◌, map, length, drop, take, get_or, Some, Result, Ok, Err, OnOk, slice_get, ℤ}
 use Rattle.std.specs.Prelude.{nat_eq, nat_lt, slice_set}
 use Rattle.std.proofs.lemmas.Bool.Decides.{eqb_tells, leb_tells}
 use Rattle.std.proofs.lemmas.List.FromFn.{map-range_with_len_more}
@@ -25,6 +25,7 @@ use Rattle.loop_expand.specs.Private.Groups.{Group, groups_of}
 use Rattle.loop_expand.specs.Private.Rows.{parts_of, parts_after, view_exprs, typed_exprs}
 use Rattle.loop_expand.specs.Private.Scopes.{Signal, Body, Scope, signals_from, body_for, body_of, body_at}
 use Rattle.loop_expand.specs.Private.Sizes.{decls_of}
+use Rattle.loop_expand.proofs.FactsPut.{facts_length}
 
 abbrev Lt : ℕ → ℕ → Type 0
 Lt m n = ((nat_lt m n ≡ true) × (m < n)) ⊎ ((nat_lt m n ≡ false) × (n ≤ m))
@@ -58,16 +59,11 @@ next_joined F G count k xs ys whole less step so_far =
     ∙ sym (facts-append (F (G (0 + k))) rest xs)
     ∙ sym (ap (λ (ns : List ℕ). with_facts (joined F (map G ns)) xs) (range_next 0 k count less)) ∙ so_far
 
--- A change of the element at a number, and none past the end.
+-- A change of the element at a number.
 pub changed_at : (F : flat.Element → flat.Element) (n : ℕ) (xs : List FlatElem) (x y : FlatElem) → n < length xs → flat.view_elem y ≡ F (flat.view_elem (get_or xs n x)) → view_elems (slice_set xs n y) ≡ changed F n (view_elems xs)
 changed_at F n [] x y less is = absurd (omega arith)
 changed_at F zero (z ∷ xs) x y less is = ap (λ (e : flat.Element). e ∷ view_elems xs) is
 changed_at F (suc n) (z ∷ xs) x y less is = ap (λ (es : List flat.Element). flat.view_elem z ∷ es) (changed_at F n xs x y (omega arith) is)
-
-pub changed_past : (F : flat.Element → flat.Element) (n : ℕ) (xs : List FlatElem) → length xs ≤ n → view_elems xs ≡ changed F n (view_elems xs)
-changed_past F n [] past = refl
-changed_past F zero (z ∷ xs) past = absurd (omega arith)
-changed_past F (suc n) (z ∷ xs) past = ap (λ (es : List flat.Element). flat.view_elem z ∷ es) (changed_past F n xs (omega arith))
 
 -- Initial values: one is put behind those before it.
 pub present : (sample k : ℕ) (word : ℤ) (is : List (ℕ × ℤ)) (x : ℕ × ℤ) → slice_get is k ≡ Some x → x.0 ≡ sample → take k is ++ inserted sample word (drop k is) ≡ is
@@ -123,11 +119,6 @@ range_more a n = sym (map-same (range_with_len a (n + 1))) ∙ map-range_with_le
     map-same : (ks : List ℕ) → map (λ (k : ℕ). k) ks ≡ ks
     map-same [] = refl
     map-same (k ∷ ks) = ap (λ (l : List ℕ). k ∷ l) (map-same ks)
-
-pub index_none : (xs : List ℤ) (k : ℕ) → None ≡ slice_get xs k → pos 0 ≡ slice_index_or xs k (pos 0)
-index_none [] k e = refl
-index_none (x ∷ xs) zero e = absurd (cc e)
-index_none (x ∷ xs) (suc k) e = index_none xs k e
 
 pub on_ok : {A E : Type 0} (r : Result A E) {P Q : Type 0} → (P → Q) → OnOk r P → OnOk r Q
 on_ok (Ok x) f h = f h
@@ -185,6 +176,17 @@ pub map_long : {A B : Type 0} (F : A → B) (xs : List A) → length (map F xs) 
 map_long F [] = refl
 map_long F (x ∷ xs) = ap suc (map_long F xs)
 
+-- facts leave how many elements there are
+pub as_many : (fs gs : List Fact) (xs ys : List FlatElem) → with_facts fs (view_elems xs) ≡ with_facts gs (view_elems ys) → length xs ≡ length ys
+as_many fs gs xs ys e =
+    sym (facts_length fs (view_elems xs) ∙ map_long flat.view_elem xs) ∙ ap length e ∙ facts_length gs (view_elems ys) ∙ map_long flat.view_elem ys
+
+pub facts_as_many : (F : ℕ → Fact) (count k : ℕ) (xs ys : List FlatElem) → with_facts (map F (range_with_len (0 + k) (count - k))) (view_elems xs) ≡ with_facts (map F (range_with_len 0 count)) (view_elems ys) → length xs ≡ length ys
+facts_as_many F count k xs ys e = as_many (map F (range_with_len (0 + k) (count - k))) (map F (range_with_len 0 count)) xs ys e
+
+pub puts_as_many : (fs : List Fact) (old new : List FlatElem) → Puts fs old new → length new ≡ length old
+puts_as_many fs old new puts = as_many [] fs new old puts
+
 pub drop_end : {A : Type 0} (xs : List A) (i : ℕ) → length xs ≤ i → drop i xs ≡ []
 drop_end [] zero past = refl
 drop_end [] (suc i) past = refl
@@ -235,6 +237,9 @@ module _ {A B : Type 0} (F : B → List Fact) (V : A → B) (xs : List A) where
       ap (with_facts rest) puts ∙ sym (facts-append (F (V x)) rest (view_elems old))
       ∙ sym (ap (λ (ys : List A). with_facts (joined F (map V ys)) (view_elems old)) (drop_item xs i x less is)) ∙ so_far
 
+  pub joined_as_many : (i : ℕ) (elems old : List FlatElem) → with_facts (joined F (map V (drop i xs))) (view_elems elems) ≡ with_facts (joined F (map V xs)) (view_elems old) → length elems ≡ length old
+  joined_as_many i elems old e = as_many (joined F (map V (drop i xs))) (joined F (map V xs)) elems old e
+
   pub joined_end : (i : ℕ) (elems : List FlatElem) (whole : List flat.Element) → length xs ≤ i → with_facts (joined F (map V (drop i xs))) (view_elems elems) ≡ whole → view_elems elems ≡ whole
   joined_end i elems whole past so_far = sym (ap (λ (ys : List A). with_facts (joined F (map V ys)) (view_elems elems)) (drop_end xs i past)) ∙ so_far
 
@@ -246,6 +251,9 @@ module _ {A B C D : Type 0} (F : C → D → List Fact) (V : A → C) (W : B →
       let rest = zipped F (map V (drop (k + 1) xs)) (map W (drop (k + 1) ys)) in
       ap (with_facts rest) puts ∙ sym (facts-append (F (V x) (W y)) rest (view_elems old))
       ∙ sym (ap₂ (λ (us : List A) (vs : List B). with_facts (zipped F (map V us) (map W vs)) (view_elems old)) (drop_item xs k x less is_x) (drop_item ys k y within is_y)) ∙ so_far
+
+  pub zipped_as_many : (k : ℕ) (elems old : List FlatElem) → with_facts (zipped F (map V (drop k xs)) (map W (drop k ys))) (view_elems elems) ≡ with_facts (zipped F (map V xs) (map W ys)) (view_elems old) → length elems ≡ length old
+  zipped_as_many k elems old e = as_many (zipped F (map V (drop k xs)) (map W (drop k ys))) (zipped F (map V xs) (map W ys)) elems old e
 
   pub zipped_end : (k : ℕ) (elems : List FlatElem) (whole : List flat.Element) → length ys ≤ k → with_facts (zipped F (map V (drop k xs)) (map W (drop k ys))) (view_elems elems) ≡ whole → view_elems elems ≡ whole
   zipped_end k elems whole past so_far =

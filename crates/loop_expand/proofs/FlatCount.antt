@@ -78,7 +78,7 @@ module _ (p : Program) where
   size [] = 0
   size (i ∷ is) = own_size i + size is
 
-  size_is : (n : ℕ) (is : List Instance) → length (elements_in p n is) ≡ size is
+  pub size_is : (n : ℕ) (is : List Instance) → length (elements_in p n is) ≡ size is
   size_is n [] = refl
   size_is n (i ∷ is) = length-append _ _ ∙ ap₂ ◌+◌ (elements_length n 0 (signals_of (slice_get p.tops i.func))) (size_is (n + 1) is)
 

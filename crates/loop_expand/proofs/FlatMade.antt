@@ -91,7 +91,7 @@ three_words : (f : typed.TypedFunc) → word_types f.params ++ (word_types f.res
 three_words f = ap (λ (l : List SigType). word_types f.params ++ l) (sym (words-append f.results f.locals)) ∙ sym (words-append f.params (f.results ++ f.locals))
 
 -- The first elements, by their types.
-first_long : (n k : ℕ) (tys : List SigType) → length (first_elements n k tys) ≡ length tys
+pub first_long : (n k : ℕ) (tys : List SigType) → length (first_elements n k tys) ≡ length tys
 first_long n k [] = refl
 first_long n k (ty ∷ tys) = ap suc (first_long n (k + 1) tys)
 
@@ -265,6 +265,10 @@ module _ (p : Program) (checked : IsChecked p) (es : Elements) (made_by : IsExpa
       let f = typed_func p i.func it.func in
       let long : length (types_in (body_of B i.func)) ≡ elements_of (decls it.func) = ap (λ (o : Option Body). length (types_in o)) top ∙ ap length (three_words f) ∙ words_long (decls_of f) in
       (long ∙ sym (ap size_in top), long ∙ sym (elements_long 0 0 (decls it.func)) ∙ ap (λ (o : Option Top). length (elements_from 0 0 (signals_of o))) (sym it.stands))
+
+  -- they are as many as the elements of the program
+  pub all_types : length Types ≡ length es.elements
+  all_types = types_long p B 0 es.instances have_bodies ∙ ap length (sym made_by.elements)
 
   some_instance : (n : ℕ) (path : Path) → HasPath es.instances n path → (i : Instance) × (slice_get es.instances n ≡ Some i)
   some_instance _ _ (of_main {i = i} e) = (i, e)
@@ -497,7 +501,7 @@ module _ (p : Program) (checked : IsChecked p) (es : Elements) (made_by : IsExpa
   -- the flat program is that of the program
   pub is_flat_of : IsFlatOf p es (flat_by (typed_program p) es.instances)
   is_flat_of = record {
-    count = facts_length All Start ∙ first_long (length Inputs) 0 Types ∙ types_long p B 0 es.instances have_bodies ∙ ap length (sym made_by.elements);
+    count = facts_length All Start ∙ first_long (length Inputs) 0 Types ∙ all_types;
     elements = λ m e x number at. flat_element m e x number at;
     inputs = inputs_are;
     outs = subst (λ (ns : List ℕ). AllZip (IsNumberOf es) ns (outputs p)) (sym outs_are) (subst (λ (l : List Element). AllZip (IsNumberOf es) (range_with_len (elements_of Main.params) (elements_of Main.results)) l) (sym outputs_are) result_numbers);

@@ -7,7 +7,7 @@ use Rattle.std.proofs.lemmas.List.{take_all}
 use Rattle.silage_syntax.specs.declared.tree.Manifest.{Manifest}
 use Rattle.silage_syntax.specs.Manifests.{Indices}
 use Rattle.silage_syntax.specs.Names.{element_count, IsOffset}
-use Rattle.silage_syntax.specs.Tree.{view_manifest}
+use Rattle.silage_syntax.specs.Tree.{Manifest as Tree, view_manifest}
 use Rattle.silage_meaning.proofs.Elements.{place_below}
 use Rattle.name_check.specs.Meanings.{is_dim, are_dims, most_elements}
 use Rattle.loop_expand.specs.Private.Facts.{natural, offset}
@@ -30,3 +30,7 @@ offset_fits indices (d ∷ dims) (s ∷ subs) sub n count rest some any is sized
     (is_rest ∙ ap₂ (λ (ds : List ℕ) (ms : List Manifest). offset indices ds (map view_manifest ms)) all each) in
     let few = leb-true (element_count (d ∷ dims)) most_elements (second_true (list_all is_dim (d ∷ dims)) (nat_le (element_count (d ∷ dims)) most_elements) sized) in
     omega (arith, whole, offset_is indices (d ∷ dims) (map view_manifest (s ∷ subs)) k placed, place_below indices (d ∷ dims) (map view_manifest (s ∷ subs)) k placed, few)
+
+-- the place is within the elements
+pub offset_below : (indices : Indices) (dims : List ℕ) (subs : List Tree) (k : ℕ) → IsOffset indices dims subs k → offset indices dims subs < element_count dims
+offset_below indices dims subs k placed = omega (arith, offset_is indices dims subs k placed, place_below indices dims subs k placed)

@@ -379,14 +379,14 @@ module _ (p : Program) (checked : IsChecked p) (es : Elements) (made_by : IsExpa
           ∙ ap (λ (o : Option Body). bound_by c s.indices o First q.places (typed_arguments p F G.params q.args)) callee_body
 
       -- Elements of parameters and of results, by their numbers.
-      parameter_number : (d k fd : ℕ) (decl : Decl) → slice_get G.params d ≡ Some decl → k < element_count decl.dims → fd ≡ first_of (decls G) d → IsNumberOf es (First + fd + k) (parameter_of q d k)
+      pub parameter_number : (d k fd : ℕ) (decl : Decl) → slice_get G.params d ≡ Some decl → k < element_count decl.dims → fd ≡ first_of (decls G) d → IsNumberOf es (First + fd + k) (parameter_of q d k)
       parameter_number d k fd decl e less is_first =
           let it = numbered p es Numbering (parameter_of q d k) (record { function = G; decl = decl; instance = made_instance; declared = at_left G.params (G.results ++ G.locals) d decl e; offset = less }) in
           let m = child_number it.0 d k it.1 in
           let same : it.0 ≡ First + fd + k = omega arith in
           subst (λ (n : ℕ). IsNumberOf es n (parameter_of q d k)) same it.1
 
-      result_number : (r k fd : ℕ) (decl : Decl) → slice_get G.results r ≡ Some decl → k < element_count decl.dims → fd ≡ first_of (decls G) (length G.params + r) → IsNumberOf es (First + fd + k) (result_of q r k)
+      pub result_number : (r k fd : ℕ) (decl : Decl) → slice_get G.results r ≡ Some decl → k < element_count decl.dims → fd ≡ first_of (decls G) (length G.params + r) → IsNumberOf es (First + fd + k) (result_of q r k)
       result_number r k fd decl e less is_first =
           let it = numbered p es Numbering (result_of q r k) (result_is p s q r k decl e less) in
           let m = child_number it.0 (length G.params + r) k it.1 in
@@ -394,7 +394,7 @@ module _ (p : Program) (checked : IsChecked p) (es : Elements) (made_by : IsExpa
           subst (λ (n : ℕ). IsNumberOf es n (result_of q r k)) same it.1
 
       -- an element of an array of the instance
-      array_number : (place : Place) (dims : List ℕ) (m k : ℕ) (theirs : Decl) → IsArray s place dims m theirs → k < element_count dims → IsNumberOf es (c.first + first_of (decls F) m + k) (element s.instance m k)
+      pub array_number : (place : Place) (dims : List ℕ) (m k : ℕ) (theirs : Decl) → IsArray s place dims m theirs → k < element_count dims → IsNumberOf es (c.first + first_of (decls F) m + k) (element s.instance m k)
       array_number place dims m k theirs arr less =
           let it = numbered p es Numbering (element s.instance m k) (array_is p s place dims m k theirs instance arr less) in
           subst (λ (n : ℕ). IsNumberOf es n (element s.instance m k)) (at.scope.number it.0 m k it.1) it.1
@@ -430,7 +430,7 @@ module _ (p : Program) (checked : IsChecked p) (es : Elements) (made_by : IsExpa
       scalar_count : (decl : Decl) → Scalar decl ≡ true → element_count decl.dims ≡ 1
       scalar_count decl one = ap element_count (scalar_dims decl one)
 
-      many_dims : (decl : Decl) → Scalar decl ≡ false → decl.dims ≢ []
+      pub many_dims : (decl : Decl) → Scalar decl ≡ false → decl.dims ≢ []
       many_dims decl many e = no_fault (Scalar decl) (ap (λ (dims : List ℕ). nat_eq (length dims) 0) e) many
 
       -- the argument for an array is the bare name of an array or a table with its dims
@@ -717,7 +717,7 @@ module _ (p : Program) (checked : IsChecked p) (es : Elements) (made_by : IsExpa
           (takes_has (n + element_count d.dims) ds places r decl place z at_d at_place (subst (λ (m : ℕ). Has (TakenAt m decl place) z) first h))
 
       -- where results have their first elements
-      result_first : (r : ℕ) (decl : Decl) → slice_get G.results r ≡ Some decl → elements_of G.params + first_of G.results r ≡ first_of (decls G) (length G.params + r)
+      pub result_first : (r : ℕ) (decl : Decl) → slice_get G.results r ≡ Some decl → elements_of G.params + first_of G.results r ≡ first_of (decls G) (length G.params + r)
       result_first r decl e = ap (λ (m : ℕ). elements_of G.params + m) (sym (first_left G.results G.locals r decl e)) ∙ sym (first_right G.params (G.results ++ G.locals) r)
 
       all_taken_true : AreTrue Taken

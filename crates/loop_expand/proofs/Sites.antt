@@ -26,6 +26,7 @@ use Rattle.fix_types.specs.TypedTree.{Typed as Tree, TypedFunc, view_typed}
 use Rattle.fix_types.specs.Translation.{typed_item, typed_items, typed_arguments, typed_func, typed_program}
 use Rattle.loop_expand.specs.Expanded.{AreOf}
 use Rattle.loop_expand.specs.Private.Children.{AreApart, child_of}
+use Rattle.loop_expand.specs.Private.Elements.{types_of}
 use Rattle.loop_expand.specs.Private.Facts.{AreTablesSized}
 use Rattle.loop_expand.specs.Private.Groups.{Group, groups_of}
 use Rattle.loop_expand.specs.Private.Scopes.{Body, Scope, body_of, body_at, body_for, bodies_for, AreBounded, HaveBodies, firsts_from, total_of, size_in}
@@ -33,7 +34,8 @@ use Rattle.loop_expand.specs.Private.Sites.{AreOfProgram, IsOfInstance, IsItemOf
 use Rattle.loop_expand.proofs.TablesSized.{tables_sized}
 use Rattle.loop_expand.proofs.Bounds.{all_bounded}
 use Rattle.loop_expand.proofs.Expanded.{main_there, numbering}
-use Rattle.loop_expand.proofs.FlatCount.{own_size, size, few_in_all}
+use Rattle.loop_expand.proofs.FlatCount.{own_size, size, size_is, few_in_all}
+use Rattle.loop_expand.proofs.FlatMade.{all_types}
 use Rattle.loop_expand.proofs.GroupItems.{groups_hold}
 use Rattle.loop_expand.proofs.InstanceNumbers.{Bodies, sizes, apart_instances, body_at_top, element_number}
 use Rattle.loop_expand.proofs.ProgramFacts.{call_known}
@@ -84,6 +86,16 @@ module _ (tables : List TypedConst) (bodies : List Body) (instances : List Insta
       let same = ap₂ total_of of.funcs of.all in
       let total = totals of.p (Bodies of.p of.checked of.es of.made_by) of.es.instances (sizes of.p of.checked of.es of.made_by) in
       omega (arith, same, total, few_in_all of.p of.checked of.es of.made_by)
+
+  -- they are those of the program
+  pub total_is : total_of bodies instances ≡ length of.es.elements
+  total_is =
+      ap₂ total_of of.funcs of.all ∙ totals of.p (Bodies of.p of.checked of.es of.made_by) of.es.instances (sizes of.p of.checked of.es of.made_by)
+      ∙ sym (ap length of.made_by.elements ∙ size_is of.p 0 of.es.instances)
+
+  -- and each has a type
+  pub all_typed : length (types_of bodies instances) ≡ total_of bodies instances
+  all_typed = ap₂ (λ bs is. length (types_of bs is)) of.funcs of.all ∙ all_types of.p of.checked of.es of.made_by ∙ sym total_is
 
   some_own : (n : ℕ) (i : Instance) → slice_get of.es.instances n ≡ Some i → 1 ≤ own_size of.p i
   some_own n i at =

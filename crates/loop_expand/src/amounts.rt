@@ -1,6 +1,6 @@
-//! Numbers. One that is too great for its field is that of a program that has no room in memory.
+//! The numbers that manifest constants give.
 
-ghost use Rattle.std.specs.Prelude.{◌≡◌, ℕ, ◌≤◌, ◌+◌, ◌*◌, map, IsTrue, IfOk};
+ghost use Rattle.std.specs.Prelude.{◌≡◌, ℕ, ◌≤◌, ◌*◌, ◌+◌, map, IsTrue};
 ghost use Rattle.name_check.specs.Meanings.{are_dims};
 ghost use Rattle.silage_syntax.specs.Manifests.{HasValue, LooksBack};
 ghost use Rattle.silage_syntax.specs.Tree.{view_manifest, view_delay};
@@ -12,13 +12,6 @@ ghost use Rattle.loop_expand.specs.Private.Amounts.{IsKnownAmount};
 use fix_word::Format;
 use name_check::{Env, manifest};
 use silage_syntax::Manifest;
-use std::alloc::AllocError;
-
-pub(crate) fn sum(left: u32, right: u32) -> Result<u32, AllocError>
-    ensures { IfOk result (λ n. n ≡ left + right) }
-{
-    left.checked_add(right).ok_or(AllocError)
-}
 
 /// The value of a manifest constant that has one, which is not negative.
 fn natural(env: &Env, m: &Manifest) -> u32
@@ -79,23 +72,16 @@ pub(crate) fn delay(env: &Env, delay: &Option<Manifest>) -> u16
 }
 
 /// A format with the amount of a shift in it.
-pub(crate) fn format(
-    env: &Env,
-    fmt: Format,
-    amount: &Option<Manifest>,
-) -> Result<Format, AllocError>
-    requires { IsKnownAmount env.now (view_delay amount.now) }
-    ensures { IfOk result (λ f. f ≡ is.format_of env.now fmt (view_delay amount.now)) }
+pub(crate) fn format(env: &Env, fmt: Format, amount: &Option<Manifest>) -> Format
+    requires { IsKnownAmount env.now fmt (view_delay amount.now) }
+    ensures { result ≡ is.format_of env.now fmt (view_delay amount.now) }
 {
     match amount {
-        None => Ok(fmt),
-        Some(m) => {
-            let shift = i64::from(fmt.shift) * i64::from(natural(env, m));
-            Ok(Format {
-                shift: i8::try_from(shift).map_err(|_| AllocError)?,
-                mode: fmt.mode,
-                width: fmt.width,
-            })
-        }
+        None => fmt,
+        Some(m) => Format {
+            shift: (i64::from(fmt.shift) * i64::from(natural(env, m))) as i8,
+            mode: fmt.mode,
+            width: fmt.width,
+        },
     }
 }

@@ -1,6 +1,6 @@
 //! Calls: the parameters of the instance that a call makes, and what takes its results.
 
-ghost use Rattle.std.specs.Prelude.{◌≡◌, ◌<◌, ◌≤◌, ℕ, length, map, false, true, slice_get};
+ghost use Rattle.std.specs.Prelude.{◌≡◌, ◌<◌, ◌≤◌, ℕ, ◌+◌, length, map, false, true, slice_get};
 ghost use Rattle.std.specs.Prelude.{Some, IsSome, MatchOption, IfSome, OnOk};
 ghost use Rattle.signal_graph.specs.Flat as flat_program;
 ghost use Rattle.signal_graph.specs.Flat.{view_expr};
@@ -11,14 +11,14 @@ ghost use Rattle.fix_types.specs.TypedTree as typed;
 ghost use Rattle.loop_expand.specs.Private.Children.{AreApart, is_child, child_of};
 ghost use Rattle.loop_expand.specs.Private.Elements.{Puts};
 ghost use Rattle.loop_expand.specs.Private.Facts as is;
-ghost use Rattle.loop_expand.specs.Private.Known.{IsKnown, IsKnownArgument, AreKnownArguments};
+ghost use Rattle.loop_expand.specs.Private.Known.{HasElements, IsNamedArray, IsKnownArgument, AreKnownArguments};
 ghost use Rattle.loop_expand.specs.Private.Known.{IsKnownTaker, AreKnownTakers, IsKnownCall};
-ghost use Rattle.loop_expand.specs.Private.Scopes.{view_signal, view_signals, view_bodies, body_at};
+ghost use Rattle.loop_expand.specs.Private.Scopes.{view_signal, view_signals, view_bodies, body_at, total};
 ghost use Rattle.loop_expand.specs.Private.Scopes.{Body as CalleeBody};
 ghost use Rattle.loop_expand.specs.Private.Sites.{IsItemOf};
 ghost use Rattle.loop_expand.specs.Private.Views.{view_scope};
 
-use crate::amounts::{element_count, sum};
+use crate::amounts::element_count;
 use crate::body::Signal;
 use crate::elements::define;
 use crate::expressions::{flat, target, word_at};
@@ -40,44 +40,38 @@ fn read_now(elem: u32) -> FlatExpr
 }
 
 /// Gives each of so many elements the value of another one.
-fn copy(elems: &mut [FlatElem], to: u32, from: u32, count: u32) -> Result<(), AllocError>
-    ensures { OnOk result (Puts (is.copies to from count) elems.old elems.new) }
+fn copy(elems: &mut [FlatElem], to: u32, from: u32, count: u32)
+    requires few { length elems.old ≤ 8192 }
+    requires to { to + count ≤ length elems.old }
+    requires from { from + count ≤ length elems.old }
+    ensures { Puts (is.copies to from count) elems.old elems.new }
 {
     for k in 0..count {
-        define(elems, sum(to, k)?, read_now(sum(from, k)?));
+        define(elems, to + k, read_now(from + k));
     }
-    Ok(())
 }
 
 /// Gives each of so many elements a number of a table.
-fn copy_numbers(
-    elems: &mut [FlatElem],
-    to: u32,
-    table: &TypedConst,
-    count: u32,
-) -> Result<(), AllocError>
-    ensures { OnOk result (Puts (is.numbers to table.now count) elems.old elems.new) }
+fn copy_numbers(elems: &mut [FlatElem], to: u32, table: &TypedConst, count: u32)
+    requires few { length elems.old ≤ 8192 }
+    requires to { to + count ≤ length elems.old }
+    requires numbers { count ≤ length table.now.words }
+    ensures { Puts (is.numbers to table.now count) elems.old elems.new }
 {
     for k in 0..count {
-        define(elems, sum(to, k)?, FlatExpr::Raw(word_at(table, k)));
+        define(elems, to + k, FlatExpr::Raw(word_at(table, k)));
     }
-    Ok(())
 }
 
 /// An array parameter, by the name that is its argument.
-fn pass_array(
-    scope: &Scope,
-    elems: &mut [FlatElem],
-    to: u32,
-    count: u32,
-    place: &Place,
-) -> Result<(), AllocError>
-    requires { IsKnown (view_scope scope.now) place.now.name }
-    ensures { OnOk result (Puts (is.passed_named (view_scope scope.now) (view_place place.now) to count)
-        elems.old elems.new) }
+fn pass_array(scope: &Scope, elems: &mut [FlatElem], to: u32, count: u32, place: &Place)
+    requires elements { length elems.old ≡ total (view_scope scope.now) }
+    requires to { to + count ≤ length elems.old }
+    requires array { IsNamedArray (view_scope scope.now) place.now.name count }
+    ensures { Puts (is.passed_named (view_scope scope.now) (view_place place.now) to count) elems.old elems.new }
 {
     match signal(scope.signals, &place.name) {
-        Some(signal) => copy(elems, to, sum(scope.first, signal.first)?, count),
+        Some(signal) => copy(elems, to, scope.first + signal.first, count),
         None => copy_numbers(elems, to, table(scope.tables, &place.name), count),
     }
 }
@@ -91,18 +85,21 @@ fn pass(
     param: Signal,
     arg: &TypedExpr,
 ) -> Result<(), AllocError>
-    requires { IsKnownArgument (view_scope scope.now) env.now (view_signal param) (typed.view_expr arg.now) }
+    requires elements { length elems.old ≡ total (view_scope scope.now) }
+    requires known { IsKnownArgument (view_scope scope.now) env.now first (view_signal param)
+        (typed.view_expr arg.now) }
     ensures { OnOk result (Puts (is.passed (view_scope scope.now) env.now first (view_signal param.entry)
         (typed.view_expr arg.now)) elems.old elems.new) }
 {
-    let to = sum(first, param.first)?;
+    let to = first + param.first;
     if param.decl.dims.is_empty() {
         define(elems, to, flat(scope, env, arg)?);
         return Ok(());
     }
     match arg {
         TypedExpr::Read { place, delay: _ } => {
-            pass_array(scope, elems, to, element_count(&param.decl.dims), place)
+            pass_array(scope, elems, to, element_count(&param.decl.dims), place);
+            Ok(())
         }
         _ => unreachable!(),
     }
@@ -116,8 +113,9 @@ fn pass_all(
     params: &[Signal],
     args: &[TypedExpr],
 ) -> Result<(), AllocError>
+    requires elements { length elems.old ≡ total (view_scope scope.now) }
     requires count { length args.now ≤ length params.now }
-    requires known { AreKnownArguments (view_scope scope.now) env.now (view_signals params.now)
+    requires known { AreKnownArguments (view_scope scope.now) env.now first (view_signals params.now)
         (map typed.view_expr args.now) }
     ensures { OnOk result (Puts (is.all_passed (view_scope scope.now) env.now first (view_signals params.now)
         (map typed.view_expr args.now)) elems.old elems.new) }
@@ -129,42 +127,32 @@ fn pass_all(
 }
 
 /// An array that takes a result whose elements begin with this number.
-fn take_array(
-    scope: &Scope,
-    elems: &mut [FlatElem],
-    from: u32,
-    count: u32,
-    place: &Place,
-) -> Result<(), AllocError>
-    requires { IsSome (is.signal_named (view_scope scope.now).signals place.now.name) }
-    ensures { OnOk result (Puts (is.taken_named (view_scope scope.now) (view_place place.now) from count)
-        elems.old elems.new) }
+fn take_array(scope: &Scope, elems: &mut [FlatElem], from: u32, count: u32, place: &Place)
+    requires elements { length elems.old ≡ total (view_scope scope.now) }
+    requires from { from + count ≤ length elems.old }
+    requires some { IsSome (is.signal_named (view_scope scope.now).signals place.now.name) }
+    requires to { HasElements (view_scope scope.now) place.now.name count }
+    ensures { Puts (is.taken_named (view_scope scope.now) (view_place place.now) from count) elems.old elems.new }
 {
     match signal(scope.signals, &place.name) {
         None => unreachable!(),
-        Some(signal) => copy(elems, sum(scope.first, signal.first)?, from, count),
+        Some(signal) => copy(elems, scope.first + signal.first, from, count),
     }
 }
 
 /// What takes a result of an instance whose first element has this number.
-fn take(
-    scope: &Scope,
-    env: &Env,
-    elems: &mut [FlatElem],
-    first: u32,
-    taken: Signal,
-    place: &Place,
-) -> Result<(), AllocError>
-    requires { IsKnownTaker (view_scope scope.now) env.now (view_signal taken) (view_place place.now) }
-    ensures { OnOk result (Puts (is.taken (view_scope scope.now) env.now first (view_signal taken.entry)
-        (view_place place.now)) elems.old elems.new) }
+fn take(scope: &Scope, env: &Env, elems: &mut [FlatElem], first: u32, taken: Signal, place: &Place)
+    requires elements { length elems.old ≡ total (view_scope scope.now) }
+    requires known { IsKnownTaker (view_scope scope.now) env.now first (view_signal taken) (view_place place.now) }
+    ensures { Puts (is.taken (view_scope scope.now) env.now first (view_signal taken.entry) (view_place place.now))
+        elems.old elems.new }
 {
-    let from = sum(first, taken.first)?;
+    let from = first + taken.first;
     if taken.decl.dims.is_empty() {
-        define(elems, target(scope, env, place)?, read_now(from));
-        return Ok(());
+        define(elems, target(scope, env, place), read_now(from));
+    } else {
+        take_array(scope, elems, from, element_count(&taken.decl.dims), place);
     }
-    take_array(scope, elems, from, element_count(&taken.decl.dims), place)
 }
 
 fn take_all(
@@ -174,17 +162,17 @@ fn take_all(
     first: u32,
     results: &[Signal],
     places: &[Place],
-) -> Result<(), AllocError>
+)
+    requires elements { length elems.old ≡ total (view_scope scope.now) }
     requires count { length places.now ≤ length results.now }
-    requires known { AreKnownTakers (view_scope scope.now) env.now (view_signals results.now)
+    requires known { AreKnownTakers (view_scope scope.now) env.now first (view_signals results.now)
         (map view_place places.now) }
-    ensures { OnOk result (Puts (is.all_taken (view_scope scope.now) env.now first (view_signals results.now)
-        (map view_place places.now)) elems.old elems.new) }
+    ensures { Puts (is.all_taken (view_scope scope.now) env.now first (view_signals results.now)
+        (map view_place places.now)) elems.old elems.new }
 {
     for k in 0..places.len() {
-        take(scope, env, elems, first, results[k], &places[k])?;
+        take(scope, env, elems, first, results[k], &places[k]);
     }
-    Ok(())
 }
 
 /// Whether an instance is made by the call at this position, in these turns, in the instance with this number.
@@ -251,17 +239,20 @@ fn bind(
     places: &[Place],
     args: &[TypedExpr],
 ) -> Result<(), AllocError>
+    requires elements { length elems.old ≡ total (view_scope scope.now) }
     requires child { child < length scope.now.instances.now }
     requires known { (b : CalleeBody)
         → body_at (view_bodies scope.now.bodies.now) (slice_get scope.now.instances.now child) ≡ Some b
-        → IsKnownCall (view_scope scope.now) env.now b (map view_place places.now) (map typed.view_expr args.now) }
+        → IsKnownCall (view_scope scope.now) env.now child b (map view_place places.now)
+        (map typed.view_expr args.now) }
     ensures { OnOk result (Puts (is.bound (view_scope scope.now) env.now child (map view_place places.now)
         (map typed.view_expr args.now)) elems.old elems.new) }
 {
     let callee = instance_body(scope.bodies, scope.instances, child);
     let first = first_of(scope.firsts, child);
     pass_all(scope, env, elems, first, &callee.signals, args)?;
-    take_all(scope, env, elems, first, &callee.results, places)
+    take_all(scope, env, elems, first, &callee.results, places);
+    Ok(())
 }
 
 /// The call at this position.
@@ -274,7 +265,8 @@ pub(crate) fn call(
     places: &[Place],
     args: &[TypedExpr],
 ) -> Result<(), AllocError>
-    requires { (func : ℕ) × IsItemOf (view_scope scope.now) env.now
+    requires elements { length elems.old ≡ total (view_scope scope.now) }
+    requires of { (func : ℕ) × IsItemOf (view_scope scope.now) env.now
         (typed.call (map view_place places.now) func (map typed.view_expr args.now) at) }
     ensures { OnOk result (Puts (is.called (view_scope scope.now) env.now at (map view_place places.now)
         (map typed.view_expr args.now)) elems.old elems.new) }

@@ -1,6 +1,6 @@
 //! The elements of the flat program.
 
-ghost use Rattle.std.specs.Prelude.{◌≡◌, ◌≤◌, ◌++◌, replicate, IfOk, OnOk};
+ghost use Rattle.std.specs.Prelude.{◌≡◌, ◌<◌, ◌≤◌, ◌++◌, length, replicate, IfOk, OnOk};
 ghost use Rattle.silage_meaning.specs.Types.{word_types};
 ghost use Rattle.fix_types.specs.TypedTree.{view_func};
 ghost use Rattle.single_def.specs.Private.Plans.{AreSized};
@@ -119,11 +119,10 @@ fn set_init(alloc: Global, elem: &mut FlatElem, sample: u16, word: i64) -> Resul
 
 /// Gives an element its value.
 pub(crate) fn define(elems: &mut [FlatElem], elem: u32, value: FlatExpr)
+    requires { elem < length elems.old }
     ensures { view_elems elems.new ≡ is.with_fact (defines elem (view_expr value)) (view_elems elems.old) }
 {
-    if (elem as usize) < elems.len() {
-        set_value(&mut elems[elem as usize], value);
-    }
+    set_value(&mut elems[elem as usize], value);
 }
 
 /// Gives an element its word at a sample before sample 0.
@@ -134,12 +133,9 @@ pub(crate) fn preset(
     sample: u16,
     word: i64,
 ) -> Result<(), AllocError>
+    requires { elem < length elems.old }
     ensures { OnOk result (view_elems elems.new
         ≡ is.with_fact (presets elem sample word) (view_elems elems.old)) }
 {
-    if (elem as usize) < elems.len() {
-        set_init(alloc, &mut elems[elem as usize], sample, word)
-    } else {
-        Ok(())
-    }
+    set_init(alloc, &mut elems[elem as usize], sample, word)
 }

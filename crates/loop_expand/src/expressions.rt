@@ -1,6 +1,6 @@
 //! Expressions, with reads, shifts and delays worked out in the turns of the loops around them.
 
-ghost use Rattle.std.specs.Prelude.{◌≡◌, ℕ, map, Some, IsSome, IfOk};
+ghost use Rattle.std.specs.Prelude.{◌≡◌, ◌<◌, ℕ, length, map, Some, IsSome, IfOk, IfSome};
 ghost use Rattle.silage_syntax.specs.Names.{IsOffset};
 ghost use Rattle.fix_types.specs.declared.typed.TypedConst.{TypedConst as TableRow};
 ghost use Rattle.silage_syntax.specs.Tree.{view_place, view_delay};
@@ -9,9 +9,10 @@ ghost use Rattle.signal_graph.specs.Flat.{view_expr, calculation};
 ghost use Rattle.loop_expand.specs.Private.Views.{view_scope};
 ghost use Rattle.loop_expand.specs.Private.Facts as is;
 ghost use Rattle.loop_expand.specs.Private.Known.{IsPlaced, IsKnownRead, IsKnownTarget, IsKnownExpr, AreKnownParts};
+ghost use Rattle.loop_expand.specs.Private.Scopes.{total};
 ghost use Rattle.loop_expand.specs.Private.Rows.{parts_of, view_exprs, typed_exprs};
 
-use crate::amounts::{delay, format, offset, sum};
+use crate::amounts::{delay, format, offset};
 use crate::lookups::{signal, table};
 use crate::scope::Scope;
 use fix_types::{TypedConst, TypedExpr};
@@ -22,39 +23,38 @@ use silage_syntax::{Manifest, Place};
 use std::alloc::AllocError;
 
 /// The number of the element that a place names, if it is one of a signal.
-fn number_at(scope: &Scope, env: &Env, place: &Place) -> Result<Option<u32>, AllocError>
+fn number_at(scope: &Scope, env: &Env, place: &Place) -> Option<u32>
     requires { IsPlaced (view_scope scope.now) env.now (view_place place.now) }
-    ensures { IfOk result (λ n. n ≡ is.number_at (view_scope scope.now) env.now (view_place place.now)) }
+    ensures is { result ≡ is.number_at (view_scope scope.now) env.now (view_place place.now) }
+    ensures within { IfSome result (λ n. n < total (view_scope scope.now)) }
 {
     match signal(scope.signals, &place.name) {
-        None => Ok(None),
+        None => None,
         Some(signal) => {
-            let first = sum(scope.first, signal.first)?;
             let offset = offset(env, &signal.decl.dims, &place.subs);
-            Ok(Some(sum(first, offset)?))
+            Some(scope.first + signal.first + offset)
         }
     }
 }
 
 /// The same of a place that names one.
-pub(crate) fn target(scope: &Scope, env: &Env, place: &Place) -> Result<u32, AllocError>
+pub(crate) fn target(scope: &Scope, env: &Env, place: &Place) -> u32
     requires { IsKnownTarget (view_scope scope.now) env.now (view_place place.now) }
-    ensures { IfOk result (λ n. Some n ≡ is.number_at (view_scope scope.now) env.now (view_place place.now)) }
+    ensures is { Some result ≡ is.number_at (view_scope scope.now) env.now (view_place place.now) }
+    ensures within { result < total (view_scope scope.now) }
 {
-    match number_at(scope, env, place)? {
-        Some(number) => Ok(number),
+    match number_at(scope, env, place) {
+        Some(number) => number,
         None => unreachable!(),
     }
 }
 
 /// A number of a table.
 pub(crate) fn word_at(table: &TypedConst, k: u32) -> i64
+    requires { k < length table.now.words }
     ensures { result ≡ is.word_at table.now k }
 {
-    match table.words.get(k as usize) {
-        Some(word) => *word,
-        None => 0,
-    }
+    table.words[k as usize]
 }
 
 /// The number of a table that a place names.
@@ -69,22 +69,17 @@ fn entry_at(scope: &Scope, env: &Env, place: &Place) -> i64
 }
 
 /// A read of a signal, or a number of a table.
-fn read(
-    scope: &Scope,
-    env: &Env,
-    place: &Place,
-    ago: &Option<Manifest>,
-) -> Result<FlatExpr, AllocError>
+fn read(scope: &Scope, env: &Env, place: &Place, ago: &Option<Manifest>) -> FlatExpr
     requires { IsKnownRead (view_scope scope.now) env.now (view_place place.now) (view_delay ago.now) }
-    ensures { IfOk result (λ x. view_expr x
-        ≡ is.flat_of (view_scope scope.now) env.now (typed.read (view_place place.now) (view_delay ago.now))) }
+    ensures { view_expr result
+        ≡ is.flat_of (view_scope scope.now) env.now (typed.read (view_place place.now) (view_delay ago.now)) }
 {
-    match number_at(scope, env, place)? {
-        Some(elem) => Ok(FlatExpr::Read {
+    match number_at(scope, env, place) {
+        Some(elem) => FlatExpr::Read {
             elem,
             delay: delay(env, ago),
-        }),
-        None => Ok(FlatExpr::Raw(entry_at(scope, env, place))),
+        },
+        None => FlatExpr::Raw(entry_at(scope, env, place)),
     }
 }
 
@@ -101,14 +96,14 @@ pub(crate) fn flat(scope: &Scope, env: &Env, x: &TypedExpr) -> Result<FlatExpr, 
 {
     match x {
         TypedExpr::Raw(word) => Ok(FlatExpr::Raw(*word)),
-        TypedExpr::Read { place, delay } => read(scope, env, place, delay),
+        TypedExpr::Read { place, delay } => Ok(read(scope, env, place, delay)),
         TypedExpr::Node {
             op,
             fmt,
             parts,
             amount,
         } => {
-            let fmt = format(env, *fmt, amount)?;
+            let fmt = format(env, *fmt, amount);
             Ok(calculation(*op, fmt, flat_parts(scope, env, parts)?))
         }
     }

@@ -55,6 +55,7 @@ fn expand_instance(
 ) -> Result<(), AllocError>
     requires of { AreOfProgram tables.now (view_bodies bodies.now) instances.now }
     requires firsts { firsts.now ≡ firsts_from (view_bodies bodies.now) 0 instances.now }
+    requires elements { length elems.old ≡ is.total_of (view_bodies bodies.now) instances.now }
     requires number { number < length instances.now }
     ensures { OnOk result (Puts (facts_in tables.now (view_bodies bodies.now) instances.now firsts.now number
         (is.body_at (view_bodies bodies.now) (slice_get instances.now number))) elems.old elems.new) }
@@ -84,6 +85,7 @@ pub(crate) fn expand_all(
 ) -> Result<(), AllocError>
     requires of { AreOfProgram tables.now (view_bodies bodies.now) instances.now }
     requires firsts { firsts.now ≡ firsts_from (view_bodies bodies.now) 0 instances.now }
+    requires elements { length elems.old ≡ is.total_of (view_bodies bodies.now) instances.now }
     ensures { OnOk result (Puts
         (facts_from tables.now (view_bodies bodies.now) instances.now firsts.now 0 instances.now)
         elems.old elems.new) }

@@ -1,6 +1,6 @@
 //! What items say of elements, in the turns of the loops around them.
 
-ghost use Rattle.std.specs.Prelude.{◌≤◌, ℕ, map, OnOk};
+ghost use Rattle.std.specs.Prelude.{◌≡◌, ◌≤◌, ℕ, length, map, OnOk};
 ghost use Rattle.silage_syntax.specs.Manifests.{HasValue};
 ghost use Rattle.silage_syntax.specs.Tree.{view_manifest, view_place};
 ghost use Rattle.fix_types.specs.TypedTree as typed;
@@ -8,6 +8,7 @@ ghost use Rattle.loop_expand.specs.Private.Elements.{Puts};
 ghost use Rattle.loop_expand.specs.Private.Facts as is;
 ghost use Rattle.loop_expand.specs.Private.Groups.{view_ref, view_group, view_groups};
 ghost use Rattle.loop_expand.specs.Private.Known.{IsKnownTarget, IsKnownExpr};
+ghost use Rattle.loop_expand.specs.Private.Scopes.{total};
 ghost use Rattle.loop_expand.specs.Private.Sites.{IsItemOf, AreItemsOf, IsGroupOf, AreGroupsOf};
 ghost use Rattle.loop_expand.specs.Private.Views.{view_scope};
 
@@ -32,12 +33,13 @@ fn expand_equation(
     place: &Place,
     value: &TypedExpr,
 ) -> Result<(), AllocError>
+    requires elements { length elems.old ≡ total (view_scope scope.now) }
     requires target { IsKnownTarget (view_scope scope.now) env.now (view_place place.now) }
     requires value { IsKnownExpr (view_scope scope.now) env.now (typed.view_expr value.now) }
     ensures { OnOk result (Puts (is.item_facts (view_scope scope.now) env.now
         (typed.equation (view_place place.now) (typed.view_expr value.now))) elems.old elems.new) }
 {
-    let elem = target(scope, env, place)?;
+    let elem = target(scope, env, place);
     define(elems, elem, flat(scope, env, value)?);
     Ok(())
 }
@@ -50,12 +52,13 @@ fn expand_initial(
     k: &Manifest,
     word: i64,
 ) -> Result<(), AllocError>
+    requires elements { length elems.old ≡ total (view_scope scope.now) }
     requires target { IsKnownTarget (view_scope scope.now) env.now (view_place place.now) }
     requires sample { (j : ℕ) × HasValue env.now (view_manifest k.now) j × (j ≤ 1023) }
     ensures { OnOk result (Puts (is.item_facts (view_scope scope.now) env.now
         (typed.initial (view_place place.now) (view_manifest k.now) word)) elems.old elems.new) }
 {
-    let elem = target(scope, env, place)?;
+    let elem = target(scope, env, place);
     preset(scope.alloc, elems, elem, samples(env, k), word)
 }
 
@@ -66,7 +69,8 @@ fn expand_item(
     elems: &mut [FlatElem],
     item: &TypedItem,
 ) -> Result<(), AllocError>
-    requires { IsItemOf (view_scope scope.now) env.now (typed.view_item item.now) }
+    requires elements { length elems.old ≡ total (view_scope scope.now) }
+    requires of { IsItemOf (view_scope scope.now) env.now (typed.view_item item.now) }
     ensures { OnOk result (Puts (is.item_facts (view_scope scope.now) env.now (typed.view_item item.now))
         elems.old elems.new) }
 {
@@ -98,7 +102,8 @@ fn expand_items(
     elems: &mut [FlatElem],
     items: &[&TypedItem],
 ) -> Result<(), AllocError>
-    requires { AreItemsOf (view_scope scope.now) env.now (map view_ref items.now) }
+    requires elements { length elems.old ≡ total (view_scope scope.now) }
+    requires of { AreItemsOf (view_scope scope.now) env.now (map view_ref items.now) }
     ensures { OnOk result (Puts (is.turn_facts (view_scope scope.now) (map view_ref items.now) env.now)
         elems.old elems.new) }
 {
@@ -109,7 +114,8 @@ fn expand_items(
 }
 
 fn expand_group(scope: &Scope, elems: &mut [FlatElem], group: &Group) -> Result<(), AllocError>
-    requires { IsGroupOf (view_scope scope.now) (view_group group.now) }
+    requires elements { length elems.old ≡ total (view_scope scope.now) }
+    requires of { IsGroupOf (view_scope scope.now) (view_group group.now) }
     ensures { OnOk result (Puts (is.group_facts (view_scope scope.now) (view_group group.now))
         elems.old elems.new) }
 {
@@ -127,7 +133,8 @@ pub(crate) fn expand_groups(
     elems: &mut [FlatElem],
     groups: &[Group],
 ) -> Result<(), AllocError>
-    requires { AreGroupsOf (view_scope scope.now) (view_groups groups.now) }
+    requires elements { length elems.old ≡ total (view_scope scope.now) }
+    requires of { AreGroupsOf (view_scope scope.now) (view_groups groups.now) }
     ensures { OnOk result (Puts (is.groups_facts (view_scope scope.now) (view_groups groups.now))
         elems.old elems.new) }
 {

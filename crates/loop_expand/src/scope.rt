@@ -1,9 +1,9 @@
 //! What is known where an instance is expanded.
 
-ghost use Rattle.std.specs.Prelude.{◌≡◌, length};
+ghost use Rattle.std.specs.Prelude.{◌≡◌, ◌≤◌, length};
 ghost use Rattle.loop_expand.specs.Private.Children.{AreApart};
 ghost use Rattle.loop_expand.specs.Private.Facts.{AreTablesSized};
-ghost use Rattle.loop_expand.specs.Private.Scopes.{view_bodies, HaveBodies};
+ghost use Rattle.loop_expand.specs.Private.Scopes.{view_bodies, HaveBodies, total_of};
 
 use crate::body::{Body, Signal};
 use fix_types::TypedConst;
@@ -28,4 +28,5 @@ pub(crate) struct Scope<'a> {
     ghost known: { HaveBodies (view_bodies bodies.now) instances.now },
     ghost sized: { AreTablesSized tables.now },
     ghost long: { length firsts.now ≡ length instances.now },
+    ghost few: { total_of (view_bodies bodies.now) instances.now ≤ 8192 },
 }

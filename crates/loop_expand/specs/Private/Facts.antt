@@ -49,9 +49,14 @@ signal_named signals name = find (λ (s : Signal). bytes_eq s.decl.name name) si
 abbrev pub typed_named : List TypedConst → List ℕ → Option TypedConst
 typed_named tables name = find (λ (t : TypedConst). bytes_eq t.name name) tables
 
--- each table that has a name has dims that are allowed
+-- a table has dims that are allowed, and as many numbers as they say
+pub record IsTableSized (t : TypedConst) : Type 0 where
+  pub dims : IsTrue (are_dims t.dims)
+  pub words : length t.words ≡ element_count t.dims
+
+-- so has each table that has a name
 abbrev pub AreTablesSized : List TypedConst → Type 0
-AreTablesSized tables = (name : List ℕ) (t : TypedConst) → typed_named tables name ≡ Some t → IsTrue (are_dims t.dims)
+AreTablesSized tables = (name : List ℕ) (t : TypedConst) → typed_named tables name ≡ Some t → IsTableSized t
 
 abbrev pub word_at : TypedConst → ℕ → ℤ
 word_at t k = slice_index_or t.words k (pos 0)

@@ -103,6 +103,10 @@ abbrev pub total_of : List Body → List Instance → ℕ
 total_of bodies [] = 0
 total_of bodies (i ∷ is) = size_in (body_of bodies i.func) + total_of bodies is
 
+-- and how many there are in all
+abbrev pub total : Scope → ℕ
+total c = total_of c.bodies c.instances
+
 -- the numbers of the first elements of instances, of which the first has this one
 abbrev pub firsts_from : List Body → ℕ → List Instance → List ℕ
 firsts_from bodies n [] = []

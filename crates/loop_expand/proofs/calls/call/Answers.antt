@@ -11,7 +11,7 @@ child-child-requires-clause-some c =
     let scope = view_scope c.args.scope.now in
     let places = map view_place c.args.places.now in
     let args = map typed.view_expr c.args.args.now in
-    let (func, is) = c.requires in
+    let (func, is) = c.requires.of in
     child_there scope c.args.env.now places args c.args.at (call_of scope c.args.env.now places func args c.args.at is)
 
 pub bind-requires-clause-known : goal.bind-requires-clause-known
@@ -19,5 +19,5 @@ bind-requires-clause-known c =
     let scope = view_scope c.args.scope.now in
     let places = map view_place c.args.places.now in
     let args = map typed.view_expr c.args.args.now in
-    let (func, is) = c.requires in
+    let (func, is) = c.requires.of in
     call_known scope c.args.env.now places args c.args.at (call_of scope c.args.env.now places func args c.args.at is) c.child-child.result c.child-child.ensures.is

@@ -1,13 +1,16 @@
-use Rattle.std.proofs.Common.{arith}
+use Rattle.std.proofs.Common.{◌∙◌, arith}
 use Rattle.fix_types.specs.TypedTree as typed
 use Rattle.loop_expand.specs.Private.Facts.{passed}
 use Rattle.loop_expand.specs.Private.Scopes.{view_signal}
 use Rattle.loop_expand.specs.Private.Views.{view_scope}
-use Rattle.loop_expand.proofs.FactSteps.{zipped_more, zipped_end, item_at}
+use Rattle.loop_expand.proofs.FactSteps.{zipped_more, zipped_end, item_at, zipped_as_many}
 use Rattle.loop_expand.proofs.calls.pass_all.Goals as goal
 
-pub pass-requires : goal.pass-requires
-pass-requires c =
+pub pass-requires-clause-elements : goal.pass-requires-clause-elements
+pass-requires-clause-elements c = zipped_as_many (passed (view_scope c.args.scope.now) c.args.env.now c.args.first) view_signal typed.view_expr c.args.params.now c.args.args.now c.loop-k.k c.loop-k.elems c.args.elems.now c.loop-k.invariant ∙ c.requires.elements
+
+pub pass-requires-clause-known : goal.pass-requires-clause-known
+pass-requires-clause-known c =
     let k = c.loop-k.k in
     c.requires.known k (view_signal c.index-params-k.result) (typed.view_expr c.index-args-k.result)
     (item_at view_signal c.args.params.now k c.index-params-k.result (omega (arith, c.requires.count)) c.index-params-k.is)

@@ -1,13 +1,16 @@
-use Rattle.std.proofs.Common.{arith}
+use Rattle.std.proofs.Common.{◌∙◌, arith}
 use Rattle.silage_syntax.specs.Tree.{view_place}
 use Rattle.loop_expand.specs.Private.Facts.{taken}
 use Rattle.loop_expand.specs.Private.Scopes.{view_signal}
 use Rattle.loop_expand.specs.Private.Views.{view_scope}
-use Rattle.loop_expand.proofs.FactSteps.{zipped_more, zipped_end, item_at}
+use Rattle.loop_expand.proofs.FactSteps.{zipped_more, zipped_end, item_at, zipped_as_many}
 use Rattle.loop_expand.proofs.calls.take_all.Goals as goal
 
-pub take-requires : goal.take-requires
-take-requires c =
+pub take-requires-clause-elements : goal.take-requires-clause-elements
+take-requires-clause-elements c = zipped_as_many (taken (view_scope c.args.scope.now) c.args.env.now c.args.first) view_signal view_place c.args.results.now c.args.places.now c.loop-k.k c.loop-k.elems c.args.elems.now c.loop-k.invariant ∙ c.requires.elements
+
+pub take-requires-clause-known : goal.take-requires-clause-known
+take-requires-clause-known c =
     let k = c.loop-k.k in
     c.requires.known k (view_signal c.index-results-k.result) (view_place c.index-places-k.result)
     (item_at view_signal c.args.results.now k c.index-results-k.result (omega (arith, c.requires.count)) c.index-results-k.is)
@@ -16,7 +19,7 @@ take-requires c =
 pub loop-k-preserved : goal.loop-k-preserved
 loop-k-preserved c =
     zipped_more (taken (view_scope c.args.scope.now) c.args.env.now c.args.first) view_signal view_place c.args.results.now c.args.places.now c.loop-k.k c.index-results-k.result c.index-places-k.result c.loop-k.elems c.take.new.elems _
-    (omega (arith, c.requires.count)) (omega arith) c.index-results-k.is c.index-places-k.is c.in_ok-take.ensures c.loop-k.invariant
+    (omega (arith, c.requires.count)) (omega arith) c.index-results-k.is c.index-places-k.is c.take.ensures c.loop-k.invariant
 
 pub returns : goal.returns
 returns c =

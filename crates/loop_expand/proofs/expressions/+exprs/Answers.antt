@@ -16,7 +16,7 @@ flat-returns-in_ok-flat_parts-in-Node t c =
     let scope = view_scope c.args.scope.now in
     let env = c.args.env.now in
     c.calculation.ensures
-    ∙ ap₂ (calculation c.in-Node.op) c.in_ok-fmt-in-Node.ensures (c.in_ok-flat_parts-in-Node.ensures ∙ ap (λ (xs : List TypedExpr). flat_parts scope env (typed_exprs xs)) c.deref.ensures.value)
+    ∙ ap₂ (calculation c.in-Node.op) c.format-fmt.ensures (c.in_ok-flat_parts-in-Node.ensures ∙ ap (λ (xs : List TypedExpr). flat_parts scope env (typed_exprs xs)) c.deref.ensures.value)
     ∙ sym (ap (λ (x : TypedExpr). flat_of scope env (typed.view_expr x)) c.in-Node.is ∙ ap (flat_of scope env) (view_Node c.in-Node.op c.in-Node.fmt c.in-Node.parts c.in-Node.amount))
 
 pub flat_parts-loop-part-preserved : goal.flat_parts-loop-part-preserved
