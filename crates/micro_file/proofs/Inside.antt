@@ -4,7 +4,7 @@ use Rattle.std.specs.Prelude.{slice_get}
 use Rattle.std.specs.Int.{Width, w64, byte_len, from_be_bytes, cast_signed, is_in_range}
 use Rattle.std.proofs.lemmas.List.{length-drop}
 use Rattle.micro_file.specs.declared.misread.Misread.{Misread}
-use Rattle.micro_file.specs.declared.misread.Misread.TheVariants.{Magic, Version, Short, Field, Ram, Trailing}
+use Rattle.micro_file.specs.declared.misread.Misread.TheVariants.{Magic, Version, Short, Field, Trailing}
 use Rattle.micro_file.specs.Fields.{Reading, ◌>>=◌, kept, found, byte_at, byte_within, byte_below, byte_upto, number_at, number_within, signed_at, is_raw_word, raw_word_at, entry_at, many_at}
 use Rattle.micro_file.specs.Private.Places.{IsIn}
 
@@ -18,7 +18,6 @@ in_more m n Magic le h = tt
 in_more m n Version le h = tt
 in_more m n Short le h = tt
 in_more m n (Field left) le h = omega arith
-in_more m n (Ram behind) le h = omega arith
 in_more m n (Trailing left) le h = omega arith
 
 pub inside_more : {A : Type 0} (m n : ℕ) (r : Reading A) → m ≤ n → IsInside m r → IsInside n r

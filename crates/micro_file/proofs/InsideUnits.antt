@@ -1,5 +1,5 @@
 -- Units are misread inside the bytes.
-use Rattle.std.proofs.Common.{◌≡◌, ℕ, zero, suc, ◌<◌, ◌≤◌, Bool, true, false, cond, List, [], ◌∷◌, length, Option, Some, None, Result, Ok, Err, refl, subst, arith}
+use Rattle.std.proofs.Common.{◌≡◌, ℕ, zero, suc, ◌+◌, ◌<◌, ◌≤◌, Bool, true, false, cond, List, [], ◌∷◌, length, Option, Some, None, Result, Ok, Err, refl, subst, arith}
 use Rattle.std.specs.Prelude.{slice_get}
 use Rattle.std.specs.Int.{w16, w32}
 use Rattle.operations.specs.declared.units.Kind.{Kind}
@@ -7,7 +7,7 @@ use Rattle.operations.specs.declared.units.Kind.TheVariants as kind
 use Rattle.micro_image.specs.declared.image.UnitDesc.{UnitDesc}
 use Rattle.micro_image.specs.Valid.{ports}
 use Rattle.micro_file.specs.declared.misread.Misread.{Misread}
-use Rattle.micro_file.specs.declared.misread.Misread.TheVariants.{Ram}
+use Rattle.micro_file.specs.declared.misread.Misread.TheVariants.{Field}
 use Rattle.micro_file.specs.Tables.{kinds}
 use Rattle.micro_file.specs.Fields.{Reading, ◌>>=◌, found, byte_within, number_within, raw_word_at, entry_at, many_at, raw_words_at}
 use Rattle.micro_file.specs.Units.{file_at, cells_at, ram_at, unit_at, is_tied, judged, judged_at, some_units_at, units_at}
@@ -89,9 +89,9 @@ judged_stops : (units : List UnitDesc) (unit : UnitDesc) (behind size : ℕ) →
     → StopsIn size (judged units unit behind)
 judged_stops units unit behind size lt = by (is_tied units unit)
   where
-    by : (b : Bool) → StopsIn {A = Unit {0}} size (cond b (Ok tt) (Err (Ram behind)))
+    by : (b : Bool) → StopsIn {A = Unit {0}} size (cond b (Ok tt) (Err (Field (behind + 1))))
     by true = tt
-    by false = lt
+    by false = omega (arith, lt)
 
 one_stops : (units : List UnitDesc) (n : ℕ) (bytes : List ℕ)
     → ((rest : List ℕ) → StopsIn (length rest) (judged_at units n rest)) → (r : Reading UnitDesc) → unit_at bytes ≡ r

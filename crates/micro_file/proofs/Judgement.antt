@@ -2,7 +2,7 @@
 use Rattle.std.proofs.Common.{◌≡◌, ℕ, zero, suc, ◌+◌, ◌-◌, ◌<◌, ◌≤◌, true, false, List, [], ◌∷◌, ◌++◌, length, get_or, drop, Ok, Err, refl, sym, ap, subst, ◌∙◌, append_assoc, arith}
 use Rattle.std.proofs.lemmas.List.{append-nil, drop_more, at_drop_all}
 use Rattle.micro_image.specs.declared.image.UnitDesc.{UnitDesc}
-use Rattle.micro_file.specs.declared.misread.Misread.TheVariants.{Ram}
+use Rattle.micro_file.specs.declared.misread.Misread.TheVariants.{Field}
 use Rattle.micro_file.specs.Fields.{◌>>=◌, many_at}
 use Rattle.micro_file.specs.Units.{unit_at, is_tied, judged, judged_at, some_units_at}
 use Rattle.micro_file.specs.Private.Ends.{ends_of, all_judged}
@@ -46,7 +46,8 @@ module _ (units xs : List UnitDesc) (ends : List ℕ) (i : ℕ) (x : UnitDesc) (
       → all_judged units (drop i xs) (drop i ends) ≡ all_judged units (drop (i + 1) xs) (drop (i + 1) ends)
   passed_one tied = parted ∙ rw tied refl
 
-  pub blamed_one : is_tied units x ≡ false → all_judged units (drop i xs) (drop i ends) ≡ Err (Ram (get_or ends i d))
+  pub blamed_one : is_tied units x ≡ false
+      → all_judged units (drop i xs) (drop i ends) ≡ Err (Field (get_or ends i d + 1))
   blamed_one loose = parted ∙ rw loose refl
 
 pub passed_all : (units xs : List UnitDesc) (ends : List ℕ) (i : ℕ) → length xs ≤ i

@@ -6,6 +6,7 @@ pub mod Several
 pub mod Leaves
 pub mod Steps
 pub mod Judgement
+pub mod EmptyWord
 pub mod UnitReader
 pub mod IssueParts
 pub mod IssueReader

@@ -1,5 +1,5 @@
 -- The readers of units.
-use Rattle.std.proofs.Common.{◌≡◌, ◌≢◌, Bool, true, false, cond, ℕ, suc, arith, List, [], ◌∷◌, ◌++◌, length, Option, Some, None, Result, Ok, Err, ℤ, refl, sym, ap, subst, ◌∙◌, append_assoc}
+use Rattle.std.proofs.Common.{◌≡◌, ◌≢◌, Bool, true, false, cond, ℕ, suc, ◌+◌, arith, List, [], ◌∷◌, ◌++◌, length, Option, Some, None, Result, Ok, Err, ℤ, refl, sym, ap, subst, ◌∙◌, append_assoc}
 use Rattle.std.specs.Prelude.{IsSomeAnd, slice_get, slice_index_or}
 use Rattle.std.specs.Bool.{Decides}
 use Rattle.std.specs.List.{All, flat_map}
@@ -13,7 +13,7 @@ use Rattle.micro_image.specs.Spells.{four_bytes, eight_bytes, kind_byte, spelled
 use Rattle.micro_image.specs.Valid.{IsWithin, IsFile, IsUnit, ports}
 use Rattle.micro_file.specs.Tables.{kinds}
 use Rattle.micro_file.specs.declared.misread.Misread.{Misread}
-use Rattle.micro_file.specs.declared.misread.Misread.TheVariants.{Ram}
+use Rattle.micro_file.specs.declared.misread.Misread.TheVariants.{Field}
 use Rattle.micro_file.specs.Fields.{Reading, byte_within, raw_word_at, entry_at, many_at}
 use Rattle.micro_file.specs.Units.{file_at, cells_at, ram_at, unit_at, is_ram, is_some_ram, is_tied_by, is_tied, judged, judged_at, some_units_at, units_at}
 use Rattle.micro_file.specs.Private.Ends.{ends_of, all_judged}
@@ -166,7 +166,7 @@ tied_by _ ram units = (λ e is. absurd (cc), λ h. refl)
 was_judged : (units : List UnitDesc) (unit : UnitDesc) (behind : ℕ) (ok : Unit {0}) → judged units unit behind ≡ Ok ok → is_tied units unit ≡ true
 was_judged units unit behind ok e = passed (is_tied units unit) e
   where
-    passed : (b : Bool) → cond b (well ok) (Err (Ram behind)) ≡ Ok ok → b ≡ true
+    passed : (b : Bool) → cond b (well ok) (Err (Field (behind + 1))) ≡ Ok ok → b ≡ true
     passed true e = refl
     passed false e = absurd cc
 

@@ -1,9 +1,10 @@
--- The fault of bytes that spell no image: the first place, in reading order, at which they cease to spell one.
-use Rattle.std.specs.Prelude.{◌≡◌, ℕ, ◌+◌, ◌-◌, List, length, Err}
+-- The fault of bytes that spell no image: the first field, in reading order, that is not whole or not allowed, or the
+-- first byte behind the last.
+use Rattle.std.specs.Prelude.{◌≡◌, ℕ, ◌-◌, List, length, Err}
 use Rattle.micro_file.specs.declared.fault.FormFault.{FormFault}
 use Rattle.micro_file.specs.declared.fault.FormFault.TheVariants as form
 use Rattle.micro_file.specs.declared.misread.Misread.{Misread}
-use Rattle.micro_file.specs.declared.misread.Misread.TheVariants.{Magic, Version, Short, Field, Ram, Trailing}
+use Rattle.micro_file.specs.declared.misread.Misread.TheVariants.{Magic, Version, Short, Field, Trailing}
 use Rattle.micro_file.specs.File.{whole_at}
 
 -- what was misread, with its place in a file of so many bytes: the first byte of a field that is not allowed, the first
@@ -13,7 +14,6 @@ placed size Magic = form.Magic
 placed size Version = form.Version
 placed size Short = form.Short size
 placed size (Field left) = form.Field (size - left)
-placed size (Ram behind) = form.Field (size - (behind + 1))
 placed size (Trailing left) = form.Trailing (size - left)
 
 -- read as a file from the front, the bytes are misread, and this is the fault; want of memory is none

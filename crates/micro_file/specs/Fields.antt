@@ -72,7 +72,7 @@ is_raw_word z = int_le (neg_ℤ (pos (2 ^ 31))) z && int_lt z (pos (2 ^ 31))
 unfoldable pub raw_word_at : List ℕ → Reading ℤ
 raw_word_at bytes = signed_at bytes >>= λ z. kept bytes (is_raw_word z.0) z
 
--- the element of a table that the byte is the index of
+-- the element of a table whose index the byte is
 abbrev pub entry_at : {A : Type 0} → List A → List ℕ → Reading A
 entry_at table bytes = byte_at bytes >>= λ b. found bytes (slice_get table b.0) >>= λ x. Ok (x, b.1)
 

@@ -1,5 +1,5 @@
 -- The units of a file.
-use Rattle.std.specs.Prelude.{ℕ, zero, suc, List, [], length, slice_get, Option, Some, None, Result, Ok, Err, Bool, true, false, if◌then◌else◌, ℤ}
+use Rattle.std.specs.Prelude.{ℕ, zero, suc, ◌+◌, List, [], length, slice_get, Option, Some, None, Result, Ok, Err, Bool, true, false, if◌then◌else◌, ℤ}
 use Rattle.std.specs.Int.{w16, w32}
 use Rattle.operations.specs.declared.units.Kind.{Kind}
 use Rattle.operations.specs.declared.units.Kind.TheVariants as kind
@@ -7,7 +7,7 @@ use Rattle.micro_image.specs.declared.image.UnitDesc.{UnitDesc}
 use Rattle.micro_image.specs.Valid.{ports}
 use Rattle.micro_file.specs.Tables.{kinds}
 use Rattle.micro_file.specs.declared.misread.Misread.{Misread}
-use Rattle.micro_file.specs.declared.misread.Misread.TheVariants.{Ram}
+use Rattle.micro_file.specs.declared.misread.Misread.TheVariants.{Field}
 use Rattle.micro_file.specs.Fields.{Reading, ◌>>=◌, byte_at, byte_within, number_within, entry_at, many_at, raw_words_at}
 
 -- a register file: its size, and that many raw words
@@ -60,9 +60,9 @@ abbrev pub is_tied : List UnitDesc → UnitDesc → Bool
 is_tied units unit = is_tied_by unit.kind unit.ram units
 
 -- the unit, which ends where so many bytes are left, is tied to a ram of the units; else its last byte, the number of
--- its ram, is not allowed
+-- its ram, is not allowed: that field begins where one byte more is left
 abbrev pub judged : List UnitDesc → UnitDesc → ℕ → Result (Unit {0}) Misread
-judged units unit behind = if is_tied units unit then Ok tt else Err (Ram behind)
+judged units unit behind = if is_tied units unit then Ok tt else Err (Field (behind + 1))
 
 -- the same of so many units, one after another, the first of which begins these bytes
 unfoldable pub judged_at : List UnitDesc → ℕ → List ℕ → Result (Unit {0}) Misread

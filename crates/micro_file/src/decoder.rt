@@ -140,7 +140,6 @@ fn fault_at(misread: Misread, size: usize) -> FormFault
         Misread::Version => FormFault::Version,
         Misread::Short => FormFault::Short(size as u32),
         Misread::Field { left } => FormFault::Field((size - left) as u32),
-        Misread::Ram { behind } => FormFault::Field((size - behind - 1) as u32),
         Misread::Trailing { left } => FormFault::Trailing((size - left) as u32),
     }
 }

@@ -1,8 +1,9 @@
-ghost use Rattle.std.specs.Prelude.{◌≡◌, ◌<◌, ◌≤◌, ◌^◌, ◌++◌, length, IfOk, OnOk};
+ghost use Rattle.std.specs.Prelude.{◌≡◌, ◌<◌, ◌≤◌, ◌^◌, ◌++◌, length, IfOk, OnOk, IsTrue};
 ghost use Rattle.std.specs.List.{All, flat_map};
 ghost use Rattle.micro_image.specs.Operations.{opcode};
 ghost use Rattle.micro_image.specs.Valid.{IsValid};
 ghost use Rattle.micro_image.specs.Spells.{Spells, eight_bytes, kind_byte, mode_byte, spelled_file, spelled_memory, spelled_unit, spelled_format, spelled_issue, spelled_enable, spelled_take, spelled_word, spelling};
+ghost use Rattle.micro_file.specs.Private.Empty.{no_word};
 ghost use Rattle.micro_file.specs.Private.Sizes.{IsShortFile, IsSmallUnit, IsSmallWord};
 
 use crate::fault::CodeFault;
@@ -10,6 +11,9 @@ use fix_word::{Format, Mode, Op};
 use lists::{Bytes, List};
 use micro_image::{Enables, Image, Issue, Kind, Takes, UnitDesc, Word};
 use std::alloc::{AllocError, Global};
+
+/// The three counts of an empty word.
+const EMPTY_WORD: [u8; 5] = [0; 5];
 
 fn kind_byte_of(kind: Kind) -> u8
     ensures { result ≡ kind_byte kind }
@@ -120,7 +124,7 @@ fn put_takes(out: &mut Bytes, takes: &Takes) -> Result<(), AllocError>
 }
 
 #[tactic(auto, unfolding(micro_image::specs::Spells::spelled_word, micro_image::specs::Spells::two_bytes))]
-fn put_word(out: &mut Bytes, word: &Word) -> Result<(), AllocError>
+fn put_lists(out: &mut Bytes, word: &Word) -> Result<(), AllocError>
     requires { IsSmallWord word.now }
     ensures { OnOk result (out.new ≡ out.old ++ spelled_word word.now) }
 {
@@ -132,6 +136,27 @@ fn put_word(out: &mut Bytes, word: &Word) -> Result<(), AllocError>
     put_enables(out, &word.enables)?;
     out.extend_from_slice(&(word.takes.len() as u16).to_be_bytes())?;
     put_takes(out, &word.takes)
+}
+
+#[inline]
+fn is_empty(word: &Word) -> bool
+    ensures { IsTrue result → word.now ≡ no_word }
+{
+    word.issues.is_empty() && word.enables.is_empty() && word.takes.is_empty()
+}
+
+// Encoding an empty word takes 32 instructions so, and 66 list by list.
+#[inline]
+#[tactic(auto, using(crate::proofs::EmptyWord::spelled_empty))]
+fn put_word(out: &mut Bytes, word: &Word) -> Result<(), AllocError>
+    requires { IsSmallWord word.now }
+    ensures { OnOk result (out.new ≡ out.old ++ spelled_word word.now) }
+{
+    if is_empty(word) {
+        out.extend_from_slice(&EMPTY_WORD)
+    } else {
+        put_lists(out, word)
+    }
 }
 
 fn put_units(out: &mut Bytes, units: &List<UnitDesc>) -> Result<(), AllocError>

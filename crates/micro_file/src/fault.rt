@@ -21,7 +21,8 @@ impl From<AllocError> for CodeFault {
     }
 }
 
-/// Why bytes could not be decoded: the first place, in reading order, at which they cease to spell an image.
+/// Why bytes could not be decoded: the first field, in reading order, that is not whole or not allowed, or the first
+/// byte behind the last.
 #[derive(Clone, Copy, Debug, PartialEq, Eq, Error)]
 pub enum FormFault {
     /// One of the first four bytes is not that of the magic.

@@ -70,8 +70,9 @@ impl<'a> Model for Reader<'a> {
 }
 
 impl<'a> Reader<'a> {
-    ghost use Rattle.std.specs.Prelude.{length};
+    ghost use Rattle.std.specs.Prelude.{◌<◌, ◌++◌, length, IsTrue, IsFalse};
     ghost use Rattle.std.specs.Int.{w16, w32};
+    ghost use Rattle.micro_file.specs.Private.Empty.{empty_word};
     ghost use Rattle.micro_file.specs.Private.Reads.{Reads};
     ghost use Rattle.micro_file.specs.Tables.{kinds, operations, modes};
     ghost use Rattle.micro_file.specs.Fields.{byte_at, only_byte, byte_within, byte_below, byte_upto, number_within, signed_at, raw_word_at, raw_words_at, entry_at};
@@ -82,10 +83,19 @@ impl<'a> Reader<'a> {
         Reader { rest: bytes }
     }
 
+    /// Another reader of the bytes that are left.
+    #[inline]
+    pub(crate) fn fork(&self) -> Reader<'a>
+        ensures { result ≡ self.now }
+    {
+        Reader { rest: self.rest }
+    }
+
     /// How many bytes are left.
     #[inline]
     pub(crate) fn left(&self) -> usize
-        ensures { result ≡ length self.now }
+        ensures count { result ≡ length self.now }
+        ensures room { result < usize.MAX }
     {
         self.rest.len()
     }
@@ -100,6 +110,22 @@ impl<'a> Reader<'a> {
                 self.rest = rest;
                 Ok(*byte)
             }
+        }
+    }
+
+    /// Whether an empty word is in front, which is then read.
+    // Decoding one takes 60 instructions so, and 149 list by list.
+    #[inline]
+    pub(crate) fn passes_empty_word(&mut self) -> bool
+        ensures passed { IsTrue result → self.old ≡ empty_word ++ self.new }
+        ensures others { IsFalse result → self.new ≡ self.old }
+    {
+        match self.rest {
+            [a, b, c, d, 0, rest @ ..] if u32::from_be_bytes([*a, *b, *c, *d]) == 0 => {
+                self.rest = rest;
+                true
+            }
+            _ => false,
         }
     }
 

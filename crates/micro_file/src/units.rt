@@ -2,10 +2,10 @@
 ghost use Rattle.std.specs.Prelude.{◌≡◌, [], ◌++◌, length, OnOk};
 ghost use Rattle.micro_file.specs.Fields.{many_at};
 ghost use Rattle.micro_file.specs.Private.Reads.{Gives, Reads};
-ghost use Rattle.micro_file.specs.Private.Ends.{ends_of, all_judged};
+ghost use Rattle.micro_file.specs.Private.Ends.{ends_of, HaveRoom, all_judged};
 ghost use Rattle.micro_file.specs.Units.{file_at, cells_at, ram_at, unit_at, is_tied, some_units_at, units_at};
 
-use crate::misread::{Misread, Unread};
+use crate::misread::{Unread, refused};
 use crate::reader::Reader;
 use lists::List;
 use micro_image::{Kind, UnitDesc};
@@ -98,8 +98,10 @@ fn read_several(
     ends: &mut List<usize>,
     reader: &mut Reader<'_>,
 ) -> Result<List<UnitDesc>, Unread>
+    requires room { HaveRoom ends.old }
     ensures units { Reads (many_at (λ _. unit_at) [] count) reader.old result reader.new }
     ensures ends { OnOk result (ends.new ≡ ends.old ++ ends_of count reader.old) }
+    ensures room { OnOk result (HaveRoom ends.new) }
 {
     let mut units = List::with_capacity(alloc, count)?;
     for _ in 0..count {
@@ -125,12 +127,13 @@ fn has_ram(units: &List<UnitDesc>, unit: &UnitDesc) -> bool
 
 /// Passes the units if each acu has a ram.
 fn judge(units: &List<UnitDesc>, ends: &List<usize>) -> Result<(), Unread>
-    requires { length ends.now ≡ length units.now }
+    requires ends { length ends.now ≡ length units.now }
+    requires room { HaveRoom ends.now }
     ensures { Gives result (all_judged units.now units.now ends.now) }
 {
     for (k, unit) in units.iter().enumerate() {
         if !has_ram(units, unit) {
-            return Err(Unread::Misread(Misread::Ram { behind: ends[k] }));
+            return Err(refused(ends[k] + 1));
         }
     }
     Ok(())

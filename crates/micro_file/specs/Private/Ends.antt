@@ -1,5 +1,6 @@
 -- Where the units of a file end.
-use Rattle.std.specs.Prelude.{ℕ, zero, suc, List, [], ◌∷◌, length, Result, Ok, Err}
+use Rattle.std.specs.Prelude.{ℕ, zero, suc, ◌<◌, List, [], ◌∷◌, length, All, Result, Ok, Err}
+use Rattle.std.below.core.specs.declared.int.usize.TheConstants as usize
 use Rattle.micro_image.specs.declared.image.UnitDesc.{UnitDesc}
 use Rattle.micro_file.specs.declared.misread.Misread.{Misread}
 use Rattle.micro_file.specs.Fields.{Reading, ◌>>=◌}
@@ -14,6 +15,10 @@ end_and more (Err misread) = []
 unfoldable pub ends_of : ℕ → List ℕ → List ℕ
 ends_of zero bytes = []
 ends_of (suc n) bytes = end_and (ends_of n) (unit_at bytes)
+
+-- one byte more than is left behind each can be counted
+abbrev pub HaveRoom : List ℕ → Type 0
+HaveRoom ends = All (λ end. end < usize.MAX) ends
 
 -- each of the others, which end where so many bytes are left, is tied to a ram of the units
 unfoldable pub all_judged : List UnitDesc → List UnitDesc → List ℕ → Result (Unit {0}) Misread

@@ -1,11 +1,10 @@
 -- That what was misread has a place.
-use Rattle.std.specs.Prelude.{ℕ, ◌<◌, ◌≤◌}
+use Rattle.std.specs.Prelude.{ℕ, ◌≤◌}
 use Rattle.micro_file.specs.declared.misread.Misread.{Misread}
-use Rattle.micro_file.specs.declared.misread.Misread.TheVariants.{Field, Ram, Trailing}
+use Rattle.micro_file.specs.declared.misread.Misread.TheVariants.{Field, Trailing}
 
 -- it has a place among so many bytes
 abbrev pub IsIn : ℕ → Misread → Type 0
 IsIn size (Field left) = left ≤ size
-IsIn size (Ram behind) = behind < size
 IsIn size (Trailing left) = left ≤ size
 IsIn size _ = Unit {0}

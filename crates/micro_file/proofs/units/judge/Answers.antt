@@ -1,6 +1,6 @@
-use Rattle.std.proofs.Common.{◌≡◌, ℕ, ◌<◌, ◌≤◌, List, length, get_or, drop, Err, sym, ap, subst, ◌∙◌}
+use Rattle.std.proofs.Common.{◌≡◌, ℕ, ◌+◌, ◌<◌, ◌≤◌, List, length, get_or, drop, Err, sym, ap, subst, ◌∙◌}
 use Rattle.micro_image.specs.declared.image.UnitDesc.{UnitDesc}
-use Rattle.micro_file.specs.declared.misread.Misread.TheVariants.{Ram}
+use Rattle.micro_file.specs.declared.misread.Misread.TheVariants.{Field}
 use Rattle.micro_file.proofs.Judgement.{passed_one, blamed_one, passed_all}
 use Rattle.micro_file.proofs.units.judge.Goals as goal
 
@@ -8,15 +8,15 @@ pub returns-then-not-has_ram : goal.returns-then-not-has_ram
 returns-then-not-has_ram c =
     let lt = subst (λ (xs : List UnitDesc). c.loop-k.k < length xs) c.deref-unit-items.ensures c.loop-k-test.true in
     let is = subst (λ (xs : List UnitDesc). c.unit-item.result ≡ get_or xs c.loop-k.k c.unit-item.result) c.deref-unit-items.ensures c.unit-item.is in
-    sym c.loop-k.invariant
-    ∙ blamed_one c.args.units.now c.args.units.now c.args.ends.now c.loop-k.k c.unit-item.result c.index.result.now c.requires lt is (sym c.has_ram.ensures ∙ c.if-not-has_ram.true)
-    ∙ ap (λ (n : ℕ). Err (Ram n)) (sym c.index.ensures)
+    rw c.refused.ensures (sym c.loop-k.invariant
+    ∙ blamed_one c.args.units.now c.args.units.now c.args.ends.now c.loop-k.k c.unit-item.result c.index.result.now c.requires.ends lt is (sym c.has_ram.ensures ∙ c.if-not-has_ram.true)
+    ∙ ap (λ (n : ℕ). Err (Field (n + 1))) (sym c.index.ensures))
 
 pub loop-k-preserved : goal.loop-k-preserved
 loop-k-preserved c =
     let lt = subst (λ (xs : List UnitDesc). c.loop-k.k < length xs) c.deref-unit-items.ensures c.loop-k-test.true in
     let is = subst (λ (xs : List UnitDesc). c.unit-item.result ≡ get_or xs c.loop-k.k c.unit-item.result) c.deref-unit-items.ensures c.unit-item.is in
-    sym (passed_one c.args.units.now c.args.units.now c.args.ends.now c.loop-k.k c.unit-item.result 0 c.requires lt is (sym c.has_ram.ensures ∙ c.if-not-has_ram.false))
+    sym (passed_one c.args.units.now c.args.units.now c.args.ends.now c.loop-k.k c.unit-item.result 0 c.requires.ends lt is (sym c.has_ram.ensures ∙ c.if-not-has_ram.false))
     ∙ c.loop-k.invariant
 
 pub returns : goal.returns

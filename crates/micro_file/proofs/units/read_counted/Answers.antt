@@ -29,7 +29,10 @@ returns-in_err-units c =
 pub judge-requires : goal.judge-requires
 judge-requires c =
     let noted = c.in_ok-units.ensures.ends ∙ ap (λ (t : List ℕ). t ++ ends_of c.args.count c.args.reader.now) c.in_ok-ends.ensures in
-    as_many c.in_ok-units.units c.args.count c.args.reader.now c.read_several.new.reader c.read_several.new.ends c.in_ok-units.ensures.units noted
+    record {
+      ends = as_many c.in_ok-units.units c.args.count c.args.reader.now c.read_several.new.reader c.read_several.new.ends c.in_ok-units.ensures.units noted;
+      room = c.in_ok-units.ensures.room;
+    }
 
 pub returns-in_err-judge : goal.returns-in_err-judge
 returns-in_err-judge c =
