@@ -5,3 +5,5 @@ mod ShortLifetimes
 mod Outputs
 mod FedSamples
 mod TypedRows
+mod InputRows
+mod Reading

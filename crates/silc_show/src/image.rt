@@ -2,6 +2,7 @@
 //! write.
 
 ghost use Rattle.std.specs.Prelude.{IfOk};
+ghost use Rattle.micro_image.specs.Spells.{Spells};
 ghost use Rattle.micro_image.specs.Valid.{IsValid};
 
 use crate::page::Page;
@@ -33,28 +34,28 @@ fn put_unit(page: &mut Page, number: usize, unit: &UnitDesc) {
     }
 }
 
-fn put_issue(page: &mut Page, issue: &Issue) {
+/// Begins the line of an issue.
+pub fn put_issue(page: &mut Page, issue: &Issue) {
     page.number("  issue unit ", issue.unit);
     page.text(" ");
     page.text(operation_name(issue.op));
     page.format(issue.fmt);
     page.number(" argument ", issue.arg);
     page.numbers(" registers", &issue.regs);
-    page.end();
 }
 
-fn put_drive(page: &mut Page, drive: Enable) {
+/// Begins the line of a bus drive.
+pub fn put_drive(page: &mut Page, drive: Enable) {
     page.number("  drive unit ", drive.unit);
     page.number(" bus ", drive.bus);
-    page.end();
 }
 
-fn put_take(page: &mut Page, take: Take) {
+/// Begins the line of a register-file write.
+pub fn put_take(page: &mut Page, take: Take) {
     page.number("  take unit ", take.port.unit);
     page.number(" port ", take.port.port);
     page.number(" bus ", take.bus);
     page.number(" register ", take.reg);
-    page.end();
 }
 
 fn put_word(page: &mut Page, number: usize, word: &Word) {
@@ -62,12 +63,15 @@ fn put_word(page: &mut Page, number: usize, word: &Word) {
     page.end();
     for issue in &word.issues {
         put_issue(page, issue);
+        page.end();
     }
     for drive in &word.enables {
         put_drive(page, *drive);
+        page.end();
     }
     for take in &word.takes {
         put_take(page, *take);
+        page.end();
     }
 }
 
@@ -88,7 +92,8 @@ fn put_image(page: &mut Page, image: &Image) {
 }
 
 pub fn image_of(alloc: Global, bytes: &[u8]) -> Result<Image, Refusal>
-    ensures { IfOk result (λ image. IsValid image) }
+    ensures spelled { IfOk result (λ image. Spells bytes.now image) }
+    ensures valid { IfOk result (λ image. IsValid image) }
 {
     if bytes.len() > MICROCODE_LIMIT {
         return Err(too_long(alloc));

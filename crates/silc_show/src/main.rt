@@ -1,6 +1,8 @@
 //! Prints what a layer of the compiler answers for a file, one fact a line.
 #![tactic(auto)]
 
+mod conflicts;
+mod contents;
 mod definitions;
 mod elements;
 mod expressions;
@@ -20,6 +22,7 @@ mod rows;
 mod source;
 mod text;
 mod tokens;
+mod trace;
 mod tree;
 mod types;
 mod values;
@@ -29,6 +32,7 @@ use crate::page::Page;
 use crate::plans::plan_call_named;
 use crate::repeat::call_named;
 use crate::source::Refusal;
+use crate::trace::{Span, View};
 use anyhow::{Context, Result};
 use std::alloc::Global;
 use std::process::ExitCode;
@@ -37,8 +41,8 @@ use std::{env, fs};
 
 const USAGE: &str =
     "usage: silc_show tokens|tree|text|names|elements|types|graph SRC | origins SRC DP | values SRC SAMPLES \
-     | manifests|words TABLE | image MIC | datapath DP | rows WIDTHS SAMPLES | repeat CALL TURNS FILE \
-     | repeat assign|plan|allot|assemble TURNS SRC DP";
+     | manifests|words TABLE | image MIC | trace MIC SAMPLES [FROM TO [ORDER]] | datapath DP | rows WIDTHS SAMPLES \
+     | repeat CALL TURNS FILE | repeat assign|plan|allot|assemble TURNS SRC DP";
 
 const BAD_WORDS: u8 = 2;
 
@@ -141,6 +145,31 @@ fn show_values<R: Files + Print + AllocGlobal>(
     Ok(true)
 }
 
+/// The cycles from one number up to another. `None`: these are no numbers.
+fn span(from: &str, to: &str) -> Option<Span> {
+    match (from.parse::<u64>(), to.parse::<u64>()) {
+        (Ok(from), Ok(to)) => Some(Span { from, to }),
+        _ => None,
+    }
+}
+
+/// Shows a run of microcode over the rows of a sample file, cycle by cycle. `false`: there are no such cycles, or the
+/// units have no such order.
+fn show_trace<R: Files + Print + AllocGlobal>(
+    rt: &R,
+    mic: &str,
+    samples: &str,
+    span: Option<Span>,
+    order: Option<&str>,
+) -> Result<bool> {
+    let Some(span) = span else {
+        return Ok(false);
+    };
+    let mic = read(rt, mic)?;
+    let samples = read(rt, samples)?;
+    trace::print(rt, rt.alloc(), &mic, &samples, View { span, order })
+}
+
 /// Shows the rows of a sample file. `false`: these are no widths.
 fn show_rows<R: Files + Print + AllocGlobal>(rt: &R, widths: &str, file: &str) -> Result<bool> {
     let Some(channels) = rows::channels(rt.alloc(), widths)? else {
@@ -200,6 +229,29 @@ fn show<R: Env + Files + Print + AllocGlobal>(rt: &R) -> Result<bool> {
         [_, values, source, samples] if values.as_str() == "values" => {
             show_values(rt, source.as_str(), samples.as_str())
         }
+        [_, trace, mic, samples] if trace.as_str() == "trace" => {
+            show_trace(
+                rt,
+                mic.as_str(),
+                samples.as_str(),
+                Some(Span::whole()),
+                None,
+            )
+        }
+        [_, trace, mic, samples, from, to] if trace.as_str() == "trace" => show_trace(
+            rt,
+            mic.as_str(),
+            samples.as_str(),
+            span(from.as_str(), to.as_str()),
+            None,
+        ),
+        [_, trace, mic, samples, from, to, order] if trace.as_str() == "trace" => show_trace(
+            rt,
+            mic.as_str(),
+            samples.as_str(),
+            span(from.as_str(), to.as_str()),
+            Some(order.as_str()),
+        ),
         [_, repeat, call, turns, file] if repeat.as_str() == "repeat" => {
             show_repeat(rt, call.as_str(), turns.as_str(), file.as_str())
         }

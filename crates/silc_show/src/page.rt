@@ -15,7 +15,7 @@ pub struct Page {
     trouble: Option<&'static str>,
 }
 
-const NO_MEMORY: &str = "no memory";
+pub const NO_MEMORY: &str = "no memory";
 
 /// How deep the node of a line stands, and what it is to the node above it.
 #[derive(Clone, Copy)]

@@ -3,6 +3,7 @@
 ghost use Rattle.std.specs.Prelude.{◌≡◌, ◌<◌, ◌^◌, ℤ, pos, length, All, IfOk};
 ghost use Rattle.std.specs.List.{AllZip};
 ghost use Rattle.cycle_sim.specs.Machine.{IsOperand};
+ghost use Rattle.micro_image.specs.Spells.{Spells};
 ghost use Rattle.micro_image.specs.Valid.{IsValid};
 ghost use Rattle.ranked_faults.specs.Ranked.{IsClear};
 ghost use Rattle.signal_graph.specs.Rules.{IsInType};
@@ -103,8 +104,9 @@ fn encode_image(alloc: Global, turns: u32, bytes: &[u8]) -> Result<u64, Refusal>
 }
 
 /// The machine before its first cycle.
-fn machine_of(alloc: Global, bytes: &[u8]) -> Result<Machine, Refusal>
-    ensures { IfOk result (λ machine. machine.cycle ≡ 0) }
+pub fn machine_of(alloc: Global, bytes: &[u8]) -> Result<Machine, Refusal>
+    ensures image { IfOk result (λ machine. Spells bytes.now machine.image) }
+    ensures cycle { IfOk result (λ machine. machine.cycle ≡ 0) }
 {
     match Machine::load(alloc, image_of(alloc, bytes)?) {
         Ok(machine) => Ok(machine),

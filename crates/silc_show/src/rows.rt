@@ -2,11 +2,12 @@
 
 ghost use Rattle.std.specs.Prelude.{◌≡◌, IfOk, IfSome, OnOk, ◌≤◌, ◌<◌, ◌^◌, [], ◌∷◌, ◌++◌, length, map};
 ghost use Rattle.std.specs.List.{All};
-ghost use Rattle.sample_io.specs.Channels.{AreChannels, IsChannel, IsStream};
+ghost use Rattle.sample_io.specs.Channels.{AreChannels, IsChannel, IsStream, channel_of};
 ghost use Rattle.sample_io.specs.Pieces.{HasTaken};
 ghost use Rattle.sample_io.specs.Samples.{RowsOf};
 ghost use Rattle.signal_graph.specs.Keeps.{IsStreamOf};
 ghost use Rattle.signal_graph.specs.Rules.{IsType};
+ghost use Rattle.silc_show.specs.Trace.{AreInputRows};
 ghost use Rattle.silc_show.specs.TypeChannels.{channel_width, type_channel};
 
 use crate::page::Page;
@@ -185,6 +186,37 @@ pub fn read_typed(
     ensures { IfOk result (IsStreamOf types.now) }
 {
     match type_channels(alloc, types) {
+        Ok(channels) => read(alloc, &channels, samples),
+        Err(_) => Err(Page::cut(alloc)),
+    }
+}
+
+/// The channel of each word of these widths.
+fn width_channels(alloc: Global, widths: &[u8]) -> Result<List<Channel>, AllocError>
+    requires { All (λ width. width ≤ 32) widths.now }
+    ensures channels { IfOk result (λ channels. channels ≡ map channel_of widths.now) }
+    ensures each { IfOk result (λ channels. All IsChannel channels) }
+{
+    let mut channels = List::new(alloc);
+    for width in widths {
+        channels.push(Channel::of(*width))?;
+    }
+    Ok(channels)
+}
+
+/// The rows of a sample file whose words have these widths, or the page of its first bad place.
+#[tactic(auto, using(crate::proofs::InputRows::input_rows, crate::proofs::InputRows::are_channels))]
+pub fn read_widths(
+    alloc: Global,
+    widths: &List<u8>,
+    samples: &[u8],
+) -> Result<List<List<i64>>, Refusal>
+    requires widths { All (λ width. width ≤ 32) widths.now }
+    requires some { 1 ≤ length widths.now }
+    requires few { length widths.now ≤ 16 }
+    ensures { IfOk result (AreInputRows widths.now) }
+{
+    match width_channels(alloc, widths) {
         Ok(channels) => read(alloc, &channels, samples),
         Err(_) => Err(Page::cut(alloc)),
     }

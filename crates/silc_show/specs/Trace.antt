@@ -1,0 +1,29 @@
+-- What the trace of a run rests on.
+use Rattle.std.specs.Prelude.{◌≡◌, ℕ, List, length, ℤ, slice_get, IsSomeAnd}
+use Rattle.std.specs.List.{All, range_with_len}
+use Rattle.std.specs.List.Sorted.{IsPermutation}
+use Rattle.lists.specs.Rows.{Rows}
+use Rattle.operations.specs.declared.units.Kind.{Kind}
+use Rattle.operations.specs.Operations.{IsOperand}
+use Rattle.micro_image.specs.declared.image.Image.{Image}
+use Rattle.micro_image.specs.Valid.{IsValid}
+use Rattle.cycle_sim.specs.Machine.{Snapshot}
+
+-- the unit is there, and of the kind
+abbrev pub IsOfKind : Image → Kind → ℕ → Type 0
+IsOfKind image kind unit = IsSomeAnd (slice_get image.units unit) (λ found. found.kind ≡ kind)
+
+-- a row has a word for each of these widths, of magnitude at most 2 ^ 39
+pub record IsInputRow (widths : List ℕ) (row : List ℤ) : Type 0 where
+  pub count : length row ≡ length widths
+  pub words : All IsOperand row
+
+abbrev pub AreInputRows : List ℕ → Rows → Type 0
+AreInputRows widths rows = All (IsInputRow widths) rows
+
+-- the machine runs the image and is at this cycle, and the units are in some order
+pub record IsRunOf (image : Image) (order : List ℕ) (machine : Snapshot) (cycle : ℕ) : Type 0 where
+  pub valid : IsValid image
+  pub same : machine.image ≡ image
+  pub all_units : IsPermutation (range_with_len 0 (length image.units)) order
+  pub time : machine.cycle ≡ cycle

@@ -1,0 +1,1 @@
+"""Runs of microcode cycle by cycle, as `silc_show trace` prints them, and waveforms of them."""
