@@ -53,10 +53,15 @@ def faulty(number, changed, output_latency=1, more_units=()):
     return program(16, plain_units(output_latency) + list(more_units), words, buses=1)
 
 
+def taken_twice():
+    """y = x + 1 whose sum is taken twice: by the output and by register 1 at 2.0, which nothing reads. No fault."""
+    return faulty(2, word([issue(2, "add", [0, 0], width=8)], [(2, 0)], [(2, 0, 0, 1), (3, 0, 0, 0)]))
+
+
 def out_of_memory(address):
-    """A load from a ram of one cell."""
+    """A load from a ram of one cell, beside the input."""
     ram = unit("ram", files=[[address], [0]], cells=[0])
-    return faulty(0, word([issue(4, "load", [0, 0])]), more_units=[ram])
+    return faulty(0, word([issue(0, "input"), issue(4, "load", [0, 0])], [(0, 0)], [(2, 0, 0, 0)]), more_units=[ram])
 
 
 def address_from_input():
@@ -159,6 +164,7 @@ FILES = {
     "machine/busy.mic": faulty(4, word([issue(3, "output", [0])]), 2),
     "machine/two-drivers.mic": faulty(2, word([issue(2, "add", [0, 0], width=8)], [(1, 0), (2, 0)], [(3, 0, 0, 0)])),
     "machine/file-twice.mic": faulty(0, word([issue(0, "input")], [(0, 0)], [(2, 0, 0, 0), (2, 0, 0, 1)])),
+    "machine/taken-twice.mic": taken_twice(),
     "machine/no-driver.mic": faulty(0, word([issue(0, "input")], [], [(2, 0, 0, 0)])),
     "machine/no-result.mic": faulty(4, word([], [(0, 0)])),
     "machine/address-above.mic": out_of_memory(1),
