@@ -155,8 +155,8 @@ pub fn silc_never_fails(
     silc_fails(alloc, words, desk, kept)
 }
 
-/// What a command answers, unless memory runs out, where no fault of its own rose: it is done where the files are such
-/// that no refusal is due, where one is due, it answers this one, and where its samples stop it, it answers why.
+/// What a command that is not refused answers, unless memory runs out, where no fault of its own rose: where the files
+/// are such that no refusal is due, it is done.
 pub fn silc_completes<D: Desk>(
     alloc: Global,
     words: &[String],
@@ -168,7 +168,6 @@ pub fn silc_completes<D: Desk>(
     ensures ending { (command : Command) → IsCommandIn words.now command
         → Reported (λ (mid : View). IsEnding command (D.view desk.old) mid kept.new result) result
         (D.view desk.old) (D.view desk.new) }
-
     ensures compiles { (src datapath out : Name) → IsCompile words.now src datapath out
         → HasNoFaultRisen (spec.compile src datapath out) (D.view desk.old) (D.view desk.new)
         → Specifies (ArePlannable src datapath) (D.view desk.old) → IsDoneOrMemory result }
@@ -193,8 +192,23 @@ pub fn silc_completes<D: Desk>(
     ensures runs { (src datapath samples out : Name) → IsRun words.now src datapath samples out
         → HasNoFaultRisen (spec.run src datapath samples out) (D.view desk.old) (D.view desk.new)
         → Specifies (HasPlannedStream src datapath samples) (D.view desk.old) → IsDoneOrMemory result }
+{
+    silc(alloc, words, desk, kept)
+}
 
-    // Where the files are refused, it answers the refusal.
+/// What a command that is refused answers, unless memory runs out, where no fault of its own rose: the refusal that the
+/// files have.
+pub fn silc_refuses<D: Desk>(
+    alloc: Global,
+    words: &[String],
+    desk: &mut D,
+    kept: &mut Kept,
+) -> Status
+    requires { kept.old ≡ Nothing }
+    ensures words { result ≢ Status.Words → IsCommand words.now }
+    ensures ending { (command : Command) → IsCommandIn words.now command
+        → Reported (λ (mid : View). IsEnding command (D.view desk.old) mid kept.new result) result
+        (D.view desk.old) (D.view desk.new) }
     ensures compile_refuses { (src datapath out : Name) → IsCompile words.now src datapath out
         → HasNoFaultRisen (spec.compile src datapath out) (D.view desk.old) (D.view desk.new)
         → (why : of_status.Status) → IsRefusal why
@@ -222,8 +236,18 @@ pub fn silc_completes<D: Desk>(
         → HasNoFaultRisen (spec.run src datapath samples out) (D.view desk.old) (D.view desk.new)
         → (why : of_status.Status) → IsRefusal why
         → Specifies (AreRefused src datapath why) (D.view desk.old) → IsThisOrMemory why result }
+{
+    silc(alloc, words, desk, kept)
+}
 
-    // Where its samples stop it, it answers why.
+/// What a command answers that runs over samples, unless memory runs out, where no fault of its own rose: where its
+/// samples stop it, it answers why.
+pub fn silc_stops<D: Desk>(alloc: Global, words: &[String], desk: &mut D, kept: &mut Kept) -> Status
+    requires { kept.old ≡ Nothing }
+    ensures words { result ≢ Status.Words → IsCommand words.now }
+    ensures ending { (command : Command) → IsCommandIn words.now command
+        → Reported (λ (mid : View). IsEnding command (D.view desk.old) mid kept.new result) result
+        (D.view desk.old) (D.view desk.new) }
     ensures sim_ends { (mic samples out : Name) → IsSim words.now mic samples out
         → HasNoFaultRisen (spec.sim mic samples out) (D.view desk.old) (D.view desk.new)
         → Specifies (HasSomeImage mic) (D.view desk.old) → IsEndedByRun result }
