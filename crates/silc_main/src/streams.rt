@@ -2,6 +2,9 @@
 //!
 //! The standard input and output are read and written as they are. To open one anew would begin at its start, would empty
 //! a file that others write to as well, and would fail at a socket.
+ghost use Rattle.std.specs.Prelude.{◌≡◌, ◌↔◌, Ok, IfOk};
+ghost use Rattle.silc_main.specs.Streams.{standard_input, standard_output, IsGivenSource, IsGivenSink};
+
 use std::fs::{self, File};
 use std::io::{self, ErrorKind, Read, Stdin, Stdout, Write};
 
@@ -24,7 +27,10 @@ pub enum Sink {
 }
 
 impl Source {
-    pub fn open(rt: &HostRuntime, name: &str) -> io::Result<Source> {
+    /// Opens the named file, or takes the standard input as it is.
+    pub fn open(rt: &HostRuntime, name: &str) -> io::Result<Source>
+        ensures { IfOk result (λ source. IsGivenSource source ↔ (name.now ≡ standard_input)) }
+    {
         if name == STANDARD_INPUT {
             Ok(Source::Given(rt.stdin()))
         } else {
@@ -52,7 +58,9 @@ fn is_unsynced(error: &io::Error) -> bool {
 
 impl Sink {
     /// Makes the named file anew. What stands in the standard output already stays there.
-    pub fn create(rt: &HostRuntime, name: &str) -> io::Result<Sink> {
+    pub fn create(rt: &HostRuntime, name: &str) -> io::Result<Sink>
+        ensures { IfOk result (λ sink. IsGivenSink sink ↔ (name.now ≡ standard_output)) }
+    {
         if name == STANDARD_OUTPUT {
             Ok(Sink::Given(rt.stdout()))
         } else {
@@ -62,7 +70,9 @@ impl Sink {
 
     /// Waits until the host has stored what was written to a file, and fails where it could not, as it may find out after
     /// the last write. The standard output stays open, and is not waited for: std can sync only what it opened.
-    pub fn store(&self) -> io::Result<()> {
+    pub fn store(&self) -> io::Result<()>
+        ensures { IsGivenSink self.now → result ≡ Ok tt }
+    {
         match self {
             Sink::Opened(file) => match file.sync_all() {
                 Err(error) if !is_unsynced(&error) => Err(error),
