@@ -4,7 +4,11 @@ use Rattle.std.proofs.lemmas.Option.{slice_get_within}
 use Rattle.digraph.specs.Arcs.{HasArc, Reaches, by_arc, by_arcs}
 
 -- a chain of arcs is one of other arcs that stand for them
-pub carried : (Arc Other : ℕ → ℕ → Type 0) → ((v w : ℕ) → Arc v w → Other v w) → (v w : ℕ) → Reaches Arc v w → Reaches Other v w
+pub carried : (Arc Other : ℕ → ℕ → Type 0)
+    → ((v w : ℕ) → Arc v w → Other v w)
+    → (v w : ℕ)
+    → Reaches Arc v w
+    → Reaches Other v w
 carried Arc Other same v w (by_arc a) = by_arc (same v w a)
 carried Arc Other same v x (by_arcs {w = w} a rest) = by_arcs (same v w a) (carried Arc Other same w x rest)
 

@@ -47,7 +47,8 @@ nearest_of-lowest : nearest_of true 10 1 15 ≡ negsuc 32767
 nearest_of-lowest = refl
 
 -- 127 times 127 with 4 places
-apply_of-product : apply_of Mul (record { shift = pos 4; mode = Trunc; width = 8 }) (pos 127) (pos 127) (pos 0) ≡ negsuc 15
+apply_of-product : apply_of Mul (record { shift = pos 4; mode = Trunc; width = 8 }) (pos 127) (pos 127) (pos 0)
+    ≡ negsuc 15
 unfolding wrap_of
 apply_of-product = refl
 

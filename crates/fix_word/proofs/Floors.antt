@@ -16,10 +16,16 @@ times_apart l k n =
     let f : (up (l -ℤ k) + down l + up k) * n ≡ (down (l -ℤ k) + up l + down k) * n = ap (λ (t : ℕ). t * n) e in
     omega (arith, ints)
 
-same_floor : (apart q r r' : ℤ) (d : ℕ) → r *ℤ pos d ≡ r' *ℤ pos d +ℤ apart *ℤ pos d → r ≡ r' +ℤ apart → IsFloor q d r → IsFloor q d r' → r ≡ r'
+same_floor : (apart q r r' : ℤ) (d : ℕ)
+    → r *ℤ pos d ≡ r' *ℤ pos d +ℤ apart *ℤ pos d
+    → r ≡ r' +ℤ apart
+    → IsFloor q d r
+    → IsFloor q d r'
+    → r ≡ r'
 same_floor (pos zero) q r r' d e f x y = omega (arith, ints)
 same_floor (pos (suc j)) q r r' d e f x y = absurd (omega (arith, ints, x.below, x.above, y.below, y.above))
 same_floor (negsuc j) q r r' d e f x y = absurd (omega (arith, ints, x.below, x.above, y.below, y.above))
 
 pub floor_unique : (q : ℤ) (d : ℕ) (r r' : ℤ) → IsFloor q d r → IsFloor q d r' → r ≡ r'
-floor_unique q d r r' x y = same_floor (r -ℤ r') q r r' d (omega (arith, ints, times_apart r r' d)) (omega (arith, ints)) x y
+floor_unique q d r r' x y =
+    same_floor (r -ℤ r') q r r' d (omega (arith, ints, times_apart r r' d)) (omega (arith, ints)) x y

@@ -1,5 +1,6 @@
 -- An operation has one result at its operands.
-use Rattle.std.proofs.Common.{arith, ◌≡◌, refl, sym, subst, ◌∙◌, ◌≢◌, ◌⊎◌, inl, inr, ◌^◌, ◌≤◌, ◌-◌, ℤ, pos, ◌+ℤ◌, ◌-ℤ◌, ◌*ℤ◌, neg_ℤ, ◌≤ℤ◌, ◌<ℤ◌, unsigned_abs, int_lt, int_le, Bool, true, false, not, ◌&&◌, ◌||◌}
+use Rattle.std.proofs.Common.{arith, ◌≡◌, refl, sym, subst, ◌∙◌, ◌≢◌, ◌⊎◌, inl, inr, ◌^◌, ◌≤◌, ◌-◌, ℤ, pos, ◌+ℤ◌, ◌-ℤ◌}
+use Rattle.std.proofs.Common.{◌*ℤ◌, neg_ℤ, ◌≤ℤ◌, ◌<ℤ◌, unsigned_abs, int_lt, int_le, Bool, true, false, not, ◌&&◌, ◌||◌}
 use Rattle.std.specs.Ordering.{int_eq}
 use Rattle.std.specs.Bool.{Decides}
 use Rattle.std.proofs.lemmas.Bool.Decides.{Decides-int_eq}
@@ -10,7 +11,8 @@ use Rattle.fix_word.specs.Operations.{IsReady, IsTruth, IsSet, IsChoice, IsApply
 use Rattle.fix_word.specs.Values.{form_of, bit_of, truth_of, choice_of, apply_of}
 use Rattle.fix_word.specs.declared.types.Format.{Format}
 use Rattle.fix_word.specs.declared.operation.Op.{Op}
-use Rattle.fix_word.specs.declared.operation.Op.TheVariants.{Add, Sub, Neg, Pass, Lt, Le, Eq, Ne, And, Or, Not, Mul, Sel}
+use Rattle.fix_word.specs.declared.operation.Op.TheVariants.{Add, Sub, Neg, Pass, Lt, Le, Eq, Ne, And, Or, Not, Mul}
+use Rattle.fix_word.specs.declared.operation.Op.TheVariants.{Sel}
 use Rattle.fix_word.proofs.Forms.{form_is, form_word, form_unique}
 
 truth_is : (P : Type 0) (b : Bool) → Decides b P → IsTruth P (bit_of b)
@@ -66,13 +68,21 @@ apply_is Lt fmt a b c h = truth_is (a <ℤ b) (int_lt a b) (lt_decides a b)
 apply_is Le fmt a b c h = truth_is (a ≤ℤ b) (int_le a b) (le_decides a b)
 apply_is Eq fmt a b c h = truth_is (a ≡ b) (int_eq a b) (Decides-int_eq a b)
 apply_is Ne fmt a b c h = truth_is (a ≢ b) (not (int_eq a b)) (not_decides (a ≡ b) (int_eq a b) (Decides-int_eq a b))
-apply_is And fmt a b c h = truth_is (IsSet a × IsSet b) (truth_of a && truth_of b) (and_decides (IsSet a) (IsSet b) (truth_of a) (truth_of b) (set_decides a) (set_decides b))
-apply_is Or fmt a b c h = truth_is (IsSet a ⊎ IsSet b) (truth_of a || truth_of b) (or_decides (IsSet a) (IsSet b) (truth_of a) (truth_of b) (set_decides a) (set_decides b))
+apply_is And fmt a b c h =
+    truth_is (IsSet a × IsSet b) (truth_of a && truth_of b)
+    (and_decides (IsSet a) (IsSet b) (truth_of a) (truth_of b) (set_decides a) (set_decides b))
+apply_is Or fmt a b c h =
+    truth_is (IsSet a ⊎ IsSet b) (truth_of a || truth_of b)
+    (or_decides (IsSet a) (IsSet b) (truth_of a) (truth_of b) (set_decides a) (set_decides b))
 apply_is Not fmt a b c h = truth_is (a ≡ pos 0) (int_eq a (pos 0)) (Decides-int_eq a (pos 0))
 apply_is Sel fmt a b c h = choice_is a b c (int_eq a (pos 0)) (Decides-int_eq a (pos 0))
 apply_is op fmt a b c h = absurd h
 
-pub apply_unique : (op : Op) (fmt : Format) (a b c m m' : ℤ) → IsReady op fmt → IsApply op fmt a b c m → IsApply op fmt a b c m' → m ≡ m'
+pub apply_unique : (op : Op) (fmt : Format) (a b c m m' : ℤ)
+    → IsReady op fmt
+    → IsApply op fmt a b c m
+    → IsApply op fmt a b c m'
+    → m ≡ m'
 apply_unique Add fmt a b c m m' h x y = form_unique (a +ℤ b) fmt m m' h.narrowest x y
 apply_unique Sub fmt a b c m m' h x y = form_unique (a -ℤ b) fmt m m' h.narrowest x y
 apply_unique Neg fmt a b c m m' h x y = form_unique (neg_ℤ a) fmt m m' h.narrowest x y
@@ -88,7 +98,10 @@ apply_unique Not fmt a b c m m' h x y = truth_unique (a ≡ pos 0) m m' x y
 apply_unique Sel fmt a b c m m' h x y = choice_unique a b c m m' x y
 apply_unique op fmt a b c m m' h x y = absurd h
 
-pub apply_value : (op : Op) (fmt : Format) (a b c m : ℤ) → IsReady op fmt → IsApply op fmt a b c m → m ≡ apply_of op fmt a b c
+pub apply_value : (op : Op) (fmt : Format) (a b c m : ℤ)
+    → IsReady op fmt
+    → IsApply op fmt a b c m
+    → m ≡ apply_of op fmt a b c
 apply_value op fmt a b c m h x = apply_unique op fmt a b c m (apply_of op fmt a b c) h x (apply_is op fmt a b c h)
 
 form_small : (q : ℤ) (fmt : Format) → IsFormat fmt → unsigned_abs (form_of q fmt) ≤ 2 ^ 39
@@ -101,11 +114,18 @@ bit_small : (b : Bool) → unsigned_abs (bit_of b) ≤ 2 ^ 39
 bit_small true = omega arith
 bit_small false = omega arith
 
-choice_small : (t : Bool) (b c : ℤ) → unsigned_abs b ≤ 2 ^ 39 → unsigned_abs c ≤ 2 ^ 39 → unsigned_abs (choice_of t b c) ≤ 2 ^ 39
+choice_small : (t : Bool) (b c : ℤ)
+    → unsigned_abs b ≤ 2 ^ 39
+    → unsigned_abs c ≤ 2 ^ 39
+    → unsigned_abs (choice_of t b c) ≤ 2 ^ 39
 choice_small true b c k l = k
 choice_small false b c k l = l
 
-value_small : (op : Op) (fmt : Format) (a b c : ℤ) → IsReady op fmt → unsigned_abs b ≤ 2 ^ 39 → unsigned_abs c ≤ 2 ^ 39 → unsigned_abs (apply_of op fmt a b c) ≤ 2 ^ 39
+value_small : (op : Op) (fmt : Format) (a b c : ℤ)
+    → IsReady op fmt
+    → unsigned_abs b ≤ 2 ^ 39
+    → unsigned_abs c ≤ 2 ^ 39
+    → unsigned_abs (apply_of op fmt a b c) ≤ 2 ^ 39
 value_small Add fmt a b c h k l = form_small (a +ℤ b) fmt h
 value_small Sub fmt a b c h k l = form_small (a -ℤ b) fmt h
 value_small Neg fmt a b c h k l = form_small (neg_ℤ a) fmt h
@@ -122,6 +142,11 @@ value_small Sel fmt a b c h k l = choice_small (truth_of a) b c k l
 value_small op fmt a b c h k l = absurd h
 
 -- a result is an operand again
-pub apply_small : (op : Op) (fmt : Format) (a b c m : ℤ) → IsReady op fmt → unsigned_abs b ≤ 2 ^ 39 → unsigned_abs c ≤ 2 ^ 39 → IsApply op fmt a b c m → unsigned_abs m ≤ 2 ^ 39
+pub apply_small : (op : Op) (fmt : Format) (a b c m : ℤ)
+    → IsReady op fmt
+    → unsigned_abs b ≤ 2 ^ 39
+    → unsigned_abs c ≤ 2 ^ 39
+    → IsApply op fmt a b c m
+    → unsigned_abs m ≤ 2 ^ 39
 apply_small op fmt a b c m h k l x =
     subst (λ (z : ℤ). unsigned_abs z ≤ 2 ^ 39) (sym (apply_value op fmt a b c m h x)) (value_small op fmt a b c h k l)

@@ -1,5 +1,6 @@
 -- A number has one wrapped word.
-use Rattle.std.proofs.Common.{arith, ◌≡◌, ap, ℕ, zero, suc, ◌^◌, ◌≤◌, ◌+◌, ◌-◌, ◌*◌, ℤ, pos, negsuc, ◌+ℤ◌, ◌-ℤ◌, ◌*ℤ◌, neg_ℤ, ◌≤ℤ◌, ◌<ℤ◌}
+use Rattle.std.proofs.Common.{arith, ◌≡◌, ap, ℕ, zero, suc, ◌^◌, ◌≤◌, ◌+◌, ◌-◌, ◌*◌, ℤ, pos, negsuc, ◌+ℤ◌, ◌-ℤ◌, ◌*ℤ◌}
+use Rattle.std.proofs.Common.{neg_ℤ, ◌≤ℤ◌, ◌<ℤ◌}
 use Rattle.std.proofs.lemmas.Int.{ints}
 use Rattle.std.proofs.lemmas.Nat.{pow_pos}
 use Rattle.std.proofs.lemmas.Grind.{pow_more}
@@ -18,7 +19,8 @@ pub wrap_is : (q : ℤ) (w : ℕ) → 1 ≤ w → IsWrap q w (wrap_of q w)
 unfolding wrap_of
 wrap_is q w h =
     let e : 2 ^ w ≡ 2 * 2 ^ (w - 1) = two_halves w h in
-    let f : IsFloor (q +ℤ pos (2 ^ (w - 1))) (2 ^ w) (floor_of (q +ℤ pos (2 ^ (w - 1))) (2 ^ w)) = floor_is (q +ℤ pos (2 ^ (w - 1))) (2 ^ w) (pow_pos w) in
+    let f : IsFloor (q +ℤ pos (2 ^ (w - 1))) (2 ^ w) (floor_of (q +ℤ pos (2 ^ (w - 1))) (2 ^ w)) =
+    floor_is (q +ℤ pos (2 ^ (w - 1))) (2 ^ w) (pow_pos w) in
     record {
       word = record { low = omega (arith, ints, f.below, f.above); high = omega (arith, ints, f.below, f.above) };
       congruent = (floor_of (q +ℤ pos (2 ^ (w - 1))) (2 ^ w), omega (arith, ints));
@@ -27,7 +29,14 @@ wrap_is q w h =
 pub wrap_word : (q : ℤ) (w : ℕ) → 1 ≤ w → IsWord w (wrap_of q w)
 wrap_word q w h = (wrap_is q w h).word
 
-same_word : (apart m m' : ℤ) (n half : ℕ) → n ≡ 2 * half → m ≡ m' +ℤ apart *ℤ pos n → neg_ℤ (pos half) ≤ℤ m → m <ℤ pos half → neg_ℤ (pos half) ≤ℤ m' → m' <ℤ pos half → m ≡ m'
+same_word : (apart m m' : ℤ) (n half : ℕ)
+    → n ≡ 2 * half
+    → m ≡ m' +ℤ apart *ℤ pos n
+    → neg_ℤ (pos half) ≤ℤ m
+    → m <ℤ pos half
+    → neg_ℤ (pos half) ≤ℤ m'
+    → m' <ℤ pos half
+    → m ≡ m'
 same_word (pos zero) m m' n half e f a b a' b' = omega (arith, ints)
 same_word (pos (suc j)) m m' n half e f a b a' b' = absurd (omega (arith, ints))
 same_word (negsuc j) m m' n half e f a b a' b' = absurd (omega (arith, ints))

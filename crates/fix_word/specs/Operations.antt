@@ -3,7 +3,8 @@ use Rattle.std.specs.Prelude.{◌≡◌, ◌≢◌, ◌⊎◌, ℤ, pos, ◌+ℤ
 use Rattle.fix_word.specs.Words.{IsForm, IsFormat}
 use Rattle.fix_word.specs.declared.types.Format.{Format}
 use Rattle.fix_word.specs.declared.operation.Op.{Op}
-use Rattle.fix_word.specs.declared.operation.Op.TheVariants.{Add, Sub, Neg, Pass, Lt, Le, Eq, Ne, And, Or, Not, Mul, Sel}
+use Rattle.fix_word.specs.declared.operation.Op.TheVariants.{Add, Sub, Neg, Pass, Lt, Le, Eq, Ne, And, Or, Not, Mul}
+use Rattle.fix_word.specs.declared.operation.Op.TheVariants.{Sel}
 
 -- the operation is one from Add to Sel, and where it goes through the format, the format is allowed
 abbrev pub IsReady : Op → Format → Type 0

@@ -1,5 +1,6 @@
 -- The one number of each relation, as a function that computes.
-use Rattle.std.specs.Prelude.{ℕ, zero, suc, ◌-◌, ◌*◌, ◌/◌, ◌^◌, ℤ, pos, negsuc, ◌+ℤ◌, ◌-ℤ◌, ◌*ℤ◌, neg_ℤ, int_lt, int_le, Bool, true, false, not, ◌&&◌, ◌||◌}
+use Rattle.std.specs.Prelude.{ℕ, zero, suc, ◌-◌, ◌*◌, ◌/◌, ◌^◌, ℤ, pos, negsuc, ◌+ℤ◌, ◌-ℤ◌, ◌*ℤ◌, neg_ℤ, int_lt, int_le}
+use Rattle.std.specs.Prelude.{Bool, true, false, not, ◌&&◌, ◌||◌}
 use Rattle.std.specs.Ordering.{int_eq}
 use Rattle.fix_word.specs.Words.{signed}
 use Rattle.fix_word.specs.declared.types.Shape.{Shape}
@@ -7,7 +8,8 @@ use Rattle.fix_word.specs.declared.types.Format.{Format}
 use Rattle.fix_word.specs.declared.types.Mode.{Mode}
 use Rattle.fix_word.specs.declared.types.Mode.TheVariants.{Trunc, Round}
 use Rattle.fix_word.specs.declared.operation.Op.{Op}
-use Rattle.fix_word.specs.declared.operation.Op.TheVariants.{Add, Sub, Neg, Pass, Lt, Le, Eq, Ne, And, Or, Not, Mul, Sel}
+use Rattle.fix_word.specs.declared.operation.Op.TheVariants.{Add, Sub, Neg, Pass, Lt, Le, Eq, Ne, And, Or, Not, Mul}
+use Rattle.fix_word.specs.declared.operation.Op.TheVariants.{Sel}
 
 -- floor (q / d)
 abbrev pub floor_of : ℤ → ℕ → ℤ

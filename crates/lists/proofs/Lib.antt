@@ -1,1 +1,7 @@
+pub mod Bools
+pub mod Each
+pub mod Numbers
 pub mod Places
+pub mod Ranges
+pub mod Results
+pub mod Zips

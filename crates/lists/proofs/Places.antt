@@ -1,5 +1,6 @@
 -- What stands at a place of a list, after an edit of it.
-use Rattle.std.proofs.Common.{◌≡◌, ◌≢◌, ◌⊎◌, ℕ, zero, suc, ◌+◌, ◌-◌, ◌<◌, ◌≤◌, List, [], ◌∷◌, ◌++◌, Some, length, get_or, take, drop, refl, sym, ap, subst, ◌∙◌, inl, inr, arith}
+use Rattle.std.proofs.Common.{◌≡◌, ◌≢◌, ◌⊎◌, ℕ, zero, suc, ◌+◌, ◌-◌, ◌<◌, ◌≤◌, List, [], ◌∷◌, ◌++◌, Some, length}
+use Rattle.std.proofs.Common.{get_or, take, drop, refl, sym, ap, subst, ◌∙◌, inl, inr, arith}
 use Rattle.std.specs.Prelude.{Contains, slice_get}
 use Rattle.std.specs.List.{AllPairs}
 use Rattle.std.proofs.Math.ListN.{set}
@@ -10,6 +11,9 @@ use Rattle.std.proofs.lemmas.Option.{slice_get_within, slice_get-get_or, get_or_
 
 pub some_once : {A : Type 0} {x y : A} {o : _} → o ≡ Some x → o ≡ Some y → x ≡ y
 some_once e f = cc
+
+pub some_is : {A : Type 0} (x y : A) → Some x ≡ Some y → x ≡ y
+some_is x y e = cc
 
 -- nothing is in the empty list
 pub none_there : {A P : Type 0} (x : A) → Contains [] x → P
@@ -45,7 +49,10 @@ module _ {A : Type 0} where
   at_left (y ∷ xs) ys zero x e = e
   at_left (y ∷ xs) ys (suc i) x e = at_left xs ys i x e
 
-  pub at_right : (xs ys : List A) (i j : ℕ) (x : A) → i ≡ length xs + j → slice_get ys j ≡ Some x → slice_get (xs ++ ys) i ≡ Some x
+  pub at_right : (xs ys : List A) (i j : ℕ) (x : A)
+      → i ≡ length xs + j
+      → slice_get ys j ≡ Some x
+      → slice_get (xs ++ ys) i ≡ Some x
   at_right [] ys i j x is e = let same : i ≡ j = omega arith in subst (λ (k : ℕ). slice_get ys k ≡ Some x) (sym same) e
   at_right (y ∷ xs) ys zero j x is e = absurd (omega arith)
   at_right (y ∷ xs) ys (suc i) j x is e = at_right xs ys i j x (omega arith) e
@@ -53,24 +60,34 @@ module _ {A : Type 0} where
   pub at_end : (xs : List A) (x : A) → slice_get (xs ++ x ∷ []) (length xs) ≡ Some x
   at_end xs x = at_right xs (x ∷ []) (length xs) 0 x (omega arith) refl
 
-  pub at_append : (xs ys : List A) (i : ℕ) (x : A) → slice_get (xs ++ ys) i ≡ Some x → (slice_get xs i ≡ Some x) ⊎ ((j : ℕ) × (i ≡ length xs + j) × (slice_get ys j ≡ Some x))
+  pub at_append : (xs ys : List A) (i : ℕ) (x : A)
+      → slice_get (xs ++ ys) i ≡ Some x
+      → (slice_get xs i ≡ Some x) ⊎ ((j : ℕ) × (i ≡ length xs + j) × (slice_get ys j ≡ Some x))
   at_append [] ys i x e = inr (i, omega arith, e)
   at_append (y ∷ xs) ys zero x e = inl e
-  at_append (y ∷ xs) ys (suc i) x e = elim (at_append xs ys i x e) [ inl h ↦ inl h | inr h ↦ inr (h.0, (let is = h.1 in omega arith), h.2) ]
+  at_append (y ∷ xs) ys (suc i) x e =
+      elim (at_append xs ys i x e) [ inl h ↦ inl h | inr h ↦ inr (h.0, (let is = h.1 in omega arith), h.2) ]
 
-  pub at_push : (xs : List A) (y : A) (i : ℕ) (x : A) → slice_get (xs ++ y ∷ []) i ≡ Some x → (slice_get xs i ≡ Some x) ⊎ ((i ≡ length xs) × (y ≡ x))
+  pub at_push : (xs : List A) (y : A) (i : ℕ) (x : A)
+      → slice_get (xs ++ y ∷ []) i ≡ Some x
+      → (slice_get xs i ≡ Some x) ⊎ ((i ≡ length xs) × (y ≡ x))
   at_push [] y zero x e = inr (refl, (cc))
   at_push [] y (suc i) x e = absurd (cc)
   at_push (z ∷ xs) y zero x e = inl e
   at_push (z ∷ xs) y (suc i) x e = elim (at_push xs y i x e) [ inl h ↦ inl h | inr h ↦ inr (ap suc h.0, h.1) ]
 
-  pub at_front : (n : ℕ) (xs : List A) (i : ℕ) (x : A) → i < n → slice_get xs i ≡ Some x → slice_get (take n xs) i ≡ Some x
+  pub at_front : (n : ℕ) (xs : List A) (i : ℕ) (x : A)
+      → i < n
+      → slice_get xs i ≡ Some x
+      → slice_get (take n xs) i ≡ Some x
   at_front n [] i x below e = absurd (cc)
   at_front zero (y ∷ xs) i x below e = absurd (omega arith)
   at_front (suc n) (y ∷ xs) zero x below e = e
   at_front (suc n) (y ∷ xs) (suc i) x below e = at_front n xs i x (omega arith) e
 
-  pub from_take : (n : ℕ) (xs : List A) (i : ℕ) (x : A) → slice_get (take n xs) i ≡ Some x → (i < n) × (slice_get xs i ≡ Some x)
+  pub from_take : (n : ℕ) (xs : List A) (i : ℕ) (x : A)
+      → slice_get (take n xs) i ≡ Some x
+      → (i < n) × (slice_get xs i ≡ Some x)
   from_take zero xs i x e = absurd (cc)
   from_take (suc n) [] i x e = absurd (cc)
   from_take (suc n) (y ∷ xs) zero x e = (omega arith, e)
@@ -100,10 +117,13 @@ module _ {A : Type 0} where
   at_set_other (y ∷ xs) (suc i) (suc j) x other = at_set_other xs i j x (λ e. other (ap suc e))
 
   -- the last element, and those in front of it
-  pub last_split : (xs : List A) (x : A) → slice_get xs (length xs - 1) ≡ Some x → xs ≡ take (length xs - 1) xs ++ x ∷ []
+  pub last_split : (xs : List A) (x : A)
+      → slice_get xs (length xs - 1) ≡ Some x
+      → xs ≡ take (length xs - 1) xs ++ x ∷ []
   last_split xs x e =
       let within = slice_get_within xs (length xs - 1) x e in
-      sym (take_all (length xs - 1 + 1) xs (omega arith)) ∙ take_more xs (length xs - 1) x within ∙ ap (λ y. take (length xs - 1) xs ++ y ∷ []) (get_or_from_slice_get xs (length xs - 1) x x e)
+      sym (take_all (length xs - 1 + 1) xs (omega arith)) ∙ take_more xs (length xs - 1) x within
+      ∙ ap (λ y. take (length xs - 1) xs ++ y ∷ []) (get_or_from_slice_get xs (length xs - 1) x x e)
 
   pub front_pairs : (R : A → A → Type 0) (xs : List A) (y : A) → AllPairs R (xs ++ y ∷ []) → AllPairs R xs
   front_pairs R xs y pairs i j d below within =
@@ -115,6 +135,26 @@ module _ {A : Type 0} where
   pub before_end : (R : A → A → Type 0) (xs : List A) (y x : A) → AllPairs R (xs ++ y ∷ []) → Contains xs x → R x y
   before_end R xs y x pairs (k, within, at) =
       let size = length_push xs y in
-      let h : R (get_or (xs ++ y ∷ []) k x) (get_or (xs ++ y ∷ []) (length xs) x) = pairs k (length xs) x within (omega arith) in
+      let h : R (get_or (xs ++ y ∷ []) k x) (get_or (xs ++ y ∷ []) (length xs) x) =
+      pairs k (length xs) x within (omega arith) in
       subst (λ (z : A). R z y) (get_or_append_left xs (y ∷ []) x k within ∙ at)
       (subst (λ (z : A). R (get_or (xs ++ y ∷ []) k x) z) (get_or_push xs y x (length xs) refl) h)
+
+  pub some_at : (xs : List A) (d : ℕ) → d < length xs → (x : A) × (slice_get xs d ≡ Some x)
+  some_at [] d less = absurd (omega arith)
+  some_at (y ∷ xs) zero less = (y, refl)
+  some_at (y ∷ xs) (suc d) less = some_at xs d (omega arith)
+
+  pub drop_end : (xs : List A) (i : ℕ) → length xs ≤ i → drop i xs ≡ []
+  drop_end [] zero past = refl
+  drop_end [] (suc i) past = refl
+  drop_end (x ∷ xs) zero past = absurd (omega arith)
+  drop_end (x ∷ xs) (suc i) past = drop_end xs i (omega arith)
+
+  pub drop_front : (front rest : List A) → drop (length front) (front ++ rest) ≡ rest
+  drop_front [] rest = refl
+  drop_front (x ∷ xs) rest = drop_front xs rest
+
+  pub take_front : (front rest : List A) → take (length front) (front ++ rest) ≡ front
+  take_front [] rest = refl
+  take_front (x ∷ xs) rest = ap (λ t. x ∷ t) (take_front xs rest)

@@ -1,6 +1,7 @@
 -- The first fault of a thing, by the faults of its parts.
 use Rattle.std.proofs.Common.{◌≡◌, ◌∙◌, ℕ, zero, suc, List, [], ◌∷◌, Result, Ok, Err, refl, sym, subst, inl, inr, arith}
-use Rattle.ranked_faults.specs.Ranked.{FaultSet, FaultRow, StandsBefore, IsFirst, IsClear, no_faults, faults_in, own_fault, ◌before◌}
+use Rattle.ranked_faults.specs.Ranked.{FaultSet, FaultRow, StandsBefore, IsFirst, IsClear, no_faults, faults_in}
+use Rattle.ranked_faults.specs.Ranked.{own_fault, ◌before◌}
 
 -- two ranks that stand before one another are the same
 same_rank : (r s : List ℕ) → StandsBefore r s → StandsBefore s r → r ≡ s
@@ -26,7 +27,10 @@ module _ {F : Type 0} where
   none_clear [] f h = h
   none_clear (k ∷ r) f h = h
 
-  pub before_clear : (H : FaultSet F) (R : FaultRow F) → IsClear H → IsClear (faults_in R) → IsClear (faults_in (H before R))
+  pub before_clear : (H : FaultSet F) (R : FaultRow F)
+      → IsClear H
+      → IsClear (faults_in R)
+      → IsClear (faults_in (H before R))
   before_clear H R c d [] f h = h
   before_clear H R c d (zero ∷ r) f h = c r f h
   before_clear H R c d (suc k ∷ r) f h = d (k ∷ r) f h
@@ -43,8 +47,12 @@ module _ {F : Type 0} where
       least (zero ∷ s) f h = inr (refl, i.least s f h)
       least (suc k ∷ s) f h = inl (omega arith)
 
-  later : (H : FaultSet F) (R : FaultRow F) (e : F) → IsClear H → (q : List ℕ) → faults_in R q e
-      → ((s : List ℕ) (f : F) → faults_in R s f → StandsBefore q s) → IsFirst (faults_in (H before R)) e
+  later : (H : FaultSet F) (R : FaultRow F) (e : F)
+      → IsClear H
+      → (q : List ℕ)
+      → faults_in R q e
+      → ((s : List ℕ) (f : F) → faults_in R s f → StandsBefore q s)
+      → IsFirst (faults_in (H before R)) e
   later H R e c [] h l = absurd h
   later H R e c (j ∷ q) h l = record { rank = suc j ∷ q; here = h; least = least }
     where
@@ -57,14 +65,21 @@ module _ {F : Type 0} where
           up (inl a) = inl (omega arith)
           up (inr b) = inr (omega arith, b.1)
 
-  pub later_first : (H : FaultSet F) (R : FaultRow F) (e : F) → IsClear H → IsFirst (faults_in R) e → IsFirst (faults_in (H before R)) e
+  pub later_first : (H : FaultSet F) (R : FaultRow F) (e : F)
+      → IsClear H
+      → IsFirst (faults_in R) e
+      → IsFirst (faults_in (H before R)) e
   later_first H R e c i = later H R e c i.rank i.here i.least
 
   pub own_first : (P : Type 0) (g : F) (R : FaultRow F) → P → IsFirst (own_fault P g R) g
   own_first P g R p = record { rank = []; here = (p, refl); least = λ s f h. tt }
 
-  own_later : (P : Type 0) (g : F) (R : FaultRow F) (e : F) → (P → ⊥) → (q : List ℕ) → faults_in R q e
-      → ((s : List ℕ) (f : F) → faults_in R s f → StandsBefore q s) → IsFirst (own_fault P g R) e
+  own_later : (P : Type 0) (g : F) (R : FaultRow F) (e : F)
+      → (P → ⊥)
+      → (q : List ℕ)
+      → faults_in R q e
+      → ((s : List ℕ) (f : F) → faults_in R s f → StandsBefore q s)
+      → IsFirst (own_fault P g R) e
   own_later P g R e n [] h l = absurd h
   own_later P g R e n (j ∷ q) h l = record { rank = j ∷ q; here = h; least = least }
     where
@@ -73,11 +88,19 @@ module _ {F : Type 0} where
       least (k ∷ s) f a = l (k ∷ s) f a
 
   -- where the first thing has no fault, the row answers as its rest; where it has one, that is the answer
-  pub go_on : {A : Type 0} (H : FaultSet F) (R : FaultRow F) → IsClear H → (r : Result A F) → Answers (faults_in R) r → Answers (faults_in (H before R)) r
+  pub go_on : {A : Type 0} (H : FaultSet F) (R : FaultRow F)
+      → IsClear H
+      → (r : Result A F)
+      → Answers (faults_in R) r
+      → Answers (faults_in (H before R)) r
   go_on H R c (Ok x) a = before_clear H R c a
   go_on H R c (Err e) i = later_first H R e c i
 
-  pub own_go_on : {A : Type 0} (P : Type 0) (g : F) (R : FaultRow F) → (P → ⊥) → (r : Result A F) → Answers (faults_in R) r → Answers (own_fault P g R) r
+  pub own_go_on : {A : Type 0} (P : Type 0) (g : F) (R : FaultRow F)
+      → (P → ⊥)
+      → (r : Result A F)
+      → Answers (faults_in R) r
+      → Answers (own_fault P g R) r
   own_go_on P g R n (Ok x) a = own_clear P g R n a
   own_go_on P g R n (Err e) i = own_later P g R e n i.rank i.here i.least
 
@@ -85,7 +108,10 @@ module _ {F : Type 0} where
   none_single [] f g h i = absurd h
   none_single (k ∷ r) f g h i = absurd h
 
-  pub before_single : (H : FaultSet F) (R : FaultRow F) → IsSingle H → IsSingle (faults_in R) → IsSingle (faults_in (H before R))
+  pub before_single : (H : FaultSet F) (R : FaultRow F)
+      → IsSingle H
+      → IsSingle (faults_in R)
+      → IsSingle (faults_in (H before R))
   before_single H R a b [] f g h i = absurd h
   before_single H R a b (zero ∷ r) f g h i = a r f g h i
   before_single H R a b (suc k ∷ r) f g h i = b (k ∷ r) f g h i

@@ -1,9 +1,11 @@
 -- Who goes through a table in order meets the fault of least rank.
-use Rattle.std.proofs.Common.{◌≡◌, ◌<◌, ◌∙◌, ◌+◌, ℕ, suc, List, ◌∷◌, Bool, true, false, Result, Ok, Err, IsErrAnd, map, drop, length, get_or, refl, sym, ap, add-one, drop-cons, true≢false}
+use Rattle.std.proofs.Common.{◌≡◌, ◌<◌, ◌∙◌, ◌+◌, ℕ, suc, List, ◌∷◌, Bool, true, false, Result, Ok, Err, IsErrAnd, map}
+use Rattle.std.proofs.Common.{drop, length, get_or, refl, sym, ap, add-one, drop-cons, true≢false}
 use Rattle.ranked_faults.specs.Ranked.{FaultSet, FaultRow, faults_in, ◌before◌}
 use Rattle.ranked_faults.specs.Rules.{Rules, RuleRow, parts, own, none, ◌▸◌, unless, each_from, faults, row_faults}
 use Rattle.ranked_faults.specs.Private.FirstMet.{first, first_in, ◌>>◌}
-use Rattle.ranked_faults.proofs.FirstFaults.{Answers, IsSingle, none_clear, go_on, before_first, own_first, own_go_on, none_single, before_single, own_single}
+use Rattle.ranked_faults.proofs.FirstFaults.{Answers, IsSingle, none_clear, go_on, before_first, own_first, own_go_on}
+use Rattle.ranked_faults.proofs.FirstFaults.{none_single, before_single, own_single}
 
 module _ {F : Type 0} where
   pub then_ok : (r : Result (Unit {0}) F) → r >> Ok tt ≡ r
@@ -23,19 +25,24 @@ module _ {F : Type 0} where
   rule_holds true g e = refl
   rule_holds false g e = absurd (cc)
 
-  pub in_turn : (H : FaultSet F) (R : FaultRow F) (r s : Result (Unit {0}) F) → Answers H r → Answers (faults_in R) s → Answers (faults_in (H before R)) (r >> s)
+  pub in_turn : (H : FaultSet F) (R : FaultRow F) (r s : Result (Unit {0}) F)
+      → Answers H r
+      → Answers (faults_in R) s
+      → Answers (faults_in (H before R)) (r >> s)
   in_turn H R (Ok x) s a b = go_on H R a s b
   in_turn H R (Err e) s a b = before_first H R e a
 
   mutual
     pub first_answers : (x : Rules F) → Answers (faults x) (first x)
     first_answers (parts row) = row_answers row
-    first_answers (own true g row) = own_go_on (true ≡ false) g (row_faults row) (λ e. true≢false e) (first_in row) (row_answers row)
+    first_answers (own true g row) =
+        own_go_on (true ≡ false) g (row_faults row) (λ e. true≢false e) (first_in row) (row_answers row)
     first_answers (own false g row) = own_first (false ≡ false) g (row_faults row) refl
 
     pub row_answers : (row : RuleRow F) → Answers (faults_in (row_faults row)) (first_in row)
     row_answers none = none_clear
-    row_answers (x ▸ row) = in_turn (faults x) (row_faults row) (first x) (first_in row) (first_answers x) (row_answers row)
+    row_answers (x ▸ row) =
+        in_turn (faults x) (row_faults row) (first x) (first_in row) (first_answers x) (row_answers row)
 
   -- each place of a table has one fault at most
   mutual
@@ -48,18 +55,31 @@ module _ {F : Type 0} where
     single_row (x ▸ row) = before_single (faults x) (row_faults row) (single_faults x) (single_row row)
 
   -- a loop over things, of which the next is at i: it fails as the next one does, or goes on behind it
-  module _ {A B : Type 0} (G : ℕ → B → Rules F) (v : A → B) (xs : List A) (i : ℕ) (x : A) (within : i < length xs) (is : x ≡ get_or xs i x) where
-    next : first_in (each_from G i (map v (drop i xs))) ≡ first (G i (v x)) >> first_in (each_from G (i + 1) (map v (drop (i + 1) xs)))
+  module _ {A B : Type 0} (G : ℕ → B → Rules F) (v : A → B) (xs : List A) (i : ℕ) (x : A) (within : i < length xs)
+      (is : x ≡ get_or xs i x) where
+    next : first_in (each_from G i (map v (drop i xs)))
+        ≡ first (G i (v x)) >> first_in (each_from G (i + 1) (map v (drop (i + 1) xs)))
     next =
-        let here : drop i xs ≡ x ∷ drop (i + 1) xs = drop-cons xs i x within ∙ ap (λ y. y ∷ drop (suc i) xs) (sym is) ∙ ap (λ k. x ∷ drop k xs) (sym (add-one i)) in
+        let here : drop i xs ≡ x ∷ drop (i + 1) xs =
+        drop-cons xs i x within ∙ ap (λ y. y ∷ drop (suc i) xs) (sym is)
+        ∙ ap (λ k. x ∷ drop k xs) (sym (add-one i)) in
         ap (λ l. first_in (each_from G i (map v l))) here
 
-    pub next_fails : (whole r : Result (Unit {0}) F) (err : F) → first_in (each_from G i (map v (drop i xs))) ≡ whole → Err err ≡ first (G i (v x)) → IsErrAnd r (λ e. e ≡ err) → r ≡ whole
+    pub next_fails : (whole r : Result (Unit {0}) F) (err : F)
+        → first_in (each_from G i (map v (drop i xs))) ≡ whole
+        → Err err ≡ first (G i (v x))
+        → IsErrAnd r (λ e. e ≡ err)
+        → r ≡ whole
     next_fails whole r err so_far h fails =
-        err_is r err fails ∙ sym (ap (λ s. s >> first_in (each_from G (i + 1) (map v (drop (i + 1) xs)))) (sym h)) ∙ sym next ∙ so_far
+        err_is r err fails ∙ sym (ap (λ s. s >> first_in (each_from G (i + 1) (map v (drop (i + 1) xs)))) (sym h))
+        ∙ sym next ∙ so_far
 
-    pub next_passes : (whole : Result (Unit {0}) F) → first_in (each_from G i (map v (drop i xs))) ≡ whole → Ok tt ≡ first (G i (v x)) → first_in (each_from G (i + 1) (map v (drop (i + 1) xs))) ≡ whole
-    next_passes whole so_far h = ap (λ s. s >> first_in (each_from G (i + 1) (map v (drop (i + 1) xs)))) h ∙ sym next ∙ so_far
+    pub next_passes : (whole : Result (Unit {0}) F)
+        → first_in (each_from G i (map v (drop i xs))) ≡ whole
+        → Ok tt ≡ first (G i (v x))
+        → first_in (each_from G (i + 1) (map v (drop (i + 1) xs))) ≡ whole
+    next_passes whole so_far h =
+        ap (λ s. s >> first_in (each_from G (i + 1) (map v (drop (i + 1) xs)))) h ∙ sym next ∙ so_far
 
   pub then_assoc : (a b d : Result (Unit {0}) F) → a >> (b >> d) ≡ (a >> b) >> d
   then_assoc (Ok x) b d = refl

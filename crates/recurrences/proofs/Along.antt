@@ -13,13 +13,21 @@ module _ {E A : Type 0} (s : System E A) (is : IsDetermined s) (heights : HasHei
   module _ (P : E → ℤ → Type 0) (past : (e : E) (j : ℕ) → s.IsElement e → j < s.past → P e (negsuc j))
       (gives : (e : E) (n : ℕ) → s.IsElement e → n < s.samples → HoldsOfReads P e n → P e (pos n)) where
     -- at sample n, by height
-    within : (n : ℕ) → n < s.samples → ((m : ℕ) → m < n → (e : E) → s.IsElement e → P e (pos m)) → (h : ℕ) (e : E)
-        → s.IsElement e → heights.height e < h → P e (pos n)
+    within : (n : ℕ)
+        → n < s.samples
+        → ((m : ℕ) → m < n → (e : E) → s.IsElement e → P e (pos m))
+        → (h : ℕ) (e : E)
+        → s.IsElement e
+        → heights.height e < h
+        → P e (pos n)
     within n lt earlier_ones zero e el less = absurd (omega arith)
     within n lt earlier_ones (suc h) e el less =
         gives e n el lt (reads (λ d el2 low. within n lt earlier_ones h d el2 low))
       where
-        at : ((d : E) → s.IsElement d → heights.height d < h → P d (pos n)) → (d : E) (k : ℕ) → s.Reads e d k → When n k
+        at : ((d : E) → s.IsElement d → heights.height d < h → P d (pos n))
+            → (d : E) (k : ℕ)
+            → s.Reads e d k
+            → When n k
             → P d (pos n -ℤ pos k)
         at lower d k r (now z t) =
             let low = heights.falls e d el (subst (λ (i : ℕ). s.Reads e d i) z r) in

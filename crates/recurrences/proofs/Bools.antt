@@ -9,11 +9,3 @@ either false b (inr h) = h
 pub or_cases : (a b : Bool) → (a || b) ≡ true → (a ≡ true) ⊎ (b ≡ true)
 or_cases true b h = inl refl
 or_cases false b h = inr h
-
-pub both : (a b : Bool) → a ≡ true → b ≡ true → (a && b) ≡ true
-both true b x y = y
-both false b x y = x
-
-pub both_cases : (a b : Bool) → (a && b) ≡ true → (a ≡ true) × (b ≡ true)
-both_cases true b h = (refl, h)
-both_cases false b h = cc

@@ -17,7 +17,11 @@ module _ {E A : Type 0} where
     pub give : E → ℕ → Signals E A → A
     pub gives : (e : E) (n : ℕ) (x : Signals E A) → s.IsElement e → n < s.samples → s.Gives e n x (give e n x)
     pub gives_once : (e : E) (n : ℕ) (x y : Signals E A) (v w : A)
-        → s.IsElement e → AgreeAt s e n x y → s.Gives e n x v → s.Gives e n y w → v ≡ w
+        → s.IsElement e
+        → AgreeAt s e n x y
+        → s.Gives e n x v
+        → s.Gives e n y w
+        → v ≡ w
     pub elements : (e d : E) (ago : ℕ) → s.IsElement e → s.Reads e d ago → s.IsElement d
     pub delays : (e d : E) (ago : ℕ) → s.IsElement e → s.Reads e d ago → ago ≤ s.past
 

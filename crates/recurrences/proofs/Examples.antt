@@ -2,7 +2,8 @@
 use Rattle.std.proofs.Common.{◌≡◌, refl, sym, ap, ◌∙◌, arith, ℕ, zero, suc, ◌+◌, ◌<◌, false}
 use Rattle.std.specs.Prelude.{pos, negsuc, ◌-ℤ◌}
 use Rattle.std.proofs.lemmas.Int.{ints}
-use Rattle.recurrences.specs.Systems.{Signals, System, Solves, IsOneSolution, DependsNow, direct, by_way_of, HasNoDelaylessLoop}
+use Rattle.recurrences.specs.Systems.{Signals, System, Solves, IsOneSolution, DependsNow, direct, by_way_of}
+use Rattle.recurrences.specs.Systems.{HasNoDelaylessLoop}
 use Rattle.recurrences.proofs.Determined.{IsDetermined}
 use Rattle.recurrences.proofs.OneSolution.{loopless_solution}
 

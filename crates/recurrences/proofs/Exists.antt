@@ -32,9 +32,24 @@ module _ {E A : Type 0} (s : System E A) (is : IsDetermined s) where
     need e n = n * heights.top + heights.height e
 
     abbrev Stable : ℕ → ℕ → Type 0
-    Stable f g = (d : E) (m : ℕ) → s.IsElement d → m < s.samples → need d m < f → need d m < g → run f d (pos m) ≡ run g d (pos m)
+    Stable f g =
+        (d : E) (m : ℕ)
+        → s.IsElement d
+        → m < s.samples
+        → need d m < f
+        → need d m < g
+        → run f d (pos m) ≡ run g d (pos m)
 
-    reads : (f g : ℕ) (e : E) (n : ℕ) → s.IsElement e → n < s.samples → need e n ≤ f → need e n ≤ g → Stable f g → (d : E) (k : ℕ) → s.Reads e d k → When n k → run f d (pos n -ℤ pos k) ≡ run g d (pos n -ℤ pos k)
+    reads : (f g : ℕ) (e : E) (n : ℕ)
+        → s.IsElement e
+        → n < s.samples
+        → need e n ≤ f
+        → need e n ≤ g
+        → Stable f g
+        → (d : E) (k : ℕ)
+        → s.Reads e d k
+        → When n k
+        → run f d (pos n -ℤ pos k) ≡ run g d (pos n -ℤ pos k)
     reads f g e n el lt a b lower d k r (now z t) =
         let low = heights.falls e d el (subst (λ (i : ℕ). s.Reads e d i) z r) in
         rw t (lower d n (is.elements e d k el r) lt (omega arith) (omega arith))
@@ -56,10 +71,20 @@ module _ {E A : Type 0} (s : System E A) (is : IsDetermined s) where
     solution e (pos n) = is.give e n (run (need e n))
     solution e (negsuc j) = is.start e j
 
-    as_run : (f : ℕ) (d : E) (m : ℕ) → s.IsElement d → m < s.samples → need d m < f → run f d (pos m) ≡ solution d (pos m)
+    as_run : (f : ℕ) (d : E) (m : ℕ)
+        → s.IsElement d
+        → m < s.samples
+        → need d m < f
+        → run f d (pos m) ≡ solution d (pos m)
     as_run f d m el lt a = stable f (suc (need d m)) d m el lt a (omega arith)
 
-    agrees : (e : E) (n : ℕ) → s.IsElement e → n < s.samples → (d : E) (k : ℕ) → s.Reads e d k → When n k → run (need e n) d (pos n -ℤ pos k) ≡ solution d (pos n -ℤ pos k)
+    agrees : (e : E) (n : ℕ)
+        → s.IsElement e
+        → n < s.samples
+        → (d : E) (k : ℕ)
+        → s.Reads e d k
+        → When n k
+        → run (need e n) d (pos n -ℤ pos k) ≡ solution d (pos n -ℤ pos k)
     agrees e n el lt d k r (now z t) =
         let low = heights.falls e d el (subst (λ (i : ℕ). s.Reads e d i) z r) in
         rw t (as_run (need e n) d n (is.elements e d k el r) lt (omega arith))
@@ -72,7 +97,8 @@ module _ {E A : Type 0} (s : System E A) (is : IsDetermined s) where
     present : (e : E) (n : ℕ) → s.IsElement e → n < s.samples → s.Gives e n solution (solution e (pos n))
     present e n el lt =
         let same : is.give e n solution ≡ is.give e n (run (need e n)) =
-        sym (is.gives_once e n (run (need e n)) solution _ _ el (λ d k r. agrees e n el lt d k r (when n k)) (is.gives e n (run (need e n)) el lt) (is.gives e n solution el lt)) in
+        sym (is.gives_once e n (run (need e n)) solution _ _ el (λ d k r. agrees e n el lt d k r (when n k))
+        (is.gives e n (run (need e n)) el lt) (is.gives e n solution el lt)) in
         subst (λ v. s.Gives e n solution v) same (is.gives e n solution el lt)
 
     pub solves : Solves s solution

@@ -1,5 +1,6 @@
 -- A finite system without a delay-free loop has heights: the number of elements on which one depends without a delay.
-use Rattle.std.proofs.Common.{◌≡◌, ◌<◌, ◌≤◌, ◌+◌, ◌⊎◌, inl, inr, ℕ, zero, suc, Bool, true, false, cond, refl, sym, ap, ◌∙◌, arith}
+use Rattle.std.proofs.Common.{◌≡◌, ◌<◌, ◌≤◌, ◌+◌, ◌⊎◌, inl, inr, ℕ, zero, suc, Bool, true, false, cond, refl, sym, ap}
+use Rattle.std.proofs.Common.{◌∙◌, arith}
 use Rattle.std.proofs.lemmas.Bool.{cases_lt}
 use Rattle.recurrences.specs.Systems.{System, DependsNow, direct, by_way_of, HasNoDelaylessLoop}
 use Rattle.recurrences.proofs.Determined.{IsDetermined, HasHeights}
@@ -24,13 +25,22 @@ counted_most (suc n) p = omega (arith, bit_most (p n), counted_most n p)
 
 counted_le : (n : ℕ) (p q : ℕ → Bool) → ((k : ℕ) → k < n → p k ≡ true → q k ≡ true) → counted n p ≤ counted n q
 counted_le zero p q h = omega arith
-counted_le (suc n) p q h = omega (arith, bit_le (p n) (q n) (h n (omega arith)), counted_le n p q (λ k lt. h k (omega arith)))
+counted_le (suc n) p q h =
+    omega (arith, bit_le (p n) (q n) (h n (omega arith)), counted_le n p q (λ k lt. h k (omega arith)))
 
-counted_lt : (n : ℕ) (p q : ℕ → Bool) → ((k : ℕ) → k < n → p k ≡ true → q k ≡ true) → (x : ℕ) → x < n → p x ≡ false → q x ≡ true → counted n p < counted n q
+counted_lt : (n : ℕ) (p q : ℕ → Bool)
+    → ((k : ℕ) → k < n → p k ≡ true → q k ≡ true)
+    → (x : ℕ)
+    → x < n
+    → p x ≡ false
+    → q x ≡ true
+    → counted n p < counted n q
 counted_lt zero p q h x lt a b = absurd (omega arith)
 counted_lt (suc n) p q h x lt a b = by (cases_lt x n) (λ less. counted_lt n p q (λ k l. h k (omega arith)) x less a b)
   where
-    by : (x < n) ⊎ (n ≤ x) → (x < n → counted n p < counted n q) → cond (p n) 1 0 + counted n p < cond (q n) 1 0 + counted n q
+    by : (x < n) ⊎ (n ≤ x)
+        → (x < n → counted n p < counted n q)
+        → cond (p n) 1 0 + counted n p < cond (q n) 1 0 + counted n q
     by (inl less) ih = omega (arith, bit_le (p n) (q n) (h n (omega arith)), ih less)
     by (inr le) ih =
         let same : x ≡ n = omega arith in
@@ -48,13 +58,16 @@ module _ {E A : Type 0} (s : System E A) where
 module _ {E A : Type 0} (s : System E A) (is : IsDetermined s) (heights : HasHeights s) where
   falls_along : (e d : E) → s.IsElement e → DependsNow s.Reads e d → heights.height d < heights.height e
   falls_along e d el (direct r) = heights.falls e d el r
-  falls_along e d el (by_way_of c r p) = omega (arith, heights.falls e c el r, falls_along c d (is.elements e c 0 el r) p)
+  falls_along e d el (by_way_of c r p) =
+      omega (arith, heights.falls e c el r, falls_along c d (is.elements e c 0 el r) p)
 
   pub no_loop : HasNoDelaylessLoop s.Reads s.IsElement
   no_loop e el p = let less = falls_along e e el p in omega arith
 
 -- where elements are numbers below a count, and a test says what an element reads without a delay
-module _ {A : Type 0} (s : System ℕ A) (is : IsDetermined s) (count : ℕ) (all : (e : ℕ) → s.IsElement e → e < count) (test : ℕ → ℕ → Bool) (tests : (e d : ℕ) → (test e d ≡ true → s.Reads e d 0) × (s.Reads e d 0 → test e d ≡ true)) where
+module _ {A : Type 0} (s : System ℕ A) (is : IsDetermined s) (count : ℕ) (all : (e : ℕ) → s.IsElement e → e < count)
+    (test : ℕ → ℕ → Bool)
+    (tests : (e d : ℕ) → (test e d ≡ true → s.Reads e d 0) × (s.Reads e d 0 → test e d ≡ true)) where
   abbrev Now : ℕ → ℕ → Type 0
   Now e d = s.Reads e d 0
 
@@ -68,7 +81,8 @@ module _ {A : Type 0} (s : System ℕ A) (is : IsDetermined s) (count : ℕ) (al
       more c (all c there) r (via c d there p)
 
   from_test : (e d : ℕ) → depends e d ≡ true → DependsNow s.Reads e d
-  from_test e d h = sound Now test tests (λ (i j : ℕ). DependsNow s.Reads i j) (λ i j r. direct r) (joined s) count e d h
+  from_test e d h =
+      sound Now test tests (λ (i j : ℕ). DependsNow s.Reads i j) (λ i j r. direct r) (joined s) count e d h
 
   to_test : (e d : ℕ) → s.IsElement e → DependsNow s.Reads e d → depends e d ≡ true
   to_test e d el p = complete Now test tests count e d (via e d el p)

@@ -1,5 +1,6 @@
 -- A depth-first walk along arcs, which finds the strongly connected components of the arc graph.
-use Rattle.std.specs.Prelude.{◌≡◌, ◌⊎◌, ℕ, ◌+◌, ◌-◌, ◌*◌, ◌<◌, ◌≤◌, Bool, true, false, List, [], Contains, length, count_by, sum_by, replicate, slice_get, slice_index_or, Option, Some, None}
+use Rattle.std.specs.Prelude.{◌≡◌, ◌⊎◌, ℕ, ◌+◌, ◌-◌, ◌*◌, ◌<◌, ◌≤◌, Bool, true, false, List, [], Contains, length}
+use Rattle.std.specs.Prelude.{count_by, sum_by, replicate, slice_get, slice_index_or, Option, Some, None}
 use Rattle.std.specs.List.{AllPairs}
 use Rattle.digraph.specs.Arcs.{Reaches}
 use Rattle.digraph.specs.Arcs.{HasArc, IsWithin}
@@ -61,8 +62,10 @@ IsNotEarlier groups i j = (group : Group) → Contains groups group → group.ac
 pub data IsHandled (due : Option ℕ) (s : State) (i g : ℕ) : Type 0 where
   closed : {component : ℕ} → IsMark s.marks g (Closed component) → IsHandled due s i g
   active : {j : ℕ} → IsActiveAt s j g → IsNotEarlier s.groups i j → IsHandled due s i g
-  pending : {q : ℕ} → slice_get s.pending q ≡ Some g
-      → ((group : Group) → Contains s.groups group → group.active ≤ i → group.pending ≤ q) → IsHandled due s i g
+  pending : {q : ℕ}
+      → slice_get s.pending q ≡ Some g
+      → ((group : Group) → Contains s.groups group → group.active ≤ i → group.pending ≤ q)
+      → IsHandled due s i g
   due : due ≡ Some g → IsHandled due s i g
 
 -- a pending arc at position q is one of an active vertex of the same group
@@ -99,14 +102,17 @@ pub record IsWalk (arcs : List (List ℕ)) (due : Option ℕ) (s : State) : Type
   pub position : (i f : ℕ) → IsActiveAt s i f → IsMark s.marks f (Active i)
   pub at_position : (i f : ℕ) → IsMark s.marks f (Active i) → IsActiveAt s i f
   pub rising : AllPairs IsBefore s.groups
-  pub within : (group : Group) → Contains s.groups group
+  pub within : (group : Group)
+      → Contains s.groups group
       → (group.active ≤ length s.active) × (group.pending ≤ length s.pending)
   pub begun : 0 < length s.active → (group : Group) × Contains s.groups group × (group.active ≡ 0)
   pub leads : (i j f g : ℕ) → IsActiveAt s i f → IsActiveAt s j g → IsNotEarlier s.groups i j → Leads arcs f g
   pub handled : (i f g : ℕ) → IsActiveAt s i f → HasArc arcs f g → IsHandled due s i g
   pub pends : (q g : ℕ) → slice_get s.pending q ≡ Some g → IsPending arcs s q g
   pub numbered : (f component : ℕ) → IsMark s.marks f (Closed component) → component < s.closed
-  pub done : (f component g : ℕ) → IsMark s.marks f (Closed component) → HasArc arcs f g
+  pub done : (f component g : ℕ)
+      → IsMark s.marks f (Closed component)
+      → HasArc arcs f g
       → IsDone arcs s.marks f component g
 
 -- all active vertices lead to the vertex whose arc is due

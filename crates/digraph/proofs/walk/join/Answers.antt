@@ -9,15 +9,26 @@ loop-groups-init c = none_taken c.args.groups.now.items c.args.position c.requir
 
 pub loop-groups-smaller : goal.loop-groups-smaller
 loop-groups-smaller c =
-    let behind = subst (λ gs. LastBeginsAfter gs c.args.position) c.deref.ensures.value (c.begins_after.ensures.0 c.loop-groups-test.true) in
-    (one_taken c.args.groups.now.items c.loop-groups.groups.items c.pop.new.self.items c.args.position _ behind (omega arith) c.pop.ensures.rest c.loop-groups.invariant).1
+    let behind =
+    subst (λ gs. LastBeginsAfter gs c.args.position) c.deref.ensures.value
+    (c.begins_after.ensures.0 c.loop-groups-test.true) in
+    (one_taken c.args.groups.now.items c.loop-groups.groups.items c.pop.new.self.items c.args.position _ behind
+    (omega arith) c.pop.ensures.rest c.loop-groups.invariant).1
 
 pub loop-groups-preserved : goal.loop-groups-preserved
 loop-groups-preserved c =
-    let behind = subst (λ gs. LastBeginsAfter gs c.args.position) c.deref.ensures.value (c.begins_after.ensures.0 c.loop-groups-test.true) in
-    (one_taken c.args.groups.now.items c.loop-groups.groups.items c.pop.new.self.items c.args.position _ behind (omega arith) c.pop.ensures.rest c.loop-groups.invariant).0
+    let behind =
+    subst (λ gs. LastBeginsAfter gs c.args.position) c.deref.ensures.value
+    (c.begins_after.ensures.0 c.loop-groups-test.true) in
+    (one_taken c.args.groups.now.items c.loop-groups.groups.items c.pop.new.self.items c.args.position _ behind
+    (omega arith) c.pop.ensures.rest c.loop-groups.invariant).0
 
 pub returns : goal.returns
 returns c =
     all_taken c.args.groups.now.items c.loop-groups.groups.items c.args.position
-    (λ behind. (let t = c.begins_after.ensures.1 (subst (λ gs. LastBeginsAfter gs c.args.position) (sym c.deref.ensures.value) behind) in let f = c.loop-groups-test.false in cc)) c.loop-groups.invariant
+    (λ behind. (let t =
+    c.begins_after.ensures.1
+    (subst (λ gs. LastBeginsAfter gs c.args.position) (sym c.deref.ensures.value) behind) in
+    let f = c.loop-groups-test.false in
+    cc))
+    c.loop-groups.invariant

@@ -6,12 +6,15 @@ use Rattle.digraph.proofs.walk.Walk.next_head.Goals as goal
 
 pub returns-clause-some : goal.returns-clause-some
 returns-clause-some c =
-    next_some c.args.arcs.now (state_of c.args.self.now) c.pop.new.self.items c.pop.result c.args.group c.requires.walk c.requires.last (λ e. c.if-len-group.false (omega arith)) c.pop.ensures.items
+    next_some c.args.arcs.now (state_of c.args.self.now) c.pop.new.self.items c.pop.result c.args.group c.requires.walk
+    c.requires.last (λ e. c.if-len-group.false (omega arith)) c.pop.ensures.items
 
 pub returns-clause-none : goal.returns-clause-none
 returns-clause-none c =
-    next_none c.args.arcs.now _ (state_of c.args.self.now) c.pop.result c.args.group _ _ c.requires.walk c.requires.last (λ e. c.if-len-group.false (omega (arith, e))) (omega arith) c.pop.ensures.cases
+    next_none c.args.arcs.now _ (state_of c.args.self.now) c.pop.result c.args.group _ _ c.requires.walk c.requires.last
+    (λ e. c.if-len-group.false (omega (arith, e))) (omega arith) c.pop.ensures.cases
 
 pub returns-clause-followed : goal.returns-clause-followed
 returns-clause-followed c =
-    next_none c.args.arcs.now _ (state_of c.args.self.now) c.pop.result c.args.group _ _ c.requires.walk c.requires.last (λ e. c.if-len-group.false (omega (arith, e))) (omega arith) c.pop.ensures.cases
+    next_none c.args.arcs.now _ (state_of c.args.self.now) c.pop.result c.args.group _ _ c.requires.walk c.requires.last
+    (λ e. c.if-len-group.false (omega (arith, e))) (omega arith) c.pop.ensures.cases
