@@ -31,9 +31,16 @@ at_most n (x ∷ xs) rises below =
     omega (arith, rises_past (x ∷ xs) rises (length xs) (omega arith))
 
 -- issues on units that rise are at most as many as the units
-pub issue_count : (image : Image) (issues : List Issue) → All (IsIssue image) issues → IsStrictlyIncreasing (map (λ issue. issue.unit) issues) → length issues ≤ length image.units
+pub issue_count : (image : Image) (issues : List Issue)
+    → All (IsIssue image) issues
+    → IsStrictlyIncreasing (map (λ issue. issue.unit) issues)
+    → length issues ≤ length image.units
 issue_count image issues all rises =
-    let below : All (λ (issue : Issue). issue.unit < length image.units) issues = λ k d lt. is_there image.units (slice_index_or issues k d).unit (IsIssueOn (length image.inputs) image.outs (slice_index_or issues k d)) (all k d lt) in
+    let below : All (λ (issue : Issue). issue.unit < length image.units) issues = λ k d lt.
+    is_there image.units (slice_index_or issues k d).unit
+    (IsIssueOn (length image.inputs) image.outs (slice_index_or issues k d)) (all k d lt) in
     let units = map (λ (issue : Issue). issue.unit) issues in
-    let least : length units ≤ length image.units = at_most (length image.units) units rises (All-map (λ u. u < length image.units) (λ (issue : Issue). issue.unit) issues below) in
+    let least : length units ≤ length image.units =
+    at_most (length image.units) units rises
+    (All-map (λ u. u < length image.units) (λ (issue : Issue). issue.unit) issues below) in
     omega (arith, length-map issues (λ (issue : Issue). issue.unit))

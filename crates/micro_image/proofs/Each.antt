@@ -1,5 +1,6 @@
 -- What holds of each element of a list, and that a value is an element, in the form that a proof recurses on.
-use Rattle.std.proofs.Common.{◌<◌, ℕ, zero, suc, List, [], ◌∷◌, ◌++◌, length, slice_index_or, arith, subst, ◌⊎◌, inl, inr, ⊎_elim}
+use Rattle.std.proofs.Common.{◌<◌, ℕ, zero, suc, List, [], ◌∷◌, ◌++◌, length, slice_index_or, arith, subst, ◌⊎◌, inl}
+use Rattle.std.proofs.Common.{inr, ⊎_elim}
 use Rattle.std.specs.List.{flat_map, Contains, All}
 
 -- x is an element
@@ -29,7 +30,10 @@ In-append_cases (y ∷ xs) here = inl here
 In-append_cases (y ∷ xs) (there h) = ⊎_elim (λ k. inl (there k)) inr (In-append_cases xs h)
 
 -- what one element gives is among what all give
-pub In-flat_map : {A B : Type 0} (f : A → List B) {x : A} {xs : List A} {y : B} → In x xs → In y (f x) → In y (flat_map f xs)
+pub In-flat_map : {A B : Type 0} (f : A → List B) {x : A} {xs : List A} {y : B}
+    → In x xs
+    → In y (f x)
+    → In y (flat_map f xs)
 In-flat_map f (here {xs = xs}) h = In-append_left (flat_map f xs) h
 In-flat_map f (there {y = z} k) h = In-append_right (f z) (In-flat_map f k h)
 
@@ -52,7 +56,8 @@ Each-at (more p h) x (there k) = Each-at h x k
 -- from what holds at each index
 pub Each-from_All : {A : Type 0} (P : A → Type 0) (xs : List A) → All P xs → Each P xs
 Each-from_All P [] h = none
-Each-from_All P (x ∷ xs) h = more (h 0 x (omega arith)) (Each-from_All P xs (λ k default below. h (suc k) default (omega (arith, below))))
+Each-from_All P (x ∷ xs) h =
+    more (h 0 x (omega arith)) (Each-from_All P xs (λ k default below. h (suc k) default (omega (arith, below))))
 
 -- and back to it
 pub All-from_Each : {A : Type 0} (P : A → Type 0) {xs : List A} → Each P xs → All P xs
@@ -71,6 +76,8 @@ Each-append none k = k
 Each-append (more p h) k = more p (Each-append h k)
 
 -- of all that the elements give
-pub Each-flat_map : {A B : Type 0} (P : B → Type 0) (f : A → List B) (xs : List A) → ((x : A) → In x xs → Each P (f x)) → Each P (flat_map f xs)
+pub Each-flat_map : {A B : Type 0} (P : B → Type 0) (f : A → List B) (xs : List A)
+    → ((x : A) → In x xs → Each P (f x))
+    → Each P (flat_map f xs)
 Each-flat_map P f [] h = none
 Each-flat_map P f (x ∷ xs) h = Each-append (h x here) (Each-flat_map P f xs (λ y in'. h y (there in')))

@@ -31,7 +31,14 @@ take_into unit port bus reg = record { port = record { unit = unit; port = port 
 
 -- unit 2: a result after two cycles, an issue in each
 abbrev pub memory : UnitDesc
-memory = record { kind = kind.Ram; latency = 2; gap = 1; files = zeros 2 ∷ zeros 1 ∷ []; cells = pos 50 ∷ pos 60 ∷ []; ram = 0 }
+memory = record {
+  kind = kind.Ram;
+  latency = 2;
+  gap = 1;
+  files = zeros 2 ∷ zeros 1 ∷ [];
+  cells = pos 50 ∷ pos 60 ∷ [];
+  ram = 0;
+}
 
 abbrev addresses : UnitDesc
 addresses = record { kind = kind.Acu; latency = 1; gap = 1; files = []; cells = []; ram = 2 }
@@ -50,8 +57,16 @@ echo_with ram third = record {
   units = plain_unit kind.Input [] ∷ addresses ∷ ram ∷ plain_unit kind.Output (zeros 1 ∷ []) ∷ [];
   buses = 2;
   words =
-      record { issues = issue_of 0 op.Input 0 [] ∷ issue_of 1 op.Addr 0 [] ∷ []; enables = drive 0 0 ∷ drive 1 1 ∷ []; takes = take_into 2 0 1 0 ∷ take_into 2 1 0 0 ∷ [] }
-      ∷ record { issues = issue_of 1 op.Addr 1 [] ∷ issue_of 2 op.Store 0 (0 ∷ 0 ∷ []) ∷ []; enables = drive 1 1 ∷ []; takes = take_into 2 0 1 1 ∷ [] }
+      record {
+        issues = issue_of 0 op.Input 0 [] ∷ issue_of 1 op.Addr 0 [] ∷ [];
+        enables = drive 0 0 ∷ drive 1 1 ∷ [];
+        takes = take_into 2 0 1 0 ∷ take_into 2 1 0 0 ∷ [];
+      }
+      ∷ record {
+        issues = issue_of 1 op.Addr 1 [] ∷ issue_of 2 op.Store 0 (0 ∷ 0 ∷ []) ∷ [];
+        enables = drive 1 1 ∷ [];
+        takes = take_into 2 0 1 1 ∷ [];
+      }
       ∷ third
       ∷ record { issues = []; enables = drive 2 0 ∷ []; takes = take_into 3 0 0 0 ∷ [] }
       ∷ record { issues = issue_of 3 op.Output 0 (0 ∷ []) ∷ []; enables = []; takes = [] }
@@ -67,26 +82,35 @@ abbrev pub samples : Rows
 samples = spread 6 ((pos 1 ∷ []) ∷ (pos 2 ∷ []) ∷ (pos 3 ∷ []) ∷ (pos 4 ∷ []) ∷ [])
 
 -- offset 0 in sample n is cell -n mod 2, and offset 1 is the other
-pub addresses-given : map (Result (microprogram_of echo) samples 1) (0 ∷ 1 ∷ 6 ∷ 7 ∷ 18 ∷ 19 ∷ []) ≡ Some (pos 0) ∷ Some (pos 1) ∷ Some (pos 1) ∷ Some (pos 0) ∷ Some (pos 1) ∷ Some (pos 0) ∷ []
+pub addresses-given : map (Result (microprogram_of echo) samples 1) (0 ∷ 1 ∷ 6 ∷ 7 ∷ 18 ∷ 19 ∷ [])
+    ≡ Some (pos 0) ∷ Some (pos 1) ∷ Some (pos 1) ∷ Some (pos 0) ∷ Some (pos 1) ∷ Some (pos 0) ∷ []
 unfolding value entries_by
 addresses-given = refl
 
 -- sample 0 goes to cell 0 at the end of cycle 2, sample 1 to cell 1 at the end of cycle 8
-pub cells-held : map (λ t. map (λ cell. Content (microprogram_of echo) samples (Cell 2 cell) t) (0 ∷ 1 ∷ [])) (2 ∷ 3 ∷ 8 ∷ 9 ∷ 15 ∷ []) ≡ (pos 50 ∷ pos 60 ∷ []) ∷ (pos 1 ∷ pos 60 ∷ []) ∷ (pos 1 ∷ pos 60 ∷ []) ∷ (pos 1 ∷ pos 2 ∷ []) ∷ (pos 3 ∷ pos 2 ∷ []) ∷ []
+pub cells-held :
+    map (λ t. map (λ cell. Content (microprogram_of echo) samples (Cell 2 cell) t) (0 ∷ 1 ∷ []))
+    (2 ∷ 3 ∷ 8 ∷ 9 ∷ 15 ∷ [])
+    ≡ (pos 50 ∷ pos 60 ∷ []) ∷ (pos 1 ∷ pos 60 ∷ []) ∷ (pos 1 ∷ pos 60 ∷ []) ∷ (pos 1 ∷ pos 2 ∷ [])
+    ∷ (pos 3 ∷ pos 2 ∷ []) ∷ []
 unfolding value entries_by
 cells-held = refl
 
 -- a load's result is there in the cycle after its issue alone; a store has none
-pub loads-given : map (Result (microprogram_of echo) samples 2) (1 ∷ 2 ∷ 3 ∷ 4 ∷ 9 ∷ 15 ∷ []) ≡ None ∷ None ∷ Some (pos 60) ∷ None ∷ Some (pos 1) ∷ Some (pos 2) ∷ []
+pub loads-given : map (Result (microprogram_of echo) samples 2) (1 ∷ 2 ∷ 3 ∷ 4 ∷ 9 ∷ 15 ∷ [])
+    ≡ None ∷ None ∷ Some (pos 60) ∷ None ∷ Some (pos 1) ∷ Some (pos 2) ∷ []
 unfolding value entries_by
 loads-given = refl
 
 -- what the store and the load of sample 1 come to, told at their issue
-pub outcomes-told : map (λ t. outcome (microprogram_of echo) samples t (issue_at (microprogram_of echo) t 2)) (7 ∷ 8 ∷ 9 ∷ []) ≡ Some (Writes (Cell 2 1) (pos 2)) ∷ Some (Gives (pos 1)) ∷ None ∷ []
+pub outcomes-told :
+    map (λ t. outcome (microprogram_of echo) samples t (issue_at (microprogram_of echo) t 2)) (7 ∷ 8 ∷ 9 ∷ [])
+    ≡ Some (Writes (Cell 2 1) (pos 2)) ∷ Some (Gives (pos 1)) ∷ None ∷ []
 unfolding value entries_by
 outcomes-told = refl
 
 -- each sample puts the one before; the first puts what cell 1 began as
-pub rows-put : map (latches (microprogram_of echo) samples) (6 ∷ 12 ∷ 18 ∷ 24 ∷ []) ≡ (pos 60 ∷ []) ∷ (pos 1 ∷ []) ∷ (pos 2 ∷ []) ∷ (pos 3 ∷ []) ∷ []
+pub rows-put : map (latches (microprogram_of echo) samples) (6 ∷ 12 ∷ 18 ∷ 24 ∷ [])
+    ≡ (pos 60 ∷ []) ∷ (pos 1 ∷ []) ∷ (pos 2 ∷ []) ∷ (pos 3 ∷ []) ∷ []
 unfolding value entries_by
 rows-put = refl

@@ -1,6 +1,7 @@
 -- What a conflict of each kind looks like, by a change to cycle 2 of the image of y = x@1.
 use Rattle.std.proofs.Common.{refl, arith, ℕ, List, [], ◌∷◌, pos, negsuc}
-use Rattle.micro_image.specs.declared.conflict.ConflictKind.TheVariants.{Busy, TwoDrivers, FileTwice, NoDriver, NoResult, Address}
+use Rattle.micro_image.specs.declared.conflict.ConflictKind.TheVariants.{Busy, TwoDrivers, FileTwice, NoDriver}
+use Rattle.micro_image.specs.declared.conflict.ConflictKind.TheVariants.{NoResult, Address}
 use Rattle.micro_image.specs.declared.image.Enable.{Enable}
 use Rattle.micro_image.specs.declared.image.Take.{Take}
 use Rattle.micro_image.specs.declared.image.Image.{Image}
@@ -14,7 +15,10 @@ abbrev beside : List Enable → List Take → Image
 beside enables takes = echo_with memory (record { issues = load 1 ∷ []; enables = enables; takes = takes })
 
 -- a ram that takes an issue in every second cycle, and has the store's and then the load's
-pub busy : HasConflict Busy (microprogram_of (echo_with (record memory { gap = 2 }) (record { issues = load 1 ∷ []; enables = []; takes = [] }))) samples 2 2
+pub busy :
+    HasConflict Busy
+    (microprogram_of
+    (echo_with (record memory { gap = 2 }) (record { issues = load 1 ∷ []; enables = []; takes = [] }))) samples 2 2
 busy = (refl, (1, omega arith, omega arith, refl))
 
 -- the input and the addresses on bus 1
@@ -22,7 +26,8 @@ pub driven-twice : HasConflict TwoDrivers (microprogram_of (beside (drive 0 1 �
 driven-twice = omega arith
 
 -- port 0 of unit 3
-pub filled-twice : HasConflict FileTwice (microprogram_of (beside [] (take_into 3 0 0 0 ∷ take_into 3 0 1 0 ∷ []))) samples 2 12
+pub filled-twice :
+    HasConflict FileTwice (microprogram_of (beside [] (take_into 3 0 0 0 ∷ take_into 3 0 1 0 ∷ []))) samples 2 12
 filled-twice = omega arith
 
 -- a take from bus 0, and a unit on bus 1 alone
@@ -35,7 +40,9 @@ resultless = (omega arith, refl)
 
 -- a ram whose registers 2 and 3 hold numbers that are not of its two cells
 abbrev loading : ℕ → Image
-loading reg = echo_with (record memory { files = (pos 0 ∷ pos 0 ∷ pos 2 ∷ negsuc 0 ∷ []) ∷ (pos 0 ∷ []) ∷ [] }) (record { issues = load reg ∷ []; enables = []; takes = [] })
+loading reg =
+    echo_with (record memory { files = (pos 0 ∷ pos 0 ∷ pos 2 ∷ negsuc 0 ∷ []) ∷ (pos 0 ∷ []) ∷ [] })
+    (record { issues = load reg ∷ []; enables = []; takes = [] })
 
 -- a load of cell 2
 pub address-above : HasConflict Address (microprogram_of (loading 2)) samples 2 2

@@ -56,7 +56,14 @@ one = record {
 -- the sum, with these units on the bus
 abbrev pub sum_driven_by : List Enable → Word
 sum_driven_by enables = record {
-  issues = record { unit = 2; op = op.Add; fmt = record { shift = pos 0; mode = Trunc; width = 8 }; arg = pos 0; regs = 0 ∷ 0 ∷ [] } ∷ [];
+  issues =
+      record {
+        unit = 2;
+        op = op.Add;
+        fmt = record { shift = pos 0; mode = Trunc; width = 8 };
+        arg = pos 0;
+        regs = 0 ∷ 0 ∷ [];
+      } ∷ [];
   enables = enables;
   takes = take_into 3 0 ∷ [];
 }
@@ -67,7 +74,11 @@ sum = sum_driven_by (drive 2 ∷ [])
 
 -- of cycle 3: the output
 abbrev pub put : Word
-put = record { issues = record { unit = 3; op = op.Output; fmt = unformatted; arg = pos 0; regs = 0 ∷ [] } ∷ []; enables = []; takes = [] }
+put = record {
+  issues = record { unit = 3; op = op.Output; fmt = unformatted; arg = pos 0; regs = 0 ∷ [] } ∷ [];
+  enables = [];
+  takes = [];
+}
 
 -- the hardware with these words
 abbrev pub image_of : List Word → Image
@@ -76,7 +87,9 @@ image_of words = record {
   unroll = 1;
   inputs = 8 ∷ [];
   outs = 1;
-  units = plain_unit kind.Input [] ∷ plain_unit kind.Rom [] ∷ plain_unit kind.Alu (zeros 8 ∷ zeros 8 ∷ []) ∷ plain_unit kind.Output (zeros 2 ∷ []) ∷ [];
+  units =
+      plain_unit kind.Input [] ∷ plain_unit kind.Rom [] ∷ plain_unit kind.Alu (zeros 8 ∷ zeros 8 ∷ [])
+      ∷ plain_unit kind.Output (zeros 2 ∷ []) ∷ [];
   buses = 1;
   words = words;
 }
@@ -90,22 +103,26 @@ abbrev two_samples : Rows
 two_samples = spread 16 ((pos 127 ∷ []) ∷ (negsuc 127 ∷ []) ∷ [])
 
 -- the adder's register at port 0 holds the sample from its cycle 1 on
-pub operands-held : map (Content (microprogram_of increment) two_samples (Register 2 0 0)) (0 ∷ 1 ∷ 16 ∷ 17 ∷ []) ≡ pos 0 ∷ pos 127 ∷ pos 127 ∷ negsuc 127 ∷ []
+pub operands-held : map (Content (microprogram_of increment) two_samples (Register 2 0 0)) (0 ∷ 1 ∷ 16 ∷ 17 ∷ [])
+    ≡ pos 0 ∷ pos 127 ∷ pos 127 ∷ negsuc 127 ∷ []
 unfolding value entries_by
 operands-held = refl
 
 -- the output unit's register holds the sum from cycle 3 on
-pub sums-held : map (Content (microprogram_of increment) two_samples (Register 3 0 0)) (2 ∷ 3 ∷ 18 ∷ 19 ∷ []) ≡ pos 0 ∷ negsuc 127 ∷ negsuc 127 ∷ negsuc 126 ∷ []
+pub sums-held : map (Content (microprogram_of increment) two_samples (Register 3 0 0)) (2 ∷ 3 ∷ 18 ∷ 19 ∷ [])
+    ≡ pos 0 ∷ negsuc 127 ∷ negsuc 127 ∷ negsuc 126 ∷ []
 unfolding value entries_by wrap_of
 sums-held = refl
 
 -- no other register is written
-pub others-untouched : map (λ reg. Content (microprogram_of increment) two_samples (Register 2 0 reg) 20) (1 ∷ 7 ∷ []) ≡ pos 0 ∷ pos 0 ∷ []
+pub others-untouched : map (λ reg. Content (microprogram_of increment) two_samples (Register 2 0 reg) 20) (1 ∷ 7 ∷ [])
+    ≡ pos 0 ∷ pos 0 ∷ []
 unfolding value entries_by
 others-untouched = refl
 
 -- the adder has a result in the cycle of its issue alone
-pub sum-results : map (Result (microprogram_of increment) two_samples 2) (1 ∷ 2 ∷ 3 ∷ 18 ∷ []) ≡ None ∷ Some (negsuc 127) ∷ None ∷ Some (negsuc 126) ∷ []
+pub sum-results : map (Result (microprogram_of increment) two_samples 2) (1 ∷ 2 ∷ 3 ∷ 18 ∷ [])
+    ≡ None ∷ Some (negsuc 127) ∷ None ∷ Some (negsuc 126) ∷ []
 unfolding value entries_by wrap_of
 sum-results = refl
 
@@ -115,6 +132,8 @@ unfolding value entries_by
 no-output-result = refl
 
 -- the latch changes at the end of cycle 3 of each sample
-pub latches-held : map (latches (microprogram_of increment) two_samples) (3 ∷ 4 ∷ 16 ∷ 19 ∷ 20 ∷ 32 ∷ []) ≡ (pos 0 ∷ []) ∷ (negsuc 127 ∷ []) ∷ (negsuc 127 ∷ []) ∷ (negsuc 127 ∷ []) ∷ (negsuc 126 ∷ []) ∷ (negsuc 126 ∷ []) ∷ []
+pub latches-held : map (latches (microprogram_of increment) two_samples) (3 ∷ 4 ∷ 16 ∷ 19 ∷ 20 ∷ 32 ∷ [])
+    ≡ (pos 0 ∷ []) ∷ (negsuc 127 ∷ []) ∷ (negsuc 127 ∷ []) ∷ (negsuc 127 ∷ []) ∷ (negsuc 126 ∷ []) ∷ (negsuc 126 ∷ [])
+    ∷ []
 unfolding value entries_by wrap_of
 latches-held = refl

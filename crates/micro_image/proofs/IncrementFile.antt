@@ -1,6 +1,8 @@
 -- The image of y = x + 1 is valid, and its file is these 328 bytes.
 use Rattle.std.proofs.Common.{◌≡◌, ◌*◌, refl, ℕ, List, [], ◌∷◌, ◌++◌, length, replicate, take, drop}
-use Rattle.micro_image.specs.Spells.{spelling, two_bytes, four_bytes, eight_bytes, spelled_file, spelled_memory, spelled_unit, spelled_format, spelled_issue, spelled_enable, spelled_take, spelled_word}
+use Rattle.micro_image.specs.Spells.{spelling, two_bytes, four_bytes, eight_bytes, spelled_file, spelled_memory}
+use Rattle.micro_image.specs.Spells.{spelled_unit, spelled_format, spelled_issue, spelled_enable, spelled_take}
+use Rattle.micro_image.specs.Spells.{spelled_word}
 use Rattle.micro_image.specs.declared.image.Image.{Image}
 use Rattle.micro_image.specs.Fields.{no_word}
 use Rattle.micro_image.proofs.Increment.{increment, image_of, fetch, one, sum_driven_by, put, drive}
@@ -15,7 +17,9 @@ zero_file size = 0 ∷ size ∷ replicate (8 * size) 0
 
 -- kind, latency 1, gap 1: an input, a rom, an alu with two files of 8, an output with one of 2; then one bus
 abbrev hardware : List ℕ
-hardware = (0 ∷ 1 ∷ 1 ∷ []) ++ (2 ∷ 1 ∷ 1 ∷ []) ++ (3 ∷ 1 ∷ 1 ∷ zero_file 8 ++ zero_file 8) ++ (1 ∷ 1 ∷ 1 ∷ zero_file 2) ++ (1 ∷ [])
+hardware =
+    (0 ∷ 1 ∷ 1 ∷ []) ++ (2 ∷ 1 ∷ 1 ∷ []) ++ (3 ∷ 1 ∷ 1 ∷ zero_file 8 ++ zero_file 8) ++ (1 ∷ 1 ∷ 1 ∷ zero_file 2)
+    ++ (1 ∷ [])
 
 -- one issue: unit 0, operation 0, no format, argument 0; one enable: 0, 0; one take: 2, 0, 0, 0
 abbrev fetch_bytes : List ℕ
@@ -43,11 +47,14 @@ empty_words = replicate (12 * 5) 0
 
 -- the file of the image
 abbrev pub increment_bytes : List ℕ
-increment_bytes = head ++ hardware ++ fetch_bytes ++ one_bytes ++ sum_issue ++ (0 ∷ 1 ∷ 2 ∷ 0 ∷ []) ++ sum_take ++ put_bytes ++ empty_words
+increment_bytes =
+    head ++ hardware ++ fetch_bytes ++ one_bytes ++ sum_issue ++ (0 ∷ 1 ∷ 2 ∷ 0 ∷ []) ++ sum_take ++ put_bytes
+    ++ empty_words
 
 -- it is what the image is spelled as
 pub increment-spelling : spelling increment ≡ increment_bytes
-unfolding spelling two_bytes four_bytes eight_bytes spelled_file spelled_memory spelled_unit spelled_format spelled_issue spelled_enable spelled_take spelled_word
+unfolding spelling two_bytes four_bytes eight_bytes spelled_file spelled_memory spelled_unit spelled_format
+    spelled_issue spelled_enable spelled_take spelled_word
 increment-spelling = refl
 
 -- it has 328 bytes
@@ -59,6 +66,8 @@ abbrev pub two_drivers : Image
 two_drivers = image_of (fetch ∷ one ∷ sum_driven_by (drive 1 ∷ drive 2 ∷ []) ∷ put ∷ replicate 12 no_word)
 
 -- its file has six bytes in the place of four
-pub two_drivers-spelling : spelling two_drivers ≡ take 239 increment_bytes ++ (0 ∷ 2 ∷ 1 ∷ 0 ∷ 2 ∷ 0 ∷ []) ++ drop 243 increment_bytes
-unfolding spelling two_bytes four_bytes eight_bytes spelled_file spelled_memory spelled_unit spelled_format spelled_issue spelled_enable spelled_take spelled_word
+pub two_drivers-spelling : spelling two_drivers
+    ≡ take 239 increment_bytes ++ (0 ∷ 2 ∷ 1 ∷ 0 ∷ 2 ∷ 0 ∷ []) ++ drop 243 increment_bytes
+unfolding spelling two_bytes four_bytes eight_bytes spelled_file spelled_memory spelled_unit spelled_format
+    spelled_issue spelled_enable spelled_take spelled_word
 two_drivers-spelling = refl

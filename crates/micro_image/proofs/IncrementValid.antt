@@ -1,5 +1,6 @@
 -- The image of y = x + 1 is valid, and its bytes spell it.
-use Rattle.std.proofs.Common.{◌≡◌, ◌≢◌, ◌<◌, ◌≤◌, refl, sym, ap, ◌∙◌, arith, ℕ, List, [], ◌∷◌, length, replicate, ℤ, pos, inl}
+use Rattle.std.proofs.Common.{◌≡◌, ◌≢◌, ◌<◌, ◌≤◌, refl, sym, ap, ◌∙◌, arith, ℕ, List, [], ◌∷◌, length, replicate, ℤ}
+use Rattle.std.proofs.Common.{pos, inl}
 use Rattle.std.proofs.lemmas.List.Elements.{All-replicate}
 use Rattle.std.proofs.lemmas.Int.{ints}
 use Rattle.std.proofs.lemmas.List.{get_or-replicate, length-map, length-replicate}
@@ -31,7 +32,12 @@ file_of_zeros size low high = record {
 }
 
 -- a unit that is no memory
-valid_unit : (k : Kind) (files : List (List ℤ)) → k ≢ kind.Ram → k ≢ kind.Acu → length files ≡ ports k → Each IsFile files → IsUnit increment.units (plain_unit k files)
+valid_unit : (k : Kind) (files : List (List ℤ))
+    → k ≢ kind.Ram
+    → k ≢ kind.Acu
+    → length files ≡ ports k
+    → Each IsFile files
+    → IsUnit increment.units (plain_unit k files)
 valid_unit k files no_ram no_acu count each = record {
   latency = (omega arith, omega arith);
   gap = (omega arith, omega arith);
@@ -49,8 +55,11 @@ valid_units =
     All-from_Each (IsUnit increment.units)
     (more (valid_unit kind.Input [] (λ is. absurd (cc)) (λ is. absurd (cc)) refl none)
     (more (valid_unit kind.Rom [] (λ is. absurd (cc)) (λ is. absurd (cc)) refl none)
-    (more (valid_unit kind.Alu (zeros 8 ∷ zeros 8 ∷ []) (λ is. absurd (cc)) (λ is. absurd (cc)) refl (more (file_of_zeros 8 (omega arith) (omega arith)) (more (file_of_zeros 8 (omega arith) (omega arith)) none)))
-    (more (valid_unit kind.Output (zeros 2 ∷ []) (λ is. absurd (cc)) (λ is. absurd (cc)) refl (more (file_of_zeros 2 (omega arith) (omega arith)) none)) none))))
+    (more (valid_unit kind.Alu (zeros 8 ∷ zeros 8 ∷ []) (λ is. absurd (cc)) (λ is. absurd (cc)) refl
+    (more (file_of_zeros 8 (omega arith) (omega arith)) (more (file_of_zeros 8 (omega arith) (omega arith)) none)))
+    (more (valid_unit kind.Output (zeros 2 ∷ []) (λ is. absurd (cc)) (λ is. absurd (cc)) refl
+    (more (file_of_zeros 2 (omega arith) (omega arith)) none))
+    none))))
 
 -- the first register of each port, all of which are read
 first_registers : (count size : ℕ) → 0 < size → AreRegisters (replicate count (zeros size)) count (replicate count 0)
@@ -60,17 +69,34 @@ first_registers count size some = record {
   unread = λ port unread below. absurd (omega (arith, unread, below, length-replicate count (zeros size)));
 }
   where
-    there_at : (port : ℕ) → port < count → nth (replicate count 0) port 0 < length (nth (replicate count (zeros size)) port [])
-    there_at port below = omega (arith, some, get_or-replicate {A = ℕ} count port 0 0 below, length-replicate size (pos 0), ap length (get_or-replicate count port (zeros size) [] below))
+    there_at : (port : ℕ)
+        → port < count
+        → nth (replicate count 0) port 0 < length (nth (replicate count (zeros size)) port [])
+    there_at port below =
+        omega (
+          arith,
+          some,
+          get_or-replicate {A = ℕ} count port 0 0 below,
+          length-replicate size (pos 0),
+          ap length (get_or-replicate count port (zeros size) [] below),
+        )
 
 plain_format : IsFormat (record { shift = pos 0; mode = Trunc; width = 8 })
-plain_format = record { lowest = omega (arith, ints); highest = omega (arith, ints); narrowest = omega arith; widest = omega arith }
+plain_format = record {
+  lowest = omega (arith, ints);
+  highest = omega (arith, ints);
+  narrowest = omega arith;
+  widest = omega arith;
+}
 
 -- a word that has at most one issue, one drive and one take, so that none has another before it
 short_word : (issues : List Issue) (enables : List Enable) (takes : List Take)
-    → length issues ≤ 1 → Each (IsIssue increment) issues
-    → length enables ≤ 1 → Each (IsEnable increment) enables
-    → length takes ≤ 1 → Each (IsTake increment) takes
+    → length issues ≤ 1
+    → Each (IsIssue increment) issues
+    → length enables ≤ 1
+    → Each (IsEnable increment) enables
+    → length takes ≤ 1
+    → Each (IsTake increment) takes
     → IsWordOf increment (record { issues = issues; enables = enables; takes = takes })
 short_word issues enables takes one_issue are_issues one_enable are_enables one_take are_takes = record {
   issues = All-from_Each (IsIssue increment) are_issues;
@@ -84,7 +110,9 @@ short_word issues enables takes one_issue are_issues one_enable are_enables one_
 }
 
 -- a word with one issue, whose result goes over the bus to a register
-moving_word : (issue : Issue) (enable : Enable) (take : Take) → IsIssue increment issue → IsEnable increment enable
+moving_word : (issue : Issue) (enable : Enable) (take : Take)
+    → IsIssue increment issue
+    → IsEnable increment enable
     → IsTake increment take
     → IsWordOf increment (record { issues = issue ∷ []; enables = enable ∷ []; takes = take ∷ [] })
 moving_word issue enable take is_issue is_enable is_take =
@@ -127,7 +155,14 @@ increment-valid = record {
   units = valid_units;
   buses = (omega arith, omega arith);
   word_count = refl;
-  words = All-from_Each (IsWordOf increment) (more valid_fetch (more valid_one (more valid_sum (more valid_put (Each-from_All (IsWordOf increment) (replicate 12 no_word) (All-replicate (IsWordOf increment) 12 no_word valid_empty))))));
+  words =
+      All-from_Each (IsWordOf increment)
+      (more valid_fetch
+      (more valid_one
+      (more valid_sum
+      (more valid_put
+      (Each-from_All (IsWordOf increment) (replicate 12 no_word)
+      (All-replicate (IsWordOf increment) 12 no_word valid_empty))))));
 }
 
 -- the 328 bytes spell the image

@@ -4,6 +4,7 @@ pub mod LogLaws
 pub mod Newest
 pub mod LogWrites
 pub mod Prefix
+pub mod FirstConflict
 pub mod Outcomes
 pub mod Streams
 pub mod Increment

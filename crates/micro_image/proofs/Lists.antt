@@ -1,10 +1,14 @@
 -- Lists: equal functions, what stands before, what is found.
-use Rattle.std.proofs.Common.{◌≡◌, ◌<◌, ◌≤◌, ◌+◌, refl, ap₂, subst, arith, ℕ, zero, suc, Bool, true, false, if◌then◌else◌, List, [], ◌∷◌, ◌++◌, map, find, Option, Some}
+use Rattle.std.proofs.Common.{◌≡◌, ◌<◌, ◌≤◌, ◌+◌, refl, ap₂, subst, arith, ℕ, zero, suc, Bool, true, false}
+use Rattle.std.proofs.Common.{if◌then◌else◌, List, [], ◌∷◌, ◌++◌, map, find, Option, Some}
 use Rattle.std.specs.List.{flat_map, range_with_len}
 use Rattle.micro_image.proofs.Each.{In, here, there}
 
 -- equal functions give equal lists
-pub flat_map-same : {A B : Type 0} (f g : A → List B) → ((x : A) → f x ≡ g x) → (xs : List A) → flat_map f xs ≡ flat_map g xs
+pub flat_map-same : {A B : Type 0} (f g : A → List B)
+    → ((x : A) → f x ≡ g x)
+    → (xs : List A)
+    → flat_map f xs ≡ flat_map g xs
 flat_map-same f g h [] = refl
 flat_map-same f g h (x ∷ xs) = ap₂ ◌++◌ (h x) (flat_map-same f g h xs)
 
@@ -19,7 +23,11 @@ In-range low zero k h = elim h [ ]
 In-range low (suc n) k here = (omega arith, omega arith)
 In-range low (suc n) k (there h) = let rest = In-range (low + 1) n k h in (omega (arith, rest.0), omega (arith, rest.1))
 
-found_with : {A : Type 0} (test : A → Bool) (x : A) (b : Bool) (rest : Option A) (y : A) → test x ≡ b → (if b then Some x else rest) ≡ Some y → (rest ≡ Some y → test y ≡ true) → test y ≡ true
+found_with : {A : Type 0} (test : A → Bool) (x : A) (b : Bool) (rest : Option A) (y : A)
+    → test x ≡ b
+    → (if b then Some x else rest) ≡ Some y
+    → (rest ≡ Some y → test y ≡ true)
+    → test y ≡ true
 found_with test x true rest y is found h = let same : x ≡ y = cc in subst (λ w. test w ≡ true) same is
 found_with test x false rest y is found h = h found
 

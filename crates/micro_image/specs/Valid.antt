@@ -17,7 +17,8 @@ use Rattle.micro_image.specs.declared.image.Take.{Take}
 use Rattle.micro_image.specs.declared.image.UnitDesc.{UnitDesc}
 use Rattle.micro_image.specs.declared.image.Word.{Word}
 use Rattle.micro_image.specs.Fields.{nth}
-use Rattle.micro_image.specs.Operations.{Argument, nothing, input_word, output_word, raw_word, offset, operation, kind_of, reads, is_formatted}
+use Rattle.micro_image.specs.Operations.{Argument, nothing, input_word, output_word, raw_word, offset, operation}
+use Rattle.micro_image.specs.Operations.{kind_of, reads, is_formatted}
 
 -- the format of an issue: the formatted operations have one
 abbrev pub IsFormatFor : Op → Format → Type 0

@@ -1,3 +1,5 @@
+//! What the hardware can't do in one cycle.
+
 use thiserror::Error;
 
 /// What the hardware can't do in one cycle, the structural hazards, in the order in which they are reported.

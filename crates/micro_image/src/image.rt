@@ -1,11 +1,13 @@
+//! Images: the units of a processor and its microwords.
+
 ghost use Rattle.std.specs.Prelude.{◌≡◌};
 ghost use Rattle.micro_image.specs.Fields.{word_at};
 ghost use Rattle.micro_image.specs.Valid.{IsValid};
 
-use crate::short_list::ShortList;
 use fix_word::{Format, Op};
 use lists::List;
 use operations::{Kind, PortRef};
+use short_lists::ShortList;
 
 /// The most ports of a unit.
 const PORTS: usize = 3;

@@ -7,9 +7,8 @@
 
 mod conflict;
 mod image;
-mod short_list;
 
 pub use conflict::{Conflict, ConflictKind};
 pub use image::{Enable, Enables, Image, Issue, PortRegisters, Take, Takes, UnitDesc, Word};
 pub use operations::{Kind, PortRef, is_formatted, reads};
-pub use short_list::ShortList;
+pub use short_lists::ShortList;

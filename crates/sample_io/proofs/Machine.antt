@@ -1,5 +1,6 @@
 -- A machine that follows the bytes of one line: the proofs tell by it which bytes lead to a row, and to which.
-use Rattle.std.proofs.Common.{◌≡◌, ℕ, ◌+◌, ◌*◌, ◌<◌, Bool, true, false, cond, ◌&&◌, List, [], ◌∷◌, ◌++◌, ℤ, Option, Some, None, nat_lt, ◌==◌, refl, ap, ◌∙◌, arith}
+use Rattle.std.proofs.Common.{◌≡◌, ℕ, ◌+◌, ◌*◌, ◌<◌, Bool, true, false, cond, ◌&&◌, List, [], ◌∷◌, ◌++◌, ℤ, Option}
+use Rattle.std.proofs.Common.{Some, None, nat_lt, ◌==◌, refl, ap, ◌∙◌, arith}
 use Rattle.std.specs.Char.{digit_value}
 use Rattle.std.specs.Int.Signed.{le_z, le_z_yes}
 use Rattle.std.specs.Option.{option_and_then}
@@ -13,7 +14,8 @@ use Rattle.sample_io.specs.Channels.{IsInChannel}
 use Rattle.sample_io.specs.Samples.{signed}
 use Rattle.sample_io.specs.Private.Reading.{HasDigit}
 
--- within a line: the whole words, the channel of the next word, the channels left behind it, and what there is of the word;
+-- within a line: the whole words, the channel of the next word, the channels left behind it, and what there is of the
+-- word;
 -- or the line has ended as this row
 pub data Reached : Type 0 where
   At : List ℤ → Channel → List Channel → Part → Reached
@@ -38,7 +40,8 @@ digit words channel left negative magnitude byte =
     (Some (At words channel left (Digits negative (magnitude * 10 + digit_value byte)))) None
 
 abbrev pub step : Reached → ℕ → Option Reached
-step (At words channel left Empty) byte = cond (byte == 45) (Some (At words channel left Minus)) (digit words channel left false 0 byte)
+step (At words channel left Empty) byte =
+    cond (byte == 45) (Some (At words channel left Minus)) (digit words channel left false 0 byte)
 step (At words channel left Minus) byte = digit words channel left true 0 byte
 step (At words channel left (Digits negative magnitude)) byte =
     cond (byte == 44) (opened (words ++ signed negative magnitude ∷ []) left)
@@ -56,19 +59,26 @@ run reached (byte ∷ bytes) = option_and_then (λ next. run next bytes) (step r
 abbrev pub run_line : List Channel → List ℕ → Option Reached
 run_line channels bytes = option_and_then (λ first. run first bytes) (opened [] channels)
 
-pub run-append : (reached : Reached) (xs ys : List ℕ) → run reached (xs ++ ys) ≡ option_and_then (λ next. run next ys) (run reached xs)
+pub run-append : (reached : Reached) (xs ys : List ℕ)
+    → run reached (xs ++ ys) ≡ option_and_then (λ next. run next ys) (run reached xs)
 run-append reached [] ys = refl
 run-append reached (x ∷ xs) ys =
-    elim (step reached x) as (λ o. option_and_then (λ next. run next (xs ++ ys)) o ≡ option_and_then (λ next. run next ys) (option_and_then (λ next. run next xs) o)) [
+    elim (step reached x) as (λ o.
+    option_and_then (λ next. run next (xs ++ ys)) o
+    ≡ option_and_then (λ next. run next ys) (option_and_then (λ next. run next xs) o)) [
       | None ↦ refl
       | Some next ↦ run-append next xs ys
     ]
 
 -- bytes behind bytes that were taken
-pub run_on : (reached next : Reached) (xs ys : List ℕ) → run reached xs ≡ Some next → run reached (xs ++ ys) ≡ run next ys
+pub run_on : (reached next : Reached) (xs ys : List ℕ)
+    → run reached xs ≡ Some next
+    → run reached (xs ++ ys) ≡ run next ys
 run_on reached next xs ys e = run-append reached xs ys ∙ ap (λ o. option_and_then (λ s. run s ys) o) e
 
-pub run_line_on : (channels : List Channel) (next : Reached) (xs ys : List ℕ) → run_line channels xs ≡ Some next → run_line channels (xs ++ ys) ≡ run next ys
+pub run_line_on : (channels : List Channel) (next : Reached) (xs ys : List ℕ)
+    → run_line channels xs ≡ Some next
+    → run_line channels (xs ++ ys) ≡ run next ys
 run_line_on [] next xs ys e = cc
 run_line_on (channel ∷ channels) next xs ys e = run_on (At [] channel channels Empty) next xs ys e
 
@@ -82,21 +92,28 @@ in_channel channel word e =
     (le_z_yes (T_from_true _ parts.0), le_z_yes (T_from_true _ parts.1))
 
 -- a digit that leaves the word in its channel is taken, and no other byte is
-pub digit_taken : (words : List ℤ) (channel : Channel) (left : List Channel) (negative : Bool) (magnitude byte : ℕ) → HasDigit channel negative magnitude byte
-    → digit words channel left negative magnitude byte ≡ Some (At words channel left (Digits negative (magnitude * 10 + digit_value byte)))
+pub digit_taken : (words : List ℤ) (channel : Channel) (left : List Channel) (negative : Bool) (magnitude byte : ℕ)
+    → HasDigit channel negative magnitude byte
+    → digit words channel left negative magnitude byte
+    ≡ Some (At words channel left (Digits negative (magnitude * 10 + digit_value byte)))
 digit_taken words channel left negative magnitude byte h =
-    let test = and_from _ _ (lt-ltb (digit_value byte) 10 h.0) (is_in-true channel (signed negative (magnitude * 10 + digit_value byte)) h.1) in
+    let test =
+    and_from _ _ (lt-ltb (digit_value byte) 10 h.0)
+    (is_in-true channel (signed negative (magnitude * 10 + digit_value byte)) h.1) in
     ap (λ b. cond b (Some (At words channel left (Digits negative (magnitude * 10 + digit_value byte)))) None) test
 
-pub digit_refused : (words : List ℤ) (channel : Channel) (left : List Channel) (negative : Bool) (magnitude byte : ℕ) → (HasDigit channel negative magnitude byte → ⊥)
+pub digit_refused : (words : List ℤ) (channel : Channel) (left : List Channel) (negative : Bool) (magnitude byte : ℕ)
+    → (HasDigit channel negative magnitude byte → ⊥)
     → digit words channel left negative magnitude byte ≡ None
 digit_refused words channel left negative magnitude byte h =
     let grown = magnitude * 10 + digit_value byte in
-    let test : (nat_lt (digit_value byte) 10 && is_in channel (signed negative grown)) ≡ false = false_from_ne_true _ (λ e.
+    let test : (nat_lt (digit_value byte) 10 && is_in channel (signed negative grown)) ≡ false =
+    false_from_ne_true _ (λ e.
     let parts = and_parts (nat_lt (digit_value byte) 10) (is_in channel (signed negative grown)) e in
     h (ltb-true (digit_value byte) 10 parts.0, in_channel channel (signed negative grown) parts.1)) in
     ap (λ b. cond b (Some (At words channel left (Digits negative grown))) None) test
 
 -- no digit is the byte of a mark
 pub no_mark : (byte mark : ℕ) → digit_value byte < 10 → mark < 48 → (byte == mark) ≡ false
-no_mark byte mark digit below = ne_eqb byte mark (λ e. let range = digit_from_value byte digit in omega (arith, range.0))
+no_mark byte mark digit below =
+    ne_eqb byte mark (λ e. let range = digit_from_value byte digit in omega (arith, range.0))

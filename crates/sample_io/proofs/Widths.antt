@@ -8,7 +8,12 @@ use Rattle.sample_io.specs.Channels.{IsChannel, channel_of}
 
 -- raw words of at most 40 bits are those of a channel
 pub channel_is : (width : ℕ) → width ≤ 40 → IsChannel (channel_of width)
-channel_is zero few = record { low = omega (arith, ints); low_zero = omega (arith, ints); zero_high = omega (arith, ints); high = omega (arith, ints) }
+channel_is zero few = record {
+  low = omega (arith, ints);
+  low_zero = omega (arith, ints);
+  zero_high = omega (arith, ints);
+  high = omega (arith, ints);
+}
 channel_is (suc n) few =
     let some : 1 ≤ 2 ^ n = pow_mono {i = 0} {j = n} (omega arith) in
     let most : 2 ^ n ≤ 2 ^ 39 = pow_mono {j = 39} (omega (arith, few)) in

@@ -1,5 +1,6 @@
 -- The rows of a sample file that comes in pieces, whatever the cuts between the pieces.
-use Rattle.std.specs.Prelude.{◌≡◌, ◌⊎◌, ℕ, ◌+◌, ◌<◌, ◌≤◌, ◌^◌, List, [], ◌∷◌, ◌++◌, length, take, None, IsSome, Contains}
+use Rattle.std.specs.Prelude.{◌≡◌, ◌⊎◌, ℕ, ◌+◌, ◌<◌, ◌≤◌, ◌^◌, List, [], ◌∷◌, ◌++◌, length, take, None, IsSome}
+use Rattle.std.specs.Prelude.{Contains}
 use Rattle.lists.specs.Rows.{Rows as Stream}
 use Rattle.sample_io.specs.declared.RowFault.{RowFault}
 use Rattle.sample_io.specs.declared.channel.Channel.{Channel}

@@ -2,7 +2,6 @@
 #![tactic(auto)]
 
 mod channel;
-mod past;
 mod pieces;
 mod read;
 mod write;

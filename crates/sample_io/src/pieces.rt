@@ -5,10 +5,10 @@ ghost use Rattle.sample_io.specs.Channels.{AreChannels};
 ghost use Rattle.sample_io.specs.Pieces.{HasTaken, CanTake, TakesPiece, MeetsFault, EndsInput, EndsInFault};
 ghost use Rattle.sample_io.specs.Private.Filling.{TakesNextByte};
 
-use crate::past::Past;
 use crate::read::{Progress, Reader};
 use crate::{Channel, RowFault};
 use lists::List;
+use past::Past;
 use std::alloc::{AllocError, Global};
 use std::marker::Model;
 use std::mem;
@@ -22,7 +22,7 @@ pub struct Rows {
     begun: List<i64>,
     shown: List<i64>,
     fault: Option<RowFault>,
-    taken: Past,
+    taken: Past<u8>,
 }
 
 impl Model for Rows {
@@ -152,7 +152,7 @@ impl Rows {
         ensures shown { OnErr result (self.new.row ≡ self.old.row) }
         ensures stays { IfErr result (λ fault. self.new.fault ≡ Some fault) }
     {
-        self.taken.push(byte);
+        self.taken.push(&byte);
         let column = self.reader.column();
         match self.reader.step(&self.channels, byte) {
             Ok(Progress::Within) => Ok(false),

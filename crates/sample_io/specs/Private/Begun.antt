@@ -9,7 +9,8 @@ use Rattle.sample_io.specs.declared.read.Part.{Part}
 use Rattle.sample_io.specs.declared.read.Part.TheVariants.{Empty, Minus, Digits, Return}
 use Rattle.sample_io.specs.declared.read.Reader.{Reader}
 use Rattle.sample_io.specs.Channels.{IsInChannel}
-use Rattle.sample_io.specs.Samples.{minus, comma, carriage_return, line_feed, signed, signed_text, IsWord, AreWords, Lines}
+use Rattle.sample_io.specs.Samples.{minus, comma, carriage_return, line_feed, signed, signed_text, IsWord, AreWords}
+use Rattle.sample_io.specs.Samples.{Lines}
 
 -- the word's bytes so far, where `left` are the channels of the words after it
 abbrev pub IsPart : Channel → List Channel → List ℕ → Part → Type 0
@@ -40,12 +41,12 @@ pub record LineSoFar (channels : List Channel) (line : List ℕ) (words : List �
   pub unended : Contains line line_feed → ⊥
 
 -- the bytes so far: the lines of the rows, and the line begun with its whole words
-pub record ReadSoFar (channels : List Channel) (bytes : List ℕ) (rows : Rows) (words : List ℤ) (reader : Reader) : Type 0
-  where
-    pub front : List ℕ
-    pub line : List ℕ
-    pub bytes_are : bytes ≡ front ++ line
-    pub before : Lines front channels rows
-    pub so_far : LineSoFar channels line words reader.state
-    pub number : reader.line ≡ length rows + 1
-    pub at : reader.at ≡ length line
+pub record ReadSoFar (channels : List Channel)
+    (bytes : List ℕ) (rows : Rows) (words : List ℤ) (reader : Reader) : Type 0 where
+  pub front : List ℕ
+  pub line : List ℕ
+  pub bytes_are : bytes ≡ front ++ line
+  pub before : Lines front channels rows
+  pub so_far : LineSoFar channels line words reader.state
+  pub number : reader.line ≡ length rows + 1
+  pub at : reader.at ≡ length line

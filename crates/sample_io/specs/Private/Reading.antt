@@ -1,5 +1,6 @@
 -- What a reader knows of a sample file after the bytes that it has taken.
-use Rattle.std.specs.Prelude.{◌≡◌, ℕ, ◌+◌, ◌*◌, ◌<◌, ◌^◌, List, [], ◌∷◌, ◌++◌, length, Bool, ℤ, Option, Some, None, Result, Ok, Err, MatchOption}
+use Rattle.std.specs.Prelude.{◌≡◌, ℕ, ◌+◌, ◌*◌, ◌<◌, ◌^◌, List, [], ◌∷◌, ◌++◌, length, Bool, ℤ, Option, Some, None}
+use Rattle.std.specs.Prelude.{Result, Ok, Err, MatchOption}
 use Rattle.std.specs.Char.{digit_value}
 use Rattle.lists.specs.Rows.{Rows}
 use Rattle.sample_io.specs.declared.RowFault.{RowFault}

@@ -16,11 +16,16 @@ invariant_of-result c =
       sound = are;
       shown = ap length c.in_ok-zeros-2.ensures ∙ length-replicate _ _ ∙ sym (ap length c.in_ok-from_slice.ensures);
       filled = ap length c.in_ok-zeros.ensures ∙ length-replicate _ _ ∙ sym (ap length c.in_ok-from_slice.ensures);
-      led = λ running. ([], subst (λ b. HasLed kept b []) (sym c.none.ensures) (none_led kept are refl (nothing_read _ are c.new.result c.new.ensures)));
+      led = λ running. (
+        [],
+        subst (λ b. HasLed kept b []) (sym c.none.ensures)
+            (none_led kept are refl (nothing_read _ are c.new.result c.new.ensures)),
+      );
     }
 
 pub returns-clause-taken : goal.returns-clause-taken
 returns-clause-taken c =
     let are = subst AreChannels (sym c.in_ok-from_slice.ensures) c.requires in
     let kept = kept_of c.in_ok-from_slice.field-0 c.in_ok-zeros-2.field-0 None c.new.result c.in_ok-zeros.field-0 in
-    taken_of kept c.none.result [] [] c.none.ensures (none_led kept are refl (nothing_read _ are c.new.result c.new.ensures))
+    taken_of kept c.none.result [] [] c.none.ensures
+    (none_led kept are refl (nothing_read _ are c.new.result c.new.ensures))

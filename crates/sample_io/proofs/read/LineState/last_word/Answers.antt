@@ -18,12 +18,16 @@ returns-then-self-channels c = λ line words h row text.
 
 pub signed_word-requires : goal.signed_word-requires
 signed_word-requires c =
-    let small = magnitude_small c.args.channels.now c.requires.channels c.requires.state.0 c.requires.state.1 c.args.self.now c.requires.state.2
+    let small =
+    magnitude_small c.args.channels.now c.requires.channels c.requires.state.0 c.requires.state.1 c.args.self.now
+    c.requires.state.2
     c.in-Digits.negative c.in-Digits.magnitude c.in-Digits.is in
     omega (arith, small)
 
 pub returns : goal.returns
 returns c = λ line words h.
     let fits : FitsSigned w64 c.signed_word.result = search rules in
-    subst (λ (z : ℤ). RowText c.args.channels.now line (words ++ z ∷ [])) (sym (to_z-of_z w64 c.signed_word.result fits ∙ c.signed_word.ensures))
-    (is_text c.args.channels.now line words c.args.self.now h c.in-Digits.negative c.in-Digits.magnitude c.in-Digits.is c.if-self-channels.false)
+    subst (λ (z : ℤ). RowText c.args.channels.now line (words ++ z ∷ []))
+    (sym (to_z-of_z w64 c.signed_word.result fits ∙ c.signed_word.ensures))
+    (is_text c.args.channels.now line words c.args.self.now h c.in-Digits.negative c.in-Digits.magnitude c.in-Digits.is
+    c.if-self-channels.false)

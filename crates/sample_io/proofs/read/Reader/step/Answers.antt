@@ -7,7 +7,8 @@ use Rattle.sample_io.proofs.read.Reader.step.Goals as goal
 pub returns-in_default : goal.returns-in_default
 returns-in_default c = λ bytes rows words h more.
     subst (StopsAfter c.args.channels.now (bytes ++ c.args.byte ∷ more) rows) (sym c.fault.ensures)
-    (bad_byte c.args.channels.now c.requires.channels bytes rows words c.args.self.now h c.args.byte (c.in_default.ensures h.line words h.so_far) more)
+    (bad_byte c.args.channels.now c.requires.channels bytes rows words c.args.self.now h c.args.byte
+    (c.in_default.ensures h.line words h.so_far) more)
 
 pub overflow_add-self : goal.overflow_add-self
 overflow_add-self c =
@@ -17,7 +18,8 @@ overflow_add-self c =
 
 pub returns-in-Row : goal.returns-in-Row
 returns-in-Row c = λ bytes rows words h.
-    row_read c.args.channels.now c.requires.channels bytes rows words c.args.self.now h c.args.byte c.in-Some.progress c.in-Row.field-0 c.take.new.self
+    row_read c.args.channels.now c.requires.channels bytes rows words c.args.self.now h c.args.byte c.in-Some.progress
+    c.in-Row.field-0 c.take.new.self
     (c.in-Some.ensures h.line words h.so_far) c.in-Row.is
 
 pub returns-in_default-progress : goal.returns-in_default-progress

@@ -1,6 +1,7 @@
 //! Lists that are mostly short.
+#![tactic(auto)]
 
-ghost use Rattle.std.specs.Prelude.{◌≡◌, ◌<◌, ◌^◌, ◌↔◌, [], ◌∷◌, ◌++◌, length, slice_index_or, IsTrue, IfOk, OnOk, OnErr, IfErr};
+ghost use Rattle.std.specs.Prelude.{◌≡◌, ◌<◌, ◌^◌, ◌↔◌, [], ◌∷◌, ◌++◌, length, slice_index_or, slice_set, IsTrue, IfOk, OnOk, OnErr, IfErr};
 ghost use Rattle.std.specs.Iterator.Runs.{EveryRun, ItemsMapTo};
 ghost use Rattle.std.specs.Slice.Iter.{iter_rest, iter_steps};
 
@@ -52,6 +53,24 @@ impl<T: Default + Drop, const N: usize> ShortList<T, N> {
         ensures item_returned { IfErr result (λ e. e.value ≡ item) }
     {
         self.items.push(item)
+    }
+}
+
+impl<T: Default + Copy, const N: usize> ShortList<T, N> {
+    pub fn from_slice(alloc: Global, items: &[T]) -> Result<ShortList<T, N>, AllocError>
+        ensures { IfOk result (λ list. list ≡ items.now) }
+    {
+        Ok(ShortList {
+            items: SmallVec::from_slice(alloc, items)?,
+        })
+    }
+
+    /// Puts an element in the place of another.
+    pub fn set(&mut self, index: usize, item: T)
+        requires { index < length self.old }
+        ensures { self.new ≡ slice_set self.old index item }
+    {
+        self.items.as_mut_slice()[index] = item;
     }
 }
 
