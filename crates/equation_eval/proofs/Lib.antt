@@ -4,6 +4,6 @@ pub mod Edges
 pub mod Results
 pub mod Steps
 pub mod Evaluations
-pub mod Searches
+pub mod Orders
 pub mod Layouts
 pub mod Beginnings

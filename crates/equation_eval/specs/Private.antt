@@ -1,6 +1,5 @@
 pub mod Masks
 pub mod Rings
 pub mod Order
-pub mod Past
 pub mod Program
 pub mod Stands

@@ -10,21 +10,17 @@ ghost use Rattle.equation_eval.specs.Private.Rings.{AreLongest, AreRings, IsLayo
 use crate::memory::{Mask, PERIOD, Ring};
 use lists::List;
 use operations::Operand;
-use signal_graph::{Edge, Graph};
+use signal_graph::{Edges, Graph};
 use std::alloc::{AllocError, Global};
 
 fn no_delays(alloc: Global, count: usize) -> Result<List<u16>, AllocError>
     ensures { IfOk result (λ list. list ≡ replicate count 0) }
 {
-    let mut list = List::new(alloc);
-    for _ in 0..count {
-        list.push(0)?;
-    }
-    Ok(list)
+    Ok(List::from_vec(vec![in alloc; 0; count]?))
 }
 
 /// Raises the longest delay of each node that is read to that of the edge.
-fn raise(longest: &mut List<u16>, edges: &List<Edge>)
+fn raise(longest: &mut List<u16>, edges: &Edges)
     requires nodes { All (λ edge. edge.node < length longest.old) edges.now }
     requires delays { All (λ edge. edge.delay < PERIOD) edges.now }
     requires most { All (λ delay. delay < PERIOD) longest.old }
@@ -56,7 +52,7 @@ fn rings_of(alloc: Global, longest: &List<u16>) -> Result<(List<Ring>, u32), All
     ensures rings { IfOk result (λ made. AreRings longest.now made.0 made.1) }
     ensures most { IfOk result (λ made. made.1 ≤ PERIOD * length longest.now) }
 {
-    let mut rings = List::new(alloc);
+    let mut rings = List::with_capacity(alloc, longest.len())?;
     let mut base: u32 = 0;
     for delay in longest.iter() {
         let mask = Mask::above(*delay);
@@ -69,11 +65,7 @@ fn rings_of(alloc: Global, longest: &List<u16>) -> Result<(List<Ring>, u32), All
 fn zeros(alloc: Global, count: u32) -> Result<List<Operand>, AllocError>
     ensures { IfOk result (λ list. list ≡ replicate count (pos 0)) }
 {
-    let mut list = List::new(alloc);
-    for _ in 0..count {
-        list.push(Operand::new(0))?;
-    }
-    Ok(list)
+    Ok(List::from_vec(vec![in alloc; Operand::new(0); count as usize]?))
 }
 
 /// Puts an initial value into a ring, where the ring is that long.

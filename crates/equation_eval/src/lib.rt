@@ -5,8 +5,8 @@ mod evaluator;
 mod layout;
 mod memory;
 mod order;
-mod past;
 mod program;
+mod ran;
 mod run;
 
 pub use evaluator::{EvalFault, Evaluator};

@@ -1,5 +1,6 @@
 -- An alias leads to an element that is less high, and the end of its chain is an element with the same node.
-use Rattle.std.proofs.Common.{◌≡◌, ℕ, ◌<◌, ◌≤◌, inl, inr, Bool, true, false, List, [], length, refl, sym, ap, subst, ◌∙◌, arith}
+use Rattle.std.proofs.Common.{◌≡◌, ℕ, ◌<◌, ◌≤◌, inl, inr, Bool, true, false, List, [], length, refl, sym, ap, subst}
+use Rattle.std.proofs.Common.{◌∙◌, arith}
 use Rattle.std.specs.Prelude.{nat_lt, ◌||◌, if◌then◌else◌}
 use Rattle.std.proofs.lemmas.Bool.{cases_lt}
 use Rattle.recurrences.proofs.Determined.{HasHeights}
@@ -41,16 +42,21 @@ module _ (p : Program) (sound : IsFlat p) (loopless : IsFlatLoopless p) where
   no_alias : (e : ℕ) (b : Body) → (element_of p e).body ≡ b → ((d : ℕ) → b ≡ value (read d 0) → ⊥) → IsEnd p e
   no_alias e b is other d a = other d (sym is ∙ a.body)
 
-  leads_to : (e : ℕ) (b : Body) → e < length p.elems → (element_of p e).body ≡ b → JumpsTo p height 1 e (alias (is_delayed p e) e b)
+  leads_to : (e : ℕ) (b : Body)
+      → e < length p.elems
+      → (element_of p e).body ≡ b
+      → JumpsTo p height 1 e (alias (is_delayed p e) e b)
   leads_to e (word j) within is = itself e (no_alias e (word j) is (λ d same. cc))
   leads_to e (value (raw m)) within is = itself e (no_alias e (value (raw m)) is (λ d same. cc))
-  leads_to e (value (calculation o fmt parts)) within is = itself e (no_alias e (value (calculation o fmt parts)) is (λ d same. cc))
+  leads_to e (value (calculation o fmt parts)) within is =
+      itself e (no_alias e (value (calculation o fmt parts)) is (λ d same. cc))
   leads_to e (value (read d ago)) within is = by (has_pass p e (read d ago)) refl
     where
       by : (b : Bool) → has_pass p e (read d ago) ≡ b → JumpsTo p height 1 e (if b then e else d)
       by true pass = itself e (λ c a. (let same : value (read d ago) ≡ value (read c 0) = sym is ∙ a.body in
           let d_is : d ≡ c = cc in let ago_is : ago ≡ 0 = cc in
-          let p_is : has_pass p e (read d ago) ≡ has_pass p e (read c 0) = ap (λ k. has_pass p e (read d k)) ago_is ∙ ap (λ k. has_pass p e (read k 0)) d_is in
+          let p_is : has_pass p e (read d ago) ≡ has_pass p e (read c 0) =
+          ap (λ k. has_pass p e (read d k)) ago_is ∙ ap (λ k. has_pass p e (read k 0)) d_is in
           let no_pass = a.pass in absurd (cc)))
       by false pass =
           let now : ago ≡ 0 = not_above ago (first (nat_lt 0 ago) refl pass) in
@@ -68,7 +74,10 @@ module _ (p : Program) (sound : IsFlat p) (loopless : IsFlatLoopless p) where
           first true h q = absurd (cc)
           first false h q = h
 
-  inside_of : (e : ℕ) (b : Body) → e < length p.elems → (element_of p e).body ≡ b → alias (is_delayed p e) e b < length p.elems
+  inside_of : (e : ℕ) (b : Body)
+      → e < length p.elems
+      → (element_of p e).body ≡ b
+      → alias (is_delayed p e) e b < length p.elems
   inside_of e (word j) within is = within
   inside_of e (value (raw m)) within is = within
   inside_of e (value (calculation o fmt parts)) within is = within
@@ -93,5 +102,6 @@ module _ (p : Program) (sound : IsFlat p) (loopless : IsFlatLoopless p) where
   pub aliases_jump : (aliases : List ℕ) → AreAliases p aliases → Jumps p height 1 aliases
   aliases_jump aliases a = record {
     at = λ e within. (let size = a.size in
-        subst (λ (d : ℕ). JumpsTo p height 1 e d) (sym (a.at e (omega arith))) (leads_to e (element_of p e).body (omega arith) refl));
+        subst (λ (d : ℕ). JumpsTo p height 1 e d) (sym (a.at e (omega arith)))
+        (leads_to e (element_of p e).body (omega arith) refl));
   }

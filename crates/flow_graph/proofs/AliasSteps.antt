@@ -32,30 +32,45 @@ module _ (p : Program) (height : ℕ → ℕ) (far : ℕ) where
     pub done : (e : ℕ) → e < n → e < length leads → JumpsTo p height (far + far) e (get_or leads e 0)
     pub rest : (e : ℕ) → n ≤ e → e < length leads → JumpsTo p height far e (get_or leads e 0)
 
-  pub one_doubled : (n : ℕ) (leads : List ℕ) → IsInside leads → n < length leads → DoubledTo n leads
+  pub one_doubled : (n : ℕ) (leads : List ℕ)
+      → IsInside leads
+      → n < length leads
+      → DoubledTo n leads
       → DoubledTo (n + 1) (set leads n (get_or leads (get_or leads n 0) 0))
   one_doubled n leads inside within h =
       let d = get_or leads n 0 in
       let c = get_or leads d 0 in
       let size : length (set leads n c) ≡ length leads = length-set leads n c in
-      let there : JumpsTo p height far d c = elim (cases_lt d n) [ inl below ↦ less_far d c (h.done d below (inside n within)) | inr above ↦ h.rest d above (inside n within) ] in
+      let there : JumpsTo p height far d c = elim (cases_lt d n) [
+        | inl below ↦ less_far d c (h.done d below (inside n within))
+        | inr above ↦ h.rest d above (inside n within)
+      ] in
       let same : get_or (set leads n c) n 0 ≡ c = get_or-set_same leads n c 0 within in
       record {
         done = λ e below e_within. elim (cases_eq e n) [
           | inl is ↦ subst (λ (k : ℕ). JumpsTo p height (far + far) k (get_or (set leads n c) k 0)) (sym is)
-              (subst (λ (k : ℕ). JumpsTo p height (far + far) n k) (sym same) (jumps_on n d c (h.rest n (omega arith) within) there))
-          | inr other ↦ subst (λ (k : ℕ). JumpsTo p height (far + far) e k) (sym (get_or-set_other leads n e c 0 other)) (h.done e (omega arith) (omega arith))
+              (subst (λ (k : ℕ). JumpsTo p height (far + far) n k) (sym same)
+              (jumps_on n d c (h.rest n (omega arith) within) there))
+          | inr other ↦
+              subst (λ (k : ℕ). JumpsTo p height (far + far) e k) (sym (get_or-set_other leads n e c 0 other))
+              (h.done e (omega arith) (omega arith))
         ];
         rest = λ e above e_within. (let other : e ≡ n → ⊥ = λ is. omega arith in
-            subst (λ (k : ℕ). JumpsTo p height far e k) (sym (get_or-set_other leads n e c 0 other)) (h.rest e (omega arith) (omega arith)));
+            subst (λ (k : ℕ). JumpsTo p height far e k) (sym (get_or-set_other leads n e c 0 other))
+            (h.rest e (omega arith) (omega arith)));
       }
 
-pub inside_set : (leads : List ℕ) (n : ℕ) → IsInside leads → n < length leads → IsInside (set leads n (get_or leads (get_or leads n 0) 0))
+pub inside_set : (leads : List ℕ) (n : ℕ)
+    → IsInside leads
+    → n < length leads
+    → IsInside (set leads n (get_or leads (get_or leads n 0) 0))
 inside_set leads n inside within e e_within =
     let c = get_or leads (get_or leads n 0) 0 in
     let size : length (set leads n c) ≡ length leads = length-set leads n c in
     let low : c < length leads = inside (get_or leads n 0) (inside n within) in
     elim (cases_eq e n) [
-      | inl is ↦ subst (λ (k : ℕ). get_or (set leads n c) k 0 < length (set leads n c)) (sym is) (let same = get_or-set_same leads n c 0 within in omega arith)
+      | inl is ↦
+          subst (λ (k : ℕ). get_or (set leads n c) k 0 < length (set leads n c)) (sym is)
+          (let same = get_or-set_same leads n c 0 within in omega arith)
       | inr other ↦ (let same = get_or-set_other leads n e c 0 other in let old = inside e (omega arith) in omega arith)
     ]

@@ -1,12 +1,14 @@
 -- The number of the last place of the end of an element's chain of aliases is that of the element's node.
-use Rattle.std.proofs.Common.{◌≡◌, ℕ, zero, suc, ◌+◌, ◌-◌, ◌<◌, inl, inr, Bool, true, false, List, [], ◌∷◌, Some, length, map, refl, sym, ap, subst, ◌∙◌, arith}
+use Rattle.std.proofs.Common.{◌≡◌, ℕ, zero, suc, ◌+◌, ◌-◌, ◌<◌, inl, inr, Bool, true, false, List, [], ◌∷◌, Some}
+use Rattle.std.proofs.Common.{length, map, refl, sym, ap, subst, ◌∙◌, arith}
 use Rattle.std.specs.Prelude.{ℤ, slice_get, slice_index_or}
 use Rattle.std.proofs.lemmas.Bool.{cases_lt}
 use Rattle.std.proofs.lemmas.List.{length-append, length-map, get_or-map}
 use Rattle.std.proofs.lemmas.Option.{none-some, same_Some, slice_get_within}
 use Rattle.signal_graph.specs.Flat.{Expr, raw, read, calculation, Body, word, value, Program, size}
 use Rattle.signal_graph.specs.FlatSolves.{element_of}
-use Rattle.signal_graph.specs.GraphOf.{Made, constant, input, operation, operands_from, made_by, pass, has_pass, Site, sites, word_node, node_at, IsNumber, input_node, pass_node, own_node, word_alias}
+use Rattle.signal_graph.specs.GraphOf.{Made, constant, input, operation, operands_from, made_by, pass, has_pass, Site}
+use Rattle.signal_graph.specs.GraphOf.{sites, word_node, node_at, IsNumber, input_node, pass_node, own_node, word_alias}
 use Rattle.signal_graph.specs.Keeps.{IsElementNode}
 use Rattle.signal_graph.proofs.Members.{at_member, member_at}
 use Rattle.signal_graph.proofs.Places.{site, made_of, place_in, in_place}
@@ -34,8 +36,13 @@ all_from (y ∷ ys) e k rising (suc i) s h =
     from_later y s e k rising.0 (all_from ys y.element (y.place + 1) rising.1 i s h)
 
 -- a later place is a higher one
-pub later_above : (ys : List Site) (e k : ℕ) → AreRising e k ys → (i j : ℕ) (s t : Site) → i < j
-    → slice_get ys i ≡ Some s → slice_get ys j ≡ Some t → IsFrom s.element (s.place + 1) t
+pub later_above : (ys : List Site) (e k : ℕ)
+    → AreRising e k ys
+    → (i j : ℕ) (s t : Site)
+    → i < j
+    → slice_get ys i ≡ Some s
+    → slice_get ys j ≡ Some t
+    → IsFrom s.element (s.place + 1) t
 later_above [] e k rising i j s t less h g = absurd (none-some s h)
 later_above (y ∷ ys) e k rising i zero s t less h g = absurd (omega arith)
 later_above (y ∷ ys) e k rising zero (suc j) s t less h g =
@@ -45,7 +52,9 @@ later_above (y ∷ ys) e k rising (suc i) (suc j) s t less h g =
     later_above ys y.element (y.place + 1) rising.1 i j s t (omega arith) h g
 
 module _ (p : Program) where
-  is_last : (j : ℕ) (s : Site) → slice_get (sites p) j ≡ Some s → s.place + 1 ≡ length (made_of p s.element)
+  is_last : (j : ℕ) (s : Site)
+      → slice_get (sites p) j ≡ Some s
+      → s.place + 1 ≡ length (made_of p s.element)
       → IsLastPlace (sites p) (length (sites p)) j s
   is_last j s at last k t below there same = elim (cases_lt j k) [
     | inl less ↦ elim (later_above (sites p) 0 0 (elements_rise p 0 p.elems) j k s t less at there) [
@@ -67,7 +76,9 @@ module _ (p : Program) where
 
   module _ (numbers : List ℕ) (words : List (ℤ × ℕ)) (are : AreNumbers (sites p) numbers words) (last : List ℕ)
       (count : ℕ) (ends : AreLast (sites p) numbers count last) where
-    by_place : (e k : ℕ) (made : Made) → e < length p.elems → IsEndPlace e k made
+    by_place : (e k : ℕ) (made : Made)
+        → e < length p.elems
+        → IsEndPlace e k made
         → IsNumber p (target_at e k made) (slice_index_or last e 0)
     by_place e k made el is =
         let s = site e k made in
@@ -76,8 +87,12 @@ module _ (p : Program) where
         (sym (ends.at j s (slice_get_within (sites p) j s at) at (is_last j s at is.last)))
         (place_number p numbers words are j s at is.some)
 
-    by_value : (e : ℕ) (x : Expr) (b : Bool) → e < length p.elems → IsEnd p e → (element_of p e).body ≡ value x
-        → has_pass p e x ≡ b → IsElementNode p e (slice_index_or last e 0)
+    by_value : (e : ℕ) (x : Expr) (b : Bool)
+        → e < length p.elems
+        → IsEnd p e
+        → (element_of p e).body ≡ value x
+        → has_pass p e x ≡ b
+        → IsElementNode p e (slice_index_or last e 0)
     by_value e x true el end h is =
         let there = pass_made p e x h is in
         let count = ap (λ (ms : List Made). length ms) (value_made p e x true h is) in
@@ -117,7 +132,10 @@ module _ (p : Program) where
               (record { there = calculation_made p e o fmt parts h; last = long; some = tt {0} });
         }
 
-    by_body : (e : ℕ) (b : Body) → e < length p.elems → IsEnd p e → (element_of p e).body ≡ b
+    by_body : (e : ℕ) (b : Body)
+        → e < length p.elems
+        → IsEnd p e
+        → (element_of p e).body ≡ b
         → IsElementNode p e (slice_index_or last e 0)
     by_body e (word j) el end h =
         let is = input_made p e j h in
@@ -134,7 +152,10 @@ module _ (p : Program) where
     pub end_number : (e : ℕ) → e < length p.elems → IsEnd p e → IsElementNode p e (slice_index_or last e 0)
     end_number e el end = by_body e (element_of p e).body el end refl
 
-    pub all_elements : (leads : List ℕ) → length leads ≡ length p.elems → IsInside leads → AreEnds p leads
+    pub all_elements : (leads : List ℕ)
+        → length leads ≡ length p.elems
+        → IsInside leads
+        → AreEnds p leads
         → AreElementNumbers p (map (λ (d : ℕ). slice_index_or last d 0) leads)
     all_elements leads same inside is = record {
       size = length-map leads (λ (d : ℕ). slice_index_or last d 0) ∙ same;

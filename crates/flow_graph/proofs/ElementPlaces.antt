@@ -1,5 +1,6 @@
 -- The places of an element stand one behind another.
-use Rattle.std.proofs.Common.{◌≡◌, refl, sym, ap, subst, ◌∙◌, ℕ, zero, suc, ◌+◌, ◌-◌, ◌≤◌, inl, inr, List, [], ◌∷◌, length, arith}
+use Rattle.std.proofs.Common.{◌≡◌, refl, sym, ap, subst, ◌∙◌, ℕ, zero, suc, ◌+◌, ◌-◌, ◌≤◌, inl, inr, List, [], ◌∷◌}
+use Rattle.std.proofs.Common.{length, arith}
 use Rattle.std.specs.Prelude.{slice_get, Some, flat_map}
 use Rattle.std.specs.List.{enumerate_from}
 use Rattle.std.proofs.lemmas.Bool.{cases_order}
@@ -13,7 +14,8 @@ use Rattle.signal_graph.proofs.Places.{site, made_of, in_place}
 use Rattle.flow_graph.proofs.FirstSites.{elements_rise}
 use Rattle.flow_graph.proofs.ElementNumbers.{later_above}
 
-in_order : (e k : ℕ) (ms : List Made) (i : ℕ) (m : Made) → slice_get ms i ≡ Some m
+in_order : (e k : ℕ) (ms : List Made) (i : ℕ) (m : Made)
+    → slice_get ms i ≡ Some m
     → slice_get (sites_from e k ms) i ≡ Some (site e (k + i) m)
 in_order e k [] i m h = absurd (none-some m h)
 in_order e k (x ∷ xs) zero m h =
@@ -28,9 +30,9 @@ module _ (p : Program) where
   abbrev StandFrom : List Site → (first : ℕ) → List Site → Type 0
   StandFrom all first ys = (k : ℕ) (s : Site) → slice_get ys k ≡ Some s → slice_get all (first + k) ≡ Some s
 
-  stand : (n : ℕ) (xs : List Element) (e : ℕ) (x : Element) → slice_get xs e ≡ Some x
-      → (first : ℕ)
-      × StandFrom (flat_map (element_sites p) (enumerate_from n xs)) first (element_sites p (n + e, x))
+  stand : (n : ℕ) (xs : List Element) (e : ℕ) (x : Element)
+      → slice_get xs e ≡ Some x
+      → (first : ℕ) × StandFrom (flat_map (element_sites p) (enumerate_from n xs)) first (element_sites p (n + e, x))
   stand n [] e x h = absurd (none-some x h)
   stand n (y ∷ ys) zero x h = (
     0,
@@ -50,13 +52,18 @@ module _ (p : Program) where
             let next : n + suc e ≡ n + 1 + e = omega arith in
             let there = are k s (subst (λ (j : ℕ). slice_get (element_sites p (j, x)) k ≡ Some s) next at) in
             rw back
-            (at_right here (flat_map (element_sites p) (enumerate_from (n + 1) ys)) (length here + (first + k)) (first + k) s refl
+            (at_right here (flat_map (element_sites p) (enumerate_from (n + 1) ys)) (length here + (first + k))
+            (first + k) s refl
             there)),
       )
 
   -- a place is met once
-  one_index : (i j : ℕ) (s t : Site) → s.element ≡ t.element → s.place ≡ t.place → slice_get (sites p) i ≡ Some s
-      → slice_get (sites p) j ≡ Some t → i ≡ j
+  one_index : (i j : ℕ) (s t : Site)
+      → s.element ≡ t.element
+      → s.place ≡ t.place
+      → slice_get (sites p) i ≡ Some s
+      → slice_get (sites p) j ≡ Some t
+      → i ≡ j
   one_index i j s t same also h g = elim (cases_order i j) [
     | inl is ↦ is
     | inr (inl less) ↦
@@ -74,7 +81,8 @@ module _ (p : Program) where
   -- the place at an index, among those of its element
   pub record IsAmong (i : ℕ) (s : Site) : Type 0 where
     pub inside : s.place ≤ i
-    pub others : (k : ℕ) (m : Made) → slice_get (made_of p s.element) k ≡ Some m
+    pub others : (k : ℕ) (m : Made)
+        → slice_get (made_of p s.element) k ≡ Some m
         → slice_get (sites p) (i - s.place + k) ≡ Some (site s.element k m)
 
   pub among : (i : ℕ) (s : Site) → slice_get (sites p) i ≡ Some s → IsAmong i s

@@ -21,11 +21,13 @@ module _ (p : Program) where
   lists_length = length-map p.elems list_of
 
   list_at : (e : ℕ) → e < length p.elems → slice_get (read_lists p) e ≡ Some (list_of (element_of p e))
-  list_at e within = slice_get-map list_of p.elems e ∙ ap (option_map list_of) (slice_get-get_or p.elems e no_element within)
+  list_at e within =
+      slice_get-map list_of p.elems e ∙ ap (option_map list_of) (slice_get-get_or p.elems e no_element within)
 
   arc_read : (e d : ℕ) → HasArc (read_lists p) e d → (e < length p.elems) × ElementReads p e d 0
   arc_read e d a =
-      let within : e < length p.elems = let inside = slice_get_within (read_lists p) e a.heads a.stands in let size = lists_length in omega arith in
+      let within : e < length p.elems =
+      let inside = slice_get_within (read_lists p) e a.heads a.stands in let size = lists_length in omega arith in
       let same : Some a.heads ≡ Some (list_of (element_of p e)) = sym a.stands ∙ list_at e within in
       let is : a.heads ≡ list_of (element_of p e) = cc in
       (within, listed_body_read (element_of p e).body d (subst (λ (xs : List ℕ). Contains xs d) is a.has))
@@ -40,10 +42,12 @@ module _ (p : Program) where
   module _ (sound : IsFlat p) where
     read_within : (e d : ℕ) → e < length p.elems → ElementReads p e d 0 → d < length p.elems
     read_within e d within r =
-        (body_allowed p (element_of p e).ty (element_of p e).body d 0 (sound.elements e no_element within).body r).element
+        (body_allowed p (element_of p e).ty (element_of p e).body d 0 (sound.elements e no_element within).body
+        r).element
 
     pub lists_within : IsWithin (read_lists p)
-    lists_within e d a = let r = arc_read e d a in let inside = read_within e d r.0 r.1 in let size = lists_length in omega arith
+    lists_within e d a =
+        let r = arc_read e d a in let inside = read_within e d r.0 r.1 in let size = lists_length in omega arith
 
     depends : (e d : ℕ) → Reaches (HasArc (read_lists p)) e d → (e < length p.elems) × DependsNow (ElementReads p) e d
     depends e d (by_arc a) = let r = arc_read e d a in (r.0, direct r.1)
@@ -51,7 +55,8 @@ module _ (p : Program) where
 
     reaches : (e d : ℕ) → e < length p.elems → DependsNow (ElementReads p) e d → Reaches (HasArc (read_lists p)) e d
     reaches e d within (direct r) = by_arc (read_arc e d within r)
-    reaches e d within (by_way_of c r rest) = by_arcs (read_arc e c within r) (reaches c d (read_within e c within r) rest)
+    reaches e d within (by_way_of c r rest) =
+        by_arcs (read_arc e c within r) (reaches c d (read_within e c within r) rest)
 
     pub loop_in : (o : Option ℕ) → IsCycleIn (HasArc (read_lists p)) o → IsLoopIn p o
     loop_in None none = λ e within q. none e (reaches e e within q)

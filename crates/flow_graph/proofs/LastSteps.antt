@@ -8,7 +8,10 @@ use Rattle.lists.proofs.Places.{some_once}
 use Rattle.signal_graph.specs.GraphOf.{Site}
 use Rattle.flow_graph.specs.Private.LastPlaces.{LastUpTo}
 
-pub one_last : (all : List Site) (numbers last : List ℕ) (elements n : ℕ) (s : Site) → slice_get all n ≡ Some s → s.element < elements → LastUpTo all numbers elements n last
+pub one_last : (all : List Site) (numbers last : List ℕ) (elements n : ℕ) (s : Site)
+    → slice_get all n ≡ Some s
+    → s.element < elements
+    → LastUpTo all numbers elements n last
     → LastUpTo all numbers elements (n + 1) (set last s.element (get_or numbers n 0))
 one_last all numbers last elements n s here within h =
     let v = get_or numbers n 0 in

@@ -21,3 +21,4 @@ pub mod ElementPlaces
 pub mod PlaceEdges
 pub mod NodeSteps
 pub mod OutputSteps
+mod WholeGraphs

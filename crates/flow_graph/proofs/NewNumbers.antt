@@ -1,5 +1,6 @@
 -- The nodes that are kept, with new numbers, are the pruned graph.
-use Rattle.std.proofs.Common.{◌≡◌, ◌∙◌, refl, sym, ap, subst, arith, ℕ, zero, suc, ◌+◌, ◌<◌, inl, inr, List, [], ◌∷◌, map, length, Bool, true, false, cond, not, Some, None, eq-eqb, ne_eqb, lt-ltb}
+use Rattle.std.proofs.Common.{◌≡◌, ◌∙◌, refl, sym, ap, subst, arith, ℕ, zero, suc, ◌+◌, ◌<◌, inl, inr, List, [], ◌∷◌}
+use Rattle.std.proofs.Common.{map, length, Bool, true, false, cond, not, Some, None, eq-eqb, ne_eqb, lt-ltb}
 use Rattle.std.specs.Prelude.{◌==◌, slice_index_or, Contains, position, if◌then◌else◌}
 use Rattle.std.specs.List.{AllZip, AllPairs, position_or_len}
 use Rattle.std.proofs.lemmas.List.Elements.{Contains-get_or}
@@ -10,7 +11,8 @@ use Rattle.signal_graph.specs.Pruned.{IsUsed, read, AreUsed, IsEdgeOf, IsRenumbe
 use Rattle.signal_graph.specs.declared.graph.Edge.{Edge}
 use Rattle.signal_graph.specs.declared.graph.Node.{Node}
 use Rattle.signal_graph.specs.declared.graph.Graph.{Graph}
-use Rattle.flow_graph.specs.Private.Pruning.{is_marked, AreUsedMarks, numbers_from, kept_from, renumbered_edge, renumbered, kept_nodes}
+use Rattle.flow_graph.specs.Private.Pruning.{is_marked, AreUsedMarks, numbers_from, kept_from, renumbered_edge}
+use Rattle.flow_graph.specs.Private.Pruning.{renumbered, kept_nodes}
 
 pub numbers_count : (n : ℕ) (marks : List Bool) → length (numbers_from n marks) ≡ length marks
 numbers_count n [] = refl
@@ -25,7 +27,8 @@ record IsMarkedPlace (k : ℕ) (marks : List Bool) (w : ℕ) : Type 0 where
   pub at : w ≡ k + place
   pub marked : is_marked marks place ≡ true
 
-next_place : (k : ℕ) (mark : Bool) (rest : List Bool) (w : ℕ) → IsMarkedPlace (k + 1) rest w
+next_place : (k : ℕ) (mark : Bool) (rest : List Bool) (w : ℕ)
+    → IsMarkedPlace (k + 1) rest w
     → IsMarkedPlace k (mark ∷ rest) w
 next_place k mark rest w h = record { place = suc h.place; at = omega (arith, h.at); marked = h.marked }
 
@@ -36,7 +39,9 @@ kept_marked k (true ∷ rest) w (suc i, lt, h) =
     next_place k true rest w (kept_marked (k + 1) rest w (i, omega arith, h))
 kept_marked k (false ∷ rest) w c = next_place k false rest w (kept_marked (k + 1) rest w c)
 
-marked_kept : (k : ℕ) (marks : List Bool) (v t : ℕ) → k + v ≡ t → is_marked marks v ≡ true
+marked_kept : (k : ℕ) (marks : List Bool) (v t : ℕ)
+    → k + v ≡ t
+    → is_marked marks v ≡ true
     → Contains (kept_from k marks) t
 marked_kept k [] v t is h = absurd (let no : false ≡ true = h in cc)
 marked_kept k (true ∷ rest) zero t is h = (0, omega arith, omega arith)
@@ -67,14 +72,19 @@ at_first n k t numbers kept is =
     ap (λ (b : Bool). cond (not b) (1 + position_or_len (λ (w : ℕ). w == t) kept) 0) is in
     record { number = omega (arith, here); inside = omega (arith, here) }
 
-at_later : (n k t v m : ℕ) (numbers kept : List ℕ) → (k == t) ≡ false → m ≡ n + 1 → IsPlace m numbers kept v t
+at_later : (n k t v m : ℕ) (numbers kept : List ℕ)
+    → (k == t) ≡ false
+    → m ≡ n + 1
+    → IsPlace m numbers kept v t
     → IsPlace n (n ∷ numbers) (k ∷ kept) (suc v) t
 at_later n k t v m numbers kept is more h =
     let here : position_or_len (λ (w : ℕ). w == t) (k ∷ kept) ≡ 1 + position_or_len (λ (w : ℕ). w == t) kept =
     ap (λ (b : Bool). cond (not b) (1 + position_or_len (λ (w : ℕ). w == t) kept) 0) is in
     record { number = omega (arith, h.number, here, more); inside = omega (arith, h.inside, here) }
 
-place : (n k : ℕ) (marks : List Bool) (v t : ℕ) → k + v ≡ t → is_marked marks v ≡ true
+place : (n k : ℕ) (marks : List Bool) (v t : ℕ)
+    → k + v ≡ t
+    → is_marked marks v ≡ true
     → IsPlace n (numbers_from n marks) (kept_from k marks) v t
 place n k [] v t is h = absurd (let no : false ≡ true = h in cc)
 place n k (true ∷ rest) zero t is h =
@@ -87,7 +97,8 @@ place n k (false ∷ rest) (suc v) t is h =
     let at = place n (k + 1) rest v t (omega arith) h in
     record { number = at.number; inside = at.inside }
 
-number_is : (marks : List Bool) (v : ℕ) → is_marked marks v ≡ true
+number_is : (marks : List Bool) (v : ℕ)
+    → is_marked marks v ≡ true
     → position (λ (w : ℕ). w == v) (kept_from 0 marks) ≡ Some (slice_index_or (numbers_from 0 marks) v 0)
 number_is marks v h =
     let kept = kept_from 0 marks in
@@ -115,7 +126,8 @@ module _ (g : Graph) (marks : List Bool) (are : AreUsedMarks g marks) where
     used = λ v. (only_used v, λ u. marked_kept 0 marks v v (omega arith) ((are.used v).1 u));
   }
 
-  edges_are : (edges : List Edge) → ((u ago : ℕ) → EdgesRead edges u ago → IsUsed g u)
+  edges_are : (edges : List Edge)
+      → ((u ago : ℕ) → EdgesRead edges u ago → IsUsed g u)
       → AllZip (IsEdgeOf kept) (map (renumbered_edge numbers) edges) edges
   edges_are [] all = tt
   edges_are (e ∷ es) all = (
@@ -126,7 +138,8 @@ module _ (g : Graph) (marks : List Bool) (are : AreUsedMarks g marks) where
     edges_are es (λ u ago r. all u ago (inr r)),
   )
 
-  nodes_are : (vs : List ℕ) → ((v : ℕ) → Contains vs v → IsUsed g v)
+  nodes_are : (vs : List ℕ)
+      → ((v : ℕ) → Contains vs v → IsUsed g v)
       → AllZip (IsRenumbered kept) (map (renumbered numbers) (map (node_of g) vs)) (map (node_of g) vs)
   nodes_are [] all = tt
   nodes_are (v ∷ vs) all = (
@@ -138,8 +151,12 @@ module _ (g : Graph) (marks : List Bool) (are : AreUsedMarks g marks) where
   )
 
   -- the graph of the nodes that are kept
-  pub is_pruned : (new_numbers : List ℕ) → new_numbers ≡ numbers → (pruned : Graph)
-      → pruned.nodes ≡ kept_nodes g new_numbers marks → pruned.inputs ≡ g.inputs → pruned.outs ≡ g.outs
+  pub is_pruned : (new_numbers : List ℕ)
+      → new_numbers ≡ numbers
+      → (pruned : Graph)
+      → pruned.nodes ≡ kept_nodes g new_numbers marks
+      → pruned.inputs ≡ g.inputs
+      → pruned.outs ≡ g.outs
       → IsPruned g pruned
   is_pruned new_numbers same pruned nodes inputs outs = record {
     kept = kept;

@@ -1,5 +1,6 @@
 -- The nodes that are made place after place.
-use Rattle.std.proofs.Common.{◌≡◌, refl, sym, ap, subst, ◌∙◌, ℕ, ◌+◌, ◌-◌, ◌<◌, ◌≤◌, inl, inr, Bool, true, false, List, [], ◌∷◌, ◌++◌, Option, Some, None, length, take, map, arith}
+use Rattle.std.proofs.Common.{◌≡◌, refl, sym, ap, subst, ◌∙◌, ℕ, ◌+◌, ◌-◌, ◌<◌, ◌≤◌, inl, inr, Bool, true, false, List}
+use Rattle.std.proofs.Common.{[], ◌∷◌, ◌++◌, Option, Some, None, length, take, map, arith}
 use Rattle.std.specs.Prelude.{ℤ, pos, ◌==◌, not, is_none, slice_get, slice_index_or}
 use Rattle.std.specs.List.{AllZip}
 use Rattle.std.proofs.lemmas.Bool.{cases_lt, eqb-true, eq-eqb}
@@ -7,6 +8,7 @@ use Rattle.std.proofs.lemmas.Bool.Decides.{Decides-int_eq}
 use Rattle.std.proofs.lemmas.List.{take_more, take_all}
 use Rattle.std.proofs.lemmas.List.Quantifiers.{position-Some}
 use Rattle.std.proofs.lemmas.Option.{none-some, same_Some, slice_get_within, slice_get-get_or, get_or_from_slice_get}
+use Rattle.lists.proofs.Zips.{zip_push}
 use Rattle.fix_word.specs.declared.operation.Op.{Op}
 use Rattle.fix_word.specs.declared.operation.Op.TheVariants as op
 use Rattle.fix_word.specs.declared.types.Format.{Format}
@@ -15,7 +17,9 @@ use Rattle.signal_graph.specs.Rules.{width_of, plain}
 use Rattle.signal_graph.specs.Flat.{Program}
 use Rattle.signal_graph.specs.FlatRules.{IsFlat}
 use Rattle.signal_graph.specs.FlatSolves.{element_of}
-use Rattle.signal_graph.specs.GraphOf.{Operand, Made, nothing, constant, input, operation, Site, sites, element_sites, word_node, is_target, is_constant, node_format, node_width, inits_at, IsEdgeTo, IsMade}
+use Rattle.signal_graph.specs.GraphOf.{Operand, Made, nothing, constant, input, operation, Site, sites, element_sites}
+use Rattle.signal_graph.specs.GraphOf.{word_node, is_target, is_constant, node_format, node_width, inits_at, IsEdgeTo}
+use Rattle.signal_graph.specs.GraphOf.{IsMade}
 use Rattle.signal_graph.specs.declared.graph.Edge.{Edge}
 use Rattle.signal_graph.specs.declared.graph.Node.{Node}
 use Rattle.signal_graph.proofs.Members.{at_member, zip_length}
@@ -25,7 +29,8 @@ use Rattle.signal_graph.proofs.Places.{site, made_of, in_place}
 use Rattle.flow_graph.specs.Private.Edges.{edge_by, HasNumber}
 use Rattle.flow_graph.specs.Private.ElementNodes.{AreElementNumbers}
 use Rattle.flow_graph.specs.Private.Nodes.{word_position, is_made_after, with_site, nodes_of, IsPlaceNumber, AreNumbers}
-use Rattle.flow_graph.specs.Private.NodesBy.{IsSomething, CanBeMade, IsNodeBy, is_made_by, is_end_before, AreMadeUpTo, AreMade}
+use Rattle.flow_graph.specs.Private.NodesBy.{IsSomething, CanBeMade, IsNodeBy, is_made_by, is_end_before, AreMadeUpTo}
+use Rattle.flow_graph.specs.Private.NodesBy.{AreMade}
 use Rattle.flow_graph.proofs.ElementNumbers.{later_above}
 use Rattle.flow_graph.proofs.ElementPlaces.{among}
 use Rattle.flow_graph.proofs.FirstSites.{elements_rise, nodes_are}
@@ -33,8 +38,11 @@ use Rattle.flow_graph.proofs.NumberSteps.{kept, grown, nodes_push}
 use Rattle.flow_graph.proofs.PlaceEdges.{have_numbers, edges_lead}
 use Rattle.flow_graph.proofs.Positions.{position_end}
 
-pub same_node : (o : Op) (arg : ℤ) (f g : Format) (es fs : List Edge) (is js : List (ℕ × ℤ)) (w u : ℕ) → f ≡ g → es ≡ fs
-    → is ≡ js → w ≡ u
+pub same_node : (o : Op) (arg : ℤ) (f g : Format) (es fs : List Edge) (is js : List (ℕ × ℤ)) (w u : ℕ)
+    → f ≡ g
+    → es ≡ fs
+    → is ≡ js
+    → w ≡ u
     → (let a : Node = record { op = o; fmt = f; arg = arg; edges = es; inits = is; width = w; ram = 0 } in
     let b : Node = record { op = o; fmt = g; arg = arg; edges = fs; inits = js; width = u; ram = 0 } in
     a ≡ b)
@@ -44,9 +52,13 @@ same_node o arg f g es fs is js w u fmt edges inits width =
     ap (λ f. node f es is w) fmt ∙ ap (λ es. node g es is w) edges ∙ ap (λ is. node g fs is w) inits
     ∙ ap (λ w. node g fs js w) width
 
-pub operation_by : (width : ℕ) (inits : List (ℕ × ℤ)) (edge : Operand → Edge) (o : Op) (fmt : Format)
-    (os : List Operand) (made : Made) (f : Format) (es : List Edge) (is : List (ℕ × ℤ)) (w : ℕ)
-    → made ≡ operation o fmt os → f ≡ node_format (class_of o) fmt → es ≡ map edge os → is ≡ inits
+pub operation_by :
+    (width : ℕ) (inits : List (ℕ × ℤ)) (edge : Operand → Edge) (o : Op) (fmt : Format) (os : List Operand) (made : Made)
+    (f : Format) (es : List Edge) (is : List (ℕ × ℤ)) (w : ℕ)
+    → made ≡ operation o fmt os
+    → f ≡ node_format (class_of o) fmt
+    → es ≡ map edge os
+    → is ≡ inits
     → w ≡ node_width (class_of o) fmt
     → IsNodeBy width inits edge made
     (record { op = o; fmt = f; arg = pos 0; edges = es; inits = is; width = w; ram = 0 })
@@ -58,13 +70,6 @@ operation_by width inits edge o fmt os made f es is w same a b c d =
     (same_node o (pos 0) f (node_format (class_of o) fmt) es (map edge os) is inits w (node_width (class_of o) fmt)
     a b c d)
 
-zip_push : {A B : Type 0} (S : A → B → Type 0) (xs : List A) (ys : List B) (x : A) (y : B) → AllZip S xs ys → S x y
-    → AllZip S (xs ++ x ∷ []) (ys ++ y ∷ [])
-zip_push S [] [] x y all one = (one, tt)
-zip_push S [] (b ∷ bs) x y all one = absurd all
-zip_push S (a ∷ xs) [] x y all one = absurd all
-zip_push S (a ∷ xs) (b ∷ bs) x y all one = (all.0, zip_push S xs bs x y all.1 one)
-
 unequal : (a b : ℕ) → (a ≡ b → ⊥) → (a == b) ≡ false
 unequal a b apart = by (a == b) refl
   where
@@ -72,7 +77,9 @@ unequal a b apart = by (a == b) refl
     by false is = is
     by true is = absurd (apart (eqb-true a b is))
 
-same_test : (nodes : List Site) (s : Site) (made : Made) (v : ℕ) → s.made ≡ made → IsPlaceNumber nodes s made v
+same_test : (nodes : List Site) (s : Site) (made : Made) (v : ℕ)
+    → s.made ≡ made
+    → IsPlaceNumber nodes s made v
     → is_made_by v (length nodes) made ≡ is_made_after nodes made
 same_test nodes s nothing v is h = refl
 same_test nodes s (input j) v is h = refl
@@ -118,7 +125,10 @@ module _ (p : Program) (i : ℕ) (s : Site) (at : slice_get (sites p) i ≡ Some
         subst (λ (ns : List Site). AllZip R ns nodes)
         (sym (next_nodes ∙ kept (nodes_of (take i (sites p))) s s.made refl (tested ∙ fails))) h
 
-    pub node_more : b ≡ true → (node : Node) (nodes' : List Node) → R s node → nodes' ≡ nodes ++ node ∷ []
+    pub node_more : b ≡ true
+        → (node : Node) (nodes' : List Node)
+        → R s node
+        → nodes' ≡ nodes ++ node ∷ []
         → AreMadeUpTo p (i + 1) nodes'
     node_more sure node nodes' made push =
         subst (λ (ns : List Site). AllZip R ns nodes')
@@ -167,12 +177,14 @@ module _ (p : Program) (i : ℕ) (s : Site) (at : slice_get (sites p) i ≡ Some
             | inr most ↦ eq-eqb (s.place + 1) _ (omega (arith, count))
           ]
 
-      by : (o : Option Site) → slice_get (sites p) (i + 1) ≡ o
+      by : (o : Option Site)
+          → slice_get (sites p) (i + 1) ≡ o
           → is_end_before o s.element ≡ (s.place + 1 == length (element_sites p (s.element, element_of p s.element)))
       by None e = sym (end (λ t there same. none-some t (sym e ∙ there)))
       by (Some t) e = which (t.element == s.element) refl
         where
-          which : (x : Bool) → (t.element == s.element) ≡ x
+          which : (x : Bool)
+              → (t.element == s.element) ≡ x
               → not x ≡ (s.place + 1 == length (element_sites p (s.element, element_of p s.element)))
           which true is =
               let same = eqb-true t.element s.element is in
@@ -194,20 +206,27 @@ module _ (p : Program) (i : ℕ) (s : Site) (at : slice_get (sites p) i ≡ Some
     pub can_be_made : IsSomething s.made → CanBeMade (HasNumber words places elements (i - s.place)) s.made
     can_be_made some = by s.made refl some (place_sound p sound s (in_place p s (at_member (sites p) i s at)))
       where
-        by : (made : Made) → s.made ≡ made → IsSomething made → IsSoundMade p made
+        by : (made : Made)
+            → s.made ≡ made
+            → IsSomething made
+            → IsSoundMade p made
             → CanBeMade (HasNumber words places elements (i - s.place)) made
         by nothing is t sure = absurd t
         by (constant m) is t sure = sure
         by (input j) is t sure = tt {0}
         by (operation o fmt os) is t sure = have_numbers p sound places words are elements all i s at o fmt os is
 
-    pub made_right : (inits : List (ℕ × ℤ)) (width : ℕ) (node : Node) → inits ≡ inits_at p s
+    pub made_right : (inits : List (ℕ × ℤ)) (width : ℕ) (node : Node)
+        → inits ≡ inits_at p s
         → width ≡ width_of (element_of p s.element).ty
-        → IsNodeBy width inits (edge_by words places elements (i - s.place)) s.made node → IsMade p s s.made node
+        → IsNodeBy width inits (edge_by words places elements (i - s.place)) s.made node
+        → IsMade p s s.made node
     made_right inits width node its wide h = by s.made refl h
       where
-        by : (made : Made) → s.made ≡ made
-            → IsNodeBy width inits (edge_by words places elements (i - s.place)) made node → IsMade p s made node
+        by : (made : Made)
+            → s.made ≡ made
+            → IsNodeBy width inits (edge_by words places elements (i - s.place)) made node
+            → IsMade p s made node
         by nothing is h = h
         by (constant m) is h = h
         by (input j) is h =
@@ -225,7 +244,9 @@ module _ (p : Program) (i : ℕ) (s : Site) (at : slice_get (sites p) i ≡ Some
                   (node_width (class_of o) fmt) (node_width (class_of o) fmt) refl (sym edges) its refl,
             )
 
-pub all_made : (p : Program) (n : ℕ) (nodes : List Node) → length (sites p) ≤ n → AreMadeUpTo p n nodes
+pub all_made : (p : Program) (n : ℕ) (nodes : List Node)
+    → length (sites p) ≤ n
+    → AreMadeUpTo p n nodes
     → AreMade p nodes
 all_made p n nodes end h =
     subst (λ (ns : List Site). AllZip (λ (s : Site) (node : Node). IsMade p s s.made node) ns nodes)

@@ -3,10 +3,12 @@ use Rattle.std.proofs.Common.{◌≡◌, refl, subst, ℕ, ◌+◌, ◌-◌, ◌
 use Rattle.std.specs.Prelude.{slice_get, All, Some}
 use Rattle.std.proofs.lemmas.Bool.{false≢true}
 use Rattle.std.proofs.lemmas.List.Elements.{All-nil, All-cons, All-append, All-push, All-same}
-use Rattle.signal_graph.specs.Flat.{Expr, raw, read, calculation, Parts, no_part, part, Body, word, value, Program, size}
+use Rattle.signal_graph.specs.Flat.{Expr, raw, read, calculation, Parts, no_part, part, Body, word, value, Program}
+use Rattle.signal_graph.specs.Flat.{size}
 use Rattle.signal_graph.specs.FlatRules.{IsExpr, AreExprs, IsBodyOf, IsFlat}
 use Rattle.signal_graph.specs.FlatSolves.{no_element, element_of}
-use Rattle.signal_graph.specs.GraphOf.{Operand, number, place, element, Made, nothing, constant, input, operation, operand_at, operands_from, made_by, made_by_parts, has_pass, pass}
+use Rattle.signal_graph.specs.GraphOf.{Operand, number, place, element, Made, nothing, constant, input, operation}
+use Rattle.signal_graph.specs.GraphOf.{operand_at, operands_from, made_by, made_by_parts, has_pass, pass}
 use Rattle.signal_graph.proofs.Places.{made_of}
 use Rattle.signal_graph.proofs.Numbers.{MakesNode}
 use Rattle.signal_graph.proofs.Parts.{Stands, stands_first, calculation_stands, parts_stand, first_stands, rest_stands}
@@ -23,7 +25,9 @@ module _ (p : Program) (e : ℕ) where
   AreNaming (operation o fmt os) = All IsNaming os
   AreNaming _ = Unit {0}
 
-  one : (x : Expr) (k : ℕ) → IsExpr p x → Stands (made_of p e) k (made_by k x)
+  one : (x : Expr) (k : ℕ)
+      → IsExpr p x
+      → Stands (made_of p e) k (made_by k x)
       → IsNaming (operand_at (k + size x - 1) x)
   one (raw m) k is stands = (k, stands_first (made_of p e) k (constant m) stands)
   one (read d ago) k is stands = is.element
@@ -33,7 +37,9 @@ module _ (p : Program) (e : ℕ) where
     tt {0},
   )
 
-  several : (parts : Parts) (k : ℕ) → AreExprs p parts → Stands (made_of p e) k (made_by_parts k parts)
+  several : (parts : Parts) (k : ℕ)
+      → AreExprs p parts
+      → Stands (made_of p e) k (made_by_parts k parts)
       → All IsNaming (operands_from k parts)
   several no_part k are stands = All-nil IsNaming
   several (part x rest) k are stands =
@@ -50,7 +56,9 @@ module _ (p : Program) (e : ℕ) where
         All-push AreNaming (made_by_parts k parts) (operation o fmt (operands_from k parts))
         (parts_named parts k is.1 inner) (several parts k is.1 inner)
 
-    parts_named : (parts : Parts) (k : ℕ) → AreExprs p parts → Stands (made_of p e) k (made_by_parts k parts)
+    parts_named : (parts : Parts) (k : ℕ)
+        → AreExprs p parts
+        → Stands (made_of p e) k (made_by_parts k parts)
         → All AreNaming (made_by_parts k parts)
     parts_named no_part k are stands = All-nil AreNaming
     parts_named (part x rest) k are stands =
@@ -58,13 +66,19 @@ module _ (p : Program) (e : ℕ) where
         (named x k are.0 (first_stands (made_of p e) k x rest stands))
         (parts_named rest (k + size x) are.1 (rest_stands (made_of p e) k x rest stands))
 
-  pass_named : (x : Expr) → has_pass p e x ≡ true → (element_of p e).body ≡ value x → IsExpr p x
+  pass_named : (x : Expr)
+      → has_pass p e x ≡ true
+      → (element_of p e).body ≡ value x
+      → IsExpr p x
       → AreNaming (pass (its_width p e) x)
   pass_named (raw m) is h sound = All-cons IsNaming (number m) [] (0, word_made p e m h) (All-nil IsNaming)
   pass_named (read d ago) is h sound = All-cons IsNaming (element d ago) [] sound.element (All-nil IsNaming)
   pass_named (calculation o fmt parts) is h sound = absurd (false≢true is)
 
-  value_named : (x : Expr) (b : Bool) → has_pass p e x ≡ b → (element_of p e).body ≡ value x → IsExpr p x
+  value_named : (x : Expr) (b : Bool)
+      → has_pass p e x ≡ b
+      → (element_of p e).body ≡ value x
+      → IsExpr p x
       → All AreNaming (with_pass p e x b)
   value_named x true is h sound =
       All-append AreNaming (made_by 0 x) (pass (its_width p e) x ∷ []) (named x 0 sound (value_stands p e x h))

@@ -1,5 +1,6 @@
 -- The nodes of output words are added one after another, and then the graph is that of the program.
-use Rattle.std.proofs.Common.{◌≡◌, refl, sym, ap, subst, ◌∙◌, ℕ, ◌+◌, ◌<◌, ◌≤◌, inl, inr, List, [], ◌∷◌, ◌++◌, length, arith}
+use Rattle.std.proofs.Common.{◌≡◌, refl, sym, ap, subst, ◌∙◌, ℕ, ◌+◌, ◌<◌, ◌≤◌, inl, inr, List, [], ◌∷◌, ◌++◌, length}
+use Rattle.std.proofs.Common.{arith}
 use Rattle.std.specs.Prelude.{slice_get, slice_index_or, flat_map, sum_by, Some}
 use Rattle.std.specs.List.{enumerate_from}
 use Rattle.std.proofs.lemmas.Bool.{cases_eq}
@@ -29,10 +30,13 @@ no_outputs old elements outs = record {
   outputs = λ j e lt at. absurd (omega arith);
 }
 
-pub one_output : (old now new : List Node) (elements outs : List ℕ) (k d : ℕ) (node : Node) → slice_get outs k ≡ Some d
+pub one_output : (old now new : List Node) (elements outs : List ℕ) (k d : ℕ) (node : Node)
+    → slice_get outs k ≡ Some d
     → slice_index_or elements d 0 < length old
     → (let v = slice_index_or elements d 0 in node ≡ output_node k v (slice_index_or now v no_node).width)
-    → new ≡ now ++ node ∷ [] → AddsOutputs old elements outs k now → AddsOutputs old elements outs (k + 1) new
+    → new ≡ now ++ node ∷ []
+    → AddsOutputs old elements outs k now
+    → AddsOutputs old elements outs (k + 1) new
 one_output old now new elements outs k d node here low is push h =
     let size = h.size in
     let read : (v : ℕ) → v < length now → slice_index_or new v no_node ≡ slice_index_or now v no_node =
@@ -95,9 +99,12 @@ module _ (p : Program) where
         let low = number_below p is.target (slice_index_or elements e 0) is.number in
         omega (arith, low, count_nodes)
 
-    pub graph_of : (g : Graph) → g.inputs ≡ p.inputs → g.outs ≡ length p.outs
+    pub graph_of : (g : Graph)
+        → g.inputs ≡ p.inputs
+        → g.outs ≡ length p.outs
         → AddsOutputs nodes elements p.outs (length p.outs) g.nodes
-        → ((j e : ℕ) → slice_get p.outs j ≡ Some e → e < length p.elems) → IsGraphOf p g
+        → ((j e : ℕ) → slice_get p.outs j ≡ Some e → e < length p.elems)
+        → IsGraphOf p g
     graph_of g inputs outs all there =
         let size = all.size in
         record {

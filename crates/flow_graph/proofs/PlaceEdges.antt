@@ -8,7 +8,8 @@ use Rattle.fix_word.specs.declared.operation.Op.{Op}
 use Rattle.fix_word.specs.declared.types.Format.{Format}
 use Rattle.signal_graph.specs.Flat.{Program}
 use Rattle.signal_graph.specs.FlatRules.{IsFlat}
-use Rattle.signal_graph.specs.GraphOf.{Operand, number, place, element, Made, nothing, constant, input, operation, Site, sites, word_node, node_at, IsNumber, IsEdgeTo}
+use Rattle.signal_graph.specs.GraphOf.{Operand, number, place, element, Made, nothing, constant, input, operation, Site}
+use Rattle.signal_graph.specs.GraphOf.{sites, word_node, node_at, IsNumber, IsEdgeTo}
 use Rattle.signal_graph.proofs.Members.{at_member}
 use Rattle.signal_graph.proofs.Places.{site, made_of, in_place}
 use Rattle.signal_graph.proofs.Numbers.{MakesNode, has_word_number}
@@ -29,7 +30,9 @@ something (constant m) makes = absurd makes
 something (input j) makes = tt {0}
 something (operation o fmt os) makes = tt {0}
 
-own_number : (p : Program) (e k v : ℕ) (made : Made) → MakesNode made → IsNumber p (target_at e k made) v
+own_number : (p : Program) (e k v : ℕ) (made : Made)
+    → MakesNode made
+    → IsNumber p (target_at e k made) v
     → IsNumber p (node_at e k) v
 own_number p e k v nothing makes h = absurd makes
 own_number p e k v (constant m) makes h = absurd makes
@@ -42,7 +45,8 @@ module _ (p : Program) (sound : IsFlat p) (places : List ℕ) (words : List (ℤ
   abbrev edge : Operand → Edge
   edge = edge_by words places elements (i - s.place)
 
-  one_edge : (o : Operand) → IsNaming p s.element o
+  one_edge : (o : Operand)
+      → IsNaming p s.element o
       → HasNumber words places elements (i - s.place) o × IsEdgeTo p s.element o (edge o)
   one_edge (number m) (k, h) =
       let (v, n) = has_word_number p s.element k m (in_place p s (at_member (sites p) i s at)).element h in
@@ -68,7 +72,8 @@ module _ (p : Program) (sound : IsFlat p) (places : List ℕ) (words : List (ℤ
       (All-contains (AreNaming p s.element) (made_of p s.element) s.made (all_named p s.element sound is.element)
       (at_member (made_of p s.element) s.place s.made is.made))
 
-  pub have_numbers : (o : Op) (fmt : Format) (os : List Operand) → s.made ≡ operation o fmt os
+  pub have_numbers : (o : Op) (fmt : Format) (os : List Operand)
+      → s.made ≡ operation o fmt os
       → All (HasNumber words places elements (i - s.place)) os
   have_numbers o fmt os same k d lt =
       (one_edge (slice_index_or os k d) (its_operands (operation o fmt os) same k d lt)).0
@@ -78,6 +83,7 @@ module _ (p : Program) (sound : IsFlat p) (places : List ℕ) (words : List (ℤ
   zipped (o ∷ os) naming =
       ((one_edge o (naming 0 o (omega arith))).1, zipped os (λ k d lt. naming (suc k) d (omega arith)))
 
-  pub edges_lead : (o : Op) (fmt : Format) (os : List Operand) → s.made ≡ operation o fmt os
+  pub edges_lead : (o : Op) (fmt : Format) (os : List Operand)
+      → s.made ≡ operation o fmt os
       → AllZip (IsEdgeTo p s.element) os (map edge os)
   edges_lead o fmt os same = zipped os (its_operands (operation o fmt os) same)

@@ -1,5 +1,6 @@
 -- The number of a place is that of the node which is made there.
-use Rattle.std.proofs.Common.{◌≡◌, ℕ, zero, suc, ◌+◌, inl, inr, Bool, true, false, cond, List, [], ◌∷◌, ◌++◌, Option, Some, None, length, take, refl, sym, ap, subst, ◌∙◌, arith}
+use Rattle.std.proofs.Common.{◌≡◌, ℕ, zero, suc, ◌+◌, inl, inr, Bool, true, false, cond, List, [], ◌∷◌, ◌++◌, Option}
+use Rattle.std.proofs.Common.{Some, None, length, take, refl, sym, ap, subst, ◌∙◌, arith}
 use Rattle.std.specs.Prelude.{ℤ, ◌==◌, if◌then◌else◌, slice_get, slice_index_or}
 use Rattle.std.specs.List.{position, position_from}
 use Rattle.std.proofs.lemmas.Bool.{eqb-true, eq-eqb, and_parts, and_from}
@@ -7,13 +8,16 @@ use Rattle.std.proofs.lemmas.List.{append-nil}
 use Rattle.std.proofs.lemmas.Option.{none-some, same_Some}
 use mathlib.Core.List.{append_assoc}
 use Rattle.signal_graph.specs.Flat.{Program}
-use Rattle.signal_graph.specs.GraphOf.{Made, nothing, constant, input, operation, Site, sites, Target, word_node, node_at, is_target, node_sites, IsNumber}
+use Rattle.signal_graph.specs.GraphOf.{Made, nothing, constant, input, operation, Site, sites, Target, word_node}
+use Rattle.signal_graph.specs.GraphOf.{node_at, is_target, node_sites, IsNumber}
 use Rattle.flow_graph.specs.Private.Words.{number_in}
-use Rattle.flow_graph.specs.Private.Nodes.{word_position, is_made_after, with_site, nodes_from, nodes_of, IsPlaceNumber, AreNumbers}
+use Rattle.flow_graph.specs.Private.Nodes.{word_position, is_made_after, with_site, nodes_from, nodes_of, IsPlaceNumber}
+use Rattle.flow_graph.specs.Private.Nodes.{AreNumbers}
 use Rattle.flow_graph.specs.Private.NodesBy.{IsSomething}
 use Rattle.flow_graph.proofs.Positions.{as_from, position_left, position_end}
 use Rattle.flow_graph.proofs.NumberSteps.{grown}
-use Rattle.flow_graph.proofs.FirstSites.{IsBelow, IsFrom, AreBelow, AreRising, below_more, all_below, elements_rise, nodes_are}
+use Rattle.flow_graph.proofs.FirstSites.{IsBelow, IsFrom, AreBelow, AreRising, below_more, all_below, elements_rise}
+use Rattle.flow_graph.proofs.FirstSites.{nodes_are}
 
 below_here : (t s : Site) (e k : ℕ) → IsBelow t e k → IsFrom e k s → IsBelow t s.element s.place
 below_here t s e k (inl a) (inl b) = inl (omega arith)
@@ -30,7 +34,9 @@ all_next : (ts : List Site) (s : Site) (e k : ℕ) → AreBelow ts e k → IsFro
 all_next [] s e k h from = tt {0}
 all_next (t ∷ ts) s e k h from = (below_more t s e k h.0 from, all_next ts s e k h.1 from)
 
-with_below : (ns : List Site) (s : Site) (e k : ℕ) → AreBelow ns e k → IsFrom e k s
+with_below : (ns : List Site) (s : Site) (e k : ℕ)
+    → AreBelow ns e k
+    → IsFrom e k s
     → AreBelow (with_site ns s) s.element (s.place + 1)
 with_below ns s e k h from = by (is_made_after ns s.made)
   where
@@ -39,7 +45,9 @@ with_below ns s e k h from = by (is_made_after ns s.made)
     by false = all_next ns s e k h from
 
 -- the nodes of the places before a place are below it
-before : (ns xs rest : List Site) (s : Site) (e k : ℕ) → AreBelow ns e k → AreRising e k (xs ++ s ∷ rest)
+before : (ns xs rest : List Site) (s : Site) (e k : ℕ)
+    → AreBelow ns e k
+    → AreRising e k (xs ++ s ∷ rest)
     → AreBelow (nodes_from ns xs) s.element s.place
 before ns [] rest s e k h rising = all_here ns s e k h rising.0
 before ns (x ∷ xs) rest s e k h rising =
@@ -76,7 +84,8 @@ grows ns (y ∷ ys) =
     by true m = (y ∷ m, append_assoc ns (y ∷ []) m)
     by false m = (m, refl)
 
-stays : (test : Site → Bool) (ns ys : List Site) (v : ℕ) → position test ns ≡ Some v
+stays : (test : Site → Bool) (ns ys : List Site) (v : ℕ)
+    → position test ns ≡ Some v
     → position test (nodes_from ns ys) ≡ Some v
 stays test ns ys v h =
     let (more, is) = grows ns ys in
@@ -86,7 +95,8 @@ nodes_append : (ns xs ys : List Site) → nodes_from ns (xs ++ ys) ≡ nodes_fro
 nodes_append ns [] ys = refl
 nodes_append ns (x ∷ xs) ys = nodes_append (with_site ns x) xs ys
 
-split : (all : List Site) (i : ℕ) (s : Site) → slice_get all i ≡ Some s
+split : (all : List Site) (i : ℕ) (s : Site)
+    → slice_get all i ≡ Some s
     → (rest : List Site) × (all ≡ take i all ++ s ∷ rest)
 split [] i s h = absurd (none-some s h)
 split (x ∷ xs) zero s h = (xs, ap (λ (y : Site). y ∷ xs) (same_Some x s h))
@@ -106,7 +116,8 @@ module _ (p : Program) (numbers : List ℕ) (words : List (ℤ × ℕ)) (are : A
     nodes = nodes_of (take i (sites p))
 
     -- a test that finds its place among the nodes so far finds it among all
-    among_all : (test : Site → Bool) (v : ℕ) → position test (with_site nodes s) ≡ Some v
+    among_all : (test : Site → Bool) (v : ℕ)
+        → position test (with_site nodes s) ≡ Some v
         → position test (node_sites p) ≡ Some v
     among_all test v h =
         let (rest, is) = split (sites p) i s at in
@@ -114,7 +125,9 @@ module _ (p : Program) (numbers : List ℕ) (words : List (ℤ × ℕ)) (are : A
         (sym (nodes_are p) ∙ ap nodes_of is ∙ nodes_append [] (take i (sites p)) (s ∷ rest))
         ∙ stays test (with_site nodes s) rest v h
 
-    own : (made : Made) → s.made ≡ made → is_made_after nodes made ≡ true
+    own : (made : Made)
+        → s.made ≡ made
+        → is_made_after nodes made ≡ true
         → position (is_target (node_at s.element s.place)) (node_sites p) ≡ Some (length nodes)
     own made is sure =
         let test = is_target (node_at s.element s.place) in
@@ -128,7 +141,11 @@ module _ (p : Program) (numbers : List ℕ) (words : List (ℤ × ℕ)) (are : A
         (ap (position test) (grown nodes s made is sure)
         ∙ position_end test nodes s (as_from test nodes ∙ none) sure_here)
 
-    by_made : (made : Made) → s.made ≡ made → IsSomething made → (v : ℕ) → IsPlaceNumber nodes s made v
+    by_made : (made : Made)
+        → s.made ≡ made
+        → IsSomething made
+        → (v : ℕ)
+        → IsPlaceNumber nodes s made v
         → IsNumber p (target_at s.element s.place made) v
     by_made nothing is some v h = absurd some
     by_made (constant m) is some v h = among_all (is_target (word_node m)) v h

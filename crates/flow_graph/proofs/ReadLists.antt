@@ -2,7 +2,8 @@
 use Rattle.std.proofs.Common.{◌≡◌, ℕ, inl, inr, List, [], ◌∷◌, ◌++◌, refl, sym, ap, subst, true, false, Bool, eqb-true}
 use Rattle.std.specs.Prelude.{◌==◌, Contains, if◌then◌else◌}
 use Rattle.std.specs.List.{flat_map}
-use Rattle.std.proofs.lemmas.List.Elements.{Contains-push, Contains-append_left, Contains-append_right, Contains-append_cases}
+use Rattle.std.proofs.lemmas.List.Elements.{Contains-push, Contains-append_left, Contains-append_right}
+use Rattle.std.proofs.lemmas.List.Elements.{Contains-append_cases}
 use Rattle.lists.proofs.Places.{none_there, only_there}
 use Rattle.signal_graph.specs.declared.flat.FlatExpr.{FlatExpr}
 use Rattle.signal_graph.specs.Flat.{Expr, raw, read, calculation, Parts, no_part, part, Body, word, value, view_expr}
@@ -45,8 +46,10 @@ mutual
 
   part_read_listed : (parts : Parts) (d : ℕ) → PartsRead parts d 0 → Contains (parts_read_now parts) d
   part_read_listed no_part d r = absurd r
-  part_read_listed (part x rest) d (inl r) = Contains-append_left (reads_now x) (parts_read_now rest) d (read_listed x d r)
-  part_read_listed (part x rest) d (inr r) = Contains-append_right (reads_now x) (parts_read_now rest) d (part_read_listed rest d r)
+  part_read_listed (part x rest) d (inl r) =
+      Contains-append_left (reads_now x) (parts_read_now rest) d (read_listed x d r)
+  part_read_listed (part x rest) d (inr r) =
+      Contains-append_right (reads_now x) (parts_read_now rest) d (part_read_listed rest d r)
 
 pub listed_body_read : (b : Body) (d : ℕ) → Contains (body_reads_now b) d → BodyReads b d 0
 listed_body_read (word j) d has = none_there d has

@@ -1,5 +1,6 @@
 -- A search back from the outputs finds the nodes that are used.
-use Rattle.std.proofs.Common.{◌≡◌, ◌≢◌, ◌∙◌, refl, sym, ap, subst, arith, ℕ, ◌+◌, ◌<◌, ◌≤◌, ◌⊎◌, inl, inr, List, [], ◌∷◌, ◌++◌, length, Bool, true, false, get_or-set_same, get_or-set_other}
+use Rattle.std.proofs.Common.{◌≡◌, ◌≢◌, ◌∙◌, refl, sym, ap, subst, arith, ℕ, ◌+◌, ◌<◌, ◌≤◌, ◌⊎◌, inl, inr, List, []}
+use Rattle.std.proofs.Common.{◌∷◌, ◌++◌, length, Bool, true, false, get_or-set_same, get_or-set_other}
 use Rattle.std.specs.Prelude.{slice_index_or, slice_set, Contains, if◌then◌else◌}
 use Rattle.std.proofs.lemmas.Bool.{cases_lt, cases_eq}
 use Rattle.std.proofs.lemmas.List.{get_or_default, length-set, length_push, get_or_append_left, get_or_push}
@@ -15,7 +16,8 @@ use Rattle.signal_graph.specs.declared.graph.Graph.{Graph}
 use Rattle.signal_graph.proofs.Marks.{missing_less}
 use Rattle.signal_graph.proofs.Values.{edges_allowed}
 use Rattle.flow_graph.specs.declared.pruning.Search.{Search}
-use Rattle.flow_graph.specs.Private.Pruning.{is_marked, reached, all_reached, IsUsedNode, IsSearch, HasOutputs, AreUsedMarks}
+use Rattle.flow_graph.specs.Private.Pruning.{is_marked, reached, all_reached, IsUsedNode, IsSearch, HasOutputs}
+use Rattle.flow_graph.specs.Private.Pruning.{AreUsedMarks}
 
 abbrev nth : List ℕ → ℕ → ℕ
 nth found i = slice_index_or found i 0
@@ -64,7 +66,9 @@ module _ (g : Graph) (followed : ℕ) (s : Search) (is : IsSearch g followed s) 
   found w h (inr ne) =
       Contains-append_left s.found (v ∷ []) w (is.found w (sym (get_or-set_other s.marks v w true false ne) ∙ h))
 
-  all_used : (i : ℕ) → i < length with_v.found → (i < length s.found) ⊎ (length s.found ≤ i)
+  all_used : (i : ℕ)
+      → i < length with_v.found
+      → (i < length s.found) ⊎ (length s.found ≤ i)
       → IsUsedNode g (nth with_v.found i)
   all_used i lt (inl less) = subst (λ (x : ℕ). IsUsedNode g x) (sym (below i less)) (is.used i less)
   all_used i lt (inr le) =
@@ -102,8 +106,10 @@ pub record GoesOnAll (g : Graph) (followed : ℕ) (s t : Search) (edges : List E
   pub grows : Grows s t
   pub marked : (u ago : ℕ) → EdgesRead edges u ago → is_marked t.marks u ≡ true
 
-all_go_on : (g : Graph) (followed : ℕ) (s : Search) (edges : List Edge) → IsSearch g followed s
-    → ((u ago : ℕ) → EdgesRead edges u ago → IsUsedNode g u) → GoesOnAll g followed s (all_reached s edges) edges
+all_go_on : (g : Graph) (followed : ℕ) (s : Search) (edges : List Edge)
+    → IsSearch g followed s
+    → ((u ago : ℕ) → EdgesRead edges u ago → IsUsedNode g u)
+    → GoesOnAll g followed s (all_reached s edges) edges
 all_go_on g followed s [] is all = record { search = is; grows = grows_not s; marked = λ u ago r. absurd r }
 all_go_on g followed s (e ∷ es) is all =
     let one = goes_on g followed s is e.node (all e.node e.delay (inl (refl, refl))) in
@@ -116,14 +122,17 @@ all_go_on g followed s (e ∷ es) is all =
   where
     by : GoesOn g followed s (reached s e.node) e.node
         → GoesOnAll g followed (reached s e.node) (all_reached (reached s e.node) es) es
-        → (u ago : ℕ) → EdgesRead (e ∷ es) u ago
+        → (u ago : ℕ)
+        → EdgesRead (e ∷ es) u ago
         → is_marked (all_reached (reached s e.node) es).marks u ≡ true
     by one rest u ago (inl r) =
         rest.grows.keeps u (ap (is_marked (reached s e.node).marks) r.0 ∙ one.marked)
     by one rest u ago (inr r) = rest.marked u ago r
 
 module _ (g : Graph) (sound : IsGraph g) where
-  pub follows : (s : Search) (i : ℕ) → IsSearch g i s → i < length s.found
+  pub follows : (s : Search) (i : ℕ)
+      → IsSearch g i s
+      → i < length s.found
       → IsSearch g (i + 1) (all_reached s (node_of g (nth s.found i)).edges)
       × Grows s (all_reached s (node_of g (nth s.found i)).edges)
   follows s i is lt =
@@ -147,7 +156,9 @@ module _ (g : Graph) (sound : IsGraph g) where
       )
     where
       by : GoesOnAll g i s (all_reached s (node_of g (nth s.found i)).edges) (node_of g (nth s.found i)).edges
-          → (j u ago : ℕ) → (j < i) ⊎ (i ≤ j) → j < i + 1
+          → (j u ago : ℕ)
+          → (j < i) ⊎ (i ≤ j)
+          → j < i + 1
           → HasEdge g (nth (all_reached s (node_of g (nth s.found i)).edges).found j) u ago
           → is_marked (all_reached s (node_of g (nth s.found i)).edges).marks u ≡ true
       by all j u ago (inl less) next r = all.search.reads j u ago less r
@@ -193,7 +204,11 @@ module _ (g : Graph) (s t : Search) (v : ℕ) (node : Node) (begun : IsBegun g v
         outputs = λ u less h. by one u (cases_lt u v) less h;
       })
     where
-      by : GoesOn g 0 s (reached s v) v → (u : ℕ) → (u < v) ⊎ (v ≤ u) → u < v + 1 → (node_of g u).op ≡ op.Output
+      by : GoesOn g 0 s (reached s v) v
+          → (u : ℕ)
+          → (u < v) ⊎ (v ≤ u)
+          → u < v + 1
+          → (node_of g u).op ≡ op.Output
           → is_marked (reached s v).marks u ≡ true
       by one u (inl before) less h = one.grows.keeps u (begun.outputs u before h)
       by one u (inr le) less h =
@@ -218,9 +233,16 @@ pub record IsFollowed (g : Graph) (next : ℕ) (s : Search) : Type 0 where
   pub search : IsSearch g next s
   pub outputs : HasOutputs g s
 
-pub followed_more : (g : Graph) → IsGraph g → (s t : Search) (i v : ℕ) (node : Node) → IsSearch g i s → HasOutputs g s
-    → i < length s.found → v ≡ slice_index_or s.found i v → node ≡ slice_index_or g.nodes v node
-    → t ≡ all_reached s node.edges → IsFollowed g (i + 1) t
+pub followed_more : (g : Graph)
+    → IsGraph g
+    → (s t : Search) (i v : ℕ) (node : Node)
+    → IsSearch g i s
+    → HasOutputs g s
+    → i < length s.found
+    → v ≡ slice_index_or s.found i v
+    → node ≡ slice_index_or g.nodes v node
+    → t ≡ all_reached s node.edges
+    → IsFollowed g (i + 1) t
 followed_more g sound s t i v node is outs lt v_is n_is new =
     let at : v ≡ nth s.found i = v_is ∙ get_or_default s.found i v 0 lt in
     let inside : v < length g.nodes = subst (λ (x : ℕ). x < length g.nodes) (sym at) (is.used i lt).there in

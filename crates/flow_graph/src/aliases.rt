@@ -60,7 +60,7 @@ fn aliases_of(alloc: Global, flat: &FlatProgram, delayed: &[bool]) -> Result<Vec
     requires delayed { TellsDelayed (view flat.now) delayed.now }
     ensures { IfOk result (λ aliases. AreAliases (view flat.now) aliases.items) }
 {
-    let mut aliases = Vec::new(alloc);
+    let mut aliases = Vec::with_capacity(alloc, flat.elems.len())?;
     for elem in 0..flat.elems.len() {
         aliases.push(alias_of(elem as u32, &flat.elems[elem], delayed[elem]))?;
     }

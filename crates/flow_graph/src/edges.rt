@@ -6,8 +6,7 @@ ghost use Rattle.flow_graph.specs.Private.Sites.{view_operand};
 
 use crate::sites::Operand;
 use crate::words::Words;
-use lists::List;
-use signal_graph::Edge;
+use signal_graph::{Edge, Edges};
 use std::alloc::{AllocError, AllocFailed, Global};
 
 /// The edge of an operand of a node of an element whose places begin at `first`.
@@ -42,14 +41,14 @@ pub(crate) fn edges_of(
     words: &Words,
     places: &[u32],
     elements: &[u32],
-) -> Result<List<Edge>, AllocError>
+) -> Result<Edges, AllocError>
     requires { All (HasNumber words.now places.now elements.now first)
         (map view_operand operands.now) }
     ensures { IfOk result (λ edges. edges ≡ map
         (λ operand. edge_by words.now places.now elements.now first (view_operand operand))
         operands.now) }
 {
-    let mut edges = List::new(alloc);
+    let mut edges = Edges::new(alloc);
     for operand in operands {
         edges.push(edge_of(*operand, first, words, places, elements))?;
     }

@@ -41,7 +41,7 @@ fn numbers_at(alloc: Global, last: &[u32], ends: &[u32]) -> Result<Vec<u32>, All
     requires { (e : ℕ) → e < length ends.now → slice_index ends.now e < length last.now }
     ensures { IfOk result (λ numbers. numbers.items ≡ map (λ end. slice_index last.now end) ends.now) }
 {
-    let mut numbers = Vec::new(alloc);
+    let mut numbers = Vec::with_capacity(alloc, ends.len())?;
     for end in ends {
         numbers.push(last[*end as usize])?;
     }

@@ -21,7 +21,7 @@ use crate::widths::least_width;
 use crate::words::Words;
 use fix_word::{Format, Mode, Op};
 use lists::List;
-use signal_graph::{FlatElem, FlatProgram, Node};
+use signal_graph::{Edges, FlatElem, FlatProgram, Node};
 use std::alloc::{AllocError, AllocFailed, Global};
 
 /// The width of a truth value.
@@ -67,7 +67,7 @@ fn constant_node(alloc: Global, word: i64) -> Node
         op: Op::Const,
         fmt: no_format(),
         arg: word,
-        edges: List::new(alloc),
+        edges: Edges::new(alloc),
         inits: List::new(alloc),
         width: least_width(word),
         ram: 0,
@@ -122,7 +122,7 @@ fn node_of(
             op: Op::Input,
             fmt: no_format(),
             arg: i64::from(*word),
-            edges: List::new(alloc),
+            edges: Edges::new(alloc),
             inits: inits_of(alloc, element, is_last)?,
             width: bits(element.ty),
             ram: 0,
@@ -191,7 +191,7 @@ pub(crate) fn nodes_of_places(
     requires elements { AreElementNumbers (view flat.now) elements.now }
     ensures { IfOk result (AreMade (view flat.now)) }
 {
-    let mut nodes = List::new(alloc);
+    let mut nodes = List::with_capacity(alloc, sites.len())?;
     for index in 0..sites.len() {
         if is_made(&sites[index].made, places[index], nodes.len()) {
             let node = node_at(alloc, flat, sites, index, words, places, elements)?;

@@ -68,7 +68,7 @@ pub(crate) fn number_all(alloc: Global, sites: &[Site]) -> Result<Numbers, Alloc
         words: Words::new(alloc),
         count: 0,
     };
-    let mut places = List::new(alloc);
+    let mut places = List::with_capacity(alloc, sites.len())?;
     for site in sites {
         let number = numbering.number_place(&site.made)?;
         places.push(number)?;

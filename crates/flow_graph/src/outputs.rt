@@ -7,14 +7,14 @@ ghost use Rattle.flow_graph.specs.Private.Outputs.{AddsOutputs};
 use crate::nodes::no_format;
 use fix_word::Op;
 use lists::List;
-use signal_graph::{Edge, Node};
+use signal_graph::{Edge, Edges, Node};
 use std::alloc::{AllocError, AllocFailed, Global};
 
 /// The node of an output word, which reads the node with this number and width.
 fn output_node(alloc: Global, word: u8, node: u32, width: u8) -> Result<Node, AllocError>
     ensures { IfOk result (λ output. output ≡ made_by.output_node word node width) }
 {
-    let mut edges = List::new(alloc);
+    let mut edges = Edges::new(alloc);
     edges.push(Edge { node, delay: 0 })?;
     Ok(Node {
         op: Op::Output,

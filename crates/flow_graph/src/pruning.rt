@@ -7,11 +7,11 @@ ghost use Rattle.signal_graph.specs.GraphRules.{IsGraph};
 ghost use Rattle.signal_graph.specs.GraphSolves.{IsGraphLoopless};
 ghost use Rattle.signal_graph.specs.Keeps.{KeepsGraphSolutions};
 ghost use Rattle.signal_graph.specs.Pruned.{IsPruned};
-ghost use Rattle.flow_graph.specs.Private.Pruning.{reached, all_reached, HasOutputs, IsSearch, AreUsedMarks, numbers_from, renumbered_edge, renumbered, kept_nodes};
+ghost use Rattle.flow_graph.specs.Private.Pruning.{reached, all_reached, HasOutputs, IsSearch, AreUsedMarks, AreAllMarked, numbers_from, renumbered_edge, renumbered, kept_nodes};
 
 use fix_word::Op;
 use lists::List;
-use signal_graph::{Edge, Graph, Node};
+use signal_graph::{Edge, Edges, Graph, Node};
 use std::alloc::{AllocError, AllocFailed, Global};
 use thiserror::Error;
 
@@ -108,11 +108,7 @@ fn follow_all(graph: &Graph, search: &mut Search) -> Result<(), AllocFailed<u32>
 fn unmarked(alloc: Global, count: usize) -> Result<List<bool>, AllocError>
     ensures { IfOk result (λ list. list ≡ replicate count false) }
 {
-    let mut list = List::new(alloc);
-    for _ in 0..count {
-        list.push(false)?;
-    }
-    Ok(list)
+    Ok(List::from_vec(vec![in alloc; false; count]?))
 }
 
 /// Whether an output is reached from each node.
@@ -122,11 +118,22 @@ fn used_marks(alloc: Global, graph: &Graph) -> Result<List<bool>, AllocError>
 {
     let mut search = Search {
         marks: unmarked(alloc, graph.nodes.len())?,
-        found: List::new(alloc),
+        found: List::with_capacity(alloc, graph.nodes.len())?,
     };
     reach_outputs(graph, &mut search)?;
     follow_all(graph, &mut search)?;
     Ok(search.marks)
+}
+
+fn are_all_marked(marks: &List<bool>) -> bool
+    ensures { IsTrue result → AreAllMarked marks.now }
+{
+    for mark in marks.iter() {
+        if !*mark {
+            return false;
+        }
+    }
+    true
 }
 
 /// For each node how many nodes before it are kept, which is its new number.
@@ -134,7 +141,7 @@ fn numbers_of(alloc: Global, marks: &List<bool>) -> Result<List<u32>, AllocError
     requires { length marks.now < 2 ^ 20 }
     ensures { IfOk result (λ numbers. numbers ≡ numbers_from 0 marks.now) }
 {
-    let mut numbers = List::new(alloc);
+    let mut numbers = List::with_capacity(alloc, marks.len())?;
     let mut next = 0;
     for kept in marks.iter() {
         numbers.push(next)?;
@@ -145,15 +152,11 @@ fn numbers_of(alloc: Global, marks: &List<bool>) -> Result<List<u32>, AllocError
     Ok(numbers)
 }
 
-fn renumbered_edges(
-    alloc: Global,
-    numbers: &List<u32>,
-    edges: &List<Edge>,
-) -> Result<List<Edge>, AllocError>
+fn renumbered_edges(alloc: Global, numbers: &List<u32>, edges: &Edges) -> Result<Edges, AllocError>
     requires { All (λ edge. edge.node < length numbers.now) edges.now }
     ensures { IfOk result (λ new. new ≡ map (renumbered_edge numbers.now) edges.now) }
 {
-    let mut new = List::new(alloc);
+    let mut new = Edges::new(alloc);
     for edge in edges.iter() {
         new.push(Edge {
             node: numbers[edge.node as usize],
@@ -190,7 +193,7 @@ fn nodes_of(
     requires numbers { length numbers.now ≡ length graph.now.nodes }
     ensures { IfOk result (λ nodes. nodes ≡ kept_nodes graph.now numbers.now marks.now) }
 {
-    let mut nodes = List::new(alloc);
+    let mut nodes = List::with_capacity(alloc, graph.nodes.len())?;
     for v in 0..graph.nodes.len() {
         if marks[v] {
             let node = renumbered_node(alloc, numbers, &graph.nodes[v])?;
@@ -201,23 +204,27 @@ fn nodes_of(
 }
 
 /// The graph without the nodes from which no output is reached over edges of any delay. The others have new numbers, in
-/// their order. Takes time in proportion to nodes and edges. Page `docs/GRAPH.md`, "The graph of a flat program".
+/// their order; where there are no such nodes it is the graph itself. Takes time in proportion to nodes and edges. Page
+/// `docs/GRAPH.md`, "The graph of a flat program".
 ///
 /// # Errors
 ///
 /// `Memory` where no memory is left.
-pub fn prune(alloc: Global, graph: &Graph) -> Result<Graph, PruneFault>
-    requires sound { IsGraph graph.now }
-    requires loopless { IsGraphLoopless graph.now }
-    ensures pruned { IfOk result (IsPruned graph.now) }
+pub fn prune(alloc: Global, graph: Graph) -> Result<Graph, PruneFault>
+    requires sound { IsGraph graph }
+    requires loopless { IsGraphLoopless graph }
+    ensures pruned { IfOk result (IsPruned graph) }
     ensures sound { IfOk result IsGraph }
     ensures loopless { IfOk result IsGraphLoopless }
-    ensures keeps { IfOk result (KeepsGraphSolutions graph.now) }
+    ensures keeps { IfOk result (KeepsGraphSolutions graph) }
 {
-    let marks = used_marks(alloc, graph)?;
+    let marks = used_marks(alloc, &graph)?;
+    if are_all_marked(&marks) {
+        return Ok(graph);
+    }
     let numbers = numbers_of(alloc, &marks)?;
     Ok(Graph {
-        nodes: nodes_of(alloc, graph, &marks, &numbers)?,
+        nodes: nodes_of(alloc, &graph, &marks, &numbers)?,
         inputs: List::from_slice(alloc, graph.inputs.as_slice())?,
         outs: graph.outs,
     })

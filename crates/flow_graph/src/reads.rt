@@ -52,7 +52,7 @@ fn reads_of_body(alloc: Global, body: &FlatBody) -> Result<List<u32>, AllocError
 pub(crate) fn reads_of_all(alloc: Global, flat: &FlatProgram) -> Result<List<List<u32>>, AllocError>
     ensures { IfOk result (λ lists. lists ≡ read_lists (view flat.now)) }
 {
-    let mut lists = List::new(alloc);
+    let mut lists = List::with_capacity(alloc, flat.elems.len())?;
     for element in flat.elems.as_slice() {
         let reads = reads_of_body(alloc, &element.body)?;
         lists.push(reads)?;

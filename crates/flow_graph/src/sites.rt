@@ -13,6 +13,7 @@ ghost use Rattle.flow_graph.specs.Private.Sites.{view_operand, view_made, view_s
 
 use fix_word::{Format, Mode, Op, SigType};
 use lists::List;
+use short_lists::ShortList;
 use signal_graph::{FlatBody, FlatElem, FlatExpr, FlatProgram};
 use std::alloc::{AllocError, AllocFailed, Global};
 
@@ -27,6 +28,19 @@ pub(crate) enum Operand {
     Element { elem: u32, delay: u16 },
 }
 
+impl Default for Operand {
+    /// What stands in a short list behind its operands.
+    fn default() -> Operand {
+        Operand::Place(0)
+    }
+}
+
+/// For how many operands a place has room in itself.
+const PORTS: usize = 3;
+
+/// The operands of a node.
+pub(crate) type Operands = ShortList<Operand, PORTS>;
+
 /// What is made at a place.
 #[derive(Drop)]
 pub(crate) enum Made {
@@ -38,7 +52,7 @@ pub(crate) enum Made {
     Operation {
         op: Op,
         fmt: Format,
-        operands: List<Operand>,
+        operands: Operands,
     },
 }
 
@@ -106,11 +120,11 @@ fn add_parts(
     elem: u32,
     start: usize,
     parts: &[FlatExpr],
-) -> Result<List<Operand>, AllocError>
+) -> Result<Operands, AllocError>
     requires { start ≤ length sites.old }
     ensures { IfOk result (AddsParts sites.old elem start (view_exprs parts.now) sites.new) }
 {
-    let mut operands = List::new(alloc);
+    let mut operands = Operands::new(alloc);
     for part in parts {
         let operand = add_places(alloc, sites, elem, start, part)?;
         operands.push(operand)?;
@@ -152,7 +166,7 @@ fn add_pass(
     ensures { OnOk result (AddsSite sites.old elem start
         (place_of.operation op.Pass (plain width) (view_operand operand ∷ [])) sites.new) }
 {
-    let mut operands = List::new(alloc);
+    let mut operands = Operands::new(alloc);
     operands.push(operand)?;
     let made = Made::Operation {
         op: Op::Pass,

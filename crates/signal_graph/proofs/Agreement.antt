@@ -12,7 +12,8 @@ use Rattle.signal_graph.specs.FlatSolves.{no_element, element_of, ElementReads, 
 use Rattle.signal_graph.specs.GraphSolves.{GraphSolves}
 use Rattle.signal_graph.specs.Values.{Words, body_value, BodyReads}
 use Rattle.signal_graph.specs.declared.graph.Graph.{Graph}
-use Rattle.signal_graph.specs.GraphOf.{Target, node_at, is_delayed, IsNumber, IsNodeOf, input_node, pass_node, own_node, word_alias, read_alias, IsGraphOf}
+use Rattle.signal_graph.specs.GraphOf.{Target, node_at, is_delayed, IsNumber, IsNodeOf, input_node, pass_node, own_node}
+use Rattle.signal_graph.specs.GraphOf.{word_alias, read_alias, IsGraphOf}
 use Rattle.signal_graph.specs.Keeps.{IsStreamOf, IsElementNode}
 use Rattle.signal_graph.proofs.OneSolution.{flat_determined, flat_heights}
 use Rattle.signal_graph.proofs.Places.{made_of}
@@ -43,8 +44,12 @@ module _ (p : Program) (g : Graph) (is : IsGraphOf p g) (sound : IsFlat p) (loop
       (its_inits p g is e node.target v is_read node.node node.number)
       ∙ sym (solves.past e j el lt)
 
-  at_read : (d : ℕ) (z : ℤ) → EqualAt d z → ((j : ℕ) → z ≡ negsuc j → is_delayed p d ≡ true) → (v : ℕ)
-      → IsElementNode p d v → node_words v z ≡ words d z
+  at_read : (d : ℕ) (z : ℤ)
+      → EqualAt d z
+      → ((j : ℕ) → z ≡ negsuc j → is_delayed p d ≡ true)
+      → (v : ℕ)
+      → IsElementNode p d v
+      → node_words v z ≡ words d z
   at_read d (pos n) equal is_read v node = equal v node
   at_read d (negsuc j) equal is_read v node = equal (is_read j refl) v node
 
@@ -52,7 +57,9 @@ module _ (p : Program) (g : Graph) (is : IsGraphOf p g) (sound : IsFlat p) (loop
   ReadsAgree n R =
       (d ago v : ℕ) → R d ago → IsElementNode p d v → node_words v (pos n -ℤ pos ago) ≡ words d (pos n -ℤ pos ago)
 
-  all_reads : (e n : ℕ) → e < length p.elems → ((d ago : ℕ) → ElementReads p e d ago → EqualAt d (pos n -ℤ pos ago))
+  all_reads : (e n : ℕ)
+      → e < length p.elems
+      → ((d ago : ℕ) → ElementReads p e d ago → EqualAt d (pos n -ℤ pos ago))
       → ReadsAgree n (ElementReads p e)
   all_reads e n el holds d ago v r node =
       at_read d (pos n -ℤ pos ago) (holds d ago r) (λ j h. delayed p e d ago el r (some_delay n ago j h)) v node

@@ -16,16 +16,24 @@ use Rattle.signal_graph.proofs.PrunedSound.{outputs_fit}
 use Rattle.signal_graph.proofs.Ranges.{range_same, map_same}
 
 -- the output rows of a flat program hang on the words of its solution alone
-pub flat_out_same : (p : Program) (stream : Rows) (x y : Words) → IsFlat p → AreSame (flat_system p stream) x y
-    → (count : ℕ) → count ≤ length stream → flat_out p x count ≡ flat_out p y count
+pub flat_out_same : (p : Program) (stream : Rows) (x y : Words)
+    → IsFlat p
+    → AreSame (flat_system p stream) x y
+    → (count : ℕ)
+    → count ≤ length stream
+    → flat_out p x count ≡ flat_out p y count
 flat_out_same p stream x y sound same count le =
     range_same (λ n. map (λ (e : ℕ). x e (pos n)) p.outs) (λ n. map (λ (e : ℕ). y e (pos n)) p.outs) count []
     (λ n lt. map_same (λ e. x e (pos n)) (λ e. y e (pos n)) p.outs
     (λ k d below. same.present _ n (sound.outs k d below) (omega arith)))
 
 -- and those of a graph on the words of its
-pub graph_out_same : (g : Graph) (stream : Rows) (x y : Words) → IsGraph g → AreSame (graph_system g stream) x y
-    → (count : ℕ) → count ≤ length stream → graph_out g x count ≡ graph_out g y count
+pub graph_out_same : (g : Graph) (stream : Rows) (x y : Words)
+    → IsGraph g
+    → AreSame (graph_system g stream) x y
+    → (count : ℕ)
+    → count ≤ length stream
+    → graph_out g x count ≡ graph_out g y count
 graph_out_same g stream x y sound same count le =
     range_same (λ n. map (λ j. x (first_output g + j) (pos n)) (range_with_len 0 g.outs))
     (λ n. map (λ j. y (first_output g + j) (pos n)) (range_with_len 0 g.outs)) count []
@@ -33,9 +41,14 @@ graph_out_same g stream x y sound same count le =
     (λ j below. same.present (first_output g + j) n (omega (arith, outputs_fit g sound)) (omega arith)))
 
 -- any solution of a flat program and any of its graph
-pub any_equal : (p : Program) (g : Graph) → IsGraph g → KeepsFlatSolutions p g
-    → (stream : Rows) → IsStreamOf p.inputs stream
-    → (words node_words : Words) → FlatSolves p stream words → GraphSolves g stream node_words
+pub any_equal : (p : Program) (g : Graph)
+    → IsGraph g
+    → KeepsFlatSolutions p g
+    → (stream : Rows)
+    → IsStreamOf p.inputs stream
+    → (words node_words : Words)
+    → FlatSolves p stream words
+    → GraphSolves g stream node_words
     → AreEqualWords p g stream words node_words
 any_equal p g sound keeps stream is_stream words node_words solves node_solves =
     let (others, one, equal) = (keeps.solutions stream is_stream).forth words solves in

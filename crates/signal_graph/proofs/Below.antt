@@ -1,12 +1,15 @@
 -- The operands of a node at a place are at places before it, in elements that are read, and raw words.
-use Rattle.std.proofs.Common.{◌≡◌, refl, sym, subst, arith, ℕ, zero, suc, ◌+◌, ◌-◌, ◌<◌, ◌≤◌, inl, inr, Bool, true, false, List, [], ◌∷◌, ◌++◌, length}
+use Rattle.std.proofs.Common.{◌≡◌, refl, sym, subst, arith, ℕ, zero, suc, ◌+◌, ◌-◌, ◌<◌, ◌≤◌, inl, inr, Bool, true}
+use Rattle.std.proofs.Common.{false, List, [], ◌∷◌, ◌++◌, length}
 use Rattle.std.specs.Prelude.{slice_get, All, Some}
 use Rattle.std.proofs.lemmas.Option.{none-some, same_Some}
 use Rattle.std.proofs.lemmas.List.Elements.{All-nil, All-cons}
-use Rattle.signal_graph.specs.Flat.{Expr, raw, read, calculation, Parts, no_part, part, Body, word, value, Program, size, size_of_parts}
+use Rattle.signal_graph.specs.Flat.{Expr, raw, read, calculation, Parts, no_part, part, Body, word, value, Program}
+use Rattle.signal_graph.specs.Flat.{size, size_of_parts}
 use Rattle.signal_graph.specs.FlatSolves.{element_of, ElementReads}
 use Rattle.signal_graph.specs.Values.{Reads, PartsRead, BodyReads}
-use Rattle.signal_graph.specs.GraphOf.{Operand, number, place, element, Made, nothing, constant, input, operation, operand_at, operands_from, made_by, made_by_parts, has_pass, pass}
+use Rattle.signal_graph.specs.GraphOf.{Operand, number, place, element, Made, nothing, constant, input, operation}
+use Rattle.signal_graph.specs.GraphOf.{operand_at, operands_from, made_by, made_by_parts, has_pass, pass}
 use Rattle.signal_graph.proofs.Places.{made_of}
 use Rattle.signal_graph.proofs.Parts.{length_made, length_made_parts}
 use Rattle.signal_graph.proofs.Bodies.{its_width, input_made, with_pass, value_made}
@@ -68,8 +71,10 @@ module _ (R : ℕ → ℕ → Type 0) where
   operand_before (read d ago) l k lt reads = reads d ago (refl, refl)
   operand_before (calculation o fmt parts) l k lt reads = lt
 
-  operands_before : (parts : Parts) (b k : ℕ) → b + size_of_parts parts ≤ k
-      → ((d ago : ℕ) → PartsRead parts d ago → R d ago) → All (IsBefore k) (operands_from b parts)
+  operands_before : (parts : Parts) (b k : ℕ)
+      → b + size_of_parts parts ≤ k
+      → ((d ago : ℕ) → PartsRead parts d ago → R d ago)
+      → All (IsBefore k) (operands_from b parts)
   operands_before no_part b k le reads = All-nil (IsBefore k)
   operands_before (part x rest) b k le reads =
       All-cons (IsBefore k) (operand_at (b + size x - 1) x) (operands_from (b + size x) rest)
@@ -86,7 +91,8 @@ module _ (R : ℕ → ℕ → Type 0) where
         (all_one AreBefore (b + length (made_by_parts b parts)) last
         (operands_before parts b (b + length (made_by_parts b parts)) (omega (arith, length_made_parts b parts)) reads))
 
-    before_parts : (parts : Parts) (b : ℕ) → ((d ago : ℕ) → PartsRead parts d ago → R d ago)
+    before_parts : (parts : Parts) (b : ℕ)
+        → ((d ago : ℕ) → PartsRead parts d ago → R d ago)
         → AllFrom AreBefore b (made_by_parts b parts)
     before_parts no_part b reads = all_none AreBefore b
     before_parts (part x rest) b reads =
@@ -96,7 +102,8 @@ module _ (R : ℕ → ℕ → Type 0) where
         (before_parts rest (b + size x) (λ d ago r. reads d ago (inr r))))
 
 module _ (p : Program) (e : ℕ) where
-  with_pass_before : (x : Expr) (b : Bool) → (element_of p e).body ≡ value x
+  with_pass_before : (x : Expr) (b : Bool)
+      → (element_of p e).body ≡ value x
       → AllFrom (AreBefore (ElementReads p e)) 0 (with_pass p e x b)
   with_pass_before x true h =
       let R = ElementReads p e in

@@ -1,5 +1,6 @@
 -- What stands at the places of an element, by its body.
-use Rattle.std.proofs.Common.{◌≡◌, refl, sym, ap, ◌∙◌, subst, arith, ℕ, ◌+◌, ◌-◌, Bool, true, if◌then◌else◌, List, [], ◌∷◌, ◌++◌, length}
+use Rattle.std.proofs.Common.{◌≡◌, refl, sym, ap, ◌∙◌, subst, arith, ℕ, ◌+◌, ◌-◌, Bool, true, if◌then◌else◌, List, []}
+use Rattle.std.proofs.Common.{◌∷◌, ◌++◌, length}
 use Rattle.std.specs.Prelude.{ℤ, slice_get, Some}
 use Rattle.lists.proofs.Places.{at_left, at_right}
 use Rattle.fix_word.specs.declared.operation.Op.{Op}
@@ -7,7 +8,8 @@ use Rattle.fix_word.specs.declared.types.Format.{Format}
 use Rattle.signal_graph.specs.Rules.{width_of}
 use Rattle.signal_graph.specs.Flat.{Expr, raw, calculation, Parts, Body, word, value, Program, size}
 use Rattle.signal_graph.specs.FlatSolves.{element_of}
-use Rattle.signal_graph.specs.GraphOf.{Made, constant, input, operation, made_by, made_by_body, has_pass, pass, operands_from}
+use Rattle.signal_graph.specs.GraphOf.{Made, constant, input, operation, made_by, made_by_body, has_pass, pass}
+use Rattle.signal_graph.specs.GraphOf.{operands_from}
 use Rattle.signal_graph.proofs.Places.{made_of}
 use Rattle.signal_graph.proofs.Parts.{length_made, Stands, calculation_stands}
 
@@ -21,7 +23,9 @@ module _ (p : Program) (e : ℕ) where
   abbrev pub with_pass : Expr → Bool → List Made
   with_pass x b = made_by 0 x ++ (if b then pass its_width x ∷ [] else [])
 
-  pub value_made : (x : Expr) (b : Bool) → (element_of p e).body ≡ value x → has_pass p e x ≡ b
+  pub value_made : (x : Expr) (b : Bool)
+      → (element_of p e).body ≡ value x
+      → has_pass p e x ≡ b
       → made_of p e ≡ with_pass x b
   value_made x b h is = ap (λ (body : Body). made_by_body p e its_width body) h ∙ ap (λ (c : Bool). with_pass x c) is
 
@@ -33,7 +37,9 @@ module _ (p : Program) (e : ℕ) where
       (at_left (made_by 0 x) (if has_pass p e x then pass its_width x ∷ [] else []) i m at))
 
   -- then comes its Pass
-  pub pass_made : (x : Expr) → (element_of p e).body ≡ value x → has_pass p e x ≡ true
+  pub pass_made : (x : Expr)
+      → (element_of p e).body ≡ value x
+      → has_pass p e x ≡ true
       → slice_get (made_of p e) (size x) ≡ Some (pass its_width x)
   pass_made x h is =
       let place : length (made_by 0 x) + 0 ≡ size x = omega (arith, length_made 0 x) in

@@ -83,7 +83,9 @@ initial_word = refl
 no_initial_word : flat_words 1 (negsuc 1) ≡ pos 0
 no_initial_word = refl
 
-flat_present : (e n : ℕ) → e < 2 → n < 3
+flat_present : (e n : ℕ)
+    → e < 2
+    → n < 3
     → flat_words e (pos n) ≡ body_value stream flat_words n (element_of accumulator e).body
 unfolding wrap_of
 flat_present zero zero below inside = refl
@@ -101,7 +103,9 @@ flat_solved = record { past = λ e j el lt. refl; present = flat_present }
 pub flat_rows : flat_out accumulator flat_words 3 ≡ (pos 6 ∷ []) ∷ (pos 8 ∷ []) ∷ (negsuc 127 ∷ []) ∷ []
 flat_rows = refl
 
-graph_present : (v n : ℕ) → v < 3 → n < 3
+graph_present : (v n : ℕ)
+    → v < 3
+    → n < 3
     → graph_words v (pos n) ≡ node_value stream graph_words n (node_of its_graph v)
 unfolding wrap_of
 graph_present zero zero below inside = refl

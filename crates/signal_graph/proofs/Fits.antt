@@ -1,6 +1,8 @@
 -- The words of a solution are in the width of their element's type.
-use Rattle.std.proofs.Common.{◌≡◌, refl, sym, subst, ap, ◌∙◌, arith, ℕ, ◌+◌, ◌-◌, ◌<◌, inl, inr, Bool, true, false, List, [], length}
-use Rattle.std.specs.Prelude.{ℤ, pos, negsuc, ◌-ℤ◌, slice_get, slice_index_or, IsSomeAnd, Option, Some, None, find, ◌==◌}
+use Rattle.std.proofs.Common.{◌≡◌, refl, sym, subst, ap, ◌∙◌, arith, ℕ, ◌+◌, ◌-◌, ◌<◌, inl, inr, Bool, true, false}
+use Rattle.std.proofs.Common.{List, [], length}
+use Rattle.std.specs.Prelude.{ℤ, pos, negsuc, ◌-ℤ◌, slice_get, slice_index_or, IsSomeAnd, Option, Some, None, find}
+use Rattle.std.specs.Prelude.{◌==◌}
 use Rattle.std.proofs.lemmas.Int.{ints}
 use Rattle.std.proofs.lemmas.Nat.{pow_pos}
 use Rattle.std.proofs.lemmas.Option.{slice_get-get_or, same_Some}
@@ -17,11 +19,13 @@ use Rattle.fix_word.specs.declared.types.SigType.TheVariants as sig
 use Rattle.fix_word.proofs.Forms.{form_word}
 use Rattle.signal_graph.specs.Operations.{class_of, IsCalculation, operands}
 use Rattle.signal_graph.specs.Rules.{IsWithin, IsType, IsInType, width_of, AreInits, word_before, word_or_zero}
-use Rattle.signal_graph.specs.Flat.{Expr, raw, read, calculation, Parts, no_part, part, Body, word, value, Element, Program, count}
+use Rattle.signal_graph.specs.Flat.{Expr, raw, read, calculation, Parts, no_part, part, Body, word, value, Element}
+use Rattle.signal_graph.specs.Flat.{Program, count}
 use Rattle.signal_graph.specs.FlatRules.{IsFlatFormat, GivesWidth, IsExpr, AreExprs, Fits, ChoicesFit, IsBodyOf, IsFlat}
 use Rattle.signal_graph.specs.FlatSolves.{no_element, element_of, flat_system, IsFlatLoopless, FlatSolves}
 use Rattle.signal_graph.specs.Keeps.{IsStreamOf}
-use Rattle.signal_graph.specs.Values.{Words, input_word, operand, result, value_of, values_of, body_value, Reads, PartsRead, BodyReads}
+use Rattle.signal_graph.specs.Values.{Words, input_word, operand, result, value_of, values_of, body_value, Reads}
+use Rattle.signal_graph.specs.Values.{PartsRead, BodyReads}
 use Rattle.signal_graph.proofs.OneSolution.{flat_determined, flat_heights}
 use Rattle.signal_graph.proofs.Members.{found_member, zip_at}
 
@@ -40,7 +44,8 @@ word_or_zero_fits : (w : ℕ) (o : Option (ℕ × ℤ)) → ((i : ℕ × ℤ) �
 word_or_zero_fits w None h = zero_word w
 word_or_zero_fits w (Some i) h = h i refl
 
-pub before_fits : (ty : SigType) (inits : List (ℕ × ℤ)) (k : ℕ) → AreInits (IsInType ty) inits
+pub before_fits : (ty : SigType) (inits : List (ℕ × ℤ)) (k : ℕ)
+    → AreInits (IsInType ty) inits
     → IsWord (width_of ty) (word_before inits k)
 before_fits ty inits k are =
     word_or_zero_fits (width_of ty) (find (λ (i : ℕ × ℤ). i.0 == k) inits)
@@ -49,8 +54,11 @@ before_fits ty inits k are =
     (found_member (λ (j : ℕ × ℤ). j.0 == k) inits i h)))
 
 -- a word of the stream is in its input's type
-pub input_fits : (inputs : List SigType) (stream : Rows) (n j : ℕ) (ty : SigType) → IsStreamOf inputs stream
-    → n < length stream → slice_get inputs j ≡ Some ty → IsInType ty (input_word stream n j)
+pub input_fits : (inputs : List SigType) (stream : Rows) (n j : ℕ) (ty : SigType)
+    → IsStreamOf inputs stream
+    → n < length stream
+    → slice_get inputs j ≡ Some ty
+    → IsInType ty (input_word stream n j)
 input_fits inputs stream n j ty is lt h =
     zip_at IsInType inputs (slice_index_or stream n []) j ty (pos 0) (is n [] lt) h
 
@@ -67,8 +75,10 @@ choice_fits true b c w x y = x
 choice_fits false b c w x y = y
 
 -- the result of a calculation that gives w bits has them; for a choice, where its last two operands have
-pub result_fits : (o : Op) (fmt : Format) (ChoicesFit : Type 0) (values : List ℤ) (w : ℕ) → IsCalculation (class_of o)
-    → IsFlatFormat (class_of o) fmt → GivesWidth (class_of o) fmt ChoicesFit w
+pub result_fits : (o : Op) (fmt : Format) (ChoicesFit : Type 0) (values : List ℤ) (w : ℕ)
+    → IsCalculation (class_of o)
+    → IsFlatFormat (class_of o) fmt
+    → GivesWidth (class_of o) fmt ChoicesFit w
     → (operands o ≡ 3 → ChoicesFit → IsWord w (operand values 1) × IsWord w (operand values 2))
     → IsWord w (result o fmt values)
 result_fits op.Add fmt C values w is f g choices = quantised_fits _ fmt w f g
@@ -93,8 +103,11 @@ module _ (p : Program) (words : Words) (n : ℕ) where
   abbrev pub ReadsFit : (ℕ → ℕ → Type 0) → Type 0
   ReadsFit R = (d ago : ℕ) → R d ago → IsWord (width_of (element_of p d).ty) (words d (pos n -ℤ pos ago))
 
-  width_read : (d w : ℕ) (o : Option Element) → slice_get p.elems d ≡ o
-      → IsSomeAnd o (λ (x : Element). width_of x.ty ≡ w) → d < length p.elems → width_of (element_of p d).ty ≡ w
+  width_read : (d w : ℕ) (o : Option Element)
+      → slice_get p.elems d ≡ o
+      → IsSomeAnd o (λ (x : Element). width_of x.ty ≡ w)
+      → d < length p.elems
+      → width_of (element_of p d).ty ≡ w
   width_read d w None h is lt = absurd is
   width_read d w (Some x) h is lt =
       let same = same_Some (element_of p d) x (sym (slice_get-get_or p.elems d no_element lt) ∙ h) in
@@ -110,7 +123,10 @@ module _ (p : Program) (words : Words) (n : ℕ) where
         result_fits o fmt (ChoicesFit p parts w) (values_of words n parts) w is.0.calculation is.0.fmt fits
         (λ three choices. choices_fit parts w is.1 choices reads (is.0.parts ∙ three))
 
-    choices_fit : (parts : Parts) (w : ℕ) → AreExprs p parts → ChoicesFit p parts w → ReadsFit (PartsRead parts)
+    choices_fit : (parts : Parts) (w : ℕ)
+        → AreExprs p parts
+        → ChoicesFit p parts w
+        → ReadsFit (PartsRead parts)
         → count parts ≡ 3
         → IsWord w (operand (values_of words n parts) 1) × IsWord w (operand (values_of words n parts) 2)
     choices_fit no_part w are fits reads three = absurd (omega arith)
@@ -131,8 +147,11 @@ module _ (p : Program) (sound : IsFlat p) (loopless : IsFlatLoopless p) (stream 
       subst (λ (m : ℤ). IsWord (width_of (element_of p e).ty) m) (sym (solves.past e j el lt))
       (before_fits (element_of p e).ty (element_of p e).inits (j + 1) (sound.elements e no_element el).inits)
 
-  body_fits : (ty : SigType) (body : Body) (n : ℕ) → IsBodyOf p ty body → n < length stream
-      → ReadsFit p words n (BodyReads body) → IsWord (width_of ty) (body_value stream words n body)
+  body_fits : (ty : SigType) (body : Body) (n : ℕ)
+      → IsBodyOf p ty body
+      → n < length stream
+      → ReadsFit p words n (BodyReads body)
+      → IsWord (width_of ty) (body_value stream words n body)
   body_fits ty (word j) n is lt reads =
       type_word ty (input_word stream n j) (input_fits p.inputs stream n j ty is_stream lt is)
   body_fits ty (value x) n is lt reads = value_fits p words n x (width_of ty) is.sound is.fits reads

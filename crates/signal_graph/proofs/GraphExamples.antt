@@ -2,26 +2,29 @@
 use Rattle.std.proofs.Common.{◌≡◌, refl, subst, arith, ℕ, zero, suc, ◌+◌, ◌≤◌, [], ◌∷◌, length}
 use Rattle.std.specs.Prelude.{pos, Option, Some, None, slice_get, map}
 use Rattle.std.proofs.lemmas.Int.{ints}
+use Rattle.lists.proofs.Places.{some_is}
 use Rattle.fix_word.specs.Words.{IsWord}
 use Rattle.fix_word.specs.declared.operation.Op.TheVariants as op
 use Rattle.signal_graph.specs.Rules.{plain}
 use Rattle.signal_graph.specs.Flat.{Expr, raw, read, calculation, no_part, part, word, value, Element, Program}
 use Rattle.signal_graph.specs.GraphSolves.{node_of}
-use Rattle.signal_graph.specs.GraphOf.{Site, constant, input, operation, number, place, element, node_sites, node_at, word_node, IsNumber, IsNodeOf, input_node, pass_node, own_node, read_alias, IsLeastWidth, IsMade, IsOutputOf, IsGraphOf}
+use Rattle.signal_graph.specs.GraphOf.{Site, constant, input, operation, number, place, element, node_sites, node_at}
+use Rattle.signal_graph.specs.GraphOf.{word_node, IsNumber, IsNodeOf, input_node, pass_node, own_node, read_alias}
+use Rattle.signal_graph.specs.GraphOf.{IsLeastWidth, IsMade, IsOutputOf, IsGraphOf}
 use Rattle.signal_graph.proofs.Examples.{byte, accumulator, edge, its_graph}
-
-pub some_is : {A : Type 0} (x y : A) → Some x ≡ Some y → x ≡ y
-some_is x y h = cc
 
 pub no_more : {A : Type 0} (o : Option A) (y : A) → o ≡ None → o ≡ Some y → ⊥
 no_more o y e h = cc
 
 -- the node at a place is made as it stands there
-made_here : (s t : Site) (v : ℕ) → Some s ≡ Some t → IsMade accumulator s s.made (node_of its_graph v)
+made_here : (s t : Site) (v : ℕ)
+    → Some s ≡ Some t
+    → IsMade accumulator s s.made (node_of its_graph v)
     → IsMade accumulator t t.made (node_of its_graph v)
 made_here s t v h = subst (λ (u : Site). IsMade accumulator u u.made (node_of its_graph v)) (some_is s t h)
 
-accumulator_made : (v : ℕ) (s : Site) → slice_get (node_sites accumulator) v ≡ Some s
+accumulator_made : (v : ℕ) (s : Site)
+    → slice_get (node_sites accumulator) v ≡ Some s
     → IsMade accumulator s s.made (node_of its_graph v)
 accumulator_made zero s h = made_here _ s 0 h refl
 accumulator_made (suc zero) s h =
@@ -29,7 +32,8 @@ accumulator_made (suc zero) s h =
     (((node_at 0 0, input_node refl, refl, refl), ((node_at 1 2, own_node refl, refl, refl), tt {0})), refl)
 accumulator_made (suc (suc v)) s h = absurd (no_more _ s refl h)
 
-accumulator_output : (j e : ℕ) → slice_get accumulator.outs j ≡ Some e
+accumulator_output : (j e : ℕ)
+    → slice_get accumulator.outs j ≡ Some e
     → IsOutputOf accumulator its_graph j e (node_of its_graph (length (node_sites accumulator) + j))
 accumulator_output zero e h =
     subst (λ (i : ℕ). IsOutputOf accumulator its_graph 0 i (node_of its_graph 2)) (some_is 1 e h)
@@ -68,14 +72,11 @@ shared_places : map {B = ℕ × ℕ} (λ (s : Site). (s.element, s.place)) (node
     ≡ (0, 0) ∷ (2, 1) ∷ (3, 1) ∷ (3, 2) ∷ (3, 5) ∷ (3, 6) ∷ []
 shared_places = refl
 
-shared_made : map (λ (s : Site). s.made) (node_sites shared) ≡
-    input 0
-    ∷ operation op.Pass (plain 8) (element 0 0 ∷ [])
-    ∷ constant (pos 3)
+shared_made : map (λ (s : Site). s.made) (node_sites shared)
+    ≡ input 0 ∷ operation op.Pass (plain 8) (element 0 0 ∷ []) ∷ constant (pos 3)
     ∷ operation op.Add (plain 8) (element 1 0 ∷ number (pos 3) ∷ [])
     ∷ operation op.Add (plain 8) (element 2 1 ∷ number (pos 3) ∷ [])
-    ∷ operation op.Add (plain 8) (place 2 ∷ place 5 ∷ [])
-    ∷ []
+    ∷ operation op.Add (plain 8) (place 2 ∷ place 5 ∷ []) ∷ []
 shared_made = refl
 
 -- the alias is the input's node, and the Pass is node 1

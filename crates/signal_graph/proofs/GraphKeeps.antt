@@ -30,7 +30,10 @@ module _ (p : Program) (g : Graph) (is : IsGraphOf p g) (sound : IsFlat p) (loop
   module _ (stream : Rows) (is_stream : IsStreamOf p.inputs stream) where
     module _ (words node_words : Words) (solves : FlatSolves p stream words)
         (node_solves : GraphSolves g stream node_words) where
-      output_equal : (j e n : ℕ) → j < length p.outs → e < length p.elems → n < length stream
+      output_equal : (j e n : ℕ)
+          → j < length p.outs
+          → e < length p.elems
+          → n < length stream
           → IsOutputOf p g j e (node_of g (length (node_sites p) + j))
           → node_words (length (node_sites p) + j) (pos n) ≡ words e (pos n)
       output_equal j e n inside el lt (edge, (t, node, rank, delay), same) =
@@ -40,7 +43,8 @@ module _ (p : Program) (g : Graph) (is : IsGraphOf p g) (sound : IsFlat p) (loop
           (present_equal p g is sound loopless stream is_stream words node_words solves node_solves e n el lt edge.node
           (record { target = t; node = node; number = rank }))
 
-      row_equal : (n : ℕ) → n < length stream
+      row_equal : (n : ℕ)
+          → n < length stream
           → map (λ j. node_words (first_output g + j) (pos n)) (range_with_len 0 g.outs)
           ≡ map (λ (e : ℕ). words e (pos n)) p.outs
       row_equal n lt =
@@ -48,7 +52,8 @@ module _ (p : Program) (g : Graph) (is : IsGraphOf p g) (sound : IsFlat p) (loop
           (fill_by_all (λ j. node_words (first_output g + j) (pos n)) (map (λ (e : ℕ). words e (pos n)) p.outs) g.outs
           (pos 0) (length-map p.outs (λ (e : ℕ). words e (pos n)) ∙ sym is.outs) at)
         where
-          at : (k : ℕ) → k < g.outs
+          at : (k : ℕ)
+              → k < g.outs
               → slice_index_or (map (λ (e : ℕ). words e (pos n)) p.outs) k (pos 0)
               ≡ node_words (first_output g + k) (pos n)
           at k below =

@@ -1,5 +1,6 @@
 -- The graph of a flat program without a delay-free loop has none.
-use Rattle.std.proofs.Common.{◌≡◌, refl, sym, subst, ap, ◌∙◌, arith, ℕ, ◌+◌, ◌-◌, ◌*◌, ◌<◌, ◌≤◌, ◌⊎◌, inl, inr, List, [], ◌∷◌, length}
+use Rattle.std.proofs.Common.{◌≡◌, refl, sym, subst, ap, ◌∙◌, arith, ℕ, ◌+◌, ◌-◌, ◌*◌, ◌<◌, ◌≤◌, ◌⊎◌, inl, inr, List}
+use Rattle.std.proofs.Common.{[], ◌∷◌, length}
 use Rattle.std.specs.Prelude.{slice_get, slice_index_or, sum_by, All, Option, Some, None, ◌==◌}
 use Rattle.std.specs.List.{AllZip}
 use Rattle.std.proofs.lemmas.Bool.{cases_lt, eqb-true, and_parts}
@@ -18,7 +19,10 @@ use Rattle.signal_graph.specs.Values.{BodyReads, EdgesRead}
 use Rattle.signal_graph.specs.declared.graph.Edge.{Edge}
 use Rattle.signal_graph.specs.declared.graph.Node.{Node}
 use Rattle.signal_graph.specs.declared.graph.Graph.{Graph}
-use Rattle.signal_graph.specs.GraphOf.{Operand, number, place, element, Made, nothing, constant, input, operation, Site, node_sites, Target, word_node, node_at, is_target, IsNumber, IsNodeOf, input_node, pass_node, own_node, word_alias, read_alias, IsEdgeTo, IsMade, IsOutputOf, IsGraphOf}
+use Rattle.signal_graph.specs.GraphOf.{Operand, number, place, element, Made, nothing, constant, input, operation, Site}
+use Rattle.signal_graph.specs.GraphOf.{node_sites, Target, word_node, node_at, is_target, IsNumber, IsNodeOf}
+use Rattle.signal_graph.specs.GraphOf.{input_node, pass_node, own_node, word_alias, read_alias, IsEdgeTo, IsMade}
+use Rattle.signal_graph.specs.GraphOf.{IsOutputOf, IsGraphOf}
 use Rattle.signal_graph.proofs.OneSolution.{flat_determined, flat_heights, graph_determined}
 use Rattle.signal_graph.proofs.Members.{at_position}
 use Rattle.signal_graph.proofs.Places.{made_of, IsPlace}
@@ -36,7 +40,10 @@ record IsReadAt (R : Operand → Edge → Type 0) (P : Operand → Type 0) (u ag
   pub delay : ago ≡ edge.delay
 
 read_at : (R : Operand → Edge → Type 0) (P : Operand → Type 0) (os : List Operand) (edges : List Edge) (u ago : ℕ)
-    → All P os → AllZip R os edges → EdgesRead edges u ago → IsReadAt R P u ago
+    → All P os
+    → AllZip R os edges
+    → EdgesRead edges u ago
+    → IsReadAt R P u ago
 read_at R P [] [] u ago fits all r = absurd r
 read_at R P [] (edge ∷ edges) u ago fits all r = absurd all
 read_at R P (o ∷ os) [] u ago fits all r = absurd all
@@ -88,7 +95,8 @@ module _ (p : Program) (sound : IsFlat p) (loopless : IsFlatLoopless p) where
       )
 
   -- the node at place k of element e
-  place_height : (e k v : ℕ) → IsNumber p (node_at e k) v
+  place_height : (e k v : ℕ)
+      → IsNumber p (node_at e k) v
       → (node_height v ≤ 1 + base e + k) × (k < room_of_element) × (e < length p.elems)
   place_height e k v h =
       let (s, at, is) = at_position (is_target (node_at e k)) (node_sites p) v no_site h in
@@ -111,7 +119,10 @@ module _ (p : Program) (sound : IsFlat p) (loopless : IsFlatLoopless p) where
       ap height_at at ∙ ap (λ (made : Made). site_height s.element s.place made) same
 
   -- the node of an element lies below all of those that read it now
-  element_height : (d : ℕ) (t : Target) (v : ℕ) → d < length p.elems → IsNodeOf p d t → IsNumber p t v
+  element_height : (d : ℕ) (t : Target) (v : ℕ)
+      → d < length p.elems
+      → IsNodeOf p d t
+      → IsNumber p t v
       → node_height v ≤ base d + room_of_element
   element_height d t v el (input_node h) rank = let most = place_height d 0 v rank in omega (arith, most.0, most.1)
   element_height d t v el (pass_node h passes) rank =
@@ -127,8 +138,13 @@ module _ (p : Program) (sound : IsFlat p) (loopless : IsFlatLoopless p) where
         room (heights.height c) (heights.height d) room_of_element (heights.falls d c el r),
       )
 
-  edge_lower : (e k : ℕ) → e < length p.elems → (o : Operand) (edge : Edge) → IsBefore (ElementReads p e) k o
-      → IsEdgeTo p e o edge → edge.delay ≡ 0 → node_height edge.node < 1 + base e + k
+  edge_lower : (e k : ℕ)
+      → e < length p.elems
+      → (o : Operand) (edge : Edge)
+      → IsBefore (ElementReads p e) k o
+      → IsEdgeTo p e o edge
+      → edge.delay ≡ 0
+      → node_height edge.node < 1 + base e + k
   edge_lower e k el (number m) edge before to now = omega (arith, word_height m edge.node to.0)
   edge_lower e k el (place l) edge before to now = let most = place_height e l edge.node to.0 in omega (arith, most.0)
   edge_lower e k el (element d ago) edge before (t, node, rank, delay) now =
@@ -142,8 +158,11 @@ module _ (p : Program) (sound : IsFlat p) (loopless : IsFlatLoopless p) where
       )
 
   module _ (g : Graph) (is : IsGraphOf p g) where
-    made_falls : (s : Site) (made : Made) (node : Node) (u : ℕ) → s.element < length p.elems
-        → AreBefore (ElementReads p s.element) s.place made → IsMade p s made node → EdgesRead node.edges u 0
+    made_falls : (s : Site) (made : Made) (node : Node) (u : ℕ)
+        → s.element < length p.elems
+        → AreBefore (ElementReads p s.element) s.place made
+        → IsMade p s made node
+        → EdgesRead node.edges u 0
         → node_height u < site_height s.element s.place made
     made_falls s nothing node u el before is_made r = absurd is_made
     made_falls s (constant m) node u el before is_made r =
@@ -156,7 +175,9 @@ module _ (p : Program) (sound : IsFlat p) (loopless : IsFlatLoopless p) where
         subst (λ (i : ℕ). node_height i < 1 + base s.element + s.place) (sym at.node)
         (edge_lower s.element s.place el at.operand at.edge at.fits at.to (sym at.delay))
 
-    output_falls : (j e : ℕ) (node : Node) (u : ℕ) → IsOutputOf p g j e node → EdgesRead node.edges u 0
+    output_falls : (j e : ℕ) (node : Node) (u : ℕ)
+        → IsOutputOf p g j e node
+        → EdgesRead node.edges u 0
         → node_height u < 1 + heights.top * room_of_element
     output_falls j e node u (edge, to, same) r = by (subst (λ (x : Node). EdgesRead x.edges u 0) same r)
       where
@@ -165,7 +186,8 @@ module _ (p : Program) (sound : IsFlat p) (loopless : IsFlatLoopless p) where
             site_below (slice_index_or (node_sites p) edge.node no_site)
             (slice_get-get_or (node_sites p) edge.node no_site (edge_below p e (element e 0) edge to))
           where
-            site_below : (s : Site) → slice_get (node_sites p) edge.node ≡ Some s
+            site_below : (s : Site)
+                → slice_get (node_sites p) edge.node ≡ Some s
                 → node_height edge.node < 1 + heights.top * room_of_element
             site_below s at =
                 let there = node_is_place p edge.node s at in
@@ -203,7 +225,8 @@ module _ (p : Program) (sound : IsFlat p) (loopless : IsFlatLoopless p) where
             subst (λ (o : Option Site). node_height u < height_at o) (sym (slice_get_past (node_sites p) v above))
             (output_falls j e (node_of g v) u output r)
 
-    below_top : (o : Option Site) → ((s : Site) → o ≡ Some s → IsPlace p s)
+    below_top : (o : Option Site)
+        → ((s : Site) → o ≡ Some s → IsPlace p s)
         → height_at o < 2 + heights.top * room_of_element
     below_top None are = omega arith
     below_top (Some s) are =

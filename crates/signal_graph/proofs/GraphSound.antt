@@ -1,6 +1,8 @@
 -- The graph of a sound flat program is sound.
-use Rattle.std.proofs.Common.{◌≡◌, refl, sym, subst, ap, ◌∙◌, arith, ℕ, ◌+◌, ◌-◌, ◌<◌, ◌≤◌, ◌⊎◌, inl, inr, Bool, true, false, if◌then◌else◌, List, [], ◌∷◌, ◌++◌, length}
-use Rattle.std.specs.Prelude.{◌≢◌, ℤ, pos, slice_get, slice_index_or, take, flat_map, sum_by, All, IsSomeAnd, Option, Some, ◌==◌}
+use Rattle.std.proofs.Common.{◌≡◌, refl, sym, subst, ap, ◌∙◌, arith, ℕ, ◌+◌, ◌-◌, ◌<◌, ◌≤◌, ◌⊎◌, inl, inr, Bool, true}
+use Rattle.std.proofs.Common.{false, if◌then◌else◌, List, [], ◌∷◌, ◌++◌, length}
+use Rattle.std.specs.Prelude.{◌≢◌, ℤ, pos, slice_get, slice_index_or, take, flat_map, sum_by, All, IsSomeAnd, Option}
+use Rattle.std.specs.Prelude.{Some, ◌==◌}
 use Rattle.std.specs.List.{AllZip, enumerate_from}
 use Rattle.std.proofs.lemmas.Bool.{cases_lt, eqb-true}
 use Rattle.std.proofs.lemmas.Option.{slice_get-get_or}
@@ -22,7 +24,10 @@ use Rattle.signal_graph.specs.GraphSolves.{no_node, node_of}
 use Rattle.signal_graph.specs.declared.graph.Edge.{Edge}
 use Rattle.signal_graph.specs.declared.graph.Node.{Node}
 use Rattle.signal_graph.specs.declared.graph.Graph.{Graph}
-use Rattle.signal_graph.specs.GraphOf.{Operand, number, place, element, Made, nothing, constant, input, operation, made_by, made_by_body, has_pass, pass, Site, element_sites, sites, is_made_at, node_sites, word_node, node_at, IsEdgeTo, node_format, node_width, inits_at, IsMade, IsOutputOf, IsGraphOf}
+use Rattle.signal_graph.specs.GraphOf.{Operand, number, place, element, Made, nothing, constant, input, operation}
+use Rattle.signal_graph.specs.GraphOf.{made_by, made_by_body, has_pass, pass, Site, element_sites, sites, is_made_at}
+use Rattle.signal_graph.specs.GraphOf.{node_sites, word_node, node_at, IsEdgeTo, node_format, node_width, inits_at}
+use Rattle.signal_graph.specs.GraphOf.{IsMade, IsOutputOf, IsGraphOf}
 use Rattle.signal_graph.proofs.Members.{zip_length}
 use Rattle.signal_graph.proofs.Places.{made_of, IsPlace}
 use Rattle.signal_graph.proofs.Parts.{length_made}
@@ -41,7 +46,9 @@ of_graphs truth is = tt {0}
 of_graphs choice is = tt {0}
 of_graphs _ is = absurd is
 
-format_sound : (class : Class) (fmt : Format) → IsCalculation class → IsFlatFormat class fmt
+format_sound : (class : Class) (fmt : Format)
+    → IsCalculation class
+    → IsFlatFormat class fmt
     → IsNodeFormat class (node_format class fmt)
 format_sound quantised fmt is h = h
 format_sound truth fmt is h = refl
@@ -54,7 +61,9 @@ no_argument g truth is = refl
 no_argument g choice is = refl
 no_argument g _ is = absurd is
 
-width_sound : (class : Class) (fmt : Format) → IsCalculation class → IsFlatFormat class fmt
+width_sound : (class : Class) (fmt : Format)
+    → IsCalculation class
+    → IsFlatFormat class fmt
     → IsWithin 1 32 (node_width class fmt)
 width_sound quantised fmt is h = (h.narrowest, h.widest)
 width_sound truth fmt is h = (omega arith, omega arith)
@@ -74,8 +83,8 @@ module _ (p : Program) where
       by false = omega (arith, length-append (made_by 0 x) [], length_made 0 x)
 
   sites_most : (n : ℕ) (xs : List Element)
-      → length (flat_map (element_sites p) (enumerate_from n xs)) ≤ sum_by (λ (x : Element). size_of_body x.body) xs +
-      length xs
+      → length (flat_map (element_sites p) (enumerate_from n xs))
+      ≤ sum_by (λ (x : Element). size_of_body x.body) xs + length xs
   sites_most n [] = omega arith
   sites_most n (x ∷ xs) =
       omega (
@@ -119,14 +128,16 @@ module _ (p : Program) (g : Graph) (is : IsGraphOf p g) (sound : IsFlat p) where
   first_is : first_output g ≡ length (node_sites p)
   first_is = omega (arith, is.count, is.outs)
 
-  its_site : (v : ℕ) → v < length (node_sites p)
+  its_site : (v : ℕ)
+      → v < length (node_sites p)
       → slice_get (node_sites p) v ≡ Some (slice_index_or (node_sites p) v no_site)
   its_site v lt = slice_get-get_or (node_sites p) v no_site lt
 
   its_place : (v : ℕ) → v < length (node_sites p) → IsPlace p (slice_index_or (node_sites p) v no_site)
   its_place v lt = node_is_place p v (slice_index_or (node_sites p) v no_site) (its_site v lt)
 
-  its_made : (v : ℕ) → v < length (node_sites p)
+  its_made : (v : ℕ)
+      → v < length (node_sites p)
       → IsMade p (slice_index_or (node_sites p) v no_site) (slice_index_or (node_sites p) v no_site).made (node_of g v)
   its_made v lt = is.made v (slice_index_or (node_sites p) v no_site) (its_site v lt)
 
@@ -148,7 +159,9 @@ module _ (p : Program) (g : Graph) (is : IsGraphOf p g) (sound : IsFlat p) where
         delay = edge_delay p e o edge fits to;
       }
 
-  edges_sound : (e : ℕ) (os : List Operand) (edges : List Edge) → All IsOperand os → AllZip (IsEdgeTo p e) os edges
+  edges_sound : (e : ℕ) (os : List Operand) (edges : List Edge)
+      → All IsOperand os
+      → AllZip (IsEdgeTo p e) os edges
       → All (IsEdge g) edges
   edges_sound e [] [] fits all = All-nil (IsEdge g)
   edges_sound e [] (edge ∷ edges) fits all = absurd all
@@ -158,12 +171,14 @@ module _ (p : Program) (g : Graph) (is : IsGraphOf p g) (sound : IsFlat p) where
       (edges_sound e os edges (All-tail IsOperand o os fits) all.1)
 
   -- initial values at the last place of an element are in its node's width
-  inits_sound : (s : Site) (w : ℕ) → IsPlace p s
+  inits_sound : (s : Site) (w : ℕ)
+      → IsPlace p s
       → (s.place + 1 ≡ length (made_of p s.element) → w ≡ width_of (element_of p s.element).ty)
       → AreInits (IsWord w) (inits_at p s)
   inits_sound s w at last = by (s.place + 1 == length (element_sites p (s.element, element_of p s.element))) refl
     where
-      by : (b : Bool) → (s.place + 1 == length (element_sites p (s.element, element_of p s.element))) ≡ b
+      by : (b : Bool)
+          → (s.place + 1 == length (element_sites p (s.element, element_of p s.element))) ≡ b
           → AreInits (IsWord w) (if b then (element_of p s.element).inits else [])
       by true h =
           let x = element_of p s.element in
@@ -181,8 +196,12 @@ module _ (p : Program) (g : Graph) (is : IsGraphOf p g) (sound : IsFlat p) where
           }
       by false h = no_inits (IsWord w)
 
-  made_sound : (s : Site) (made : Made) (node : Node) → s.made ≡ made → IsPlace p s → IsSoundMade p made
-      → IsMade p s made node → IsNode g node
+  made_sound : (s : Site) (made : Made) (node : Node)
+      → s.made ≡ made
+      → IsPlace p s
+      → IsSoundMade p made
+      → IsMade p s made node
+      → IsNode g node
   made_sound s nothing node same at fits is_made = absurd is_made
   made_sound s (constant m) node same at fits is_made =
       let least = is_made.0 in
@@ -238,7 +257,8 @@ module _ (p : Program) (g : Graph) (is : IsGraphOf p g) (sound : IsFlat p) where
         width = (node_sound edge.node (edge_below p e (element e 0) edge to)).width;
       })
 
-  its_output : (j : ℕ) → j < length p.outs
+  its_output : (j : ℕ)
+      → j < length p.outs
       → IsOutputOf p g j (slice_index_or p.outs j 0) (node_of g (length (node_sites p) + j))
   its_output j lt = is.outputs j (slice_index_or p.outs j 0) (slice_get-get_or p.outs j 0 lt)
 

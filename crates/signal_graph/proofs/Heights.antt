@@ -22,7 +22,12 @@ pub height_most : (g : Graph) (v : ℕ) → height g v ≤ length g.nodes
 unfolding height
 height_most g v = counted_most (length g.nodes) _
 
-pub height_falls : (g : Graph) → IsGraph g → IsGraphLoopless g → (v u : ℕ) → v < length g.nodes → HasEdge g v u 0
+pub height_falls : (g : Graph)
+    → IsGraph g
+    → IsGraphLoopless g
+    → (v u : ℕ)
+    → v < length g.nodes
+    → HasEdge g v u 0
     → height g u < height g v
 unfolding height
 height_falls g sound loopless v u el r =

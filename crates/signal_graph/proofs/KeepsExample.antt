@@ -10,7 +10,8 @@ use Rattle.signal_graph.specs.FlatSolves.{flat_out}
 use Rattle.signal_graph.specs.GraphSolves.{graph_out}
 use Rattle.signal_graph.specs.GraphOf.{node_at, input_node, own_node}
 use Rattle.signal_graph.specs.Keeps.{IsStreamOf, IsElementNode, AreEqualWords, KeepsFlatSolutions}
-use Rattle.signal_graph.proofs.Examples.{byte, accumulator, edge, input_node as input, output_node, its_graph, stream, flat_words, graph_words, flat_solved, flat_rows, flat_loopless}
+use Rattle.signal_graph.proofs.Examples.{byte, accumulator, edge, input_node as input, output_node, its_graph, stream}
+use Rattle.signal_graph.proofs.Examples.{flat_words, graph_words, flat_solved, flat_rows, flat_loopless}
 use Rattle.signal_graph.proofs.GraphExamples.{accumulator_graph}
 use Rattle.signal_graph.proofs.SoundExamples.{accumulator_sound}
 use Rattle.signal_graph.proofs.Targets.{one_node}
@@ -41,7 +42,10 @@ its_rows : graph_out its_graph ((keeps.solutions stream bytes).forth flat_words 
 its_rows = ((keeps.solutions stream bytes).forth flat_words flat_solved).2.rows 3 (omega arith) ∙ flat_rows
 
 -- the words that Examples wrote down are equal
-present_words : (e v n : ℕ) → e < 2 → IsElementNode accumulator e v → n < 3
+present_words : (e v n : ℕ)
+    → e < 2
+    → IsElementNode accumulator e v
+    → n < 3
     → graph_words v (pos n) ≡ flat_words e (pos n)
 present_words zero v n el node lt = ap (λ (u : ℕ). graph_words u (pos n)) (one_node accumulator 0 v 0 node x_node)
 present_words (suc zero) v n el node lt =

@@ -1,5 +1,6 @@
 -- What is made at the places of a sound program is sound.
-use Rattle.std.proofs.Common.{◌≡◌, refl, sym, subst, ap, ◌∙◌, arith, ℕ, ◌+◌, ◌-◌, ◌<◌, ◌≤◌, Bool, true, false, List, [], ◌∷◌, length}
+use Rattle.std.proofs.Common.{◌≡◌, refl, sym, subst, ap, ◌∙◌, arith, ℕ, ◌+◌, ◌-◌, ◌<◌, ◌≤◌, Bool, true, false, List, []}
+use Rattle.std.proofs.Common.{◌∷◌, length}
 use Rattle.std.specs.Prelude.{slice_get, All, Some}
 use Rattle.std.proofs.lemmas.Int.{ints}
 use Rattle.std.proofs.lemmas.Option.{same_Some, slice_get_within}
@@ -11,14 +12,18 @@ use Rattle.fix_word.specs.declared.operation.Op.TheVariants as op
 use Rattle.fix_word.specs.declared.types.Format.{Format}
 use Rattle.signal_graph.specs.Operations.{Class, quantised, truth, choice, class_of, operands}
 use Rattle.signal_graph.specs.Rules.{max_delay, IsWithin, plain}
-use Rattle.signal_graph.specs.Flat.{Expr, raw, read, calculation, Parts, no_part, part, Body, word, value, Program, size, count}
+use Rattle.signal_graph.specs.Flat.{Expr, raw, read, calculation, Parts, no_part, part, Body, word, value, Program}
+use Rattle.signal_graph.specs.Flat.{size, count}
 use Rattle.signal_graph.specs.FlatRules.{IsCalculationOf, GivesWidth, IsExpr, AreExprs, ChoicesFit, IsBodyOf, IsFlat}
 use Rattle.signal_graph.specs.FlatSolves.{no_element, element_of}
-use Rattle.signal_graph.specs.GraphOf.{Operand, number, place, element, Made, nothing, constant, input, operation, operand_at, operands_from, made_by, made_by_parts, has_pass, pass, Site, node_width}
+use Rattle.signal_graph.specs.GraphOf.{Operand, number, place, element, Made, nothing, constant, input, operation}
+use Rattle.signal_graph.specs.GraphOf.{operand_at, operands_from, made_by, made_by_parts, has_pass, pass, Site}
+use Rattle.signal_graph.specs.GraphOf.{node_width}
 use Rattle.signal_graph.proofs.Members.{at_member}
 use Rattle.signal_graph.proofs.Places.{made_of, IsPlace}
 use Rattle.signal_graph.proofs.Parts.{length_made}
-use Rattle.signal_graph.proofs.Bodies.{its_width, input_made, with_pass, value_made, pass_made, calculation_made, word_made}
+use Rattle.signal_graph.proofs.Bodies.{its_width, input_made, with_pass, value_made, pass_made, calculation_made}
+use Rattle.signal_graph.proofs.Bodies.{word_made}
 use Rattle.signal_graph.proofs.Fits.{type_bits}
 
 -- the delay of the operand is allowed
@@ -119,19 +124,29 @@ module _ (p : Program) where
     all_sound = body_sound (element_of p e).body refl
 
     -- what is made at the last place of an element has its width
-    last_is : (k l : ℕ) (m n : Made) → slice_get (made_of p e) k ≡ Some m → slice_get (made_of p e) l ≡ Some n
-        → k + 1 ≡ length (made_of p e) → l + 1 ≡ length (made_of p e) → m ≡ n
+    last_is : (k l : ℕ) (m n : Made)
+        → slice_get (made_of p e) k ≡ Some m
+        → slice_get (made_of p e) l ≡ Some n
+        → k + 1 ≡ length (made_of p e)
+        → l + 1 ≡ length (made_of p e)
+        → m ≡ n
     last_is k l m n at there last also =
         let same : k ≡ l = omega arith in
         same_Some m n (sym at ∙ ap (λ (i : ℕ). slice_get (made_of p e) i) same ∙ there)
 
-    count_value : (x : Expr) (b : Bool) → (element_of p e).body ≡ value x → has_pass p e x ≡ b
+    count_value : (x : Expr) (b : Bool)
+        → (element_of p e).body ≡ value x
+        → has_pass p e x ≡ b
         → length (made_of p e) ≡ length (with_pass p e x b)
     count_value x b h is = ap (λ (ms : List Made). length ms) (value_made p e x b h is)
 
-    last_of_value : (x : Expr) (b : Bool) → (element_of p e).body ≡ value x → has_pass p e x ≡ b
-        → (k : ℕ) (o : Op) (fmt : Format) (os : List Operand) → slice_get (made_of p e) k ≡ Some (operation o fmt os)
-        → k + 1 ≡ length (made_of p e) → node_width (class_of o) fmt ≡ its_width p e
+    last_of_value : (x : Expr) (b : Bool)
+        → (element_of p e).body ≡ value x
+        → has_pass p e x ≡ b
+        → (k : ℕ) (o : Op) (fmt : Format) (os : List Operand)
+        → slice_get (made_of p e) k ≡ Some (operation o fmt os)
+        → k + 1 ≡ length (made_of p e)
+        → node_width (class_of o) fmt ≡ its_width p e
     last_of_value x true h is k o fmt os at last =
         let also : size x + 1 ≡ length (made_of p e) =
         omega
@@ -162,8 +177,11 @@ module _ (p : Program) where
         (calculation_made p e q f parts h) last also)
         ∙ gives_width (class_of q) f (ChoicesFit p parts (its_width p e)) (its_width p e) (its_body (value x) h).fits
 
-    last_of_body : (body : Body) → (element_of p e).body ≡ body → (k : ℕ) (o : Op) (fmt : Format) (os : List Operand)
-        → slice_get (made_of p e) k ≡ Some (operation o fmt os) → k + 1 ≡ length (made_of p e)
+    last_of_body : (body : Body)
+        → (element_of p e).body ≡ body
+        → (k : ℕ) (o : Op) (fmt : Format) (os : List Operand)
+        → slice_get (made_of p e) k ≡ Some (operation o fmt os)
+        → k + 1 ≡ length (made_of p e)
         → node_width (class_of o) fmt ≡ its_width p e
     last_of_body (word j) h k o fmt os at last =
         let also : 0 + 1 ≡ length (made_of p e) =
@@ -178,7 +196,8 @@ module _ (p : Program) where
     last_of_body (value x) h k o fmt os at last = last_of_value x (has_pass p e x) h refl k o fmt os at last
 
     pub last_width : (k : ℕ) (o : Op) (fmt : Format) (os : List Operand)
-        → slice_get (made_of p e) k ≡ Some (operation o fmt os) → k + 1 ≡ length (made_of p e)
+        → slice_get (made_of p e) k ≡ Some (operation o fmt os)
+        → k + 1 ≡ length (made_of p e)
         → node_width (class_of o) fmt ≡ its_width p e
     last_width = last_of_body (element_of p e).body refl
 

@@ -5,7 +5,9 @@ use Rattle.std.specs.List.{sum_by}
 use Rattle.std.proofs.lemmas.List.Sums.{sum_by-set}
 use Rattle.signal_graph.specs.Private.Marks.{is_marked, missing}
 
-pub missing_less : (marks : List Bool) (v : ℕ) → v < length marks → is_marked marks v ≡ false
+pub missing_less : (marks : List Bool) (v : ℕ)
+    → v < length marks
+    → is_marked marks v ≡ false
     → sum_by missing (slice_set marks v true) + 1 ≡ sum_by missing marks
 missing_less marks v lt is =
     ap (λ (b : Bool). sum_by missing (slice_set marks v true) + missing b) (sym is)

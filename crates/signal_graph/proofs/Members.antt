@@ -1,9 +1,11 @@
 -- Members of lists: of a filter, of lists joined end to end, of numbered elements, and the first that passes a test.
-use Rattle.std.proofs.Common.{◌≡◌, refl, sym, ap, ◌∙◌, subst, arith, ℕ, zero, suc, ◌+◌, ◌<◌, ◌≤◌, ◌⊎◌, inl, inr, Bool, true, false, cond, List, [], ◌∷◌, ◌++◌, length}
+use Rattle.std.proofs.Common.{◌≡◌, refl, sym, ap, ◌∙◌, subst, arith, ℕ, zero, suc, ◌+◌, ◌<◌, ◌≤◌, ◌⊎◌, inl, inr, Bool}
+use Rattle.std.proofs.Common.{true, false, cond, List, [], ◌∷◌, ◌++◌, length}
 use Rattle.std.specs.Prelude.{slice_get, slice_index_or, filter, find, flat_map, position, nat_lt, Contains, Some, None}
 use Rattle.std.specs.List.{AllZip, enumerate_from, position_or_len}
 use Rattle.std.proofs.lemmas.Bool.{cases_lt, cond-true, lt-ltb, both_ways}
-use Rattle.std.proofs.lemmas.List.Elements.{All-contains, All-filter, All-contains_itself, filter_passes, Contains-append_left, Contains-append_right, Contains-append_cases}
+use Rattle.std.proofs.lemmas.List.Elements.{All-contains, All-filter, All-contains_itself, filter_passes}
+use Rattle.std.proofs.lemmas.List.Elements.{Contains-append_left, Contains-append_right, Contains-append_cases}
 use Rattle.std.proofs.lemmas.List.FromFn.{length-enumerate_from, get_or-enumerate_from}
 use Rattle.std.proofs.lemmas.List.Quantifiers.{position-Some}
 use Rattle.std.proofs.lemmas.List.Sums.{fails_before_first}
@@ -32,7 +34,10 @@ module _ {A : Type 0} where
     in_filter [] x c t = absurd (in_none x c)
     in_filter (y ∷ ys) x c t = by (test y) refl (first_or_rest y x ys c) (λ i. in_filter ys x i t)
       where
-        by : (b : Bool) → test y ≡ b → (y ≡ x) ⊎ Contains ys x → (Contains ys x → Contains (filter test ys) x)
+        by : (b : Bool)
+            → test y ≡ b
+            → (y ≡ x) ⊎ Contains ys x
+            → (Contains ys x → Contains (filter test ys) x)
             → Contains (cond b (y ∷ filter test ys) (filter test ys)) x
         by true e (inl h) rest = (0, omega arith, h)
         by true e (inr i) rest = in_rest y x (filter test ys) (rest i)
@@ -55,7 +60,10 @@ module _ {A : Type 0} where
     finds [] x c t = absurd (in_none x c)
     finds (z ∷ zs) x c t = by (test z) refl (first_or_rest z x zs c) (λ i. finds zs x i t)
       where
-        by : (b : Bool) → test z ≡ b → (z ≡ x) ⊎ Contains zs x → (Contains zs x → (y : A) × IsFound zs y)
+        by : (b : Bool)
+            → test z ≡ b
+            → (z ≡ x) ⊎ Contains zs x
+            → (Contains zs x → (y : A) × IsFound zs y)
             → (y : A) × IsFound (z ∷ zs) y
         by true e i rest = (
           z,
@@ -89,7 +97,8 @@ module _ {A : Type 0} where
         by (inr le) =
             absurd (unlike (slice_index_or xs k x) x h (fails_before_first test xs k x (omega arith)) t)
 
-    pub at_position : (xs : List A) (v : ℕ) (d : A) → position test xs ≡ Some v
+    pub at_position : (xs : List A) (v : ℕ) (d : A)
+        → position test xs ≡ Some v
         → (x : A) × (slice_get xs v ≡ Some x) × (test x ≡ true)
     at_position xs v d h =
         let at = position-Some test xs v d h in
@@ -142,20 +151,27 @@ module _ {A : Type 0} (test : A → Bool) where
   found_member [] y h = absurd (none-some y h)
   found_member (z ∷ zs) y h = by (test z) refl (λ i. found_member zs y i) h
     where
-      by : (b : Bool) → test z ≡ b → (find test zs ≡ Some y → Contains zs y) → cond b (Some z) (find test zs) ≡ Some y
+      by : (b : Bool)
+          → test z ≡ b
+          → (find test zs ≡ Some y → Contains zs y)
+          → cond b (Some z) (find test zs) ≡ Some y
           → Contains (z ∷ zs) y
       by true e rest i = (0, omega arith, same_Some z y i)
       by false e rest i = in_rest z y zs (rest i)
 
 -- lists that are related place by place
-pub zip_length : {A B : Type 0} (R : A → B → Type 0) (xs : List A) (ys : List B) → AllZip R xs ys → length xs ≡ length ys
+pub zip_length : {A B : Type 0} (R : A → B → Type 0) (xs : List A) (ys : List B)
+    → AllZip R xs ys
+    → length xs ≡ length ys
 zip_length R [] [] all = refl
 zip_length R [] (y ∷ ys) all = absurd all
 zip_length R (x ∷ xs) [] all = absurd all
 zip_length R (x ∷ xs) (y ∷ ys) all = ap (λ (n : ℕ). suc n) (zip_length R xs ys all.1)
 
-pub zip_at : {A B : Type 0} (R : A → B → Type 0) (xs : List A) (ys : List B) (i : ℕ) (x : A) (d : B) → AllZip R xs ys
-    → slice_get xs i ≡ Some x → R x (slice_index_or ys i d)
+pub zip_at : {A B : Type 0} (R : A → B → Type 0) (xs : List A) (ys : List B) (i : ℕ) (x : A) (d : B)
+    → AllZip R xs ys
+    → slice_get xs i ≡ Some x
+    → R x (slice_index_or ys i d)
 zip_at R [] ys i x d all h = absurd (none-some x h)
 zip_at R (a ∷ olds) [] i x d all h = absurd all
 zip_at {B = B} R (a ∷ olds) (b ∷ bs) zero x d all h = subst (λ z. R z b) (same_Some a x h) all.0

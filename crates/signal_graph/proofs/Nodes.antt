@@ -1,5 +1,6 @@
 -- The nodes of the graph of a flat program.
-use Rattle.std.proofs.Common.{◌≡◌, refl, sym, subst, ap, ◌∙◌, arith, ℕ, suc, ◌+◌, ◌-◌, ◌<◌, Bool, true, false, if◌then◌else◌, List, [], ◌∷◌, length}
+use Rattle.std.proofs.Common.{◌≡◌, refl, sym, subst, ap, ◌∙◌, arith, ℕ, suc, ◌+◌, ◌-◌, ◌<◌, Bool, true, false}
+use Rattle.std.proofs.Common.{if◌then◌else◌, List, [], ◌∷◌, length}
 use Rattle.std.specs.Prelude.{ℤ, pos, slice_get, Some}
 use Rattle.std.proofs.lemmas.Bool.{eq-eqb, both_ways, or_parts}
 use Rattle.std.proofs.lemmas.List.{length-append}
@@ -15,7 +16,10 @@ use Rattle.signal_graph.specs.Values.{Words, operand_words, result, node_value}
 use Rattle.signal_graph.specs.declared.graph.Edge.{Edge}
 use Rattle.signal_graph.specs.declared.graph.Node.{Node}
 use Rattle.signal_graph.specs.declared.graph.Graph.{Graph}
-use Rattle.signal_graph.specs.GraphOf.{Made, constant, input, operation, operands_from, made_by, Site, sites_from, element_sites, Target, word_node, node_at, is_delayed, pass, IsNumber, IsNodeOf, input_node, pass_node, own_node, word_alias, read_alias, node_format, node_width, inits_at, IsMade, IsGraphOf}
+use Rattle.signal_graph.specs.GraphOf.{Made, constant, input, operation, operands_from, made_by, Site, sites_from}
+use Rattle.signal_graph.specs.GraphOf.{element_sites, Target, word_node, node_at, is_delayed, pass, IsNumber, IsNodeOf}
+use Rattle.signal_graph.specs.GraphOf.{input_node, pass_node, own_node, word_alias, read_alias, node_format, node_width}
+use Rattle.signal_graph.specs.GraphOf.{inits_at, IsMade, IsGraphOf}
 use Rattle.signal_graph.proofs.Places.{site, made_of}
 use Rattle.signal_graph.proofs.Parts.{length_made}
 use Rattle.signal_graph.proofs.Numbers.{number_below, place_node, word_at}
@@ -25,7 +29,8 @@ pub length_sites_from : (e k : ℕ) (ms : List Made) → length (sites_from e k 
 length_sites_from e k [] = refl
 length_sites_from e k (m ∷ ms) = ap (λ (n : ℕ). suc n) (length_sites_from e (k + 1) ms)
 
-pub last_inits : (p : Program) (e k : ℕ) (m : Made) → k + 1 ≡ length (made_of p e)
+pub last_inits : (p : Program) (e k : ℕ) (m : Made)
+    → k + 1 ≡ length (made_of p e)
     → inits_at p (site e k m) ≡ (element_of p e).inits
 last_inits p e k m last =
     let count = length (element_sites p (e, element_of p e)) in
@@ -33,8 +38,8 @@ last_inits p e k m last =
     (eq-eqb (k + 1) count (last ∙ sym (length_sites_from e 0 (made_of p e))))
 
 -- what a calculation's node gives
-pub operation_value : (stream : Rows) (words : Words) (n : ℕ) (o : Op) (fmt : Format) (edges : List Edge)
-    (inits : List (ℕ × ℤ))
+pub operation_value :
+    (stream : Rows) (words : Words) (n : ℕ) (o : Op) (fmt : Format) (edges : List Edge) (inits : List (ℕ × ℤ))
     → IsCalculation (class_of o)
     → node_value stream words n
     (record {
@@ -45,8 +50,7 @@ pub operation_value : (stream : Rows) (words : Words) (n : ℕ) (o : Op) (fmt : 
       inits = inits;
       width = node_width (class_of o) fmt;
       ram = 0;
-    })
-    ≡ result o fmt (operand_words words n edges)
+    }) ≡ result o fmt (operand_words words n edges)
 operation_value stream words n op.Add fmt edges inits is = refl
 operation_value stream words n op.Sub fmt edges inits is = refl
 operation_value stream words n op.Neg fmt edges inits is = refl
@@ -67,7 +71,9 @@ module _ (p : Program) (g : Graph) (is : IsGraphOf p g) where
   inside t v h = omega (arith, number_below p t v h, is.count)
 
   -- the node at a place of an element
-  pub at_place : (e k v : ℕ) (made : Made) → IsNumber p (node_at e k) v → slice_get (made_of p e) k ≡ Some made
+  pub at_place : (e k v : ℕ) (made : Made)
+      → IsNumber p (node_at e k) v
+      → slice_get (made_of p e) k ≡ Some made
       → IsMade p (site e k made) made (node_of g v)
   at_place e k v made number there = is.made v (site e k made) (place_node p e k v made number there)
 
@@ -77,14 +83,19 @@ module _ (p : Program) (g : Graph) (is : IsGraphOf p g) where
       let (s, at, same) = word_at p m v number in
       (s, subst (λ (made : Made). IsMade p s made (node_of g v)) same (is.made v s at))
 
-  pub at_input : (e j v : ℕ) → (element_of p e).body ≡ word j → IsNumber p (node_at e 0) v
+  pub at_input : (e j v : ℕ)
+      → (element_of p e).body ≡ word j
+      → IsNumber p (node_at e 0) v
       → IsMade p (site e 0 (input j)) (input j) (node_of g v)
   at_input e j v h number =
       at_place e 0 v (input j) number
       (subst (λ (ms : List Made). slice_get ms 0 ≡ Some (input j)) (sym (input_made p e j h)) refl)
 
   -- the node of an element that is read with a delay has its initial values
-  pub its_inits : (e : ℕ) (t : Target) (v : ℕ) → is_delayed p e ≡ true → IsNodeOf p e t → IsNumber p t v
+  pub its_inits : (e : ℕ) (t : Target) (v : ℕ)
+      → is_delayed p e ≡ true
+      → IsNodeOf p e t
+      → IsNumber p t v
       → (node_of g v).inits ≡ (element_of p e).inits
   its_inits e t v delayed (input_node {j = j} h) number =
       let last : 0 + 1 ≡ length (made_of p e) =

@@ -5,7 +5,8 @@ use Rattle.std.proofs.lemmas.Bool.{eqb-true, eq-eqb, and_parts, and_from, false�
 use Rattle.std.proofs.lemmas.Bool.Decides.{Decides-int_eq}
 use Rattle.std.proofs.lemmas.Option.{slice_get_within, same_Some}
 use Rattle.signal_graph.specs.Flat.{Program}
-use Rattle.signal_graph.specs.GraphOf.{Made, nothing, constant, input, operation, Site, sites, Target, word_node, node_at, is_constant, is_target, is_place, is_made_at, node_sites, IsNumber}
+use Rattle.signal_graph.specs.GraphOf.{Made, nothing, constant, input, operation, Site, sites, Target, word_node}
+use Rattle.signal_graph.specs.GraphOf.{node_at, is_constant, is_target, is_place, is_made_at, node_sites, IsNumber}
 use Rattle.signal_graph.proofs.Members.{at_member, in_filter, from_filter, finds, has_position, at_position}
 use Rattle.signal_graph.proofs.Places.{site, made_of, IsPlace, place_in, in_place}
 
@@ -39,7 +40,9 @@ module _ (p : Program) where
       (eq-eqb s.place s.place refl)
 
   -- the first place of a word makes its node
-  first_makes : (m : ℤ) (s : Site) (made : Made) → made ≡ constant m → find (is_target (word_node m)) (sites p) ≡ Some s
+  first_makes : (m : ℤ) (s : Site) (made : Made)
+      → made ≡ constant m
+      → find (is_target (word_node m)) (sites p) ≡ Some s
       → is_made_at p s made ≡ true
   first_makes m s made is first =
       subst (λ (x : Made). is_made_at p s x ≡ true) (sym is)
@@ -56,7 +59,9 @@ module _ (p : Program) where
       there
 
   -- node v is made at place k of element e
-  pub place_node : (e k v : ℕ) (made : Made) → IsNumber p (node_at e k) v → slice_get (made_of p e) k ≡ Some made
+  pub place_node : (e k v : ℕ) (made : Made)
+      → IsNumber p (node_at e k) v
+      → slice_get (made_of p e) k ≡ Some made
       → slice_get (node_sites p) v ≡ Some (site e k made)
   place_node e k v made h there =
       let (s, at, is) = at_position (is_target (node_at e k)) (node_sites p) v no_site h in
@@ -73,14 +78,18 @@ module _ (p : Program) where
       ∙ ap (λ (x : Made). Some (site e k x)) (same_Some s.made made (sym here ∙ there))
 
   -- node v is made for the word
-  pub word_at : (m : ℤ) (v : ℕ) → IsNumber p (word_node m) v
+  pub word_at : (m : ℤ) (v : ℕ)
+      → IsNumber p (word_node m) v
       → (s : Site) × (slice_get (node_sites p) v ≡ Some s) × (s.made ≡ constant m)
   word_at m v h =
       let (s, at, is) = at_position (is_target (word_node m)) (node_sites p) v no_site h in
       (s, at, constant_yes m s.made is)
 
-  pub has_place_number : (e k : ℕ) (made : Made) → e < length p.elems → slice_get (made_of p e) k ≡ Some made
-      → MakesNode made → (v : ℕ) × IsNumber p (node_at e k) v
+  pub has_place_number : (e k : ℕ) (made : Made)
+      → e < length p.elems
+      → slice_get (made_of p e) k ≡ Some made
+      → MakesNode made
+      → (v : ℕ) × IsNumber p (node_at e k) v
   has_place_number e k made el there is =
       let s = site e k made in
       has_position (is_target (node_at e k)) (node_sites p) s
@@ -89,7 +98,9 @@ module _ (p : Program) where
       (makes s made is))
       (itself s)
 
-  pub has_word_number : (e k : ℕ) (m : ℤ) → e < length p.elems → slice_get (made_of p e) k ≡ Some (constant m)
+  pub has_word_number : (e k : ℕ) (m : ℤ)
+      → e < length p.elems
+      → slice_get (made_of p e) k ≡ Some (constant m)
       → (v : ℕ) × IsNumber p (word_node m) v
   has_word_number e k m el there =
       let test = is_target (word_node m) in

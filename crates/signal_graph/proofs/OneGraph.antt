@@ -1,5 +1,6 @@
 -- A flat program has one graph at most.
-use Rattle.std.proofs.Common.{◌≡◌, refl, sym, subst, ap, ◌∙◌, arith, ℕ, ◌+◌, ◌-◌, ◌<◌, ◌≤◌, ◌⊎◌, inl, inr, Bool, true, false, List, [], ◌∷◌, length}
+use Rattle.std.proofs.Common.{◌≡◌, refl, sym, subst, ap, ◌∙◌, arith, ℕ, ◌+◌, ◌-◌, ◌<◌, ◌≤◌, ◌⊎◌, inl, inr, Bool, true}
+use Rattle.std.proofs.Common.{false, List, [], ◌∷◌, length}
 use Rattle.std.specs.Prelude.{ℤ, pos, slice_index_or, position}
 use Rattle.std.specs.List.{AllZip}
 use Rattle.std.proofs.lemmas.Bool.{cases_lt}
@@ -18,7 +19,10 @@ use Rattle.signal_graph.specs.Flat.{Expr, raw, read, calculation, Body, word, va
 use Rattle.signal_graph.specs.FlatSolves.{element_of}
 use Rattle.signal_graph.specs.GraphSolves.{no_node, node_of}
 use Rattle.signal_graph.proofs.Same.{some_once, same_edge, same_graph}
-use Rattle.signal_graph.specs.GraphOf.{Operand, number, place, element, Made, nothing, constant, input, operation, Site, node_sites, Target, word_node, node_at, has_pass, IsNumber, IsNodeOf, input_node, pass_node, own_node, word_alias, read_alias, IsEdgeTo, IsLeastWidth, node_format, node_width, inits_at, IsMade, IsOutputOf, IsGraphOf}
+use Rattle.signal_graph.specs.GraphOf.{Operand, number, place, element, Made, nothing, constant, input, operation, Site}
+use Rattle.signal_graph.specs.GraphOf.{node_sites, Target, word_node, node_at, has_pass, IsNumber, IsNodeOf, input_node}
+use Rattle.signal_graph.specs.GraphOf.{pass_node, own_node, word_alias, read_alias, IsEdgeTo, IsLeastWidth, node_format}
+use Rattle.signal_graph.specs.GraphOf.{node_width, inits_at, IsMade, IsOutputOf, IsGraphOf}
 
 abbrev no_site : Site
 no_site = record { element = 0; place = 0; made = nothing }
@@ -69,8 +73,10 @@ module _ (p : Program) where
       let same = node_once d t u r q in
       same_edge a b (number_once u a.node b.node (subst (λ (z : Target). IsNumber p z a.node) same v) w) (k ∙ sym l)
 
-  edges_once : (e : ℕ) (os : List Operand) (xs ys : List Edge) → AllZip (IsEdgeTo p e) os xs
-      → AllZip (IsEdgeTo p e) os ys → xs ≡ ys
+  edges_once : (e : ℕ) (os : List Operand) (xs ys : List Edge)
+      → AllZip (IsEdgeTo p e) os xs
+      → AllZip (IsEdgeTo p e) os ys
+      → xs ≡ ys
   edges_once e [] [] [] h k = refl
   edges_once e [] (x ∷ xs) ys h k = absurd h
   edges_once e [] [] (y ∷ ys) h k = absurd k
@@ -131,7 +137,8 @@ module _ (p : Program) where
         ∙ ap (λ (z : Edge). output_of j z (node_of h y.node).width) same
         ∙ sym is_b
 
-    outputs_same : (j : ℕ) → j < length p.outs
+    outputs_same : (j : ℕ)
+        → j < length p.outs
         → node_of g (length (node_sites p) + j) ≡ node_of h (length (node_sites p) + j)
     outputs_same j lt =
         let e = slice_index_or p.outs j 0 in

@@ -19,8 +19,12 @@ edge_once : (kept : List ℕ) (a b old : Edge) → IsEdgeOf kept a old → IsEdg
 edge_once kept a b old x y = same_edge a b (some_once _ a.node b.node x.node y.node) (x.delay ∙ sym y.delay)
 
 -- a list that is related to another one, place by place, where each element is determined
-pub zip_once : {A B : Type 0} (R : A → B → Type 0) → ((a b : A) (old : B) → R a old → R b old → a ≡ b)
-    → (xs ys : List A) (olds : List B) → AllZip R xs olds → AllZip R ys olds → xs ≡ ys
+pub zip_once : {A B : Type 0} (R : A → B → Type 0)
+    → ((a b : A) (old : B) → R a old → R b old → a ≡ b)
+    → (xs ys : List A) (olds : List B)
+    → AllZip R xs olds
+    → AllZip R ys olds
+    → xs ≡ ys
 zip_once R once [] [] olds h k = refl
 zip_once R once [] (y ∷ ys) [] h k = absurd k
 zip_once R once [] (y ∷ ys) (o ∷ os) h k = absurd h

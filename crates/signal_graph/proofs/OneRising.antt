@@ -25,23 +25,36 @@ module _ {A : Type 0} (key : A → ℕ) where
   rest_rises : (x : A) (xs : List A) → RiseBy (x ∷ xs) → RiseBy xs
   rest_rises x xs rise i j d lt inside = rise (suc i) (suc j) d (omega arith) (omega arith)
 
-  same_first : (x y : A) (xs ys : List A) → RiseBy (x ∷ xs) → RiseBy (y ∷ ys) → (x ≡ y) ⊎ Contains xs y
-      → (y ≡ x) ⊎ Contains ys x → x ≡ y
+  same_first : (x y : A) (xs ys : List A)
+      → RiseBy (x ∷ xs)
+      → RiseBy (y ∷ ys)
+      → (x ≡ y) ⊎ Contains xs y
+      → (y ≡ x) ⊎ Contains ys x
+      → x ≡ y
   same_first x y xs ys r s (inl h) k = h
   same_first x y xs ys r s (inr h) (inl k) = sym k
   same_first x y xs ys r s (inr h) (inr k) = absurd (omega (arith, above x y xs r h, above y x ys s k))
 
   -- what is later in the one list is later in the other
-  moved : (x y : A) (xs ys : List A) → RiseBy (x ∷ xs) → x ≡ y
-      → ((v : A) → Contains (x ∷ xs) v → Contains (y ∷ ys) v) → (v : A) → Contains xs v → Contains ys v
+  moved : (x y : A) (xs ys : List A)
+      → RiseBy (x ∷ xs)
+      → x ≡ y
+      → ((v : A) → Contains (x ∷ xs) v → Contains (y ∷ ys) v)
+      → (v : A)
+      → Contains xs v
+      → Contains ys v
   moved x y xs ys r same to v h = by (first_or_rest y v ys (to v (in_rest x v xs h)))
     where
       by : (y ≡ v) ⊎ Contains ys v → Contains ys v
       by (inl e) = absurd (omega (arith, above x v xs r h, ap key (same ∙ e)))
       by (inr k) = k
 
-  pub same_rising : (xs ys : List A) → RiseBy xs → RiseBy ys → ((v : A) → Contains xs v → Contains ys v)
-      → ((v : A) → Contains ys v → Contains xs v) → xs ≡ ys
+  pub same_rising : (xs ys : List A)
+      → RiseBy xs
+      → RiseBy ys
+      → ((v : A) → Contains xs v → Contains ys v)
+      → ((v : A) → Contains ys v → Contains xs v)
+      → xs ≡ ys
   same_rising [] [] r s to from = refl
   same_rising [] (y ∷ ys) r s to from = absurd (let h = from y (in_first y ys) in let lt = h.1 in omega arith)
   same_rising (x ∷ xs) [] r s to from = absurd (let h = to x (in_first x xs) in let lt = h.1 in omega arith)

@@ -5,9 +5,11 @@ use Rattle.recurrences.proofs.Determined.{IsDetermined, HasHeights}
 use Rattle.signal_graph.specs.declared.graph.Graph.{Graph}
 use Rattle.signal_graph.specs.Flat.{Program}
 use Rattle.signal_graph.specs.FlatRules.{IsRead, IsFlat}
-use Rattle.signal_graph.specs.FlatSolves.{no_element, element_of, ElementReads, flat_system, IsFlatLoopless, FlatSolves, IsOneFlatSolution}
+use Rattle.signal_graph.specs.FlatSolves.{no_element, element_of, ElementReads, flat_system, IsFlatLoopless, FlatSolves}
+use Rattle.signal_graph.specs.FlatSolves.{IsOneFlatSolution}
 use Rattle.signal_graph.specs.GraphRules.{IsGraph}
-use Rattle.signal_graph.specs.GraphSolves.{no_node, node_of, HasEdge, graph_system, IsGraphLoopless, GraphSolves, IsOneGraphSolution}
+use Rattle.signal_graph.specs.GraphSolves.{no_node, node_of, HasEdge, graph_system, IsGraphLoopless, GraphSolves}
+use Rattle.signal_graph.specs.GraphSolves.{IsOneGraphSolution}
 use Rattle.signal_graph.specs.Values.{Words, body_value, node_value}
 use Rattle.signal_graph.proofs.Numbered.{IsLocal, determined, heights, its_solution, once}
 use Rattle.signal_graph.proofs.Tests.{body_test, body_yes, body_no, edges_test, edges_yes, edges_no}

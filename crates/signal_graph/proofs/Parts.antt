@@ -36,11 +36,14 @@ Stands whole k ms = (i : ℕ) (m : Made) → slice_get ms i ≡ Some m → slice
 pub stands_left : (whole : List Made) (k : ℕ) (xs ys : List Made) → Stands whole k (xs ++ ys) → Stands whole k xs
 stands_left whole k xs ys h i m at = h i m (at_left xs ys i m at)
 
-pub stands_right : (whole : List Made) (k : ℕ) (xs ys : List Made) (n : ℕ) → length xs ≡ n → Stands whole k (xs ++ ys)
+pub stands_right : (whole : List Made) (k : ℕ) (xs ys : List Made) (n : ℕ)
+    → length xs ≡ n
+    → Stands whole k (xs ++ ys)
     → Stands whole (k + n) ys
 stands_right whole k xs ys n count h i m at =
     let place : k + (length xs + i) ≡ k + n + i = omega arith in
-    subst (λ (j : ℕ). slice_get whole j ≡ Some m) place (h (length xs + i) m (at_right xs ys (length xs + i) i m refl at))
+    subst (λ (j : ℕ). slice_get whole j ≡ Some m) place
+    (h (length xs + i) m (at_right xs ys (length xs + i) i m refl at))
 
 pub stands_first : (whole : List Made) (k : ℕ) (m : Made) → Stands whole k (m ∷ []) → slice_get whole k ≡ Some m
 stands_first whole k m h =
@@ -59,15 +62,18 @@ calculation_stands whole k o fmt parts h =
     (stands_right whole k (made_by_parts k parts) (last ∷ []) (size_of_parts parts) (length_made_parts k parts) h))
 
 pub parts_stand : (whole : List Made) (k : ℕ) (o : Op) (fmt : Format) (parts : Parts)
-    → Stands whole k (made_by k (calculation o fmt parts)) → Stands whole k (made_by_parts k parts)
+    → Stands whole k (made_by k (calculation o fmt parts))
+    → Stands whole k (made_by_parts k parts)
 parts_stand whole k o fmt parts h =
     stands_left whole k (made_by_parts k parts) (operation o fmt (operands_from k parts) ∷ []) h
 
 pub first_stands : (whole : List Made) (k : ℕ) (x : Expr) (rest : Parts)
-    → Stands whole k (made_by_parts k (part x rest)) → Stands whole k (made_by k x)
+    → Stands whole k (made_by_parts k (part x rest))
+    → Stands whole k (made_by k x)
 first_stands whole k x rest h = stands_left whole k (made_by k x) (made_by_parts (k + size x) rest) h
 
-pub rest_stands : (whole : List Made) (k : ℕ) (x : Expr) (rest : Parts) → Stands whole k (made_by_parts k (part x rest))
+pub rest_stands : (whole : List Made) (k : ℕ) (x : Expr) (rest : Parts)
+    → Stands whole k (made_by_parts k (part x rest))
     → Stands whole (k + size x) (made_by_parts (k + size x) rest)
 rest_stands whole k x rest h =
     stands_right whole k (made_by k x) (made_by_parts (k + size x) rest) (size x) (length_made k x) h

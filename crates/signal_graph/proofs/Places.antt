@@ -1,5 +1,6 @@
 -- What stands at the places of elements, and which nodes are made there.
-use Rattle.std.proofs.Common.{◌≡◌, sym, ap, ◌∙◌, subst, arith, ℕ, zero, suc, ◌+◌, ◌<◌, ◌⊎◌, inl, inr, List, [], ◌∷◌, length}
+use Rattle.std.proofs.Common.{◌≡◌, sym, ap, ◌∙◌, subst, arith, ℕ, zero, suc, ◌+◌, ◌<◌, ◌⊎◌, inl, inr, List, [], ◌∷◌}
+use Rattle.std.proofs.Common.{length}
 use Rattle.std.specs.Prelude.{slice_get, Contains, Some}
 use Rattle.std.specs.List.{enumerate_from}
 use Rattle.std.proofs.lemmas.Option.{slice_get-get_or, slice_get_within, get_or_from_slice_get, same_Some, none-some}
@@ -7,7 +8,8 @@ use Rattle.signal_graph.specs.Flat.{Element, Program}
 use Rattle.signal_graph.specs.Rules.{width_of}
 use Rattle.signal_graph.specs.FlatSolves.{no_element, element_of}
 use Rattle.signal_graph.specs.GraphOf.{Made, Site, sites_from, element_sites, sites, made_by_body}
-use Rattle.signal_graph.proofs.Members.{in_rest, first_or_rest, in_none, in_flat_map, from_flat_map, in_enumerate, from_enumerate}
+use Rattle.signal_graph.proofs.Members.{in_rest, first_or_rest, in_none, in_flat_map, from_flat_map, in_enumerate}
+use Rattle.signal_graph.proofs.Members.{from_enumerate}
 
 abbrev pub site : (e k : ℕ) → Made → Site
 site e k m = record { element = e; place = k; made = m }
@@ -16,7 +18,8 @@ site e k m = record { element = e; place = k; made = m }
 abbrev pub made_of : Program → ℕ → List Made
 made_of p e = made_by_body p e (width_of (element_of p e).ty) (element_of p e).body
 
-in_sites_from : (e k : ℕ) (ms : List Made) (i : ℕ) (m : Made) → slice_get ms i ≡ Some m
+in_sites_from : (e k : ℕ) (ms : List Made) (i : ℕ) (m : Made)
+    → slice_get ms i ≡ Some m
     → Contains (sites_from e k ms) (site e (k + i) m)
 in_sites_from e k [] i m h = absurd (none-some m h)
 in_sites_from e k (x ∷ xs) zero m h =
@@ -40,7 +43,8 @@ from_sites_from e k (x ∷ xs) s c =
     by (first_or_rest (site e k x) s (sites_from e (k + 1) xs) c) (λ i. from_sites_from e (k + 1) xs s i)
   where
     by : (site e k x ≡ s) ⊎ Contains (sites_from e (k + 1) xs) s
-        → (Contains (sites_from e (k + 1) xs) s → IsFrom e (k + 1) xs s) → IsFrom e k (x ∷ xs) s
+        → (Contains (sites_from e (k + 1) xs) s → IsFrom e (k + 1) xs s)
+        → IsFrom e k (x ∷ xs) s
     by (inl h) rest =
         let place : k ≡ s.place = ap (λ (t : Site). t.place) h in
         record {

@@ -21,7 +21,8 @@ module _ (stream more : Rows) (words : Words) (n : ℕ) (within : n < length str
   pub value_before : (node : Node) → node_value (stream ++ more) words n node ≡ node_value stream words n node
   value_before node = given_before (class_of node.op) node
 
-pub solves_before : (g : Graph) (stream more : Rows) (words : Words) → GraphSolves g (stream ++ more) words
+pub solves_before : (g : Graph) (stream more : Rows) (words : Words)
+    → GraphSolves g (stream ++ more) words
     → GraphSolves g stream words
 solves_before g stream more words solves = record {
   past = solves.past;

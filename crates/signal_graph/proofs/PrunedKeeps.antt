@@ -30,7 +30,9 @@ module _ (g pruned : Graph) (sound : IsGraph g) (loopless : IsGraphLoopless g) (
 
   module _ (stream : Rows) (words new_words : Words)
       (same : AreSame (graph_system pruned stream) new_words (kept_words is.kept words)) where
-    output_equal : (j n : ℕ) → j < g.outs → n < length stream
+    output_equal : (j n : ℕ)
+        → j < g.outs
+        → n < length stream
         → new_words (first_output pruned + j) (pos n) ≡ words (first_output g + j) (pos n)
     output_equal j n below lt =
         let there = new_outputs g pruned sound is j below in
@@ -39,7 +41,8 @@ module _ (g pruned : Graph) (sound : IsGraph g) (loopless : IsGraphLoopless g) (
         ∙ same.present (start g pruned sound is + j) n (omega (arith, there.0, same_count g pruned sound is)) lt
         ∙ ap (λ (v : ℕ). words v (pos n)) there.1
 
-    row_equal : (n : ℕ) → n < length stream
+    row_equal : (n : ℕ)
+        → n < length stream
         → map (λ j. new_words (first_output pruned + j) (pos n)) (range_with_len 0 pruned.outs)
         ≡ map (λ j. words (first_output g + j) (pos n)) (range_with_len 0 g.outs)
     row_equal n lt =
@@ -82,7 +85,9 @@ module _ (g pruned : Graph) (sound : IsGraph g) (loopless : IsGraphLoopless g) (
 
   -- any solution of the graph and any of the pruned graph
   pub any_kept : (stream : Rows) (words new_words : Words)
-      → GraphSolves g stream words → GraphSolves pruned stream new_words → AreKeptWords g pruned stream words new_words
+      → GraphSolves g stream words
+      → GraphSolves pruned stream new_words
+      → AreKeptWords g pruned stream words new_words
   any_kept stream words new_words solves new_solves =
       let once =
       graph_once pruned (pruned_is_sound g pruned sound is) stream (pruned_is_loopless g pruned sound is loopless) in

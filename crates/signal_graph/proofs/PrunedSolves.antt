@@ -23,7 +23,8 @@ abbrev pub kept_words : List ℕ → Words → Words
 kept_words kept words v n = words (slice_index_or kept v 0) n
 
 module _ (kept : List ℕ) (words : Words) (n : ℕ) where
-  edge_word : (new old : Edge) → IsEdgeOf kept new old
+  edge_word : (new old : Edge)
+      → IsEdgeOf kept new old
       → kept_words kept words new.node (pos n -ℤ pos new.delay) ≡ words old.node (pos n -ℤ pos old.delay)
   edge_word new old is =
       let at = position-Some _ kept new.node 0 is.node in
@@ -31,7 +32,8 @@ module _ (kept : List ℕ) (words : Words) (n : ℕ) where
       ap (λ (v : ℕ). words v (pos n -ℤ pos new.delay)) node
       ∙ ap (λ (ago : ℕ). words old.node (pos n -ℤ pos ago)) is.delay
 
-  operands_kept : (new old : List Edge) → AllZip (IsEdgeOf kept) new old
+  operands_kept : (new old : List Edge)
+      → AllZip (IsEdgeOf kept) new old
       → operand_words (kept_words kept words) n new ≡ operand_words words n old
   operands_kept [] [] h = refl
   operands_kept [] (o ∷ os) h = absurd h
@@ -42,14 +44,15 @@ module _ (kept : List ℕ) (words : Words) (n : ℕ) where
 
   given_kept : (class : Class) (stream : Rows) (old : Node) (edges : List Edge)
       → operand_words (kept_words kept words) n edges ≡ operand_words words n old.edges
-      → given_by class stream words n old ≡ given_by class stream (kept_words kept words) n
-      (record old { edges = edges })
+      → given_by class stream words n old
+      ≡ given_by class stream (kept_words kept words) n (record old { edges = edges })
   given_kept input stream old edges h = refl
   given_kept output stream old edges h = ap (λ (vs : List ℤ). operand vs 0) (sym h)
   given_kept constant stream old edges h = refl
   given_kept _ stream old edges h = ap (result old.op old.fmt) (sym h)
 
-  node_kept : (stream : Rows) (new old : Node) → IsRenumbered kept new old
+  node_kept : (stream : Rows) (new old : Node)
+      → IsRenumbered kept new old
       → node_value stream words n old ≡ node_value stream (kept_words kept words) n new
   node_kept stream new old is =
       given_kept (class_of old.op) stream old new.edges (operands_kept new.edges old.edges is.edges)
@@ -66,7 +69,8 @@ module _ (g pruned : Graph) (sound : IsGraph g) (is : IsPruned g pruned) where
       length_all_zip (IsRenumbered is.kept) pruned.nodes (map (node_of g) is.kept) is.nodes
       ∙ length-map is.kept (node_of g)
 
-  pub renumbered : (v : ℕ) → v < length pruned.nodes
+  pub renumbered : (v : ℕ)
+      → v < length pruned.nodes
       → IsRenumbered is.kept (node_of pruned v) (node_of g (slice_index_or is.kept v 0))
   renumbered v lt =
       let count = same_count in
@@ -81,7 +85,8 @@ module _ (g pruned : Graph) (sound : IsGraph g) (is : IsPruned g pruned) where
       ((is.used.used (slice_index_or is.kept v 0)).0
       (v, omega arith, get_or_default is.kept v (slice_index_or is.kept v 0) 0 (omega arith)))
 
-  pub pruned_solves : (stream : Rows) (words : Words) → GraphSolves g stream words
+  pub pruned_solves : (stream : Rows) (words : Words)
+      → GraphSolves g stream words
       → GraphSolves pruned stream (kept_words is.kept words)
   pruned_solves stream words solves = record {
     past = λ v j lt less.

@@ -1,5 +1,6 @@
 -- A pruned graph is sound, has no delay-free loop, and keeps solutions.
-use Rattle.std.proofs.Common.{◌≡◌, refl, sym, subst, ap, ◌∙◌, arith, ℕ, ◌+◌, ◌-◌, ◌<◌, ◌≤◌, inl, inr, List, [], ◌∷◌, length}
+use Rattle.std.proofs.Common.{◌≡◌, refl, sym, subst, ap, ◌∙◌, arith, ℕ, ◌+◌, ◌-◌, ◌<◌, ◌≤◌, inl, inr, List, [], ◌∷◌}
+use Rattle.std.proofs.Common.{length}
 use Rattle.std.specs.Prelude.{◌≢◌, ℤ, slice_get, slice_index_or, take, All, IsSomeAnd, Contains, Option, Some, None}
 use Rattle.std.specs.List.{AllZip}
 use Rattle.std.proofs.lemmas.Bool.{eqb-true}
@@ -25,8 +26,11 @@ use Rattle.signal_graph.proofs.Values.{edges_allowed}
 use Rattle.signal_graph.proofs.PrunedSolves.{same_count, renumbered, inside}
 use Rattle.signal_graph.proofs.Rising.{Rises, few, in_order, last_ones, before_first}
 
-argument_sound : (g h : Graph) (class : Class) (arg : ℤ) → h.inputs ≡ g.inputs → h.outs ≡ g.outs
-    → IsArgument g class arg → IsArgument h class arg
+argument_sound : (g h : Graph) (class : Class) (arg : ℤ)
+    → h.inputs ≡ g.inputs
+    → h.outs ≡ g.outs
+    → IsArgument g class arg
+    → IsArgument h class arg
 argument_sound g h input arg inputs outs is =
     subst (λ (types : List SigType). IsBelow (length types) arg) (sym inputs) is
 argument_sound g h output arg inputs outs is = subst (λ (n : ℕ). IsBelow n arg) (sym outs) is
@@ -37,7 +41,9 @@ module _ (g : Graph) (sound : IsGraph g) where
   output_at : (j : ℕ) → j < g.outs → IsOutput j (node_of g (first_output g + j))
   output_at j lt = by (slice_get g.nodes (first_output g + j)) refl (sound.outputs j lt)
     where
-      by : (o : Option Node) → slice_get g.nodes (first_output g + j) ≡ o → IsSomeAnd o (IsOutput j)
+      by : (o : Option Node)
+          → slice_get g.nodes (first_output g + j) ≡ o
+          → IsSomeAnd o (IsOutput j)
           → IsOutput j (node_of g (first_output g + j))
       by None h is = absurd is
       by (Some node) h is =
@@ -50,8 +56,10 @@ module _ (g : Graph) (sound : IsGraph g) where
       by (slice_get g.nodes (first_output g + (g.outs - 1))) refl
       (sound.outputs (g.outs - 1) (omega (arith, sound.out_count.0)))
     where
-      by : (o : Option Node) → slice_get g.nodes (first_output g + (g.outs - 1)) ≡ o
-          → IsSomeAnd o (IsOutput (g.outs - 1)) → first_output g + g.outs ≡ length g.nodes
+      by : (o : Option Node)
+          → slice_get g.nodes (first_output g + (g.outs - 1)) ≡ o
+          → IsSomeAnd o (IsOutput (g.outs - 1))
+          → first_output g + g.outs ≡ length g.nodes
       by None h is = absurd is
       by (Some node) h is =
           omega (arith, sound.out_count.0, slice_get_within g.nodes (first_output g + (g.outs - 1)) node h)
@@ -114,12 +122,17 @@ module _ (g pruned : Graph) (sound : IsGraph g) (is : IsPruned g pruned) where
   node_op : (v : ℕ) → v < length is.kept → (node_of pruned v).op ≡ (node_of g (old v)).op
   node_op v lt = ap (λ (node : Node). node.op) (old_node v lt).node
 
-  some_node : (v : ℕ) (P : Node → Type 0) → v < length pruned.nodes → P (node_of pruned v)
+  some_node : (v : ℕ) (P : Node → Type 0)
+      → v < length pruned.nodes
+      → P (node_of pruned v)
       → IsSomeAnd (slice_get pruned.nodes v) P
   some_node v P lt h = subst (λ (o : Option Node). IsSomeAnd o P) (sym (slice_get-get_or pruned.nodes v no_node lt)) h
 
-  edge_target : (v : ℕ) → (o : Option Node) → slice_get g.nodes v ≡ o
-      → IsSomeAnd o (λ (node : Node). node.op ≢ op.Output) → (node_of g v).op ≢ op.Output
+  edge_target : (v : ℕ)
+      → (o : Option Node)
+      → slice_get g.nodes v ≡ o
+      → IsSomeAnd o (λ (node : Node). node.op ≢ op.Output)
+      → (node_of g v).op ≢ op.Output
   edge_target v None h there = absurd there
   edge_target v (Some node) h there =
       subst (λ (x : Node). x.op ≢ op.Output) (sym (get_or_from_slice_get g.nodes v node no_node h)) there
@@ -137,7 +150,9 @@ module _ (g pruned : Graph) (sound : IsGraph g) (is : IsPruned g pruned) where
         delay = subst (λ (ago : ℕ). ago ≤ max_delay) (sym same.delay) fits.delay;
       }
 
-  edges_sound : (new edges : List Edge) → AllZip (IsEdgeOf is.kept) new edges → All (IsEdge g) edges
+  edges_sound : (new edges : List Edge)
+      → AllZip (IsEdgeOf is.kept) new edges
+      → All (IsEdge g) edges
       → All (IsEdge pruned) new
   edges_sound [] [] all fits = All-nil (IsEdge pruned)
   edges_sound [] (e ∷ es) all fits = absurd all
@@ -206,7 +221,9 @@ module _ (g pruned : Graph) (sound : IsGraph g) (is : IsPruned g pruned) where
     others = others_are;
   }
 
-  old_edge : (new edges : List Edge) (u ago : ℕ) → AllZip (IsEdgeOf is.kept) new edges → EdgesRead new u ago
+  old_edge : (new edges : List Edge) (u ago : ℕ)
+      → AllZip (IsEdgeOf is.kept) new edges
+      → EdgesRead new u ago
       → EdgesRead edges (old u) ago
   old_edge [] edges u ago all r = absurd r
   old_edge (n ∷ ns) [] u ago all r = absurd all
@@ -220,7 +237,9 @@ module _ (g pruned : Graph) (sound : IsGraph g) (is : IsPruned g pruned) where
       old_edge (node_of pruned v).edges (node_of g (old v)).edges u ago
       (old_node v (omega (arith, same_count g pruned sound is))).edges r
 
-  path_kept : (v u : ℕ) → v < length pruned.nodes → DependsNow (HasEdge pruned) v u
+  path_kept : (v u : ℕ)
+      → v < length pruned.nodes
+      → DependsNow (HasEdge pruned) v u
       → DependsNow (HasEdge g) (old v) (old u)
   path_kept v u lt (direct r) = direct (edge_kept v u 0 lt r)
   path_kept v u lt (by_way_of w r path) =

@@ -7,7 +7,8 @@ use Rattle.std.proofs.lemmas.List.FromFn.{fill_by_all, length-map-range_with_len
 
 module _ {A : Type 0} (f g : ℕ → A) where
   -- at the numbers below n; the default is of no account
-  pub range_same : (n : ℕ) (default : A) → ((k : ℕ) → k < n → f k ≡ g k)
+  pub range_same : (n : ℕ) (default : A)
+      → ((k : ℕ) → k < n → f k ≡ g k)
       → map f (range_with_len 0 n) ≡ map g (range_with_len 0 n)
   range_same n default same =
       fill_by_all g (map f (range_with_len 0 n)) n default (length-map-range_with_len f 0 n)

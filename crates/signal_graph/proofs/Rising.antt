@@ -62,7 +62,8 @@ module _ (xs : List ℕ) (rises : Rises xs) where
         (omega arith, subst (λ (k : ℕ). slice_index_or xs k 0 ≡ first + 0) same (at ∙ place))
     in_order (suc j) lt = next (in_order j (omega arith)) (all (first + suc j) (omega arith) lt)
       where
-        next : (start + j < length xs) × (slice_index_or xs (start + j) 0 ≡ first + j) → Contains xs (first + suc j)
+        next : (start + j < length xs) × (slice_index_or xs (start + j) 0 ≡ first + j)
+            → Contains xs (first + suc j)
             → (start + suc j < length xs) × (slice_index_or xs (start + suc j) 0 ≡ first + suc j)
         next (inside, here) (k, lt, h) =
             let value : slice_index_or xs k 0 ≡ first + suc j = get_or_default xs k 0 (first + suc j) lt ∙ h in
@@ -81,7 +82,8 @@ module _ (xs : List ℕ) (rises : Rises xs) where
       where
         by : (start + (n - first) ≡ length xs) ⊎ ((start + (n - first) < length xs) ⊎ (length xs < start + (n - first)))
             → start + (n - first - 1) < length xs
-            → slice_index_or xs (start + (n - first - 1)) 0 ≡ first + (n - first - 1) → start + (n - first) ≡ length xs
+            → slice_index_or xs (start + (n - first - 1)) 0 ≡ first + (n - first - 1)
+            → start + (n - first) ≡ length xs
         by (inl same) inside here = same
         by (inr (inl more)) inside here =
             absurd (omega (

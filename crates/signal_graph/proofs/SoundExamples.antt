@@ -81,7 +81,8 @@ not_output h = cc
 input_not_output : op.Input ≢ op.Output
 input_not_output h = cc
 
-its_output : (j : ℕ) → j < its_graph.outs
+its_output : (j : ℕ)
+    → j < its_graph.outs
     → IsSomeAnd (slice_get its_graph.nodes (first_output its_graph + j)) (IsOutput j)
 its_output zero lt = record { op = refl; arg = refl }
 its_output (suc j) lt = absurd (omega arith)
@@ -159,6 +160,7 @@ truth_fits : Fits accumulator (calculation op.Lt (plain 0) (part (read 0 0) (par
 truth_fits = refl
 
 -- a choice of the sum and a raw word that fits
-choice_fits : Fits accumulator
+choice_fits :
+    Fits accumulator
     (calculation op.Sel (plain 8) (part (raw (pos 300)) (part (read 1 0) (part (raw (pos 5)) no_part)))) 8
 choice_fits = (refl, (refl, (five, tt {0})))

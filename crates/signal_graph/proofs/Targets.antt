@@ -6,7 +6,8 @@ use Rattle.signal_graph.specs.Flat.{Expr, raw, read, calculation, Body, word, va
 use Rattle.signal_graph.specs.FlatRules.{IsFlat}
 use Rattle.signal_graph.specs.FlatSolves.{element_of, ElementReads, IsFlatLoopless}
 use Rattle.signal_graph.specs.Values.{BodyReads}
-use Rattle.signal_graph.specs.GraphOf.{input, operation, operands_from, pass, has_pass, is_delayed, Target, word_node, node_at, IsNumber, input_node, pass_node, own_node, word_alias, read_alias}
+use Rattle.signal_graph.specs.GraphOf.{input, operation, operands_from, pass, has_pass, is_delayed, Target, word_node}
+use Rattle.signal_graph.specs.GraphOf.{node_at, IsNumber, input_node, pass_node, own_node, word_alias, read_alias}
 use Rattle.signal_graph.specs.Keeps.{IsElementNode}
 use Rattle.signal_graph.proofs.OneGraph.{node_once, number_once}
 use Rattle.signal_graph.proofs.OneSolution.{flat_determined, flat_heights}
@@ -27,7 +28,9 @@ module _ (p : Program) where
 
   module _ (e : ℕ) (el : e < length p.elems)
       (lower : (d : ℕ) → ElementReads p e d 0 → (v : ℕ) × IsElementNode p d v) where
-    by_value : (x : Expr) (b : Bool) → (element_of p e).body ≡ value x → has_pass p e x ≡ b
+    by_value : (x : Expr) (b : Bool)
+        → (element_of p e).body ≡ value x
+        → has_pass p e x ≡ b
         → (v : ℕ) × IsElementNode p e v
     by_value x true h is =
         let (v, n) = has_place_number p e (size x) (pass (its_width p e) x) el (pass_made p e x h is) (tt {0}) in
@@ -62,14 +65,21 @@ module _ (p : Program) where
     by_body (value x) h = by_value x (has_pass p e x) h refl
 
   module _ (sound : IsFlat p) (loopless : IsFlatLoopless p) where
-    within : (h e : ℕ) → e < length p.elems → (flat_heights p sound [] loopless).height e < h
+    within : (h e : ℕ)
+        → e < length p.elems
+        → (flat_heights p sound [] loopless).height e < h
         → (v : ℕ) × IsElementNode p e v
     within zero e el less = absurd (omega arith)
     within (suc h) e el less = by_body e el (lower (λ d there low. within h d there low)) (element_of p e).body refl
       where
-        lower : ((d : ℕ)
-            → d < length p.elems → (flat_heights p sound [] loopless).height d < h → (v : ℕ) × IsElementNode p d v)
-            → (d : ℕ) → ElementReads p e d 0 → (v : ℕ) × IsElementNode p d v
+        lower :
+            ((d : ℕ)
+            → d < length p.elems
+            → (flat_heights p sound [] loopless).height d < h
+            → (v : ℕ) × IsElementNode p d v)
+            → (d : ℕ)
+            → ElementReads p e d 0
+            → (v : ℕ) × IsElementNode p d v
         lower rest d r =
             let falls = (flat_heights p sound [] loopless).falls e d el r in
             rest d ((flat_determined p sound []).elements e d 0 el r) (omega arith)

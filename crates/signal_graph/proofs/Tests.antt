@@ -1,8 +1,9 @@
 -- Tests of what is read without a delay.
 use Rattle.std.proofs.Common.{◌≡◌, sym, ℕ, Bool, true, false, ◌&&◌, ◌||◌, ◌⊎◌, inl, inr, List, [], ◌∷◌}
 use Rattle.std.specs.Prelude.{◌==◌}
-use Rattle.std.proofs.lemmas.Bool.{eqb-true, eq-eqb}
-use Rattle.recurrences.proofs.Bools.{either, or_cases, both, both_cases}
+use Rattle.std.proofs.lemmas.Bool.{eqb-true, eq-eqb, and_from as both}
+use Rattle.lists.proofs.Bools.{both_true as both_cases}
+use Rattle.recurrences.proofs.Bools.{either, or_cases}
 use Rattle.signal_graph.specs.declared.graph.Edge.{Edge}
 use Rattle.signal_graph.specs.Flat.{Expr, raw, read, calculation, Parts, no_part, part, Body, word, value}
 use Rattle.signal_graph.specs.Values.{Reads, PartsRead, BodyReads, EdgesRead}
@@ -38,8 +39,10 @@ mutual
   parts_yes (part x rest) e h =
       by (or_cases (test x e) (parts_test rest e) h) (λ k. yes_now x e k) (λ k. parts_yes rest e k)
     where
-      by : (test x e ≡ true) ⊎ (parts_test rest e ≡ true) → (test x e ≡ true → Reads x e 0)
-          → (parts_test rest e ≡ true → PartsRead rest e 0) → PartsRead (part x rest) e 0
+      by : (test x e ≡ true) ⊎ (parts_test rest e ≡ true)
+          → (test x e ≡ true → Reads x e 0)
+          → (parts_test rest e ≡ true → PartsRead rest e 0)
+          → PartsRead (part x rest) e 0
       by (inl k) f g = inl (f k)
       by (inr k) f g = inr (g k)
 
@@ -76,7 +79,8 @@ edges_yes (edge ∷ rest) v h =
     by (or_cases (is_now edge.node edge.delay v) (edges_test rest v) h) (λ k. edges_yes rest v k)
   where
     by : (is_now edge.node edge.delay v ≡ true) ⊎ (edges_test rest v ≡ true)
-        → (edges_test rest v ≡ true → EdgesRead rest v 0) → EdgesRead (edge ∷ rest) v 0
+        → (edges_test rest v ≡ true → EdgesRead rest v 0)
+        → EdgesRead (edge ∷ rest) v 0
     by (inl k) f = inl (now_yes edge.node edge.delay v k)
     by (inr k) f = inr (f k)
 

@@ -11,7 +11,8 @@ use Rattle.signal_graph.specs.GraphRules.{IsEdge}
 use Rattle.signal_graph.specs.declared.graph.Edge.{Edge}
 use Rattle.signal_graph.specs.declared.graph.Node.{Node}
 use Rattle.signal_graph.specs.declared.graph.Graph.{Graph}
-use Rattle.signal_graph.specs.Values.{Words, operand, result, value_of, values_of, body_value, Reads, PartsRead, BodyReads, operand_words, given_by, node_value, EdgesRead}
+use Rattle.signal_graph.specs.Values.{Words, operand, result, value_of, values_of, body_value, Reads, PartsRead}
+use Rattle.signal_graph.specs.Values.{BodyReads, operand_words, given_by, node_value, EdgesRead}
 
 -- two maps of words agree on what is read at sample n
 abbrev pub Agree : Words → Words → ℕ → (ℕ → ℕ → Type 0) → Type 0
@@ -30,7 +31,8 @@ module _ (a b : Words) (n : ℕ) where
         ap (λ (v : ℤ). v ∷ values_of a n rest) (value_same x (λ e ago r. agree e ago (inl r)))
         ∙ ap (λ (vs : List ℤ). value_of b n x ∷ vs) (values_same rest (λ e ago r. agree e ago (inr r)))
 
-  pub body_same : (stream : Rows) (body : Body) → Agree a b n (BodyReads body)
+  pub body_same : (stream : Rows) (body : Body)
+      → Agree a b n (BodyReads body)
       → body_value stream a n body ≡ body_value stream b n body
   body_same stream (word j) agree = refl
   body_same stream (value x) agree = value_same x agree
@@ -48,13 +50,16 @@ module _ (p : Program) where
     parts_allowed (part x rest) e ago are (inl r) = read_allowed x e ago are.0 r
     parts_allowed (part x rest) e ago are (inr r) = parts_allowed rest e ago are.1 r
 
-  pub body_allowed : (ty : SigType) (body : Body) (e ago : ℕ) → IsBodyOf p ty body → BodyReads body e ago
+  pub body_allowed : (ty : SigType) (body : Body) (e ago : ℕ)
+      → IsBodyOf p ty body
+      → BodyReads body e ago
       → IsRead p e ago
   body_allowed ty (word j) e ago is r = absurd r
   body_allowed ty (value x) e ago is r = read_allowed x e ago is.sound r
 
 module _ (a b : Words) (n : ℕ) where
-  pub operands_same : (edges : List Edge) → Agree a b n (EdgesRead edges)
+  pub operands_same : (edges : List Edge)
+      → Agree a b n (EdgesRead edges)
       → operand_words a n edges ≡ operand_words b n edges
   operands_same [] agree = refl
   operands_same (edge ∷ rest) agree =
@@ -70,7 +75,8 @@ module _ (a b : Words) (n : ℕ) where
   given_same constant stream node h = refl
   given_same _ stream node h = ap (result node.op node.fmt) h
 
-  pub node_same : (stream : Rows) (node : Node) → Agree a b n (EdgesRead node.edges)
+  pub node_same : (stream : Rows) (node : Node)
+      → Agree a b n (EdgesRead node.edges)
       → node_value stream a n node ≡ node_value stream b n node
   node_same stream node agree = given_same (class_of node.op) stream node (operands_same node.edges agree)
 
@@ -88,7 +94,9 @@ edge_in g edge is =
     let (x, h) = there (slice_get g.nodes edge.node) _ is.node in
     record { node = slice_get_within g.nodes edge.node x h; delay = is.delay }
 
-pub edges_allowed : (g : Graph) (edges : List Edge) (v ago : ℕ) → All (IsEdge g) edges → EdgesRead edges v ago
+pub edges_allowed : (g : Graph) (edges : List Edge) (v ago : ℕ)
+    → All (IsEdge g) edges
+    → EdgesRead edges v ago
     → IsEdgeIn g v ago
 edges_allowed g [] v ago all r = absurd r
 edges_allowed g (edge ∷ rest) v ago all (inl r) =

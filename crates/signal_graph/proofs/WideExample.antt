@@ -3,6 +3,7 @@
 use Rattle.std.proofs.Common.{◌≡◌, refl, sym, subst, ap, ◌∙◌, arith, ℕ, zero, suc, ◌+◌, ◌<◌, [], ◌∷◌, length}
 use Rattle.std.specs.Prelude.{ℤ, pos, negsuc, slice_get, slice_index_or, Some}
 use Rattle.std.proofs.lemmas.Int.{ints}
+use Rattle.lists.proofs.Places.{some_is}
 use Rattle.lists.specs.Rows.{Rows}
 use Rattle.recurrences.specs.Kept.{KeepsSolutions}
 use Rattle.fix_word.specs.Values.{wrap_of}
@@ -17,7 +18,7 @@ use Rattle.signal_graph.specs.Keeps.{IsElementNode, AreEqualWords}
 use Rattle.signal_graph.specs.declared.graph.Node.{Node}
 use Rattle.signal_graph.specs.declared.graph.Graph.{Graph}
 use Rattle.signal_graph.proofs.Examples.{byte, edge, input_node as input, output_node}
-use Rattle.signal_graph.proofs.GraphExamples.{some_is, no_more}
+use Rattle.signal_graph.proofs.GraphExamples.{no_more}
 
 abbrev late : Program
 late = record {
@@ -35,7 +36,9 @@ pass = record { op = op.Pass; fmt = plain 8; arg = pos 0; edges = edge 0 1 ∷ [
 abbrev late_graph : Graph
 late_graph = record { nodes = input ∷ pass ∷ output_node ∷ []; inputs = byte ∷ []; outs = 1 }
 
-made_here : (s t : Site) (v : ℕ) → Some s ≡ Some t → IsMade late s s.made (node_of late_graph v)
+made_here : (s t : Site) (v : ℕ)
+    → Some s ≡ Some t
+    → IsMade late s s.made (node_of late_graph v)
     → IsMade late t t.made (node_of late_graph v)
 made_here s t v h = subst (λ (u : Site). IsMade late u u.made (node_of late_graph v)) (some_is s t h)
 
@@ -44,7 +47,8 @@ late_made zero s h = made_here _ s 0 h refl
 late_made (suc zero) s h = made_here _ s 1 h (((node_at 0 0, input_node refl, refl, refl), tt {0}), refl)
 late_made (suc (suc v)) s h = absurd (no_more _ s refl h)
 
-late_output : (j e : ℕ) → slice_get late.outs j ≡ Some e
+late_output : (j e : ℕ)
+    → slice_get late.outs j ≡ Some e
     → IsOutputOf late late_graph j e (node_of late_graph (length (node_sites late) + j))
 late_output zero e h =
     subst (λ (i : ℕ). IsOutputOf late late_graph 0 i (node_of late_graph 2)) (some_is 1 e h)

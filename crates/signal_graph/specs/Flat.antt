@@ -3,7 +3,8 @@ use Rattle.std.specs.Prelude.{ℕ, ◌+◌, List, map, ℤ}
 use Rattle.fix_word.specs.declared.operation.Op.{Op}
 use Rattle.fix_word.specs.declared.types.Format.{Format}
 use Rattle.fix_word.specs.declared.types.SigType.{SigType}
-use Rattle.signal_graph.specs.declared.flat.FlatExpr.{FlatExpr, Raw, Read, Node', Row_of-FlatExpr, end_of-FlatExpr, more_of-FlatExpr}
+use Rattle.signal_graph.specs.declared.flat.FlatExpr.{FlatExpr, Raw, Read, Node', Row_of-FlatExpr, end_of-FlatExpr}
+use Rattle.signal_graph.specs.declared.flat.FlatExpr.{more_of-FlatExpr}
 use Rattle.signal_graph.specs.declared.flat.FlatBody.{FlatBody}
 use Rattle.signal_graph.specs.declared.flat.FlatBody.TheVariants as b
 use Rattle.signal_graph.specs.declared.flat.FlatElem.{FlatElem}

@@ -6,7 +6,8 @@ use Rattle.fix_word.specs.declared.types.Format.{Format}
 use Rattle.fix_word.specs.declared.types.SigType.{SigType}
 use Rattle.signal_graph.specs.Operations.{Class, quantised, truth, choice, operands, class_of, IsCalculation}
 use Rattle.signal_graph.specs.Rules.{max_delay, IsWithin, IsType, width_of, IsInType, plain, AreInits}
-use Rattle.signal_graph.specs.Flat.{Expr, raw, read, calculation, Parts, no_part, part, Body, word, value, Element, Program, count, size_of_body}
+use Rattle.signal_graph.specs.Flat.{Expr, raw, read, calculation, Parts, no_part, part, Body, word, value, Element}
+use Rattle.signal_graph.specs.Flat.{Program, count, size_of_body}
 
 -- a choice's format
 pub record IsChoiceFormat (fmt : Format) : Type 0 where

@@ -3,7 +3,9 @@
 -- An element has places: one for each raw word, read and calculation of its body, in post-order, so that the parts of a
 -- calculation come before it in port order, and one more where a Pass follows. The nodes are made at places, in their
 -- order; then come the outputs.
-use Rattle.std.specs.Prelude.{◌≡◌, ℕ, ◌+◌, ◌-◌, ◌≤◌, ◌==◌, nat_lt, ◌&&◌, ◌||◌, Bool, true, false, if◌then◌else◌, List, [], ◌∷◌, ◌++◌, length, slice_get, find, position, filter, flat_map, Option, Some, None, ℤ, pos}
+use Rattle.std.specs.Prelude.{◌≡◌, ℕ, ◌+◌, ◌-◌, ◌≤◌, ◌==◌, nat_lt, ◌&&◌, ◌||◌, Bool, true, false, if◌then◌else◌, List}
+use Rattle.std.specs.Prelude.{[], ◌∷◌, ◌++◌, length, slice_get, find, position, filter, flat_map, Option, Some, None, ℤ}
+use Rattle.std.specs.Prelude.{pos}
 use Rattle.std.specs.List.{enumerate_from, AllZip}
 use Rattle.std.specs.Ordering.{int_eq}
 use Rattle.fix_word.specs.Words.{IsWord}
@@ -12,7 +14,8 @@ use Rattle.fix_word.specs.declared.operation.Op.TheVariants as op
 use Rattle.fix_word.specs.declared.types.Format.{Format}
 use Rattle.signal_graph.specs.Operations.{Class, quantised, truth, class_of}
 use Rattle.signal_graph.specs.Rules.{width_of, plain}
-use Rattle.signal_graph.specs.Flat.{Expr, raw, read, calculation, Parts, no_part, part, Body, word, value, Element, Program, size}
+use Rattle.signal_graph.specs.Flat.{Expr, raw, read, calculation, Parts, no_part, part, Body, word, value, Element}
+use Rattle.signal_graph.specs.Flat.{Program, size}
 use Rattle.signal_graph.specs.FlatSolves.{element_of}
 use Rattle.signal_graph.specs.GraphSolves.{node_of}
 use Rattle.signal_graph.specs.declared.graph.Edge.{Edge}
@@ -152,7 +155,9 @@ pub record IsAlias (p : Program) (e : ℕ) (x : Expr) : Type 0 where
 pub data IsNodeOf (p : Program) : ℕ → Target → Type 0 where
   input_node : {e j : ℕ} → (element_of p e).body ≡ word j → IsNodeOf p e (node_at e 0)
   pass_node : {e : ℕ} {x : Expr}
-      → (element_of p e).body ≡ value x → has_pass p e x ≡ true → IsNodeOf p e (node_at e (size x))
+      → (element_of p e).body ≡ value x
+      → has_pass p e x ≡ true
+      → IsNodeOf p e (node_at e (size x))
   own_node : {e : ℕ} {o : Op} {fmt : Format} {parts : Parts}
       → (element_of p e).body ≡ value (calculation o fmt parts)
       → IsNodeOf p e (node_at e (size (calculation o fmt parts) - 1))

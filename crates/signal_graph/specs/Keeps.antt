@@ -39,9 +39,15 @@ pub record HasOneNode (p : Program) (g : Graph) (e : ℕ) : Type 0 where
 -- before sample 0 too where it is read with a delay. The output rows are equal.
 pub record AreEqualWords (p : Program) (g : Graph) (stream : Rows) (words node_words : Words) : Type 0 where
   pub present : (e v n : ℕ)
-      → IsElementNumber p e → IsElementNode p e v → n < length stream → node_words v (pos n) ≡ words e (pos n)
+      → IsElementNumber p e
+      → IsElementNode p e v
+      → n < length stream
+      → node_words v (pos n) ≡ words e (pos n)
   pub past : (e v j : ℕ)
-      → IsElementNumber p e → IsElementNode p e v → is_delayed p e ≡ true → j < max_delay
+      → IsElementNumber p e
+      → IsElementNode p e v
+      → is_delayed p e ≡ true
+      → j < max_delay
       → node_words v (negsuc j) ≡ words e (negsuc j)
   pub rows : (count : ℕ) → count ≤ length stream → graph_out g node_words count ≡ flat_out p words count
 

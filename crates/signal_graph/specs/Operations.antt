@@ -1,5 +1,6 @@
 -- Which operations flat programs and graphs have.
-pub use Rattle.operations.specs.Operations.{Class, input, output, constant, quantised, truth, choice, memory, operands, class_of}
+pub use Rattle.operations.specs.Operations.{Class, input, output, constant, quantised, truth, choice, memory, operands}
+pub use Rattle.operations.specs.Operations.{class_of}
 
 -- an operation from Add to Sel
 abbrev pub IsCalculation : Class → Type 0

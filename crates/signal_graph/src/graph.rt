@@ -2,13 +2,20 @@
 
 use fix_word::{Format, Op, SigType};
 use lists::List;
+use short_lists::ShortList;
+
+/// The most operands of an operation.
+const PORTS: usize = 3;
 
 /// An operand of a node: the word of the node with this number, `delay` samples ago.
-#[derive(Clone, Copy)]
+#[derive(Clone, Copy, Default)]
 pub struct Edge {
     pub node: u32,
     pub delay: u16,
 }
+
+/// The operands of a node, which take no memory of their own where they are as many as an operation has.
+pub type Edges = ShortList<Edge, PORTS>;
 
 /// One operation, done once a sample.
 #[derive(Drop)]
@@ -20,7 +27,7 @@ pub struct Node {
     /// The number of the input word or output word, or the constant's raw word; 0 at the others.
     pub arg: i64,
     /// An edge for each operand, in the order of the operation's ports.
-    pub edges: List<Edge>,
+    pub edges: Edges,
     /// Its initial values: k and the raw word at sample -k, by rising k. At the others before sample 0 it is 0.
     pub inits: List<(u16, i64)>,
     /// The bits of its words: 2 for a truth value.

@@ -1,5 +1,6 @@
 -- Aliases, one after another: where the chain of an element ends.
-use Rattle.std.specs.Prelude.{◌≡◌, ℕ, ◌+◌, ◌<◌, ◌≤◌, ◌⊎◌, nat_lt, ◌||◌, Bool, if◌then◌else◌, List, length, slice_index_or}
+use Rattle.std.specs.Prelude.{◌≡◌, ℕ, ◌+◌, ◌<◌, ◌≤◌, ◌⊎◌, nat_lt, ◌||◌, Bool, if◌then◌else◌, List, length}
+use Rattle.std.specs.Prelude.{slice_index_or}
 use Rattle.signal_graph.specs.Flat.{raw, read, calculation, Body, word, value, Program}
 use Rattle.signal_graph.specs.FlatSolves.{element_of}
 use Rattle.signal_graph.specs.GraphOf.{Target, is_delayed, IsAlias, IsNodeOf}

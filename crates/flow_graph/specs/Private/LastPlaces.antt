@@ -10,7 +10,10 @@ IsLastPlace all n j s =
 -- for each element the number of its last place among the first n
 pub record LastUpTo (all : List Site) (numbers : List ℕ) (elements n : ℕ) (last : List ℕ) : Type 0 where
   pub size : length last ≡ elements
-  pub at : (j : ℕ) (s : Site) → j < n → slice_get all j ≡ Some s → IsLastPlace all n j s
+  pub at : (j : ℕ) (s : Site)
+      → j < n
+      → slice_get all j ≡ Some s
+      → IsLastPlace all n j s
       → slice_index_or last s.element 0 ≡ slice_index_or numbers j 0
 
 abbrev pub AreLast : List Site → List ℕ → (elements : ℕ) → List ℕ → Type 0

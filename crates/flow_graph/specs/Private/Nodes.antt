@@ -1,5 +1,6 @@
 -- The nodes that are made at the first places, in order.
-use Rattle.std.specs.Prelude.{◌≡◌, ℕ, ℤ, ◌+◌, ◌≤◌, Bool, true, false, if◌then◌else◌, List, [], ◌∷◌, ◌++◌, length, take, slice_get, slice_index_or, position, Option, Some, is_none}
+use Rattle.std.specs.Prelude.{◌≡◌, ℕ, ℤ, ◌+◌, ◌≤◌, Bool, true, false, if◌then◌else◌, List, [], ◌∷◌, ◌++◌, length, take}
+use Rattle.std.specs.Prelude.{slice_get, slice_index_or, position, Option, Some, is_none}
 use Rattle.signal_graph.specs.GraphOf.{Made, nothing, constant, Site, word_node, is_target}
 use Rattle.flow_graph.specs.Private.Words.{number_in}
 
@@ -35,15 +36,20 @@ IsPlaceNumber nodes s _ number = number ≡ length nodes
 -- the place where this is made has the number
 pub record Numbers (words : List (ℤ × ℕ)) (count : ℕ) (made : Made) (words' : List (ℤ × ℕ)) (count' number : ℕ)
     : Type 0 where
-  pub counted : (nodes : List Site) (s : Site) → s.made ≡ made → IsCounted nodes words count
+  pub counted : (nodes : List Site) (s : Site)
+      → s.made ≡ made
+      → IsCounted nodes words count
       → IsCounted (with_site nodes s) words' count'
-  pub gives : (nodes : List Site) (s : Site) → s.made ≡ made → IsCounted nodes words count
+  pub gives : (nodes : List Site) (s : Site)
+      → s.made ≡ made
+      → IsCounted nodes words count
       → IsPlaceNumber nodes s made number
   pub few : count' ≤ count + 1
 
 -- the numbers of the nodes of all places, and of words
 pub record AreNumbers (all : List Site) (numbers : List ℕ) (words : List (ℤ × ℕ)) : Type 0 where
   pub size : length numbers ≡ length all
-  pub places : (i : ℕ) (s : Site) → slice_get all i ≡ Some s
+  pub places : (i : ℕ) (s : Site)
+      → slice_get all i ≡ Some s
       → IsPlaceNumber (nodes_of (take i all)) s s.made (slice_index_or numbers i 0)
   pub met : (m : ℤ) → number_in words m ≡ word_position m (nodes_of all)

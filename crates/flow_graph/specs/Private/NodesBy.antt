@@ -1,12 +1,14 @@
 -- The nodes that are made, by what their elements and the numbers of other nodes give.
-use Rattle.std.specs.Prelude.{◌≡◌, ℕ, ◌==◌, not, Bool, true, false, All, List, [], map, take, slice_get, Option, Some, None, ℤ, pos}
+use Rattle.std.specs.Prelude.{◌≡◌, ℕ, ◌==◌, not, Bool, true, false, All, List, [], map, take, slice_get, Option, Some}
+use Rattle.std.specs.Prelude.{None, ℤ, pos}
 use Rattle.std.specs.List.{AllZip}
 use Rattle.fix_word.specs.Words.{IsWord}
 use Rattle.fix_word.specs.declared.operation.Op.TheVariants as op
 use Rattle.signal_graph.specs.Operations.{class_of}
 use Rattle.signal_graph.specs.Rules.{plain}
 use Rattle.signal_graph.specs.Flat.{Program}
-use Rattle.signal_graph.specs.GraphOf.{Operand, Made, nothing, constant, input, operation, Site, IsLeastWidth, node_format, node_width, sites, node_sites, IsMade}
+use Rattle.signal_graph.specs.GraphOf.{Operand, Made, nothing, constant, input, operation, Site, IsLeastWidth}
+use Rattle.signal_graph.specs.GraphOf.{node_format, node_width, sites, node_sites, IsMade}
 use Rattle.signal_graph.specs.declared.graph.Edge.{Edge}
 use Rattle.signal_graph.specs.declared.graph.Node.{Node}
 use Rattle.flow_graph.specs.Private.Nodes.{nodes_of}

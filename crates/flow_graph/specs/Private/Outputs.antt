@@ -21,6 +21,8 @@ output_node j v width = record {
 pub record AddsOutputs (old : List Node) (elements outs : List ℕ) (count : ℕ) (new : List Node) : Type 0 where
   pub size : length new ≡ length old + count
   pub before : (v : ℕ) → v < length old → slice_index_or new v no_node ≡ slice_index_or old v no_node
-  pub outputs : (j e : ℕ) → j < count → slice_get outs j ≡ Some e
+  pub outputs : (j e : ℕ)
+      → j < count
+      → slice_get outs j ≡ Some e
       → (let v = slice_index_or elements e 0 in
       slice_index_or new (length old + j) no_node ≡ output_node j v (slice_index_or old v no_node).width)

@@ -1,5 +1,6 @@
 -- The search for the nodes that are used, and the nodes with their new numbers.
-use Rattle.std.specs.Prelude.{◌≡◌, ℕ, ◌+◌, ◌<◌, ◌≤◌, ◌↔◌, if◌then◌else◌, List, [], ◌∷◌, ◌++◌, map, length, slice_index_or, slice_set, Bool, true, Contains}
+use Rattle.std.specs.Prelude.{◌≡◌, ℕ, ◌+◌, ◌<◌, ◌≤◌, ◌↔◌, if◌then◌else◌, List, [], ◌∷◌, ◌++◌, map, length}
+use Rattle.std.specs.Prelude.{slice_index_or, slice_set, Bool, true, Contains}
 use Rattle.std.specs.List.{sum_by}
 use Rattle.fix_word.specs.declared.operation.Op.TheVariants as op
 pub use Rattle.signal_graph.specs.Private.Marks.{is_marked, missing}
@@ -43,6 +44,9 @@ HasOutputs g s = (v : ℕ) → IsNodeNumber g v → (node_of g v).op ≡ op.Outp
 pub record AreUsedMarks (g : Graph) (marks : List Bool) : Type 0 where
   pub count : length marks ≡ length g.nodes
   pub used : (v : ℕ) → is_marked marks v ≡ true ↔ IsUsed g v
+
+abbrev pub AreAllMarked : List Bool → Type 0
+AreAllMarked marks = (v : ℕ) → v < length marks → is_marked marks v ≡ true
 
 -- for each mark how many come before it, and n more
 abbrev pub numbers_from : ℕ → List Bool → List ℕ

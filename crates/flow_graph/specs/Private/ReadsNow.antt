@@ -1,6 +1,7 @@
 -- The elements that expressions read without a delay, in order.
 use Rattle.std.specs.Prelude.{ℕ, ◌==◌, if◌then◌else◌, List, [], ◌∷◌, ◌++◌, map}
-use Rattle.signal_graph.specs.Flat.{Expr, raw, read, calculation, Parts, no_part, part, Body, word, value, Element, Program}
+use Rattle.signal_graph.specs.Flat.{Expr, raw, read, calculation, Parts, no_part, part, Body, word, value, Element}
+use Rattle.signal_graph.specs.Flat.{Program}
 
 abbrev mutual
   pub reads_now : Expr → List ℕ

@@ -1,7 +1,9 @@
 -- The places of elements as the code has them.
-use Rattle.std.specs.Prelude.{◌≡◌, ℕ, ◌+◌, ◌-◌, nat_lt, ◌||◌, Bool, false, if◌then◌else◌, List, [], ◌∷◌, ◌++◌, map, length}
+use Rattle.std.specs.Prelude.{◌≡◌, ℕ, ◌+◌, ◌-◌, nat_lt, ◌||◌, Bool, false, if◌then◌else◌, List, [], ◌∷◌, ◌++◌, map}
+use Rattle.std.specs.Prelude.{length}
 use Rattle.signal_graph.specs.Flat.{Expr, raw, read, calculation, Parts, Body, word, value, size}
-use Rattle.signal_graph.specs.GraphOf.{Operand, number, place, element, Made, nothing, constant, input, operation, operand_at, operands_from, made_by, made_by_parts, pass, Site, sites_from}
+use Rattle.signal_graph.specs.GraphOf.{Operand, number, place, element, Made, nothing, constant, input, operation}
+use Rattle.signal_graph.specs.GraphOf.{operand_at, operands_from, made_by, made_by_parts, pass, Site, sites_from}
 use Rattle.flow_graph.specs.declared.sites.Operand.{Operand as CodeOperand}
 use Rattle.flow_graph.specs.declared.sites.Operand.TheVariants as is
 use Rattle.flow_graph.specs.declared.sites.Made.{Made as CodeMade}

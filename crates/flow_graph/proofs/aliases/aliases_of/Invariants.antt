@@ -9,5 +9,7 @@ use Rattle.flow_graph.proofs.aliases.aliases_of.Given as goal
 abbrev pub invariant-loop-elem : goal.invariant-loop-elem
 invariant-loop-elem l = record {
   size : length l.aliases.items ≡ l.elem;
-  at : (e : ℕ) → e < l.elem → slice_index_or l.aliases.items e 0 ≡ alias (is_delayed (view l.flat) e) e (element_of (view l.flat) e).body;
+  at : (e : ℕ)
+      → e < l.elem
+      → slice_index_or l.aliases.items e 0 ≡ alias (is_delayed (view l.flat) e) e (element_of (view l.flat) e).body;
 }

@@ -7,5 +7,7 @@ loop-elem-preserved c =
     let within : c.loop-elem.elem < length c.loop-elem.leads = omega arith in
     record {
       inside = inside_set c.loop-elem.leads c.loop-elem.elem c.loop-elem.invariant.inside within;
-      doubled = λ p height far jumps. one_doubled p height far c.loop-elem.elem c.loop-elem.leads c.loop-elem.invariant.inside within (c.loop-elem.invariant.doubled p height far jumps);
+      doubled = λ p height far jumps.
+          one_doubled p height far c.loop-elem.elem c.loop-elem.leads c.loop-elem.invariant.inside within
+          (c.loop-elem.invariant.doubled p height far jumps);
     }

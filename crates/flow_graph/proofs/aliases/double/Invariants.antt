@@ -7,5 +7,9 @@ use Rattle.flow_graph.proofs.aliases.double.Given as goal
 abbrev pub invariant-loop-elem : goal.invariant-loop-elem
 invariant-loop-elem l = record {
   inside : IsInside l.leads;
-  doubled : (p : Program) → (height : ℕ → ℕ) → (far : ℕ) → Jumps p height far l.fn.leads → DoubledTo p height far l.elem l.leads;
+  doubled : (p : Program)
+      → (height : ℕ → ℕ)
+      → (far : ℕ)
+      → Jumps p height far l.fn.leads
+      → DoubledTo p height far l.elem l.leads;
 }

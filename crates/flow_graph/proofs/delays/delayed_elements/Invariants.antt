@@ -6,4 +6,5 @@ use Rattle.flow_graph.proofs.delays.delayed_elements.Given as goal
 
 abbrev pub invariant-loop-element : goal.invariant-loop-element
 invariant-loop-element l =
-    Marks (replicate (length l.flat.elems) false) (λ e. are_delayed e (map view_elem (take l.element-index l.element-items))) l.delayed.items
+    Marks (replicate (length l.flat.elems) false)
+    (λ e. are_delayed e (map view_elem (take l.element-index l.element-items))) l.delayed.items

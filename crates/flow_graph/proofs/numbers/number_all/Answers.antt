@@ -6,11 +6,12 @@ use Rattle.flow_graph.proofs.NumberSteps.{none_numbered, one_numbered, all_numbe
 use Rattle.flow_graph.proofs.numbers.number_all.Goals as goal
 
 pub loop-site-init : goal.loop-site-init
-loop-site-init c = none_numbered _ _ _ c.new.ensures c.new-places.ensures
+loop-site-init c = none_numbered _ _ _ c.new.ensures c.in_ok-places.ensures
 
 pub loop-site-preserved : goal.loop-site-preserved
 loop-site-preserved c =
-    one_numbered _ _ _ _ _ _ _ _ _ _ (site_at c.args.sites.now c.loop-site.site-index c.site-item.result c.loop-site-test.true c.site-item.is)
+    one_numbered _ _ _ _ _ _ _ _ _ _
+    (site_at c.args.sites.now c.loop-site.site-index c.site-item.result c.loop-site-test.true c.site-item.is)
     c.in_ok-number.ensures c.in_ok-push.ensures.ok c.loop-site.invariant
 
 pub returns : goal.returns

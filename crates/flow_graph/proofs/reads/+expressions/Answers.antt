@@ -13,7 +13,8 @@ add_part_reads-loop-part-init t c = adds_none _
 
 pub add_part_reads-loop-part-preserved : goal.add_part_reads-loop-part-preserved
 add_part_reads-loop-part-preserved t c =
-    adds_one (λ x. reads_now (view_expr x)) _ _ _ _ _ _ c.loop-part-test.true c.part-item.is c.loop-part.invariant c.in_ok-add_reads.ensures
+    adds_one (λ x. reads_now (view_expr x)) _ _ _ _ _ _ c.loop-part-test.true c.part-item.is c.loop-part.invariant
+    c.in_ok-add_reads.ensures
 
 pub add_part_reads-returns : goal.add_part_reads-returns
 add_part_reads-returns t c =
@@ -22,6 +23,9 @@ add_part_reads-returns t c =
 
 pub add_reads-returns-in-Node : goal.add_reads-returns-in-Node
 add_reads-returns-in-Node t c =
-    let whole = ap (λ x. reads_now (view_expr x)) c.in-Node.is ∙ ap reads_now (view_Node c.in-Node.op c.in-Node.fmt c.in-Node.parts) in
+    let whole =
+    ap (λ x. reads_now (view_expr x)) c.in-Node.is
+    ∙ ap reads_now (view_Node c.in-Node.op c.in-Node.fmt c.in-Node.parts) in
     let inner = ap (λ xs. parts_read_now (view_exprs xs)) c.deref.ensures.value in
-    ends _ _ c.add_part_reads.result (λ h. h ∙ ap (λ xs. c.args.reads.now ++ xs) (inner ∙ sym whole)) c.add_part_reads.ensures
+    ends _ _ c.add_part_reads.result (λ h. h ∙ ap (λ xs. c.args.reads.now ++ xs) (inner ∙ sym whole))
+    c.add_part_reads.ensures

@@ -11,4 +11,6 @@ returns c =
     let same = to_z-of_z w64 c.args.word c.ranges.word in
     new_word c.args.self.now.words c.add.new.self c.args.self.now.count c.args.word
     (sym (ap (number_in c.args.self.now.words) same) ∙ sym c.get.ensures ∙ c.in_default.is)
-    (λ k. c.in_ok-add.ensures k ∙ ap (λ (z : ℤ). option_or (number_in c.args.self.now.words k) (number_if z c.args.self.now.count k)) same)
+    (λ k.
+    c.in_ok-add.ensures k
+    ∙ ap (λ (z : ℤ). option_or (number_in c.args.self.now.words k) (number_if z c.args.self.now.count k)) same)

@@ -1,0 +1,3 @@
+pub mod Pushes
+mod Searches
+pub mod Operands

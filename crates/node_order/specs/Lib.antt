@@ -1,0 +1,2 @@
+pub mod Topological
+pub mod Private
