@@ -1,5 +1,6 @@
 -- The first cycle that is open, word by word.
-use Rattle.std.proofs.Common.{◌≡◌, ℕ, ◌+◌, ◌*◌, ◌/◌, ◌%◌, ◌^◌, ◌<◌, ◌≤◌, ◌↔◌, ◌∙◌, List, arith, ap, sym, subst, ⊎_elim, bit_or, bit_and, IsTrue, nat_eq, tests}
+use Rattle.std.proofs.Common.{◌≡◌, ℕ, ◌+◌, ◌*◌, ◌/◌, ◌%◌, ◌^◌, ◌<◌, ◌≤◌, ◌↔◌, ◌∙◌, List, arith, ap, sym, subst, ⊎_elim}
+use Rattle.std.proofs.Common.{bit_or, bit_and, IsTrue, nat_eq, tests}
 use Rattle.std.specs.Int.{bit_at}
 use Rattle.std.proofs.lemmas.Bool.{cases_lt}
 use Rattle.std.proofs.lemmas.Nat.{one_shl, pow_pos}
@@ -28,8 +29,11 @@ module _ (rows : Rows) (u : ℕ) (dests : List PortRef) (from index blocked pass
     (are_passed : (i : ℕ) → i < 64 → (bit_at passed i ≡ 0) ↔ (from ≤ 64 * index + i))
     (before : (c : ℕ) → from ≤ c → c < 64 * index → IsOpen rows u dests c → ⊥) where
   -- an open cycle of the word has a bit that is 0
-  zero_where_open : (c : ℕ) → c / 64 ≡ index → from ≤ c → IsOpen rows u dests c → bit_at (bit_or blocked passed) (c %
-      64) ≡ 0
+  zero_where_open : (c : ℕ)
+      → c / 64 ≡ index
+      → from ≤ c
+      → IsOpen rows u dests c
+      → bit_at (bit_or blocked passed) (c % 64) ≡ 0
   zero_where_open c at after is_open =
       let k : ℕ = c % 64 in
       let small : k < 64 = omega arith in
@@ -38,7 +42,11 @@ module _ (rows : Rows) (u : ℕ) (dests : List PortRef) (from index blocked pass
       zero_in_union blocked passed k ((are k small).1 here) ((are_passed k small).1 late)
 
   pub none_in_word : ((i : ℕ) → i < 64 → bit_at (bit_or blocked passed) i ≡ 1)
-      → (c : ℕ) → from ≤ c → c < 64 * (index + 1) → IsOpen rows u dests c → ⊥
+      → (c : ℕ)
+      → from ≤ c
+      → c < 64 * (index + 1)
+      → IsOpen rows u dests c
+      → ⊥
   none_in_word ones c after less is_open =
       ⊎_elim (λ earlier. before c after earlier is_open)
       (λ later.
@@ -77,8 +85,13 @@ module _ (rows : Rows) (u : ℕ) (dests : List PortRef) (from index blocked pass
 
 -- no cycle in which the unit is busy is open
 pub none_in_busy : (rows : Rows) (u : ℕ) (dests : List PortRef) (words : List ℕ) (from first : ℕ)
-    → words ≡ (unit_row rows u).busy.words → ((c : ℕ) → from ≤ c → c < 64 * first → mark words c ≡ 1)
-    → (c : ℕ) → from ≤ c → c < 64 * first → IsOpen rows u dests c → ⊥
+    → words ≡ (unit_row rows u).busy.words
+    → ((c : ℕ) → from ≤ c → c < 64 * first → mark words c ≡ 1)
+    → (c : ℕ)
+    → from ≤ c
+    → c < 64 * first
+    → IsOpen rows u dests c
+    → ⊥
 none_in_busy rows u dests words from first are full c after less is_open =
     let one : mark (unit_row rows u).busy.words c ≡ 1 =
     ap (λ (ws : List ℕ). mark ws c) (sym are) ∙ full c after less in

@@ -1,5 +1,6 @@
 -- A table with one more operation.
-use Rattle.std.proofs.Common.{◌≡◌, ◌≢◌, ◌∙◌, ℕ, ◌+◌, ◌*◌, ◌<◌, ◌≤◌, ◌⊎◌, ◌↔◌, List, [], ◌∷◌, ◌++◌, length, get_or, arith, sym, ap, subst, refl, ⊎_elim, inl, inr}
+use Rattle.std.proofs.Common.{◌≡◌, ◌≢◌, ◌∙◌, ℕ, ◌+◌, ◌*◌, ◌<◌, ◌≤◌, ◌⊎◌, ◌↔◌, List, [], ◌∷◌, ◌++◌, length, get_or}
+use Rattle.std.proofs.Common.{arith, sym, ap, subst, refl, ⊎_elim, inl, inr}
 use Rattle.std.specs.List.{All}
 use Rattle.std.proofs.lemmas.Bool.{cases_eq, cases_lt}
 use Rattle.std.proofs.lemmas.List.{get_or_default}
@@ -10,12 +11,14 @@ use Rattle.plan_core.specs.Hardware.{latency_on, gap_on, port_of, no_unit}
 use Rattle.plan_core.specs.Reservations.{result_on, IsUnitFree, IsFileFree, IsBusFree}
 use Rattle.plan_core.specs.declared.schedule.Transfer.{Transfer}
 use Rattle.plan_core.specs.declared.schedule.Slot.{Slot}
-use Rattle.bus_alloc.specs.Sets.{mark, bus_bit}
-use Rattle.bus_alloc.specs.Private.Rows.{AreRows, IsTiming, unit_row, file_row, bus_words, no_unit_row, no_file_row, no_cycles, CanDrive, LeadsTo}
+use Rattle.bit_sets.specs.Bits.{Has}
+use Rattle.bus_alloc.specs.Sets.{mark}
+use Rattle.bus_alloc.specs.Private.Rows.{AreRows, IsTiming, unit_row, file_row, bus_words, no_unit_row, no_file_row}
+use Rattle.bus_alloc.specs.Private.Rows.{no_cycles, CanDrive, LeadsTo}
 use Rattle.bus_alloc.specs.Private.Taking.{TakesAll}
 use Rattle.bus_alloc.specs.Table.{Placed, IsTaken}
 use Rattle.bus_alloc.specs.Private.Stands.{IsUnitRow, Stands}
-use Rattle.bus_alloc.specs.declared.buses.BusSet.{BusSet}
+use Rattle.bit_sets.specs.declared.set32.Set32.{Set32}
 use Rattle.bus_alloc.specs.declared.cycles.CycleSet.{CycleSet}
 use Rattle.bus_alloc.specs.declared.rows.Rows.{Rows}
 use Rattle.bus_alloc.specs.declared.rows.UnitRow.{UnitRow}
@@ -33,9 +36,11 @@ module _ (d : Datapath) (placed : List Placed) (u t : ℕ) (transfers : List Tra
   was_taken v slot taken = Contains-append_left placed (one_placed u t transfers ∷ []) _ taken
 
   -- an operation is one of those before, or the new one
-  cases_taken : {P : Type 0} (v : ℕ) (slot : Slot) → (IsTaken placed v slot → P)
+  cases_taken : {P : Type 0} (v : ℕ) (slot : Slot)
+      → (IsTaken placed v slot → P)
       → (u ≡ v → t ≡ slot.cycle → transfers ≡ slot.transfers → P)
-      → IsTaken (placed ++ one_placed u t transfers ∷ []) v slot → P
+      → IsTaken (placed ++ one_placed u t transfers ∷ []) v slot
+      → P
   cases_taken v slot before new taken =
       ⊎_elim before
       (λ same. new (ap (λ (p : Placed). p.unit) same) (ap (λ (p : Placed). p.slot.cycle) same)
@@ -46,7 +51,8 @@ module _ (d : Datapath) (placed : List Placed) (u t : ℕ) (transfers : List Tra
   IsApart : (v : ℕ) → (at : ℕ) → Type 0
   IsApart v at = u ≡ v → (t + gap_on d v ≤ at) ⊎ (at + gap_on d v ≤ t)
 
-  pub unit_free : (v at : ℕ) → IsUnitFree d (IsTaken (placed ++ one_placed u t transfers ∷ [])) v at
+  pub unit_free : (v at : ℕ)
+      → IsUnitFree d (IsTaken (placed ++ one_placed u t transfers ∷ [])) v at
       ↔ (IsUnitFree d (IsTaken placed) v at × (u ≡ v → (t + gap_on d v ≤ at) ⊎ (at + gap_on d v ≤ t)))
   unit_free v at = (
     λ free. (
@@ -59,7 +65,8 @@ module _ (d : Datapath) (placed : List Placed) (u t : ℕ) (transfers : List Tra
         (λ unit cycle ts. subst (λ (x : ℕ). (x + gap_on d v ≤ at) ⊎ (at + gap_on d v ≤ x)) cycle (both.1 unit)) taken,
   )
 
-  pub file_free : (w : ℕ) (port : PortRef) → IsFileFree d (IsTaken (placed ++ one_placed u t transfers ∷ [])) w port
+  pub file_free : (w : ℕ) (port : PortRef)
+      → IsFileFree d (IsTaken (placed ++ one_placed u t transfers ∷ [])) w port
       ↔ (IsFileFree d (IsTaken placed) w port
       × (result_on d u t ≡ w → All (λ (transfer : Transfer). transfer.port ≢ port) transfers))
   file_free w port = (
@@ -72,7 +79,8 @@ module _ (d : Datapath) (placed : List Placed) (u t : ℕ) (transfers : List Tra
         (both.1 (ap (λ (x : ℕ). result_on d x t) unit ∙ ap (result_on d v) cycle ∙ at))) taken,
   )
 
-  pub bus_free : (w b : ℕ) → IsBusFree d (IsTaken (placed ++ one_placed u t transfers ∷ [])) w b
+  pub bus_free : (w b : ℕ)
+      → IsBusFree d (IsTaken (placed ++ one_placed u t transfers ∷ [])) w b
       ↔ (IsBusFree d (IsTaken placed) w b
       × (result_on d u t ≡ w → All (λ (transfer : Transfer). transfer.bus ≢ b) transfers))
   bus_free w b = (
@@ -86,8 +94,9 @@ module _ (d : Datapath) (placed : List Placed) (u t : ℕ) (transfers : List Tra
   )
 
 -- the rows of the new table are as many, and their timings are the same
-pub takes_rows : (old : Rows) (u w : ℕ) (transfers : List Transfer) (new : Rows) → AreRows old → TakesAll old u w
-    transfers new
+pub takes_rows : (old : Rows) (u w : ℕ) (transfers : List Transfer) (new : Rows)
+    → AreRows old
+    → TakesAll old u w transfers new
     → AreRows new
 takes_rows old u w transfers new are takes = record {
   period = omega (arith, are.period, takes.unit.period, takes.transfers_of.period);
@@ -126,7 +135,8 @@ module _ (d : Datapath) (placed : List Placed) (u t w : ℕ) (transfers : List T
   own_within = omega (arith, s.units)
 
   -- the bit of a cycle of the unit
-  own_busy : (x : ℕ) → x + latency_on d u ≤ d.period
+  own_busy : (x : ℕ)
+      → x + latency_on d u ≤ d.period
       → (mark (unit_row takes.between u).busy.words (result_on d u x) ≡ 0)
       ↔ IsUnitFree d (IsTaken (placed ++ one_placed u t transfers ∷ [])) u x
   own_busy x x_ends =
@@ -156,7 +166,8 @@ module _ (d : Datapath) (placed : List Placed) (u t w : ℕ) (transfers : List T
               → (w + (unit_row old u).gap ≤ result_on d u x) ⊎ (result_on d u x + (unit_row old u).gap ≤ w)
           far_ends either = ⊎_elim (λ h. inl (omega (arith, gap, at_is))) (λ h. inr (omega (arith, gap, at_is))) either
 
-      near : x < t + gap_on d u → t < x + gap_on d u
+      near : x < t + gap_on d u
+          → t < x + gap_on d u
           → (mark (unit_row takes.between u).busy.words (result_on d u x) ≡ 0)
           ↔ IsUnitFree d (IsTaken (placed ++ one_placed u t transfers ∷ [])) u x
       near before after =
@@ -167,8 +178,9 @@ module _ (d : Datapath) (placed : List Placed) (u t w : ℕ) (transfers : List T
           )
 
   -- the row of a unit
-  unit_grown : (v : ℕ) → v < length d.units → IsUnitRow d (placed ++ one_placed u t transfers ∷ []) v (unit_row
-      takes.between v)
+  unit_grown : (v : ℕ)
+      → v < length d.units
+      → IsUnitRow d (placed ++ one_placed u t transfers ∷ []) v (unit_row takes.between v)
   unit_grown v v_within = ⊎_elim (λ e. subst (λ (x : ℕ). IsUnitRow d (placed ++ one_placed u t transfers ∷ []) x
       (unit_row takes.between x)) (sym e) own)
       (λ other. subst (IsUnitRow d (placed ++ one_placed u t transfers ∷ []) v) (sym (takes.unit.others v other))
@@ -181,7 +193,7 @@ module _ (d : Datapath) (placed : List Placed) (u t w : ℕ) (transfers : List T
           record {
             latency = takes.unit.latency ∙ row.latency;
             gap = takes.unit.gap ∙ row.gap;
-            drives = λ b. subst (λ (set : BusSet). (bus_bit set b ≡ 1) ↔ CanDrive d.buses u b) (sym
+            drives = λ b. subst (λ (set : Set32). Has set.bits b ↔ CanDrive d.buses u b) (sym
                 takes.unit.drives) (row.drives b);
             busy = own_busy;
           }
@@ -217,7 +229,7 @@ module _ (d : Datapath) (placed : List Placed) (u t w : ℕ) (transfers : List T
         let was : file_row takes.between port ≡ file_row old port = ap (λ (files : List FileRow). get_or files (3 * v
         + q) no_file_row) takes.unit.files in
         record {
-          sources = λ b. subst (λ (set : BusSet). (bus_bit set b ≡ 1) ↔ LeadsTo d.buses port b)
+          sources = λ b. subst (λ (set : Set32). Has set.bits b ↔ LeadsTo d.buses port b)
               (sym (takes.transfers_of.sources port ∙ ap (λ (r : FileRow). r.sources) was)) (row.sources b);
           written = λ x before.
               let bits = takes.transfers_of.written port x (omega (arith, takes.unit.count, s.units), q_within) in

@@ -8,7 +8,8 @@ use Rattle.datapath.specs.declared.types.Datapath.{Datapath}
 use Rattle.plan_core.specs.Hardware.{latency_on, no_unit, IsRoute}
 use Rattle.plan_core.specs.Reservations.{result_on, IsFreeRoute, Fits, IsFirstBus}
 use Rattle.plan_core.specs.declared.schedule.Transfer.{Transfer}
-use Rattle.bus_alloc.specs.Sets.{mark, bus_bit}
+use Rattle.bit_sets.specs.Bits.{Has}
+use Rattle.bus_alloc.specs.Sets.{mark}
 use Rattle.bus_alloc.specs.Private.Rows.{IsPortIn, IsPortOpen, IsOpen, unit_row, file_row, bus_words}
 use Rattle.bus_alloc.specs.Private.Taking.{IsRouteFree, IsFirstTransfer}
 use Rattle.bus_alloc.specs.Table.{Placed, IsTaken}
@@ -32,8 +33,11 @@ module _ (d : Datapath) (placed : List Placed) (rows : Rows) (s : Stands d place
     unit_within = omega (arith, s.units)
 
     -- a route of the rows is one of the datapath
-    route_of : (port : PortRef) (b : ℕ) → IsPortIn rows port → bus_bit (unit_row rows u).drives b ≡ 1
-        → bus_bit (file_row rows port).sources b ≡ 1 → IsRoute d u port b
+    route_of : (port : PortRef) (b : ℕ)
+        → IsPortIn rows port
+        → Has (unit_row rows u).drives.bits b
+        → Has (file_row rows port).sources.bits b
+        → IsRoute d u port b
     route_of port b is_in drive source =
         let can = ((s.unit u unit_within).drives b).0 drive in
         let leads = ((file_at port is_in).sources b).0 source in
@@ -42,16 +46,24 @@ module _ (d : Datapath) (placed : List Placed) (rows : Rows) (s : Stands d place
     few_buses : (b : ℕ) → b < length d.buses → b < 32
     few_buses b less = omega (arith, s.path.bus_count.1)
 
-    free_route : (port : PortRef) (w b : ℕ) → IsPortIn rows port → w < d.period → b < 32
-        → bus_bit (unit_row rows u).drives b ≡ 1 → bus_bit (file_row rows port).sources b ≡ 1
-        → mark (bus_words rows b) w ≡ 0 → IsFreeRoute d (IsTaken placed) u w port b
+    free_route : (port : PortRef) (w b : ℕ)
+        → IsPortIn rows port
+        → w < d.period
+        → b < 32
+        → Has (unit_row rows u).drives.bits b
+        → Has (file_row rows port).sources.bits b
+        → mark (bus_words rows b) w ≡ 0
+        → IsFreeRoute d (IsTaken placed) u w port b
     free_route port w b is_in before number drive source free = record {
       route = route_of port b is_in drive source;
       free = (s.bus b w number before).0 free;
     }
 
-    route_free : (port : PortRef) (w b : ℕ) → IsPortIn rows port → w < d.period
-        → IsFreeRoute d (IsTaken placed) u w port b → IsRouteFree rows u port w b
+    route_free : (port : PortRef) (w b : ℕ)
+        → IsPortIn rows port
+        → w < d.period
+        → IsFreeRoute d (IsTaken placed) u w port b
+        → IsRouteFree rows u port w b
     route_free port w b is_in before free = record {
       number = few_buses b free.route.there;
       drive = ((s.unit u unit_within).drives b).1 (record { there = free.route.there; driver = free.route.driver });
@@ -59,8 +71,11 @@ module _ (d : Datapath) (placed : List Placed) (rows : Rows) (s : Stands d place
       free = (s.bus b w (few_buses b free.route.there) before).1 free.free;
     }
 
-    pub first_bus_of : (w : ℕ) (transfer : Transfer) → IsPortIn rows transfer.port → w < d.period
-        → IsFirstTransfer rows u w transfer → IsFirstBus d (IsTaken placed) u w transfer
+    pub first_bus_of : (w : ℕ) (transfer : Transfer)
+        → IsPortIn rows transfer.port
+        → w < d.period
+        → IsFirstTransfer rows u w transfer
+        → IsFirstBus d (IsTaken placed) u w transfer
     first_bus_of w transfer is_in before is = record {
       route = free_route transfer.port w transfer.bus is_in before is.route.number is.route.drive is.route.source
           is.route.free;
@@ -68,7 +83,9 @@ module _ (d : Datapath) (placed : List Placed) (rows : Rows) (s : Stands d place
     }
 
     module _ (t : ℕ) (dests : List PortRef) (ports : All (IsPortIn rows) dests) where
-      pub open_fits : t + latency_on d u ≤ d.period → IsOpen rows u dests (result_on d u t) → Fits d (IsTaken placed) (Contains dests) u t
+      pub open_fits : t + latency_on d u ≤ d.period
+          → IsOpen rows u dests (result_on d u t)
+          → Fits d (IsTaken placed) (Contains dests) u t
       open_fits ends is_open = record {
         period = ends;
         unit = ((s.unit u unit_within).busy t ends).0 is_open.unit;

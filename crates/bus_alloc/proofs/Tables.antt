@@ -1,5 +1,6 @@
 -- The answers of a table, by its rows.
-use Rattle.std.proofs.Common.{◌≡◌, ℕ, ◌+◌, ◌-◌, ◌<◌, ◌≤◌, ◌↔◌, List, length, map, get_or, arith, sym, subst, Bool, IsTrue}
+use Rattle.std.proofs.Common.{◌≡◌, ℕ, ◌+◌, ◌-◌, ◌<◌, ◌≤◌, ◌↔◌, List, length, map, get_or, arith, sym, subst, Bool}
+use Rattle.std.proofs.Common.{IsTrue}
 use Rattle.std.specs.List.{All}
 use Rattle.std.proofs.lemmas.List.{get_or-map, length-map}
 use Rattle.operations.specs.declared.units.PortRef.{PortRef}
@@ -35,8 +36,10 @@ module _ (r : Reservations) (rows : Rows) (is : AreRowsOf r rows) (u : ℕ) (the
         subst (IsOpen rows u dests) at
         (fits_open r.datapath r.placed rows is.stands u unit_in t dests ports_in fits)
 
-    pub answer_fits : (t end : ℕ) (answer : Bool) → t + (unit_row rows u).latency ≤ rows.period
-        → end ≡ t + ((unit_row rows u).latency - 1) → IsTrue answer ↔ IsOpen rows u dests end
+    pub answer_fits : (t end : ℕ) (answer : Bool)
+        → t + (unit_row rows u).latency ≤ rows.period
+        → end ≡ t + ((unit_row rows u).latency - 1)
+        → IsTrue answer ↔ IsOpen rows u dests end
         → IsTrue answer ↔ FitsAt r u t dests
     answer_fits t end answer in_period ends answers =
         let at : end ≡ result_on r.datapath u t = omega (arith, ends, latency_is) in
@@ -50,21 +53,29 @@ module _ (r : Reservations) (rows : Rows) (is : AreRowsOf r rows) (u : ℕ) (the
     pub late_fits : (t : ℕ) → rows.period < t + (unit_row rows u).latency → FitsAt r u t dests → ⊥
     late_fits t late fits = absurd (omega (arith, late, fits.period, latency_is, is.stands.period))
 
-    open_at : (from later t : ℕ) → later ≡ (unit_row rows u).latency - 1 → from ≤ t → FitsAt r u t dests
+    open_at : (from later t : ℕ)
+        → later ≡ (unit_row rows u).latency - 1
+        → from ≤ t
+        → FitsAt r u t dests
         → (from + later ≤ t + later) × (t + later < rows.period) × IsOpen rows u dests (t + later)
     open_at from later t later_is after fits =
         let before = ends_in r.datapath r.placed rows is.stands u t unit_in fits.period in
         let at : t + later ≡ t + ((unit_row rows u).latency - 1) = omega (arith, later_is) in
         (omega arith, omega (arith, later_is, latency_is, before, is.stands.period), fits_at t (t + later) at fits)
 
-    pub first_fit_none : (from later t : ℕ) → later ≡ (unit_row rows u).latency - 1
+    pub first_fit_none : (from later t : ℕ)
+        → later ≡ (unit_row rows u).latency - 1
         → ((c : ℕ) → from + later ≤ c → c < rows.period → IsOpen rows u dests c → ⊥)
-        → from ≤ t → FitsAt r u t dests → ⊥
+        → from ≤ t
+        → FitsAt r u t dests
+        → ⊥
     first_fit_none from later t later_is none after fits =
         let at = open_at from later t later_is after fits in none (t + later) at.0 at.1 at.2
 
-    pub first_fit_some : (from later end : ℕ) → later ≡ (unit_row rows u).latency - 1
-        → IsFirstOpenAt rows u dests (from + later) end → IsFirstFitAt r u from dests (end - later)
+    pub first_fit_some : (from later end : ℕ)
+        → later ≡ (unit_row rows u).latency - 1
+        → IsFirstOpenAt rows u dests (from + later) end
+        → IsFirstFitAt r u from dests (end - later)
     first_fit_some from later end later_is first =
         let after = first.after in
         let at : end ≡ result_on r.datapath u (end - later) = omega (arith, later_is, latency_is, after) in

@@ -1,5 +1,6 @@
 -- Transfers that are taken one by one.
-use Rattle.std.proofs.Common.{◌≡◌, ◌≢◌, ◌∙◌, ℕ, ◌+◌, ◌<◌, ◌⊎◌, ◌↔◌, List, [], ◌∷◌, ◌++◌, length, take, map, get_or, arith, sym, ap, ap₂, subst, ⊎_elim, inl, inr}
+use Rattle.std.proofs.Common.{◌≡◌, ◌≢◌, ◌∙◌, ℕ, ◌+◌, ◌<◌, ◌⊎◌, ◌↔◌, List, [], ◌∷◌, ◌++◌, length, take, map, get_or}
+use Rattle.std.proofs.Common.{arith, sym, ap, ap₂, subst, ⊎_elim, inl, inr}
 use Rattle.std.specs.List.{All}
 use Rattle.std.proofs.lemmas.Bool.{cases_eq}
 use Rattle.std.proofs.lemmas.List.{take-take, take_more, get_or-take, length-take, map-append}
@@ -44,7 +45,9 @@ module _ {Key : Type 0} (key : Transfer → Key) (cases_key : (a b : Key) → (a
     unchanged x w is_in differ = ⊎_elim (λ at. else x w is_in (inl (λ same. differ at (sym same)))) (λ other. else x
         w is_in (inr other)) (cases_eq w cycle)
 
-    pub bits_more : (x : Key) (w : ℕ) → IsIn x → (new x w ≡ 0)
+    pub bits_more : (x : Key) (w : ℕ)
+        → IsIn x
+        → (new x w ≡ 0)
         ↔ ((old x w ≡ 0) × (w ≡ cycle → All (λ (transfer : Transfer). key transfer ≢ x) (take (k + 1) transfers)))
     bits_more x w is_in = (
       λ zero.
@@ -59,21 +62,24 @@ module _ {Key : Type 0} (key : Transfer → Key) (cases_key : (a b : Key) → (a
         n : ℕ
         n = k + 1
 
-        fewer : (x : Key) → All (λ (transfer : Transfer). key transfer ≢ x) (take (k + 1) transfers)
+        fewer : (x : Key)
+            → All (λ (transfer : Transfer). key transfer ≢ x) (take (k + 1) transfers)
             → All (λ (transfer : Transfer). key transfer ≢ x) (take k transfers)
         fewer x all =
             subst (All (λ (transfer : Transfer). key transfer ≢ x)) (take-take k n transfers (omega arith))
             (All-take (λ (transfer : Transfer). key transfer ≢ x) k (take (k + 1) transfers) all)
 
-        last : (x : Key) (w : ℕ) → (w ≡ cycle → All (λ (transfer : Transfer). key transfer ≢ x) (take (k + 1)
-            transfers))
-            → w ≡ cycle → key (get_or transfers k d) ≢ x
+        last : (x : Key) (w : ℕ)
+            → (w ≡ cycle → All (λ (transfer : Transfer). key transfer ≢ x) (take (k + 1) transfers))
+            → w ≡ cycle
+            → key (get_or transfers k d) ≢ x
         last x w all at =
             subst (λ (t : Transfer). key t ≢ x) (get_or-take n transfers k d (omega arith))
             (all at k d (omega (arith, length-take {A = Transfer})))
 
 pub takes_more : (old : Rows) (transfers : List Transfer) (k : ℕ) (d : Transfer) (cycle : ℕ) (between new : Rows)
-    → k < length transfers → TakesTransfers old (take k transfers) cycle between
+    → k < length transfers
+    → TakesTransfers old (take k transfers) cycle between
     → TakesTransfer between (get_or transfers k d) cycle new
     → TakesTransfers old (take (k + 1) transfers) cycle new
 takes_more old transfers k d cycle between new within before one = record {
@@ -94,8 +100,8 @@ takes_more old transfers k d cycle between new within before one = record {
 }
 
 -- the ports of transfers, one more transfer
-pub ports_more : (transfers new : List Transfer) (dests : List PortRef) (k : ℕ) (d : PortRef) (bus : ℕ) → k < length
-    dests
+pub ports_more : (transfers new : List Transfer) (dests : List PortRef) (k : ℕ) (d : PortRef) (bus : ℕ)
+    → k < length dests
     → map (λ (t : Transfer). t.port) transfers ≡ take k dests
     → new ≡ transfers ++ record { port = get_or dests k d; bus = bus } ∷ []
     → map (λ (t : Transfer). t.port) new ≡ take (k + 1) dests

@@ -2,7 +2,6 @@
 //! Page `docs/PLANNING.md`, "Cycles".
 #![tactic(auto)]
 
-mod buses;
 mod cycles;
 mod fresh;
 mod history;

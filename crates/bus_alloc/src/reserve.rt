@@ -23,7 +23,7 @@ impl Rows {
         ensures { IsFirstRoute self.now unit port cycle result }
     {
         let file = &self.files[file_number(port)];
-        let mut left = self.units[unit as usize].drives.and(file.sources);
+        let mut left = self.units[unit as usize].drives.intersection(file.sources);
         while let Some(bus) = left.pop_first() {
             if !self.buses[bus as usize].contains(cycle) {
                 return bus;

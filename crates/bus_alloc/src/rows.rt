@@ -6,11 +6,10 @@
 ghost use Rattle.std.specs.Prelude.{◌≡◌, ◌<◌, ◌≤◌, ◌↔◌, ◌+◌, ◌*◌, ◌/◌, ℕ, length, slice_index, IsTrue, MatchOption};
 ghost use Rattle.std.specs.List.{All};
 ghost use Rattle.std.specs.Int.{bit_at};
-ghost use Rattle.bus_alloc.specs.Sets.{bus_bit};
 ghost use Rattle.bus_alloc.specs.Private.Rows.{AreRows, IsPortIn, IsBusOpen, IsPortOpen, IsOpenIn, IsFirstZero, IsOpen, IsFirstOpen, IsResultCycle, unit_row};
 
-use crate::buses::BusSet;
 use crate::cycles::{CycleSet, WORD_CYCLES};
+use bit_sets::Set32;
 use datapath::PortRef;
 use lists::List;
 
@@ -23,7 +22,7 @@ pub struct UnitRow {
     pub latency: u8,
     pub gap: u8,
     /// The buses that it can drive.
-    pub drives: BusSet,
+    pub drives: Set32,
     pub busy: CycleSet,
 }
 
@@ -31,7 +30,7 @@ pub struct UnitRow {
 #[derive(Clone, Copy)]
 pub struct FileRow {
     /// The buses from which it can be written.
-    pub sources: BusSet,
+    pub sources: Set32,
     pub written: CycleSet,
 }
 
@@ -102,7 +101,7 @@ impl Rows {
 
     /// A word with the bits of the cycles in which all these buses are used. Of the buses the first are used most, so
     /// the last ones tell sooner that there is no such cycle.
-    fn all_used(&self, buses: BusSet, index: u16) -> u64
+    fn all_used(&self, buses: Set32, index: u16) -> u64
         requires rows { AreRows self.now }
         requires index { index < 64 }
         ensures { (i : ℕ) → i < 64 → (bit_at result i ≡ 0) ↔ IsBusOpen self.now buses index i }
@@ -127,7 +126,7 @@ impl Rows {
         ensures { (i : ℕ) → i < 64 → (bit_at result i ≡ 0) ↔ IsPortOpen self.now unit port index i }
     {
         let file = &self.files[file_number(port)];
-        let routes = self.units[unit as usize].drives.and(file.sources);
+        let routes = self.units[unit as usize].drives.intersection(file.sources);
         file.written.word(index) | self.all_used(routes, index)
     }
 

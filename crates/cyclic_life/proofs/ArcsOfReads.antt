@@ -1,5 +1,6 @@
 -- The lifetimes of the last reads are those of the schedule.
-use Rattle.std.proofs.Common.{◌≡◌, ◌⊎◌, ◌∙◌, sym, ap, subst, refl, arith, inl, inr, true, ⊎_elim, ℕ, ◌+◌, ◌*◌, ◌<◌, ◌≤◌, List, length, get_or}
+use Rattle.std.proofs.Common.{◌≡◌, ◌⊎◌, ◌∙◌, sym, ap, subst, refl, arith, inl, inr, true, ⊎_elim, ℕ, ◌+◌, ◌*◌, ◌<◌, ◌≤◌}
+use Rattle.std.proofs.Common.{List, length, get_or}
 use Rattle.std.specs.Prelude.{map}
 use Rattle.std.specs.List.{All, AllPairs, Contains}
 use Rattle.std.proofs.Math.Nat.{mul-le-mul_right}
@@ -46,7 +47,9 @@ arc_before period x y before =
     before
 
 map_in_order : {A B : Type 0} (R : A → A → Type 0) (S : B → B → Type 0) (f : A → B) (e : A) (xs : List A)
-    → ((x y : A) → R x y → S (f x) (f y)) → AllPairs R xs → AllPairs S (map f xs)
+    → ((x y : A) → R x y → S (f x) (f y))
+    → AllPairs R xs
+    → AllPairs S (map f xs)
 map_in_order R S f e xs kept order i j d below there =
     let in_xs : j < length xs = subst (λ (n : ℕ). j < n) (length-map xs f) there in
     rw (get_or-map f xs i e d (omega arith), get_or-map f xs j e d in_xs)
@@ -125,7 +128,9 @@ module _ (d : Datapath) (a : Assigned) (s : Schedule) (placed : IsPlacement d a 
     }
 
 -- what the reads are, their order does not change
-pub reads_moved : (d : Datapath) (a : Assigned) (s : Schedule) (xs ys : List Read) → AreSame xs ys → AreReads d a s xs
+pub reads_moved : (d : Datapath) (a : Assigned) (s : Schedule) (xs ys : List Read)
+    → AreSame xs ys
+    → AreReads d a s xs
     → AreReads d a s ys
 reads_moved d a s xs ys same reads = record {
   each = λ i e there. All-contains (IsRead d a s) xs (get_or ys i e) reads.each (same.known i e there);

@@ -1,5 +1,6 @@
 -- The last read of each lifetime, of reads in order.
-use Rattle.std.proofs.Common.{◌≡◌, ℕ, suc, ◌+◌, ◌<◌, ◌≤◌, Bool, true, false, drop, ap, ◌∙◌, ◌++◌, append_assoc, length, List, [], ◌∷◌, get_or, refl, sym, arith}
+use Rattle.std.proofs.Common.{◌≡◌, ℕ, suc, ◌+◌, ◌<◌, ◌≤◌, Bool, true, false, drop, ap, ◌∙◌, ◌++◌, append_assoc, length}
+use Rattle.std.proofs.Common.{List, [], ◌∷◌, get_or, refl, sym, arith}
 use Rattle.std.specs.Prelude.{if◌then◌else◌, nat_le, map}
 use Rattle.std.specs.List.{All, AllPairs, Contains}
 use Rattle.std.proofs.lemmas.Bool.Decides.{nat_tests}
@@ -10,7 +11,9 @@ use Rattle.cyclic_life.specs.Private.Reads.{is_alike, IsLifeBefore, IsUpTo, late
 use Rattle.cyclic_life.specs.declared.read.Read.{Read}
 
 -- a choice has what both of its sides have
-chosen : {A : Type 0} (P : A → Type 0) (b : Bool) (u v : A) → (b ≡ true → P u) → (b ≡ false → P v)
+chosen : {A : Type 0} (P : A → Type 0) (b : Bool) (u v : A)
+    → (b ≡ true → P u)
+    → (b ≡ false → P v)
     → P (if b then u else v)
 chosen P true u v at_true _ = at_true refl
 chosen P false u v _ at_false = at_false refl
@@ -86,7 +89,9 @@ abbrev pub IsGreatest : List Read → Read → Type 0
 IsGreatest xs z = All (λ (y : Read). is_alike y z ≡ true → y.r ≤ z.r) xs
 
 -- what stands for two is not later than a last read, so neither is one of the two
-greatest_of_two : (x y : Read) (ys : List Read) (z : Read) → is_alike x y ≡ true → IsGreatest (later x y ∷ ys) z
+greatest_of_two : (x y : Read) (ys : List Read) (z : Read)
+    → is_alike x y ≡ true
+    → IsGreatest (later x y ∷ ys) z
     → IsGreatest (x ∷ y ∷ ys) z
 greatest_of_two x y ys z alike greatest =
     let both = All-head (λ (u : Read). is_alike u z ≡ true → u.r ≤ z.r) (later x y) ys greatest in
@@ -100,7 +105,8 @@ greatest_of_two x y ys z alike greatest =
     (λ y_z. let most = both (y_with y_z) in let up = y_not_later x y in omega (arith, most, up))
     (All-tail (λ (u : Read). is_alike u z ≡ true → u.r ≤ z.r) (later x y) ys greatest))
 
-pub lasts_from_greatest : (x : Read) (xs : List Read) → AllPairs IsUpTo (x ∷ xs)
+pub lasts_from_greatest : (x : Read) (xs : List Read)
+    → AllPairs IsUpTo (x ∷ xs)
     → All (IsGreatest (x ∷ xs)) (lasts_from x xs)
 lasts_from_greatest x [] order =
     All-cons (IsGreatest (x ∷ [])) x []
@@ -210,7 +216,9 @@ module _ {A : Type 0} (f : Read → A) (last : Read) (xs : List Read) (i : ℕ) 
         ∙ kept
 
     -- it is of another lifetime, and that of the last one goes to those before it
-    pub given_out : (new : List A) → is_alike last (get_or xs i d) ≡ false → new ≡ done ++ f last ∷ []
+    pub given_out : (new : List A)
+        → is_alike last (get_or xs i d) ≡ false
+        → new ≡ done ++ f last ∷ []
         → new ++ map f (lasts_from (get_or xs i d) (drop (i + 1) xs)) ≡ all
     given_out new unlike is =
         rw (is, append_assoc)

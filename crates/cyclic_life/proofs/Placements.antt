@@ -1,5 +1,6 @@
 -- What is known of a schedule's nodes, and the reads of the first of them.
-use Rattle.std.proofs.Common.{◌≡◌, ◌⊎◌, ◌∙◌, sym, ap, subst, refl, arith, inl, inr, ⊎_elim, ℕ, ◌+◌, ◌<◌, ◌≤◌, List, [], ◌∷◌, ◌++◌, length, slice_index_or}
+use Rattle.std.proofs.Common.{◌≡◌, ◌⊎◌, ◌∙◌, sym, ap, subst, refl, arith, inl, inr, ⊎_elim, ℕ, ◌+◌, ◌<◌, ◌≤◌, List, []}
+use Rattle.std.proofs.Common.{◌∷◌, ◌++◌, length, slice_index_or}
 use Rattle.std.specs.List.{Contains}
 use Rattle.std.proofs.lemmas.Bool.{cases_lt}
 use Rattle.std.proofs.lemmas.List.{get_or_read}
@@ -22,8 +23,11 @@ use Rattle.cyclic_life.specs.Private.Placed.{IsPlacement, read_of, IsRead, AreRe
 use Rattle.cyclic_life.specs.declared.read.Read.{Read}
 
 -- what the code reads as the edge at a port
-pub edge_is : (nodes : List Node) (c q : ℕ) (n : Node) (e : Edge) → c < length nodes
-    → q < length (node_of nodes c).edges → n ≡ slice_index_or nodes c n → e ≡ slice_index_or n.edges q e
+pub edge_is : (nodes : List Node) (c q : ℕ) (n : Node) (e : Edge)
+    → c < length nodes
+    → q < length (node_of nodes c).edges
+    → n ≡ slice_index_or nodes c n
+    → e ≡ slice_index_or n.edges q e
     → e ≡ edge_of (node_of nodes c) q
 edge_is nodes c q n e there port n_is e_is =
     let node : n ≡ node_of nodes c = get_or_read nodes c n there n_is no_node in
@@ -31,15 +35,21 @@ edge_is nodes c q n e there port n_is e_is =
     get_or_read n.edges q e within e_is no_edge ∙ ap (λ (m : Node). edge_of m q) node
 
 -- what the code reads as the count of a node's ports
-pub port_count : (nodes : List Node) (c count : ℕ) (n : Node) → c < length nodes → n ≡ slice_index_or nodes c n
-    → count ≡ length n.edges → count ≡ length (node_of nodes c).edges
+pub port_count : (nodes : List Node) (c count : ℕ) (n : Node)
+    → c < length nodes
+    → n ≡ slice_index_or nodes c n
+    → count ≡ length n.edges
+    → count ≡ length (node_of nodes c).edges
 port_count nodes c count n there n_is count_is =
     count_is ∙ ap (λ (m : Node). length m.edges) (get_or_read nodes c n there n_is no_node)
 
 unit_latency : (d : Datapath) → IsDatapath d → (u : ℕ) → u < length d.units → 1 ≤ latency_on d u
 unit_latency d is u there = (All-get_or (IsUnit d.units) d.units u no_unit there is.units).latency.0
 
-pub placement : (d : Datapath) (a : Assigned) (s : Schedule) → IsDatapath d → IsHeld d a → IsListSchedule d a s
+pub placement : (d : Datapath) (a : Assigned) (s : Schedule)
+    → IsDatapath d
+    → IsHeld d a
+    → IsListSchedule d a s
     → IsPlacement d a s
 placement d a s is held schedule =
     let nodes = a.lowered.nodes in
@@ -67,9 +77,13 @@ placement d a s is held schedule =
 
 module _ (d : Datapath) (a : Assigned) (s : Schedule) where
   -- the edge that the code reads leads to a node that is there, at most three samples ago
-  pub read_edge : IsPlacement d a s → (c q : ℕ) (n : Node) (e : Edge) → c < length a.lowered.nodes
-      → q < length (node_of a.lowered.nodes c).edges → n ≡ slice_index_or a.lowered.nodes c n
-      → e ≡ slice_index_or n.edges q e → (e.node < length a.lowered.nodes) × (e.delay ≤ 3)
+  pub read_edge : IsPlacement d a s
+      → (c q : ℕ) (n : Node) (e : Edge)
+      → c < length a.lowered.nodes
+      → q < length (node_of a.lowered.nodes c).edges
+      → n ≡ slice_index_or a.lowered.nodes c n
+      → e ≡ slice_index_or n.edges q e
+      → (e.node < length a.lowered.nodes) × (e.delay ≤ 3)
   read_edge placed c q n e there port n_is e_is =
       let edge = edge_is a.lowered.nodes c q n e there port n_is e_is in
       let node = sym (ap (λ (x : Edge). x.node) edge) in
@@ -85,8 +99,10 @@ module _ (d : Datapath) (a : Assigned) (s : Schedule) where
   }
 
   -- the read of the next port comes to those before it
-  read_more : (c q v : ℕ) (reads : List Read) → q < length (node_of a.lowered.nodes c).edges
-      → (edge_of (node_of a.lowered.nodes c) q).node ≡ v → AreReadsBefore d a s c q reads
+  read_more : (c q v : ℕ) (reads : List Read)
+      → q < length (node_of a.lowered.nodes c).edges
+      → (edge_of (node_of a.lowered.nodes c) q).node ≡ v
+      → AreReadsBefore d a s c q reads
       → AreReadsBefore d a s c (q + 1) (reads ++ read_of d a s c q v ∷ [])
   read_more c q v reads port node before = record {
     each = All-push (IsRead d a s) reads (read_of d a s c q v) before.each (record {
@@ -121,8 +137,11 @@ module _ (d : Datapath) (a : Assigned) (s : Schedule) where
 
   -- the same, as the code pushes the read
   pub read_pushed : (c q v : ℕ) (reads pushed : List Read) (read : Read)
-      → q < length (node_of a.lowered.nodes c).edges → (edge_of (node_of a.lowered.nodes c) q).node ≡ v
-      → AreReadsBefore d a s c q reads → pushed ≡ reads ++ read ∷ [] → read ≡ read_of d a s c q v
+      → q < length (node_of a.lowered.nodes c).edges
+      → (edge_of (node_of a.lowered.nodes c) q).node ≡ v
+      → AreReadsBefore d a s c q reads
+      → pushed ≡ reads ++ read ∷ []
+      → read ≡ read_of d a s c q v
       → AreReadsBefore d a s c (q + 1) pushed
   read_pushed c q v reads pushed read port node before pushed_is read_is =
       let is : pushed ≡ reads ++ read_of d a s c q v ∷ [] =
@@ -130,8 +149,10 @@ module _ (d : Datapath) (a : Assigned) (s : Schedule) where
       subst (AreReadsBefore d a s c (q + 1)) (sym is) (read_more c q v reads port node before)
 
   -- the ports of a node end, and the next node begins
-  pub next_node : (c q : ℕ) (reads : List Read) → length (node_of a.lowered.nodes c).edges ≤ q
-      → AreReadsBefore d a s c q reads → AreReadsBefore d a s (c + 1) 0 reads
+  pub next_node : (c q : ℕ) (reads : List Read)
+      → length (node_of a.lowered.nodes c).edges ≤ q
+      → AreReadsBefore d a s c q reads
+      → AreReadsBefore d a s (c + 1) 0 reads
   next_node c q reads past before = record {
     each = before.each;
     every = λ e p u place reads_u.
@@ -147,7 +168,9 @@ module _ (d : Datapath) (a : Assigned) (s : Schedule) where
         place;
   }
 
-  pub all_reads : (n : ℕ) (reads : List Read) → length a.lowered.nodes ≤ n → AreReadsBefore d a s n 0 reads
+  pub all_reads : (n : ℕ) (reads : List Read)
+      → length a.lowered.nodes ≤ n
+      → AreReadsBefore d a s n 0 reads
       → AreReads d a s reads
   all_reads n reads past before = record {
     each = before.each;

@@ -12,7 +12,7 @@ use Rattle.plan_core.specs.declared.schedule.Assigned.{Assigned}
 pub record IsHeld (d : Datapath) (a : Assigned) : Type 0 where
   pub node_count : length a.lowered.nodes < 2 ^ 32
   pub edge_count : All (λ (node : Node). length node.edges ≡ operands node.op) a.lowered.nodes
-  pub edges : All (λ (node : Node). All (λ (edge : Edge). edge.node < length a.lowered.nodes) node.edges)
-      a.lowered.nodes
+  pub edges :
+      All (λ (node : Node). All (λ (edge : Edge). edge.node < length a.lowered.nodes) node.edges) a.lowered.nodes
   pub delays : All (λ (node : Node). All (λ (edge : Edge). edge.delay ≤ 3) node.edges) a.lowered.nodes
   pub assigned : IsAssigned d a

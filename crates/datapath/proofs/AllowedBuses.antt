@@ -1,5 +1,6 @@
 -- The buses of a file without a fault are allowed.
-use Rattle.std.proofs.Common.{◌≡◌, ℕ, ◌+◌, ◌-◌, ◌<◌, ◌≤◌, ◌==◌, nat_lt, Bool, true, false, ◌&&◌, List, [], ◌∷◌, ◌++◌, length, map, Option, Some, None, option_map, Ok, if◌then◌else◌, refl, sym, subst, arith}
+use Rattle.std.proofs.Common.{◌≡◌, ℕ, ◌+◌, ◌-◌, ◌<◌, ◌≤◌, ◌==◌, nat_lt, Bool, true, false, ◌&&◌, List, [], ◌∷◌, ◌++◌}
+use Rattle.std.proofs.Common.{length, map, Option, Some, None, option_map, Ok, if◌then◌else◌, refl, sym, subst, arith}
 use Rattle.std.specs.Prelude.{slice_get, IsSomeAnd}
 use Rattle.std.specs.List.{All, list_any, sum_by}
 use Rattle.std.specs.Option.{ok_or}
@@ -10,6 +11,7 @@ use Rattle.std.proofs.lemmas.List.{map-append}
 use Rattle.std.proofs.lemmas.List.Elements.{All-nil, All-push}
 use Rattle.std.proofs.lemmas.List.Quantifiers.{position-Some}
 use Rattle.std.proofs.lemmas.List.Sums.{sum_by-append}
+use Rattle.lists.proofs.Zips.{zip_length}
 use Rattle.toml.specs.Data.{Members}
 use Rattle.datapath.specs.declared.fault.Section.{Section}
 use Rattle.datapath.specs.declared.fault.PathFault.TheVariants.{UnknownUnit, UnknownPort}
@@ -23,7 +25,8 @@ use Rattle.datapath.specs.Reading.{key, only, in_turn}
 use Rattle.datapath.specs.Names.{new_name, last_dot, unit_named, driver, sink, count_at, ports_at, port_of, is_port}
 use Rattle.datapath.specs.PathOf.{room_after, bus_in, bus_at}
 use Rattle.datapath.specs.Allowed.{IsDistinct, IsPort, IsBus}
-use Rattle.datapath.proofs.Kept.{bind_ok, same_Ok, passes, some_of, turn_keeps, turn_zips, zip_length, distinct_none, distinct_push, key_ok, within_ok}
+use Rattle.datapath.proofs.Kept.{bind_ok, same_Ok, passes, some_of, turn_keeps, turn_zips, distinct_none, distinct_push}
+use Rattle.datapath.proofs.Kept.{key_ok, within_ok}
 use Rattle.datapath.proofs.AllowedUnits.{name_ok, no_default, no_unit, new_distinct}
 
 unit_there : (units : List of_unit.Unit) (n : List ℕ) (k : ℕ) → unit_named units n ≡ Some k → k < length units
@@ -44,7 +47,8 @@ abbrev pub AreDrivers : List of_unit.Unit → List ℕ → Type 0
 AreDrivers units from = All (λ unit. unit < length units) from × IsDistinct from
 
 pub drivers_ok : (s : Section) (units : List of_unit.Unit) (names : List (List ℕ)) (out : List ℕ)
-    → in_turn (driver s units) [] names ≡ Ok out → AreDrivers units out
+    → in_turn (driver s units) [] names ≡ Ok out
+    → AreDrivers units out
 drivers_ok s units names out h =
     turn_keeps (driver s units) (AreDrivers units) (λ before n k so_far e.
     let (there, new) = driver_ok s units before n k e in (
@@ -54,8 +58,10 @@ drivers_ok s units names out h =
     ))
     names [] out (All-nil (λ unit. unit < length units), distinct_none) h
 
-below : (a b : Bool) (n p count : ℕ) → ◌≡◌ {A = Option ℕ} (if a && b then Some n else None) (Some p)
-    → (b ≡ true → n < count) → p < count
+below : (a b : Bool) (n p count : ℕ)
+    → ◌≡◌ {A = Option ℕ} (if a && b then Some n else None) (Some p)
+    → (b ≡ true → n < count)
+    → p < count
 below true true n p count h f = let same : n ≡ p = cc in subst (λ k. k < count) same (f refl)
 below true false n p count h f = absurd (cc)
 below false b n p count h f = absurd (cc)
@@ -66,7 +72,8 @@ port_below count (b ∷ []) p h = below (is_within 48 57 b) (nat_lt (b - 48) cou
     (λ e. grind (arith, nat_tests))
 port_below count (b ∷ c ∷ cs) p h = absurd (cc)
 
-port_there : (o : Option of_unit.Unit) (p : ℕ) → p < count_at (option_map (λ unit. ports unit.kind) o)
+port_there : (o : Option of_unit.Unit) (p : ℕ)
+    → p < count_at (option_map (λ unit. ports unit.kind) o)
     → IsSomeAnd o (λ unit. p < ports unit.kind)
 port_there None p h = absurd (omega arith)
 port_there (Some unit) p h = h
@@ -96,7 +103,8 @@ abbrev pub AreSinks : List of_unit.Unit → List PortRef → Type 0
 AreSinks units to = All (IsPort units) to × IsDistinct to
 
 pub sinks_ok : (s : Section) (units : List of_unit.Unit) (names : List (List ℕ)) (out : List PortRef)
-    → in_turn (sink s units) [] names ≡ Ok out → AreSinks units out
+    → in_turn (sink s units) [] names ≡ Ok out
+    → AreSinks units out
 sinks_ok s units names out h =
     turn_keeps (sink s units) (AreSinks units) (λ before n p so_far e.
     let (there, new) = sink_ok s units before n p e in (
@@ -149,8 +157,10 @@ pub record AreBuses (units : List of_unit.Unit) (buses : List Bus) : Type 0 wher
   pub distinct : IsDistinct (map (λ bus. bus.name) buses)
   pub entries : sum_by (λ bus. length bus.to) buses ≤ most_entries
 
-one_more : (units : List of_unit.Unit) (before : List Bus) (bus : Bus) → AreBuses units before
-    → IsNext units before bus → AreBuses units (before ++ bus ∷ [])
+one_more : (units : List of_unit.Unit) (before : List Bus) (bus : Bus)
+    → AreBuses units before
+    → IsNext units before bus
+    → AreBuses units (before ++ bus ∷ [])
 one_more units before bus so_far next =
     let names : map (λ b. b.name) (before ++ bus ∷ []) ≡ map (λ b. b.name) before ++ bus.name ∷ [] = map-append
     (λ b. b.name) before (bus ∷ []) in

@@ -1,6 +1,7 @@
 -- A file without a fault describes an allowed datapath.
 use Rattle.std.proofs.Common.{◌≡◌, ◌≤◌, ℕ, [], length, Ok, Err, Result, subst, arith}
 use Rattle.std.specs.Prelude.{IfOk}
+use Rattle.lists.proofs.Places.{some_is as some_same}
 use Rattle.toml.specs.Data.{Members}
 use Rattle.datapath.specs.declared.fault.Section.TheVariants as section
 use Rattle.datapath.specs.declared.fault.PathFault.{PathFault}
@@ -12,7 +13,7 @@ use Rattle.datapath.specs.Reading.{Gives, key, only, in_turn}
 use Rattle.datapath.specs.PathOf.{path_at, units_of, bus_at}
 use Rattle.datapath.specs.Allowed.{IsWithin, IsDatapath}
 use Rattle.datapath.proofs.Kept.{bind_ok, same_Ok, key_ok, within_ok}
-use Rattle.datapath.proofs.AllowedUnits.{whole_ok, no_default, some_same, units_ok}
+use Rattle.datapath.proofs.AllowedUnits.{whole_ok, no_default, units_ok}
 use Rattle.datapath.proofs.AllowedBuses.{buses_ok}
 
 no_more : (most n : ℕ) → IsWithin 0 most n → n ≤ most

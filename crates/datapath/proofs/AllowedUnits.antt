@@ -1,5 +1,6 @@
 -- The units of a file without a fault are allowed.
-use Rattle.std.proofs.Common.{◌≡◌, ◌≢◌, ℕ, suc, zero, pos, negsuc, ◌≤◌, Bool, true, false, ◌&&◌, List, [], ◌∷◌, ◌++◌, length, map, codes, Option, Some, None, Ok, refl, ap, sym, ◌∙◌, subst, arith}
+use Rattle.std.proofs.Common.{◌≡◌, ◌≢◌, ℕ, suc, zero, pos, negsuc, ◌≤◌, Bool, true, false, ◌&&◌, List, [], ◌∷◌, ◌++◌}
+use Rattle.std.proofs.Common.{length, map, codes, Option, Some, None, Ok, refl, ap, sym, ◌∙◌, subst, arith}
 use Rattle.std.specs.Prelude.{slice_get, IsSomeAnd, option_map, option_and_then}
 use Rattle.std.specs.List.{All, AllZip, list_any}
 use Rattle.std.specs.Option.{ok_or}
@@ -9,6 +10,9 @@ use Rattle.std.proofs.lemmas.List.Elements.{All-nil}
 use Rattle.std.proofs.lemmas.List.Quantifiers.{position-Some}
 use Rattle.std.proofs.lemmas.Option.{slice_get-get_or}
 use Rattle.std.proofs.lemmas.Slice.Eq.{bytes_eq-Decides}
+use Rattle.lists.proofs.Zips.{zip_length}
+use Rattle.lists.proofs.Places.{some_is}
+use Rattle.lists.proofs.Bools.{first_true}
 use Rattle.toml.specs.Data.{Data, Members, string, integer, float, boolean, datetime, array, table, get_member}
 use Rattle.datapath.specs.declared.fault.Section.{Section}
 use Rattle.datapath.specs.declared.fault.PathFault.TheVariants.{UnknownUnit}
@@ -20,10 +24,13 @@ use Rattle.datapath.specs.Table as row
 use Rattle.datapath.specs.Table.{ports, is_ram, is_acu, unit_keys, no_files}
 use Rattle.datapath.specs.Reading.{◌>>=◌, found, key, only, where_has, in_turn}
 use Rattle.datapath.specs.Names.{ram_named}
-use Rattle.datapath.specs.PathOf.{kind_known, is_known_acu, unit_in, unit_at, unit_name_at, ram_in, ram_at, with_ram, with_rams, units_of}
+use Rattle.datapath.specs.PathOf.{kind_known, is_known_acu, unit_in, unit_at, unit_name_at, ram_in, ram_at, with_ram}
+use Rattle.datapath.specs.PathOf.{with_rams, units_of}
 use Rattle.datapath.specs.Allowed.{IsWithin, IsDistinct, IsUnit}
 use Rattle.datapath.proofs.Rams.{length-with_rams}
-use Rattle.datapath.proofs.Kept.{bind_ok, same_Ok, passes, some_of, has_row, turn_keeps, turn_zips, zip_length, zip_same, distinct_none, distinct_push, All-cons, within, if_within, judged_ok, key_ok, array_ok, within_ok}
+use Rattle.datapath.proofs.Kept.{bind_ok, same_Ok, passes, some_of, has_row, turn_keeps, turn_zips, zip_same}
+use Rattle.datapath.proofs.Kept.{distinct_none, distinct_push, All-cons, within, if_within, judged_ok, key_ok, array_ok}
+use Rattle.datapath.proofs.Kept.{within_ok}
 
 pub whole_ok : (least most : ℕ) (d : Data) (n : ℕ) → whole least most d ≡ Ok n → IsWithin least most n
 whole_ok least most (integer (pos k)) n h =
@@ -48,9 +55,6 @@ name_ok (table ms) n h = absurd (cc)
 
 pub no_default : {A : Type 0} (P : A → Type 0) (y : A) → ◌≡◌ {A = Option A} None (Some y) → P y
 no_default P y h = absurd (cc)
-
-pub some_same : {A : Type 0} (x y : A) → Some x ≡ Some y → x ≡ y
-some_same x y h = cc
 
 pub is_ram_yes : (k : Kind) → is_ram k ≡ true → k ≡ Ram
 is_ram_yes Ram h = refl
@@ -86,7 +90,8 @@ is_acu_no Ram other = refl
 abbrev AreFiles : ℕ → List ℕ → Type 0
 AreFiles ports sizes = (length sizes ≡ ports) × All (IsWithin 1 256) sizes
 
-files_value : (ports : ℕ) (d : Data) (sizes : List ℕ) → array_within ports ports (whole 1 256) d ≡ Ok sizes
+files_value : (ports : ℕ) (d : Data) (sizes : List ℕ)
+    → array_within ports ports (whole 1 256) d ≡ Ok sizes
     → AreFiles ports sizes
 files_value ports d sizes h =
     let (count, all) = within_ok ports ports (whole 1 256) d sizes h in (
@@ -96,11 +101,12 @@ files_value ports d sizes h =
     )
 
 files_default : (ports : ℕ) (sizes : List ℕ) → no_files ports ≡ Some sizes → AreFiles ports sizes
-files_default zero sizes h = let none : [] ≡ sizes = some_same [] sizes h in subst (AreFiles zero) none
+files_default zero sizes h = let none : [] ≡ sizes = some_is [] sizes h in subst (AreFiles zero) none
     (refl, All-nil (IsWithin 1 256))
 files_default (suc n) sizes h = absurd (cc)
 
-known_of : (s : Section) (o : Option Data) (k : Kind) → found s None (option_map kind o) ≡ Ok k
+known_of : (s : Section) (o : Option Data) (k : Kind)
+    → found s None (option_map kind o) ≡ Ok k
     → option_and_then (λ d. result_ok (kind d)) o ≡ Some k
 known_of s None k h = absurd (cc)
 known_of s (Some d) k h = rw (judged_ok s (kind d) k h) refl
@@ -130,7 +136,7 @@ IsGap-one : (latency gap : ℕ) → 1 ≡ gap → IsGap latency gap
 IsGap-one latency gap is = λ some. (omega arith, omega arith)
 
 one_within : (most : ℕ) → 1 ≤ most → (n : ℕ) → Some 1 ≡ Some n → IsWithin 1 most n
-one_within most some n e = subst (IsWithin 1 most) (some_same 1 n e) (omega arith, some)
+one_within most some n e = subst (IsWithin 1 most) (some_is 1 n e) (omega arith, some)
 
 read_ok : (s : Section) (t : Members) (u : of_unit.Unit) → unit_in s t ≡ Ok u → IsRead t u
 unfolding unit_in
@@ -151,7 +157,7 @@ read_ok s t u h =
       name = key_ok s t row.name n ne (λ m. is_name m ≡ true) name_ok (no_default (λ m. is_name m ≡ true));
       latency = key_ok s t row.latency l le (IsWithin 1 8) (whole_ok 1 8) (one_within 8 (omega arith));
       gap = key_ok s t (row.gap l) g ge (IsGap l) (λ d y e. IsGap-from_within l y (whole_ok 1 l d y e))
-          (λ y e. IsGap-one l y (some_same 1 y e))
+          (λ y e. IsGap-one l y (some_is 1 y e))
           (key_ok s t row.latency l le (λ m. 1 ≤ m) (λ d y e. (whole_ok 1 8 d y e).0)
           (λ y e. (one_within 8 (omega arith) y e).0));
       files = key_ok s t (row.files (ports kd)) fs fe (AreFiles (ports kd)) (files_value (ports kd))
@@ -164,10 +170,6 @@ read_ok s t u h =
 pub no_unit : of_unit.Unit
 no_unit = record { name = []; kind = Input; latency = 1; gap = 1; files = []; cells = 0; ram = 0 }
 
-pub and_left : (a b : Bool) → (a && b) ≡ true → a ≡ true
-and_left true b h = refl
-and_left false b h = absurd (cc)
-
 -- the position is that of a ram
 abbrev pub IsRamAt : List of_unit.Unit → ℕ → Type 0
 IsRamAt units r = IsSomeAnd (slice_get units r) (λ ram. ram.kind ≡ Ram)
@@ -175,13 +177,14 @@ IsRamAt units r = IsSomeAnd (slice_get units r) (λ ram. ram.kind ≡ Ram)
 ram_there : (units : List of_unit.Unit) (n : List ℕ) (r : ℕ) → ram_named units n ≡ Some r → IsRamAt units r
 ram_there units n r h =
     let (there, holds, before) = position-Some (λ unit. is_ram unit.kind && bytes_eq n unit.name) units r no_unit h in
-    rw (slice_get-get_or units r no_unit there) (is_ram_yes _ (and_left _ _ holds))
+    rw (slice_get-get_or units r no_unit there) (is_ram_yes _ (first_true _ _ holds))
 
 -- the ram that a table of this kind names
 abbrev IsTied : List of_unit.Unit → Option Kind → ℕ → Type 0
 IsTied units known r = (known ≡ Some Acu → IsRamAt units r) × ((k : Kind) → known ≡ Some k → k ≢ Acu → r ≡ 0)
 
-tied_ok : (s : Section) (units : List of_unit.Unit) (t : Members) (r : ℕ) → ram_in s units t ≡ Ok r
+tied_ok : (s : Section) (units : List of_unit.Unit) (t : Members) (r : ℕ)
+    → ram_in s units t ≡ Ok r
     → IsTied units (kind_known t) r
 unfolding ram_in
 tied_ok s units t r h =
@@ -192,7 +195,8 @@ tied_ok s units t r h =
       λ k is other. tied.1 (ap is_known_acu is ∙ is_acu_no k other),
     )
 
-with_rams_kind : (units : List of_unit.Unit) (rams : List ℕ) (r : ℕ) → IsRamAt units r
+with_rams_kind : (units : List of_unit.Unit) (rams : List ℕ) (r : ℕ)
+    → IsRamAt units r
     → IsRamAt (with_rams units rams) r
 unfolding with_rams
 with_rams_kind units [] r h = h
@@ -208,7 +212,9 @@ with_rams_names [] (ram ∷ rams) = refl
 with_rams_names (u ∷ units) (ram ∷ rams) = ap (λ ns. u.name ∷ ns) (with_rams_names units rams)
 
 module _ (units all : List of_unit.Unit) (keeps : (r : ℕ) → IsRamAt units r → IsRamAt all r) where
-  allowed_one : (t : Members) (u : of_unit.Unit) (r : ℕ) → IsRead t u → IsTied units (kind_known t) r
+  allowed_one : (t : Members) (u : of_unit.Unit) (r : ℕ)
+      → IsRead t u
+      → IsTied units (kind_known t) r
       → IsUnit all (with_ram u r)
   allowed_one t u r read tied = record {
     name = read.name;
@@ -222,8 +228,10 @@ module _ (units all : List of_unit.Unit) (keeps : (r : ℕ) → IsRamAt units r 
     no_ram = λ other. tied.1 u.kind read.known other;
   }
 
-  allowed_each : (ts : List Members) (us : List of_unit.Unit) (rs : List ℕ) → AllZip IsRead ts us
-      → AllZip (λ t r. IsTied units (kind_known t) r) ts rs → All (IsUnit all) (with_rams us rs)
+  allowed_each : (ts : List Members) (us : List of_unit.Unit) (rs : List ℕ)
+      → AllZip IsRead ts us
+      → AllZip (λ t r. IsTied units (kind_known t) r) ts rs
+      → All (IsUnit all) (with_rams us rs)
   unfolding with_rams
   allowed_each [] [] [] reads ties = All-nil (IsUnit all)
   allowed_each [] (u ∷ us) rs reads ties = absurd reads
@@ -237,7 +245,9 @@ module _ (units all : List of_unit.Unit) (keeps : (r : ℕ) → IsRamAt units r 
 pub finds_same : (n x : List ℕ) → x ≡ n → bytes_eq n x ≡ true
 finds_same n x is = (bytes_eq-Decides n x).1 (sym is)
 
-pub new_distinct : (before : List (List ℕ)) (n : List ℕ) → list_any (bytes_eq n) before ≡ false → IsDistinct before
+pub new_distinct : (before : List (List ℕ)) (n : List ℕ)
+    → list_any (bytes_eq n) before ≡ false
+    → IsDistinct before
     → IsDistinct (before ++ n ∷ [])
 new_distinct before n none pairs = distinct_push (bytes_eq n) before n (finds_same n) none pairs
 
@@ -255,7 +265,8 @@ pub record AreUnits (count : ℕ) (units : List of_unit.Unit) : Type 0 where
   pub allowed : All (IsUnit units) units
   pub distinct : IsDistinct (map (λ unit. unit.name) units)
 
-pub units_ok : (tables : List Members) (out : List of_unit.Unit) → units_of tables ≡ Ok out
+pub units_ok : (tables : List Members) (out : List of_unit.Unit)
+    → units_of tables ≡ Ok out
     → AreUnits (length tables) out
 unfolding units_of
 units_ok tables out h =

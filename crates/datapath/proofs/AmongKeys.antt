@@ -14,9 +14,10 @@ list_any-map p f (x ∷ xs) = ap (λ (b : Bool). p (f x) || b) (list_any-map p f
 
 -- one entry of a table: its key is tested, and then the others
 pub keys_among-cons : (names : List (Bor (List ℕ))) (es rest : List Entry) (e : Entry) (text : List ℕ) (b : Bool)
-    → es ≡ e ∷ rest → text ≡ string_bytes e.0
-    → b ≡ list_any (λ n. bytes_eq text n.now) names → keys_among (texts names) (members_view es) ≡
-    (b && keys_among (texts names) (members_view rest))
+    → es ≡ e ∷ rest
+    → text ≡ string_bytes e.0
+    → b ≡ list_any (λ n. bytes_eq text n.now) names
+    → keys_among (texts names) (members_view es) ≡ (b && keys_among (texts names) (members_view rest))
 keys_among-cons names es rest e text b first same test =
     let tested : list_any (bytes_eq (string_bytes e.0)) (texts names) ≡ b = rw (← same)
     (list_any-map (bytes_eq text) (λ (n : Bor (List ℕ)). n.now) names ∙ sym test) in

@@ -2,7 +2,8 @@
 use Rattle.std.proofs.Common.{◌≡◌, ◌≢◌, ◌⊎◌, ℕ, List, Result, Ok, Err, refl, ap, sym, ◌∙◌, inl, inr}
 use Rattle.std.specs.Prelude.{IfOk, IfErr}
 use Rattle.datapath.specs.declared.fault.PathFault.{PathFault}
-use Rattle.datapath.specs.declared.fault.PathFault.TheVariants.{TooLong, NotToml, UnknownKey, Missing, WrongKind, Range, UnknownUnit, UnknownPort, Twice, Memory}
+use Rattle.datapath.specs.declared.fault.PathFault.TheVariants.{TooLong, NotToml, UnknownKey, Missing, WrongKind, Range}
+use Rattle.datapath.specs.declared.fault.PathFault.TheVariants.{UnknownUnit, UnknownPort, Twice, Memory}
 use Rattle.datapath.specs.declared.types.Datapath.{Datapath}
 use Rattle.datapath.specs.Reading.{Read, Gives}
 use Rattle.datapath.specs.PathOf.{path_of}
@@ -37,7 +38,8 @@ module _ (bytes : List ℕ) where
   describes (Ok d) h = described bytes d h
   describes (Err e) h = tt
 
-  pub refuses : (r : Result Datapath PathFault) → Gives r (path_of bytes)
+  pub refuses : (r : Result Datapath PathFault)
+      → Gives r (path_of bytes)
       → IfErr r (λ fault. (fault ≡ Memory) ⊎ IsPathFault bytes fault)
   refuses (Ok d) h = tt
   refuses (Err e) h = by (memory_or e)

@@ -1,5 +1,6 @@
 -- Going over the entries of an array.
-use Rattle.std.proofs.Common.{◌≡◌, ℕ, ◌+◌, ◌<◌, take-append-drop, Bool, true, false, List, [], ◌∷◌, ◌++◌, length, take, drop, get_or, Result, Ok, Err, refl, ap, ◌∙◌}
+use Rattle.std.proofs.Common.{◌≡◌, ℕ, ◌+◌, ◌<◌, take-append-drop, Bool, true, false, List, [], ◌∷◌, ◌++◌, length, take}
+use Rattle.std.proofs.Common.{drop, get_or, Result, Ok, Err, refl, ap, ◌∙◌}
 use Rattle.std.proofs.lemmas.List.{take_more}
 use Rattle.toml.specs.Data.{Data, Items, no_items, item, push_item}
 use Rattle.toml.specs.declared.value.Value.{Value}
@@ -43,15 +44,18 @@ entries-push judge (item e ds) d = ap (join (judge e)) (entries-push judge ds d)
     (entries judge ds) (judge d)
 
 -- one more entry of a `Vec` of values
-pub entries-more : {A : Type 0} (judge : Data → Result A Misfit) (vs : List Value) (i : ℕ) (d : Value) → i < length vs
-    → entries judge (items_view (take (i + 1) vs)) ≡ and_then (entries judge (items_view (take i vs)))
-    (judge (view (get_or vs i d)))
+pub entries-more : {A : Type 0} (judge : Data → Result A Misfit) (vs : List Value) (i : ℕ) (d : Value)
+    → i < length vs
+    → entries judge (items_view (take (i + 1) vs))
+    ≡ and_then (entries judge (items_view (take i vs))) (judge (view (get_or vs i d)))
 entries-more judge vs i d h = rw (take_more vs i d h)
     (rw (items_view-push (take i vs) (get_or vs i d))
     (entries-push judge (items_view (take i vs)) (view (get_or vs i d))))
 
-join-WrongKind : {A : Type 0} (r : Result A Misfit) (rest more : Result (List A) Misfit) → join r rest ≡ Err WrongKind
-    → (rest ≡ Err WrongKind → more ≡ Err WrongKind) → join r more ≡ Err WrongKind
+join-WrongKind : {A : Type 0} (r : Result A Misfit) (rest more : Result (List A) Misfit)
+    → join r rest ≡ Err WrongKind
+    → (rest ≡ Err WrongKind → more ≡ Err WrongKind)
+    → join r more ≡ Err WrongKind
 join-WrongKind (Err WrongKind) rest more h ih = refl
 join-WrongKind (Ok x) (Ok xs) more h ih = absurd (cc)
 join-WrongKind (Ok x) (Err e) more h ih = rw (ih h)
@@ -60,7 +64,8 @@ join-WrongKind (Err Range) (Err e) more h ih = rw (ih h)
 
 -- an entry of another kind decides, whatever follows
 pub entries_stop : {A : Type 0} (judge : Data → Result A Misfit) (xs ys : List Value)
-    → entries judge (items_view xs) ≡ Err WrongKind → entries judge (items_view (xs ++ ys)) ≡ Err WrongKind
+    → entries judge (items_view xs) ≡ Err WrongKind
+    → entries judge (items_view (xs ++ ys)) ≡ Err WrongKind
 entries_stop judge [] ys h = absurd (cc)
 entries_stop judge (x ∷ xs) ys h = join-WrongKind (judge (view x)) (entries judge (items_view xs))
     (entries judge (items_view (xs ++ ys))) h (entries_stop judge xs ys)
@@ -71,17 +76,23 @@ and_then-WrongKind (Err WrongKind) = refl
 and_then-WrongKind (Err Range) = refl
 
 -- a step of a loop over an array's values
-pub goes_on : {A : Type 0} (judge : Data → Result A Misfit) (vs : List Value) (i : ℕ) (x : Value)
-    (before after : Result (List A) Misfit) → i < length vs → x ≡ get_or vs i x
-    → entries judge (items_view (take i vs)) ≡ before → and_then before (judge (view x)) ≡ after → entries judge
-    (items_view (take (i + 1) vs)) ≡ after
+pub goes_on :
+    {A : Type 0} (judge : Data → Result A Misfit) (vs : List Value) (i : ℕ) (x : Value)
+    (before after : Result (List A) Misfit)
+    → i < length vs
+    → x ≡ get_or vs i x
+    → entries judge (items_view (take i vs)) ≡ before
+    → and_then before (judge (view x)) ≡ after
+    → entries judge (items_view (take (i + 1) vs)) ≡ after
 goes_on judge vs i x before after lt is so_far next =
     entries-more judge vs i x lt ∙ rw (so_far, ← is) next
 
 -- an exit at a value of another kind
-pub stops : {A : Type 0} (judge : Data → Result A Misfit) (vs : List Value) (i : ℕ) (x : Value) → i < length vs
+pub stops : {A : Type 0} (judge : Data → Result A Misfit) (vs : List Value) (i : ℕ) (x : Value)
+    → i < length vs
     → x ≡ get_or vs i x
-    → judge (view x) ≡ Err WrongKind → entries judge (items_view vs) ≡ Err WrongKind
+    → judge (view x) ≡ Err WrongKind
+    → entries judge (items_view vs) ≡ Err WrongKind
 stops judge vs i x lt is bad =
     let here : entries judge (items_view (take (i + 1) vs)) ≡ Err WrongKind = goes_on judge vs i x _ _ lt is refl
     (rw bad (and_then-WrongKind _)) in

@@ -1,5 +1,7 @@
 -- The buses that are read are those that their tables describe.
-use Rattle.std.proofs.Common.{◌≡◌, ℕ, ◌+◌, ◌-◌, ◌<◌, ◌≤◌, ◌==◌, nat_lt, Bool, true, false, ◌&&◌, List, [], ◌∷◌, ◌++◌, length, map, Option, Some, None, option_map, Result, Ok, if◌then◌else◌, refl, ap, sym, ◌∙◌, subst, inl, inr, arith}
+use Rattle.std.proofs.Common.{◌≡◌, ℕ, ◌+◌, ◌-◌, ◌<◌, ◌≤◌, ◌==◌, nat_lt, Bool, true, false, ◌&&◌, List, [], ◌∷◌, ◌++◌}
+use Rattle.std.proofs.Common.{length, map, Option, Some, None, option_map, Result, Ok, if◌then◌else◌, refl, ap, sym}
+use Rattle.std.proofs.Common.{◌∙◌, subst, inl, inr, arith}
 use Rattle.std.specs.Prelude.{codes, slice_get, IsSomeAnd, MatchOption}
 use Rattle.std.specs.List.{AllZip, list_any, sum_by}
 use Rattle.std.specs.Option.{ok_or}
@@ -11,6 +13,10 @@ use Rattle.std.proofs.lemmas.List.Quantifiers.{position-Some}
 use Rattle.std.proofs.lemmas.List.Sums.{sum_by-append}
 use Rattle.std.proofs.lemmas.Option.{slice_get-get_or}
 use Rattle.std.proofs.lemmas.Slice.Eq.{bytes_eq-Decides}
+use Rattle.lists.proofs.Zips.{zip_length}
+use Rattle.lists.proofs.Places.{some_is as some_same}
+use Rattle.operations.proofs.Ports.{few_ports}
+use Rattle.lists.proofs.Bools.{second_true, first_true as and_left}
 use Rattle.toml.specs.Data.{Data, Members, get_member}
 use Rattle.datapath.specs.declared.fault.Misfit.{Misfit}
 use Rattle.datapath.specs.declared.fault.Section.{Section}
@@ -24,17 +30,19 @@ use Rattle.datapath.specs.Values.{is_within, counted, array_of, text}
 use Rattle.datapath.specs.Table as row
 use Rattle.datapath.specs.Table.{ports, bus_keys, most_entries}
 use Rattle.datapath.specs.Reading.{key, only, in_turn}
-use Rattle.datapath.specs.Names.{new_name, before_dot, last_dot, unit_named, driver, sink, count_at, ports_at, port_of, is_port}
+use Rattle.datapath.specs.Names.{new_name, before_dot, last_dot, unit_named, driver, sink, count_at, ports_at, port_of}
+use Rattle.datapath.specs.Names.{is_port}
 use Rattle.datapath.specs.PathOf.{room_after, bus_in, bus_at}
 use Rattle.datapath.specs.Allowed.{IsDistinct}
 use Rattle.datapath.specs.Described.{IsValue, IsUnitNamed, IsPortNamed, IsBusIn}
 use Rattle.datapath.proofs.Dots.{is_other}
 use Rattle.datapath.proofs.Fresh.{name_of}
-use Rattle.datapath.proofs.Kept.{bind_ok, same_Ok, passes, some_of, turn_zips, zip_length, counted_ok}
-use Rattle.datapath.proofs.AllowedUnits.{no_unit, and_left, finds_same, some_same}
+use Rattle.datapath.proofs.Kept.{bind_ok, same_Ok, passes, some_of, turn_zips, counted_ok}
+use Rattle.datapath.proofs.AllowedUnits.{no_unit, finds_same}
 use Rattle.datapath.proofs.AllowedBuses.{sink_ok, drivers_ok, sinks_ok}
 use Rattle.datapath.proofs.Named.{named_at}
-use Rattle.datapath.proofs.DescribedKeys.{value_of_key, key_of_value, has_only, only_has, bind_to, turns_read, none_earlier, some_at}
+use Rattle.datapath.proofs.DescribedKeys.{value_of_key, key_of_value, has_only, only_has, bind_to, turns_read}
+use Rattle.datapath.proofs.DescribedKeys.{none_earlier, some_at}
 
 named_of : (units : List of_unit.Unit) (n : List ℕ) (u : ℕ) → unit_named units n ≡ Some u → IsUnitNamed units n u
 named_of units n u h =
@@ -46,8 +54,10 @@ pub parts_of : (n : List ℕ) (parts : List ℕ × List ℕ) → last_dot n ≡ 
 parts_of [] parts h = absurd (cc)
 parts_of (b ∷ bs) parts h = by (last_dot bs) (λ q e. parts_of bs q e) h
   where
-    by : (o : Option (List ℕ × List ℕ)) → ((q : List ℕ × List ℕ) → o ≡ Some q → bs ≡ q.0 ++ 46 ∷ q.1)
-        → before_dot b bs o ≡ Some parts → b ∷ bs ≡ parts.0 ++ 46 ∷ parts.1
+    by : (o : Option (List ℕ × List ℕ))
+        → ((q : List ℕ × List ℕ) → o ≡ Some q → bs ≡ q.0 ++ 46 ∷ q.1)
+        → before_dot b bs o ≡ Some parts
+        → b ∷ bs ≡ parts.0 ++ 46 ∷ parts.1
     by (Some q) rest g =
         subst (λ (z : List ℕ × List ℕ). b ∷ bs ≡ z.0 ++ 46 ∷ z.1) (some_same _ parts g)
         (ap (λ (xs : List ℕ). b ∷ xs) (rest q refl))
@@ -60,7 +70,8 @@ parts_of (b ∷ bs) parts h = by (last_dot bs) (λ q e. parts_of bs q e) h
           | inr other ↦ absurd (let none : None ≡ Some parts = sym (rw other refl) ∙ g in cc)
         ]
 
-digit_of : (a : Bool) (n b p count : ℕ) → ◌≡◌ {A = Option ℕ} (if a && nat_lt n count then Some n else None) (Some p)
+digit_of : (a : Bool) (n b p count : ℕ)
+    → ◌≡◌ {A = Option ℕ} (if a && nat_lt n count then Some n else None) (Some p)
     → (a ≡ true) × (n ≡ p)
 digit_of true n b p count h = by (nat_lt n count) h
   where
@@ -78,7 +89,8 @@ port_is count (b ∷ []) p h =
 port_is count (b ∷ c ∷ cs) p h = absurd (cc)
 
 sink_of : (s : Section) (units : List of_unit.Unit) (before : List PortRef) (n : List ℕ) (p : PortRef)
-    → sink s units before n ≡ Ok p → IsPortNamed units n p
+    → sink s units before n ≡ Ok p
+    → IsPortNamed units n p
 unfolding sink
 sink_of s units before n p h =
     let (parts, pe, h1) = bind_ok (ok_or (last_dot n) (UnknownPort s)) _ p h in
@@ -96,7 +108,8 @@ sink_of s units before n p h =
     }
 
 driver_of : (s : Section) (units : List of_unit.Unit) (before : List ℕ) (n : List ℕ) (u : ℕ)
-    → driver s units before n ≡ Ok u → IsUnitNamed units n u
+    → driver s units before n ≡ Ok u
+    → IsUnitNamed units n u
 unfolding driver
 driver_of s units before n u h =
     let (unit, named, h1) = bind_ok (ok_or (unit_named units n) (UnknownUnit s)) _ u h in
@@ -104,37 +117,48 @@ driver_of s units before n u h =
     subst (IsUnitNamed units n) is (named_of units n unit (some_of _ _ unit named))
 
 -- an array of a length that is allowed where more are
-wider : {A : Type 0} (most more : ℕ) (r : Result (List A) Misfit) (xs : List A) → most ≤ more → counted 0 most r ≡ Ok xs
+wider : {A : Type 0} (most more : ℕ) (r : Result (List A) Misfit) (xs : List A)
+    → most ≤ more
+    → counted 0 most r ≡ Ok xs
     → counted 0 more r ≡ Ok xs
 wider most more r xs le h =
     let (within, is) = counted_ok 0 most r xs h in
     let fits : is_within 0 more (length xs) ≡ true = let few = within.1 in grind (arith, nat_tests) in
     rw (is, fits) refl
 
-narrower : {A : Type 0} (most more : ℕ) (r : Result (List A) Misfit) (xs : List A) → length xs ≤ most
-    → counted 0 more r ≡ Ok xs → counted 0 most r ≡ Ok xs
+narrower : {A : Type 0} (most more : ℕ) (r : Result (List A) Misfit) (xs : List A)
+    → length xs ≤ most
+    → counted 0 more r ≡ Ok xs
+    → counted 0 most r ≡ Ok xs
 narrower most more r xs few h =
     let (within, is) = counted_ok 0 more r xs h in
     let fits : is_within 0 most (length xs) ≡ true = grind (arith, nat_tests) in
     rw (is, fits) refl
 
-match_map : {P Q : Data → Type 0} (D : Type 0) (o : Option Data) → ((d : Data) → P d → Q d) → MatchOption o D P
+match_map : {P Q : Data → Type 0} (D : Type 0) (o : Option Data)
+    → ((d : Data) → P d → Q d)
+    → MatchOption o D P
     → MatchOption o D Q
 match_map D None each h = h
 match_map D (Some d) each h = each d h
 
-pub to_widened : (t : Members) (room : ℕ) (to : List (List ℕ)) → room ≤ most_entries → IsValue (row.to room) t to
+pub to_widened : (t : Members) (room : ℕ) (to : List (List ℕ))
+    → room ≤ most_entries
+    → IsValue (row.to room) t to
     → IsValue (row.to most_entries) t to
 to_widened t room to le h =
     match_map _ (get_member (codes "to") t) (λ d e. wider room most_entries (array_of text d) to le e) h
 
-to_narrowed : (t : Members) (room : ℕ) (to : List (List ℕ)) → length to ≤ room → IsValue (row.to most_entries) t to
+to_narrowed : (t : Members) (room : ℕ) (to : List (List ℕ))
+    → length to ≤ room
+    → IsValue (row.to most_entries) t to
     → IsValue (row.to room) t to
 to_narrowed t room to few h =
     match_map _ (get_member (codes "to") t) (λ d e. narrower room most_entries (array_of text d) to few e) h
 
 pub bus_described : (s : Section) (units : List of_unit.Unit) (before : List Bus) (t : Members) (bus : Bus)
-    → bus_in s units before t ≡ Ok bus → IsBusIn units t bus
+    → bus_in s units before t ≡ Ok bus
+    → IsBusIn units t bus
 unfolding bus_in
 bus_described s units before t bus h =
     let (k, ke, h1) = bind_ok (only s t bus_keys) _ bus h in
@@ -151,7 +175,8 @@ bus_described s units before t bus h =
       name = value_of_key s t row.name n ne;
       from = from;
       from_is = value_of_key s t row.from from fe;
-      drivers = turn_zips (driver s units) (IsUnitNamed units) (λ earlier x u e. driver_of s units earlier x u e) from ds de;
+      drivers =
+          turn_zips (driver s units) (IsUnitNamed units) (λ earlier x u e. driver_of s units earlier x u e) from ds de;
       drivers_once = (drivers_ok s units from ds de).1;
       to = to;
       to_is = to_widened t (room_after before) to room (value_of_key s t (row.to (room_after before)) to te);
@@ -160,7 +185,8 @@ bus_described s units before t bus h =
     })
 
 pub buses_described : (units : List of_unit.Unit) (tables : List Members) (out : List Bus)
-    → in_turn (bus_at units) [] tables ≡ Ok out → AllZip (IsBusIn units) tables out
+    → in_turn (bus_at units) [] tables ≡ Ok out
+    → AllZip (IsBusIn units) tables out
 buses_described units tables out h =
     turn_zips (bus_at units) (IsBusIn units) (λ before t bus e. bus_described _ units before t bus e) tables out h
 
@@ -168,17 +194,8 @@ dot_last : (unit : List ℕ) (c : ℕ) → (c ≡ 46 → ⊥) → last_dot (unit
 dot_last [] c other = rw (is_other c other) refl
 dot_last (b ∷ unit) c other = rw (dot_last unit c other) refl
 
-few_ports : (kind : Kind) → ports kind ≤ 3
-few_ports Input = omega arith
-few_ports Output = omega arith
-few_ports Rom = omega arith
-few_ports Alu = omega arith
-few_ports Mul = omega arith
-few_ports Sel = omega arith
-few_ports Ram = omega arith
-few_ports Acu = omega arith
-
-port_counted : (o : Option of_unit.Unit) (p : ℕ) → IsSomeAnd o (λ unit. p < ports unit.kind)
+port_counted : (o : Option of_unit.Unit) (p : ℕ)
+    → IsSomeAnd o (λ unit. p < ports unit.kind)
     → (p < count_at (option_map (λ unit. ports unit.kind) o)) × (p < 3)
 port_counted None p h = absurd h
 port_counted (Some unit) p h = let few = few_ports unit.kind in (h, omega arith)
@@ -190,14 +207,10 @@ digit_read count p within few =
     let less : nat_lt p count ≡ true = grind (arith, nat_tests) in
     rw (digit, back, less) refl
 
-and_right : (a b : Bool) → (a && b) ≡ true → b ≡ true
-and_right true b h = h
-and_right false b h = absurd (cc)
-
 pub one_port : (p q : PortRef) → is_port p q ≡ true → q ≡ p
 one_port p q h =
     let unit : q.unit ≡ p.unit = eqb-true q.unit p.unit (and_left _ _ h) in
-    let port : q.port ≡ p.port = eqb-true q.port p.port (and_right _ _ h) in
+    let port : q.port ≡ p.port = eqb-true q.port p.port (second_true _ _ h) in
     ap (λ (u : ℕ). record { unit = u; port = q.port }) unit ∙ ap (λ (v : ℕ). record { unit = p.unit; port = v }) port
 
 module _ (units : List of_unit.Unit) (apart : IsDistinct (map name_of units)) (s : Section) where
@@ -206,7 +219,9 @@ module _ (units : List of_unit.Unit) (apart : IsDistinct (map name_of units)) (s
       let (within, its) = some_at (λ (v : of_unit.Unit). v.name ≡ n) units u no_unit named in
       named_at units n apart u within (finds_same n _ its)
 
-  driver_read : (before rest : List ℕ) (n : List ℕ) (u : ℕ) → IsDistinct (before ++ u ∷ rest) → IsUnitNamed units n u
+  driver_read : (before rest : List ℕ) (n : List ℕ) (u : ℕ)
+      → IsDistinct (before ++ u ∷ rest)
+      → IsUnitNamed units n u
       → driver s units before n ≡ Ok u
   unfolding driver
   driver_read before rest n u once named =
@@ -214,8 +229,10 @@ module _ (units : List of_unit.Unit) (apart : IsDistinct (map name_of units)) (s
       none_earlier (λ other. other == u) before rest u (λ x same. eqb-true x u same) once in
       bind_to (ok_or (unit_named units n) (UnknownUnit s)) _ u _ (rw (unit_found n u named) refl) (rw none refl)
 
-  sink_read : (before rest : List PortRef) (n : List ℕ) (p : PortRef) → IsDistinct (before ++ p ∷ rest)
-      → IsPortNamed units n p → sink s units before n ≡ Ok p
+  sink_read : (before rest : List PortRef) (n : List ℕ) (p : PortRef)
+      → IsDistinct (before ++ p ∷ rest)
+      → IsPortNamed units n p
+      → sink s units before n ≡ Ok p
   unfolding sink
   sink_read before rest n p once is =
       let (below, few) = port_counted (slice_get units p.unit) p.port is.there in
@@ -224,21 +241,24 @@ module _ (units : List of_unit.Unit) (apart : IsDistinct (map name_of units)) (s
       let none : list_any (is_port p) before ≡ false =
       none_earlier (is_port p) before rest p (λ x yes. one_port p x yes) once in
       bind_to (ok_or (last_dot n) (UnknownPort s)) _ (is.unit, (48 + p.port) ∷ []) _ (rw parts refl)
-      (bind_to (ok_or (unit_named units is.unit) (UnknownUnit s)) _ p.unit _ (rw (unit_found is.unit p.unit is.named) refl)
+      (bind_to (ok_or (unit_named units is.unit) (UnknownUnit s)) _ p.unit _
+      (rw (unit_found is.unit p.unit is.named) refl)
       (bind_to (ok_or (port_of (ports_at units p.unit) ((48 + p.port) ∷ [])) (UnknownPort s)) _ p.port _
       (rw (digit_read (ports_at units p.unit) p.port below few) refl) (rw none refl)))
 
   bus_read : (before rest : List Bus) (t : Members) (bus : Bus)
       → IsDistinct (map (λ b. b.name) (before ++ bus ∷ rest))
       → sum_by (λ b. length b.to) (before ++ bus ∷ rest) ≤ most_entries
-      → IsBusIn units t bus → bus_in s units before t ≡ Ok bus
+      → IsBusIn units t bus
+      → bus_in s units before t ≡ Ok bus
   unfolding bus_in
   bus_read before rest t bus names entries is =
       let total = sum_by-append (λ (b : Bus). length b.to) before (bus ∷ rest) in
       let here = sum_by-append (λ (b : Bus). length b.to) (bus ∷ []) rest in
       let count : length bus.to ≡ length is.to = zip_length (IsPortNamed units) is.to bus.to is.sinks in
       let room : length is.to ≤ room_after before = omega arith in
-      let mapped : map (λ (b : Bus). b.name) (before ++ bus ∷ rest) ≡ map (λ b. b.name) before ++ bus.name ∷ map (λ b. b.name) rest =
+      let mapped : map (λ (b : Bus). b.name) (before ++ bus ∷ rest)
+      ≡ map (λ b. b.name) before ++ bus.name ∷ map (λ b. b.name) rest =
       map-append (λ b. b.name) before (bus ∷ rest) in
       let new : list_any (bytes_eq bus.name) (map (λ b. b.name) before) ≡ false =
       none_earlier (bytes_eq bus.name) (map (λ b. b.name) before) (map (λ b. b.name) rest) bus.name
@@ -255,12 +275,17 @@ module _ (units : List of_unit.Unit) (apart : IsDistinct (map name_of units)) (s
       is.drivers)
       (bind_to (in_turn (sink s units) [] is.to) _ bus.to _
       (turns_read (sink s units) (IsPortNamed units) bus.to
-      (λ earlier later n p e named. sink_read earlier later n p (subst IsDistinct e is.sinks_once) named) is.to is.sinks)
+      (λ earlier later n p e named. sink_read earlier later n p (subst IsDistinct e is.sinks_once) named) is.to
+      is.sinks)
       refl))))))
 
-pub buses_read : (units : List of_unit.Unit) → IsDistinct (map name_of units) → (tables : List Members) (out : List Bus)
-    → IsDistinct (map (λ bus. bus.name) out) → sum_by (λ bus. length bus.to) out ≤ most_entries
-    → AllZip (IsBusIn units) tables out → in_turn (bus_at units) [] tables ≡ Ok out
+pub buses_read : (units : List of_unit.Unit)
+    → IsDistinct (map name_of units)
+    → (tables : List Members) (out : List Bus)
+    → IsDistinct (map (λ bus. bus.name) out)
+    → sum_by (λ bus. length bus.to) out ≤ most_entries
+    → AllZip (IsBusIn units) tables out
+    → in_turn (bus_at units) [] tables ≡ Ok out
 buses_read units apart tables out names entries zips =
     turns_read (bus_at units) (IsBusIn units) out
     (λ before rest t bus e is.

@@ -1,5 +1,7 @@
 -- A key is read as the value that the table has for it, and lists are read element by element.
-use Rattle.std.proofs.Common.{◌≡◌, ℕ, suc, zero, ◌<◌, Bool, true, false, List, [], ◌∷◌, ◌++◌, length, length-append, map, get_or, Option, Some, None, option_map, Ok, Err, if◌then◌else◌, refl, ap, sym, ◌∙◌, append_assoc, inl, inr, arith}
+use Rattle.std.proofs.Common.{◌≡◌, ℕ, suc, zero, ◌<◌, Bool, true, false, List, [], ◌∷◌, ◌++◌, length, length-append}
+use Rattle.std.proofs.Common.{map, get_or, Option, Some, None, option_map, Ok, Err, if◌then◌else◌, refl, ap, sym, ◌∙◌}
+use Rattle.std.proofs.Common.{append_assoc, inl, inr, arith}
 use Rattle.std.specs.Prelude.{slice_get, IsSomeAnd, MatchOption, position}
 use Rattle.std.specs.List.{AllZip, list_any}
 use Rattle.std.proofs.lemmas.Bool.{cases_Bool}
@@ -19,12 +21,14 @@ use Rattle.datapath.proofs.Kept.{absent_ok, judged_ok}
 
 module _ {A : Type 0} (s : Section) where
   value_found : (default : Option A) (judge : Judge A) (o : Option Data) (x : A)
-      → found s default (option_map judge o) ≡ Ok x → MatchOption o (default ≡ Some x) (λ d. judge d ≡ Ok x)
+      → found s default (option_map judge o) ≡ Ok x
+      → MatchOption o (default ≡ Some x) (λ d. judge d ≡ Ok x)
   value_found default judge None x h = absent_ok s default x h
   value_found default judge (Some d) x h = judged_ok s (judge d) x h
 
   found_value : (default : Option A) (judge : Judge A) (o : Option Data) (x : A)
-      → MatchOption o (default ≡ Some x) (λ d. judge d ≡ Ok x) → found s default (option_map judge o) ≡ Ok x
+      → MatchOption o (default ≡ Some x) (λ d. judge d ≡ Ok x)
+      → found s default (option_map judge o) ≡ Ok x
   found_value default judge None x h = rw h refl
   found_value default judge (Some d) x h = rw h refl
 
@@ -36,11 +40,14 @@ module _ {A : Type 0} (s : Section) where
   unfolding key
   key_of_value t r x h = found_value r.default r.value (get_member r.key t) x h
 
-if_ok : (b : Bool) (e : PathFault) (u : Unit {0}) → ◌≡◌ {A = Read (Unit {0})} (if b then Ok tt else Err e) (Ok u) → b ≡ true
+if_ok : (b : Bool) (e : PathFault) (u : Unit {0})
+    → ◌≡◌ {A = Read (Unit {0})} (if b then Ok tt else Err e) (Ok u)
+    → b ≡ true
 if_ok true e u h = refl
 if_ok false e u h = absurd (cc)
 
-pub has_only : (s : Section) (t : Members) (names : List (List ℕ)) (u : Unit {0}) → only s t names ≡ Ok u
+pub has_only : (s : Section) (t : Members) (names : List (List ℕ)) (u : Unit {0})
+    → only s t names ≡ Ok u
     → HasOnly names t
 unfolding only
 has_only s t names u h = if_ok (keys_among names t) _ u h
@@ -49,12 +56,16 @@ pub only_has : (s : Section) (t : Members) (names : List (List ℕ)) → HasOnly
 unfolding only
 only_has s t names h = rw h refl
 
-pub bind_to : {A B : Type 0} (r : Read A) (f : A → Read B) (x : A) (out : Read B) → r ≡ Ok x → f x ≡ out
+pub bind_to : {A B : Type 0} (r : Read A) (f : A → Read B) (x : A) (out : Read B)
+    → r ≡ Ok x
+    → f x ≡ out
     → (r >>= f) ≡ out
 bind_to r f x out is rest = rw is rest
 
-pub row_has : {A : Type 0} (b : Bool) (row : Read A) (none x : A) → (b ≡ true → row ≡ Ok x)
-    → (b ≡ false → x ≡ none) → where_has b row none ≡ Ok x
+pub row_has : {A : Type 0} (b : Bool) (row : Read A) (none x : A)
+    → (b ≡ true → row ≡ Ok x)
+    → (b ≡ false → x ≡ none)
+    → where_has b row none ≡ Ok x
 row_has true row none x here other = here refl
 row_has false row none x here other = ap Ok (sym (other refl))
 
@@ -74,7 +85,10 @@ module _ {A B : Type 0} (one : List B → A → Read B) (R : A → B → Type 0)
   turns_read xs zips = turns_from xs [] all refl zips
 
 pub zip_map : {A B C : Type 0} (R : A → B → Type 0) (S : A → C → Type 0) (f : B → C)
-    → ((x : A) (y : B) → R x y → S x (f y)) → (xs : List A) (ys : List B) → AllZip R xs ys → AllZip S xs (map f ys)
+    → ((x : A) (y : B) → R x y → S x (f y))
+    → (xs : List A) (ys : List B)
+    → AllZip R xs ys
+    → AllZip S xs (map f ys)
 zip_map R S f each [] [] zips = tt
 zip_map R S f each [] (y ∷ ys) zips = absurd zips
 zip_map R S f each (x ∷ xs) [] zips = absurd zips
@@ -85,27 +99,34 @@ zip_refl [] = tt
 zip_refl (x ∷ xs) = (refl, zip_refl xs)
 
 -- among elements that differ, none before this one passes a test that it alone can pass
-pub none_earlier : {A : Type 0} (p : A → Bool) (before rest : List A) (y : A) → ((x : A) → p x ≡ true → x ≡ y)
-    → IsDistinct (before ++ y ∷ rest) → list_any p before ≡ false
+pub none_earlier : {A : Type 0} (p : A → Bool) (before rest : List A) (y : A)
+    → ((x : A) → p x ≡ true → x ≡ y)
+    → IsDistinct (before ++ y ∷ rest)
+    → list_any p before ≡ false
 none_earlier p before rest y alone apart = list_any_none p before fails
   where
     fails : (k : ℕ) (d : _) → k < length before → p (get_or before k d) ≡ false
     fails k d within =
         elim (cases_Bool (p (get_or before k d))) [
           | inl passed ↦ absurd (apart k (length before) d within (rw (length-append before (y ∷ rest)) (omega arith))
-              (get_or_append_left before (y ∷ rest) d k within ∙ alone _ passed ∙ sym (get_or_at before y rest d (length before) refl)))
+              (get_or_append_left before (y ∷ rest) d k within ∙ alone _ passed
+              ∙ sym (get_or_at before y rest d (length before) refl)))
           | inr failed ↦ failed
         ]
 
 -- the element at a place that the test says
-pub some_at : {A : Type 0} (P : A → Type 0) (xs : List A) (i : ℕ) (d : A) → IsSomeAnd (slice_get xs i) P
+pub some_at : {A : Type 0} (P : A → Type 0) (xs : List A) (i : ℕ) (d : A)
+    → IsSomeAnd (slice_get xs i) P
     → (i < length xs) × P (get_or xs i d)
 some_at P [] i d h = absurd h
 some_at P (x ∷ xs) zero d h = (omega arith, h)
 some_at P (x ∷ xs) (suc i) d h = let rest = some_at P xs i d h in (omega (arith, rest.0), rest.1)
 
-pub position_is : {A : Type 0} (p : A → Bool) (xs : List A) (i : ℕ) (d : A) → i < length xs
-    → p (get_or xs i d) ≡ true → ((k : ℕ) → k < i → p (get_or xs k d) ≡ false) → position p xs ≡ Some i
+pub position_is : {A : Type 0} (p : A → Bool) (xs : List A) (i : ℕ) (d : A)
+    → i < length xs
+    → p (get_or xs i d) ≡ true
+    → ((k : ℕ) → k < i → p (get_or xs k d) ≡ false)
+    → position p xs ≡ Some i
 position_is p xs i d within here before =
     let first = position_or_len_is p xs i d (omega arith) before (λ _. here) in
     rw first (grind (arith, nat_tests))

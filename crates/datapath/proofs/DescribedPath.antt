@@ -1,5 +1,6 @@
 -- What a file describes is what is read of it, so a file describes one datapath at most.
-use Rattle.std.proofs.Common.{◌≡◌, ◌^◌, ℕ, Bool, true, false, List, [], length, Option, Some, None, Ok, Err, nat_lt, if◌then◌else◌, refl, sym, ◌∙◌, subst, arith}
+use Rattle.std.proofs.Common.{◌≡◌, ◌^◌, ℕ, Bool, true, false, List, [], length, Option, Some, None, Ok, Err, nat_lt}
+use Rattle.std.proofs.Common.{if◌then◌else◌, refl, sym, ◌∙◌, subst, arith}
 use Rattle.std.specs.Str.{is_utf8}
 use Rattle.std.proofs.lemmas.Bool.Decides.{nat_tests}
 use Rattle.toml.specs.Data.{Members}
@@ -68,8 +69,13 @@ module _ (bytes : List ℕ) (d : Datapath) where
   unfolding path_of
   described h = by (nat_lt (2 ^ 20) (length bytes)) refl h
     where
-      in_table : (text : Bool) → is_utf8 bytes ≡ text → (o : Option Members) → parse_document bytes ≡ o
-          → nat_lt (2 ^ 20) (length bytes) ≡ false → path_in (if text then o else None) ≡ Ok d → IsPathOf bytes d
+      in_table : (text : Bool)
+          → is_utf8 bytes ≡ text
+          → (o : Option Members)
+          → parse_document bytes ≡ o
+          → nat_lt (2 ^ 20) (length bytes) ≡ false
+          → path_in (if text then o else None) ≡ Ok d
+          → IsPathOf bytes d
       in_table true utf8 (Some t) parsed small g = record {
         short = grind (arith, nat_tests);
         text = utf8;
@@ -80,8 +86,10 @@ module _ (bytes : List ℕ) (d : Datapath) where
       in_table true utf8 None parsed small g = absurd (cc)
       in_table false utf8 o parsed small g = absurd (cc)
 
-      by : (long : Bool) → nat_lt (2 ^ 20) (length bytes) ≡ long
-          → ◌≡◌ {A = Read Datapath} (if long then Err TooLong else path_in (document bytes)) (Ok d) → IsPathOf bytes d
+      by : (long : Bool)
+          → nat_lt (2 ^ 20) (length bytes) ≡ long
+          → ◌≡◌ {A = Read Datapath} (if long then Err TooLong else path_in (document bytes)) (Ok d)
+          → IsPathOf bytes d
       by true e g = absurd (cc)
       by false e g = in_table (is_utf8 bytes) refl (parse_document bytes) refl e g
 

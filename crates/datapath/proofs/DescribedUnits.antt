@@ -1,11 +1,13 @@
 -- The units that are read are those that their tables describe.
-use Rattle.std.proofs.Common.{◌≡◌, ◌≢◌, ℕ, suc, zero, Bool, true, false, ◌&&◌, List, [], ◌∷◌, ◌++◌, map, get_or, Option, Some, Ok, refl, ap, sym, ◌∙◌, subst}
+use Rattle.std.proofs.Common.{◌≡◌, ◌≢◌, ℕ, suc, zero, Bool, true, false, ◌&&◌, List, [], ◌∷◌, ◌++◌, map, get_or, Option}
+use Rattle.std.proofs.Common.{Some, Ok, refl, ap, sym, ◌∙◌, subst}
 use Rattle.std.specs.List.{AllZip, list_any}
 use Rattle.std.specs.Option.{ok_or}
 use Rattle.std.specs.Str.{bytes_eq}
 use Rattle.std.proofs.lemmas.List.Quantifiers.{position-Some}
 use Rattle.std.proofs.lemmas.Option.{slice_get-get_or}
 use Rattle.std.proofs.lemmas.Slice.Eq.{bytes_eq-Decides}
+use Rattle.lists.proofs.Bools.{second_true, first_true as and_left}
 use Rattle.toml.specs.Data.{Members}
 use Rattle.datapath.specs.declared.fault.Section.{Section}
 use Rattle.datapath.specs.declared.fault.PathFault.TheVariants.{UnknownUnit}
@@ -16,14 +18,16 @@ use Rattle.datapath.specs.Table as row
 use Rattle.datapath.specs.Table.{ports, is_ram, is_acu, unit_keys}
 use Rattle.datapath.specs.Reading.{◌>>=◌, key, only, where_has, in_turn}
 use Rattle.datapath.specs.Names.{ram_named}
-use Rattle.datapath.specs.PathOf.{kind_known, is_known_acu, unit_in, unit_at, unit_name_at, ram_in, ram_at, with_ram, with_rams, units_of}
+use Rattle.datapath.specs.PathOf.{kind_known, is_known_acu, unit_in, unit_at, unit_name_at, ram_in, ram_at, with_ram}
+use Rattle.datapath.specs.PathOf.{with_rams, units_of}
 use Rattle.datapath.specs.Allowed.{IsDistinct}
 use Rattle.datapath.specs.Described.{IsValue, HasOnly, IsRamNamed, IsUnitIn}
 use Rattle.datapath.proofs.Fresh.{name_of}
 use Rattle.datapath.proofs.Kept.{bind_ok, same_Ok, some_of, has_row, turn_zips}
-use Rattle.datapath.proofs.AllowedUnits.{is_ram_no, is_acu_no, is_ram_yes, no_unit, kind_found, and_left, finds_same}
+use Rattle.datapath.proofs.AllowedUnits.{is_ram_no, is_acu_no, is_ram_yes, no_unit, kind_found, finds_same}
 use Rattle.datapath.proofs.Named.{none_before}
-use Rattle.datapath.proofs.DescribedKeys.{value_of_key, key_of_value, has_only, only_has, bind_to, row_has, turns_read, zip_map, zip_refl, none_earlier, some_at, position_is}
+use Rattle.datapath.proofs.DescribedKeys.{value_of_key, key_of_value, has_only, only_has, bind_to, row_has, turns_read}
+use Rattle.datapath.proofs.DescribedKeys.{zip_map, zip_refl, none_earlier, some_at, position_is}
 
 pub is_acu_yes : (k : Kind) → is_acu k ≡ true → k ≡ Acu
 is_acu_yes Acu h = refl
@@ -74,10 +78,6 @@ read_in s t u h =
       no_cells = λ other. cells.1 (is_ram_no kd other);
     })
 
-and_right : (a b : Bool) → (a && b) ≡ true → b ≡ true
-and_right true b h = h
-and_right false b h = absurd (cc)
-
 abbrev is_ram_of : List ℕ → of_unit.Unit → Bool
 is_ram_of n unit = is_ram unit.kind && bytes_eq n unit.name
 
@@ -87,7 +87,7 @@ ram_found units n r h =
     let unit = get_or units r no_unit in
     rw (slice_get-get_or units r no_unit there) (
       is_ram_yes unit.kind (and_left _ _ holds),
-      sym ((bytes_eq-Decides n unit.name).0 (and_right (is_ram unit.kind) _ holds)),
+      sym ((bytes_eq-Decides n unit.name).0 (second_true (is_ram unit.kind) _ holds)),
     )
 
 -- the ram that a table names
@@ -107,7 +107,8 @@ tied_in s units t r h =
       λ k is other. tied.1 (ap is_known_acu is ∙ is_acu_no k other),
     )
 
-with_rams_named : (n : List ℕ) (units : List of_unit.Unit) (rams : List ℕ) (r : ℕ) → IsRamNamed units n r
+with_rams_named : (n : List ℕ) (units : List of_unit.Unit) (rams : List ℕ) (r : ℕ)
+    → IsRamNamed units n r
     → IsRamNamed (with_rams units rams) n r
 unfolding with_rams
 with_rams_named n units [] r h = h
@@ -117,7 +118,9 @@ with_rams_named n (u ∷ units) (ram ∷ rams) (suc r) h = with_rams_named n uni
 
 module _ (units all : List of_unit.Unit)
     (keeps : (n : List ℕ) (r : ℕ) → IsRamNamed units n r → IsRamNamed all n r) where
-  described_one : (t : Members) (u : of_unit.Unit) (r : ℕ) → IsReadIn t u → IsTiedIn units t r
+  described_one : (t : Members) (u : of_unit.Unit) (r : ℕ)
+      → IsReadIn t u
+      → IsTiedIn units t r
       → IsUnitIn all t (with_ram u r)
   described_one t u r read tied = record {
     keys = read.keys;
@@ -132,8 +135,10 @@ module _ (units all : List of_unit.Unit)
     no_ram = λ other. tied.1 u.kind read.known other;
   }
 
-  described_each : (ts : List Members) (us : List of_unit.Unit) (rs : List ℕ) → AllZip IsReadIn ts us
-      → AllZip (IsTiedIn units) ts rs → AllZip (IsUnitIn all) ts (with_rams us rs)
+  described_each : (ts : List Members) (us : List of_unit.Unit) (rs : List ℕ)
+      → AllZip IsReadIn ts us
+      → AllZip (IsTiedIn units) ts rs
+      → AllZip (IsUnitIn all) ts (with_rams us rs)
   unfolding with_rams
   described_each [] [] [] reads ties = tt
   described_each [] (u ∷ us) rs reads ties = absurd reads
@@ -143,7 +148,8 @@ module _ (units all : List of_unit.Unit)
   described_each (t ∷ ts) (u ∷ us) (r ∷ rs) reads ties =
       (described_one t u r reads.0 ties.0, described_each ts us rs reads.1 ties.1)
 
-pub units_described : (tables : List Members) (out : List of_unit.Unit) → units_of tables ≡ Ok out
+pub units_described : (tables : List Members) (out : List of_unit.Unit)
+    → units_of tables ≡ Ok out
     → AllZip (IsUnitIn out) tables out
 unfolding units_of
 units_described tables out h =
@@ -183,7 +189,8 @@ module _ (all : List of_unit.Unit) (t : Members) (u : of_unit.Unit) (is : IsUnit
   known s = kind_found s t u.kind (key_of_value s t row.kind u.kind is.kind)
 
   -- what the first pass reads at `ram`, which it drops
-  some_ram : (s : Section) (b : Bool) → is_acu u.kind ≡ b
+  some_ram : (s : Section) (b : Bool)
+      → is_acu u.kind ≡ b
       → (name : List ℕ) × (where_has (is_acu u.kind) (key s t row.ram) [] ≡ Ok name)
   some_ram s true e =
       let (name, value, named) = is.ram (is_acu_yes u.kind e) in (
@@ -202,7 +209,8 @@ module _ (all : List of_unit.Unit) (t : Members) (u : of_unit.Unit) (is : IsUnit
   unit_read s =
       let kind_is = known s in
       let keys : only s t (unit_keys (kind_known t)) ≡ Ok tt =
-      only_has s t (unit_keys (kind_known t)) (subst (λ (o : Option Kind). HasOnly (unit_keys o) t) (sym kind_is) is.keys)
+      only_has s t (unit_keys (kind_known t))
+      (subst (λ (o : Option Kind). HasOnly (unit_keys o) t) (sym kind_is) is.keys)
       in
       let cells : where_has (is_ram u.kind) (key s t row.cells) 0 ≡ Ok u.cells =
       row_has (is_ram u.kind) (key s t row.cells) 0 u.cells
@@ -232,7 +240,8 @@ module _ (all : List of_unit.Unit) (t : Members) (u : of_unit.Unit) (is : IsUnit
         and_false true b h = h
         and_false false b h = refl
 
-        none_at : (k : ℕ) → bytes_eq n (name_of (get_or units k no_unit)) ≡ false
+        none_at : (k : ℕ)
+            → bytes_eq n (name_of (get_or units k no_unit)) ≡ false
             → is_ram_of n (get_or units k no_unit) ≡ false
         none_at k other = and_false _ _ other
 
@@ -249,8 +258,10 @@ module _ (all : List of_unit.Unit) (t : Members) (u : of_unit.Unit) (is : IsUnit
         (λ no. is.no_ram (λ e.
         let clash : true ≡ false = sym (ap is_acu e) ∙ sym (ap is_known_acu (known s)) ∙ no in absurd (cc)))
 
-pub units_read : (tables : List Members) (out : List of_unit.Unit) → AllZip (IsUnitIn out) tables out
-    → IsDistinct (map name_of out) → units_of tables ≡ Ok out
+pub units_read : (tables : List Members) (out : List of_unit.Unit)
+    → AllZip (IsUnitIn out) tables out
+    → IsDistinct (map name_of out)
+    → units_of tables ≡ Ok out
 unfolding units_of
 units_read tables out zips apart =
     let units = map unread out in
@@ -266,7 +277,8 @@ units_read tables out zips apart =
     (λ before rest x y is same. name_read before rest x y (subst IsDistinct is units_apart) same)
     (map name_of units) (zip_refl (map name_of units)) in
     let last : in_turn (ram_at units) [] tables ≡ Ok rams =
-    turns_read (ram_at units) (λ t r. (s : Section) → ram_in s units t ≡ Ok r) rams (λ before rest t r is reads. reads _)
+    turns_read (ram_at units) (λ t r. (s : Section) → ram_in s units t ≡ Ok r) rams
+    (λ before rest t r is reads. reads _)
     tables
     (zip_map (IsUnitIn out) (λ t r. (s : Section) → ram_in s units t ≡ Ok r) ram_of
     (λ t u is s. ram_read out t u is units units_apart (λ n r named. unread_ram n out r named) s) tables out zips) in
@@ -274,7 +286,9 @@ units_read tables out zips apart =
     (bind_to (in_turn unit_name_at [] (map name_of units)) _ (map name_of units) _ names
     (bind_to (in_turn (ram_at units) [] tables) _ rams _ last (ap Ok (rams_back out))))
   where
-    name_read : (before rest : List (List ℕ)) (x y : List ℕ) → IsDistinct (before ++ y ∷ rest) → x ≡ y
+    name_read : (before rest : List (List ℕ)) (x y : List ℕ)
+        → IsDistinct (before ++ y ∷ rest)
+        → x ≡ y
         → unit_name_at before x ≡ Ok y
     name_read before rest x y differ same =
         let none : list_any (bytes_eq x) before ≡ false =

@@ -1,5 +1,6 @@
 -- Going over the buses of a file meets the first rule that they break.
-use Rattle.std.proofs.Common.{◌≡◌, ℕ, zero, suc, ◌+◌, ◌-◌, ◌≤◌, ◌==◌, Bool, true, false, List, [], ◌∷◌, ◌++◌, length, map, take, get_or, Option, Some, if◌then◌else◌, Ok, Err, refl, ap, sym, ◌∙◌, subst, arith}
+use Rattle.std.proofs.Common.{◌≡◌, ℕ, zero, suc, ◌+◌, ◌-◌, ◌≤◌, ◌==◌, Bool, true, false, List, [], ◌∷◌, ◌++◌, length}
+use Rattle.std.proofs.Common.{map, take, get_or, Option, Some, if◌then◌else◌, Ok, Err, refl, ap, sym, ◌∙◌, subst, arith}
 use Rattle.std.specs.Prelude.{unwrap_or}
 use Rattle.std.specs.List.{AllZip, list_any, sum_by}
 use Rattle.std.specs.Option.{ok_or}
@@ -9,6 +10,8 @@ use Rattle.std.proofs.lemmas.List.{take_at}
 use Rattle.std.proofs.lemmas.List.Quantifiers.{position-Some}
 use Rattle.std.proofs.lemmas.List.Sums.{sum_by-append}
 use Rattle.std.proofs.lemmas.Slice.Eq.{bytes_eq-Decides}
+use Rattle.lists.proofs.Places.{some_is as some_same}
+use Rattle.lists.proofs.Zips.{zip_push, zip_length}
 use Rattle.toml.specs.Data.{Members}
 use Rattle.ranked_faults.specs.Rules.{parts, each_from}
 use Rattle.ranked_faults.specs.Private.FirstMet.{first}
@@ -25,13 +28,15 @@ use Rattle.datapath.specs.Reading.{key, only, in_turn}
 use Rattle.datapath.specs.Names.{new_name, last_dot, unit_named, driver, sink, ports_at, port_of, is_port}
 use Rattle.datapath.specs.PathOf.{room_after, bus_in, bus_at}
 use Rattle.datapath.specs.Described.{IsPortNamed}
-use Rattle.datapath.specs.PathRules.{name_at, to_at, fresh_rules, driver_rules, unit_part, port_part, sink_rules, room_at, bus_rules, buses_rules}
-use Rattle.datapath.proofs.Kept.{bind_ok, passes, some_of, zip_length}
-use Rattle.datapath.proofs.AllowedUnits.{no_unit, some_same}
+use Rattle.datapath.specs.PathRules.{name_at, to_at, fresh_rules, driver_rules, unit_part, port_part, sink_rules}
+use Rattle.datapath.specs.PathRules.{room_at, bus_rules, buses_rules}
+use Rattle.datapath.proofs.Kept.{bind_ok, passes, some_of}
+use Rattle.datapath.proofs.AllowedUnits.{no_unit}
 use Rattle.datapath.proofs.AllowedBuses.{same_port}
 use Rattle.datapath.proofs.DescribedKeys.{value_of_key, key_of_value}
 use Rattle.datapath.proofs.DescribedBuses.{parts_of, port_is, one_port, to_widened, bus_described}
-use Rattle.datapath.proofs.FirstRules.{fault_of, reads_first, key_first, key_first_at, value_is, only_first, turns_first}
+use Rattle.datapath.proofs.FirstRules.{fault_of, reads_first, key_first, key_first_at, value_is, only_first}
+use Rattle.datapath.proofs.FirstRules.{turns_first}
 use Rattle.datapath.proofs.FirstUnits.{bare, bare_named, fresh_first, or_first}
 
 same_tests : (b c : Bool) → (b ≡ true → c ≡ true) → (c ≡ true → b ≡ true) → b ≡ c
@@ -39,19 +44,15 @@ same_tests true c f g = sym (f refl)
 same_tests false true f g = g refl
 same_tests false false f g = refl
 
-any_same : {A B : Type 0} (R : A → B → Type 0) (p : A → Bool) (q : B → Bool) → ((x : A) (y : B) → R x y → p x ≡ q y)
-    → (xs : List A) (ys : List B) → AllZip R xs ys → list_any p xs ≡ list_any q ys
+any_same : {A B : Type 0} (R : A → B → Type 0) (p : A → Bool) (q : B → Bool)
+    → ((x : A) (y : B) → R x y → p x ≡ q y)
+    → (xs : List A) (ys : List B)
+    → AllZip R xs ys
+    → list_any p xs ≡ list_any q ys
 any_same R p q each [] [] zips = refl
 any_same R p q each [] (y ∷ ys) zips = absurd zips
 any_same R p q each (x ∷ xs) [] zips = absurd zips
 any_same R p q each (x ∷ xs) (y ∷ ys) zips = rw (each x y zips.0, any_same R p q each xs ys zips.1) refl
-
-zip_push : {A B : Type 0} (R : A → B → Type 0) (xs : List A) (ys : List B) (x : A) (y : B) → AllZip R xs ys → R x y
-    → AllZip R (xs ++ x ∷ []) (ys ++ y ∷ [])
-zip_push R [] [] x y zips here = (here, tt)
-zip_push R [] (z ∷ ys) x y zips here = absurd zips
-zip_push R (z ∷ xs) [] x y zips here = absurd zips
-zip_push R (w ∷ xs) (z ∷ ys) x y zips here = (zips.0, zip_push R xs ys x y zips.1 here)
 
 -- a test that fails where one before is the same
 twice_first : {A : Type 0} (s : Section) (earlier : List (List ℕ)) (n : List ℕ) (found : Bool) (x : A)
@@ -60,7 +61,8 @@ twice_first : {A : Type 0} (s : Section) (earlier : List (List ℕ)) (n : List �
 twice_first s earlier n found x same = subst (λ (b : Bool). first (fresh_rules s earlier n) ≡ fault_of (if b then Err
     (Twice s) else Ok x)) same (by (list_any (bytes_eq n) earlier) (fresh_first s earlier n))
   where
-    by : (b : Bool) → first (fresh_rules s earlier n) ≡ fault_of {A = List ℕ} (if b then Err (Twice s) else Ok n)
+    by : (b : Bool)
+        → first (fresh_rules s earlier n) ≡ fault_of {A = List ℕ} (if b then Err (Twice s) else Ok n)
         → first (fresh_rules s earlier n) ≡ fault_of (if b then Err (Twice s) else Ok x)
     by true e = e
     by false e = e
@@ -98,7 +100,8 @@ module _ (units : List of_unit.Unit) (s : Section) where
       let (new, is) = passes _ unit u _ h1 in
       some_of _ _ unit named ∙ ap Some is
 
-  driver_first : (from before later : List (List ℕ)) (ys : List ℕ) (x : List ℕ) → from ≡ before ++ x ∷ later
+  driver_first : (from before later : List (List ℕ)) (ys : List ℕ) (x : List ℕ)
+      → from ≡ before ++ x ∷ later
       → AllZip IsDriver before ys
       → first (driver_rules s (map bare units) from (length before) x) ≡ fault_of (driver s units ys x)
   unfolding driver
@@ -115,7 +118,8 @@ module _ (units : List of_unit.Unit) (s : Section) where
       (ap (list_any (bytes_eq x)) earlier
       ∙ any_same IsDriver (bytes_eq x) (λ other. other == u) (same_driver x u hx) before ys zips))
 
-  drivers_first : (names from : List (List ℕ)) → names ≡ from
+  drivers_first : (names from : List (List ℕ))
+      → names ≡ from
       → first (parts (each_from (driver_rules s (map bare units) names) 0 names))
       ≡ fault_of (in_turn (driver s units) [] from)
   drivers_first names from same =
@@ -164,7 +168,10 @@ module _ (units : List of_unit.Unit) (s : Section) where
       ∙ ap (λ (z : List ℕ × List ℕ). port_of (ports_at units p.unit) z.1) same_cut ∙ hx.port) in
       ap (λ (u : ℕ). record { unit = u; port = q.port }) unit ∙ ap (λ (v : ℕ). record { unit = p.unit; port = v }) port
 
-  same_sink : (x : List ℕ) (p : PortRef) → IsSink x p → (n : List ℕ) (q : PortRef) → IsSink n q
+  same_sink : (x : List ℕ) (p : PortRef)
+      → IsSink x p
+      → (n : List ℕ) (q : PortRef)
+      → IsSink n q
       → bytes_eq x n ≡ is_port p q
   same_sink x p hx n q hn = same_tests (bytes_eq x n) (is_port p q)
       (λ e. same_port p q (one_sink x n p q ((bytes_eq-Decides x n).0 e) hx hn))
@@ -172,7 +179,8 @@ module _ (units : List of_unit.Unit) (s : Section) where
       (spelled x p hx ∙ ap (λ (r : PortRef). (get_or units r.unit no_unit).name ++ 46 ∷ (48 + r.port) ∷ [])
       (sym (one_port p q e)) ∙ sym (spelled n q hn)))
 
-  sink_first : (to before later : List (List ℕ)) (ys : List PortRef) (x : List ℕ) → to ≡ before ++ x ∷ later
+  sink_first : (to before later : List (List ℕ)) (ys : List PortRef) (x : List ℕ)
+      → to ≡ before ++ x ∷ later
       → AllZip IsSink before ys
       → first (sink_rules s (map bare units) to (length before) x) ≡ fault_of (sink s units ys x)
   unfolding sink
@@ -210,7 +218,8 @@ module _ (units : List of_unit.Unit) (s : Section) where
       (ap (list_any (bytes_eq x)) earlier
       ∙ any_same IsSink (bytes_eq x) (is_port p) (same_sink x p hx) before ys zips))))
 
-  sinks_first : (texts to : List (List ℕ)) → texts ≡ to
+  sinks_first : (texts to : List (List ℕ))
+      → texts ≡ to
       → first (parts (each_from (sink_rules s (map bare units) texts) 0 texts))
       ≡ fault_of (in_turn (sink s units) [] to)
   sinks_first texts to same =
@@ -231,7 +240,9 @@ entries_of t = length (to_at t)
 abbrev sinks_of : Bus → ℕ
 sinks_of bus = length bus.to
 
-sums_are : (ts : List Members) (buses : List Bus) → AllZip IsDone ts buses → sum_by entries_of ts ≡ sum_by sinks_of buses
+sums_are : (ts : List Members) (buses : List Bus)
+    → AllZip IsDone ts buses
+    → sum_by entries_of ts ≡ sum_by sinks_of buses
 sums_are [] [] zips = refl
 sums_are [] (b ∷ buses) zips = absurd zips
 sums_are (t ∷ ts) [] zips = absurd zips
@@ -251,14 +262,17 @@ bus_names_are [] (b ∷ buses) zips = absurd zips
 bus_names_are (t ∷ ts) [] zips = absurd zips
 bus_names_are (t ∷ ts) (b ∷ buses) zips = rw (zips.0.name, bus_names_are ts buses zips.1) refl
 
-fresh_at : (s : Section) (earlier before : List (List ℕ)) (n m : List ℕ) → earlier ≡ before → n ≡ m
+fresh_at : (s : Section) (earlier before : List (List ℕ)) (n m : List ℕ)
+    → earlier ≡ before
+    → n ≡ m
     → first (fresh_rules s earlier n) ≡ fault_of (new_name s before m)
 fresh_at s earlier before n m same is =
     fresh_first s earlier n ∙ ap (λ (zs : List (List ℕ)). fault_of (new_name s zs n)) same
     ∙ ap (λ (k : List ℕ). fault_of (new_name s before k)) is
 
 module _ (units : List of_unit.Unit) (tables : List Members) where
-  bus_first : (before later : List Members) (ys : List Bus) (t : Members) → tables ≡ before ++ t ∷ later
+  bus_first : (before later : List Members) (ys : List Bus) (t : Members)
+      → tables ≡ before ++ t ∷ later
       → AllZip IsDone before ys
       → first (bus_rules (map bare units) tables (length before) t)
       ≡ fault_of (bus_in (section.Bus (length before)) units ys t)
@@ -291,7 +305,9 @@ module _ (units : List of_unit.Unit) (tables : List Members) where
       let is = bus_described s units ys t bus e in
       record {
         name = value_is s [] t row.name bus.name (key_of_value s t row.name bus.name is.name);
-        count = ap length (value_is s [] t (row.to most_entries) is.to (key_of_value s t (row.to most_entries) is.to is.to_is))
+        count =
+            ap length
+            (value_is s [] t (row.to most_entries) is.to (key_of_value s t (row.to most_entries) is.to is.to_is))
             ∙ sym (zip_length (IsPortNamed units) is.to bus.to is.sinks);
       }
 

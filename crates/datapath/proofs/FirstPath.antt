@@ -1,5 +1,6 @@
 -- The first fault of a file is the one that is met.
-use Rattle.std.proofs.Common.{◌≡◌, ◌^◌, ℕ, true, false, List, [], length, map, Option, Some, None, Ok, Err, nat_lt, nat_le, refl, ap, sym, ◌∙◌, subst, inl, inr, arith}
+use Rattle.std.proofs.Common.{◌≡◌, ◌^◌, ℕ, true, false, List, [], length, map, Option, Some, None, Ok, Err, nat_lt}
+use Rattle.std.proofs.Common.{nat_le, refl, ap, sym, ◌∙◌, subst, inl, inr, arith}
 use Rattle.std.proofs.lemmas.Bool.{cases_lt}
 use Rattle.std.proofs.lemmas.Bool.Decides.{nat_tests}
 use Rattle.toml.specs.Data.{Members}
@@ -15,14 +16,17 @@ use Rattle.datapath.specs.Table as row
 use Rattle.datapath.specs.Table.{top_keys}
 use Rattle.datapath.specs.Reading.{Read, ◌>>=◌, key, only, in_turn}
 use Rattle.datapath.specs.PathOf.{path_at, path_in, path_of, units_of, bus_at}
-use Rattle.datapath.specs.PathRules.{value_or, named_unit, units_rules, buses_rules, path_rules, document_rules, file_rules, IsPathFault}
+use Rattle.datapath.specs.PathRules.{value_or, named_unit, units_rules, buses_rules, path_rules, document_rules}
+use Rattle.datapath.specs.PathRules.{file_rules, IsPathFault}
 use Rattle.datapath.proofs.Document.{document}
 use Rattle.datapath.proofs.FirstRules.{fault_of, reads_first, key_first, value_is, only_first}
 use Rattle.datapath.proofs.FirstUnits.{bare, units_first}
 use Rattle.datapath.proofs.FirstBuses.{buses_first}
 
 -- the buses, of units that are named by their tables
-buses_at : (us units : List of_unit.Unit) (tables bus : List Members) → us ≡ map bare units → tables ≡ bus
+buses_at : (us units : List of_unit.Unit) (tables bus : List Members)
+    → us ≡ map bare units
+    → tables ≡ bus
     → first (buses_rules us tables) ≡ fault_of (in_turn (bus_at units) [] bus)
 buses_at us units tables bus same is =
     ap (λ (vs : List of_unit.Unit). first (buses_rules vs tables)) same
@@ -40,7 +44,8 @@ path_first t =
     let f : List of_unit.Unit → Read Datapath = λ units.
     in_turn (bus_at units) [] bus >>= λ buses.
     Ok (record { period = period; word = word; hold = hold; units = units; buses = buses }) in
-    subst (λ (ts : List Members). first_in (units_rules ts (buses_rules (map named_unit ts) (value_or [] row.bus t) ▸ none))
+    subst
+    (λ (ts : List Members). first_in (units_rules ts (buses_rules (map named_unit ts) (value_or [] row.bus t) ▸ none))
     ≡ fault_of (units_of unit >>= f)) (sym (value_is section.Top [] t row.unit unit unit_e))
     (units_first unit f (buses_rules (map named_unit unit) (value_or [] row.bus t) ▸ none) (λ units e bares.
     reads_first (in_turn (bus_at units) [] bus) _ _ _
@@ -80,4 +85,5 @@ module _ (bytes : List ℕ) (f : PathFault) where
       by : (r : Read Datapath) → path_of bytes ≡ r → path_of bytes ≡ Err f
       by (Ok d) e = absurd (answers (Ok d) e is.rank f is.here)
       by (Err g) e =
-          e ∙ ap Err (one_first (faults (file_rules bytes)) g f (single_faults (file_rules bytes)) (answers (Err g) e) is)
+          e
+          ∙ ap Err (one_first (faults (file_rules bytes)) g f (single_faults (file_rules bytes)) (answers (Err g) e) is)

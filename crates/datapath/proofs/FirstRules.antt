@@ -1,5 +1,6 @@
 -- Going over a file meets the first rule that it breaks: the parts that all tables share.
-use Rattle.std.proofs.Common.{◌≡◌, ℕ, ◌+◌, Bool, true, false, List, [], ◌∷◌, ◌++◌, length, Option, Some, None, if◌then◌else◌, Result, Ok, Err, refl, ap, sym, ◌∙◌, subst, append_assoc}
+use Rattle.std.proofs.Common.{◌≡◌, ℕ, ◌+◌, Bool, true, false, List, [], ◌∷◌, ◌++◌, length, Option, Some, None}
+use Rattle.std.proofs.Common.{if◌then◌else◌, Result, Ok, Err, refl, ap, sym, ◌∙◌, subst, append_assoc}
 use Rattle.std.specs.Prelude.{unwrap_or}
 use Rattle.std.proofs.lemmas.List.{length_push}
 use Rattle.toml.specs.Data.{Members}
@@ -19,14 +20,17 @@ fault_of (Ok x) = Ok tt
 fault_of (Err e) = Err e
 
 -- a part is read, and then the rest by its value
-pub reads_first : {A B : Type 0} (r : Read A) (f : A → Read B) (here rest : Read (Unit {0})) → here ≡ fault_of r
-    → ((x : A) → r ≡ Ok x → rest ≡ fault_of (f x)) → (here >> rest) ≡ fault_of (r >>= f)
+pub reads_first : {A B : Type 0} (r : Read A) (f : A → Read B) (here rest : Read (Unit {0}))
+    → here ≡ fault_of r
+    → ((x : A) → r ≡ Ok x → rest ≡ fault_of (f x))
+    → (here >> rest) ≡ fault_of (r >>= f)
 reads_first (Ok x) f here rest is goes = rw is (goes x refl)
 reads_first (Err e) f here rest is goes = rw is refl
 
 -- the same where more comes after what these parts give
 pub reads_then : {A B C : Type 0} (r : Read A) (f : A → Read B) (g : B → Read C) (here rest : Read (Unit {0}))
-    → here ≡ fault_of r → ((x : A) → r ≡ Ok x → rest ≡ fault_of (f x >>= g))
+    → here ≡ fault_of r
+    → ((x : A) → r ≡ Ok x → rest ≡ fault_of (f x >>= g))
     → (here >> rest) ≡ fault_of ((r >>= f) >>= g)
 reads_then (Ok x) f g here rest is goes = rw is (goes x refl)
 reads_then (Err e) f g here rest is goes = rw is refl
@@ -45,7 +49,8 @@ module _ {A : Type 0} (s : Section) where
   key_first t r = judged_first r.default (judged_at r t)
 
   judged_value : (other : A) (default : Option A) (judged : Option (Result A Misfit)) (x : A)
-      → found s default judged ≡ Ok x → unwrap_or (value_of default judged) other ≡ x
+      → found s default judged ≡ Ok x
+      → unwrap_or (value_of default judged) other ≡ x
   judged_value other (Some y) None x h = cc
   judged_value other None None x h = absurd (cc)
   judged_value other default (Some (Ok y)) x h = cc
@@ -58,11 +63,14 @@ module _ {A : Type 0} (s : Section) where
   value_is other t r x h = judged_value other r.default (judged_at r t) x h
 
 -- the same for a row that depends on a value before it
-pub key_first_at : {A B : Type 0} (s : Section) (t : Members) (r : B → Row A) (x y : B) → x ≡ y
+pub key_first_at : {A B : Type 0} (s : Section) (t : Members) (r : B → Row A) (x y : B)
+    → x ≡ y
     → first (key_rules s t (r x)) ≡ fault_of (key s t (r y))
-key_first_at s t r x y same = subst (λ z. first (key_rules s t (r x)) ≡ fault_of (key s t (r z))) same (key_first s t (r x))
+key_first_at s t r x y same =
+    subst (λ z. first (key_rules s t (r x)) ≡ fault_of (key s t (r z))) same (key_first s t (r x))
 
-unless_first : (holds : Bool) (e : PathFault) → first (unless holds e) ≡ fault_of {A = Unit {0}} (if holds then Ok tt else Err e)
+unless_first : (holds : Bool) (e : PathFault)
+    → first (unless holds e) ≡ fault_of {A = Unit {0}} (if holds then Ok tt else Err e)
 unless_first true e = refl
 unless_first false e = refl
 
@@ -72,12 +80,15 @@ unfolding only
 only_first s t names = unless_first (keys_among names t) _
 
 where_same : {A : Type 0} (b : Bool) (rules : Rules PathFault) (row : Read A) (other : A)
-    → first rules ≡ fault_of row → first (rules_where b rules) ≡ fault_of (where_has b row other)
+    → first rules ≡ fault_of row
+    → first (rules_where b rules) ≡ fault_of (where_has b row other)
 where_same true rules row other here = here
 where_same false rules row other here = refl
 
-pub where_first : {A : Type 0} (b c : Bool) (rules : Rules PathFault) (row : Read A) (other : A) → b ≡ c
-    → first rules ≡ fault_of row → first (rules_where b rules) ≡ fault_of (where_has c row other)
+pub where_first : {A : Type 0} (b c : Bool) (rules : Rules PathFault) (row : Read A) (other : A)
+    → b ≡ c
+    → first rules ≡ fault_of row
+    → first (rules_where b rules) ≡ fault_of (where_has c row other)
 where_first b c rules row other same here =
     subst (λ (d : Bool). first (rules_where b rules) ≡ fault_of (where_has d row other)) same
     (where_same b rules row other here)
@@ -89,7 +100,9 @@ module _ {A B : Type 0} (one : List B → A → Read B) (rules : ℕ → A → R
     → first (rules (length before) x) ≡ fault_of (one ys x))
     (more : (before : List A) (ys : List B) (x : A) (y : B) → Tied before ys → one ys x ≡ Ok y
     → Tied (before ++ x ∷ []) (ys ++ y ∷ [])) where
-  turns_from : (before xs : List A) (ys : List B) → all ≡ before ++ xs → Tied before ys
+  turns_from : (before xs : List A) (ys : List B)
+      → all ≡ before ++ xs
+      → Tied before ys
       → first_in (each_from rules (length before) xs) ≡ fault_of (in_turn one ys xs)
   unfolding in_turn
   turns_from before [] ys is tied = refl

@@ -1,5 +1,6 @@
 -- Going over the units of a file meets the first rule that they break.
-use Rattle.std.proofs.Common.{◌≡◌, ℕ, ◌+◌, Bool, true, false, not, cond, ◌&&◌, if◌then◌else◌, List, [], ◌∷◌, ◌++◌, length, map, take, Option, Some, None, Ok, Err, refl, ap, sym, ◌∙◌, subst}
+use Rattle.std.proofs.Common.{◌≡◌, ℕ, ◌+◌, Bool, true, false, not, cond, ◌&&◌, if◌then◌else◌, List, [], ◌∷◌, ◌++◌}
+use Rattle.std.proofs.Common.{length, map, take, Option, Some, None, Ok, Err, refl, ap, sym, ◌∙◌, subst}
 use Rattle.std.specs.Prelude.{is_some, position}
 use Rattle.std.specs.List.{AllZip, list_any, prefix_len}
 use Rattle.std.specs.Option.{ok_or}
@@ -18,15 +19,18 @@ use Rattle.datapath.specs.Table as row
 use Rattle.datapath.specs.Table.{ports, is_ram, is_acu, unit_keys}
 use Rattle.datapath.specs.Reading.{Read, ◌>>=◌, key, only, where_has, in_turn}
 use Rattle.datapath.specs.Names.{new_name, unit_named, ram_named}
-use Rattle.datapath.specs.PathOf.{kind_known, is_known_acu, unit_in, unit_at, unit_name_at, ram_in, ram_at, with_rams, units_of}
-use Rattle.datapath.specs.PathRules.{value_or, name_at, kind_at, named_unit, unit_rules, fresh_rules, unit_name_rules, ram_rules, units_rules, rules_where}
+use Rattle.datapath.specs.PathOf.{kind_known, is_known_acu, unit_in, unit_at, unit_name_at, ram_in, ram_at, with_rams}
+use Rattle.datapath.specs.PathOf.{units_of}
+use Rattle.datapath.specs.PathRules.{value_or, name_at, kind_at, named_unit, unit_rules, fresh_rules, unit_name_rules}
+use Rattle.datapath.specs.PathRules.{ram_rules, units_rules, rules_where}
 use Rattle.datapath.specs.Described.{IsValue}
 use Rattle.datapath.proofs.Fresh.{name_of}
 use Rattle.datapath.proofs.Kept.{bind_ok, same_Ok, passes, has_row, turn_zips}
 use Rattle.datapath.proofs.AllowedUnits.{kind_found}
 use Rattle.datapath.proofs.DescribedKeys.{value_of_key, key_of_value}
 use Rattle.datapath.proofs.DescribedUnits.{is_acu_yes}
-use Rattle.datapath.proofs.FirstRules.{fault_of, reads_first, reads_then, key_first, key_first_at, value_is, only_first, where_first, turns_first}
+use Rattle.datapath.proofs.FirstRules.{fault_of, reads_first, reads_then, key_first, key_first_at, value_is, only_first}
+use Rattle.datapath.proofs.FirstRules.{where_first, turns_first}
 
 unit_first : (k : ℕ) (t : Members) → first (unit_rules k t) ≡ fault_of (unit_in (section.Unit k) t)
 unfolding unit_in
@@ -79,11 +83,13 @@ named_in s t u h =
       ram = λ is. (r, value_of_key s t row.ram r (ram.0 (ap is_acu is)));
     })
 
-pub all_named : (tables : List Members) (units : List of_unit.Unit) → in_turn unit_at [] tables ≡ Ok units
+pub all_named : (tables : List Members) (units : List of_unit.Unit)
+    → in_turn unit_at [] tables ≡ Ok units
     → AllZip IsNamedIn tables units
 all_named tables units h = turn_zips unit_at IsNamedIn (λ before t u e. named_in _ t u e) tables units h
 
-names_are : (tables : List Members) (units : List of_unit.Unit) → AllZip IsNamedIn tables units
+names_are : (tables : List Members) (units : List of_unit.Unit)
+    → AllZip IsNamedIn tables units
     → map name_at tables ≡ map name_of units
 names_are [] [] zips = refl
 names_are [] (u ∷ units) zips = absurd zips
@@ -91,7 +97,8 @@ names_are (t ∷ tables) [] zips = absurd zips
 names_are (t ∷ tables) (u ∷ units) zips =
     let here = zips.0.name in let rest = names_are tables units zips.1 in cc
 
-bare_are : (tables : List Members) (units : List of_unit.Unit) → AllZip IsNamedIn tables units
+bare_are : (tables : List Members) (units : List of_unit.Unit)
+    → AllZip IsNamedIn tables units
     → map named_unit tables ≡ map bare units
 bare_are [] [] zips = refl
 bare_are [] (u ∷ units) zips = absurd zips
@@ -132,18 +139,23 @@ pub names_first : (names : List (List ℕ))
 names_first names =
     turns_first unit_name_at (unit_name_rules names) (λ before ys. ys ≡ before) names each more refl
   where
-    each : (before later ys : _) (x : List ℕ) → names ≡ before ++ x ∷ later → ys ≡ before
+    each : (before later ys : _) (x : List ℕ)
+        → names ≡ before ++ x ∷ later
+        → ys ≡ before
         → first (unit_name_rules names (length before) x) ≡ fault_of (unit_name_at ys x)
     each before later ys x is same =
         let earlier : take (length before) names ≡ before =
         ap (take (length before)) is ∙ take_at before (x ∷ later) (length before) refl in
         rw (earlier, same) (fresh_first (section.Unit (length before)) before x)
 
-    more : (before ys : List (List ℕ)) (x y : List ℕ) → ys ≡ before → unit_name_at ys x ≡ Ok y
+    more : (before ys : List (List ℕ)) (x y : List ℕ)
+        → ys ≡ before
+        → unit_name_at ys x ≡ Ok y
         → ys ++ y ∷ [] ≡ before ++ x ∷ []
     more before ys x y same e = rw (same, (passes _ x y _ e).1) refl
 
-names_first_at : (ns names : List (List ℕ)) → ns ≡ names
+names_first_at : (ns names : List (List ℕ))
+    → ns ≡ names
     → first (parts (each_from (unit_name_rules ns) 0 ns)) ≡ fault_of (in_turn unit_name_at [] names)
 names_first_at ns names same =
     subst (λ (zs : List (List ℕ)). first (parts (each_from (unit_name_rules zs) 0 zs))
@@ -153,11 +165,14 @@ some_first : {A : Type 0} (o : Option A) (e : PathFault) → first (unless (is_s
 some_first (Some x) e = refl
 some_first None e = refl
 
-pub or_first : {A : Type 0} (o p : Option A) (e : PathFault) → o ≡ p → first (unless (is_some o) e) ≡ fault_of (ok_or p e)
+pub or_first : {A : Type 0} (o p : Option A) (e : PathFault)
+    → o ≡ p
+    → first (unless (is_some o) e) ≡ fault_of (ok_or p e)
 or_first o p e same = rw same (some_first p e)
 
 zip_mid : {A B : Type 0} (R : A → B → Type 0) (before later : List A) (x : A) (ys : List B)
-    → AllZip R (before ++ x ∷ later) ys → (y : B) × R x y
+    → AllZip R (before ++ x ∷ later) ys
+    → (y : B) × R x y
 zip_mid R [] later x [] zips = absurd zips
 zip_mid R [] later x (y ∷ ys) zips = (y, zips.0)
 zip_mid R (b ∷ before) later x [] zips = absurd zips
@@ -165,39 +180,47 @@ zip_mid R (b ∷ before) later x (y ∷ ys) zips = zip_mid R before later x ys z
 
 -- the key `ram` was judged before, with its unit
 ram_first : (s : Section) (us units : List of_unit.Unit) (t : Members) (u : of_unit.Unit)
-    → ((n : List ℕ) → ram_named us n ≡ ram_named units n) → IsNamedIn t u
+    → ((n : List ℕ) → ram_named us n ≡ ram_named units n)
+    → IsNamedIn t u
     → first (rules_where (is_known_acu (kind_known t))
     (unless (is_some (ram_named us (value_or [] row.ram t))) (UnknownUnit s))) ≡ fault_of (ram_in s units t)
 unfolding ram_in
 ram_first s us units t u same is = by (is_known_acu (kind_known t)) refl
   where
-    by : (b : Bool) → is_known_acu (kind_known t) ≡ b
+    by : (b : Bool)
+        → is_known_acu (kind_known t) ≡ b
         → first (rules_where b (unless (is_some (ram_named us (value_or [] row.ram t))) (UnknownUnit s)))
         ≡ fault_of (where_has b (key s t row.ram >>= λ name. ok_or (ram_named units name) (UnknownUnit s)) 0)
     by false e = refl
     by true e =
         let (n, value) = is.ram (is_acu_yes u.kind (sym (ap is_known_acu is.known) ∙ e)) in
         let read = key_of_value s t row.ram n value in
-        rw (read, value_is s [] t row.ram n read) (or_first (ram_named us n) (ram_named units n) (UnknownUnit s) (same n))
+        rw (read, value_is s [] t row.ram n read)
+        (or_first (ram_named us n) (ram_named units n) (UnknownUnit s) (same n))
 
-rams_first : (tables : List Members) (units : List of_unit.Unit) → AllZip IsNamedIn tables units
+rams_first : (tables : List Members) (units : List of_unit.Unit)
+    → AllZip IsNamedIn tables units
     → first (parts (each_from (ram_rules (map bare units)) 0 tables)) ≡ fault_of (in_turn (ram_at units) [] tables)
 rams_first tables units zips =
     turns_first (ram_at units) (ram_rules (map bare units)) (λ before ys. length ys ≡ length before) tables each more
     refl
   where
-    each : (before later : List Members) (ys : List ℕ) (t : Members) → tables ≡ before ++ t ∷ later
+    each : (before later : List Members) (ys : List ℕ) (t : Members)
+        → tables ≡ before ++ t ∷ later
         → length ys ≡ length before
         → first (ram_rules (map bare units) (length before) t) ≡ fault_of (ram_at units ys t)
     each before later ys t is count =
         let (u, named) = zip_mid IsNamedIn before later t units (subst (λ ts. AllZip IsNamedIn ts units) is zips) in
         rw count (ram_first (section.Unit (length before)) (map bare units) units t u (bare_ram_named units) named)
 
-    more : (before : List Members) (ys : List ℕ) (t : Members) (r : ℕ) → length ys ≡ length before
-        → ram_at units ys t ≡ Ok r → length (ys ++ r ∷ []) ≡ length (before ++ t ∷ [])
+    more : (before : List Members) (ys : List ℕ) (t : Members) (r : ℕ)
+        → length ys ≡ length before
+        → ram_at units ys t ≡ Ok r
+        → length (ys ++ r ∷ []) ≡ length (before ++ t ∷ [])
     more before ys t r count e = length_push ys r ∙ ap (λ (n : ℕ). n + 1) count ∙ sym (length_push before t)
 
-rams_first_at : (us : List of_unit.Unit) (tables : List Members) (units : List of_unit.Unit) → us ≡ map bare units
+rams_first_at : (us : List of_unit.Unit) (tables : List Members) (units : List of_unit.Unit)
+    → us ≡ map bare units
     → AllZip IsNamedIn tables units
     → first (parts (each_from (ram_rules us) 0 tables)) ≡ fault_of (in_turn (ram_at units) [] tables)
 rams_first_at us tables units same zips =
@@ -213,7 +236,9 @@ all_units_first tables =
 
 -- the units, and what comes after them
 pub units_first : {B : Type 0} (tables : List Members) (f : List of_unit.Unit → Read B) (after : RuleRow PathFault)
-    → ((units : List of_unit.Unit) → units_of tables ≡ Ok units → map named_unit tables ≡ map bare units
+    → ((units : List of_unit.Unit)
+    → units_of tables ≡ Ok units
+    → map named_unit tables ≡ map bare units
     → first_in after ≡ fault_of (f units))
     → first_in (units_rules tables after) ≡ fault_of (units_of tables >>= f)
 unfolding units_of
@@ -222,7 +247,9 @@ units_first tables f after rest =
     let zips = all_named tables units ue in
     let names : map name_at tables ≡ map name_of units = names_are tables units zips in
     let bares : map named_unit tables ≡ map bare units = bare_are tables units zips in
-    reads_then (in_turn unit_name_at [] (map name_of units)) _ f _ _ (names_first_at (map name_at tables) (map name_of units) names)
+    reads_then (in_turn unit_name_at [] (map name_of units)) _ f _ _
+    (names_first_at (map name_at tables) (map name_of units) names)
     (λ its_names ne.
-    reads_then (in_turn (ram_at units) [] tables) _ f _ _ (rams_first_at (map named_unit tables) tables units bares zips) (λ rams re.
+    reads_then (in_turn (ram_at units) [] tables) _ f _ _
+    (rams_first_at (map named_unit tables) tables units bares zips) (λ rams re.
     rest (with_rams units rams) (rw (ue, ne, re) refl) (bares ∙ sym (bare_rams units rams)))))

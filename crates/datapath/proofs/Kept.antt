@@ -1,5 +1,7 @@
 -- What is known of a datapath's parts where reading them found no fault.
-use Rattle.std.proofs.Common.{◌≡◌, ◌≢◌, ℕ, suc, zero, Bool, true, false, List, [], ◌∷◌, ◌++◌, length, Option, Some, None, option_map, Result, Ok, Err, if◌then◌else◌, refl, ap, sym, ◌∙◌, subst, append_assoc, arith}
+use Rattle.std.proofs.Common.{◌≡◌, ◌≢◌, ℕ, suc, zero, Bool, true, false, List, [], ◌∷◌, ◌++◌, length, Option, Some}
+use Rattle.std.proofs.Common.{None, option_map, Result, Ok, Err, if◌then◌else◌, refl, ap, sym, ◌∙◌, subst, append_assoc}
+use Rattle.std.proofs.Common.{arith}
 use Rattle.std.specs.List.{All, AllZip, list_any}
 use Rattle.std.specs.Option.{ok_or}
 use Rattle.std.proofs.lemmas.Bool.{false≢true}
@@ -7,7 +9,8 @@ use Rattle.std.proofs.lemmas.Bool.Decides.{nat_tests}
 use Rattle.std.proofs.lemmas.List.{append-nil}
 use Rattle.std.proofs.lemmas.List.Folds.{list_any_at}
 use Rattle.std.proofs.lemmas.List.Quantifiers.{all_pairs_push}
-use Rattle.toml.specs.Data.{Data, Items, no_items, item, Members, string, integer, float, boolean, datetime, array, table, get_member}
+use Rattle.toml.specs.Data.{Data, Items, no_items, item, Members, string, integer, float, boolean, datetime, array}
+use Rattle.toml.specs.Data.{table, get_member}
 use Rattle.datapath.specs.declared.fault.Section.{Section}
 use Rattle.datapath.specs.declared.fault.Misfit.{Misfit}
 use Rattle.datapath.specs.declared.fault.Misfit.TheVariants as misfit
@@ -17,7 +20,8 @@ use Rattle.datapath.specs.Table.{Row}
 use Rattle.datapath.specs.Reading.{Read, ◌>>=◌, judged, absent, found, key, where_has, in_turn}
 use Rattle.datapath.specs.Allowed.{IsWithin, IsDistinct}
 
-pub bind_ok : {A B : Type 0} (r : Read A) (f : A → Read B) (y : B) → (r >>= f) ≡ Ok y
+pub bind_ok : {A B : Type 0} (r : Read A) (f : A → Read B) (y : B)
+    → (r >>= f) ≡ Ok y
     → (x : A) × (r ≡ Ok x) × (f x ≡ Ok y)
 bind_ok (Ok x) f y h = (x, refl, h)
 bind_ok (Err e) f y h = absurd (cc)
@@ -25,7 +29,8 @@ bind_ok (Err e) f y h = absurd (cc)
 pub same_Ok : {A : Type 0} (x y : A) → ◌≡◌ {A = Read A} (Ok x) (Ok y) → x ≡ y
 same_Ok x y h = cc
 
-pub passes : {A : Type 0} (b : Bool) (x y : A) (e : PathFault) → ◌≡◌ {A = Read A} (if b then Err e else Ok x) (Ok y)
+pub passes : {A : Type 0} (b : Bool) (x y : A) (e : PathFault)
+    → ◌≡◌ {A = Read A} (if b then Err e else Ok x) (Ok y)
     → (b ≡ false) × (x ≡ y)
 passes true x y e h = absurd (cc)
 passes false x y e h = (refl, same_Ok x y h)
@@ -34,7 +39,8 @@ pub some_of : {A : Type 0} (o : Option A) (e : PathFault) (x : A) → ◌≡◌ 
 some_of (Some y) e x h = ap Some (same_Ok y x h)
 some_of None e x h = absurd (cc)
 
-pub has_row : {A : Type 0} (b : Bool) (row : Read A) (none x : A) → where_has b row none ≡ Ok x
+pub has_row : {A : Type 0} (b : Bool) (row : Read A) (none x : A)
+    → where_has b row none ≡ Ok x
     → (b ≡ true → row ≡ Ok x) × (b ≡ false → x ≡ none)
 has_row true row none x h = (λ _. h, λ e. absurd (cc))
 has_row false row none x h = (λ e. absurd (cc), λ _. sym (same_Ok none x h))
@@ -43,15 +49,20 @@ module _ {A B : Type 0} (one : List B → A → Read B) where
   -- what each step keeps holds at the end
   pub turn_keeps : (P : List B → Type 0)
       → ((before : List B) (x : A) (y : B) → P before → one before x ≡ Ok y → P (before ++ y ∷ []))
-      → (xs : List A) (before out : List B) → P before → in_turn one before xs ≡ Ok out → P out
+      → (xs : List A) (before out : List B)
+      → P before
+      → in_turn one before xs ≡ Ok out
+      → P out
   unfolding in_turn
   turn_keeps P step [] before out p h = subst P (same_Ok before out h) p
   turn_keeps P step (x ∷ xs) before out p h =
       let (y, e, h1) = bind_ok (one before x) _ out h in
       turn_keeps P step xs (before ++ y ∷ []) out (step before x y p e) h1
 
-  zips_from : (R : A → B → Type 0) → ((before : List B) (x : A) (y : B) → one before x ≡ Ok y → R x y)
-      → (xs : List A) (before out : List B) → in_turn one before xs ≡ Ok out
+  zips_from : (R : A → B → Type 0)
+      → ((before : List B) (x : A) (y : B) → one before x ≡ Ok y → R x y)
+      → (xs : List A) (before out : List B)
+      → in_turn one before xs ≡ Ok out
       → (new : List B) × (out ≡ before ++ new) × AllZip R xs new
   unfolding in_turn
   zips_from R each [] before out h = ([], sym (same_Ok before out h) ∙ sym (append-nil before), tt)
@@ -61,16 +72,12 @@ module _ {A B : Type 0} (one : List B → A → Read B) where
       (y ∷ new, is ∙ append_assoc before (y ∷ []) new, (each before x y e, all))
 
   -- place by place
-  pub turn_zips : (R : A → B → Type 0) → ((before : List B) (x : A) (y : B) → one before x ≡ Ok y → R x y)
-      → (xs : List A) (out : List B) → in_turn one [] xs ≡ Ok out → AllZip R xs out
+  pub turn_zips : (R : A → B → Type 0)
+      → ((before : List B) (x : A) (y : B) → one before x ≡ Ok y → R x y)
+      → (xs : List A) (out : List B)
+      → in_turn one [] xs ≡ Ok out
+      → AllZip R xs out
   turn_zips R each xs out h = let (new, is, all) = zips_from R each xs [] out h in subst (AllZip R xs) (sym is) all
-
-pub zip_length : {A B : Type 0} (R : A → B → Type 0) (xs : List A) (ys : List B) → AllZip R xs ys
-    → length ys ≡ length xs
-zip_length R [] [] all = refl
-zip_length R [] (y ∷ ys) all = absurd all
-zip_length R (x ∷ xs) [] all = absurd all
-zip_length R (x ∷ xs) (y ∷ ys) all = ap suc (zip_length R xs ys all.1)
 
 pub zip_same : {A : Type 0} (xs ys : List A) → AllZip (λ x y. x ≡ y) xs ys → ys ≡ xs
 zip_same [] [] all = refl
@@ -82,8 +89,11 @@ pub distinct_none : {A : Type 0} → IsDistinct {A = A} []
 distinct_none i j d below within = absurd (omega arith)
 
 -- one more that a test does not find among them
-pub distinct_push : {A : Type 0} (p : A → Bool) (xs : List A) (y : A) → ((x : A) → x ≡ y → p x ≡ true)
-    → list_any p xs ≡ false → IsDistinct xs → IsDistinct (xs ++ y ∷ [])
+pub distinct_push : {A : Type 0} (p : A → Bool) (xs : List A) (y : A)
+    → ((x : A) → x ≡ y → p x ≡ true)
+    → list_any p xs ≡ false
+    → IsDistinct xs
+    → IsDistinct (xs ++ y ∷ [])
 distinct_push p xs y finds none pairs =
     all_pairs_push (λ a b. a ≢ b) xs y pairs
     (λ k d within same. false≢true (sym none ∙ list_any_at p xs k d within (finds _ same)))
@@ -111,18 +121,26 @@ judged_ok s (Err misfit.WrongKind) x h = absurd (cc)
 judged_ok s (Err misfit.Range) x h = absurd (cc)
 
 found_ok : {A : Type 0} (s : Section) (default : Option A) (judge : Judge A) (o : Option Data) (x : A)
-    → found s default (option_map judge o) ≡ Ok x → (P : A → Type 0)
-    → ((d : Data) (y : A) → judge d ≡ Ok y → P y) → ((y : A) → default ≡ Some y → P y) → P x
+    → found s default (option_map judge o) ≡ Ok x
+    → (P : A → Type 0)
+    → ((d : Data) (y : A) → judge d ≡ Ok y → P y)
+    → ((y : A) → default ≡ Some y → P y)
+    → P x
 found_ok s default judge None x h P value none = none x (absent_ok s default x h)
 found_ok s default judge (Some d) x h P value none = value d x (judged_ok s (judge d) x h)
 
 -- what holds of each value of a row and of its default holds of what is read
-pub key_ok : {A : Type 0} (s : Section) (t : Members) (r : Row A) (x : A) → key s t r ≡ Ok x → (P : A → Type 0)
-    → ((d : Data) (y : A) → r.value d ≡ Ok y → P y) → ((y : A) → r.default ≡ Some y → P y) → P x
+pub key_ok : {A : Type 0} (s : Section) (t : Members) (r : Row A) (x : A)
+    → key s t r ≡ Ok x
+    → (P : A → Type 0)
+    → ((d : Data) (y : A) → r.value d ≡ Ok y → P y)
+    → ((y : A) → r.default ≡ Some y → P y)
+    → P x
 unfolding key
 key_ok s t r x h P value none = found_ok s r.default r.value (get_member r.key t) x h P value none
 
-join_ok : {A : Type 0} (r : Result A Misfit) (rest : Result (List A) Misfit) (xs : List A) → join r rest ≡ Ok xs
+join_ok : {A : Type 0} (r : Result A Misfit) (rest : Result (List A) Misfit) (xs : List A)
+    → join r rest ≡ Ok xs
     → (y : A) × (ys : List A) × (r ≡ Ok y) × (rest ≡ Ok ys) × (y ∷ ys ≡ xs)
 join_ok (Ok x) (Ok ys) xs h = (x, ys, refl, refl, (cc))
 join_ok (Ok x) (Err e) xs h = absurd (cc)
@@ -130,16 +148,22 @@ join_ok (Err misfit.WrongKind) rest xs h = absurd (cc)
 join_ok (Err misfit.Range) (Ok ys) xs h = absurd (cc)
 join_ok (Err misfit.Range) (Err e) xs h = absurd (cc)
 
-entries_ok : {A : Type 0} (judge : Judge A) (P : A → Type 0) → ((d : Data) (x : A) → judge d ≡ Ok x → P x)
-    → (ds : Items) (xs : List A) → entries judge ds ≡ Ok xs → All P xs
+entries_ok : {A : Type 0} (judge : Judge A) (P : A → Type 0)
+    → ((d : Data) (x : A) → judge d ≡ Ok x → P x)
+    → (ds : Items) (xs : List A)
+    → entries judge ds ≡ Ok xs
+    → All P xs
 entries_ok judge P each no_items xs h =
     let none : [] ≡ xs = cc in subst (All P) none (λ k d within. absurd (omega arith))
 entries_ok judge P each (item d ds) xs h =
     let (y, ys, here, rest, is) = join_ok (judge d) (entries judge ds) xs h in
     subst (All P) is (All-cons P y ys (each d y here) (entries_ok judge P each ds ys rest))
 
-pub array_ok : {A : Type 0} (judge : Judge A) (P : A → Type 0) → ((d : Data) (x : A) → judge d ≡ Ok x → P x)
-    → (d : Data) (xs : List A) → array_of judge d ≡ Ok xs → All P xs
+pub array_ok : {A : Type 0} (judge : Judge A) (P : A → Type 0)
+    → ((d : Data) (x : A) → judge d ≡ Ok x → P x)
+    → (d : Data) (xs : List A)
+    → array_of judge d ≡ Ok xs
+    → All P xs
 array_ok judge P each (array ds) xs h = entries_ok judge P each ds xs h
 array_ok judge P each (string s) xs h = absurd (cc)
 array_ok judge P each (integer z) xs h = absurd (cc)
@@ -148,7 +172,8 @@ array_ok judge P each (boolean b) xs h = absurd (cc)
 array_ok judge P each (datetime t) xs h = absurd (cc)
 array_ok judge P each (table ms) xs h = absurd (cc)
 
-pub counted_ok : {A : Type 0} (least most : ℕ) (r : Result (List A) Misfit) (xs : List A) → counted least most r ≡ Ok xs
+pub counted_ok : {A : Type 0} (least most : ℕ) (r : Result (List A) Misfit) (xs : List A)
+    → counted least most r ≡ Ok xs
     → IsWithin least most (length xs) × (r ≡ Ok xs)
 counted_ok least most (Err e) xs h = absurd (cc)
 counted_ok least most (Ok ys) xs h =
@@ -156,5 +181,6 @@ counted_ok least most (Ok ys) xs h =
     (subst (λ (zs : List _). IsWithin least most (length zs)) is (within least most (length ys) holds), (cc))
 
 pub within_ok : {A : Type 0} (least most : ℕ) (judge : Judge A) (d : Data) (xs : List A)
-    → array_within least most judge d ≡ Ok xs → IsWithin least most (length xs) × (array_of judge d ≡ Ok xs)
+    → array_within least most judge d ≡ Ok xs
+    → IsWithin least most (length xs) × (array_of judge d ≡ Ok xs)
 within_ok least most judge d xs h = counted_ok least most (array_of judge d) xs h

@@ -1,5 +1,6 @@
 -- Among names that differ, a name is found at one place, wherever the search begins.
-use Rattle.std.proofs.Common.{◌≡◌, ℕ, ◌+◌, ◌-◌, ◌<◌, true, false, List, length, length-drop, map, take, drop, get_or, Some, inl, inr, refl, sym, ◌∙◌, arith}
+use Rattle.std.proofs.Common.{◌≡◌, ℕ, ◌+◌, ◌-◌, ◌<◌, true, false, List, length, length-drop, map, take, drop, get_or}
+use Rattle.std.proofs.Common.{Some, inl, inr, refl, sym, ◌∙◌, arith}
 use Rattle.std.proofs.Math.Seq.{take-length}
 use Rattle.std.specs.Str.{bytes_eq}
 use Rattle.std.proofs.lemmas.Bool.{cases_Bool}
@@ -24,7 +25,10 @@ last_differs xs ys k other =
 
 module _ (units : List of_unit.Unit) (name : List ℕ) (apart : IsDistinct (map name_of units)) where
   -- no earlier unit has the name
-  pub none_before : (i k : ℕ) → k < i → i < length units → bytes_eq name (name_of (get_or units i no_unit)) ≡ true
+  pub none_before : (i k : ℕ)
+      → k < i
+      → i < length units
+      → bytes_eq name (name_of (get_or units i no_unit)) ≡ true
       → bytes_eq name (name_of (get_or units k no_unit)) ≡ false
   none_before i k lt within here =
       let other = apart k i (name_of no_unit) lt (rw (length-map units name_of) within) in
@@ -37,7 +41,9 @@ module _ (units : List of_unit.Unit) (name : List ℕ) (apart : IsDistinct (map 
         | inr new ↦ new
       ]
 
-  pub named_at : (i : ℕ) → i < length units → bytes_eq name (name_of (get_or units i no_unit)) ≡ true
+  pub named_at : (i : ℕ)
+      → i < length units
+      → bytes_eq name (name_of (get_or units i no_unit)) ≡ true
       → unit_named units name ≡ Some i
   named_at i within here =
       let first = position_or_len_is (λ unit. bytes_eq name (name_of unit)) units i no_unit (omega arith)

@@ -1,5 +1,6 @@
 -- What is read of a file is never the fault `Memory`, which is of a call alone.
-use Rattle.std.proofs.Common.{◌≢◌, ℕ, Bool, true, false, List, [], ◌∷◌, ◌++◌, length, map, Option, Some, None, option_map, Result, Ok, Err, if◌then◌else◌, nat_lt, ap}
+use Rattle.std.proofs.Common.{◌≢◌, ℕ, Bool, true, false, List, [], ◌∷◌, ◌++◌, length, map, Option, Some, None}
+use Rattle.std.proofs.Common.{option_map, Result, Ok, Err, if◌then◌else◌, nat_lt, ap}
 use Rattle.std.specs.Option.{ok_or}
 use Rattle.std.specs.Str.{is_utf8}
 use Rattle.toml.specs.Data.{Members, get_member}
@@ -16,7 +17,8 @@ use Rattle.datapath.specs.Table as row
 use Rattle.datapath.specs.Table.{Row, ports, is_ram, is_acu, top_keys, unit_keys, bus_keys}
 use Rattle.datapath.specs.Reading.{Read, ◌>>=◌, found, key, keys_among, only, where_has, in_turn}
 use Rattle.datapath.specs.Names.{new_name, unit_named, ram_named, driver, last_dot, port_of, ports_at, sink}
-use Rattle.datapath.specs.PathOf.{kind_known, unit_in, unit_at, unit_name_at, is_known_acu, ram_in, ram_at, with_rams, units_of, room_after, bus_in, bus_at, path_at, path_in, path_of}
+use Rattle.datapath.specs.PathOf.{kind_known, unit_in, unit_at, unit_name_at, is_known_acu, ram_in, ram_at, with_rams}
+use Rattle.datapath.specs.PathOf.{units_of, room_after, bus_in, bus_at, path_at, path_in, path_of}
 use Rattle.operations.specs.declared.units.PortRef.{PortRef}
 
 -- the file decides what is read
@@ -53,13 +55,17 @@ module _ {A : Type 0} where
   where_decided true r none is = is
   where_decided false r none is = is_read none
 
-then_decided : {A B : Type 0} (r : Read A) (f : A → Read B) → IsDecided r → ((x : A) → IsDecided (f x))
+then_decided : {A B : Type 0} (r : Read A) (f : A → Read B)
+    → IsDecided r
+    → ((x : A) → IsDecided (f x))
     → IsDecided (r >>= f)
 then_decided (Ok x) f first rest = rest x
 then_decided (Err e) f first rest = ends_with e (λ same. first (ap Err same))
 
-turns_decided : {A B : Type 0} (one : List B → A → Read B) → ((before : List B) (x : A) → IsDecided (one before x))
-    → (xs : List A) (before : List B) → IsDecided (in_turn one before xs)
+turns_decided : {A B : Type 0} (one : List B → A → Read B)
+    → ((before : List B) (x : A) → IsDecided (one before x))
+    → (xs : List A) (before : List B)
+    → IsDecided (in_turn one before xs)
 unfolding in_turn
 turns_decided one each [] before = is_read before
 turns_decided one each (x ∷ xs) before =
@@ -71,7 +77,8 @@ only_decided s t names =
     either (keys_among names t) (Ok tt) _ (is_read tt) (ends_with (fault.UnknownKey s) (λ h. absurd (cc)))
 
 -- a name or an entry that none of the earlier ones is
-new_decided : {A : Type 0} (s : Section) (b : Bool) (x : A) → IsDecided {A = A} (if b then Err (fault.Twice s) else Ok x)
+new_decided : {A : Type 0} (s : Section) (b : Bool) (x : A)
+    → IsDecided {A = A} (if b then Err (fault.Twice s) else Ok x)
 new_decided s b x = either b _ (Ok x) (ends_with (fault.Twice s) (λ h. absurd (cc))) (is_read x)
 
 driver_decided : (s : Section) (units : List of_unit.Unit) (before : List ℕ) (name : List ℕ)

@@ -1,5 +1,6 @@
 -- Which datapath a file describes: each field is what the file has at its key, or the key's default.
-use Rattle.std.specs.Prelude.{true, ◌≡◌, ◌≢◌, ℕ, ◌+◌, ◌≤◌, ◌^◌, List, [], ◌∷◌, ◌++◌, length, map, slice_get, IsSomeAnd, Some, Ok, MatchOption}
+use Rattle.std.specs.Prelude.{true, ◌≡◌, ◌≢◌, ℕ, ◌+◌, ◌≤◌, ◌^◌, List, [], ◌∷◌, ◌++◌, length, map, slice_get, IsSomeAnd}
+use Rattle.std.specs.Prelude.{Some, Ok, MatchOption}
 use Rattle.std.specs.List.{AllZip, sum_by}
 use Rattle.std.specs.Str.{is_utf8}
 use Rattle.toml.specs.Data.{Members, get_member}

@@ -1,5 +1,6 @@
 -- What the names in a file stand for: units and their ports.
-use Rattle.std.specs.Prelude.{ℕ, ◌-◌, nat_lt, ◌==◌, List, [], ◌∷◌, Bool, ◌&&◌, Option, Some, None, option_map, position, slice_get, Ok, Err, if◌then◌else◌}
+use Rattle.std.specs.Prelude.{ℕ, ◌-◌, nat_lt, ◌==◌, List, [], ◌∷◌, Bool, ◌&&◌, Option, Some, None, option_map, position}
+use Rattle.std.specs.Prelude.{slice_get, Ok, Err, if◌then◌else◌}
 use Rattle.std.specs.List.{list_any}
 use Rattle.std.specs.Option.{ok_or}
 use Rattle.std.specs.Str.{bytes_eq}

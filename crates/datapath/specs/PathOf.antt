@@ -1,5 +1,6 @@
 -- Which datapath a file describes, or the first fault that it has: PathOf.
-use Rattle.std.specs.Prelude.{ℕ, ◌-◌, nat_lt, ◌^◌, List, [], ◌∷◌, length, map, codes, Bool, false, Option, Some, None, option_and_then, Ok, Err, if◌then◌else◌}
+use Rattle.std.specs.Prelude.{ℕ, ◌-◌, nat_lt, ◌^◌, List, [], ◌∷◌, length, map, codes, Bool, false, Option, Some, None}
+use Rattle.std.specs.Prelude.{option_and_then, Ok, Err, if◌then◌else◌}
 use Rattle.std.specs.List.{sum_by}
 use Rattle.std.specs.Option.{ok_or}
 use Rattle.std.specs.Result.{result_ok}

@@ -1,5 +1,6 @@
 -- The rules of a datapath file, as a table in the order of its faults: each is a test, with the fault where it fails.
-use Rattle.std.specs.Prelude.{ℕ, ◌-◌, nat_le, ◌^◌, List, [], length, map, take, Bool, true, false, not, ◌||◌, Option, Some, None, is_some, option_map, unwrap_or, Result, Err, if◌then◌else◌}
+use Rattle.std.specs.Prelude.{ℕ, ◌-◌, nat_le, ◌^◌, List, [], length, map, take, Bool, true, false, not, ◌||◌, Option}
+use Rattle.std.specs.Prelude.{Some, None, is_some, option_map, unwrap_or, Result, Err, if◌then◌else◌}
 use Rattle.std.specs.List.{list_any, sum_by}
 use Rattle.std.specs.Result.{result_ok}
 use Rattle.std.specs.Str.{bytes_eq, is_utf8}
@@ -22,7 +23,8 @@ use Rattle.datapath.specs.Reading.{keys_among}
 use Rattle.datapath.specs.Names.{unit_named, ram_named, last_dot, ports_at, port_of}
 use Rattle.datapath.specs.PathOf.{kind_known, is_known_acu}
 
--- The values that the rules speak of. Where a value has a fault of its own, another stands for it: its fault comes first.
+-- The values that the rules speak of. Where a value has a fault of its own, another stands for it: its fault comes
+-- first.
 
 -- what the table has at the key of the row, judged, if the key is there
 abbrev pub judged_at : {A : Type 0} → Row A → Members → Option (Result A Misfit)

@@ -1,5 +1,6 @@
 -- What a value of the file may be: a whole number of a range, a text, a name, a kind of unit, an array of these.
-use Rattle.std.specs.Prelude.{ℕ, pos, negsuc, nat_le, ◌==◌, List, [], ◌∷◌, length, codes, Bool, ◌&&◌, ◌||◌, Result, Ok, Err, if◌then◌else◌}
+use Rattle.std.specs.Prelude.{ℕ, pos, negsuc, nat_le, ◌==◌, List, [], ◌∷◌, length, codes, Bool, ◌&&◌, ◌||◌, Result, Ok}
+use Rattle.std.specs.Prelude.{Err, if◌then◌else◌}
 use Rattle.std.specs.List.{list_all}
 use Rattle.std.specs.Option.{ok_or}
 use Rattle.std.specs.Str.{bytes_eq}

@@ -1,5 +1,6 @@
 -- The piece of one node is made, as the code reads its delays and its line.
-use Rattle.std.proofs.Common.{◌≡◌, refl, sym, subst, ap, ap₂, ◌∙◌, arith, ℕ, ◌+◌, ◌*◌, ◌<◌, ◌≤◌, List, [], ◌∷◌, ◌++◌, length, slice_index_or, slice_set}
+use Rattle.std.proofs.Common.{◌≡◌, refl, sym, subst, ap, ap₂, ◌∙◌, arith, ℕ, ◌+◌, ◌*◌, ◌<◌, ◌≤◌, List, [], ◌∷◌, ◌++◌}
+use Rattle.std.proofs.Common.{length, slice_index_or, slice_set}
 use Rattle.std.proofs.lemmas.List.{get_or_read, get_or-set_other, length-set}
 use Rattle.datapath.specs.Allowed.{IsDatapath}
 use Rattle.datapath.specs.declared.types.Datapath.{Datapath}
@@ -53,19 +54,29 @@ module _ (hold spare : ℕ) (g : Graph) (d : Datapath) (delays : List (List ℕ)
       subst (λ (n : ℕ). n < length lines) (sym is) (next_there hold spare g d delays numbers lines laid v there
       (has_some some))
 
-  line_is : (next : ℕ) (line : Line) → next ≡ lines_before delays v → 0 < length item
-      → line ≡ slice_index_or lines next line → line ≡ line_of lines (lines_before delays v)
+  line_is : (next : ℕ) (line : Line)
+      → next ≡ lines_before delays v
+      → 0 < length item
+      → line ≡ slice_index_or lines next line
+      → line ≡ line_of lines (lines_before delays v)
   line_is next line is some e =
       get_or_read lines next line (next_inside next is some) e no_line ∙ ap (line_of lines) is
 
-  pub number_fits : (next : ℕ) (line : Line) → next ≡ lines_before delays v → 0 < length item
-      → line ≡ slice_index_or lines next line → line.node + 3 + 2 * length item < 4294967296
+  pub number_fits : (next : ℕ) (line : Line)
+      → next ≡ lines_before delays v
+      → 0 < length item
+      → line ≡ slice_index_or lines next line
+      → line.node + 3 + 2 * length item < 4294967296
   number_fits next line is some e =
       subst (λ (xs : List ℕ). line.node + 3 + 2 * length xs < 4294967296) (sym at)
       (number_small hold spare g d delays numbers lines laid v there (has_some some) line (line_is next line is some e))
 
-  pub offset_fits : IsDatapath d → (next : ℕ) (line : Line) → next ≡ lines_before delays v → 0 < length item
-      → line ≡ slice_index_or lines next line → line.offset + 65536 ≤ 4294967296
+  pub offset_fits : IsDatapath d
+      → (next : ℕ) (line : Line)
+      → next ≡ lines_before delays v
+      → 0 < length item
+      → line ≡ slice_index_or lines next line
+      → line.offset + 65536 ≤ 4294967296
   offset_fits path next line is some e =
       offset_small hold spare g d delays numbers lines laid v there (has_some some) path line (line_is next line is
       some e)
@@ -88,8 +99,11 @@ module _ (hold spare : ℕ) (g : Graph) (d : Datapath) (delays : List (List ℕ)
         (made_alone hold spare g d delays numbers lines laid v there old node copy before same copied (ap length (sym
         at) ∙ none))
 
-    pub nodes_with : (next : ℕ) (line : Line) (new : List Node) → next ≡ lines_before delays v → 0 < length item
-        → line ≡ slice_index_or lines next line → new ≡ mid ++ line_nodes line node.width item
+    pub nodes_with : (next : ℕ) (line : Line) (new : List Node)
+        → next ≡ lines_before delays v
+        → 0 < length item
+        → line ≡ slice_index_or lines next line
+        → new ≡ mid ++ line_nodes line node.width item
         → AreMadeBefore hold g d delays lines (v + 1) new
     nodes_with next line new is some e added =
         subst (AreMadeBefore hold g d delays lines (v + 1))

@@ -1,5 +1,6 @@
 -- The long delays of a node are few, since they rise and no delay is above 1023.
-use Rattle.std.proofs.Common.{◌≡◌, subst, ap, arith, ℕ, zero, suc, ◌+◌, ◌<◌, ◌≤◌, ⊎_elim, List, [], length, slice_index, All}
+use Rattle.std.proofs.Common.{◌≡◌, subst, ap, arith, ℕ, zero, suc, ◌+◌, ◌<◌, ◌≤◌, ⊎_elim, List, [], length, slice_index}
+use Rattle.std.proofs.Common.{All}
 use Rattle.std.proofs.lemmas.Bool.{cases_lt}
 use Rattle.std.specs.List.Sorted.{IsStrictlyIncreasing}
 use Rattle.signal_graph.specs.GraphSolves.{no_node}

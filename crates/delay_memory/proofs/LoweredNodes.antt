@@ -1,6 +1,7 @@
 -- What a lowered list of a sound graph is: it can be numbered, its edges are those of its operations, lead to its nodes
 -- and are short, and it has no delay-free loop where the graph has none.
-use Rattle.std.proofs.Common.{◌≡◌, refl, sym, subst, ap, ◌∙◌, arith, ℕ, zero, suc, ◌+◌, ◌<◌, ◌≤◌, ◌^◌, inl, inr, ⊎_elim, List, [], ◌∷◌, length, slice_index_or, All}
+use Rattle.std.proofs.Common.{◌≡◌, refl, sym, subst, ap, ◌∙◌, arith, ℕ, zero, suc, ◌+◌, ◌<◌, ◌≤◌, ◌^◌, inl, inr, ⊎_elim}
+use Rattle.std.proofs.Common.{List, [], ◌∷◌, length, slice_index_or, All}
 use Rattle.std.proofs.lemmas.Bool.{cases_lt}
 use Rattle.std.proofs.lemmas.Option.{slice_get_within, slice_get-get_or, get_or_from_slice_get}
 use Rattle.operations.specs.Operations.{operands}
@@ -15,7 +16,8 @@ use Rattle.signal_graph.proofs.Members.{zip_length, zip_at}
 use Rattle.signal_graph.proofs.Heights.{height, height_falls}
 use Rattle.plan_core.specs.Operands.{node_of, edge_of, no_edge}
 use Rattle.plan_core.specs.Heights.{ReadsNow}
-use Rattle.plan_core.specs.Lowered.{Origin, own, address, store, load, origins, IsNumber, IsLoweredEdge, IsOwnOver, IsMadeOver, IsLoweredOver, edge_now}
+use Rattle.plan_core.specs.Lowered.{Origin, own, address, store, load, origins, IsNumber, IsLoweredEdge, IsOwnOver}
+use Rattle.plan_core.specs.Lowered.{IsMadeOver, IsLoweredOver, edge_now}
 use Rattle.plan_core.specs.declared.delay_lines.Lowered.{Lowered}
 use Rattle.plan_run.proofs.Elements.{nth_past, default_any}
 use Rattle.plan_run.proofs.FromLowered.{zip_edge, same_operands}
@@ -91,7 +93,10 @@ module _ (g : Graph) (d : Datapath) (l : Lowered) (sound : IsGraph g) {hold spar
       record { there = number_below (own old.node) edge.node to.0; delay = omega (arith, same, short) })
       (cases_lt hold old.delay)
 
-  all_short : (i : ℕ) (o : Origin) → IsNumber x.delays o i → (q : ℕ) → q < length (edges_of i)
+  all_short : (i : ℕ) (o : Origin)
+      → IsNumber x.delays o i
+      → (q : ℕ)
+      → q < length (edges_of i)
       → IsShort (slice_index_or (edges_of i) q no_edge)
   all_short i (own v) number q port =
       let made = made_at (own v) i number in
@@ -109,7 +114,10 @@ module _ (g : Graph) (d : Datapath) (l : Lowered) (sound : IsGraph g) {hold spar
       (by q (subst (λ (es : List Edge). q < length es) is port)
       (now_short (address v 0) made.at made.its_address) (now_short (own v) made.line.node made.its_line.node))
     where
-      by : {a b : ℕ} (q : ℕ) → q < length (edge_now a ∷ edge_now b ∷ []) → IsShort (edge_now a) → IsShort (edge_now b)
+      by : {a b : ℕ} (q : ℕ)
+          → q < length (edge_now a ∷ edge_now b ∷ [])
+          → IsShort (edge_now a)
+          → IsShort (edge_now b)
           → IsShort (slice_index_or (edge_now a ∷ edge_now b ∷ []) q no_edge)
       by zero less h k = h
       by (suc zero) less h k = k
@@ -120,12 +128,15 @@ module _ (g : Graph) (d : Datapath) (l : Lowered) (sound : IsGraph g) {hold spar
       subst (λ (es : List Edge). IsShort (slice_index_or es q no_edge)) (sym is)
       (by q (subst (λ (es : List Edge). q < length es) is port) (now_short (address v ago) made.at made.its_address))
     where
-      by : {a : ℕ} (q : ℕ) → q < length (edge_now a ∷ []) → IsShort (edge_now a)
+      by : {a : ℕ} (q : ℕ)
+          → q < length (edge_now a ∷ [])
+          → IsShort (edge_now a)
           → IsShort (slice_index_or (edge_now a ∷ []) q no_edge)
       by zero less h = h
       by (suc q) less h = absurd (omega (arith, less))
 
-  short_at : (i : ℕ) (default : Node) (q : ℕ) (edge : Edge) → i < length l.nodes
+  short_at : (i : ℕ) (default : Node) (q : ℕ) (edge : Edge)
+      → i < length l.nodes
       → q < length (slice_index_or l.nodes i default).edges
       → IsShort (slice_index_or (slice_index_or l.nodes i default).edges q edge)
   short_at i default q edge less port =
@@ -179,14 +190,17 @@ module _ (g : Graph) (d : Datapath) (l : Lowered) (sound : IsGraph g) {hold spar
   rank_is : (o : Origin) (i : ℕ) → IsNumber x.delays o i → rank i ≡ rank_of o
   rank_is o i number = ap rank_of (origin_is o i number)
 
-  read_edge : (edges : List Edge) (q : ℕ) → q < length edges
+  read_edge : (edges : List Edge) (q : ℕ)
+      → q < length edges
       → EdgesRead edges (slice_index_or edges q no_edge).node (slice_index_or edges q no_edge).delay
   read_edge [] q less = absurd (omega (arith, less))
   read_edge (e ∷ es) zero less = inl (refl, refl)
   read_edge (e ∷ es) (suc q) less = inr (read_edge es q (omega (arith, less)))
 
   module _ (loopless : IsGraphLoopless g) where
-    own_falls : (v i q : ℕ) → IsNumber x.delays (own v) i → q < length (edges_of i)
+    own_falls : (v i q : ℕ)
+        → IsNumber x.delays (own v) i
+        → q < length (edges_of i)
         → (slice_index_or (edges_of i) q no_edge).delay ≡ 0
         → rank (slice_index_or (edges_of i) q no_edge).node < height g v + 2
     own_falls v i q number port now =
@@ -223,7 +237,10 @@ module _ (g : Graph) (d : Datapath) (l : Lowered) (sound : IsGraph g) {hold spar
             zip_edge (IsLoweredEdge hold x.delays) (edges_of i) (node_of g.nodes v).edges q no_edge no_edge made.edges
             port
 
-    falls_by : (i : ℕ) (o : Origin) → IsNumber x.delays o i → (q : ℕ) → q < length (edges_of i)
+    falls_by : (i : ℕ) (o : Origin)
+        → IsNumber x.delays o i
+        → (q : ℕ)
+        → q < length (edges_of i)
         → (slice_index_or (edges_of i) q no_edge).delay ≡ 0
         → rank (slice_index_or (edges_of i) q no_edge).node < rank_of o
     falls_by i (own v) number q port now = own_falls v i q number port now
@@ -239,7 +256,10 @@ module _ (g : Graph) (d : Datapath) (l : Lowered) (sound : IsGraph g) {hold spar
         (let at = rank_is (address v 0) made.at made.its_address in omega (arith, at))
         (let at = rank_is (own v) made.line.node made.its_line.node in omega (arith, at)))
       where
-        by : (a b n q : ℕ) → q < length (edge_now a ∷ edge_now b ∷ []) → rank a < n → rank b < n
+        by : (a b n q : ℕ)
+            → q < length (edge_now a ∷ edge_now b ∷ [])
+            → rank a < n
+            → rank b < n
             → rank (slice_index_or (edge_now a ∷ edge_now b ∷ []) q no_edge).node < n
         by a b n zero less h k = h
         by a b n (suc zero) less h k = k
@@ -251,7 +271,9 @@ module _ (g : Graph) (d : Datapath) (l : Lowered) (sound : IsGraph g) {hold spar
         (by made.at 1 q (subst (λ (es : List Edge). q < length es) is port)
         (let at = rank_is (address v ago) made.at made.its_address in omega (arith, at)))
       where
-        by : (a n q : ℕ) → q < length (edge_now a ∷ []) → rank a < n
+        by : (a n q : ℕ)
+            → q < length (edge_now a ∷ [])
+            → rank a < n
             → rank (slice_index_or (edge_now a ∷ []) q no_edge).node < n
         by a n zero less h = h
         by a n (suc q) less h = absurd (omega (arith, less))

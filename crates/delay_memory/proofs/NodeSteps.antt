@@ -1,12 +1,14 @@
 -- The nodes of the lowered list are made piece by piece.
-use Rattle.std.proofs.Common.{◌≡◌, ◌≢◌, refl, sym, subst, ap, ◌∙◌, arith, ℕ, suc, ◌+◌, ◌*◌, ◌<◌, ◌≤◌, ⊎_elim, List, [], ◌∷◌, ◌++◌, append_assoc, length, slice_index_or, slice_set, All, Contains}
+use Rattle.std.proofs.Common.{◌≡◌, ◌≢◌, refl, sym, subst, ap, ◌∙◌, arith, ℕ, suc, ◌+◌, ◌*◌, ◌<◌, ◌≤◌, ⊎_elim, List, []}
+use Rattle.std.proofs.Common.{◌∷◌, ◌++◌, append_assoc, length, slice_index_or, slice_set, All, Contains}
 use Rattle.std.specs.Prelude.{slice_get, take, IsSomeAnd}
 use Rattle.std.specs.Result.{MatchResult}
 use Rattle.std.specs.List.{AllZip}
 use Rattle.std.specs.List.Sorted.{IsStrictlyIncreasing, IsBinarySearchResult}
 use Rattle.std.specs.Ordering.{nat_cmp}
 use Rattle.std.proofs.Common.{Result, Ok, Err}
-use Rattle.std.proofs.lemmas.List.{take_more, length-take-le, get_or_read, get_or-set_same, get_or-set_other, length-set}
+use Rattle.std.proofs.lemmas.List.{take_more, length-take-le, get_or_read, get_or-set_same, get_or-set_other}
+use Rattle.std.proofs.lemmas.List.{length-set}
 use Rattle.std.proofs.lemmas.List.Sorted.{searched}
 use Rattle.std.proofs.lemmas.List.Kept.{AllPairs-from_increasing}
 use Rattle.std.proofs.lemmas.Bool.{cases_lt}
@@ -21,18 +23,22 @@ use Rattle.signal_graph.specs.declared.graph.Node.{Node}
 use Rattle.signal_graph.specs.declared.graph.Graph.{Graph}
 use Rattle.plan_core.specs.Hardware.{no_unit}
 use Rattle.plan_core.specs.Operands.{node_of, edge_of, no_edge}
-use Rattle.plan_core.specs.Lowered.{Origin, own, address, load, origins_of, IsNumber, stored, IsNextLine, line_of, no_line, IsLoweredEdge, IsLineOf, IsOwnOver, IsMadeOver, address_node, load_node}
+use Rattle.plan_core.specs.Lowered.{Origin, own, address, load, origins_of, IsNumber, stored, IsNextLine, line_of}
+use Rattle.plan_core.specs.Lowered.{no_line, IsLoweredEdge, IsLineOf, IsOwnOver, IsMadeOver, address_node, load_node}
 use Rattle.plan_core.specs.declared.delay_lines.Line.{Line}
 use Rattle.plan_core.specs.declared.delay_lines.Lowered.{Lowered}
 use Rattle.plan_run.proofs.Elements.{default_any}
 use Rattle.plan_run.proofs.FromLowered.{none_past}
 use Rattle.delay_memory.specs.Private.Delays.{delays_at, AreDelays}
 use Rattle.delay_memory.specs.Private.Lines.{lines_before}
-use Rattle.delay_memory.specs.Private.Nodes.{load_nodes, line_nodes, IsLayout, IsLaid, IsCopy, AreLaidOut, origins_before, AreMadeBefore}
+use Rattle.delay_memory.specs.Private.Nodes.{load_nodes, line_nodes, IsLayout, IsLaid, IsCopy, AreLaidOut}
+use Rattle.delay_memory.specs.Private.Nodes.{origins_before, AreMadeBefore}
 use Rattle.delay_memory.proofs.Stored.{stored_next}
 use Rattle.delay_memory.proofs.NumberSteps.{loads, origins_more, number_few, newest_number, address_number, load_number}
 
-pub zip_append : {A B : Type 0} (R : A → B → Type 0) (xs us : List A) (ys vs : List B) → AllZip R xs ys → AllZip R us vs
+pub zip_append : {A B : Type 0} (R : A → B → Type 0) (xs us : List A) (ys vs : List B)
+    → AllZip R xs ys
+    → AllZip R us vs
     → AllZip R (xs ++ us) (ys ++ vs)
 zip_append R [] us [] vs h k = k
 zip_append R [] us (y ∷ ys) vs h k = absurd h
@@ -40,9 +46,11 @@ zip_append R (x ∷ xs) us [] vs h k = absurd h
 zip_append R (x ∷ xs) us (y ∷ ys) vs h k = (h.0, zip_append R xs us ys vs h.1 k)
 
 -- the loads of delays, and one more
-pub loads_more : (line : Line) (width at : ℕ) (ks : List ℕ) (k m : ℕ) → m ≡ at + 2 * length ks
+pub loads_more : (line : Line) (width at : ℕ) (ks : List ℕ) (k m : ℕ)
+    → m ≡ at + 2 * length ks
     → load_nodes line width at (ks ++ k ∷ [])
-    ≡ (load_nodes line width at ks ++ address_node line.ram (line.offset + k) ∷ []) ++ load_node line.ram m width ∷ []
+    ≡ (load_nodes line width at ks ++ address_node line.ram (line.offset + k) ∷ []) ++ load_node line.ram m width
+    ∷ []
 loads_more line width at [] k m is =
     ap (λ (n : ℕ). address_node line.ram (line.offset + k) ∷ load_node line.ram n width ∷ []) (start at m is)
   where
@@ -54,7 +62,8 @@ loads_more line width at (j ∷ ks) k m is =
 
 module _ (hold : ℕ) (g : Graph) (d : Datapath) (l : Lowered) (delays : List (List ℕ)) (v : ℕ)
     (line : Line) (its : IsLineOf g d l delays v line) where
-  loads_made : (width at : ℕ) (ks : List ℕ) → width ≡ (node_of g.nodes v).width
+  loads_made : (width at : ℕ) (ks : List ℕ)
+      → width ≡ (node_of g.nodes v).width
       → ((i : ℕ) → i < length ks → IsNumber delays (address v (slice_index_or ks i 0)) (at + 2 * i))
       → AllZip (IsMadeOver g d l delays hold) (loads v ks) (load_nodes line width at ks)
   loads_made width at [] same numbers = tt
@@ -78,7 +87,9 @@ module _ (hold : ℕ) (g : Graph) (d : Datapath) (l : Lowered) (delays : List (L
   )
 
   -- the piece of a node with a line
-  pub line_made : (width : ℕ) (long : List ℕ) (node : Node) → width ≡ (node_of g.nodes v).width → 0 < length long
+  pub line_made : (width : ℕ) (long : List ℕ) (node : Node)
+      → width ≡ (node_of g.nodes v).width
+      → 0 < length long
       → IsMadeOver g d l delays hold (own v) node
       → IsNumber delays (address v 0) (line.node + 1)
       → ((i : ℕ) → i < length long → IsNumber delays (address v (slice_index_or long i 0)) (line.node + 3 + 2 * i))
@@ -102,9 +113,10 @@ module _ (hold : ℕ) (g : Graph) (d : Datapath) (l : Lowered) (delays : List (L
       end : (n : ℕ) → n ≡ n + 0
       end n = omega arith
 
-pub own_made : (hold : ℕ) (g : Graph) (d : Datapath) (l : Lowered) (delays : List (List ℕ)) (v : ℕ) (long : List ℕ)
-    (node : Node)
-    → length long ≡ 0 → IsMadeOver g d l delays hold (own v) node
+pub own_made :
+    (hold : ℕ) (g : Graph) (d : Datapath) (l : Lowered) (delays : List (List ℕ)) (v : ℕ) (long : List ℕ) (node : Node)
+    → length long ≡ 0
+    → IsMadeOver g d l delays hold (own v) node
     → AllZip (IsMadeOver g d l delays hold) (origins_of v long) (node ∷ [])
 own_made hold g d l delays v [] node none made = (made, tt)
 own_made hold g d l delays v (k ∷ ks) node none made = absurd (omega (arith, none))
@@ -116,8 +128,11 @@ module _ (hold spare : ℕ) (g : Graph) (d : Datapath) (delays : List (List ℕ)
     inside = let count = laid.long.count in omega (arith, there)
 
     -- a node without a line is made
-    pub made_alone : (old : List Node) (node copy : Node) → AreMadeBefore hold g d delays lines v old
-        → node ≡ node_of g.nodes v → IsCopy hold delays node copy → length (delays_at delays v) ≡ 0
+    pub made_alone : (old : List Node) (node copy : Node)
+        → AreMadeBefore hold g d delays lines v old
+        → node ≡ node_of g.nodes v
+        → IsCopy hold delays node copy
+        → length (delays_at delays v) ≡ 0
         → AreMadeBefore hold g d delays lines (v + 1) (old ++ copy ∷ [])
     made_alone old node copy before same is none l e =
         subst (λ (os : List Origin). AllZip (IsMadeOver g d l delays hold) os (old ++ copy ∷ [])) (sym (origins_more
@@ -139,7 +154,8 @@ module _ (hold spare : ℕ) (g : Graph) (d : Datapath) (delays : List (List ℕ)
       -- node v has the next line
       pub next_there : next < length lines
       next_there =
-          let within = slice_get_within (stored delays) next (v, delays_at delays v) (stored_next delays v inside some) in
+          let within =
+          slice_get_within (stored delays) next (v, delays_at delays v) (stored_next delays v inside some) in
           let count = laid.line_count in
           omega (arith, within, count)
 
@@ -147,7 +163,8 @@ module _ (hold spare : ℕ) (g : Graph) (d : Datapath) (delays : List (List ℕ)
       next_is = laid.placed next v (delays_at delays v) next_there (stored_next delays v inside some)
 
       -- the numbers and cells of its line are small
-      pub number_small : (line : Line) → line ≡ line_of lines next
+      pub number_small : (line : Line)
+          → line ≡ line_of lines next
           → line.node + 3 + 2 * length (delays_at delays v) < 4294967296
       number_small line is =
           let node = subst (λ (x : Line). IsNumber delays (own v) x.node) (sym is) next_is.node in
@@ -172,9 +189,13 @@ module _ (hold spare : ℕ) (g : Graph) (d : Datapath) (delays : List (List ℕ)
 
       -- a node with a line is made
       pub made_with_line : (old : List Node) (node copy : Node) (line : Line) (width : ℕ)
-          → AreMadeBefore hold g d delays lines v old → node ≡ node_of g.nodes v → IsCopy hold delays node copy
-          → line ≡ line_of lines next → width ≡ node.width
-          → AreMadeBefore hold g d delays lines (v + 1) ((old ++ copy ∷ []) ++ line_nodes line width (delays_at delays v))
+          → AreMadeBefore hold g d delays lines v old
+          → node ≡ node_of g.nodes v
+          → IsCopy hold delays node copy
+          → line ≡ line_of lines next
+          → width ≡ node.width
+          → AreMadeBefore hold g d delays lines (v + 1)
+          ((old ++ copy ∷ []) ++ line_nodes line width (delays_at delays v))
       made_with_line old node copy line width before same is line_is width_is l e =
           subst (λ (ns : List Node). AllZip (IsMadeOver g d l delays hold) (origins_before delays (v + 1)) ns)
           (sym (append_assoc old (copy ∷ []) (line_nodes line width (delays_at delays v))))
@@ -184,7 +205,8 @@ module _ (hold spare : ℕ) (g : Graph) (d : Datapath) (delays : List (List ℕ)
           (copy ∷ line_nodes line width (delays_at delays v)) (before l e)
           (line_made hold g d l delays v line its width (delays_at delays v) copy
           (width_is ∙ ap (λ (n : Node). n.width) same) some own_is
-          (newest_number delays v line.node inside number some) (address_number delays v line.node inside number some))))
+          (newest_number delays v line.node inside number some)
+          (address_number delays v line.node inside number some))))
         where
           number : IsNumber delays (own v) line.node
           number = subst (λ (x : Line). IsNumber delays (own v) x.node) (sym line_is) next_is.node
@@ -210,7 +232,9 @@ module _ (g : Graph) (sound : IsGraph g) (hold : ℕ) (delays : List (List ℕ))
       absurd (subst (λ o. IsSomeAnd o (λ (node : Node). node.op ≢ op.Output)) (none_past g.nodes v past) some))
       (cases_lt v (length g.nodes))
 
-  pub edges_laid : (v : ℕ) (node : Node) → v < length g.nodes → node ≡ node_of g.nodes v
+  pub edges_laid : (v : ℕ) (node : Node)
+      → v < length g.nodes
+      → node ≡ node_of g.nodes v
       → All (IsLaid hold delays) node.edges
   edges_laid v node there same q default port = subst (IsLaid hold delays) (sym is) laid
     where
@@ -239,7 +263,8 @@ module _ (g : Graph) (sound : IsGraph g) (hold : ℕ) (delays : List (List ℕ))
 -- the edge of the lowered list
 module _ (hold : ℕ) (delays : List (List ℕ)) (numbers : List ℕ) (layout : IsLayout delays numbers)
     (edge : Edge) (laid : IsLaid hold delays edge) where
-  pub number_is : (number : ℕ) → number ≡ slice_index_or numbers edge.node number
+  pub number_is : (number : ℕ)
+      → number ≡ slice_index_or numbers edge.node number
       → IsNumber delays (own edge.node) number
   number_is number is =
       let count = layout.numbered.count in
@@ -248,8 +273,11 @@ module _ (hold : ℕ) (delays : List (List ℕ)) (numbers : List ℕ) (layout : 
       (default_any numbers edge.node 0 number (omega (arith, node, count)) ∙ sym is)
       (layout.numbered.each edge.node laid.node)
 
-  pub edge_held : (new : Edge) → edge.delay ≤ hold → IsNumber delays (own edge.node) new.node
-      → new.delay ≡ edge.delay → IsLoweredEdge hold delays new edge
+  pub edge_held : (new : Edge)
+      → edge.delay ≤ hold
+      → IsNumber delays (own edge.node) new.node
+      → new.delay ≡ edge.delay
+      → IsLoweredEdge hold delays new edge
   edge_held new short number same = record {
     held = λ h. (number, same);
     loaded = λ h. absurd (omega (
@@ -259,9 +287,14 @@ module _ (hold : ℕ) (delays : List (List ℕ)) (numbers : List ℕ) (layout : 
     ));
   }
 
-  pub edge_loaded : (new : Edge) (number index : ℕ) → hold < edge.delay → IsNumber delays (own edge.node) number
-      → index < length (delays_at delays edge.node) → slice_index_or (delays_at delays edge.node) index 0 ≡ edge.delay
-      → new.node ≡ number + 3 + 2 * index + 1 → new.delay ≡ 0 → IsLoweredEdge hold delays new edge
+  pub edge_loaded : (new : Edge) (number index : ℕ)
+      → hold < edge.delay
+      → IsNumber delays (own edge.node) number
+      → index < length (delays_at delays edge.node)
+      → slice_index_or (delays_at delays edge.node) index 0 ≡ edge.delay
+      → new.node ≡ number + 3 + 2 * index + 1
+      → new.delay ≡ 0
+      → IsLoweredEdge hold delays new edge
   edge_loaded new number index long own_number below at node now = record {
     held = λ h. absurd (omega (arith, long, h));
     loaded = λ h. (
@@ -272,16 +305,22 @@ module _ (hold : ℕ) (delays : List (List ℕ)) (numbers : List ℕ) (layout : 
     );
   }
 
-  pub edge_small : (number index : ℕ) → IsNumber delays (own edge.node) number
-      → index < length (delays_at delays edge.node) → number + 3 + 2 * index + 1 < 4294967296
+  pub edge_small : (number index : ℕ)
+      → IsNumber delays (own edge.node) number
+      → index < length (delays_at delays edge.node)
+      → number + 3 + 2 * index + 1 < 4294967296
   edge_small number index own_number below =
       let few = number_few delays layout.few (own edge.node) number own_number in
       let short = layout.few.each edge.node in
       omega (arith, few, short, below)
 
 -- a binary search finds what is there
-pub found_not : (xs : List ℕ) (x : ℕ) (r : Result ℕ ℕ) (i : ℕ) → r ≡ Err i
-    → IsBinarySearchResult (λ (y : ℕ). nat_cmp y x) xs r → IsStrictlyIncreasing xs → Contains xs x → ⊥
+pub found_not : (xs : List ℕ) (x : ℕ) (r : Result ℕ ℕ) (i : ℕ)
+    → r ≡ Err i
+    → IsBinarySearchResult (λ (y : ℕ). nat_cmp y x) xs r
+    → IsStrictlyIncreasing xs
+    → Contains xs x
+    → ⊥
 found_not xs x r i is answer rise there = by r is (searched xs x r answer rises)
   where
     rises : (i j : ℕ) → i ≤ j → j < length xs → slice_index_or xs i 0 ≤ slice_index_or xs j 0
@@ -298,9 +337,11 @@ found_not xs x r i is answer rise there = by r is (searched xs x r answer rises)
     at : slice_index_or xs there.0 0 ≡ x
     at = default_any xs there.0 0 x there.1 ∙ there.2
 
-    by : (r : Result ℕ ℕ) → r ≡ Err i
-        → MatchResult r (λ (i : ℕ). (i < length xs) × (slice_index_or xs i 0 ≡ x))
-        (λ (i : ℕ). (i ≤ length xs) × ((k : ℕ) → k < i → slice_index_or xs k 0 < x)
+    by : (r : Result ℕ ℕ)
+        → r ≡ Err i
+        → MatchResult r (λ (i : ℕ). (i < length xs) × (slice_index_or xs i 0 ≡ x)) (λ (i : ℕ).
+        (i ≤ length xs)
+        × ((k : ℕ) → k < i → slice_index_or xs k 0 < x)
         × ((k : ℕ) → i ≤ k → k < length xs → x < slice_index_or xs k 0))
         → ⊥
     by (Ok j) e m = absurd (cc)
@@ -310,8 +351,10 @@ found_not xs x r i is answer rise there = by r is (searched xs x r answer rises)
         (cases_lt there.0 j)
 
 -- two lists, place by place
-zip_of : {A B : Type 0} (R : A → B → Type 0) (d : A) (e : B) (xs : List A) (ys : List B) → length xs ≡ length ys
-    → ((q : ℕ) → q < length xs → R (slice_index_or xs q d) (slice_index_or ys q e)) → AllZip R xs ys
+zip_of : {A B : Type 0} (R : A → B → Type 0) (d : A) (e : B) (xs : List A) (ys : List B)
+    → length xs ≡ length ys
+    → ((q : ℕ) → q < length xs → R (slice_index_or xs q d) (slice_index_or ys q e))
+    → AllZip R xs ys
 zip_of R d e [] [] same each = tt
 zip_of R d e [] (y ∷ ys) same each = absurd (omega (arith, same))
 zip_of R d e (x ∷ xs) [] same each = absurd (omega (arith, same))
@@ -323,7 +366,8 @@ zip_of R d e (x ∷ xs) (y ∷ ys) same each = (
 -- before port k the edges are those of the lowered list, and from there on they are as they were
 pub record AreLoweredBefore (hold : ℕ) (delays : List (List ℕ)) (k : ℕ) (old new : List Edge) : Type 0 where
   pub count : length new ≡ length old
-  pub lowered : (q : ℕ) → q < k
+  pub lowered : (q : ℕ)
+      → q < k
       → IsLoweredEdge hold delays (slice_index_or new q no_edge) (slice_index_or old q no_edge)
   pub rest : (q : ℕ) → k ≤ q → slice_index_or new q no_edge ≡ slice_index_or old q no_edge
 
@@ -333,12 +377,17 @@ module _ (hold : ℕ) (delays : List (List ℕ)) (old : List Edge) where
 
   module _ (k : ℕ) (new : List Edge) (before : AreLoweredBefore hold delays k old new) where
     -- the edge at port k is the old one yet
-    pub old_edge : (item : Edge) → k < length new → item ≡ slice_index_or new k item
+    pub old_edge : (item : Edge)
+        → k < length new
+        → item ≡ slice_index_or new k item
         → item ≡ slice_index_or old k no_edge
     old_edge item less is = get_or_read new k item less is no_edge ∙ before.rest k (omega arith)
 
-    pub lowered_more : (item edge : Edge) → k < length new → item ≡ slice_index_or new k item
-        → IsLoweredEdge hold delays edge item → AreLoweredBefore hold delays (k + 1) old (slice_set new k edge)
+    pub lowered_more : (item edge : Edge)
+        → k < length new
+        → item ≡ slice_index_or new k item
+        → IsLoweredEdge hold delays edge item
+        → AreLoweredBefore hold delays (k + 1) old (slice_set new k edge)
     lowered_more item edge less is lowered = record {
       count = length-set new k edge ∙ before.count;
       lowered = λ q below.
@@ -370,9 +419,13 @@ loaded_to line width ks k = load_nodes line width (line.node + 3) (take k ks)
 
 -- one delay more
 pub loads_step : (line : Line) (width k : ℕ) (ks : List ℕ) (first old mid new : List Node) (addr ld : Node) (at : ℕ)
-    → k < length ks → old ≡ first ++ load_nodes line width (line.node + 3) (take k ks) → at ≡ line.node + 3 + 2 * k
-    → addr ≡ address_node line.ram (line.offset + slice_index_or ks k 0) → ld ≡ load_node line.ram at width
-    → mid ≡ old ++ addr ∷ [] → new ≡ mid ++ ld ∷ []
+    → k < length ks
+    → old ≡ first ++ load_nodes line width (line.node + 3) (take k ks)
+    → at ≡ line.node + 3 + 2 * k
+    → addr ≡ address_node line.ram (line.offset + slice_index_or ks k 0)
+    → ld ≡ load_node line.ram at width
+    → mid ≡ old ++ addr ∷ []
+    → new ≡ mid ++ ld ∷ []
     → new ≡ first ++ load_nodes line width (line.node + 3) (take (k + 1) ks)
 loads_step line width k ks first old mid new addr ld at less before number is-addr is-ld e f =
     f
@@ -392,6 +445,6 @@ loads_step line width k ks first old mid new addr ld at less before number is-ad
     count = length-take-le k ks (omega (arith, less))
 
     more : load_nodes line width (line.node + 3) (take k ks ++ slice_index_or ks k 0 ∷ [])
-        ≡ (loaded_to line width ks k ++ address_node line.ram (line.offset + slice_index_or ks k 0) ∷ []) ++
-        load_node line.ram at width ∷ []
+        ≡ (loaded_to line width ks k ++ address_node line.ram (line.offset + slice_index_or ks k 0) ∷ [])
+        ++ load_node line.ram at width ∷ []
     more = loads_more line width (line.node + 3) (take k ks) (slice_index_or ks k 0) at (omega (arith, number, count))

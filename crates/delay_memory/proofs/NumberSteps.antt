@@ -1,10 +1,12 @@
 -- The nodes of the lowered list have numbers, one piece after another.
-use Rattle.std.proofs.Common.{◌≡◌, refl, sym, subst, ap, ◌∙◌, arith, ℕ, zero, suc, ◌+◌, ◌*◌, ◌<◌, ◌≤◌, ⊎_elim, List, [], ◌∷◌, ◌++◌, length, slice_index_or, All}
+use Rattle.std.proofs.Common.{◌≡◌, refl, sym, subst, ap, ◌∙◌, arith, ℕ, zero, suc, ◌+◌, ◌*◌, ◌<◌, ◌≤◌, ⊎_elim, List, []}
+use Rattle.std.proofs.Common.{◌∷◌, ◌++◌, length, slice_index_or, All}
 use Rattle.std.specs.Prelude.{slice_get, flat_map, take, Some}
 use Rattle.std.specs.List.{enumerate_from}
 use Rattle.std.proofs.lemmas.Bool.{cases_lt}
 use Rattle.std.proofs.lemmas.Option.{slice_get_within, slice_get-get_or}
-use Rattle.std.proofs.lemmas.List.{length_push, get_or_append_left, get_or_push, length-append, append-nil, take_all, take_more}
+use Rattle.std.proofs.lemmas.List.{length_push, get_or_append_left, get_or_push, length-append, append-nil, take_all}
+use Rattle.std.proofs.lemmas.List.{take_more}
 use Rattle.std.proofs.lemmas.List.FromFn.{length-enumerate_from}
 use Rattle.std.proofs.lemmas.List.Concat.{length-flat_map}
 use Rattle.std.proofs.lemmas.List.Sums.{sum_by-le}
@@ -37,7 +39,9 @@ piece_most v [] = omega arith
 piece_most v (k ∷ ks) = let rest = loads_length v (k ∷ ks) in omega (arith, rest)
 
 -- the address and the load of a delay
-at_address : (v : ℕ) (long : List ℕ) (i j : ℕ) → i < length long → j ≡ 2 * i
+at_address : (v : ℕ) (long : List ℕ) (i j : ℕ)
+    → i < length long
+    → j ≡ 2 * i
     → slice_get (loads v long) j ≡ Some (address v (slice_index_or long i 0))
 at_address v [] i j less is = absurd (omega (arith, less))
 at_address v (k ∷ ks) zero zero less is = refl
@@ -46,7 +50,9 @@ at_address v (k ∷ ks) (suc i) zero less is = absurd (omega (arith, is))
 at_address v (k ∷ ks) (suc i) (suc zero) less is = absurd (omega (arith, is))
 at_address v (k ∷ ks) (suc i) (suc (suc j)) less is = at_address v ks i j (omega (arith, less)) (omega (arith, is))
 
-at_load : (v : ℕ) (long : List ℕ) (i j : ℕ) → i < length long → j ≡ 2 * i + 1
+at_load : (v : ℕ) (long : List ℕ) (i j : ℕ)
+    → i < length long
+    → j ≡ 2 * i + 1
     → slice_get (loads v long) j ≡ Some (load v (slice_index_or long i 0))
 at_load v [] i j less is = absurd (omega (arith, less))
 at_load v (k ∷ ks) i zero less is = absurd (omega (arith, is))
@@ -55,7 +61,9 @@ at_load v (k ∷ ks) zero (suc (suc j)) less is = absurd (omega (arith, is))
 at_load v (k ∷ ks) (suc i) (suc zero) less is = absurd (omega (arith, is))
 at_load v (k ∷ ks) (suc i) (suc (suc j)) less is = at_load v ks i j (omega (arith, less)) (omega (arith, is))
 
-behind_store : (v : ℕ) (long : List ℕ) (j : ℕ) (o : Origin) → 0 < length long → slice_get (loads v long) j ≡ Some o
+behind_store : (v : ℕ) (long : List ℕ) (j : ℕ) (o : Origin)
+    → 0 < length long
+    → slice_get (loads v long) j ≡ Some o
     → slice_get (origins_of v long) (suc (suc (suc j))) ≡ Some o
 behind_store v [] j o some is = absurd (omega (arith, some))
 behind_store v (k ∷ ks) j o some is = is
@@ -72,7 +80,8 @@ module _ (delays : List (List ℕ)) where
   long_at : (v : ℕ) → v < length delays → slice_get delays v ≡ Some (delays_at delays v)
   long_at v less = slice_get-get_or delays v [] less
 
-  taken : (v : ℕ) → v < length delays
+  taken : (v : ℕ)
+      → v < length delays
       → take (v + 1) (enumerate_from 0 delays) ≡ take v (enumerate_from 0 delays) ++ (v, delays_at delays v) ∷ []
   taken v less =
       let count = length-enumerate_from 0 delays in
@@ -80,7 +89,8 @@ module _ (delays : List (List ℕ)) where
       ∙ ap (λ (x : ℕ × List ℕ). take v (enumerate_from 0 delays) ++ x ∷ []) (entry delays v less)
 
   -- the pieces of the nodes before node v, and that of node v
-  pub origins_more : (v : ℕ) → v < length delays
+  pub origins_more : (v : ℕ)
+      → v < length delays
       → origins_before delays (v + 1) ≡ origins_before delays v ++ origins_of v (delays_at delays v)
   origins_more v less =
       let count = length-enumerate_from 0 delays in
@@ -88,7 +98,8 @@ module _ (delays : List (List ℕ)) where
       ∙ flat_map-append piece (take v (enumerate_from 0 delays)) ((v, delays_at delays v) ∷ [])
       ∙ ap (λ (xs : List Origin). origins_before delays v ++ xs) (append-nil (origins_of v (delays_at delays v)))
 
-  pub first_more : (v : ℕ) → v < length delays
+  pub first_more : (v : ℕ)
+      → v < length delays
       → first_of delays (v + 1) ≡ first_of delays v + length (origins_of v (delays_at delays v))
   first_more v less =
       ap length (origins_more v less) ∙ length-append (origins_before delays v) (origins_of v (delays_at delays v))
@@ -98,8 +109,11 @@ module _ (delays : List (List ℕ)) where
       let count = length-enumerate_from 0 delays in
       ap (flat_map piece) (take_all n (enumerate_from 0 delays) (omega arith))
 
-  pub numbers_more : (v next : ℕ) (numbers : List ℕ) → v < length delays → AreNumbers delays v numbers
-      → next ≡ first_of delays v → AreNumbers delays (v + 1) (numbers ++ next ∷ [])
+  pub numbers_more : (v next : ℕ) (numbers : List ℕ)
+      → v < length delays
+      → AreNumbers delays v numbers
+      → next ≡ first_of delays v
+      → AreNumbers delays (v + 1) (numbers ++ next ∷ [])
   numbers_more v next numbers less before is = record {
     count = let count = before.count in let more = length_push numbers next in omega arith;
     each = λ w below. ⊎_elim (earlier w) (λ past. here w (omega (arith, past, below))) (cases_lt w v);
@@ -124,7 +138,9 @@ module _ (delays : List (List ℕ)) where
   -- the numbers in the piece of a node with a line
   module _ (v number : ℕ) (less : v < length delays) (is : IsNumber delays (own v) number)
       (some : 0 < length (delays_at delays v)) where
-    shifted : (j n : ℕ) (o : Origin) → slice_get (origins_of v (delays_at delays v)) j ≡ Some o → n ≡ number + j
+    shifted : (j n : ℕ) (o : Origin)
+        → slice_get (origins_of v (delays_at delays v)) j ≡ Some o
+        → n ≡ number + j
         → IsNumber delays o n
     shifted j n o at e =
         let once = own_once delays v number is in
@@ -137,7 +153,8 @@ module _ (delays : List (List ℕ)) where
     pub store_number : IsNumber delays (store v) (number + 2)
     store_number = shifted 2 (number + 2) (store v) (store_second v (delays_at delays v) some) refl
 
-    pub address_number : (i : ℕ) → i < length (delays_at delays v)
+    pub address_number : (i : ℕ)
+        → i < length (delays_at delays v)
         → IsNumber delays (address v (slice_index_or (delays_at delays v) i 0)) (number + 3 + 2 * i)
     address_number i below =
         shifted (suc (suc (suc (2 * i)))) (number + 3 + 2 * i) (address v (slice_index_or (delays_at delays v) i 0))
@@ -145,7 +162,8 @@ module _ (delays : List (List ℕ)) where
         (at_address v (delays_at delays v) i (2 * i) below refl))
         (omega arith)
 
-    pub load_number : (i : ℕ) → i < length (delays_at delays v)
+    pub load_number : (i : ℕ)
+        → i < length (delays_at delays v)
         → IsNumber delays (load v (slice_index_or (delays_at delays v) i 0)) (number + 3 + 2 * i + 1)
     load_number i below =
         shifted (suc (suc (suc (2 * i + 1)))) (number + 3 + 2 * i + 1) (load v (slice_index_or (delays_at

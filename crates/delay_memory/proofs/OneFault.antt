@@ -1,5 +1,6 @@
 -- A graph has one lowered list or one first node without a line, and not both.
-use Rattle.std.proofs.Common.{◌≡◌, refl, sym, subst, ap, ap₂, ◌∙◌, arith, ℕ, ◌+◌, ◌<◌, ◌≤◌, ◌⊎◌, inl, inr, ⊎_elim, le_antisymm, List, [], ◌∷◌, length, slice_index_or, Contains, Result, Ok, Err, ext_get_or}
+use Rattle.std.proofs.Common.{◌≡◌, refl, sym, subst, ap, ap₂, ◌∙◌, arith, ℕ, ◌+◌, ◌<◌, ◌≤◌, ◌⊎◌, inl, inr, ⊎_elim}
+use Rattle.std.proofs.Common.{le_antisymm, List, [], ◌∷◌, length, slice_index_or, Contains, Result, Ok, Err, ext_get_or}
 use Rattle.std.specs.Prelude.{slice_get, Some}
 use Rattle.std.specs.List.{AllZip}
 use Rattle.std.proofs.lemmas.Bool.{cases_lt}
@@ -11,7 +12,9 @@ use Rattle.signal_graph.specs.declared.graph.Node.{Node}
 use Rattle.signal_graph.specs.declared.graph.Graph.{Graph}
 use Rattle.plan_core.specs.Operands.{node_of}
 use Rattle.plan_core.specs.Hardware.{IsOfKind, IsAcuOf}
-use Rattle.plan_core.specs.Lowered.{Origin, own, address, store, load, origins, IsNumber, stored, HasRoom, IsNextLine, AreLines, line_of, no_line, AreLongDelays, IsLoweredEdge, IsLineOf, IsMadeOver, IsLoweredOver, address_node, store_node, load_node}
+use Rattle.plan_core.specs.Lowered.{Origin, own, address, store, load, origins, IsNumber, stored, HasRoom, IsNextLine}
+use Rattle.plan_core.specs.Lowered.{AreLines, line_of, no_line, AreLongDelays, IsLoweredEdge, IsLineOf, IsMadeOver}
+use Rattle.plan_core.specs.Lowered.{IsLoweredOver, address_node, store_node, load_node}
 use Rattle.plan_core.specs.Refusals.{NeedsLine}
 use Rattle.plan_core.specs.declared.delay_lines.Line.{Line}
 use Rattle.plan_core.specs.declared.delay_lines.Lowered.{Lowered}
@@ -39,7 +42,8 @@ most long a b x y =
 one_longest : (long : List ℕ) (a b : ℕ) → IsLongest long a → IsLongest long b → a ≡ b
 one_longest long a b x y = le_antisymm (most long a b x y) (most long b a y x)
 
-one_room : (spare : ℕ) (d : Datapath) (lines : List Line) (cells a b : ℕ) → IsFirstRoom spare d lines cells a
+one_room : (spare : ℕ) (d : Datapath) (lines : List Line) (cells a b : ℕ)
+    → IsFirstRoom spare d lines cells a
     → IsFirstRoom spare d lines cells b
     → a ≡ b
 one_room spare d lines cells a b x y = neither_less a b (λ less. y.first a less x.room) (λ less. x.first b less y.room)
@@ -47,7 +51,10 @@ one_room spare d lines cells a b x y = neither_less a b (λ less. y.first a less
 module _ (spare : ℕ) (d : Datapath) (delays : List (List ℕ)) where
   -- where there is no line, there is none
   refuses : (lines : List Line) (v depth : ℕ) (long : List ℕ) (f : LineFault) (line : Line)
-      → IsPlaceFault spare d lines v depth f → IsLongest long depth → IsNextLine spare d delays lines v long line → ⊥
+      → IsPlaceFault spare d lines v depth f
+      → IsLongest long depth
+      → IsNextLine spare d delays lines v long line
+      → ⊥
   refuses lines v depth long f line fault longest next = by f fault
     where
       same : line.depth ≡ depth
@@ -71,8 +78,10 @@ module _ (spare : ℕ) (d : Datapath) (delays : List (List ℕ)) where
           h.none next.acu.0 (subst (λ (r : ℕ). IsAcuOf d r next.acu.0) ram_is next.acu.1)
       by Memory h = h
 
-  one_place_fault : (lines : List Line) (v depth : ℕ) (f g : LineFault) → IsPlaceFault spare d lines v depth f
-      → IsPlaceFault spare d lines v depth g → f ≡ g
+  one_place_fault : (lines : List Line) (v depth : ℕ) (f g : LineFault)
+      → IsPlaceFault spare d lines v depth f
+      → IsPlaceFault spare d lines v depth g
+      → f ≡ g
   one_place_fault lines v depth (NoRam a) (NoRam b) x y = ap NoRam (x.node ∙ sym y.node)
   one_place_fault lines v depth (NoRam a) (LinesFull b) x y = absurd (x.none y.some.0 y.some.1)
   one_place_fault lines v depth (NoRam a) (NoAcu s b) x y = absurd (x.none s y.room.room.is_ram)
@@ -90,14 +99,20 @@ module _ (spare : ℕ) (d : Datapath) (delays : List (List ℕ)) where
   one_place_fault lines v depth Memory g x y = absurd x
 
   module _ (once : StandsOnce delays) where
-    stop_inside : (f : LineFault) (x : IsStop spare d delays f) (lines : List Line) → AreLines spare d delays lines
-        → length x.lines < length lines → ⊥
+    stop_inside : (f : LineFault) (x : IsStop spare d delays f) (lines : List Line)
+        → AreLines spare d delays lines
+        → length x.lines < length lines
+        → ⊥
     stop_inside f x lines are less =
         refuses x.lines x.v x.depth x.long f (line_of lines (length x.lines)) x.refused x.longest
         (goes_on delays spare d once x.lines lines x.before are less x.v x.long x.next)
 
-    pub stop_or_not : (f : LineFault) → IsStop spare d delays f → (lines : List Line) → AreLines spare d delays lines
-        → length lines ≡ length (stored delays) → ⊥
+    pub stop_or_not : (f : LineFault)
+        → IsStop spare d delays f
+        → (lines : List Line)
+        → AreLines spare d delays lines
+        → length lines ≡ length (stored delays)
+        → ⊥
     stop_or_not f x lines are count =
         let within = slice_get_within (stored delays) (length x.lines) (x.v, x.long) x.next in
         stop_inside f x lines are (omega (arith, within, count))
@@ -129,8 +144,10 @@ module _ (spare : ℕ) (d : Datapath) (delays : List (List ℕ)) where
 
 -- the fault of the graph, and where it comes
 module _ (hold spare : ℕ) (g : Graph) (d : Datapath) (delays : List (List ℕ)) (are : AreDelays g hold delays) where
-  needs : (lines : List Line) (v depth : ℕ) (long : List ℕ) → AreLines spare d delays lines
-      → slice_get (stored delays) (length lines) ≡ Some (v, long) → IsLongest long depth
+  needs : (lines : List Line) (v depth : ℕ) (long : List ℕ)
+      → AreLines spare d delays lines
+      → slice_get (stored delays) (length lines) ≡ Some (v, long)
+      → IsLongest long depth
       → NeedsLine hold spare g d lines v (depth + spare)
   needs lines v depth long before next longest = record {
     delays = delays;
@@ -146,8 +163,11 @@ module _ (hold spare : ℕ) (g : Graph) (d : Datapath) (delays : List (List ℕ)
   }
 
   -- where there is no ram, no node has a line yet
-  first_stop : (x : List Line) (v : ℕ) (long : List ℕ) → AreLines spare d delays x
-      → slice_get (stored delays) (length x) ≡ Some (v, long) → ((ram : ℕ) → IsOfKind d kind.Ram ram → ⊥) → x ≡ []
+  first_stop : (x : List Line) (v : ℕ) (long : List ℕ)
+      → AreLines spare d delays x
+      → slice_get (stored delays) (length x) ≡ Some (v, long)
+      → ((ram : ℕ) → IsOfKind d kind.Ram ram → ⊥)
+      → x ≡ []
   first_stop [] v long before next none = refl
   first_stop (x ∷ xs) v long before next none =
       let within = slice_get_within (stored delays) (length (x ∷ xs)) (v, long) next in
@@ -187,8 +207,10 @@ module _ (hold spare : ℕ) (g : Graph) (d : Datapath) (delays : List (List ℕ)
       }
       by Memory h = absurd h
 
-  same_delays : (others : List (List ℕ)) → length others ≡ length g.nodes
-      → ((v : ℕ) → v < length g.nodes → AreLongDelays g hold v (slice_index_or others v [])) → others ≡ delays
+  same_delays : (others : List (List ℕ))
+      → length others ≡ length g.nodes
+      → ((v : ℕ) → v < length g.nodes → AreLongDelays g hold v (slice_index_or others v []))
+      → others ≡ delays
   same_delays others count long =
       let all = are.count in
       ext_get_or [] others delays (count ∙ sym all)
@@ -218,7 +240,8 @@ module _ (hold spare : ℕ) (g : Graph) (d : Datapath) (delays : List (List ℕ)
       }
 
   stop_at : (f : LineFault) (lines : List Line) (v cells : ℕ) (n : Need lines v cells)
-      → IsPlaceFault spare d lines v n.depth f → IsStop spare d delays f
+      → IsPlaceFault spare d lines v n.depth f
+      → IsStop spare d delays f
   stop_at f lines v cells n fault = record {
     lines = lines;
     v = v;
@@ -267,8 +290,11 @@ record IsLoweredBy (hold spare : ℕ) (g : Graph) (d : Datapath) (delays : List 
   lines : AreLines spare d delays l.lines
   nodes : AllZip (IsMadeOver g d l delays hold) (origins delays) l.nodes
 
-zip_once : {A B : Type 0} (R S : A → B → Type 0) (xs : List A) (ys zs : List B) → AllZip R xs ys → AllZip S xs zs
-    → ((x : A) (y z : B) → R x y → S x z → y ≡ z) → ys ≡ zs
+zip_once : {A B : Type 0} (R S : A → B → Type 0) (xs : List A) (ys zs : List B)
+    → AllZip R xs ys
+    → AllZip S xs zs
+    → ((x : A) (y z : B) → R x y → S x z → y ≡ z)
+    → ys ≡ zs
 zip_once R S [] [] [] h k one = refl
 zip_once R S [] [] (z ∷ zs) h k one = absurd k
 zip_once R S [] (y ∷ ys) zs h k one = absurd h
@@ -277,8 +303,11 @@ zip_once R S (x ∷ xs) (y ∷ ys) [] h k one = absurd k
 zip_once {B = B} R S (x ∷ xs) (y ∷ ys) (z ∷ zs) h k one =
     ap₂ (λ (b : B) (bs : List B). b ∷ bs) (one x y z h.0 k.0) (zip_once R S xs ys zs h.1 k.1 one)
 
-zip_same : {A B : Type 0} (R : A → B → Type 0) (xs ys : List A) (zs : List B) → AllZip R xs zs → AllZip R ys zs
-    → ((x y : A) (z : B) → R x z → R y z → x ≡ y) → xs ≡ ys
+zip_same : {A B : Type 0} (R : A → B → Type 0) (xs ys : List A) (zs : List B)
+    → AllZip R xs zs
+    → AllZip R ys zs
+    → ((x y : A) (z : B) → R x z → R y z → x ≡ y)
+    → xs ≡ ys
 zip_same R [] [] zs h k one = refl
 zip_same R [] (y ∷ ys) [] h k one = absurd k
 zip_same R [] (y ∷ ys) (z ∷ zs) h k one = absurd h
@@ -300,8 +329,11 @@ module _ (hold spare : ℕ) (g : Graph) (d : Datapath) (delays : List (List ℕ)
   own_same v w e = cc
 
   -- the node of line i
-  line_node : (v i : ℕ) (line : Line) → i < length l.lines → slice_index_or l.lines i line ≡ line
-      → IsNumber delays (own v) line.node → (slice_index_or (stored delays) i (0, [])).0 ≡ v
+  line_node : (v i : ℕ) (line : Line)
+      → i < length l.lines
+      → slice_index_or l.lines i line ≡ line
+      → IsNumber delays (own v) line.node
+      → (slice_index_or (stored delays) i (0, [])).0 ≡ v
   line_node v i line less at number =
       let count = x.line_count in
       let w = slice_index_or (stored delays) i (0, []) in
@@ -373,7 +405,10 @@ module _ (hold spare : ℕ) (g : Graph) (d : Datapath) where
   delays_in : (l : Lowered) (x : IsLoweredOver hold spare g d l) → AreDelays g hold x.delays
   delays_in l x = record { count = x.delay_count; long = x.long }
 
-  lowered_by : (delays : List (List ℕ)) → AreDelays g hold delays → (l : Lowered) → IsLoweredOver hold spare g d l
+  lowered_by : (delays : List (List ℕ))
+      → AreDelays g hold delays
+      → (l : Lowered)
+      → IsLoweredOver hold spare g d l
       → IsLoweredBy hold spare g d delays l
   lowered_by delays are l x =
       let same = same_delays hold spare g d delays are x.delays x.delay_count x.long in
@@ -390,16 +425,22 @@ module _ (hold spare : ℕ) (g : Graph) (d : Datapath) where
       lowered_once hold spare g d x.delays (once hold spare g d x.delays are) l m (lowered_by x.delays are l x)
       (lowered_by x.delays are m y)
 
-  pub lowered_or_not : (l : Lowered) → IsLoweredOver hold spare g d l → (f : LineFault)
-      → IsLineFaultOver hold spare g d f → ⊥
+  pub lowered_or_not : (l : Lowered)
+      → IsLoweredOver hold spare g d l
+      → (f : LineFault)
+      → IsLineFaultOver hold spare g d f
+      → ⊥
   lowered_or_not l x f h =
       let are = delays_in l x in
       stop_or_not spare d x.delays (once hold spare g d x.delays are) f (stop_of hold spare g d x.delays are f h)
       l.lines x.lines x.line_count
 
-  pub one_fault : (delays : List (List ℕ)) → AreDelays g hold delays → (e f : LineFault)
+  pub one_fault : (delays : List (List ℕ))
+      → AreDelays g hold delays
+      → (e f : LineFault)
       → IsLineFaultOver hold spare g d e
-      → IsLineFaultOver hold spare g d f → e ≡ f
+      → IsLineFaultOver hold spare g d f
+      → e ≡ f
   one_fault delays are e f x y =
       one_stop spare d delays (once hold spare g d delays are) e f (stop_of hold spare g d delays are e x) (stop_of
       hold spare g d delays are f y)
@@ -422,25 +463,38 @@ module _ (hold spare : ℕ) (g : Graph) (d : Datapath) where
       }
 
   module _ (r : Result Lowered LineFault) where
-    pub ok_found : (b : Lowered) → r ≡ Ok b → IsLoweredOver hold spare g d b → (a : Lowered)
+    pub ok_found : (b : Lowered)
+        → r ≡ Ok b
+        → IsLoweredOver hold spare g d b
+        → (a : Lowered)
         → IsLoweredOver hold spare g d a
         → (r ≡ Ok a) ⊎ (r ≡ Err Memory)
     ok_found b is b_is a a_is = inl (is ∙ ap (λ (x : Lowered). Ok x) (one_lowered b a b_is a_is))
 
-    pub ok_refused : (b : Lowered) → IsLoweredOver hold spare g d b → (fault : LineFault)
+    pub ok_refused : (b : Lowered)
+        → IsLoweredOver hold spare g d b
+        → (fault : LineFault)
         → IsLineFaultOver hold spare g d fault
         → (r ≡ Err fault) ⊎ (r ≡ Err Memory)
     ok_refused b b_is fault h = absurd (lowered_or_not b b_is fault h)
 
-    pub err_found : (f : LineFault) → r ≡ Err f → (f ≡ Memory) ⊎ IsLineFaultOver hold spare g d f → (a : Lowered)
+    pub err_found : (f : LineFault)
+        → r ≡ Err f
+        → (f ≡ Memory) ⊎ IsLineFaultOver hold spare g d f
+        → (a : Lowered)
         → IsLoweredOver hold spare g d a
         → (r ≡ Ok a) ⊎ (r ≡ Err Memory)
     err_found f is why a a_is =
         ⊎_elim (λ (e : f ≡ Memory). inr (is ∙ ap (λ (x : LineFault). Err x) e))
         (λ (h : IsLineFaultOver hold spare g d f). absurd (lowered_or_not a a_is f h)) why
 
-    pub err_refused : (delays : List (List ℕ)) → AreDelays g hold delays → (f : LineFault) → r ≡ Err f
-        → (f ≡ Memory) ⊎ IsLineFaultOver hold spare g d f → (fault : LineFault) → IsLineFaultOver hold spare g d fault
+    pub err_refused : (delays : List (List ℕ))
+        → AreDelays g hold delays
+        → (f : LineFault)
+        → r ≡ Err f
+        → (f ≡ Memory) ⊎ IsLineFaultOver hold spare g d f
+        → (fault : LineFault)
+        → IsLineFaultOver hold spare g d fault
         → (r ≡ Err fault) ⊎ (r ≡ Err Memory)
     err_refused delays are f is why fault h =
         ⊎_elim (λ (e : f ≡ Memory). inr (is ∙ ap (λ (x : LineFault). Err x) e))
@@ -448,8 +502,10 @@ module _ (hold spare : ℕ) (g : Graph) (d : Datapath) where
         fault k h))) why
 
 -- the fault of the lines is that of the graph
-pub told : (hold spare : ℕ) (g : Graph) (d : Datapath) (delays : List (List ℕ)) → AreDelays g hold delays
+pub told : (hold spare : ℕ) (g : Graph) (d : Datapath) (delays : List (List ℕ))
+    → AreDelays g hold delays
     → (f : LineFault)
-    → (f ≡ Memory) ⊎ IsStop spare d delays f → (f ≡ Memory) ⊎ IsLineFaultOver hold spare g d f
+    → (f ≡ Memory) ⊎ IsStop spare d delays f
+    → (f ≡ Memory) ⊎ IsLineFaultOver hold spare g d f
 told hold spare g d delays are f (inl e) = inl e
 told hold spare g d delays are f (inr x) = inr (fault_of hold spare g d delays are f x)

@@ -1,5 +1,6 @@
 -- The nodes of a lowered list each stand once, and its lines are determined.
-use Rattle.std.proofs.Common.{◌≡◌, refl, sym, subst, ap, ap₂, ◌∙◌, arith, ℕ, zero, suc, ◌+◌, ◌*◌, ◌<◌, ◌≤◌, ◌==◌, cond, ◌⊎◌, inl, inr, ⊎_elim, List, [], ◌∷◌, ◌++◌, length, slice_index_or, All}
+use Rattle.std.proofs.Common.{◌≡◌, refl, sym, subst, ap, ap₂, ◌∙◌, arith, ℕ, zero, suc, ◌+◌, ◌*◌, ◌<◌, ◌≤◌, ◌==◌, cond}
+use Rattle.std.proofs.Common.{◌⊎◌, inl, inr, ⊎_elim, List, [], ◌∷◌, ◌++◌, length, slice_index_or, All}
 use Rattle.std.specs.Prelude.{slice_get, take, Some}
 use Rattle.std.specs.List.{enumerate_from, AllPairs}
 use Rattle.std.specs.List.Sorted.{IsStrictlyIncreasing}
@@ -10,7 +11,8 @@ use Rattle.std.proofs.Math.Seq.{take-suc}
 use Rattle.std.proofs.lemmas.List.FromFn.{length-enumerate_from}
 use Rattle.std.proofs.lemmas.List.Kept.{AllPairs-from_increasing}
 use Rattle.datapath.specs.declared.types.Datapath.{Datapath}
-use Rattle.plan_core.specs.Lowered.{Origin, own, address, store, load, origins_of, IsNumber, stored, IsNextLine, AreLines, line_of, no_line}
+use Rattle.plan_core.specs.Lowered.{Origin, own, address, store, load, origins_of, IsNumber, stored, IsNextLine}
+use Rattle.plan_core.specs.Lowered.{AreLines, line_of, no_line}
 use Rattle.plan_core.specs.declared.delay_lines.Line.{Line}
 use Rattle.plan_core.proofs.OneLowered.{StandsOnce, one_next}
 use Rattle.plan_run.proofs.Origins.{at_piece, piece, first_of, belongs}
@@ -84,8 +86,12 @@ place_address : (long : List ℕ) (v n : ℕ) → 0 < n → place_in long (addre
 place_address long v zero some = absurd (omega (arith, some))
 place_address long v (suc n) some = refl
 
-place_is : (v : ℕ) (long : List ℕ) → Rise long → All (λ (k : ℕ). 0 < k) long → (i : ℕ) (o : Origin)
-    → slice_get (origins_of v long) i ≡ Some o → place_in long o ≡ i
+place_is : (v : ℕ) (long : List ℕ)
+    → Rise long
+    → All (λ (k : ℕ). 0 < k) long
+    → (i : ℕ) (o : Origin)
+    → slice_get (origins_of v long) i ≡ Some o
+    → place_in long o ≡ i
 place_is v [] rise some zero o is = ap (place_in []) (sym (same_Some (own v) o is))
 place_is v [] rise some (suc i) o is = absurd (none-some o is)
 place_is v (k ∷ ks) rise some zero o is = ap (place_in (k ∷ ks)) (sym (same_Some (own v) o is))
@@ -109,7 +115,8 @@ place_is v (k ∷ ks) rise some (suc (suc (suc i))) o is =
     at.is
 
 module _ (delays : List (List ℕ)) where
-  entry_of : (i : ℕ) (x : ℕ × List ℕ) → slice_get (enumerate_from 0 delays) i ≡ Some x
+  entry_of : (i : ℕ) (x : ℕ × List ℕ)
+      → slice_get (enumerate_from 0 delays) i ≡ Some x
       → (i < length delays) × ((i, delays_at delays i) ≡ x)
   entry_of i x is =
       let within = slice_get_within (enumerate_from 0 delays) i x is in
@@ -141,7 +148,8 @@ module _ (delays : List (List ℕ)) where
       }
 
   pub stands_once : ((v : ℕ) → v < length delays → IsStrictlyIncreasing (delays_at delays v))
-      → ((v : ℕ) → v < length delays → All (λ (k : ℕ). 0 < k) (delays_at delays v)) → StandsOnce delays
+      → ((v : ℕ) → v < length delays → All (λ (k : ℕ). 0 < k) (delays_at delays v))
+      → StandsOnce delays
   stands_once rise some o i j is is' =
       let a = found o i is in
       let b = found o j is' in
@@ -158,13 +166,20 @@ module _ (delays : List (List ℕ)) where
           (AllPairs-from_increasing (delays_at delays x.v) (rise x.v x.less)) (some x.v x.less) x.j o x.part
 
   module _ (spare : ℕ) (d : Datapath) (once : StandsOnce delays) where
-    stored_at : (n : ℕ) → n < length (stored delays)
+    stored_at : (n : ℕ)
+        → n < length (stored delays)
         → slice_get (stored delays) n ≡ Some (slice_index_or (stored delays) n (0, []))
     stored_at n less = slice_get-get_or (stored delays) n (0, []) less
 
     -- lines agree as far as both go
-    pub lines_agree : (a b : List Line) → AreLines spare d delays a → AreLines spare d delays b → (n : ℕ) → n ≤ length a
-        → n ≤ length b → n ≤ length (stored delays) → take n a ≡ take n b
+    pub lines_agree : (a b : List Line)
+        → AreLines spare d delays a
+        → AreLines spare d delays b
+        → (n : ℕ)
+        → n ≤ length a
+        → n ≤ length b
+        → n ≤ length (stored delays)
+        → take n a ≡ take n b
     lines_agree a b are bre zero in-a in-b in-all = refl
     lines_agree a b are bre (suc n) in-a in-b in-all =
         let rest = lines_agree a b are bre n (omega (arith, in-a)) (omega (arith, in-b)) (omega (arith, in-all)) in
@@ -180,16 +195,24 @@ module _ (delays : List (List ℕ)) where
         ∙ sym (take-suc b n no_line (omega (arith, in-b)))
 
     -- as many lines are the same
-    pub one_lines : (a b : List Line) → AreLines spare d delays a → AreLines spare d delays b → length a ≡ length b
-        → length a ≤ length (stored delays) → a ≡ b
+    pub one_lines : (a b : List Line)
+        → AreLines spare d delays a
+        → AreLines spare d delays b
+        → length a ≡ length b
+        → length a ≤ length (stored delays)
+        → a ≡ b
     one_lines a b are bre same few =
         sym (take_all (length a) a (omega arith))
         ∙ lines_agree a b are bre (length a) (omega arith) (omega (arith, same)) few
         ∙ take_all (length a) b (omega (arith, same))
 
     -- the line behind others, where more go on
-    pub goes_on : (a b : List Line) → AreLines spare d delays a → AreLines spare d delays b → length a < length b
-        → (v : ℕ) (long : List ℕ) → slice_get (stored delays) (length a) ≡ Some (v, long)
+    pub goes_on : (a b : List Line)
+        → AreLines spare d delays a
+        → AreLines spare d delays b
+        → length a < length b
+        → (v : ℕ) (long : List ℕ)
+        → slice_get (stored delays) (length a) ≡ Some (v, long)
         → IsNextLine spare d delays a v long (line_of b (length a))
     goes_on a b are bre less v long at =
         let within = slice_get_within (stored delays) (length a) (v, long) at in

@@ -1,5 +1,6 @@
 -- The line of one node is placed, as the code reads its delays and its number.
-use Rattle.std.proofs.Common.{◌≡◌, sym, subst, ap, ◌∙◌, arith, ℕ, ◌+◌, ◌<◌, ◌⊎◌, inl, inr, Result, Ok, Err, List, [], length, slice_index_or}
+use Rattle.std.proofs.Common.{◌≡◌, sym, subst, ap, ◌∙◌, arith, ℕ, ◌+◌, ◌<◌, ◌⊎◌, inl, inr, Result, Ok, Err, List, []}
+use Rattle.std.proofs.Common.{length, slice_index_or}
 use Rattle.std.specs.Prelude.{OnOk, IfErr}
 use Rattle.std.proofs.lemmas.List.{get_or_read}
 use Rattle.datapath.specs.declared.types.Datapath.{Datapath}
@@ -12,22 +13,17 @@ use Rattle.delay_memory.specs.declared.fault.LineFault.TheVariants.{Memory}
 use Rattle.delay_memory.specs.declared.lines.LineMemory.{LineMemory}
 use Rattle.delay_memory.proofs.LineSteps.{lines_next, lines_same, lines_stop}
 
-pub on_ok : {A E : Type 0} (r : Result A E) (P Q : Type 0) → (P → Q) → OnOk r P → OnOk r Q
-on_ok (Ok x) P Q f h = f h
-on_ok (Err e) P Q f h = tt
-
-pub if_err : {A E : Type 0} (r : Result A E) (P Q : E → Type 0) → ((e : E) → P e → Q e) → IfErr r P → IfErr r Q
-if_err (Ok x) P Q f h = tt
-if_err (Err e) P Q f h = f e h
-
 module _ (spare : ℕ) (d : Datapath) (delays : List (List ℕ)) (v : ℕ) (less : v < length delays)
     (item : List ℕ) (is : item ≡ slice_index_or delays v item) where
   at : item ≡ delays_at delays v
   at = get_or_read delays v item less is []
 
   pub placed_next : (numbers : List ℕ) (number depth : ℕ) (old new : LineMemory)
-      → AreNumbers delays (length delays) numbers → number ≡ slice_index_or numbers v number
-      → IsLongest item depth → AreLinesBefore spare d delays v old → Places spare d number depth old new
+      → AreNumbers delays (length delays) numbers
+      → number ≡ slice_index_or numbers v number
+      → IsLongest item depth
+      → AreLinesBefore spare d delays v old
+      → Places spare d number depth old new
       → AreLinesBefore spare d delays (v + 1) new
   placed_next numbers number depth old new numbered number_is longest before placed =
       let count = numbered.count in
@@ -36,12 +32,16 @@ module _ (spare : ℕ) (d : Datapath) (delays : List (List ℕ)) (v : ℕ) (less
       (numbered.each v less))
       (subst (λ (xs : List ℕ). IsLongest xs depth) at longest) placed
 
-  pub none_next : (memory : LineMemory) → length item ≡ 0 → AreLinesBefore spare d delays v memory
+  pub none_next : (memory : LineMemory)
+      → length item ≡ 0
+      → AreLinesBefore spare d delays v memory
       → AreLinesBefore spare d delays (v + 1) memory
   none_next memory none before = lines_same spare d delays v memory less (ap length (sym at) ∙ none) before
 
-  pub stop_next : (depth : ℕ) (memory : LineMemory) (f : LineFault) → IsLongest item depth
-      → AreLinesBefore spare d delays v memory → (f ≡ Memory) ⊎ IsPlaceFault spare d memory.lines v depth f
+  pub stop_next : (depth : ℕ) (memory : LineMemory) (f : LineFault)
+      → IsLongest item depth
+      → AreLinesBefore spare d delays v memory
+      → (f ≡ Memory) ⊎ IsPlaceFault spare d memory.lines v depth f
       → (f ≡ Memory) ⊎ IsStop spare d delays f
   stop_next depth memory f longest before (inl e) = inl e
   stop_next depth memory f longest before (inr h) =

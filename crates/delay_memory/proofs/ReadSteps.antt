@@ -1,7 +1,9 @@
 -- Long delays are found edge by edge.
-use Rattle.std.proofs.Common.{◌≡◌, ◌≢◌, refl, sym, subst, ap, ◌∙◌, arith, ℕ, zero, suc, ◌+◌, ◌<◌, ◌≤◌, ◌⊎◌, inl, inr, ⊎_elim, ◌↔◌, List, [], ◌∷◌, ◌++◌, length, replicate, slice_index_or, slice_set, Contains}
+use Rattle.std.proofs.Common.{◌≡◌, ◌≢◌, refl, sym, subst, ap, ◌∙◌, arith, ℕ, zero, suc, ◌+◌, ◌<◌, ◌≤◌, ◌⊎◌, inl, inr}
+use Rattle.std.proofs.Common.{⊎_elim, ◌↔◌, List, [], ◌∷◌, ◌++◌, length, replicate, slice_index_or, slice_set, Contains}
 use Rattle.std.proofs.lemmas.Bool.{cases_lt, cases_eq}
-use Rattle.std.proofs.lemmas.List.{length-replicate, length-set, length_push, get_or_append_left, get_or_push, get_or-set_same, get_or-set_other}
+use Rattle.std.proofs.lemmas.List.{length-replicate, length-set, length_push, get_or_append_left, get_or_push}
+use Rattle.std.proofs.lemmas.List.{get_or-set_same, get_or-set_other}
 use Rattle.std.proofs.lemmas.List.Elements.{Contains-push, Contains-push_cases, Contains-append_left}
 use Rattle.std.specs.List.Sorted.{IsStrictlyIncreasing}
 use Rattle.std.specs.Prelude.{slice_get, IsSomeAnd}
@@ -22,7 +24,8 @@ use Rattle.plan_core.specs.Operands.{node_of, edge_of, no_edge, delay_at}
 use Rattle.plan_core.specs.Lowered.{IsReadAgo, AreLongDelays}
 use Rattle.plan_run.proofs.Elements.{nth_past, default_any}
 use Rattle.plan_run.proofs.FromLowered.{none_past}
-use Rattle.delay_memory.specs.Private.Delays.{delays_at, IsLongRead, AddsRead, AreReadsBefore, AreDelays, AreRisenBefore}
+use Rattle.delay_memory.specs.Private.Delays.{delays_at, IsLongRead, AddsRead, AreReadsBefore, AreDelays}
+use Rattle.delay_memory.specs.Private.Delays.{AreRisenBefore}
 
 abbrev none : List ℕ
 none = []
@@ -77,7 +80,9 @@ module _ (g : Graph) (hold : ℕ) where
         long = r.long;
       }
 
-      by : r.consumer ≡ c → r.port < q + 1 → (r.port ≡ q) ⊎ (r.port ≡ q → ⊥)
+      by : r.consumer ≡ c
+          → r.port < q + 1
+          → (r.port ≡ q) ⊎ (r.port ≡ q → ⊥)
           → IsLongRead g hold c q v ago ⊎ IsReadHere c q v ago
       by same less (inr other) = inl (again (inr (same, omega (arith, less, other))))
       by same less (inl at) =
@@ -90,9 +95,12 @@ module _ (g : Graph) (hold : ℕ) where
           })
 
   -- an edge with a long delay
-  pub reads_long : (c q : ℕ) (edge : Edge) (old new : List (List ℕ)) → AreReadsBefore g hold c q old
-      → q < length (node_of g.nodes c).edges → edge_of (node_of g.nodes c) q ≡ edge
-      → edge.node < length g.nodes → hold < edge.delay
+  pub reads_long : (c q : ℕ) (edge : Edge) (old new : List (List ℕ))
+      → AreReadsBefore g hold c q old
+      → q < length (node_of g.nodes c).edges
+      → edge_of (node_of g.nodes c) q ≡ edge
+      → edge.node < length g.nodes
+      → hold < edge.delay
       → new ≡ slice_set old edge.node (delays_at old edge.node ++ edge.delay ∷ [])
       → AreReadsBefore g hold c (q + 1) new
   reads_long c q edge old new before port is there long e = record {
@@ -160,8 +168,11 @@ module _ (g : Graph) (hold : ℕ) where
           (split c q v ago r)
 
   -- an edge with another
-  pub reads_short : (c q : ℕ) (edge : Edge) (old : List (List ℕ)) → AreReadsBefore g hold c q old
-      → edge_of (node_of g.nodes c) q ≡ edge → edge.delay ≤ hold → AreReadsBefore g hold c (q + 1) old
+  pub reads_short : (c q : ℕ) (edge : Edge) (old : List (List ℕ))
+      → AreReadsBefore g hold c q old
+      → edge_of (node_of g.nodes c) q ≡ edge
+      → edge.delay ≤ hold
+      → AreReadsBefore g hold c (q + 1) old
   reads_short c q edge old before is short = record {
     count = before.count;
     from = λ v ago h. wider c q v ago (before.from v ago h);
@@ -175,9 +186,13 @@ module _ (g : Graph) (hold : ℕ) where
   }
 
   -- an edge
-  pub reads_more : (c q : ℕ) (edge : Edge) (old new : List (List ℕ)) → AreReadsBefore g hold c q old
-      → q < length (node_of g.nodes c).edges → edge_of (node_of g.nodes c) q ≡ edge
-      → edge.node < length g.nodes → AddsRead hold edge old new → AreReadsBefore g hold c (q + 1) new
+  pub reads_more : (c q : ℕ) (edge : Edge) (old new : List (List ℕ))
+      → AreReadsBefore g hold c q old
+      → q < length (node_of g.nodes c).edges
+      → edge_of (node_of g.nodes c) q ≡ edge
+      → edge.node < length g.nodes
+      → AddsRead hold edge old new
+      → AreReadsBefore g hold c (q + 1) new
   reads_more c q edge old new before port is there adds =
       ⊎_elim (λ long. reads_long c q edge old new before port is there long (adds.long long))
       (λ short.
@@ -185,7 +200,8 @@ module _ (g : Graph) (hold : ℕ) where
       (cases_lt hold edge.delay)
 
   -- node c is done
-  pub reads_next : (c : ℕ) (reads : List (List ℕ)) → AreReadsBefore g hold c (length (node_of g.nodes c).edges) reads
+  pub reads_next : (c : ℕ) (reads : List (List ℕ))
+      → AreReadsBefore g hold c (length (node_of g.nodes c).edges) reads
       → AreReadsBefore g hold (c + 1) 0 reads
   reads_next c reads before = record {
     count = before.count;
@@ -194,7 +210,8 @@ module _ (g : Graph) (hold : ℕ) where
   }
     where
       again : {v ago : ℕ} (m n : ℕ) (r : IsLongRead g hold m n v ago) (c q : ℕ)
-          → (r.consumer < c) ⊎ ((r.consumer ≡ c) × (r.port < q)) → IsLongRead g hold c q v ago
+          → (r.consumer < c) ⊎ ((r.consumer ≡ c) × (r.port < q))
+          → IsLongRead g hold c q v ago
       again m n r c q before = record {
         consumer = r.consumer;
         port = r.port;
@@ -204,13 +221,15 @@ module _ (g : Graph) (hold : ℕ) where
         long = r.long;
       }
 
-      further : (v ago : ℕ) → IsLongRead g hold c (length (node_of g.nodes c).edges) v ago
+      further : (v ago : ℕ)
+          → IsLongRead g hold c (length (node_of g.nodes c).edges) v ago
           → IsLongRead g hold (c + 1) 0 v ago
       further v ago r =
           again c (length (node_of g.nodes c).edges) r (c + 1) 0
           (inl (⊎_elim (λ (less : r.consumer < c). omega arith) (λ h. let same = h.0 in omega arith) r.before))
 
-      nearer : (v ago : ℕ) (r : IsLongRead g hold (c + 1) 0 v ago) → (r.consumer ≡ c) ⊎ (r.consumer ≡ c → ⊥)
+      nearer : (v ago : ℕ) (r : IsLongRead g hold (c + 1) 0 v ago)
+          → (r.consumer ≡ c) ⊎ (r.consumer ≡ c → ⊥)
           → IsLongRead g hold c (length (node_of g.nodes c).edges) v ago
       nearer v ago r (inl same) =
           again (c + 1) 0 r c (length (node_of g.nodes c).edges)
@@ -235,7 +254,8 @@ module _ (g : Graph) (hold : ℕ) where
   pub long_delays : (v : ℕ) (found risen : List ℕ)
       → ((ago : ℕ) → Contains found ago → IsLongRead g hold (length g.nodes) 0 v ago)
       → ((ago : ℕ) → IsLongRead g hold (length g.nodes) 0 v ago → Contains found ago)
-      → IsStrictlyIncreasing risen → ((k : ℕ) → Contains risen k ↔ Contains found k)
+      → IsStrictlyIncreasing risen
+      → ((k : ℕ) → Contains risen k ↔ Contains found k)
       → AreLongDelays g hold v risen
   long_delays v found risen from to rise same = record {
     rise = rise;
@@ -263,7 +283,8 @@ module _ (g : Graph) (hold : ℕ) where
       ago : {k : ℕ} → IsLongRead g hold (length g.nodes) 0 v k → IsReadAgo g v k
       ago r = record { consumer = r.consumer; port = r.port; reads = r.reads; delay = r.delay }
 
-  pub risen_none : (reads : List (List ℕ)) → AreReadsBefore g hold (length g.nodes) 0 reads
+  pub risen_none : (reads : List (List ℕ))
+      → AreReadsBefore g hold (length g.nodes) 0 reads
       → AreRisenBefore g hold 0 reads []
   risen_none reads found = record {
     count = found.count;
@@ -273,9 +294,12 @@ module _ (g : Graph) (hold : ℕ) where
     long = λ w less. absurd (omega arith);
   }
 
-  pub risen_more : (v : ℕ) (found risen : List ℕ) (reads delays : List (List ℕ)) → v < length g.nodes
-      → AreRisenBefore g hold v reads delays → found ≡ slice_index_or reads v found
-      → IsStrictlyIncreasing risen → ((k : ℕ) → Contains risen k ↔ Contains found k)
+  pub risen_more : (v : ℕ) (found risen : List ℕ) (reads delays : List (List ℕ))
+      → v < length g.nodes
+      → AreRisenBefore g hold v reads delays
+      → found ≡ slice_index_or reads v found
+      → IsStrictlyIncreasing risen
+      → ((k : ℕ) → Contains risen k ↔ Contains found k)
       → AreRisenBefore g hold (v + 1) (slice_set reads v []) (delays ++ risen ∷ [])
   risen_more v found risen reads delays there before is rise same = record {
     count = length-set reads v [] ∙ before.count;
@@ -310,14 +334,17 @@ module _ (g : Graph) (hold : ℕ) where
           (λ ago h. before.from v ago (omega arith) (subst (λ (xs : List ℕ). Contains xs ago) (sym at) h))
           (λ ago r. subst (λ (xs : List ℕ). Contains xs ago) at (before.to v ago (omega arith) r)) rise same))
 
-  pub risen_all : (n : ℕ) (reads delays : List (List ℕ)) → n ≡ length g.nodes → AreRisenBefore g hold n reads delays
+  pub risen_all : (n : ℕ) (reads delays : List (List ℕ))
+      → n ≡ length g.nodes
+      → AreRisenBefore g hold n reads delays
       → AreDelays g hold delays
   risen_all n reads delays is before = record {
     count = before.risen ∙ is;
     long = λ v less. before.long v (omega (arith, is, less));
   }
 
-pub read_there : (g : Graph) (v : ℕ) → IsSomeAnd (slice_get g.nodes v) (λ (node : Node). node.op ≢ op.Output)
+pub read_there : (g : Graph) (v : ℕ)
+    → IsSomeAnd (slice_get g.nodes v) (λ (node : Node). node.op ≢ op.Output)
     → v < length g.nodes
 read_there g v some =
     ⊎_elim (λ (h : v < length g.nodes). h)
@@ -326,8 +353,13 @@ read_there g v some =
     (cases_lt v (length g.nodes))
 
 -- an edge of a node of the graph
-pub edge_at : (g : Graph) → IsGraph g → (c q : ℕ) (node : Node) (edges : List Edge) → c < length g.nodes
-    → node ≡ slice_index_or g.nodes c node → edges ≡ node.edges → q < length edges
+pub edge_at : (g : Graph)
+    → IsGraph g
+    → (c q : ℕ) (node : Node) (edges : List Edge)
+    → c < length g.nodes
+    → node ≡ slice_index_or g.nodes c node
+    → edges ≡ node.edges
+    → q < length edges
     → (q < length (node_of g.nodes c).edges)
     × ((edge_of (node_of g.nodes c) q ≡ slice_index_or edges q no_edge)
     × ((slice_index_or edges q no_edge).node < length g.nodes))
@@ -356,13 +388,20 @@ edge_at g sound c q node edges there is same port = (
     inside = read_there g (edge_of (node_of g.nodes c) q).node edge.node
 
 -- a sort, and then each number once
-pub risen_is : (numbers items sorted left out : List ℕ) → items ≡ numbers → IsPermutation items sorted
-    → IsFiltered (DiffersFromLast eqb) [] sorted left → out ≡ left
+pub risen_is : (numbers items sorted left out : List ℕ)
+    → items ≡ numbers
+    → IsPermutation items sorted
+    → IsFiltered (DiffersFromLast eqb) [] sorted left
+    → out ≡ left
     → out ≡ dedup eqb sorted
 risen_is numbers items sorted left out same moved filtered is = is ∙ dedup_is eqb sorted left filtered
 
-pub risen_same : (numbers items sorted out : List ℕ) → items ≡ numbers → IsPermutation items sorted
-    → out ≡ dedup eqb sorted → (k : ℕ) → Contains out k ↔ Contains numbers k
+pub risen_same : (numbers items sorted out : List ℕ)
+    → items ≡ numbers
+    → IsPermutation items sorted
+    → out ≡ dedup eqb sorted
+    → (k : ℕ)
+    → Contains out k ↔ Contains numbers k
 risen_same numbers items sorted out same moved is k = (
   λ h.
       subst (λ (xs : List ℕ). Contains xs k) same
@@ -375,9 +414,14 @@ risen_same numbers items sorted out same moved is k = (
 )
 
 pub risen_step : (g : Graph) (hold v : ℕ) (found risen empty : List ℕ) (reads reads' delays delays' : List (List ℕ))
-    → v < length g.nodes → AreRisenBefore g hold v reads delays → found ≡ slice_index_or reads v found → empty ≡ []
-    → reads' ≡ slice_set reads v empty → delays' ≡ delays ++ risen ∷ []
-    → IsStrictlyIncreasing risen → ((k : ℕ) → Contains risen k ↔ Contains found k)
+    → v < length g.nodes
+    → AreRisenBefore g hold v reads delays
+    → found ≡ slice_index_or reads v found
+    → empty ≡ []
+    → reads' ≡ slice_set reads v empty
+    → delays' ≡ delays ++ risen ∷ []
+    → IsStrictlyIncreasing risen
+    → ((k : ℕ) → Contains risen k ↔ Contains found k)
     → AreRisenBefore g hold (v + 1) reads' delays'
 risen_step g hold v found risen empty reads reads' delays delays' there before is none e f rise same =
     subst (AreRisenBefore g hold (v + 1) reads') (sym f)

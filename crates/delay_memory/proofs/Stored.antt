@@ -1,5 +1,6 @@
 -- The nodes that have a line, one after another.
-use Rattle.std.proofs.Common.{◌≡◌, refl, ap, ◌∙◌, arith, ℕ, zero, suc, ◌+◌, ◌<◌, ◌≤◌, List, [], ◌∷◌, length, slice_index_or, Bool, true, false, cond}
+use Rattle.std.proofs.Common.{◌≡◌, refl, ap, ◌∙◌, arith, ℕ, zero, suc, ◌+◌, ◌<◌, ◌≤◌, List, [], ◌∷◌, length}
+use Rattle.std.proofs.Common.{slice_index_or, Bool, true, false, cond}
 use Rattle.std.specs.Prelude.{slice_get, filter, take, Some}
 use Rattle.std.specs.List.{enumerate_from, AllPairs}
 use Rattle.std.proofs.lemmas.Bool.{lt-ltb}
@@ -14,7 +15,9 @@ use Rattle.plan_core.proofs.OneHeight.{neither_less}
 use Rattle.delay_memory.specs.Private.Delays.{delays_at}
 use Rattle.delay_memory.specs.Private.Lines.{has_line, lines_before}
 
-filter_at : {A : Type 0} (p : A → Bool) (xs : List A) (i : ℕ) (x : A) → slice_get xs i ≡ Some x → p x ≡ true
+filter_at : {A : Type 0} (p : A → Bool) (xs : List A) (i : ℕ) (x : A)
+    → slice_get xs i ≡ Some x
+    → p x ≡ true
     → slice_get (filter p xs) (length (filter p (take i xs))) ≡ Some x
 filter_at p [] i x is passes = absurd (none-some x is)
 filter_at {A} p (y ∷ ys) zero x is passes = by (p y) (ap p (same_Some y x is) ∙ passes)
@@ -25,7 +28,8 @@ filter_at {A} p (y ∷ ys) zero x is passes = by (p y) (ap p (same_Some y x is) 
 filter_at {A} p (y ∷ ys) (suc i) x is passes =
     by (p y) (filter p ys) (filter p (take i ys)) (filter_at p ys i x is passes)
   where
-    by : (b : Bool) (rest front : List A) → slice_get rest (length front) ≡ Some x
+    by : (b : Bool) (rest front : List A)
+        → slice_get rest (length front) ≡ Some x
         → slice_get (cond b (y ∷ rest) rest) (length (cond b (y ∷ front) front)) ≡ Some x
     by true rest front h = h
     by false rest front h = h
@@ -51,13 +55,16 @@ module _ (delays : List (List ℕ)) where
   has_none v [] none = refl
   has_none v (k ∷ ks) none = absurd (omega (arith, none))
 
-  pub stored_next : (v : ℕ) → v < length delays → 0 < length (delays_at delays v)
+  pub stored_next : (v : ℕ)
+      → v < length delays
+      → 0 < length (delays_at delays v)
       → slice_get (stored delays) (lines_before delays v) ≡ Some (v, delays_at delays v)
   stored_next v less some =
       filter_at has_line (enumerate_from 0 delays) v (v, delays_at delays v) (entry_at v less)
       (has_some v (delays_at delays v) some)
 
-  count_more : (v : ℕ) → v < length delays
+  count_more : (v : ℕ)
+      → v < length delays
       → lines_before delays (v + 1) ≡ lines_before delays v + cond (has_line (v, delays_at delays v)) 1 0
   count_more v less =
       let count = length-enumerate_from 0 delays in
@@ -73,13 +80,17 @@ module _ (delays : List (List ℕ)) where
       let count = length-enumerate_from 0 delays in
       omega (arith, all, most, taken, count)
 
-  pub count_yes : (v : ℕ) → v < length delays → 0 < length (delays_at delays v)
+  pub count_yes : (v : ℕ)
+      → v < length delays
+      → 0 < length (delays_at delays v)
       → lines_before delays (v + 1) ≡ lines_before delays v + 1
   count_yes v less some =
       count_more v less
       ∙ ap (λ (b : Bool). lines_before delays v + cond b 1 0) (has_some v (delays_at delays v) some)
 
-  pub count_no : (v : ℕ) → v < length delays → length (delays_at delays v) ≡ 0
+  pub count_no : (v : ℕ)
+      → v < length delays
+      → length (delays_at delays v) ≡ 0
       → lines_before delays (v + 1) ≡ lines_before delays v
   count_no v less none =
       let is = count_more v less
@@ -107,8 +118,11 @@ module _ (delays : List (List ℕ)) where
   stored_rise = AllPairs-filter (λ (x y : ℕ × List ℕ). x.0 < y.0) has_line (enumerate_from 0 delays) rise
 
   -- each node stands in it once
-  pub stored_once : (i j : ℕ) → i < length (stored delays) → j < length (stored delays)
-      → (slice_index_or (stored delays) i (0, [])).0 ≡ (slice_index_or (stored delays) j (0, [])).0 → i ≡ j
+  pub stored_once : (i j : ℕ)
+      → i < length (stored delays)
+      → j < length (stored delays)
+      → (slice_index_or (stored delays) i (0, [])).0 ≡ (slice_index_or (stored delays) j (0, [])).0
+      → i ≡ j
   stored_once i j in-i in-j same =
       neither_less i j (λ less. let rise = stored_rise i j (0, []) less in-j in omega (arith, rise, same))
       (λ less. let rise = stored_rise j i (0, []) less in-i in omega (arith, rise, same))

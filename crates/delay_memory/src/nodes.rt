@@ -16,7 +16,7 @@ use crate::target::Target;
 use fix_word::{Format, Mode, Op};
 use lists::List;
 use plan_core::Line;
-use signal_graph::{Edge, Graph, Node};
+use signal_graph::{Edge, Edges, Graph, Node};
 use std::alloc::{AllocError, Global};
 
 /// What the nodes of a graph get.
@@ -55,7 +55,7 @@ fn address_node(alloc: Global, ram: u8, offset: u32) -> Node
         op: Op::Addr,
         fmt: no_format(),
         arg: i64::from(offset),
-        edges: List::new(alloc),
+        edges: Edges::new(alloc),
         inits: List::new(alloc),
         width: 1,
         ram,
@@ -69,7 +69,7 @@ fn store_node(alloc: Global, ram: u8, at: u32, value: u32) -> Result<Node, Alloc
         op: Op::Store,
         fmt: no_format(),
         arg: 0,
-        edges: List::from_slice(alloc, &[edge_now(at), edge_now(value)])?,
+        edges: Edges::from_slice(alloc, &[edge_now(at), edge_now(value)])?,
         inits: List::new(alloc),
         width: 1,
         ram,
@@ -83,7 +83,7 @@ fn load_node(alloc: Global, ram: u8, at: u32, width: u8) -> Result<Node, AllocEr
         op: Op::Load,
         fmt: no_format(),
         arg: 0,
-        edges: List::from_slice(alloc, &[edge_now(at)])?,
+        edges: Edges::from_slice(alloc, &[edge_now(at)])?,
         inits: List::new(alloc),
         width,
         ram,
@@ -161,14 +161,14 @@ fn edge_for(layout: &Layout, edge: Edge) -> Edge
 }
 
 /// Makes the edges of a node those of the lowered list, in their places.
-fn lower_edges(layout: &Layout, edges: &mut List<Edge>)
+fn lower_edges(layout: &Layout, edges: &mut Edges)
     requires layout { IsLayout layout.now.delays.now layout.now.numbers.now }
     requires edges { All (IsLaid layout.now.target.now.hold layout.now.delays.now) edges.old }
     ensures { AllZip (IsLoweredEdge layout.now.target.now.hold layout.now.delays.now) edges.new edges.old }
 {
     for port in 0..edges.len() {
         let edge = edge_for(layout, edges[port]);
-        edges[port] = edge;
+        edges.set(port, edge);
     }
 }
 

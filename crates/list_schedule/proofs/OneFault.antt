@@ -25,8 +25,13 @@ module _ (d : Datapath) (a : Assigned) (is : IsProblem d a) where
   inside v q x r = operand_in d a is v q x r
 
   -- the node without a cycle has no place in another schedule in which the nodes before it have theirs
-  refuted : (v : ℕ) → IsWithoutCycle d a v → (z : Schedule) (h : ℕ → ℕ) → AreHeights d a h
-      → ((u : ℕ) → IsEarlier a h v u → IsPlaced d a z h u) → IsPlaced d a z h v → ⊥
+  refuted : (v : ℕ)
+      → IsWithoutCycle d a v
+      → (z : Schedule) (h : ℕ → ℕ)
+      → AreHeights d a h
+      → ((u : ℕ) → IsEarlier a h v u → IsPlaced d a z h u)
+      → IsPlaced d a z h v
+      → ⊥
   refuted v w z h hs before here =
       let agree = λ (u : ℕ) (r : IsEarlier a h v u).
       one_slot d a live inside z w.schedule h w.height hs w.heights (IsEarlier a h v)
@@ -61,23 +66,38 @@ module _ (d : Datapath) (a : Assigned) (is : IsProblem d a) where
   one_fault Memory g x y = absurd x
 
   module _ (r : Result Schedule PeriodFault) where
-    pub ok_found : (s : Schedule) → r ≡ Ok s → IsListSchedule d a s → (z : Schedule) → IsListSchedule d a z
+    pub ok_found : (s : Schedule)
+        → r ≡ Ok s
+        → IsListSchedule d a s
+        → (z : Schedule)
+        → IsListSchedule d a z
         → (r ≡ Ok z) ⊎ (r ≡ Err Memory)
     ok_found s same s_is z z_is =
         inl (same ∙ ap (λ (x : Schedule). Ok x) (one_schedule d a live inside s z s_is z_is))
 
-    pub ok_refused : (s : Schedule) → IsListSchedule d a s → (fault : PeriodFault) → IsPeriodFault d a fault
+    pub ok_refused : (s : Schedule)
+        → IsListSchedule d a s
+        → (fault : PeriodFault)
+        → IsPeriodFault d a fault
         → (r ≡ Err fault) ⊎ (r ≡ Err Memory)
     ok_refused s s_is fault h = absurd (scheduled_or_not s s_is fault h)
 
-    pub err_found : (f : PeriodFault) → r ≡ Err f → (f ≡ Memory) ⊎ IsPeriodFault d a f → (z : Schedule)
-        → IsListSchedule d a z → (r ≡ Ok z) ⊎ (r ≡ Err Memory)
+    pub err_found : (f : PeriodFault)
+        → r ≡ Err f
+        → (f ≡ Memory) ⊎ IsPeriodFault d a f
+        → (z : Schedule)
+        → IsListSchedule d a z
+        → (r ≡ Ok z) ⊎ (r ≡ Err Memory)
     err_found f same why z z_is =
         ⊎_elim (λ (e : f ≡ Memory). inr (same ∙ ap (λ (x : PeriodFault). Err x) e))
         (λ (h : IsPeriodFault d a f). absurd (scheduled_or_not z z_is f h)) why
 
-    pub err_refused : (f : PeriodFault) → r ≡ Err f → (f ≡ Memory) ⊎ IsPeriodFault d a f → (fault : PeriodFault)
-        → IsPeriodFault d a fault → (r ≡ Err fault) ⊎ (r ≡ Err Memory)
+    pub err_refused : (f : PeriodFault)
+        → r ≡ Err f
+        → (f ≡ Memory) ⊎ IsPeriodFault d a f
+        → (fault : PeriodFault)
+        → IsPeriodFault d a fault
+        → (r ≡ Err fault) ⊎ (r ≡ Err Memory)
     err_refused f same why fault h =
         ⊎_elim (λ (e : f ≡ Memory). inr (same ∙ ap (λ (x : PeriodFault). Err x) e))
         (λ (g : IsPeriodFault d a f). inl (same ∙ ap (λ (x : PeriodFault). Err x) (one_fault f fault g h))) why

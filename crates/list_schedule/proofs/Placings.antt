@@ -1,5 +1,7 @@
 -- The nodes that are placed so far, and one more.
-use Rattle.std.proofs.Common.{◌≡◌, ◌≢◌, ◌∙◌, refl, sym, ap, subst, arith, ℕ, ◌+◌, ◌<◌, ◌≤◌, ◌⊎◌, inl, inr, ⊎_elim, List, [], ◌∷◌, ◌++◌, length, max, All, Contains, get_or-set_same, get_or-set_other, Option, Some, None}
+use Rattle.std.proofs.Common.{◌≡◌, ◌≢◌, ◌∙◌, refl, sym, ap, subst, arith, ℕ, ◌+◌, ◌<◌, ◌≤◌, ◌⊎◌, inl, inr, ⊎_elim, List}
+use Rattle.std.proofs.Common.{[], ◌∷◌, ◌++◌, length, max, All, Contains, get_or-set_same, get_or-set_other, Option}
+use Rattle.std.proofs.Common.{Some, None}
 use Rattle.std.specs.Prelude.{slice_index_or}
 use Rattle.std.proofs.lemmas.Bool.{cases_lt, cases_eq}
 use Rattle.std.proofs.lemmas.List.{length-set}
@@ -11,7 +13,8 @@ use Rattle.plan_core.specs.Operands.{node_of, edge_of, delay_at, Reads}
 use Rattle.plan_core.specs.Assigned.{unit_in}
 use Rattle.plan_core.specs.Heights.{ReadsNow, latency_of, IsPlacedBefore}
 use Rattle.plan_core.specs.Reservations.{result_on, IsFreeRoute, Fits, IsFirstBus}
-use Rattle.plan_core.specs.ListSchedule.{no_slot, slot_of, IsDestination, AreDestinations, IsEarlier, IsTakenBefore, CanIssue, IsPlaced, IsListSchedule}
+use Rattle.plan_core.specs.ListSchedule.{no_slot, slot_of, IsDestination, AreDestinations, IsEarlier, IsTakenBefore}
+use Rattle.plan_core.specs.ListSchedule.{CanIssue, IsPlaced, IsListSchedule}
 use Rattle.plan_core.specs.Refusals.{IsWithoutCycle}
 use Rattle.plan_core.specs.declared.schedule.Assigned.{Assigned}
 use Rattle.plan_core.specs.declared.schedule.Transfer.{Transfer}
@@ -21,7 +24,8 @@ use Rattle.plan_core.proofs.OneHeight.{live_of}
 use Rattle.bus_alloc.specs.Table.{Placed, Reservations, IsTaken, HasPort, FitsAt, IsFirstFit, AreTransfers}
 use Rattle.schedule_order.specs.Problem.{IsProblem}
 use Rattle.schedule_order.specs.Order.{nth}
-use Rattle.list_schedule.specs.Private.Placing.{slot_at, of_slots, IsReadyAt, IsFirstReady, HasTable, IsOpenAt, IsShutAt, IsFirstOpen, Places, HasNoCycle, ArePlaced}
+use Rattle.list_schedule.specs.Private.Placing.{slot_at, of_slots, IsReadyAt, IsFirstReady, HasTable, IsOpenAt}
+use Rattle.list_schedule.specs.Private.Placing.{IsShutAt, IsFirstOpen, Places, HasNoCycle, ArePlaced}
 use Rattle.list_schedule.specs.declared.placing.Placing.{Placing}
 use Rattle.list_schedule.specs.Faults.{IsPeriodFault}
 use Rattle.list_schedule.specs.declared.fault.PeriodFault.{PeriodFault}
@@ -50,8 +54,12 @@ module _ (d : Datapath) (a : Assigned) (slots : List Slot) (v : ℕ) where
       small = before.small;
     }
 
-    pub ready_more : (x u : ℕ) → ReadsNow a.lowered.nodes v k x → u ≡ max t ((slot_at slots x).cycle + latency_of d a x)
-        → (slot_at slots x).cycle ≤ 4096 → latency_of d a x ≤ 8 → IsReadyUpTo d a slots v (k + 1) u
+    pub ready_more : (x u : ℕ)
+        → ReadsNow a.lowered.nodes v k x
+        → u ≡ max t ((slot_at slots x).cycle + latency_of d a x)
+        → (slot_at slots x).cycle ≤ 4096
+        → latency_of d a x ≤ 8
+        → IsReadyUpTo d a slots v (k + 1) u
     ready_more x u reads is early few = record {
       ready = λ q y less r.
           ⊎_elim (λ (b : q < k). let z = before.ready q y b r in omega arith)
@@ -89,12 +97,14 @@ module _ (d : Datapath) (a : Assigned) (is : IsProblem d a) where
         subst (λ (x : Datapath). HasPort x (slice_index_or ports i port)) (sym table.path)
         (port_known _ (dests.read i port less))
 
-    pub first_found : (from : ℕ) (answer : Option ℕ) → IsFirstReady d a p.slots v from
+    pub first_found : (from : ℕ) (answer : Option ℕ)
+        → IsFirstReady d a p.slots v from
         → IsFirstFit p.table (unit_in a.units v) from ports answer
         → IsFirstOpen d a p.slots p.table v ports answer
     first_found from answer ready found = by answer found
       where
-        by : (answer : Option ℕ) → IsFirstFit p.table (unit_in a.units v) from ports answer
+        by : (answer : Option ℕ)
+            → IsFirstFit p.table (unit_in a.units v) from ports answer
             → IsFirstOpen d a p.slots p.table v ports answer
         by None found = λ t h fits. found t (ready.first t h) fits
         by (Some t) found = record {
@@ -117,11 +127,13 @@ module _ (d : Datapath) (a : Assigned) (is : IsProblem d a) where
 
   module _ (order : List ℕ) (k : ℕ) (p : Placing) (b : ArePlaced d a order k p) where
     -- what the table says, of this datapath
-    fits_here : (u t : ℕ) (ports : List PortRef) → FitsAt p.table u t ports
+    fits_here : (u t : ℕ) (ports : List PortRef)
+        → FitsAt p.table u t ports
         → Fits d (IsTaken p.table.placed) (Contains ports) u t
     fits_here u t ports = subst (λ (x : Datapath). Fits x (IsTaken p.table.placed) (Contains ports) u t) b.path
 
-    fits_there : (u t : ℕ) (ports : List PortRef) → Fits d (IsTaken p.table.placed) (Contains ports) u t
+    fits_there : (u t : ℕ) (ports : List PortRef)
+        → Fits d (IsTaken p.table.placed) (Contains ports) u t
         → FitsAt p.table u t ports
     fits_there u t ports =
         subst (λ (x : Datapath). Fits x (IsTaken p.table.placed) (Contains ports) u t) (sym b.path)
@@ -134,7 +146,10 @@ module _ (d : Datapath) (a : Assigned) (is : IsProblem d a) where
         are.buses
 
     -- the nodes before node j of the order are those that are placed before it
-    earlier_index : (j : ℕ) → j < length order → (x : ℕ) → IsEarlier a b.height (nth order j) x
+    earlier_index : (j : ℕ)
+        → j < length order
+        → (x : ℕ)
+        → IsEarlier a b.height (nth order j) x
         → (i : ℕ) × (i < j) × (nth order i ≡ x)
     earlier_index j within x e =
         let at = b.placing.every x e.node in
@@ -182,15 +197,18 @@ module _ (d : Datapath) (a : Assigned) (is : IsProblem d a) where
               its_slot = sym (agree (nth order at.0) e) ∙ at.3;
             }
 
-        route_from : (u w : ℕ) (port : PortRef) (c : ℕ) → IsFreeRoute d (IsTaken p.table.placed) u w port c
+        route_from : (u w : ℕ) (port : PortRef) (c : ℕ)
+            → IsFreeRoute d (IsTaken p.table.placed) u w port c
             → IsFreeRoute d (IsTakenBefore a z b.height v) u w port c
         route_from u w port c f = record { route = f.route; free = λ x slot t. f.free x slot (taken x slot t) }
 
-        route_to : (u w : ℕ) (port : PortRef) (c : ℕ) → IsFreeRoute d (IsTakenBefore a z b.height v) u w port c
+        route_to : (u w : ℕ) (port : PortRef) (c : ℕ)
+            → IsFreeRoute d (IsTakenBefore a z b.height v) u w port c
             → IsFreeRoute d (IsTaken p.table.placed) u w port c
         route_to u w port c f = record { route = f.route; free = λ x slot t. f.free x slot (taken_back x slot t) }
 
-        bus_from : (u w : ℕ) (x : Transfer) → IsFirstBus d (IsTaken p.table.placed) u w x
+        bus_from : (u w : ℕ) (x : Transfer)
+            → IsFirstBus d (IsTaken p.table.placed) u w x
             → IsFirstBus d (IsTakenBefore a z b.height v) u w x
         bus_from u w x f = record {
           route = route_from u w x.port x.bus f.route;
@@ -206,7 +224,8 @@ module _ (d : Datapath) (a : Assigned) (is : IsProblem d a) where
           in_dest : (port : PortRef) → Contains ports port → IsDestination a v port
           in_dest port h = subst (IsDestination a v) h.2 (dests.read h.0 port h.1)
 
-          fits_from : (u t : ℕ) → FitsAt p.table u t ports
+          fits_from : (u t : ℕ)
+              → FitsAt p.table u t ports
               → Fits d (IsTakenBefore a z b.height v) (IsDestination a v) u t
           fits_from u t here =
               let f = fits_here u t ports here in
@@ -272,7 +291,10 @@ module _ (d : Datapath) (a : Assigned) (is : IsProblem d a) where
         index_else : (j : ℕ) → j < k → nth order j ≢ v
         index_else j less = λ e. not_before b.height (nth order j) v e (b.placing.before j k less within)
 
-        agrees : (j : ℕ) → j < k + 1 → (x : ℕ) → IsEarlier a b.height (nth order j) x
+        agrees : (j : ℕ)
+            → j < k + 1
+            → (x : ℕ)
+            → IsEarlier a b.height (nth order j) x
             → slot_at p.slots x ≡ slot_at new.slots x
         agrees j less x e =
             let at = earlier_index j (omega arith) x e in
@@ -314,9 +336,9 @@ module _ (d : Datapath) (a : Assigned) (is : IsProblem d a) where
         abbrev one_more : Placed
         one_more = record { unit = unit_in a.units v; slot = places.slot }
 
-        from_more : (u : ℕ) (slot : Slot) → IsTaken (p.table.placed ++ one_more ∷ []) u slot
-            → (j : ℕ) × (j < k + 1) × (unit_in a.units (nth order j) ≡ u)
-            × (slot_at new.slots (nth order j) ≡ slot)
+        from_more : (u : ℕ) (slot : Slot)
+            → IsTaken (p.table.placed ++ one_more ∷ []) u slot
+            → (j : ℕ) × (j < k + 1) × (unit_in a.units (nth order j) ≡ u) × (slot_at new.slots (nth order j) ≡ slot)
         from_more u slot t =
             ⊎_elim
             (λ (old : IsTaken p.table.placed u slot).
@@ -327,7 +349,8 @@ module _ (d : Datapath) (a : Assigned) (is : IsProblem d a) where
             (k, omega arith, ap (λ (x : Placed). x.unit) same, slot_here ∙ ap (λ (x : Placed). x.slot) same))
             (Contains-push_cases p.table.placed one_more (record { unit = u; slot = slot }) t)
 
-        to_more : (j : ℕ) → j < k + 1
+        to_more : (j : ℕ)
+            → j < k + 1
             → IsTaken (p.table.placed ++ one_more ∷ []) (unit_in a.units (nth order j))
             (slot_at new.slots (nth order j))
         to_more j less =
@@ -364,7 +387,8 @@ module _ (d : Datapath) (a : Assigned) (is : IsProblem d a) where
           taken_from = λ u slot t.
               from_more u slot (subst (λ (r : Reservations). IsTaken r.placed u slot) places.taken t);
           taken_to = λ j less.
-              subst (λ (r : Reservations). IsTaken r.placed (unit_in a.units (nth order j)) (slot_at new.slots (nth order j)))
+              subst
+              (λ (r : Reservations). IsTaken r.placed (unit_in a.units (nth order j)) (slot_at new.slots (nth order j)))
               (sym places.taken) (to_more j less);
           each = each_more;
         }
@@ -398,7 +422,9 @@ module _ (d : Datapath) (a : Assigned) (is : IsProblem d a) where
         (stopped order k p b inside_order (subst (λ (rs : List ℕ). HasNoCycle d a (its rs) p) same h.1)))))
         why
 
-  pub all_placed : (order : List ℕ) (k : ℕ) (p : Placing) → length order ≤ k → ArePlaced d a order k p
+  pub all_placed : (order : List ℕ) (k : ℕ) (p : Placing)
+      → length order ≤ k
+      → ArePlaced d a order k p
       → IsListSchedule d a (of_slots p.slots)
   all_placed order k p all b = record {
     height = b.height;

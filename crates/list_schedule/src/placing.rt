@@ -3,7 +3,7 @@
 ghost use Rattle.std.specs.Prelude.{◌≡◌, ◌<◌, ◌≤◌, ◌⊎◌, ℕ, length, replicate, IfOk, IfErr, OnOk};
 ghost use Rattle.plan_core.specs.ListSchedule.{no_slot, AreDestinations, IsListSchedule};
 ghost use Rattle.list_schedule.specs.Faults.{IsPeriodFault};
-ghost use Rattle.schedule_order.specs.Problem.{IsProblem};
+ghost use Rattle.schedule_order.specs.Parts.{nodes_of, IsSound};
 ghost use Rattle.schedule_order.specs.Order.{IsOrderOf};
 ghost use Rattle.list_schedule.specs.Private.Placing.{slot_at, of_slots, IsFirstReady, HasTable, IsFirstOpen, Places, HasNoCycle, ArePlaced};
 ghost use Rattle.list_schedule.specs.declared.fault.PeriodFault.TheVariants.{Period, Memory};
@@ -25,9 +25,9 @@ pub(crate) struct Placing {
 
 /// The first cycle at which the operands of node v of the same sample are there.
 fn ready(problem: &Problem, v: usize, slots: &List<Slot>) -> u16
-    requires problem { IsProblem problem.now.datapath.now problem.now.assigned.now }
-    requires node { v < length problem.now.assigned.now.lowered.nodes }
-    requires count { length slots.now ≡ length problem.now.assigned.now.lowered.nodes }
+    requires problem { IsSound problem.now }
+    requires node { v < length (nodes_of problem.now) }
+    requires count { length slots.now ≡ length (nodes_of problem.now) }
     requires early { (x : ℕ) → (slot_at slots.now x).cycle ≤ 4096 }
     ensures { IsFirstReady problem.now.datapath.now problem.now.assigned.now slots.now v result }
 {
@@ -43,8 +43,8 @@ fn ready(problem: &Problem, v: usize, slots: &List<Slot>) -> u16
 
 /// The first cycle at which node v can be issued.
 fn cycle_for(problem: &Problem, v: usize, ports: &[PortRef], placing: &Placing) -> Option<u16>
-    requires problem { IsProblem problem.now.datapath.now problem.now.assigned.now }
-    requires node { v < length problem.now.assigned.now.lowered.nodes }
+    requires problem { IsSound problem.now }
+    requires node { v < length (nodes_of problem.now) }
     requires ports { AreDestinations problem.now.assigned.now v ports.now }
     requires table { HasTable problem.now.datapath.now problem.now.assigned.now placing.now }
     ensures { IsFirstOpen problem.now.datapath.now problem.now.assigned.now placing.now.slots placing.now.table v
@@ -64,8 +64,8 @@ fn issue(
     ports: &[PortRef],
     placing: &mut Placing,
 ) -> Result<(), PeriodFault>
-    requires problem { IsProblem problem.now.datapath.now problem.now.assigned.now }
-    requires node { v < length problem.now.assigned.now.lowered.nodes }
+    requires problem { IsSound problem.now }
+    requires node { v < length (nodes_of problem.now) }
     requires ports { AreDestinations problem.now.assigned.now v ports.now }
     requires table { HasTable problem.now.datapath.now problem.now.assigned.now placing.old }
     ensures placed { OnOk result (Places problem.now.datapath.now problem.now.assigned.now v placing.old placing.new) }
@@ -91,8 +91,8 @@ fn place(
     ports: &mut Vec<PortRef>,
     placing: &mut Placing,
 ) -> Result<(), PeriodFault>
-    requires problem { IsProblem problem.now.datapath.now problem.now.assigned.now }
-    requires node { v < length problem.now.assigned.now.lowered.nodes }
+    requires problem { IsSound problem.now }
+    requires node { v < length (nodes_of problem.now) }
     requires destinations { destinations.now ≡ problem.now.assigned.now }
     requires table { HasTable problem.now.datapath.now problem.now.assigned.now placing.old }
     ensures placed { OnOk result (Places problem.now.datapath.now problem.now.assigned.now v placing.old placing.new) }
@@ -111,7 +111,7 @@ fn place_all(
     destinations: &Destinations,
     placing: &mut Placing,
 ) -> Result<(), PeriodFault>
-    requires problem { IsProblem problem.now.datapath.now problem.now.assigned.now }
+    requires problem { IsSound problem.now }
     requires destinations { destinations.now ≡ problem.now.assigned.now }
     requires none { ArePlaced problem.now.datapath.now problem.now.assigned.now order.now.items 0 placing.old }
     ensures placed { OnOk result (ArePlaced problem.now.datapath.now problem.now.assigned.now order.now.items
@@ -147,7 +147,7 @@ pub(crate) fn slots_of(
     order: &Vec<u32>,
     destinations: &Destinations,
 ) -> Result<List<Slot>, PeriodFault>
-    requires problem { IsProblem problem.now.datapath.now problem.now.assigned.now }
+    requires problem { IsSound problem.now }
     requires order { IsOrderOf problem.now.datapath.now problem.now.assigned.now order.now.items }
     requires destinations { destinations.now ≡ problem.now.assigned.now }
     ensures schedule { IfOk result

@@ -1,8 +1,9 @@
 -- A binary search finds the lifetime of a node at a port.
-use Rattle.std.proofs.Common.{◌≡◌, ◌∙◌, ◌⊎◌, inl, inr, sym, ap, subst, refl, arith, ⊎_elim, Bool, true, false, ℕ, ◌<◌, ◌≤◌, get_or}
+use Rattle.std.proofs.Common.{◌≡◌, ◌∙◌, ◌⊎◌, inl, inr, sym, ap, subst, refl, arith, ⊎_elim, Bool, true, false, ℕ, ◌<◌}
+use Rattle.std.proofs.Common.{◌≤◌, get_or}
 use Rattle.std.specs.List.{position_or_len}
 use Rattle.std.specs.List.Sorted.{IsPartitionedBy, IsPartitionPoint}
-use Rattle.std.proofs.lemmas.Bool.{cases_lt}
+use Rattle.std.proofs.lemmas.Bool.{cases_lt, false_from_ne_true}
 use Rattle.std.proofs.lemmas.Bool.Decides.{nat_tests}
 use Rattle.std.proofs.lemmas.List.Sums.{position_or_len_is}
 use Rattle.operations.specs.declared.units.PortRef.{PortRef}
@@ -41,7 +42,9 @@ not_before port w v arc sought = grind (arith, nat_tests)
 
 -- the arc is before the other, field by field
 record Precedes (x y : Arc) : Type 0 where
-  fields : (x.port.unit < y.port.unit) ⊎ ((x.port.unit ≡ y.port.unit) × ((x.port.port < y.port.port)
+  fields : (x.port.unit < y.port.unit)
+      ⊎ ((x.port.unit ≡ y.port.unit)
+      × ((x.port.port < y.port.port)
       ⊎ ((x.port.port ≡ y.port.port) × ((x.w < y.w) ⊎ ((x.w ≡ y.w) × (x.node < y.node))))))
 
 precedes : (x y : Arc) → IsArcBefore x y → Precedes x y
@@ -56,20 +59,20 @@ precedes x y before = record {
       before;
 }
 
-before_sought : (port : PortRef) (w v : ℕ) (x y : Arc) → Precedes x y → IsSought port w v y
+before_sought : (port : PortRef) (w v : ℕ) (x y : Arc)
+    → Precedes x y
+    → IsSought port w v y
     → is_before port w v x ≡ true
 before_sought port w v x y before sought = grind (arith, nat_tests)
 
-before_before : (port : PortRef) (w v : ℕ) (x y : Arc) → Precedes x y → is_before port w v y ≡ true
+before_before : (port : PortRef) (w v : ℕ) (x y : Arc)
+    → Precedes x y
+    → is_before port w v y ≡ true
     → is_before port w v x ≡ true
 before_before port w v x y before is = grind (arith, nat_tests)
 
 opposite : (b : Bool) → b ≡ true → b ≡ false → ⊥
 opposite b is is_not = cc
-
-not_true : (b : Bool) → (b ≡ true → ⊥) → b ≡ false
-not_true true never = absurd (never refl)
-not_true false _ = refl
 
 module _ (d : Datapath) (p : Plan) (arcs : AreArcs d p) (v : ℕ) (port : PortRef) where
   abbrev w : ℕ
@@ -87,7 +90,9 @@ module _ (d : Datapath) (p : Plan) (arcs : AreArcs d p) (v : ℕ) (port : PortRe
       (cases_lt i j)
 
   -- an arc for the node at the port is the one that is sought
-  sought_by : (arc : Arc) → arc.w ≡ ends d p.assigned p.schedule arc.node → is_arc_for v port arc ≡ true
+  sought_by : (arc : Arc)
+      → arc.w ≡ ends d p.assigned p.schedule arc.node
+      → is_arc_for v port arc ≡ true
       → IsSought port w v arc
   sought_by arc written is_it =
       sought_for port w v arc is_it
@@ -107,7 +112,8 @@ module _ (d : Datapath) (p : Plan) (arcs : AreArcs d p) (v : ℕ) (port : PortRe
     }
 
     pub found : (i : ℕ)
-        → IsPartitionPoint (λ y. is_before port w v y ≡ true) (λ y. is_before port w v y ≡ false) p.arcs i → i ≡ k
+        → IsPartitionPoint (λ y. is_before port w v y ≡ true) (λ y. is_before port w v y ≡ false) p.arcs i
+        → i ≡ k
     found i point =
         ⊎_elim
         (λ (below : i < k).
@@ -129,7 +135,7 @@ module _ (d : Datapath) (p : Plan) (arcs : AreArcs d p) (v : ℕ) (port : PortRe
         let there = has.there in
         sym (position_or_len_is (is_arc_for v port) p.arcs k no_arc (omega arith)
         (λ j below.
-        not_true (is_arc_for v port (arc_of p.arcs j))
+        false_from_ne_true (is_arc_for v port (arc_of p.arcs j))
         (λ is_it.
         opposite (is_before port w v (arc_of p.arcs j))
         (before_sought port w v (arc_of p.arcs j) (arc_of p.arcs k)

@@ -1,5 +1,6 @@
 -- Writes into registers and cells.
-use Rattle.std.proofs.Common.{◌≡◌, ◌≢◌, ℕ, ◌<◌, ◌⊎◌, inl, inr, ⊎_elim, refl, sym, ap, ◌∙◌, subst, arith, List, [], length, slice_index_or, slice_set, ℤ, pos}
+use Rattle.std.proofs.Common.{◌≡◌, ◌≢◌, ℕ, ◌<◌, ◌⊎◌, inl, inr, ⊎_elim, refl, sym, ap, ◌∙◌, subst, arith, List, []}
+use Rattle.std.proofs.Common.{length, slice_index_or, slice_set, ℤ, pos}
 use Rattle.std.proofs.Math.Seq.{map-set_same}
 use Rattle.std.proofs.lemmas.Bool.{cases_eq}
 use Rattle.std.proofs.lemmas.List.{get_or-set_same, get_or-set_other, length-set, get_or-map, length-map}
@@ -105,13 +106,15 @@ module _ (units : List UnitDesc) (u q r : ℕ) (word : ℤ) (in-u : u < length u
       (λ (other : u ≡ v → ⊥). ap (λ x. nth (nth x.files s []) t (pos 0)) (other_unit v other))
       (cases_eq u v)
     where
-      in_file : (t : ℕ) → (Register u q t ≡ Register u q r → ⊥)
+      in_file : (t : ℕ)
+          → (Register u q t ≡ Register u q r → ⊥)
           → held new_units (Register u q t) ≡ held units (Register u q t)
       in_file t apart =
           ap (λ file. nth file t (pos 0)) file_at
           ∙ get_or-set_other (nth old_unit.files q []) r t word (pos 0) (λ same. apart (ap (Register u q) same))
 
-      in_unit : (s t : ℕ) → (Register u s t ≡ Register u q r → ⊥)
+      in_unit : (s t : ℕ)
+          → (Register u s t ≡ Register u q r → ⊥)
           → held new_units (Register u s t) ≡ held units (Register u s t)
       in_unit s t apart =
           ⊎_elim

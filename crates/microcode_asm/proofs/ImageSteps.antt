@@ -23,11 +23,11 @@ module _ (d : Datapath) (p : Plan) (ready : IsReady d p) where
   pub image_is : (inputs : List ℕ) (buses : ℕ) (units : List UnitDesc) (words : List Word)
       → inputs ≡ map width_of p.inputs
       → AreUnitsOf d units
-      → ((image : Image) → IsImageOf d p image
-      → AreStarted d p image (length p.arcs) (length (lines_of p)) units)
+      → ((image : Image) → IsImageOf d p image → AreStarted d p image (length p.arcs) (length (lines_of p)) units)
       → buses ≡ length d.buses
       → AreWords d p p.unroll words
-      → IsImageOf d p (record {
+      → IsImageOf d p
+      (record {
         period = d.period;
         unroll = p.unroll;
         inputs = inputs;

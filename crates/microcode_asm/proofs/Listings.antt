@@ -86,7 +86,6 @@ sparse_image =
 sparse_listing : listing_text sparse_image
     ≡ codes "period 2 unroll 2 inputs 1 outputs 1 units 4 buses 2\n"
     ++ codes "word 0\nissue 1 const -5\nissue 2 sub fmt -3 round 12 regs 7 15\n"
-    ++ codes "word 2\ntake 2.1 bus 1 reg 15\ntake 3.0 bus 1 reg 1\n"
-    ++ codes "word 3\ndrive 0 0\ndrive 0 1\n"
+    ++ codes "word 2\ntake 2.1 bus 1 reg 15\ntake 3.0 bus 1 reg 1\n" ++ codes "word 3\ndrive 0 0\ndrive 0 1\n"
 unfolding digits listing_text head_line word_lines issue_line enable_line take_line
 sparse_listing = refl

@@ -25,7 +25,9 @@ module _ (d : Datapath) (p : Plan) (is : IsDatapath d) (assigned : IsAssigned d 
   unit_there v there =
       (assigned.units v (let count = assigned.count in omega arith)).candidate.right.kind.there
 
-  to_port : (v : ℕ) (transfer : Transfer) → IsDestination p.assigned v transfer.port → transfer.bus < length d.buses
+  to_port : (v : ℕ) (transfer : Transfer)
+      → IsDestination p.assigned v transfer.port
+      → transfer.bus < length d.buses
       → IsToPort d p v transfer
   to_port v transfer destination bus =
       let c = destination.consumer in

@@ -1,8 +1,11 @@
 -- How the lists of issues, drives and takes of a cycle grow.
-use Rattle.std.proofs.Common.{◌≡◌, ℕ, ◌+◌, ◌-◌, ◌%◌, ◌<◌, ◌≤◌, inl, inr, ⊎_elim, refl, sym, ap, ◌∙◌, subst, arith, List, [], ◌∷◌, ◌++◌, length, slice_index_or, map, Contains}
+use Rattle.std.proofs.Common.{◌≡◌, ℕ, ◌+◌, ◌-◌, ◌%◌, ◌<◌, ◌≤◌, inl, inr, ⊎_elim, refl, sym, ap, ◌∙◌, subst, arith, List}
+use Rattle.std.proofs.Common.{[], ◌∷◌, ◌++◌, length, slice_index_or, map, Contains}
+use Rattle.std.specs.List.{All}
 use Rattle.std.proofs.Math.Nat.{mod-lt}
 use Rattle.std.proofs.lemmas.List.{get_or_default, get_or-map, length-map}
 use Rattle.std.proofs.lemmas.List.Elements.{Contains-append_left, Contains-append_right}
+use Rattle.lists.proofs.Places.{only_there as is_one}
 use Rattle.operations.specs.declared.units.PortRef.{PortRef}
 use Rattle.datapath.specs.declared.types.Datapath.{Datapath}
 use Rattle.datapath.specs.declared.types.Unit as of_unit
@@ -24,14 +27,16 @@ use Rattle.plan_run.specs.Private.Feasible.{IsFeasible}
 use Rattle.microcode_asm.specs.Private.Ready.{IsReady}
 use Rattle.microcode_asm.specs.Private.Buses.{IsBusTo, Drives, drive_of}
 use Rattle.microcode_asm.specs.Private.Order.{IsUnitOrder}
-use Rattle.microcode_asm.specs.Private.Linked.{IsNext}
-use Rattle.microcode_asm.specs.Private.Words.{HasIssues, HasEnables, HasTakes, IsTakeFor, AreIssuesTo, AreEnablesTo, AreTakesTo, IsIssued, IsEnded, IsWritten, node_in}
-use Rattle.microcode_asm.specs.declared.buckets.Buckets.{Buckets}
+use Rattle.buckets.specs.Linked.{IsNext}
+use Rattle.microcode_asm.specs.Private.Words.{HasIssues, HasEnables, HasTakes, IsTakeFor, AreIssuesTo, AreEnablesTo}
+use Rattle.microcode_asm.specs.Private.Words.{AreTakesTo, IsIssued, IsEnded, IsWritten, node_in}
+use Rattle.buckets.specs.declared.Buckets.{Buckets}
 use Rattle.microcode_asm.proofs.Dealt.{AreThings}
-use Rattle.microcode_asm.proofs.Linked.{next_after, first_reached, next_reached, all_reached}
+use Rattle.buckets.proofs.Linked.{next_after}
+use Rattle.microcode_asm.proofs.Linked.{first_reached, next_reached, all_reached}
 use Rattle.microcode_asm.proofs.BusSteps.{drives_rise}
 use Rattle.microcode_asm.proofs.IssueSteps.{read_at, arc_is, unit_is, register_is, register_room}
-use Rattle.microcode_asm.proofs.OrderSteps.{is_one, one_rises}
+use Rattle.microcode_asm.proofs.OrderSteps.{one_rises}
 use Rattle.microcode_asm.proofs.PlanFacts.{at_index, latency_some, one_node, one_end}
 
 in_mapped : {A B : Type 0} (f : A → B) (xs : List A) (x : A) → Contains xs x → Contains (map f xs) (f x)
@@ -205,8 +210,27 @@ module _ (d : Datapath) (p : Plan) (ready : IsReady d p) where
     pub no_enables : (c i : ℕ) → IsNext end_in (length order) c 0 i → AreEnablesTo d p order c i []
     no_enables c i next = first_reached end_in EnablesIn IsEnableIn EnableBefore (length order) c i next
 
-    pub more_enables : (by : Buckets) (c m v next unit : ℕ) (slot : Slot) (transfers : List Transfer)
-        (old new : List Enable)
+    -- the buses of a node are those of the datapath
+    pub few_buses : (m v : ℕ) (slot : Slot) (transfers : List Transfer)
+        → m < length order
+        → v ≡ slice_index_or order m v
+        → slot ≡ slice_index_or p.schedule.slots v slot
+        → transfers ≡ slot.transfers
+        → All (λ (transfer : Transfer). transfer.bus < 32) transfers
+    few_buses m v slot transfers below v-is slot-is transfers-are i t less =
+        let in-v : v < length (nodes_of p) = in_nodes m v below v-is in
+        let from : transfers ≡ transfers_at p v =
+        transfers-are ∙ ap (λ (slot : Slot). slot.transfers) (slot_is v slot in-v slot-is) in
+        let here : Contains (transfers_at p v) (slice_index_or transfers i t) =
+        subst (λ ts. Contains ts (slice_index_or transfers i t)) from (at_index transfers i t less) in
+        omega (
+          arith,
+          ready.plan.feasible.buses v (slice_index_or transfers i t) in-v here,
+          ready.machine.bus_count.1,
+        )
+
+    pub more_enables :
+        (by : Buckets) (c m v next unit : ℕ) (slot : Slot) (transfers : List Transfer) (old new : List Enable)
         → IsEnded d p order by
         → m < length order
         → v ≡ slice_index_or order m v

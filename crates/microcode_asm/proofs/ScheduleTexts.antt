@@ -18,7 +18,8 @@ use Rattle.plan_core.specs.declared.schedule.Transfer.{Transfer}
 use Rattle.plan_core.specs.declared.schedule.Slot.{Slot}
 use Rattle.plan_core.specs.declared.registers.Arc.{Arc}
 use Rattle.plan_core.specs.declared.plan.Plan.{Plan}
-use Rattle.microcode_asm.specs.ScheduleText.{schedule_text, head_line, node_line, placing_part, operation_part, destination}
+use Rattle.microcode_asm.specs.ScheduleText.{schedule_text, head_line, node_line, placing_part, operation_part}
+use Rattle.microcode_asm.specs.ScheduleText.{destination}
 
 abbrev unit_named : List ℕ → Kind → List ℕ → FunctionalUnit
 unit_named name unit_kind files =
@@ -83,8 +84,7 @@ increment_plan =
     (life 0 2 0 0 2 1 ∷ life 1 2 1 1 2 1 ∷ life 2 3 0 2 3 1 ∷ []) ((0 ∷ []) ∷ (0 ∷ []) ∷ (0 ∷ []) ∷ []) 1
 
 increment_text : schedule_text (path 0) increment_plan
-    ≡ codes "period 16 unroll 1 nodes 4\n"
-    ++ codes "node 0 cycle 0 unit inp op input 0 to add.0 bus b0 regs 0\n"
+    ≡ codes "period 16 unroll 1 nodes 4\n" ++ codes "node 0 cycle 0 unit inp op input 0 to add.0 bus b0 regs 0\n"
     ++ codes "node 1 cycle 1 unit rom op const 1 to add.1 bus b0 regs 0\n"
     ++ codes "node 2 cycle 2 unit add op add 0 1 fmt 0 trunc 8 to outp.0 bus b0 regs 0\n"
     ++ codes "node 3 cycle 3 unit outp op output 0 2\n"

@@ -1,5 +1,7 @@
 -- The words with which registers and cells start.
-use Rattle.std.proofs.Common.{◌≡◌, ℕ, zero, suc, ◌+◌, ◌*◌, ◌/◌, ◌<◌, ◌≤◌, ◌==◌, cond, ◌⊎◌, inl, inr, ⊎_elim, refl, sym, ap, ap₂, ◌∙◌, subst, arith, Bool, true, false, List, [], ◌∷◌, length, slice_index_or, map, ℤ, pos, find, Some}
+use Rattle.std.proofs.Common.{◌≡◌, ℕ, zero, suc, ◌+◌, ◌*◌, ◌/◌, ◌<◌, ◌≤◌, ◌==◌, cond, ◌⊎◌, inl, inr, ⊎_elim, refl, sym}
+use Rattle.std.proofs.Common.{ap, ap₂, ◌∙◌, subst, arith, Bool, true, false, List, [], ◌∷◌, length, slice_index_or, map}
+use Rattle.std.proofs.Common.{ℤ, pos, find, Some}
 use Rattle.std.specs.List.Sorted.{IsStrictlyIncreasing}
 use Rattle.std.proofs.Math.Nat.{le-div_iff_mul-le}
 use Rattle.std.proofs.lemmas.Bool.{cases_lt, cases_order}
@@ -26,7 +28,8 @@ use Rattle.plan_run.proofs.Ordinary.{room as line_room}
 use Rattle.plan_run.proofs.Elements.{nth_past}
 use Rattle.plan_run.proofs.SomeWord.{copy_once}
 use Rattle.microcode_asm.specs.Private.Ready.{IsReady, samples_of}
-use Rattle.microcode_asm.specs.Private.Starts.{zeros, blank_unit, held, initial_of, Writes, AreUnitsOf, AreStarted, ArePreloaded, AreCellsPut, inits_of, no_init}
+use Rattle.microcode_asm.specs.Private.Starts.{zeros, blank_unit, held, initial_of, Writes, AreUnitsOf, AreStarted}
+use Rattle.microcode_asm.specs.Private.Starts.{ArePreloaded, AreCellsPut, inits_of, no_init}
 use Rattle.microcode_asm.proofs.HeldSteps.{place_cases, file_length}
 use Rattle.microcode_asm.proofs.IssueSteps.{read_at, arc_is, register_is, register_room}
 
@@ -95,7 +98,8 @@ init_word inits i rise below = by (init_cases inits (slice_index_or inits i no_i
         (omega (arith, in-l, length-map inits (λ (x : ℕ × ℤ). x.0))) in
         omega (arith, h, sample k (omega (arith, before, in-l)), sample l in-l)
 
-    by : ((j : ℕ) × IsInitAt inits (slice_index_or inits i no_init).0 j)
+    by :
+        ((j : ℕ) × IsInitAt inits (slice_index_or inits i no_init).0 j)
         ⊎ IsNoInitAt inits (slice_index_or inits i no_init).0
         → word_before inits (slice_index_or inits i no_init).0 ≡ (slice_index_or inits i no_init).1
     by (inl (j, at)) =
@@ -266,7 +270,8 @@ module _ (d : Datapath) (p : Plan) (ready : IsReady d p) where
     }
 
     -- one more word of before sample 0 is there
-    pub register_put : (i ago reg most : ℕ) (word : ℤ) (arc : Arc) (row : List ℕ) (inits : List (ℕ × ℤ)) (node : Node)
+    pub register_put :
+        (i ago reg most : ℕ) (word : ℤ) (arc : Arc) (row : List ℕ) (inits : List (ℕ × ℤ)) (node : Node)
         (old new : List UnitDesc)
         → arc ≡ slice_index_or p.arcs k arc
         → row ≡ slice_index_or p.registers.regs k row
@@ -283,11 +288,13 @@ module _ (d : Datapath) (p : Plan) (ready : IsReady d p) where
         → ArePreloaded d p image k (ago + 1) new
     register_put i ago reg most word arc row inits node old new arc-is row-is reg-is node-is inits-are word-is copy
         before most-is upto writes preloaded = record {
-          started = still_started d p image (Register arc.port.unit arc.port.port reg) old new writes' k 0 preloaded.started;
+          started =
+              still_started d p image (Register arc.port.unit arc.port.port reg) old new writes' k 0 preloaded.started;
           register = λ port r j b less of.
               ⊎_elim
               (λ (earlier : b < ago).
-              kept d p image (Register arc.port.unit arc.port.port reg) old new writes' (Register port.unit port.port r) (preloaded.register port r j b earlier of))
+              kept d p image (Register arc.port.unit arc.port.port reg) old new writes' (Register port.unit port.port r)
+              (preloaded.register port r j b earlier of))
               (λ (from : ago ≤ b).
               here port r j b (omega (arith, less, from)) of)
               (cases_lt b ago);
@@ -327,7 +334,8 @@ module _ (d : Datapath) (p : Plan) (ready : IsReady d p) where
             word-is ∙ ap (λ inits. word_before inits ago) (inits-are ∙ ap (λ (node : Node). node.inits) its_node)
             ∙ sym (is.starts.register arc.port reg k i ago of-it)
 
-        writes' : Writes (Register arc.port.unit arc.port.port reg)
+        writes' :
+            Writes (Register arc.port.unit arc.port.port reg)
             (initial_of image (Register arc.port.unit arc.port.port reg)) old new
         writes' = subst (λ word. Writes (Register arc.port.unit arc.port.port reg) word old new) word' writes
 
@@ -425,8 +433,8 @@ module _ (d : Datapath) (p : Plan) (ready : IsReady d p) where
         ∙ ap (λ (line : Line). node_at p line.node) at)
 
     -- the next initial value is put into its cell
-    pub cell_put : (m number : ℕ) (line : Line) (node : Node) (inits : List (ℕ × ℤ)) (init : ℕ × ℤ)
-        (old new : List UnitDesc)
+    pub cell_put :
+        (m number : ℕ) (line : Line) (node : Node) (inits : List (ℕ × ℤ)) (init : ℕ × ℤ) (old new : List UnitDesc)
         → line ≡ slice_index_or (lines_of p) l line
         → node ≡ slice_index_or (nodes_of p) line.node node
         → inits ≡ node.inits
@@ -438,13 +446,17 @@ module _ (d : Datapath) (p : Plan) (ready : IsReady d p) where
         → Writes (Cell line.ram (line.offset + number)) init.1 old new
         → AreCellsPut d p image l m old
         → AreCellsPut d p image l (m + 1) new
-    cell_put m number line node inits init old new line-is node-is inits-is in-m init-is number-is some most writes put =
+    cell_put m number line node inits init old new line-is node-is inits-is in-m init-is number-is some most writes
+        put =
         record {
-          started = still_started d p image (Cell line.ram (line.offset + number)) old new writes' (length p.arcs) l put.started;
+          started =
+              still_started d p image (Cell line.ram (line.offset + number)) old new writes' (length p.arcs) l
+              put.started;
           cell = λ ram cell ago i less sample of.
               ⊎_elim
               (λ (earlier : i < m).
-              kept d p image (Cell line.ram (line.offset + number)) old new writes' (Cell ram cell) (put.cell ram cell ago i earlier sample of))
+              kept d p image (Cell line.ram (line.offset + number)) old new writes' (Cell ram cell)
+              (put.cell ram cell ago i earlier sample of))
               (λ (from : m ≤ i). here ram cell ago i (omega (arith, less, from)) sample of)
               (cases_lt i m);
         }
@@ -476,8 +488,9 @@ module _ (d : Datapath) (p : Plan) (ready : IsReady d p) where
             ∙ ap (λ (x : ℕ × ℤ). word_before (inits_of p l) x.0) (sym init')
             ∙ sym (is.starts.cell line.ram (line.offset + number) l init.0 of-it)
 
-        writes' : Writes (Cell line.ram (line.offset + number))
-            (initial_of image (Cell line.ram (line.offset + number))) old new
+        writes' :
+            Writes (Cell line.ram (line.offset + number)) (initial_of image (Cell line.ram (line.offset + number))) old
+            new
         writes' = subst (λ word. Writes (Cell line.ram (line.offset + number)) word old new) word' writes
 
         here : (ram cell ago i : ℕ)
@@ -542,7 +555,8 @@ module _ (d : Datapath) (p : Plan) (ready : IsReady d p) where
       cell = λ ram cell j ago less of.
           ⊎_elim (λ (earlier : j < l). put.started.cell ram cell j ago earlier of)
           (λ (from : l ≤ j).
-          here ram cell ago (subst (λ j. IsCellPreload p ram cell j ago) {x = j} {y = l} (omega (arith, less, from)) of))
+          here ram cell ago
+          (subst (λ j. IsCellPreload p ram cell j ago) {x = j} {y = l} (omega (arith, less, from)) of))
           (cases_lt j l);
       only = put.started.only;
     }

@@ -1,6 +1,7 @@
 -- The text of a schedule: a head line, and then for each node a line with its cycle, its unit, its operation and where
 -- its result goes. Units and buses stand there by name, and numbers in decimal.
-use Rattle.std.specs.Prelude.{ℕ, ◌==◌, ◌&&◌, Bool, if◌then◌else◌, List, [], ◌∷◌, ◌++◌, length, map, slice_index_or, codes, decimal}
+use Rattle.std.specs.Prelude.{ℕ, ◌==◌, ◌&&◌, Bool, if◌then◌else◌, List, [], ◌∷◌, ◌++◌, length, map, slice_index_or}
+use Rattle.std.specs.Prelude.{codes, decimal}
 use Rattle.std.specs.List.{flat_map, join_with_byte, position_or_len, range_with_len}
 use Rattle.operations.specs.declared.units.PortRef.{PortRef}
 use Rattle.datapath.specs.declared.types.Datapath.{Datapath}

@@ -6,9 +6,9 @@ ghost use Rattle.plan_run.specs.Parts.{nodes_of, node_at, edge_at, unit_at, IsCo
 ghost use Rattle.plan_run.specs.ImageOf.{IsIssueOf};
 ghost use Rattle.microcode_asm.specs.Private.Words.{IsPortRegister, ArePortRegisters, HasIssues, IsIssuer};
 
-use crate::buckets::Buckets;
 use crate::fault::AsmFault;
 use crate::lifetimes::lifetime_at;
+use buckets::Buckets;
 use datapath::{Datapath, PortRef};
 use lists::List;
 use micro_image::{Issue, PortRegisters};

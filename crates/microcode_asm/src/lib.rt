@@ -3,7 +3,6 @@
 
 mod arc_search;
 mod assembler;
-mod buckets;
 mod enables;
 mod fault;
 mod image_text;

@@ -5,8 +5,8 @@ ghost use Rattle.microcode_asm.specs.Private.Ready.{IsReady};
 ghost use Rattle.microcode_asm.specs.Private.Lifetimes.{AreKept, IsFoundArc};
 ghost use Rattle.microcode_asm.specs.Private.Words.{IsWritten};
 
-use crate::buckets::Buckets;
 use crate::fault::AsmFault;
+use buckets::Buckets;
 use datapath::{Datapath, PortRef};
 use plan_core::{Arc, Plan};
 use std::alloc::Global;

@@ -1,6 +1,8 @@
--- Schedules that agree on the nodes that are placed before a node agree on what can be done with it, and so on all nodes
+-- Schedules that agree on the nodes that are placed before a node agree on what can be done with it, and so on all
+-- nodes
 -- that have their places in both.
-use Rattle.std.proofs.Common.{◌≡◌, refl, sym, subst, subst₂, ap, ap₂, ◌∙◌, arith, ℕ, zero, suc, ◌+◌, ◌<◌, ◌≤◌, ◌⊎◌, inl, inr, ⊎_elim, List, [], ◌∷◌, length, map, All, Contains}
+use Rattle.std.proofs.Common.{◌≡◌, refl, sym, subst, subst₂, ap, ap₂, ◌∙◌, arith, ℕ, zero, suc, ◌+◌, ◌<◌, ◌≤◌, ◌⊎◌, inl}
+use Rattle.std.proofs.Common.{inr, ⊎_elim, List, [], ◌∷◌, length, map, All, Contains}
 use Rattle.std.proofs.lemmas.Bool.{cases_lt}
 use Rattle.operations.specs.declared.units.PortRef.{PortRef}
 use Rattle.datapath.specs.declared.types.Datapath.{Datapath}
@@ -9,7 +11,8 @@ use Rattle.plan_core.specs.Operands.{Reads}
 use Rattle.plan_core.specs.Assigned.{unit_in}
 use Rattle.plan_core.specs.Heights.{ReadsNow, latency_of, AreHeights, IsPlacedBefore}
 use Rattle.plan_core.specs.Reservations.{result_on, IsFreeRoute, Fits, IsFirstBus}
-use Rattle.plan_core.specs.ListSchedule.{slot_of, cycle_of, ends, IsDestination, IsPortBefore, AreDestinations, IsEarlier, IsTakenBefore, CanIssue, IsPlaced}
+use Rattle.plan_core.specs.ListSchedule.{slot_of, cycle_of, ends, IsDestination, IsPortBefore, AreDestinations}
+use Rattle.plan_core.specs.ListSchedule.{IsEarlier, IsTakenBefore, CanIssue, IsPlaced}
 use Rattle.plan_core.specs.declared.schedule.Assigned.{Assigned}
 use Rattle.plan_core.specs.declared.schedule.Transfer.{Transfer}
 use Rattle.plan_core.specs.declared.schedule.Slot.{Slot}
@@ -30,8 +33,13 @@ bounded (suc n) g = let rest = bounded n g in (rest.0 + g n, more rest.0 rest.1)
         (cases_lt v n)
 
 -- two lists with the same keys, of which each key determines the element
-same_by_key : {A K : Type 0} (key : A → K) (P Q : A → Type 0) → ((x y : A) → key x ≡ key y → P x → Q y → x ≡ y)
-    → (xs ys : List A) → map key xs ≡ map key ys → All P xs → All Q ys → xs ≡ ys
+same_by_key : {A K : Type 0} (key : A → K) (P Q : A → Type 0)
+    → ((x y : A) → key x ≡ key y → P x → Q y → x ≡ y)
+    → (xs ys : List A)
+    → map key xs ≡ map key ys
+    → All P xs
+    → All Q ys
+    → xs ≡ ys
 same_by_key key P Q once [] [] e h k = refl
 same_by_key key P Q once [] (y ∷ ys) e h k = absurd (let n = ap length e in omega arith)
 same_by_key key P Q once (x ∷ xs) [] e h k = absurd (let n = ap length e in omega arith)
@@ -78,20 +86,27 @@ pub record IsPlacedIn (d : Datapath) (a : Assigned) (z : Schedule) (h : ℕ → 
   pub can : CanIssue d a z h v slot.cycle
   pub least : (t : ℕ) → t < slot.cycle → CanIssue d a z h v t → ⊥
   pub destinations : AreDestinations a v (map (λ (transfer : Transfer). transfer.port) slot.transfers)
-  pub buses : All
-      (IsFirstBus d (IsTakenBefore a z h v) (unit_in a.units v) (result_on d (unit_in a.units v) slot.cycle))
+  pub buses :
+      All (IsFirstBus d (IsTakenBefore a z h v) (unit_in a.units v) (result_on d (unit_in a.units v) slot.cycle))
       slot.transfers
 
-pub placed_in : (d : Datapath) (a : Assigned) (z : Schedule) (h : ℕ → ℕ) (v : ℕ) (slot : Slot) → slot ≡ slot_of z v
-    → IsPlacedIn d a z h v slot → IsPlaced d a z h v
+pub placed_in : (d : Datapath) (a : Assigned) (z : Schedule) (h : ℕ → ℕ) (v : ℕ) (slot : Slot)
+    → slot ≡ slot_of z v
+    → IsPlacedIn d a z h v slot
+    → IsPlaced d a z h v
 placed_in d a z h v slot same p =
     let k = subst (IsPlacedIn d a z h v) same p in
     record { can = k.can; least = k.least; destinations = k.destinations; buses = k.buses }
 
 module _ (d : Datapath) (a : Assigned) (live : (u : ℕ) → 1 ≤ latency_on d u) where
   -- node u is placed before node v by the one heights where it is by the others
-  pub earlier_same : (g h : ℕ → ℕ) → AreHeights d a g → AreHeights d a h → (v u : ℕ) → v < length a.lowered.nodes
-      → IsEarlier a h v u → IsEarlier a g v u
+  pub earlier_same : (g h : ℕ → ℕ)
+      → AreHeights d a g
+      → AreHeights d a h
+      → (v u : ℕ)
+      → v < length a.lowered.nodes
+      → IsEarlier a h v u
+      → IsEarlier a g v u
   earlier_same g h gs hs v u there r =
       let at_u = one_height d a live g h gs hs u r.node in let at_v = one_height d a live g h gs hs v there in
       record { node = r.node; before = by at_u at_v r.before }
@@ -101,8 +116,12 @@ module _ (d : Datapath) (a : Assigned) (live : (u : ℕ) → 1 ≤ latency_on d 
       by eu ev (inr k) = let e = k.0 in inr (omega arith, k.1)
 
   -- an operand of the same sample is placed before its consumer
-  pub operand_earlier : (h : ℕ → ℕ) → AreHeights d a h → (v q x : ℕ) → x < length a.lowered.nodes
-      → ReadsNow a.lowered.nodes v q x → IsEarlier a h v x
+  pub operand_earlier : (h : ℕ → ℕ)
+      → AreHeights d a h
+      → (v q x : ℕ)
+      → x < length a.lowered.nodes
+      → ReadsNow a.lowered.nodes v q x
+      → IsEarlier a h v x
   operand_earlier h hs v q x there r =
       let above = (hs x there).above v q r in let positive = live (unit_in a.units x) in
       record { node = there; before = inl (omega arith) }
@@ -119,11 +138,13 @@ module _ (d : Datapath) (a : Assigned) (live : (u : ℕ) → 1 ≤ latency_on d 
       its_slot = agree t.x t.earlier ∙ t.its_slot;
     }
 
-    pub free_same : (u w : ℕ) (port : PortRef) (b : ℕ) → IsFreeRoute d (IsTakenBefore a s g v) u w port b
+    pub free_same : (u w : ℕ) (port : PortRef) (b : ℕ)
+        → IsFreeRoute d (IsTakenBefore a s g v) u w port b
         → IsFreeRoute d (IsTakenBefore a z h v) u w port b
     free_same u w port b f = record { route = f.route; free = λ x slot t. f.free x slot (taken-back x slot t) }
 
-    fits-same : (u t : ℕ) → Fits d (IsTakenBefore a s g v) (IsDestination a v) u t
+    fits-same : (u t : ℕ)
+        → Fits d (IsTakenBefore a s g v) (IsDestination a v) u t
         → Fits d (IsTakenBefore a z h v) (IsDestination a v) u t
     fits-same u t f = record {
       period = f.period;
@@ -147,7 +168,8 @@ module _ (d : Datapath) (a : Assigned) (live : (u : ℕ) → 1 ≤ latency_on d 
     agree-back : (u : ℕ) → IsEarlier a h v u → slot_of z u ≡ slot_of s u
     agree-back u r = sym (agree u r)
 
-    bus-kept : (x : Transfer) → IsFirstBus d (IsTakenBefore a s h v) (unit_in a.units v) (ends d a s v) x
+    bus-kept : (x : Transfer)
+        → IsFirstBus d (IsTakenBefore a s h v) (unit_in a.units v) (ends d a s v) x
         → IsFirstBus d (IsTakenBefore a z h v) (unit_in a.units v) (ends d a s v) x
     bus-kept x f = record {
       route = free_same inside s z h h hs hs v there agree (unit_in a.units v) (ends d a s v) x.port x.bus f.route;
@@ -166,8 +188,12 @@ module _ (d : Datapath) (a : Assigned) (live : (u : ℕ) → 1 ≤ latency_on d 
     pub placed_same : slot_of s v ≡ slot_of z v → IsPlaced d a s h v → IsPlaced d a z h v
     placed_same same p = placed_in d a z h v (slot_of s v) same (kept-in p)
 
-  dest-in : (v : ℕ) (ps qs : List PortRef) → AreDestinations a v ps → AreDestinations a v qs → (p : PortRef)
-      → Contains ps p → Contains qs p
+  dest-in : (v : ℕ) (ps qs : List PortRef)
+      → AreDestinations a v ps
+      → AreDestinations a v qs
+      → (p : PortRef)
+      → Contains ps p
+      → Contains qs p
   dest-in v ps qs x y p (i, less, is) =
       let dest = subst (λ (r : PortRef). IsDestination a v r) is (x.read i p less) in
       subst (λ (u : ℕ). Contains qs (port_of u p.port)) dest.unit (y.every dest.consumer p.port dest.reads)
@@ -189,8 +215,11 @@ module _ (d : Datapath) (a : Assigned) (live : (u : ℕ) → 1 ≤ latency_on d 
     abbrev First_z : ℕ → ℕ → Transfer → Type 0
     First_z v w x = IsFirstBus d (IsTakenBefore a z h v) (unit_in a.units v) w x
 
-    slot-same : (v : ℕ) → v < length a.lowered.nodes → Has v
-        → ((u : ℕ) → IsEarlier a g v u → slot_of s u ≡ slot_of z u) → slot_of s v ≡ slot_of z v
+    slot-same : (v : ℕ)
+        → v < length a.lowered.nodes
+        → Has v
+        → ((u : ℕ) → IsEarlier a g v u → slot_of s u ≡ slot_of z u)
+        → slot_of s v ≡ slot_of z v
     slot-same v there has agree =
         let ps = placed_s v there has in let pz = placed_z v there has in
         let to = λ (t : ℕ) (c : CanIssue d a s g v t). can_same inside s z g h gs hs v there agree_h t c in
@@ -213,14 +242,18 @@ module _ (d : Datapath) (a : Assigned) (live : (u : ℕ) → 1 ≤ latency_on d 
         agree_back : (u : ℕ) → IsEarlier a g v u → slot_of z u ≡ slot_of s u
         agree_back u r = sym (agree u r)
 
-        forth : (w x : ℕ) (p q : PortRef) (b : ℕ) → w ≡ x → p ≡ q
+        forth : (w x : ℕ) (p q : PortRef) (b : ℕ)
+            → w ≡ x
+            → p ≡ q
             → IsFreeRoute d (IsTakenBefore a s g v) (unit_in a.units v) w p b
             → IsFreeRoute d (IsTakenBefore a z h v) (unit_in a.units v) x q b
         forth w x p q b ew ep f =
             subst₂ (λ (y : ℕ) (r : PortRef). IsFreeRoute d (IsTakenBefore a z h v) (unit_in a.units v) y r b) ew ep
             (free_same inside s z g h gs hs v there agree_h (unit_in a.units v) w p b f)
 
-        back : (w x : ℕ) (p q : PortRef) (b : ℕ) → w ≡ x → p ≡ q
+        back : (w x : ℕ) (p q : PortRef) (b : ℕ)
+            → w ≡ x
+            → p ≡ q
             → IsFreeRoute d (IsTakenBefore a z h v) (unit_in a.units v) w p b
             → IsFreeRoute d (IsTakenBefore a s g v) (unit_in a.units v) x q b
         back w x p q b ew ep f =
@@ -235,21 +268,36 @@ module _ (d : Datapath) (a : Assigned) (live : (u : ℕ) → 1 ≤ latency_on d 
             ap₂ (λ (p : PortRef) (b : ℕ). record { port = p; bus = b }) port bus
 
     -- by falling height, and at one height by number
-    inner : (b k : ℕ) → ((u : ℕ) → u < length a.lowered.nodes → Has u → b < k + g u → slot_of s u ≡ slot_of z u)
-        → (m v : ℕ) → v < m → v < length a.lowered.nodes → Has v → b < suc k + g v → slot_of s v ≡ slot_of z v
+    inner : (b k : ℕ)
+        → ((u : ℕ) → u < length a.lowered.nodes → Has u → b < k + g u → slot_of s u ≡ slot_of z u)
+        → (m v : ℕ)
+        → v < m
+        → v < length a.lowered.nodes
+        → Has v
+        → b < suc k + g v
+        → slot_of s v ≡ slot_of z v
     inner b k outer zero v less there has high = absurd (omega arith)
     inner b k outer (suc m) v less there has high = slot-same v there has
         (λ u r. by (λ w w_less w_there w_has w_high. inner b k outer m w w_less w_there w_has w_high) u r.node
         (closed v u has r) r.before)
       where
         by : ((w : ℕ) → w < m → w < length a.lowered.nodes → Has w → b < suc k + g w → slot_of s w ≡ slot_of z w)
-            → (u : ℕ) → u < length a.lowered.nodes → Has u → IsPlacedBefore g u v → slot_of s u ≡ slot_of z u
+            → (u : ℕ)
+            → u < length a.lowered.nodes
+            → Has u
+            → IsPlacedBefore g u v
+            → slot_of s u ≡ slot_of z u
         by rest u u_there u_has (inl x) = outer u u_there u_has (omega arith)
         by rest u u_there u_has (inr x) =
             let e = x.0 in let lower = x.1 in rest u (omega arith) u_there u_has (omega arith)
 
-    level : (b : ℕ) → ((v : ℕ) → v < length a.lowered.nodes → g v ≤ b) → (k v : ℕ) → v < length a.lowered.nodes
-        → Has v → b < k + g v → slot_of s v ≡ slot_of z v
+    level : (b : ℕ)
+        → ((v : ℕ) → v < length a.lowered.nodes → g v ≤ b)
+        → (k v : ℕ)
+        → v < length a.lowered.nodes
+        → Has v
+        → b < k + g v
+        → slot_of s v ≡ slot_of z v
     level b most zero v there has high = let small = most v there in absurd (omega arith)
     level b most (suc k) v there has high =
         inner b k (λ u u_there u_has u_high. level b most k u u_there u_has u_high) (suc v) v

@@ -4,7 +4,8 @@ use Rattle.datapath.specs.declared.types.Datapath.{Datapath}
 use Rattle.signal_graph.specs.declared.graph.Node.{Node}
 use Rattle.plan_core.specs.Hardware.{kind_of, port_of, IsOfKind, HasRoute}
 use Rattle.plan_core.specs.Operands.{node_of, Reads}
-use Rattle.plan_core.specs.Assigned.{unit_in, IsForRam, IsRightUnit, IsCandidate, load_of, IsUnitFor, AreUnits, IsAssigned}
+use Rattle.plan_core.specs.Assigned.{unit_in, IsForRam, IsRightUnit, IsCandidate, load_of, IsUnitFor, AreUnits}
+use Rattle.plan_core.specs.Assigned.{IsAssigned}
 use Rattle.plan_core.specs.declared.schedule.Assigned.{Assigned}
 use Rattle.plan_core.proofs.Tests.{Test, lt, le, eq, like, both, implies, below}
 use Rattle.plan_core.proofs.OperandTests.{is_of_kind, is_for_ram, has_route, each_operand, each_consumer, read_too}

@@ -1,5 +1,6 @@
 -- Tests of long delays and of delay lines.
-use Rattle.std.proofs.Common.{◌≡◌, arith, ℕ, ◌+◌, ◌<◌, ◌≤◌, List, [], length, slice_index, slice_index_or, All, Contains}
+use Rattle.std.proofs.Common.{◌≡◌, arith, ℕ, ◌+◌, ◌<◌, ◌≤◌, List, [], length, slice_index, slice_index_or, All}
+use Rattle.std.proofs.Common.{Contains}
 use Rattle.std.specs.List.Sorted.{IsStrictlyIncreasing}
 use Rattle.operations.specs.declared.units.Kind.TheVariants as kind
 use Rattle.datapath.specs.declared.types.Datapath.{Datapath}
@@ -52,11 +53,16 @@ has_room spare d lines cells ram =
     (λ h. record { is_ram = h.0; room = h.1 }) (λ h. (h.is_ram, h.room))
     (both (is_of_kind d kind.Ram ram) (le (used spare lines ram + cells) (cells_on d ram)))
 
-pub held_edge : (hold : ℕ) (delays : List (List ℕ)) (edge old : Edge) → old.delay ≤ hold
+pub held_edge : (hold : ℕ) (delays : List (List ℕ)) (edge old : Edge)
+    → old.delay ≤ hold
     → IsNumber delays (own old.node) edge.node
-    → edge.delay ≡ old.delay → IsLoweredEdge hold delays edge old
+    → edge.delay ≡ old.delay
+    → IsLoweredEdge hold delays edge old
 held_edge hold delays edge old short is same = record { held = λ h. (is, same); loaded = λ h. absurd (omega arith) }
 
-pub loaded_edge : (hold : ℕ) (delays : List (List ℕ)) (edge old : Edge) → hold < old.delay
-    → IsNumber delays (load old.node old.delay) edge.node → edge.delay ≡ 0 → IsLoweredEdge hold delays edge old
+pub loaded_edge : (hold : ℕ) (delays : List (List ℕ)) (edge old : Edge)
+    → hold < old.delay
+    → IsNumber delays (load old.node old.delay) edge.node
+    → edge.delay ≡ 0
+    → IsLoweredEdge hold delays edge old
 loaded_edge hold delays edge old long is now = record { held = λ h. absurd (omega arith); loaded = λ h. (is, now) }

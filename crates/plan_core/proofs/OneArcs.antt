@@ -1,5 +1,6 @@
 -- A schedule has one list of lifetimes at most, and they have one unroll factor.
-use Rattle.std.proofs.Common.{◌≡◌, sym, subst, subst₂, ap, ◌∙◌, arith, ℕ, ◌+◌, ◌*◌, ◌<◌, ◌≤◌, ◌⊎◌, inl, inr, le_antisymm, List, length, Contains}
+use Rattle.std.proofs.Common.{◌≡◌, sym, subst, subst₂, ap, ◌∙◌, arith, ℕ, ◌+◌, ◌*◌, ◌<◌, ◌≤◌, ◌⊎◌, inl, inr}
+use Rattle.std.proofs.Common.{le_antisymm, List, length, Contains}
 use Rattle.std.proofs.lemmas.List.{get_or_default}
 use Rattle.operations.specs.declared.units.PortRef.{PortRef}
 use Rattle.datapath.specs.declared.types.Datapath.{Datapath}
@@ -7,7 +8,8 @@ use Rattle.plan_core.specs.Hardware.{port_of}
 use Rattle.plan_core.specs.Operands.{Reads}
 use Rattle.plan_core.specs.Assigned.{unit_in}
 use Rattle.plan_core.specs.ListSchedule.{ends, IsPortBefore}
-use Rattle.plan_core.specs.Arcs.{no_arc, arc_of, ReadsArc, read_cycle, IsArc, IsWrittenBefore, IsArcBefore, IsArcs, IsUnroll}
+use Rattle.plan_core.specs.Arcs.{no_arc, arc_of, ReadsArc, read_cycle, IsArc, IsWrittenBefore, IsArcBefore, IsArcs}
+use Rattle.plan_core.specs.Arcs.{IsUnroll}
 use Rattle.plan_core.specs.declared.registers.Arc.{Arc}
 use Rattle.plan_core.specs.declared.schedule.Assigned.{Assigned}
 use Rattle.plan_core.specs.declared.schedule.Schedule.{Schedule}

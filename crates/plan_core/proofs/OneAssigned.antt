@@ -1,5 +1,6 @@
 -- A lowered list has one binding to the units of a datapath at most.
-use Rattle.std.proofs.Common.{◌≡◌, sym, subst, ap, ◌∙◌, arith, ℕ, zero, suc, ◌<◌, ◌≤◌, ⊎_elim, List, length, take, count_by, ◌==◌, length-take, get_or-take, ext_get_or}
+use Rattle.std.proofs.Common.{◌≡◌, sym, subst, ap, ◌∙◌, arith, ℕ, zero, suc, ◌<◌, ◌≤◌, ⊎_elim, List, length, take}
+use Rattle.std.proofs.Common.{count_by, ◌==◌, length-take, get_or-take, ext_get_or}
 use Rattle.std.proofs.lemmas.Bool.{cases_lt}
 use Rattle.datapath.specs.declared.types.Datapath.{Datapath}
 use Rattle.signal_graph.specs.declared.graph.Node.{Node}
@@ -13,7 +14,9 @@ module _ (d : Datapath) (nodes : List Node) where
   abbrev SameBefore : List ℕ → List ℕ → ℕ → Type 0
   SameBefore us ws v = (x : ℕ) → x < v → unit_in us x ≡ unit_in ws x
 
-  candidate-same : (us ws : List ℕ) (v u : ℕ) → SameBefore us ws v → IsCandidate d nodes us v u
+  candidate-same : (us ws : List ℕ) (v u : ℕ)
+      → SameBefore us ws v
+      → IsCandidate d nodes us v u
       → IsCandidate d nodes ws v u
   candidate-same us ws v u same can = record {
     right = can.right;
@@ -25,8 +28,12 @@ module _ (d : Datapath) (nodes : List Node) where
   load-same : (us ws : List ℕ) (v u : ℕ) → take v us ≡ take v ws → load_of d nodes us v u ≡ load_of d nodes ws v u
   load-same us ws v u e = ap (λ (xs : List ℕ). count_by (λ (w : ℕ). w == u) xs) e
 
-  unit-same : (us ws : List ℕ) (v : ℕ) → SameBefore us ws v → take v us ≡ take v ws
-      → IsUnitFor d nodes us v (unit_in us v) → IsUnitFor d nodes ws v (unit_in ws v) → unit_in us v ≡ unit_in ws v
+  unit-same : (us ws : List ℕ) (v : ℕ)
+      → SameBefore us ws v
+      → take v us ≡ take v ws
+      → IsUnitFor d nodes us v (unit_in us v)
+      → IsUnitFor d nodes ws v (unit_in ws v)
+      → unit_in us v ≡ unit_in ws v
   unit-same us ws v same takes a b =
       let a_can = candidate-same us ws v (unit_in us v) same a.candidate in
       let b_can = candidate-same ws us v (unit_in ws v) (λ x less. sym (same x less)) b.candidate in
@@ -44,8 +51,13 @@ module _ (d : Datapath) (nodes : List Node) where
       ext_get_or 0 (take v us) (take v ws) (omega arith)
       (λ i less. get_or-take v us i 0 (omega arith) ∙ same i (omega arith) ∙ sym (get_or-take v ws i 0 (omega arith)))
 
-  units-below : (us ws : List ℕ) → AreUnits d nodes us → AreUnits d nodes ws → length us ≡ length ws
-      → (v : ℕ) → v ≤ length us → SameBefore us ws v
+  units-below : (us ws : List ℕ)
+      → AreUnits d nodes us
+      → AreUnits d nodes ws
+      → length us ≡ length ws
+      → (v : ℕ)
+      → v ≤ length us
+      → SameBefore us ws v
   units-below us ws a b e zero less x below = absurd (omega arith)
   units-below us ws a b e (suc v) less x below =
       let same = units-below us ws a b e v (omega arith) in

@@ -25,14 +25,21 @@ live_of d is u =
     past e = let same = ap (λ (x : FunctionalUnit). x.latency) e in omega arith
 
 module _ (d : Datapath) (a : Assigned) (live : (u : ℕ) → 1 ≤ latency_on d u) where
-  height-below : (g h : ℕ → ℕ) → AreHeights d a g → AreHeights d a h
-      → (m v : ℕ) → v < length a.lowered.nodes → g v ≤ m → g v ≤ h v
+  height-below : (g h : ℕ → ℕ)
+      → AreHeights d a g
+      → AreHeights d a h
+      → (m v : ℕ)
+      → v < length a.lowered.nodes
+      → g v ≤ m
+      → g v ≤ h v
   height-below g h gs hs zero v there small = omega arith
   height-below g h gs hs (suc m) v there small =
       by (λ c c_there lower. height-below g h gs hs m c c_there lower) (gs v there).reached
     where
-      by : ((c : ℕ) → c < length a.lowered.nodes → g c ≤ m → g c ≤ h c) → (g v ≡ latency_of d a v) ⊎ ((c : ℕ)
-          × (q : ℕ) × ReadsNow a.lowered.nodes c q v × (g v ≡ latency_of d a v + g c)) → g v ≤ h v
+      by : ((c : ℕ) → c < length a.lowered.nodes → g c ≤ m → g c ≤ h c)
+          → (g v ≡ latency_of d a v)
+          ⊎ ((c : ℕ) × (q : ℕ) × ReadsNow a.lowered.nodes c q v × (g v ≡ latency_of d a v + g c))
+          → g v ≤ h v
       by rest (inl e) = let alone = (hs v there).alone in omega arith
       by rest (inr x) =
           let positive = live (unit_in a.units v) in let e = x.3 in
@@ -41,7 +48,11 @@ module _ (d : Datapath) (a : Assigned) (live : (u : ℕ) → 1 ≤ latency_on d 
           let above = (hs v there).above x.0 x.1 x.2 in
           omega arith
 
-  pub one_height : (g h : ℕ → ℕ) → AreHeights d a g → AreHeights d a h → (v : ℕ) → v < length a.lowered.nodes
+  pub one_height : (g h : ℕ → ℕ)
+      → AreHeights d a g
+      → AreHeights d a h
+      → (v : ℕ)
+      → v < length a.lowered.nodes
       → g v ≡ h v
   one_height g h gs hs v there =
       le_antisymm (height-below g h gs hs (g v) v there (omega arith))

@@ -11,7 +11,9 @@ use Rattle.plan_core.proofs.Agreeing.{one_slot}
 
 module _ (d : Datapath) (a : Assigned) (live : (u : ℕ) → 1 ≤ latency_on d u) where
   pub one_schedule : (inside : (v q x : ℕ) → Reads a.lowered.nodes v q x → x < length a.lowered.nodes) (s z : Schedule)
-      → IsListSchedule d a s → IsListSchedule d a z → s ≡ z
+      → IsListSchedule d a s
+      → IsListSchedule d a z
+      → s ≡ z
   one_schedule inside s z x y =
       let count = x.count in
       let slots = ext_get_or no_slot s.slots z.slots (x.count ∙ sym y.count)

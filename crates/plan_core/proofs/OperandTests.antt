@@ -97,11 +97,14 @@ reads nodes c q v =
 
 pub operands_to : (nodes : List Node) (c : ℕ) (P : ℕ → ℕ → Type 0)
     → ((q : ℕ) → q < length (node_of nodes c).edges → P q (edge_of (node_of nodes c) q).node)
-    → (q x : ℕ) → Reads nodes c q x → P q x
+    → (q x : ℕ)
+    → Reads nodes c q x
+    → P q x
 operands_to nodes c P h q x r = subst (λ (y : ℕ). P q y) r.node (h q r.port)
 
 -- each operand of node c
-abbrev pub each_operand : {P : ℕ → ℕ → Type 0} (nodes : List Node) (c : ℕ) → ((q x : ℕ) → Test (P q x))
+abbrev pub each_operand : {P : ℕ → ℕ → Type 0} (nodes : List Node) (c : ℕ)
+    → ((q x : ℕ) → Test (P q x))
     → Test ((q x : ℕ) → Reads nodes c q x → P q x)
 each_operand {P} nodes c t =
     like (operands_to nodes c P) (λ h q less. h q (edge_of (node_of nodes c) q).node
@@ -112,7 +115,8 @@ pub read_too : (nodes : List Node) (c q x v : ℕ) → x ≡ v → Reads nodes c
 read_too nodes c q x v e r = record { port = r.port; node = r.node ∙ e }
 
 -- each port that reads node v
-abbrev pub each_consumer : {P : ℕ → ℕ → Type 0} (nodes : List Node) (v : ℕ) → ((c q : ℕ) → Test (P c q))
+abbrev pub each_consumer : {P : ℕ → ℕ → Type 0} (nodes : List Node) (v : ℕ)
+    → ((c q : ℕ) → Test (P c q))
     → Test ((c q : ℕ) → Reads nodes c q v → P c q)
 each_consumer {P} nodes v t =
     like
@@ -121,7 +125,8 @@ each_consumer {P} nodes v t =
     (below (length nodes) (λ c. each_operand {P = λ q x. x ≡ v → P c q} nodes c (λ q x. implies (eq x v) (λ u. t c q))))
 
 -- some port that reads node v
-abbrev pub some_consumer : {P : ℕ → ℕ → Type 0} (nodes : List Node) (v : ℕ) → ((c q : ℕ) → Test (P c q))
+abbrev pub some_consumer : {P : ℕ → ℕ → Type 0} (nodes : List Node) (v : ℕ)
+    → ((c q : ℕ) → Test (P c q))
     → Test ((c : ℕ) × (q : ℕ) × Reads nodes c q v × P c q)
 some_consumer {P} nodes v t =
     like

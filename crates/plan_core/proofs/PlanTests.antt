@@ -34,7 +34,9 @@ pub planned : (g : Graph) (d : Datapath) (p : Plan) (height : ℕ → ℕ)
     → (is_unroll p.arcs p.unroll).passes ≡ true
     → (is_first_fit d.period p.unroll p.arcs p.registers.regs).passes ≡ true
     → (are_in_files d p.arcs p.registers.regs).passes ≡ true
-    → p.inputs ≡ g.inputs → p.outs ≡ g.outs → IsPlan g d p
+    → p.inputs ≡ g.inputs
+    → p.outs ≡ g.outs
+    → IsPlan g d p
 planned g d p height low units high count slots lives unroll regs sizes inputs outs =
     let sized = passed (are_in_files d p.arcs p.registers.regs) sizes in record {
       lowered = low;

@@ -24,15 +24,6 @@ operands_few op.Not = omega arith
 operands_few op.Load = omega arith
 operands_few _ = omega arith
 
--- a unit has a port for each operand
-pub enough_ports : (o : Op) → operands o ≤ ports (kind_of o)
-enough_ports op.Sel = omega arith
-enough_ports op.Input = omega arith
-enough_ports op.Output = omega arith
-enough_ports op.Const = omega arith
-enough_ports op.Addr = omega arith
-enough_ports _ = omega arith
-
 -- a node that reads is there
 pub reader_there : (nodes : List Node) (c q v : ℕ) → Reads nodes c q v → c < length nodes
 reader_there nodes c q v reads =
@@ -45,8 +36,11 @@ reader_there nodes c q v reads =
     (cases_lt c (length nodes))
 
 -- what holds of each edge holds of the one that a node reads over
-pub edge_has : (P : Edge → Type 0) (nodes : List Node) → All (λ (node : Node). All P node.edges) nodes → (c q v : ℕ)
-    → Reads nodes c q v → P (edge_of (node_of nodes c) q)
+pub edge_has : (P : Edge → Type 0) (nodes : List Node)
+    → All (λ (node : Node). All P node.edges) nodes
+    → (c q v : ℕ)
+    → Reads nodes c q v
+    → P (edge_of (node_of nodes c) q)
 edge_has P nodes all c q v reads =
     All-get_or P (node_of nodes c).edges q no_edge reads.port
     (All-get_or (λ (node : Node). All P node.edges) nodes c no_node (reader_there nodes c q v reads) all)

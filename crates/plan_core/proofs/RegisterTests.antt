@@ -1,5 +1,6 @@
 -- Tests of lifetimes, the unroll factor and first fit.
-use Rattle.std.proofs.Common.{◌≡◌, refl, sym, subst, ap, ◌∙◌, arith, ℕ, ◌+◌, ◌-◌, ◌*◌, ◌%◌, ◌<◌, ◌≤◌, ◌⊎◌, inl, inr, List, [], length, slice_index_or, All}
+use Rattle.std.proofs.Common.{◌≡◌, refl, sym, subst, ap, ◌∙◌, arith, ℕ, ◌+◌, ◌-◌, ◌*◌, ◌%◌, ◌<◌, ◌≤◌, ◌⊎◌, inl, inr}
+use Rattle.std.proofs.Common.{List, [], length, slice_index_or, All}
 use Rattle.std.specs.List.{AllPairs}
 use Rattle.operations.specs.declared.units.PortRef.{PortRef}
 use Rattle.datapath.specs.declared.types.Datapath.{Datapath}
@@ -7,14 +8,16 @@ use Rattle.plan_core.specs.Hardware.{port_of, file_size}
 use Rattle.plan_core.specs.Operands.{Reads}
 use Rattle.plan_core.specs.Assigned.{unit_in}
 use Rattle.plan_core.specs.ListSchedule.{ends}
-use Rattle.plan_core.specs.Arcs.{arc_of, ReadsArc, read_cycle, IsCount, IsCovered, IsArc, IsWrittenBefore, IsArcBefore, IsArcFor, IsArcs, IsUnroll}
+use Rattle.plan_core.specs.Arcs.{arc_of, ReadsArc, read_cycle, IsCount, IsCovered, IsArc, IsWrittenBefore, IsArcBefore}
+use Rattle.plan_core.specs.Arcs.{IsArcFor, IsArcs, IsUnroll}
 use Rattle.plan_core.specs.Circle.{AreApart}
 use Rattle.plan_core.specs.FirstFit.{register_of, IsCopyBefore, IsFree, IsFirstFree, IsFirstFit}
 use Rattle.plan_core.specs.Refusals.{HasRegister}
 use Rattle.plan_core.specs.declared.registers.Arc.{Arc}
 use Rattle.plan_core.specs.declared.schedule.Assigned.{Assigned}
 use Rattle.plan_core.specs.declared.schedule.Schedule.{Schedule}
-use Rattle.plan_core.proofs.Tests.{Test, lt, le, eq, like, nay, both, either, implies, below, some_below, each_of, all_pairs}
+use Rattle.plan_core.proofs.Tests.{Test, lt, le, eq, like, nay, both, either, implies, below, some_below, each_of}
+use Rattle.plan_core.proofs.Tests.{all_pairs}
 use Rattle.plan_core.proofs.Readers.{reader_there}
 use Rattle.plan_core.proofs.OperandTests.{same_port, reads, each_operand}
 use Rattle.plan_core.proofs.ScheduleTests.{port_before}
@@ -145,7 +148,9 @@ module _ (period unroll : ℕ) where
       → (c : ℕ) → c < a.r - a.w → (e : ℕ) → e < b.r - b.w
       → living a n c % (unroll * period) ≡ living b m e % (unroll * period) → ⊥
 
-  pub place_in : (w r q cycle : ℕ) → w + q < cycle → cycle ≤ r + q
+  pub place_in : (w r q cycle : ℕ)
+      → w + q < cycle
+      → cycle ≤ r + q
       → (cycle - (w + q) - 1 < r - w) × (w + q + 1 + (cycle - (w + q) - 1) ≡ cycle)
   place_in w r q cycle after upto = (omega arith, omega arith)
 

@@ -1,5 +1,6 @@
 -- Tests of heights and of the list schedule.
-use Rattle.std.proofs.Common.{◌≡◌, refl, subst, subst₂, ap, ℕ, ◌+◌, ◌<◌, ◌≤◌, ◌⊎◌, List, length, map, All, Contains, true}
+use Rattle.std.proofs.Common.{◌≡◌, refl, subst, subst₂, ap, ℕ, ◌+◌, ◌<◌, ◌≤◌, ◌⊎◌, List, length, map, All, Contains}
+use Rattle.std.proofs.Common.{true}
 use Rattle.std.specs.List.{AllPairs}
 use Rattle.operations.specs.declared.units.PortRef.{PortRef}
 use Rattle.datapath.specs.declared.types.Datapath.{Datapath}
@@ -9,23 +10,27 @@ use Rattle.plan_core.specs.Operands.{delay_at, Reads}
 use Rattle.plan_core.specs.Assigned.{unit_in}
 use Rattle.plan_core.specs.Heights.{ReadsNow, latency_of, IsHeight, AreHeights, IsPlacedBefore}
 use Rattle.plan_core.specs.Reservations.{result_on, IsUnitFree, IsFileFree, IsBusFree, IsFreeRoute, Fits, IsFirstBus}
-use Rattle.plan_core.specs.ListSchedule.{slot_of, cycle_of, ends, IsDestination, IsPortBefore, AreDestinations, IsTakenBefore, AreOperandsThere, CanIssue, IsPlaced, IsListSchedule}
+use Rattle.plan_core.specs.ListSchedule.{slot_of, cycle_of, ends, IsDestination, IsPortBefore, AreDestinations}
+use Rattle.plan_core.specs.ListSchedule.{IsTakenBefore, AreOperandsThere, CanIssue, IsPlaced, IsListSchedule}
 use Rattle.plan_core.specs.declared.schedule.Slot.{Slot}
 use Rattle.plan_core.specs.declared.schedule.Assigned.{Assigned}
 use Rattle.plan_core.specs.declared.schedule.Transfer.{Transfer}
 use Rattle.plan_core.specs.declared.schedule.Schedule.{Schedule}
-use Rattle.plan_core.proofs.Tests.{Test, passed, lt, le, eq, like, nay, both, either, implies, below, some_below, each_of, contains, all_pairs}
+use Rattle.plan_core.proofs.Tests.{Test, passed, lt, le, eq, like, nay, both, either, implies, below, some_below}
+use Rattle.plan_core.proofs.Tests.{each_of, contains, all_pairs}
 use Rattle.plan_core.proofs.OperandTests.{same_port, is_route, each_operand, each_consumer, some_consumer}
 
 -- each port that reads node v in the same sample
-abbrev each_consumer_now : {P : ℕ → ℕ → Type 0} (nodes : List Node) (v : ℕ) → ((c q : ℕ) → Test (P c q))
+abbrev each_consumer_now : {P : ℕ → ℕ → Type 0} (nodes : List Node) (v : ℕ)
+    → ((c q : ℕ) → Test (P c q))
     → Test ((c q : ℕ) → ReadsNow nodes c q v → P c q)
 each_consumer_now {P} nodes v t =
     like {P = (c q : ℕ) → Reads nodes c q v → delay_at nodes c q ≡ 0 → P c q}
     (λ h c q r. h c q r.reads r.now) (λ h c q r e. h c q (record { reads = r; now = e }))
     (each_consumer nodes v (λ c q. implies (eq (delay_at nodes c q) 0) (λ z. t c q)))
 
-abbrev some_consumer_now : {P : ℕ → ℕ → Type 0} (nodes : List Node) (v : ℕ) → ((c q : ℕ) → Test (P c q))
+abbrev some_consumer_now : {P : ℕ → ℕ → Type 0} (nodes : List Node) (v : ℕ)
+    → ((c q : ℕ) → Test (P c q))
     → Test ((c : ℕ) × (q : ℕ) × ReadsNow nodes c q v × P c q)
 some_consumer_now {P} nodes v t =
     like {P = (c : ℕ) × (q : ℕ) × Reads nodes c q v × ((delay_at nodes c q ≡ 0) × P c q)}
@@ -61,12 +66,15 @@ port_before p q = either (lt p.unit q.unit) (both (eq p.unit q.unit) (lt p.port 
 
 pub dest_to : (a : Assigned) (v : ℕ) (P : PortRef → Type 0)
     → ((c q : ℕ) → Reads a.lowered.nodes c q v → P (port_of (unit_in a.units c) q))
-    → (port : PortRef) → IsDestination a v port → P port
+    → (port : PortRef)
+    → IsDestination a v port
+    → P port
 dest_to a v P h port dest =
     subst P (ap (λ (u : ℕ). port_of u port.port) dest.unit) (h dest.consumer port.port dest.reads)
 
 -- each port that reads node v, as a destination of its result
-abbrev each_destination : {P : PortRef → Type 0} (a : Assigned) (v : ℕ) → ((port : PortRef) → Test (P port))
+abbrev each_destination : {P : PortRef → Type 0} (a : Assigned) (v : ℕ)
+    → ((port : PortRef) → Test (P port))
     → Test ((port : PortRef) → IsDestination a v port → P port)
 each_destination {P} a v t =
     like (dest_to a v P) (λ h c q r. h (port_of (unit_in a.units c) q)
@@ -74,11 +82,13 @@ each_destination {P} a v t =
     (each_consumer a.lowered.nodes v (λ c q. t (port_of (unit_in a.units c) q)))
 
 pub dest_from : (a : Assigned) (v : ℕ) (port : PortRef)
-    → (c : ℕ) × (q : ℕ) × Reads a.lowered.nodes c q v × (port_of (unit_in a.units c) q ≡ port) → IsDestination a v port
+    → (c : ℕ) × (q : ℕ) × Reads a.lowered.nodes c q v × (port_of (unit_in a.units c) q ≡ port)
+    → IsDestination a v port
 dest_from a v port h =
     subst (λ (p : PortRef). IsDestination a v p) h.3 (record { consumer = h.0; reads = h.2; unit = refl })
 
-pub dest_is : (a : Assigned) (v : ℕ) (port : PortRef) → IsDestination a v port
+pub dest_is : (a : Assigned) (v : ℕ) (port : PortRef)
+    → IsDestination a v port
     → (c : ℕ) × (q : ℕ) × Reads a.lowered.nodes c q v × (port_of (unit_in a.units c) q ≡ port)
 dest_is a v port dest = (dest.consumer, port.port, dest.reads, ap (λ (u : ℕ). port_of u port.port) dest.unit)
 
@@ -100,12 +110,15 @@ are_destinations a v ports =
 
 pub taken_to : (a : Assigned) (s : Schedule) (height : ℕ → ℕ) (v : ℕ) (P : ℕ → Slot → Type 0)
     → ((x : ℕ) → x < length a.lowered.nodes → IsPlacedBefore height x v → P (unit_in a.units x) (slot_of s x))
-    → (u : ℕ) (slot : Slot) → IsTakenBefore a s height v u slot → P u slot
+    → (u : ℕ) (slot : Slot)
+    → IsTakenBefore a s height v u slot
+    → P u slot
 taken_to a s height v P h u slot t = subst₂ P t.unit t.its_slot (h t.x t.earlier.node t.earlier.before)
 
 module _ (d : Datapath) (a : Assigned) (s : Schedule) (height : ℕ → ℕ) where
   -- each operation in the reservation table
-  abbrev each_taken : {P : ℕ → Slot → Type 0} (v : ℕ) → ((u : ℕ) (slot : Slot) → Test (P u slot))
+  abbrev each_taken : {P : ℕ → Slot → Type 0} (v : ℕ)
+      → ((u : ℕ) (slot : Slot) → Test (P u slot))
       → Test ((u : ℕ) (slot : Slot) → IsTakenBefore a s height v u slot → P u slot)
   each_taken {P} v t =
       like
@@ -138,8 +151,8 @@ module _ (d : Datapath) (a : Assigned) (s : Schedule) (height : ℕ → ℕ) whe
       each_taken v (λ u slot. implies (eq (result_on d u slot.cycle) w) (λ z.
       each_of slot.transfers (λ (transfer : Transfer). nay (eq transfer.bus b))))
 
-  abbrev free_route : (v u w : ℕ) (port : PortRef) (b : ℕ) → Test
-      (IsFreeRoute d (IsTakenBefore a s height v) u w port b)
+  abbrev free_route : (v u w : ℕ) (port : PortRef) (b : ℕ)
+      → Test (IsFreeRoute d (IsTakenBefore a s height v) u w port b)
   free_route v u w port b =
       like {P = IsRoute d u port b × IsBusFree d (IsTakenBefore a s height v) w b}
       (λ h. record { route = h.0; free = h.1 }) (λ h. (h.route, h.free))
@@ -187,8 +200,8 @@ module _ (d : Datapath) (a : Assigned) (s : Schedule) (height : ℕ → ℕ) whe
       (λ h. record { operands = h.0; fits = h.1 }) (λ h. (h.operands, h.fits))
       (both (operands_there v t) (fits v (unit_in a.units v) t))
 
-  abbrev is_first_bus : (v u w : ℕ) (transfer : Transfer) → Test
-      (IsFirstBus d (IsTakenBefore a s height v) u w transfer)
+  abbrev is_first_bus : (v u w : ℕ) (transfer : Transfer)
+      → Test (IsFirstBus d (IsTakenBefore a s height v) u w transfer)
   is_first_bus v u w transfer =
       like {P = IsFreeRoute d (IsTakenBefore a s height v) u w transfer.port transfer.bus × ((b : ℕ)
       → b < transfer.bus → IsFreeRoute d (IsTakenBefore a s height v) u w transfer.port b → ⊥)}
@@ -213,8 +226,11 @@ module _ (d : Datapath) (a : Assigned) (s : Schedule) (height : ℕ → ℕ) whe
   are_placed = below (length a.lowered.nodes) (λ v. is_placed v)
 
 -- a schedule, by computing
-pub scheduled : (d : Datapath) (a : Assigned) (s : Schedule) (height : ℕ → ℕ) → (are_heights d a height).passes ≡ true
-    → length s.slots ≡ length a.lowered.nodes → (are_placed d a s height).passes ≡ true → IsListSchedule d a s
+pub scheduled : (d : Datapath) (a : Assigned) (s : Schedule) (height : ℕ → ℕ)
+    → (are_heights d a height).passes ≡ true
+    → length s.slots ≡ length a.lowered.nodes
+    → (are_placed d a s height).passes ≡ true
+    → IsListSchedule d a s
 scheduled d a s height e count f = record {
   height = height;
   heights = passed (are_heights d a height) e;

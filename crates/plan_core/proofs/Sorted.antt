@@ -19,14 +19,23 @@ module _ {A : Type 0} (R : A → A → Type 0) (never_both : (x y : A) → R x y
   before : (x y : A) (xs : List A) → AllPairs R (x ∷ xs) → Contains xs y → R x y
   before x y xs h (k, less, is) = subst (λ (z : A). R x z) is (h 0 (suc k) y (omega arith) (omega arith))
 
-  same_head : (x y : A) (xs ys : List A) → AllPairs R (x ∷ xs) → AllPairs R (y ∷ ys)
-      → (x ≡ y) ⊎ Contains xs y → (y ≡ x) ⊎ Contains ys x → x ≡ y
+  same_head : (x y : A) (xs ys : List A)
+      → AllPairs R (x ∷ xs)
+      → AllPairs R (y ∷ ys)
+      → (x ≡ y) ⊎ Contains xs y
+      → (y ≡ x) ⊎ Contains ys x
+      → x ≡ y
   same_head x y xs ys r s (inl h) k = h
   same_head x y xs ys r s (inr h) (inl k) = sym k
   same_head x y xs ys r s (inr h) (inr k) = absurd (never_both x y (before x y xs r h) (before y x ys s k))
 
-  moved : (x y : A) (xs ys : List A) → AllPairs R (x ∷ xs) → x ≡ y
-      → ((v : A) → Contains (x ∷ xs) v → Contains (y ∷ ys) v) → (v : A) → Contains xs v → Contains ys v
+  moved : (x y : A) (xs ys : List A)
+      → AllPairs R (x ∷ xs)
+      → x ≡ y
+      → ((v : A) → Contains (x ∷ xs) v → Contains (y ∷ ys) v)
+      → (v : A)
+      → Contains xs v
+      → Contains ys v
   moved x y xs ys r same to v h = by (head_or_tail y v ys (to v (in_tail x v xs h)))
     where
       by : (y ≡ v) ⊎ Contains ys v → Contains ys v
@@ -35,8 +44,12 @@ module _ {A : Type 0} (R : A → A → Type 0) (never_both : (x y : A) → R x y
           (never_both x x twice twice)
       by (inr k) = k
 
-  pub same_order : (xs ys : List A) → AllPairs R xs → AllPairs R ys → ((v : A) → Contains xs v → Contains ys v)
-      → ((v : A) → Contains ys v → Contains xs v) → xs ≡ ys
+  pub same_order : (xs ys : List A)
+      → AllPairs R xs
+      → AllPairs R ys
+      → ((v : A) → Contains xs v → Contains ys v)
+      → ((v : A) → Contains ys v → Contains xs v)
+      → xs ≡ ys
   same_order [] [] r s to from = refl
   same_order [] (y ∷ ys) r s to from = absurd (let h = from y (in_head y ys) in let less = h.1 in omega arith)
   same_order (x ∷ xs) [] r s to from = absurd (let h = to x (in_head x xs) in let less = h.1 in omega arith)

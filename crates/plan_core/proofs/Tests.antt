@@ -1,8 +1,11 @@
 -- Tests: a truth value for a statement, with the proof that it decides it. With these, a worked plan is checked by
 -- computing.
-use Rattle.std.proofs.Common.{◌≡◌, refl, sym, ◌∙◌, arith, ℕ, zero, suc, ◌<◌, ◌≤◌, ◌⊎◌, Bool, true, false, true≢false, not, ◌&&◌, ◌||◌, ltb, leb, eqb, leb-true, le-leb, List, [], ◌∷◌, length, slice_index_or, All, Contains, Decides}
+use Rattle.std.proofs.Common.{◌≡◌, refl, sym, ◌∙◌, arith, ℕ, zero, suc, ◌<◌, ◌≤◌, ◌⊎◌, Bool, true, false, true≢false}
+use Rattle.std.proofs.Common.{not, ◌&&◌, ◌||◌, ltb, leb, eqb, leb-true, le-leb, List, [], ◌∷◌, length, slice_index_or}
+use Rattle.std.proofs.Common.{All, Contains, Decides}
 use Rattle.std.specs.List.{AllPairs, list_all}
-use Rattle.std.proofs.lemmas.Bool.Decides.{Decides-like, Decides-not, Decides-and, Decides-or, Decides-ltb, Decides-eqb, Decides-by_and, Decides-below_and, Decides-below_or}
+use Rattle.std.proofs.lemmas.Bool.Decides.{Decides-like, Decides-not, Decides-and, Decides-or, Decides-ltb, Decides-eqb}
+use Rattle.std.proofs.lemmas.Bool.Decides.{Decides-by_and, Decides-below_and, Decides-below_or}
 use Rattle.std.proofs.lemmas.List.Kept.{AllPairs-cons}
 
 pub record Test (P : Type 0) : Type 0 where
@@ -47,7 +50,9 @@ abbrev if_passes : Bool → (Unit {0} → Bool) → Bool
 if_passes true f = f (tt {0})
 if_passes false f = true
 
-pub if_decides : {P Q : Type 0} (b : Bool) (f : Unit {0} → Bool) → Decides b P → Decides (f (tt {0})) Q
+pub if_decides : {P Q : Type 0} (b : Bool) (f : Unit {0} → Bool)
+    → Decides b P
+    → Decides (f (tt {0})) Q
     → Decides (if_passes b f) (P → Q)
 if_decides true f d e = (λ h p. e.0 h, λ g. e.1 (g (d.0 refl)))
 if_decides false f d e = (λ h p. absurd (true≢false (sym (d.1 p))), λ g. refl)
@@ -95,7 +100,8 @@ tail_pairs R x xs h i j d less within = h (suc i) (suc j) d (omega arith) (omega
 pub no_pairs : {X : Type 0} (R : X → X → Type 0) → AllPairs R []
 no_pairs R i j d less within = absurd (omega arith)
 
-abbrev pub all_pairs : {X : Type 0} {R : X → X → Type 0} (xs : List X) → ((x y : X) → Test (R x y))
+abbrev pub all_pairs : {X : Type 0} {R : X → X → Type 0} (xs : List X)
+    → ((x y : X) → Test (R x y))
     → Test (AllPairs R xs)
 all_pairs {R} [] t = test_of true (λ e. no_pairs R, λ h. refl)
 all_pairs {R} (x ∷ xs) t =

@@ -1,6 +1,7 @@
 -- The worked plans are plans.
 use Rattle.std.proofs.Common.{◌≡◌, refl, subst, arith, ℕ, zero, suc, List, [], ◌∷◌}
 use Rattle.std.specs.Prelude.{Some}
+use Rattle.lists.proofs.Places.{some_is}
 use Rattle.plan_core.specs.Lowered.{AreLines, IsNextLine, IsLineOf, IsLowered}
 use Rattle.plan_core.specs.Hardware.{IsAcuOf}
 use Rattle.plan_core.specs.IsPlan.{IsPlan}
@@ -8,7 +9,9 @@ use Rattle.plan_core.proofs.Tests.{passed, nay, below, each_of, le, contains, eq
 use Rattle.plan_core.proofs.OperandTests.{is_acu_of}
 use Rattle.plan_core.proofs.LoweredTests.{are_all_long, has_room, held_edge, loaded_edge}
 use Rattle.plan_core.proofs.PlanTests.{planned}
-use Rattle.plan_core.proofs.Rows.{plain_path, filter_path, edge, heights, increment, increment_plan, accumulator, accumulator_plan, held_difference, held_difference_plan, held_three, held_three_plan, line_cells, line_cells_plan, its_line}
+use Rattle.plan_core.proofs.Rows.{plain_path, filter_path, edge, heights, increment, increment_plan, accumulator}
+use Rattle.plan_core.proofs.Rows.{accumulator_plan, held_difference, held_difference_plan, held_three, held_three_plan}
+use Rattle.plan_core.proofs.Rows.{line_cells, line_cells_plan, its_line}
 
 abbrev no_delays : ℕ → List (List ℕ)
 no_delays zero = []
@@ -171,9 +174,6 @@ next_line = record {
   offset = refl;
   acu = (6, its_acu);
 }
-
-some_is : {A : Type 0} (x y : A) → Some x ≡ Some y → x ≡ y
-some_is x y h = cc
 
 line_cells_lines : AreLines 1 (filter_path 32 4) delays (its_line ∷ [])
 line_cells_lines zero v long less is =

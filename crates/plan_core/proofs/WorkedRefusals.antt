@@ -1,5 +1,6 @@
 -- Graphs that have no plan, each with the rule that finds no place; and plans that a rule refuses.
-use Rattle.std.proofs.Common.{◌≡◌, refl, sym, subst, arith, ℕ, zero, suc, ◌+◌, ◌<◌, ◌⊎◌, inl, inr, List, [], ◌∷◌, ◌++◌, take, drop, slice_index_or, codes, true}
+use Rattle.std.proofs.Common.{◌≡◌, refl, sym, subst, arith, ℕ, zero, suc, ◌+◌, ◌<◌, ◌⊎◌, inl, inr, List, [], ◌∷◌, ◌++◌}
+use Rattle.std.proofs.Common.{take, drop, slice_index_or, codes, true}
 use Rattle.fix_word.specs.declared.operation.Op.TheVariants as op
 use Rattle.operations.specs.declared.units.Kind.TheVariants as kind
 use Rattle.datapath.specs.declared.types.Datapath.{Datapath}
@@ -8,7 +9,9 @@ use Rattle.plan_core.specs.Hardware.{HasRoute, port_of}
 use Rattle.plan_core.specs.Operands.{node_of}
 use Rattle.plan_core.specs.Assigned.{unit_in, AreUnits}
 use Rattle.plan_core.specs.Arcs.{arc_of}
-use Rattle.plan_core.specs.Refusals.{NeedsLine, IsWithoutRam, IsWithoutCells, IsWithoutAcu, IsTooWide, IsWithoutUnit, LacksOperand, IsWithoutRoute, IsWithoutCycle, HasRegister, HaveRegistersBefore, IsWithoutRegister}
+use Rattle.plan_core.specs.Refusals.{NeedsLine, IsWithoutRam, IsWithoutCells, IsWithoutAcu, IsTooWide, IsWithoutUnit}
+use Rattle.plan_core.specs.Refusals.{LacksOperand, IsWithoutRoute, IsWithoutCycle, HasRegister, HaveRegistersBefore}
+use Rattle.plan_core.specs.Refusals.{IsWithoutRegister}
 use Rattle.plan_core.specs.declared.delay_lines.Lowered.{Lowered}
 use Rattle.plan_core.proofs.Tests.{passed, lt, le, eq, nay, both, either, implies, below, each_of, contains}
 use Rattle.plan_core.proofs.OperandTests.{is_of_kind, is_acu_of, has_route}
@@ -16,7 +19,8 @@ use Rattle.plan_core.proofs.AssignedTests.{is_candidate, is_unit_for, is_right_u
 use Rattle.plan_core.proofs.LoweredTests.{are_all_long, has_room}
 use Rattle.plan_core.proofs.ScheduleTests.{are_heights, can_issue, is_placed, placed_before}
 use Rattle.plan_core.proofs.RegisterTests.{is_free, has_register}
-use Rattle.plan_core.proofs.Rows.{edge, heights, plain_path, filter_path, input_node, sum_node, output_node, line_cells, increment_plan, held_difference_plan}
+use Rattle.plan_core.proofs.Rows.{edge, heights, plain_path, filter_path, input_node, sum_node, output_node, line_cells}
+use Rattle.plan_core.proofs.Rows.{increment_plan, held_difference_plan}
 
 -- no unit passes, where the statement names a unit that is there
 none_there : {P : ℕ → Type 0} (n : ℕ) → ((u : ℕ) → P u → u < n) → ((u : ℕ) → u < n → P u → ⊥) → (u : ℕ) → P u → ⊥
@@ -151,8 +155,10 @@ no_route = record {
     earlier : (p : ℕ) → p < 1 → LacksOperand half_reached square (0 ∷ []) 1 4 p → ⊥
     earlier zero less h = by h.lacks
       where
-        by : ((h.operand < 1) × (HasRoute half_reached (unit_in (0 ∷ []) h.operand) (port_of 4 0) → ⊥))
-            ⊎ ((h.operand ≡ 1) × (HasRoute half_reached 4 (port_of 4 0) → ⊥)) → ⊥
+        by :
+            ((h.operand < 1) × (HasRoute half_reached (unit_in (0 ∷ []) h.operand) (port_of 4 0) → ⊥))
+            ⊎ ((h.operand ≡ 1) × (HasRoute half_reached 4 (port_of 4 0) → ⊥))
+            → ⊥
         by (inl k) = k.1 (subst (λ (x : ℕ). HasRoute half_reached (unit_in (0 ∷ []) x) (port_of 4 0)) h.reads.node
             (passed (has_route half_reached 0 (port_of 4 0)) refl))
         by (inr k) = let same = h.reads.node in let other = k.0 in absurd (omega arith)
@@ -209,13 +215,18 @@ no_register = record {
   there = omega arith;
   copy = omega arith;
   before = earlier;
-  full = passed (below 1 (λ register. nay (is_free 16 2 held_difference_plan.arcs held_difference_plan.registers.regs 2 1
+  full =
+      passed (below 1 (λ register. nay (is_free 16 2 held_difference_plan.arcs held_difference_plan.registers.regs 2 1
       register))) refl;
   port_is = refl;
   node_is = refl;
 }
   where
-    has : (l : ℕ) → l < 3 → (j : ℕ) → j < (arc_of held_difference_plan.arcs l).copies → (l < 2) ⊎ ((l ≡ 2) × (j < 1))
+    has : (l : ℕ)
+        → l < 3
+        → (j : ℕ)
+        → j < (arc_of held_difference_plan.arcs l).copies
+        → (l < 2) ⊎ ((l ≡ 2) × (j < 1))
         → HasRegister one_register 2 held_difference_plan.arcs held_difference_plan.registers.regs l j
     has = passed (below 3 (λ l. below (arc_of held_difference_plan.arcs l).copies
         (λ j. implies (either (lt l 2) (both (eq l 2) (lt j 1)))

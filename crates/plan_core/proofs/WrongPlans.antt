@@ -15,7 +15,8 @@ use Rattle.plan_core.proofs.AssignedTests.{is_assigned}
 use Rattle.plan_core.proofs.LoweredTests.{are_long_delays}
 use Rattle.plan_core.proofs.ScheduleTests.{is_placed}
 use Rattle.plan_core.proofs.RegisterTests.{is_arc, is_first_fit}
-use Rattle.plan_core.proofs.Rows.{plain_path, edge, heights, at, over, life, input_node, sum_node, output_node, increment_plan, accumulator, held_difference_plan}
+use Rattle.plan_core.proofs.Rows.{plain_path, edge, heights, at, over, life, input_node, sum_node, output_node}
+use Rattle.plan_core.proofs.Rows.{increment_plan, accumulator, held_difference_plan}
 
 -- where nothing is held, a delay of one sample is a long one
 unheld : AreLongDelays accumulator 0 1 [] → ⊥

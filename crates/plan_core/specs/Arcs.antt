@@ -63,7 +63,8 @@ pub record IsArcFor (v : ℕ) (port : PortRef) (arc : Arc) : Type 0 where
 pub record IsArcs (d : Datapath) (a : Assigned) (s : Schedule) (arcs : List Arc) : Type 0 where
   pub order : AllPairs IsArcBefore arcs
   pub each : All (IsArc d a s) arcs
-  pub every : (c q v : ℕ) → Reads a.lowered.nodes c q v
+  pub every : (c q v : ℕ)
+      → Reads a.lowered.nodes c q v
       → (k : ℕ) × (k < length arcs) × IsArcFor v (port_of (unit_in a.units c) q) (arc_of arcs k)
 
 -- the unroll factor: the greatest count of copies, and at least 1

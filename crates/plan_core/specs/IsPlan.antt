@@ -19,7 +19,9 @@ pub record IsPlan (g : Graph) (d : Datapath) (p : Plan) : Type 0 where
   pub unroll : IsUnroll p.arcs p.unroll
   pub registers : IsFirstFit d.period p.unroll p.arcs p.registers.regs
   -- each register is in its file
-  pub sizes : (k i : ℕ) → k < length p.arcs → i < (arc_of p.arcs k).copies
+  pub sizes : (k i : ℕ)
+      → k < length p.arcs
+      → i < (arc_of p.arcs k).copies
       → register_of p.registers.regs k i < file_size d (arc_of p.arcs k).port
   pub inputs : p.inputs ≡ g.inputs
   pub outs : p.outs ≡ g.outs

@@ -74,8 +74,8 @@ module _ (d : Datapath) (a : Assigned) (s : Schedule) (height : ℕ → ℕ) whe
     pub can : CanIssue v (cycle_of s v)
     pub least : (t : ℕ) → t < cycle_of s v → CanIssue v t → ⊥
     pub destinations : AreDestinations a v (map (λ (transfer : Transfer). transfer.port) (slot_of s v).transfers)
-    pub buses : All (IsFirstBus d (IsTakenBefore a s height v) (unit_in a.units v) (ends d a s v))
-        (slot_of s v).transfers
+    pub buses :
+        All (IsFirstBus d (IsTakenBefore a s height v) (unit_in a.units v) (ends d a s v)) (slot_of s v).transfers
 
 -- each node has its place
 pub record IsListSchedule (d : Datapath) (a : Assigned) (s : Schedule) : Type 0 where

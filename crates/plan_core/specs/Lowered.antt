@@ -6,7 +6,8 @@
 --
 -- How long a delay may be that stays on its edge is the hold. How many cells a line has beyond its longest delay is the
 -- spare: as many as there are samples in flight at once.
-use Rattle.std.specs.Prelude.{◌≡◌, ℕ, ◌+◌, ◌<◌, ◌≤◌, ◌==◌, nat_lt, cond, List, [], ◌∷◌, length, take, slice_get, slice_index_or, filter, flat_map, sum_by, All, Contains, Some, pos}
+use Rattle.std.specs.Prelude.{◌≡◌, ℕ, ◌+◌, ◌<◌, ◌≤◌, ◌==◌, nat_lt, cond, List, [], ◌∷◌, length, take, slice_get}
+use Rattle.std.specs.Prelude.{slice_index_or, filter, flat_map, sum_by, All, Contains, Some, pos}
 use Rattle.std.specs.List.{enumerate_from, AllZip}
 use Rattle.std.specs.List.Sorted.{IsStrictlyIncreasing}
 use Rattle.fix_word.specs.declared.operation.Op.TheVariants as op

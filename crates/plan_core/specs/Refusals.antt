@@ -1,5 +1,6 @@
 -- Where a graph has no plan on a datapath: the first node, or copy of a lifetime, at which a rule finds no place.
-use Rattle.std.specs.Prelude.{◌≡◌, ℕ, ◌+◌, ◌<◌, ◌≤◌, ◌⊎◌, List, [], length, slice_get, slice_index_or, All, Contains, Some}
+use Rattle.std.specs.Prelude.{◌≡◌, ℕ, ◌+◌, ◌<◌, ◌≤◌, ◌⊎◌, List, [], length, slice_get, slice_index_or, All, Contains}
+use Rattle.std.specs.Prelude.{Some}
 use Rattle.operations.specs.declared.units.Kind.{Kind}
 use Rattle.operations.specs.declared.units.Kind.TheVariants as kind
 use Rattle.operations.specs.declared.units.PortRef.{PortRef}

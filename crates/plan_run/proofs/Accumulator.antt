@@ -1,5 +1,6 @@
 -- An example: the image of the accumulator y = y@1 + x with y@@1 = 5, whose delay a register holds.
-use Rattle.std.proofs.Common.{◌≡◌, ℕ, zero, suc, ◌+◌, ◌*◌, ◌<◌, ◌≤◌, refl, sym, ap, ◌∙◌, subst, arith, List, [], ◌∷◌, length, replicate, map, Contains, ℤ, pos, inl}
+use Rattle.std.proofs.Common.{◌≡◌, ℕ, zero, suc, ◌+◌, ◌*◌, ◌<◌, ◌≤◌, refl, sym, ap, ◌∙◌, subst, arith, List, [], ◌∷◌}
+use Rattle.std.proofs.Common.{length, replicate, map, Contains, ℤ, pos, inl}
 use Rattle.std.specs.List.{AllPairs}
 use Rattle.lists.proofs.Places.{only_there}
 use Rattle.fix_word.specs.Values.{wrap_of}
@@ -22,9 +23,11 @@ use Rattle.micro_image.specs.Fields.{microprogram_of, nth, no_word, unit_of as d
 use Rattle.micro_image.specs.Log.{Register, Cell, initial, entries_by, value}
 use Rattle.micro_image.specs.Run.{row_of}
 use Rattle.micro_image.specs.Valid.{EnableBefore, TakeBefore}
-use Rattle.plan_run.specs.Parts.{nodes_of, node_at, unit_at, cycle_at, transfers_at, arc_at, register_at, IsTransferOf, ends_at}
+use Rattle.plan_run.specs.Parts.{nodes_of, node_at, unit_at, cycle_at, transfers_at, arc_at, register_at, IsTransferOf}
+use Rattle.plan_run.specs.Parts.{ends_at}
 use Rattle.plan_run.proofs.LiveWords.{port_eq}
-use Rattle.plan_run.specs.ImageOf.{IsUnitOf, IsIssueOf, IsWordOf, IsImageOf, IsPreloadOf, StartsWith, enable_of, take_of}
+use Rattle.plan_run.specs.ImageOf.{IsUnitOf, IsIssueOf, IsWordOf, IsImageOf, IsPreloadOf, StartsWith, enable_of}
+use Rattle.plan_run.specs.ImageOf.{take_of}
 
 abbrev path : Datapath
 path = plain_path 1

@@ -1,5 +1,6 @@
 -- No cycle of the run has a conflict.
-use Rattle.std.proofs.Common.{◌≡◌, ℕ, ◌+◌, ◌-◌, ◌*◌, ◌<◌, ◌≤◌, ◌==◌, refl, sym, ap, ap₂, ◌∙◌, arith, ⊎_elim, ◌⊎◌, inl, inr, [], length, ℤ, pos, true, Option, Some, None, subst}
+use Rattle.std.proofs.Common.{◌≡◌, ℕ, ◌+◌, ◌-◌, ◌*◌, ◌<◌, ◌≤◌, ◌==◌, refl, sym, ap, ap₂, ◌∙◌, arith, ⊎_elim, ◌⊎◌, inl}
+use Rattle.std.proofs.Common.{inr, [], length, ℤ, pos, true, Option, Some, None, subst}
 use Rattle.std.specs.List.{count_by}
 use Rattle.std.specs.Option.{IsSome, IsNone, is_some}
 use Rattle.std.proofs.Math.Nat.{add-mul, mod-lt}
@@ -11,7 +12,8 @@ use Rattle.operations.specs.declared.units.PortRef.{PortRef}
 use Rattle.datapath.specs.declared.types.Datapath.{Datapath}
 use Rattle.plan_core.specs.Hardware.{gap_on, cells_on}
 use Rattle.plan_core.specs.declared.plan.Plan.{Plan}
-use Rattle.micro_image.specs.declared.conflict.ConflictKind.TheVariants.{Busy, TwoDrivers, FileTwice, NoDriver, NoResult, Address}
+use Rattle.micro_image.specs.declared.conflict.ConflictKind.TheVariants.{Busy, TwoDrivers, FileTwice, NoDriver}
+use Rattle.micro_image.specs.declared.conflict.ConflictKind.TheVariants.{NoResult, Address}
 use Rattle.micro_image.specs.declared.image.Enable.{Enable}
 use Rattle.micro_image.specs.declared.image.Issue.{Issue}
 use Rattle.micro_image.specs.declared.image.Take.{Take}
@@ -101,7 +103,10 @@ module _ {o : Overlap} (d : Datapath) (p : Plan) (words : Counted) (plan : IsFea
 
   taken_at : (t : ℕ) (take : Take)
       → In take (micro.word_at t).takes
-      → (k : ℕ) × (n : ℕ) × (k < length p.arcs) × (t ≡ n * d.period + ends_at d p (arc_at p k).node)
+      → (k : ℕ)
+      × (n : ℕ)
+      × (k < length p.arcs)
+      × (t ≡ n * d.period + ends_at d p (arc_at p k).node)
       × IsTakeIn d p micro k n t take
   taken_at t take among = runs.take_only t take (Contains-from_In among)
 

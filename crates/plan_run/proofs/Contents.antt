@@ -1,6 +1,7 @@
 -- All places hold what is wanted of them: each live word that is written in a cycle is there from the next cycle on,
 -- until it is read for the last time.
-use Rattle.std.proofs.Common.{◌≡◌, ℕ, suc, ◌+◌, ◌-◌, ◌*◌, ◌<◌, ◌≤◌, refl, sym, ap, ◌∙◌, arith, ⊎_elim, [], ◌∷◌, length, pos, true, Some, subst}
+use Rattle.std.proofs.Common.{◌≡◌, ℕ, suc, ◌+◌, ◌-◌, ◌*◌, ◌<◌, ◌≤◌, refl, sym, ap, ◌∙◌, arith, ⊎_elim, [], ◌∷◌, length}
+use Rattle.std.proofs.Common.{pos, true, Some, subst}
 use Rattle.std.specs.List.{Contains, flat_map, range_with_len}
 use Rattle.std.proofs.lemmas.Bool.{cases_lt}
 use Rattle.std.proofs.Math.Nat.{add-mul, mul-le-mul_right}
@@ -13,7 +14,8 @@ use Rattle.plan_core.specs.declared.plan.Plan.{Plan}
 use Rattle.micro_image.specs.declared.image.Issue.{Issue}
 use Rattle.micro_image.specs.declared.image.Take.{Take}
 use Rattle.micro_image.specs.Fields.{Microprogram, nth, began, ending}
-use Rattle.micro_image.specs.Log.{Place, Register, Latch, Cell, Entry, same_place, Log, Content, operand, value, entries_by, taken, written, written_of, written_by}
+use Rattle.micro_image.specs.Log.{Place, Register, Latch, Cell, Entry, same_place, Log, Content, operand, value}
+use Rattle.micro_image.specs.Log.{entries_by, taken, written, written_of, written_by}
 use Rattle.micro_image.proofs.Each.{In, In-append_left, In-append_right, In-flat_map, In-from_Contains, Each-then}
 use Rattle.micro_image.proofs.LogLaws.{content-unwritten}
 use Rattle.micro_image.proofs.LogWrites.{content-written}
@@ -28,9 +30,12 @@ use Rattle.plan_run.specs.Private.Executes.{ExecutesOver, IsIssueIn, IsTakeIn, r
 use Rattle.plan_run.proofs.Elements.{In-range_of}
 use Rattle.plan_run.proofs.Samples.{one_more, below_count}
 use Rattle.plan_run.proofs.Slots.{Keeps, right}
-use Rattle.plan_run.proofs.LiveWords.{LiveWord, in_register, in_cell, in_latch, at_first, stored_in, place_of, written_at, wanted_to, word_of, stored_late, stored_early, words_apart, lives, preloaded}
+use Rattle.plan_run.proofs.LiveWords.{LiveWord, in_register, in_cell, in_latch, at_first, stored_in, place_of}
+use Rattle.plan_run.proofs.LiveWords.{written_at, wanted_to, word_of, stored_late, stored_early, words_apart, lives}
+use Rattle.plan_run.proofs.LiveWords.{preloaded}
 use Rattle.plan_run.proofs.ReadsRight.{AllRight, near_now, store_place, ends_then, began_then}
-use Rattle.plan_run.proofs.Writes.{writes_of_words, live_in, taken_word, output_no_address, same_sound, same_self, not_same, from_past, in_one}
+use Rattle.plan_run.proofs.Writes.{writes_of_words, live_in, taken_word, output_no_address, same_sound, same_self}
+use Rattle.plan_run.proofs.Writes.{not_same, from_past, in_one}
 
 module _ {o : Overlap} (d : Datapath) (p : Plan) (words : Counted) (plan : IsFeasibleOver o d p) (micro : Microprogram)
     (z stream : Rows) (runs : ExecutesOver o d p micro) (solves : LoweredSolves d p stream words)
@@ -233,7 +238,8 @@ module _ {o : Overlap} (d : Datapath) (p : Plan) (words : Counted) (plan : IsFea
       (omega (arith, starts)) (omega (arith, starts, lives d p words plan b))).1)
       (writes_of_words d p words plan micro z stream runs solves rows t below right))
 
-  keeps : Keeps (place_of o d p words) (written_at o d p words) (wanted_to o d p words) (word_of o d p words)
+  keeps :
+      Keeps (place_of o d p words) (written_at o d p words) (wanted_to o d p words) (word_of o d p words)
       (past * d.period) (length stream * d.period) (Content micro z)
   keeps = record {
     apart = words_apart d p words plan;

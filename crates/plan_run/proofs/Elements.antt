@@ -1,5 +1,6 @@
 -- Elements of lists: by index and by place, what is found, and how many pass a test.
-use Rattle.std.proofs.Common.{◌≡◌, ℕ, zero, suc, ◌+◌, ◌<◌, ◌≤◌, refl, sym, ap, ◌∙◌, arith, ⊎_elim, List, [], ◌∷◌, length, slice_index_or, Bool, true, false, Some, cond, subst}
+use Rattle.std.proofs.Common.{◌≡◌, ℕ, zero, suc, ◌+◌, ◌<◌, ◌≤◌, refl, sym, ap, ◌∙◌, arith, ⊎_elim, List, [], ◌∷◌}
+use Rattle.std.proofs.Common.{length, slice_index_or, Bool, true, false, Some, cond, subst}
 use Rattle.std.specs.List.{Contains, AllPairs, find, filter, count_by, range_with_len}
 use Rattle.std.proofs.lemmas.Bool.{cases_order}
 use Rattle.std.proofs.lemmas.List.Sums.{length-filter}

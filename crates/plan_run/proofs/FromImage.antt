@@ -1,11 +1,13 @@
 -- The image of a feasible plan does at each cycle of the run what the plan has there.
-use Rattle.std.proofs.Common.{◌≡◌, ℕ, ◌+◌, ◌-◌, ◌*◌, ◌/◌, ◌%◌, ◌<◌, ◌≤◌, ◌==◌, refl, sym, ap, ap₂, ◌∙◌, arith, ⊎_elim, length, List, slice_index_or, Some, true, subst}
+use Rattle.std.proofs.Common.{◌≡◌, ℕ, ◌+◌, ◌-◌, ◌*◌, ◌/◌, ◌%◌, ◌<◌, ◌≤◌, ◌==◌, refl, sym, ap, ap₂, ◌∙◌, arith, ⊎_elim}
+use Rattle.std.proofs.Common.{length, List, slice_index_or, Some, true, subst}
 use Rattle.std.specs.List.{Contains, AllPairs}
 use Rattle.std.specs.Int.{int_rem_euclid}
 use Rattle.std.specs.Prelude.{pos, ◌-ℤ◌}
 use Rattle.std.proofs.lemmas.Bool.{cases_lt}
 use Rattle.std.proofs.lemmas.Nat.{div-mul-add}
-use Rattle.std.proofs.Math.Nat.{mod-lt, mul-le-mul_right, add-mul, mod-add-mod, mul-add-mod_self_right, mod-eq_of_lt, mod-mod_of_dvd, dvd_of_mod-eq-zero}
+use Rattle.std.proofs.Math.Nat.{mod-lt, mul-le-mul_right, add-mul, mod-add-mod, mul-add-mod_self_right, mod-eq_of_lt}
+use Rattle.std.proofs.Math.Nat.{mod-mod_of_dvd, dvd_of_mod-eq-zero}
 use Rattle.datapath.specs.declared.types.Datapath.{Datapath}
 use Rattle.plan_core.specs.Hardware.{latency_on, gap_on, cells_on, tie_of, no_unit}
 use Rattle.plan_core.specs.declared.schedule.Transfer.{Transfer}
@@ -15,12 +17,14 @@ use Rattle.micro_image.specs.declared.image.Issue.{Issue}
 use Rattle.micro_image.specs.declared.image.Take.{Take}
 use Rattle.micro_image.specs.declared.image.UnitDesc.{UnitDesc}
 use Rattle.micro_image.specs.declared.image.Image.{Image}
-use Rattle.micro_image.specs.Fields.{Microprogram, microprogram_of, nth, no_word, no_unit as no_desc, unit_of, word_at, sample_of, issue_at, driver_at}
+use Rattle.micro_image.specs.Fields.{Microprogram, microprogram_of, nth, no_word, no_unit as no_desc, unit_of, word_at}
+use Rattle.micro_image.specs.Fields.{sample_of, issue_at, driver_at}
 use Rattle.micro_image.specs.Log.{Register, initial}
 use Rattle.micro_image.specs.Valid.{EnableBefore, TakeBefore}
 use Rattle.micro_image.proofs.Each.{In-from_Contains}
 use Rattle.signal_graph.specs.Rules.{word_before}
-use Rattle.plan_run.specs.Parts.{nodes_of, node_at, edge_at, unit_at, cycle_at, arc_at, line_at, register_at, IsTransferOf, ends_at, IsCopy}
+use Rattle.plan_run.specs.Parts.{nodes_of, node_at, edge_at, unit_at, cycle_at, arc_at, line_at, register_at}
+use Rattle.plan_run.specs.Parts.{IsTransferOf, ends_at, IsCopy}
 use Rattle.plan_run.specs.ImageOf.{IsIssueOf, IsWordOf, IsImageOf, enable_of, take_of}
 use Rattle.plan_run.specs.Private.Samples.{past}
 use Rattle.plan_run.specs.Private.Overlap.{shift_of}
@@ -290,7 +294,10 @@ module _ (d : Datapath) (p : Plan) (plan : IsFeasible d p) (image : Image) (is :
 
   take_only : (t : ℕ) (take : Take)
       → Contains (word_at image t).takes take
-      → (k : ℕ) × (n : ℕ) × (k < length p.arcs) × (t ≡ n * d.period + ends_at d p (arc_at p k).node)
+      → (k : ℕ)
+      × (n : ℕ)
+      × (k < length p.arcs)
+      × (t ≡ n * d.period + ends_at d p (arc_at p k).node)
       × IsTakeIn d p micro k n t take
   take_only t take among =
       let only = (word_any t).take_only take among in

@@ -1,5 +1,7 @@
 -- The lowered list of a sound graph is sound, and its delay lines are.
-use Rattle.std.proofs.Common.{◌≡◌, ◌≢◌, ℕ, zero, suc, ◌+◌, ◌-◌, ◌<◌, ◌≤◌, ◌==◌, nat_lt, cond, ◌⊎◌, inl, inr, ⊎_elim, refl, sym, ap, ◌∙◌, subst, arith, List, [], ◌∷◌, length, slice_index_or, Contains, Bool, true, false, pos}
+use Rattle.std.proofs.Common.{◌≡◌, ◌≢◌, ℕ, zero, suc, ◌+◌, ◌-◌, ◌<◌, ◌≤◌, ◌==◌, nat_lt, cond, ◌⊎◌, inl, inr, ⊎_elim}
+use Rattle.std.proofs.Common.{refl, sym, ap, ◌∙◌, subst, arith, List, [], ◌∷◌, length, slice_index_or, Contains, Bool}
+use Rattle.std.proofs.Common.{true, false, pos}
 use Rattle.std.specs.Prelude.{slice_get, filter, take, Option, Some, None, IsSomeAnd}
 use Rattle.std.specs.List.{enumerate_from, AllZip}
 use Rattle.std.proofs.lemmas.Bool.{cases_lt, cases_order}
@@ -20,7 +22,9 @@ use Rattle.signal_graph.specs.declared.graph.Graph.{Graph}
 use Rattle.plan_core.specs.Hardware.{tie_of}
 use Rattle.plan_core.specs.Operands.{node_of, edge_of, no_edge}
 use Rattle.plan_core.specs.Assigned.{IsAssigned, IsForRam}
-use Rattle.plan_core.specs.Lowered.{Origin, own, address, store, load, origins, stored, used, line_of, no_line, IsNumber, IsReadAgo, AreLongDelays, IsNextLine, IsLoweredEdge, IsLineOf, IsOwn, IsAddress, IsStore, IsLoad, IsMade, IsLowered, edge_now}
+use Rattle.plan_core.specs.Lowered.{Origin, own, address, store, load, origins, stored, used, line_of, no_line}
+use Rattle.plan_core.specs.Lowered.{IsNumber, IsReadAgo, AreLongDelays, IsNextLine, IsLoweredEdge, IsLineOf, IsOwn}
+use Rattle.plan_core.specs.Lowered.{IsAddress, IsStore, IsLoad, IsMade, IsLowered, edge_now}
 use Rattle.plan_core.specs.declared.delay_lines.Line.{Line}
 use Rattle.plan_core.specs.declared.plan.Plan.{Plan}
 use Rattle.micro_image.specs.Operations.{gives}
@@ -612,7 +616,8 @@ module _ (g : Graph) (d : Datapath) (p : Plan) (sound : IsGraph g) (lowered : Is
         now = ap (λ (edge : Edge). edge.delay) first;
       }
     where
-      first_edge : (node_at p i).edges ≡ record { node = at; delay = 0 } ∷ []
+      first_edge :
+          (node_at p i).edges ≡ record { node = at; delay = 0 } ∷ []
           ⊎ ((value : ℕ) × ((node_at p i).edges ≡ edge_now at ∷ edge_now value ∷ []))
           → edge_at p i 0 ≡ record { node = at; delay = 0 }
       first_edge (inl e) = ap (λ edges. slice_index_or edges 0 no_edge) e
@@ -651,7 +656,9 @@ module _ (g : Graph) (d : Datapath) (p : Plan) (sound : IsGraph g) (lowered : Is
         now = ap (λ (edge : Edge). edge.delay) value;
       }
 
-  stored_node : (l : ℕ) → l < length (lines_of p) → (for : IsLineFor l)
+  stored_node : (l : ℕ)
+      → l < length (lines_of p)
+      → (for : IsLineFor l)
       → IsNumber lowered.delays (store for.v) (store_of (line_at p l))
   stored_node l in-l for =
       subst (λ n. IsNumber lowered.delays (store for.v) (n + 2))

@@ -1,5 +1,6 @@
 -- A plan by the rules is feasible.
-use Rattle.std.proofs.Common.{◌≡◌, ◌≢◌, ℕ, ◌+◌, ◌*◌, ◌%◌, ◌<◌, ◌≤◌, refl, sym, ap, ◌∙◌, arith, ⊎_elim, ◌⊎◌, inl, inr, List, length, slice_index_or, map, All, Contains, true, subst}
+use Rattle.std.proofs.Common.{◌≡◌, ◌≢◌, ℕ, ◌+◌, ◌*◌, ◌%◌, ◌<◌, ◌≤◌, refl, sym, ap, ◌∙◌, arith, ⊎_elim, ◌⊎◌, inl, inr}
+use Rattle.std.proofs.Common.{List, length, slice_index_or, map, All, Contains, true, subst}
 use Rattle.std.specs.List.{AllPairs}
 use Rattle.std.proofs.lemmas.Bool.{cases_eq, cases_lt, cases_order}
 use Rattle.std.proofs.lemmas.List.{get_or-map, length-map}
@@ -21,7 +22,8 @@ use Rattle.plan_core.specs.declared.registers.Arc.{Arc}
 use Rattle.plan_core.specs.declared.plan.Plan.{Plan}
 use Rattle.plan_core.proofs.Readers.{operands_few, reader_there}
 use Rattle.micro_image.specs.Operations.{gives}
-use Rattle.plan_run.specs.Parts.{nodes_of, node_at, edge_at, unit_at, cycle_at, transfers_at, arc_at, ReadsThrough, IsTransferOf, ends_at}
+use Rattle.plan_run.specs.Parts.{nodes_of, node_at, edge_at, unit_at, cycle_at, transfers_at, arc_at, ReadsThrough}
+use Rattle.plan_run.specs.Parts.{IsTransferOf, ends_at}
 use Rattle.plan_run.specs.Private.Samples.{past}
 use Rattle.plan_run.specs.Private.Overlap.{one_by_one}
 use Rattle.plan_run.specs.Private.Circle.{IsLifetime}

@@ -1,5 +1,6 @@
 -- Each read finds its instance: the newest write below a read is that of the word that it wants.
-use Rattle.std.proofs.Common.{◌≡◌, ℕ, suc, ◌+◌, ◌-◌, ◌*◌, ◌<◌, ◌≤◌, nat_lt, refl, sym, ap, ◌∙◌, arith, ⊎_elim, List, [], ◌++◌, length, Option, Some, None, Bool, true, false, if◌then◌else◌, subst, ◌⊎◌, inl, inr}
+use Rattle.std.proofs.Common.{◌≡◌, ℕ, suc, ◌+◌, ◌-◌, ◌*◌, ◌<◌, ◌≤◌, nat_lt, refl, sym, ap, ◌∙◌, arith, ⊎_elim, List, []}
+use Rattle.std.proofs.Common.{◌++◌, length, Option, Some, None, Bool, true, false, if◌then◌else◌, subst, ◌⊎◌, inl, inr}
 use Rattle.std.proofs.Math.Nat.{add-mul, mul-le-mul_right}
 use Rattle.std.proofs.lemmas.Bool.{cases_lt}
 use Rattle.lists.specs.Rows.{Rows}
@@ -165,8 +166,9 @@ module _ {o : Overlap} (d : Datapath) (p : Plan) (words : Counted) (plan : IsFea
       → write_cycle a ≡ write_cycle b
   same_cycle a b e = ap (λ w. if nat_lt w (past * d.period) then None else Some (w - past * d.period)) e
 
-  keeps : Keeps (place_of o d p words) (written_at o d p words) (wanted_to o d p words) write_cycle
-      (past * d.period) (length stream * d.period) newest_cycle
+  keeps :
+      Keeps (place_of o d p words) (written_at o d p words) (wanted_to o d p words) write_cycle (past * d.period)
+      (length stream * d.period) newest_cycle
   keeps = record {
     apart = λ a b t place after upto after' upto'.
         let one = words_apart d p words plan a b t place after upto after' upto' in

@@ -1,5 +1,6 @@
 -- A solution of a graph gives one of its lowered list.
-use Rattle.std.proofs.Common.{◌≡◌, ℕ, ◌+◌, ◌-◌, ◌<◌, ◌≤◌, nat_lt, if◌then◌else◌, ⊎_elim, refl, sym, ap, ◌∙◌, subst, arith, List, [], length, ℤ, pos, negsuc}
+use Rattle.std.proofs.Common.{◌≡◌, ℕ, ◌+◌, ◌-◌, ◌<◌, ◌≤◌, nat_lt, if◌then◌else◌, ⊎_elim, refl, sym, ap, ◌∙◌, subst}
+use Rattle.std.proofs.Common.{arith, List, [], length, ℤ, pos, negsuc}
 use Rattle.std.specs.Prelude.{slice_get, Option, Some, None, ◌-ℤ◌}
 use Rattle.std.specs.Int.{int_rem_euclid}
 use Rattle.std.proofs.lemmas.Bool.{cases_lt}
@@ -20,13 +21,16 @@ use Rattle.signal_graph.specs.declared.graph.Graph.{Graph}
 use Rattle.plan_core.specs.Hardware.{cells_on, tie_of}
 use Rattle.plan_core.specs.Operands.{node_of, edge_of, no_edge}
 use Rattle.plan_core.specs.Assigned.{IsAssigned}
-use Rattle.plan_core.specs.Lowered.{Origin, own, address, store, load, origins, IsNumber, IsLoweredEdge, IsOwn, IsAddress, IsStore, IsLoad, IsLowered}
+use Rattle.plan_core.specs.Lowered.{Origin, own, address, store, load, origins, IsNumber, IsLoweredEdge, IsOwn}
+use Rattle.plan_core.specs.Lowered.{IsAddress, IsStore, IsLoad, IsLowered}
 use Rattle.plan_core.specs.declared.plan.Plan.{Plan}
 use Rattle.plan_run.specs.Parts.{nodes_of, node_at, edge_at, unit_at, line_at}
 use Rattle.plan_run.specs.Private.Samples.{past}
 use Rattle.plan_run.specs.Private.Memory.{LoadsFrom}
 use Rattle.plan_run.specs.Private.Solution.{Counted, LoweredSolves, IsOfGraph, meaning, meaning_by, operand_in}
-use Rattle.plan_run.proofs.FromLowered.{made_at, made_as, own_below, own_op, own_count, own_edge, graph_node, graph_edge, edge_node, same_operands, address_op, load_op, store_op, load_of, loads_from}
+use Rattle.plan_run.proofs.FromLowered.{made_at, made_as, own_below, own_op, own_count, own_edge, graph_node}
+use Rattle.plan_run.proofs.FromLowered.{graph_edge, edge_node, same_operands, address_op, load_op, store_op, load_of}
+use Rattle.plan_run.proofs.FromLowered.{loads_from}
 use Rattle.plan_run.proofs.Meanings.{meaning-operands, meaning-node}
 
 -- the word of node v of the graph at a number of a sample
@@ -160,8 +164,7 @@ module _ (g : Graph) (d : Datapath) (p : Plan) (sound : IsGraph g) (lowered : Is
   operand_is : (v i n q : ℕ)
       → IsNumber lowered.delays (own v) i
       → q < length (node_of g.nodes v).edges
-      → operand_in lowered_words (node_at p i) n q
-      ≡ operand (operand_words words n (node_of g.nodes v).edges) q
+      → operand_in lowered_words (node_at p i) n q ≡ operand (operand_words words n (node_of g.nodes v).edges) q
   operand_is v i n q number in-q =
       let old : Edge = edge_of (node_of g.nodes v) q in
       let in-v : v < length g.nodes = own_below g d p sound lowered assigned v i number in
@@ -231,7 +234,9 @@ module _ (g : Graph) (d : Datapath) (p : Plan) (sound : IsGraph g) (lowered : Is
       → i < length (nodes_of p)
       → n < length stream
       → (node_at p i).op ≡ op.Load
-      → (l : ℕ) × (ago : ℕ) × LoadsFrom d p i l ago
+      → (l : ℕ)
+      × (ago : ℕ)
+      × LoadsFrom d p i l ago
       × (lowered_words i (past + n) ≡ lowered_words (line_at p l).node (past + n - ago))
   load_word i n in-i in-n e =
       let of = load_of g d p sound lowered assigned i in-i e in

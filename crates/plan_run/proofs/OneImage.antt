@@ -1,5 +1,7 @@
 -- A plan has one image at most.
-use Rattle.std.proofs.Common.{◌≡◌, ℕ, ◌+◌, ◌-◌, ◌*◌, ◌/◌, ◌%◌, ◌<◌, ◌≤◌, ◌⊎◌, inl, inr, ⊎_elim, refl, sym, ap, ◌∙◌, subst, arith, Bool, true, false, true≢false, List, [], length, slice_index_or, map, Contains, ext_get_or, ℤ, pos}
+use Rattle.std.proofs.Common.{◌≡◌, ℕ, ◌+◌, ◌-◌, ◌*◌, ◌/◌, ◌%◌, ◌<◌, ◌≤◌, ◌⊎◌, inl, inr, ⊎_elim, refl, sym, ap, ◌∙◌}
+use Rattle.std.proofs.Common.{subst, arith, Bool, true, false, true≢false, List, [], length, slice_index_or, map}
+use Rattle.std.proofs.Common.{Contains, ext_get_or, ℤ, pos}
 use Rattle.std.specs.Ordering.{int_eq}
 use Rattle.std.proofs.lemmas.Bool.{cases_lt}
 use Rattle.std.proofs.lemmas.Bool.Decides.{Decides-int_eq}
@@ -152,7 +154,9 @@ module _ (d : Datapath) (p : Plan) (plan : IsFeasible d p) where
       → n < p.unroll
       → IsWordOf d p n c a
       → IsWordOf d p n c b
-      → (issue : Issue) → Contains a.issues issue → Contains b.issues issue
+      → (issue : Issue)
+      → Contains a.issues issue
+      → Contains b.issues issue
   issue_in n c a b in-n is-a is-b issue among =
       let only = is-a.issue_only issue among in
       let other = is-b.issue only.0 only.1 only.2 in
@@ -161,7 +165,9 @@ module _ (d : Datapath) (p : Plan) (plan : IsFeasible d p) where
   enable_in : (n c : ℕ) (a b : Word)
       → IsWordOf d p n c a
       → IsWordOf d p n c b
-      → (enable : Enable) → Contains a.enables enable → Contains b.enables enable
+      → (enable : Enable)
+      → Contains a.enables enable
+      → Contains b.enables enable
   enable_in n c a b is-a is-b enable among =
       let only = is-a.enable_only enable among in
       subst (Contains b.enables) (sym only.5) (is-b.enable only.0 only.1 only.2 only.3 only.4)
@@ -169,7 +175,9 @@ module _ (d : Datapath) (p : Plan) (plan : IsFeasible d p) where
   take_in : (n c : ℕ) (a b : Word)
       → IsWordOf d p n c a
       → IsWordOf d p n c b
-      → (take : Take) → Contains a.takes take → Contains b.takes take
+      → (take : Take)
+      → Contains a.takes take
+      → Contains b.takes take
   take_in n c a b is-a is-b take among =
       let only = is-a.take_only take among in
       subst (Contains b.takes) (sym only.4) (is-b.take only.0 only.1 only.2 only.3)

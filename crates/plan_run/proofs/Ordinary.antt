@@ -6,7 +6,8 @@ use Rattle.datapath.specs.declared.types.Datapath.{Datapath}
 use Rattle.plan_core.specs.Hardware.{latency_on, gap_on, cells_on}
 use Rattle.plan_core.specs.declared.schedule.Transfer.{Transfer}
 use Rattle.plan_core.specs.declared.plan.Plan.{Plan}
-use Rattle.plan_run.specs.Parts.{nodes_of, lines_of, edge_at, node_at, unit_at, cycle_at, transfers_at, arc_at, line_at, register_at, ends_at}
+use Rattle.plan_run.specs.Parts.{nodes_of, lines_of, edge_at, node_at, unit_at, cycle_at, transfers_at, arc_at, line_at}
+use Rattle.plan_run.specs.Parts.{register_at, ends_at}
 use Rattle.plan_run.specs.Private.Samples.{past}
 use Rattle.plan_run.specs.Private.Overlap.{shift_of}
 use Rattle.plan_run.specs.Private.Feasible.{IsFeasible}
@@ -101,7 +102,8 @@ module _ (d : Datapath) (p : Plan) (gaps : (u : ℕ) → (0 < gap_on d u) × (ga
   end_below v in-v = omega (arith, fits v in-v, gaps (unit_at p v))
 
   -- what is its gap apart in a sample is so in all
-  pub unit_free_in_all : ((u v : ℕ)
+  pub unit_free_in_all :
+      ((u v : ℕ)
       → u < length (nodes_of p)
       → v < length (nodes_of p)
       → unit_at p u ≡ unit_at p v

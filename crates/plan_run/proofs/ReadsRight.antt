@@ -1,6 +1,7 @@
 -- Each read finds its instance: the register that an issue names holds the word of its operand at the sample that is
 -- read. So an issue comes to the word of its node.
-use Rattle.std.proofs.Common.{◌≡◌, ℕ, ◌+◌, ◌-◌, ◌*◌, ◌<◌, ◌≤◌, refl, sym, ap, ap₂, ◌∙◌, arith, List, [], length, pos, true, false, Some, None, subst, if◌then◌else◌}
+use Rattle.std.proofs.Common.{◌≡◌, ℕ, ◌+◌, ◌-◌, ◌*◌, ◌<◌, ◌≤◌, refl, sym, ap, ap₂, ◌∙◌, arith, List, [], length, pos}
+use Rattle.std.proofs.Common.{true, false, Some, None, subst, if◌then◌else◌}
 use Rattle.std.specs.Int.{int_rem_euclid}
 use Rattle.std.specs.Prelude.{◌-ℤ◌}
 use Rattle.std.proofs.Math.Nat.{add-mul, mul-le-mul_right}
@@ -14,7 +15,8 @@ use Rattle.plan_core.specs.Hardware.{latency_on, cells_on, tie_of}
 use Rattle.plan_core.specs.declared.plan.Plan.{Plan}
 use Rattle.micro_image.specs.declared.image.Issue.{Issue}
 use Rattle.micro_image.specs.Fields.{Microprogram, nth, unit_of, sample_of, issue_at, began, ending}
-use Rattle.micro_image.specs.Log.{Register, Cell, Entry, content, Log, Content, operand, value, value_by, given, result_by}
+use Rattle.micro_image.specs.Log.{Register, Cell, Entry, content, Log, Content, operand, value, value_by, given}
+use Rattle.micro_image.specs.Log.{result_by}
 use Rattle.micro_image.specs.Operations.{gives}
 use Rattle.micro_image.proofs.LogLaws.{content-old}
 use Rattle.plan_run.specs.Parts.{nodes_of, node_at, edge_at, unit_at, cycle_at, arc_at, line_at, ReadsThrough, ends_at}
@@ -26,7 +28,8 @@ use Rattle.plan_run.specs.Private.Solution.{Counted, LoweredSolves, IsOfGraph, m
 use Rattle.plan_run.specs.Private.Feasible.{IsFeasibleOver, IsFeasibleLine}
 use Rattle.plan_run.specs.Private.Executes.{ExecutesOver, IsIssueIn, register_in}
 use Rattle.plan_run.proofs.Lines.{addr-cell, cell-from, load-cell, line_end}
-use Rattle.plan_run.proofs.LiveWords.{LiveWord, in_register, in_cell, place_of, written_at, wanted_to, word_of, stored_most}
+use Rattle.plan_run.proofs.LiveWords.{LiveWord, in_register, in_cell, place_of, written_at, wanted_to, word_of}
+use Rattle.plan_run.proofs.LiveWords.{stored_most}
 use Rattle.plan_run.proofs.Meanings.{meaning-operands, value-meaning}
 use Rattle.plan_run.proofs.Samples.{one_more}
 use Rattle.plan_run.proofs.Slots.{Right}
@@ -67,7 +70,8 @@ module _ {o : Overlap} (d : Datapath) (p : Plan) (words : Counted) (plan : IsFea
       → IsIssueIn d p micro v n issue
       → ReadsThrough p v q k
       → Register issue.unit q (nth issue.regs q 0)
-      ≡ Register (arc_at p k).port.unit (arc_at p k).port.port (register_in d p k (past + n - (edge_at p v q).delay))
+      ≡ Register (arc_at p k).port.unit (arc_at p k).port.port
+      (register_in d p k (past + n - (edge_at p v q).delay))
   place_read v n q k issue is through =
       let unit : issue.unit ≡ (arc_at p k).port.unit = is.unit ∙ sym (ap (λ port. port.unit) through.port) in
       let port : q ≡ (arc_at p k).port.port = sym (ap (λ port. port.port) through.port) in

@@ -147,8 +147,7 @@ module _ {o : Overlap} (g : Graph) (d : Datapath) (p : Plan) (sound : IsGraph g)
 
     -- the output rows by numbers of samples are those of the graph
     rows_are : (late : ℕ)
-        → counted_out late counted out_node g.outs (length stream)
-        ≡ graph_out g (late_words late words) (length stream)
+        → counted_out late counted out_node g.outs (length stream) ≡ graph_out g (late_words late words) (length stream)
     rows_are late =
         map-same _ _ (range_with_len 0 (length stream)) (λ n in-n.
         map-same _ _ (range_with_len 0 g.outs) (λ j in-j.
@@ -175,7 +174,8 @@ module _ {o : Overlap} (g : Graph) (d : Datapath) (p : Plan) (sound : IsGraph g)
 pub feasible_runs : (g : Graph) (d : Datapath) (p : Plan)
     → IsGraph g
     → IsFeasiblePlan g d p
-    → (image : Image) → IsImageOf d p image
+    → (image : Image)
+    → IsImageOf d p image
     → RunsSolution g image
 feasible_runs g d p sound plan image of stream words solves =
     subst (IsRunOut (microprogram_of image) stream) rows

@@ -41,7 +41,8 @@ module _ {Item Slot Value : Type 0} (slot : Item → Slot) (put last : Item → 
   upto t s le = ⊎_elim (λ below. inl (omega arith)) (λ from. inr (omega arith)) (cases_lt s (suc t))
 
   -- what was put before cycle t, and is wanted in the next one, is kept: what is put in t would be wanted there too
-  old_kept : Keeps → (t : ℕ) (a : Item)
+  old_kept : Keeps
+      → (t : ℕ) (a : Item)
       → t < limit
       → Right t
       → put a < first + t

@@ -1,5 +1,6 @@
 -- Each plan has an image.
-use Rattle.std.proofs.Common.{◌≡◌, ℕ, zero, suc, ◌+◌, ◌-◌, ◌*◌, ◌/◌, ◌%◌, ◌<◌, ◌≤◌, ◌⊎◌, inl, inr, ⊎_elim, refl, sym, ap, ap₂, ◌∙◌, subst, arith, List, [], length, slice_index_or, map, ext_get_or, ℤ, pos}
+use Rattle.std.proofs.Common.{◌≡◌, ℕ, zero, suc, ◌+◌, ◌-◌, ◌*◌, ◌/◌, ◌%◌, ◌<◌, ◌≤◌, ◌⊎◌, inl, inr, ⊎_elim, refl, sym}
+use Rattle.std.proofs.Common.{ap, ap₂, ◌∙◌, subst, arith, List, [], length, slice_index_or, map, ext_get_or, ℤ, pos}
 use Rattle.std.proofs.lemmas.Bool.{cases_eq, cases_lt}
 use Rattle.std.proofs.lemmas.Nat.{div-mul-add, mod-mul-add}
 use Rattle.std.proofs.lemmas.List.{get_or-map, length-map}
@@ -418,8 +419,7 @@ module _ (g : Graph) (d : Datapath) (p : Plan) (machine : IsMachine d) (plan : I
         (plan.sizes k i of.preload.there of.preload.copy.there))
 
     no_register : (u q r : ℕ)
-        → ((u < length d.units) → (q < length (unit_of d u).files)
-        → r < slice_index_or (unit_of d u).files q 0 → ⊥)
+        → ((u < length d.units) → (q < length (unit_of d u).files) → r < slice_index_or (unit_of d u).files q 0 → ⊥)
         → nth (nth (nth units u no_desc).files q []) r (pos 0) ≡ pos 0
     no_register u q r never =
         ⊎_elim

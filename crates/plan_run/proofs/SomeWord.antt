@@ -1,9 +1,12 @@
 -- Each cycle of a sample has a microword by the plan.
-use Rattle.std.proofs.Common.{◌≡◌, ℕ, zero, suc, ◌+◌, ◌-◌, ◌%◌, ◌<◌, ◌≤◌, ◌⊎◌, inl, inr, ⊎_elim, refl, sym, ap, ap₂, ◌∙◌, subst, arith, Bool, true, List, [], ◌∷◌, length, slice_index_or, map, filter, Contains}
+use Rattle.std.proofs.Common.{◌≡◌, ℕ, zero, suc, ◌+◌, ◌-◌, ◌%◌, ◌<◌, ◌≤◌, ◌⊎◌, inl, inr, ⊎_elim, refl, sym, ap, ap₂}
+use Rattle.std.proofs.Common.{◌∙◌, subst, arith, Bool, true, List, [], ◌∷◌, length, slice_index_or, map, filter}
+use Rattle.std.proofs.Common.{Contains}
 use Rattle.std.specs.List.{AllPairs}
 use Rattle.std.proofs.lemmas.Bool.{cases_eq, cases_lt, cases_order}
 use Rattle.std.proofs.lemmas.List.{get_or-map, length-map}
 use Rattle.std.proofs.Math.Nat.{mod-eq_of_lt}
+use Rattle.lists.proofs.Places.{only_there}
 use Rattle.signal_graph.proofs.Members.{in_filter, from_filter}
 use Rattle.fix_word.specs.declared.operation.Op.TheVariants as op
 use Rattle.operations.specs.Units.{ports}
@@ -15,13 +18,14 @@ use Rattle.signal_graph.specs.declared.graph.Graph.{Graph}
 use Rattle.plan_core.specs.Hardware.{unit_of, no_unit, gap_on}
 use Rattle.plan_core.specs.declared.schedule.Transfer.{Transfer}
 use Rattle.plan_core.specs.declared.plan.Plan.{Plan}
-pub use Rattle.plan_core.proofs.Readers.{enough_ports}
+pub use Rattle.operations.proofs.Ports.{enough_ports}
 use Rattle.micro_image.specs.declared.image.Enable.{Enable}
 use Rattle.micro_image.specs.declared.image.Issue.{Issue}
 use Rattle.micro_image.specs.declared.image.Take.{Take}
 use Rattle.micro_image.specs.declared.image.Word.{Word}
 use Rattle.micro_image.specs.Valid.{EnableBefore, TakeBefore}
-use Rattle.plan_run.specs.Parts.{nodes_of, node_at, edge_at, unit_at, cycle_at, transfers_at, arc_at, register_at, ReadsThrough, IsTransferOf, ends_at, IsCopy}
+use Rattle.plan_run.specs.Parts.{nodes_of, node_at, edge_at, unit_at, cycle_at, transfers_at, arc_at, register_at}
+use Rattle.plan_run.specs.Parts.{ReadsThrough, IsTransferOf, ends_at, IsCopy}
 use Rattle.plan_run.specs.Machine.{IsMachine}
 use Rattle.plan_run.specs.ImageOf.{IsIssueOf, IsWordOf, enable_of, take_of}
 use Rattle.plan_run.specs.Private.Samples.{past}
@@ -223,10 +227,6 @@ module _ (g : Graph) (d : Datapath) (p : Plan) (machine : IsMachine d) (plan : I
   one_in : {A : Type 0} (x : A) → Contains (x ∷ []) x
   one_in x = (0, omega arith, refl)
 
-  is_one : {A : Type 0} (x y : A) → Contains (x ∷ []) y → x ≡ y
-  is_one x y (zero, below, is) = is
-  is_one x y (suc k, below, is) = absurd (omega (arith, below))
-
   abbrev no_issue : Issue
   no_issue = record { unit = 0; op = op.Const; fmt = (node_at p 0).fmt; arg = (node_at p 0).arg; regs = [] }
 
@@ -253,7 +253,7 @@ module _ (g : Graph) (d : Datapath) (p : Plan) (machine : IsMachine d) (plan : I
           );
           only = λ issue among.
               let of = made.1.only issue (sorted.1.only issue among) in
-              (of.0, of.1, of.2, subst (IsIssueOf d p of.0 n) (is_one _ issue of.3) (each.2 of.0 of.1));
+              (of.0, of.1, of.2, subst (IsIssueOf d p of.0 n) (only_there _ issue of.3) (each.2 of.0 of.1));
           order = sorted.1.order;
         },
       )
@@ -265,8 +265,8 @@ module _ (g : Graph) (d : Datapath) (p : Plan) (machine : IsMachine d) (plan : I
           → IssueAt c issues b
           → ((a.unit < b.unit) ⊎ (b.unit < a.unit)) ⊎ (a ≡ b)
       cases issues each a b (v, in-v, at, in-a) (w, in-w, at', in-b) =
-          let is-a : slice_index_or issues v no_issue ≡ a = is_one _ a in-a in
-          let is-b : slice_index_or issues w no_issue ≡ b = is_one _ b in-b in
+          let is-a : slice_index_or issues v no_issue ≡ a = only_there _ a in-a in
+          let is-b : slice_index_or issues w no_issue ≡ b = only_there _ b in-b in
           let unit : a.unit ≡ unit_at p v = ap (λ (issue : Issue). issue.unit) (sym is-a) ∙ (each v in-v).unit in
           let unit' : b.unit ≡ unit_at p w = ap (λ (issue : Issue). issue.unit) (sym is-b) ∙ (each w in-w).unit in
           ⊎_elim

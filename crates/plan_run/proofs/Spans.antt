@@ -1,7 +1,8 @@
 -- Lifetimes on the circle, and in the cycles of a run.
 use Rattle.std.proofs.Common.{◌≡◌, ℕ, ◌+◌, ◌-◌, ◌*◌, ◌/◌, ◌%◌, ◌<◌, ◌≤◌, sym, ap, ◌∙◌, arith, ⊎_elim}
 use Rattle.std.proofs.lemmas.Bool.{cases_order}
-use Rattle.std.proofs.Math.Nat.{div-add-mod', add-mul, mul_assoc, add-mul-mod_self_right, mod-mod_of_dvd, dvd_of_mod-eq-zero, mod-lt, mul-le-mul_right}
+use Rattle.std.proofs.Math.Nat.{div-add-mod', add-mul, mul_assoc, add-mul-mod_self_right, mod-mod_of_dvd}
+use Rattle.std.proofs.Math.Nat.{dvd_of_mod-eq-zero, mod-lt, mul-le-mul_right}
 use Rattle.plan_core.specs.Circle.{Occupies, AreApart}
 use Rattle.plan_core.specs.declared.registers.Arc.{Arc}
 use Rattle.plan_run.specs.Private.Circle.{IsLifetime}

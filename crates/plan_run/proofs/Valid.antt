@@ -1,8 +1,10 @@
 -- The image of a plan is a valid image.
-use Rattle.std.proofs.Common.{◌≡◌, ℕ, zero, suc, ◌+◌, ◌-◌, ◌*◌, ◌/◌, ◌%◌, ◌^◌, ◌<◌, ◌≤◌, ◌==◌, ◌⊎◌, inl, inr, ⊎_elim, refl, sym, ap, ◌∙◌, subst, arith, Bool, true, false, List, [], ◌∷◌, length, slice_index_or, map, All, Option, Some, None, ℤ, pos}
+use Rattle.std.proofs.Common.{◌≡◌, ℕ, zero, suc, ◌+◌, ◌-◌, ◌*◌, ◌/◌, ◌%◌, ◌^◌, ◌<◌, ◌≤◌, ◌==◌, ◌⊎◌, inl, inr, ⊎_elim}
+use Rattle.std.proofs.Common.{refl, sym, ap, ◌∙◌, subst, arith, Bool, true, false, List, [], ◌∷◌, length}
+use Rattle.std.proofs.Common.{slice_index_or, map, All, Option, Some, None, ℤ, pos}
 use Rattle.std.specs.Prelude.{slice_get, find, IsSomeAnd, neg_ℤ, ◌≤ℤ◌, ◌<ℤ◌, int_le, int_lt}
 use Rattle.std.proofs.lemmas.Int.{ints}
-use Rattle.std.proofs.lemmas.List.{get_or-map}
+use Rattle.std.proofs.lemmas.List.{get_or-map, nil_from_length}
 use Rattle.std.proofs.lemmas.Option.{slice_get-get_or}
 use Rattle.std.proofs.Math.Nat.{mod-lt}
 use Rattle.std.proofs.Math.Pow.{pow_mono}
@@ -94,10 +96,6 @@ init_word inits w k most all = by (find (λ (i : ℕ × ℤ). i.0 == k) inits) r
         wider w i.1 most
         (all_at (λ (i : ℕ × ℤ). IsWord w i.1) inits i all (found_member (λ (i : ℕ × ℤ). i.0 == k) inits i e))
 
-no_length : {A : Type 0} (xs : List A) → length xs ≡ 0 → xs ≡ []
-no_length [] e = refl
-no_length (x ∷ xs) e = absurd (omega (arith, e))
-
 width_small : (t : SigType) → IsType t → width_of t ≤ 32
 width_small (sig.Fix t) is = is.widest
 width_small sig.Bool is = omega arith
@@ -187,7 +185,7 @@ module _ (g : Graph) (d : Datapath) (p : Plan) (sound : IsGraph g) (machine : Is
             let cells = unit.cells (sym its.kind ∙ ram) in
             (omega (arith, cells.0, its.cells), omega (arith, cells.1, its.cells));
         no_cells = λ other.
-            no_length (described image u).cells (its.cells ∙ unit.no_cells (λ ram. other (its.kind ∙ ram)));
+            nil_from_length (described image u).cells (its.cells ∙ unit.no_cells (λ ram. other (its.kind ∙ ram)));
         ram = λ acu.
             let at = some_is_at (λ (other : of_unit.Unit). other.kind ≡ kind.Ram) d.units (unit_of d u).ram no_unit
             (unit.ram (sym its.kind ∙ acu)) in
@@ -207,7 +205,8 @@ module _ (g : Graph) (d : Datapath) (p : Plan) (sound : IsGraph g) (machine : Is
 
       file : (u : ℕ)
           → u < length d.units
-          → (q : ℕ) (default : List ℤ) → q < length (described image u).files
+          → (q : ℕ) (default : List ℤ)
+          → q < length (described image u).files
           → valid.IsFile (slice_index_or (described image u).files q default)
       file u below q default in-q =
           let unit : path.IsUnit d.units (unit_of d u) = machine.units u no_unit below in

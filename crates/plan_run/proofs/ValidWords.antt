@@ -1,5 +1,6 @@
 -- The microwords of the image of a plan are valid.
-use Rattle.std.proofs.Common.{◌≡◌, ℕ, zero, suc, ◌+◌, ◌-◌, ◌*◌, ◌%◌, ◌<◌, ◌≤◌, inl, inr, ⊎_elim, refl, sym, ap, ap₂, ◌∙◌, subst, arith, List, [], ◌∷◌, length, slice_index_or, map, All, Contains, ℤ, pos}
+use Rattle.std.proofs.Common.{◌≡◌, ℕ, zero, suc, ◌+◌, ◌-◌, ◌*◌, ◌%◌, ◌<◌, ◌≤◌, inl, inr, ⊎_elim, refl, sym, ap, ap₂}
+use Rattle.std.proofs.Common.{◌∙◌, subst, arith, List, [], ◌∷◌, length, slice_index_or, map, All, Contains, ℤ, pos}
 use Rattle.std.specs.Prelude.{slice_get, IsSomeAnd}
 use Rattle.std.specs.List.{AllPairs, AllAdjacentBelow}
 use Rattle.std.specs.List.Sorted.{IsStrictlyIncreasing}
@@ -7,6 +8,7 @@ use Rattle.std.proofs.lemmas.Bool.{cases_lt}
 use Rattle.std.proofs.lemmas.List.{get_or-map, length-map}
 use Rattle.std.proofs.lemmas.Option.{slice_get-get_or, same_Some}
 use Rattle.std.proofs.Math.Nat.{mod-lt, mod-eq_of_lt}
+use Rattle.operations.proofs.Ports.{few_ports}
 use Rattle.fix_word.specs.declared.types.Format.{Format}
 use Rattle.fix_word.specs.declared.operation.Op.{Op}
 use Rattle.fix_word.specs.declared.operation.Op.TheVariants as op
@@ -31,8 +33,8 @@ use Rattle.micro_image.specs.declared.image.Image.{Image}
 use Rattle.micro_image.specs.Fields.{nth}
 use Rattle.micro_image.specs.Operations.{kind_of, reads}
 use Rattle.micro_image.specs.Valid as valid
-use Rattle.micro_image.proofs.Length.{few_ports}
-use Rattle.plan_run.specs.Parts.{nodes_of, lines_of, node_at, edge_at, unit_at, arc_at, line_at, register_at, IsTransferOf, IsCopy}
+use Rattle.plan_run.specs.Parts.{nodes_of, lines_of, node_at, edge_at, unit_at, arc_at, line_at, register_at}
+use Rattle.plan_run.specs.Parts.{IsTransferOf, IsCopy}
 use Rattle.plan_run.specs.Machine.{IsMachine}
 use Rattle.plan_run.specs.ImageOf.{IsUnitOf, IsIssueOf, IsWordOf, IsImageOf, take_of}
 use Rattle.plan_run.specs.Private.Samples.{past}
@@ -314,7 +316,8 @@ module _ (g : Graph) (d : Datapath) (p : Plan) (sound : IsGraph g) (machine : Is
 
       there : (u : ℕ)
           → u < length d.units
-          → (q : ℕ) → q < length (described image (unit_at p v)).files
+          → (q : ℕ)
+          → q < length (described image (unit_at p v)).files
           → nth issue.regs q 0 < length (nth (described image (unit_at p v)).files q [])
       there u' below' q in-q =
           let u : ℕ = unit_at p v in
@@ -366,7 +369,8 @@ module _ (g : Graph) (d : Datapath) (p : Plan) (sound : IsGraph g) (machine : Is
           let only = of.enable_only e (k, below, default_any word.enables k e default below) in
           record {
             unit = omega (arith, ap (λ (e : Enable). e.unit) only.5, in_image _ (feasible.units only.0 only.2));
-            bus = omega (arith, ap (λ (e : Enable). e.bus) only.5, feasible.buses only.0 only.1 only.2 only.4, is.buses);
+            bus =
+                omega (arith, ap (λ (e : Enable). e.bus) only.5, feasible.buses only.0 only.1 only.2 only.4, is.buses);
           };
       enables_rise = adjacent valid.EnableBefore word.enables of.enables_rise;
       take_count = omega (arith, few_takes);
@@ -394,7 +398,10 @@ module _ (g : Graph) (d : Datapath) (p : Plan) (sound : IsGraph g) (machine : Is
       -- the take at an index, with its lifetime and its transfer
       taken : (k : ℕ) (default : Take)
           → k < length word.takes
-          → (j : ℕ) × (t : Transfer) × IsTransferOf p j t × ((arc_at p j).w ≡ c)
+          → (j : ℕ)
+          × (t : Transfer)
+          × IsTransferOf p j t
+          × ((arc_at p j).w ≡ c)
           × (slice_index_or word.takes k default ≡ take_of p j t n)
       taken k default below =
           let take : Take = slice_index_or word.takes k default in

@@ -1,5 +1,6 @@
 -- A microprogram that executes a feasible plan runs the solution of its lowered list.
-use Rattle.std.proofs.Common.{◌≡◌, ℕ, ◌+◌, ◌-◌, ◌*◌, ◌<◌, ◌≤◌, nat_lt, refl, sym, ap, ap₂, ◌∙◌, arith, ⊎_elim, [], length, map, ℤ, pos, subst, if◌then◌else◌}
+use Rattle.std.proofs.Common.{◌≡◌, ℕ, ◌+◌, ◌-◌, ◌*◌, ◌<◌, ◌≤◌, nat_lt, refl, sym, ap, ap₂, ◌∙◌, arith, ⊎_elim, []}
+use Rattle.std.proofs.Common.{length, map, ℤ, pos, subst, if◌then◌else◌}
 use Rattle.std.specs.List.{range_with_len}
 use Rattle.std.proofs.lemmas.Bool.{cases_lt}
 use Rattle.lists.specs.Rows.{Rows}
@@ -69,8 +70,8 @@ sample_rows d micro stream period n c below =
     long : length (spread micro.period stream) ≡ length stream * d.period
     long = length-spread micro.period stream ∙ ap (λ q. length stream * q) period
 
-pub runs_out : (o : Overlap) (d : Datapath) (p : Plan) (words : Counted) (micro : Microprogram) (stream : Rows)
-    (out : ℕ → ℕ)
+pub runs_out :
+    (o : Overlap) (d : Datapath) (p : Plan) (words : Counted) (micro : Microprogram) (stream : Rows) (out : ℕ → ℕ)
     → IsFeasibleOver o d p
     → ExecutesOver o d p micro
     → LoweredSolves d p stream words

@@ -1,4 +1,5 @@
--- The worked plans run: the image of the accumulator, which has one register for a word of before sample 0, and an image
+-- The worked plans run: the image of the accumulator, which has one register for a word of before sample 0, and an
+-- image
 -- of the difference, whose delay takes two registers in turn.
 use Rattle.std.proofs.Common.{◌≡◌, ◌≢◌, ℕ, zero, suc, ◌+◌, ◌<◌, ◌≤◌, List, refl, arith, [], ◌∷◌, length, All, ℤ, pos}
 use Rattle.std.specs.Prelude.{slice_get, IsSomeAnd, true}
@@ -18,7 +19,8 @@ use Rattle.signal_graph.specs.Rules.{AreInits, IsType}
 use Rattle.signal_graph.specs.declared.graph.Edge.{Edge}
 use Rattle.signal_graph.specs.declared.graph.Node.{Node}
 use Rattle.signal_graph.specs.declared.graph.Graph.{Graph}
-use Rattle.plan_core.proofs.Rows.{plain_path, byte, edge, input_node, sum_node, output_node, accumulator, accumulator_plan, held_difference, held_difference_plan}
+use Rattle.plan_core.proofs.Rows.{plain_path, byte, edge, input_node, sum_node, output_node, accumulator}
+use Rattle.plan_core.proofs.Rows.{accumulator_plan, held_difference, held_difference_plan}
 use Rattle.plan_core.proofs.WorkedPlans.{accumulator_planned, held_difference_planned}
 use Rattle.micro_image.specs.declared.image.Image.{Image}
 use Rattle.micro_image.specs.Valid.{IsValid}
@@ -77,7 +79,10 @@ module _ (g : Graph) where
     width = (omega arith, omega arith);
   }
 
-  sum_is : (a b : Edge) (inits : List (ℕ × ℤ)) → IsEdge g a → IsEdge g b → AreInits (IsWord 8) inits
+  sum_is : (a b : Edge) (inits : List (ℕ × ℤ))
+      → IsEdge g a
+      → IsEdge g b
+      → AreInits (IsWord 8) inits
       → IsNode g (sum_node op.Add (a ∷ b ∷ []) inits) × IsNode g (sum_node op.Sub (a ∷ b ∷ []) inits)
   sum_is a b inits is-a is-b are = (
     record {
@@ -122,7 +127,8 @@ accumulator_graph = record {
   node_count = omega arith;
   nodes = All-from_Each (IsNode accumulator)
       (more (input_is accumulator (omega arith))
-      (more (sum_is accumulator (edge 1 1) (edge 0 0) ((1, pos 5) ∷ []) (record { node = λ e. absurd (cc); delay = omega arith })
+      (more (sum_is accumulator (edge 1 1) (edge 0 0) ((1, pos 5) ∷ [])
+      (record { node = λ e. absurd (cc); delay = omega arith })
       (record { node = λ e. absurd (cc); delay = omega arith }) five).0
       (more (output_is accumulator (edge 1 0) (omega arith) (record { node = λ e. absurd (cc); delay = omega arith }))
       none)));
@@ -146,14 +152,16 @@ difference_graph = record {
       (more (sum_is held_difference (edge 2 0) (edge 2 1) [] (record { node = λ e. absurd (cc); delay = omega arith })
       (record { node = λ e. absurd (cc); delay = omega arith }) no_inits).1
       (more (pass_is held_difference (edge 0 0) (record { node = λ e. absurd (cc); delay = omega arith }))
-      (more (output_is held_difference (edge 1 0) (omega arith) (record { node = λ e. absurd (cc); delay = omega arith }))
+      (more
+      (output_is held_difference (edge 1 0) (omega arith) (record { node = λ e. absurd (cc); delay = omega arith }))
       none))));
   outputs = λ j in-j. only_output j in-j;
   others = All-from_Each (λ (node : Node). node.op ≢ op.Output)
       (more (λ e. absurd (cc)) (more (λ e. absurd (cc)) (more (λ e. absurd (cc)) none)));
 }
   where
-    only_output : (j : ℕ) → j < 1
+    only_output : (j : ℕ)
+        → j < 1
         → IsSomeAnd (slice_get held_difference.nodes (first_output held_difference + j)) (IsOutput j)
     only_output zero in-j = record { op = refl; arg = refl }
     only_output (suc j) in-j = absurd (omega (arith, in-j))
@@ -211,7 +219,8 @@ accumulator_valid =
 
 -- the plan of the difference has an image, which has two periods
 pub difference_image : (image : Image) × IsImageOf path held_difference_plan image
-difference_image = plan_image held_difference path held_difference_plan difference_graph is_machine held_difference_planned
+difference_image =
+    plan_image held_difference path held_difference_plan difference_graph is_machine held_difference_planned
 
 pub difference_periods : difference_image.0.unroll ≡ 2
 difference_periods = difference_image.1.unroll

@@ -1,5 +1,6 @@
 -- What a cycle of the run writes is the live words that are written then, and all places hold what is wanted of them.
-use Rattle.std.proofs.Common.{◌≡◌, ℕ, ◌+◌, ◌-◌, ◌*◌, ◌%◌, ◌<◌, ◌≤◌, nat_le, refl, sym, ap, ap₂, ◌∙◌, arith, List, [], ◌∷◌, length, ℤ, Bool, true, false, Option, Some, None, subst, if◌then◌else◌}
+use Rattle.std.proofs.Common.{◌≡◌, ℕ, ◌+◌, ◌-◌, ◌*◌, ◌%◌, ◌<◌, ◌≤◌, nat_le, refl, sym, ap, ap₂, ◌∙◌, arith, List, []}
+use Rattle.std.proofs.Common.{◌∷◌, length, ℤ, Bool, true, false, Option, Some, None, subst, if◌then◌else◌}
 use Rattle.std.specs.List.{range_with_len}
 use Rattle.std.proofs.Math.Nat.{add-mul, mod-mod_of_dvd, dvd_of_mod-eq-zero, add-mod, zero-add, mod-mod}
 use Rattle.lists.specs.Rows.{Rows}
@@ -14,7 +15,8 @@ use Rattle.micro_image.specs.declared.image.Enable.{Enable}
 use Rattle.micro_image.specs.declared.image.Issue.{Issue}
 use Rattle.micro_image.specs.declared.image.Take.{Take}
 use Rattle.micro_image.specs.Fields.{Microprogram, nth, unit_of, issue_at, driver_at, began, ending}
-use Rattle.micro_image.specs.Log.{Place, Register, Latch, Cell, Entry, same_place, Log, operand, value, entries_by, entry_of, taken, taken_from, written, written_of, written_by, result_by}
+use Rattle.micro_image.specs.Log.{Place, Register, Latch, Cell, Entry, same_place, Log, operand, value, entries_by}
+use Rattle.micro_image.specs.Log.{entry_of, taken, taken_from, written, written_of, written_by, result_by}
 use Rattle.micro_image.proofs.Each.{In, here, Each, none, more, Each-append, Each-flat_map}
 use Rattle.plan_run.specs.Parts.{nodes_of, node_at, unit_at, cycle_at, arc_at, line_at, register_at, ends_at}
 use Rattle.plan_run.specs.Private.Samples.{past}
@@ -26,7 +28,8 @@ use Rattle.plan_run.specs.Private.Executes.{ExecutesOver, IsIssueIn, IsTakeIn, r
 use Rattle.plan_run.proofs.Elements.{Contains-from_In}
 use Rattle.plan_run.proofs.Samples.{below_count}
 use Rattle.plan_run.proofs.Slots.{right}
-use Rattle.plan_run.proofs.LiveWords.{LiveWord, in_register, in_cell, in_latch, place_of, written_at, word_of, stored_in, stored_late}
+use Rattle.plan_run.proofs.LiveWords.{LiveWord, in_register, in_cell, in_latch, place_of, written_at, word_of}
+use Rattle.plan_run.proofs.LiveWords.{stored_in, stored_late}
 use Rattle.plan_run.proofs.ReadsRight.{AllRight, near_now, issue_right, store_right, store_place, result_right}
 
 -- places that test as one are one
@@ -101,8 +104,7 @@ module _ {o : Overlap} (d : Datapath) (p : Plan) (words : Counted) (plan : IsFea
   taken_is : (log : List Entry) (t : ℕ) (take : Take) (driver : Enable) (v : ℤ)
       → driver_at micro t take.bus ≡ Some driver
       → result_by micro z log t driver.unit ≡ Some v
-      → taken micro z log t take
-      ≡ write (Register take.port.unit take.port.port take.reg) t driver.unit v ∷ []
+      → taken micro z log t take ≡ write (Register take.port.unit take.port.port take.reg) t driver.unit v ∷ []
   taken_is log t take driver v drives result =
       ap (taken_from micro z log t take) drives
       ∙ ap (entry_of (Register take.port.unit take.port.port take.reg) t driver.unit) result
@@ -117,7 +119,8 @@ module _ {o : Overlap} (d : Datapath) (p : Plan) (words : Counted) (plan : IsFea
       → t ≡ n * d.period + ends_at d p (arc_at p k).node
       → RightAt t
       → IsTakeIn d p micro k n t take
-      → (u : ℕ) × (taken micro z (Log micro z t) t take
+      → (u : ℕ)
+      × (taken micro z (Log micro z t) t take
       ≡ write (place_of o d p words (live_in k n there)) t u (words (arc_at p k).node (past + n)) ∷ [])
   taken_word k n t take in-k in-n at right is =
       let driver = is.driver.0 in

@@ -18,7 +18,8 @@ use Rattle.micro_image.specs.declared.image.Image.{Image}
 use Rattle.micro_image.specs.Fields.{Microprogram, microprogram_of, nth, no_word, unit_of as described}
 use Rattle.micro_image.specs.Log.{Register, Cell, initial}
 use Rattle.micro_image.specs.Valid.{EnableBefore, TakeBefore}
-use Rattle.plan_run.specs.Parts.{nodes_of, lines_of, node_at, edge_at, unit_at, cycle_at, transfers_at, arc_at, line_at, register_at, ReadsThrough, IsTransferOf, ends_at, IsCopy}
+use Rattle.plan_run.specs.Parts.{nodes_of, lines_of, node_at, edge_at, unit_at, cycle_at, transfers_at, arc_at, line_at}
+use Rattle.plan_run.specs.Parts.{register_at, ReadsThrough, IsTransferOf, ends_at, IsCopy}
 
 -- the unit of the image is unit u of the datapath; what its registers and cells hold is said apart
 pub record IsUnitOf (d : Datapath) (u : ℕ) (unit : UnitDesc) : Type 0 where
@@ -59,24 +60,35 @@ take_of p k transfer n = record {
 -- the take of each transfer of a result that is there in it. Nothing else is in it, and its lists rise.
 pub record IsWordOf (d : Datapath) (p : Plan) (n c : ℕ) (word : Word) : Type 0 where
   pub issue : (v : ℕ)
-      → v < length (nodes_of p) → cycle_at p v ≡ c
+      → v < length (nodes_of p)
+      → cycle_at p v ≡ c
       → (issue : Issue) × Contains word.issues issue × IsIssueOf d p v n issue
   pub issue_only : (issue : Issue)
       → Contains word.issues issue
       → (v : ℕ) × (v < length (nodes_of p)) × (cycle_at p v ≡ c) × IsIssueOf d p v n issue
   pub enable : (v : ℕ) (transfer : Transfer)
-      → v < length (nodes_of p) → ends_at d p v ≡ c → Contains (transfers_at p v) transfer
+      → v < length (nodes_of p)
+      → ends_at d p v ≡ c
+      → Contains (transfers_at p v) transfer
       → Contains word.enables (enable_of p v transfer)
   pub enable_only : (enable : Enable)
       → Contains word.enables enable
-      → (v : ℕ) × (transfer : Transfer) × (v < length (nodes_of p)) × (ends_at d p v ≡ c)
-      × Contains (transfers_at p v) transfer × (enable ≡ enable_of p v transfer)
+      → (v : ℕ)
+      × (transfer : Transfer)
+      × (v < length (nodes_of p))
+      × (ends_at d p v ≡ c)
+      × Contains (transfers_at p v) transfer
+      × (enable ≡ enable_of p v transfer)
   pub take : (k : ℕ) (transfer : Transfer)
-      → IsTransferOf p k transfer → (arc_at p k).w ≡ c
+      → IsTransferOf p k transfer
+      → (arc_at p k).w ≡ c
       → Contains word.takes (take_of p k transfer n)
   pub take_only : (take : Take)
       → Contains word.takes take
-      → (k : ℕ) × (transfer : Transfer) × IsTransferOf p k transfer × ((arc_at p k).w ≡ c)
+      → (k : ℕ)
+      × (transfer : Transfer)
+      × IsTransferOf p k transfer
+      × ((arc_at p k).w ≡ c)
       × (take ≡ take_of p k transfer n)
   pub issues_rise : AllPairs (λ (a b : Issue). a.unit < b.unit) word.issues
   pub enables_rise : AllPairs EnableBefore word.enables

@@ -35,7 +35,8 @@ use Rattle.reg_alloc.specs.declared.fault.FileFault.TheVariants as file
 use Rattle.planner.specs.Faults.{HasUnkeptNode, IsPlanFault}
 use Rattle.planner.specs.Private.Errors.{of_line, of_unit, of_period, of_file}
 use Rattle.planner.specs.declared.fault.PlanFault.{PlanFault}
-use Rattle.planner.specs.declared.fault.PlanFault.TheVariants.{Line as Unstored, Unit as Unbound, Period, FileFull, Memory}
+use Rattle.planner.specs.declared.fault.PlanFault.TheVariants.{Line as Unstored, Unit as Unbound, Period, FileFull}
+use Rattle.planner.specs.declared.fault.PlanFault.TheVariants.{Memory}
 use Rattle.planner.proofs.Stages.{IsOnly, Comes, Then, IsSettled}
 
 abbrev pub of_arc : ArcFault → PlanFault
@@ -183,7 +184,9 @@ module _ (g : Graph) (d : Datapath) where
       }
       no_register file.Memory h = absurd h
 
-      it_is : (unroll : ℕ) (rs : Registers) → IsUnroll arcs unroll → AreAllotted d arcs rs.regs
+      it_is : (unroll : ℕ) (rs : Registers)
+          → IsUnroll arcs unroll
+          → AreAllotted d arcs rs.regs
           → IsPlan g d (whole a s arcs unroll rs)
       it_is unroll rs turns all = record {
         lowered = low;

@@ -55,7 +55,11 @@ module _ (g : Graph) (d : Datapath) (sound : IsGraph g) where
         assigned = bound;
       }
 
-      pub allottable : IsAssigned d a → (s : Schedule) → IsListSchedule d a s → (arcs : List Arc) → IsArcs d a s arcs
+      pub allottable : IsAssigned d a
+          → (s : Schedule)
+          → IsListSchedule d a s
+          → (arcs : List Arc)
+          → IsArcs d a s arcs
           → AreAllottable d arcs
       allottable bound s scheduled arcs are =
           of_arcs.allottable d a s allowed (of_list.edge_count g d a.lowered sound low)

@@ -34,22 +34,28 @@ use Rattle.planner.specs.Private.Errors.{of_line, of_unit, of_period, of_file}
 use Rattle.planner.specs.declared.fault.PlanFault.{PlanFault}
 use Rattle.planner.specs.declared.fault.PlanFault.TheVariants.{Memory}
 use Rattle.planner.proofs.Stages.{IsOnly, IsSettled, Found, Refused, only_ok, only_err, stops, goes}
-use Rattle.planner.proofs.Answers.{of_arc, Lines, bound, Units, Cycles, Lifetimes, Turns, Places, whole, Whole, FromTurns, FromArcs, FromSchedule, FromUnits, FromLines, Passes, IsAnswer, settled}
+use Rattle.planner.proofs.Answers.{of_arc, Lines, bound, Units, Cycles, Lifetimes, Turns, Places, whole, Whole}
+use Rattle.planner.proofs.Answers.{FromTurns, FromArcs, FromSchedule, FromUnits, FromLines, Passes, IsAnswer, settled}
 
 pub unrolled : (listed arcs : List Arc) (n : ℕ) → listed ≡ arcs → IsUnroll listed n → IsUnroll arcs n
 unrolled listed arcs n same is = subst (λ (xs : List Arc). IsUnroll xs n) same is
 
 module _ (g : Graph) (d : Datapath) where
   leaves : {F : Type 0} (of : F → PlanFault) (r : Result Plan PlanFault) (f : F)
-      → IsErrAnd r (λ (h : PlanFault). h ≡ of f) → IsSettled Memory (Passes g d) (Err (of f)) → IsAnswer g d r
+      → IsErrAnd r (λ (h : PlanFault). h ≡ of f)
+      → IsSettled Memory (Passes g d) (Err (of f))
+      → IsAnswer g d r
   leaves of r f is x =
       let e = err_from_is_err_and r is in
       subst (λ (y : Result Plan PlanFault). IsAnswer g d y) (sym (e.1 ∙ ap (λ (h : PlanFault). Err h) e.2))
       (settled g d (Err (of f)) x)
 
-  pub at_lines : (r : Result Plan PlanFault) (f : LineFault) → IsErrAnd r (λ (h : PlanFault). h ≡ of_line f)
-      → (f ≡ line.Memory) ⊎ IsLineFault g d f → Found (IsLowered g d) line.Memory (Err f)
-      → Refused {A = Lowered} (IsLineFault g d) line.Memory (Err f) → IsAnswer g d r
+  pub at_lines : (r : Result Plan PlanFault) (f : LineFault)
+      → IsErrAnd r (λ (h : PlanFault). h ≡ of_line f)
+      → (f ≡ line.Memory) ⊎ IsLineFault g d f
+      → Found (IsLowered g d) line.Memory (Err f)
+      → Refused {A = Lowered} (IsLineFault g d) line.Memory (Err f)
+      → IsAnswer g d r
   at_lines r f is why found refused =
       leaves of_line r f is
       (stops (Lines g d) of_line (FromLines g d) line.Memory f
@@ -64,10 +70,12 @@ module _ (g : Graph) (d : Datapath) where
         goes (Lines g d) of_line (FromLines g d) l
         (only_ok (IsLowered g d) (IsLineFault g d) line.Memory l low lines_found lines_refused) Memory r x
 
-    pub at_units : (r : Result Plan PlanFault) (f : UnitFault) → IsErrAnd r (λ (h : PlanFault). h ≡ of_unit f)
+    pub at_units : (r : Result Plan PlanFault) (f : UnitFault)
+        → IsErrAnd r (λ (h : PlanFault). h ≡ of_unit f)
         → (f ≡ unit.Memory) ⊎ IsUnitFault d l f
         → Found (AreUnitsOf d l) unit.Memory (Err f)
-        → Refused {A = List ℕ} (IsUnitFault d l) unit.Memory (Err f) → IsAnswer g d r
+        → Refused {A = List ℕ} (IsUnitFault d l) unit.Memory (Err f)
+        → IsAnswer g d r
     at_units r f is why found refused =
         leaves of_unit r f is (after_lines (Err (of_unit f))
         (stops (Units g d l) of_unit (λ (units : List ℕ). FromUnits g d (bound l units)) unit.Memory f
@@ -88,8 +96,10 @@ module _ (g : Graph) (d : Datapath) where
           (only_ok (AreUnitsOf d l) (IsUnitFault d l) unit.Memory units are_units units_found units_refused) Memory r x)
 
       pub at_cycles : (r : Result Plan PlanFault) (f : PeriodFault)
-          → IsErrAnd r (λ (h : PlanFault). h ≡ of_period f) → (f ≡ period.Memory) ⊎ IsPeriodFault d a f
-          → Found (IsListSchedule d a) period.Memory (Err f) → Refused {A = Schedule} (IsPeriodFault d a) period.Memory (Err f)
+          → IsErrAnd r (λ (h : PlanFault). h ≡ of_period f)
+          → (f ≡ period.Memory) ⊎ IsPeriodFault d a f
+          → Found (IsListSchedule d a) period.Memory (Err f)
+          → Refused {A = Schedule} (IsPeriodFault d a) period.Memory (Err f)
           → IsAnswer g d r
       at_cycles r f is why found refused =
           leaves of_period r f is (after_units (Err (of_period f))
@@ -108,7 +118,8 @@ module _ (g : Graph) (d : Datapath) where
             one (Ok xs) h = ap (λ (ys : List Arc). Ok ys) (one_arcs d a s arcs xs are h)
             one (Err f) h = absurd h
 
-        after_arcs : (r : Result Plan PlanFault) → IsSettled Memory (FromArcs g d a s arcs) r
+        after_arcs : (r : Result Plan PlanFault)
+            → IsSettled Memory (FromArcs g d a s arcs) r
             → IsSettled Memory (Passes g d) r
         after_arcs r x =
             after_units r
@@ -125,7 +136,8 @@ module _ (g : Graph) (d : Datapath) where
               one (Ok n) h = ap (λ (m : ℕ). Ok m) (one_unroll arcs unroll n turns h)
               one (Err f) h = absurd h
 
-          after_turns : (r : Result Plan PlanFault) → IsSettled Memory (FromTurns g d a s arcs unroll) r
+          after_turns : (r : Result Plan PlanFault)
+              → IsSettled Memory (FromTurns g d a s arcs unroll) r
               → IsSettled Memory (Passes g d) r
           after_turns r x =
               after_arcs r (goes (Turns g d arcs) of_arc (FromTurns g d a s arcs) unroll only_turns Memory r x)
@@ -134,8 +146,10 @@ module _ (g : Graph) (d : Datapath) where
           Allotted rs = AreAllotted d arcs rs.regs
 
           pub at_registers : (r : Result Plan PlanFault) (f : FileFault)
-              → IsErrAnd r (λ (h : PlanFault). h ≡ of_file f) → (f ≡ file.Memory) ⊎ IsFileFault d arcs f
-              → Found Allotted file.Memory (Err f) → Refused {A = Registers} (IsFileFault d arcs) file.Memory (Err f)
+              → IsErrAnd r (λ (h : PlanFault). h ≡ of_file f)
+              → (f ≡ file.Memory) ⊎ IsFileFault d arcs f
+              → Found Allotted file.Memory (Err f)
+              → Refused {A = Registers} (IsFileFault d arcs) file.Memory (Err f)
               → IsAnswer g d r
           at_registers r f is why found refused =
               leaves of_file r f is (after_turns (Err (of_file f))
@@ -146,9 +160,12 @@ module _ (g : Graph) (d : Datapath) where
           it rs = whole g d a s arcs unroll rs
 
           -- each copy has its register
-          pub at_end : (rs : Registers) → AreAllotted d arcs rs.regs
-              → Found Allotted file.Memory (Ok rs) → Refused (IsFileFault d arcs) file.Memory (Ok rs)
-              → (inputs : List SigType) → inputs ≡ g.inputs
+          pub at_end : (rs : Registers)
+              → AreAllotted d arcs rs.regs
+              → Found Allotted file.Memory (Ok rs)
+              → Refused (IsFileFault d arcs) file.Memory (Ok rs)
+              → (inputs : List SigType)
+              → inputs ≡ g.inputs
               → IsAnswer g d (Ok (record (whole g d a s arcs unroll rs) { inputs = inputs }))
           at_end rs all found refused inputs same =
               subst (λ (ts : List SigType). IsAnswer g d (Ok (record (it rs) { inputs = ts }))) (sym same)

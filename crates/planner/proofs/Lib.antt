@@ -4,3 +4,4 @@ pub mod Stages
 pub mod Answers
 pub mod Exits
 pub mod OneOutcome
+pub mod OnePlan

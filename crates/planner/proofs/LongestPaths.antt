@@ -1,6 +1,7 @@
 -- Each node has a height where ranks rise along the edges without delay: the longest paths of at most so many nodes are
 -- the same from some count of nodes on.
-use Rattle.std.proofs.Common.{◌≡◌, ℕ, zero, suc, ◌+◌, ◌-◌, ◌<◌, ◌≤◌, cond, Bool, true, false, ◌⊎◌, inl, inr, ⊎_elim, refl, sym, ap, ap₂, ◌∙◌, subst, arith, List, [], ◌∷◌, length, slice_index_or}
+use Rattle.std.proofs.Common.{◌≡◌, ℕ, zero, suc, ◌+◌, ◌-◌, ◌<◌, ◌≤◌, cond, Bool, true, false, ◌⊎◌, inl, inr, ⊎_elim}
+use Rattle.std.proofs.Common.{refl, sym, ap, ap₂, ◌∙◌, subst, arith, List, [], ◌∷◌, length, slice_index_or}
 use Rattle.std.proofs.lemmas.Bool.{cases_lt}
 use Rattle.datapath.specs.declared.types.Datapath.{Datapath}
 use Rattle.signal_graph.specs.Values.{EdgesRead}
@@ -48,7 +49,10 @@ greatest_reached (suc k) test f = by (test k) refl (greatest k test f) (greatest
     before n (inl e) = inl e
     before n (inr x) = inr (x.0, omega (arith, x.1), x.2, x.3)
 
-    by : (b : Bool) → test k ≡ b → (rest : ℕ) → IsReached k test f rest
+    by : (b : Bool)
+        → test k ≡ b
+        → (rest : ℕ)
+        → IsReached k test f rest
         → IsReached (suc k) test f (greater (cond b (f k) 0) rest)
     by false e rest reached = subst (λ (n : ℕ). IsReached (suc k) test f n) (same rest) (before rest reached)
       where
@@ -67,7 +71,8 @@ greatest_reached (suc k) test f = by (test k) refl (greatest k test f) (greatest
         first : (a b : ℕ) → b ≤ a → a + (b - a) ≡ a
         first a b less = omega (arith, less)
 
-greatest_same : (k : ℕ) (test : ℕ → Bool) (f g : ℕ → ℕ) → ((c : ℕ) → c < k → test c ≡ true → f c ≡ g c)
+greatest_same : (k : ℕ) (test : ℕ → Bool) (f g : ℕ → ℕ)
+    → ((c : ℕ) → c < k → test c ≡ true → f c ≡ g c)
     → greatest k test f ≡ greatest k test g
 greatest_same zero test f g same = refl
 greatest_same (suc k) test f g same =
@@ -105,8 +110,11 @@ module _ (n : ℕ) (reads : ℕ → ℕ → Bool) (latency rank : ℕ → ℕ)
   longest_is : (v : ℕ) → v < n → longest v ≡ latency v + greatest n (λ (c : ℕ). reads c v) longest
   longest_is v there = sym (stable (suc top) v there (omega arith))
 
-read_at : (edges : List Edge) (q v : ℕ) → q < length edges → (slice_index_or edges q no_edge).node ≡ v
-    → (slice_index_or edges q no_edge).delay ≡ 0 → EdgesRead edges v 0
+read_at : (edges : List Edge) (q v : ℕ)
+    → q < length edges
+    → (slice_index_or edges q no_edge).node ≡ v
+    → (slice_index_or edges q no_edge).delay ≡ 0
+    → EdgesRead edges v 0
 read_at [] q v less node now = absurd (omega (arith, less))
 read_at (e ∷ es) zero v less node now = inl (sym node, sym now)
 read_at (e ∷ es) (suc q) v less node now = inr (read_at es q v (omega (arith, less)) node now)
@@ -163,7 +171,9 @@ module _ (d : Datapath) (a : Assigned) (rank : ℕ → ℕ)
     reached = by (path_is v there) (greatest_reached count (λ (c : ℕ). tests c v) path_of);
   }
     where
-      by : {n : ℕ} → path_of v ≡ latency_of d a v + n → IsReached count (λ (c : ℕ). tests c v) path_of n
+      by : {n : ℕ}
+          → path_of v ≡ latency_of d a v + n
+          → IsReached count (λ (c : ℕ). tests c v) path_of n
           → (path_of v ≡ latency_of d a v)
           ⊎ ((c : ℕ) × (q : ℕ) × ReadsNow a.lowered.nodes c q v × (path_of v ≡ latency_of d a v + path_of c))
       by is (inl e) = inl (omega (arith, is, e))

@@ -31,7 +31,8 @@ use Rattle.reg_alloc.specs.declared.fault.FileFault.TheVariants as file
 use Rattle.reg_alloc.proofs.OneAnswer.{allotted_or_not}
 use Rattle.planner.specs.Faults.{IsPlanFault}
 use Rattle.planner.specs.declared.fault.PlanFault.{PlanFault}
-use Rattle.planner.specs.declared.fault.PlanFault.TheVariants.{Line as Unstored, Unit as Unbound, Period, FileFull, Memory}
+use Rattle.planner.specs.declared.fault.PlanFault.TheVariants.{Line as Unstored, Unit as Unbound, Period, FileFull}
+use Rattle.planner.specs.declared.fault.PlanFault.TheVariants.{Memory}
 use Rattle.planner.proofs.Asked.{schedulable, allottable}
 
 module _ (g : Graph) (d : Datapath) (allowed : IsDatapath d) (sound : IsGraph g) (loopless : IsGraphLoopless g)
@@ -56,8 +57,10 @@ module _ (g : Graph) (d : Datapath) (allowed : IsDatapath d) (sound : IsGraph g)
       (subst (λ (b : Assigned). IsWithoutCycle d b v) same none)
 
   -- each copy has its register
-  allotted_all : (unit port v unroll : ℕ) → IsUnroll p.arcs unroll
-      → IsWithoutRegister d unroll p.arcs (port_of unit port) v → ⊥
+  allotted_all : (unit port v unroll : ℕ)
+      → IsUnroll p.arcs unroll
+      → IsWithoutRegister d unroll p.arcs (port_of unit port) v
+      → ⊥
   allotted_all unit port v unroll unroll_is none =
       allotted_or_not d p.arcs
       (allottable g d sound p.assigned is.lowered allowed is.assigned p.schedule is.schedule p.arcs is.arcs)
@@ -66,8 +69,11 @@ module _ (g : Graph) (d : Datapath) (allowed : IsDatapath d) (sound : IsGraph g)
       (file.Full unit port v) (record { unroll = unroll; unroll_is = unroll_is; none = none })
 
   -- the lifetimes of the plan's nodes, however they are told
-  same_arcs : (a : Assigned) (s : Schedule) (arcs : List Arc) → a ≡ p.assigned → IsListSchedule d a s
-      → IsArcs d a s arcs → arcs ≡ p.arcs
+  same_arcs : (a : Assigned) (s : Schedule) (arcs : List Arc)
+      → a ≡ p.assigned
+      → IsListSchedule d a s
+      → IsArcs d a s arcs
+      → arcs ≡ p.arcs
   same_arcs a s arcs same scheduled are =
       let here = subst (λ (b : Assigned). IsListSchedule d b s) same scheduled in
       let there = subst (λ (b : Assigned). IsArcs d b s arcs) same are in

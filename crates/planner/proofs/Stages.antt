@@ -46,7 +46,10 @@ module _ {A F : Type 0} where
   not_both a f e = absurd (cc)
 
   module _ (Is : A → Type 0) (Fails : F → Type 0) (memory : F) where
-    pub only_ok : (a : A) → Is a → Found Is memory (Ok a) → Refused Fails memory (Ok a)
+    pub only_ok : (a : A)
+        → Is a
+        → Found Is memory (Ok a)
+        → Refused Fails memory (Ok a)
         → IsOnly (Comes Is Fails) (good a)
     only_ok a is found refused = record { is = is; one = one }
       where
@@ -54,8 +57,12 @@ module _ {A F : Type 0} where
         one (Ok b) h = ⊎_elim (λ e. e) (λ e. not_both a memory e) (found b h)
         one (Err f) h = ⊎_elim (λ e. e) (λ e. not_both a memory e) (refused f h)
 
-    pub only_err : (f : F) → (Fails memory → ⊥) → (f ≡ memory) ⊎ Fails f → Found Is memory (Err f)
-        → Refused {A = A} Fails memory (Err f) → IsSettled memory (Comes Is Fails) (bad f)
+    pub only_err : (f : F)
+        → (Fails memory → ⊥)
+        → (f ≡ memory) ⊎ Fails f
+        → Found Is memory (Err f)
+        → Refused {A = A} Fails memory (Err f)
+        → IsSettled memory (Comes Is Fails) (bad f)
     only_err f never (inl e) found refused = inl (ap bad e)
     only_err f never (inr h) found refused = inr (record { is = h; one = one })
       where

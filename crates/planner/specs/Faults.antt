@@ -17,7 +17,8 @@ use Rattle.delay_memory.specs.Faults.{IsLineFault}
 use Rattle.unit_assign.specs.Faults.{IsUnitFault}
 use Rattle.unit_assign.specs.declared.fault.UnitFault.{UnitFault}
 use Rattle.planner.specs.declared.fault.PlanFault.{PlanFault}
-use Rattle.planner.specs.declared.fault.PlanFault.TheVariants.{Line as Unstored, Unit as Unbound, Period, FileFull, Memory}
+use Rattle.planner.specs.declared.fault.PlanFault.TheVariants.{Line as Unstored, Unit as Unbound, Period, FileFull}
+use Rattle.planner.specs.declared.fault.PlanFault.TheVariants.{Memory}
 
 module _ (g : Graph) (d : Datapath) where
   -- a node of the lowered list has no unit

@@ -6,6 +6,7 @@ use Rattle.std.proofs.lemmas.Bool.{cases_lt}
 use Rattle.std.proofs.lemmas.List.Elements.{All-get_or, All-weaker}
 use Rattle.std.proofs.lemmas.Option.{slice_get-get_or}
 use Rattle.std.proofs.Math.Nat.{mul-le-mul_right}
+use Rattle.operations.proofs.Ports.{enough_ports}
 use Rattle.operations.specs.Operations.{operands}
 use Rattle.operations.specs.Units.{ports}
 use Rattle.datapath.specs.Allowed.{IsDatapath, IsPort}
@@ -24,7 +25,7 @@ use Rattle.plan_core.specs.declared.schedule.Assigned.{Assigned}
 use Rattle.plan_core.specs.declared.schedule.Schedule.{Schedule}
 use Rattle.plan_core.proofs.OneArcs.{ports_differ}
 use Rattle.plan_core.proofs.OneHeight.{live_of}
-use Rattle.plan_core.proofs.Readers.{enough_ports, reader_there, edge_has}
+use Rattle.plan_core.proofs.Readers.{reader_there, edge_has}
 use Rattle.reg_alloc.specs.Allottable.{AreDifferent, IsAllottable, AreAllottable}
 
 module _ (d : Datapath) (a : Assigned) (s : Schedule) where
@@ -44,7 +45,8 @@ module _ (d : Datapath) (a : Assigned) (s : Schedule) where
       (edges : All (λ (node : Node). All (λ (edge : Edge). edge.node < length a.lowered.nodes) node.edges)
       a.lowered.nodes)
       (assigned : IsAssigned d a) (schedule : IsListSchedule d a s) where
-    reads_at_port : (c q v : ℕ) → Reads a.lowered.nodes c q v
+    reads_at_port : (c q v : ℕ)
+        → Reads a.lowered.nodes c q v
         → IsPort d.units (record { unit = unit_in a.units c; port = q })
     reads_at_port c q v reads =
         let there = reader_there a.lowered.nodes c q v reads in
@@ -55,7 +57,8 @@ module _ (d : Datapath) (a : Assigned) (s : Schedule) where
         let kind = ap ports unit.kind in
         let port = reads.port in
         subst (λ o. IsSomeAnd o (λ (x : FunctionalUnit). q < ports x.kind))
-        (sym (slice_get-get_or d.units (unit_in a.units c) no_unit unit.there)) (omega (arith, port, count, enough, kind))
+        (sym (slice_get-get_or d.units (unit_in a.units c) no_unit unit.there))
+        (omega (arith, port, count, enough, kind))
 
     written_in : (v : ℕ) → v < length a.lowered.nodes → ends d a s v < d.period
     written_in v there =
@@ -63,7 +66,9 @@ module _ (d : Datapath) (a : Assigned) (s : Schedule) where
         let within = (schedule.placed v there).can.fits.period in
         omega (arith, live, within)
 
-    read_later : (c q v : ℕ) → Reads a.lowered.nodes c q v → v < length a.lowered.nodes
+    read_later : (c q v : ℕ)
+        → Reads a.lowered.nodes c q v
+        → v < length a.lowered.nodes
         → ends d a s v < read_cycle d a s c q
     read_later c q v reads there =
         ⊎_elim

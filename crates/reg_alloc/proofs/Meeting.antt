@@ -9,7 +9,11 @@ use Rattle.reg_alloc.specs.Private.Spans.{span_of}
 use Rattle.reg_alloc.proofs.SpanLemmas.{NeverMeet}
 
 -- what is written no later in the sample is so where the sample of the other word has not ended before
-pub no_later : (period w v m n : ℕ) → v < period → w < period → w ≤ v → m * period ≤ v + n * period
+pub no_later : (period w v m n : ℕ)
+    → v < period
+    → w < period
+    → w ≤ v
+    → m * period ≤ v + n * period
     → w + m * period ≤ v + n * period
 no_later period w v m n low w_low first begun =
     let upto : m ≤ n = sample_upto n m v period low begun in

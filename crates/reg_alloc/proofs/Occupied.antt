@@ -26,11 +26,19 @@ module _ (period samples : ℕ) (arcs : List Arc) (Has : (l j q : ℕ) → Type 
   hull_at q n o there e =
       subst (λ (x : Option Span). IsHullOrNone period samples arcs Has q n x) e (occupied q n there)
 
-  meets : (q l : ℕ) (o : Option Span) (m n x y : ℕ) → IsFree period samples (register_in registers q) other
-      → m < samples → n < samples → n % arc.copies ≡ copy → Comes period samples arcs Has q m l → at q m ≡ o
-      → (arc_of arcs l).w + m * period < x → x ≤ (arc_of arcs l).r + m * period
-      → arc.w + n * period < y → y ≤ arc.r + n * period
-      → x % (samples * period) ≡ y % (samples * period) → ⊥
+  meets : (q l : ℕ) (o : Option Span) (m n x y : ℕ)
+      → IsFree period samples (register_in registers q) other
+      → m < samples
+      → n < samples
+      → n % arc.copies ≡ copy
+      → Comes period samples arcs Has q m l
+      → at q m ≡ o
+      → (arc_of arcs l).w + m * period < x
+      → x ≤ (arc_of arcs l).r + m * period
+      → arc.w + n * period < y
+      → y ≤ arc.r + n * period
+      → x % (samples * period) ≡ y % (samples * period)
+      → ⊥
   meets q l None m n x y free m_in n_in turn comes e after upto after' upto' same = hull_at q m None m_in e l comes
   meets q l (Some taken) m n x y free m_in n_in turn comes e after upto after' upto' same =
       let hull : IsHull period samples arcs Has q m taken = hull_at q m (Some taken) m_in e in
@@ -41,7 +49,10 @@ module _ (period samples : ℕ) (arcs : List Arc) (Has : (l j q : ℕ) → Type 
       after' upto' same
 
   -- what is in a register that is free for the copy shares no cycle with it
-  pub free_apart : (q : ℕ) → IsFree period samples (register_in registers q) other → (l j : ℕ) → Has l j q
+  pub free_apart : (q : ℕ)
+      → IsFree period samples (register_in registers q) other
+      → (l j : ℕ)
+      → Has l j q
       → AreApart period samples (arc_of arcs l) j arc copy
   free_apart q free l j has = record {
     none = λ x o p.
@@ -51,7 +62,10 @@ module _ (period samples : ℕ) (arcs : List Arc) (Has : (l j q : ℕ) → Type 
 
   module _ (arc_in : IsOnCircle period arc)
       (earlier : (l j q : ℕ) → Has l j q → IsOnCircle period (arc_of arcs l) × ((arc_of arcs l).w ≤ arc.w)) where
-    hull_apart : (q m n : ℕ) (taken : Span) → m < samples → n < samples → n % arc.copies ≡ copy
+    hull_apart : (q m n : ℕ) (taken : Span)
+        → m < samples
+        → n < samples
+        → n % arc.copies ≡ copy
         → ((l j : ℕ) → Has l j q → AreApart period samples (arc_of arcs l) j arc copy)
         → IsHull period samples arcs Has q m taken
         → AreSpansApart (samples * period) taken (span_of period arc n)
@@ -77,9 +91,11 @@ module _ (period samples : ℕ) (arcs : List Arc) (Has : (l j q : ℕ) → Type 
           forward = λ le.
               let first : (arc_of arcs g).w + m * period ≤ arc.w + n * period =
               no_later period (arc_of arcs g).w arc.w m n low g_low of_g.1 (omega (arith, le, f_is)) in
-              let ended = never_ended (samples * period) (span_of period (arc_of arcs g) m) (span_of period arc n) g_never
+              let ended =
+              never_ended (samples * period) (span_of period (arc_of arcs g) m) (span_of period arc n) g_never
               first (omega (arith, some)) in
-              let round = never_round (samples * period) (span_of period (arc_of arcs f) m) (span_of period arc n) f_never
+              let round =
+              never_round (samples * period) (span_of period (arc_of arcs f) m) (span_of period arc n) f_never
               (omega (arith, in_circle)) (omega (arith, f_some)) in
               record { ended = omega (arith, ended, g_is); round = omega (arith, round, f_is) };
           backward = λ less.
@@ -92,14 +108,16 @@ module _ (period samples : ℕ) (arcs : List Arc) (Has : (l j q : ℕ) → Type 
               record { ended = omega (arith, ended, f_is); round = omega (arith, round, g_is) };
         }
       where
-        never : (l : ℕ) → Comes period samples arcs Has q m l
+        never : (l : ℕ)
+            → Comes period samples arcs Has q m l
             → NeverMeet (samples * period) (span_of period (arc_of arcs l) m) (span_of period arc n)
         never l comes =
             words_never period samples (arc_of arcs l) (m % (arc_of arcs l).copies) arc copy m n
             (apart l (m % (arc_of arcs l).copies) comes) m_in n_in refl turn
 
     -- a register in which nothing shares a cycle with the copy is free for it
-    pub apart_free : (q : ℕ) → ((l j : ℕ) → Has l j q → AreApart period samples (arc_of arcs l) j arc copy)
+    pub apart_free : (q : ℕ)
+        → ((l j : ℕ) → Has l j q → AreApart period samples (arc_of arcs l) j arc copy)
         → IsFree period samples (register_in registers q) other
     apart_free q apart n n_in span n_is m m_in taken m_is =
         ⊎_elim
@@ -112,9 +130,12 @@ module _ (period samples : ℕ) (arcs : List Arc) (Has : (l j q : ℕ) → Type 
         (cases_eq (n % arc.copies) copy)
 
 module _ (period samples : ℕ) (arcs : List Arc) (S T : (l j q : ℕ) → Type 0) where
-  hull_like : (q n : ℕ) → ((l : ℕ) → Comes period samples arcs S q n l → Comes period samples arcs T q n l)
+  hull_like : (q n : ℕ)
+      → ((l : ℕ) → Comes period samples arcs S q n l → Comes period samples arcs T q n l)
       → ((l : ℕ) → Comes period samples arcs T q n l → Comes period samples arcs S q n l)
-      → (o : Option Span) → IsHullOrNone period samples arcs S q n o → IsHullOrNone period samples arcs T q n o
+      → (o : Option Span)
+      → IsHullOrNone period samples arcs S q n o
+      → IsHullOrNone period samples arcs T q n o
   hull_like q n to from None none = λ l comes. none l (from l comes)
   hull_like q n to from (Some span) hull = record {
     begins = λ l comes. hull.begins l (from l comes);
@@ -124,8 +145,10 @@ module _ (period samples : ℕ) (arcs : List Arc) (S T : (l j q : ℕ) → Type 
   }
 
   -- registers hold the same for the same copies
-  pub occupied_like : (registers : List Occupancy) → ((l j q : ℕ) → S l j q → T l j q)
-      → ((l j q : ℕ) → T l j q → S l j q) → AreOccupied period samples arcs S registers
+  pub occupied_like : (registers : List Occupancy)
+      → ((l j q : ℕ) → S l j q → T l j q)
+      → ((l j q : ℕ) → T l j q → S l j q)
+      → AreOccupied period samples arcs S registers
       → AreOccupied period samples arcs T registers
   occupied_like registers to from occupied q n there =
       hull_like q n (λ l comes. to l (n % (arc_of arcs l).copies) q comes)
@@ -156,8 +179,11 @@ module _ (period samples : ℕ) (arcs : List Arc) (S T : (l j q : ℕ) → Type 
     same_span : (l n : ℕ) → l ≡ k → span_of period (arc_of arcs l) n ≡ its n
     same_span l n e = ap (λ (x : ℕ). span_of period (arc_of arcs x) n) e
 
-    at_q : (n : ℕ) (o : Option Span) → n < samples → n % (arc_of arcs k).copies ≡ i
-        → span_at (register_in old q) n ≡ o → IsHullOrNone period samples arcs T q n (joined o (Some (its n)))
+    at_q : (n : ℕ) (o : Option Span)
+        → n < samples
+        → n % (arc_of arcs k).copies ≡ i
+        → span_at (register_in old q) n ≡ o
+        → IsHullOrNone period samples arcs T q n (joined o (Some (its n)))
     at_q n None there turn e = record {
       begins = λ l comes. ⊎_elim
           (λ (was : S l (n % (arc_of arcs l).copies) q). absurd (none l was))
@@ -217,10 +243,12 @@ module _ (period samples : ℕ) (arcs : List Arc) (S T : (l j q : ℕ) → Type 
         in_q =
             ⊎_elim
             (λ (turn : n % (arc_of arcs k).copies ≡ i).
-            subst (λ (x : Option Span). IsHullOrNone period samples arcs T q n (joined (span_at (register_in old q) n) x))
+            subst
+            (λ (x : Option Span). IsHullOrNone period samples arcs T q n (joined (span_at (register_in old q) n) x))
             (sym (other_is.own n there turn)) (at_q n (span_at (register_in old q) n) there turn refl))
             (λ (not : n % (arc_of arcs k).copies ≡ i → ⊥).
-            subst (λ (x : Option Span). IsHullOrNone period samples arcs T q n (joined (span_at (register_in old q) n) x))
+            subst
+            (λ (x : Option Span). IsHullOrNone period samples arcs T q n (joined (span_at (register_in old q) n) x))
             (sym (other_is.none n not))
             (subst (λ (x : Option Span). IsHullOrNone period samples arcs T q n x)
             (sym (joined_none (span_at (register_in old q) n)))

@@ -22,8 +22,11 @@ module _ (d : Datapath) (arcs : List Arc) (is : AreAllottable d arcs) where
       one_fit d.period x.unroll arcs is.order rs qs x.fit
       (subst (λ (n : ℕ). IsFirstFit d.period n arcs qs) unroll y.fit)
 
-  pub allotted_or_not : (regs : List (List ℕ)) → AreAllotted d arcs regs → (fault : FileFault)
-      → IsFileFault d arcs fault → ⊥
+  pub allotted_or_not : (regs : List (List ℕ))
+      → AreAllotted d arcs regs
+      → (fault : FileFault)
+      → IsFileFault d arcs fault
+      → ⊥
   allotted_or_not regs x (Full unit port node) y =
       fit_or_full d x.unroll arcs is.order regs x.fit x.sizes (port_of unit port) node
       (subst (λ (n : ℕ). IsWithoutRegister d n arcs (port_of unit port) node)
@@ -40,24 +43,39 @@ module _ (d : Datapath) (arcs : List Arc) (is : AreAllottable d arcs) where
   one_fault Memory g x y = absurd x
 
   module _ (r : Result Registers FileFault) where
-    pub ok_found : (rs : Registers) → r ≡ Ok rs → AreAllotted d arcs rs.regs → (qs : Registers)
-        → AreAllotted d arcs qs.regs → (r ≡ Ok qs) ⊎ (r ≡ Err Memory)
+    pub ok_found : (rs : Registers)
+        → r ≡ Ok rs
+        → AreAllotted d arcs rs.regs
+        → (qs : Registers)
+        → AreAllotted d arcs qs.regs
+        → (r ≡ Ok qs) ⊎ (r ≡ Err Memory)
     ok_found rs same rs_are qs qs_are =
         inl (same
         ∙ ap (λ (regs : List (List ℕ)). Ok (record { regs = regs })) (one_choice rs.regs qs.regs rs_are qs_are))
 
-    pub ok_refused : (rs : Registers) → AreAllotted d arcs rs.regs → (fault : FileFault) → IsFileFault d arcs fault
+    pub ok_refused : (rs : Registers)
+        → AreAllotted d arcs rs.regs
+        → (fault : FileFault)
+        → IsFileFault d arcs fault
         → (r ≡ Err fault) ⊎ (r ≡ Err Memory)
     ok_refused rs rs_are fault h = absurd (allotted_or_not rs.regs rs_are fault h)
 
-    pub err_found : (f : FileFault) → r ≡ Err f → (f ≡ Memory) ⊎ IsFileFault d arcs f → (qs : Registers)
-        → AreAllotted d arcs qs.regs → (r ≡ Ok qs) ⊎ (r ≡ Err Memory)
+    pub err_found : (f : FileFault)
+        → r ≡ Err f
+        → (f ≡ Memory) ⊎ IsFileFault d arcs f
+        → (qs : Registers)
+        → AreAllotted d arcs qs.regs
+        → (r ≡ Ok qs) ⊎ (r ≡ Err Memory)
     err_found f same why qs qs_are =
         ⊎_elim (λ (e : f ≡ Memory). inr (same ∙ ap (λ (x : FileFault). Err x) e))
         (λ (h : IsFileFault d arcs f). absurd (allotted_or_not qs.regs qs_are f h)) why
 
-    pub err_refused : (f : FileFault) → r ≡ Err f → (f ≡ Memory) ⊎ IsFileFault d arcs f → (fault : FileFault)
-        → IsFileFault d arcs fault → (r ≡ Err fault) ⊎ (r ≡ Err Memory)
+    pub err_refused : (f : FileFault)
+        → r ≡ Err f
+        → (f ≡ Memory) ⊎ IsFileFault d arcs f
+        → (fault : FileFault)
+        → IsFileFault d arcs fault
+        → (r ≡ Err fault) ⊎ (r ≡ Err Memory)
     err_refused f same why fault h =
         ⊎_elim (λ (e : f ≡ Memory). inr (same ∙ ap (λ (x : FileFault). Err x) e))
         (λ (g : IsFileFault d arcs f). inl (same ∙ ap (λ (x : FileFault). Err x) (one_fault f fault g h))) why

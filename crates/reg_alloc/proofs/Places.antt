@@ -1,8 +1,10 @@
 -- The registers of a file that are in use, and the next one.
-use Rattle.std.proofs.Common.{◌≡◌, ◌∙◌, ℕ, zero, suc, ◌<◌, ◌≤◌, refl, sym, ap, arith, ⊎_elim, List, [], ◌∷◌, ◌++◌, length, slice_index_or, slice_set}
+use Rattle.std.proofs.Common.{◌≡◌, ◌∙◌, ℕ, zero, suc, ◌<◌, ◌≤◌, refl, sym, ap, arith, ⊎_elim, List, [], ◌∷◌, ◌++◌}
+use Rattle.std.proofs.Common.{length, slice_index_or, slice_set}
 use Rattle.std.specs.Prelude.{Some, None}
 use Rattle.std.proofs.lemmas.Bool.{cases_lt}
-use Rattle.std.proofs.lemmas.List.{get_or_append_left, get_or_past, get_or_push, get_or_read, get_or-set_same, get_or-set_other, length_push}
+use Rattle.std.proofs.lemmas.List.{get_or_append_left, get_or_past, get_or_push, get_or_read, get_or-set_same}
+use Rattle.std.proofs.lemmas.List.{get_or-set_other, length_push}
 use Rattle.reg_alloc.specs.declared.circle.Span.{Span}
 use Rattle.reg_alloc.specs.declared.circle.Occupancy.{Occupancy}
 use Rattle.reg_alloc.specs.Private.Spans.{joined}
@@ -20,7 +22,8 @@ nothing_at (suc (suc (suc zero))) = refl
 nothing_at (suc (suc (suc (suc n)))) = refl
 
 -- a register more leaves the others as they are
-pub others_pushed : (registers : List Occupancy) (o : Occupancy) (p : ℕ) → (p ≡ length registers → ⊥)
+pub others_pushed : (registers : List Occupancy) (o : Occupancy) (p : ℕ)
+    → (p ≡ length registers → ⊥)
     → register_in (registers ++ o ∷ []) p ≡ register_in registers p
 others_pushed registers o p differ =
     ⊎_elim (λ (less : p < length registers). get_or_append_left registers (o ∷ []) no_occupancy p less)
@@ -33,8 +36,10 @@ others_pushed registers o p differ =
     (cases_lt p (length registers))
 
 -- one that holds nothing is as one that is not in use
-pub new_as_none : (registers : List Occupancy) (o : Occupancy) (q : ℕ) → q ≡ length registers
-    → ((n : ℕ) → span_at o n ≡ None) → (n : ℕ)
+pub new_as_none : (registers : List Occupancy) (o : Occupancy) (q : ℕ)
+    → q ≡ length registers
+    → ((n : ℕ) → span_at o n ≡ None)
+    → (n : ℕ)
     → span_at (register_in (registers ++ o ∷ []) q) n ≡ span_at (register_in registers q) n
 new_as_none registers o q is none n =
     ap (λ (x : Occupancy). span_at x n) (get_or_push registers o no_occupancy q (sym is)) ∙ none n
@@ -43,7 +48,9 @@ new_as_none registers o q is none n =
 -- where register q of those in use is replaced
 module _ (old now : List Occupancy) (q : ℕ) (item other new : Occupancy) (there : q < length now)
     (item_is : item ≡ slice_index_or now q item) (joins : IsJoined item other new) where
-  pub others_same : ((p : ℕ) → (p ≡ q → ⊥) → register_in now p ≡ register_in old p) → (p : ℕ) → (p ≡ q → ⊥)
+  pub others_same : ((p : ℕ) → (p ≡ q → ⊥) → register_in now p ≡ register_in old p)
+      → (p : ℕ)
+      → (p ≡ q → ⊥)
       → register_in (slice_set now q new) p ≡ register_in old p
   others_same kept p differ = get_or-set_other now q p new no_occupancy differ ∙ kept p differ
 

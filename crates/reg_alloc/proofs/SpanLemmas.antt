@@ -39,7 +39,10 @@ module _ (length : ℕ) where
       (cases_lt b.after a.upto)
 
   -- and the other ends before it begins again
-  pub never_round : (a b : Span) → NeverMeet a b → b.after ≤ a.after + length → a.after < a.upto
+  pub never_round : (a b : Span)
+      → NeverMeet a b
+      → b.after ≤ a.after + length
+      → a.after < a.upto
       → b.upto ≤ a.after + length
   never_round a b never low some =
       ⊎_elim

@@ -1,5 +1,6 @@
 -- The copies of the lifetimes get their registers one after another.
-use Rattle.std.proofs.Common.{◌≡◌, ◌∙◌, ℕ, zero, suc, ◌+◌, ◌*◌, ◌%◌, ◌<◌, ◌≤◌, ◌⊎◌, inl, inr, ⊎_elim, refl, sym, ap, subst, arith, List, [], ◌∷◌, ◌++◌, length, slice_index_or}
+use Rattle.std.proofs.Common.{◌≡◌, ◌∙◌, ℕ, zero, suc, ◌+◌, ◌*◌, ◌%◌, ◌<◌, ◌≤◌, ◌⊎◌, inl, inr, ⊎_elim, refl, sym, ap}
+use Rattle.std.proofs.Common.{subst, arith, List, [], ◌∷◌, ◌++◌, length, slice_index_or}
 use Rattle.std.specs.Prelude.{Option}
 use Rattle.std.proofs.lemmas.Bool.{cases_lt, cases_eq}
 use Rattle.std.proofs.lemmas.List.{get_or_append_left, get_or_push, length_push}
@@ -42,18 +43,21 @@ on_circle d arc is =
     record { start = is.start; later = is.later; covered = omega (arith, covered, most); count = is.count }
 
 -- the registers of a lifetime before the last one
-register_before : (regs : List (List ℕ)) (last : List ℕ) (l j : ℕ) → l < length regs
+register_before : (regs : List (List ℕ)) (last : List ℕ) (l j : ℕ)
+    → l < length regs
     → register_of (regs ++ last ∷ []) l j ≡ register_of regs l j
 register_before regs last l j less =
     ap (λ (rs : List ℕ). slice_index_or rs j 0) (get_or_append_left regs (last ∷ []) [] l less)
 
 -- and those of the last one
-register_last : (regs : List (List ℕ)) (last : List ℕ) (k j : ℕ) → length regs ≡ k
+register_last : (regs : List (List ℕ)) (last : List ℕ) (k j : ℕ)
+    → length regs ≡ k
     → register_of (regs ++ last ∷ []) k j ≡ slice_index_or last j 0
 register_last regs last k j is = ap (λ (rs : List ℕ). slice_index_or rs j 0) (get_or_push regs last [] k is)
 
 -- one register more changes none before it
-one_register_more : (regs : List (List ℕ)) (last : List ℕ) (k q l j : ℕ) → length regs ≡ k
+one_register_more : (regs : List (List ℕ)) (last : List ℕ) (k q l j : ℕ)
+    → length regs ≡ k
     → IsListedBefore l j k (length last)
     → register_of (regs ++ last ∷ []) l j ≡ register_of (regs ++ (last ++ q ∷ []) ∷ []) l j
 one_register_more regs last k q l j is (inl less) =
@@ -64,7 +68,9 @@ one_register_more regs last k q l j is (inr here) =
     ∙ sym (register_last regs (last ++ q ∷ []) l j now)
 
 -- no register of the next lifetime yet
-no_register_more : (regs : List (List ℕ)) (last : List ℕ) (k l j : ℕ) → length regs ≡ k → IsListedBefore l j k 0
+no_register_more : (regs : List (List ℕ)) (last : List ℕ) (k l j : ℕ)
+    → length regs ≡ k
+    → IsListedBefore l j k 0
     → register_of regs l j ≡ register_of (regs ++ last ∷ []) l j
 no_register_more regs last k l j is (inl less) = sym (register_before regs last l j (omega arith))
 no_register_more regs last k l j is (inr here) = let less = here.1 in absurd (omega arith)
@@ -104,7 +110,8 @@ same_port_or p q =
 
 -- registers that are not in use hold nothing
 none_occupied : (period samples : ℕ) (arcs : List Arc) (Has : (l j q : ℕ) → Type 0)
-    → ((l j q : ℕ) → Has l j q → ⊥) → AreOccupied period samples arcs Has []
+    → ((l j q : ℕ) → Has l j q → ⊥)
+    → AreOccupied period samples arcs Has []
 none_occupied period samples arcs Has none q n there =
     subst (λ (o : Option Span). IsHullOrNone period samples arcs Has q n o) (sym (nothing_at n))
     (λ l comes. none l (n % (arc_of arcs l).copies) q comes)
@@ -112,13 +119,16 @@ none_occupied period samples arcs Has none q n there =
 module _ (d : Datapath) (samples : ℕ) (arcs : List Arc) (is : AreAllottable d arcs) where
   module _ (rs qs : List (List ℕ)) (k i : ℕ) (k_there : k < length arcs)
       (agree : (l j : ℕ) → IsListedBefore l j k i → register_of rs l j ≡ register_of qs l j) where
-    has-same : (l j : ℕ) → IsListedBefore l j k i → HasRegister d samples arcs rs l j
+    has-same : (l j : ℕ)
+        → IsListedBefore l j k i
+        → HasRegister d samples arcs rs l j
         → HasRegister d samples arcs qs l j
     has-same l j before has =
         let within = has.within in
         let same = agree l j before in
         record {
-          first = first-same d.period samples arcs is.order rs qs l j (listed_there l j k i (length arcs) k_there before)
+          first =
+              first-same d.period samples arcs is.order rs qs l j (listed_there l j k i (length arcs) k_there before)
               (λ m n _ _ first. agree m n (listed_trans m n l j k i first before)) same has.first;
           within = omega (arith, within, same);
         }
@@ -168,7 +178,8 @@ module _ (d : Datapath) (samples : ℕ) (arcs : List Arc) (is : AreAllottable d 
     )
 
     -- the register is free for the copy where it is apart from what stands in it
-    free-from : (q : ℕ) → ((l j : ℕ) → Has l j q → AreApart d.period samples (arc_of arcs l) j (arc_of arcs k) i)
+    free-from : (q : ℕ)
+        → ((l j : ℕ) → Has l j q → AreApart d.period samples (arc_of arcs l) j (arc_of arcs k) i)
         → IsFree d.period samples arcs regs k i q
     free-from q apart l j x =
         apart l j (record {
@@ -178,7 +189,10 @@ module _ (d : Datapath) (samples : ℕ) (arcs : List Arc) (is : AreAllottable d 
           its_register = x.its_register;
         })
 
-    apart-from : (q : ℕ) → IsFree d.period samples arcs regs k i q → (l j : ℕ) → Has l j q
+    apart-from : (q : ℕ)
+        → IsFree d.period samples arcs regs k i q
+        → (l j : ℕ)
+        → Has l j q
         → AreApart d.period samples (arc_of arcs l) j (arc_of arcs k) i
     apart-from q free l j has =
         free l j (record {
@@ -383,8 +397,11 @@ module _ (d : Datapath) (samples : ℕ) (arcs : List Arc) (is : AreAllottable d 
       agree : (l j : ℕ) → IsListedBefore l j k 0 → register_of regs l j ≡ register_of (regs ++ [] ∷ []) l j
       agree l j listed = no_register_more regs [] k l j whole.count listed
 
-      nothing : (port ≡ (arc_of arcs k).port → ⊥) → (l j : ℕ) → IsListedBefore l j k 0
-          → (arc_of arcs l).port ≡ (arc_of arcs k).port → ⊥
+      nothing : (port ≡ (arc_of arcs k).port → ⊥)
+          → (l j : ℕ)
+          → IsListedBefore l j k 0
+          → (arc_of arcs l).port ≡ (arc_of arcs k).port
+          → ⊥
       nothing differ l j (inl less) file = other-file regs port k l k_there whole differ less file
       nothing differ l j (inr here) file = let less = here.1 in omega arith
 
@@ -417,7 +434,8 @@ registers-more arcs regs last port now k whole copies port_is = record {
   copies = λ l less.
       ⊎_elim
       (λ (below : l < k).
-      ap (λ (rs : List ℕ). length rs) (get_or_append_left regs (last ∷ []) [] l (let count = whole.count in omega arith))
+      ap (λ (rs : List ℕ). length rs)
+      (get_or_append_left regs (last ∷ []) [] l (let count = whole.count in omega arith))
       ∙ whole.copies l below)
       (λ (above : k ≤ l).
       let e : k ≡ l = omega arith in

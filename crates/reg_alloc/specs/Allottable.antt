@@ -32,5 +32,7 @@ pub record AreAllotted (d : Datapath) (arcs : List Arc) (regs : List (List ℕ))
   pub unroll : ℕ
   pub unroll_is : IsUnroll arcs unroll
   pub fit : IsFirstFit d.period unroll arcs regs
-  pub sizes : (k i : ℕ) → k < length arcs → i < (arc_of arcs k).copies
+  pub sizes : (k i : ℕ)
+      → k < length arcs
+      → i < (arc_of arcs k).copies
       → register_of regs k i < file_size d (arc_of arcs k).port

@@ -1,7 +1,7 @@
 pub mod Problems
-pub mod Searches
 pub mod Raising
 pub mod Greater
+mod ByHeight
 pub mod Ordered
 pub mod PortSets
 pub mod Readers

@@ -17,7 +17,8 @@ use Rattle.plan_core.specs.declared.schedule.Assigned.{Assigned}
 use Rattle.plan_core.proofs.OneHeight.{live_of}
 use Rattle.plan_core.proofs.Readers.{operands_few, reader_there}
 use Rattle.schedule_order.specs.Problem.{IsProblem}
-use Rattle.schedule_order.specs.Private.Search.{HasOperand}
+use Rattle.node_order.specs.Topological.{HasOperand, CanBeOrdered}
+use Rattle.node_order.proofs.Operands.{edge_over, read_over}
 
 pub latency_few : (d : Datapath) → IsDatapath d → (u : ℕ) → latency_on d u ≤ 8
 latency_few d is u =
@@ -26,6 +27,16 @@ latency_few d is u =
   where
     past : unit_of d u ≡ no_unit → latency_on d u ≤ 8
     past e = let same = ap (λ (x : FunctionalUnit). x.latency) e in omega arith
+
+-- the port at which a node reads its operand without a delay, and back
+pub now_over : (nodes : List Node) (v u : ℕ) → HasOperand nodes v u → (q : ℕ) × ReadsNow nodes v q u
+now_over nodes v u h =
+    let over = edge_over (node_of nodes v).edges u 0 h in
+    (over.0, record { reads = record { port = over.1.port; node = over.1.node }; now = over.1.delay })
+
+pub over_now : (nodes : List Node) (v q u : ℕ) → ReadsNow nodes v q u → HasOperand nodes v u
+over_now nodes v q u r =
+    read_over (node_of nodes v).edges u 0 q (record { port = r.reads.port; node = r.reads.node; delay = r.now })
 
 -- what is read at an edge, as the code reads it
 module _ (nodes : List Node) (c k : ℕ) (node : Node) (items : List Edge) (node_is : node ≡ node_of nodes c)
@@ -45,7 +56,8 @@ module _ (nodes : List Node) (c k : ℕ) (node : Node) (items : List Edge) (node
   pub delay_is : (slice_index_or items k no_edge).delay ≡ delay_at nodes c k
   delay_is = ap (λ (es : List Edge). (slice_index_or es k no_edge).delay) edges_are
 
-  pub read_now : k < length items → (slice_index_or items k no_edge).delay ≡ 0
+  pub read_now : k < length items
+      → (slice_index_or items k no_edge).delay ≡ 0
       → ReadsNow nodes c k (slice_index_or items k no_edge).node
   read_now less now = record { reads = read_at less; now = sym delay_is ∙ now }
 
@@ -53,7 +65,9 @@ module _ (nodes : List Node) (c k : ℕ) (node : Node) (items : List Edge) (node
   not_now late now = late (delay_is ∙ now)
 
 module _ (d : Datapath) (a : Assigned) (is : IsProblem d a) where
-  pub edge_in : (c q : ℕ) → c < length a.lowered.nodes → q < length (node_of a.lowered.nodes c).edges
+  pub edge_in : (c q : ℕ)
+      → c < length a.lowered.nodes
+      → q < length (node_of a.lowered.nodes c).edges
       → (edge_of (node_of a.lowered.nodes c) q).node < length a.lowered.nodes
   edge_in c q there port = is.schedulable.edges c no_node there q no_edge port
 
@@ -80,12 +94,14 @@ module _ (d : Datapath) (a : Assigned) (is : IsProblem d a) where
   short v = latency_few d is.path (unit_in a.units v)
 
   -- an operand of the same sample is higher
-  pub higher : (v u : ℕ) → HasOperand a.lowered.nodes v u → is.schedulable.height v < is.schedulable.height u
-  higher v u h =
-      let there = operand_in v h.0 u h.1.reads in
-      let above = (is.schedulable.heights u there).above v h.0 h.1 in
-      let positive = live u in
-      omega arith
-
-  pub operand_there : (v u : ℕ) → HasOperand a.lowered.nodes v u → u < length a.lowered.nodes
-  operand_there v u h = operand_in v h.0 u h.1.reads
+  pub can_be_ordered : CanBeOrdered a.lowered.nodes
+  can_be_ordered = record {
+    count = is.schedulable.node_count;
+    closed = λ v u there h. (let r = now_over a.lowered.nodes v u h in operand_in v r.0 u r.1.reads);
+    rank = is.schedulable.height;
+    rises = λ v u there h.
+        let r = now_over a.lowered.nodes v u h in
+        let above = (is.schedulable.heights u (operand_in v r.0 u r.1.reads)).above v r.0 r.1 in
+        let positive = live u in
+        omega arith;
+  }

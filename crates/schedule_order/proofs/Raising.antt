@@ -1,19 +1,32 @@
 -- Heights that are raised, from the nodes without consumers on.
-use Rattle.std.proofs.Common.{◌≡◌, ◌≢◌, ◌∙◌, sym, ap, subst, arith, ℕ, ◌+◌, ◌*◌, ◌<◌, ◌≤◌, ◌⊎◌, inl, inr, ⊎_elim, List, [], ◌∷◌, ◌++◌, length}
+use Rattle.std.proofs.Common.{◌≡◌, ◌≢◌, ◌∙◌, sym, ap, subst, arith, ℕ, ◌+◌, ◌*◌, ◌<◌, ◌≤◌, ◌⊎◌, inl, inr, ⊎_elim, List}
+use Rattle.std.proofs.Common.{[], ◌∷◌, ◌++◌, length}
 use Rattle.std.specs.Prelude.{slice_index_or}
 use Rattle.std.proofs.lemmas.Bool.{cases_lt, cases_eq}
 use Rattle.std.proofs.lemmas.List.{get_or_past}
 use Rattle.datapath.specs.declared.types.Datapath.{Datapath}
+use Rattle.signal_graph.specs.declared.graph.Node.{Node}
 use Rattle.plan_core.specs.Operands.{node_of, edge_of, delay_at}
 use Rattle.plan_core.specs.Heights.{ReadsNow, latency_of}
 use Rattle.plan_core.specs.declared.schedule.Assigned.{Assigned}
 use Rattle.plan_core.proofs.Readers.{reader_there}
 use Rattle.schedule_order.specs.Problem.{IsProblem}
-use Rattle.schedule_order.specs.Order.{IsAt}
-use Rattle.schedule_order.specs.Private.Search.{HasOperand}
-use Rattle.schedule_order.specs.Private.Heights.{height_in, most_height, AreHeightsOf, RaisesTo, RaisesOperands, IsRaising}
-use Rattle.schedule_order.proofs.Problems.{short}
-use Rattle.schedule_order.proofs.Searches.{len, below, top, at_split, ordered_less}
+use Rattle.node_order.specs.Topological.{IsAt, HasOperand, IsOrdered}
+use Rattle.schedule_order.specs.Private.Heights.{height_in, most_height, AreHeightsOf, RaisesTo, RaisesOperands}
+use Rattle.schedule_order.specs.Private.Heights.{IsRaising}
+use Rattle.node_order.proofs.Pushes.{len, below, top, at_split}
+use Rattle.schedule_order.proofs.Problems.{short, over_now}
+
+-- an order without its last node
+ordered_less : (nodes : List Node) (rest : List ℕ) (v : ℕ) → IsOrdered nodes (rest ++ v ∷ []) → IsOrdered nodes rest
+ordered_less nodes rest v is = record {
+  there = λ i lt. subst (λ (w : ℕ). w < length nodes) (below rest v i lt) (is.there i (omega (arith, len rest v)));
+  operands = λ i u lt r.
+      let h = is.operands i u (omega (arith, len rest v))
+      (subst (λ (w : ℕ). HasOperand nodes w u) (sym (below rest v i lt)) r) in
+      let before = h.1 in
+      (h.0, h.1, sym (below rest v h.0 (omega arith)) ∙ h.2);
+}
 
 module _ (d : Datapath) (a : Assigned) (v height : ℕ) (first : List ℕ) where
   module _ (k : ℕ) (old : List ℕ) (before : RaisesOperands d a v k height first old) where
@@ -49,7 +62,9 @@ module _ (d : Datapath) (a : Assigned) (v height : ℕ) (first : List ℕ) where
       same_node q w at r =
           sym r.reads.node ∙ ap (λ (p : ℕ). (edge_of (node_of a.lowered.nodes v) p).node) at ∙ reads.reads.node
 
-      reached_more : (q w : ℕ) → q < k + 1 → ReadsNow a.lowered.nodes v q w
+      reached_more : (q w : ℕ)
+          → q < k + 1
+          → ReadsNow a.lowered.nodes v q w
           → latency_of d a w + height ≤ height_in new w
       reached_more q w less r =
           ⊎_elim
@@ -134,13 +149,13 @@ module _ (d : Datapath) (a : Assigned) (is : IsProblem d a) where
         (λ (same : v ≡ c). subst (λ (w : ℕ). IsAt rest w ⊎ AboveIn new w) same
         (⊎_elim (λ (e : height_in new v ≡ height_in old v). inr (v_above e))
         (λ (h : (q : ℕ) × ReadsNow a.lowered.nodes v q v × (height_in new v ≡ latency_of d a v + height_in old v)).
-        inl (operand_left v (h.0, h.1))) (r.only v)))
+        inl (operand_left v (over_now a.lowered.nodes v h.0 v h.1))) (r.only v)))
         (at_split rest v c at))
         (λ (up : AboveIn old c).
         ⊎_elim (λ (e : height_in new c ≡ height_in old c). inr (λ q x h.
         (let b = up q x h in let k = r.keeps x in omega arith)))
         (λ (h : (q : ℕ) × ReadsNow a.lowered.nodes v q c × (height_in new c ≡ latency_of d a c + height_in old v)).
-        inl (operand_left c (h.0, h.1))) (r.only c))
+        inl (operand_left c (over_now a.lowered.nodes v h.0 c h.1))) (r.only c))
         (before.above c there)
 
     abbrev ReachedIn : List ℕ → ℕ → Type 0
@@ -159,7 +174,8 @@ module _ (d : Datapath) (a : Assigned) (is : IsProblem d a) where
         (λ (h : (q : ℕ) × ReadsNow a.lowered.nodes v q x × (height_in new x ≡ latency_of d a x + height_in old v)).
         let k = r.keeps v in let e = h.2 in inr (v, h.0, h.1, omega arith)) (r.only x)
 
-    small_more : (x : ℕ) → x < length a.lowered.nodes
+    small_more : (x : ℕ)
+        → x < length a.lowered.nodes
         → height_in new x + 8 * length rest ≤ most_height (length a.lowered.nodes)
     small_more x there =
         let n = len rest v in
@@ -177,7 +193,9 @@ module _ (d : Datapath) (a : Assigned) (is : IsProblem d a) where
       small = small_more;
     }
 
-  pub raising_ends : (order heights : List ℕ) → length order ≡ 0 → IsRaising d a order heights
+  pub raising_ends : (order heights : List ℕ)
+      → length order ≡ 0
+      → IsRaising d a order heights
       → AreHeightsOf d a heights
   raising_ends order heights empty all = record {
     count = all.count;
@@ -194,7 +212,10 @@ module _ (d : Datapath) (a : Assigned) (is : IsProblem d a) where
         (cases_lt v (length a.lowered.nodes));
   }
     where
-      up : (c : ℕ) → c < length a.lowered.nodes → (q x : ℕ) → ReadsNow a.lowered.nodes c q x
+      up : (c : ℕ)
+          → c < length a.lowered.nodes
+          → (q x : ℕ)
+          → ReadsNow a.lowered.nodes c q x
           → latency_of d a x + height_in heights c ≤ height_in heights x
       up c there q x h =
           ⊎_elim (λ (at : IsAt order c). absurd (let less = at.1 in omega arith))
@@ -202,11 +223,16 @@ module _ (d : Datapath) (a : Assigned) (is : IsProblem d a) where
           → latency_of d a y + height_in heights c ≤ height_in heights y). f q x h)
           (all.above c there)
 
-      by : (x : ℕ) → (height_in heights x ≡ latency_of d a x)
-          ⊎ ((c : ℕ) × (q : ℕ) × ReadsNow a.lowered.nodes c q x
+      by : (x : ℕ)
+          → (height_in heights x ≡ latency_of d a x)
+          ⊎ ((c : ℕ)
+          × (q : ℕ)
+          × ReadsNow a.lowered.nodes c q x
           × (height_in heights x ≤ latency_of d a x + height_in heights c))
           → (height_in heights x ≡ latency_of d a x)
-          ⊎ ((c : ℕ) × (q : ℕ) × ReadsNow a.lowered.nodes c q x
+          ⊎ ((c : ℕ)
+          × (q : ℕ)
+          × ReadsNow a.lowered.nodes c q x
           × (height_in heights x ≡ latency_of d a x + height_in heights c))
       by x (inl e) = inl e
       by x (inr h) =

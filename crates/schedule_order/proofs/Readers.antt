@@ -1,8 +1,13 @@
 -- The ports that read a node.
-use Rattle.std.proofs.Common.{Result, Ok, Err, ◌≡◌, ◌≢◌, ◌∙◌, ◌↔◌, ◌⊎◌, refl, sym, ap, ap₂, subst, arith, inl, inr, ⊎_elim, ℕ, ◌+◌, ◌/◌, ◌%◌, ◌<◌, ◌≤◌, List, length, Contains, get_or-set_same, get_or-set_other}
-use Rattle.std.specs.Prelude.{slice_index_or, slice_set, OnOk}
+use Rattle.std.proofs.Common.{Result, Ok, Err, ◌≡◌, ◌≢◌, ◌∙◌, ◌↔◌, ◌⊎◌, refl, sym, ap, ap₂, subst, arith, inl, inr}
+use Rattle.std.proofs.Common.{⊎_elim, ℕ, ◌+◌, ◌/◌, ◌%◌, ◌<◌, ◌≤◌, List, length, All, Contains, get_or-set_same}
+use Rattle.std.proofs.Common.{get_or-set_other}
+use Rattle.std.specs.Prelude.{slice_index_or, slice_set, OnOk, OnErr}
 use Rattle.std.proofs.lemmas.Bool.{cases_lt, cases_eq}
 use Rattle.std.proofs.lemmas.List.{length-set, get_or_read}
+use Rattle.bit_sets.specs.Bits.{Has}
+use Rattle.bit_sets.specs.Sets.{none_of_128}
+use Rattle.bit_sets.specs.declared.set128.Set128.{Set128}
 use Rattle.operations.specs.declared.units.PortRef.{PortRef}
 use Rattle.datapath.specs.declared.types.Datapath.{Datapath}
 use Rattle.plan_core.specs.Hardware.{port_of}
@@ -12,14 +17,17 @@ use Rattle.plan_core.specs.ListSchedule.{IsDestination, AreDestinations}
 use Rattle.plan_core.specs.declared.schedule.Assigned.{Assigned}
 use Rattle.plan_core.proofs.Readers.{reader_there}
 use Rattle.schedule_order.specs.Problem.{IsProblem}
-use Rattle.schedule_order.specs.Private.Ports.{place, port_in, Has, no_ports, IsPortOf, ArePortsOf}
-use Rattle.schedule_order.specs.Private.Destinations.{set_at, IsReadBefore, AreReaders, IsReaderSet, AreReadersOf, IsReadAt, AddsReads}
-use Rattle.schedule_order.specs.declared.ports.PortSet.{PortSet}
+use Rattle.schedule_order.specs.Private.Ports.{place, port_in, IsPortOf, ArePortsOf}
+use Rattle.schedule_order.specs.Private.Destinations.{set_at, IsReadBefore, AreReaders, IsReaderSet, AreReadersOf}
+use Rattle.schedule_order.specs.Private.Destinations.{IsReadAt, AddsReads}
 use Rattle.schedule_order.proofs.Problems.{edges_few}
 
 module _ (a : Assigned) where
-  pub readers_more : (c k : ℕ) (old new : List PortSet) → k ≡ length (node_of a.lowered.nodes c).edges
-      → AreReaders a c old → AddsReads a c k old new → AreReaders a (c + 1) new
+  pub readers_more : (c k : ℕ) (old new : List Set128)
+      → k ≡ length (node_of a.lowered.nodes c).edges
+      → AreReaders a c old
+      → AddsReads a c k old new
+      → AreReaders a (c + 1) new
   readers_more c k old new k_is before adds = record {
     count = adds.count ∙ before.count;
     sets = λ v j there.
@@ -55,10 +63,10 @@ module _ (a : Assigned) where
             is = h.is ∙ ap (λ (x : ℕ). place (unit_in a.units x) h.q) at;
           }
 
-  module _ (c k x : ℕ) (first old : List PortSet) (item more : PortSet) (before : AddsReads a c k first old)
+  module _ (c k x : ℕ) (first old : List Set128) (item more : Set128) (before : AddsReads a c k first old)
       (reads : Reads a.lowered.nodes c k x) (inside : x < length old) (item_is : item ≡ slice_index_or old x item)
-      (with_port : (j : ℕ) → Has more j ↔ (Has item j ⊎ (j ≡ place (unit_in a.units c) k))) where
-    abbrev new : List PortSet
+      (with_port : (j : ℕ) → Has more.bits j ↔ (Has item.bits j ⊎ (j ≡ place (unit_in a.units c) k))) where
+    abbrev new : List Set128
     new = slice_set old x more
 
     later : (v j : ℕ) → IsReadAt a c k v j → IsReadAt a c (k + 1) v j
@@ -67,8 +75,9 @@ module _ (a : Assigned) where
     read_here : (j : ℕ) → j ≡ place (unit_in a.units c) k → IsReadAt a c (k + 1) x j
     read_here j e = record { q = k; early = omega arith; reads = reads; is = e }
 
-    earlier_or_here : (v j : ℕ) → (r : IsReadAt a c (k + 1) v j) → IsReadAt a c k v j
-        ⊎ ((v ≡ x) × (j ≡ place (unit_in a.units c) k))
+    earlier_or_here : (v j : ℕ)
+        → (r : IsReadAt a c (k + 1) v j)
+        → IsReadAt a c k v j ⊎ ((v ≡ x) × (j ≡ place (unit_in a.units c) k))
     earlier_or_here v j r =
         let e = r.early in
         ⊎_elim (λ (less : r.q < k). inl (record { q = r.q; early = less; reads = r.reads; is = r.is }))
@@ -80,38 +89,41 @@ module _ (a : Assigned) where
         ))
         (cases_lt r.q k)
 
-    now_here : set_at new x ≡ more
-    now_here = get_or-set_same old x more no_ports inside
+    now_here : set_at new x ≡ more.bits
+    now_here = ap (λ (s : Set128). s.bits) (get_or-set_same old x more none_of_128 inside)
 
-    was_here : item ≡ set_at old x
-    was_here = get_or_read old x item inside item_is no_ports
+    was_here : item.bits ≡ set_at old x
+    was_here = ap (λ (s : Set128). s.bits) (get_or_read old x item inside item_is none_of_128)
 
     at_x : (j : ℕ) → x < length first → Has (set_at new x) j ↔ (Has (set_at first x) j ⊎ IsReadAt a c (k + 1) x j)
     at_x j less =
         let step = before.sets x j less in (
           λ h. ⊎_elim
-              (λ (i : Has item j). ⊎_elim (λ (f : Has (set_at first x) j). inl f)
+              (λ (i : Has item.bits j). ⊎_elim (λ (f : Has (set_at first x) j). inl f)
               (λ (r : IsReadAt a c k x j). inr (later x j r))
-              (step.0 (subst (λ (s : PortSet). Has s j) was_here i)))
+              (step.0 (subst (λ (s : ℕ). Has s j) was_here i)))
               (λ (e : j ≡ place (unit_in a.units c) k). inr (read_here j e))
-              ((with_port j).0 (subst (λ (s : PortSet). Has s j) now_here h)),
-          λ h. subst (λ (s : PortSet). Has s j) (sym now_here) ((with_port j).1 (⊎_elim
-              (λ (f : Has (set_at first x) j). inl (subst (λ (s : PortSet). Has s j) (sym was_here) (step.1 (inl f))))
+              ((with_port j).0 (subst (λ (s : ℕ). Has s j) now_here h)),
+          λ h. subst (λ (s : ℕ). Has s j) (sym now_here) ((with_port j).1 (⊎_elim
+              (λ (f : Has (set_at first x) j). inl (subst (λ (s : ℕ). Has s j) (sym was_here) (step.1 (inl f))))
               (λ (r : IsReadAt a c (k + 1) x j). ⊎_elim
-              (λ (b : IsReadAt a c k x j). inl (subst (λ (s : PortSet). Has s j) (sym was_here) (step.1 (inr b))))
+              (λ (b : IsReadAt a c k x j). inl (subst (λ (s : ℕ). Has s j) (sym was_here) (step.1 (inr b))))
               (λ (e : (x ≡ x) × (j ≡ place (unit_in a.units c) k)). inr e.1)
               (earlier_or_here x j r))
               h)),
         )
 
-    elsewhere : (v j : ℕ) → v ≢ x → v < length first
+    elsewhere : (v j : ℕ)
+        → v ≢ x
+        → v < length first
         → Has (set_at new v) j ↔ (Has (set_at first v) j ⊎ IsReadAt a c (k + 1) v j)
     elsewhere v j other less =
         let step = before.sets v j less in
-        let same : set_at new v ≡ set_at old v = get_or-set_other old x v more no_ports other in (
+        let same : set_at new v ≡ set_at old v =
+        ap (λ (s : Set128). s.bits) (get_or-set_other old x v more none_of_128 other) in (
           λ h. ⊎_elim (λ (f : Has (set_at first v) j). inl f) (λ (r : IsReadAt a c k v j). inr (later v j r))
-              (step.0 (subst (λ (s : PortSet). Has s j) same h)),
-          λ h. subst (λ (s : PortSet). Has s j) (sym same) (⊎_elim
+              (step.0 (subst (λ (s : ℕ). Has s j) same h)),
+          λ h. subst (λ (s : ℕ). Has s j) (sym same) (⊎_elim
               (λ (f : Has (set_at first v) j). step.1 (inl f))
               (λ (r : IsReadAt a c (k + 1) v j). ⊎_elim
               (λ (b : IsReadAt a c k v j). step.1 (inr b))
@@ -131,12 +143,17 @@ module _ (a : Assigned) where
     }
 
   -- the same, as the code has it
-  pub adds_step : (c k x : ℕ) (first old : List PortSet) (item more : PortSet) (unit : ℕ) → AddsReads a c k first old
-      → Reads a.lowered.nodes c k x → x < length old → item ≡ slice_index_or old x item → unit ≡ unit_in a.units c
-      → ((j : ℕ) → Has more j ↔ (Has item j ⊎ (j ≡ place unit k))) → AddsReads a c (k + 1) first (slice_set old x more)
+  pub adds_step : (c k x : ℕ) (first old : List Set128) (item more : Set128) (unit : ℕ)
+      → AddsReads a c k first old
+      → Reads a.lowered.nodes c k x
+      → x < length old
+      → item ≡ slice_index_or old x item
+      → unit ≡ unit_in a.units c
+      → ((j : ℕ) → Has more.bits j ↔ (Has item.bits j ⊎ (j ≡ place unit k)))
+      → AddsReads a c (k + 1) first (slice_set old x more)
   adds_step c k x first old item more unit before reads inside item_is unit_is with_port =
       adds_more c k x first old item more before reads inside item_is
-      (subst (λ (u : ℕ). (j : ℕ) → Has more j ↔ (Has item j ⊎ (j ≡ place u k))) unit_is with_port)
+      (subst (λ (u : ℕ). (j : ℕ) → Has more.bits j ↔ (Has item.bits j ⊎ (j ≡ place u k))) unit_is with_port)
 
 same_place : (u p w q : ℕ) → p < 3 → q < 3 → place u p ≡ place w q → (u ≡ w) × (p ≡ q)
 same_place u p w q a b e = (omega arith, omega arith)
@@ -147,53 +164,69 @@ port_back u q few =
     let port : place u q % 3 ≡ q = omega arith in
     ap₂ (λ (x y : ℕ). port_of x y) unit port
 
-destinations_are : (d : Datapath) (a : Assigned) → IsProblem d a → (v : ℕ) (set : PortSet) (ports : List PortRef)
-    → IsReaderSet a v set → ArePortsOf set ports → AreDestinations a v ports
-destinations_are d a is v set ports readers are = record {
-  order = are.order;
-  read = λ i p less. read_by (slice_index_or ports i p) (are.each i p less);
-  every = λ c q r.
-      subst (Contains ports) (port_back (unit_in a.units c) q (few c q r))
-      (are.every (place (unit_in a.units c) q) ((readers (place (unit_in a.units c) q)).1 (record {
-        c = c;
-        early = reader_there a.lowered.nodes c q v r;
-        q = q;
-        reads = r;
-        is = refl;
-      })));
-}
-  where
-    few : (c q : ℕ) → Reads a.lowered.nodes c q v → q < 3
-    few c q r =
-        let most = edges_few d a is c (reader_there a.lowered.nodes c q v r) in let port = r.port in omega arith
+module _ (d : Datapath) (a : Assigned) (is : IsProblem d a) (v set : ℕ) (readers : IsReaderSet a v set) where
+  few : (c q : ℕ) → Reads a.lowered.nodes c q v → q < 3
+  few c q r =
+      let most = edges_few d a is c (reader_there a.lowered.nodes c q v r) in let port = r.port in omega arith
 
-    read_by : (p : PortRef) → IsPortOf set p → IsDestination a v p
-    read_by p h =
-        let r = (readers (place p.unit p.port)).0 h.there in
-        let same = same_place p.unit p.port (unit_in a.units r.c) r.q h.number (few r.c r.q r.reads) r.is in
-        record {
-          consumer = r.c;
-          reads = subst (λ (q : ℕ). Reads a.lowered.nodes r.c q v) (sym same.1) r.reads;
-          unit = sym same.0;
-        }
+  read_by : (p : PortRef) → IsPortOf set p → IsDestination a v p
+  read_by p h =
+      let r = (readers (place p.unit p.port)).0 h.there in
+      let same = same_place p.unit p.port (unit_in a.units r.c) r.q h.number (few r.c r.q r.reads) r.is in
+      record {
+        consumer = r.c;
+        reads = subst (λ (q : ℕ). Reads a.lowered.nodes r.c q v) (sym same.1) r.reads;
+        unit = sym same.0;
+      }
+
+  each_reads : (ports : List PortRef) → All (IsPortOf set) ports → All (IsDestination a v) ports
+  each_reads ports each i p less = read_by (slice_index_or ports i p) (each i p less)
+
+  destinations_are : (ports : List PortRef) → ArePortsOf set ports → AreDestinations a v ports
+  destinations_are ports are = record {
+    order = are.order;
+    read = each_reads ports are.each;
+    every = λ c q r.
+        subst (Contains ports) (port_back (unit_in a.units c) q (few c q r))
+        (are.every (place (unit_in a.units c) q) ((readers (place (unit_in a.units c) q)).1 (record {
+          c = c;
+          early = reader_there a.lowered.nodes c q v r;
+          q = q;
+          reads = r;
+          is = refl;
+        })));
+  }
 
 -- the set of the ports that read the node, as the code reads it
-reader_set : (a : Assigned) (list : List PortSet) (v : ℕ) (item : PortSet)
-    → AreReaders a (length a.lowered.nodes) list → v < length a.lowered.nodes → item ≡ slice_index_or list v item
-    → IsReaderSet a v item
+reader_set : (a : Assigned) (list : List Set128) (v : ℕ) (item : Set128)
+    → AreReaders a (length a.lowered.nodes) list
+    → v < length a.lowered.nodes
+    → item ≡ slice_index_or list v item
+    → IsReaderSet a v item.bits
 reader_set a list v item readers there is j =
     let n = readers.count in
-    subst (λ (s : PortSet). Has s j ↔ IsReadBefore a (length a.lowered.nodes) v j)
-    (sym (get_or_read list v item (omega arith) is no_ports)) (readers.sets v j there)
+    subst (λ (s : Set128). Has s.bits j ↔ IsReadBefore a (length a.lowered.nodes) v j)
+    (sym (get_or_read list v item (omega arith) is none_of_128)) (readers.sets v j there)
 
-module _ (a : Assigned) (list : List PortSet) (are : AreReadersOf a list) (v : ℕ)
+module _ (a : Assigned) (list : List Set128) (are : AreReadersOf a list) (v : ℕ)
     (there : v < length a.lowered.nodes) where
   pub set_there : v < length list
   set_there = let count = are.readers.count in omega (arith, there, count)
 
-  -- the ports of the set of a node are its destinations
-  pub listed : {A E : Type 0} (item : PortSet) → item ≡ slice_index_or list v item
-      → (r : Result A E) (ports : List PortRef) → OnOk r (ArePortsOf item ports) → OnOk r (AreDestinations a v ports)
-  listed item is (Ok x) ports h =
-      destinations_are are.problem.0 a are.problem.1 v item ports (reader_set a list v item are.readers there is) h
-  listed item is (Err e) ports h = tt
+  module _ (item : Set128) (item_is : item ≡ slice_index_or list v item) where
+    readers : IsReaderSet a v item.bits
+    readers = reader_set a list v item are.readers there item_is
+
+    -- the ports of the set of a node are its destinations
+    pub listed : {A E : Type 0} (r : Result A E) (ports : List PortRef)
+        → OnOk r (ArePortsOf item.bits ports)
+        → OnOk r (AreDestinations a v ports)
+    listed (Ok x) ports h = destinations_are are.problem.0 a are.problem.1 v item.bits readers ports h
+    listed (Err e) ports h = tt
+
+    -- and some of them are some
+    pub some_listed : {A E : Type 0} (r : Result A E) (ports : List PortRef)
+        → OnErr r (All (IsPortOf item.bits) ports)
+        → OnErr r (All (IsDestination a v) ports)
+    some_listed (Ok x) ports h = tt
+    some_listed (Err e) ports h = each_reads are.problem.0 a are.problem.1 v item.bits readers ports h

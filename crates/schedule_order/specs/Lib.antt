@@ -1,4 +1,5 @@
 pub mod Schedulable
 pub mod Problem
+pub mod Parts
 pub mod Order
 pub mod Private

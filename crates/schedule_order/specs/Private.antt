@@ -1,5 +1,4 @@
-pub mod Search
 pub mod Heights
-pub mod Buckets
+pub mod ByHeight
 pub mod Ports
 pub mod Destinations

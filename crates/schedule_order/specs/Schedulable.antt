@@ -13,8 +13,8 @@ use Rattle.plan_core.specs.declared.schedule.Assigned.{Assigned}
 pub record IsSchedulable (d : Datapath) (a : Assigned) : Type 0 where
   pub node_count : length a.lowered.nodes < 2 ^ 32
   pub edge_count : All (λ (node : Node). length node.edges ≡ operands node.op) a.lowered.nodes
-  pub edges : All (λ (node : Node). All (λ (edge : Edge). edge.node < length a.lowered.nodes) node.edges)
-      a.lowered.nodes
+  pub edges :
+      All (λ (node : Node). All (λ (edge : Edge). edge.node < length a.lowered.nodes) node.edges) a.lowered.nodes
   pub assigned : IsAssigned d a
   pub height : ℕ → ℕ
   pub heights : AreHeights d a height

@@ -1,13 +1,15 @@
 //! The ports that read each node.
 
-ghost use Rattle.std.specs.Prelude.{◌≡◌, ◌<◌, length, IfOk, OnOk};
+ghost use Rattle.std.specs.Prelude.{◌≡◌, ◌<◌, length, IfOk, OnOk, OnErr};
+ghost use Rattle.std.specs.List.{All};
 ghost use Rattle.plan_core.specs.Operands.{node_of};
-ghost use Rattle.plan_core.specs.ListSchedule.{AreDestinations};
-ghost use Rattle.schedule_order.specs.Problem.{IsProblem};
+ghost use Rattle.plan_core.specs.ListSchedule.{IsDestination, AreDestinations};
+ghost use Rattle.schedule_order.specs.Parts.{nodes_of, IsSound};
 ghost use Rattle.schedule_order.specs.Private.Destinations.{AreReaders, AddsReads};
 
-use crate::ports::PortSet;
+use crate::ports::{list_ports, with_port};
 use crate::problem::Problem;
+use bit_sets::Set128;
 use datapath::PortRef;
 use lists::List;
 use plan_core::Assigned;
@@ -18,7 +20,7 @@ use std::snapshot::Snapshot;
 /// For each node of a graph the ports that read it. A contract sees the graph.
 #[derive(Drop)]
 pub struct Destinations {
-    readers: List<PortSet>,
+    readers: List<Set128>,
     assigned: Snapshot<Assigned>,
 }
 
@@ -35,27 +37,27 @@ impl Model for Destinations {
 }
 
 /// Adds the ports of node c to those that read its operands.
-fn add_reads(problem: &Problem, c: usize, readers: &mut List<PortSet>)
-    requires problem { IsProblem problem.now.datapath.now problem.now.assigned.now }
-    requires node { c < length problem.now.assigned.now.lowered.nodes }
-    requires count { length readers.old ≡ length problem.now.assigned.now.lowered.nodes }
+fn add_reads(problem: &Problem, c: usize, readers: &mut List<Set128>)
+    requires problem { IsSound problem.now }
+    requires node { c < length (nodes_of problem.now) }
+    requires count { length readers.old ≡ length (nodes_of problem.now) }
     ensures { AddsReads problem.now.assigned.now c
-        (length (node_of problem.now.assigned.now.lowered.nodes c).edges) readers.old readers.new }
+        (length (node_of (nodes_of problem.now) c).edges) readers.old readers.new }
 {
     let unit = problem.unit(c);
     for (port, edge) in problem.node(c).edges.iter().enumerate() {
         let operand = edge.node as usize;
-        let more = readers[operand].with(unit, port as u8);
+        let more = with_port(readers[operand], unit, port as u8);
         readers[operand] = more;
     }
 }
 
 /// For each node the ports that read it.
-fn readers_of(alloc: Global, problem: &Problem) -> Result<List<PortSet>, AllocError>
-    requires { IsProblem problem.now.datapath.now problem.now.assigned.now }
-    ensures { IfOk result (AreReaders problem.now.assigned.now (length problem.now.assigned.now.lowered.nodes)) }
+fn readers_of(alloc: Global, problem: &Problem) -> Result<List<Set128>, AllocError>
+    requires { IsSound problem.now }
+    ensures { IfOk result (AreReaders problem.now.assigned.now (length (nodes_of problem.now))) }
 {
-    let mut readers = List::from_vec(vec![in alloc; PortSet::empty(); problem.count()]?);
+    let mut readers = List::from_vec(vec![in alloc; Set128::empty(); problem.count()]?);
     for c in 0..problem.count() {
         add_reads(problem, c, &mut readers);
     }
@@ -64,7 +66,7 @@ fn readers_of(alloc: Global, problem: &Problem) -> Result<List<PortSet>, AllocEr
 
 impl Destinations {
     pub fn new(alloc: Global, problem: &Problem) -> Result<Destinations, AllocError>
-        requires { IsProblem problem.now.datapath.now problem.now.assigned.now }
+        requires { IsSound problem.now }
         ensures { IfOk result (λ destinations. destinations ≡ problem.now.assigned.now) }
     {
         Ok(Destinations {
@@ -73,11 +75,13 @@ impl Destinations {
         })
     }
 
-    /// Puts the ports that read node v, in order, in the place of what the list has.
+    /// Puts the ports that read node v, in order, in the place of what the list has. Where no memory is left, some of
+    /// them.
     pub fn list(&self, v: u32, ports: &mut Vec<PortRef>) -> Result<(), AllocError>
         requires { v < length self.now.lowered.nodes }
-        ensures { OnOk result (AreDestinations self.now v ports.new.items) }
+        ensures ok { OnOk result (AreDestinations self.now v ports.new.items) }
+        ensures err { OnErr result (All (IsDestination self.now v) ports.new.items) }
     {
-        self.readers[v as usize].list(ports)
+        list_ports(self.readers[v as usize], ports)
     }
 }

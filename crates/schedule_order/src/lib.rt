@@ -2,13 +2,12 @@
 //! the ports to which each result goes. Page `docs/PLANNING.md`, "Cycles".
 #![tactic(auto)]
 
-mod buckets;
 mod destinations;
+mod height_buckets;
 mod heights;
 mod order;
 mod ports;
 mod problem;
-mod search;
 
 pub use destinations::Destinations;
 pub use order::placing_order;

@@ -4,7 +4,7 @@ ghost use Rattle.std.specs.Prelude.{◌≡◌, ◌<◌, ◌≤◌, length};
 ghost use Rattle.plan_core.specs.Operands.{node_of};
 ghost use Rattle.plan_core.specs.Assigned.{unit_in};
 ghost use Rattle.plan_core.specs.Heights.{latency_of};
-ghost use Rattle.schedule_order.specs.Problem.{IsProblem};
+ghost use Rattle.schedule_order.specs.Parts.{nodes_of, IsSound};
 
 use datapath::Datapath;
 use plan_core::Assigned;
@@ -20,22 +20,22 @@ pub struct Problem<'a> {
 impl Problem<'_> {
     /// How many nodes there are.
     pub fn count(&self) -> usize
-        ensures { result ≡ length self.now.assigned.now.lowered.nodes }
+        ensures { result ≡ length (nodes_of self.now) }
     {
         self.assigned.lowered.nodes.len()
     }
 
     pub fn node(&self, v: usize) -> &Node
-        requires { v < length self.now.assigned.now.lowered.nodes }
-        ensures { result.now ≡ node_of self.now.assigned.now.lowered.nodes v }
+        requires { v < length (nodes_of self.now) }
+        ensures { result.now ≡ node_of (nodes_of self.now) v }
     {
         &self.assigned.lowered.nodes[v]
     }
 
     /// The unit of node v.
     pub fn unit(&self, v: usize) -> u8
-        requires problem { IsProblem self.now.datapath.now self.now.assigned.now }
-        requires node { v < length self.now.assigned.now.lowered.nodes }
+        requires problem { IsSound self.now }
+        requires node { v < length (nodes_of self.now) }
         ensures unit { result ≡ unit_in self.now.assigned.now.units v }
         ensures there { result < length self.now.datapath.now.units }
     {
@@ -44,8 +44,8 @@ impl Problem<'_> {
 
     /// How many cycles node v takes on its unit.
     pub fn latency(&self, v: usize) -> u8
-        requires problem { IsProblem self.now.datapath.now self.now.assigned.now }
-        requires node { v < length self.now.assigned.now.lowered.nodes }
+        requires problem { IsSound self.now }
+        requires node { v < length (nodes_of self.now) }
         ensures latency { result ≡ latency_of self.now.datapath.now self.now.assigned.now v }
         ensures some { 1 ≤ result }
         ensures most { result ≤ 8 }

@@ -1,18 +1,22 @@
 -- The units of the first nodes, with one more.
-use Rattle.std.proofs.Common.{◌≡◌, ◌≢◌, ◌↔◌, ◌∙◌, sym, ap, subst, refl, arith, ⊎_elim, ℕ, ◌+◌, ◌<◌, ◌≤◌, ◌==◌, List, [], ◌∷◌, ◌++◌, length, take, replicate, count_by, slice_index_or, slice_set, Bool, true, false, eq-eqb, ne_eqb}
+use Rattle.std.proofs.Common.{◌≡◌, ◌≢◌, ◌↔◌, ◌∙◌, sym, ap, subst, refl, arith, ⊎_elim, ℕ, ◌+◌, ◌<◌, ◌≤◌, ◌==◌, List, []}
+use Rattle.std.proofs.Common.{◌∷◌, ◌++◌, length, take, replicate, count_by, slice_index_or, slice_set, Bool, true}
+use Rattle.std.proofs.Common.{false, eq-eqb, ne_eqb}
 use Rattle.std.proofs.lemmas.Bool.{cases_lt, cases_eq}
-use Rattle.std.proofs.lemmas.List.{get_or_read, get_or-set_same, get_or-set_other, length-set, length-replicate, get_or-replicate, get_or_past, length_push, get_or_append_left, get_or_push, take_all, take_at}
+use Rattle.std.proofs.lemmas.List.{get_or_read, get_or-set_same, get_or-set_other, length-set, length-replicate}
+use Rattle.std.proofs.lemmas.List.{get_or-replicate, get_or_past, length_push, get_or_append_left, get_or_push}
+use Rattle.std.proofs.lemmas.List.{take_all, take_at}
 use Rattle.std.proofs.lemmas.List.Sums.{count_by_more_yes, count_by_more_no, count_by-le-length}
 use Rattle.datapath.specs.declared.types.Datapath.{Datapath}
 use Rattle.signal_graph.specs.declared.graph.Node.{Node}
 use Rattle.plan_core.specs.Hardware.{port_of, HasRoute}
 use Rattle.plan_core.specs.Operands.{node_of, edge_of, Reads}
 use Rattle.plan_core.specs.Assigned.{IsUnitFor}
-use Rattle.unit_assign.specs.Private.UnitSets.{Has, no_units, all_units, set_at}
+use Rattle.unit_assign.specs.Private.UnitSets.{Has, none_of_32, all_of_32, set_at}
 use Rattle.unit_assign.specs.Private.Bindings.{load_in, IsOneMore, AreLightest, AreAllowed, IsNarrowed, IsBinding}
 use Rattle.unit_assign.specs.declared.binding.Binding.{Binding}
-use Rattle.unit_assign.specs.declared.unit_set.UnitSet.{UnitSet}
-use Rattle.unit_assign.proofs.SetSteps.{has_all}
+use Rattle.bit_sets.specs.declared.set32.Set32.{Set32}
+use Rattle.bit_sets.proofs.Bits.{has_all}
 use Rattle.unit_assign.proofs.Prefixes.{units_more}
 
 module _ (p : ℕ → Bool) (xs : List ℕ) (x : ℕ) where
@@ -37,7 +41,7 @@ module _ (p : ℕ → Bool) (xs : List ℕ) (x : ℕ) where
       ∙ ap (λ (ys : List ℕ). count_by p ys) (take_at xs (x ∷ []) (length xs) refl)
 
 module _ (d : Datapath) (nodes : List Node) where
-  module _ (v unit k : ℕ) (first old : List UnitSet) (item drivers all : UnitSet) (operand : ℕ)
+  module _ (v unit k : ℕ) (first old : List Set32) (item drivers all : Set32) (operand : ℕ)
       (before : IsNarrowed d nodes v unit k first old)
       (port : k < length (node_of nodes v).edges) (reads : operand ≡ (edge_of (node_of nodes v) k).node)
       (inside : operand < length old) (item_is : item ≡ slice_index_or old operand item)
@@ -46,19 +50,20 @@ module _ (d : Datapath) (nodes : List Node) where
     To : (n x u : ℕ) → Type 0
     To n x u = (q : ℕ) → q < n → Reads nodes v q x → HasRoute d u (port_of unit q)
 
-    at_operand : (x u : ℕ) → x < length first → x ≡ operand
+    at_operand : (x u : ℕ)
+        → x < length first
+        → x ≡ operand
         → Has (set_at (slice_set old operand all) x) u
-        ↔ (Has (set_at first x) u
-        × ((q : ℕ) → q < k + 1 → Reads nodes v q x → HasRoute d u (port_of unit q)))
+        ↔ (Has (set_at first x) u × ((q : ℕ) → q < k + 1 → Reads nodes v q x → HasRoute d u (port_of unit q)))
     at_operand x u there at =
         let set_is : set_at (slice_set old operand all) x ≡ all =
-        ap (λ (i : ℕ). set_at (slice_set old operand all) i) at ∙ get_or-set_same old operand all no_units inside in
+        ap (λ (i : ℕ). set_at (slice_set old operand all) i) at ∙ get_or-set_same old operand all none_of_32 inside in
         let was : set_at old x ≡ item =
-        ap (λ (i : ℕ). set_at old i) at ∙ sym (get_or_read old operand item inside item_is no_units) in
+        ap (λ (i : ℕ). set_at old i) at ∙ sym (get_or_read old operand item inside item_is none_of_32) in
         let now = before.sets x u there in (
           λ h.
-              let two = (both u).0 (subst (λ (s : UnitSet). Has s u) set_is h) in
-              let one = now.0 (subst (λ (s : UnitSet). Has s u) (sym was) two.0) in (
+              let two = (both u).0 (subst (λ (s : Set32). Has s u) set_is h) in
+              let one = now.0 (subst (λ (s : Set32). Has s u) (sym was) two.0) in (
                 one.0,
                 λ q less r.
                     ⊎_elim (λ (b : q < k). one.1 q b r)
@@ -68,23 +73,24 @@ module _ (d : Datapath) (nodes : List Node) where
                     (cases_lt q k),
               ),
           λ h.
-              subst (λ (s : UnitSet). Has s u) (sym set_is)
+              subst (λ (s : Set32). Has s u) (sym set_is)
               ((both u).1 (
-                subst (λ (s : UnitSet). Has s u) was (now.1 (h.0, λ q less r. h.1 q (omega arith) r)),
+                subst (λ (s : Set32). Has s u) was (now.1 (h.0, λ q less r. h.1 q (omega arith) r)),
                 (routes u).1 (h.1 k (omega arith) (record { port = port; node = sym reads ∙ sym at })),
               )),
         )
 
-    at_rest : (x u : ℕ) → x < length first → x ≢ operand
+    at_rest : (x u : ℕ)
+        → x < length first
+        → x ≢ operand
         → Has (set_at (slice_set old operand all) x) u
-        ↔ (Has (set_at first x) u
-        × ((q : ℕ) → q < k + 1 → Reads nodes v q x → HasRoute d u (port_of unit q)))
+        ↔ (Has (set_at first x) u × ((q : ℕ) → q < k + 1 → Reads nodes v q x → HasRoute d u (port_of unit q)))
     at_rest x u there other =
         let set_is : set_at (slice_set old operand all) x ≡ set_at old x =
-        get_or-set_other old operand x all no_units other in
+        get_or-set_other old operand x all none_of_32 other in
         let now = before.sets x u there in (
           λ h.
-              let one = now.0 (subst (λ (s : UnitSet). Has s u) set_is h) in (
+              let one = now.0 (subst (λ (s : Set32). Has s u) set_is h) in (
                 one.0,
                 λ q less r.
                     ⊎_elim (λ (b : q < k). one.1 q b r)
@@ -94,7 +100,7 @@ module _ (d : Datapath) (nodes : List Node) where
                     (cases_lt q k),
               ),
           λ h.
-              subst (λ (s : UnitSet). Has s u) (sym set_is) (now.1 (h.0, λ q less r. h.1 q (omega arith) r)),
+              subst (λ (s : Set32). Has s u) (sym set_is) (now.1 (h.0, λ q less r. h.1 q (omega arith) r)),
         )
 
     pub narrowed_more : IsNarrowed d nodes v unit (k + 1) first (slice_set old operand all)
@@ -104,15 +110,21 @@ module _ (d : Datapath) (nodes : List Node) where
           ⊎_elim (at_operand x u there) (at_rest x u there) (cases_eq x operand);
     }
 
-  pub narrowed_none : (v unit : ℕ) (sets : List UnitSet) → IsNarrowed d nodes v unit 0 sets sets
+  pub narrowed_none : (v unit : ℕ) (sets : List Set32) → IsNarrowed d nodes v unit 0 sets sets
   narrowed_none v unit sets = record {
     count = refl;
     sets = λ x u there. (λ h. (h, λ q less r. absurd (omega arith)), λ h. h.0);
   }
 
-  pub bound_none : (units loads : List ℕ) (sets : List UnitSet) (n m : ℕ) → units ≡ [] → loads ≡ replicate n 0
-      → sets ≡ replicate m all_units → n ≡ length d.units → m ≡ length nodes → length d.units ≤ 32
-      → (lightest : UnitSet) → lightest ≡ all_units
+  pub bound_none : (units loads : List ℕ) (sets : List Set32) (n m : ℕ)
+      → units ≡ []
+      → loads ≡ replicate n 0
+      → sets ≡ replicate m all_of_32
+      → n ≡ length d.units
+      → m ≡ length nodes
+      → length d.units ≤ 32
+      → (lightest : Set32)
+      → lightest ≡ all_of_32
       → IsBinding d nodes (record { units = units; loads = loads; allowed = sets; lightest = lightest })
   bound_none units loads sets n m none zero full n_is m_is few lightest all =
       let empty : length units ≡ 0 = ap length none in
@@ -130,13 +142,13 @@ module _ (d : Datapath) (nodes : List Node) where
           some = λ kind u x. (u, x, has_unit u x.there);
         };
         sets = record {
-          count = ap length full ∙ length-replicate m all_units ∙ m_is;
+          count = ap length full ∙ length-replicate m all_of_32 ∙ m_is;
           allowed = λ x u there unit_there. (
             λ h c q less r. absurd (omega arith),
-            λ h. subst (λ (s : UnitSet). Has s u)
-                (sym (ap (λ (xs : List UnitSet). set_at xs x) full
-                ∙ get_or-replicate m x all_units no_units (omega arith)))
-                (has_all u (omega arith)),
+            λ h. subst (λ (s : Set32). Has s u)
+                (sym (ap (λ (xs : List Set32). set_at xs x) full
+                ∙ get_or-replicate m x all_of_32 none_of_32 (omega arith)))
+                (has_all 32 u (omega arith)),
           );
         };
       }
@@ -146,7 +158,7 @@ module _ (d : Datapath) (nodes : List Node) where
 
       has_unit : (u : ℕ) → u < length d.units → Has lightest u
       has_unit u there =
-          subst (λ (s : UnitSet). Has s u) (sym all) (has_all u (omega (arith, there, few)))
+          subst (λ (s : Set32). Has s u) (sym all) (has_all 32 u (omega (arith, there, few)))
 
       no_load : (u : ℕ) → load_in loads u ≡ 0
       no_load u =
@@ -172,7 +184,10 @@ module _ (d : Datapath) (nodes : List Node) where
         let b = count_by-le-length (λ (w : ℕ). w == unit) old.units in
         omega arith
 
-    loads_more : (load : ℕ) → load ≡ slice_index_or old.loads unit load → (u : ℕ) → u < length d.units
+    loads_more : (load : ℕ)
+        → load ≡ slice_index_or old.loads unit load
+        → (u : ℕ)
+        → u < length d.units
         → load_in (slice_set old.loads unit (load + 1)) u ≡ count_by (λ (w : ℕ). w == u) (old.units ++ unit ∷ [])
     loads_more load read u u_there =
         ⊎_elim
@@ -189,7 +204,8 @@ module _ (d : Datapath) (nodes : List Node) where
         ∙ sym (count_no (λ (w : ℕ). w == u) old.units unit (ne_eqb unit u (λ e. other (sym e)))))
         (cases_eq u unit)
 
-    allowed_more : (new : List UnitSet) → IsNarrowed d nodes v unit (length (node_of nodes v).edges) old.allowed new
+    allowed_more : (new : List Set32)
+        → IsNarrowed d nodes v unit (length (node_of nodes v).edges) old.allowed new
         → AreAllowed d nodes (old.units ++ unit ∷ []) (v + 1) new
     allowed_more new narrowed = record {
       count = narrowed.count ∙ is.sets.count;
@@ -223,8 +239,11 @@ module _ (d : Datapath) (nodes : List Node) where
     }
 
     -- the unit has one node more
-    pub one_more : (loads : List ℕ) (load at : ℕ) → at ≡ unit → load ≡ slice_index_or old.loads at load
-        → loads ≡ slice_set old.loads at (load + 1) → IsOneMore old.loads loads unit
+    pub one_more : (loads : List ℕ) (load at : ℕ)
+        → at ≡ unit
+        → load ≡ slice_index_or old.loads at load
+        → loads ≡ slice_set old.loads at (load + 1)
+        → IsOneMore old.loads loads unit
     one_more loads load at at_is read loads_are =
         let inside : at < length old.loads =
         let c = is.load_count in let t = unit_is_there in omega (arith, c, t, at_is) in
@@ -236,9 +255,13 @@ module _ (d : Datapath) (nodes : List Node) where
               ap (λ (ls : List ℕ). load_in ls u) loads_are ∙ get_or-set_other old.loads at u (load + 1) 0 other;
         })
 
-    pub bound_more : (units loads : List ℕ) (load at : ℕ) (new : List UnitSet) → units ≡ old.units ++ unit ∷ []
-        → at ≡ unit → load ≡ slice_index_or old.loads at load → loads ≡ slice_set old.loads at (load + 1)
-        → IsNarrowed d nodes v unit (length (node_of nodes v).edges) old.allowed new → (lightest : UnitSet)
+    pub bound_more : (units loads : List ℕ) (load at : ℕ) (new : List Set32)
+        → units ≡ old.units ++ unit ∷ []
+        → at ≡ unit
+        → load ≡ slice_index_or old.loads at load
+        → loads ≡ slice_set old.loads at (load + 1)
+        → IsNarrowed d nodes v unit (length (node_of nodes v).edges) old.allowed new
+        → (lightest : Set32)
         → AreLightest d loads lightest
         → IsBinding d nodes (record { units = units; loads = loads; allowed = new; lightest = lightest })
     bound_more units loads load at new units_are at_is read loads_are narrowed lightest light =

@@ -1,5 +1,7 @@
 -- Whether a node can be on a unit, and the best of these units.
-use Rattle.std.proofs.Common.{◌≡◌, ◌↔◌, ◌∙◌, sym, ap, subst, refl, arith, inl, inr, ⊎_elim, ℕ, ◌+◌, ◌<◌, ◌≤◌, ◌==◌, List, length, count_by, slice_index_or, Bool, true, false, Option, Some, None, IfSome, if◌then◌else◌, nat_le, leb-true, leb-false}
+use Rattle.std.proofs.Common.{◌≡◌, ◌↔◌, ◌∙◌, sym, ap, subst, refl, arith, inl, inr, ⊎_elim, ℕ, ◌+◌, ◌<◌, ◌≤◌, ◌==◌}
+use Rattle.std.proofs.Common.{List, length, count_by, slice_index_or, Bool, true, false, Option, Some, None, IfSome}
+use Rattle.std.proofs.Common.{if◌then◌else◌, nat_le, leb-true, leb-false}
 use Rattle.std.proofs.lemmas.Bool.{cases_lt}
 use Rattle.std.proofs.lemmas.List.{take_all, get_or_read}
 use Rattle.datapath.specs.declared.types.Datapath.{Datapath}
@@ -9,10 +11,12 @@ use Rattle.plan_core.specs.Operands.{node_of, edge_of, Reads}
 use Rattle.plan_core.specs.Assigned.{unit_in, IsRightUnit, IsCandidate, load_of}
 use Rattle.plan_core.specs.Refusals.{IsNextNode, LacksOperand, LacksConsumer}
 use Rattle.plan_core.specs.declared.delay_lines.Lowered.{Lowered}
-use Rattle.unit_assign.specs.Private.UnitSets.{Has, no_units, set_at, IsFirstOf}
+use Rattle.bit_sets.specs.Bits.{IsFirstOf}
+use Rattle.unit_assign.specs.Private.UnitSets.{Has, none_of_32, set_at}
 use Rattle.unit_assign.specs.Private.Wiring.{IsProblem}
-use Rattle.unit_assign.specs.Private.Bindings.{load_in, AreLightest, IsAllowed, AreAllowed, HasRouteFrom, IsLeft, IsBestOf, IsBest, lighter_of}
-use Rattle.unit_assign.specs.declared.unit_set.UnitSet.{UnitSet}
+use Rattle.unit_assign.specs.Private.Bindings.{load_in, AreLightest, IsAllowed, AreAllowed, HasRouteFrom, IsLeft}
+use Rattle.unit_assign.specs.Private.Bindings.{IsBestOf, IsBest, lighter_of}
+use Rattle.bit_sets.specs.declared.set32.Set32.{Set32}
 use Rattle.unit_assign.specs.declared.wiring.Wiring.{Wiring}
 use Rattle.unit_assign.proofs.MissingSteps.{route_or_not, port_few, unit_there, node_is}
 
@@ -21,7 +25,8 @@ module _ (d : Datapath) (l : Lowered) (wiring : Wiring) (problem : IsProblem d l
   NoOperandLacks : Type 0
   NoOperandLacks = (q : ℕ) → LacksOperand d l units v u q → ⊥
 
-  by_routes : IsRightUnit d (node_of l.nodes v) u → ((q : ℕ) → LacksOperand d l units v u q → ⊥)
+  by_routes : IsRightUnit d (node_of l.nodes v) u
+      → ((q : ℕ) → LacksOperand d l units v u q → ⊥)
       → ((c q : ℕ) → c < v → Reads l.nodes c q v → HasRoute d u (port_of (unit_in units c) q))
       → IsCandidate d l.nodes units v u
   by_routes right none routes = record {
@@ -40,8 +45,10 @@ module _ (d : Datapath) (l : Lowered) (wiring : Wiring) (problem : IsProblem d l
     consumers = routes;
   }
 
-  pub nothing_missing : IsRightUnit d (node_of l.nodes v) u → ((q : ℕ) → LacksOperand d l units v u q → ⊥)
-      → ((c q : ℕ) → LacksConsumer d l units v u c q → ⊥) → IsCandidate d l.nodes units v u
+  pub nothing_missing : IsRightUnit d (node_of l.nodes v) u
+      → ((q : ℕ) → LacksOperand d l units v u q → ⊥)
+      → ((c q : ℕ) → LacksConsumer d l units v u c q → ⊥)
+      → IsCandidate d l.nodes units v u
   nothing_missing right none no_consumer =
       by_routes right none
       (λ c q less r.
@@ -54,15 +61,17 @@ module _ (d : Datapath) (l : Lowered) (wiring : Wiring) (problem : IsProblem d l
       (port_few l problem.wired c q there r.port)))
 
 -- the units on which node v has a route from a node, by the number of the node
-module _ (d : Datapath) (nodes : List Node) (units : List ℕ) (v u q operand : ℕ) (set : UnitSet) where
-  pub from_itself : operand ≡ v → Has set u ↔ HasRoute d u (port_of u q)
+module _ (d : Datapath) (nodes : List Node) (units : List ℕ) (v u q operand : ℕ) (set : Set32) where
+  pub from_itself : operand ≡ v
+      → Has set u ↔ HasRoute d u (port_of u q)
       → Has set u ↔ HasRouteFrom d nodes units v u q operand
   from_itself same is = (
     λ h. (λ less. absurd (omega arith), λ _. is.0 h),
     λ h. is.1 (h.1 same),
   )
 
-  pub from_bound : operand < v → Has set u ↔ HasRoute d (unit_in units operand) (port_of u q)
+  pub from_bound : operand < v
+      → Has set u ↔ HasRoute d (unit_in units operand) (port_of u q)
       → Has set u ↔ HasRouteFrom d nodes units v u q operand
   from_bound less is = (
     λ h. (λ _. is.0 h, λ same. absurd (omega arith)),
@@ -77,10 +86,12 @@ module _ (d : Datapath) (nodes : List Node) (units : List ℕ) (v u q operand : 
 
 -- the units that are left after some ports of node v
 module _ (d : Datapath) (nodes : List Node) (units : List ℕ) (v : ℕ) where
-  pub left_first : (right allowed all : UnitSet) → ((u : ℕ) → Has right u ↔ IsRightUnit d (node_of nodes v) u)
+  pub left_first : (right allowed all : Set32)
+      → ((u : ℕ) → Has right u ↔ IsRightUnit d (node_of nodes v) u)
       → ((u : ℕ) → u < length d.units → Has allowed u ↔ IsAllowed d nodes units v v u)
       → ((u : ℕ) → Has all u ↔ (Has right u × Has allowed u))
-      → (u : ℕ) → Has all u ↔ IsLeft d nodes units v 0 u
+      → (u : ℕ)
+      → Has all u ↔ IsLeft d nodes units v 0 u
   left_first right allowed all right_is allowed_is both u = (
     λ h.
         let two = (both u).0 h in
@@ -93,12 +104,14 @@ module _ (d : Datapath) (nodes : List Node) (units : List ℕ) (v : ℕ) where
     λ h. (both u).1 ((right_is u).1 h.right, (allowed_is u h.right.kind.there).1 h.consumers),
   )
 
-  pub left_more : (k operand : ℕ) (left takers all : UnitSet) → k < length (node_of nodes v).edges
+  pub left_more : (k operand : ℕ) (left takers all : Set32)
+      → k < length (node_of nodes v).edges
       → operand ≡ (edge_of (node_of nodes v) k).node
       → ((u : ℕ) → Has left u ↔ IsLeft d nodes units v k u)
       → ((u : ℕ) → u < length d.units → Has takers u ↔ HasRouteFrom d nodes units v u k operand)
       → ((u : ℕ) → Has all u ↔ (Has left u × Has takers u))
-      → (u : ℕ) → Has all u ↔ IsLeft d nodes units v (k + 1) u
+      → (u : ℕ)
+      → Has all u ↔ IsLeft d nodes units v (k + 1) u
   left_more k operand left takers all port reads left_is takers_are both u = (
     λ h.
         let two = (both u).0 h in
@@ -129,8 +142,11 @@ module _ (d : Datapath) (nodes : List Node) (units : List ℕ) (v : ℕ) where
         ),
   )
 
-  pub left_all : (k : ℕ) (left : UnitSet) → length (node_of nodes v).edges ≤ k
-      → ((u : ℕ) → Has left u ↔ IsLeft d nodes units v k u) → (u : ℕ) → Has left u ↔ IsCandidate d nodes units v u
+  pub left_all : (k : ℕ) (left : Set32)
+      → length (node_of nodes v).edges ≤ k
+      → ((u : ℕ) → Has left u ↔ IsLeft d nodes units v k u)
+      → (u : ℕ)
+      → Has left u ↔ IsCandidate d nodes units v u
   left_all k left all left_is u = (
     λ h.
         let its = (left_is u).0 h in
@@ -152,9 +168,11 @@ module _ (d : Datapath) (nodes : List Node) (units : List ℕ) (v : ℕ) where
   )
 
 module _ (d : Datapath) (nodes : List Node) (units : List ℕ) (v : ℕ) where
-  best_to : (n m : ℕ) (best : Option ℕ) → IsBest d nodes units v n best
+  best_to : (n m : ℕ) (best : Option ℕ)
+      → IsBest d nodes units v n best
       → ((w : ℕ) → n ≤ w → w < m → IsCandidate d nodes units v w → ⊥)
-      → ((w : ℕ) → w < n → IsCandidate d nodes units v w → w < m) → IsBest d nodes units v m best
+      → ((w : ℕ) → w < n → IsCandidate d nodes units v w → w < m)
+      → IsBest d nodes units v m best
   best_to n m None is past before = λ u less can.
       ⊎_elim (λ (b : u < n). is u b can) (λ (b : n ≤ u). past u b less can) (cases_lt u n)
   best_to n m (Some u) is past before =
@@ -171,7 +189,8 @@ module _ (d : Datapath) (nodes : List Node) (units : List ℕ) (v : ℕ) where
   same_load : (n w : ℕ) → n ≡ w → load_of d nodes units v n ≡ load_of d nodes units v w
   same_load n w e = ap (λ (x : ℕ). load_of d nodes units v x) e
 
-  best_last : (n : ℕ) → IsCandidate d nodes units v n
+  best_last : (n : ℕ)
+      → IsCandidate d nodes units v n
       → ((w : ℕ) → w < n → IsCandidate d nodes units v w → load_of d nodes units v n < load_of d nodes units v w)
       → IsBestOf d nodes units v (n + 1) n
   best_last n can fewer = record {
@@ -185,8 +204,10 @@ module _ (d : Datapath) (nodes : List Node) (units : List ℕ) (v : ℕ) where
         ⊎_elim (λ (b : w < n). absurd (let f = fewer w b other in omega arith)) (λ (b : n ≤ w). b) (cases_lt w n);
   }
 
-  best_stays : (n u : ℕ) → IsBestOf d nodes units v n u
-      → load_of d nodes units v u ≤ load_of d nodes units v n → IsBestOf d nodes units v (n + 1) u
+  best_stays : (n u : ℕ)
+      → IsBestOf d nodes units v n u
+      → load_of d nodes units v u ≤ load_of d nodes units v n
+      → IsBestOf d nodes units v (n + 1) u
   best_stays n u is less_or = record {
     below = (let b = is.below in omega arith);
     candidate = is.candidate;
@@ -199,12 +220,13 @@ module _ (d : Datapath) (nodes : List Node) (units : List ℕ) (v : ℕ) where
   }
 
   -- the best of the candidates below n, where those from n on are left
-  pub record IsChoosing (left : UnitSet) (best : Option ℕ) : Type 0 where
+  pub record IsChoosing (left : Set32) (best : Option ℕ) : Type 0 where
     pub n : ℕ
     pub best_is : IsBest d nodes units v n best
     pub left_are : (u : ℕ) → Has left u ↔ (IsCandidate d nodes units v u × (n ≤ u))
 
-  pub choosing_begins : (candidates : UnitSet) → ((u : ℕ) → Has candidates u ↔ IsCandidate d nodes units v u)
+  pub choosing_begins : (candidates : Set32)
+      → ((u : ℕ) → Has candidates u ↔ IsCandidate d nodes units v u)
       → IsChoosing candidates None
   choosing_begins candidates are_all = record {
     n = 0;
@@ -212,7 +234,9 @@ module _ (d : Datapath) (nodes : List Node) (units : List ℕ) (v : ℕ) where
     left_are = λ u. (λ h. ((are_all u).0 h, omega arith), λ h. (are_all u).1 h.0);
   }
 
-  pub choosing_ends : (left : UnitSet) (best : Option ℕ) → IsChoosing left best → ((u : ℕ) → Has left u → ⊥)
+  pub choosing_ends : (left : Set32) (best : Option ℕ)
+      → IsChoosing left best
+      → ((u : ℕ) → Has left u → ⊥)
       → IsBest d nodes units v (length d.units) best
   choosing_ends left best so_far none =
       best_to so_far.n (length d.units) best so_far.best_is
@@ -225,8 +249,11 @@ module _ (d : Datapath) (nodes : List Node) (units : List ℕ) (v : ℕ) where
     load_is u there =
         are u there ∙ sym (ap (λ (us : List ℕ). count_by (λ (w : ℕ). w == u) us) (take_all v units (omega arith)))
 
-    best_more_yes : (n : ℕ) (best : Option ℕ) → n < length d.units → IsBest d nodes units v n best
-        → IsCandidate d nodes units v n → IsBest d nodes units v (n + 1) (Some (lighter_of loads best n))
+    best_more_yes : (n : ℕ) (best : Option ℕ)
+        → n < length d.units
+        → IsBest d nodes units v n best
+        → IsCandidate d nodes units v n
+        → IsBest d nodes units v (n + 1) (Some (lighter_of loads best n))
     best_more_yes n None there is can = best_last n can (λ w less other. absurd (is w less other))
     best_more_yes n (Some u) there is can = by (nat_le (load_in loads u) (load_in loads n)) refl
       where
@@ -236,7 +263,8 @@ module _ (d : Datapath) (nodes : List Node) (units : List ℕ) (v : ℕ) where
         n_load : load_in loads n ≡ load_of d nodes units v n
         n_load = load_is n there
 
-        by : (t : Bool) → nat_le (load_in loads u) (load_in loads n) ≡ t
+        by : (t : Bool)
+            → nat_le (load_in loads u) (load_in loads n) ≡ t
             → IsBestOf d nodes units v (n + 1) (if t then u else n)
         by true e =
             best_stays n u is
@@ -249,12 +277,14 @@ module _ (d : Datapath) (nodes : List Node) (units : List ℕ) (v : ℕ) where
             let few = is.fewest w less other in let a = u_load in let b = n_load in omega arith)
 
     -- the first of those that are lightest of their kind
-    pub best_lightest : (candidates lightest both rest : UnitSet) (u : ℕ)
-        → ((w : ℕ) → Has candidates w ↔ IsCandidate d nodes units v w) → AreLightest d loads lightest
-        → ((w : ℕ) → Has both w ↔ (Has candidates w × Has lightest w)) → IsFirstOf both u rest
+    pub best_lightest : (candidates lightest both rest : Set32) (u : ℕ)
+        → ((w : ℕ) → Has candidates w ↔ IsCandidate d nodes units v w)
+        → AreLightest d loads lightest
+        → ((w : ℕ) → Has both w ↔ (Has candidates w × Has lightest w))
+        → IsFirstOf both.bits u rest.bits
         → IsBest d nodes units v (length d.units) (Some u)
     best_lightest candidates lightest both rest u are_all light both_is takes =
-        let two = (both_is u).0 takes.there in
+        let two = (both_is u).0 takes.taken.there in
         let can = (are_all u).0 two.0 in
         let kind = kind_of (node_of nodes v).op in
         let its = load_is u can.right.kind.there in
@@ -279,10 +309,12 @@ module _ (d : Datapath) (nodes : List Node) (units : List ℕ) (v : ℕ) where
               (cases_lt w u);
         }
 
-    pub choosing_goes_on : (old new : UnitSet) (best : Option ℕ) (u : ℕ) → IsChoosing old best → IsFirstOf old u new
+    pub choosing_goes_on : (old new : Set32) (best : Option ℕ) (u : ℕ)
+        → IsChoosing old best
+        → IsFirstOf old.bits u new.bits
         → IsChoosing new (Some (lighter_of loads best u))
     choosing_goes_on old new best u so_far takes =
-        let its = (so_far.left_are u).0 takes.there in
+        let its = (so_far.left_are u).0 takes.taken.there in
         let n : ℕ = so_far.n in
         let after : n ≤ u = its.1 in
         record {
@@ -294,7 +326,7 @@ module _ (d : Datapath) (nodes : List Node) (units : List ℕ) (v : ℕ) where
               its.0;
           left_are = λ w. (
             λ h.
-                let two = (takes.rest w).0 h in
+                let two = (takes.taken.rest w).0 h in
                 let was = (so_far.left_are w).0 two.0 in
                 let other = two.1 in (
                   was.0,
@@ -303,7 +335,7 @@ module _ (d : Datapath) (nodes : List Node) (units : List ℕ) (v : ℕ) where
                 ),
             λ h.
                 let past = h.1 in
-                (takes.rest w).1 (
+                (takes.taken.rest w).1 (
                   (so_far.left_are w).1 (h.0, omega arith),
                   λ same. absurd (omega arith),
                 ),
@@ -312,28 +344,40 @@ module _ (d : Datapath) (nodes : List Node) (units : List ℕ) (v : ℕ) where
 
 -- each unit that is best is there
 pub best_there : (d : Datapath) (nodes : List Node) (units : List ℕ) (v n : ℕ) (best : Option ℕ) (count : ℕ)
-    → count ≡ length d.units → IsBest d nodes units v n best → IfSome best (λ u. u < count)
+    → count ≡ length d.units
+    → IsBest d nodes units v n best
+    → IfSome best (λ u. u < count)
 best_there d nodes units v n None count same is = tt
 best_there d nodes units v n (Some u) count same is = let there = is.candidate.right.kind.there in omega arith
 
 -- the set of node v, as the code reads it
-pub set_read : (d : Datapath) (nodes : List Node) (units : List ℕ) (allowed : List UnitSet)
-    → AreAllowed d nodes units (length units) allowed → (v : ℕ) (item : UnitSet) → v < length nodes
-    → item ≡ slice_index_or allowed v item → item ≡ set_at allowed v
+pub set_read : (d : Datapath) (nodes : List Node) (units : List ℕ) (allowed : List Set32)
+    → AreAllowed d nodes units (length units) allowed
+    → (v : ℕ) (item : Set32)
+    → v < length nodes
+    → item ≡ slice_index_or allowed v item
+    → item ≡ set_at allowed v
 set_read d nodes units allowed are v item there is =
-    get_or_read allowed v item (let e = are.count in omega arith) is no_units
+    get_or_read allowed v item (let e = are.count in omega arith) is none_of_32
 
 -- before the first port, as the code reads the node and its set
-pub left_begin : (d : Datapath) (nodes : List Node) (units : List ℕ) (v : ℕ) (node : Node) (right item all : UnitSet)
-    (allowed : List UnitSet) → v < length nodes → length units ≡ v → node ≡ slice_index_or nodes v node
-    → item ≡ slice_index_or allowed v item → AreAllowed d nodes units (length units) allowed
-    → ((u : ℕ) → Has right u ↔ IsRightUnit d node u) → ((u : ℕ) → Has all u ↔ (Has right u × Has item u))
-    → (u : ℕ) → Has all u ↔ IsLeft d nodes units v 0 u
+pub left_begin :
+    (d : Datapath) (nodes : List Node) (units : List ℕ) (v : ℕ) (node : Node) (right item all : Set32)
+    (allowed : List Set32)
+    → v < length nodes
+    → length units ≡ v
+    → node ≡ slice_index_or nodes v node
+    → item ≡ slice_index_or allowed v item
+    → AreAllowed d nodes units (length units) allowed
+    → ((u : ℕ) → Has right u ↔ IsRightUnit d node u)
+    → ((u : ℕ) → Has all u ↔ (Has right u × Has item u))
+    → (u : ℕ)
+    → Has all u ↔ IsLeft d nodes units v 0 u
 left_begin d nodes units v node right item all allowed there count is item_is are right_is both =
     left_first d nodes units v right item all
     (λ u. subst (λ (n : Node). Has right u ↔ IsRightUnit d n u) (node_is nodes v node there is) (right_is u))
     (λ u inside.
-    subst (λ (s : UnitSet). Has s u ↔ IsAllowed d nodes units v v u)
+    subst (λ (s : Set32). Has s u ↔ IsAllowed d nodes units v v u)
     (sym (set_read d nodes units allowed are v item there item_is))
     (subst (λ (n : ℕ). Has (set_at allowed v) u ↔ IsAllowed d nodes units n v u) count (are.allowed v u there inside)))
     both

@@ -1,4 +1,3 @@
-pub mod SetSteps
 pub mod RouteSteps
 pub mod WiringSteps
 pub mod MissingSteps

@@ -1,5 +1,6 @@
 -- The lightest units of each kind, after one more node is bound.
-use Rattle.std.proofs.Common.{◌≡◌, ◌≢◌, ◌↔◌, ◌⊎◌, ◌∙◌, sym, ap, subst, arith, inl, inr, ⊎_elim, ℕ, ◌<◌, ◌≤◌, List, length, slice_index_or}
+use Rattle.std.proofs.Common.{◌≡◌, ◌≢◌, ◌↔◌, ◌⊎◌, ◌∙◌, sym, ap, subst, arith, inl, inr, ⊎_elim, ℕ, ◌<◌, ◌≤◌, List}
+use Rattle.std.proofs.Common.{length, slice_index_or}
 use Rattle.std.proofs.lemmas.Bool.{cases_eq}
 use Rattle.std.proofs.lemmas.List.{get_or_read}
 use Rattle.operations.specs.declared.units.Kind.{Kind}
@@ -10,11 +11,11 @@ use Rattle.unit_assign.specs.Private.UnitSets.{Has}
 use Rattle.unit_assign.specs.Private.Kinds.{set_of, AreKinds}
 use Rattle.unit_assign.specs.Private.Bindings.{load_in, IsOneMore, AreLightest}
 use Rattle.unit_assign.specs.declared.kinds.Kinds.{Kinds}
-use Rattle.unit_assign.specs.declared.unit_set.UnitSet.{UnitSet}
+use Rattle.bit_sets.specs.declared.set32.Set32.{Set32}
 
 -- the unit, which is of kind k, gets one more node, and `both` are the other units of this kind that were lightest
 module _ (d : Datapath) (old new : List ℕ) (unit : ℕ) (k : Kind) (is_kind : IsOfKind d k unit)
-    (grows : IsOneMore old new unit) (lightest rest same both : UnitSet) (before : AreLightest d old lightest)
+    (grows : IsOneMore old new unit) (lightest rest same both : Set32) (before : AreLightest d old lightest)
     (rest_is : (u : ℕ) → Has rest u ↔ (Has lightest u × (u ≢ unit))) (same_is : (u : ℕ) → Has same u ↔ IsOfKind d k u)
     (both_is : (u : ℕ) → Has both u ↔ (Has rest u × Has same u)) where
   one_kind : (i j : Kind) (u : ℕ) → IsOfKind d i u → IsOfKind d j u → i ≡ j
@@ -39,8 +40,12 @@ module _ (d : Datapath) (old new : List ℕ) (unit : ℕ) (k : Kind) (is_kind : 
       let c = grown w in
       omega (arith, a, b, c)
 
-  rest_every : (j : Kind) (u w : ℕ) → IsOfKind d j u → IsOfKind d j w → Has rest u
-      → load_in new w ≡ load_in new u → Has rest w
+  rest_every : (j : Kind) (u w : ℕ)
+      → IsOfKind d j u
+      → IsOfKind d j w
+      → Has rest u
+      → load_in new w ≡ load_in new u
+      → Has rest w
   rest_every j u w x y h same_load =
       let two = (rest_is u).0 h in
       let a = before.fewest j u w x y two.0 in
@@ -77,7 +82,7 @@ module _ (d : Datapath) (old new : List ℕ) (unit : ℕ) (k : Kind) (is_kind : 
             (rest_some j u x);
       }
 
-  module _ (none : (u : ℕ) → Has both u → ⊥) (load : ℕ) (load_is : load ≡ load_in new unit) (found all : UnitSet)
+  module _ (none : (u : ℕ) → Has both u → ⊥) (load : ℕ) (load_is : load ≡ load_in new unit) (found all : Set32)
       (found_is : (u : ℕ) → Has found u ↔ (Has same u × (load_in new u ≡ load)))
       (all_is : (u : ℕ) → Has all u ↔ (Has rest u ⊎ Has found u)) where
     -- the unit was the only one
@@ -119,8 +124,12 @@ module _ (d : Datapath) (old new : List ℕ) (unit : ℕ) (k : Kind) (is_kind : 
         let b = heavier w (of_k j u w x y h) in
         omega (arith, a, b, load_is)
 
-    found_every : (j : Kind) (u w : ℕ) → IsOfKind d j u → IsOfKind d j w → Has found u
-        → load_in new w ≡ load_in new u → Has found w
+    found_every : (j : Kind) (u w : ℕ)
+        → IsOfKind d j u
+        → IsOfKind d j w
+        → Has found u
+        → load_in new w ≡ load_in new u
+        → Has found w
     found_every j u w x y h e =
         (found_is w).1 ((same_is w).1 (of_k j u w x y h), e ∙ ((found_is u).0 h).1)
 
@@ -144,8 +153,11 @@ module _ (d : Datapath) (old new : List ℕ) (unit : ℕ) (k : Kind) (is_kind : 
     }
 
 -- the kind of the unit, as the code reads it
-pub kind_read : (d : Datapath) (unit at : ℕ) (item : FunctionalUnit) → unit < length d.units → at ≡ unit
-    → item ≡ slice_index_or d.units at item → IsOfKind d item.kind unit
+pub kind_read : (d : Datapath) (unit at : ℕ) (item : FunctionalUnit)
+    → unit < length d.units
+    → at ≡ unit
+    → item ≡ slice_index_or d.units at item
+    → IsOfKind d item.kind unit
 kind_read d unit at item there at_is is = record {
   there = there;
   kind = ap (λ (u : FunctionalUnit). u.kind)
@@ -153,11 +165,18 @@ kind_read d unit at item there at_is is = record {
 }
 
 -- how many nodes it has
-pub load_read : (loads : List ℕ) (unit at load : ℕ) → unit < length loads → at ≡ unit
-    → load ≡ slice_index_or loads at load → load ≡ load_in loads unit
+pub load_read : (loads : List ℕ) (unit at load : ℕ)
+    → unit < length loads
+    → at ≡ unit
+    → load ≡ slice_index_or loads at load
+    → load ≡ load_in loads unit
 load_read loads unit at load there at_is is =
     get_or_read loads unit load there (is ∙ ap (λ (i : ℕ). slice_index_or loads i load) at_is) 0
 
-pub same_kind : (d : Datapath) (kinds : Kinds) → AreKinds d kinds → (k : Kind) (set : UnitSet) → set ≡ set_of kinds k
-    → (u : ℕ) → Has set u ↔ IsOfKind d k u
-same_kind d kinds are k set is u = subst (λ (s : UnitSet). Has s u ↔ IsOfKind d k u) (sym is) (are.each k u)
+pub same_kind : (d : Datapath) (kinds : Kinds)
+    → AreKinds d kinds
+    → (k : Kind) (set : Set32)
+    → set ≡ set_of kinds k
+    → (u : ℕ)
+    → Has set u ↔ IsOfKind d k u
+same_kind d kinds are k set is u = subst (λ (s : Set32). Has s u ↔ IsOfKind d k u) (sym is) (are.each k u)

@@ -1,5 +1,6 @@
 -- A graph has one binding to units or one fault, and not both.
-use Rattle.std.proofs.Common.{◌≡◌, ◌⊎◌, ◌∙◌, sym, ap, subst, refl, arith, inl, inr, ⊎_elim, ℕ, ◌<◌, ◌≤◌, List, length, take, Result, Ok, Err}
+use Rattle.std.proofs.Common.{◌≡◌, ◌⊎◌, ◌∙◌, sym, ap, subst, refl, arith, inl, inr, ⊎_elim, ℕ, ◌<◌, ◌≤◌, List, length}
+use Rattle.std.proofs.Common.{take, Result, Ok, Err}
 use Rattle.std.proofs.lemmas.Bool.{cases_lt}
 use Rattle.std.proofs.lemmas.List.{get_or-take, length-take-le, take_all}
 use Rattle.operations.specs.declared.units.Kind.{Kind}
@@ -77,8 +78,12 @@ module _ (d : Datapath) (l : Lowered) where
   not_bound units v u Memory h is = h
 
   -- the fault's node has a unit where more nodes have one
-  stops_inside : (units all : List ℕ) (v : ℕ) (fault : UnitFault) → IsNextNode d l units v → AreUnits d l.nodes all
-      → v < length all → Stops units v fault → ⊥
+  stops_inside : (units all : List ℕ) (v : ℕ) (fault : UnitFault)
+      → IsNextNode d l units v
+      → AreUnits d l.nodes all
+      → v < length all
+      → Stops units v fault
+      → ⊥
   stops_inside units all v fault next are longer stops =
       let count = length-take-le v all (omega arith) in
       let n = next.count in
@@ -120,8 +125,10 @@ module _ (d : Datapath) (l : Lowered) where
           | above h ↦ absurd (x.first y.c y.q (inl h) y.lacks)
         ]
 
-    missing_once : (a b : PortRef) → IsOperandWithout d l units v u a ⊎ IsConsumerWithout d l units v u a
-        → IsOperandWithout d l units v u b ⊎ IsConsumerWithout d l units v u b → a ≡ b
+    missing_once : (a b : PortRef)
+        → IsOperandWithout d l units v u a ⊎ IsConsumerWithout d l units v u a
+        → IsOperandWithout d l units v u b ⊎ IsConsumerWithout d l units v u b
+        → a ≡ b
     missing_once a b (inl x) (inl y) = operand_once a b x y
     missing_once a b (inl x) (inr y) = absurd (y.operands x.q x.lacks)
     missing_once a b (inr x) (inl y) = absurd (x.operands y.q y.lacks)

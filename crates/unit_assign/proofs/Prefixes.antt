@@ -1,7 +1,9 @@
 -- The unit of a node depends on the units of the nodes before it alone.
-use Rattle.std.proofs.Common.{◌≡◌, ◌∙◌, sym, ap, subst, arith, ℕ, ◌<◌, ◌≤◌, ◌==◌, ⊎_elim, List, [], ◌∷◌, ◌++◌, length, take, count_by}
+use Rattle.std.proofs.Common.{◌≡◌, ◌∙◌, sym, ap, subst, arith, ℕ, ◌<◌, ◌≤◌, ◌==◌, ⊎_elim, List, [], ◌∷◌, ◌++◌, length}
+use Rattle.std.proofs.Common.{take, count_by}
 use Rattle.std.proofs.lemmas.Bool.{cases_lt}
-use Rattle.std.proofs.lemmas.List.{get_or_append_left, get_or_push, get_or-take, take-append-le, length_push, length-take-le, take-take}
+use Rattle.std.proofs.lemmas.List.{get_or_append_left, get_or_push, get_or-take, take-append-le, length_push}
+use Rattle.std.proofs.lemmas.List.{length-take-le, take-take}
 use Rattle.datapath.specs.declared.types.Datapath.{Datapath}
 use Rattle.signal_graph.specs.declared.graph.Node.{Node}
 use Rattle.plan_core.specs.Hardware.{port_of, HasRoute}
@@ -17,8 +19,11 @@ module _ (d : Datapath) (nodes : List Node) where
       consumers = λ c q less r. subst (λ (w : ℕ). HasRoute d u (port_of w q)) (same c less) (can.consumers c q less r);
     }
 
-  pub unit_same : (us ws : List ℕ) (v u : ℕ) → ((x : ℕ) → x < v → unit_in us x ≡ unit_in ws x)
-      → take v us ≡ take v ws → IsUnitFor d nodes us v u → IsUnitFor d nodes ws v u
+  pub unit_same : (us ws : List ℕ) (v u : ℕ)
+      → ((x : ℕ) → x < v → unit_in us x ≡ unit_in ws x)
+      → take v us ≡ take v ws
+      → IsUnitFor d nodes us v u
+      → IsUnitFor d nodes ws v u
   unit_same us ws v u same takes is =
       let back = λ (x : ℕ) (less : x < v). sym (same x less) in
       let load : (w : ℕ) → load_of d nodes us v w ≡ load_of d nodes ws v w =
@@ -33,14 +38,18 @@ module _ (d : Datapath) (nodes : List Node) where
             is.first other (candidate_same ws us v back other can) (load other ∙ e ∙ sym (load u));
       }
 
-  pub unit_longer : (units more : List ℕ) (v u : ℕ) → v ≤ length units → IsUnitFor d nodes units v u
+  pub unit_longer : (units more : List ℕ) (v u : ℕ)
+      → v ≤ length units
+      → IsUnitFor d nodes units v u
       → IsUnitFor d nodes (units ++ more) v u
   unit_longer units more v u less is =
       unit_same units (units ++ more) v u
       (λ x before. sym (get_or_append_left units more 0 x (omega arith)))
       (sym (take-append-le v units more less)) is
 
-  pub units_more : (units : List ℕ) (u : ℕ) → AreUnits d nodes units → IsUnitFor d nodes units (length units) u
+  pub units_more : (units : List ℕ) (u : ℕ)
+      → AreUnits d nodes units
+      → IsUnitFor d nodes units (length units) u
       → AreUnits d nodes (units ++ u ∷ [])
   units_more units u are is v less =
       ⊎_elim
@@ -56,7 +65,9 @@ module _ (d : Datapath) (nodes : List Node) where
       (unit_longer units (u ∷ []) (length units) u (omega arith) is)))
       (cases_lt v (length units))
 
-  pub units_first : (units : List ℕ) (n : ℕ) → n ≤ length units → AreUnits d nodes units
+  pub units_first : (units : List ℕ) (n : ℕ)
+      → n ≤ length units
+      → AreUnits d nodes units
       → AreUnits d nodes (take n units)
   units_first units n all are v less =
       let count = length-take-le n units all in

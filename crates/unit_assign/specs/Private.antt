@@ -4,3 +4,4 @@ pub mod Drivers
 pub mod Wiring
 pub mod Missing
 pub mod Bindings
+pub mod Problems

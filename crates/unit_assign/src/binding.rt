@@ -3,12 +3,12 @@
 ghost use Rattle.std.specs.Prelude.{◌≡◌, ◌<◌, ◌+◌, ◌↔◌, ℕ, length, replicate, IfOk, IfSome, OnOk, List as Listed};
 ghost use Rattle.plan_core.specs.Operands.{node_of};
 ghost use Rattle.plan_core.specs.Assigned.{IsUnitFor};
-ghost use Rattle.unit_assign.specs.Private.UnitSets.{Has, all_units};
-ghost use Rattle.unit_assign.specs.Private.Wiring.{IsProblem};
+ghost use Rattle.unit_assign.specs.Private.UnitSets.{Has, all_of_32};
+ghost use Rattle.unit_assign.specs.Private.Problems.{nodes_of, IsSound};
 ghost use Rattle.unit_assign.specs.Private.Bindings.{load_in, IsOneMore, AreLightest, IsBinding, IsNarrowed, lighter_of};
 
 use crate::problem::Problem;
-use crate::unit_set::UnitSet;
+use bit_sets::Set32;
 use lists::List;
 use std::alloc::{AllocError, AllocFailed, Global};
 
@@ -19,9 +19,9 @@ pub(crate) struct Binding {
     /// For each unit, how many nodes are bound to it.
     pub loads: List<u32>,
     /// For each node of the graph, the units from which a bus leads to each consumer that is bound.
-    pub allowed: List<UnitSet>,
+    pub allowed: List<Set32>,
     /// Of each kind the units to which the fewest nodes are bound.
-    pub lightest: UnitSet,
+    pub lightest: Set32,
 }
 
 impl Binding {
@@ -44,13 +44,12 @@ impl Binding {
         v: usize,
         unit: u8,
     ) -> Result<(), AllocFailed<u8>>
-        requires problem { IsProblem problem.now.datapath.now problem.now.lowered.now problem.now.wiring.now }
+        requires problem { IsSound problem.now }
         requires count { length self.old.units ≡ v }
-        requires node { v < length problem.now.lowered.now.nodes }
-        requires binding { IsBinding problem.now.datapath.now problem.now.lowered.now.nodes self.old }
-        requires unit { IsUnitFor problem.now.datapath.now problem.now.lowered.now.nodes self.old.units v unit }
-        ensures binding { OnOk result
-            (IsBinding problem.now.datapath.now problem.now.lowered.now.nodes self.new) }
+        requires node { v < length (nodes_of problem.now) }
+        requires binding { IsBinding problem.now.datapath.now (nodes_of problem.now) self.old }
+        requires unit { IsUnitFor problem.now.datapath.now (nodes_of problem.now) self.old.units v unit }
+        ensures binding { OnOk result (IsBinding problem.now.datapath.now (nodes_of problem.now) self.new) }
         ensures count { OnOk result (length self.new.units ≡ v + 1) }
     {
         self.units.push(unit)?;
@@ -62,12 +61,12 @@ impl Binding {
 }
 
 /// Those of the units to which so many nodes are bound.
-fn with_load(loads: &List<u32>, units: UnitSet, load: u32) -> UnitSet
+fn with_load(loads: &List<u32>, units: Set32, load: u32) -> Set32
     requires { (u : ℕ) → Has units u → u < length loads.now }
     ensures { (u : ℕ) → Has result u ↔ (Has units u × (load_in loads.now u ≡ load)) }
 {
     let mut left = units;
-    let mut found = UnitSet::empty();
+    let mut found = Set32::empty();
     while let Some(unit) = left.pop_first() {
         if loads[usize::from(unit)] == load {
             found = found.with(unit);
@@ -77,8 +76,8 @@ fn with_load(loads: &List<u32>, units: UnitSet, load: u32) -> UnitSet
 }
 
 /// Of each kind the units with the fewest nodes, which were these before one more node was bound to the unit.
-fn lightest_after(problem: &Problem, loads: &List<u32>, unit: u8, lightest: UnitSet) -> UnitSet
-    requires problem { IsProblem problem.now.datapath.now problem.now.lowered.now problem.now.wiring.now }
+fn lightest_after(problem: &Problem, loads: &List<u32>, unit: u8, lightest: Set32) -> Set32
+    requires problem { IsSound problem.now }
     requires unit { unit < length problem.now.datapath.now.units }
     requires count { length loads.now ≡ length problem.now.datapath.now.units }
     ensures { (old : Listed ℕ) → IsOneMore old loads.now unit → AreLightest problem.now.datapath.now old lightest
@@ -95,13 +94,13 @@ fn lightest_after(problem: &Problem, loads: &List<u32>, unit: u8, lightest: Unit
 }
 
 /// Keeps for each operand of node v, on this unit, the units that have a route to the port that reads it.
-fn narrow(problem: &Problem, v: usize, unit: u8, allowed: &mut List<UnitSet>)
-    requires problem { IsProblem problem.now.datapath.now problem.now.lowered.now problem.now.wiring.now }
-    requires node { v < length problem.now.lowered.now.nodes }
+fn narrow(problem: &Problem, v: usize, unit: u8, allowed: &mut List<Set32>)
+    requires problem { IsSound problem.now }
+    requires node { v < length (nodes_of problem.now) }
     requires unit { unit < length problem.now.datapath.now.units }
-    requires count { length allowed.old ≡ length problem.now.lowered.now.nodes }
-    ensures { IsNarrowed problem.now.datapath.now problem.now.lowered.now.nodes v unit
-        (length (node_of problem.now.lowered.now.nodes v).edges) allowed.old allowed.new }
+    requires count { length allowed.old ≡ length (nodes_of problem.now) }
+    ensures { IsNarrowed problem.now.datapath.now (nodes_of problem.now) v unit
+        (length (node_of (nodes_of problem.now) v).edges) allowed.old allowed.new }
 {
     for (port, edge) in problem.lowered.nodes[v].edges.iter().enumerate() {
         let operand = edge.node as usize;
@@ -120,20 +119,20 @@ fn no_loads(alloc: Global, count: usize) -> Result<List<u32>, AllocError>
     Ok(loads)
 }
 
-fn all_allowed(alloc: Global, count: usize) -> Result<List<UnitSet>, AllocError>
-    ensures { IfOk result (λ sets. sets ≡ replicate count all_units) }
+fn all_allowed(alloc: Global, count: usize) -> Result<List<Set32>, AllocError>
+    ensures { IfOk result (λ sets. sets ≡ replicate count all_of_32) }
 {
     let mut allowed = List::with_capacity(alloc, count)?;
     for _ in 0..count {
-        allowed.push(UnitSet::full())?;
+        allowed.push(Set32::full())?;
     }
     Ok(allowed)
 }
 
 /// Nothing is bound.
 pub(crate) fn no_binding(alloc: Global, problem: &Problem) -> Result<Binding, AllocError>
-    requires { IsProblem problem.now.datapath.now problem.now.lowered.now problem.now.wiring.now }
-    ensures binding { IfOk result (IsBinding problem.now.datapath.now problem.now.lowered.now.nodes) }
+    requires { IsSound problem.now }
+    ensures binding { IfOk result (IsBinding problem.now.datapath.now (nodes_of problem.now)) }
     ensures count { IfOk result (λ binding. length binding.units ≡ 0) }
 {
     let count = problem.lowered.nodes.len();
@@ -141,6 +140,6 @@ pub(crate) fn no_binding(alloc: Global, problem: &Problem) -> Result<Binding, Al
         units: List::with_capacity(alloc, count)?,
         loads: no_loads(alloc, problem.datapath.units.len())?,
         allowed: all_allowed(alloc, count)?,
-        lightest: UnitSet::full(),
+        lightest: Set32::full(),
     })
 }

@@ -2,10 +2,10 @@
 
 ghost use Rattle.std.specs.Prelude.{◌≡◌, ◌<◌, ◌≤◌, ◌*◌, ◌↔◌, ℕ, length, replicate, All, Contains, IfOk};
 ghost use Rattle.datapath.specs.Allowed.{IsDatapath};
-ghost use Rattle.unit_assign.specs.Private.UnitSets.{Has, no_units};
+ghost use Rattle.unit_assign.specs.Private.UnitSets.{Has, none_of_32};
 ghost use Rattle.unit_assign.specs.Private.Drivers.{most_ports, most_units, place, AreDrivers, HasPlace, IsAddedTo};
 
-use crate::unit_set::UnitSet;
+use bit_sets::Set32;
 use datapath::{Bus, Datapath, PortRef};
 use lists::List;
 use std::alloc::{AllocError, Global};
@@ -22,11 +22,11 @@ pub(crate) fn place_of(unit: u8, port: usize) -> usize
 }
 
 /// The units that can drive the bus.
-fn bus_drivers(bus: &Bus) -> UnitSet
+fn bus_drivers(bus: &Bus) -> Set32
     requires { All (λ unit. unit < most_units) bus.now.from }
     ensures { (u : ℕ) → Has result u ↔ Contains bus.now.from u }
 {
-    let mut drivers = UnitSet::empty();
+    let mut drivers = Set32::empty();
     for unit in bus.from.iter() {
         drivers = drivers.with(*unit);
     }
@@ -34,7 +34,7 @@ fn bus_drivers(bus: &Bus) -> UnitSet
 }
 
 /// Adds the drivers of a bus to the ports that it leads to.
-fn add_drivers(table: &mut List<UnitSet>, ports: &[PortRef], drivers: UnitSet)
+fn add_drivers(table: &mut List<Set32>, ports: &[PortRef], drivers: Set32)
     requires { All (HasPlace (length table.old)) ports.now }
     ensures { IsAddedTo drivers ports.now (length ports.now) table.old table.new }
 {
@@ -45,18 +45,18 @@ fn add_drivers(table: &mut List<UnitSet>, ports: &[PortRef], drivers: UnitSet)
     }
 }
 
-fn no_drivers(alloc: Global, count: usize) -> Result<List<UnitSet>, AllocError>
-    ensures { IfOk result (λ table. table ≡ replicate count no_units) }
+fn no_drivers(alloc: Global, count: usize) -> Result<List<Set32>, AllocError>
+    ensures { IfOk result (λ table. table ≡ replicate count none_of_32) }
 {
     let mut table = List::with_capacity(alloc, count)?;
     for _ in 0..count {
-        table.push(UnitSet::empty())?;
+        table.push(Set32::empty())?;
     }
     Ok(table)
 }
 
 /// For each port of each unit, at its place, the units from which a bus leads to it.
-pub(crate) fn all_drivers(alloc: Global, datapath: &Datapath) -> Result<List<UnitSet>, AllocError>
+pub(crate) fn all_drivers(alloc: Global, datapath: &Datapath) -> Result<List<Set32>, AllocError>
     requires { IsDatapath datapath.now }
     ensures { IfOk result (AreDrivers datapath.now) }
 {

@@ -7,28 +7,28 @@ ghost use Rattle.unit_assign.specs.Private.UnitSets.{Has};
 ghost use Rattle.unit_assign.specs.Private.Drivers.{most_units};
 ghost use Rattle.unit_assign.specs.Private.Kinds.{set_of, AreKinds};
 
-use crate::unit_set::UnitSet;
+use bit_sets::Set32;
 use datapath::{Datapath, Kind};
 
 /// For each kind the units that are of it.
 #[derive(Clone, Copy)]
 pub(crate) struct Kinds {
-    pub input: UnitSet,
-    pub output: UnitSet,
-    pub rom: UnitSet,
-    pub alu: UnitSet,
-    pub mul: UnitSet,
-    pub sel: UnitSet,
-    pub ram: UnitSet,
-    pub acu: UnitSet,
+    pub input: Set32,
+    pub output: Set32,
+    pub rom: Set32,
+    pub alu: Set32,
+    pub mul: Set32,
+    pub sel: Set32,
+    pub ram: Set32,
+    pub acu: Set32,
 }
 
 /// The units of this kind.
-fn units_of(datapath: &Datapath, kind: Kind) -> UnitSet
+fn units_of(datapath: &Datapath, kind: Kind) -> Set32
     requires { length datapath.now.units ≤ most_units }
     ensures { (u : ℕ) → Has result u ↔ IsOfKind datapath.now kind u }
 {
-    let mut units = UnitSet::empty();
+    let mut units = Set32::empty();
     for number in 0..datapath.units.len() {
         if datapath.units[number].kind == kind {
             units = units.with(number as u8);
@@ -55,7 +55,7 @@ impl Kinds {
     }
 
     /// The units of this kind.
-    pub(crate) fn units(&self, kind: Kind) -> UnitSet
+    pub(crate) fn units(&self, kind: Kind) -> Set32
         ensures { result ≡ set_of self.now kind }
     {
         match kind {

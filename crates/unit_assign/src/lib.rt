@@ -7,7 +7,6 @@ mod drivers;
 mod fault;
 mod kinds;
 mod problem;
-mod unit_set;
 mod units;
 mod wiring;
 

@@ -8,15 +8,15 @@ ghost use Rattle.plan_core.specs.Refusals.{IsNextNode, LacksOperand, LacksConsum
 ghost use Rattle.unit_assign.specs.Faults.{IsUnitFault};
 ghost use Rattle.unit_assign.specs.Private.UnitSets.{Has};
 ghost use Rattle.unit_assign.specs.Private.Drivers.{most_ports};
-ghost use Rattle.unit_assign.specs.Private.Wiring.{IsProblem};
+ghost use Rattle.unit_assign.specs.Private.Problems.{nodes_of, IsSound};
 ghost use Rattle.unit_assign.specs.Private.Missing.{LacksFrom, IsFirstPort, IsFirstConsumer, IsFirstRight};
 ghost use Rattle.unit_assign.specs.Private.Bindings.{IsBinding, HasRouteFrom, IsBest};
 
 use crate::binding::Binding;
 use crate::drivers::place_of;
 use crate::fault::UnitFault;
-use crate::unit_set::UnitSet;
 use crate::wiring::Wiring;
+use bit_sets::Set32;
 use datapath::{Datapath, Kind, PortRef};
 use fix_word::Op;
 use plan_core::Lowered;
@@ -52,8 +52,8 @@ fn is_right(datapath: &Datapath, node: &Node, unit: u8) -> bool
 
 impl Problem<'_> {
     /// The units from which a bus leads to the port.
-    pub(crate) fn drivers(&self, unit: u8, port: usize) -> UnitSet
-        requires problem { IsProblem self.now.datapath.now self.now.lowered.now self.now.wiring.now }
+    pub(crate) fn drivers(&self, unit: u8, port: usize) -> Set32
+        requires problem { IsSound self.now }
         requires unit { unit < length self.now.datapath.now.units }
         requires port { port < most_ports }
         ensures { (u : ℕ) → Has result u ↔ HasRoute self.now.datapath.now u (port_of unit port) }
@@ -62,7 +62,7 @@ impl Problem<'_> {
     }
 
     fn has_route(&self, from: u8, unit: u8, port: usize) -> bool
-        requires problem { IsProblem self.now.datapath.now self.now.lowered.now self.now.wiring.now }
+        requires problem { IsSound self.now }
         requires from { from < length self.now.datapath.now.units }
         requires unit { unit < length self.now.datapath.now.units }
         requires port { port < most_ports }
@@ -73,7 +73,7 @@ impl Problem<'_> {
 
     /// Whether node v on this unit has no route for an operand.
     fn lacks_operand(&self, units: &[u8], v: usize, unit: u8, port: usize, edge: Edge) -> bool
-        requires problem { IsProblem self.now.datapath.now self.now.lowered.now self.now.wiring.now }
+        requires problem { IsSound self.now }
         requires next { IsNextNode self.now.datapath.now self.now.lowered.now units.now v }
         requires unit { unit < length self.now.datapath.now.units }
         requires port { port < most_ports }
@@ -89,7 +89,7 @@ impl Problem<'_> {
 
     /// The first port at which node v on this unit has no route for its operand.
     fn missing_operand(&self, units: &[u8], v: usize, unit: u8) -> Option<u8>
-        requires problem { IsProblem self.now.datapath.now self.now.lowered.now self.now.wiring.now }
+        requires problem { IsSound self.now }
         requires next { IsNextNode self.now.datapath.now self.now.lowered.now units.now v }
         requires unit { unit < length self.now.datapath.now.units }
         ensures { MatchOption result
@@ -106,7 +106,7 @@ impl Problem<'_> {
 
     /// The first port of node c at which it reads node v without a route from this unit.
     fn missing_port(&self, units: &[u8], v: usize, unit: u8, c: usize) -> Option<u8>
-        requires problem { IsProblem self.now.datapath.now self.now.lowered.now self.now.wiring.now }
+        requires problem { IsSound self.now }
         requires next { IsNextNode self.now.datapath.now self.now.lowered.now units.now v }
         requires unit { unit < length self.now.datapath.now.units }
         requires before { c < v }
@@ -124,7 +124,7 @@ impl Problem<'_> {
 
     /// The port of the first consumer, of those that are bound, to which node v on this unit has no route.
     fn missing_consumer(&self, units: &[u8], v: usize, unit: u8) -> Option<PortRef>
-        requires problem { IsProblem self.now.datapath.now self.now.lowered.now self.now.wiring.now }
+        requires problem { IsSound self.now }
         requires next { IsNextNode self.now.datapath.now self.now.lowered.now units.now v }
         requires unit { unit < length self.now.datapath.now.units }
         ensures { MatchOption result
@@ -143,11 +143,11 @@ impl Problem<'_> {
     }
 
     /// The right units for a node that is meant for a ram.
-    fn right_for_ram(&self, node: &Node) -> UnitSet
-        requires problem { IsProblem self.now.datapath.now self.now.lowered.now self.now.wiring.now }
+    fn right_for_ram(&self, node: &Node) -> Set32
+        requires problem { IsSound self.now }
         ensures { (u : ℕ) → Has result u ↔ IsRightUnit self.now.datapath.now node.now u }
     {
-        let mut right = UnitSet::empty();
+        let mut right = Set32::empty();
         for number in 0..self.datapath.units.len() {
             let unit = number as u8;
             if is_right(self.datapath, node, unit) {
@@ -158,8 +158,8 @@ impl Problem<'_> {
     }
 
     /// The right units for the node.
-    fn right_units(&self, node: &Node) -> UnitSet
-        requires problem { IsProblem self.now.datapath.now self.now.lowered.now self.now.wiring.now }
+    fn right_units(&self, node: &Node) -> Set32
+        requires problem { IsSound self.now }
         ensures { (u : ℕ) → Has result u ↔ IsRightUnit self.now.datapath.now node.now u }
     {
         match node.op {
@@ -169,13 +169,13 @@ impl Problem<'_> {
     }
 
     /// The units that have a route to this port of their own.
-    fn own_takers(&self, port: usize) -> UnitSet
-        requires problem { IsProblem self.now.datapath.now self.now.lowered.now self.now.wiring.now }
+    fn own_takers(&self, port: usize) -> Set32
+        requires problem { IsSound self.now }
         requires port { port < most_ports }
         ensures { (u : ℕ) → u < length self.now.datapath.now.units
             → Has result u ↔ HasRoute self.now.datapath.now u (port_of u port) }
     {
-        let mut takers = UnitSet::empty();
+        let mut takers = Set32::empty();
         for number in 0..self.datapath.units.len() {
             let unit = number as u8;
             if self.has_route(unit, unit, port) {
@@ -186,30 +186,29 @@ impl Problem<'_> {
     }
 
     /// The units on which node v has a route for the operand at this port, if it needs one yet.
-    fn takers(&self, units: &[u8], v: usize, port: usize, operand: usize) -> UnitSet
-        requires problem { IsProblem self.now.datapath.now self.now.lowered.now self.now.wiring.now }
+    fn takers(&self, units: &[u8], v: usize, port: usize, operand: usize) -> Set32
+        requires problem { IsSound self.now }
         requires next { IsNextNode self.now.datapath.now self.now.lowered.now units.now v }
         requires port { port < most_ports }
         ensures { (u : ℕ) → u < length self.now.datapath.now.units
             → Has result u
-            ↔ HasRouteFrom self.now.datapath.now self.now.lowered.now.nodes units.now v u port operand }
+            ↔ HasRouteFrom self.now.datapath.now (nodes_of self.now) units.now v u port operand }
     {
         if operand == v {
             self.own_takers(port)
         } else if operand < v {
             self.wiring.takers[place_of(units[operand], port)]
         } else {
-            UnitSet::full()
+            Set32::full()
         }
     }
 
     /// The units on which node v can be.
-    fn candidates(&self, binding: &Binding, v: usize) -> UnitSet
-        requires problem { IsProblem self.now.datapath.now self.now.lowered.now self.now.wiring.now }
+    fn candidates(&self, binding: &Binding, v: usize) -> Set32
+        requires problem { IsSound self.now }
         requires next { IsNextNode self.now.datapath.now self.now.lowered.now binding.now.units v }
-        requires binding { IsBinding self.now.datapath.now self.now.lowered.now.nodes binding.now }
-        ensures { (u : ℕ) → Has result u
-            ↔ IsCandidate self.now.datapath.now self.now.lowered.now.nodes binding.now.units v u }
+        requires binding { IsBinding self.now.datapath.now (nodes_of self.now) binding.now }
+        ensures { (u : ℕ) → Has result u ↔ IsCandidate self.now.datapath.now (nodes_of self.now) binding.now.units v u }
     {
         let node = &self.lowered.nodes[v];
         let mut left = self.right_units(node).intersection(binding.allowed[v]);
@@ -221,14 +220,14 @@ impl Problem<'_> {
     }
 
     /// The first of these candidates with the fewest nodes.
-    fn best_of(&self, binding: &Binding, v: usize, candidates: UnitSet) -> Option<u8>
-        requires problem { IsProblem self.now.datapath.now self.now.lowered.now self.now.wiring.now }
+    fn best_of(&self, binding: &Binding, v: usize, candidates: Set32) -> Option<u8>
+        requires problem { IsSound self.now }
         requires next { IsNextNode self.now.datapath.now self.now.lowered.now binding.now.units v }
-        requires binding { IsBinding self.now.datapath.now self.now.lowered.now.nodes binding.now }
+        requires binding { IsBinding self.now.datapath.now (nodes_of self.now) binding.now }
         requires candidates { (u : ℕ) → Has candidates u
-            ↔ IsCandidate self.now.datapath.now self.now.lowered.now.nodes binding.now.units v u }
+            ↔ IsCandidate self.now.datapath.now (nodes_of self.now) binding.now.units v u }
         ensures { let count = length self.now.datapath.now.units in
-            IsBest self.now.datapath.now self.now.lowered.now.nodes binding.now.units v count result }
+            IsBest self.now.datapath.now (nodes_of self.now) binding.now.units v count result }
     {
         let mut left = candidates;
         let mut best = None;
@@ -240,11 +239,11 @@ impl Problem<'_> {
 
     /// The first of the candidates with the fewest nodes. It is mostly one of the lightest units of its kind.
     fn best_candidate(&self, binding: &Binding, v: usize) -> Option<u8>
-        requires problem { IsProblem self.now.datapath.now self.now.lowered.now self.now.wiring.now }
+        requires problem { IsSound self.now }
         requires next { IsNextNode self.now.datapath.now self.now.lowered.now binding.now.units v }
-        requires binding { IsBinding self.now.datapath.now self.now.lowered.now.nodes binding.now }
+        requires binding { IsBinding self.now.datapath.now (nodes_of self.now) binding.now }
         ensures { let count = length self.now.datapath.now.units in
-            IsBest self.now.datapath.now self.now.lowered.now.nodes binding.now.units v count result }
+            IsBest self.now.datapath.now (nodes_of self.now) binding.now.units v count result }
     {
         let candidates = self.candidates(binding, v);
         let mut lightest = candidates.intersection(binding.lightest);
@@ -255,11 +254,11 @@ impl Problem<'_> {
     }
 
     fn first_right(&self, v: usize) -> Option<u8>
-        requires problem { IsProblem self.now.datapath.now self.now.lowered.now self.now.wiring.now }
-        requires node { v < length self.now.lowered.now.nodes }
+        requires problem { IsSound self.now }
+        requires node { v < length (nodes_of self.now) }
         ensures { MatchOption result
-            ((u : ℕ) → IsRightUnit self.now.datapath.now (node_of self.now.lowered.now.nodes v) u → ⊥)
-            (IsFirstRight self.now.datapath.now (node_of self.now.lowered.now.nodes v)) }
+            ((u : ℕ) → IsRightUnit self.now.datapath.now (node_of (nodes_of self.now) v) u → ⊥)
+            (IsFirstRight self.now.datapath.now (node_of (nodes_of self.now) v)) }
     {
         for number in 0..self.datapath.units.len() {
             let unit = number as u8;
@@ -272,10 +271,10 @@ impl Problem<'_> {
 
     /// The port of the first missing route of node v on this unit, which is no candidate.
     fn missing_route(&self, units: &[u8], v: usize, unit: u8) -> PortRef
-        requires problem { IsProblem self.now.datapath.now self.now.lowered.now self.now.wiring.now }
+        requires problem { IsSound self.now }
         requires next { IsNextNode self.now.datapath.now self.now.lowered.now units.now v }
-        requires right { IsRightUnit self.now.datapath.now (node_of self.now.lowered.now.nodes v) unit }
-        requires none { IsCandidate self.now.datapath.now self.now.lowered.now.nodes units.now v unit → ⊥ }
+        requires right { IsRightUnit self.now.datapath.now (node_of (nodes_of self.now) v) unit }
+        requires none { IsCandidate self.now.datapath.now (nodes_of self.now) units.now v unit → ⊥ }
         ensures { IsOperandWithout self.now.datapath.now self.now.lowered.now units.now v unit result
             ⊎ IsConsumerWithout self.now.datapath.now self.now.lowered.now units.now v unit result }
     {
@@ -290,10 +289,10 @@ impl Problem<'_> {
 
     /// Why node v has no candidate.
     fn refusal(&self, units: &[u8], v: usize) -> UnitFault
-        requires problem { IsProblem self.now.datapath.now self.now.lowered.now self.now.wiring.now }
+        requires problem { IsSound self.now }
         requires next { IsNextNode self.now.datapath.now self.now.lowered.now units.now v }
-        requires width { (node_of self.now.lowered.now.nodes v).width ≤ self.now.datapath.now.word }
-        requires none { (u : ℕ) → IsCandidate self.now.datapath.now self.now.lowered.now.nodes units.now v u → ⊥ }
+        requires width { (node_of (nodes_of self.now) v).width ≤ self.now.datapath.now.word }
+        requires none { (u : ℕ) → IsCandidate self.now.datapath.now (nodes_of self.now) units.now v u → ⊥ }
         ensures { IsUnitFault self.now.datapath.now self.now.lowered.now result }
     {
         let node = v as u32;
@@ -313,10 +312,10 @@ impl Problem<'_> {
 
     /// The unit of node v, which is the next one.
     pub(crate) fn unit_for(&self, binding: &Binding, v: usize) -> Result<u8, UnitFault>
-        requires problem { IsProblem self.now.datapath.now self.now.lowered.now self.now.wiring.now }
+        requires problem { IsSound self.now }
         requires next { IsNextNode self.now.datapath.now self.now.lowered.now binding.now.units v }
-        requires binding { IsBinding self.now.datapath.now self.now.lowered.now.nodes binding.now }
-        ensures unit { IfOk result (IsUnitFor self.now.datapath.now self.now.lowered.now.nodes binding.now.units v) }
+        requires binding { IsBinding self.now.datapath.now (nodes_of self.now) binding.now }
+        ensures unit { IfOk result (IsUnitFor self.now.datapath.now (nodes_of self.now) binding.now.units v) }
         ensures fault { IfErr result (IsUnitFault self.now.datapath.now self.now.lowered.now) }
     {
         if self.lowered.nodes[v].width > self.datapath.word {

@@ -7,7 +7,7 @@ ghost use Rattle.plan_core.specs.declared.schedule.Assigned.{Assigned};
 ghost use Rattle.unit_assign.specs.Wired.{IsWired};
 ghost use Rattle.unit_assign.specs.Bound.{AreUnitsOf};
 ghost use Rattle.unit_assign.specs.Faults.{IsUnitFault};
-ghost use Rattle.unit_assign.specs.Private.Wiring.{IsProblem};
+ghost use Rattle.unit_assign.specs.Private.Problems.{nodes_of, IsSound};
 ghost use Rattle.unit_assign.specs.Private.Bindings.{IsBinding};
 ghost use Rattle.unit_assign.specs.declared.fault.UnitFault.{UnitFault};
 ghost use Rattle.unit_assign.specs.declared.fault.UnitFault.TheVariants.{Memory};
@@ -19,32 +19,8 @@ use crate::wiring::wiring_of;
 use datapath::Datapath;
 use lists::List;
 use plan_core::{Assigned, Lowered};
-use signal_graph::Node;
+use signal_graph::node_copies;
 use std::alloc::{AllocError, Global};
-
-fn copy_of(alloc: Global, node: &Node) -> Result<Node, AllocError>
-    ensures { IfOk result (λ copy. copy ≡ node.now) }
-{
-    Ok(Node {
-        op: node.op,
-        fmt: node.fmt,
-        arg: node.arg,
-        edges: List::from_slice(alloc, node.edges.as_slice())?,
-        inits: List::from_slice(alloc, node.inits.as_slice())?,
-        width: node.width,
-        ram: node.ram,
-    })
-}
-
-fn copies_of(alloc: Global, nodes: &List<Node>) -> Result<List<Node>, AllocError>
-    ensures { IfOk result (λ copies. copies ≡ nodes.now) }
-{
-    let mut copies = List::with_capacity(alloc, nodes.len())?;
-    for node in nodes.iter() {
-        copies.push(copy_of(alloc, node)?)?;
-    }
-    Ok(copies)
-}
 
 /// A copy of the graph, with the units of its nodes.
 fn assigned(alloc: Global, lowered: &Lowered, units: List<u8>) -> Result<Assigned, AllocError>
@@ -52,7 +28,7 @@ fn assigned(alloc: Global, lowered: &Lowered, units: List<u8>) -> Result<Assigne
     ensures units { IfOk result (λ assigned. assigned.units ≡ units) }
 {
     let lowered = Lowered {
-        nodes: copies_of(alloc, &lowered.nodes)?,
+        nodes: node_copies(alloc, &lowered.nodes)?,
         lines: List::from_slice(alloc, lowered.lines.as_slice())?,
     };
     Ok(Assigned { lowered, units })
@@ -60,12 +36,11 @@ fn assigned(alloc: Global, lowered: &Lowered, units: List<u8>) -> Result<Assigne
 
 /// Binds the nodes in the order of their numbers.
 fn bind_all(problem: &Problem, binding: &mut Binding) -> Result<(), UnitFault>
-    requires problem { IsProblem problem.now.datapath.now problem.now.lowered.now problem.now.wiring.now }
+    requires problem { IsSound problem.now }
     requires none { length binding.old.units ≡ 0 }
-    requires binding { IsBinding problem.now.datapath.now problem.now.lowered.now.nodes binding.old }
-    ensures count { OnOk result (length binding.new.units ≡ length problem.now.lowered.now.nodes) }
-    ensures units { OnOk result
-        (AreUnits problem.now.datapath.now problem.now.lowered.now.nodes binding.new.units) }
+    requires binding { IsBinding problem.now.datapath.now (nodes_of problem.now) binding.old }
+    ensures count { OnOk result (length binding.new.units ≡ length (nodes_of problem.now)) }
+    ensures units { OnOk result (AreUnits problem.now.datapath.now (nodes_of problem.now) binding.new.units) }
     ensures fault { IfErr result
         (λ fault. (fault ≡ Memory) ⊎ IsUnitFault problem.now.datapath.now problem.now.lowered.now fault) }
 {

@@ -8,7 +8,7 @@ ghost use Rattle.unit_assign.specs.Private.Wiring.{AreTakers, IsWiring};
 
 use crate::drivers::{PORTS, all_drivers, place_of};
 use crate::kinds::Kinds;
-use crate::unit_set::UnitSet;
+use bit_sets::Set32;
 use datapath::Datapath;
 use lists::List;
 use std::alloc::{AllocError, Global};
@@ -18,20 +18,20 @@ use std::alloc::{AllocError, Global};
 pub(crate) struct Wiring {
     pub kinds: Kinds,
     /// For each port of each unit, at its place, the units from which a bus leads to it.
-    pub drivers: List<UnitSet>,
+    pub drivers: List<Set32>,
     /// For each unit and each number of a port, at their place, the units to whose port a bus leads from the unit.
-    pub takers: List<UnitSet>,
+    pub takers: List<Set32>,
 }
 
 /// The units to whose port of this number a bus leads from the unit.
-fn takers_of(drivers: &List<UnitSet>, units: usize, unit: u8, port: usize) -> UnitSet
+fn takers_of(drivers: &List<Set32>, units: usize, unit: u8, port: usize) -> Set32
     requires few { units ≤ most_units }
     requires count { length drivers.now ≡ units * most_ports }
     requires unit { unit < most_units }
     requires port { port < most_ports }
     ensures { (u : ℕ) → Has result u ↔ ((u < units) × Has (set_at drivers.now (place u port)) unit) }
 {
-    let mut takers = UnitSet::empty();
+    let mut takers = Set32::empty();
     for number in 0..units {
         let taker = number as u8;
         if drivers[place_of(taker, port)].contains(unit) {
@@ -45,8 +45,8 @@ fn takers_of(drivers: &List<UnitSet>, units: usize, unit: u8, port: usize) -> Un
 fn all_takers(
     alloc: Global,
     datapath: &Datapath,
-    drivers: &List<UnitSet>,
-) -> Result<List<UnitSet>, AllocError>
+    drivers: &List<Set32>,
+) -> Result<List<Set32>, AllocError>
     requires datapath { IsDatapath datapath.now }
     requires drivers { AreDrivers datapath.now drivers.now }
     ensures { IfOk result (AreTakers datapath.now (length datapath.now.units * most_ports)) }

@@ -4,7 +4,8 @@ use Rattle.datapath.specs.declared.types.Bus.{Bus}
 use Rattle.datapath.specs.declared.types.Unit.{Unit as FunctionalUnit}
 use Rattle.datapath.specs.declared.types.Datapath.{Datapath}
 use Rattle.plan_core.specs.Hardware.{no_unit, port_of}
-use Rattle.bus_alloc.specs.Sets.{mark, bus_bit}
+use Rattle.bit_sets.specs.Bits.{Has}
+use Rattle.bus_alloc.specs.Sets.{mark}
 use Rattle.bus_alloc.specs.Private.Rows.{CanDrive, LeadsTo, no_cycles, no_unit_row, no_file_row}
 use Rattle.bus_alloc.specs.declared.cycles.CycleSet.{CycleSet}
 use Rattle.bus_alloc.specs.declared.rows.UnitRow.{UnitRow}
@@ -17,17 +18,18 @@ IsEmpty set = (cycle : ℕ) → mark set.words cycle ≡ 0
 pub record IsFreshUnit (unit : FunctionalUnit) (buses : List Bus) (u : ℕ) (row : UnitRow) : Type 0 where
   pub latency : row.latency ≡ unit.latency
   pub gap : row.gap ≡ unit.gap
-  pub drives : (b : ℕ) → (bus_bit row.drives b ≡ 1) ↔ CanDrive buses u b
+  pub drives : (b : ℕ) → Has row.drives.bits b ↔ CanDrive buses u b
   pub busy : IsEmpty row.busy
 
 pub record IsFreshFile (buses : List Bus) (number : ℕ) (row : FileRow) : Type 0 where
-  pub sources : (b : ℕ) → (bus_bit row.sources b ≡ 1) ↔ LeadsTo buses (port_of (number / 3) (number % 3)) b
+  pub sources : (b : ℕ) → Has row.sources.bits b ↔ LeadsTo buses (port_of (number / 3) (number % 3)) b
   pub written : IsEmpty row.written
 
 pub record AreFreshUnits (units : List FunctionalUnit) (buses : List Bus) (count : ℕ) (rows : List UnitRow) : Type 0
   where
     pub count_is : length rows ≡ count
-    pub each : (u : ℕ) → u < count
+    pub each : (u : ℕ)
+        → u < count
         → IsFreshUnit (slice_index_or units u no_unit) buses u (slice_index_or rows u no_unit_row)
 
 pub record AreFreshFiles (buses : List Bus) (count : ℕ) (rows : List FileRow) : Type 0 where

@@ -1,12 +1,13 @@
 -- The rows of a reservation table, and in which cycles an operation can end.
-use Rattle.std.specs.Prelude.{◌≡◌, ℕ, ◌+◌, ◌-◌, ◌*◌, ◌/◌, ◌%◌, ◌<◌, ◌≤◌, List, length, replicate, slice_index, slice_index_or, Contains, Option, Some, None, refl}
+use Rattle.std.specs.Prelude.{◌≡◌, ℕ, ◌+◌, ◌-◌, ◌*◌, ◌/◌, ◌%◌, ◌<◌, ◌≤◌, List, length, replicate, slice_index}
+use Rattle.std.specs.Prelude.{slice_index_or, Contains, Option, Some, None, refl}
 use Rattle.std.specs.List.{All}
 use Rattle.std.specs.Int.{bit_at}
 use Rattle.operations.specs.declared.units.PortRef.{PortRef}
 use Rattle.datapath.specs.declared.types.Bus.{Bus}
 use Rattle.plan_core.specs.Hardware.{no_bus}
-use Rattle.bus_alloc.specs.Sets.{bus_bit}
-use Rattle.bus_alloc.specs.declared.buses.BusSet.{BusSet}
+use Rattle.bit_sets.specs.Bits.{Has}
+use Rattle.bit_sets.specs.declared.set32.Set32.{Set32}
 use Rattle.bus_alloc.specs.declared.cycles.CycleSet.{CycleSet}
 use Rattle.bus_alloc.specs.declared.rows.UnitRow.{UnitRow}
 use Rattle.bus_alloc.specs.declared.rows.FileRow.{FileRow}
@@ -67,18 +68,18 @@ IsResultCycle rows u t (Some end) =
 -- what is open at bit i of the word with this index
 module _ (rows : Rows) where
   -- one of these buses
-  pub record IsBusOpen (buses : BusSet) (index i : ℕ) : Type 0 where
+  pub record IsBusOpen (buses : Set32) (index i : ℕ) : Type 0 where
     pub b : ℕ
     pub number : b < 32
-    pub there : bus_bit buses b ≡ 1
+    pub there : Has buses.bits b
     pub open_bit : bit_at (slice_index (bus_words rows b) index) i ≡ 0
 
   -- one of the buses from the unit to the port, which are in both sets
-  pub record IsRouteOpen (drives sources : BusSet) (index i : ℕ) : Type 0 where
+  pub record IsRouteOpen (drives sources : Set32) (index i : ℕ) : Type 0 where
     pub b : ℕ
     pub number : b < 32
-    pub drive : bus_bit drives b ≡ 1
-    pub source : bus_bit sources b ≡ 1
+    pub drive : Has drives.bits b
+    pub source : Has sources.bits b
     pub open_bit : bit_at (slice_index (bus_words rows b) index) i ≡ 0
 
   -- the register file of the port, and a route to it

@@ -5,7 +5,8 @@ use Rattle.operations.specs.declared.units.PortRef.{PortRef}
 use Rattle.datapath.specs.declared.types.Datapath.{Datapath}
 use Rattle.plan_core.specs.Hardware.{latency_on, gap_on, port_of}
 use Rattle.plan_core.specs.Reservations.{result_on, IsUnitFree, IsFileFree, IsBusFree}
-use Rattle.bus_alloc.specs.Sets.{mark, bus_bit}
+use Rattle.bit_sets.specs.Bits.{Has}
+use Rattle.bus_alloc.specs.Sets.{mark}
 use Rattle.bus_alloc.specs.Table.{Placed, Reservations, IsTaken}
 use Rattle.bus_alloc.specs.Private.Rows.{AreRows, CanDrive, LeadsTo, unit_row, file_row, bus_words}
 use Rattle.bus_alloc.specs.declared.rows.FileRow.{FileRow}
@@ -17,13 +18,14 @@ module _ (d : Datapath) (placed : List Placed) where
   pub record IsUnitRow (u : ℕ) (row : UnitRow) : Type 0 where
     pub latency : row.latency ≡ latency_on d u
     pub gap : row.gap ≡ gap_on d u
-    pub drives : (b : ℕ) → (bus_bit row.drives b ≡ 1) ↔ CanDrive d.buses u b
-    pub busy : (t : ℕ) → t + latency_on d u ≤ d.period
+    pub drives : (b : ℕ) → Has row.drives.bits b ↔ CanDrive d.buses u b
+    pub busy : (t : ℕ)
+        → t + latency_on d u ≤ d.period
         → (mark row.busy.words (result_on d u t) ≡ 0) ↔ IsUnitFree d (IsTaken placed) u t
 
   -- the row of the register file of a port
   pub record IsFileRow (port : PortRef) (row : FileRow) : Type 0 where
-    pub sources : (b : ℕ) → (bus_bit row.sources b ≡ 1) ↔ LeadsTo d.buses port b
+    pub sources : (b : ℕ) → Has row.sources.bits b ↔ LeadsTo d.buses port b
     pub written : (w : ℕ) → w < d.period → (mark row.written.words w ≡ 0) ↔ IsFileFree d (IsTaken placed) w port
 
   -- the rows have the operations and no others

@@ -45,7 +45,9 @@ module _ (d : Datapath) (a : Assigned) (s : Schedule) where
   -- the reads of the first n nodes, and of node n at its first m ports
   pub record AreReadsBefore (n m : ℕ) (reads : List Read) : Type 0 where
     pub each : All IsRead reads
-    pub every : (c q v : ℕ) → (c < n) ⊎ ((c ≡ n) × (q < m)) → Reads a.lowered.nodes c q v
+    pub every : (c q v : ℕ)
+        → (c < n) ⊎ ((c ≡ n) × (q < m))
+        → Reads a.lowered.nodes c q v
         → Contains reads (read_of c q v)
 
   -- the reads of all nodes

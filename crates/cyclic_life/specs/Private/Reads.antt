@@ -1,5 +1,6 @@
 -- Reads of words in register files, and the last read of each lifetime.
-use Rattle.std.specs.Prelude.{◌≡◌, ℕ, ◌+◌, ◌*◌, ◌<◌, ◌==◌, ◌&&◌, ◌⊎◌, Bool, true, if◌then◌else◌, nat_le, List, [], ◌∷◌, All, Contains}
+use Rattle.std.specs.Prelude.{◌≡◌, ℕ, ◌+◌, ◌*◌, ◌<◌, ◌==◌, ◌&&◌, ◌⊎◌, Bool, true, if◌then◌else◌, nat_le, List, [], ◌∷◌}
+use Rattle.std.specs.Prelude.{All, Contains}
 use Rattle.plan_core.specs.Hardware.{port_of}
 use Rattle.plan_core.specs.declared.registers.Arc.{Arc}
 use Rattle.cyclic_life.specs.declared.read.Read.{Read}

@@ -1,5 +1,6 @@
 -- The delay lines, as they are placed.
-use Rattle.std.specs.Prelude.{◌≡◌, ℕ, ◌+◌, ◌<◌, ◌≤◌, nat_lt, List, [], ◌∷◌, ◌++◌, length, take, filter, slice_get, slice_index_or, All, Contains, Bool, Option, Some, None}
+use Rattle.std.specs.Prelude.{◌≡◌, ℕ, ◌+◌, ◌<◌, ◌≤◌, nat_lt, List, [], ◌∷◌, ◌++◌, length, take, filter, slice_get}
+use Rattle.std.specs.Prelude.{slice_index_or, All, Contains, Bool, Option, Some, None}
 use Rattle.std.specs.List.{enumerate_from}
 use Rattle.operations.specs.declared.units.Kind.TheVariants as kind
 use Rattle.datapath.specs.declared.types.Datapath.{Datapath}

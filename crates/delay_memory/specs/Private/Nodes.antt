@@ -6,7 +6,8 @@ use Rattle.datapath.specs.declared.types.Datapath.{Datapath}
 use Rattle.signal_graph.specs.declared.graph.Edge.{Edge}
 use Rattle.signal_graph.specs.declared.graph.Node.{Node}
 use Rattle.signal_graph.specs.declared.graph.Graph.{Graph}
-use Rattle.plan_core.specs.Lowered.{Origin, origins_of, stored, AreLines, IsLoweredEdge, IsMadeOver, address_node, store_node, load_node}
+use Rattle.plan_core.specs.Lowered.{Origin, origins_of, stored, AreLines, IsLoweredEdge, IsMadeOver, address_node}
+use Rattle.plan_core.specs.Lowered.{store_node, load_node}
 use Rattle.plan_core.specs.declared.delay_lines.Line.{Line}
 use Rattle.plan_core.specs.declared.delay_lines.Lowered.{Lowered}
 use Rattle.delay_memory.specs.Private.Delays.{delays_at, AreDelays, AreFew}

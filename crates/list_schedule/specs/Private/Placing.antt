@@ -78,8 +78,10 @@ pub record ArePlaced (d : Datapath) (a : Assigned) (order : List ℕ) (k : ℕ) 
   pub count : length p.slots ≡ length a.lowered.nodes
   pub early : (v : ℕ) → (slot_at p.slots v).cycle ≤ 4096
   pub path : p.table.datapath ≡ d
-  pub taken_from : (u : ℕ) (slot : Slot) → IsTaken p.table.placed u slot
+  pub taken_from : (u : ℕ) (slot : Slot)
+      → IsTaken p.table.placed u slot
       → (j : ℕ) × (j < k) × (unit_in a.units (nth order j) ≡ u) × (slot_at p.slots (nth order j) ≡ slot)
-  pub taken_to : (j : ℕ) → j < k
+  pub taken_to : (j : ℕ)
+      → j < k
       → IsTaken p.table.placed (unit_in a.units (nth order j)) (slot_at p.slots (nth order j))
   pub each : (j : ℕ) → j < k → IsPlaced d a (of_slots p.slots) height (nth order j)

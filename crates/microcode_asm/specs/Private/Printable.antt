@@ -43,7 +43,8 @@ module _ (d : Datapath) (p : Plan) where
     pub slot_count : length p.schedule.slots ≡ length p.assigned.lowered.nodes
     pub units : (v : ℕ) → v < length p.assigned.lowered.nodes → unit_in p.assigned.units v < length d.units
     pub latencies : (v : ℕ) → v < length p.assigned.lowered.nodes → 1 ≤ latency_of d p.assigned v
-    pub ends_within : (v : ℕ) → v < length p.assigned.lowered.nodes
+    pub ends_within : (v : ℕ)
+        → v < length p.assigned.lowered.nodes
         → cycle_of p.schedule v + latency_of d p.assigned v ≤ d.period
     pub transfers : (v : ℕ) → v < length p.assigned.lowered.nodes
         → All (IsToPort v) (slot_of p.schedule v).transfers

@@ -60,10 +60,12 @@ pub record AreUnitsOf (d : Datapath) (units : List UnitDesc) : Type 0 where
 -- the cells of the first delay lines. Each place starts as in the image or with 0.
 pub record AreStarted (d : Datapath) (p : Plan) (image : Image) (arcs lines : ℕ) (units : List UnitDesc) : Type 0 where
   pub register : (port : PortRef) (reg k i ago : ℕ)
-      → k < arcs → IsPreloadOf d p port reg k i ago
+      → k < arcs
+      → IsPreloadOf d p port reg k i ago
       → held units (Register port.unit port.port reg) ≡ initial_of image (Register port.unit port.port reg)
   pub cell : (ram cell l ago : ℕ)
-      → l < lines → IsCellPreload p ram cell l ago
+      → l < lines
+      → IsCellPreload p ram cell l ago
       → held units (Cell ram cell) ≡ initial_of image (Cell ram cell)
   pub only : (place : Place) → (held units place ≡ initial_of image place) ⊎ (held units place ≡ pos 0)
 
@@ -71,7 +73,8 @@ pub record AreStarted (d : Datapath) (p : Plan) (image : Image) (arcs lines : �
 pub record ArePreloaded (d : Datapath) (p : Plan) (image : Image) (k most : ℕ) (units : List UnitDesc) : Type 0 where
   pub started : AreStarted d p image k 0 units
   pub register : (port : PortRef) (reg i ago : ℕ)
-      → ago < most → IsPreloadOf d p port reg k i ago
+      → ago < most
+      → IsPreloadOf d p port reg k i ago
       → held units (Register port.unit port.port reg) ≡ initial_of image (Register port.unit port.port reg)
 
 -- the initial values of the node whose words line l keeps
@@ -86,5 +89,7 @@ no_init = (0, pos 0)
 pub record AreCellsPut (d : Datapath) (p : Plan) (image : Image) (l values : ℕ) (units : List UnitDesc) : Type 0 where
   pub started : AreStarted d p image (length p.arcs) l units
   pub cell : (ram cell ago i : ℕ)
-      → i < values → (slice_index_or (inits_of p l) i no_init).0 ≡ ago → IsCellPreload p ram cell l ago
+      → i < values
+      → (slice_index_or (inits_of p l) i no_init).0 ≡ ago
+      → IsCellPreload p ram cell l ago
       → held units (Cell ram cell) ≡ initial_of image (Cell ram cell)

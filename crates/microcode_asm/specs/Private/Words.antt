@@ -10,13 +10,15 @@ use Rattle.micro_image.specs.declared.image.Take.{Take}
 use Rattle.micro_image.specs.declared.image.Word.{Word}
 use Rattle.micro_image.specs.Fields.{nth, no_word}
 use Rattle.micro_image.specs.Valid.{EnableBefore, TakeBefore}
-use Rattle.plan_run.specs.Parts.{nodes_of, node_at, edge_at, cycle_at, transfers_at, arc_at, register_at, ReadsThrough, IsTransferOf, ends_at, IsCopy}
+use Rattle.plan_run.specs.Parts.{nodes_of, node_at, edge_at, cycle_at, transfers_at, arc_at, register_at, ReadsThrough}
+use Rattle.plan_run.specs.Parts.{IsTransferOf, ends_at, IsCopy}
 use Rattle.plan_run.specs.ImageOf.{IsIssueOf, IsWordOf, enable_of, take_of}
 use Rattle.microcode_asm.specs.Private.Ready.{IsReady}
-use Rattle.microcode_asm.specs.Private.Linked.{AreBuckets, IsReached}
+use Rattle.buckets.specs.Linked.{AreBuckets}
+use Rattle.microcode_asm.specs.Private.Linked.{IsReached}
 use Rattle.microcode_asm.specs.Private.Order.{IsUnitOrder}
 use Rattle.microcode_asm.specs.Private.Lifetimes.{AreKept}
-use Rattle.microcode_asm.specs.declared.buckets.Buckets.{Buckets}
+use Rattle.buckets.specs.declared.Buckets.{Buckets}
 use Rattle.microcode_asm.specs.declared.issues.Issuer.{Issuer}
 
 -- the node that is the i-th one in order
@@ -39,7 +41,8 @@ module _ (d : Datapath) (p : Plan) where
   -- the issues of cycle c of sample n
   pub record HasIssues (n c : ℕ) (issues : List Issue) : Type 0 where
     pub all : (v : ℕ)
-        → v < length (nodes_of p) → cycle_at p v ≡ c
+        → v < length (nodes_of p)
+        → cycle_at p v ≡ c
         → (issue : Issue) × Contains issues issue × IsIssueOf d p v n issue
     pub only : (issue : Issue)
         → Contains issues issue
@@ -49,12 +52,18 @@ module _ (d : Datapath) (p : Plan) where
   -- the drives of cycle c of each sample
   pub record HasEnables (c : ℕ) (enables : List Enable) : Type 0 where
     pub all : (v : ℕ) (transfer : Transfer)
-        → v < length (nodes_of p) → ends_at d p v ≡ c → Contains (transfers_at p v) transfer
+        → v < length (nodes_of p)
+        → ends_at d p v ≡ c
+        → Contains (transfers_at p v) transfer
         → Contains enables (enable_of p v transfer)
     pub only : (enable : Enable)
         → Contains enables enable
-        → (v : ℕ) × (transfer : Transfer) × (v < length (nodes_of p)) × (ends_at d p v ≡ c)
-        × Contains (transfers_at p v) transfer × (enable ≡ enable_of p v transfer)
+        → (v : ℕ)
+        × (transfer : Transfer)
+        × (v < length (nodes_of p))
+        × (ends_at d p v ≡ c)
+        × Contains (transfers_at p v) transfer
+        × (enable ≡ enable_of p v transfer)
     pub rise : AllPairs EnableBefore enables
 
   -- the issues in sample n of the cycle's nodes before the i-th one in order, which is the cycle's next
@@ -102,10 +111,15 @@ AreTakesTo p n c k takes =
 -- the takes of cycle c of sample n
 pub record HasTakes (p : Plan) (n c : ℕ) (takes : List Take) : Type 0 where
   pub all : (k : ℕ) (transfer : Transfer)
-      → IsTransferOf p k transfer → (arc_at p k).w ≡ c → Contains takes (take_of p k transfer n)
+      → IsTransferOf p k transfer
+      → (arc_at p k).w ≡ c
+      → Contains takes (take_of p k transfer n)
   pub only : (take : Take)
       → Contains takes take
-      → (k : ℕ) × (transfer : Transfer) × IsTransferOf p k transfer × ((arc_at p k).w ≡ c)
+      → (k : ℕ)
+      × (transfer : Transfer)
+      × IsTransferOf p k transfer
+      × ((arc_at p k).w ≡ c)
       × (take ≡ take_of p k transfer n)
   pub rise : AllPairs TakeBefore takes
 

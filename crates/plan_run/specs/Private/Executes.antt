@@ -13,7 +13,8 @@ use Rattle.micro_image.specs.declared.image.Issue.{Issue}
 use Rattle.micro_image.specs.declared.image.Take.{Take}
 use Rattle.micro_image.specs.Fields.{Microprogram, nth, unit_of, sample_of, issue_at, driver_at}
 use Rattle.micro_image.specs.Log.{Register, Cell, initial}
-use Rattle.plan_run.specs.Parts.{nodes_of, lines_of, node_at, edge_at, unit_at, cycle_at, transfers_at, arc_at, line_at, register_at, ReadsThrough, IsTransferOf, ends_at}
+use Rattle.plan_run.specs.Parts.{nodes_of, lines_of, node_at, edge_at, unit_at, cycle_at, transfers_at, arc_at, line_at}
+use Rattle.plan_run.specs.Parts.{register_at, ReadsThrough, IsTransferOf, ends_at}
 use Rattle.plan_run.specs.Private.Samples.{past}
 use Rattle.plan_run.specs.Private.Overlap.{Overlap, one_by_one, shift_of}
 
@@ -76,7 +77,10 @@ pub record ExecutesOver (o : Overlap) (d : Datapath) (p : Plan) (micro : Micropr
       × IsTakeIn d p micro k n (n * d.period + ends_at d p (arc_at p k).node) take
   pub take_only : (t : ℕ) (take : Take)
       → Contains (micro.word_at t).takes take
-      → (k : ℕ) × (n : ℕ) × (k < length p.arcs) × (t ≡ n * d.period + ends_at d p (arc_at p k).node)
+      → (k : ℕ)
+      × (n : ℕ)
+      × (k < length p.arcs)
+      × (t ≡ n * d.period + ends_at d p (arc_at p k).node)
       × IsTakeIn d p micro k n t take
   pub enable_only : (t : ℕ) (enable : Enable)
       → Contains (micro.word_at t).enables enable
@@ -87,12 +91,16 @@ pub record ExecutesOver (o : Overlap) (d : Datapath) (p : Plan) (micro : Micropr
       → AllPairs (λ (a b : Take). a.port ≡ b.port → a.bus ≡ b.bus → a.reg ≡ b.reg → ⊥) (micro.word_at t).takes
   -- what is read for a sample before sample 0 is there at the start
   pub first : (k s : ℕ)
-      → k < length p.arcs → o.first ≤ s → s < past
+      → k < length p.arcs
+      → o.first ≤ s
+      → s < past
       → past * d.period ≤ (arc_at p k).r + (s + shift_of d p k) * d.period
       → initial micro (Register (arc_at p k).port.unit (arc_at p k).port.port (register_in d p k s))
       ≡ word_before (node_at p (arc_at p k).node).inits (past - s)
   pub first_cells : (l ago : ℕ)
-      → l < length (lines_of p) → 0 < ago → ago ≤ (line_at p l).depth
+      → l < length (lines_of p)
+      → 0 < ago
+      → ago ≤ (line_at p l).depth
       → initial micro (Cell (line_at p l).ram ((line_at p l).offset + ago))
       ≡ word_before (node_at p (line_at p l).node).inits ago
 

@@ -14,7 +14,8 @@ use Rattle.plan_core.specs.Circle.{AreApart}
 use Rattle.plan_core.specs.declared.schedule.Transfer.{Transfer}
 use Rattle.plan_core.specs.declared.plan.Plan.{Plan}
 use Rattle.micro_image.specs.Operations.{gives}
-use Rattle.plan_run.specs.Parts.{nodes_of, lines_of, node_at, edge_at, unit_at, cycle_at, transfers_at, arc_at, line_at, register_at, ReadsThrough, IsTransferOf, ends_at}
+use Rattle.plan_run.specs.Parts.{nodes_of, lines_of, node_at, edge_at, unit_at, cycle_at, transfers_at, arc_at, line_at}
+use Rattle.plan_run.specs.Parts.{register_at, ReadsThrough, IsTransferOf, ends_at}
 use Rattle.plan_run.specs.Private.Samples.{past}
 use Rattle.plan_run.specs.Private.Overlap.{Overlap, one_by_one, shift_of, reach}
 use Rattle.plan_run.specs.Private.Circle.{IsLifetime}
@@ -56,11 +57,14 @@ pub record IsFeasibleOver (o : Overlap) (d : Datapath) (p : Plan) : Type 0 where
   pub gaps : (u : ℕ) → (0 < gap_on d u) × (gap_on d u ≤ latency_on d u)
   pub operand_count : (v : ℕ) → v < length (nodes_of p) → length (node_at p v).edges ≡ operands (node_at p v).op
   pub edges : (v q : ℕ)
-      → v < length (nodes_of p) → q < length (node_at p v).edges
+      → v < length (nodes_of p)
+      → q < length (node_at p v).edges
       → ((edge_at p v q).node < length (nodes_of p)) × (o.first + (edge_at p v q).delay ≤ past)
   pub outputs : (u v : ℕ)
-      → u < length (nodes_of p) → v < length (nodes_of p)
-      → (node_at p u).op ≡ op.Output → (node_at p v).op ≡ op.Output
+      → u < length (nodes_of p)
+      → v < length (nodes_of p)
+      → (node_at p u).op ≡ op.Output
+      → (node_at p v).op ≡ op.Output
       → to_nat (node_at p u).arg ≡ to_nat (node_at p v).arg
       → u ≡ v
   pub units : (v : ℕ) → v < length (nodes_of p) → unit_at p v < length d.units
@@ -72,39 +76,51 @@ pub record IsFeasibleOver (o : Overlap) (d : Datapath) (p : Plan) : Type 0 where
   -- an input is issued in the first stage, and an output ends in the last one
   pub inputs : (v : ℕ) → v < length (nodes_of p) → (node_at p v).op ≡ op.Input → cycle_at p v < d.period
   pub outputs_last : (v : ℕ)
-      → v < length (nodes_of p) → (node_at p v).op ≡ op.Output
+      → v < length (nodes_of p)
+      → (node_at p v).op ≡ op.Output
       → (o.stages - 1) * d.period ≤ ends_at d p v
   -- two issues on one unit, of whatever samples, are its gap apart
   pub unit_free : (u v s n : ℕ)
-      → u < length (nodes_of p) → v < length (nodes_of p)
+      → u < length (nodes_of p)
+      → v < length (nodes_of p)
       → unit_at p u ≡ unit_at p v
       → cycle_at p u + s * d.period ≤ cycle_at p v + n * d.period
       → cycle_at p v + n * d.period < cycle_at p u + s * d.period + gap_on d (unit_at p u)
       → (u ≡ v) × (s ≡ n)
   -- a bus has the result of one node in a cycle
   pub bus_free : (u v m n : ℕ) (s t : Transfer)
-      → u < length (nodes_of p) → v < length (nodes_of p)
-      → Contains (transfers_at p u) s → Contains (transfers_at p v) t
-      → ends_at d p u + m * d.period ≡ ends_at d p v + n * d.period → s.bus ≡ t.bus
+      → u < length (nodes_of p)
+      → v < length (nodes_of p)
+      → Contains (transfers_at p u) s
+      → Contains (transfers_at p v) t
+      → ends_at d p u + m * d.period ≡ ends_at d p v + n * d.period
+      → s.bus ≡ t.bus
       → u ≡ v
   -- one transfer of a result goes to a register file
   pub transfer_once : (v : ℕ) (s t : Transfer)
       → v < length (nodes_of p)
-      → Contains (transfers_at p v) s → Contains (transfers_at p v) t → s.port ≡ t.port
+      → Contains (transfers_at p v) s
+      → Contains (transfers_at p v) t
+      → s.port ≡ t.port
       → s.bus ≡ t.bus
   -- a node with a transfer has a result
   pub transfers : (v : ℕ) (t : Transfer)
-      → v < length (nodes_of p) → Contains (transfers_at p v) t
+      → v < length (nodes_of p)
+      → Contains (transfers_at p v) t
       → gives (node_at p v).op ≡ true
   pub arcs : (k : ℕ) → k < length p.arcs → IsFeasibleArc d p k
   -- what a lifetime keeps of a sample before sample 0 is there before the run
   pub early : (k s : ℕ)
-      → k < length p.arcs → o.first ≤ s → s < past
+      → k < length p.arcs
+      → o.first ≤ s
+      → s < past
       → ends_at d p (arc_at p k).node + s * d.period < past * d.period
   -- a register file is written once in a cycle
   pub file_free : (j k : ℕ)
-      → j < length p.arcs → k < length p.arcs
-      → (arc_at p j).port ≡ (arc_at p k).port → (arc_at p j).w ≡ (arc_at p k).w
+      → j < length p.arcs
+      → k < length p.arcs
+      → (arc_at p j).port ≡ (arc_at p k).port
+      → (arc_at p j).w ≡ (arc_at p k).w
       → j ≡ k
   pub ports : (k : ℕ) → k < length p.arcs → (arc_at p k).port.port < 4
   -- each operand is read through a lifetime, behind the write and not behind its end
@@ -112,21 +128,26 @@ pub record IsFeasibleOver (o : Overlap) (d : Datapath) (p : Plan) : Type 0 where
       → v < length (nodes_of p) → q < length (node_at p v).edges
       → (k : ℕ) × ReadsThrough p v q k
   pub read_in : (v q k : ℕ)
-      → v < length (nodes_of p) → ReadsThrough p v q k
+      → v < length (nodes_of p)
+      → ReadsThrough p v q k
       → (ends_at d p (arc_at p k).node < cycle_at p v + (edge_at p v q).delay * d.period)
       × (cycle_at p v + (edge_at p v q).delay * d.period ≤ (arc_at p k).r + shift_of d p k * d.period)
   pub registers : AreRegistersApart d p
   pub lines : (l : ℕ) → l < length (lines_of p) → IsFeasibleLine o d p l
   pub lines_apart : (l m : ℕ)
-      → l < length (lines_of p) → m < length (lines_of p)
+      → l < length (lines_of p)
+      → m < length (lines_of p)
       → (line_at p l).ram ≡ (line_at p m).ram
       → (l ≡ m) ⊎ AreDisjoint o (line_at p l) (line_at p m)
   pub loads : (v : ℕ)
-      → v < length (nodes_of p) → (node_at p v).op ≡ op.Load
+      → v < length (nodes_of p)
+      → (node_at p v).op ≡ op.Load
       → (l : ℕ) × (ago : ℕ) × LoadsFrom d p v l ago
   -- a load is issued behind the end of the store of the word that it reads
   pub load_in : (v l ago : ℕ)
-      → v < length (nodes_of p) → (node_at p v).op ≡ op.Load → LoadsFrom d p v l ago
+      → v < length (nodes_of p)
+      → (node_at p v).op ≡ op.Load
+      → LoadsFrom d p v l ago
       → ends_at d p (store_of (line_at p l)) < cycle_at p v + ago * d.period
   pub stores : (v : ℕ)
       → v < length (nodes_of p) → (node_at p v).op ≡ op.Store
@@ -138,7 +159,9 @@ pub record IsFeasiblePlanOver (o : Overlap) (g : Graph) (d : Datapath) (p : Plan
   pub assigned : IsAssigned d p.assigned
   pub feasible : IsFeasibleOver o d p
   pub unroll : IsCount p.unroll
-  pub sizes : (k i : ℕ) → k < length p.arcs → i < (arc_at p k).copies
+  pub sizes : (k i : ℕ)
+      → k < length p.arcs
+      → i < (arc_at p k).copies
       → register_at p k i < file_size d (arc_at p k).port
   pub inputs : p.inputs ≡ g.inputs
   pub outs : p.outs ≡ g.outs

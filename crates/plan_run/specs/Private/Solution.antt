@@ -49,13 +49,17 @@ pub record LoweredSolves (d : Datapath) (p : Plan) (stream : Rows) (words : Coun
       → v < length (nodes_of p) → s < past
       → words v s ≡ word_before (node_at p v).inits (past - s)
   pub now : (v n : ℕ)
-      → v < length (nodes_of p) → n < length stream → IsOfGraph (node_at p v).op
+      → v < length (nodes_of p)
+      → n < length stream
+      → IsOfGraph (node_at p v).op
       → words v (past + n) ≡ meaning (node_at p v) stream n (operand_in words (node_at p v) n)
   pub load : (v n : ℕ)
-      → v < length (nodes_of p) → n < length stream → (node_at p v).op ≡ op.Load
-      → (l : ℕ) × (ago : ℕ) × LoadsFrom d p v l ago
-      × (words v (past + n) ≡ words (line_at p l).node (past + n - ago))
+      → v < length (nodes_of p)
+      → n < length stream
+      → (node_at p v).op ≡ op.Load
+      → (l : ℕ) × (ago : ℕ) × LoadsFrom d p v l ago × (words v (past + n) ≡ words (line_at p l).node (past + n - ago))
   pub address : (v n : ℕ)
-      → v < length (nodes_of p) → n < length stream → (node_at p v).op ≡ op.Addr
-      → words v (past + n)
-      ≡ int_rem_euclid ((node_at p v).arg -ℤ pos n) (pos (cells_on d (tie_of d (unit_at p v))))
+      → v < length (nodes_of p)
+      → n < length stream
+      → (node_at p v).op ≡ op.Addr
+      → words v (past + n) ≡ int_rem_euclid ((node_at p v).arg -ℤ pos n) (pos (cells_on d (tie_of d (unit_at p v))))

@@ -8,7 +8,8 @@ use Rattle.reg_alloc.specs.declared.fault.FileFault.TheVariants as file
 use Rattle.unit_assign.specs.declared.fault.UnitFault.{UnitFault}
 use Rattle.unit_assign.specs.declared.fault.UnitFault.TheVariants as unit
 use Rattle.planner.specs.declared.fault.PlanFault.{PlanFault}
-use Rattle.planner.specs.declared.fault.PlanFault.TheVariants.{Line as Unstored, Unit as Unbound, Period, FileFull, Memory}
+use Rattle.planner.specs.declared.fault.PlanFault.TheVariants.{Line as Unstored, Unit as Unbound, Period, FileFull}
+use Rattle.planner.specs.declared.fault.PlanFault.TheVariants.{Memory}
 
 abbrev pub of_line : LineFault → PlanFault
 of_line line.Memory = Memory

@@ -3,8 +3,7 @@ use Rattle.std.specs.Prelude.{◌≡◌, ◌≢◌, ℕ, ◌+◌, ◌*◌, ◌<�
 use Rattle.datapath.specs.declared.types.Datapath.{Datapath}
 use Rattle.plan_core.specs.Heights.{ReadsNow, latency_of, AreHeights}
 use Rattle.plan_core.specs.declared.schedule.Assigned.{Assigned}
-use Rattle.schedule_order.specs.Order.{IsAt}
-use Rattle.schedule_order.specs.Private.Search.{IsOrdered}
+use Rattle.node_order.specs.Topological.{IsAt, IsOrdered}
 
 abbrev pub height_in : List ℕ → ℕ → ℕ
 height_in heights v = slice_index_or heights v 0
@@ -34,7 +33,8 @@ pub record RaisesOperands (d : Datapath) (a : Assigned) (v k height : ℕ) (old 
   pub count : length new ≡ length old
   pub keeps : (x : ℕ) → height_in old x ≤ height_in new x
   pub reached : (q x : ℕ) → q < k → ReadsNow a.lowered.nodes v q x → latency_of d a x + height ≤ height_in new x
-  pub only : (x : ℕ) → (height_in new x ≡ height_in old x)
+  pub only : (x : ℕ)
+      → (height_in new x ≡ height_in old x)
       ⊎ ((q : ℕ) × ReadsNow a.lowered.nodes v q x × (height_in new x ≡ latency_of d a x + height))
 
 -- each node that is not in the order any more is below what it reads in the same sample
@@ -42,10 +42,17 @@ pub record IsRaising (d : Datapath) (a : Assigned) (order heights : List ℕ) : 
   pub ordered : IsOrdered a.lowered.nodes order
   pub count : length heights ≡ length a.lowered.nodes
   pub alone : (x : ℕ) → x < length a.lowered.nodes → latency_of d a x ≤ height_in heights x
-  pub above : (c : ℕ) → c < length a.lowered.nodes → IsAt order c
+  pub above : (c : ℕ)
+      → c < length a.lowered.nodes
+      → IsAt order c
       ⊎ ((q x : ℕ) → ReadsNow a.lowered.nodes c q x → latency_of d a x + height_in heights c ≤ height_in heights x)
-  pub reached : (x : ℕ) → x < length a.lowered.nodes → (height_in heights x ≡ latency_of d a x)
-      ⊎ ((c : ℕ) × (q : ℕ) × ReadsNow a.lowered.nodes c q x
+  pub reached : (x : ℕ)
+      → x < length a.lowered.nodes
+      → (height_in heights x ≡ latency_of d a x)
+      ⊎ ((c : ℕ)
+      × (q : ℕ)
+      × ReadsNow a.lowered.nodes c q x
       × (height_in heights x ≤ latency_of d a x + height_in heights c))
-  pub small : (x : ℕ) → x < length a.lowered.nodes
+  pub small : (x : ℕ)
+      → x < length a.lowered.nodes
       → height_in heights x + 8 * length order ≤ most_height (length a.lowered.nodes)

@@ -1,5 +1,6 @@
 -- The units of the first nodes, and the choice of the next one.
-use Rattle.std.specs.Prelude.{◌≡◌, ◌≢◌, ℕ, ◌+◌, ◌<◌, ◌≤◌, ◌==◌, ◌↔◌, Option, Some, None, if◌then◌else◌, nat_le, List, length, slice_index_or, count_by}
+use Rattle.std.specs.Prelude.{◌≡◌, ◌≢◌, ℕ, ◌+◌, ◌<◌, ◌≤◌, ◌==◌, ◌↔◌, Option, Some, None, if◌then◌else◌, nat_le, List}
+use Rattle.std.specs.Prelude.{length, slice_index_or, count_by}
 use Rattle.operations.specs.declared.units.Kind.{Kind}
 use Rattle.datapath.specs.declared.types.Datapath.{Datapath}
 use Rattle.signal_graph.specs.declared.graph.Node.{Node}
@@ -8,7 +9,7 @@ use Rattle.plan_core.specs.Operands.{node_of, Reads}
 use Rattle.plan_core.specs.Assigned.{unit_in, IsRightUnit, IsCandidate, load_of, AreUnits}
 use Rattle.unit_assign.specs.Private.UnitSets.{Has, set_at}
 use Rattle.unit_assign.specs.declared.binding.Binding.{Binding}
-use Rattle.unit_assign.specs.declared.unit_set.UnitSet.{UnitSet}
+use Rattle.bit_sets.specs.declared.set32.Set32.{Set32}
 
 -- how many nodes are bound to unit u
 abbrev pub load_in : List ℕ → ℕ → ℕ
@@ -20,11 +21,18 @@ pub record IsOneMore (old new : List ℕ) (unit : ℕ) : Type 0 where
   pub same : (u : ℕ) → u ≢ unit → load_in new u ≡ load_in old u
 
 -- the set has of each kind the units with the fewest nodes
-pub record AreLightest (d : Datapath) (loads : List ℕ) (set : UnitSet) : Type 0 where
-  pub fewest : (kind : Kind) (u w : ℕ) → IsOfKind d kind u → IsOfKind d kind w → Has set u
+pub record AreLightest (d : Datapath) (loads : List ℕ) (set : Set32) : Type 0 where
+  pub fewest : (kind : Kind) (u w : ℕ)
+      → IsOfKind d kind u
+      → IsOfKind d kind w
+      → Has set u
       → load_in loads u ≤ load_in loads w
-  pub every : (kind : Kind) (u w : ℕ) → IsOfKind d kind u → IsOfKind d kind w → Has set u
-      → load_in loads w ≡ load_in loads u → Has set w
+  pub every : (kind : Kind) (u w : ℕ)
+      → IsOfKind d kind u
+      → IsOfKind d kind w
+      → Has set u
+      → load_in loads w ≡ load_in loads u
+      → Has set w
   pub some : (kind : Kind) (u : ℕ) → IsOfKind d kind u → (w : ℕ) × IsOfKind d kind w × Has set w
 
 module _ (d : Datapath) (nodes : List Node) where
@@ -32,14 +40,15 @@ module _ (d : Datapath) (nodes : List Node) where
   abbrev pub IsAllowed : List ℕ → (n x u : ℕ) → Type 0
   IsAllowed units n x u = (c q : ℕ) → c < n → Reads nodes c q x → HasRoute d u (port_of (unit_in units c) q)
 
-  pub record AreAllowed (units : List ℕ) (n : ℕ) (sets : List UnitSet) : Type 0 where
+  pub record AreAllowed (units : List ℕ) (n : ℕ) (sets : List Set32) : Type 0 where
     pub count : length sets ≡ length nodes
     pub allowed : (x u : ℕ) → x < length nodes → u < length d.units → Has (set_at sets x) u ↔ IsAllowed units n x u
 
   -- where node v, on this unit, reads a node at one of its first k ports, the units stay that have a route to the port
-  pub record IsNarrowed (v unit k : ℕ) (old new : List UnitSet) : Type 0 where
+  pub record IsNarrowed (v unit k : ℕ) (old new : List Set32) : Type 0 where
     pub count : length new ≡ length old
-    pub sets : (x u : ℕ) → x < length old
+    pub sets : (x u : ℕ)
+        → x < length old
         → Has (set_at new x) u
         ↔ (Has (set_at old x) u × ((q : ℕ) → q < k → Reads nodes v q x → HasRoute d u (port_of unit q)))
 
@@ -69,8 +78,11 @@ module _ (d : Datapath) (nodes : List Node) where
     pub below : u < n
     pub candidate : IsCandidate d nodes units v u
     pub fewest : (w : ℕ) → w < n → IsCandidate d nodes units v w → load_of d nodes units v u ≤ load_of d nodes units v w
-    pub first : (w : ℕ) → w < n → IsCandidate d nodes units v w
-        → load_of d nodes units v w ≡ load_of d nodes units v u → u ≤ w
+    pub first : (w : ℕ)
+        → w < n
+        → IsCandidate d nodes units v w
+        → load_of d nodes units v w ≡ load_of d nodes units v u
+        → u ≤ w
 
   abbrev pub IsBest : (units : List ℕ) (v n : ℕ) → Option ℕ → Type 0
   IsBest units v n None = (u : ℕ) → u < n → IsCandidate d nodes units v u → ⊥

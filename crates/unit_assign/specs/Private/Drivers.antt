@@ -4,7 +4,7 @@ use Rattle.operations.specs.declared.units.PortRef.{PortRef}
 use Rattle.datapath.specs.declared.types.Datapath.{Datapath}
 use Rattle.plan_core.specs.Hardware.{port_of, no_bus, HasRoute}
 use Rattle.unit_assign.specs.Private.UnitSets.{Has, set_at}
-use Rattle.unit_assign.specs.declared.unit_set.UnitSet.{UnitSet}
+use Rattle.bit_sets.specs.declared.set32.Set32.{Set32}
 
 -- the most ports and units that there are
 abbrev pub most_ports : ℕ
@@ -28,21 +28,27 @@ HasRouteBefore d n u port =
     × Contains (slice_index_or d.buses b no_bus).to port
 
 -- a set for each port, which has the units from which one of the first n buses leads to it
-pub record AreDriversBefore (d : Datapath) (n : ℕ) (sets : List UnitSet) : Type 0 where
+pub record AreDriversBefore (d : Datapath) (n : ℕ) (sets : List Set32) : Type 0 where
   pub count : length sets ≡ length d.units * most_ports
-  pub drivers : (unit port u : ℕ) → unit < length d.units → port < most_ports
+  pub drivers : (unit port u : ℕ)
+      → unit < length d.units
+      → port < most_ports
       → Has (set_at sets (place unit port)) u ↔ HasRouteBefore d n u (port_of unit port)
 
 -- a set for each port, which has the units from which a bus leads to it
-pub record AreDrivers (d : Datapath) (sets : List UnitSet) : Type 0 where
+pub record AreDrivers (d : Datapath) (sets : List Set32) : Type 0 where
   pub count : length sets ≡ length d.units * most_ports
-  pub drivers : (unit port u : ℕ) → unit < length d.units → port < most_ports
+  pub drivers : (unit port u : ℕ)
+      → unit < length d.units
+      → port < most_ports
       → Has (set_at sets (place unit port)) u ↔ HasRoute d u (port_of unit port)
 
 -- to the sets of these ports, units were added
-pub record IsAddedTo (units : UnitSet) (ports : List PortRef) (n : ℕ) (old new : List UnitSet) : Type 0 where
+pub record IsAddedTo (units : Set32) (ports : List PortRef) (n : ℕ) (old new : List Set32) : Type 0 where
   pub count : length new ≡ length old
-  pub sets : (unit port u : ℕ) → place unit port < length old → port < most_ports
+  pub sets : (unit port u : ℕ)
+      → place unit port < length old
+      → port < most_ports
       → Has (set_at new (place unit port)) u
       ↔ (Has (set_at old (place unit port)) u ⊎ (Among ports n (port_of unit port) × Has units u))
 

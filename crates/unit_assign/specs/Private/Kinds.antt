@@ -6,10 +6,10 @@ use Rattle.datapath.specs.declared.types.Datapath.{Datapath}
 use Rattle.plan_core.specs.Hardware.{IsOfKind}
 use Rattle.unit_assign.specs.Private.UnitSets.{Has}
 use Rattle.unit_assign.specs.declared.kinds.Kinds.{Kinds}
-use Rattle.unit_assign.specs.declared.unit_set.UnitSet.{UnitSet}
+use Rattle.bit_sets.specs.declared.set32.Set32.{Set32}
 
 -- the units of a kind
-abbrev pub set_of : Kinds → Kind → UnitSet
+abbrev pub set_of : Kinds → Kind → Set32
 set_of kinds kind.Input = kinds.input
 set_of kinds kind.Output = kinds.output
 set_of kinds kind.Rom = kinds.rom

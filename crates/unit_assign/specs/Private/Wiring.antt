@@ -7,13 +7,15 @@ use Rattle.unit_assign.specs.Wired.{IsWired}
 use Rattle.unit_assign.specs.Private.UnitSets.{Has, set_at}
 use Rattle.unit_assign.specs.Private.Kinds.{AreKinds}
 use Rattle.unit_assign.specs.Private.Drivers.{most_ports, most_units, place, AreDrivers}
-use Rattle.unit_assign.specs.declared.unit_set.UnitSet.{UnitSet}
+use Rattle.bit_sets.specs.declared.set32.Set32.{Set32}
 use Rattle.unit_assign.specs.declared.wiring.Wiring.{Wiring}
 
 -- for the first n of the pairs of a unit and the number of a port, the units to whose port a bus leads from the unit
-pub record AreTakers (d : Datapath) (n : ℕ) (sets : List UnitSet) : Type 0 where
+pub record AreTakers (d : Datapath) (n : ℕ) (sets : List Set32) : Type 0 where
   pub count : length sets ≡ n
-  pub takers : (unit port u : ℕ) → place unit port < n → port < most_ports
+  pub takers : (unit port u : ℕ)
+      → place unit port < n
+      → port < most_ports
       → Has (set_at sets (place unit port)) u ↔ ((u < length d.units) × HasRoute d unit (port_of u port))
 
 -- the units of each kind, and the routes between units

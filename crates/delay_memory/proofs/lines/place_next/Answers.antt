@@ -1,4 +1,5 @@
-use Rattle.delay_memory.proofs.PlaceSteps.{on_ok, if_err, placed_next, none_next, stop_next}
+use Rattle.delay_memory.proofs.PlaceSteps.{placed_next, none_next, stop_next}
+use Rattle.lists.proofs.Results.{on_ok, if_err}
 use Rattle.delay_memory.proofs.lines.place_next.Goals as goal
 
 pub returns-in-None-clause-lines : goal.returns-in-None-clause-lines

@@ -1,7 +1,7 @@
-use Rattle.std.proofs.Common.{◌<◌, sym, subst, arith, length}
+use Rattle.std.proofs.Common.{◌<◌, ◌+◌, sym, subst, arith, length}
 use Rattle.plan_core.specs.Operands.{no_edge}
 use Rattle.delay_memory.specs.Private.Nodes.{IsLaid}
-use Rattle.delay_memory.proofs.NodeSteps.{lowered_none, old_edge, lowered_more, lowered_all}
+use Rattle.delay_memory.proofs.NodeSteps.{AreLoweredBefore, lowered_none, old_edge, lowered_more, lowered_all}
 use Rattle.delay_memory.proofs.nodes.lower_edges.Goals as goal
 
 pub loop-port-init : goal.loop-port-init
@@ -22,9 +22,12 @@ edge_for-edge-requires-clause-edge c =
 pub loop-port-preserved : goal.loop-port-preserved
 loop-port-preserved c =
     let count = c.loop-port.invariant.count in
-    lowered_more c.args.layout.now.target.now.hold c.args.layout.now.delays.now c.args.edges.now c.loop-port.port
+    subst (AreLoweredBefore c.args.layout.now.target.now.hold c.args.layout.now.delays.now (c.loop-port.port + 1)
+    c.args.edges.now)
+    (sym c.set.ensures)
+    (lowered_more c.args.layout.now.target.now.hold c.args.layout.now.delays.now c.args.edges.now c.loop-port.port
     c.loop-port.edges c.loop-port.invariant c.index.result.now c.edge_for-edge.result (omega arith) c.index.ensures
-    c.edge_for-edge.ensures
+    c.edge_for-edge.ensures)
 
 pub returns : goal.returns
 returns c =

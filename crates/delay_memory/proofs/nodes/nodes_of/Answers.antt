@@ -2,7 +2,8 @@ use Rattle.std.proofs.Common.{◌≡◌, ◌<◌, subst, arith, length, ℕ}
 use Rattle.delay_memory.specs.Private.Nodes.{AreMadeBefore}
 use Rattle.delay_memory.proofs.Stored.{count_few}
 use Rattle.delay_memory.proofs.NodeSteps.{edges_laid}
-use Rattle.delay_memory.proofs.CopySteps.{left_node, left_more, next_inside, number_fits, offset_fits, next_with, next_without, nodes_without, nodes_with}
+use Rattle.delay_memory.proofs.CopySteps.{left_node, left_more, next_inside, number_fits, offset_fits, next_with}
+use Rattle.delay_memory.proofs.CopySteps.{next_without, nodes_without, nodes_with}
 use Rattle.delay_memory.proofs.nodes.nodes_of.Goals as goal
 
 pub own_node-requires-clause-edges : goal.own_node-requires-clause-edges

@@ -11,4 +11,4 @@ pub issue-requires-clause-ports : goal.issue-requires-clause-ports
 issue-requires-clause-ports c =
     subst (AreDestinations c.args.problem.now.assigned.now c.args.v) (sym c.as_slice.ensures.value)
     (subst (λ (a : Assigned). AreDestinations a c.args.v c.list.new.ports.items) c.requires.destinations
-    c.in_ok-list.ensures)
+    c.in_ok-list.ensures.ok)

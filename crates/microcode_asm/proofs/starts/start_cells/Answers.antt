@@ -4,7 +4,9 @@ use Rattle.microcode_asm.specs.Private.Starts.{AreUnitsOf, AreCellsPut, Writes, 
 use Rattle.microcode_asm.proofs.HeldSteps.{units_kept}
 use Rattle.microcode_asm.proofs.StartSteps.{cell_there, cell_put, cell_skipped, cells_started}
 use Rattle.microcode_asm.proofs.starts.start_cells.Goals as goal
-use Rattle.microcode_asm.proofs.starts.start_cells.Goals.{then-ago-gt0+then-ago-line, else-ago-gt0, else-ago-gt0-via-then-ago-gt0+else-ago-line, else-ago-gt0-via-else-ago-gt0}
+use Rattle.microcode_asm.proofs.starts.start_cells.Goals.{then-ago-gt0+then-ago-line, else-ago-gt0}
+use Rattle.microcode_asm.proofs.starts.start_cells.Goals.{else-ago-gt0-via-then-ago-gt0+else-ago-line}
+use Rattle.microcode_asm.proofs.starts.start_cells.Goals.{else-ago-gt0-via-else-ago-gt0}
 
 pub write_cell-requires-clause-cell : goal.write_cell-requires-clause-cell
 write_cell-requires-clause-cell c =
@@ -19,10 +21,12 @@ loop-ago-preserved c =
     let items = c.deref-ago-items.result.now in
     let i = c.loop-ago.ago-index in
     elim c.if-ago-gt0.branch [
-      | then-ago-gt0+then-ago-line w ↦ let same : to_z w64 (of_z w64 w.word_of.result) ≡ w.word_of.result = search rules in
+      | then-ago-gt0+then-ago-line w ↦
+          let same : to_z w64 (of_z w64 w.word_of.result) ≡ w.word_of.result = search rules in
           record {
             units = subst (AreUnitsOf d) (sym w.units-is)
-                (units_kept d _ _ c.loop-ago.units w.write_cell.new.units c.loop-ago.invariant.units w.write_cell.ensures);
+                (units_kept d _ _ c.loop-ago.units w.write_cell.new.units c.loop-ago.invariant.units
+                w.write_cell.ensures);
             started = λ image is started.
                 subst (AreCellsPut d p image c.args.l (i + 1)) (sym w.units-is)
                 (cell_put d p c.requires.ready image is c.args.l c.requires.there i w.from.result

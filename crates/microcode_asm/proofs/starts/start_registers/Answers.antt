@@ -36,7 +36,8 @@ loop-ago-preserved c =
           c.index-arc.result.now c.index-in-loop-ago.result.now c.as_slice-inits.result.now c.index.result.now
           c.loop-ago.units c.write_register.new.units c.index-arc.ensures c.index-in-loop-ago.ensures
           c.index-reg.ensures c.index.ensures c.as_slice-inits.ensures (same ∙ c.word_before.ensures) c.copy_ago.ensures
-          c.loop-ago.auto.ago (c.from-most.ensures ∙ c.periods_until.ensures) c.loop-ago-test.true c.write_register.ensures
+          c.loop-ago.auto.ago (c.from-most.ensures ∙ c.periods_until.ensures) c.loop-ago-test.true
+          c.write_register.ensures
           (c.loop-ago.invariant.started image is started);
     }
 
@@ -44,4 +45,5 @@ pub returns-clause-started : goal.returns-clause-started
 returns-clause-started c image is started =
     registers_started c.args.datapath.now c.args.plan.now c.requires.ready image is c.args.k c.requires.there
     c.loop-ago.ago c.from-most.result c.index-arc.result.now c.loop-ago.units c.index-arc.ensures
-    (c.from-most.ensures ∙ c.periods_until.ensures) c.loop-ago-test.false (c.loop-ago.invariant.started image is started)
+    (c.from-most.ensures ∙ c.periods_until.ensures) c.loop-ago-test.false
+    (c.loop-ago.invariant.started image is started)

@@ -1,4 +1,5 @@
-use Rattle.std.proofs.Common.{rules, ◌≡◌, ◌∙◌, ◌⊎◌, inl, inr, ⊎_elim, sym, ap, subst, arith, ℕ, ◌+◌, ◌<◌, ◌∷◌, ◌++◌, [], List, length, slice_index_or, Err}
+use Rattle.std.proofs.Common.{rules, ◌≡◌, ◌∙◌, ◌⊎◌, inl, inr, ⊎_elim, sym, ap, subst, arith, ℕ, ◌+◌, ◌<◌, ◌∷◌, ◌++◌, []}
+use Rattle.std.proofs.Common.{List, length, slice_index_or, Err}
 use Rattle.std.specs.Prelude.{IfErr}
 use Rattle.std.proofs.lemmas.List.{get_or_default, length_push}
 use Rattle.operations.specs.declared.units.PortRef.{PortRef}
@@ -27,7 +28,8 @@ loop-copy-init c =
       count = ap (λ (rs : List ℕ). length rs) c.in_ok-registers.ensures;
       port = c.enter.ensures.port;
       allotted = subst
-          (λ (last : List ℕ). AreAllottedBefore d samples arcs (c.loop-arc.regs ++ last ∷ []) c.enter.new.self.port new k
+          (λ (last : List ℕ).
+          AreAllottedBefore d samples arcs (c.loop-arc.regs ++ last ∷ []) c.enter.new.self.port new k
           0) (sym c.in_ok-registers.ensures)
           (subst (λ (p : PortRef). AreAllottedBefore d samples arcs (c.loop-arc.regs ++ [] ∷ []) p new k 0)
           (sym (c.enter.ensures.port ∙ port))
@@ -67,7 +69,8 @@ returns-in_err-place-clause-fault c =
           c.loop-copy.file.registers.items k copy) (c.loop-copy.invariant.port ∙ port) c.loop-copy.invariant.allotted)
           (subst (λ (n : ℕ). IsFullFor n samples (arc_of arcs k) copy size c.loop-copy.file.registers.items)
           c.requires.period
-          (subst (λ (arc : Arc). IsFullFor c.args.circle.period samples arc copy size c.loop-copy.file.registers.items) is
+          (subst (λ (arc : Arc). IsFullFor c.args.circle.period samples arc copy size c.loop-copy.file.registers.items)
+          is
           full.1));
     })))
     c.in_err-place.ensures.fault)
@@ -93,7 +96,8 @@ loop-copy-preserved c =
           ∙ ap (λ (n : ℕ). n + 1) c.loop-copy.invariant.count;
       port = c.place.ensures.port ∙ c.loop-copy.invariant.port;
       allotted = subst
-          (λ (last : List ℕ). AreAllottedBefore d samples arcs (c.loop-arc.regs ++ last ∷ []) c.place.new.self.port new k
+          (λ (last : List ℕ).
+          AreAllottedBefore d samples arcs (c.loop-arc.regs ++ last ∷ []) c.place.new.self.port new k
           (copy + 1)) (sym c.in_ok-push.ensures.ok)
           (subst (λ (p : PortRef). AreAllottedBefore d samples arcs (c.loop-arc.regs ++ more ∷ []) p new k (copy + 1))
           (sym (c.place.ensures.port ∙ c.loop-copy.invariant.port ∙ port))
@@ -101,7 +105,8 @@ loop-copy-preserved c =
           c.in_ok-place.field-0 there c.loop-arc.invariant.whole.count c.loop-copy.invariant.count
           (omega (arith, c.loop-copy-test.true, copies))
           (c.file_size-size.ensures.size ∙ ap (λ (p : PortRef). file_size d p) port)
-          (subst (λ (p : PortRef). AreAllottedBefore d samples arcs (c.loop-arc.regs ++ c.loop-copy.registers ∷ []) p old
+          (subst
+          (λ (p : PortRef). AreAllottedBefore d samples arcs (c.loop-arc.regs ++ c.loop-copy.registers ∷ []) p old
           k copy) (c.loop-copy.invariant.port ∙ port) c.loop-copy.invariant.allotted)
           (subst (λ (n : ℕ). IsPlaced n samples (arc_of arcs k) copy size old c.in_ok-place.field-0 new)
           c.requires.period

@@ -17,5 +17,5 @@ loop-port-preserved c =
     (slice_index_or items k no_edge).node reads in
     let count = c.loop-port.invariant.count in
     adds_step a c.args.c k (slice_index_or items k no_edge).node c.args.readers.now c.loop-port.readers
-    c.index.result.now c.with-more.result c.unit-unit.result c.loop-port.invariant reads (omega arith) c.index.ensures
-    c.unit-unit.ensures.unit c.with-more.ensures
+    c.index.result.now c.with_port-more.result c.unit-unit.result c.loop-port.invariant reads (omega arith)
+    c.index.ensures c.unit-unit.ensures.unit c.with_port-more.ensures

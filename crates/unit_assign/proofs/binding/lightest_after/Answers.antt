@@ -12,7 +12,7 @@ returns-in-Some c old grows before =
     c.units-units.result c.units-units.ensures in
     lightest_kept d old c.args.loads.now unit item.kind is grows c.args.lightest c.without-rest.result
     c.units-units.result c.intersection-others.result before c.without-rest.ensures same
-    c.intersection-others.ensures _ c.in-Some.ensures.there
+    c.intersection-others.ensures _ c.in-Some.ensures.first.taken.there
 
 pub with_load-requires : goal.with_load-requires
 with_load-requires c u has =
@@ -35,7 +35,7 @@ returns-in-None c old grows before =
     let there = c.requires.unit in let count = c.requires.count in omega (arith, there, count) in
     lightest_renewed d old c.args.loads.now unit item.kind is grows c.args.lightest c.without-rest.result
     c.units-units.result c.intersection-others.result before c.without-rest.ensures same
-    c.intersection-others.ensures c.in-None.ensures c.index-in-None.result.now
+    c.intersection-others.ensures c.in-None.ensures.first c.index-in-None.result.now
     (load_read c.args.loads.now unit c.from-in-None.result c.index-in-None.result.now inside
     c.from-in-None.ensures c.index-in-None.ensures) c.with_load.result c.union.result c.with_load.ensures
     c.union.ensures

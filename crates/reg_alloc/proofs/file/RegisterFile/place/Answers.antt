@@ -1,4 +1,5 @@
-use Rattle.std.proofs.Common.{◌≡◌, ◌∙◌, inr, refl, sym, ap, subst, arith, ◌<◌, ◌++◌, ◌∷◌, [], ℕ, List, length, slice_index_or, slice_set}
+use Rattle.std.proofs.Common.{◌≡◌, ◌∙◌, inr, refl, sym, ap, subst, arith, ◌<◌, ◌++◌, ◌∷◌, [], ℕ, List, length}
+use Rattle.std.proofs.Common.{slice_index_or, slice_set}
 use Rattle.std.proofs.lemmas.List.{length_push}
 use Rattle.reg_alloc.specs.Private.Files.{register_in, IsFirstFree, IsPlaced}
 use Rattle.reg_alloc.specs.Private.Occupancies.{span_at}
@@ -52,7 +53,9 @@ returns-clause-placed c =
         subst (λ (xs : List Occupancy). IsFirstFree c.args.circle.period c.args.circle.samples xs
         c.of_copy-other.result q) c.as_slice.ensures.value c.first_free-number.ensures.first
 
-    placed : (now : List Occupancy) → c.if-number-len.self.registers.items ≡ now → q < length now
+    placed : (now : List Occupancy)
+        → c.if-number-len.self.registers.items ≡ now
+        → q < length now
         → ((p : ℕ) → (p ≡ q → ⊥) → register_in now p ≡ register_in old p)
         → ((n : ℕ) → span_at (register_in now q) n ≡ span_at (register_in old q) n)
         → IsPlaced c.args.circle.period c.args.circle.samples c.args.arc c.args.copy c.args.size old q

@@ -14,11 +14,11 @@ loop-unit-preserved c =
     let units = c.args.binding.now.units in
     subst (λ (u : ℕ). IsChoosing d nodes units c.args.v c.pop_first.new.self (Some u)) (sym c.lighter.ensures)
     (choosing_goes_on d nodes units c.args.v c.args.binding.now.loads c.requires.next.count c.requires.binding.loads
-    c.loop-unit.left c.pop_first.new.self c.loop-unit.best c.in-Some.unit c.loop-unit.invariant c.in-Some.ensures)
+    c.loop-unit.left c.pop_first.new.self c.loop-unit.best c.in-Some.unit c.loop-unit.invariant c.in-Some.ensures.first)
 
 pub lighter-requires-clause-unit : goal.lighter-requires-clause-unit
 lighter-requires-clause-unit c =
-    let its = (c.loop-unit.invariant.left_are c.in-Some.unit).0 c.in-Some.ensures.there in
+    let its = (c.loop-unit.invariant.left_are c.in-Some.unit).0 c.in-Some.ensures.first.taken.there in
     let there = its.0.right.kind.there in
     let count = c.requires.binding.load_count in
     omega arith
@@ -32,4 +32,4 @@ lighter-requires-clause-best c =
 pub returns : goal.returns
 returns c =
     choosing_ends c.args.self.now.datapath.now c.args.self.now.lowered.now.nodes c.args.binding.now.units c.args.v
-    c.loop-unit.left c.loop-unit.best c.loop-unit.invariant c.in_default.ensures
+    c.loop-unit.left c.loop-unit.best c.loop-unit.invariant c.in_default.ensures.first

@@ -1,8 +1,8 @@
 use Rattle.std.proofs.Common.{sym, subst, arith}
 use Rattle.plan_core.specs.Assigned.{unit_in}
 use Rattle.unit_assign.specs.Private.UnitSets.{Has}
-use Rattle.unit_assign.specs.declared.unit_set.UnitSet.{UnitSet}
-use Rattle.unit_assign.proofs.SetSteps.{has_all}
+use Rattle.bit_sets.specs.declared.set32.Set32.{Set32}
+use Rattle.bit_sets.proofs.Bits.{has_all}
 use Rattle.unit_assign.proofs.MissingSteps.{unit_there}
 use Rattle.unit_assign.proofs.WiringSteps.{takers_at}
 use Rattle.unit_assign.proofs.CandidateSteps.{from_bound, from_later}
@@ -28,4 +28,4 @@ returns-else-operand-v-2 c u inside =
     let more = c.if-operand-v-2.false in
     from_later c.args.self.now.datapath.now c.args.self.now.lowered.now.nodes c.args.units.now c.args.v u c.args.port
     c.args.operand c.full.result (omega arith)
-    (subst (λ (set : UnitSet). Has set u) (sym c.full.ensures) (has_all u (omega arith)))
+    (subst (λ (set : Set32). Has set u) (sym c.full.ensures) (has_all 32 u (omega arith)))

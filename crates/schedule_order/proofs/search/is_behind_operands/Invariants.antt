@@ -1,9 +1,0 @@
-use Rattle.std.proofs.Common.{◌≡◌, ℕ, ◌<◌}
-use Rattle.std.specs.Prelude.{slice_index_or}
-use Rattle.plan_core.specs.Operands.{no_edge}
-use Rattle.schedule_order.proofs.search.is_behind_operands.Given as goal
-
-abbrev pub invariant-loop-edge : goal.invariant-loop-edge
-invariant-loop-edge l =
-    (q : ℕ) → q < l.edge-index → (slice_index_or l.edge-items q no_edge).delay ≡ 0
-    → (slice_index_or l.edge-items q no_edge).node < l.v
