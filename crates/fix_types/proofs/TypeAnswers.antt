@@ -7,20 +7,20 @@ use Rattle.ranked_faults.specs.Private.FirstMet.{first}
 use Rattle.ranked_faults.proofs.FirstFaults.{Answers, one_first}
 use Rattle.ranked_faults.proofs.TableFaults.{first_answers, single_faults}
 use Rattle.silage_syntax.specs.Tree.{Program}
-use Rattle.name_check.specs.NameFaults.{name_faults}
-use Rattle.fix_types.specs.Boundary.{KeepsValues}
-use Rattle.fix_types.specs.Numbers.{AreNumbersShort}
-use Rattle.fix_types.specs.TypeFaults.{type_faults}
-use Rattle.fix_types.specs.TypeRules.{type_rules}
-use Rattle.fix_types.specs.TypedTree.{view_typed}
-use Rattle.fix_types.specs.Translation.{typed_program}
-use Rattle.fix_types.specs.declared.fault.TypeFault.{TypeFault}
-use Rattle.fix_types.specs.declared.fault.TypeFault.TheVariants.{Mismatch, NeedsCast, Literal, NotBool, Memory}
-use Rattle.fix_types.specs.declared.typed.Typed.{Typed as RustTyped}
+use Rattle.source_names.specs.NameFaults.{name_faults}
+use Rattle.typed_source.specs.Boundary.{KeepsValues}
+use Rattle.typed_source.specs.Numbers.{AreNumbersShort}
+use Rattle.typed_source.specs.TypeFaults.{type_faults}
+use Rattle.typed_source.specs.TypeRules.{type_rules}
+use Rattle.typed_source.specs.TypedTree.{view_typed}
+use Rattle.typed_source.specs.Translation.{typed_program}
+use Rattle.typed_source.specs.declared.fault.TypeFault.{TypeFault}
+use Rattle.typed_source.specs.declared.fault.TypeFault.TheVariants.{Mismatch, NeedsCast, Literal, NotBool, Memory}
+use Rattle.typed_source.specs.declared.typed.Typed.{Typed as RustTyped}
 use Rattle.fix_types.specs.Private.Answers.{GivesAs}
-use Rattle.fix_types.specs.Private.Sound.{IsSoundTop}
-use Rattle.fix_types.proofs.Kept.{keeps_values}
-use Rattle.fix_types.proofs.SoundNames.{top_sound}
+use Rattle.typed_source.specs.Private.Sound.{IsSoundTop}
+use Rattle.typed_source.proofs.Kept.{keeps_values}
+use Rattle.typed_source.proofs.SoundNames.{top_sound}
 
 pub all_sound : (p : Program) → IsClear (name_faults p) → AreNumbersShort p → All (IsSoundTop p) p.tops
 all_sound p clear short k d within = top_sound p clear k _ (slice_get-get_or p.tops k d within) (short k d within)
@@ -43,7 +43,9 @@ module _ (p : Program) where
   says_ok (Ok x) h = answers (Ok tt) h.0
   says_ok (Err e) h = tt
 
-  pub says_fault : (r : Result RustTyped TypeFault) → Gives r → IfErr r (λ fault. fault ≢ Memory → IsFirst (type_faults p) fault)
+  pub says_fault : (r : Result RustTyped TypeFault)
+      → Gives r
+      → IfErr r (λ fault. fault ≢ Memory → IsFirst (type_faults p) fault)
   says_fault (Ok x) h = tt
   says_fault (Err e) h = λ n. answers (Err e) (h n)
 
@@ -51,7 +53,11 @@ module _ (p : Program) where
   says_typed (Ok x) h = h.1
   says_typed (Err e) h = tt
 
-  pub says_values : IsClear (name_faults p) → AreNumbersShort p → (r : Result RustTyped TypeFault) → Gives r → OnOk r (KeepsValues p)
+  pub says_values : IsClear (name_faults p)
+      → AreNumbersShort p
+      → (r : Result RustTyped TypeFault)
+      → Gives r
+      → OnOk r (KeepsValues p)
   says_values clear short (Ok x) h = keeps_values p clear short h.0
   says_values clear short (Err e) h = tt
 
@@ -62,7 +68,11 @@ module _ (p : Program) where
     | inr n ↦ let i = answers (Err e) (h n) in absurd (clear i.rank e i.here)
   ]
 
-  pub each_fault : (r : Result RustTyped TypeFault) → Gives r → (fault : TypeFault) → IsFirst (type_faults p) fault → AnswersFault Memory fault r
+  pub each_fault : (r : Result RustTyped TypeFault)
+      → Gives r
+      → (fault : TypeFault)
+      → IsFirst (type_faults p) fault
+      → AnswersFault Memory fault r
   each_fault (Ok x) h fault i = answers (Ok tt) h.0 i.rank fault i.here
   each_fault (Err e) h fault i = elim (memory_or e) [
     | inl m ↦ inr m

@@ -1,5 +1,3 @@
-pub mod Signals
-pub mod Sound
 pub mod Scopes
 pub mod Answers
 pub mod Plans

@@ -8,26 +8,26 @@ ghost use Rattle.silage_syntax.specs.Tree.{view_expr, view_place, view_manifest,
 ghost use Rattle.silage_syntax.specs.declared.tree.Decl.{Decl as DeclOf};
 ghost use Rattle.silage_meaning.specs.Types as meaning;
 ghost use Rattle.silage_syntax.specs.Names.{function_named};
-ghost use Rattle.fix_types.specs.TypeRules.{against, literal_rules, expr_rules};
-ghost use Rattle.fix_types.specs.TypeRules.{argument_rules, place_rules, call_rules};
-ghost use Rattle.fix_types.specs.Translation as typed;
-ghost use Rattle.fix_types.specs.Translation.{typed_against, initial_word, typed_arguments};
-ghost use Rattle.fix_types.specs.TypedTree.{view_item, view_items};
-ghost use Rattle.fix_types.specs.TypedTree as typed_tree;
-ghost use Rattle.fix_types.specs.Numbers.{IsShort};
+ghost use Rattle.typed_source.specs.TypeRules.{against, literal_rules, expr_rules};
+ghost use Rattle.typed_source.specs.TypeRules.{argument_rules, place_rules, call_rules};
+ghost use Rattle.typed_source.specs.Translation as typed;
+ghost use Rattle.typed_source.specs.Translation.{typed_against, initial_word, typed_arguments};
+ghost use Rattle.typed_source.specs.TypedTree.{view_item, view_items};
+ghost use Rattle.typed_source.specs.TypedTree as typed_tree;
+ghost use Rattle.typed_source.specs.Numbers.{IsShort};
 ghost use Rattle.fix_types.specs.Private.Answers.{Gives, GivesAs, GivesItem, GivesItems};
 ghost use Rattle.fix_types.specs.Private.Scopes.{program_of, function_of};
-ghost use Rattle.fix_types.specs.Private.Sound.{IsSound, IsSoundItem, AreSoundItems, HasType, HasTypedReads, HasTypedNames, HaveTypedNames, IsSoundType};
+ghost use Rattle.typed_source.specs.Private.Sound.{IsSound, IsSoundItem, AreSoundItems, HasType, HasTypedReads, HasTypedNames, HaveTypedNames, IsSoundType};
 
+use crate::copies;
 use crate::expressions::typed;
-use crate::lookups::{function, position, type_of};
+use crate::lookups::type_of;
 use crate::operands::{check_name, literal_word};
 use crate::scope::Scope;
-use crate::typed::{TypedExpr, TypedItem};
-use crate::{TypeFault, copies};
 use lists::Name;
 use silage_syntax::{Decl, Expr, Func, Item, Lit, Manifest, Place};
 use std::alloc::AllocError;
+use typed_source::{TypeFault, TypedExpr, TypedItem};
 
 /// A right side against the type of the place.
 fn right_side(scope: &Scope, place: &Place, value: &Expr) -> Result<TypedExpr, TypeFault>
@@ -152,10 +152,11 @@ fn call(
     ensures { GivesItem (program_of scope.now) (function_of scope.now)
         (tree.call (map view_place places.now) func.now (map view_expr args.now) at) result }
 {
-    let args = called(scope, function(scope, func), places, args)?;
+    let (position, callee) = scope.tops.callee(func);
+    let args = called(scope, callee, places, args)?;
     Ok(TypedItem::Call {
         places: copies::places(scope.alloc, places)?,
-        func: position(scope, func),
+        func: position,
         args,
         at,
     })

@@ -3,7 +3,6 @@
 
 mod copies;
 mod expressions;
-mod fault;
 mod items;
 mod lookups;
 mod nodes;
@@ -13,26 +12,24 @@ mod scope;
 mod signals;
 mod synthesis;
 mod tops;
-mod typed;
 
 ghost use Rattle.std.specs.Prelude.{◌≡◌, ◌≢◌, ◌<◌, ◌^◌, length, IfOk, OnOk, IfErr};
 ghost use Rattle.ranked_faults.specs.Ranked.{IsClear, IsFirst, AnswersOk, AnswersFault};
 ghost use Rattle.silage_syntax.specs.Tree.{view};
-ghost use Rattle.name_check.specs.TopNames.{top_names};
-ghost use Rattle.name_check.specs.NameFaults.{name_faults};
-ghost use Rattle.fix_types.specs.Boundary.{KeepsValues};
-ghost use Rattle.fix_types.specs.Numbers.{AreNumbersShort};
-ghost use Rattle.fix_types.specs.Translation.{typed_program};
-ghost use Rattle.fix_types.specs.TypedTree.{view_typed};
-ghost use Rattle.fix_types.specs.TypeFaults.{type_faults};
-ghost use Rattle.fix_types.specs.declared.fault.TypeFault.{TypeFault as FaultType};
+ghost use Rattle.source_names.specs.TopNames.{top_names};
+ghost use Rattle.source_names.specs.NameFaults.{name_faults};
+ghost use Rattle.typed_source.specs.Boundary.{KeepsValues};
+ghost use Rattle.typed_source.specs.Numbers.{AreNumbersShort};
+ghost use Rattle.typed_source.specs.Translation.{typed_program};
+ghost use Rattle.typed_source.specs.TypedTree.{view_typed};
+ghost use Rattle.typed_source.specs.TypeFaults.{type_faults};
+ghost use Rattle.typed_source.specs.declared.fault.TypeFault.{TypeFault as FaultType};
 
-pub use fault::TypeFault;
-use name_check::Names;
 use silage_syntax::Program;
+use source_names::{Names, Tops};
 use std::alloc::Global;
 use tops::typed_tops;
-pub use typed::{Typed, TypedConst, TypedExpr, TypedFunc, TypedItem};
+use typed_source::{TypeFault, Typed};
 
 /// The typed program, or the first fault of types in source order: an expression's own before those of its parts, and
 /// at a call the arguments before the places. `docs/LANGUAGE.md`, "Equations", has the typing table.
@@ -52,5 +49,9 @@ pub fn check_types(alloc: Global, program: &Program, names: &Names) -> Result<Ty
     ensures each_fault { (fault : FaultType) → IsFirst (type_faults (view program.now)) fault
         → AnswersFault TypeFault.Memory fault result }
 {
-    typed_tops(alloc, program, &names.tops)
+    let tops = Tops {
+        program,
+        names: &names.tops,
+    };
+    typed_tops(alloc, &tops)
 }

@@ -6,28 +6,26 @@ ghost use Rattle.ranked_faults.specs.Private.FirstMet.{first, MeetsOr};
 ghost use Rattle.fix_word.specs.declared.types.SigType.TheVariants.{Fix};
 ghost use Rattle.silage_syntax.specs.Tree as tree;
 ghost use Rattle.silage_syntax.specs.Tree.{view, view_top};
-ghost use Rattle.name_check.specs.TopNames.{top_names};
-ghost use Rattle.name_check.specs.Private.FirstTops.{IsDistinct};
-ghost use Rattle.fix_types.specs.TypeRules.{literal_rules, table_rules, top_rules, type_rules};
-ghost use Rattle.fix_types.specs.Translation as translation;
-ghost use Rattle.fix_types.specs.Translation.{word_of, typed_func, typed_program};
-ghost use Rattle.fix_types.specs.TypedTree.{view_func, view_items, view_typed};
-ghost use Rattle.fix_types.specs.Numbers.{IsShort};
+ghost use Rattle.typed_source.specs.TypeRules.{literal_rules, table_rules, top_rules, type_rules};
+ghost use Rattle.typed_source.specs.Translation as translation;
+ghost use Rattle.typed_source.specs.Translation.{word_of, typed_func, typed_program};
+ghost use Rattle.typed_source.specs.TypedTree.{view_func, view_items, view_typed};
+ghost use Rattle.typed_source.specs.Numbers.{IsShort};
 ghost use Rattle.fix_types.specs.Private.Answers.{GivesAs, GivesItems, AddsTop};
 ghost use Rattle.fix_types.specs.Private.FunctionParts.{func_with};
-ghost use Rattle.fix_types.specs.Private.Sound.{IsSoundType, IsSoundTop};
+ghost use Rattle.typed_source.specs.Private.Sound.{IsSoundType, IsSoundTop};
 
+use crate::copies;
 use crate::items::typed_items;
 use crate::operands::literal_word;
 use crate::scope::Scope;
 use crate::signals::Signals;
-use crate::typed::{Typed, TypedConst, TypedFunc, TypedItem};
-use crate::{TypeFault, copies};
 use fix_word::{FixType, SigType};
 use lists::List;
-use name_check::NameMap;
-use silage_syntax::{ConstDef, Func, Lit, Program, Top};
+use silage_syntax::{ConstDef, Func, Lit, Top};
+use source_names::Tops;
 use std::alloc::{AllocError, Global};
+use typed_source::{TypeFault, Typed, TypedConst, TypedFunc, TypedItem};
 
 /// The raw words of the numbers of a table.
 fn words(alloc: Global, ty: FixType, numbers: &[Lit]) -> Result<List<i64>, TypeFault>
@@ -58,22 +56,14 @@ fn typed_table(alloc: Global, table: &ConstDef) -> Result<TypedConst, TypeFault>
 }
 
 /// The items of a function.
-fn typed_body(
-    alloc: Global,
-    program: &Program,
-    names: &NameMap,
-    func: &Func,
-) -> Result<Vec<TypedItem>, TypeFault>
-    requires named { names.now ≡ top_names (view program.now) }
-    requires apart { IsDistinct (top_names (view program.now)) }
-    requires sound { IsSoundTop (view program.now) (tree.function (tree.view_func func.now)) }
-    ensures { let f = tree.view_func func.now in GivesItems (view program.now) f f.items result }
+fn typed_body(alloc: Global, tops: &Tops, func: &Func) -> Result<Vec<TypedItem>, TypeFault>
+    requires { IsSoundTop (view tops.now.program.now) (tree.function (tree.view_func func.now)) }
+    ensures { let f = tree.view_func func.now in GivesItems (view tops.now.program.now) f f.items result }
 {
     let signals = Signals::of(alloc, func)?;
     let scope = Scope {
         alloc,
-        program,
-        names,
+        tops: *tops,
         func,
         signals: &signals,
     };
@@ -102,39 +92,33 @@ fn with_items(
 /// The function at this position.
 fn typed_function(
     alloc: Global,
-    program: &Program,
-    names: &NameMap,
+    tops: &Tops,
     position: u32,
     func: &Func,
 ) -> Result<TypedFunc, TypeFault>
-    requires named { names.now ≡ top_names (view program.now) }
-    requires apart { IsDistinct (top_names (view program.now)) }
-    requires sound { IsSoundTop (view program.now) (tree.function (tree.view_func func.now)) }
-    ensures { let p = view program.now in let f = tree.view_func func.now in
+    requires { IsSoundTop (view tops.now.program.now) (tree.function (tree.view_func func.now)) }
+    ensures { let p = view tops.now.program.now in let f = tree.view_func func.now in
         GivesAs view_func (top_rules p (tree.function f)) (typed_func p position f) result }
 {
-    let items = typed_body(alloc, program, names, func)?;
+    let items = typed_body(alloc, tops, func)?;
     Ok(with_items(alloc, position, func, items)?)
 }
 
 /// Adds the table or function at this position.
 fn add_top(
     alloc: Global,
-    program: &Program,
-    names: &NameMap,
+    tops: &Tops,
     position: u32,
     top: &Top,
     typed: &mut Typed,
 ) -> Result<(), TypeFault>
-    requires named { names.now ≡ top_names (view program.now) }
-    requires apart { IsDistinct (top_names (view program.now)) }
-    requires sound { IsSoundTop (view program.now) (view_top top.now) }
-    ensures { AddsTop (view program.now) position (view_top top.now) typed.old typed.new result }
+    requires { IsSoundTop (view tops.now.program.now) (view_top top.now) }
+    ensures { AddsTop (view tops.now.program.now) position (view_top top.now) typed.old typed.new result }
 {
     match top {
         Top::Const(table) => typed.consts.push(typed_table(alloc, table)?)?,
         Top::Func(func) => {
-            let func = typed_function(alloc, program, names, position, func)?;
+            let func = typed_function(alloc, tops, position, func)?;
             typed.funcs.push(func)?;
         }
     }
@@ -142,30 +126,17 @@ fn add_top(
 }
 
 /// The typed tables and functions, in the order of the source.
-pub(crate) fn typed_tops(
-    alloc: Global,
-    program: &Program,
-    names: &NameMap,
-) -> Result<Typed, TypeFault>
-    requires named { names.now ≡ top_names (view program.now) }
-    requires apart { IsDistinct (top_names (view program.now)) }
-    requires few { length (view program.now).tops < 2 ^ 32 }
-    requires sound { All (IsSoundTop (view program.now)) (view program.now).tops }
-    ensures { GivesAs view_typed (type_rules (view program.now)) (typed_program (view program.now)) result }
+pub(crate) fn typed_tops(alloc: Global, tops: &Tops) -> Result<Typed, TypeFault>
+    requires few { length (view tops.now.program.now).tops < 2 ^ 32 }
+    requires sound { All (IsSoundTop (view tops.now.program.now)) (view tops.now.program.now).tops }
+    ensures { let p = view tops.now.program.now in GivesAs view_typed (type_rules p) (typed_program p) result }
 {
     let mut typed = Typed {
         consts: List::new(alloc),
         funcs: List::new(alloc),
     };
-    for at in 0..program.tops.len() as u32 {
-        add_top(
-            alloc,
-            program,
-            names,
-            at,
-            &program.tops[at as usize],
-            &mut typed,
-        )?;
+    for at in 0..tops.program.tops.len() as u32 {
+        add_top(alloc, tops, at, &tops.program.tops[at as usize], &mut typed)?;
     }
     Ok(typed)
 }

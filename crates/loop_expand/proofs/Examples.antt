@@ -6,20 +6,21 @@ use Rattle.fix_word.specs.declared.types.SigType.TheVariants as sig
 use Rattle.fix_word.specs.declared.operation.Op.TheVariants as does
 use Rattle.silage_syntax.specs.declared.tree.BinOp.TheVariants as op
 use Rattle.silage_syntax.specs.declared.tree.Decl.{Decl}
-use Rattle.silage_syntax.specs.Tree.{whole, counter, Place, Expr, read, binary, shift, equation, call, no_item, item, Func, function, Program}
+use Rattle.silage_syntax.specs.Tree.{whole, counter, Place, Expr, read, binary, shift, equation, call, no_item, item}
+use Rattle.silage_syntax.specs.Tree.{Func, function, Program}
 use Rattle.silage_syntax.specs.Manifests.{no_delay, delay}
 use Rattle.silage_meaning.specs.Instances.{Instance as Path, main, inside, element, Site}
 use Rattle.silage_meaning.specs.Solves.{value, same}
-use Rattle.single_def.specs.declared.elements.Instance.{Instance}
-use Rattle.single_def.specs.declared.elements.Element.{Element as Entry}
-use Rattle.single_def.specs.declared.elements.Elements.{Elements}
-use Rattle.single_def.specs.Expansion.{IsExpansion}
-use Rattle.single_def.specs.Numbering.{HasPath, of_main, of_call}
-use Rattle.fix_types.specs.TypedValue.{as_it_is, by_amount}
-use Rattle.fix_types.specs.Translation.{typed_expr}
+use Rattle.source_elements.specs.declared.elements.Instance.{Instance}
+use Rattle.source_elements.specs.declared.elements.Element.{Element as Entry}
+use Rattle.source_elements.specs.declared.elements.Elements.{Elements}
+use Rattle.source_elements.specs.Expansion.{IsExpansion}
+use Rattle.source_elements.specs.Numbering.{HasPath, of_main, of_call}
+use Rattle.typed_source.specs.TypedValue.{as_it_is, by_amount}
+use Rattle.typed_source.specs.Translation.{typed_expr}
 use Rattle.signal_graph.specs.Flat as flat
 use Rattle.signal_graph.specs.Rules.{plain}
-use Rattle.loop_expand.specs.Numbers.{IsNumberOf}
+use Rattle.source_elements.specs.Numbers.{IsNumberOf}
 use Rattle.loop_expand.specs.FlatOf.{of_signal, IsFlatExpr, IsBodyOf}
 
 -- Parts of trees.
@@ -125,8 +126,15 @@ first_sum = (
     (
       flat.read 5 1,
       flat.part (flat.read 4 0) flat.no_part,
-      of_signal 1 0 1 5 (signal (codes "y") [] byte) (record { named = refl; placed = refl }) (delay refl (omega arith)) first_y,
-      (flat.read 4 0, flat.no_part, of_signal 0 0 0 4 (signal (codes "x") [] byte) (record { named = refl; placed = refl }) no_delay first_x, refl, refl),
+      of_signal 1 0 1 5 (signal (codes "y") [] byte) (record { named = refl; placed = refl }) (delay refl (omega arith))
+          first_y,
+      (
+        flat.read 4 0,
+        flat.no_part,
+        of_signal 0 0 0 4 (signal (codes "x") [] byte) (record { named = refl; placed = refl }) no_delay first_x,
+        refl,
+        refl,
+      ),
       refl,
     ),
     refl,
@@ -144,8 +152,15 @@ second_sum = (
     (
       flat.read 7 1,
       flat.part (flat.read 6 0) flat.no_part,
-      of_signal 1 0 1 7 (signal (codes "y") [] byte) (record { named = refl; placed = refl }) (delay refl (omega arith)) second_y,
-      (flat.read 6 0, flat.no_part, of_signal 0 0 0 6 (signal (codes "x") [] byte) (record { named = refl; placed = refl }) no_delay second_x, refl, refl),
+      of_signal 1 0 1 7 (signal (codes "y") [] byte) (record { named = refl; placed = refl }) (delay refl (omega arith))
+          second_y,
+      (
+        flat.read 6 0,
+        flat.no_part,
+        of_signal 0 0 0 6 (signal (codes "x") [] byte) (record { named = refl; placed = refl }) no_delay second_x,
+        refl,
+        refl,
+      ),
       refl,
     ),
     refl,
@@ -155,8 +170,11 @@ second_sum = (
 
 -- the second parameter is b, and q is the second sum
 second_parameter : IsBodyOf two all (value (site main pair) (now (codes "b")) byte) (flat.value (flat.read 1 0))
-second_parameter =
-    (flat.read 1 0, of_signal 1 0 0 1 (signal (codes "b") [] byte) (record { named = refl; placed = refl }) no_delay b_number, refl)
+second_parameter = (
+  flat.read 1 0,
+  of_signal 1 0 0 1 (signal (codes "b") [] byte) (record { named = refl; placed = refl }) no_delay b_number,
+  refl,
+)
 
 second_result : IsBodyOf two all (same (element (made 80) 1 0) byte byte) (flat.value (flat.read 7 0))
 second_result = (7, second_y, refl)
@@ -168,18 +186,29 @@ turn = record { instance = main; function = pair; indices = (codes "i", pos 2) â
 abbrev shifted : Expr
 shifted = shift 0 false (read (named (codes "b")) (Some (counter (codes "i") 0))) (counter (codes "i") 0)
 
-in_a_turn : IsFlatExpr two all turn (typed_expr two pair shifted byte)
-    (flat.calculation does.Pass (record { shift = pos 2; mode = Trunc; width = 8 }) (flat.part (flat.read 1 2) flat.no_part))
+in_a_turn :
+    IsFlatExpr two all turn (typed_expr two pair shifted byte)
+    (flat.calculation does.Pass (record { shift = pos 2; mode = Trunc; width = 8 })
+    (flat.part (flat.read 1 2) flat.no_part))
 in_a_turn = (
   record { shift = pos 2; mode = Trunc; width = 8 },
   flat.part (flat.read 1 2) flat.no_part,
   by_amount (record { value = refl; most = omega arith }),
-  (flat.read 1 2, flat.no_part, of_signal 1 0 2 1 (signal (codes "b") [] byte) (record { named = refl; placed = refl }) (delay refl (omega arith)) b_number, refl, refl),
+  (
+    flat.read 1 2,
+    flat.no_part,
+    of_signal 1 0 2 1 (signal (codes "b") [] byte) (record { named = refl; placed = refl }) (delay refl (omega arith))
+        b_number,
+    refl,
+    refl,
+  ),
   refl,
 )
 
 -- `a > b` is b < a
-turned : IsFlatExpr two all (site main pair) (typed_expr two pair (binary 0 op.Gt (now (codes "a")) (now (codes "b"))) sig.Bool)
+turned :
+    IsFlatExpr two all (site main pair)
+    (typed_expr two pair (binary 0 op.Gt (now (codes "a")) (now (codes "b"))) sig.Bool)
     (flat.calculation does.Lt (plain 0) (flat.part (flat.read 1 0) (flat.part (flat.read 0 0) flat.no_part)))
 turned = (
   plain 0,
@@ -189,7 +218,14 @@ turned = (
     flat.read 1 0,
     flat.part (flat.read 0 0) flat.no_part,
     of_signal 1 0 0 1 (signal (codes "b") [] byte) (record { named = refl; placed = refl }) no_delay b_number,
-    (flat.read 0 0, flat.no_part, of_signal 0 0 0 0 (signal (codes "a") [] byte) (record { named = refl; placed = refl }) no_delay (record { instance = 0; leads = of_main refl; listed = refl }), refl, refl),
+    (
+      flat.read 0 0,
+      flat.no_part,
+      of_signal 0 0 0 0 (signal (codes "a") [] byte) (record { named = refl; placed = refl }) no_delay
+          (record { instance = 0; leads = of_main refl; listed = refl }),
+      refl,
+      refl,
+    ),
     refl,
   ),
   refl,

@@ -5,9 +5,10 @@ use Rattle.std.proofs.lemmas.Option.{slice_get-get_or}
 use Rattle.fix_word.specs.declared.types.SigType.{SigType}
 use Rattle.silage_syntax.specs.Tree.{Program}
 use Rattle.silage_meaning.specs.Instances.{Element, IsElement}
-use Rattle.silage_meaning.specs.Solves.{Source, IsDefined, input_types, input, equated, argument, array, table, result, array_result}
-use Rattle.single_def.specs.declared.elements.Elements.{Elements}
-use Rattle.single_def.specs.Numbering.{IsNumbering}
+use Rattle.silage_meaning.specs.Solves.{Source, IsDefined, input_types, input, equated, argument, array, table, result}
+use Rattle.silage_meaning.specs.Solves.{array_result}
+use Rattle.source_elements.specs.declared.elements.Elements.{Elements}
+use Rattle.source_elements.specs.Numbering.{IsNumbering}
 use Rattle.signal_graph.specs.Flat as flat
 use Rattle.signal_graph.specs.Rules.{width_of, IsType, IsInType, AreInits}
 use Rattle.signal_graph.specs.FlatRules as rules
@@ -28,23 +29,35 @@ module _ (p : Program) (checked : IsChecked p) (es : Elements) (f : flat.Program
   no_word ty body y e j is = let no : flat.value y ≡ flat.word j = sym e ∙ is in absurd (cc no)
 
   -- a body that is an input word has the element's type
-  word_typed : (e : Element) (is : IsElement p e) (source : Source) (body : flat.Body) → IsDefined p e source → IsBodyOf p es source body → IsInputOf is.decl.ty body
+  word_typed : (e : Element) (is : IsElement p e) (source : Source) (body : flat.Body)
+      → IsDefined p e source
+      → IsBodyOf p es source body
+      → IsInputOf is.decl.ty body
   word_typed e is _ body (input {j = i} at) b = λ j here.
       let words : flat.word i ≡ flat.word j = sym b ∙ here in
       let same : i ≡ j = cc words in
-      ap (λ xs. slice_get xs j) flat_of.inputs ∙ subst (λ (n : ℕ). slice_get (input_types p) n ≡ Some is.decl.ty) same (input_type p checked i e is at)
+      ap (λ xs. slice_get xs j) flat_of.inputs
+      ∙ subst (λ (n : ℕ). slice_get (input_types p) n ≡ Some is.decl.ty) same (input_type p checked i e is at)
   word_typed e is _ body (equated place d k decl found signal at) (y, flat_is, b) = no_word is.decl.ty body y b
   word_typed e is _ body (argument c d decl arg scalar at) (y, flat_is, b) = no_word is.decl.ty body y b
-  word_typed e is _ body (array s c d m k decl theirs place arg arr below at) (n, number_is, b) = no_word is.decl.ty body (flat.read n 0) b
-  word_typed e is _ body (table s c d decl place arg tab below at) (v, word_is, b) = no_word is.decl.ty body (flat.raw v) b
-  word_typed e is _ body (result s c r d k theirs decl place res scalar signal at) (n, number_is, b) = no_word is.decl.ty body (flat.read n 0) b
-  word_typed e is _ body (array_result s c r d k theirs decl place res arr below at) (n, number_is, b) = no_word is.decl.ty body (flat.read n 0) b
+  word_typed e is _ body (array s c d m k decl theirs place arg arr below at) (n, number_is, b) =
+      no_word is.decl.ty body (flat.read n 0) b
+  word_typed e is _ body (table s c d decl place arg tab below at) (v, word_is, b) =
+      no_word is.decl.ty body (flat.raw v) b
+  word_typed e is _ body (result s c r d k theirs decl place res scalar signal at) (n, number_is, b) =
+      no_word is.decl.ty body (flat.read n 0) b
+  word_typed e is _ body (array_result s c r d k theirs decl place res arr below at) (n, number_is, b) =
+      no_word is.decl.ty body (flat.read n 0) b
 
   abbrev FitsBody : SigType → flat.Body → Type 0
   FitsBody ty (flat.word j) = Unit {0}
   FitsBody ty (flat.value y) = Fits f y (width_of ty)
 
-  body_of : (ty : SigType) (body : flat.Body) → IsInputOf ty body → IsSoundBody f body → FitsBody ty body → rules.IsBodyOf f ty body
+  body_of : (ty : SigType) (body : flat.Body)
+      → IsInputOf ty body
+      → IsSoundBody f body
+      → FitsBody ty body
+      → rules.IsBodyOf f ty body
   body_of ty (flat.word j) typed sound fits = typed j refl
   body_of ty (flat.value y) typed sound fits = record { sound = sound; fits = fits }
 
@@ -53,9 +66,12 @@ module _ (p : Program) (checked : IsChecked p) (es : Elements) (f : flat.Program
   element_sound e x it = record {
     ty = subst IsType (sym it.ty) (element_type p checked.names e it.is);
     body = subst (λ (ty : SigType). rules.IsBodyOf f ty x.body) (sym it.ty)
-        (body_of it.is.decl.ty x.body (word_typed e it.is it.source x.body it.defined it.body) (body_sound p checked es f flat_of.count e it.source x.body it.defined it.body)
+        (body_of it.is.decl.ty x.body (word_typed e it.is it.source x.body it.defined it.body)
+        (body_sound p checked es f flat_of.count e it.source x.body it.defined it.body)
         (body_fits p checked es f flat_of e it.source x.body it.defined it.body it.is));
-    inits = subst (λ (ty : SigType). AreInits (IsInType ty) x.inits) (sym it.ty) (inits_allowed p checked e it.is x.inits it.inits);
+    inits =
+        subst (λ (ty : SigType). AreInits (IsInType ty) x.inits) (sym it.ty)
+        (inits_allowed p checked e it.is x.inits it.inits);
   }
 
   -- each element

@@ -29,26 +29,37 @@ raw_in_type (Truth false at) Truths v is = subst (IsInType Truths) (sym is) (ome
 
 module _ (p : Program) (checked : IsChecked p) where
   -- an initial value is given in the type of its element
-  preset_type : (e : Element) (is : IsElement p e) (j : ℕ) (l : Lit) (ty : SigType) → IsPreset p e j l ty → is.decl.ty ≡ ty
+  preset_type : (e : Element) (is : IsElement p e) (j : ℕ) (l : Lit) (ty : SigType)
+      → IsPreset p e j l ty
+      → is.decl.ty ≡ ty
   preset_type e is j l ty q =
-      let instance = subst (λ (z : Instance). IsInstance p z q.site.function) (sym (ap (λ (z : Element). z.instance) q.is)) q.found.instance in
+      let instance =
+      subst (λ (z : Instance). IsInstance p z q.site.function) (sym (ap (λ (z : Element). z.instance) q.is))
+      q.found.instance in
       let at = declared_at q.site.function q.place.name q.declaration q.decl q.signal.named in
-      let there = subst (λ (n : ℕ). slice_get (decls q.site.function) n ≡ Some q.decl) (sym (ap (λ (z : Element). z.declaration) q.is)) at in
+      let there =
+      subst (λ (n : ℕ). slice_get (decls q.site.function) n ≡ Some q.decl)
+      (sym (ap (λ (z : Element). z.declaration) q.is)) at in
       ap (λ (d : Decl). d.ty) (decl_once p checked e is q.site.function q.decl instance there) ∙ sym q.typed
 
   -- each is at sample -1 to -1023, these rise, and the words are in the element's type
-  pub inits_allowed : (e : Element) (is : IsElement p e) (inits : List (ℕ × ℤ)) → AreInitsOf p e inits → AreInits (IsInType is.decl.ty) inits
+  pub inits_allowed : (e : Element) (is : IsElement p e) (inits : List (ℕ × ℤ))
+      → AreInitsOf p e inits
+      → AreInits (IsInType is.decl.ty) inits
   inits_allowed e is inits are = record {
-    samples = All-weaker (Contains inits) (λ (i : ℕ × ℤ). IsWithin 1 max_delay i.0) sample inits (All-contains_itself inits);
+    samples =
+        All-weaker (Contains inits) (λ (i : ℕ × ℤ). IsWithin 1 max_delay i.0) sample inits (All-contains_itself inits);
     rise = are.rise;
-    words = All-weaker (Contains inits) (λ (i : ℕ × ℤ). IsInType is.decl.ty i.1) in_type inits (All-contains_itself inits);
+    words =
+        All-weaker (Contains inits) (λ (i : ℕ × ℤ). IsInType is.decl.ty i.1) in_type inits (All-contains_itself inits);
   }
     where
       sample : (i : ℕ × ℤ) → Contains inits i → IsWithin 1 max_delay i.0
       sample i has =
           let g = are.given i.0 i.1 has in
           let q = g.2 in
-          sample_within p checked.elements q.site q.place q.amount g.0 q.declaration q.offset i.0 q.decl q.found q.signal q.sample
+          sample_within p checked.elements q.site q.place q.amount g.0 q.declaration q.offset i.0 q.decl q.found
+          q.signal q.sample
 
       in_type : (i : ℕ × ℤ) → Contains inits i → IsInType is.decl.ty i.1
       in_type i has =

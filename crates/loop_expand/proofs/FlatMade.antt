@@ -1,5 +1,7 @@
 -- The flat program that is made is that of the program.
-use Rattle.std.proofs.Common.{◌≤◌, ◌≡◌, refl, sym, subst, ◌∙◌, ap, ap₂, arith, zero-add, ℕ, zero, suc, ◌+◌, ◌<◌, ◌⊎◌, ◌++◌, inl, inr, List, [], ◌∷◌, map, take, length, replicate, slice_get, slice_index_or, Option, Some, ℤ}
+use Rattle.std.proofs.Common.{◌≤◌, ◌≡◌, refl, sym, subst, ◌∙◌, ap, ap₂, arith, zero-add, ℕ, zero, suc, ◌+◌, ◌<◌, ◌⊎◌}
+use Rattle.std.proofs.Common.{◌++◌, inl, inr, List, [], ◌∷◌, map, take, length, replicate, slice_get, slice_index_or}
+use Rattle.std.proofs.Common.{Option, Some, ℤ}
 use Rattle.std.specs.Prelude.{Contains}
 use Rattle.std.specs.List.{AllZip, range_with_len}
 use Rattle.std.proofs.lemmas.Bool.Decides.{leb_tells}
@@ -14,36 +16,39 @@ use Rattle.silage_syntax.specs.declared.tree.Decl.{Decl}
 use Rattle.silage_syntax.specs.declared.tree.Lit.{Lit}
 use Rattle.silage_syntax.specs.Tree.{Func, Top, Program}
 use Rattle.silage_syntax.specs.Names.{decls, element_count, main_of}
-use Rattle.silage_meaning.specs.Instances.{Instance as Path, main, Element, element, IsElement, IsInstance, main_is, elements_from as signals_of_path, inputs, outputs, parameters_of, results_of}
+use Rattle.silage_meaning.specs.Instances.{Instance as Path, main, Element, element, IsElement, IsInstance, main_is}
+use Rattle.silage_meaning.specs.Instances.{elements_from as signals_of_path, inputs, outputs, parameters_of, results_of}
 use Rattle.silage_meaning.specs.Solves.{Source, IsDefined, IsPreset, input_types, types_of as types_of_part}
 use Rattle.silage_meaning.specs.Rules.{IsDefinedOnce}
 use Rattle.silage_meaning.specs.Types.{IsRawWord, word_types}
-use Rattle.single_def.specs.declared.elements.Instance.{Instance}
-use Rattle.single_def.specs.declared.elements.Element.{Element as Entry}
-use Rattle.single_def.specs.declared.elements.Elements.{Elements}
-use Rattle.single_def.specs.ElementRules.{elements_of}
-use Rattle.single_def.specs.Expansion.{IsExpansion, elements_from, signals_of, elements_in}
-use Rattle.single_def.specs.Numbering.{HasPath, of_main, of_call, IsNumbering}
-use Rattle.single_def.specs.Private.Plans.{first_of}
-use Rattle.single_def.proofs.InputWords.{from_word, word_once}
-use Rattle.single_def.proofs.SingleDefinitions.{single_definitions}
-use Rattle.fix_types.specs.TypedTree as typed
-use Rattle.fix_types.specs.Translation.{typed_program, typed_func}
+use Rattle.source_elements.specs.declared.elements.Instance.{Instance}
+use Rattle.source_elements.specs.declared.elements.Element.{Element as Entry}
+use Rattle.source_elements.specs.declared.elements.Elements.{Elements}
+use Rattle.source_elements.specs.ElementRules.{elements_of}
+use Rattle.source_elements.specs.Expansion.{IsExpansion, elements_from, signals_of, elements_in}
+use Rattle.source_elements.specs.Numbering.{HasPath, of_main, of_call, IsNumbering}
+use Rattle.source_elements.specs.Sizes.{first_of}
+use Rattle.source_elements.proofs.InputWords.{from_word, word_once}
+use Rattle.source_elements.proofs.SingleDefinitions.{single_definitions}
+use Rattle.typed_source.specs.TypedTree as typed
+use Rattle.typed_source.specs.Translation.{typed_program, typed_func}
 use Rattle.signal_graph.specs.Flat as flat
 use Rattle.loop_expand.specs.Checked.{IsChecked}
-use Rattle.loop_expand.specs.Numbers.{IsNumberOf}
+use Rattle.source_elements.specs.Numbers.{IsNumberOf}
 use Rattle.loop_expand.specs.FlatOf.{IsBodyOf, AreInitsOf, IsFlatElement, IsFlatOf}
 use Rattle.loop_expand.specs.Private.Scopes.{Body, body_of, body_at, body_for, size_in, firsts_from}
 use Rattle.loop_expand.specs.Private.Sizes.{decls_of}
 use Rattle.loop_expand.specs.Private.Facts.{Fact, defines, presets}
-use Rattle.loop_expand.specs.Private.Elements.{types_in, types_of, first_body, first_element, first_elements, with_facts}
+use Rattle.loop_expand.specs.Private.Elements.{types_in, types_of, first_body, first_element, first_elements}
+use Rattle.loop_expand.specs.Private.Elements.{with_facts}
 use Rattle.loop_expand.specs.Private.Expansions.{flat_by, main_inputs, main_outs}
 use Rattle.loop_expand.proofs.Expanded.{numbering, main_there}
-use Rattle.loop_expand.proofs.FactsPut.{Has, After, rising_increases, among_contains, contains_among, facts_put, facts_length}
+use Rattle.loop_expand.proofs.FactsPut.{Has, After, rising_increases, among_contains, contains_among, facts_put}
+use Rattle.loop_expand.proofs.FactsPut.{facts_length}
 use Rattle.loop_expand.proofs.FlatWords.{input_count}
 use Rattle.loop_expand.proofs.InstanceNumbers.{Bodies, Firsts, body_at_top, element_number, instance_body}
 use Rattle.loop_expand.proofs.Numbers.{numbered, element_once, path_once}
-use Rattle.loop_expand.proofs.PresetsOnce.{presets_once}
+use Rattle.element_facts.proofs.PresetsOnce.{presets_once}
 use Rattle.loop_expand.proofs.ProgramFacts.{AllFacts, facts_true, IsInput, defined_has, preset_has}
 use Rattle.loop_expand.proofs.SiteFacts.{IsTrueFact, AreTrue}
 
@@ -69,39 +74,52 @@ words-append ds es = flat_map-append row ds es
 words_long : (ds : List Decl) → length (word_types ds) ≡ elements_of ds
 words_long [] = refl
 words_long (x ∷ ds) =
-    ap length (words-cons x ds) ∙ length-append (row x) (word_types ds) ∙ ap₂ ◌+◌ (long_replicate (element_count x.dims) x.ty) (words_long ds)
+    ap length (words-cons x ds) ∙ length-append (row x) (word_types ds)
+    ∙ ap₂ ◌+◌ (long_replicate (element_count x.dims) x.ty) (words_long ds)
     ∙ sym (sum_by-cons (λ (d : Decl). element_count d.dims) x ds)
 
-in_words : (ds : List Decl) (d k : ℕ) (decl : Decl) → slice_get ds d ≡ Some decl → k < element_count decl.dims → slice_get (word_types ds) (first_of ds d + k) ≡ Some decl.ty
+in_words : (ds : List Decl) (d k : ℕ) (decl : Decl)
+    → slice_get ds d ≡ Some decl
+    → k < element_count decl.dims
+    → slice_get (word_types ds) (first_of ds d + k) ≡ Some decl.ty
 in_words [] d k decl e less = absurd (cc e)
 in_words (x ∷ ds) zero k decl e less =
     let same : x ≡ decl = cc e in
     let within : k < element_count x.dims = subst (λ (y : Decl). k < element_count y.dims) (sym same) less in
     let none : first_of (x ∷ ds) 0 + k ≡ k = omega arith in
-    ap₂ (λ (l : List SigType) (n : ℕ). slice_get l n) (words-cons x ds) none ∙ at_left (row x) (word_types ds) k x.ty (in_replicate (element_count x.dims) k x.ty within)
+    ap₂ (λ (l : List SigType) (n : ℕ). slice_get l n) (words-cons x ds) none
+    ∙ at_left (row x) (word_types ds) k x.ty (in_replicate (element_count x.dims) k x.ty within)
     ∙ ap (λ (y : Decl). Some y.ty) same
 in_words (x ∷ ds) (suc d) k decl e less =
     let rest = in_words ds d k decl e less in
     let first = sum_by-cons (λ (d : Decl). element_count d.dims) x (take d ds) in
     let long : length (row x) ≡ element_count x.dims = long_replicate (element_count x.dims) x.ty in
     let at : first_of (x ∷ ds) (suc d) + k ≡ length (row x) + (first_of ds d + k) = omega arith in
-    ap (λ (l : List SigType). slice_get l (first_of (x ∷ ds) (suc d) + k)) (words-cons x ds) ∙ at_right (row x) (word_types ds) _ _ _ at rest
+    ap (λ (l : List SigType). slice_get l (first_of (x ∷ ds) (suc d) + k)) (words-cons x ds)
+    ∙ at_right (row x) (word_types ds) _ _ _ at rest
 
-three_words : (f : typed.TypedFunc) → word_types f.params ++ (word_types f.results ++ word_types f.locals) ≡ word_types (decls_of f)
-three_words f = ap (λ (l : List SigType). word_types f.params ++ l) (sym (words-append f.results f.locals)) ∙ sym (words-append f.params (f.results ++ f.locals))
+three_words : (f : typed.TypedFunc)
+    → word_types f.params ++ (word_types f.results ++ word_types f.locals) ≡ word_types (decls_of f)
+three_words f =
+    ap (λ (l : List SigType). word_types f.params ++ l) (sym (words-append f.results f.locals))
+    ∙ sym (words-append f.params (f.results ++ f.locals))
 
 -- The first elements, by their types.
 pub first_long : (n k : ℕ) (tys : List SigType) → length (first_elements n k tys) ≡ length tys
 first_long n k [] = refl
 first_long n k (ty ∷ tys) = ap suc (first_long n (k + 1) tys)
 
-first_at : (n k : ℕ) (tys : List SigType) (m : ℕ) (ty : SigType) → slice_get tys m ≡ Some ty → slice_get (first_elements n k tys) m ≡ Some (first_element n (k + m) ty)
+first_at : (n k : ℕ) (tys : List SigType) (m : ℕ) (ty : SigType)
+    → slice_get tys m ≡ Some ty
+    → slice_get (first_elements n k tys) m ≡ Some (first_element n (k + m) ty)
 first_at n k [] m ty e = absurd (cc e)
 first_at n k (t ∷ tys) zero ty e =
     let same : t ≡ ty = cc e in
     let number : k ≡ k + 0 = omega arith in
     ap₂ (λ (j : ℕ) (u : SigType). Some (first_element n j u)) number same
-first_at n k (t ∷ tys) (suc m) ty e = let number : k + 1 + m ≡ k + suc m = omega arith in first_at n (k + 1) tys m ty e ∙ ap (λ (j : ℕ). Some (first_element n j ty)) number
+first_at n k (t ∷ tys) (suc m) ty e =
+    let number : k + 1 + m ≡ k + suc m = omega arith in
+    first_at n (k + 1) tys m ty e ∙ ap (λ (j : ℕ). Some (first_element n j ty)) number
 
 word_first : (n m : ℕ) → m < n → m < 256 → first_body n m ≡ flat.word m
 word_first n m less byte = elim (leb_tells (suc m) n) [
@@ -114,16 +132,23 @@ word_first n m less byte = elim (leb_tells (suc m) n) [
 
 -- Elements of main by their places.
 module _ (path : Path) where
-  in_row : (d a n k : ℕ) → k < n → slice_get (map (element path d) (range_with_len a n)) k ≡ Some (element path d (a + k))
+  in_row : (d a n k : ℕ)
+      → k < n
+      → slice_get (map (element path d) (range_with_len a n)) k ≡ Some (element path d (a + k))
   in_row d a zero k less = absurd (omega arith)
   in_row d a (suc n) zero less = let number : a ≡ a + 0 = omega arith in ap (λ (j : ℕ). Some (element path d j)) number
-  in_row d a (suc n) (suc k) less = let number : a + 1 + k ≡ a + suc k = omega arith in in_row d (a + 1) n k (omega arith) ∙ ap (λ (j : ℕ). Some (element path d j)) number
+  in_row d a (suc n) (suc k) less =
+      let number : a + 1 + k ≡ a + suc k = omega arith in
+      in_row d (a + 1) n k (omega arith) ∙ ap (λ (j : ℕ). Some (element path d j)) number
 
   row_long : (d a n : ℕ) → length (map (element path d) (range_with_len a n)) ≡ n
   row_long d a zero = refl
   row_long d a (suc n) = ap suc (row_long d (a + 1) n)
 
-  in_signals : (a : ℕ) (ds : List Decl) (d k : ℕ) (decl : Decl) → slice_get ds d ≡ Some decl → k < element_count decl.dims → slice_get (signals_of_path path a ds) (first_of ds d + k) ≡ Some (element path (a + d) k)
+  in_signals : (a : ℕ) (ds : List Decl) (d k : ℕ) (decl : Decl)
+      → slice_get ds d ≡ Some decl
+      → k < element_count decl.dims
+      → slice_get (signals_of_path path a ds) (first_of ds d + k) ≡ Some (element path (a + d) k)
   in_signals a [] d k decl e less = absurd (cc e)
   in_signals a (x ∷ ds) zero k decl e less =
       let same : x ≡ decl = cc e in
@@ -132,15 +157,20 @@ module _ (path : Path) where
       let number : 0 + k ≡ k = omega arith in
       let position : a ≡ a + 0 = omega arith in
       ap (slice_get (signals_of_path path a (x ∷ ds))) none
-      ∙ at_left (map (element path a) (range_with_len 0 (element_count x.dims))) (signals_of_path path (a + 1) ds) k _ (in_row a 0 (element_count x.dims) k within)
+      ∙ at_left (map (element path a) (range_with_len 0 (element_count x.dims))) (signals_of_path path (a + 1) ds) k _
+      (in_row a 0 (element_count x.dims) k within)
       ∙ ap₂ (λ (q j : ℕ). Some (element path q j)) position number
   in_signals a (x ∷ ds) (suc d) k decl e less =
       let rest = in_signals (a + 1) ds d k decl e less in
       let first = sum_by-cons (λ (d : Decl). element_count d.dims) x (take d ds) in
-      let long : length (map (element path a) (range_with_len 0 (element_count x.dims))) ≡ element_count x.dims = row_long a 0 (element_count x.dims) in
-      let at : first_of (x ∷ ds) (suc d) + k ≡ length (map (element path a) (range_with_len 0 (element_count x.dims))) + (first_of ds d + k) = omega arith in
+      let long : length (map (element path a) (range_with_len 0 (element_count x.dims))) ≡ element_count x.dims =
+      row_long a 0 (element_count x.dims) in
+      let at : first_of (x ∷ ds) (suc d) + k
+      ≡ length (map (element path a) (range_with_len 0 (element_count x.dims)))
+      + (first_of ds d + k) = omega arith in
       let position : a + 1 + d ≡ a + suc d = omega arith in
-      at_right (map (element path a) (range_with_len 0 (element_count x.dims))) (signals_of_path path (a + 1) ds) _ _ _ at rest ∙ ap (λ (q : ℕ). Some (element path q k)) position
+      at_right (map (element path a) (range_with_len 0 (element_count x.dims))) (signals_of_path path (a + 1) ds) _ _ _
+      at rest ∙ ap (λ (q : ℕ). Some (element path q k)) position
 
 -- Numbers of elements in a row.
 range-append : (a n m : ℕ) → range_with_len a (n + m) ≡ range_with_len a n ++ range_with_len (a + n) m
@@ -148,57 +178,85 @@ range-append a zero m = ap₂ range_with_len (omega arith) (zero-add m)
 range-append a (suc n) m =
     let more : suc n + m ≡ suc (n + m) = omega arith in
     let next : a + 1 + n ≡ a + suc n = omega arith in
-    ap (range_with_len a) more ∙ ap (λ (l : List ℕ). a ∷ l) (range-append (a + 1) n m ∙ ap (λ (b : ℕ). range_with_len (a + 1) n ++ range_with_len b m) next)
+    ap (range_with_len a) more
+    ∙ ap (λ (l : List ℕ). a ∷ l)
+    (range-append (a + 1) n m ∙ ap (λ (b : ℕ). range_with_len (a + 1) n ++ range_with_len b m) next)
 
-zip-append : {A B : Type 0} (R : A → B → Type 0) (xs : List A) (ys : List B) (zs : List A) (ws : List B) → AllZip R xs ys → AllZip R zs ws → AllZip R (xs ++ zs) (ys ++ ws)
+zip-append : {A B : Type 0} (R : A → B → Type 0) (xs : List A) (ys : List B) (zs : List A) (ws : List B)
+    → AllZip R xs ys
+    → AllZip R zs ws
+    → AllZip R (xs ++ zs) (ys ++ ws)
 zip-append R [] [] zs ws h g = g
 zip-append R [] (y ∷ ys) zs ws h g = absurd h
 zip-append R (x ∷ xs) [] zs ws h g = absurd h
 zip-append R (x ∷ xs) (y ∷ ys) zs ws h g = (h.0, zip-append R xs ys zs ws h.1 g)
 
 module _ (path : Path) (es : Elements) where
-  row_numbers : (n d a count : ℕ) → ((k : ℕ) → k < count → IsNumberOf es (n + k) (element path d (a + k))) → AllZip (IsNumberOf es) (range_with_len n count) (map (element path d) (range_with_len a count))
+  row_numbers : (n d a count : ℕ)
+      → ((k : ℕ) → k < count → IsNumberOf es (n + k) (element path d (a + k)))
+      → AllZip (IsNumberOf es) (range_with_len n count) (map (element path d) (range_with_len a count))
   row_numbers n d a zero each = tt
   row_numbers n d a (suc count) each =
       let number : n + 0 ≡ n = omega arith in
       let place : a + 0 ≡ a = omega arith in (
-        subst (λ (m : ℕ). IsNumberOf es m (element path d a)) number (subst (λ (j : ℕ). IsNumberOf es (n + 0) (element path d j)) place (each 0 (omega arith))),
+        subst (λ (m : ℕ). IsNumberOf es m (element path d a)) number
+            (subst (λ (j : ℕ). IsNumberOf es (n + 0) (element path d j)) place (each 0 (omega arith))),
         row_numbers (n + 1) d (a + 1) count
             (λ k less.
             let next : n + suc k ≡ n + 1 + k = omega arith in
             let later : a + suc k ≡ a + 1 + k = omega arith in
-            subst (λ (m : ℕ). IsNumberOf es m (element path d (a + 1 + k))) next (subst (λ (j : ℕ). IsNumberOf es (n + suc k) (element path d j)) later (each (suc k) (omega arith)))),
+            subst (λ (m : ℕ). IsNumberOf es m (element path d (a + 1 + k))) next
+            (subst (λ (j : ℕ). IsNumberOf es (n + suc k) (element path d j)) later (each (suc k) (omega arith)))),
       )
 
-  all_numbers : (n a : ℕ) (ds : List Decl) → ((d k : ℕ) (decl : Decl) → slice_get ds d ≡ Some decl → k < element_count decl.dims → IsNumberOf es (n + (first_of ds d + k)) (element path (a + d) k))
+  all_numbers : (n a : ℕ) (ds : List Decl)
+      → ((d k : ℕ) (decl : Decl)
+      → slice_get ds d ≡ Some decl
+      → k < element_count decl.dims
+      → IsNumberOf es (n + (first_of ds d + k)) (element path (a + d) k))
       → AllZip (IsNumberOf es) (range_with_len n (elements_of ds)) (signals_of_path path a ds)
   all_numbers n a [] each = tt
   all_numbers n a (x ∷ ds) each =
       let size = sum_by-cons (λ (d : Decl). element_count d.dims) x ds in
-      subst (λ (l : List ℕ). AllZip (IsNumberOf es) l (signals_of_path path a (x ∷ ds))) (sym (ap (range_with_len n) size ∙ range-append n (element_count x.dims) (elements_of ds)))
-      (zip-append (IsNumberOf es) (range_with_len n (element_count x.dims)) (map (element path a) (range_with_len 0 (element_count x.dims))) (range_with_len (n + element_count x.dims) (elements_of ds)) (signals_of_path path (a + 1) ds)
+      subst (λ (l : List ℕ). AllZip (IsNumberOf es) l (signals_of_path path a (x ∷ ds)))
+      (sym (ap (range_with_len n) size ∙ range-append n (element_count x.dims) (elements_of ds)))
+      (zip-append (IsNumberOf es) (range_with_len n (element_count x.dims))
+      (map (element path a) (range_with_len 0 (element_count x.dims)))
+      (range_with_len (n + element_count x.dims) (elements_of ds)) (signals_of_path path (a + 1) ds)
       (row_numbers n a 0 (element_count x.dims)
       (λ k less.
       let number : n + (first_of (x ∷ ds) 0 + k) ≡ n + k = omega arith in
       let position : a + 0 ≡ a = omega arith in
       let place : k ≡ 0 + k = omega arith in
-      subst (λ (m : ℕ). IsNumberOf es m (element path a (0 + k))) number (subst (λ (j : ℕ). IsNumberOf es (n + (first_of (x ∷ ds) 0 + k)) (element path a j)) place
-      (subst (λ (q : ℕ). IsNumberOf es (n + (first_of (x ∷ ds) 0 + k)) (element path q k)) position (each 0 k x refl less)))))
+      subst (λ (m : ℕ). IsNumberOf es m (element path a (0 + k))) number
+      (subst (λ (j : ℕ). IsNumberOf es (n + (first_of (x ∷ ds) 0 + k)) (element path a j)) place
+      (subst (λ (q : ℕ). IsNumberOf es (n + (first_of (x ∷ ds) 0 + k)) (element path q k)) position
+      (each 0 k x refl less)))))
       (all_numbers (n + element_count x.dims) (a + 1) ds
       (λ d k decl e less.
       let first = sum_by-cons (λ (d : Decl). element_count d.dims) x (take d ds) in
       let number : n + (first_of (x ∷ ds) (suc d) + k) ≡ n + element_count x.dims + (first_of ds d + k) = omega arith in
       let position : a + suc d ≡ a + 1 + d = omega arith in
-      subst (λ (m : ℕ). IsNumberOf es m (element path (a + 1 + d) k)) number (subst (λ (q : ℕ). IsNumberOf es (n + (first_of (x ∷ ds) (suc d) + k)) (element path q k)) position (each (suc d) k decl e less)))))
+      subst (λ (m : ℕ). IsNumberOf es m (element path (a + 1 + d) k)) number
+      (subst (λ (q : ℕ). IsNumberOf es (n + (first_of (x ∷ ds) (suc d) + k)) (element path q k)) position
+      (each (suc d) k decl e less)))))
 
 -- Types of the elements of instances.
 module _ (p : Program) (bodies : List Body) where
   abbrev HaveBodies : List Instance → Type 0
   HaveBodies is = (n : ℕ) (i : Instance) → slice_get is n ≡ Some i
-      → (length (types_in (body_of bodies i.func)) ≡ size_in (body_of bodies i.func)) × (length (types_in (body_of bodies i.func)) ≡ length (elements_from 0 0 (signals_of (slice_get p.tops i.func))))
+      → (length (types_in (body_of bodies i.func)) ≡ size_in (body_of bodies i.func))
+      × (length (types_in (body_of bodies i.func))
+      ≡ length (elements_from 0 0 (signals_of (slice_get p.tops i.func))))
 
-  in_types : (b : ℕ) (is : List Instance) → HaveBodies is → (n : ℕ) (i : Instance) (j : ℕ) (ty : SigType) → slice_get is n ≡ Some i → slice_get (types_in (body_of bodies i.func)) j ≡ Some ty
-      → (m : ℕ) × (slice_index_or (firsts_from bodies b is) n 0 ≡ b + m) × (slice_get (types_of bodies is) (m + j) ≡ Some ty)
+  in_types : (b : ℕ) (is : List Instance)
+      → HaveBodies is
+      → (n : ℕ) (i : Instance) (j : ℕ) (ty : SigType)
+      → slice_get is n ≡ Some i
+      → slice_get (types_in (body_of bodies i.func)) j ≡ Some ty
+      → (m : ℕ)
+      × (slice_index_or (firsts_from bodies b is) n 0 ≡ b + m)
+      × (slice_get (types_of bodies is) (m + j) ≡ Some ty)
   in_types b [] all n i j ty at there = absurd (cc at)
   in_types b (x ∷ is) all zero i j ty at there =
       let same : x ≡ i = cc at in
@@ -206,42 +264,55 @@ module _ (p : Program) (bodies : List Body) where
         0,
         omega arith,
         ap (slice_get (types_of bodies (x ∷ is))) start
-            ∙ at_left (types_in (body_of bodies x.func)) (types_of bodies is) j ty (subst (λ (y : Instance). slice_get (types_in (body_of bodies y.func)) j ≡ Some ty) (sym same) there),
+            ∙ at_left (types_in (body_of bodies x.func)) (types_of bodies is) j ty
+            (subst (λ (y : Instance). slice_get (types_in (body_of bodies y.func)) j ≡ Some ty) (sym same) there),
       )
   in_types b (x ∷ is) all (suc n) i j ty at there =
       let rest = in_types (b + size_in (body_of bodies x.func)) is (λ n i at. all (suc n) i at) n i j ty at there in
       let size = (all 0 x refl).0 in
       let first = rest.1 in
       let m : ℕ = size_in (body_of bodies x.func) + rest.0 in
-      let there_at : m + j ≡ length (types_in (body_of bodies x.func)) + (rest.0 + j) = omega arith in
-      (m, omega arith, at_right (types_in (body_of bodies x.func)) (types_of bodies is) (m + j) (rest.0 + j) ty there_at rest.2)
+      let there_at : m + j ≡ length (types_in (body_of bodies x.func)) + (rest.0 + j) = omega arith in (
+        m,
+        omega arith,
+        at_right (types_in (body_of bodies x.func)) (types_of bodies is) (m + j) (rest.0 + j) ty there_at rest.2,
+      )
 
 same_long : (n m d : ℕ) (ds : List Decl) → length (elements_from n d ds) ≡ length (elements_from m d ds)
 same_long n m d [] = refl
 same_long n m d (x ∷ ds) =
-    length-append (map (λ k. record { inst = n; decl = d; place = k }) (range_with_len 0 (element_count x.dims))) (elements_from n (d + 1) ds)
+    length-append (map (λ k. record { inst = n; decl = d; place = k }) (range_with_len 0 (element_count x.dims)))
+    (elements_from n (d + 1) ds)
     ∙ ap₂ ◌+◌ (rows 0 (element_count x.dims)) (same_long n m (d + 1) ds)
-    ∙ sym (length-append (map (λ k. record { inst = m; decl = d; place = k }) (range_with_len 0 (element_count x.dims))) (elements_from m (d + 1) ds))
+    ∙ sym (length-append (map (λ k. record { inst = m; decl = d; place = k }) (range_with_len 0 (element_count x.dims)))
+    (elements_from m (d + 1) ds))
   where
-    rows : (a count : ℕ) → length {A = Entry} (map (λ k. record { inst = n; decl = d; place = k }) (range_with_len a count)) ≡ length {A = Entry} (map (λ k. record { inst = m; decl = d; place = k }) (range_with_len a count))
+    rows : (a count : ℕ)
+        → length {A = Entry} (map (λ k. record { inst = n; decl = d; place = k }) (range_with_len a count))
+        ≡ length {A = Entry} (map (λ k. record { inst = m; decl = d; place = k }) (range_with_len a count))
     rows a zero = refl
     rows a (suc count) = ap suc (rows (a + 1) count)
 
-types_long : (p : Program) (bodies : List Body) (a : ℕ) (is : List Instance) → HaveBodies p bodies is → length (types_of bodies is) ≡ length (elements_in p a is)
+types_long : (p : Program) (bodies : List Body) (a : ℕ) (is : List Instance)
+    → HaveBodies p bodies is
+    → length (types_of bodies is) ≡ length (elements_in p a is)
 types_long p bodies a [] all = refl
 types_long p bodies a (i ∷ is) all =
     length-append (types_in (body_of bodies i.func)) (types_of bodies is)
-    ∙ ap₂ ◌+◌ ((all 0 i refl).1 ∙ same_long 0 a 0 (signals_of (slice_get p.tops i.func))) (types_long p bodies (a + 1) is (λ n k e. all (suc n) k e))
+    ∙ ap₂ ◌+◌ ((all 0 i refl).1 ∙ same_long 0 a 0 (signals_of (slice_get p.tops i.func)))
+    (types_long p bodies (a + 1) is (λ n k e. all (suc n) k e))
     ∙ sym (length-append (elements_from a 0 (signals_of (slice_get p.tops i.func))) (elements_in p (a + 1) is))
 
 elements_long : (n d : ℕ) (ds : List Decl) → length (elements_from n d ds) ≡ elements_of ds
 elements_long n d [] = refl
 elements_long n d (x ∷ ds) =
-    length-append (map (λ k. record { inst = n; decl = d; place = k }) (range_with_len 0 (element_count x.dims))) (elements_from n (d + 1) ds)
+    length-append (map (λ k. record { inst = n; decl = d; place = k }) (range_with_len 0 (element_count x.dims)))
+    (elements_from n (d + 1) ds)
     ∙ ap₂ ◌+◌ (rows 0 (element_count x.dims)) (elements_long n (d + 1) ds)
     ∙ sym (sum_by-cons (λ (d : Decl). element_count d.dims) x ds)
   where
-    rows : (a count : ℕ) → length {A = Entry} (map (λ k. record { inst = n; decl = d; place = k }) (range_with_len a count)) ≡ count
+    rows : (a count : ℕ)
+        → length {A = Entry} (map (λ k. record { inst = n; decl = d; place = k }) (range_with_len a count)) ≡ count
     rows a zero = refl
     rows a (suc count) = ap suc (rows (a + 1) count)
 
@@ -263,14 +334,20 @@ module _ (p : Program) (checked : IsChecked p) (es : Elements) (made_by : IsExpa
       let it = Numbering.instances n i e in
       let top = body_at_top p es.instances n i it.func e it.stands in
       let f = typed_func p i.func it.func in
-      let long : length (types_in (body_of B i.func)) ≡ elements_of (decls it.func) = ap (λ (o : Option Body). length (types_in o)) top ∙ ap length (three_words f) ∙ words_long (decls_of f) in
-      (long ∙ sym (ap size_in top), long ∙ sym (elements_long 0 0 (decls it.func)) ∙ ap (λ (o : Option Top). length (elements_from 0 0 (signals_of o))) (sym it.stands))
+      let long : length (types_in (body_of B i.func)) ≡ elements_of (decls it.func) =
+      ap (λ (o : Option Body). length (types_in o)) top ∙ ap length (three_words f) ∙ words_long (decls_of f) in (
+        long ∙ sym (ap size_in top),
+        long ∙ sym (elements_long 0 0 (decls it.func))
+            ∙ ap (λ (o : Option Top). length (elements_from 0 0 (signals_of o))) (sym it.stands),
+      )
 
   -- they are as many as the elements of the program
   pub all_types : length Types ≡ length es.elements
   all_types = types_long p B 0 es.instances have_bodies ∙ ap length (sym made_by.elements)
 
-  some_instance : (n : ℕ) (path : Path) → HasPath es.instances n path → (i : Instance) × (slice_get es.instances n ≡ Some i)
+  some_instance : (n : ℕ) (path : Path)
+      → HasPath es.instances n path
+      → (i : Instance) × (slice_get es.instances n ≡ Some i)
   some_instance _ _ (of_main {i = i} e) = (i, e)
   some_instance _ _ (of_call {i = i} above e leads) = (i, e)
 
@@ -282,10 +359,16 @@ module _ (p : Program) (checked : IsChecked p) (es : Elements) (made_by : IsExpa
       let top = instance_body p checked es made_by n i.0 e.instance is.function i.1 number.leads is.instance in
       let f = typed_func p i.0.func is.function in
       let word_at = in_words (decls is.function) e.declaration e.offset is.decl is.declared is.offset in
-      let own : slice_get (types_in (body_of B i.0.func)) (first_of (decls is.function) e.declaration + e.offset) ≡ Some is.decl.ty =
-      ap (λ (l : List SigType). slice_get l (first_of (decls is.function) e.declaration + e.offset)) (ap types_in (body_at_top p es.instances n i.0 is.function i.1 top) ∙ three_words f) ∙ word_at in
-      let there = in_types p B 0 es.instances have_bodies n i.0 (first_of (decls is.function) e.declaration + e.offset) is.decl.ty i.1 own in
-      let at = element_number p checked es made_by n e.instance is.function number.leads is.instance m e.declaration e.offset number in
+      let own : slice_get (types_in (body_of B i.0.func)) (first_of (decls is.function) e.declaration + e.offset)
+      ≡ Some is.decl.ty =
+      ap (λ (l : List SigType). slice_get l (first_of (decls is.function) e.declaration + e.offset))
+      (ap types_in (body_at_top p es.instances n i.0 is.function i.1 top) ∙ three_words f) ∙ word_at in
+      let there =
+      in_types p B 0 es.instances have_bodies n i.0 (first_of (decls is.function) e.declaration + e.offset)
+      is.decl.ty i.1 own in
+      let at =
+      element_number p checked es made_by n e.instance is.function number.leads is.instance m e.declaration e.offset
+      number in
       let first = there.1 in
       let same : m ≡ there.0 + (first_of (decls is.function) e.declaration + e.offset) = omega arith in
       ap (slice_get Types) same ∙ there.2
@@ -314,10 +397,13 @@ module _ (p : Program) (checked : IsChecked p) (es : Elements) (made_by : IsExpa
 
   main_body : body_at B (slice_get es.instances 0) ≡ Some (body_for (typed_func p main_first.i.func Main))
   main_body =
-      let top = instance_body p checked es made_by 0 main_first.i main Main main_first.there main_first.leads main_instance in
+      let top =
+      instance_body p checked es made_by 0 main_first.i main Main main_first.there main_first.leads main_instance in
       ap (body_at B) main_first.there ∙ body_at_top p es.instances 0 main_first.i Main main_first.there top
 
-  first_zero : (b : ℕ) (is : List Instance) (i : Instance) → slice_get is 0 ≡ Some i → slice_index_or (firsts_from B b is) 0 0 ≡ b
+  first_zero : (b : ℕ) (is : List Instance) (i : Instance)
+      → slice_get is 0 ≡ Some i
+      → slice_index_or (firsts_from B b is) 0 0 ≡ b
   first_zero b [] i e = absurd (cc e)
   first_zero b (x ∷ is) i e = refl
 
@@ -328,7 +414,9 @@ module _ (p : Program) (checked : IsChecked p) (es : Elements) (made_by : IsExpa
       omega arith
 
   -- the number of an input word
-  first_left : (ds more : List Decl) (i : ℕ) (d : Decl) → slice_get ds i ≡ Some d → first_of (ds ++ more) i ≡ first_of ds i
+  first_left : (ds more : List Decl) (i : ℕ) (d : Decl)
+      → slice_get ds i ≡ Some d
+      → first_of (ds ++ more) i ≡ first_of ds i
   first_left [] more i d e = absurd (cc e)
   first_left (x ∷ ds) more zero d e = refl
   first_left (x ∷ ds) more (suc i) d e =
@@ -344,10 +432,13 @@ module _ (p : Program) (checked : IsChecked p) (es : Elements) (made_by : IsExpa
       let one = sum_by-cons (λ (d : Decl). element_count d.dims) x (take (length ds + r) (ds ++ more)) in
       let all = sum_by-cons (λ (d : Decl). element_count d.dims) x ds in
       let rest = first_right ds more r in
-      let next : first_of (x ∷ (ds ++ more)) (suc (length ds + r)) ≡ elements_of (x ∷ ds) + first_of more r = omega arith in
+      let next : first_of (x ∷ (ds ++ more)) (suc (length ds + r))
+      ≡ elements_of (x ∷ ds) + first_of more r = omega arith in
       ap (first_of (x ∷ (ds ++ more))) number ∙ next
 
-  input_there : (j : ℕ) (e : Element) → slice_get (inputs p) j ≡ Some e → slice_get (signals_of_path main 0 Main.params) j ≡ Some e
+  input_there : (j : ℕ) (e : Element)
+      → slice_get (inputs p) j ≡ Some e
+      → slice_get (signals_of_path main 0 Main.params) j ≡ Some e
   input_there j e at = ap (λ (o : Option Func). slice_get (parameters_of o) j) (sym main_is_there) ∙ at
 
   input_number : (j m : ℕ) (e : Element) → slice_get (inputs p) j ≡ Some e → IsNumberOf es m e → m ≡ j
@@ -358,14 +449,18 @@ module _ (p : Program) (checked : IsChecked p) (es : Elements) (made_by : IsExpa
       let listed = in_signals main 0 Main.params w.index e.offset w.decl w.stands w.within in
       let zero_index : 0 + w.index ≡ w.index = omega arith in
       let is_e : element main w.index e.offset ≡ e = same_element e main w.index (sym w.instance) (sym position) in
-      let here : slice_get (signals_of_path main 0 Main.params) (first_of Main.params w.index + e.offset) ≡ Some e = listed ∙ ap (λ (d : ℕ). Some (element main d e.offset)) zero_index ∙ ap Some is_e in
+      let here : slice_get (signals_of_path main 0 Main.params) (first_of Main.params w.index + e.offset) ≡ Some e =
+      listed ∙ ap (λ (d : ℕ). Some (element main d e.offset)) zero_index ∙ ap Some is_e in
       let same = word_once main 0 Main.params j (first_of Main.params w.index + e.offset) e there here in
       let its : IsNumberOf es m (element main w.index e.offset) = subst (IsNumberOf es m) (sym is_e) number in
       let m_is = main_number m w.index e.offset its in
       let first = first_left Main.params (Main.results ++ Main.locals) w.index w.decl w.stands in
       omega arith
     where
-      same_element : (e : Element) (path : Path) (d : ℕ) → path ≡ e.instance → d ≡ e.declaration → element path d e.offset ≡ e
+      same_element : (e : Element) (path : Path) (d : ℕ)
+          → path ≡ e.instance
+          → d ≡ e.declaration
+          → element path d e.offset ≡ e
       same_element e path d a b = ap₂ (λ (i : Path) (q : ℕ). element i q e.offset) a b
 
   abbrev pub Inputs : List SigType
@@ -380,15 +475,22 @@ module _ (p : Program) (checked : IsChecked p) (es : Elements) (made_by : IsExpa
       let few = (input_count p checked).1 in
       omega (arith, few, ap (λ (o : Option Body). length (main_inputs o)) is, ap length inputs_are)
 
-  outs_are : main_outs (body_at B (slice_get es.instances 0)) ≡ range_with_len (elements_of Main.params) (elements_of Main.results)
+  outs_are : main_outs (body_at B (slice_get es.instances 0))
+      ≡ range_with_len (elements_of Main.params) (elements_of Main.results)
   outs_are = ap main_outs main_body
 
-  result_numbers : AllZip (IsNumberOf es) (range_with_len (elements_of Main.params) (elements_of Main.results)) (signals_of_path main (length Main.params) Main.results)
+  result_numbers :
+      AllZip (IsNumberOf es) (range_with_len (elements_of Main.params) (elements_of Main.results))
+      (signals_of_path main (length Main.params) Main.results)
   result_numbers =
       all_numbers main es (elements_of Main.params) (length Main.params) Main.results
       (λ r k decl e less.
-      let declared : slice_get (decls Main) (length Main.params + r) ≡ Some decl = at_right Main.params (Main.results ++ Main.locals) (length Main.params + r) r decl refl (at_left Main.results Main.locals r decl e) in
-      let it = numbered p es Numbering (element main (length Main.params + r) k) (record { function = Main; decl = decl; instance = main_instance; declared = declared; offset = less }) in
+      let declared : slice_get (decls Main) (length Main.params + r) ≡ Some decl =
+      at_right Main.params (Main.results ++ Main.locals) (length Main.params + r) r decl refl
+      (at_left Main.results Main.locals r decl e) in
+      let it =
+      numbered p es Numbering (element main (length Main.params + r) k)
+      (record { function = Main; decl = decl; instance = main_instance; declared = declared; offset = less }) in
       let m = main_number it.0 (length Main.params + r) k it.1 in
       let right = first_right Main.params (Main.results ++ Main.locals) r in
       let left = first_left Main.results Main.locals r decl e in
@@ -422,9 +524,16 @@ module _ (p : Program) (checked : IsChecked p) (es : Elements) (made_by : IsExpa
   by_fact : (e : Element) (m : ℕ) (y : flat.Expr) → IsNumberOf es m e → Has All (defines m y) → HasBody e (flat.value y)
   by_fact e m y number h =
       let (other, source, its, defined, body) = true_fact (defines m y) h in
-      record { source = source; defined = subst (λ (z : Element). IsDefined p z source) (element_once es m other e its number) defined; is = body }
+      record {
+        source = source;
+        defined = subst (λ (z : Element). IsDefined p z source) (element_once es m other e its number) defined;
+        is = body;
+      }
 
-  body_there : (e : Element) (is : IsElement p e) (m : ℕ) (ty : SigType) (x : flat.Element) → IsNumberOf es m e → After All m (first_element (length Inputs) m ty) x → HasBody e x.body
+  body_there : (e : Element) (is : IsElement p e) (m : ℕ) (ty : SigType) (x : flat.Element)
+      → IsNumberOf es m e
+      → After All m (first_element (length Inputs) m ty) x
+      → HasBody e x.body
   body_there e is m ty x number after = by (defined_has p checked es made_by e one.source m one.defined number)
     where
       one : IsDefinedOnce p e
@@ -440,7 +549,9 @@ module _ (p : Program) (checked : IsChecked p) (es : Elements) (made_by : IsExpa
         | inl same ↦ input_body given same
       ]
         where
-          input_body : IsInput p checked es made_by e one.source → x.body ≡ first_body (length Inputs) m → HasBody e x.body
+          input_body : IsInput p checked es made_by e one.source
+              → x.body ≡ first_body (length Inputs) m
+              → HasBody e x.body
           input_body given same =
               let at = input_number given.j m e given.there number in
               let long : length (inputs p) ≡ length Inputs = inputs_long in
@@ -448,54 +559,90 @@ module _ (p : Program) (checked : IsChecked p) (es : Elements) (made_by : IsExpa
               let most = (input_count p checked).1 in
               let count = ap length inputs_are in
               let word_is = word_first (length Inputs) m (omega arith) (omega arith) in
-              record { source = one.source; defined = one.defined; is = subst (λ (s : Source). IsBodyOf p es s x.body) (sym given.is) (same ∙ word_is ∙ ap flat.word at) }
+              record {
+                source = one.source;
+                defined = one.defined;
+                is = subst (λ (s : Source). IsBodyOf p es s x.body) (sym given.is) (same ∙ word_is ∙ ap flat.word at);
+              }
             where
               inputs_long : length (inputs p) ≡ length Inputs
               inputs_long =
-                  ap (λ (o : Option Func). length (parameters_of o)) main_is_there ∙ signals_long 0 Main.params ∙ sym (words_long Main.params) ∙ sym (ap length (ap main_inputs main_body))
+                  ap (λ (o : Option Func). length (parameters_of o)) main_is_there ∙ signals_long 0 Main.params
+                  ∙ sym (words_long Main.params) ∙ sym (ap length (ap main_inputs main_body))
                 where
                   signals_long : (a : ℕ) (ds : List Decl) → length (signals_of_path main a ds) ≡ elements_of ds
                   signals_long a [] = refl
                   signals_long a (x ∷ ds) =
-                      length-append (map (element main a) (range_with_len 0 (element_count x.dims))) (signals_of_path main (a + 1) ds)
-                      ∙ ap₂ ◌+◌ (row_long main a 0 (element_count x.dims)) (signals_long (a + 1) ds) ∙ sym (sum_by-cons (λ (d : Decl). element_count d.dims) x ds)
+                      length-append (map (element main a) (range_with_len 0 (element_count x.dims)))
+                      (signals_of_path main (a + 1) ds)
+                      ∙ ap₂ ◌+◌ (row_long main a 0 (element_count x.dims)) (signals_long (a + 1) ds)
+                      ∙ sym (sum_by-cons (λ (d : Decl). element_count d.dims) x ds)
 
-  inits_there : (e : Element) (m : ℕ) (ty : SigType) (x : flat.Element) → IsNumberOf es m e → After All m (first_element (length Inputs) m ty) x → AreInitsOf p e x.inits
+  inits_there : (e : Element) (m : ℕ) (ty : SigType) (x : flat.Element)
+      → IsNumberOf es m e
+      → After All m (first_element (length Inputs) m ty) x
+      → AreInitsOf p e x.inits
   inits_there e m ty x number after = record {
     rise = rising_increases x.inits (after.rises tt);
-    given = λ k v has. given_by k v (elim (after.given (k, v) (contains_among x.inits (k, v) has)) [ inl none ↦ absurd none | inr h ↦ h ]);
+    given = λ k v has.
+        given_by k v
+        (elim (after.given (k, v) (contains_among x.inits (k, v) has)) [ inl none ↦ absurd none | inr h ↦ h ]);
     all = λ k l t preset. all_by k l t preset;
   }
     where
-      given_by : (k : ℕ) (v : ℤ) → Has All (presets m k v) → (l : Lit) × (t : SigType) × IsPreset p e k l t × IsRawWord l t v
+      given_by : (k : ℕ) (v : ℤ)
+          → Has All (presets m k v)
+          → (l : Lit) × (t : SigType) × IsPreset p e k l t × IsRawWord l t v
       given_by k v h =
           let (other, l, t, its, preset, is) = true_fact (presets m k v) h in
           (l, t, subst (λ (z : Element). IsPreset p z k l t) (element_once es m other e its number) preset, is)
 
-      all_by : (k : ℕ) (l : Lit) (t : SigType) → IsPreset p e k l t → (v : ℤ) × IsRawWord l t v × Contains x.inits (k, v)
+      all_by : (k : ℕ) (l : Lit) (t : SigType)
+          → IsPreset p e k l t
+          → (v : ℤ) × IsRawWord l t v × Contains x.inits (k, v)
       all_by k l t preset =
           let h = preset_has p checked es made_by e m k l t preset number in
           let put = after.put k h.0 h.1 in
-          let from : Has All (presets m k put.0) = elim (after.given (k, put.0) put.1) [ inl none ↦ absurd none | inr g ↦ g ] in
+          let from : Has All (presets m k put.0) =
+          elim (after.given (k, put.0) put.1) [ inl none ↦ absurd none | inr g ↦ g ] in
           let its = given_by k put.0 from in
-          let same = presets_once p checked e k its.0 l its.1 t its.2 preset in
-          (put.0, subst (λ (u : SigType). IsRawWord l u put.0) same.1 (subst (λ (q : Lit). IsRawWord q its.1 put.0) same.0 its.3), among_contains x.inits (k, put.0) put.1)
+          let same = presets_once p checked.elements checked.calls e k its.0 l its.1 t its.2 preset in (
+            put.0,
+            subst (λ (u : SigType). IsRawWord l u put.0) same.1
+                (subst (λ (q : Lit). IsRawWord q its.1 put.0) same.0 its.3),
+            among_contains x.inits (k, put.0) put.1,
+          )
 
-  flat_element : (m : ℕ) (e : Element) (x : flat.Element) → IsNumberOf es m e → slice_get (with_facts All Start) m ≡ Some x → IsFlatElement p es e x
+  flat_element : (m : ℕ) (e : Element) (x : flat.Element)
+      → IsNumberOf es m e
+      → slice_get (with_facts All Start) m ≡ Some x
+      → IsFlatElement p es e x
   flat_element m e x number at =
       let listed = Numbering.elements _ (contains_entry m e number) in
-      let is : IsElement p e = subst (λ (i : Path). IsElement p (element i e.declaration e.offset)) (path_once es.instances number.instance listed.path e.instance listed.leads number.leads) listed.element_is in
+      let is : IsElement p e =
+      subst (λ (i : Path). IsElement p (element i e.declaration e.offset))
+      (path_once es.instances number.instance listed.path e.instance listed.leads number.leads) listed.element_is in
       let ty = type_at e m is number in
       let start = first_at (length Inputs) 0 Types m is.decl.ty ty in
       let zero_m : 0 + m ≡ m = omega arith in
-      let begun : slice_get Start m ≡ Some (first_element (length Inputs) m is.decl.ty) = start ∙ ap (λ (n : ℕ). Some (first_element (length Inputs) n is.decl.ty)) zero_m in
+      let begun : slice_get Start m ≡ Some (first_element (length Inputs) m is.decl.ty) =
+      start ∙ ap (λ (n : ℕ). Some (first_element (length Inputs) n is.decl.ty)) zero_m in
       let done = facts_put All m (first_element (length Inputs) m is.decl.ty) Start begun in
       let same : done.it ≡ x = some_once done.there at in
-      let after = subst (λ (z : flat.Element). After All m (first_element (length Inputs) m is.decl.ty) z) same done.after in
+      let after =
+      subst (λ (z : flat.Element). After All m (first_element (length Inputs) m is.decl.ty) z) same done.after in
       let body = body_there e is m is.decl.ty x number after in
-      record { is = is; ty = after.ty; source = body.source; defined = body.defined; body = body.is; inits = inits_there e m is.decl.ty x number after }
+      record {
+        is = is;
+        ty = after.ty;
+        source = body.source;
+        defined = body.defined;
+        body = body.is;
+        inits = inits_there e m is.decl.ty x number after;
+      }
     where
-      contains_entry : (m : ℕ) (e : Element) (number : IsNumberOf es m e) → Contains es.elements (record { inst = number.instance; decl = e.declaration; place = e.offset })
+      contains_entry : (m : ℕ) (e : Element) (number : IsNumberOf es m e)
+          → Contains es.elements (record { inst = number.instance; decl = e.declaration; place = e.offset })
       contains_entry m e number = contains_at es.elements m _ number.listed
 
   -- the flat program is that of the program
@@ -504,5 +651,9 @@ module _ (p : Program) (checked : IsChecked p) (es : Elements) (made_by : IsExpa
     count = facts_length All Start ∙ first_long (length Inputs) 0 Types ∙ all_types;
     elements = λ m e x number at. flat_element m e x number at;
     inputs = inputs_are;
-    outs = subst (λ (ns : List ℕ). AllZip (IsNumberOf es) ns (outputs p)) (sym outs_are) (subst (λ (l : List Element). AllZip (IsNumberOf es) (range_with_len (elements_of Main.params) (elements_of Main.results)) l) (sym outputs_are) result_numbers);
+    outs =
+        subst (λ (ns : List ℕ). AllZip (IsNumberOf es) ns (outputs p)) (sym outs_are)
+        (subst (λ (l : List Element).
+        AllZip (IsNumberOf es) (range_with_len (elements_of Main.params) (elements_of Main.results)) l)
+        (sym outputs_are) result_numbers);
   }

@@ -1,5 +1,6 @@
 -- The input and output words of a checked program: their types, and how many there are.
-use Rattle.std.proofs.Common.{◌≡◌, refl, sym, subst, ◌∙◌, ap, ap₂, arith, ℕ, suc, ◌+◌, ◌<◌, ◌≤◌, ◌&&◌, true, List, [], ◌∷◌, ◌++◌, length, length-append, slice_get, Some, Ok}
+use Rattle.std.proofs.Common.{◌≡◌, refl, sym, subst, ◌∙◌, ap, ap₂, arith, ℕ, suc, ◌+◌, ◌<◌, ◌≤◌, ◌&&◌, true, List, []}
+use Rattle.std.proofs.Common.{◌∷◌, ◌++◌, length, length-append, slice_get, Some, Ok}
 use Rattle.std.specs.Prelude.{All, replicate, nat_le}
 use Rattle.std.specs.List.{AllZip, list_all}
 use Rattle.std.proofs.lemmas.Bool.{leb-true}
@@ -8,6 +9,7 @@ use Rattle.std.proofs.lemmas.List.Elements.{All-nil, All-append, All-replicate, 
 use Rattle.std.proofs.lemmas.List.Sums.{sum_by-cons}
 use Rattle.std.proofs.lemmas.Nat.{column_fits}
 use Rattle.std.proofs.lemmas.Option.{slice_get_within}
+use Rattle.lists.proofs.Bools.{both_true as both_hold}
 use Rattle.ranked_faults.specs.Private.FirstMet.{first}
 use Rattle.ranked_faults.proofs.TableFaults.{then_parts, rule_holds}
 use Rattle.silage_syntax.specs.declared.tree.Decl.{Decl}
@@ -18,20 +20,20 @@ use Rattle.silage_meaning.specs.Types.{word_types}
 use Rattle.silage_meaning.specs.Solves.{input_types, output_types, types_of}
 use Rattle.silage_meaning.proofs.InputRows.{outputs_length}
 use Rattle.silage_meaning.proofs.Outputs.{in_first, in_second}
-use Rattle.name_check.specs.Meanings.{is_dim, most_elements}
-use Rattle.single_def.specs.declared.fault.PlacedFault.TheVariants.{TooLarge}
-use Rattle.single_def.specs.declared.elements.Elements.{Elements}
-use Rattle.single_def.specs.Tables.{at_entry, table_rules}
-use Rattle.single_def.specs.ElementRules.{elements_of, word_rules, main_table, element_rules}
-use Rattle.single_def.proofs.PlacedFaults.{elements_pass}
+use Rattle.source_names.specs.Meanings.{is_dim, most_elements}
+use Rattle.source_elements.specs.declared.fault.PlacedFault.TheVariants.{TooLarge}
+use Rattle.source_elements.specs.declared.elements.Elements.{Elements}
+use Rattle.source_elements.specs.Tables.{at_entry, table_rules}
+use Rattle.source_elements.specs.ElementRules.{elements_of, word_rules, main_table, element_rules}
+use Rattle.source_elements.proofs.PlacedFaults.{elements_pass}
 use Rattle.signal_graph.specs.Flat as flat
 use Rattle.signal_graph.specs.Rules.{IsWithin, IsType}
 use Rattle.loop_expand.specs.Checked.{IsChecked}
-use Rattle.loop_expand.specs.Numbers.{IsNumberOf}
+use Rattle.source_elements.specs.Numbers.{IsNumberOf}
 use Rattle.loop_expand.specs.FlatOf.{IsFlatOf}
 use Rattle.loop_expand.proofs.Items.{instance_top}
 use Rattle.loop_expand.proofs.Expanded.{main_there}
-use Rattle.loop_expand.proofs.FlatTypes.{IsAllowed, decl_allowed, is_type, both_hold}
+use Rattle.loop_expand.proofs.FlatTypes.{IsAllowed, decl_allowed, is_type}
 
 -- dims that are allowed are those of an element or more
 dims_count : (dims : List ℕ) → list_all is_dim dims ≡ true → 1 ≤ element_count dims
@@ -44,12 +46,16 @@ dims_count (dim ∷ dims) e =
     omega arith
 
 decl_count : (d : Decl) → IsAllowed d → 1 ≤ element_count d.dims
-decl_count d is = dims_count d.dims (both_hold (list_all is_dim d.dims) (nat_le (element_count d.dims) most_elements) is.dims).0
+decl_count d is =
+    dims_count d.dims (both_hold (list_all is_dim d.dims) (nat_le (element_count d.dims) most_elements) is.dims).0
 
 -- how many words declarations have, and of which types
 words_length : (ds : List Decl) → length (word_types ds) ≡ elements_of ds
 words_length [] = refl
-words_length (x ∷ ds) = length-append (replicate (element_count x.dims) x.ty) (word_types ds) ∙ ap₂ ◌+◌ (length-replicate (element_count x.dims) x.ty) (words_length ds) ∙ sym (sum_by-cons (λ (d : Decl). element_count d.dims) x ds)
+words_length (x ∷ ds) =
+    length-append (replicate (element_count x.dims) x.ty) (word_types ds)
+    ∙ ap₂ ◌+◌ (length-replicate (element_count x.dims) x.ty) (words_length ds)
+    ∙ sym (sum_by-cons (λ (d : Decl). element_count d.dims) x ds)
 
 abbrev AreAllowed : List Decl → Type 0
 AreAllowed ds = (k : ℕ) (d : Decl) → slice_get ds k ≡ Some d → IsAllowed d
@@ -64,7 +70,8 @@ some_words (x ∷ ds) are some =
 word_types_allowed : (ds : List Decl) → AreAllowed ds → All IsType (word_types ds)
 word_types_allowed [] are = All-nil IsType
 word_types_allowed (x ∷ ds) are =
-    All-append IsType (replicate (element_count x.dims) x.ty) (word_types ds) (All-replicate IsType (element_count x.dims) x.ty (is_type x.ty (are 0 x refl).ty))
+    All-append IsType (replicate (element_count x.dims) x.ty) (word_types ds)
+    (All-replicate IsType (element_count x.dims) x.ty (is_type x.ty (are 0 x refl).ty))
     (word_types_allowed ds (λ k d e. are (suc k) d e))
 
 module _ (p : Program) (checked : IsChecked p) where
@@ -72,9 +79,11 @@ module _ (p : Program) (checked : IsChecked p) where
   words_few : (f : Func) → main_of p ≡ Some f → (elements_of f.params ≤ 16) × (elements_of f.results ≤ 16)
   words_few f is =
       let all : first (element_rules p) ≡ Ok tt = elements_pass p checked.elements in
-      let of_main : first (table_rules (at_entry []) (main_table p (Some f))) ≡ Ok tt = subst (λ o. first (table_rules (at_entry []) (main_table p o)) ≡ Ok tt) is all in
+      let of_main : first (table_rules (at_entry []) (main_table p (Some f))) ≡ Ok tt =
+      subst (λ o. first (table_rules (at_entry []) (main_table p o)) ≡ Ok tt) is all in
       let b = both_hold (nat_le (elements_of f.params) 16) (nat_le (elements_of f.results) 16)
-      (rule_holds (nat_le (elements_of f.params) 16 && nat_le (elements_of f.results) 16) (TooLarge f.at) (then_parts (first (word_rules f)) _ of_main).0) in
+      (rule_holds (nat_le (elements_of f.params) 16 && nat_le (elements_of f.results) 16) (TooLarge f.at)
+      (then_parts (first (word_rules f)) _ of_main).0) in
       (leb-true _ _ b.0, leb-true _ _ b.1)
 
   record MainWords (f : Func) : Type 0 where
@@ -89,8 +98,11 @@ module _ (p : Program) (checked : IsChecked p) where
       let instance : IsInstance p main f = main_is is in
       let top = instance_top p checked.names main f instance in
       let some = checked.signals top.position f top.there in
-      let params : AreAllowed f.params = λ k d e. decl_allowed p checked.names main f instance k d (in_first f.params (f.results ++ f.locals) k d e) in
-      let results : AreAllowed f.results = λ k d e. decl_allowed p checked.names main f instance (length f.params + k) d (in_second f.params (f.results ++ f.locals) k ∙ in_first f.results f.locals k d e) in
+      let params : AreAllowed f.params = λ k d e.
+      decl_allowed p checked.names main f instance k d (in_first f.params (f.results ++ f.locals) k d e) in
+      let results : AreAllowed f.results = λ k d e.
+      decl_allowed p checked.names main f instance (length f.params + k) d
+      (in_second f.params (f.results ++ f.locals) k ∙ in_first f.results f.locals k d e) in
       record {
         params = params;
         results = results;
@@ -108,7 +120,8 @@ module _ (p : Program) (checked : IsChecked p) where
   pub input_count : IsWithin 1 16 (length (input_types p))
   input_count =
       let m = main_there p checked in
-      subst (IsWithin 1 16) (sym (ap length (input_types_is m.0 m.1) ∙ words_length m.0.params)) (main_words m.0 m.1).inputs
+      subst (IsWithin 1 16) (sym (ap length (input_types_is m.0 m.1) ∙ words_length m.0.params))
+      (main_words m.0 m.1).inputs
 
   pub input_types_allowed : All IsType (input_types p)
   input_types_allowed =
@@ -119,7 +132,8 @@ module _ (p : Program) (checked : IsChecked p) where
   output_count : IsWithin 1 16 (length (outputs p))
   output_count =
       let m = main_there p checked in
-      subst (IsWithin 1 16) (sym (outputs_length p ∙ ap length (output_types_is m.0 m.1) ∙ words_length m.0.results)) (main_words m.0 m.1).outputs
+      subst (IsWithin 1 16) (sym (outputs_length p ∙ ap length (output_types_is m.0 m.1) ∙ words_length m.0.results))
+      (main_words m.0 m.1).outputs
 
   module _ (es : Elements) (f : flat.Program) (flat_of : IsFlatOf p es f) where
     zip_length : (ks : List ℕ) (xs : List Element) → AllZip (IsNumberOf es) ks xs → length xs ≡ length ks

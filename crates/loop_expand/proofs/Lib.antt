@@ -6,9 +6,6 @@ pub mod FlatSound
 pub mod Bodies
 pub mod Numbers
 pub mod Inits
-pub mod OncePaths
-pub mod OnceEntries
-pub mod OnceTables
 pub mod Kept
 pub mod ProgramSystem
 pub mod FlatFits
@@ -25,13 +22,11 @@ pub mod FlatElements
 pub mod FlatCount
 pub mod SoundFlat
 pub mod OwnPlaces
-pub mod OwnCharges
 pub mod SmallFlat
 pub mod SourceChecked
 pub mod ProgramKeeps
 pub mod PutRows
 pub mod FlatSizes
-pub mod Charges
 pub mod OwnPositions
 pub mod FlatReads
 pub mod FactSteps
@@ -42,7 +37,6 @@ pub mod GroupRows
 pub mod ReadableExprs
 pub mod FlatMade
 pub mod ProgramFacts
-pub mod PresetsOnce
 pub mod SiteFacts
 pub mod Rows
 pub mod FactsPut

@@ -13,7 +13,9 @@ some_first : (o : Option ℤ) (F : ℤ → Option ℤ) → IsSome (option_and_th
 some_first (Some a) F e = refl
 some_first None F e = e
 
-some_second : (l r : Option ℤ) (F : ℤ → ℤ → Option ℤ) → IsSome (option_and_then (λ a. option_and_then (F a) r) l) → IsSome r
+some_second : (l r : Option ℤ) (F : ℤ → ℤ → Option ℤ)
+    → IsSome (option_and_then (λ a. option_and_then (F a) r) l)
+    → IsSome r
 some_second (Some a) r F e = some_first r (F a) e
 some_second None r F e = absurd (cc e)
 
@@ -35,7 +37,11 @@ module _ (turns : Turns) (x : Manifest) (all : HasValues turns x) where
     pub minus_values : HasValues turns m
     minus_values k less = some_first (At k m) (λ a. in_range (neg_ℤ a)) (some_minus k less)
 
-    pub minus_in_range : (v : Values) → AreValues turns m v → (k : ℕ) → k < turns.count → IsSome (in_range (pos 0 -ℤ value_in v k))
+    pub minus_in_range : (v : Values)
+        → AreValues turns m v
+        → (k : ℕ)
+        → k < turns.count
+        → IsSome (in_range (pos 0 -ℤ value_in v k))
     minus_in_range v are k less =
         subst (λ z. IsSome (in_range z)) (sym (from_0 (value_in v k)))
         (subst (λ o. IsSome (option_and_then (λ a. in_range (neg_ℤ a)) o)) (are k less) (some_minus k less))
@@ -45,13 +51,19 @@ module _ (turns : Turns) (x : Manifest) (all : HasValues turns x) where
     some_both k less = subst (λ y. IsSome (At k y)) is (all k less)
 
     pub left_values : HasValues turns l
-    left_values k less = some_first (At k l) (λ a. option_and_then (λ b. in_range (combined op a b)) (At k r)) (some_both k less)
+    left_values k less =
+        some_first (At k l) (λ a. option_and_then (λ b. in_range (combined op a b)) (At k r)) (some_both k less)
 
     pub right_values : HasValues turns r
     right_values k less = some_second (At k l) (At k r) (λ a b. in_range (combined op a b)) (some_both k less)
 
-    pub both_in_range : (v w : Values) → AreValues turns l v → AreValues turns r w → (k : ℕ) → k < turns.count
+    pub both_in_range : (v w : Values)
+        → AreValues turns l v
+        → AreValues turns r w
+        → (k : ℕ)
+        → k < turns.count
         → IsSome (in_range (combined op (value_in v k) (value_in w k)))
     both_in_range v w left right k less =
         subst (λ o. IsSome (option_and_then (λ b. in_range (combined op (value_in v k) b)) o)) (right k less)
-        (subst (λ o. IsSome (option_and_then (λ a. option_and_then (λ b. in_range (combined op a b)) (At k r)) o)) (left k less) (some_both k less))
+        (subst (λ o. IsSome (option_and_then (λ a. option_and_then (λ b. in_range (combined op a b)) (At k r)) o))
+        (left k less) (some_both k less))

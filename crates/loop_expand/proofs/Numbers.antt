@@ -1,5 +1,6 @@
 -- Each element of the program has a number, and each number is that of one element.
-use Rattle.std.proofs.Common.{◌≡◌, refl, sym, subst, ◌∙◌, ap, ap₂, arith, ℕ, zero, suc, ◌<◌, inl, inr, Bool, true, false, cond, List, [], ◌∷◌, length, slice_get, Option, Some, None, ℤ}
+use Rattle.std.proofs.Common.{◌≡◌, refl, sym, subst, ◌∙◌, ap, ap₂, arith, ℕ, zero, suc, ◌<◌, inl, inr, Bool, true}
+use Rattle.std.proofs.Common.{false, cond, List, [], ◌∷◌, length, slice_get, Option, Some, None, ℤ}
 use Rattle.std.specs.Prelude.{◌&&◌, nat_eq}
 use Rattle.std.specs.Ordering.{int_eq}
 use Rattle.std.specs.Bool.{Decides}
@@ -9,11 +10,11 @@ use Rattle.std.proofs.lemmas.Option.{slice_get_within}
 use Rattle.lists.proofs.Places.{some_once, contains_at, place_of}
 use Rattle.silage_syntax.specs.Tree.{Program}
 use Rattle.silage_meaning.specs.Instances.{Step, Instance as Path, main, inside, Element, element, IsElement}
-use Rattle.single_def.specs.declared.elements.Instance.{Instance}
-use Rattle.single_def.specs.declared.elements.Element.{Element as Entry}
-use Rattle.single_def.specs.declared.elements.Elements.{Elements}
-use Rattle.single_def.specs.Numbering.{HasPath, of_main, of_call, IsNumbering}
-use Rattle.loop_expand.specs.Numbers.{IsNumberOf}
+use Rattle.source_elements.specs.declared.elements.Instance.{Instance}
+use Rattle.source_elements.specs.declared.elements.Element.{Element as Entry}
+use Rattle.source_elements.specs.declared.elements.Elements.{Elements}
+use Rattle.source_elements.specs.Numbering.{HasPath, of_main, of_call, IsNumbering}
+use Rattle.source_elements.specs.Numbers.{IsNumberOf}
 
 -- the steps that lead to a number are one list
 pub path_once : (is : List Instance) (n : ℕ) (a b : Path) → HasPath is n a → HasPath is n b → a ≡ b
@@ -27,13 +28,17 @@ path_once is n _ _ (of_call {i = i} {parent = q} less g h) (of_call {i = j} {par
 
 element_of : (a b : Element) → a.instance ≡ b.instance → a.declaration ≡ b.declaration → a.offset ≡ b.offset → a ≡ b
 element_of a b e f g =
-    ap (λ (i : Path). element i a.declaration a.offset) e ∙ ap (λ (d : ℕ). element b.instance d a.offset) f ∙ ap (λ (k : ℕ). element b.instance b.declaration k) g
+    ap (λ (i : Path). element i a.declaration a.offset) e ∙ ap (λ (d : ℕ). element b.instance d a.offset) f
+    ∙ ap (λ (k : ℕ). element b.instance b.declaration k) g
 
 pub element_once : (es : Elements) (k : ℕ) (a b : Element) → IsNumberOf es k a → IsNumberOf es k b → a ≡ b
 element_once es k a b x y =
-    let entries : record { inst = x.instance; decl = a.declaration; place = a.offset } ≡ record { inst = y.instance; decl = b.declaration; place = b.offset } = some_once x.listed y.listed in
+    let entries : record { inst = x.instance; decl = a.declaration; place = a.offset }
+    ≡ record { inst = y.instance; decl = b.declaration; place = b.offset } = some_once x.listed y.listed in
     let instances : x.instance ≡ y.instance = ap (λ (z : Entry). z.inst) entries in
-    let paths : a.instance ≡ b.instance = path_once es.instances y.instance a.instance b.instance (subst (λ (n : ℕ). HasPath es.instances n a.instance) instances x.leads) y.leads in
+    let paths : a.instance ≡ b.instance =
+    path_once es.instances y.instance a.instance b.instance
+    (subst (λ (n : ℕ). HasPath es.instances n a.instance) instances x.leads) y.leads in
     let declarations : a.declaration ≡ b.declaration = ap (λ (z : Entry). z.decl) entries in
     let offsets : a.offset ≡ b.offset = ap (λ (z : Entry). z.place) entries in
     element_of a b paths declarations offsets
@@ -42,7 +47,11 @@ abbrev chosen : {A : Type 0} (o : Option A) → ((x : A) → o ≡ Some x → El
 chosen (Some x) f = f x refl
 chosen None f = element main 0 0
 
-chosen_is : {A : Type 0} (o : Option A) (f : (x : A) → o ≡ Some x → Element) (P : Element → Type 0) → ((x : A) (e : o ≡ Some x) → P (f x e)) → (y : A) → o ≡ Some y → P (chosen o f)
+chosen_is : {A : Type 0} (o : Option A) (f : (x : A) → o ≡ Some x → Element) (P : Element → Type 0)
+    → ((x : A) (e : o ≡ Some x) → P (f x e))
+    → (y : A)
+    → o ≡ Some y
+    → P (chosen o f)
 chosen_is (Some x) f P all y e = all x refl
 chosen_is None f P all y e = absurd (cc e)
 
@@ -82,7 +91,8 @@ turns_tell [] [] = (λ e. refl, λ e. refl)
 turns_tell [] (y ∷ ys) = (λ e. absurd (cc e), λ e. absurd (cc e))
 turns_tell (x ∷ xs) [] = (λ e. absurd (cc e), λ e. absurd (cc e))
 turns_tell (x ∷ xs) (y ∷ ys) =
-    tells_also ((x ≡ y) × (xs ≡ ys)) (x ∷ xs ≡ y ∷ ys) (int_eq x y && same_turns xs ys) (λ h. let a = h.0 in let b = h.1 in cc) (λ e. (cc e, cc e))
+    tells_also ((x ≡ y) × (xs ≡ ys)) (x ∷ xs ≡ y ∷ ys) (int_eq x y && same_turns xs ys)
+    (λ h. let a = h.0 in let b = h.1 in cc) (λ e. (cc e, cc e))
     (and_tells (x ≡ y) (xs ≡ ys) (int_eq x y) (same_turns xs ys) (Decides-int_eq x y) (turns_tell xs ys))
 
 abbrev step : ℕ → List ℤ → Step
@@ -96,17 +106,28 @@ paths_tell main main = (λ e. refl, λ e. refl)
 paths_tell main (inside j t) = (λ e. absurd (cc e), λ e. absurd (cc e))
 paths_tell (inside i s) main = (λ e. absurd (cc e), λ e. absurd (cc e))
 paths_tell (inside i s) (inside j t) =
-    tells_also ((i ≡ j) × ((s.at ≡ t.at) × (s.turns ≡ t.turns))) (inside i s ≡ inside j t) (same_path (inside i s) (inside j t))
-    (λ h. ap₂ inside h.0 (step_of s t h.1.0 h.1.1)) (λ e. let same : s ≡ t = cc e in (cc e, (ap (λ (z : Step). z.at) same, ap (λ (z : Step). z.turns) same)))
-    (and_tells (i ≡ j) ((s.at ≡ t.at) × (s.turns ≡ t.turns)) (same_path i j) (nat_eq s.at t.at && same_turns s.turns t.turns) (paths_tell i j)
-    (and_tells (s.at ≡ t.at) (s.turns ≡ t.turns) (nat_eq s.at t.at) (same_turns s.turns t.turns) (eq_tells s.at t.at) (turns_tell s.turns t.turns)))
+    tells_also ((i ≡ j) × ((s.at ≡ t.at) × (s.turns ≡ t.turns))) (inside i s ≡ inside j t)
+    (same_path (inside i s) (inside j t))
+    (λ h. ap₂ inside h.0 (step_of s t h.1.0 h.1.1))
+    (λ e. let same : s ≡ t = cc e in (cc e, (ap (λ (z : Step). z.at) same, ap (λ (z : Step). z.turns) same)))
+    (and_tells (i ≡ j) ((s.at ≡ t.at) × (s.turns ≡ t.turns)) (same_path i j)
+    (nat_eq s.at t.at && same_turns s.turns t.turns) (paths_tell i j)
+    (and_tells (s.at ≡ t.at) (s.turns ≡ t.turns) (nat_eq s.at t.at) (same_turns s.turns t.turns) (eq_tells s.at t.at)
+    (turns_tell s.turns t.turns)))
 
 same_tells : (a b : Element) → Decides (is_same a b) (a ≡ b)
 same_tells a b =
-    tells_also ((a.instance ≡ b.instance) × ((a.declaration ≡ b.declaration) × (a.offset ≡ b.offset))) (a ≡ b) (is_same a b)
-    (λ h. element_of a b h.0 h.1.0 h.1.1) (λ e. (ap (λ (z : Element). z.instance) e, (ap (λ (z : Element). z.declaration) e, ap (λ (z : Element). z.offset) e)))
-    (and_tells (a.instance ≡ b.instance) ((a.declaration ≡ b.declaration) × (a.offset ≡ b.offset)) (same_path a.instance b.instance) (nat_eq a.declaration b.declaration && nat_eq a.offset b.offset) (paths_tell a.instance b.instance)
-    (and_tells (a.declaration ≡ b.declaration) (a.offset ≡ b.offset) (nat_eq a.declaration b.declaration) (nat_eq a.offset b.offset) (eq_tells a.declaration b.declaration) (eq_tells a.offset b.offset)))
+    tells_also ((a.instance ≡ b.instance) × ((a.declaration ≡ b.declaration) × (a.offset ≡ b.offset))) (a ≡ b)
+    (is_same a b)
+    (λ h. element_of a b h.0 h.1.0 h.1.1) (λ e. (
+      ap (λ (z : Element). z.instance) e,
+      (ap (λ (z : Element). z.declaration) e, ap (λ (z : Element). z.offset) e),
+    ))
+    (and_tells (a.instance ≡ b.instance) ((a.declaration ≡ b.declaration) × (a.offset ≡ b.offset))
+    (same_path a.instance b.instance) (nat_eq a.declaration b.declaration && nat_eq a.offset b.offset)
+    (paths_tell a.instance b.instance)
+    (and_tells (a.declaration ≡ b.declaration) (a.offset ≡ b.offset) (nat_eq a.declaration b.declaration)
+    (nat_eq a.offset b.offset) (eq_tells a.declaration b.declaration) (eq_tells a.offset b.offset)))
 
 module _ (p : Program) (es : Elements) (numbering : IsNumbering p es) where
   -- what an entry of the list stands for
@@ -118,7 +139,11 @@ module _ (p : Program) (es : Elements) (numbering : IsNumbering p es) where
   pub entry_stands : (k : ℕ) (x : Entry) → slice_get es.elements k ≡ Some x → Stands k
   entry_stands k x e =
       let l = numbering.elements x (contains_at es.elements k x e) in
-      record { of = element l.path x.decl x.place; number = record { instance = x.inst; leads = l.leads; listed = e }; is = l.element_is }
+      record {
+        of = element l.path x.decl x.place;
+        number = record { instance = x.inst; leads = l.leads; listed = e };
+        is = l.element_is;
+      }
 
   pub stands : (k : ℕ) → k < length es.elements → Stands k
   stands k below = by (slice_get es.elements k) refl
@@ -164,11 +189,17 @@ module _ (p : Program) (es : Elements) (numbering : IsNumbering p es) where
   search zero e = 0
   search (suc k) e = cond (is_same (element_at k) e) k (search k e)
 
-  found : (count : ℕ) (e : Element) (k : ℕ) → k < count → element_at k ≡ e → (search count e < count) × (element_at (search count e) ≡ e)
+  found : (count : ℕ) (e : Element) (k : ℕ)
+      → k < count
+      → element_at k ≡ e
+      → (search count e < count) × (element_at (search count e) ≡ e)
   found zero e k less at = absurd (omega arith)
   found (suc m) e k less at = by (λ h. found m e k h at) (is_same (element_at m) e) (same_tells (element_at m) e)
     where
-      by : (k < m → (search m e < m) × (element_at (search m e) ≡ e)) → (b : Bool) → Decides b (element_at m ≡ e) → (cond b m (search m e) < suc m) × (element_at (cond b m (search m e)) ≡ e)
+      by : (k < m → (search m e < m) × (element_at (search m e) ≡ e))
+          → (b : Bool)
+          → Decides b (element_at m ≡ e)
+          → (cond b m (search m e) < suc m) × (element_at (cond b m (search m e)) ≡ e)
       by rest true h = (omega arith, h.0 refl)
       by rest false h =
           let other : k ≡ m → ⊥ = λ g. let no : false ≡ true = h.1 (subst (λ (z : ℕ). element_at z ≡ e) g at) in cc in

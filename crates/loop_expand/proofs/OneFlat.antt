@@ -1,5 +1,6 @@
 -- A checked program has one flat program at most, for one expansion.
-use Rattle.std.proofs.Common.{◌≡◌, refl, sym, subst, ap, ap₂, ◌∙◌, arith, ℕ, ◌<◌, List, length, get_or, Option, Some, None, ℤ, pos}
+use Rattle.std.proofs.Common.{◌≡◌, refl, sym, subst, ap, ap₂, ◌∙◌, arith, ℕ, ◌<◌, List, length, get_or, Option, Some}
+use Rattle.std.proofs.Common.{None, ℤ, pos}
 use Rattle.std.specs.Prelude.{◌*ℤ◌, Contains}
 use Rattle.std.specs.List.{AllZip}
 use Rattle.std.proofs.lemmas.List.{ext_get_or}
@@ -19,30 +20,35 @@ use Rattle.signal_graph.specs.Flat as flat
 use Rattle.signal_graph.specs.FlatSolves.{no_element}
 use Rattle.signal_graph.proofs.OnePruned.{zip_once}
 use Rattle.signal_graph.proofs.OneRising.{rise_by, same_rising}
-use Rattle.single_def.specs.declared.elements.Elements.{Elements}
-use Rattle.single_def.specs.Expansion.{IsExpansion}
-use Rattle.single_def.proofs.SingleDefinitions.{single_definitions}
-use Rattle.fix_types.specs.TypedTree as typed
-use Rattle.fix_types.specs.TypedValue.{HasFormat, as_it_is, by_amount}
-use Rattle.fix_types.specs.Translation.{typed_expr}
+use Rattle.source_elements.specs.declared.elements.Elements.{Elements}
+use Rattle.source_elements.specs.Expansion.{IsExpansion}
+use Rattle.source_elements.proofs.SingleDefinitions.{single_definitions}
+use Rattle.typed_source.specs.TypedTree as typed
+use Rattle.typed_source.specs.TypedValue.{HasFormat, as_it_is, by_amount}
+use Rattle.typed_source.specs.Translation.{typed_expr}
 use Rattle.loop_expand.specs.Checked.{IsChecked}
-use Rattle.loop_expand.specs.Numbers.{IsNumberOf, HasDistinctNumbers}
-use Rattle.loop_expand.specs.FlatOf.{IsTableWord, IsFlatRead, of_signal, of_table, IsFlatExpr, AreFlatParts, AreInitsOf, IsBodyOf, IsFlatElement, IsFlatOf}
+use Rattle.source_elements.specs.Numbers.{IsNumberOf, HasDistinctNumbers}
+use Rattle.loop_expand.specs.FlatOf.{IsTableWord, IsFlatRead, of_signal, of_table, IsFlatExpr, AreFlatParts, AreInitsOf}
+use Rattle.loop_expand.specs.FlatOf.{IsBodyOf, IsFlatElement, IsFlatOf}
 use Rattle.loop_expand.proofs.Expanded.{numbering}
 use Rattle.loop_expand.proofs.FlatTypes.{decl_once}
 use Rattle.loop_expand.proofs.Numbers.{stands}
-use Rattle.loop_expand.proofs.OnceTables.{distinct_numbers}
+use Rattle.element_facts.proofs.OnceTables.{distinct_numbers}
 
-format_once : (indices : Indices) (fmt : Format) (amount : Option Manifest) (a b : Format) → HasFormat indices fmt amount a
-    → HasFormat indices fmt amount b → a ≡ b
+format_once : (indices : Indices) (fmt : Format) (amount : Option Manifest) (a b : Format)
+    → HasFormat indices fmt amount a
+    → HasFormat indices fmt amount b
+    → a ≡ b
 format_once indices fmt None a b as_it_is as_it_is = refl
 format_once indices fmt (Some m) a b (by_amount {k = k} x) (by_amount {k = l} y) =
     ap (λ (n : ℕ). record fmt { shift = fmt.shift *ℤ pos n }) (manifest_once indices m k l x.value y.value)
 
 module _ (p : Program) (es : Elements) (distinct : HasDistinctNumbers es) where
   module _ (s : Site) where
-    read_once : (place : Place) (delay : Option Manifest) (x y : flat.Expr) → IsFlatRead p es s place delay x
-        → IsFlatRead p es s place delay y → x ≡ y
+    read_once : (place : Place) (delay : Option Manifest) (x y : flat.Expr)
+        → IsFlatRead p es s place delay x
+        → IsFlatRead p es s place delay y
+        → x ≡ y
     read_once place delay x y (of_signal d k ago n decl is back num) (of_signal e l past m other its behind its_num) =
         let named : (d, decl) ≡ (e, other) = some_once is.named its.named in
         let ds : d ≡ e = ap (λ (z : ℕ × Decl). z.0) named in
@@ -56,7 +62,8 @@ module _ (p : Program) (es : Elements) (distinct : HasDistinctNumbers es) where
         absurd (let e = is.named in cc)
     read_once place delay x y (of_table l c v none named placed bare its) (of_signal d k ago n decl is back num) =
         absurd (let e = is.named in cc)
-    read_once place delay x y (of_table k c v none named placed bare is) (of_table l b w none' named' placed' bare' its) =
+    read_once place delay x y (of_table k c v none named placed bare is)
+        (of_table l b w none' named' placed' bare' its) =
         let tables : c ≡ b = some_once named named' in
         let offsets : k ≡ l = place_once s.indices b.dims place.subs k l
         (subst (λ (z : ConstDef). IsOffset s.indices z.dims place.subs k) tables placed) placed' in
@@ -74,7 +81,10 @@ module _ (p : Program) (es : Elements) (distinct : HasDistinctNumbers es) where
           (parts_once parts xs ys are its_are)
           ∙ sym its
 
-      parts_once : (ts : typed.Parts) (xs ys : flat.Parts) → AreFlatParts p es s ts xs → AreFlatParts p es s ts ys → xs ≡ ys
+      parts_once : (ts : typed.Parts) (xs ys : flat.Parts)
+          → AreFlatParts p es s ts xs
+          → AreFlatParts p es s ts ys
+          → xs ≡ ys
       parts_once typed.no_part xs ys h k = h ∙ sym k
       parts_once (typed.part t rest) xs ys (x, others, is, are, e) (y, its_others, its, its_are, its_e) =
           e ∙ ap₂ flat.part (expr_once t x y is its) (parts_once rest others its_others are its_are) ∙ sym its_e
@@ -88,15 +98,21 @@ module _ (p : Program) (es : Elements) (distinct : HasDistinctNumbers es) where
   body_once (number c k ty) a b (v, is, e) (w, its, f) =
       e ∙ ap (λ (z : ℤ). flat.value (flat.raw z)) (some_once is its) ∙ sym f
 
-  outs_once : (elements : List Element) (xs ys : List ℕ) → AllZip (IsNumberOf es) xs elements
-      → AllZip (IsNumberOf es) ys elements → xs ≡ ys
+  outs_once : (elements : List Element) (xs ys : List ℕ)
+      → AllZip (IsNumberOf es) xs elements
+      → AllZip (IsNumberOf es) ys elements
+      → xs ≡ ys
   outs_once elements xs ys =
       zip_once (λ (k : ℕ) (e : Element). IsNumberOf es k e) (λ k l e. distinct e k l) xs ys elements
 
 module _ (p : Program) (checked : IsChecked p) where
   -- an initial value of the one list is one of the other
-  init_of : (e : Element) (xs ys : List (ℕ × ℤ)) → AreInitsOf p e xs → AreInitsOf p e ys → (i : ℕ × ℤ)
-      → Contains xs i → Contains ys i
+  init_of : (e : Element) (xs ys : List (ℕ × ℤ))
+      → AreInitsOf p e xs
+      → AreInitsOf p e ys
+      → (i : ℕ × ℤ)
+      → Contains xs i
+      → Contains ys i
   init_of e xs ys a b (k, v) has =
       let (l, ty, preset, is) = a.given k v has in
       let (w, its, there) = b.all k l ty preset in
@@ -115,9 +131,11 @@ module _ (p : Program) (checked : IsChecked p) where
     element_same e x y a b =
         let one = single_definitions p checked.names checked.elements checked.calls e a.is in
         let sources : a.source ≡ b.source = one.only a.source a.defined ∙ sym (one.only b.source b.defined) in
-        let bodies : x.body ≡ y.body = body_once p es (distinct_numbers p checked es made) b.source x.body y.body
+        let bodies : x.body ≡ y.body =
+        body_once p es (distinct_numbers p checked.names checked.positions es made) b.source x.body y.body
         (subst (λ (z : Source). IsBodyOf p es z x.body) sources a.body) b.body in
-        let decls : a.is.decl ≡ b.is.decl = decl_once p checked e a.is b.is.function b.is.decl b.is.instance b.is.declared in
+        let decls : a.is.decl ≡ b.is.decl =
+        decl_once p checked e a.is b.is.function b.is.decl b.is.instance b.is.declared in
         let types : x.ty ≡ y.ty = a.ty ∙ ap (λ (d : Decl). d.ty) decls ∙ sym b.ty in
         ap (λ (ty : SigType). flat_element ty x.body x.inits) types
         ∙ ap (λ (body : flat.Body). flat_element y.ty body x.inits) bodies
@@ -136,8 +154,10 @@ module _ (p : Program) (checked : IsChecked p) where
 
       pub one_flat : f ≡ g
       one_flat =
-          let elements : f.elems ≡ g.elems = ext_get_or no_element f.elems g.elems (a.count ∙ sym b.count) elements_same in
+          let elements : f.elems ≡ g.elems =
+          ext_get_or no_element f.elems g.elems (a.count ∙ sym b.count) elements_same in
           ap (λ (elems : List flat.Element). flat_program elems f.inputs f.outs) elements
           ∙ ap (λ (inputs : List SigType). flat_program g.elems inputs f.outs) (a.inputs ∙ sym b.inputs)
           ∙ ap (flat_program g.elems g.inputs)
-          (outs_once p es (distinct_numbers p checked es made) (outputs p) f.outs g.outs a.outs b.outs)
+          (outs_once p es (distinct_numbers p checked.names checked.positions es made) (outputs p) f.outs g.outs a.outs
+          b.outs)

@@ -1,5 +1,6 @@
 -- A sum of sizes, where each thing that is larger than 1 has a place of its own in a list of amounts.
-use Rattle.std.proofs.Common.{◌≡◌, ◌≢◌, subst, ◌∙◌, arith, ℕ, suc, ◌+◌, ◌*◌, ◌≤◌, ◌⊎◌, inl, inr, List, [], ◌∷◌, length, slice_get, sum_by, refl, Some}
+use Rattle.std.proofs.Common.{◌≡◌, ◌≢◌, subst, ◌∙◌, arith, ℕ, suc, ◌+◌, ◌*◌, ◌≤◌, ◌⊎◌, inl, inr, List, [], ◌∷◌, length}
+use Rattle.std.proofs.Common.{slice_get, sum_by, refl, Some}
 use Rattle.std.proofs.Math.ListN.{set}
 use Rattle.std.proofs.lemmas.List.Sums.{sum_by-cons, sum_by-set}
 use Rattle.std.proofs.lemmas.Option.{slice_get_within, get_or_from_slice_get}
@@ -14,8 +15,12 @@ pub record HasPlace (amounts : List ℕ) (Takes : (place : ℕ) → Type 0) (siz
   pub most : size ≤ 1 + 3 * amount
 
 -- the places of the things behind the first, where the amount at its place is spent
-others_place : (amounts : List ℕ) (Takes : ℕ → ℕ → Type 0) → ((k l place : ℕ) → Takes k place → Takes l place → k ≡ l)
-    → (first : ℕ) → Takes 0 first → (k size : ℕ) → HasPlace amounts (Takes (suc k)) size
+others_place : (amounts : List ℕ) (Takes : ℕ → ℕ → Type 0)
+    → ((k l place : ℕ) → Takes k place → Takes l place → k ≡ l)
+    → (first : ℕ)
+    → Takes 0 first
+    → (k size : ℕ)
+    → HasPlace amounts (Takes (suc k)) size
     → HasPlace (set amounts first 0) (Takes (suc k)) size
 others_place amounts Takes apart first taken k size h = record {
   place = h.place;

@@ -16,8 +16,8 @@ use Rattle.silage_meaning.specs.Types as meaning
 use Rattle.silage_meaning.specs.Value.{Words}
 use Rattle.silage_meaning.specs.Solves.{Solves, IsRow, IsStream, IsOneSolution, input_types, output_types, out}
 use Rattle.silage_meaning.proofs.InputRows.{outputs_length}
-use Rattle.single_def.specs.declared.elements.Elements.{Elements}
-use Rattle.single_def.specs.Expansion.{IsExpansion}
+use Rattle.source_elements.specs.declared.elements.Elements.{Elements}
+use Rattle.source_elements.specs.Expansion.{IsExpansion}
 use Rattle.signal_graph.specs.Flat as flat
 use Rattle.signal_graph.specs.FlatRules.{IsFlat}
 use Rattle.signal_graph.specs.FlatSolves.{flat_system, IsFlatLoopless}
@@ -40,14 +40,15 @@ use Rattle.loop_expand.specs.Checked.{IsChecked}
 use Rattle.loop_expand.specs.FlatOf.{IsFlatOf}
 use Rattle.loop_expand.specs.Kept.{program_system, HaveSameWords}
 use Rattle.loop_expand.specs.KeepsProgram.{AreEqualWords, KeepsElementSolutions, HaveEqualRows, KeepsProgramSolutions}
-use Rattle.loop_expand.specs.Numbers.{IsNumberOf}
+use Rattle.source_elements.specs.Numbers.{IsNumberOf}
 use Rattle.loop_expand.proofs.Expanded.{expanded_keeps, program_solution}
 use Rattle.loop_expand.proofs.ProgramSystem.{solves_system}
 use Rattle.loop_expand.proofs.SmallFlat.{flat_is_sound}
 
 -- solutions that are equal in one sense are equal in each that follows from it
 keeps_weaker : {E F A : Type 0} (s : System E A) (t : System F A) (First Second : Signals E A → Signals F A → Type 0)
-    → ((x : Signals E A) (y : Signals F A) → First x y → Second x y) → KeepsSolutions s t First
+    → ((x : Signals E A) (y : Signals F A) → First x y → Second x y)
+    → KeepsSolutions s t First
     → KeepsSolutions s t Second
 keeps_weaker s t First Second follows keeps = record {
   forth = λ x solves. let (y, one, equal) = keeps.forth x solves in (y, one, follows x y equal);
@@ -63,8 +64,11 @@ in_type_back : (ty : SigType) (word : ℤ) → graphs.IsInType ty word → meani
 in_type_back (Fix t) word is = is
 in_type_back Truths word is = is
 
-zip_weaker : {A B : Type 0} (R S : A → B → Type 0) → ((x : A) (y : B) → R x y → S x y) → (xs : List A) (ys : List B)
-    → AllZip R xs ys → AllZip S xs ys
+zip_weaker : {A B : Type 0} (R S : A → B → Type 0)
+    → ((x : A) (y : B) → R x y → S x y)
+    → (xs : List A) (ys : List B)
+    → AllZip R xs ys
+    → AllZip S xs ys
 zip_weaker R S follows [] [] h = tt
 zip_weaker R S follows [] (y ∷ ys) h = absurd h
 zip_weaker R S follows (x ∷ xs) [] h = absurd h
@@ -88,7 +92,8 @@ module _ (p : Program) (stream : Rows) (words : Words) where
   one_system : IsOneSolution p stream words → systems.IsOneSolution (program_system p stream) words
   one_system one = record { solves = (solves_system p stream words).0 one.solves; unique = unique }
     where
-      unique : (others : Words) → systems.Solves (program_system p stream) others
+      unique : (others : Words)
+          → systems.Solves (program_system p stream) others
           → systems.AreSame (program_system p stream) others words
       unique others solves =
           let same = one.unique others ((solves_system p stream others).1 solves) in
@@ -115,8 +120,11 @@ module _ (p : Program) (checked : IsChecked p) (es : Elements) (made : IsExpansi
   only_one : (stream : Rows) → IsStream p stream → (words : Words) × IsOneSolution p stream words
   only_one stream rows = program_solution p checked es made f flat_of stream rows sound loopless
 
-  equal : (stream : Rows) → IsStream p stream → (words : Words) (others : numbered.Words)
-      → HaveSameWords es stream words others → AreEqualWords p es f stream words others
+  equal : (stream : Rows)
+      → IsStream p stream
+      → (words : Words) (others : numbered.Words)
+      → HaveSameWords es stream words others
+      → AreEqualWords p es f stream words others
   equal stream rows words others same =
       let keeps = expanded_keeps p checked es made f flat_of stream rows in
       record { elements = same; rows = sym (keeps.outputs words others same) }
@@ -146,7 +154,8 @@ module _ (p : Program) (checked : IsChecked p) (es : Elements) (made : IsExpansi
         pruned.outs ∙ graph_of.outs ∙ outs ∙ count
 
     module _ (stream : Rows) (rows : IsStream p stream) where
-      through : KeepsSolutions (program_system p stream) (graph_system h stream)
+      through :
+          KeepsSolutions (program_system p stream) (graph_system h stream)
           (AreEqualThrough (AreEqualThrough (AreEqualWords p es f stream) (AreEqualNodes f g stream))
           (AreKeptWords g h stream))
       through =
@@ -183,8 +192,11 @@ module _ (p : Program) (checked : IsChecked p) (es : Elements) (made : IsExpansi
 
 -- Where a graph keeps the solutions of a program, any two have equal rows.
 module _ (p : Program) (g : Graph) (sound : IsGraph g) (keeps : KeepsProgramSolutions p g) where
-  pub any_rows : (stream : Rows) → IsStream p stream → (words : Words) (others : numbered.Words)
-      → Solves p stream words → GraphSolves g stream others
+  pub any_rows : (stream : Rows)
+      → IsStream p stream
+      → (words : Words) (others : numbered.Words)
+      → Solves p stream words
+      → GraphSolves g stream others
       → graph_out g others (length stream) ≡ out p words (length stream)
   any_rows stream rows words others solves theirs =
       let (its, one, equal) = (keeps.solutions stream rows).forth words ((solves_system p stream words).0 solves) in

@@ -26,7 +26,9 @@ module _ (g : Graph) where
   pub no_rows : AreOutputRows g [] []
   no_rows words solves = refl
 
-  pub next_row : (stream put : Rows) (row more : List ℤ) → AreOutputRows g stream put → IsNextRow g stream row more
+  pub next_row : (stream put : Rows) (row more : List ℤ)
+      → AreOutputRows g stream put
+      → IsNextRow g stream row more
       → AreOutputRows g (stream ++ row ∷ []) (put ++ more ∷ [])
   next_row stream put row more are is words solves =
       ap₂ (λ (xs : Rows) (x : List ℤ). xs ++ x ∷ []) (are words (solves_before g stream (row ∷ []) words solves))
@@ -35,9 +37,15 @@ module _ (g : Graph) where
       ∙ ap (λ (n : ℕ). graph_out g words n) (sym (length-append stream (row ∷ [])))
 
 -- they are those of the program
-pub rows_of_program : (p : Program) (g : Graph) → KeepsProgramSolutions p g → (stream : Rows) → IsStream p stream
-    → (put : Rows) → AreOutputRows g stream put
-    → (words : Words) → Solves p stream words → put ≡ out p words (length stream)
+pub rows_of_program : (p : Program) (g : Graph)
+    → KeepsProgramSolutions p g
+    → (stream : Rows)
+    → IsStream p stream
+    → (put : Rows)
+    → AreOutputRows g stream put
+    → (words : Words)
+    → Solves p stream words
+    → put ≡ out p words (length stream)
 rows_of_program p g keeps stream rows put are words solves =
     let (its, one, equal) = (keeps.solutions stream rows).forth words ((solves_system p stream words).0 solves) in
     are its one.solves ∙ equal

@@ -4,7 +4,9 @@ use Rattle.std.specs.Global.{Global}
 use mathlib.Core.Former.{Count}
 use Rattle.fix_word.specs.declared.operation.Op.{Op}
 use Rattle.fix_word.specs.declared.types.Format.{Format}
-use Rattle.signal_graph.specs.declared.flat.FlatExpr.{FlatExpr, Node, Node', Row_of-FlatExpr, end_of-FlatExpr, more_of-FlatExpr, items-the_row-FlatExpr, items_hidden-the_row-FlatExpr-0}
+use Rattle.signal_graph.specs.declared.flat.FlatExpr.{FlatExpr, Node, Node', Row_of-FlatExpr, end_of-FlatExpr}
+use Rattle.signal_graph.specs.declared.flat.FlatExpr.{more_of-FlatExpr, items-the_row-FlatExpr}
+use Rattle.signal_graph.specs.declared.flat.FlatExpr.{items_hidden-the_row-FlatExpr-0}
 use Rattle.signal_graph.specs.Flat.{calculation, part, view_expr, view_parts}
 use Rattle.loop_expand.specs.Private.Rows.{parts_of, view_exprs}
 
@@ -16,7 +18,8 @@ abbrev row_of : FlatExpr → (n : Count) × Row_of-FlatExpr n
 row_of (Node' o fmt shape row) = (_, row)
 row_of _ = (_, end_of-FlatExpr)
 
-pub view_Node : (o : Op) (fmt : Format) (v : Vec FlatExpr Global) → view_expr (Node o fmt v) ≡ calculation o fmt (view_exprs v.items)
+pub view_Node : (o : Op) (fmt : Format) (v : Vec FlatExpr Global)
+    → view_expr (Node o fmt v) ≡ calculation o fmt (view_exprs v.items)
 view_Node o fmt v =
     let row = row_of (Node o fmt v) in
     let same = items_hidden-the_row-FlatExpr-0 v in

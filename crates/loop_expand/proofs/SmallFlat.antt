@@ -1,5 +1,6 @@
 -- The flat program of a checked program is small, so it is sound.
-use Rattle.std.proofs.Common.{◌≡◌, subst, ◌∙◌, ap, arith, ℕ, ◌+◌, ◌*◌, ◌≤◌, ◌⊎◌, inl, inr, List, map, slice_get, Option, Some, option_map}
+use Rattle.std.proofs.Common.{◌≡◌, subst, ◌∙◌, ap, arith, ℕ, ◌+◌, ◌*◌, ◌≤◌, ◌⊎◌, inl, inr, List, map, slice_get, Option}
+use Rattle.std.proofs.Common.{Some, option_map}
 use Rattle.std.proofs.lemmas.List.Sums.{sum-map}
 use Rattle.std.proofs.lemmas.Option.{slice_get-map, slice_get_within}
 use Rattle.lists.specs.Rows.{Rows}
@@ -10,22 +11,22 @@ use Rattle.silage_meaning.specs.Instances.{Element}
 use Rattle.silage_meaning.specs.Value.{Words}
 use Rattle.silage_meaning.specs.Solves.{Source, word, value, same, number, IsStream, IsOneSolution}
 use Rattle.silage_meaning.specs.Rules.{HasNoDelaylessLoop}
-use Rattle.single_def.specs.declared.elements.Elements.{Elements}
-use Rattle.single_def.specs.Expansion.{IsExpansion}
-use Rattle.single_def.specs.ElementRules.{weight}
+use Rattle.source_elements.specs.declared.elements.Elements.{Elements}
+use Rattle.source_elements.specs.Expansion.{IsExpansion}
+use Rattle.source_elements.specs.ElementRules.{weight}
 use Rattle.signal_graph.specs.Flat as flat
 use Rattle.signal_graph.specs.Flat.{size_of_body}
 use Rattle.signal_graph.specs.FlatRules.{IsFlat}
 use Rattle.loop_expand.specs.Checked.{IsChecked}
-use Rattle.loop_expand.specs.Numbers.{IsNumberOf}
+use Rattle.source_elements.specs.Numbers.{IsNumberOf}
 use Rattle.loop_expand.specs.FlatOf.{IsFlatOf}
-use Rattle.loop_expand.proofs.Charges.{Charge, charge, charges_few}
+use Rattle.element_facts.proofs.Charges.{Charge, charge, charges_few}
 use Rattle.loop_expand.proofs.Expanded.{main_there, numbering}
 use Rattle.loop_expand.proofs.FlatCount.{element_count_is}
 use Rattle.loop_expand.proofs.FlatSizes.{source_weight, body_size}
 use Rattle.loop_expand.proofs.Numbers.{stands}
-use Rattle.loop_expand.proofs.OnceTables.{distinct_numbers}
-use Rattle.loop_expand.proofs.OwnCharges.{program_charges, IsChargedFor, charged_for}
+use Rattle.element_facts.proofs.OnceTables.{distinct_numbers}
+use Rattle.element_facts.proofs.OwnCharges.{program_charges, IsChargedFor, charged_for}
 use Rattle.loop_expand.proofs.OwnPlaces.{HasPlace, sum_by_places}
 use Rattle.loop_expand.proofs.SoundFlat.{IsSmall, flat_sound, one_solution}
 
@@ -33,7 +34,7 @@ module _ (p : Program) (checked : IsChecked p) (es : Elements) (made : IsExpansi
     (flat_of : IsFlatOf p es f) where
   module _ (g : Func) (is_main : main_of p ≡ Some g) where
     abbrev charges : List Charge
-    charges = program_charges p checked g is_main
+    charges = program_charges p checked.elements g is_main
 
     abbrev amounts : List ℕ
     amounts = map (λ (c : Charge). c.amount) charges
@@ -44,11 +45,15 @@ module _ (p : Program) (checked : IsChecked p) (es : Elements) (made : IsExpansi
 
     for_one : (k l place : ℕ) → IsFor k place → IsFor l place → k ≡ l
     for_one k l place (c, there, is) (d, too, also) =
-        distinct_numbers p checked es made d.of k l
+        distinct_numbers p checked.names checked.positions es made d.of k l
         (subst (λ (z : Charge). IsNumberOf es k z.of) (some_once there too) is) also
 
-    by_charge : (k : ℕ) (e : Element) → IsNumberOf es k e → (source : Source)
-        → IsChargedFor p checked g is_main e source → (size : ℕ) → size ≤ 1 + 3 * source_weight source
+    by_charge : (k : ℕ) (e : Element)
+        → IsNumberOf es k e
+        → (source : Source)
+        → IsChargedFor p checked.elements g is_main e source
+        → (size : ℕ)
+        → size ≤ 1 + 3 * source_weight source
         → (size ≤ 1) ⊎ HasPlace amounts (IsFor k) size
     by_charge k e is (word j) has size most = inl most
     by_charge k e is (same other theirs ours) has size most = inl most
@@ -64,21 +69,22 @@ module _ (p : Program) (checked : IsChecked p) (es : Elements) (made : IsExpansi
           most = most;
         })
 
-    sized : (k : ℕ) (x : flat.Element) → slice_get f.elems k ≡ Some x
+    sized : (k : ℕ) (x : flat.Element)
+        → slice_get f.elems k ≡ Some x
         → (size_of_body x.body ≤ 1) ⊎ HasPlace amounts (IsFor k) (size_of_body x.body)
     sized k x there =
         let s =
         stands p es (numbering p checked es made) k
         (let count = flat_of.count in let less = slice_get_within f.elems k x there in omega arith) in
         let it = flat_of.elements k s.of x s.number there in
-        by_charge k s.of s.number it.source (charged_for p checked g is_main s.of it.source it.defined)
+        by_charge k s.of s.number it.source (charged_for p checked.elements g is_main s.of it.source it.defined)
         (size_of_body x.body) (body_size p es it.source x.body it.body)
 
     small_by : IsSmall f
     small_by =
         let sum = sum_by_places (λ (x : flat.Element). size_of_body x.body) f.elems amounts IsFor for_one sized in
         let same = sum-map (λ (c : Charge). c.amount) charges in
-        let few = charges_few p checked g is_main in
+        let few = charges_few p checked.elements g is_main in
         let count = element_count_is p checked es made f flat_of in
         omega arith
 
@@ -91,6 +97,8 @@ module _ (p : Program) (checked : IsChecked p) (es : Elements) (made : IsExpansi
   flat_is_sound = flat_sound p checked es made f flat_of flat_small
 
   -- so a checked program without a delay-free loop has exactly one solution
-  pub has_one_solution : HasNoDelaylessLoop p → (stream : Rows) → IsStream p stream
+  pub has_one_solution : HasNoDelaylessLoop p
+      → (stream : Rows)
+      → IsStream p stream
       → (words : Words) × IsOneSolution p stream words
   has_one_solution loopless stream rows = one_solution p checked es made f flat_of flat_small loopless stream rows

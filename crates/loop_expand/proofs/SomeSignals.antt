@@ -24,11 +24,16 @@ module _ (ts : List Token) where
   HasBothIn (function f) = HasBoth f
   HasBothIn _ = Unit {0}
 
-  tops_have : (tops : List Top) (i : ℕ) (rs : List Role) (j : ℕ) → IsTops ts i tops rs j → (k : ℕ) (f : Func) → slice_get tops k ≡ Some (function f) → HasBoth f
+  tops_have : (tops : List Top) (i : ℕ) (rs : List Role) (j : ℕ)
+      → IsTops ts i tops rs j
+      → (k : ℕ) (f : Func)
+      → slice_get tops k ≡ Some (function f)
+      → HasBoth f
   tops_have tops i rs j g.no_tops k f e = absurd (cc e)
   tops_have tops i rs j (g.one_top {rest = others} first rest) (suc k) f e = tops_have others _ _ _ rest k f e
   tops_have tops i rs j (g.one_top (g.is_table _ _ _ _ _ _ _) rest) zero f e = absurd (cc e)
-  tops_have tops i rs j (g.one_top (g.is_function {ps = ps} {rs = results} _ _ _ params _ all _ _ _ _ _ _) rest) zero f e =
+  tops_have tops i rs j (g.one_top (g.is_function {ps = ps} {rs = results} _ _ _ params _ all _ _ _ _ _ _) rest) zero f
+      e =
       subst HasBothIn (some_once refl e) (some_listed _ _ ps params, some_results _ _ results all)
 
 pub parameters_and_results : (ts : List Token) (p : Program) → Derives ts p → HasParametersAndResults p

@@ -7,8 +7,8 @@ use Rattle.silage_syntax.specs.Tree.{Program}
 use Rattle.silage_meaning.specs.Value.{Words}
 use Rattle.silage_meaning.specs.Solves.{IsStream, IsOneSolution}
 use Rattle.silage_meaning.specs.Rules.{HasNoDelaylessLoop}
-use Rattle.single_def.specs.declared.elements.Elements.{Elements}
-use Rattle.single_def.specs.Expansion.{IsExpansion}
+use Rattle.source_elements.specs.declared.elements.Elements.{Elements}
+use Rattle.source_elements.specs.Expansion.{IsExpansion}
 use Rattle.signal_graph.specs.Flat as flat
 use Rattle.signal_graph.specs.Flat.{size_of_body}
 use Rattle.signal_graph.specs.Rules.{IsWithin, IsType}
@@ -16,7 +16,7 @@ use Rattle.signal_graph.specs.FlatRules.{IsFlat}
 use Rattle.signal_graph.specs.FlatSolves.{IsFlatLoopless}
 use Rattle.loop_expand.specs.Checked.{IsChecked}
 use Rattle.loop_expand.specs.FlatOf.{IsFlatOf}
-use Rattle.loop_expand.proofs.OnceTables.{distinct_numbers}
+use Rattle.element_facts.proofs.OnceTables.{distinct_numbers}
 use Rattle.loop_expand.proofs.Expanded.{numbering, program_solution}
 use Rattle.loop_expand.proofs.FlatLoops.{loopless_both}
 use Rattle.loop_expand.proofs.FlatWords.{input_count, input_types_allowed, out_count, outs_there}
@@ -27,10 +27,13 @@ use Rattle.loop_expand.proofs.FlatCount.{element_count_is}
 abbrev pub IsSmall : flat.Program → Type 0
 IsSmall f = sum_by (λ (x : flat.Element). size_of_body x.body) f.elems ≤ 2 ^ 17
 
-module _ (p : Program) (checked : IsChecked p) (es : Elements) (made : IsExpansion p es) (f : flat.Program) (flat_of : IsFlatOf p es f) where
+module _ (p : Program) (checked : IsChecked p) (es : Elements) (made : IsExpansion p es) (f : flat.Program)
+    (flat_of : IsFlatOf p es f) where
   -- the flat program has a delay-free loop exactly where the program has one
   pub flat_loopless : HasNoDelaylessLoop p ↔ IsFlatLoopless f
-  flat_loopless = loopless_both p checked es (numbering p checked es made) (distinct_numbers p checked es made) f flat_of
+  flat_loopless =
+      loopless_both p checked es (numbering p checked es made)
+      (distinct_numbers p checked.names checked.positions es made) f flat_of
 
   -- it breaks no rule if it is small
   pub flat_sound : IsSmall f → IsFlat f
@@ -48,5 +51,10 @@ module _ (p : Program) (checked : IsChecked p) (es : Elements) (made : IsExpansi
       lengths e = cc e
 
   -- so a checked program without a delay-free loop has one solution
-  pub one_solution : IsSmall f → HasNoDelaylessLoop p → (stream : Rows) → IsStream p stream → (words : Words) × IsOneSolution p stream words
-  one_solution small loopless stream rows = program_solution p checked es made f flat_of stream rows (flat_sound small) (flat_loopless.0 loopless)
+  pub one_solution : IsSmall f
+      → HasNoDelaylessLoop p
+      → (stream : Rows)
+      → IsStream p stream
+      → (words : Words) × IsOneSolution p stream words
+  one_solution small loopless stream rows =
+      program_solution p checked es made f flat_of stream rows (flat_sound small) (flat_loopless.0 loopless)

@@ -6,16 +6,21 @@ use Rattle.silage_lex.specs.declared.Token.{Token}
 use Rattle.silage_syntax.specs.Grammar.{Derives}
 use Rattle.silage_syntax.specs.Tree.{Program}
 use Rattle.silage_meaning.proofs.Apart.{calls_apart}
-use Rattle.name_check.specs.NameFaults.{name_faults}
-use Rattle.single_def.specs.ElementFaults.{element_faults}
-use Rattle.fix_types.specs.TypeFaults.{type_faults}
-use Rattle.fix_types.proofs.ShortNumbers.{short_numbers}
+use Rattle.source_names.specs.NameFaults.{name_faults}
+use Rattle.source_elements.specs.ElementFaults.{element_faults}
+use Rattle.typed_source.specs.TypeFaults.{type_faults}
+use Rattle.typed_source.proofs.ShortNumbers.{short_numbers}
 use Rattle.loop_expand.specs.Checked.{IsChecked}
 use Rattle.loop_expand.proofs.OwnPositions.{own_positions}
 use Rattle.loop_expand.proofs.SomeSignals.{parameters_and_results}
 
-pub source_checked : (source : List ℕ) (tokens : List Token) (p : Program) → HasTokens source tokens → Derives tokens p
-    → IsClear (name_faults p) → IsClear (element_faults p) → IsClear (type_faults p) → IsChecked p
+pub source_checked : (source : List ℕ) (tokens : List Token) (p : Program)
+    → HasTokens source tokens
+    → Derives tokens p
+    → IsClear (name_faults p)
+    → IsClear (element_faults p)
+    → IsClear (type_faults p)
+    → IsChecked p
 source_checked source tokens p lexed derives names elements types = record {
   names = names;
   elements = elements;

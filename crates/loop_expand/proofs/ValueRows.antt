@@ -1,5 +1,6 @@
 -- Values in many turns at once.
-use Rattle.std.proofs.Common.{◌≡◌, ◌<◌, ◌≤◌, ◌+◌, ◌∙◌, ℕ, zero, suc, ℤ, pos, neg_ℤ, Bool, true, false, List, length, replicate, slice_set, Some, inl, inr, refl, sym, ap, arith}
+use Rattle.std.proofs.Common.{◌≡◌, ◌<◌, ◌≤◌, ◌+◌, ◌∙◌, ℕ, zero, suc, ℤ, pos, neg_ℤ, Bool, true, false, List, length}
+use Rattle.std.proofs.Common.{replicate, slice_set, Some, inl, inr, refl, sym, ap, arith}
 use Rattle.std.specs.Prelude.{◌≤ℤ◌, ◌^◌, ◌-◌, int_le, IsSome}
 use Rattle.std.proofs.lemmas.Int.{ints}
 use Rattle.std.proofs.lemmas.List.{get_or-set_same, get_or-set_other, length-set}
@@ -33,21 +34,27 @@ module _ (f : ℤ → ℤ → ℤ) (first : List ℤ) (right : ℕ → ℤ) wher
       × ((j : ℕ) → j < k → in_range (f (at first j) (right j)) ≡ Some (at left j))
       × ((j : ℕ) → k ≤ j → at left j ≡ at first j)
 
-  pub one_more : (k : ℕ) (left : List ℤ) (v : ℤ) → k < length left → Done k left
-      → in_range (f (at left k) (right k)) ≡ Some v → Done (k + 1) (slice_set left k v)
+  pub one_more : (k : ℕ) (left : List ℤ) (v : ℤ)
+      → k < length left
+      → Done k left
+      → in_range (f (at left k) (right k)) ≡ Some v
+      → Done (k + 1) (slice_set left k v)
   one_more k left v lt done e = (length-set left k v ∙ done.0, below, above)
     where
       below : (j : ℕ) → j < k + 1 → in_range (f (at first j) (right j)) ≡ Some (at (slice_set left k v) j)
       below j less =
           elim (eqb_tells j k) [
             | inl is ↦ let same = is.1 in
-                ap (λ i. in_range (f (at first i) (right i))) same ∙ ap (λ z. in_range (f z (right k))) (sym (done.2 k (omega arith))) ∙ e
+                ap (λ i. in_range (f (at first i) (right i))) same
+                ∙ ap (λ z. in_range (f z (right k))) (sym (done.2 k (omega arith))) ∙ e
                 ∙ ap Some (sym (ap (λ i. at (slice_set left k v) i) same ∙ get_or-set_same left k v (pos 0) lt))
-            | inr is ↦ let apart = is.1 in done.1 j (omega arith) ∙ ap Some (sym (get_or-set_other left k j v (pos 0) apart))
+            | inr is ↦
+                let apart = is.1 in done.1 j (omega arith) ∙ ap Some (sym (get_or-set_other left k j v (pos 0) apart))
           ]
 
       above : (j : ℕ) → k + 1 ≤ j → at (slice_set left k v) j ≡ at first j
-      above j more = get_or-set_other left k j v (pos 0) (λ same. absurd (omega (arith, same, more))) ∙ done.2 j (omega arith)
+      above j more =
+          get_or-set_other left k j v (pos 0) (λ same. absurd (omega (arith, same, more))) ∙ done.2 j (omega arith)
 
 pub at_replicate : (n : ℕ) (v : ℤ) (k : ℕ) → k < n → at (replicate n v) k ≡ v
 at_replicate zero v k less = absurd (omega arith)

@@ -1,11 +1,11 @@
 -- What expansion takes: the typed program and the elements of one program that passed the checks.
 use Rattle.std.specs.Prelude.{◌≡◌}
 use Rattle.silage_syntax.specs.Tree.{Program}
-use Rattle.single_def.specs.declared.elements.Elements.{Elements}
-use Rattle.single_def.specs.Expansion.{IsExpansion}
-use Rattle.fix_types.specs.declared.typed.Typed.{Typed}
-use Rattle.fix_types.specs.TypedTree.{view_typed}
-use Rattle.fix_types.specs.Translation.{typed_program}
+use Rattle.source_elements.specs.declared.elements.Elements.{Elements}
+use Rattle.source_elements.specs.Expansion.{IsExpansion}
+use Rattle.typed_source.specs.declared.typed.Typed.{Typed}
+use Rattle.typed_source.specs.TypedTree.{view_typed}
+use Rattle.typed_source.specs.Translation.{typed_program}
 use Rattle.loop_expand.specs.Checked.{IsChecked}
 
 -- they are of this program

@@ -1,5 +1,5 @@
-pub mod Numbers
 pub mod KeepsProgram
+pub mod GraphFor
 pub mod FlatOf
 pub mod Kept
 pub mod Checked

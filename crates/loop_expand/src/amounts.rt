@@ -1,17 +1,16 @@
 //! The numbers that manifest constants give.
 
 ghost use Rattle.std.specs.Prelude.{◌≡◌, ℕ, ◌≤◌, ◌*◌, ◌+◌, map, IsTrue};
-ghost use Rattle.name_check.specs.Meanings.{are_dims};
+ghost use Rattle.source_names.specs.Meanings.{are_dims};
 ghost use Rattle.silage_syntax.specs.Manifests.{HasValue, LooksBack};
 ghost use Rattle.silage_syntax.specs.Tree.{view_manifest, view_delay};
-ghost use Rattle.silage_syntax.specs.Names as size;
 ghost use Rattle.silage_syntax.specs.Names.{IsOffset};
 ghost use Rattle.loop_expand.specs.Private.Facts as is;
 ghost use Rattle.loop_expand.specs.Private.Amounts.{IsKnownAmount};
 
 use fix_word::Format;
-use name_check::{Env, manifest};
 use silage_syntax::Manifest;
+use source_names::{Env, element_count, manifest};
 
 /// The value of a manifest constant that has one, which is not negative.
 fn natural(env: &Env, m: &Manifest) -> u32
@@ -21,19 +20,6 @@ fn natural(env: &Env, m: &Manifest) -> u32
     match manifest(m, env) {
         Ok(value) => value as u32,
         Err(_) => unreachable!(),
-    }
-}
-
-/// How many elements an array with these dims has.
-pub(crate) fn element_count(dims: &[u32]) -> u32
-    requires { IsTrue (are_dims dims.now) }
-    ensures value { result ≡ size.element_count dims.now }
-    ensures least { 1 ≤ result }
-    ensures most { result ≤ 8192 }
-{
-    match dims {
-        [] => 1,
-        [dim, rest @ ..] => *dim * element_count(rest),
     }
 }
 

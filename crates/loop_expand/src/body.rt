@@ -1,15 +1,15 @@
 //! What is known of a function.
 
 ghost use Rattle.std.specs.Prelude.{◌≤◌, IsTrue};
-ghost use Rattle.fix_types.specs.TypedTree.{view_func};
-ghost use Rattle.name_check.specs.Meanings.{are_dims};
-ghost use Rattle.single_def.specs.ElementRules.{elements_of};
-ghost use Rattle.single_def.specs.Private.Plans.{AreSized};
+ghost use Rattle.typed_source.specs.TypedTree.{view_func};
+ghost use Rattle.source_names.specs.Meanings.{are_dims};
+ghost use Rattle.source_elements.specs.ElementRules.{elements_of};
+ghost use Rattle.source_elements.specs.Sizes.{AreSized};
 ghost use Rattle.loop_expand.specs.Private.Sizes.{decls_of};
 
 use crate::groups::Group;
-use fix_types::TypedFunc;
 use silage_syntax::Decl;
+use typed_source::TypedFunc;
 
 /// A parameter, a result or a local.
 #[derive(Clone, Copy)]

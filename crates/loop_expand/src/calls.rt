@@ -6,8 +6,8 @@ ghost use Rattle.signal_graph.specs.Flat as flat_program;
 ghost use Rattle.signal_graph.specs.Flat.{view_expr};
 ghost use Rattle.silage_syntax.specs.Tree.{view_place};
 ghost use Rattle.silage_meaning.specs.Instances.{turns_of};
-ghost use Rattle.single_def.specs.declared.elements.Instance.{Instance as InstanceOf};
-ghost use Rattle.fix_types.specs.TypedTree as typed;
+ghost use Rattle.source_elements.specs.declared.elements.Instance.{Instance as InstanceOf};
+ghost use Rattle.typed_source.specs.TypedTree as typed;
 ghost use Rattle.loop_expand.specs.Private.Children.{AreApart, is_child, child_of};
 ghost use Rattle.loop_expand.specs.Private.Elements.{Puts};
 ghost use Rattle.loop_expand.specs.Private.Facts as is;
@@ -18,19 +18,18 @@ ghost use Rattle.loop_expand.specs.Private.Scopes.{Body as CalleeBody};
 ghost use Rattle.loop_expand.specs.Private.Sites.{IsItemOf};
 ghost use Rattle.loop_expand.specs.Private.Views.{view_scope};
 
-use crate::amounts::element_count;
 use crate::body::Signal;
 use crate::elements::define;
 use crate::expressions::{flat, target, word_at};
 use crate::lookups::{first_of, instance_body, signal, table};
 use crate::scope::Scope;
 use crate::turns::is_turn;
-use fix_types::{TypedConst, TypedExpr};
-use name_check::Env;
 use signal_graph::{FlatElem, FlatExpr};
 use silage_syntax::Place;
-use single_def::Instance;
+use source_elements::Instance;
+use source_names::{Env, element_count};
 use std::alloc::AllocError;
+use typed_source::{TypedConst, TypedExpr};
 
 /// A read of an element at the same sample.
 fn read_now(elem: u32) -> FlatExpr

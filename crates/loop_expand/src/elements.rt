@@ -2,8 +2,8 @@
 
 ghost use Rattle.std.specs.Prelude.{◌≡◌, ◌<◌, ◌≤◌, ◌++◌, length, replicate, IfOk, OnOk};
 ghost use Rattle.silage_meaning.specs.Types.{word_types};
-ghost use Rattle.fix_types.specs.TypedTree.{view_func};
-ghost use Rattle.single_def.specs.Private.Plans.{AreSized};
+ghost use Rattle.typed_source.specs.TypedTree.{view_func};
+ghost use Rattle.source_elements.specs.Sizes.{AreSized};
 ghost use Rattle.loop_expand.specs.Private.Sizes.{decls_of};
 ghost use Rattle.signal_graph.specs.Flat.{view_elem, view_body, view_expr};
 ghost use Rattle.loop_expand.specs.Private.Elements as is;
@@ -11,18 +11,18 @@ ghost use Rattle.loop_expand.specs.Private.Elements.{view_elems};
 ghost use Rattle.loop_expand.specs.Private.Facts.{defines, presets};
 ghost use Rattle.loop_expand.specs.Private.Scopes.{view_bodies, HaveBodies};
 
-use crate::amounts::element_count;
 use crate::body::Body;
 use crate::initials::insert;
 use crate::lookups::body;
-use fix_types::TypedFunc;
 use fix_word::SigType;
 use lists::List;
 use signal_graph::{FlatBody, FlatElem, FlatExpr};
 use silage_syntax::Decl;
-use single_def::Instance;
+use source_elements::Instance;
+use source_names::element_count;
 use std::alloc::{AllocError, AllocFailed, Global};
 use std::mem;
+use typed_source::TypedFunc;
 
 /// Appends so many equal types.
 fn put_type(types: &mut List<SigType>, ty: SigType, count: u32) -> Result<(), AllocError>

@@ -4,15 +4,15 @@
 //! A loop without turns adds nothing to the load, so very many of them may be inside thousands of turns.
 
 ghost use Rattle.std.specs.Prelude.{◌≡◌, ◌<◌, ◌++◌, ◌∷◌, [], ℕ, map, IfOk, OnOk};
-ghost use Rattle.fix_types.specs.TypedTree as typed;
+ghost use Rattle.typed_source.specs.TypedTree as typed;
 ghost use Rattle.loop_expand.specs.Private.Turns.{indices_at, view_turns};
 ghost use Rattle.loop_expand.specs.Private.Groups as is;
 ghost use Rattle.loop_expand.specs.Private.Groups.{view_ref, view_group, view_groups, groups_in, loop_groups};
 
 use crate::columns::Turns;
 use crate::turns::within;
-use fix_types::TypedItem;
 use std::alloc::{AllocError, AllocFailed, Global};
+use typed_source::TypedItem;
 
 /// Turns of the loops around items, and those of the items that are no loops.
 #[derive(Drop)]

@@ -7,9 +7,9 @@ ghost use Rattle.loop_expand.specs.Private.Scopes.{body_of, body_at, HaveBodies}
 ghost use Rattle.loop_expand.specs.Private.Facts.{signal_named, typed_named};
 
 use crate::body::{Body, Signal};
-use fix_types::TypedConst;
 use lists::Name;
-use single_def::Instance;
+use source_elements::Instance;
+use typed_source::TypedConst;
 
 /// The signal with the name.
 pub(crate) fn signal<'a>(signals: &[Signal<'a>], name: &Name) -> Option<Signal<'a>>

@@ -5,9 +5,9 @@ ghost use Rattle.lists.specs.Rows.{Rows};
 ghost use Rattle.silage_syntax.specs.Tree.{Program};
 ghost use Rattle.silage_meaning.specs.Rules.{HasNoDelaylessLoop};
 ghost use Rattle.silage_meaning.specs.Solves.{IsStream};
-ghost use Rattle.single_def.specs.ElementRules.{elements_of};
-ghost use Rattle.single_def.specs.Private.Plans.{AreSized};
-ghost use Rattle.fix_types.specs.TypedTree.{view_func, view_typed};
+ghost use Rattle.source_elements.specs.ElementRules.{elements_of};
+ghost use Rattle.source_elements.specs.Sizes.{AreSized};
+ghost use Rattle.typed_source.specs.TypedTree.{view_func, view_typed};
 ghost use Rattle.signal_graph.specs.Flat.{view};
 ghost use Rattle.signal_graph.specs.FlatRules.{IsFlat};
 ghost use Rattle.signal_graph.specs.FlatSolves.{IsFlatLoopless};
@@ -21,20 +21,20 @@ ghost use Rattle.loop_expand.specs.Private.Scopes.{view_bodies};
 ghost use Rattle.loop_expand.specs.Private.Sizes.{decls_of};
 ghost use Rattle.loop_expand.specs.Private.Sites.{AreOfProgram};
 
-use crate::amounts::element_count;
 use crate::body::Body;
 use crate::elements::{all_types, first_elements, put_types};
 use crate::fault::ExpandFault;
 use crate::functions::bodies;
 use crate::instances::{expand_all, firsts};
 use crate::lookups::instance_body;
-use fix_types::{Typed, TypedConst, TypedFunc};
 use fix_word::SigType;
 use lists::List;
 use signal_graph::{FlatElem, FlatProgram};
 use silage_syntax::Decl;
-use single_def::{Elements, Instance};
+use source_elements::{Elements, Instance};
+use source_names::element_count;
 use std::alloc::{AllocError, AllocFailed, Global};
+use typed_source::{Typed, TypedConst, TypedFunc};
 
 /// How many elements declarations have.
 fn count(decls: &[Decl]) -> u32

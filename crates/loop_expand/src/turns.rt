@@ -1,9 +1,8 @@
 //! The turns of loops.
 
-ghost use Rattle.std.specs.Prelude.{◌≡◌, ◌<◌, ◌++◌, ◌+ℤ◌, ◌-ℤ◌, ◌≤ℤ◌, pos, map, length, Some, IfOk, OnOk};
+ghost use Rattle.std.specs.Prelude.{◌≡◌, ◌<◌, ◌++◌, map, length, Some, IfOk, OnOk};
 ghost use Rattle.std.specs.List.{range_with_len};
-ghost use Rattle.single_def.specs.ElementRules as rules;
-ghost use Rattle.single_def.specs.ElementRules.{loop_turns};
+ghost use Rattle.source_elements.specs.ElementRules.{loop_turns};
 ghost use Rattle.silage_meaning.specs.Instances.{turns_of};
 ghost use Rattle.silage_syntax.specs.Tree.{view_manifest};
 ghost use Rattle.silage_syntax.specs.Manifests.{manifest_value};
@@ -15,39 +14,10 @@ ghost use Rattle.loop_expand.specs.Private.Turns.{HasTurns, HasValues, AreInside
 use crate::columns::{Column, InnerTurn, Turns};
 use crate::values::{Values, are_past, value_at, value_of, values_of};
 use lists::{List, Name};
-use name_check::Env;
 use silage_syntax::Manifest;
+use source_elements::{turn_at, turn_count};
+use source_names::Env;
 use std::alloc::{AllocError, AllocFailed, Global};
-
-fn at_least_0(count: i64) -> u64
-    ensures { result ≡ rules.at_least_0 count }
-{
-    match u64::try_from(count) {
-        Ok(count) => count,
-        Err(_) => 0,
-    }
-}
-
-fn one_more_than(first: i32, last: i32) -> i64
-    ensures { result ≡ last -ℤ first +ℤ pos 1 }
-{
-    i64::from(last) - i64::from(first) + 1
-}
-
-/// How many turns a loop from the first number to the last one has.
-fn turn_count(first: i32, last: i32) -> u64
-    ensures { result ≡ rules.count_up first last }
-{
-    at_least_0(one_more_than(first, last))
-}
-
-/// The index of the turn after so many others.
-fn turn_at(first: i32, last: i32, k: u64) -> i32
-    requires { (first +ℤ pos k) ≤ℤ last }
-    ensures { result ≡ first +ℤ pos k }
-{
-    (i64::from(first) + k as i64) as i32
-}
 
 /// The indices of the loops around a turn, in the memory of those around another one.
 pub(crate) fn env_at(other: Env, turns: &Turns, k: usize) -> Result<Env, AllocError>

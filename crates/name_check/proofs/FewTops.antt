@@ -1,4 +1,5 @@
--- A program has no more tables and functions than tokens, so that each source of a program meets what `check_names` asks.
+-- A program has no more tables and functions than tokens, so that each source of a program meets what `check_names`
+-- asks.
 use Rattle.std.proofs.Common.{arith, ℕ, ◌+◌, ◌≤◌, List, length}
 use Rattle.fix_word.specs.declared.types.FixType.{FixType}
 use Rattle.fix_word.specs.declared.types.SigType.{SigType}
@@ -6,12 +7,17 @@ use Rattle.silage_lex.specs.declared.Token.{Token}
 use Rattle.silage_syntax.specs.declared.tree.Decl.{Decl}
 use Rattle.silage_syntax.specs.declared.tree.Lit.{Lit}
 use Rattle.silage_syntax.specs.Grammar as g
-use Rattle.silage_syntax.specs.Grammar.{Declared, IsSigned, IsList, IsDims, IsFix, IsType, IsDeclared, IsDecl, IsLocals, IsResults, IsWords, IsTop, IsTops, Role, Derives}
+use Rattle.silage_syntax.specs.Grammar.{Declared, IsSigned, IsList, IsDims, IsFix, IsType, IsDeclared, IsDecl, IsLocals}
+use Rattle.silage_syntax.specs.Grammar.{IsResults, IsWords, IsTop, IsTops, Role, Derives}
 use Rattle.silage_syntax.specs.Tree.{Top, Program}
 use Rattle.silage_syntax.proofs.Rising.{items_rise}
 
 module _ (ts : List Token) where
-  list_rises : {A : Type 0} (One : ℕ → A → ℕ → Type 0) → ((i : ℕ) (x : A) (j : ℕ) → One i x j → i ≤ j) → (i : ℕ) (xs : List A) (j : ℕ) → IsList ts A One i xs j → i ≤ j
+  list_rises : {A : Type 0} (One : ℕ → A → ℕ → Type 0)
+      → ((i : ℕ) (x : A) (j : ℕ) → One i x j → i ≤ j)
+      → (i : ℕ) (xs : List A) (j : ℕ)
+      → IsList ts A One i xs j
+      → i ≤ j
   list_rises One rises i xs j (g.last a) = rises _ _ _ a
   list_rises One rises i xs j (g.more a b rest) = omega (arith, rises _ _ _ a, list_rises One rises _ _ _ rest)
 
@@ -40,7 +46,8 @@ module _ (ts : List Token) where
 
   locals_rise : (i : ℕ) (ds : List Decl) (j : ℕ) → IsLocals ts i ds j → i ≤ j
   locals_rise i ds j g.no_locals = omega arith
-  locals_rise i ds j (g.some_locals a b c d e rest) = omega (arith, list_rises (IsDeclared ts) declared_rises _ _ _ b, type_rises _ _ _ d, locals_rise _ _ _ rest)
+  locals_rise i ds j (g.some_locals a b c d e rest) =
+      omega (arith, list_rises (IsDeclared ts) declared_rises _ _ _ b, type_rises _ _ _ d, locals_rise _ _ _ rest)
 
   results_rise : (i : ℕ) (ds : List Decl) (j : ℕ) → IsResults ts i ds j → i ≤ j
   results_rise i ds j (g.one_result a) = decl_rises _ _ _ a
@@ -51,9 +58,16 @@ module _ (ts : List Token) where
   words_rise i ls j (g.words a b c) = omega (arith, list_rises (IsSigned ts) signed_rises _ _ _ b)
 
   top_rises : (i : ℕ) (t : Top) (rs : List Role) (j : ℕ) → IsTop ts i t rs j → i + 1 ≤ j
-  top_rises i t rs j (g.is_table a b c d e h k) = omega (arith, declared_rises _ _ _ b, fix_rises _ _ _ d, words_rise _ _ _ h)
+  top_rises i t rs j (g.is_table a b c d e h k) =
+      omega (arith, declared_rises _ _ _ b, fix_rises _ _ _ d, words_rise _ _ _ h)
   top_rises i t rs j (g.is_function a b c d e h k l m n o p) =
-      omega (arith, list_rises (IsDecl ts) decl_rises _ _ _ d, results_rise _ _ _ h, locals_rise _ _ _ m, items_rise ts _ _ _ _ n)
+      omega (
+        arith,
+        list_rises (IsDecl ts) decl_rises _ _ _ d,
+        results_rise _ _ _ h,
+        locals_rise _ _ _ m,
+        items_rise ts _ _ _ _ n,
+      )
 
   tops_rise : (i : ℕ) (tops : List Top) (rs : List Role) (j : ℕ) → IsTops ts i tops rs j → i + length tops ≤ j
   tops_rise i tops rs j g.no_tops = omega arith

@@ -1,10 +1,6 @@
-pub mod ManifestMet
-pub mod FirstPlaces
 pub mod Callees
 pub mod CallGraph
-pub mod FoundNames
 pub mod Declared
-pub mod ApartNames
 pub mod TreeRows
 pub mod NameAnswers
 pub mod MainFound

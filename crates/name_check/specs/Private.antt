@@ -1,4 +1,1 @@
-pub mod CallLists
-pub mod FirstTops
-pub mod Ranges
 pub mod Views

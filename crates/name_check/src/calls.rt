@@ -4,19 +4,19 @@ ghost use Rattle.std.specs.Prelude.{◌≡◌, Option, map, length, slice_get, o
 ghost use Rattle.ranked_faults.specs.Private.FirstMet.{first};
 ghost use Rattle.silage_syntax.specs.Tree.{view_place, view_expr, view_func};
 ghost use Rattle.silage_syntax.specs.Names.{function_named};
-ghost use Rattle.name_check.specs.Meanings as meaning;
-ghost use Rattle.name_check.specs.NameRules as rules;
-ghost use Rattle.name_check.specs.NameRules.{array_rules, argument_rules, callee_rules, places_rules, arguments_rules, call_rules};
+ghost use Rattle.source_names.specs.Meanings as meaning;
+ghost use Rattle.source_names.specs.NameRules as rules;
+ghost use Rattle.source_names.specs.NameRules.{array_rules, argument_rules, callee_rules, places_rules, arguments_rules, call_rules};
 ghost use Rattle.name_check.specs.Private.Views.{context_of};
 
-use crate::NameFault;
 use crate::context::Context;
 use crate::expressions::check_expr;
 use crate::indices::check_delay;
-use crate::lookups::{function, read_dims};
+use crate::lookups::read_dims;
 use crate::places::{check_place, check_taking, is_whole_array};
 use lists::Name;
 use silage_syntax::{Decl, Expr, Func, Lit, Place};
+use source_names::NameFault;
 
 /// The source position of an expression.
 fn expr_at(e: &Expr) -> u32
@@ -126,7 +126,7 @@ pub(crate) fn check_call(
     ensures { let c = context_of context.now in let callee = function_named c.program func.now in
         result ≡ first (call_rules c callee (map view_place places.now) (map view_expr args.now) at) }
 {
-    let callee = function(context, func);
+    let callee = context.tops.function(func);
     check_places(context, places, results_of(callee))?;
     check_callee(callee, places.len(), args.len(), at)?;
     check_arguments(context, args, params_of(callee))

@@ -4,14 +4,13 @@ ghost use Rattle.std.specs.Prelude.{◌≡◌, ◌∷◌, ◌++◌, [], IfOk, On
 ghost use Rattle.ranked_faults.specs.Private.FirstMet.{first, first_in, MeetsOr};
 ghost use Rattle.silage_syntax.specs.Tree.{view_func};
 ghost use Rattle.silage_syntax.specs.Names.{decls};
-ghost use Rattle.name_check.specs.Meanings.{names_of};
-ghost use Rattle.name_check.specs.NameRules.{decl_rules, signal_rules};
+ghost use Rattle.source_names.specs.Meanings.{names_of};
+ghost use Rattle.source_names.specs.NameRules.{decl_rules, signal_rules};
 
 use crate::lookups::is_top;
-use crate::name_set::NameSet;
 use crate::sizes::{are_dims, is_signal_type};
-use crate::{NameFault, NameMap};
 use silage_syntax::{Decl, Func};
+use source_names::{NameFault, NameMap, NameSet};
 use std::alloc::Global;
 
 /// Adds the name of a declaration to those of the signals before it.

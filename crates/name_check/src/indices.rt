@@ -4,14 +4,14 @@ ghost use Rattle.std.specs.Prelude.{◌≡◌, map};
 ghost use Rattle.ranked_faults.specs.Rules.{parts, each};
 ghost use Rattle.ranked_faults.specs.Private.FirstMet.{first};
 ghost use Rattle.silage_syntax.specs.Tree.{view_manifest, view_delay};
-ghost use Rattle.name_check.specs.Meanings.{is_among};
-ghost use Rattle.name_check.specs.NameRules.{manifest_rules, delay_rules};
+ghost use Rattle.source_names.specs.Meanings.{is_among};
+ghost use Rattle.source_names.specs.NameRules.{manifest_rules, delay_rules};
 ghost use Rattle.name_check.specs.Private.Views.{index_names, context_of};
 
-use crate::NameFault;
 use crate::context::{Context, Indices};
 use lists::Name;
 use silage_syntax::Manifest;
+use source_names::NameFault;
 
 /// Whether a loop around the place has the index.
 pub(crate) fn has_index(indices: &Indices, name: &Name) -> bool

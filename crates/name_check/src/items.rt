@@ -4,11 +4,10 @@ ghost use Rattle.std.specs.Prelude.{◌≡◌, ◌∷◌, Option, map};
 ghost use Rattle.ranked_faults.specs.Rules.{parts};
 ghost use Rattle.ranked_faults.specs.Private.FirstMet.{first};
 ghost use Rattle.silage_syntax.specs.Tree.{view_manifest, view_item, view_items};
-ghost use Rattle.name_check.specs.NameRules as rules;
-ghost use Rattle.name_check.specs.NameRules.{head_rules, item_rules, items_rules};
+ghost use Rattle.source_names.specs.NameRules as rules;
+ghost use Rattle.source_names.specs.NameRules.{head_rules, item_rules, items_rules};
 ghost use Rattle.name_check.specs.Private.Views.{context_of};
 
-use crate::NameFault;
 use crate::calls::check_call;
 use crate::context::{Context, Indices};
 use crate::expressions::check_expr;
@@ -17,12 +16,13 @@ use crate::lookups::{is_signal, is_top};
 use crate::places::check_target;
 use lists::Name;
 use silage_syntax::{Item, Manifest};
+use source_names::NameFault;
 
 /// Whether an index has a name that nothing else has where the loop is.
 fn is_free_index(context: &Context, index: &Name) -> bool
     ensures { result ≡ rules.is_free_index (context_of context.now) index.now }
 {
-    let is_taken = is_top(context.tops, index)
+    let is_taken = is_top(context.tops.names, index)
         || is_signal(context, index)
         || has_index(context.indices, index);
     !is_taken
@@ -74,7 +74,6 @@ fn check_item(context: &Context, item: &Item) -> Result<(), NameFault>
                 outer: context.indices,
             };
             let inner = Context {
-                program: context.program,
                 tops: context.tops,
                 func: context.func,
                 signals: context.signals,

@@ -1,17 +1,13 @@
-//! Whether the names of a program mean something, and the values of its manifest numbers.
+//! Whether the names of a program mean something.
 #![tactic(auto)]
 
 mod calls;
 mod context;
 mod declarations;
 mod expressions;
-mod fault;
 mod indices;
 mod items;
 mod lookups;
-mod manifests;
-mod name_map;
-mod name_set;
 mod places;
 mod recursion;
 mod sizes;
@@ -20,15 +16,13 @@ mod tops;
 ghost use Rattle.std.specs.Prelude.{◌≡◌, ◌≢◌, ◌<◌, ◌^◌, length, IfOk, OnOk, IfErr};
 ghost use Rattle.ranked_faults.specs.Ranked.{IsClear, IsFirst, AnswersOk, AnswersFault};
 ghost use Rattle.silage_syntax.specs.Tree.{view};
-ghost use Rattle.name_check.specs.TopNames.{top_names};
-ghost use Rattle.name_check.specs.NameFaults.{name_faults, IsMain};
-ghost use Rattle.name_check.specs.declared.fault.NameFault.{NameFault as FaultType};
+ghost use Rattle.source_names.specs.TopNames.{top_names};
+ghost use Rattle.source_names.specs.NameFaults.{name_faults, IsMain};
+ghost use Rattle.source_names.specs.declared.fault.NameFault.{NameFault as FaultType};
 
-pub use fault::{ManifestFault, NameFault};
-pub use manifests::{Env, manifest};
-pub use name_map::{NameMap, Names};
 use recursion::check_recursion;
 use silage_syntax::Program;
+use source_names::{NameFault, NameMap, Names, Tops};
 use std::alloc::Global;
 use tops::{check_tops, main_position};
 
@@ -47,7 +41,13 @@ pub fn check_names(alloc: Global, program: &Program) -> Result<Names, NameFault>
         → AnswersFault NameFault.Memory fault result }
 {
     let tops = NameMap::of(alloc, program)?;
-    check_tops(alloc, program, &tops)?;
+    check_tops(
+        alloc,
+        &Tops {
+            program,
+            names: &tops,
+        },
+    )?;
     check_recursion(alloc, &tops, program)?;
     let main = main_position(program).ok_or(NameFault::NoMain)?;
     Ok(Names { main, tops })

@@ -1,16 +1,16 @@
 //! What a name means where it is used.
 
 ghost use Rattle.std.specs.Prelude.{◌≡◌, option_map, option_copied, slice_get, is_some};
-ghost use Rattle.silage_syntax.specs.Tree.{view_top, view_func};
-ghost use Rattle.silage_syntax.specs.Names.{decls, declared, table_named, function_named};
-ghost use Rattle.name_check.specs.Meanings as meaning;
-ghost use Rattle.name_check.specs.Meanings.{is_among};
-ghost use Rattle.name_check.specs.Private.Views.{context_of, top_named};
+ghost use Rattle.silage_syntax.specs.Tree.{view_func};
+ghost use Rattle.silage_syntax.specs.Names.{decls, declared};
+ghost use Rattle.source_names.specs.Meanings as meaning;
+ghost use Rattle.source_names.specs.Meanings.{is_among};
+ghost use Rattle.name_check.specs.Private.Views.{context_of};
 
-use crate::NameMap;
 use crate::context::Context;
 use lists::Name;
-use silage_syntax::{ConstDef, Decl, Func, Top};
+use silage_syntax::{Decl, Func};
+use source_names::NameMap;
 
 /// The declaration at a position among a function's parameters, results and locals.
 fn signal_at(func: &Func, position: usize) -> Option<&Decl>
@@ -50,32 +50,6 @@ pub(crate) fn is_top(tops: &NameMap, name: &Name) -> bool
     tops.position(name).is_some()
 }
 
-fn top<'a>(context: &Context<'a>, name: &Name) -> Option<&'a Top>
-    ensures { option_map view_top (option_copied result) ≡ top_named (context_of context.now).program name.now }
-{
-    let position = context.tops.position(name)?;
-    context.program.tops.get(position as usize)
-}
-
-fn table<'a>(context: &Context<'a>, name: &Name) -> Option<&'a ConstDef>
-    ensures { option_copied result ≡ table_named (context_of context.now).program name.now }
-{
-    match top(context, name)? {
-        Top::Const(table) => Some(table),
-        Top::Func(_) => None,
-    }
-}
-
-/// The function that has the name.
-pub(crate) fn function<'a>(context: &Context<'a>, name: &Name) -> Option<&'a Func>
-    ensures { option_map view_func (option_copied result) ≡ function_named (context_of context.now).program name.now }
-{
-    match top(context, name)? {
-        Top::Const(_) => None,
-        Top::Func(function) => Some(function),
-    }
-}
-
 /// The dims of the signal that has the name.
 pub(crate) fn signal_dims<'a>(context: &Context<'a>, name: &Name) -> Option<&'a [u32]>
     ensures { option_copied result ≡ meaning.signal_dims (context_of context.now) name.now }
@@ -89,6 +63,6 @@ pub(crate) fn read_dims<'a>(context: &Context<'a>, name: &Name) -> Option<&'a [u
 {
     match signal_dims(context, name) {
         Some(dims) => Some(dims),
-        None => Some(&table(context, name)?.dims),
+        None => Some(&context.tops.table(name)?.dims),
     }
 }

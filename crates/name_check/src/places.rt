@@ -3,15 +3,15 @@
 ghost use Rattle.std.specs.Prelude.{◌≡◌, map, option_copied, option_map};
 ghost use Rattle.ranked_faults.specs.Private.FirstMet.{first};
 ghost use Rattle.silage_syntax.specs.Tree.{view_manifest, view_place};
-ghost use Rattle.name_check.specs.Meanings as meaning;
-ghost use Rattle.name_check.specs.NameRules.{place_rules, target_rules};
+ghost use Rattle.source_names.specs.Meanings as meaning;
+ghost use Rattle.source_names.specs.NameRules.{place_rules, target_rules};
 ghost use Rattle.name_check.specs.Private.Views.{context_of};
 
-use crate::NameFault;
 use crate::context::Context;
 use crate::indices::check_subscripts;
 use crate::lookups::signal_dims;
 use silage_syntax::{Decl, Manifest, Place};
+use source_names::NameFault;
 
 /// Whether the subscripts pick one element of an array with these dims.
 pub(crate) fn is_element(subs: &[Manifest], dims: &[u32]) -> bool

@@ -2,17 +2,16 @@
 
 ghost use Rattle.std.specs.Prelude.{◌≡◌, ◌≢◌, ◌++◌, ◌<◌, ◌^◌, length, IfOk, OnOk, IfErr};
 ghost use Rattle.silage_syntax.specs.Tree.{view, view_top, view_item, view_items};
-ghost use Rattle.name_check.specs.TopNames.{top_names};
-ghost use Rattle.name_check.specs.Calls.{called, all_called, called_by, Calls};
+ghost use Rattle.source_names.specs.TopNames.{top_names};
+ghost use Rattle.source_names.specs.Calls.{called, all_called, called_by, Calls};
 ghost use Rattle.digraph.specs.Arcs.{HasNoCycle};
-ghost use Rattle.name_check.specs.Private.CallLists.{places, call_lists};
-ghost use Rattle.name_check.specs.Private.FirstTops.{IsRecursive};
+ghost use Rattle.source_names.specs.Private.CallLists.{places, call_lists};
+ghost use Rattle.source_names.specs.FirstTops.{IsRecursive};
 
-use crate::NameFault;
-use crate::name_map::{NameMap, top_at};
 use digraph::first_cyclic;
 use lists::List;
 use silage_syntax::{Item, Program, Top};
+use source_names::{NameFault, NameMap, top_at};
 use std::alloc::{AllocError, AllocFailed, Global};
 
 /// Adds the positions of what an item calls.

@@ -4,18 +4,16 @@ ghost use Rattle.std.specs.Prelude.{◌≡◌, ◌<◌, ◌^◌, length, None, M
 ghost use Rattle.ranked_faults.specs.Private.FirstMet.{first, MeetsOr};
 ghost use Rattle.silage_syntax.specs.Tree.{view, view_top, view_func};
 ghost use Rattle.silage_syntax.specs.Names.{main_of};
-ghost use Rattle.name_check.specs.TopNames.{top_names};
-ghost use Rattle.name_check.specs.NameRules.{table_rules, function_rules, top_rules, all_top_rules};
-ghost use Rattle.name_check.specs.NameFaults.{IsMain};
-ghost use Rattle.name_check.specs.Private.FirstTops as first_top;
-ghost use Rattle.name_check.specs.Private.FirstTops.{IsDistinct};
+ghost use Rattle.source_names.specs.NameRules.{table_rules, function_rules, top_rules, all_top_rules};
+ghost use Rattle.source_names.specs.NameFaults.{IsMain};
+ghost use Rattle.source_names.specs.FirstTops as first_top;
 
 use crate::context::{Context, Indices};
 use crate::declarations::signals_of;
 use crate::items::check_items;
 use crate::sizes::{element_count, is_fix_type};
-use crate::{NameFault, NameMap};
 use silage_syntax::{ConstDef, Func, Program, Top};
+use source_names::{NameFault, Tops};
 use std::alloc::Global;
 
 fn check_table(table: &ConstDef) -> Result<(), NameFault>
@@ -31,20 +29,13 @@ fn check_table(table: &ConstDef) -> Result<(), NameFault>
     Ok(())
 }
 
-fn check_function(
-    alloc: Global,
-    program: &Program,
-    tops: &NameMap,
-    func: &Func,
-) -> Result<(), NameFault>
-    requires named { tops.now ≡ top_names (view program.now) }
-    requires apart { IsDistinct (top_names (view program.now)) }
-    ensures { MeetsOr NameFault.Memory (first (function_rules (view program.now) (view_func func.now))) result }
+fn check_function(alloc: Global, tops: &Tops, func: &Func) -> Result<(), NameFault>
+    ensures { let p = view tops.now.program.now in
+        MeetsOr NameFault.Memory (first (function_rules p (view_func func.now))) result }
 {
-    let signals = signals_of(alloc, tops, func)?;
+    let signals = signals_of(alloc, tops.names, func)?;
     let context = Context {
-        program,
-        tops,
+        tops: *tops,
         func,
         signals: &signals,
         indices: &Indices::Outermost,
@@ -52,25 +43,21 @@ fn check_function(
     check_items(&context, &func.items)
 }
 
-fn check_top(alloc: Global, program: &Program, tops: &NameMap, top: &Top) -> Result<(), NameFault>
-    requires named { tops.now ≡ top_names (view program.now) }
-    requires apart { IsDistinct (top_names (view program.now)) }
-    ensures { MeetsOr NameFault.Memory (first (top_rules (view program.now) (view_top top.now))) result }
+fn check_top(alloc: Global, tops: &Tops, top: &Top) -> Result<(), NameFault>
+    ensures { MeetsOr NameFault.Memory (first (top_rules (view tops.now.program.now) (view_top top.now))) result }
 {
     match top {
         Top::Const(table) => check_table(table),
-        Top::Func(func) => check_function(alloc, program, tops, func),
+        Top::Func(func) => check_function(alloc, tops, func),
     }
 }
 
 /// The inside of each table and function.
-pub(crate) fn check_tops(alloc: Global, program: &Program, tops: &NameMap) -> Result<(), NameFault>
-    requires named { tops.now ≡ top_names (view program.now) }
-    requires apart { IsDistinct (top_names (view program.now)) }
-    ensures { MeetsOr NameFault.Memory (first (all_top_rules (view program.now))) result }
+pub(crate) fn check_tops(alloc: Global, tops: &Tops) -> Result<(), NameFault>
+    ensures { MeetsOr NameFault.Memory (first (all_top_rules (view tops.now.program.now))) result }
 {
-    for top in program.tops.as_slice() {
-        check_top(alloc, program, tops, top)?;
+    for top in tops.program.tops.as_slice() {
+        check_top(alloc, tops, top)?;
     }
     Ok(())
 }

@@ -1,10 +1,10 @@
 use Rattle.silage_syntax.specs.Tree.{view}
-use Rattle.fix_types.proofs.SoundNames.{apart}
+use Rattle.typed_source.proofs.SoundNames.{apart}
 use Rattle.fix_types.proofs.TypeAnswers.{all_sound, says_ok, says_fault, says_typed, says_values, each_ok, each_fault}
 use Rattle.fix_types.proofs.check_types.Goals as goal
 
-pub typed_tops-requires-clause-apart : goal.typed_tops-requires-clause-apart
-typed_tops-requires-clause-apart c = apart (view c.args.program.now) c.requires.clear
+pub invariant_of-tops-clause-apart : goal.invariant_of-tops-clause-apart
+invariant_of-tops-clause-apart c = apart (view c.args.program.now) c.requires.clear
 
 pub typed_tops-requires-clause-sound : goal.typed_tops-requires-clause-sound
 typed_tops-requires-clause-sound c = all_sound (view c.args.program.now) c.requires.clear c.requires.numbers

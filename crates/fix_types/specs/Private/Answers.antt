@@ -8,15 +8,15 @@ use Rattle.fix_word.specs.declared.types.SigType.{SigType}
 use Rattle.silage_syntax.specs.declared.tree.BinOp.{BinOp}
 use Rattle.silage_syntax.specs.declared.tree.BinOp.TheVariants as op
 use Rattle.silage_syntax.specs.Tree.{Expr, Branches, Item, Items, Func, Top, table, function, Program}
-use Rattle.fix_types.specs.TypeRules.{expr_rules, branch_rules, item_rules, items_rules, top_rules}
-use Rattle.fix_types.specs.TypedTree.{TypedExpr, Typed, view_expr, view_item, view_items, view_typed}
-use Rattle.fix_types.specs.Translation.{typed_expr, typed_item, typed_items, typed_table, typed_func}
+use Rattle.typed_source.specs.TypeRules.{expr_rules, branch_rules, item_rules, items_rules, top_rules}
+use Rattle.typed_source.specs.TypedTree.{TypedExpr, Typed, view_expr, view_item, view_items, view_typed}
+use Rattle.typed_source.specs.Translation.{typed_expr, typed_item, typed_items, typed_table, typed_func}
 use Rattle.fix_types.specs.Private.Choosing.{view_pairs, typed_pairs}
-use Rattle.fix_types.specs.declared.fault.TypeFault.{TypeFault}
-use Rattle.fix_types.specs.declared.fault.TypeFault.TheVariants.{Memory}
-use Rattle.fix_types.specs.declared.typed.TypedExpr.{TypedExpr as RustExpr}
-use Rattle.fix_types.specs.declared.typed.TypedItem.{TypedItem as RustItem}
-use Rattle.fix_types.specs.declared.typed.Typed.{Typed as RustTyped}
+use Rattle.typed_source.specs.declared.fault.TypeFault.{TypeFault}
+use Rattle.typed_source.specs.declared.fault.TypeFault.TheVariants.{Memory}
+use Rattle.typed_source.specs.declared.typed.TypedExpr.{TypedExpr as RustExpr}
+use Rattle.typed_source.specs.declared.typed.TypedItem.{TypedItem as RustItem}
+use Rattle.typed_source.specs.declared.typed.Typed.{Typed as RustTyped}
 
 -- the call, which takes no memory, answers as a table is met
 abbrev pub Meets : {A : Type 0} → Rules TypeFault → Result A TypeFault → Type 0
@@ -36,8 +36,12 @@ abbrev pub Types : Program → Func → Expr → SigType → Result RustExpr Typ
 Types p f x ty r = Gives (expr_rules p f x ty) (typed_expr p f x ty) r
 
 -- the same of branches, as pairs of a condition and a value
-abbrev pub TypesPairs : Program → Func → Branches → SigType
-    → Result (Vec (RustExpr × RustExpr) Global) TypeFault → Type 0
+abbrev pub TypesPairs : Program
+    → Func
+    → Branches
+    → SigType
+    → Result (Vec (RustExpr × RustExpr) Global) TypeFault
+    → Type 0
 TypesPairs p f branches ty r =
     GivesAs (λ (pairs : Vec (RustExpr × RustExpr) Global). view_pairs pairs.items)
     (parts (branch_rules p f branches ty)) (typed_pairs p f ty branches) r

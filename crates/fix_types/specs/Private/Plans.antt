@@ -9,12 +9,12 @@ use Rattle.fix_word.specs.declared.operation.Op.TheVariants as does
 use Rattle.silage_syntax.specs.declared.tree.BinOp.{BinOp}
 use Rattle.silage_syntax.specs.declared.tree.BinOp.TheVariants as op
 use Rattle.silage_syntax.specs.Tree.{Expr, binary, Func, Program}
-use Rattle.fix_types.specs.TypeRules.{expr_rules}
-use Rattle.fix_types.specs.TypedTree.{TypedExpr, node}
-use Rattle.fix_types.specs.Translation.{typed_expr, two}
-use Rattle.fix_types.specs.declared.fault.TypeFault.{TypeFault}
+use Rattle.typed_source.specs.TypeRules.{expr_rules}
+use Rattle.typed_source.specs.TypedTree.{TypedExpr, node}
+use Rattle.typed_source.specs.Translation.{typed_expr, two}
+use Rattle.typed_source.specs.declared.fault.TypeFault.{TypeFault}
 use Rattle.fix_types.specs.declared.plans.Plan.{Plan}
-use Rattle.fix_types.specs.Private.Sound.{IsSoundType}
+use Rattle.typed_source.specs.Private.Sound.{IsSoundType}
 
 abbrev pub plan_of : (left right : SigType) → Op → Format → (turned : Bool) → Plan
 plan_of left right op fmt turned = record { left = left; right = right; op = op; fmt = fmt; turned = turned }
@@ -45,8 +45,14 @@ pub record IsPlan (p : Program) (f : Func) (x y : Expr) (rules : Rules TypeFault
   pub right : IsSoundType plan.right
 
 -- the call answers the plan, or the fault of the operator's own
-abbrev pub Plans : Program → Func → (at : ℕ) → BinOp → (x y : Expr) → (wanted : SigType)
-    → Result Plan TypeFault → Type 0
+abbrev pub Plans : Program
+    → Func
+    → (at : ℕ)
+    → BinOp
+    → (x y : Expr)
+    → (wanted : SigType)
+    → Result Plan TypeFault
+    → Type 0
 Plans p f at o x y ty (Ok plan) =
     IsPlan p f x y (expr_rules p f (binary at o x y) ty) (typed_expr p f (binary at o x y) ty) plan
 Plans p f at o x y ty (Err fault) = first (expr_rules p f (binary at o x y) ty) ≡ Err fault

@@ -1,11 +1,12 @@
 -- The elements of the flat program, before and after facts are put into them.
-use Rattle.std.specs.Prelude.{◌≡◌, ℕ, zero, suc, ◌+◌, ◌&&◌, nat_eq, nat_lt, List, [], ◌∷◌, ◌++◌, map, if◌then◌else◌, Option, Some, None, ℤ, pos}
+use Rattle.std.specs.Prelude.{◌≡◌, ℕ, zero, suc, ◌+◌, ◌&&◌, nat_eq, nat_lt, List, [], ◌∷◌, ◌++◌, map, if◌then◌else◌}
+use Rattle.std.specs.Prelude.{Option, Some, None, ℤ, pos}
 use Rattle.std.specs.List.{range_with_len}
 use Rattle.fix_word.specs.declared.types.SigType.{SigType}
 use Rattle.silage_meaning.specs.Types.{word_types}
-use Rattle.single_def.specs.declared.elements.Instance.{Instance}
-use Rattle.single_def.specs.ElementRules.{elements_of}
-use Rattle.fix_types.specs.TypedTree.{TypedFunc}
+use Rattle.source_elements.specs.declared.elements.Instance.{Instance}
+use Rattle.source_elements.specs.ElementRules.{elements_of}
+use Rattle.typed_source.specs.TypedTree.{TypedFunc}
 use Rattle.signal_graph.specs.Flat as flat
 use Rattle.signal_graph.specs.declared.flat.FlatElem.{FlatElem}
 use Rattle.loop_expand.specs.Private.Facts.{Fact, defines, presets}

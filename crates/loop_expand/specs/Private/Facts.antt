@@ -1,15 +1,16 @@
 -- What the items of an instance say of the elements with their numbers: their values, and their words before sample 0.
-use Rattle.std.specs.Prelude.{◌≡◌, IsTrue, ℕ, ◌+◌, ◌*◌, nat_eq, List, [], ◌∷◌, ◌++◌, map, length, find, bytes_eq, if◌then◌else◌, slice_get, slice_index_or, Option, Some, None, ℤ, pos, negsuc, ◌*ℤ◌}
+use Rattle.std.specs.Prelude.{◌≡◌, IsTrue, ℕ, ◌+◌, ◌*◌, nat_eq, List, [], ◌∷◌, ◌++◌, map, length, find, bytes_eq}
+use Rattle.std.specs.Prelude.{if◌then◌else◌, slice_get, slice_index_or, Option, Some, None, ℤ, pos, negsuc, ◌*ℤ◌}
 use Rattle.std.specs.List.{range_with_len}
 use Rattle.fix_word.specs.declared.types.Format.{Format}
 use Rattle.silage_syntax.specs.Tree.{Manifest, Place}
 use Rattle.silage_syntax.specs.Manifests.{Indices, manifest_value}
 use Rattle.silage_syntax.specs.Names.{element_count}
-use Rattle.name_check.specs.Meanings.{are_dims}
+use Rattle.source_names.specs.Meanings.{are_dims}
 use Rattle.silage_meaning.specs.Instances.{turns_of}
-use Rattle.single_def.specs.declared.elements.Instance.{Instance}
-use Rattle.fix_types.specs.declared.typed.TypedConst.{TypedConst}
-use Rattle.fix_types.specs.TypedTree as typed
+use Rattle.source_elements.specs.declared.elements.Instance.{Instance}
+use Rattle.typed_source.specs.declared.typed.TypedConst.{TypedConst}
+use Rattle.typed_source.specs.TypedTree as typed
 use Rattle.signal_graph.specs.Flat as flat
 use Rattle.loop_expand.specs.Private.Children.{child_of}
 use Rattle.loop_expand.specs.Private.Groups.{Group}

@@ -1,10 +1,11 @@
 -- What is known where items are expanded: the names in them have their meanings there.
-use Rattle.std.specs.Prelude.{◌≡◌, ◌<◌, ◌≤◌, ℕ, ◌+◌, List, length, slice_get, slice_index_or, Option, Some, None, IsSome, ⊤}
+use Rattle.std.specs.Prelude.{◌≡◌, ◌<◌, ◌≤◌, ℕ, ◌+◌, List, length, slice_get, slice_index_or, Option, Some, None}
+use Rattle.std.specs.Prelude.{IsSome, ⊤}
 use Rattle.silage_syntax.specs.Tree.{Manifest, Place}
 use Rattle.silage_syntax.specs.Names.{element_count, IsOffset}
-use Rattle.fix_types.specs.declared.typed.TypedConst.{TypedConst}
+use Rattle.typed_source.specs.declared.typed.TypedConst.{TypedConst}
 use Rattle.silage_syntax.specs.Manifests.{Indices, LooksBack}
-use Rattle.fix_types.specs.TypedTree as typed
+use Rattle.typed_source.specs.TypedTree as typed
 use Rattle.loop_expand.specs.Private.Amounts.{IsKnownAmount}
 use Rattle.loop_expand.specs.Private.Facts.{signal_named, typed_named, number_at}
 use Rattle.loop_expand.specs.Private.Scopes.{Signal, Body, Scope, total}

@@ -1,15 +1,16 @@
 -- What the code knows where it expands an instance.
-use Rattle.std.specs.Prelude.{◌≡◌, ◌≤◌, ℕ, ◌+◌, nat_eq, slice_get, IsTrue, IsSome, Bool, if◌then◌else◌, List, [], ◌∷◌, ◌++◌, map, find, Option, Some, None}
+use Rattle.std.specs.Prelude.{◌≡◌, ◌≤◌, ℕ, ◌+◌, nat_eq, slice_get, IsTrue, IsSome, Bool, if◌then◌else◌, List, [], ◌∷◌}
+use Rattle.std.specs.Prelude.{◌++◌, map, find, Option, Some, None}
 use Rattle.std.specs.List.{list_any}
 use Rattle.silage_syntax.specs.declared.tree.Decl.{Decl}
 use Rattle.silage_syntax.specs.Names.{element_count}
-use Rattle.single_def.specs.ElementRules.{elements_of}
-use Rattle.single_def.specs.declared.elements.Instance.{Instance}
-use Rattle.fix_types.specs.declared.typed.TypedConst.{TypedConst}
-use Rattle.fix_types.specs.TypedTree.{TypedFunc, view_func}
+use Rattle.source_elements.specs.ElementRules.{elements_of}
+use Rattle.source_elements.specs.declared.elements.Instance.{Instance}
+use Rattle.typed_source.specs.declared.typed.TypedConst.{TypedConst}
+use Rattle.typed_source.specs.TypedTree.{TypedFunc, view_func}
 use Rattle.loop_expand.specs.declared.body.Signal.{Signal as RustSignal}
 use Rattle.loop_expand.specs.declared.body.Body.{Body as RustBody}
-use Rattle.single_def.specs.Private.Plans.{AreSized}
+use Rattle.source_elements.specs.Sizes.{AreSized}
 use Rattle.loop_expand.specs.Private.Sizes.{decls_of}
 use Rattle.loop_expand.specs.Private.Groups.{Group, view_groups, HaveBounds, groups_of}
 

@@ -1,9 +1,10 @@
 -- Turns of loops inside each other.
-use Rattle.std.specs.Prelude.{◌≡◌, ◌<◌, ℕ, ℤ, pos, List, [], ◌∷◌, ◌++◌, map, length, slice_get, slice_index_or, Some, IsSome, ⊤}
+use Rattle.std.specs.Prelude.{◌≡◌, ◌<◌, ℕ, ℤ, pos, List, [], ◌∷◌, ◌++◌, map, length, slice_get, slice_index_or, Some}
+use Rattle.std.specs.Prelude.{IsSome, ⊤}
 use Rattle.std.specs.List.{range_with_len}
 use Rattle.silage_syntax.specs.Tree.{Manifest}
 use Rattle.silage_syntax.specs.Manifests.{Indices, manifest_value}
-use Rattle.single_def.specs.ElementRules.{loop_turns}
+use Rattle.source_elements.specs.ElementRules.{loop_turns}
 use Rattle.loop_expand.specs.declared.columns.Column.{Column as RustColumn}
 use Rattle.loop_expand.specs.declared.columns.Turns.{Turns}
 use Rattle.loop_expand.specs.declared.columns.InnerTurn.{InnerTurn}

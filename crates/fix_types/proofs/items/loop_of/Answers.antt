@@ -1,4 +1,4 @@
-use Rattle.fix_types.proofs.TypedRows.{view_Loop}
+use Rattle.typed_source.proofs.TypedRows.{view_Loop}
 use Rattle.fix_types.proofs.items.loop_of.Goals as goal
 
 pub returns : goal.returns

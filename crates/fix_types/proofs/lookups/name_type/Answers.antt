@@ -9,7 +9,8 @@ returns-in-Some-clause-sound c =
     let p = program_of scope in
     let f = function_of scope in
     found_sound p f c.args.name.now scope.sound c.in-Some.ty
-    (signal_found p f c.args.name.now c.get.result c.in-Some.ty (c.get.ensures ∙ scope.declared c.args.name.now) c.in-Some.is)
+    (signal_found p f c.args.name.now c.get.result c.in-Some.ty (c.get.ensures ∙ scope.declared c.args.name.now)
+    c.in-Some.is)
 
 pub returns-in_ok-table-in-None-clause-sound : goal.returns-in_ok-table-in-None-clause-sound
 returns-in_ok-table-in-None-clause-sound c =
@@ -17,5 +18,6 @@ returns-in_ok-table-in-None-clause-sound c =
     let p = program_of scope in
     let f = function_of scope in
     found_sound p f c.args.name.now scope.sound _
-    (table_found p f c.args.name.now c.get.result (Some c.in_ok-table-in-None.field-0.now) (c.get.ensures ∙ scope.declared c.args.name.now) c.in-None.is
+    (table_found p f c.args.name.now c.get.result (Some c.in_ok-table-in-None.field-0.now)
+    (c.get.ensures ∙ scope.declared c.args.name.now) c.in-None.is
     c.in_ok-table-in-None.ensures)

@@ -1,4 +1,4 @@
-use Rattle.fix_types.proofs.TypedRows.{view_Node}
+use Rattle.typed_source.proofs.TypedRows.{view_Node}
 use Rattle.fix_types.proofs.nodes.node.Goals as goal
 
 pub returns : goal.returns

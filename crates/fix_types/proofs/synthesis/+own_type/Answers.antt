@@ -20,7 +20,8 @@ returns-in-Some-own_type-clause-is t c =
     let arms = c.as_slice-arms.result.now in
     let last = c.in-Choose.last.value in
     ap (λ o. option_or o (meaning.own_type p f (view_expr last)))
-    (found_in p f arms c.loop-arm.arm-index c.loop-arm.invariant.same c.arm-item.result c.in-Some-own_type.ty c.loop-arm-test.true c.arm-item.is c.in-Some-own_type.ensures.is)
+    (found_in p f arms c.loop-arm.arm-index c.loop-arm.invariant.same c.arm-item.result c.in-Some-own_type.ty
+    c.loop-arm-test.true c.arm-item.is c.in-Some-own_type.ensures.is)
     ∙ sym (choice_type c.args.e.now c.in-Choose.field-0 c.in-Choose.arms c.in-Choose.last c.in-Choose.is
     arms last c.as_slice-arms.ensures.value refl p f)
 
@@ -31,6 +32,7 @@ returns-after-loop-arm-clause-is t c =
     let arms = c.as_slice-arms.result.now in
     let last = c.deref-in-Choose.result.now in
     c.own_type-in-Choose.ensures.is
-    ∙ ap (λ o. option_or o (meaning.own_type p f (view_expr last))) (none_in p f arms c.loop-arm.arm-index c.loop-arm.invariant.same c.loop-arm-test.false)
+    ∙ ap (λ o. option_or o (meaning.own_type p f (view_expr last)))
+    (none_in p f arms c.loop-arm.arm-index c.loop-arm.invariant.same c.loop-arm-test.false)
     ∙ sym (choice_type c.args.e.now c.in-Choose.field-0 c.in-Choose.arms c.in-Choose.last c.in-Choose.is
     arms last c.as_slice-arms.ensures.value c.deref-in-Choose.ensures p f)

@@ -1,7 +1,7 @@
 use Rattle.silage_syntax.specs.Tree.{view}
-use Rattle.fix_types.specs.TypedTree.{view_typed}
+use Rattle.typed_source.specs.TypedTree.{view_typed}
 use Rattle.fix_types.proofs.TopSteps.{HasTyped}
 use Rattle.fix_types.proofs.tops.typed_tops.Given as goal
 
 abbrev pub invariant-loop-at : goal.invariant-loop-at
-invariant-loop-at l = HasTyped (view l.program) l.at (view_typed l.typed)
+invariant-loop-at l = HasTyped (view l.tops.program.now) l.at (view_typed l.typed)

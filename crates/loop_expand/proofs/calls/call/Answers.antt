@@ -1,6 +1,6 @@
 use Rattle.std.proofs.Common.{map}
 use Rattle.silage_syntax.specs.Tree.{view_place}
-use Rattle.fix_types.specs.TypedTree as typed
+use Rattle.typed_source.specs.TypedTree as typed
 use Rattle.loop_expand.specs.Private.Views.{view_scope}
 use Rattle.loop_expand.proofs.KnownItems.{call_known}
 use Rattle.loop_expand.proofs.Sites.{call_of, child_there}
@@ -20,4 +20,5 @@ bind-requires-clause-known c =
     let places = map view_place c.args.places.now in
     let args = map typed.view_expr c.args.args.now in
     let (func, is) = c.requires.of in
-    call_known scope c.args.env.now places args c.args.at (call_of scope c.args.env.now places func args c.args.at is) c.child-child.result c.child-child.ensures.is
+    call_known scope c.args.env.now places args c.args.at (call_of scope c.args.env.now places func args c.args.at is)
+    c.child-child.result c.child-child.ensures.is

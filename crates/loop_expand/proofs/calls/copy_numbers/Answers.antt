@@ -11,8 +11,17 @@ pub loop-k-preserved : goal.loop-k-preserved
 loop-k-preserved c =
     let fits : SFits w64 c.word_at.result = search rules in
     let step = simp (to_z-of_z, fits) at c.define.ensures in
-    next_fact (λ (k : ℕ). defines (c.args.to + k) (flat.raw (word_at c.args.table.now k))) c.args.count c.loop-k.k (view_elems c.loop-k.elems) _ _ (omega arith)
-    (step ∙ ap (λ (z : ℤ). with_fact (defines (c.args.to + c.loop-k.k) (flat.raw z)) (view_elems c.loop-k.elems)) c.word_at.ensures) c.loop-k.invariant
+    next_fact (λ (k : ℕ). defines (c.args.to + k) (flat.raw (word_at c.args.table.now k))) c.args.count c.loop-k.k
+    (view_elems c.loop-k.elems) _ _ (omega arith)
+    (step
+    ∙ ap (λ (z : ℤ). with_fact (defines (c.args.to + c.loop-k.k) (flat.raw z)) (view_elems c.loop-k.elems))
+    c.word_at.ensures) c.loop-k.invariant
 
 pub define-requires : goal.define-requires
-define-requires c = omega (arith, facts_as_many (λ (k : ℕ). defines (c.args.to + k) (flat.raw (word_at c.args.table.now k))) c.args.count c.loop-k.k c.loop-k.elems c.args.elems.now c.loop-k.invariant, c.requires.to)
+define-requires c =
+    omega (
+      arith,
+      facts_as_many (λ (k : ℕ). defines (c.args.to + k) (flat.raw (word_at c.args.table.now k))) c.args.count
+          c.loop-k.k c.loop-k.elems c.args.elems.now c.loop-k.invariant,
+      c.requires.to,
+    )

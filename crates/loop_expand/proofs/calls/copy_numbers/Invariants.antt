@@ -7,5 +7,7 @@ use Rattle.loop_expand.proofs.calls.copy_numbers.Given as goal
 
 abbrev pub invariant-loop-k : goal.invariant-loop-k
 invariant-loop-k l =
-    with_facts (map (λ (k : ℕ). defines (l.to + k) (flat.raw (word_at l.table k))) (range_with_len (0 + l.k) (l.count - l.k))) (view_elems l.elems)
+    with_facts
+    (map (λ (k : ℕ). defines (l.to + k) (flat.raw (word_at l.table k))) (range_with_len (0 + l.k) (l.count - l.k)))
+    (view_elems l.elems)
     ≡ with_facts (numbers l.to l.table l.count) (view_elems l.fn.elems)

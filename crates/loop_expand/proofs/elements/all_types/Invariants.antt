@@ -5,4 +5,5 @@ use Rattle.loop_expand.proofs.elements.all_types.Given as goal
 
 abbrev pub invariant-loop-instance : goal.invariant-loop-instance
 invariant-loop-instance l =
-    l.types ++ types_of (view_bodies l.bodies) (drop l.instance-index l.instances) ≡ types_of (view_bodies l.bodies) l.instances
+    l.types ++ types_of (view_bodies l.bodies) (drop l.instance-index l.instances)
+    ≡ types_of (view_bodies l.bodies) l.instances

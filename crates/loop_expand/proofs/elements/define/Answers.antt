@@ -6,4 +6,5 @@ use Rattle.loop_expand.proofs.elements.define.Goals as goal
 
 pub returns : goal.returns
 returns c =
-    changed_at (with_value (view_expr c.args.value)) c.args.elem c.args.elems.now c.index-elems-elem.result c.set_value.new.elem (omega arith) c.set_value.ensures
+    changed_at (with_value (view_expr c.args.value)) c.args.elem c.args.elems.now c.index-elems-elem.result
+    c.set_value.new.elem (omega arith) c.set_value.ensures

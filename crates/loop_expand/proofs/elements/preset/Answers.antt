@@ -6,4 +6,6 @@ use Rattle.loop_expand.proofs.elements.preset.Goals as goal
 
 pub returns : goal.returns
 returns c =
-    on_ok c.set_init.result (changed_at (with_init c.args.sample c.args.word) c.args.elem c.args.elems.now c.index-elems-elem.result c.set_init.new.elem (omega arith)) (simp (to_z-of_z, c.ranges.word) at c.set_init.ensures)
+    on_ok c.set_init.result
+    (changed_at (with_init c.args.sample c.args.word) c.args.elem c.args.elems.now c.index-elems-elem.result
+    c.set_init.new.elem (omega arith)) (simp (to_z-of_z, c.ranges.word) at c.set_init.ensures)

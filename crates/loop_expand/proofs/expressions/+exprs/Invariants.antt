@@ -1,5 +1,5 @@
 use Rattle.std.proofs.Common.{◌≡◌, drop, map}
-use Rattle.fix_types.specs.TypedTree as typed
+use Rattle.typed_source.specs.TypedTree as typed
 use Rattle.signal_graph.specs.Flat as flat
 use Rattle.loop_expand.specs.Private.Facts.{flat_parts}
 use Rattle.loop_expand.specs.Private.Rows.{parts_after, typed_exprs}
@@ -9,7 +9,8 @@ use Rattle.loop_expand.proofs.expressions.+exprs.Given as goal
 
 abbrev pub invariant-flat_parts-loop-part : goal.invariant-flat_parts-loop-part
 invariant-flat_parts-loop-part l =
-    parts_after (map flat.view_expr l.flats.items) (flat_parts (view_scope l.scope) l.env (typed_exprs (drop l.part-index l.parts)))
+    parts_after (map flat.view_expr l.flats.items)
+    (flat_parts (view_scope l.scope) l.env (typed_exprs (drop l.part-index l.parts)))
     ≡ flat_parts (view_scope l.scope) l.env (typed_exprs l.parts)
 
 abbrev pub decreases-flat : goal.decreases-flat

@@ -11,5 +11,8 @@ word_at-requires c =
     let sized = c.args.scope.now.sized c.args.place.now.name t (sym c.table-table.ensures) in
     let (k, placed) = c.requires.placed t (sym c.table-table.ensures) in
     let below = offset_below c.args.env.now t.dims (view_place c.args.place.now).subs k placed in
-    let place = c.offset.ensures ∙ ap₂ (λ (dims : List ℕ) (subs : List Manifest). offset c.args.env.now dims (map view_manifest subs)) c.deref.ensures c.deref-2.ensures in
+    let place =
+    c.offset.ensures
+    ∙ ap₂ (λ (dims : List ℕ) (subs : List Manifest). offset c.args.env.now dims (map view_manifest subs))
+    c.deref.ensures c.deref-2.ensures in
     omega (arith, sized.words, place, below)

@@ -11,7 +11,9 @@ overflow_add-result-in-Some c =
     let s = view_signal c.in-Some.signal in
     let (k, placed, less) = c.requires s (sym c.in-Some.ensures) in
     let place =
-    c.offset-offset.ensures ∙ ap₂ (λ (dims : List ℕ) (subs : List Manifest). offset c.args.env.now dims (map view_manifest subs)) c.deref.ensures c.deref-in-Some.ensures
+    c.offset-offset.ensures
+    ∙ ap₂ (λ (dims : List ℕ) (subs : List Manifest). offset c.args.env.now dims (map view_manifest subs))
+    c.deref.ensures c.deref-in-Some.ensures
     ∙ offset_is c.args.env.now s.decl.dims (view_place c.args.place.now).subs k placed in
     omega (arith, less, place, c.args.scope.now.few)
 
@@ -20,6 +22,8 @@ returns-in-Some-clause-within c =
     let s = view_signal c.in-Some.signal in
     let (k, placed, less) = c.requires s (sym c.in-Some.ensures) in
     let place =
-    c.offset-offset.ensures ∙ ap₂ (λ (dims : List ℕ) (subs : List Manifest). offset c.args.env.now dims (map view_manifest subs)) c.deref.ensures c.deref-in-Some.ensures
+    c.offset-offset.ensures
+    ∙ ap₂ (λ (dims : List ℕ) (subs : List Manifest). offset c.args.env.now dims (map view_manifest subs))
+    c.deref.ensures c.deref-in-Some.ensures
     ∙ offset_is c.args.env.now s.decl.dims (view_place c.args.place.now).subs k placed in
     omega (arith, less, place)

@@ -6,5 +6,6 @@ abbrev pub invariant-loop-instance : goal.invariant-loop-instance
 invariant-loop-instance l = record {
   rest : l.firsts.items ++ firsts_from (view_bodies l.bodies) l.next (drop l.instance-index l.instances)
       ≡ firsts_from (view_bodies l.bodies) 0 l.instances;
-  few : l.next + total_of (view_bodies l.bodies) (drop l.instance-index l.instances) ≡ total_of (view_bodies l.bodies) l.instances;
+  few : l.next + total_of (view_bodies l.bodies) (drop l.instance-index l.instances)
+      ≡ total_of (view_bodies l.bodies) l.instances;
 }

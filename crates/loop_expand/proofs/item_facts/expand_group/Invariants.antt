@@ -9,5 +9,7 @@ use Rattle.loop_expand.proofs.item_facts.expand_group.Given as goal
 
 abbrev pub invariant-loop-k : goal.invariant-loop-k
 invariant-loop-k l =
-    with_facts (joined (turn_facts (view_scope l.scope) (map view_ref l.group.items.items)) (map (indices_at l.group.turns) (range_with_len (0 + l.k) (l.group.turns.count - l.k)))) (view_elems l.elems)
+    with_facts
+    (joined (turn_facts (view_scope l.scope) (map view_ref l.group.items.items))
+    (map (indices_at l.group.turns) (range_with_len (0 + l.k) (l.group.turns.count - l.k)))) (view_elems l.elems)
     ≡ with_facts (group_facts (view_scope l.scope) (view_group l.group)) (view_elems l.fn.elems)

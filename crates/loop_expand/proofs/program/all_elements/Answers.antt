@@ -20,4 +20,12 @@ expand_all-requires-clause-elements c =
     let types = all_typed c.args.tables.now (view_bodies c.args.bodies.now) c.args.instances.now c.requires.of in
     let begun = ap length c.in_ok-elems.ensures in
     let first = first_long c.args.inputs 0 c.deref.result.now in
-    omega (arith, types, begun, first, map_long view_elem c.in_ok-elems.elems.items, ap length c.deref.ensures, ap length c.in_ok-types.ensures)
+    omega (
+      arith,
+      types,
+      begun,
+      first,
+      map_long view_elem c.in_ok-elems.elems.items,
+      ap length c.deref.ensures,
+      ap length c.in_ok-types.ensures,
+    )

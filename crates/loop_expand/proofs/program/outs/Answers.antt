@@ -1,5 +1,5 @@
 use Rattle.std.proofs.Common.{◌+◌, ◌++◌, ◌∷◌, [], sym, ◌∙◌, ap, List, ℕ}
-use Rattle.loop_expand.proofs.FactSteps.{range_more}
+use Rattle.lists.proofs.Ranges.{range_more}
 use Rattle.loop_expand.proofs.program.outs.Goals as goal
 
 pub loop-k-preserved : goal.loop-k-preserved

@@ -10,13 +10,19 @@ use Rattle.loop_expand.proofs.turns.within.Goals as goal
 pub returns : goal.returns
 returns c =
     let long : c.len.result ≡ length c.in_ok-inner.inner.items = search rules in
-    within_is (view_columns c.args.turns.now.columns.items) c.args.index.now (view_manifest c.args.lo.now) (view_manifest c.args.hi.now) c.args.turns.now.count c.len.result (view_columns c.in_ok-columns_of.field-0.items) c.in_ok-inner.inner.items
-    c.in_ok-inner.ensures.turns (c.in_ok-columns_of.ensures ∙ ap₂ (λ (cs : List Column) (is : List InnerTurn). inner_columns (view_columns cs) c.args.index.now is) c.deref.ensures.value c.deref-2.ensures.value) long
+    within_is (view_columns c.args.turns.now.columns.items) c.args.index.now (view_manifest c.args.lo.now)
+    (view_manifest c.args.hi.now) c.args.turns.now.count c.len.result (view_columns c.in_ok-columns_of.field-0.items)
+    c.in_ok-inner.inner.items
+    c.in_ok-inner.ensures.turns
+    (c.in_ok-columns_of.ensures
+    ∙ ap₂ (λ (cs : List Column) (is : List InnerTurn). inner_columns (view_columns cs) c.args.index.now is)
+    c.deref.ensures.value c.deref-2.ensures.value) long
 
 pub invariant_of-result : goal.invariant_of-result
 invariant_of-result c =
     let long : c.len.result ≡ length c.in_ok-inner.inner.items = search rules in
     record {
       full = subst (AreFull c.in_ok-columns_of.field-0.items) (ap length c.deref-2.ensures.value ∙ sym long)
-          (columns_full (view_columns c.deref.result.now) c.args.index.now c.deref-2.result.now c.in_ok-columns_of.field-0.items c.in_ok-columns_of.ensures);
+          (columns_full (view_columns c.deref.result.now) c.args.index.now c.deref-2.result.now
+          c.in_ok-columns_of.field-0.items c.in_ok-columns_of.ensures);
     }

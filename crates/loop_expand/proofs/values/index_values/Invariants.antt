@@ -5,4 +5,6 @@ use Rattle.loop_expand.proofs.values.index_values.Given as goal
 
 abbrev pub invariant-loop-column : goal.invariant-loop-column
 invariant-loop-column l =
-    (k : ℕ) → index_value (row_at (view_columns (drop l.column-index l.column-items)) k) l.name ≡ index_value (indices_at l.turns k) l.name
+    (k : ℕ)
+    → index_value (row_at (view_columns (drop l.column-index l.column-items)) k) l.name
+    ≡ index_value (indices_at l.turns k) l.name

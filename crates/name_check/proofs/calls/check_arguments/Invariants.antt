@@ -2,7 +2,7 @@ use Rattle.std.proofs.Common.{◌≡◌, map, drop}
 use Rattle.ranked_faults.specs.Rules.{parts, each_from}
 use Rattle.ranked_faults.specs.Private.FirstMet.{first}
 use Rattle.silage_syntax.specs.Tree.{view_expr}
-use Rattle.name_check.specs.NameRules.{passing_rules}
+use Rattle.source_names.specs.NameRules.{passing_rules}
 use Rattle.name_check.specs.Private.Views.{context_of}
 use Rattle.name_check.proofs.calls.check_arguments.Given as goal
 

@@ -2,8 +2,8 @@ use Rattle.std.proofs.Common.{ap, ◌∙◌, arith, map}
 use Rattle.ranked_faults.specs.Private.FirstMet.{first}
 use Rattle.ranked_faults.proofs.TableFaults.{next_fails, next_passes}
 use Rattle.silage_syntax.specs.Tree.{view_place, view_manifest}
-use Rattle.name_check.specs.Meanings.{takes}
-use Rattle.name_check.specs.NameRules.{target_rules, taking_rules}
+use Rattle.source_names.specs.Meanings.{takes}
+use Rattle.source_names.specs.NameRules.{target_rules, taking_rules}
 use Rattle.name_check.specs.Private.Views.{context_of}
 use Rattle.name_check.proofs.calls.check_places.Goals as goal
 
@@ -11,12 +11,17 @@ pub returns-in_err-check_taking : goal.returns-in_err-check_taking
 returns-in_err-check_taking c =
     let context = context_of c.args.context.now in
     let x = c.index-places-i.result in
-    next_fails (taking_rules context c.args.results.now) view_place c.args.places.now c.loop-i.i x (omega arith) c.index-places-i.is _ _ _ c.loop-i.invariant
-    (c.in_err-check_taking.ensures ∙ ap (λ o. first (target_rules context (takes o (map view_manifest x.subs)) (view_place x))) c.decl_at.ensures) c.from_residual.ensures.1
+    next_fails (taking_rules context c.args.results.now) view_place c.args.places.now c.loop-i.i x (omega arith)
+    c.index-places-i.is _ _ _ c.loop-i.invariant
+    (c.in_err-check_taking.ensures
+    ∙ ap (λ o. first (target_rules context (takes o (map view_manifest x.subs)) (view_place x))) c.decl_at.ensures)
+    c.from_residual.ensures.1
 
 pub loop-i-preserved : goal.loop-i-preserved
 loop-i-preserved c =
     let context = context_of c.args.context.now in
     let x = c.index-places-i.result in
-    next_passes (taking_rules context c.args.results.now) view_place c.args.places.now c.loop-i.i x (omega arith) c.index-places-i.is _ c.loop-i.invariant
-    (c.in_ok-check_taking.ensures ∙ ap (λ o. first (target_rules context (takes o (map view_manifest x.subs)) (view_place x))) c.decl_at.ensures)
+    next_passes (taking_rules context c.args.results.now) view_place c.args.places.now c.loop-i.i x (omega arith)
+    c.index-places-i.is _ c.loop-i.invariant
+    (c.in_ok-check_taking.ensures
+    ∙ ap (λ o. first (target_rules context (takes o (map view_manifest x.subs)) (view_place x))) c.decl_at.ensures)

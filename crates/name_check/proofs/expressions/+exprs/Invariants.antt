@@ -2,7 +2,7 @@ use Rattle.std.proofs.Common.{◌≡◌, drop}
 use Rattle.silage_syntax.specs.Tree.{view_arms}
 use Rattle.ranked_faults.specs.Rules.{parts}
 use Rattle.ranked_faults.specs.Private.FirstMet.{first}
-use Rattle.name_check.specs.NameRules.{branch_rules}
+use Rattle.source_names.specs.NameRules.{branch_rules}
 use Rattle.name_check.specs.Private.Views.{context_of}
 use Rattle.name_check.proofs.expressions.+exprs.Given as goal
 

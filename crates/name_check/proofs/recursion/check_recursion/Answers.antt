@@ -2,10 +2,10 @@
 use Rattle.std.proofs.Common.{◌<◌, length, sym, subst, ap, ◌∙◌, arith}
 use Rattle.std.proofs.lemmas.List.{length-map}
 use Rattle.silage_syntax.specs.Tree.{view, view_top}
-use Rattle.name_check.specs.declared.fault.NameFault.TheVariants.{Recursive}
+use Rattle.source_names.specs.declared.fault.NameFault.TheVariants.{Recursive}
 use Rattle.digraph.specs.Arcs.{HasArc, IsWithin, HasNoCycle, IsFirstCyclic, IsCycleIn}
 use Rattle.digraph.proofs.Arcs.{leaves}
-use Rattle.name_check.proofs.FirstPlaces.{top_stands}
+use Rattle.source_names.proofs.FirstPlaces.{top_stands}
 use Rattle.name_check.proofs.CallGraph.{lists_within, lists_length, none_recursive, first_recursive_of}
 use Rattle.name_check.proofs.recursion.check_recursion.Goals as goal
 
@@ -17,12 +17,14 @@ first_cyclic-requires-clause-few c =
     omega arith
 
 pub first_cyclic-requires-clause-within : goal.first_cyclic-requires-clause-within
-first_cyclic-requires-clause-within c = subst IsWithin (sym (c.as_slice.ensures ∙ c.in_ok-calls.ensures)) (lists_within (view c.args.program.now))
+first_cyclic-requires-clause-within c =
+    subst IsWithin (sym (c.as_slice.ensures ∙ c.in_ok-calls.ensures)) (lists_within (view c.args.program.now))
 
 pub returns-in-None-clause-none : goal.returns-in-None-clause-none
 returns-in-None-clause-none c =
     let none = subst (IsCycleIn _) c.in-None.is c.in_ok-first_cyclic.ensures in
-    none_recursive (view c.args.program.now) (subst (λ calls. HasNoCycle (HasArc calls)) (c.as_slice.ensures ∙ c.in_ok-calls.ensures) none)
+    none_recursive (view c.args.program.now)
+    (subst (λ calls. HasNoCycle (HasArc calls)) (c.as_slice.ensures ∙ c.in_ok-calls.ensures) none)
 
 pub index-requires : goal.index-requires
 index-requires c =
@@ -36,7 +38,10 @@ index-requires c =
 pub returns-clause-first : goal.returns-clause-first
 returns-clause-first c = λ other.
     let found = subst (IsCycleIn _) c.in-Some.is c.in_ok-first_cyclic.ensures in
-    let first = first_recursive_of (view c.args.program.now) c.in-Some.function (subst (λ calls. IsFirstCyclic (HasArc calls) c.in-Some.function) (c.as_slice.ensures ∙ c.in_ok-calls.ensures) found) in
+    let first =
+    first_recursive_of (view c.args.program.now) c.in-Some.function
+    (subst (λ calls. IsFirstCyclic (HasArc calls) c.in-Some.function) (c.as_slice.ensures ∙ c.in_ok-calls.ensures)
+    found) in
     let inside = leaves found.cyclic in
     let same = ap length (c.as_slice.ensures ∙ c.in_ok-calls.ensures) in
     let size = lists_length (view c.args.program.now) in

@@ -1,4 +1,4 @@
-use Rattle.fix_types.proofs.SignalTypes.{HasAdded}
+use Rattle.typed_source.proofs.SignalTypes.{HasAdded}
 use Rattle.fix_types.proofs.signals.Signals.declare_all.Given as goal
 
 abbrev pub invariant-loop-decl : goal.invariant-loop-decl

@@ -1,0 +1,5 @@
+pub mod ManifestMet
+pub mod FirstPlaces
+pub mod FoundNames
+pub mod ApartNames
+pub mod Callees

@@ -1,0 +1,10 @@
+pub mod Contexts
+pub mod ManifestFaults
+pub mod TopNames
+pub mod Calls
+pub mod Meanings
+pub mod NameRules
+pub mod NameFaults
+pub mod FirstTops
+pub mod NameLists
+pub mod Private
