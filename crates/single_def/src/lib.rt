@@ -1,90 +1,35 @@
-//! The instances of a program and their elements in order.
+//! The instances of a program and their elements in order, or the first fault of them.
 //!
-//! An element is defined once, and the numbers in items are allowed, by `specs/Tables` and `specs/ElementRules`.
+//! An element is defined once, and the numbers in items are allowed, by the table of the rules on elements.
 //!
-//! The code turns each function into a plan once and walks over the instances by it.
+//! The items of each function become actions once, and the walk over the instances does these.
 #![tactic(auto)]
 
-mod actions;
-mod ahead;
-mod blocks;
-mod bodies;
-mod body;
-mod checks;
-mod codes;
-mod elements;
-mod entries;
-mod fault;
-mod found;
-mod function;
-mod functions;
-mod groups;
-mod instances;
-mod items;
-mod known;
-mod lanes;
-mod lookups;
-mod numbers;
-mod parts;
-mod plan;
-mod scope;
-mod sizes;
-mod subscripts;
-mod turns;
-mod weights;
 mod words;
 
-ghost use Rattle.std.specs.Prelude.{◌≡◌, ◌≢◌, map, IfOk, OnOk, IfErr};
+ghost use Rattle.std.specs.Prelude.{◌≡◌, ◌≢◌, IfOk, OnOk, IfErr};
 ghost use Rattle.ranked_faults.specs.Ranked.{IsClear, IsFirst, AnswersOk, AnswersFault};
 ghost use Rattle.silage_syntax.specs.Tree.{view};
 ghost use Rattle.silage_meaning.specs.Instances.{HasCallsApart};
 ghost use Rattle.silage_meaning.specs.Rules.{HasSingleDefinitions};
-ghost use Rattle.name_check.specs.TopNames.{top_names};
-ghost use Rattle.name_check.specs.NameFaults.{name_faults, IsMain};
-ghost use Rattle.single_def.specs.ElementFaults.{placed_faults, element_faults};
-ghost use Rattle.single_def.specs.Expansion.{IsExpansion};
-ghost use Rattle.single_def.specs.Numbering.{IsNumbering};
-ghost use Rattle.single_def.specs.Signatures.{HaveResults};
-ghost use Rattle.single_def.specs.Private.Actions.{GivesValue, HasMeaning};
-ghost use Rattle.single_def.specs.Private.Plans.{run_plan, run_program};
-ghost use Rattle.single_def.specs.Private.Functions.{view_planned};
-ghost use Rattle.single_def.specs.declared.fault.DefFault.{DefFault as FaultType};
-ghost use Rattle.single_def.specs.declared.fault.PlacedFault.{PlacedFault as PlacedType};
+ghost use Rattle.source_names.specs.TopNames.{top_names};
+ghost use Rattle.source_names.specs.NameFaults.{name_faults, IsMain};
+ghost use Rattle.source_elements.specs.ElementFaults.{placed_faults, element_faults};
+ghost use Rattle.source_elements.specs.Expansion.{IsExpansion};
+ghost use Rattle.source_elements.specs.Numbering.{IsNumbering};
+ghost use Rattle.source_elements.specs.Signatures.{HaveResults};
+ghost use Rattle.element_actions.specs.Actions.{GivesValue};
+ghost use Rattle.element_actions.specs.ItemActions.{run_program};
+ghost use Rattle.source_elements.specs.declared.fault.DefFault.{DefFault as FaultType};
+ghost use Rattle.source_elements.specs.declared.fault.PlacedFault.{PlacedFault as PlacedType};
 
-use bodies::bodies;
-pub use elements::{Element, Elements, Instance};
-pub use fault::{DefFault, PlacedFault};
-use found::Found;
-use function::Function;
-use functions::functions;
-use instances::{Inside, enter};
-use name_check::Names;
+use action_walk::walk;
+use item_actions::bodies;
 use silage_syntax::Program;
+use source_elements::{DefFault, Elements, PlacedFault};
+use source_names::{Names, Tops};
 use std::alloc::Global;
-pub use subscripts::{Subscripts, subscripts_at};
 use words::check_words;
-
-/// The most instances of which each is inside the one before: an instance is inside 64 calls at most.
-const MAX_NESTED: u32 = 65;
-
-/// The walk over the instances of a plan: the instances and elements on it, or the first fault on it.
-fn walk(alloc: Global, plan: &[Option<Function>], main: u32) -> Result<Elements, PlacedFault>
-    requires { HasMeaning (run_plan (map view_planned plan.now) main) }
-    ensures { GivesValue result (run_plan (map view_planned plan.now) main) }
-{
-    let mut found = Found::new(alloc);
-    let inside = Inside {
-        alloc,
-        plan,
-        calls: MAX_NESTED,
-        number: 0,
-    };
-    enter(inside, main, 0, &[], &mut found)?;
-    Ok(Elements {
-        instances: found.instances,
-        elements: found.elements,
-    })
-}
 
 /// The walk over the instances of a program.
 fn walk_program(alloc: Global, program: &Program, names: &Names) -> Result<Elements, PlacedFault>
@@ -94,9 +39,12 @@ fn walk_program(alloc: Global, program: &Program, names: &Names) -> Result<Eleme
     requires results { HaveResults (view program.now) }
     ensures { GivesValue result (run_program (view program.now) names.now.main) }
 {
-    let bodies = bodies(alloc, program, &names.tops)?;
-    let plan = functions(alloc, &bodies)?;
-    walk(alloc, &plan, names.main)
+    let tops = Tops {
+        program,
+        names: &names.tops,
+    };
+    let bodies = bodies(alloc, &tops)?;
+    walk(alloc, &bodies, names.main)
 }
 
 /// As `check_defs`, and an element without a definition has its row-major place besides.

@@ -4,13 +4,13 @@ ghost use Rattle.std.specs.Prelude.{◌≡◌, IsTrue, Some, slice_get};
 ghost use Rattle.ranked_faults.specs.Private.FirstMet.{first};
 ghost use Rattle.silage_syntax.specs.Tree.{Func as FuncTree, view, view_func, function};
 ghost use Rattle.silage_syntax.specs.Names as meaning;
-ghost use Rattle.name_check.specs.NameFaults.{IsMain};
-ghost use Rattle.single_def.specs.ElementRules.{elements_of, word_rules};
-ghost use Rattle.single_def.specs.Private.Plans.{AreSized, AreAllSized};
+ghost use Rattle.source_names.specs.NameFaults.{IsMain};
+ghost use Rattle.source_elements.specs.ElementRules.{elements_of, word_rules};
+ghost use Rattle.source_elements.specs.Sizes.{AreSized, AreAllSized};
 
-use crate::PlacedFault;
-use crate::bodies::count;
+use item_actions::capped_elements;
 use silage_syntax::{Func, Program, Top};
+use source_elements::PlacedFault;
 
 /// The most words of a row.
 const MOST_WORDS: u32 = 16;
@@ -19,7 +19,7 @@ fn has_few_words(func: &Func) -> Result<(), PlacedFault>
     requires { AreSized (meaning.decls (view_func func.now)) }
     ensures { result ≡ first (word_rules (view_func func.now)) }
 {
-    if count(&func.params) <= MOST_WORDS && count(&func.results) <= MOST_WORDS {
+    if capped_elements(&func.params) <= MOST_WORDS && capped_elements(&func.results) <= MOST_WORDS {
         Ok(())
     } else {
         Err(PlacedFault::TooLarge(func.at))

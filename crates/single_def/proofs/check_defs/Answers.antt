@@ -1,8 +1,8 @@
 use Rattle.std.proofs.Common.{refl}
 use Rattle.std.proofs.lemmas.Result.{err_from_is_err_and}
 use Rattle.silage_syntax.specs.Tree.{view}
-use Rattle.single_def.specs.ElementFaults.{without_place}
-use Rattle.single_def.proofs.PlacedFaults.{told_first, told_ok, told_fault}
+use Rattle.source_elements.specs.ElementFaults.{without_place}
+use Rattle.source_elements.proofs.PlacedFaults.{told_first, told_ok, told_fault}
 use Rattle.single_def.proofs.check_defs.Goals as goal
 
 pub returns-in_err-check_elements-clause-fault : goal.returns-in_err-check_elements-clause-fault

@@ -1,0 +1,13 @@
+pub mod ActionSizes
+pub mod LoopParts
+pub mod PartRows
+pub mod Each
+pub mod Entering
+pub mod GroupRows
+pub mod GrowingLoads
+pub mod HeldTurns
+pub mod IdleActions
+pub mod LaneValues
+pub mod BodyWalks
+pub mod SameFunctions
+pub mod InsideParts

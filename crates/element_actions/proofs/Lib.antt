@@ -1,0 +1,4 @@
+pub mod Stacks
+pub mod ReadyCode
+pub mod ActionRows
+pub mod InsideActions

@@ -1,7 +1,0 @@
-use Rattle.std.proofs.Common.{◌≡◌, ◌<◌, ℕ, length}
-use Rattle.single_def.specs.Private.Lanes.{at}
-use Rattle.single_def.proofs.groups.filled.Given as goal
-
-abbrev pub invariant-loop-k : goal.invariant-loop-k
-invariant-loop-k l =
-    (length l.next ≡ length l.row) × ((i : ℕ) → i < l.lane → at l.next i ≡ at l.row i) × (l.lane < l.k → at l.next l.lane ≡ l.value)

@@ -1,9 +1,0 @@
-use Rattle.single_def.specs.Private.Names.{HasReads}
-use Rattle.single_def.specs.Private.Scopes.{program_of, function_of}
-use Rattle.single_def.proofs.KnownNames.{expr_at}
-use Rattle.single_def.proofs.plan.put_args.Goals as goal
-
-pub put_expr-requires : goal.put_expr-requires
-put_expr-requires c = record {
-  reads = expr_at (HasReads (program_of c.args.scope.now) (function_of c.args.scope.now) c.args.loops.now) c.args.args.now c.loop-arg.arg-index c.arg-item.result c.requires.reads c.loop-arg-test.true c.arg-item.is;
-}
