@@ -1,16 +1,16 @@
 -- What is so of a program that a source is: it has no more tables and functions than the source has bytes, its numbers
 -- are short, its functions have results, and it is a checked one where it has no fault.
 use Rattle.std.proofs.Common.{arith, ℕ, ◌≤◌, List, length}
-use Rattle.fix_types.specs.Numbers.{AreNumbersShort}
-use Rattle.fix_types.proofs.ShortNumbers.{short_numbers as short_numbers_of_tokens}
+use Rattle.typed_source.specs.Numbers.{AreNumbersShort}
+use Rattle.typed_source.proofs.ShortNumbers.{short_numbers as short_numbers_of_tokens}
 use Rattle.name_check.proofs.FewTops.{few_tops as few_tops_of_tokens}
 use Rattle.silage_lex.proofs.FewTokens.{few_tokens}
 use Rattle.silage_syntax.specs.Tree.{Program}
-use Rattle.single_def.specs.Signatures.{HaveResults}
+use Rattle.source_elements.specs.Signatures.{HaveResults}
 use Rattle.loop_expand.specs.Checked.{IsChecked}
 use Rattle.loop_expand.proofs.SomeSignals.{parameters_and_results}
 use Rattle.loop_expand.proofs.SourceChecked.{source_checked}
-use Rattle.front_end.specs.Faults.{IsRead}
+use Rattle.source_faults.specs.Faults.{IsRead}
 use Rattle.front_end.specs.Private.Checks.{HasNoFault}
 
 pub few_tops : (source : List ℕ) (program : Program) → IsRead source program → length program.tops ≤ length source

@@ -8,26 +8,26 @@ use Rattle.silage_parse.specs.declared.ParseFault.{ParseFault}
 use Rattle.silage_parse.specs.declared.ParseFault.TheVariants as parse
 use Rattle.silage_syntax.specs.declared.tree.Program.{Program as RustProgram}
 use Rattle.silage_syntax.specs.Tree.{Program, view}
-use Rattle.name_check.specs.declared.fault.NameFault.{NameFault}
-use Rattle.name_check.specs.declared.fault.NameFault.TheVariants as name
-use Rattle.single_def.specs.ElementFaults.{placed_faults, without_place}
-use Rattle.single_def.specs.declared.fault.PlacedFault.{PlacedFault}
-use Rattle.single_def.specs.declared.fault.PlacedFault.TheVariants as placed
-use Rattle.fix_types.specs.declared.fault.TypeFault.{TypeFault}
-use Rattle.fix_types.specs.declared.fault.TypeFault.TheVariants as kind
-use Rattle.front_end.specs.Faults.{IsRead}
+use Rattle.source_names.specs.declared.fault.NameFault.{NameFault}
+use Rattle.source_names.specs.declared.fault.NameFault.TheVariants as name
+use Rattle.source_elements.specs.ElementFaults.{placed_faults, without_place}
+use Rattle.source_elements.specs.declared.fault.PlacedFault.{PlacedFault}
+use Rattle.source_elements.specs.declared.fault.PlacedFault.TheVariants as placed
+use Rattle.typed_source.specs.declared.fault.TypeFault.{TypeFault}
+use Rattle.typed_source.specs.declared.fault.TypeFault.TheVariants as kind
+use Rattle.source_faults.specs.Faults.{IsRead}
 use Rattle.front_end.specs.Places.{byte_of, byte_of_lex, IsLineOf, IsNumbered, IsAbout}
 use Rattle.front_end.specs.Rejections.{HasLine, HasElement}
 use Rattle.front_end.specs.Private.Checks.{IsCheckError, IsGraphError}
-use Rattle.front_end.specs.Private.Errors.{of_lex, of_parse, of_names, of_defs, of_types}
+use Rattle.source_faults.specs.Private.Errors.{of_lex, of_parse, of_names, of_defs, of_types}
 use Rattle.front_end.specs.Private.Findings.{place_pair, element_of, placed_element, byte_of_finding}
 use Rattle.front_end.specs.declared.checks.Finding.{Finding}
-use Rattle.front_end.specs.declared.fault.FrontError.{FrontError}
-use Rattle.front_end.specs.declared.fault.FrontError.TheVariants.{Fault, Memory}
-use Rattle.front_end.specs.declared.fault.FrontFault.TheVariants.{TooLong, Lex, Parse, Name, Def, Kind, Loop}
+use Rattle.source_faults.specs.declared.fault.FrontError.{FrontError}
+use Rattle.source_faults.specs.declared.fault.FrontError.TheVariants.{Fault, Memory}
+use Rattle.source_faults.specs.declared.fault.FrontFault.TheVariants.{TooLong, Lex, Parse, Name, Def, Kind, Loop}
 use Rattle.front_end.specs.declared.names.ElementPlace.{ElementPlace}
-use Rattle.front_end.specs.declared.names.NamedElement.{NamedElement}
-use Rattle.front_end.specs.declared.rejection.Rejection.{Rejection}
+use Rattle.source_faults.specs.declared.element.NamedElement.{NamedElement}
+use Rattle.source_faults.specs.declared.rejection.Rejection.{Rejection}
 use Rattle.front_end.proofs.OneAnswer.{one_read}
 
 module _ (p : Program) where
@@ -51,7 +51,8 @@ module _ (p : Program) where
   name_about (name.Size at) = refl
   name_about name.Memory = refl
 
-  pub def_about : (fault : PlacedFault) → (fault ≢ placed.Memory → IsFirst (placed_faults p) fault)
+  pub def_about : (fault : PlacedFault)
+      → (fault ≢ placed.Memory → IsFirst (placed_faults p) fault)
       → IsAbout p (of_defs (without_place fault)) (option_map place_pair (placed_element fault))
   def_about (placed.Index at) first = refl
   def_about (placed.Bounds at) first = refl
@@ -69,13 +70,16 @@ module _ (p : Program) where
   type_about (kind.NotBool at) = refl
   type_about kind.Memory = refl
 
-  numbered_pair : (k : ℕ) (element : Option ElementPlace) → IfSome element (λ e. IsNumbered p k e.at e.place)
+  numbered_pair : (k : ℕ) (element : Option ElementPlace)
+      → IfSome element (λ e. IsNumbered p k e.at e.place)
       → IfSome (option_map place_pair element) (λ e. IsNumbered p k e.0 e.1)
   numbered_pair k None h = tt
   numbered_pair k (Some e) h = h
 
-  pub graph_about : (error : FrontError) (element : Option ElementPlace) → IsGraphError p error
-      → ((k : ℕ) → error ≡ Fault (Loop k) → IfSome element (λ e. IsNumbered p k e.at e.place)) → (error ≡ Memory → element ≡ None)
+  pub graph_about : (error : FrontError) (element : Option ElementPlace)
+      → IsGraphError p error
+      → ((k : ℕ) → error ≡ Fault (Loop k) → IfSome element (λ e. IsNumbered p k e.at e.place))
+      → (error ≡ Memory → element ≡ None)
       → IsAbout p error (option_map place_pair element)
   graph_about (Fault (Loop k)) element is found none = numbered_pair k element (found k refl)
   graph_about Memory element is found none = ap (option_map place_pair) (none refl)
@@ -86,8 +90,10 @@ module _ (p : Program) where
   graph_about (Fault (Def f)) element is found none = absurd is
   graph_about (Fault (Kind f)) element is found none = absurd is
 
-  line_of_finding : (source : List ℕ) (error : FrontError) (declaration line : Option ℕ) → IsCheckError p error
-      → line ≡ option_map (line_at source) (byte_of error declaration) → IsLineOf source error declaration line
+  line_of_finding : (source : List ℕ) (error : FrontError) (declaration line : Option ℕ)
+      → IsCheckError p error
+      → line ≡ option_map (line_at source) (byte_of error declaration)
+      → IsLineOf source error declaration line
   line_of_finding source (Fault (Parse f)) declaration line is e = absurd is.1
   line_of_finding source (Fault TooLong) declaration line is e = e
   line_of_finding source (Fault (Lex f)) declaration line is e = e
@@ -98,7 +104,8 @@ module _ (p : Program) where
   line_of_finding source Memory declaration line is e = e
 
 -- a fault of tokens
-pub lex_line : (source : List ℕ) (fault : LexFault) → IsLineOf source (of_lex fault) None (option_map (line_at source) (byte_of_lex fault))
+pub lex_line : (source : List ℕ) (fault : LexFault)
+    → IsLineOf source (of_lex fault) None (option_map (line_at source) (byte_of_lex fault))
 lex_line source (lex.BadByte at) = refl
 lex_line source (lex.BadNumber at) = refl
 lex_line source (lex.OpenComment at) = refl
@@ -113,26 +120,49 @@ module _ (source : List ℕ) (rejection : Rejection) (none : rejection.element �
   early_element h = rw none (tt, λ p read. h p)
 
 -- the rejection of a program that the source is
-module _ (source : List ℕ) (program : RustProgram) (read : IsRead source (view program)) (finding : Finding) (rejection : Rejection) (error : rejection.error ≡ finding.error)
-    (element : rejection.element ≡ option_map (λ (e : ElementPlace). let it : NamedElement = record { program = program; at = e.at; place = e.place } in it) finding.element) where
-  same_bytes : (x : Option ElementPlace) → option_map (λ (n : NamedElement). n.at) (option_map (λ (e : ElementPlace). let it : NamedElement = record { program = program; at = e.at; place = e.place } in it) x) ≡ option_map (λ (e : ElementPlace). e.at) x
+module _ (source : List ℕ) (program : RustProgram) (read : IsRead source (view program)) (finding : Finding)
+    (rejection : Rejection) (error : rejection.error ≡ finding.error)
+    (element : rejection.element
+    ≡ option_map (λ (e : ElementPlace).
+    let it : NamedElement = record { program = program; at = e.at; place = e.place } in it)
+    finding.element) where
+  same_bytes : (x : Option ElementPlace)
+      → option_map (λ (n : NamedElement). n.at)
+      (option_map (λ (e : ElementPlace).
+      let it : NamedElement = record { program = program; at = e.at; place = e.place } in it)
+      x) ≡ option_map (λ (e : ElementPlace). e.at) x
   same_bytes None = refl
   same_bytes (Some e) = refl
 
-  same_pairs : (x : Option ElementPlace) → option_map (λ (n : NamedElement). (n.at, n.place)) (option_map (λ (e : ElementPlace). let it : NamedElement = record { program = program; at = e.at; place = e.place } in it) x) ≡ option_map place_pair x
+  same_pairs : (x : Option ElementPlace)
+      → option_map (λ (n : NamedElement). (n.at, n.place))
+      (option_map (λ (e : ElementPlace).
+      let it : NamedElement = record { program = program; at = e.at; place = e.place } in it)
+      x) ≡ option_map place_pair x
   same_pairs None = refl
   same_pairs (Some e) = refl
 
-  is_read : (x : Option ElementPlace) → IfSome (option_map (λ (e : ElementPlace). let it : NamedElement = record { program = program; at = e.at; place = e.place } in it) x) (λ (n : NamedElement). IsRead source (view n.program))
+  is_read : (x : Option ElementPlace)
+      → IfSome (option_map
+      (λ (e : ElementPlace). let it : NamedElement = record { program = program; at = e.at; place = e.place } in it)
+      x)
+      (λ (n : NamedElement). IsRead source (view n.program))
   is_read None = tt
   is_read (Some e) = read
 
-  pub late_line : IsCheckError (view program) finding.error → rejection.line ≡ option_map (line_at source) (byte_of_finding finding) → HasLine source rejection
+  pub late_line : IsCheckError (view program) finding.error
+      → rejection.line ≡ option_map (line_at source) (byte_of_finding finding)
+      → HasLine source rejection
   late_line is line =
       rw (error, element, same_bytes finding.element)
-      (line_of_finding (view program) source finding.error (option_map (λ (e : ElementPlace). e.at) finding.element) rejection.line is line)
+      (line_of_finding (view program) source finding.error (option_map (λ (e : ElementPlace). e.at) finding.element)
+      rejection.line is line)
 
   pub late_element : IsAbout (view program) finding.error (element_of finding) → HasElement source rejection
   late_element about =
-      rw (error, element, same_pairs finding.element)
-      (is_read finding.element, λ p other. subst (λ (q : Program). IsAbout q finding.error (element_of finding)) (one_read source (view program) p read other) about)
+      rw (error, element, same_pairs finding.element) (
+        is_read finding.element,
+        λ p other.
+            subst (λ (q : Program). IsAbout q finding.error (element_of finding))
+            (one_read source (view program) p read other) about,
+      )

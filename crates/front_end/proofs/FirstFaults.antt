@@ -2,26 +2,28 @@
 use Rattle.std.proofs.Common.{◌≢◌, ℕ, List}
 use Rattle.ranked_faults.specs.Ranked.{IsClear, IsFirst}
 use Rattle.silage_syntax.specs.Tree.{Program}
-use Rattle.name_check.specs.NameFaults.{name_faults}
-use Rattle.name_check.specs.declared.fault.NameFault.{NameFault}
-use Rattle.name_check.specs.declared.fault.NameFault.TheVariants as name
-use Rattle.single_def.specs.ElementFaults.{placed_faults, without_place, element_faults}
-use Rattle.single_def.specs.declared.fault.PlacedFault.{PlacedFault}
-use Rattle.single_def.specs.declared.fault.PlacedFault.TheVariants as placed
-use Rattle.single_def.proofs.PlacedFaults.{element_first}
-use Rattle.fix_types.specs.TypeFaults.{type_faults}
-use Rattle.fix_types.specs.declared.fault.TypeFault.{TypeFault}
-use Rattle.fix_types.specs.declared.fault.TypeFault.TheVariants as kind
+use Rattle.source_names.specs.NameFaults.{name_faults}
+use Rattle.source_names.specs.declared.fault.NameFault.{NameFault}
+use Rattle.source_names.specs.declared.fault.NameFault.TheVariants as name
+use Rattle.source_elements.specs.ElementFaults.{placed_faults, without_place, element_faults}
+use Rattle.source_elements.specs.declared.fault.PlacedFault.{PlacedFault}
+use Rattle.source_elements.specs.declared.fault.PlacedFault.TheVariants as placed
+use Rattle.source_elements.proofs.PlacedFaults.{element_first}
+use Rattle.typed_source.specs.TypeFaults.{type_faults}
+use Rattle.typed_source.specs.declared.fault.TypeFault.{TypeFault}
+use Rattle.typed_source.specs.declared.fault.TypeFault.TheVariants as kind
 use Rattle.front_end.specs.Answers.{IsFrontError}
-use Rattle.front_end.specs.Faults.{IsRead}
+use Rattle.source_faults.specs.Faults.{IsRead}
 use Rattle.front_end.specs.Private.Checks.{HasNoFault, IsCheckError, IsGraphError}
-use Rattle.front_end.specs.Private.Errors.{of_names, of_defs, of_types}
-use Rattle.front_end.specs.declared.fault.FrontError.{FrontError}
-use Rattle.front_end.specs.declared.fault.FrontError.TheVariants.{Fault, Memory}
-use Rattle.front_end.specs.declared.fault.FrontFault.TheVariants.{TooLong, Lex, Parse, Name, Def, Kind, Loop}
+use Rattle.source_faults.specs.Private.Errors.{of_names, of_defs, of_types}
+use Rattle.source_faults.specs.declared.fault.FrontError.{FrontError}
+use Rattle.source_faults.specs.declared.fault.FrontError.TheVariants.{Fault, Memory}
+use Rattle.source_faults.specs.declared.fault.FrontFault.TheVariants.{TooLong, Lex, Parse, Name, Def, Kind, Loop}
 
 module _ (program : Program) where
-  pub name_error : (fault : NameFault) → (fault ≢ name.Memory → IsFirst (name_faults program) fault) → IsCheckError program (of_names fault)
+  pub name_error : (fault : NameFault)
+      → (fault ≢ name.Memory → IsFirst (name_faults program) fault)
+      → IsCheckError program (of_names fault)
   name_error (name.Unknown at) first = (tt, first (λ e. cc))
   name_error (name.Twice at) first = (tt, first (λ e. cc))
   name_error (name.Recursive at) first = (tt, first (λ e. cc))
@@ -30,19 +32,27 @@ module _ (program : Program) where
   name_error (name.Size at) first = (tt, first (λ e. cc))
   name_error name.Memory first = tt
 
-  pub def_error : IsClear (name_faults program) → (fault : PlacedFault) → (fault ≢ placed.Memory → IsFirst (placed_faults program) fault)
+  pub def_error : IsClear (name_faults program)
+      → (fault : PlacedFault)
+      → (fault ≢ placed.Memory → IsFirst (placed_faults program) fault)
       → IsCheckError program (of_defs (without_place fault))
   def_error clear (placed.Index at) first = (tt, (clear, element_first program (placed.Index at) (first (λ e. cc))))
   def_error clear (placed.Bounds at) first = (tt, (clear, element_first program (placed.Bounds at) (first (λ e. cc))))
   def_error clear (placed.Delay at) first = (tt, (clear, element_first program (placed.Delay at) (first (λ e. cc))))
   def_error clear (placed.Shift at) first = (tt, (clear, element_first program (placed.Shift at) (first (λ e. cc))))
-  def_error clear (placed.DefinedTwice at) first = (tt, (clear, element_first program (placed.DefinedTwice at) (first (λ e. cc))))
-  def_error clear (placed.NotDefined at k) first = (tt, (clear, element_first program (placed.NotDefined at k) (first (λ e. cc))))
-  def_error clear (placed.TooLarge at) first = (tt, (clear, element_first program (placed.TooLarge at) (first (λ e. cc))))
+  def_error clear (placed.DefinedTwice at) first =
+      (tt, (clear, element_first program (placed.DefinedTwice at) (first (λ e. cc))))
+  def_error clear (placed.NotDefined at k) first =
+      (tt, (clear, element_first program (placed.NotDefined at k) (first (λ e. cc))))
+  def_error clear (placed.TooLarge at) first =
+      (tt, (clear, element_first program (placed.TooLarge at) (first (λ e. cc))))
   def_error clear placed.Memory first = tt
 
-  pub type_error : IsClear (name_faults program) → IsClear (element_faults program) → (fault : TypeFault)
-      → (fault ≢ kind.Memory → IsFirst (type_faults program) fault) → IsCheckError program (of_types fault)
+  pub type_error : IsClear (name_faults program)
+      → IsClear (element_faults program)
+      → (fault : TypeFault)
+      → (fault ≢ kind.Memory → IsFirst (type_faults program) fault)
+      → IsCheckError program (of_types fault)
   type_error names elements (kind.Mismatch at) first = (tt, (names, elements, first (λ e. cc)))
   type_error names elements (kind.NeedsCast at) first = (tt, (names, elements, first (λ e. cc)))
   type_error names elements (kind.Literal at) first = (tt, (names, elements, first (λ e. cc)))
@@ -60,7 +70,11 @@ module _ (program : Program) where
   graph_error none Memory h = tt
 
   -- the first fault of the program of a source is the source's
-  pub source_error : (source : List ℕ) → IsRead source program → (error : FrontError) → IsCheckError program error → IsFrontError source error
+  pub source_error : (source : List ℕ)
+      → IsRead source program
+      → (error : FrontError)
+      → IsCheckError program error
+      → IsFrontError source error
   source_error source read (Fault TooLong) h = absurd h.1
   source_error source read (Fault (Lex f)) h = absurd h.1
   source_error source read (Fault (Parse f)) h = absurd h.1

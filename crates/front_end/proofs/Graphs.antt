@@ -1,8 +1,8 @@
 -- The pruned graph of a program without a delay-free loop, and the first loop of one that has one.
 use Rattle.std.proofs.Common.{◌≡◌, refl, ℕ}
 use Rattle.silage_syntax.specs.Tree.{Program}
-use Rattle.fix_types.specs.declared.typed.Typed.{Typed}
-use Rattle.single_def.specs.declared.elements.Elements.{Elements}
+use Rattle.typed_source.specs.declared.typed.Typed.{Typed}
+use Rattle.source_elements.specs.declared.elements.Elements.{Elements}
 use Rattle.signal_graph.specs.Flat as flat
 use Rattle.signal_graph.specs.FlatRules.{IsFlat}
 use Rattle.signal_graph.specs.FlatSolves.{IsFlatLoopless}
@@ -20,14 +20,20 @@ use Rattle.loop_expand.proofs.ProgramKeeps.{program_keeps}
 use Rattle.loop_expand.proofs.SmallFlat.{flat_is_sound}
 use Rattle.loop_expand.proofs.SoundFlat.{flat_loopless}
 use Rattle.front_end.specs.Private.Checks.{IsGraphFor, IsGraphError}
-use Rattle.front_end.specs.Private.Errors.{of_build}
+use Rattle.source_faults.specs.Private.Errors.{of_build}
 use Rattle.front_end.proofs.FirstLoops.{first_loop}
 
-module _ (p : Program) (typed : Typed) (es : Elements) (are : AreOf p typed es) (f : flat.Program) (flat_of : IsFlatOf p es f) where
+module _ (p : Program) (typed : Typed) (es : Elements) (are : AreOf p typed es) (f : flat.Program)
+    (flat_of : IsFlatOf p es f) where
   pub is_flat : IsFlat f
   is_flat = flat_is_sound p are.checked es are.elements f flat_of
 
-  pub graph_for : IsFlatLoopless f → (whole pruned : Graph) → IsGraphOf f whole → IsPruned whole pruned → IsGraph pruned → IsGraphLoopless pruned
+  pub graph_for : IsFlatLoopless f
+      → (whole pruned : Graph)
+      → IsGraphOf f whole
+      → IsPruned whole pruned
+      → IsGraph pruned
+      → IsGraphLoopless pruned
       → IsGraphFor p pruned
   graph_for none whole pruned graph_of prunes sound loopless = record {
     loops = (flat_loopless p are.checked es are.elements f flat_of).1 none;
@@ -45,6 +51,8 @@ module _ (p : Program) (typed : Typed) (es : Elements) (are : AreOf p typed es) 
     keeps = program_keeps p are.checked es are.elements f flat_of none whole graph_of pruned prunes;
   }
 
-  pub build_error : (fault : GraphFault) → ((e : ℕ) → fault ≡ Loop e → graph.IsFirstLoop f e) → IsGraphError p (of_build fault)
+  pub build_error : (fault : GraphFault)
+      → ((e : ℕ) → fault ≡ Loop e → graph.IsFirstLoop f e)
+      → IsGraphError p (of_build fault)
   build_error (Loop e) first = first_loop p are.checked es are.elements f flat_of e (first e refl)
   build_error Memory first = tt

@@ -13,22 +13,22 @@ use Rattle.silage_syntax.specs.Tree.{Program}
 use Rattle.silage_parse.specs.Answers.{IsWithin, HasFault as HasParseFault}
 use Rattle.silage_parse.specs.declared.ParseFault.{ParseFault}
 use Rattle.silage_parse.proofs.OneAnswer.{one_fault, within_no_fault}
-use Rattle.name_check.specs.NameFaults.{name_faults}
+use Rattle.source_names.specs.NameFaults.{name_faults}
 use Rattle.name_check.proofs.NameAnswers.{names_single}
-use Rattle.single_def.specs.ElementFaults.{element_faults}
-use Rattle.single_def.proofs.PlacedFaults.{single_elements}
-use Rattle.fix_types.specs.TypeFaults.{type_faults}
-use Rattle.fix_types.specs.TypeRules.{type_rules}
+use Rattle.source_elements.specs.ElementFaults.{element_faults}
+use Rattle.source_elements.proofs.PlacedFaults.{single_elements}
+use Rattle.typed_source.specs.TypeFaults.{type_faults}
+use Rattle.typed_source.specs.TypeRules.{type_rules}
 use Rattle.front_end.specs.Answers.{IsFrontError}
-use Rattle.front_end.specs.Faults.{source_limit, IsRead, HasProgram, IsFrontFault}
-use Rattle.front_end.specs.Loops.{IsFirstLoop}
+use Rattle.source_faults.specs.Faults.{source_limit, IsRead, HasProgram, IsFrontFault}
+use Rattle.source_faults.specs.Loops.{IsFirstLoop}
 use Rattle.front_end.specs.Private.Checks.{HasNoFault, IsFirstFault}
 use Rattle.front_end.proofs.Counts.{checked}
 use Rattle.front_end.proofs.FirstLoops.{none_in_loop}
-use Rattle.front_end.specs.declared.fault.FrontError.{FrontError}
-use Rattle.front_end.specs.declared.fault.FrontError.TheVariants.{Fault, Memory}
-use Rattle.front_end.specs.declared.fault.FrontFault.{FrontFault}
-use Rattle.front_end.specs.declared.fault.FrontFault.TheVariants.{TooLong, Lex, Parse, Name, Def, Kind, Loop}
+use Rattle.source_faults.specs.declared.fault.FrontError.{FrontError}
+use Rattle.source_faults.specs.declared.fault.FrontError.TheVariants.{Fault, Memory}
+use Rattle.source_faults.specs.declared.fault.FrontFault.{FrontFault}
+use Rattle.source_faults.specs.declared.fault.FrontFault.TheVariants.{TooLong, Lex, Parse, Name, Def, Kind, Loop}
 
 not_both : {F : Type 0} (H : FaultSet F) (fault : F) → IsClear H → IsFirst H fault → ⊥
 not_both H fault clear first = clear first.rank fault first.here
@@ -58,7 +58,8 @@ module _ (program : Program) where
   first_once (Def f) (Loop g) a b = absurd (not_both (element_faults program) f b.1 a.1)
   first_once (Kind f) (Name g) a b = absurd (not_both (name_faults program) g a.0 b)
   first_once (Kind f) (Def g) a b = absurd (not_both (element_faults program) g a.1 b.1)
-  first_once (Kind f) (Kind g) a b = ap Kind (one_first (type_faults program) f g (single_faults (type_rules program)) a.2 b.2)
+  first_once (Kind f) (Kind g) a b =
+      ap Kind (one_first (type_faults program) f g (single_faults (type_rules program)) a.2 b.2)
   first_once (Kind f) (Loop g) a b = absurd (not_both (type_faults program) f b.2 a.2)
   first_once (Loop e) (Name g) a b = absurd (not_both (name_faults program) g a.0 b)
   first_once (Loop e) (Def g) a b = absurd (not_both (element_faults program) g a.1 b.1)
@@ -81,7 +82,12 @@ module _ (source : List ℕ) where
   pub one_program : (program other : Program) → HasProgram source program → HasProgram source other → other ≡ program
   one_program program other a b = one_read other program b.read a.read
 
-  read_no_parse_fault : (p : Program) (fault : ParseFault) → IsRead source p → (tokens : List Token) → HasTokens source tokens → HasParseFault tokens fault → ⊥
+  read_no_parse_fault : (p : Program) (fault : ParseFault)
+      → IsRead source p
+      → (tokens : List Token)
+      → HasTokens source tokens
+      → HasParseFault tokens fault
+      → ⊥
   read_no_parse_fault p fault read tokens lexed h =
       let same : read.tokens ≡ tokens = tokens_once source read.tokens tokens read.lexed lexed in
       within_no_fault tokens p fault (subst (λ (ts : List Token). IsWithin ts p) same read.parsed) h
@@ -90,7 +96,11 @@ module _ (source : List ℕ) where
   data IsIn : FrontFault → Type 0 where
     in_size : source_limit < length source → IsIn TooLong
     in_bytes : {f : LexFault} → length source ≤ source_limit → HasLexFault source f → IsIn (Lex f)
-    in_tokens : {f : ParseFault} (tokens : List Token) → length source ≤ source_limit → HasTokens source tokens → HasParseFault tokens f → IsIn (Parse f)
+    in_tokens : {f : ParseFault} (tokens : List Token)
+        → length source ≤ source_limit
+        → HasTokens source tokens
+        → HasParseFault tokens f
+        → IsIn (Parse f)
     in_program : {f : FrontFault} (program : Program) → IsRead source program → IsFirstFault program f → IsIn f
 
   where_is : (f : FrontFault) → IsFrontFault source f → IsIn f
@@ -140,11 +150,18 @@ module _ (source : List ℕ) where
       clear_program p has f (subst (λ (r : Program). IsFirstFault r f) (one_read q p read has.read) k)
 
   -- so where the call answers an error of the source, it answers each
-  pub program_error : (error : FrontError) → IsFrontError source error → (program : Program) → HasProgram source program → error ≡ Memory
+  pub program_error : (error : FrontError)
+      → IsFrontError source error
+      → (program : Program)
+      → HasProgram source program
+      → error ≡ Memory
   program_error Memory is program has = refl
   program_error (Fault f) is program has = absurd (none_in program has f (where_is f is.1))
 
-  pub fault_error : (error : FrontError) → IsFrontError source error → (fault : FrontFault) → IsFrontFault source fault
+  pub fault_error : (error : FrontError)
+      → IsFrontError source error
+      → (fault : FrontFault)
+      → IsFrontFault source fault
       → (error ≡ Fault fault) ⊎ (error ≡ Memory)
   fault_error Memory is fault has = inr refl
   fault_error (Fault f) is fault has = inl (ap Fault (one_in f fault (where_is f is.1) (where_is fault has)))

@@ -1,7 +1,7 @@
 -- The program of a source has one graph at most.
 use Rattle.std.proofs.Common.{◌≡◌, sym, subst, ◌∙◌, ℕ, List}
 use Rattle.silage_syntax.specs.Tree.{Program}
-use Rattle.single_def.specs.declared.elements.Elements.{Elements}
+use Rattle.source_elements.specs.declared.elements.Elements.{Elements}
 use Rattle.signal_graph.specs.Flat as flat
 use Rattle.signal_graph.specs.GraphOf.{IsGraphOf}
 use Rattle.signal_graph.specs.Pruned.{IsPruned}
@@ -11,7 +11,7 @@ use Rattle.signal_graph.proofs.OnePruned.{one_pruned}
 use Rattle.loop_expand.specs.Checked.{IsChecked}
 use Rattle.loop_expand.specs.FlatOf.{IsFlatOf}
 use Rattle.loop_expand.proofs.OneFlat.{one_flat}
-use Rattle.front_end.specs.Faults.{HasProgram}
+use Rattle.source_faults.specs.Faults.{HasProgram}
 use Rattle.front_end.specs.GraphOf.{IsProgramGraph}
 use Rattle.front_end.proofs.Counts.{checked}
 use Rattle.front_end.proofs.FirstLoops.{one_expansion}
@@ -28,8 +28,12 @@ module _ (p : Program) (is_checked : IsChecked p) where
       b.graph_of in
       one_pruned b.whole g h (subst (λ (whole : Graph). IsPruned whole g) wholes a.pruned) b.pruned
 
-pub program_graph_once : (source : List ℕ) (p : Program) → HasProgram source p → (g h : Graph) → IsProgramGraph p g
-    → IsProgramGraph p h → g ≡ h
+pub program_graph_once : (source : List ℕ) (p : Program)
+    → HasProgram source p
+    → (g h : Graph)
+    → IsProgramGraph p g
+    → IsProgramGraph p h
+    → g ≡ h
 program_graph_once source p has =
     graph_same p
     (checked source p has.read (record { names = has.names; elements = has.elements; types = has.types }))

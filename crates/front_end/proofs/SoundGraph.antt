@@ -12,7 +12,7 @@ use Rattle.signal_graph.proofs.PrunedSound.{pruned_is_sound, pruned_is_loopless}
 use Rattle.loop_expand.specs.Checked.{IsChecked}
 use Rattle.loop_expand.proofs.SmallFlat.{flat_is_sound}
 use Rattle.loop_expand.proofs.SoundFlat.{flat_loopless}
-use Rattle.front_end.specs.Faults.{HasProgram}
+use Rattle.source_faults.specs.Faults.{HasProgram}
 use Rattle.front_end.specs.GraphOf.{IsProgramGraph}
 use Rattle.front_end.proofs.Counts.{checked}
 

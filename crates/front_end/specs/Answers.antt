@@ -1,12 +1,12 @@
 -- What `accept` answers for a source.
 use Rattle.std.specs.Prelude.{◌≡◌, ◌⊎◌, ℕ, List, Result, Ok, Err}
 use Rattle.silage_syntax.specs.Tree.{Program, view}
-use Rattle.front_end.specs.Faults.{IsFrontFault, IsOfSource}
-use Rattle.front_end.specs.declared.fault.FrontError.{FrontError}
-use Rattle.front_end.specs.declared.fault.FrontError.TheVariants.{Fault, Memory}
-use Rattle.front_end.specs.declared.fault.FrontFault.{FrontFault}
+use Rattle.source_faults.specs.Faults.{IsFrontFault, IsOfSource}
+use Rattle.source_faults.specs.declared.fault.FrontError.{FrontError}
+use Rattle.source_faults.specs.declared.fault.FrontError.TheVariants.{Fault, Memory}
+use Rattle.source_faults.specs.declared.fault.FrontFault.{FrontFault}
 use Rattle.front_end.specs.declared.acceptance.Accepted.{Accepted}
-use Rattle.front_end.specs.declared.rejection.Rejection.{Rejection}
+use Rattle.source_faults.specs.declared.rejection.Rejection.{Rejection}
 
 -- the source has the fault of the error, or there was no memory
 abbrev pub IsFrontError : List ℕ → FrontError → Type 0

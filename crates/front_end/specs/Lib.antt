@@ -1,5 +1,3 @@
-pub mod Loops
-pub mod Faults
 pub mod Places
 pub mod Rejections
 pub mod Answers

@@ -9,21 +9,21 @@ use Rattle.silage_lex.specs.declared.Token.{Token}
 use Rattle.silage_parse.specs.declared.ParseFault.TheVariants as parse
 use Rattle.silage_syntax.specs.declared.tree.Decl.{Decl}
 use Rattle.silage_syntax.specs.Tree.{Program}
-use Rattle.name_check.specs.declared.fault.NameFault.{NameFault}
-use Rattle.name_check.specs.declared.fault.NameFault.TheVariants as name
-use Rattle.single_def.specs.ElementFaults.{placed_faults}
-use Rattle.single_def.specs.Expansion.{IsExpansion, signals_of}
-use Rattle.single_def.specs.declared.elements.Element.{Element}
-use Rattle.single_def.specs.declared.elements.Elements.{Elements}
-use Rattle.single_def.specs.declared.elements.Instance.{Instance}
-use Rattle.single_def.specs.declared.fault.DefFault.{DefFault}
-use Rattle.single_def.specs.declared.fault.DefFault.TheVariants as def
-use Rattle.single_def.specs.declared.fault.PlacedFault.TheVariants as placed
-use Rattle.fix_types.specs.declared.fault.TypeFault.{TypeFault}
-use Rattle.fix_types.specs.declared.fault.TypeFault.TheVariants as kind
-use Rattle.front_end.specs.declared.fault.FrontError.{FrontError}
-use Rattle.front_end.specs.declared.fault.FrontError.TheVariants.{Fault}
-use Rattle.front_end.specs.declared.fault.FrontFault.TheVariants.{Lex, Parse, Name, Def, Kind, Loop}
+use Rattle.source_names.specs.declared.fault.NameFault.{NameFault}
+use Rattle.source_names.specs.declared.fault.NameFault.TheVariants as name
+use Rattle.source_elements.specs.ElementFaults.{placed_faults}
+use Rattle.source_elements.specs.Expansion.{IsExpansion, signals_of}
+use Rattle.source_elements.specs.declared.elements.Element.{Element}
+use Rattle.source_elements.specs.declared.elements.Elements.{Elements}
+use Rattle.source_elements.specs.declared.elements.Instance.{Instance}
+use Rattle.source_elements.specs.declared.fault.DefFault.{DefFault}
+use Rattle.source_elements.specs.declared.fault.DefFault.TheVariants as def
+use Rattle.source_elements.specs.declared.fault.PlacedFault.TheVariants as placed
+use Rattle.typed_source.specs.declared.fault.TypeFault.{TypeFault}
+use Rattle.typed_source.specs.declared.fault.TypeFault.TheVariants as kind
+use Rattle.source_faults.specs.declared.fault.FrontError.{FrontError}
+use Rattle.source_faults.specs.declared.fault.FrontError.TheVariants.{Fault}
+use Rattle.source_faults.specs.declared.fault.FrontFault.TheVariants.{Lex, Parse, Name, Def, Kind, Loop}
 
 -- the byte at which a fault is
 abbrev pub byte_of_lex : LexFault → Option ℕ

@@ -1,10 +1,10 @@
 -- What a rejection tells besides its error.
 use Rattle.std.specs.Prelude.{ℕ, List, option_map, IfSome}
 use Rattle.silage_syntax.specs.Tree.{Program, view}
-use Rattle.front_end.specs.Faults.{IsRead}
+use Rattle.source_faults.specs.Faults.{IsRead}
 use Rattle.front_end.specs.Places.{IsLineOf, IsAbout}
-use Rattle.front_end.specs.declared.names.NamedElement.{NamedElement}
-use Rattle.front_end.specs.declared.rejection.Rejection.{Rejection}
+use Rattle.source_faults.specs.declared.element.NamedElement.{NamedElement}
+use Rattle.source_faults.specs.declared.rejection.Rejection.{Rejection}
 
 -- its line is that of its error
 abbrev pub HasLine : (source : List ℕ) → Rejection → Type 0

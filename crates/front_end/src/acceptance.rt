@@ -8,17 +8,17 @@ ghost use Rattle.loop_expand.specs.KeepsProgram.{KeepsProgramSolutions};
 ghost use Rattle.front_end.specs.Answers.{IsFrontError, AnswersProgram, AnswersFault};
 ghost use Rattle.front_end.specs.Places.{IsLineOf, IsAbout};
 ghost use Rattle.front_end.specs.Rejections.{HasLine, HasElement};
-ghost use Rattle.front_end.specs.Faults.{source_limit, IsRead, HasProgram, IsFrontFault};
+ghost use Rattle.source_faults.specs.Faults.{source_limit, IsRead, HasProgram, IsFrontFault};
 ghost use Rattle.front_end.specs.GraphOf.{IsProgramGraph};
-ghost use Rattle.front_end.specs.declared.fault.FrontFault.{FrontFault as FaultType};
+ghost use Rattle.source_faults.specs.declared.fault.FrontFault.{FrontFault as FaultType};
 
 use crate::checks::checked_graph;
-use crate::fault::FrontFault;
-use crate::rejection::{Rejection, lex_rejection, parse_rejection, reject};
+use crate::rejection::{lex_rejection, parse_rejection, reject};
 use signal_graph::Graph;
 use silage_lex::lex;
 use silage_parse::parse;
 use silage_syntax::Program;
+use source_faults::{FrontFault, Rejection};
 use std::alloc::Global;
 
 /// The most bytes of a source.

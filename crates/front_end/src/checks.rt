@@ -2,25 +2,28 @@
 
 ghost use Rattle.std.specs.Prelude.{◌≡◌, ℕ, None, IfSome, IfOk, IfErr, OnOk};
 ghost use Rattle.silage_syntax.specs.Tree.{view};
-ghost use Rattle.single_def.specs.Expansion.{IsExpansion};
-ghost use Rattle.fix_types.specs.Translation.{typed_program};
-ghost use Rattle.fix_types.specs.TypedTree.{view_typed};
+ghost use Rattle.source_elements.specs.Expansion.{IsExpansion};
+ghost use Rattle.typed_source.specs.Translation.{typed_program};
+ghost use Rattle.typed_source.specs.TypedTree.{view_typed};
 ghost use Rattle.front_end.specs.Places.{IsNumbered, IsAbout};
-ghost use Rattle.front_end.specs.declared.fault.FrontError.TheVariants.{Fault, Memory};
-ghost use Rattle.front_end.specs.declared.fault.FrontFault.TheVariants.{Loop};
+ghost use Rattle.source_faults.specs.declared.fault.FrontError.TheVariants.{Fault, Memory};
+ghost use Rattle.source_faults.specs.declared.fault.FrontFault.TheVariants.{Loop};
 ghost use Rattle.front_end.specs.Private.Checks.{HasSource, HasNoFault, IsCheckError, IsGraphFor};
-ghost use Rattle.front_end.specs.Private.Errors.{of_names, of_types};
+ghost use Rattle.source_faults.specs.Private.Errors.{of_names, of_types};
 ghost use Rattle.front_end.specs.Private.Findings.{element_of, without_element, of_placed};
 
-use crate::fault::{FrontError, FrontFault};
 use crate::graph::graph_of;
 use crate::names::{ElementPlace, numbered_element};
-use fix_types::{TypeFault, Typed, check_types};
-use name_check::{NameFault, check_names};
+use fix_types::check_types;
+use name_check::check_names;
 use signal_graph::Graph;
 use silage_syntax::Program;
-use single_def::{DefFault, Elements, PlacedFault, check_elements};
+use single_def::check_elements;
+use source_elements::{DefFault, Elements, PlacedFault};
+use source_faults::{FrontError, FrontFault};
+use source_names::NameFault;
 use std::alloc::Global;
+use typed_source::{TypeFault, Typed};
 
 /// What the checks give of a program.
 #[derive(Drop)]

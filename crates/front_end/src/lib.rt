@@ -6,18 +6,9 @@
 
 mod acceptance;
 mod checks;
-mod fault;
 mod graph;
 mod lines;
 mod names;
 mod rejection;
 
 pub use acceptance::{Accepted, accept};
-pub use fault::{FrontError, FrontFault};
-pub use fix_types::TypeFault;
-pub use name_check::NameFault;
-pub use names::{Element, NamedElement};
-pub use rejection::Rejection;
-pub use silage_lex::LexFault;
-pub use silage_parse::ParseFault;
-pub use single_def::DefFault;

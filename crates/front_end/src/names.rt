@@ -3,63 +3,17 @@
 ghost use Rattle.std.specs.Prelude.{◌≡◌, IfSome, option_copied, slice_get};
 ghost use Rattle.silage_syntax.specs.Names.{decls};
 ghost use Rattle.silage_syntax.specs.Tree.{view, view_func};
-ghost use Rattle.single_def.specs.Expansion.{IsExpansion};
+ghost use Rattle.source_elements.specs.Expansion.{IsExpansion};
 ghost use Rattle.front_end.specs.Places.{IsNumbered};
 
 use silage_syntax::{Decl, Func, Program, Top};
-use single_def::Elements;
+use source_elements::Elements;
 
 /// An element: the byte at which its declaration stands, and its row-major place in that.
 #[derive(Clone, Copy)]
 pub(crate) struct ElementPlace {
     pub at: u32,
     pub place: u32,
-}
-
-/// A program, and an element of it: by the byte at which its declaration stands, and its row-major place in that.
-#[derive(Drop)]
-pub struct NamedElement {
-    pub program: Program,
-    pub at: u32,
-    pub place: u32,
-}
-
-/// An element, by its row-major place in its declaration.
-#[derive(Clone, Copy)]
-pub struct Element<'a> {
-    pub decl: &'a Decl,
-    pub place: u32,
-}
-
-impl NamedElement {
-    /// The element, with its declaration; none where no signal is declared at that byte.
-    pub fn element(&self) -> Option<Element<'_>>
-        ensures declared { IfSome result (λ found. found.decl.now.at ≡ self.now.at) }
-        ensures place { IfSome result (λ found. found.place ≡ self.now.place) }
-    {
-        for top in self.program.tops.as_slice() {
-            if let Top::Func(func) = top
-                && let Some(decl) = declared_at(func, self.at)
-            {
-                return Some(Element {
-                    decl,
-                    place: self.place,
-                });
-            }
-        }
-        None
-    }
-}
-
-/// The signal of the function that is declared at this byte.
-fn declared_at(func: &Func, at: u32) -> Option<&Decl>
-    ensures { IfSome result (λ decl. decl.now.at ≡ at) }
-{
-    func.params
-        .iter()
-        .chain(func.results.iter())
-        .chain(func.locals.iter())
-        .find(|decl| decl.at == at)
 }
 
 /// The place of the element with this number in the expansion of the program.

@@ -2,43 +2,20 @@
 
 ghost use Rattle.std.specs.Prelude.{◌≡◌, ◌≤◌, ◌^◌, length, option_map, None};
 ghost use Rattle.silage_lex.specs.Tokens.{HasTokens, line_at};
-ghost use Rattle.front_end.specs.declared.fault.FrontError.TheVariants.{Fault};
 ghost use Rattle.front_end.specs.Places.{byte_of_lex, byte_of_name, byte_of_def, byte_of_kind, IsLineOf};
-ghost use Rattle.front_end.specs.Private.Errors.{of_lex, of_parse};
+ghost use Rattle.source_faults.specs.Private.Errors.{of_lex, of_parse};
 ghost use Rattle.front_end.specs.Private.Findings.{byte_of_finding};
 
 use crate::checks::Finding;
-use crate::fault::{FrontError, FrontFault};
 use crate::lines::{line_of, token_line};
-use crate::names::{ElementPlace, NamedElement};
-use fix_types::TypeFault;
-use name_check::NameFault;
+use crate::names::ElementPlace;
 use silage_lex::{LexFault, Tokens};
 use silage_parse::ParseFault;
 use silage_syntax::Program;
-use single_def::DefFault;
-
-/// Why the front end gives no program, and of what in the source.
-#[derive(Drop)]
-pub struct Rejection {
-    pub error: FrontError,
-    /// The line of the fault, from 1. That a source is too long or has no main has none.
-    pub line: Option<u64>,
-    /// The element that the fault is about, where it is about one.
-    pub element: Option<NamedElement>,
-}
-
-impl From<FrontFault> for Rejection {
-    ghost from_gives = { λ fault rejection. rejection ≡ record { error = Fault fault; line = None; element = None } };
-
-    fn from(fault: FrontFault) -> Self {
-        Rejection {
-            error: FrontError::Fault(fault),
-            line: None,
-            element: None,
-        }
-    }
-}
+use source_elements::DefFault;
+use source_faults::{FrontError, FrontFault, NamedElement, Rejection};
+use source_names::NameFault;
+use typed_source::TypeFault;
 
 pub(crate) fn lex_rejection(source: &[u8], fault: LexFault) -> Rejection
     ensures { result ≡ record {

@@ -8,12 +8,22 @@ use Rattle.desk_core.proofs.WholeLemmas.{through_stays, through_beside}
 use Rattle.silc_files.specs.Endings.{IsRejected, IsNotWritten, IsFinished, ChangesOnly, UsesOnly}
 use Rattle.silc_files.specs.Reading.{OnlyReads}
 
-pub unchanged_trans : (old mid new : View) → IsUnchangedButInput old mid → IsUnchangedButInput mid new → IsUnchangedButInput old new
+pub unchanged_trans : (old mid new : View)
+    → IsUnchangedButInput old mid
+    → IsUnchangedButInput mid new
+    → IsUnchangedButInput old new
 unchanged_trans old mid new h k =
-    record { files = k.files ∙ h.files; output = k.output ∙ h.output; printed = k.printed ∙ h.printed; writes = k.writes ∙ h.writes }
+    record {
+      files = k.files ∙ h.files;
+      output = k.output ∙ h.output;
+      printed = k.printed ∙ h.printed;
+      writes = k.writes ∙ h.writes;
+    }
 
 -- one input is read after the other
-pub reads_both : (first second : Name) (old mid new : View) → OnlyReads first first old mid → OnlyReads second second mid new
+pub reads_both : (first second : Name) (old mid new : View)
+    → OnlyReads first first old mid
+    → OnlyReads second second mid new
     → OnlyReads first second old new
 reads_both first second old mid new h k = record {
   never_fall = never_fall_trans old mid new h.never_fall k.never_fall;
@@ -22,14 +32,25 @@ reads_both first second old mid new h k = record {
 }
 
 -- OUT was written after the last input was read through
-pub finished : (last out : Name) (limit : ℕ) (bytes : Content) (old mid new : View) → out ≢ last → IsReadThrough last limit old mid
-    → IsWrittenWhole out bytes mid new → IsFinished last limit old new
+pub finished : (last out : Name) (limit : ℕ) (bytes : Content) (old mid new : View)
+    → out ≢ last
+    → IsReadThrough last limit old mid
+    → IsWrittenWhole out bytes mid new
+    → IsFinished last limit old new
 finished last out limit bytes old mid new apart h k =
-    record { read = through_beside last out limit old mid new apart h k.other_input k.place k.other_reads; closed = k.output }
+    record {
+      read = through_beside last out limit old mid new apart h k.other_input k.place k.other_reads;
+      closed = k.output;
+    }
 
 -- writing it failed
-pub not_written : (last out : Name) (limit : ℕ) (bytes : Content) (old mid new : View) → out ≢ last → IsReadThrough last limit old mid
-    → mid.files ≡ old.files → FaultsNeverFall old mid → WriteFaultsRose out mid new → IsWrittenInPart out bytes mid new
+pub not_written : (last out : Name) (limit : ℕ) (bytes : Content) (old mid new : View)
+    → out ≢ last
+    → IsReadThrough last limit old mid
+    → mid.files ≡ old.files
+    → FaultsNeverFall old mid
+    → WriteFaultsRose out mid new
+    → IsWrittenInPart out bytes mid new
     → IsNotWritten last limit out bytes old new
 not_written last out limit bytes old mid new apart h same le rose k = record {
   rose = rose_later _ _ _ (le.writing out) rose;
@@ -41,15 +62,24 @@ not_written last out limit bytes old mid new apart h same le rose k = record {
 module _ (old mid new : View) (same : IsUnchanged mid new) where
   pub unchanged_still : IsUnchangedButInput old mid → IsUnchangedButInput old new
   unchanged_still h =
-      record { files = same.files ∙ h.files; output = same.output ∙ h.output; printed = same.printed ∙ h.printed; writes = same.writes ∙ h.writes }
+      record {
+        files = same.files ∙ h.files;
+        output = same.output ∙ h.output;
+        printed = same.printed ∙ h.printed;
+        writes = same.writes ∙ h.writes;
+      }
 
   pub through_still : (last : Name) (limit : ℕ) → IsReadThrough last limit old mid → IsReadThrough last limit old new
-  through_still last limit h = through_stays last limit old mid new h same.input same.place (ap (λ (f : Name → Bool). f last) same.reads)
+  through_still last limit h =
+      through_stays last limit old mid new h same.input same.place (ap (λ (f : Name → Bool). f last) same.reads)
 
-  pub specified_still : (R : Files → Files → Type 0) → IfSpecified R old.files mid.files → IfSpecified R old.files new.files
+  pub specified_still : (R : Files → Files → Type 0)
+      → IfSpecified R old.files mid.files
+      → IfSpecified R old.files new.files
   specified_still R h = λ after is. h after (sym same.files ∙ is)
 
-  pub rejected_still : (last : Name) (limit : ℕ) (reason : Files → Type 0) → IsRejected last limit reason old mid
+  pub rejected_still : (last : Name) (limit : ℕ) (reason : Files → Type 0)
+      → IsRejected last limit reason old mid
       → IsRejected last limit reason old new
   rejected_still last limit reason h =
       record { unchanged = unchanged_still h.unchanged; read = through_still last limit h.read; why = h.why }
@@ -63,8 +93,11 @@ module _ (old mid new : View) (same : IsUnchanged mid new) where
     };
   }
 
-  pub not_written_still : (last out : Name) (limit : ℕ) (bytes : Content) → FaultsNeverFall old mid → FaultsNeverFall mid new
-      → IsNotWritten last limit out bytes old mid → IsNotWritten last limit out bytes old new
+  pub not_written_still : (last out : Name) (limit : ℕ) (bytes : Content)
+      → FaultsNeverFall old mid
+      → FaultsNeverFall mid new
+      → IsNotWritten last limit out bytes old mid
+      → IsNotWritten last limit out bytes old new
   not_written_still last out limit bytes before later h = record {
     rose = rose_earlier _ _ _ (before.writing out) h.rose (later.writing out);
     read = through_still last limit h.read;
@@ -75,6 +108,7 @@ module _ (old mid new : View) (same : IsUnchanged mid new) where
   uses_still first second out h = record {
     files = specified_still (ChangesOnly out) h.files;
     printed = same.printed ∙ h.printed;
-    reads = λ s not_first not_second is. h.reads s not_first not_second (ap (λ (f : Name → Bool). f s) (sym same.reads) ∙ is);
+    reads = λ s not_first not_second is.
+        h.reads s not_first not_second (ap (λ (f : Name → Bool). f s) (sym same.reads) ∙ is);
     writes = λ s ne is. h.writes s ne (ap (λ (f : Name → Bool). f s) (sym same.writes) ∙ is);
   }

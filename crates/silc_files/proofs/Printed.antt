@@ -18,19 +18,30 @@ prints_trans old mid new h k = record {
 }
 
 -- a piece more is printed
-module _ (bytes piece : Content) (done n : ℕ) (old mid new : View) (sofar : IsPrintedSoFar bytes done old mid) (step : IsPrinted n piece mid new)
-    (grown : take done bytes ++ take n piece ≡ take (done + n) bytes) where
+module _ (bytes piece : Content) (done n : ℕ) (old mid new : View) (sofar : IsPrintedSoFar bytes done old mid)
+    (step : IsPrinted n piece mid new) (grown : take done bytes ++ take n piece ≡ take (done + n) bytes) where
   more_bytes : IfSpecified (IsPrintedMore (take (done + n) bytes)) old.printed new.printed
   more_bytes after is =
       let (middle, its, ends) = step.printed after is in
-      let (before, there, begins) = sofar.printed middle its in
-      (before, there, ends ∙ ap (λ (xs : Content). xs ++ take n piece) begins ∙ append_assoc before (take done bytes) (take n piece) ∙ ap (λ (xs : Content). before ++ xs) grown)
+      let (before, there, begins) = sofar.printed middle its in (
+        before,
+        there,
+        ends ∙ ap (λ (xs : Content). xs ++ take n piece) begins ∙ append_assoc before (take done bytes) (take n piece)
+            ∙ ap (λ (xs : Content). before ++ xs) grown,
+      )
 
   pub printed_more : FaultsNeverFall mid new → done + n ≤ length bytes → IsPrintedSoFar bytes (done + n) old new
   printed_more later within = record {
     never_fall = never_fall_trans old mid new sofar.never_fall later;
     within = within;
     prints = prints_trans old mid new sofar.prints
-        (record { files = step.files; input = step.input; place = step.place; output = step.output; reads = step.reads; writes = step.writes });
+        (record {
+          files = step.files;
+          input = step.input;
+          place = step.place;
+          output = step.output;
+          reads = step.reads;
+          writes = step.writes;
+        });
     printed = more_bytes;
   }

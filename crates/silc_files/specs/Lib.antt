@@ -3,3 +3,4 @@ pub mod Endings
 pub mod Printing
 pub mod Reading
 pub mod Private
+pub mod Sources

@@ -2,9 +2,9 @@
 use Rattle.datapath.specs.declared.fault.PathFault.{PathFault}
 use Rattle.datapath.specs.declared.fault.PathFault.TheVariants as path
 use Rattle.delay_memory.specs.declared.fault.LineFault.TheVariants as line
-use Rattle.front_end.specs.declared.fault.FrontError.{FrontError}
-use Rattle.front_end.specs.declared.fault.FrontError.TheVariants.{Fault}
-use Rattle.front_end.specs.declared.fault.FrontError.TheVariants as front
+use Rattle.source_faults.specs.declared.fault.FrontError.{FrontError}
+use Rattle.source_faults.specs.declared.fault.FrontError.TheVariants.{Fault}
+use Rattle.source_faults.specs.declared.fault.FrontError.TheVariants as front
 use Rattle.micro_file.specs.declared.fault.FormFault.{FormFault}
 use Rattle.micro_file.specs.declared.fault.FormFault.TheVariants as form
 use Rattle.planner.specs.declared.fault.PlanFault.{PlanFault}

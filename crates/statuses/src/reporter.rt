@@ -5,7 +5,7 @@ use crate::status::{Ending, Status, UnitRefusal};
 use arrayvec::ArrayString;
 use datapath::Unit;
 use desk_core::Desk;
-use front_end::Element;
+use source_faults::Element;
 use std::fmt::{self, Write};
 
 /// A part of a line that is reported. The longest, of a bad row, has 66 bytes.

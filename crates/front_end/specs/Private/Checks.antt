@@ -3,20 +3,20 @@ use Rattle.std.specs.Prelude.{ℕ, List}
 use Rattle.ranked_faults.specs.Ranked.{IsClear, IsFirst}
 use Rattle.silage_syntax.specs.Tree.{Program}
 use Rattle.silage_meaning.specs.Rules.{HasNoDelaylessLoop}
-use Rattle.name_check.specs.NameFaults.{name_faults}
-use Rattle.single_def.specs.ElementFaults.{element_faults}
-use Rattle.fix_types.specs.TypeFaults.{type_faults}
+use Rattle.source_names.specs.NameFaults.{name_faults}
+use Rattle.source_elements.specs.ElementFaults.{element_faults}
+use Rattle.typed_source.specs.TypeFaults.{type_faults}
 use Rattle.signal_graph.specs.GraphRules.{IsGraph}
 use Rattle.signal_graph.specs.GraphSolves.{IsGraphLoopless}
 use Rattle.signal_graph.specs.declared.graph.Graph.{Graph}
 use Rattle.loop_expand.specs.KeepsProgram.{KeepsProgramSolutions}
-use Rattle.front_end.specs.Faults.{IsRead, IsOfSource}
+use Rattle.source_faults.specs.Faults.{IsRead, IsOfSource}
 use Rattle.front_end.specs.GraphOf.{IsProgramGraph}
-use Rattle.front_end.specs.Loops.{IsFirstLoop}
-use Rattle.front_end.specs.declared.fault.FrontError.{FrontError}
-use Rattle.front_end.specs.declared.fault.FrontError.TheVariants.{Fault, Memory}
-use Rattle.front_end.specs.declared.fault.FrontFault.{FrontFault}
-use Rattle.front_end.specs.declared.fault.FrontFault.TheVariants.{Name, Def, Kind, Loop}
+use Rattle.source_faults.specs.Loops.{IsFirstLoop}
+use Rattle.source_faults.specs.declared.fault.FrontError.{FrontError}
+use Rattle.source_faults.specs.declared.fault.FrontError.TheVariants.{Fault, Memory}
+use Rattle.source_faults.specs.declared.fault.FrontFault.{FrontFault}
+use Rattle.source_faults.specs.declared.fault.FrontFault.TheVariants.{Name, Def, Kind, Loop}
 
 -- some source is this program
 abbrev pub HasSource : Program → Type 0

@@ -1,12 +1,12 @@
 -- What the checks find: the error, and the element that it is about.
 use Rattle.std.specs.Prelude.{ℕ, Option, Some, None, option_map}
-use Rattle.single_def.specs.ElementFaults.{without_place}
-use Rattle.single_def.specs.declared.fault.PlacedFault.{PlacedFault}
-use Rattle.single_def.specs.declared.fault.PlacedFault.TheVariants as placed
+use Rattle.source_elements.specs.ElementFaults.{without_place}
+use Rattle.source_elements.specs.declared.fault.PlacedFault.{PlacedFault}
+use Rattle.source_elements.specs.declared.fault.PlacedFault.TheVariants as placed
 use Rattle.front_end.specs.Places.{byte_of}
-use Rattle.front_end.specs.Private.Errors.{of_defs}
+use Rattle.source_faults.specs.Private.Errors.{of_defs}
 use Rattle.front_end.specs.declared.checks.Finding.{Finding}
-use Rattle.front_end.specs.declared.fault.FrontError.{FrontError}
+use Rattle.source_faults.specs.declared.fault.FrontError.{FrontError}
 use Rattle.front_end.specs.declared.names.ElementPlace.{ElementPlace}
 
 -- the byte of the declaration of an element, and its place in that

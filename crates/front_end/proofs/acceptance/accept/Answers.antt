@@ -2,14 +2,17 @@ use Rattle.std.proofs.Common.{List, ℕ}
 use Rattle.std.proofs.lemmas.Result.{err_from_is_err_and}
 use Rattle.silage_syntax.specs.Tree.{Program, view}
 use Rattle.signal_graph.specs.declared.graph.Graph.{Graph}
-use Rattle.front_end.specs.Faults.{IsRead, HasProgram}
+use Rattle.source_faults.specs.Faults.{IsRead, HasProgram}
 use Rattle.front_end.specs.Private.Checks.{HasNoFault, IsGraphFor}
 use Rattle.front_end.proofs.FirstFaults.{source_error}
 use Rattle.front_end.proofs.FaultPlaces.{early_line, early_element, late_line, late_element}
 use Rattle.front_end.proofs.OneAnswer.{one_program, program_error, fault_error, no_fault}
 use Rattle.front_end.proofs.acceptance.accept.Goals as goal
 
-has_program : (source : List ℕ) (program : Program) (graph : Graph) → IsRead source program → HasNoFault program → IsGraphFor program graph
+has_program : (source : List ℕ) (program : Program) (graph : Graph)
+    → IsRead source program
+    → HasNoFault program
+    → IsGraphFor program graph
     → HasProgram source program
 has_program source program graph read none is =
     record { read = read; names = none.names; elements = none.elements; types = none.types; loops = is.loops }
@@ -18,7 +21,8 @@ pub returns-in_err-program-clause-each_program : goal.returns-in_err-program-cla
 returns-in_err-program-clause-each_program c =
     let p = err_from_is_err_and c.from_residual.result c.from_residual.ensures.1 in
     rw (p.1, p.2)
-    (λ program has. program_error c.args.source.now c.in_err-program.field-0.0.error c.in_err-program.ensures.err program has)
+    (λ program has.
+    program_error c.args.source.now c.in_err-program.field-0.0.error c.in_err-program.ensures.err program has)
 
 pub returns-in_err-program-clause-each_fault : goal.returns-in_err-program-clause-each_fault
 returns-in_err-program-clause-each_fault c =
@@ -31,33 +35,38 @@ checked_graph-requires c = (c.args.source.now, c.in_ok-program.ensures.ok)
 
 pub returns-in-Ok-clause-ok : goal.returns-in-Ok-clause-ok
 returns-in-Ok-clause-ok c =
-    has_program c.args.source.now (view c.in_ok-program.program) c.in-Ok.graph c.in_ok-program.ensures.ok c.in-Ok.ensures.ok
+    has_program c.args.source.now (view c.in_ok-program.program) c.in-Ok.graph c.in_ok-program.ensures.ok
+    c.in-Ok.ensures.ok
     c.in-Ok.ensures.graph
 
 pub returns-in-Ok-clause-each_program : goal.returns-in-Ok-clause-each_program
 returns-in-Ok-clause-each_program c = λ program has.
     one_program c.args.source.now program (view c.in_ok-program.program) has
-    (has_program c.args.source.now (view c.in_ok-program.program) c.in-Ok.graph c.in_ok-program.ensures.ok c.in-Ok.ensures.ok
+    (has_program c.args.source.now (view c.in_ok-program.program) c.in-Ok.graph c.in_ok-program.ensures.ok
+    c.in-Ok.ensures.ok
     c.in-Ok.ensures.graph)
 
 pub returns-in-Ok-clause-each_fault : goal.returns-in-Ok-clause-each_fault
 returns-in-Ok-clause-each_fault c = λ fault has.
     no_fault c.args.source.now (view c.in_ok-program.program)
-    (has_program c.args.source.now (view c.in_ok-program.program) c.in-Ok.graph c.in_ok-program.ensures.ok c.in-Ok.ensures.ok
+    (has_program c.args.source.now (view c.in_ok-program.program) c.in-Ok.graph c.in_ok-program.ensures.ok
+    c.in-Ok.ensures.ok
     c.in-Ok.ensures.graph)
     fault has
 
 pub returns-in-Err-clause-err : goal.returns-in-Err-clause-err
 returns-in-Err-clause-err c =
     rw c.reject.ensures.error
-    (source_error (view c.in_ok-program.program) c.args.source.now c.in_ok-program.ensures.ok c.in-Err.finding.error c.in-Err.ensures.err)
+    (source_error (view c.in_ok-program.program) c.args.source.now c.in_ok-program.ensures.ok c.in-Err.finding.error
+    c.in-Err.ensures.err)
 
 pub returns-in-Err-clause-each_program : goal.returns-in-Err-clause-each_program
 returns-in-Err-clause-each_program c =
     rw c.reject.ensures.error
     (λ program has.
     program_error c.args.source.now c.in-Err.finding.error
-    (source_error (view c.in_ok-program.program) c.args.source.now c.in_ok-program.ensures.ok c.in-Err.finding.error c.in-Err.ensures.err)
+    (source_error (view c.in_ok-program.program) c.args.source.now c.in_ok-program.ensures.ok c.in-Err.finding.error
+    c.in-Err.ensures.err)
     program has)
 
 pub returns-in-Err-clause-each_fault : goal.returns-in-Err-clause-each_fault
@@ -65,20 +74,23 @@ returns-in-Err-clause-each_fault c =
     rw c.reject.ensures.error
     (λ fault has.
     fault_error c.args.source.now c.in-Err.finding.error
-    (source_error (view c.in_ok-program.program) c.args.source.now c.in_ok-program.ensures.ok c.in-Err.finding.error c.in-Err.ensures.err)
+    (source_error (view c.in_ok-program.program) c.args.source.now c.in_ok-program.ensures.ok c.in-Err.finding.error
+    c.in-Err.ensures.err)
     fault has)
 
 pub returns-in_err-program-clause-line : goal.returns-in_err-program-clause-line
 returns-in_err-program-clause-line c =
     let p = err_from_is_err_and c.from_residual.result c.from_residual.ensures.1 in
     rw (p.1, p.2)
-    (early_line c.args.source.now c.in_err-program.field-0.0 c.in_err-program.ensures.element c.in_err-program.ensures.line)
+    (early_line c.args.source.now c.in_err-program.field-0.0 c.in_err-program.ensures.element
+    c.in_err-program.ensures.line)
 
 pub returns-in_err-program-clause-element : goal.returns-in_err-program-clause-element
 returns-in_err-program-clause-element c =
     let p = err_from_is_err_and c.from_residual.result c.from_residual.ensures.1 in
     rw (p.1, p.2)
-    (early_element c.args.source.now c.in_err-program.field-0.0 c.in_err-program.ensures.element c.in_err-program.ensures.about)
+    (early_element c.args.source.now c.in_err-program.field-0.0 c.in_err-program.ensures.element
+    c.in_err-program.ensures.about)
 
 pub returns-in-Err-clause-line : goal.returns-in-Err-clause-line
 returns-in-Err-clause-line c =

@@ -1,7 +1,7 @@
 use Rattle.std.proofs.Common.{arith}
 use Rattle.std.proofs.lemmas.Result.{err_from_is_err_and}
 use Rattle.silage_syntax.specs.Tree.{view}
-use Rattle.single_def.proofs.PlacedFaults.{elements_clear}
+use Rattle.source_elements.proofs.PlacedFaults.{elements_clear}
 use Rattle.front_end.proofs.Counts.{few_tops, short_numbers, results}
 use Rattle.front_end.proofs.FirstFaults.{name_error, def_error, type_error}
 use Rattle.front_end.proofs.FaultPlaces.{name_about, def_about, type_about}
@@ -30,7 +30,8 @@ pub returns-in_err-elements-clause-err : goal.returns-in_err-elements-clause-err
 returns-in_err-elements-clause-err c =
     let p = err_from_is_err_and c.from_residual-in_err-elements.result c.from_residual-in_err-elements.ensures.1 in
     rw (p.1, p.2)
-    (def_error (view c.args.program.now) c.in_ok-names.ensures.ok c.in_err-elements.field-0.0 c.in_err-elements.ensures.fault)
+    (def_error (view c.args.program.now) c.in_ok-names.ensures.ok c.in_err-elements.field-0.0
+    c.in_err-elements.ensures.fault)
 
 pub returns-in_err-typed-clause-err : goal.returns-in_err-typed-clause-err
 returns-in_err-typed-clause-err c =

@@ -15,11 +15,14 @@ returns-in_err-graph-clause-err c =
     let p = err_from_is_err_and c.from_residual-in_err-graph.result c.from_residual-in_err-graph.ensures.1 in
     rw (p.1, p.2)
     (λ p are.
-    build_error p c.args.typed.now c.args.elements.now are (view c.in_ok-flat.flat) (c.in_ok-flat.ensures.flat p are) c.in_err-graph.field-0.0
+    build_error p c.args.typed.now c.args.elements.now are (view c.in_ok-flat.flat) (c.in_ok-flat.ensures.flat p are)
+    c.in_err-graph.field-0.0
     (λ e is. c.in_err-graph.ensures.fault e (ap Err is)))
 
 pub returns-clause-ok : goal.returns-clause-ok
 returns-clause-ok c = λ p are.
-    graph_for p c.args.typed.now c.args.elements.now are (view c.in_ok-flat.flat) (c.in_ok-flat.ensures.flat p are) c.in_ok-graph.ensures.no_loop
-    c.in_ok-graph.graph c.in_ok-prune.field-0 c.in_ok-graph.ensures.graph c.in_ok-prune.ensures.pruned c.in_ok-prune.ensures.sound
+    graph_for p c.args.typed.now c.args.elements.now are (view c.in_ok-flat.flat) (c.in_ok-flat.ensures.flat p are)
+    c.in_ok-graph.ensures.no_loop
+    c.in_ok-graph.graph c.in_ok-prune.field-0 c.in_ok-graph.ensures.graph c.in_ok-prune.ensures.pruned
+    c.in_ok-prune.ensures.sound
     c.in_ok-prune.ensures.loopless

@@ -10,15 +10,15 @@ use Rattle.silage_syntax.specs.Tree.{Program}
 use Rattle.silage_meaning.specs.Rules.{HasNoDelaylessLoop}
 use Rattle.silage_parse.specs.Answers.{IsWithin, HasFault as HasParseFault}
 use Rattle.silage_parse.specs.declared.ParseFault.TheVariants as parse
-use Rattle.name_check.specs.NameFaults.{name_faults}
-use Rattle.name_check.specs.declared.fault.NameFault.TheVariants as name
-use Rattle.single_def.specs.ElementFaults.{element_faults}
-use Rattle.single_def.specs.declared.fault.DefFault.TheVariants as def
-use Rattle.fix_types.specs.TypeFaults.{type_faults}
-use Rattle.fix_types.specs.declared.fault.TypeFault.TheVariants as kind
-use Rattle.front_end.specs.Loops.{IsFirstLoop}
-use Rattle.front_end.specs.declared.fault.FrontFault.{FrontFault}
-use Rattle.front_end.specs.declared.fault.FrontFault.TheVariants.{TooLong, Lex, Parse, Name, Def, Kind, Loop}
+use Rattle.source_names.specs.NameFaults.{name_faults}
+use Rattle.source_names.specs.declared.fault.NameFault.TheVariants as name
+use Rattle.source_elements.specs.ElementFaults.{element_faults}
+use Rattle.source_elements.specs.declared.fault.DefFault.TheVariants as def
+use Rattle.typed_source.specs.TypeFaults.{type_faults}
+use Rattle.typed_source.specs.declared.fault.TypeFault.TheVariants as kind
+use Rattle.source_faults.specs.Loops.{IsFirstLoop}
+use Rattle.source_faults.specs.declared.fault.FrontFault.{FrontFault}
+use Rattle.source_faults.specs.declared.fault.FrontFault.TheVariants.{TooLong, Lex, Parse, Name, Def, Kind, Loop}
 
 -- the most bytes of a source
 abbrev pub source_limit : ℕ

@@ -1,17 +1,16 @@
 //! Why a source has no program.
 
 ghost use Rattle.std.specs.Prelude.{◌≡◌};
-ghost use Rattle.front_end.specs.declared.fault.FrontError.TheVariants.{Memory};
-ghost use Rattle.front_end.specs.Private.Errors.{of_lex, of_parse, of_names, of_defs, of_types, of_build};
+ghost use Rattle.source_faults.specs.declared.fault.FrontError.TheVariants.{Memory};
+ghost use Rattle.source_faults.specs.Private.Errors.{of_lex, of_parse, of_names, of_defs, of_types, of_build};
 
-use fix_types::TypeFault;
 use flow_graph::{GraphFault, PruneFault};
-use loop_expand::ExpandFault;
-use name_check::NameFault;
 use silage_lex::LexFault;
 use silage_parse::ParseFault;
-use single_def::DefFault;
+use source_elements::DefFault;
+use source_names::NameFault;
 use thiserror::Error;
+use typed_source::TypeFault;
 
 /// The fault of a source that has no program. Want of memory is an error of its own and never comes in here.
 #[derive(Clone, Copy, Debug, PartialEq, Eq, Error)]
@@ -102,14 +101,6 @@ impl From<TypeFault> for FrontError {
             TypeFault::Memory => FrontError::Memory,
             fault => FrontError::Fault(FrontFault::Kind(fault)),
         }
-    }
-}
-
-impl From<ExpandFault> for FrontError {
-    ghost from_gives = { λ _ error. error ≡ Memory };
-
-    fn from(_: ExpandFault) -> Self {
-        FrontError::Memory
     }
 }
 

@@ -1,0 +1,15 @@
+//! Why a source has no program, over all phases, with the line and the element that the text of a fault names.
+#![tactic(auto)]
+
+mod element;
+mod fault;
+mod rejection;
+
+pub use element::{Element, NamedElement};
+pub use fault::{FrontError, FrontFault};
+pub use rejection::Rejection;
+pub use silage_lex::LexFault;
+pub use silage_parse::ParseFault;
+pub use source_elements::DefFault;
+pub use source_names::NameFault;
+pub use typed_source::TypeFault;
