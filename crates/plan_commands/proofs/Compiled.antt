@@ -12,22 +12,30 @@ use Rattle.signal_graph.specs.declared.graph.Graph.{Graph}
 use Rattle.silage_syntax.specs.Tree.{Program}
 use Rattle.plan_commands.specs.Headline.{SpellsOnly, RunsTheSolution}
 use Rattle.plan_commands.specs.Compiling.{IsMicrocodeOf, IsMade}
-use Rattle.plan_commands.specs.Planning.{IsGraphFor, IsReadPlan}
+use Rattle.loop_expand.specs.GraphFor.{IsGraphFor}
+use Rattle.plan_commands.specs.Planning.{IsReadPlan}
 use Rattle.plan_commands.specs.declared.planning.Planned.{Planned}
 
 pub spells_only : (bytes : List ℕ) (image : Image) → Spells bytes image → SpellsOnly bytes image
 spells_only bytes image is = record { spells = is; unique = λ other its. sym (Spells-unique bytes image other is its) }
 
 -- an image that runs the graph of a program runs the program's one solution
-pub runs_the_solution : (p : Program) (g : Graph) (image : Image) → IsGraphFor p g → RunsSolution g image → RunsTheSolution p image
+pub runs_the_solution : (p : Program) (g : Graph) (image : Image)
+    → IsGraphFor p g
+    → RunsSolution g image
+    → RunsTheSolution p image
 runs_the_solution p g image graph runs stream valid =
     let (words, one) = graph.keeps.one_solution stream valid in
-    let (others, theirs, equal) = (graph.keeps.solutions stream valid).forth words ((solves_system p stream words).0 one.solves) in
+    let (others, theirs, equal) =
+    (graph.keeps.solutions stream valid).forth words ((solves_system p stream words).0 one.solves) in
     (words, one, subst (IsRunOut (microprogram_of image) stream) equal (runs stream others theirs.solves))
 
-module _ (src datapath : Name) (old new : View) (planned : Planned) (plan : IsReadPlan src datapath old new planned) where
+module _ (src datapath : Name) (old new : View) (planned : Planned)
+    (plan : IsReadPlan src datapath old new planned) where
   -- its microcode is compiled from the files
-  pub made : (microcode : Content) → IsMicrocodeOf planned.path planned.plan microcode → IsMade src datapath old new microcode
+  pub made : (microcode : Content)
+      → IsMicrocodeOf planned.path planned.plan microcode
+      → IsMade src datapath old new microcode
   made microcode of = record {
     read = plan.read;
     compiled = λ files is. record {
@@ -39,7 +47,8 @@ module _ (src datapath : Name) (old new : View) (planned : Planned) (plan : IsRe
       image_of = of.image_of;
       spelled = of.spelled;
       short = of.short;
-      runs = runs_the_solution plan.program plan.graph of.image plan.keeps (of.runs plan.graph plan.keeps.sound plan.plan);
+      runs =
+          runs_the_solution plan.program plan.graph of.image plan.keeps (of.runs plan.graph plan.keeps.sound plan.plan);
       period = of.image_of.period;
     };
   }

@@ -1,4 +1,5 @@
--- Where a source has a plan over a datapath, no refusal is due, so `compile` and `schedule` are done, memory runs out, or
+-- Where a source has a plan over a datapath, no refusal is due, so `compile` and `schedule` are done, memory runs out,
+-- or
 -- faults rise.
 use Rattle.std.proofs.Common.{◌≡◌, ◌⊎◌, ◌∙◌, ◌^◌, refl, sym, inl, inr, ⊎_elim, length, Ok, Some}
 use Rattle.std.proofs.lemmas.Bool.{le-ltb}
@@ -20,7 +21,8 @@ use Rattle.plan_commands.specs.Refusals.{IsRefusal, IsRefused, IsPlanError}
 use Rattle.plan_commands.specs.Schedule.{IsScheduleAnswer}
 use Rattle.plan_commands.proofs.PlanAnswers.{fault_for, its_refusal}
 use Rattle.statuses.specs.declared.status.Status.{Status}
-use Rattle.statuses.specs.declared.status.Status.TheVariants.{Done, Memory, Words, Desk, FrontEnd, Path, LinesFull, Period, FileFull, Image, Samples, Conflict}
+use Rattle.statuses.specs.declared.status.Status.TheVariants.{Done, Memory, Words, Desk, FrontEnd, Path, LinesFull}
+use Rattle.statuses.specs.declared.status.Status.TheVariants.{Period, FileFull, Image, Samples, Conflict}
 use Rattle.statuses.specs.declared.status.Status.TheVariants as status
 
 -- a datapath that a file describes has numbers that it may have
@@ -33,8 +35,12 @@ path_allowed bytes d is = allowed_from_gives is.table (Ok d) (sym at ∙ is_read
 
 -- a source that has a plan is not refused
 module _ (s d : Content) where
-  planned : (program : Program) (at : Datapath) (plan : Plan) → IsPlanOver s d program at plan → (why : Status)
-      → IsRefusal why → IsRefused why s d → ⊥
+  planned : (program : Program) (at : Datapath) (plan : Plan)
+      → IsPlanOver s d program at plan
+      → (why : Status)
+      → IsRefusal why
+      → IsRefused why s d
+      → ⊥
   planned program at plan over why is h =
       let fault = fault_for over.graph at why
       (its_refusal s d program over.read over.graph over.graph_of at over.described why is h) in
@@ -48,7 +54,8 @@ module _ (s d : Content) where
 module _ (src datapath : Name) (old new : View) (files : Files) (told : old.files ≡ Some files)
     (has : IsPlannable (content_of (files src)) (content_of (files datapath))) where
   -- an error before anything is made or printed
-  error_is : (error : Status) → IsPlanError src datapath old new error
+  error_is : (error : Status)
+      → IsPlanError src datapath old new error
       → (error ≡ Memory) ⊎ ((error ≡ Desk) × (ReadFaultsRose src old new ⊎ ReadFaultsRose datapath old new))
   error_is error (inl memory) = inl memory.0
   error_is error (inr (inl unread)) = inr (unread.0, unread.1.rose)
@@ -64,8 +71,11 @@ module _ (src datapath : Name) (old new : View) (files : Files) (told : old.file
     ends : (error : Status) → IsPlanError src datapath old new error → (error ≡ Done) ⊎ (error ≡ Memory)
     ends error h = inr (plan_memory error h)
 
-    pub compile_complete : (out : Name) → (WriteFaultsRose out old new → ⊥) → (answer : Status)
-        → IsAnswer src datapath out old new answer → (answer ≡ Done) ⊎ (answer ≡ Memory)
+    pub compile_complete : (out : Name)
+        → (WriteFaultsRose out old new → ⊥)
+        → (answer : Status)
+        → IsAnswer src datapath out old new answer
+        → (answer ≡ Done) ⊎ (answer ≡ Memory)
     compile_complete out no_out Done h = inl refl
     compile_complete out no_out Desk (inl h) = ends Desk h
     compile_complete out no_out Desk (inr cut) = absurd (no_out cut.written.rose)
@@ -81,8 +91,10 @@ module _ (src datapath : Name) (old new : View) (files : Files) (told : old.file
     compile_complete out no_out (Samples fault) h = ends (Samples fault) h
     compile_complete out no_out (Conflict conflict) h = ends (Conflict conflict) h
 
-    pub schedule_complete : (PrintFaultsRose old new → ⊥) → (answer : Status)
-        → IsScheduleAnswer src datapath old new answer → (answer ≡ Done) ⊎ (answer ≡ Memory)
+    pub schedule_complete : (PrintFaultsRose old new → ⊥)
+        → (answer : Status)
+        → IsScheduleAnswer src datapath old new answer
+        → (answer ≡ Done) ⊎ (answer ≡ Memory)
     schedule_complete no_print Done h = inl refl
     schedule_complete no_print Desk (inl h) = ends Desk h
     schedule_complete no_print Desk (inr cut) = absurd (no_print cut.rose)

@@ -16,9 +16,11 @@ use Rattle.silc_files.proofs.Endings.{reads_both, unchanged_still, rejected_stil
 use Rattle.plan_commands.proofs.Plans.{planned_over}
 
 -- the source was read, and then the datapath
-module _ (src datapath : Name) (old mid new : View) (first : OnlyReads src src old mid) (second : OnlyReads datapath datapath mid new)
-    (source path : Input) (source_is : WhereSpecified old (λ files. IsInput (content_of (files src)) source))
-    (path_is : WhereSpecified mid (λ files. IsInput (content_of (files datapath)) path)) (read : IsReadThrough datapath text_limit mid new) where
+module _ (src datapath : Name) (old mid new : View) (first : OnlyReads src src old mid)
+    (second : OnlyReads datapath datapath mid new) (source path : Input)
+    (source_is : WhereSpecified old (λ files. IsInput (content_of (files src)) source))
+    (path_is : WhereSpecified mid (λ files. IsInput (content_of (files datapath)) path))
+    (read : IsReadThrough datapath text_limit mid new) where
   -- why the inputs have no plan
   pub not_planned : (status : Status) → IsNoInputPlan source path status → IsPlanError src datapath old new status
   not_planned status h =
@@ -29,7 +31,9 @@ module _ (src datapath : Name) (old mid new : View) (first : OnlyReads src src o
         record {
           unchanged = (reads_both src datapath old mid new first second).unchanged;
           read = through_from datapath text_limit old mid new first.unchanged.files read;
-          why = λ files is. refused.1 (content_of (files src)) (content_of (files datapath)) (source_is files is) (path_is files (first.unchanged.files ∙ is));
+          why = λ files is.
+              refused.1 (content_of (files src)) (content_of (files datapath)) (source_is files is)
+              (path_is files (first.unchanged.files ∙ is));
         },
       )))
       h
@@ -45,25 +49,33 @@ module _ (src datapath : Name) (old mid new : View) (first : OnlyReads src src o
     plan = h.plan;
     specified = λ files is.
         let has = h.source_is (content_of (files src)) (source_is files is) in
-        planned_over (content_of (files src)) (content_of (files datapath)) h.program has.read h.graph has.graph planned.path
+        planned_over (content_of (files src)) (content_of (files datapath)) h.program has.read h.graph has.graph
+        planned.path
         (h.path_is (content_of (files datapath)) (path_is files (first.unchanged.files ∙ is))) planned.plan h.plan;
   }
 
 -- a report of the error leaves the answer as it is
-module _ (src datapath : Name) (old mid new : View) (same : IsUnchanged mid new) (later : FaultsNeverFall mid new) (before : FaultsNeverFall old mid) where
+module _ (src datapath : Name) (old mid new : View) (same : IsUnchanged mid new) (later : FaultsNeverFall mid new)
+    (before : FaultsNeverFall old mid) where
   unread_still : IsUnread src datapath old mid → IsUnread src datapath old new
   unread_still h = record {
     unchanged = unchanged_still old mid new same h.unchanged;
-    rose = ⊎_elim (λ r. inl (rose_earlier _ _ _ (before.reading src) r (later.reading src))) (λ r. inr (rose_earlier _ _ _ (before.reading datapath) r (later.reading datapath))) h.rose;
+    rose =
+        ⊎_elim (λ r. inl (rose_earlier _ _ _ (before.reading src) r (later.reading src)))
+        (λ r. inr (rose_earlier _ _ _ (before.reading datapath) r (later.reading datapath))) h.rose;
   }
 
-  pub error_still : (status : Status) → IsPlanError src datapath old mid status → IsPlanError src datapath old new status
+  pub error_still : (status : Status)
+      → IsPlanError src datapath old mid status
+      → IsPlanError src datapath old new status
   error_still status h =
       ⊎_elim
       (λ memory. inl (memory.0, unchanged_still old mid new same memory.1))
       (λ rest. inr
       (⊎_elim
       (λ desk. inl (desk.0, unread_still desk.1))
-      (λ refused. inr (refused.0, rejected_still old mid new same datapath text_limit (AreRefused src datapath status) refused.1))
+      (λ refused.
+      inr
+      (refused.0, rejected_still old mid new same datapath text_limit (AreRefused src datapath status) refused.1))
       rest))
       h

@@ -10,11 +10,11 @@ use Rattle.datapath.specs.declared.types.Datapath.{Datapath}
 use Rattle.datapath.proofs.DescribedPath.{is_read, one_path}
 use Rattle.datapath.proofs.FirstPath.{first_read}
 use Rattle.desk_core.specs.View.{Content}
-use Rattle.front_end.specs.Faults.{HasProgram, IsFrontFault}
+use Rattle.source_faults.specs.Faults.{HasProgram, IsFrontFault}
 use Rattle.front_end.specs.GraphOf.{IsProgramGraph}
-use Rattle.front_end.specs.declared.fault.FrontError.{FrontError}
-use Rattle.front_end.specs.declared.fault.FrontError.TheVariants.{Fault, Memory as front_memory}
-use Rattle.front_end.specs.declared.fault.FrontFault.{FrontFault}
+use Rattle.source_faults.specs.declared.fault.FrontError.{FrontError}
+use Rattle.source_faults.specs.declared.fault.FrontError.TheVariants.{Fault, Memory as front_memory}
+use Rattle.source_faults.specs.declared.fault.FrontFault.{FrontFault}
 use Rattle.front_end.proofs.OneAnswer.{one_program, no_fault}
 use Rattle.front_end.proofs.OneGraph.{program_graph_once}
 use Rattle.plan_core.specs.declared.plan.Plan.{Plan}
@@ -29,12 +29,13 @@ use Rattle.plan_commands.specs.Plans.{HasPlan, IsUnplanned, IsUnplannedOver, fau
 use Rattle.plan_commands.proofs.Plans.{file_fault}
 use Rattle.plan_commands.specs.PlanOf.{AnswersPlan, AnswersRefusal}
 use Rattle.plan_commands.specs.Refusals.{IsOfPath, IsRefusal, IsRefused, IsNoPlan}
-use Rattle.plan_commands.specs.Sources.{IsAcceptedSource}
+use Rattle.silc_files.specs.Sources.{IsAcceptedSource}
 use Rattle.plan_commands.specs.Planning.{TellsWhy}
 use Rattle.statuses.specs.Faults.{of_front, of_path, of_plan}
 use Rattle.plan_commands.specs.declared.planning.Planned.{Planned}
 use Rattle.statuses.specs.declared.status.Status.{Status}
-use Rattle.statuses.specs.declared.status.Status.TheVariants.{Done, Memory, Words, Desk, FrontEnd, Path, LinesFull, Period, FileFull, Image, Samples, Conflict}
+use Rattle.statuses.specs.declared.status.Status.TheVariants.{Done, Memory, Words, Desk, FrontEnd, Path, LinesFull}
+use Rattle.statuses.specs.declared.status.Status.TheVariants.{Period, FileFull, Image, Samples, Conflict}
 use Rattle.statuses.specs.declared.status.Status.TheVariants as status
 use Rattle.statuses.specs.declared.status.UnitRefusal.{UnitRefusal}
 use Rattle.statuses.specs.declared.status.UnitRefusal.TheVariants.{NoUnit, NoRoute, TooWide, NoRam, NoAcu}
@@ -49,7 +50,9 @@ module _ (g : Graph) (d : Datapath) where
   status_again (NoAcu ram v) = refl
 
   -- the fault of a status, which the status tells again
-  pub fault_for : (why : Status) → IsUnplanned why g d → (fault : PlanFault) × IsPlanFault g d fault × (of_plan fault ≡ why)
+  pub fault_for : (why : Status)
+      → IsUnplanned why g d
+      → (fault : PlanFault) × IsPlanFault g d fault × (of_plan fault ≡ why)
   fault_for (status.Unit refusal) h = (fault_of refusal, h, status_again refusal)
   fault_for (LinesFull v) h = (plan.Line (line.LinesFull v), h, refl)
   fault_for (Period v) h = (plan.Period v, h, refl)
@@ -77,17 +80,29 @@ module _ (g : Graph) (d : Datapath) (answer : Result Plan PlanFault)
   same_bad : (f h : PlanFault) → bad f ≡ bad h → f ≡ h
   same_bad f h e = cc
 
-  at_err : (f : PlanFault) (status : Status) → answer ≡ Err f → status ≡ of_plan f → (h : PlanFault) → answer ≡ Err h
+  at_err : (f : PlanFault) (status : Status)
+      → answer ≡ Err f
+      → status ≡ of_plan f
+      → (h : PlanFault)
+      → answer ≡ Err h
       → status ≡ of_plan h
   at_err f status is told h e = told ∙ ap of_plan (same_bad f h (sym is ∙ e))
 
-  pub no_plan_found : (f : PlanFault) (status : Status) → answer ≡ Err f → status ≡ of_plan f → (p : Plan)
-      → IsPlan g d p → status ≡ Memory
+  pub no_plan_found : (f : PlanFault) (status : Status)
+      → answer ≡ Err f
+      → status ≡ of_plan f
+      → (p : Plan)
+      → IsPlan g d p
+      → status ≡ Memory
   no_plan_found f status is told p has =
       ⊎_elim (λ ok. good p f ok is) (λ memory. at_err f status is told plan.Memory memory) (found p has)
 
-  pub refusal_told : (f : PlanFault) (status : Status) → answer ≡ Err f → status ≡ of_plan f → (why : Status)
-      → IsUnplanned why g d → (status ≡ why) ⊎ (status ≡ Memory)
+  pub refusal_told : (f : PlanFault) (status : Status)
+      → answer ≡ Err f
+      → status ≡ of_plan f
+      → (why : Status)
+      → IsUnplanned why g d
+      → (status ≡ why) ⊎ (status ≡ Memory)
   refusal_told f status is told why has =
       let (fault, is_fault, again) = fault_for g d why has in
       ⊎_elim (λ e. inl (at_err f status is told fault e ∙ again)) (λ e. inr (at_err f status is told plan.Memory e))
@@ -164,7 +179,9 @@ module _ (s d : Content) where
     -- the file describes no datapath
     module _ (fault : PathFault) (status : Status) (told : status ≡ of_path fault)
         (found : (at : Datapath) → IsPathOf d at → (no_path fault ≡ Ok at) ⊎ (no_path fault ≡ Err path.Memory))
-        (refused : (f : PathFault) → IsPathFault d f → (no_path fault ≡ Err f) ⊎ (no_path fault ≡ Err path.Memory)) where
+        (refused : (f : PathFault)
+        → IsPathFault d f
+        → (no_path fault ≡ Err f) ⊎ (no_path fault ≡ Err path.Memory)) where
       tells : (f : PathFault) → no_path fault ≡ Err f → status ≡ of_path f
       tells f e = told ∙ ap of_path (let same : fault ≡ f = cc in same)
 
@@ -205,7 +222,8 @@ module _ (s d : Content) where
         where
           by : Cause why → IsUnplanned why g at
           by (of_source f has e) = absurd (no_fault s program read f has)
-          by (of_datapath f accepted is_f e) = absurd (let both : Ok at ≡ Err f = sym (is_read d at described) ∙ first_read d f is_f in cc)
+          by (of_datapath f accepted is_f e) =
+              absurd (let both : Ok at ≡ Err f = sym (is_read d at described) ∙ first_read d f is_f in cc)
           by (of_graph over) =
               subst (λ (z : Datapath). IsUnplanned why g z) (same_path over.path over.described)
               (subst (λ (h : Graph). IsUnplanned why h over.path)
@@ -219,37 +237,59 @@ module _ {A : Type 0} (r : Result A Status) (told : Status) (is : IsErrAnd r (λ
   either_is : (why : Status) → (told ≡ why) ⊎ (told ≡ Memory) → (r ≡ Err why) ⊎ (r ≡ Err Memory)
   either_is why h = ⊎_elim (λ e. inl (error_is why e)) (λ e. inr (error_is Memory e)) h
 
-pub no_plan : (r : Result Planned Status) (told : Status) → IsErrAnd r (λ (status : Status). status ≡ told)
-    → (at : Datapath) (p : Plan) → told ≡ Memory → AnswersPlan at p r
+pub no_plan : (r : Result Planned Status) (told : Status)
+    → IsErrAnd r (λ (status : Status). status ≡ told)
+    → (at : Datapath) (p : Plan)
+    → told ≡ Memory
+    → AnswersPlan at p r
 no_plan r told is at p e =
     subst (λ (x : Result Planned Status). AnswersPlan at p x) (sym (error_is r told is Memory e)) refl
 
-pub refusal_is : (r : Result Planned Status) (told : Status) → IsErrAnd r (λ (status : Status). status ≡ told)
-    → (why : Status) → (told ≡ why) ⊎ (told ≡ Memory) → AnswersRefusal why r
+pub refusal_is : (r : Result Planned Status) (told : Status)
+    → IsErrAnd r (λ (status : Status). status ≡ told)
+    → (why : Status)
+    → (told ≡ why) ⊎ (told ≡ Memory)
+    → AnswersRefusal why r
 refusal_is r told is why h =
     ⊎_elim (λ e. subst (λ (x : Result Planned Status). AnswersRefusal why x) (sym e) (inl refl))
     (λ e. subst (λ (x : Result Planned Status). AnswersRefusal why x) (sym e) (inr refl)) (either_is r told is why h)
 
-pub tells_why : (r : Result Plan Status) (told : Status) → IsErrAnd r (λ (status : Status). status ≡ told) → (why : Status)
-    → (told ≡ why) ⊎ (told ≡ Memory) → TellsWhy why r
+pub tells_why : (r : Result Plan Status) (told : Status)
+    → IsErrAnd r (λ (status : Status). status ≡ told)
+    → (why : Status)
+    → (told ≡ why) ⊎ (told ≡ Memory)
+    → TellsWhy why r
 tells_why r told is why h =
     ⊎_elim (λ e. subst (λ (x : Result Plan Status). TellsWhy why x) (sym e) (inl refl))
     (λ e. subst (λ (x : Result Plan Status). TellsWhy why x) (sym e) (inr refl)) (either_is r told is why h)
 
-pub at_error : {A : Type 0} (r : Result A Status) (told : Status) → IsErrAnd r (λ (status : Status). status ≡ told)
-    → (P : Status → Type 0) → P told → IfErr r P
+pub at_error : {A : Type 0} (r : Result A Status) (told : Status)
+    → IsErrAnd r (λ (status : Status). status ≡ told)
+    → (P : Status → Type 0)
+    → P told
+    → IfErr r P
 at_error {A} r told is P h = subst (λ (x : Result A Status). IfErr x P) (sym (error_is r told is told refl)) h
 
 -- the fault of a file, or no memory, is why a source with a program has no plan
-pub no_path_plan : (s d : Content) (program : Program) → HasProgram s program → (e : PathFault)
-    → (e ≡ path.Memory) ⊎ IsPathFault d e → IsNoPlan s d (of_path e)
+pub no_path_plan : (s d : Content) (program : Program)
+    → HasProgram s program
+    → (e : PathFault)
+    → (e ≡ path.Memory) ⊎ IsPathFault d e
+    → IsNoPlan s d (of_path e)
 no_path_plan s d program read path.Memory h = inl refl
 no_path_plan s d program read path.TooLong h = inr (tt, ((program, read), file_fault d path.TooLong h (λ e. cc)))
 no_path_plan s d program read path.NotToml h = inr (tt, ((program, read), file_fault d path.NotToml h (λ e. cc)))
-no_path_plan s d program read (path.UnknownKey section) h = inr (tt, ((program, read), file_fault d (path.UnknownKey section) h (λ e. cc)))
-no_path_plan s d program read (path.Missing section) h = inr (tt, ((program, read), file_fault d (path.Missing section) h (λ e. cc)))
-no_path_plan s d program read (path.WrongKind section) h = inr (tt, ((program, read), file_fault d (path.WrongKind section) h (λ e. cc)))
-no_path_plan s d program read (path.Range section) h = inr (tt, ((program, read), file_fault d (path.Range section) h (λ e. cc)))
-no_path_plan s d program read (path.UnknownUnit section) h = inr (tt, ((program, read), file_fault d (path.UnknownUnit section) h (λ e. cc)))
-no_path_plan s d program read (path.UnknownPort section) h = inr (tt, ((program, read), file_fault d (path.UnknownPort section) h (λ e. cc)))
-no_path_plan s d program read (path.Twice section) h = inr (tt, ((program, read), file_fault d (path.Twice section) h (λ e. cc)))
+no_path_plan s d program read (path.UnknownKey section) h =
+    inr (tt, ((program, read), file_fault d (path.UnknownKey section) h (λ e. cc)))
+no_path_plan s d program read (path.Missing section) h =
+    inr (tt, ((program, read), file_fault d (path.Missing section) h (λ e. cc)))
+no_path_plan s d program read (path.WrongKind section) h =
+    inr (tt, ((program, read), file_fault d (path.WrongKind section) h (λ e. cc)))
+no_path_plan s d program read (path.Range section) h =
+    inr (tt, ((program, read), file_fault d (path.Range section) h (λ e. cc)))
+no_path_plan s d program read (path.UnknownUnit section) h =
+    inr (tt, ((program, read), file_fault d (path.UnknownUnit section) h (λ e. cc)))
+no_path_plan s d program read (path.UnknownPort section) h =
+    inr (tt, ((program, read), file_fault d (path.UnknownPort section) h (λ e. cc)))
+no_path_plan s d program read (path.Twice section) h =
+    inr (tt, ((program, read), file_fault d (path.Twice section) h (λ e. cc)))

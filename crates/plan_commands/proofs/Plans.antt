@@ -15,12 +15,13 @@ use Rattle.signal_graph.specs.declared.graph.Graph.{Graph}
 use Rattle.plan_core.specs.declared.plan.Plan.{Plan}
 use Rattle.plan_core.specs.IsPlan.{IsPlan}
 use Rattle.silage_syntax.specs.Tree.{Program}
-use Rattle.front_end.specs.Faults.{HasProgram}
+use Rattle.source_faults.specs.Faults.{HasProgram}
 use Rattle.front_end.specs.GraphOf.{IsProgramGraph}
 use Rattle.front_end.proofs.OneAnswer.{one_program}
 use Rattle.plan_commands.specs.Plans.{IsPlannedOver, IsUnplanned, IsUnplannedOver}
 use Rattle.plan_commands.specs.Refusals.{IsRefusal, IsRefused}
-use Rattle.plan_commands.specs.Planning.{IsGraphFor, IsSourceIn, IsPathIn, IsNoPath, IsWithoutPlan, IsInputPlan, IsNoInputPlan}
+use Rattle.loop_expand.specs.GraphFor.{IsGraphFor}
+use Rattle.plan_commands.specs.Planning.{IsSourceIn, IsPathIn, IsNoPath, IsWithoutPlan, IsInputPlan, IsNoInputPlan}
 use Rattle.silc_files.specs.Reading.{IsInput}
 use Rattle.statuses.specs.Faults.{of_path}
 use Rattle.silc_files.specs.declared.files.Input.{Input}
@@ -28,7 +29,8 @@ use Rattle.silc_files.specs.declared.files.Input.TheVariants.{Whole, TooLong}
 use Rattle.plan_commands.specs.declared.planning.Planned.{Planned}
 use Rattle.statuses.specs.declared.status.Ending.{Ending}
 use Rattle.statuses.specs.declared.status.Status.{Status}
-use Rattle.statuses.specs.declared.status.Status.TheVariants.{Done, Memory, Words, Desk, FrontEnd, Path, LinesFull, Period, FileFull, Image, Samples, Conflict}
+use Rattle.statuses.specs.declared.status.Status.TheVariants.{Done, Memory, Words, Desk, FrontEnd, Path, LinesFull}
+use Rattle.statuses.specs.declared.status.Status.TheVariants.{Period, FileFull, Image, Samples, Conflict}
 use Rattle.statuses.specs.declared.status.Status.TheVariants as status
 
 refused_whole : (d : Content) → IsInput d TooLong → path_of d ≡ Err path.TooLong
@@ -40,11 +42,18 @@ pub too_long_path : (d : Content) → IsInput d TooLong → IsPathFault d path.T
 too_long_path d long = is_first d path.TooLong (refused_whole d long)
 
 -- the fault is the file's own where it is not want of memory
-pub file_fault : (d : Content) (e : PathFault) → (e ≡ path.Memory) ⊎ IsPathFault d e → (e ≡ path.Memory → ⊥) → IsPathFault d e
+pub file_fault : (d : Content) (e : PathFault)
+    → (e ≡ path.Memory) ⊎ IsPathFault d e
+    → (e ≡ path.Memory → ⊥)
+    → IsPathFault d e
 file_fault d e h other = ⊎_elim (λ memory. absurd (other memory)) (λ is. is) h
 
-its : (d : Content) (e : PathFault) → (e ≡ path.Memory) ⊎ IsPathFault d e → (e ≡ path.Memory → ⊥) → (s : Content)
-    → d ≡ s → IsPathFault s e
+its : (d : Content) (e : PathFault)
+    → (e ≡ path.Memory) ⊎ IsPathFault d e
+    → (e ≡ path.Memory → ⊥)
+    → (s : Content)
+    → d ≡ s
+    → IsPathFault s e
 its d e h other s same = subst (λ (bytes : Content). IsPathFault bytes e) same (file_fault d e h other)
 
 -- the fault of a file, or no memory, is why its input describes no datapath
@@ -77,8 +86,8 @@ refusal g path (Samples fault) h = absurd h
 refusal g path (Conflict conflict) h = absurd h
 
 -- what a source with a program has over a datapath
-module _ (s d : Content) (program : Program) (read : HasProgram s program) (g : Graph) (graph_of : IsProgramGraph program g)
-    (path : Datapath) (described : IsPathOf d path) where
+module _ (s d : Content) (program : Program) (read : HasProgram s program) (g : Graph)
+    (graph_of : IsProgramGraph program g) (path : Datapath) (described : IsPathOf d path) where
   pub planned_over : (plan : Plan) → IsPlan g path plan → IsPlannedOver s d program path plan
   planned_over plan is = record {
     has = record { read = read; described = described; graph = g; graph_of = graph_of; planned = is };
@@ -87,7 +96,15 @@ module _ (s d : Content) (program : Program) (read : HasProgram s program) (g : 
 
   unplanned_over : (status : Status) → IsUnplanned status g path → IsUnplannedOver status s d
   unplanned_over status is =
-      record { program = program; read = read; graph = g; graph_of = graph_of; path = path; described = described; unplanned = is }
+      record {
+        program = program;
+        read = read;
+        graph = g;
+        graph_of = graph_of;
+        path = path;
+        described = described;
+        unplanned = is;
+      }
 
   pub refused : (status : Status) → IsUnplanned status g path → IsRefused status s d
   refused (status.Unit refusal) h = unplanned_over (status.Unit refusal) h
@@ -105,8 +122,11 @@ module _ (s d : Content) (program : Program) (read : HasProgram s program) (g : 
   refused (Conflict conflict) h = absurd h
 
 -- why the file describes no datapath is why the inputs have no plan
-pub no_path : (source datapath : Input) (program : Program) (g : Graph) → IsSourceIn source program g
-    → (status : Status) → IsNoPath datapath status → IsNoInputPlan source datapath status
+pub no_path : (source datapath : Input) (program : Program) (g : Graph)
+    → IsSourceIn source program g
+    → (status : Status)
+    → IsNoPath datapath status
+    → IsNoInputPlan source datapath status
 no_path source datapath program g has Memory h = inl refl
 no_path source datapath program g has (Path fault) h = inr (h.0, λ s d hs hd. ((program, (has s hs).read), h.1 d hd))
 no_path source datapath program g has Done h = absurd h
@@ -122,17 +142,32 @@ no_path source datapath program g has (Samples fault) h = absurd h
 no_path source datapath program g has (Conflict conflict) h = absurd h
 
 -- why the graph has no plan is why the inputs have none
-pub no_input_plan : (source datapath : Input) (program : Program) (g : Graph) → IsSourceIn source program g → (path : Datapath)
-    → IsPathIn datapath path → (status : Status) → IsWithoutPlan g path status → IsNoInputPlan source datapath status
+pub no_input_plan : (source datapath : Input) (program : Program) (g : Graph)
+    → IsSourceIn source program g
+    → (path : Datapath)
+    → IsPathIn datapath path
+    → (status : Status)
+    → IsWithoutPlan g path status
+    → IsNoInputPlan source datapath status
 no_input_plan source datapath program g has path is_path status h =
     ⊎_elim (λ memory. inl memory)
-    (λ is. inr (refusal g path status is, λ s d hs hd. refused s d program (has s hs).read g (has s hs).graph path (is_path d hd) status is))
+    (λ is.
+    inr (
+      refusal g path status is,
+      λ s d hs hd. refused s d program (has s hs).read g (has s hs).graph path (is_path d hd) status is,
+    ))
     h
 
 -- the plan of the graph is that of the inputs
-pub input_plan : (source datapath : Input) (program : Program) (g : Graph) → IsSourceIn source program g → IsGraphFor program g
-    → (d : Datapath) → IsPathIn datapath d → IsDatapath d → (r : Result Planned Ending)
-    → IfOk r (λ (planned : Planned). planned.path ≡ d) → IfOk r (λ (planned : Planned). IsPlan g d planned.plan)
+pub input_plan : (source datapath : Input) (program : Program) (g : Graph)
+    → IsSourceIn source program g
+    → IsGraphFor program g
+    → (d : Datapath)
+    → IsPathIn datapath d
+    → IsDatapath d
+    → (r : Result Planned Ending)
+    → IfOk r (λ (planned : Planned). planned.path ≡ d)
+    → IfOk r (λ (planned : Planned). IsPlan g d planned.plan)
     → IfOk r (IsInputPlan source datapath)
 input_plan source datapath program g has keeps d is_path allowed (Ok planned) same plan = record {
   program = program;

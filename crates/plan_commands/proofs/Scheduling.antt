@@ -12,20 +12,29 @@ use Rattle.silc_files.specs.Printing.{IsPrintedMore, IsPrintedInPart, PrintsOnly
 use Rattle.plan_commands.specs.Private.Scheduling.{IsMadeSchedule}
 use Rattle.silc_files.specs.Reading.{OnlyReads}
 use Rattle.statuses.specs.declared.status.Status.{Status}
-use Rattle.statuses.specs.declared.status.Status.TheVariants.{Done, Memory, Words, Desk, FrontEnd, Path, LinesFull, Period, FileFull, Image, Samples, Conflict}
+use Rattle.statuses.specs.declared.status.Status.TheVariants.{Done, Memory, Words, Desk, FrontEnd, Path, LinesFull}
+use Rattle.statuses.specs.declared.status.Status.TheVariants.{Period, FileFull, Image, Samples, Conflict}
 use Rattle.statuses.specs.declared.status.Status.TheVariants as status
 use Rattle.silc_files.proofs.Endings.{through_still}
 use Rattle.plan_commands.proofs.Errors.{error_still}
 
 -- the text was made, and then printed
-module _ (src datapath : Name) (old mid new : View) (text : Content) (reads : OnlyReads src datapath old mid) (prints : PrintsOnly mid new) where
+module _ (src datapath : Name) (old mid new : View) (text : Content) (reads : OnlyReads src datapath old mid)
+    (prints : PrintsOnly mid new) where
   through : IsMadeSchedule src datapath old mid text → IsReadThrough datapath text_limit old new
-  through made = through_stays datapath text_limit old mid new made.read prints.input prints.place (ap (λ (f : Name → Bool). f datapath) prints.reads)
+  through made =
+      through_stays datapath text_limit old mid new made.read prints.input prints.place
+      (ap (λ (f : Name → Bool). f datapath) prints.reads)
 
-  since_old : (R : Content → Content → Type 0) → IfSpecified R mid.printed new.printed → IfSpecified R old.printed new.printed
-  since_old R h = λ after is. let (before, there, has) = h after is in (before, sym reads.unchanged.printed ∙ there, has)
+  since_old : (R : Content → Content → Type 0)
+      → IfSpecified R mid.printed new.printed
+      → IfSpecified R old.printed new.printed
+  since_old R h = λ after is.
+      let (before, there, has) = h after is in (before, sym reads.unchanged.printed ∙ there, has)
 
-  pub print_cut_short : IsMadeSchedule src datapath old mid text → PrintFaultsRose mid new → IfSpecified (IsPrintedInPart text) mid.printed new.printed
+  pub print_cut_short : IsMadeSchedule src datapath old mid text
+      → PrintFaultsRose mid new
+      → IfSpecified (IsPrintedInPart text) mid.printed new.printed
       → IsPrintCutShort src datapath old new
   print_cut_short made rose printed = record {
     rose = rose_later _ _ _ reads.never_fall.printing rose;
@@ -36,8 +45,11 @@ module _ (src datapath : Name) (old mid new : View) (text : Content) (reads : On
   }
 
 -- a report of the error leaves the answer as it is
-module _ (src datapath : Name) (old mid new : View) (same : IsUnchanged mid new) (later : FaultsNeverFall mid new) (before : FaultsNeverFall old mid) where
-  pub printed_still : (R : Content → Content → Type 0) → IfSpecified R old.printed mid.printed → IfSpecified R old.printed new.printed
+module _ (src datapath : Name) (old mid new : View) (same : IsUnchanged mid new) (later : FaultsNeverFall mid new)
+    (before : FaultsNeverFall old mid) where
+  pub printed_still : (R : Content → Content → Type 0)
+      → IfSpecified R old.printed mid.printed
+      → IfSpecified R old.printed new.printed
   printed_still R h = λ after is. h after (sym same.printed ∙ is)
 
   print_cut_short_still : IsPrintCutShort src datapath old mid → IsPrintCutShort src datapath old new
@@ -56,11 +68,14 @@ module _ (src datapath : Name) (old mid new : View) (same : IsUnchanged mid new)
   changes_still h = record {
     files = same.files ∙ h.files;
     output = same.output ∙ h.output;
-    reads = λ s not_first not_second is. h.reads s not_first not_second (ap (λ (f : Name → Bool). f s) (sym same.reads) ∙ is);
+    reads = λ s not_first not_second is.
+        h.reads s not_first not_second (ap (λ (f : Name → Bool). f s) (sym same.reads) ∙ is);
     writes = same.writes ∙ h.writes;
   }
 
-  pub schedule_reported : (status : Status) → IsScheduleAnswer src datapath old mid status → IsScheduleAnswer src datapath old new status
+  pub schedule_reported : (status : Status)
+      → IsScheduleAnswer src datapath old mid status
+      → IsScheduleAnswer src datapath old new status
   schedule_reported Done h = record {
     read = through_still old mid new same datapath text_limit h.read;
     text = h.text;

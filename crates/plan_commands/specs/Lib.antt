@@ -1,4 +1,3 @@
-pub mod Sources
 pub mod Plans
 pub mod PlanOf
 pub mod Refusals

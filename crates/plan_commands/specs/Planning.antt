@@ -7,14 +7,12 @@ use Rattle.datapath.specs.Allowed.{IsDatapath}
 use Rattle.datapath.specs.Described.{IsPathOf}
 use Rattle.datapath.specs.PathRules.{IsPathFault}
 use Rattle.datapath.specs.declared.types.Datapath.{Datapath}
-use Rattle.signal_graph.specs.GraphRules.{IsGraph}
-use Rattle.signal_graph.specs.GraphSolves.{IsGraphLoopless}
 use Rattle.signal_graph.specs.declared.graph.Graph.{Graph}
 use Rattle.plan_core.specs.declared.plan.Plan.{Plan}
 use Rattle.plan_core.specs.IsPlan.{IsPlan}
-use Rattle.loop_expand.specs.KeepsProgram.{KeepsProgramSolutions}
+use Rattle.loop_expand.specs.GraphFor.{IsGraphFor}
 use Rattle.silage_syntax.specs.Tree.{Program}
-use Rattle.front_end.specs.Faults.{HasProgram, IsFrontFault, IsOfSource}
+use Rattle.source_faults.specs.Faults.{HasProgram, IsFrontFault, IsOfSource}
 use Rattle.front_end.specs.GraphOf.{IsProgramGraph}
 use Rattle.silc_files.specs.Limits.{text_limit}
 use Rattle.plan_commands.specs.Plans.{IsPlannedOver, IsUnplanned}
@@ -24,12 +22,6 @@ use Rattle.silc_files.specs.declared.files.Input.{Input}
 use Rattle.plan_commands.specs.declared.planning.Planned.{Planned}
 use Rattle.statuses.specs.declared.status.Status.{Status}
 use Rattle.statuses.specs.declared.status.Status.TheVariants.{Memory, FrontEnd, Path}
-
--- the graph can be evaluated and planned, and keeps the solutions of the program
-pub record IsGraphFor (p : Program) (g : Graph) : Type 0 where
-  pub sound : IsGraph g
-  pub loopless : IsGraphLoopless g
-  pub keeps : KeepsProgramSolutions p g
 
 -- the source has the program with this graph
 pub record HasGraph (source : Content) (program : Program) (g : Graph) : Type 0 where
@@ -93,5 +85,6 @@ pub record IsReadPlan (src datapath : Name) (old new : View) (planned : Planned)
   pub keeps : IsGraphFor program graph
   pub allowed : IsDatapath planned.path
   pub plan : IsPlan graph planned.path planned.plan
-  pub specified : WhereSpecified old (λ files.
-      IsPlannedOver (content_of (files src)) (content_of (files datapath)) program planned.path planned.plan)
+  pub specified :
+      WhereSpecified old
+      (λ files. IsPlannedOver (content_of (files src)) (content_of (files datapath)) program planned.path planned.plan)

@@ -10,7 +10,7 @@ use Rattle.planner.specs.declared.fault.PlanFault.{PlanFault}
 use Rattle.planner.specs.declared.fault.PlanFault.TheVariants as plan
 use Rattle.delay_memory.specs.declared.fault.LineFault.TheVariants as line
 use Rattle.silage_syntax.specs.Tree.{Program}
-use Rattle.front_end.specs.Faults.{HasProgram}
+use Rattle.source_faults.specs.Faults.{HasProgram}
 use Rattle.front_end.specs.GraphOf.{IsProgramGraph}
 use Rattle.unit_assign.specs.declared.fault.UnitFault.TheVariants as unit
 use Rattle.statuses.specs.declared.status.Status.{Status}

@@ -7,11 +7,11 @@ use Rattle.datapath.specs.declared.fault.PathFault.TheVariants as path
 use Rattle.desk_core.specs.View.{Name, Files, View}
 use Rattle.desk_core.specs.Desk.{ReadFaultsRose, content_of}
 use Rattle.desk_core.specs.Whole.{IsUnchangedButInput}
-use Rattle.front_end.specs.Faults.{IsFrontFault, IsOfSource}
+use Rattle.source_faults.specs.Faults.{IsFrontFault, IsOfSource}
 use Rattle.silc_files.specs.Endings.{IsRejected}
 use Rattle.silc_files.specs.Limits.{text_limit}
 use Rattle.plan_commands.specs.Plans.{IsUnplannedOver}
-use Rattle.plan_commands.specs.Sources.{IsAcceptedSource}
+use Rattle.silc_files.specs.Sources.{IsAcceptedSource}
 use Rattle.statuses.specs.declared.status.Status.{Status}
 use Rattle.statuses.specs.declared.status.Status.TheVariants.{Memory, Desk, FrontEnd, Path, Unit as Unbound}
 use Rattle.statuses.specs.declared.status.Status.TheVariants.{LinesFull, Period, FileFull}

@@ -11,17 +11,19 @@ ghost use Rattle.statuses.specs.declared.status.Status as of_status;
 ghost use Rattle.plan_commands.specs.PlanOf.{AnswersPlan, AnswersRefusal};
 ghost use Rattle.plan_commands.specs.Plans.{HasPlan, HasOnlyPlan, IsUnplanned};
 ghost use Rattle.plan_commands.specs.Refusals.{IsNoPlan, IsRefusal, IsRefused, IsPlanError};
-ghost use Rattle.plan_commands.specs.Planning.{IsGraphFor, IsSourceIn, IsNoSource, IsPathIn, IsNoPath, IsWithoutPlan, FindsPlan, TellsWhy};
+ghost use Rattle.loop_expand.specs.GraphFor.{IsGraphFor};
+ghost use Rattle.plan_commands.specs.Planning.{IsSourceIn, IsNoSource, IsPathIn, IsNoPath, IsWithoutPlan, FindsPlan, TellsWhy};
 ghost use Rattle.plan_commands.specs.Planning.{IsInputPlan, IsNoInputPlan, IsReadPlan};
 ghost use Rattle.silc_files.specs.Reading.{OnlyReads};
 
 use datapath::{Datapath, PathFault};
 use desk_core::Desk;
-use front_end::{Accepted, FrontFault, accept};
+use front_end::{Accepted, accept};
 use plan_core::Plan;
 use planner::plan;
 use signal_graph::Graph;
 use silc_files::{Input, read_input};
+use source_faults::FrontFault;
 use statuses::{Ending, Status};
 use std::alloc::Global;
 

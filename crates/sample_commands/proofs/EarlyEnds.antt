@@ -1,11 +1,13 @@
 -- How a run over SAMPLES ends, from how its stream ends; and that a report of the error leaves it as it is.
-use Rattle.std.proofs.Common.{◌≡◌, sym, ap, subst, ◌∙◌, arith, inl, inr, ⊎_elim, ◌⊎◌, ◌+◌, ◌≤◌, ℕ, List, [], ◌∷◌, ◌++◌, length, take, ℤ, None, Bool}
+use Rattle.std.proofs.Common.{◌≡◌, sym, ap, subst, ◌∙◌, arith, inl, inr, ⊎_elim, ◌⊎◌, ◌+◌, ◌≤◌, ℕ, List, [], ◌∷◌, ◌++◌}
+use Rattle.std.proofs.Common.{length, take, ℤ, None, Bool}
 use Rattle.std.specs.List.{All}
 use Rattle.std.proofs.Math.Nat.{min-eq_left}
 use Rattle.std.proofs.lemmas.List.Elements.{All-head, All-tail, All-cons, All-nil}
 use Rattle.lists.specs.Rows.{Rows}
 use Rattle.desk_core.specs.View.{Name, Content, Files, View}
-use Rattle.desk_core.specs.Desk.{IfSpecified, WhereSpecified, FaultsNeverFall, HasInput, HasOutput, IsPut, IsUnchanged, ReadFailed, WriteFailed, ReadFaultsRose, WriteFaultsRose, content_of}
+use Rattle.desk_core.specs.Desk.{IfSpecified, WhereSpecified, FaultsNeverFall, HasInput, HasOutput, IsPut, IsUnchanged}
+use Rattle.desk_core.specs.Desk.{ReadFailed, WriteFailed, ReadFaultsRose, WriteFaultsRose, content_of}
 use Rattle.desk_core.specs.Whole.{IsReadThrough}
 use Rattle.desk_core.proofs.DeskLemmas.{rose_later, rose_earlier, specified_from, input_stays, input_from}
 use Rattle.micro_image.specs.declared.conflict.Conflict.{Conflict as ConflictValue}
@@ -23,12 +25,15 @@ use Rattle.sample_loops.specs.declared.stream.StreamFault.TheVariants.{Desk, Row
 use Rattle.silc_files.specs.Endings.{IsFinished}
 use Rattle.silc_files.specs.Limits.{samples_limit}
 use Rattle.silc_files.proofs.Endings.{through_still, specified_still}
-use Rattle.sample_commands.specs.Samples.{AreSamples, HasRead, AreAll, HasReadLines, HasPut, AreUnopened, IsNotCreated, IsCutShort, IsCloseTried, IsEndedEarly}
-use Rattle.sample_commands.specs.Private.Streaming.{IsOpened}
+use Rattle.sample_commands.specs.Samples.{AreSamples, HasRead, AreAll, HasReadLines, HasPut, AreUnopened, IsNotCreated}
+use Rattle.sample_commands.specs.Samples.{IsCutShort, IsCloseTried, IsEndedEarly}
+use Rattle.sample_commands.specs.Streaming.{IsOpened}
 use Rattle.sample_commands.proofs.Opening.{put_from}
 
 -- lines have rows of the channels
-lines_stream : (channels : List Channel) (bytes : Content) (rows : Rows) → Lines bytes channels rows → IsStream channels rows
+lines_stream : (channels : List Channel) (bytes : Content) (rows : Rows)
+    → Lines bytes channels rows
+    → IsStream channels rows
 lines_stream channels bytes rows lines = RowsOf-stream bytes channels rows (inl lines)
 
 rows_stream : (all : Type 0) (channels : List Channel) (bytes : Content) (rows : Rows)
@@ -43,8 +48,11 @@ last_stream : (all : Type 0) (channels : List Channel) (bytes : Content) (rows :
 last_stream all channels bytes rows =
     ⊎_elim (λ near. lines_stream channels near.0 rows near.3) (λ whole. RowsOf-stream bytes channels rows whole.1)
 
-stops_stream : (channels : List Channel) (bytes : Content) (rows : Rows) (fault : RowFault) → StopsAfter channels bytes rows fault → IsStream channels rows
-stops_stream channels bytes rows fault stops = subst (IsStream channels) stops.1 (lines_stream channels stops.0.front stops.0.rows stops.0.before)
+stops_stream : (channels : List Channel) (bytes : Content) (rows : Rows) (fault : RowFault)
+    → StopsAfter channels bytes rows fault
+    → IsStream channels rows
+stops_stream channels bytes rows fault stops =
+    subst (IsStream channels) stops.1 (lines_stream channels stops.0.front stops.0.rows stops.0.before)
 
 bad_stream : (all : Type 0) (channels : List Channel) (bytes : Content) (rows : Rows) (fault : RowFault)
     → HaveBadPlace all channels bytes rows fault
@@ -56,17 +64,24 @@ bad_stream all channels bytes rows fault =
 -- all rows but the last
 front_of_all : {X : Type 0} (P : X → Type 0) (xs : List X) (x : X) → All P (xs ++ x ∷ []) → All P xs
 front_of_all P [] x all = All-nil P
-front_of_all P (y ∷ ys) x all = All-cons P y ys (All-head P y (ys ++ x ∷ []) all) (front_of_all P ys x (All-tail P y (ys ++ x ∷ []) all))
+front_of_all P (y ∷ ys) x all =
+    All-cons P y ys (All-head P y (ys ++ x ∷ []) all) (front_of_all P ys x (All-tail P y (ys ++ x ∷ []) all))
 
-rows_before : (channels : List Channel) (rows : Rows) (row : List ℤ) → IsStream channels (rows ++ row ∷ []) → IsStream channels rows
+rows_before : (channels : List Channel) (rows : Rows) (row : List ℤ)
+    → IsStream channels (rows ++ row ∷ [])
+    → IsStream channels rows
 rows_before channels rows row = front_of_all (IsRow channels) rows row
 
 -- the stream from the open SAMPLES into the new OUT
-module _ (samples out : Name) (old mid new : View) (le : FaultsNeverFall old mid) (opened : IsOpened samples out old mid) (only : ChangesOutputAlone mid new) where
+module _ (samples out : Name) (old mid new : View) (le : FaultsNeverFall old mid)
+    (opened : IsOpened samples out old mid) (only : ChangesOutputAlone mid new) where
   still_input : HasInput samples old new
   still_input = input_stays samples old mid new opened.input only.input (ap (λ (f : Name → Bool). f samples) only.reads)
 
-  read_from : (bytes : Content) → stream.HasRead bytes mid new → length bytes ≤ samples_limit + 1 → HasRead samples bytes old new
+  read_from : (bytes : Content)
+      → stream.HasRead bytes mid new
+      → length bytes ≤ samples_limit + 1
+      → HasRead samples bytes old new
   read_from bytes read within = record {
     input = still_input;
     place = read.place;
@@ -101,12 +116,20 @@ module _ (samples out : Name) (old mid new : View) (le : FaultsNeverFall old mid
 
   module _ (channels : List Channel) (gives says : Rows → Rows → Type 0) (meets shows : Rows → ConflictValue → Type 0)
       (given : (rows puts : Rows) → IsStream channels rows → gives rows puts → says rows puts)
-      (met : (rows : Rows) (conflict : ConflictValue) → IsStream channels rows → meets rows conflict → shows rows conflict) where
-    put_rows : (rows : Rows) → IsStream channels rows → stream.HasPutRows gives rows mid new → HasPut out says rows old new
-    put_rows rows is has = record { puts = has.puts; given = given rows has.puts is has.given; put = put (printed has.puts) has.put }
+      (met : (rows : Rows) (conflict : ConflictValue)
+      → IsStream channels rows
+      → meets rows conflict
+      → shows rows conflict) where
+    put_rows : (rows : Rows)
+        → IsStream channels rows
+        → stream.HasPutRows gives rows mid new
+        → HasPut out says rows old new
+    put_rows rows is has =
+        record { puts = has.puts; given = given rows has.puts is has.given; put = put (printed has.puts) has.put }
 
     -- a call of the desk failed
-    cut_short : stream.IsCutShort (samples_limit + 1) channels gives mid new → IsCutShort samples out channels says old new
+    cut_short : stream.IsCutShort (samples_limit + 1) channels gives mid new
+        → IsCutShort samples out channels says old new
     cut_short (inl h) = inl (record {
       rose = read_rose h.failed;
       rows = h.rows;
@@ -139,7 +162,8 @@ module _ (samples out : Name) (old mid new : View) (le : FaultsNeverFall old mid
     }))
 
     -- why it was not run to its end
-    pub ended_early : (fault : StreamFault) → stream.IsStopped (samples_limit + 1) channels gives meets mid new fault
+    pub ended_early : (fault : StreamFault)
+        → stream.IsStopped (samples_limit + 1) channels gives meets mid new fault
         → IsEndedEarly samples out channels says shows old new fault
     ended_early Desk h = inr (cut_short h)
     ended_early (Row fault) h = record {
@@ -161,7 +185,8 @@ module _ (samples out : Name) (old mid new : View) (le : FaultsNeverFall old mid
           closed = tried h.closed;
         }
     ended_early (Conflict conflict) h =
-        let all : IsStream channels (h.rows ++ h.row ∷ []) = last_stream _ channels h.bytes (h.rows ++ h.row ∷ []) h.rows_are in
+        let all : IsStream channels (h.rows ++ h.row ∷ []) =
+        last_stream _ channels h.bytes (h.rows ++ h.row ∷ []) h.rows_are in
         record {
           bytes = h.bytes;
           rows = h.rows;
@@ -174,7 +199,8 @@ module _ (samples out : Name) (old mid new : View) (le : FaultsNeverFall old mid
         }
 
   -- it was run to its end
-  module _ (channels : List Channel) (ran : Rows → Rows → Type 0) (h : stream.IsRunThrough (samples_limit + 1) channels ran mid new) where
+  module _ (channels : List Channel) (ran : Rows → Rows → Type 0)
+      (h : stream.IsRunThrough (samples_limit + 1) channels ran mid new) where
     pub run_finished : IsFinished samples samples_limit old new
     run_finished = record {
       read = record {
@@ -190,7 +216,8 @@ module _ (samples out : Name) (old mid new : View) (le : FaultsNeverFall old mid
     pub run_samples_are : WhereSpecified old (λ files. AreSamples channels (content_of (files samples)) h.run.rows)
     run_samples_are = λ files is.
         let all = all_from h.run.bytes h.run.read in
-        subst (λ b. AreSamples channels b h.run.rows) (all.content files is) (record { within = all.within; rows = h.run.rows_of })
+        subst (λ b. AreSamples channels b h.run.rows) (all.content files is)
+        (record { within = all.within; rows = h.run.rows_of })
 
     pub run_stream_is : IsStream channels h.run.rows
     run_stream_is = RowsOf-stream h.run.bytes channels h.run.rows h.run.rows_of
@@ -199,7 +226,10 @@ module _ (samples out : Name) (old mid new : View) (le : FaultsNeverFall old mid
     run_put = put (printed h.run.put.puts) h.run.put.put
 
 -- files that were the same before
-pub opened_from : (samples out : Name) (old mid new : View) → mid.files ≡ old.files → IsOpened samples out mid new → IsOpened samples out old new
+pub opened_from : (samples out : Name) (old mid new : View)
+    → mid.files ≡ old.files
+    → IsOpened samples out mid new
+    → IsOpened samples out old new
 opened_from samples out old mid new same h = record {
   input = input_from samples old mid new same h.input;
   place = h.place;
@@ -243,7 +273,8 @@ cut_rose samples out channels gives old new =
     ⊎_elim (λ read. inl read.rose) (⊎_elim (λ write. inr write.rose) (λ close. inr close.rose))
 
 -- a report of the error leaves why a run ended early as it is
-module _ (samples out : Name) (old mid new : View) (same : IsUnchanged mid new) (later : FaultsNeverFall mid new) (before : FaultsNeverFall old mid) where
+module _ (samples out : Name) (old mid new : View) (same : IsUnchanged mid new) (later : FaultsNeverFall mid new)
+    (before : FaultsNeverFall old mid) where
   pub unopened_still : (last : Name) (limit : ℕ) (accepted : Files → Type 0)
       → AreUnopened samples last limit accepted old mid
       → AreUnopened samples last limit accepted old new
@@ -282,7 +313,11 @@ module _ (samples out : Name) (old mid new : View) (same : IsUnchanged mid new) 
 
   module _ (channels : List Channel) (gives : Rows → Rows → Type 0) (meets : Rows → ConflictValue → Type 0) where
     put_still : (rows : Rows) → HasPut out gives rows old mid → HasPut out gives rows old new
-    put_still rows h = record { puts = h.puts; given = h.given; put = specified_still old mid new same (IsPut out (printed h.puts)) h.put }
+    put_still rows h = record {
+      puts = h.puts;
+      given = h.given;
+      put = specified_still old mid new same (IsPut out (printed h.puts)) h.put;
+    }
 
     cut_still : IsCutShort samples out channels gives old mid → IsCutShort samples out channels gives old new
     cut_still (inl h) = inl (record {
@@ -324,7 +359,9 @@ module _ (samples out : Name) (old mid new : View) (same : IsUnchanged mid new) 
       files = same.files ∙ not.files;
     }
 
-    pub ended_still : (fault : StreamFault) → IsEndedEarly samples out channels gives meets old mid fault → IsEndedEarly samples out channels gives meets old new fault
+    pub ended_still : (fault : StreamFault)
+        → IsEndedEarly samples out channels gives meets old mid fault
+        → IsEndedEarly samples out channels gives meets old new fault
     ended_still Desk h = ⊎_elim (λ not. inl (not_created_still not)) (λ cut. inr (cut_still cut)) h
     ended_still (Row fault) h = record {
       bytes = h.bytes;

@@ -31,7 +31,8 @@ pub told_keeps : (rows : FedRows) (told fault : StreamFault)
 told_keeps rows told stream.Desk e kept = tt
 told_keeps rows told stream.TooLong e kept = tt
 told_keeps rows told (stream.Conflict conflict) e kept = tt
-told_keeps rows (stream.Row told) (stream.Row place) e kept = kept ∙ ap (λ (f : RowFault). Some f) (same_place told place e)
+told_keeps rows (stream.Row told) (stream.Row place) e kept =
+    kept ∙ ap (λ (f : RowFault). Some f) (same_place told place e)
 told_keeps rows stream.Desk (stream.Row place) e kept = absurd (cc)
 told_keeps rows stream.TooLong (stream.Row place) e kept = absurd (cc)
 told_keeps rows (stream.Conflict conflict) (stream.Row place) e kept = absurd (cc)

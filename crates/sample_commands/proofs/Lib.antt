@@ -4,4 +4,3 @@ pub mod Opening
 pub mod EarlyEnds
 pub mod Simulating
 pub mod Solving
-pub mod Executing

@@ -1,18 +1,24 @@
 -- What opening SAMPLES and creating OUT does, and what a stream then reads of the one and puts into the other.
-use Rattle.std.proofs.Common.{◌≡◌, ◌≢◌, refl, sym, ap, ◌∙◌, inl, inr, [], Some, Bool, Result, Ok, Err, OnOk, OnErr, IsErr}
+use Rattle.std.proofs.Common.{◌≡◌, ◌≢◌, refl, sym, ap, ◌∙◌, inl, inr, [], Some, Bool, Result, Ok, Err, OnOk, OnErr}
+use Rattle.std.proofs.Common.{IsErr}
 use Rattle.desk_core.specs.View.{Name, Content, View}
-use Rattle.desk_core.specs.Desk.{IfSpecified, ReadFaultsRose, WriteFaultsRose, FaultsNeverFall, IsUnchanged, IsUnchangedButOutput, IsReading, IsWriting, IsPut}
+use Rattle.desk_core.specs.Desk.{IfSpecified, ReadFaultsRose, WriteFaultsRose, FaultsNeverFall, IsUnchanged}
+use Rattle.desk_core.specs.Desk.{IsUnchangedButOutput, IsReading, IsWriting, IsPut}
 use Rattle.desk_core.proofs.DeskLemmas.{rose_later, specified_from, input_stays}
 use Rattle.sample_loops.specs.Output.{HasPut}
 use Rattle.sample_loops.specs.Streams.{ChangesOutputAlone}
-use Rattle.sample_commands.specs.Private.Streaming.{IsOpened, IsNotOpened, StreamsOnly}
+use Rattle.sample_commands.specs.Streaming.{IsOpened, IsNotOpened, StreamsOnly}
 
 -- a result of each kind
 pub each_way : {T E : Type 0} (r : Result T E) (A B C : Type 0) → OnOk r A → OnErr r B → (A → C) → (B → C) → C
 each_way (Ok x) A B C a b f g = f a
 each_way (Err e) A B C a b f g = g b
 
-pub err_with_cause : {T E : Type 0} (r : Result T E) (A B C : Type 0) → (IsErr r → A) → OnErr r B → (A → B → C) → OnErr r C
+pub err_with_cause : {T E : Type 0} (r : Result T E) (A B C : Type 0)
+    → (IsErr r → A)
+    → OnErr r B
+    → (A → B → C)
+    → OnErr r C
 err_with_cause (Ok x) A B C cause b f = tt
 err_with_cause (Err e) A B C cause b f = f (cause refl) b
 
@@ -35,7 +41,10 @@ module _ (samples out : Name) (old new : View) (same : IsUnchanged old new) wher
 -- SAMPLES was opened
 module _ (samples out : Name) (old mid new : View) (reading : IsReading samples 0 old mid) where
   -- OUT could not be created
-  pub uncreated : FaultsNeverFall old mid → IsUnchangedButOutput mid new → WriteFaultsRose out mid new → IsNotOpened samples out old new
+  pub uncreated : FaultsNeverFall old mid
+      → IsUnchangedButOutput mid new
+      → WriteFaultsRose out mid new
+      → IsNotOpened samples out old new
   uncreated le same rose = inr (record {
     rose = rose_later _ _ _ (le.writing out) rose;
     input = input_stays samples old mid new reading.input same.input (ap (λ (f : Name → Bool). f samples) same.reads);
@@ -55,7 +64,8 @@ module _ (samples out : Name) (old mid new : View) (reading : IsReading samples 
   pub both_opened : out ≢ samples → IsWriting out [] mid new → IsOpened samples out old new
   both_opened apart writing = record {
     input = input_stays samples old mid new reading.input
-        (writing.other_input (λ is. apart (once out samples (reading.input.only (Some out) is)))) (writing.other_reads samples (λ e. apart (sym e)));
+        (writing.other_input (λ is. apart (once out samples (reading.input.only (Some out) is))))
+        (writing.other_reads samples (λ e. apart (sym e)));
     place = writing.place ∙ reading.place;
     files = specified_from (IsPut out []) old.files mid.files new.files reading.files writing.files;
     output = writing.output;
@@ -64,26 +74,38 @@ module _ (samples out : Name) (old mid new : View) (reading : IsReading samples 
 
   pub opened_only : IsWriting out [] mid new → StreamsOnly samples out old new
   opened_only writing = record {
-    files = λ after is. let put = specified_from (IsPut out []) old.files mid.files new.files reading.files writing.files after is in (put.0, put.1, put.2.others);
+    files = λ after is.
+        let put = specified_from (IsPut out []) old.files mid.files new.files reading.files writing.files after is in
+        (put.0, put.1, put.2.others);
     printed = writing.printed ∙ reading.printed;
     reads = λ s ne t. reading.no_other s ne (writing.no_new_input s t);
     writes = λ s ne t. ap (λ (f : Name → Bool). f s) (sym reading.writes) ∙ writing.no_other s ne t;
   }
 
 -- what OUT has after a stream
-pub put_from : (samples out : Name) (old mid new : View) (bytes : Content) → IsOpened samples out old mid → HasPut bytes mid new
+pub put_from : (samples out : Name) (old mid new : View) (bytes : Content)
+    → IsOpened samples out old mid
+    → HasPut bytes mid new
     → IfSpecified (IsPut out bytes) old.files new.files
 put_from samples out old mid new bytes opened put = λ after is.
     let step = put after is in
     let start = opened.files step.0 step.1 in
-    let longer = step.2.named out (opened.output.specified step.0 step.1) in
-    (start.0, start.1, record { here = longer.here [] start.2.here; others = λ s ne. longer.others s ne ∙ start.2.others s ne })
+    let longer = step.2.named out (opened.output.specified step.0 step.1) in (
+      start.0,
+      start.1,
+      record { here = longer.here [] start.2.here; others = λ s ne. longer.others s ne ∙ start.2.others s ne },
+    )
 
 -- and what else changed
-pub streams_only : (samples out : Name) (old mid new : View) → IsOpened samples out old mid → StreamsOnly samples out old mid → ChangesOutputAlone mid new
+pub streams_only : (samples out : Name) (old mid new : View)
+    → IsOpened samples out old mid
+    → StreamsOnly samples out old mid
+    → ChangesOutputAlone mid new
     → StreamsOnly samples out old new
 streams_only samples out old mid new opened first only = record {
-  files = λ after is. let put = put_from samples out old mid new only.files.0 opened only.files.1 after is in (put.0, put.1, put.2.others);
+  files = λ after is.
+      let put = put_from samples out old mid new only.files.0 opened only.files.1 after is in
+      (put.0, put.1, put.2.others);
   printed = only.printed ∙ first.printed;
   reads = λ s ne t. first.reads s ne (ap (λ (f : Name → Bool). f s) (sym only.reads) ∙ t);
   writes = λ s ne t. first.writes s ne (only.writes s t);

@@ -1,5 +1,6 @@
 -- A machine before its first cycle over a stream, and how the parts of `sim` make up its answer.
-use Rattle.std.proofs.Common.{◌≡◌, refl, sym, ap, subst, ◌∙◌, arith, inl, inr, ⊎_elim, ◌+◌, ◌*◌, ◌<◌, ◌^◌, ◌%◌, [], length, Bool}
+use Rattle.std.proofs.Common.{◌≡◌, refl, sym, ap, subst, ◌∙◌, arith, inl, inr, ⊎_elim, ◌+◌, ◌*◌, ◌<◌, ◌^◌, ◌%◌, []}
+use Rattle.std.proofs.Common.{length, Bool}
 use Rattle.std.proofs.Math.Nat.{zero-mod}
 use Rattle.std.specs.List.{range_with_len}
 use Rattle.lists.specs.Rows.{Rows}
@@ -27,14 +28,18 @@ use Rattle.sample_commands.specs.Sim.{HasRun, IsSimUnread, IsSimStopped, IsSimAn
 use Rattle.sample_commands.specs.StreamEnds.{status_of}
 use Rattle.sample_commands.specs.Loaded.{IsFresh}
 use Rattle.sample_commands.specs.Private.Running.{IsLoaded, IsLoadError}
-use Rattle.sample_commands.specs.Private.Streaming.{AreRunOver, IsOpened, IsNotOpened, StreamsOnly, RunsFiles, IsRunOver}
+use Rattle.sample_commands.specs.Streaming.{AreRunOver, IsOpened, IsNotOpened, StreamsOnly, RunsFiles}
+use Rattle.sample_commands.specs.Streaming.{IsRunOver}
 use Rattle.sample_commands.specs.declared.simulator.Kept.{Kept}
 use Rattle.sample_commands.specs.declared.simulator.Kept.TheVariants.{One}
 use Rattle.statuses.specs.declared.status.SampleFault.TheVariants as sample_fault
 use Rattle.statuses.specs.declared.status.Status.{Status}
 use Rattle.statuses.specs.declared.status.Status.TheVariants as status
-use Rattle.statuses.specs.declared.status.Status.TheVariants.{Done, Memory, Words, Desk, FrontEnd, Path, LinesFull, Period, FileFull, Image as bad_image, Samples as bad_samples, Conflict as in_conflict}
-use Rattle.sample_commands.proofs.EarlyEnds.{ended_early, run_finished, run_samples_are, run_put, opened_from, unopened_from, not_created_from, unopened_still, ended_still}
+use Rattle.statuses.specs.declared.status.Status.TheVariants.{Done, Memory, Words, Desk, FrontEnd, Path, LinesFull}
+use Rattle.statuses.specs.declared.status.Status.TheVariants.{Period, FileFull, Image as bad_image}
+use Rattle.statuses.specs.declared.status.Status.TheVariants.{Samples as bad_samples, Conflict as in_conflict}
+use Rattle.sample_commands.proofs.EarlyEnds.{ended_early, run_finished, run_samples_are, run_put, opened_from}
+use Rattle.sample_commands.proofs.EarlyEnds.{unopened_from, not_created_from, unopened_still, ended_still}
 
 -- a fresh machine, and what it is over rows
 module _ (machine : Snapshot) (fresh : IsFresh machine) where
@@ -49,7 +54,9 @@ module _ (machine : Snapshot) (fresh : IsFresh machine) where
 
   pub fresh_puts : (rows puts : Rows) → PutsRows machine rows puts → IsRunOut (micro_of machine) rows puts
   fresh_puts rows puts h = record {
-    clear = subst (IsClearBelow (micro_of machine) (spread machine.image.period rows)) (length-spread machine.image.period rows)
+    clear =
+        subst (IsClearBelow (micro_of machine) (spread machine.image.period rows))
+        (length-spread machine.image.period rows)
         (h.clear [] fresh.stands);
     put = h.put [] fresh.stands
         ∙ map-same _ _ (range_with_len 0 (length rows)) (λ k is.
@@ -63,7 +70,9 @@ module _ (machine : Snapshot) (fresh : IsFresh machine) where
       → IsConflictInLast (micro_of machine) [] rows conflict
   fresh_meets after rows conflict h = h.met [] fresh.stands
 
-  pub fresh_run : (rows puts : Rows) (after : Snapshot) → RunsRows machine rows puts after → HasRun machine.image rows after (printed puts)
+  pub fresh_run : (rows puts : Rows) (after : Snapshot)
+      → RunsRows machine rows puts after
+      → HasRun machine.image rows after (printed puts)
   fresh_run rows puts after h = record {
     image_is = h.image;
     stands = h.stands [] fresh.stands;
@@ -73,12 +82,16 @@ module _ (machine : Snapshot) (fresh : IsFresh machine) where
   }
 
 -- the files were opened and the machine ran over them, and it is kept where it came to the end
-pub kept_over : (samples out : Name) (old new : View) (machine after : Snapshot) (kept : Kept) (ending : Status) → AreRunOver samples out machine after old new ending
-    → (ending ≡ Done → kept ≡ One after) → IsRunOver samples out machine old new kept ending
-kept_over samples out old new machine after kept ending over keeps = ⊎_elim (λ not. inl not) (λ ran. inr (after, keeps, ran)) over
+pub kept_over : (samples out : Name) (old new : View) (machine after : Snapshot) (kept : Kept) (ending : Status)
+    → AreRunOver samples out machine after old new ending
+    → (ending ≡ Done → kept ≡ One after)
+    → IsRunOver samples out machine old new kept ending
+kept_over samples out old new machine after kept ending over keeps =
+    ⊎_elim (λ not. inl not) (λ ran. inr (after, keeps, ran)) over
 
 -- the machine was loaded, and then it ran over the files
-module _ (mic samples out : Name) (old mid new : View) (machine : Snapshot) (first : OnlyReads mic mic old mid) (loaded : IsLoaded mic old mid machine) where
+module _ (mic samples out : Name) (old mid new : View) (machine : Snapshot) (first : OnlyReads mic mic old mid)
+    (loaded : IsLoaded mic old mid machine) where
   pub sim_uses : StreamsOnly samples out mid new → UsesOnly mic samples out old new
   sim_uses only = record {
     files = specified_from (ChangesOnly out) old.files mid.files new.files first.unchanged.files only.files;
@@ -92,7 +105,8 @@ module _ (mic samples out : Name) (old mid new : View) (machine : Snapshot) (fir
   sim_not_opened kept = ⊎_elim
       (λ unread. inl (record {
         unchanged = unchanged_still old mid new unread.0 first.unchanged;
-        rose = inr (unopened_from samples mic microcode_limit (HasSomeImage mic) old mid new first.never_fall loaded.read
+        rose =
+            inr (unopened_from samples mic microcode_limit (HasSomeImage mic) old mid new first.never_fall loaded.read
             (λ files is. (machine.image, loaded.specified files is)) unread.0 unread.1);
       }))
       (λ not. inr (record {
@@ -101,14 +115,17 @@ module _ (mic samples out : Name) (old mid new : View) (machine : Snapshot) (fir
         ended = inl (not_created_from samples out old mid new first.unchanged.files first.never_fall not);
       }))
 
-  module _ (kept : Kept) (after : Snapshot) (ending : Status) (ran : RunsFiles samples out machine after mid new ending) where
+  module _ (kept : Kept) (after : Snapshot) (ending : Status)
+      (ran : RunsFiles samples out machine after mid new ending) where
     fall : FaultsNeverFall old ran.mid
     fall = never_fall_trans old mid ran.mid first.never_fall ran.never_fall
 
     opened : IsOpened samples out old ran.mid
     opened = opened_from samples out old mid ran.mid first.unchanged.files ran.opened
 
-    sim_stopped : (fault : StreamFault) → IsEndedEarly samples out (channels_of machine.image) (IsRunOut (micro_of machine)) (IsConflictInLast (micro_of machine) []) old new fault
+    sim_stopped : (fault : StreamFault)
+        → IsEndedEarly samples out (channels_of machine.image) (IsRunOut (micro_of machine))
+        (IsConflictInLast (micro_of machine) []) old new fault
         → IsSimAnswer mic samples out old new kept (status_of fault)
     sim_stopped stream.Desk h = inr (record { image = machine.image; specified = loaded.specified; ended = h })
     sim_stopped (stream.Row fault) h = record { image = machine.image; specified = loaded.specified; ended = h }
@@ -124,14 +141,17 @@ module _ (mic samples out : Name) (old mid new : View) (machine : Snapshot) (fir
           after,
           keeps done.0,
           record {
-            finished = run_finished samples out old ran.mid new fall opened ran.only (channels_of machine.image) _ done.1;
+            finished =
+                run_finished samples out old ran.mid new fall opened ran.only (channels_of machine.image) _ done.1;
             image = machine.image;
             stream = done.1.run.rows;
             text = printed done.1.run.put.puts;
             ran = fresh_run machine fresh done.1.run.rows done.1.run.put.puts after done.1.run.put.given;
             specified = λ files is. record {
               microcode = loaded.specified files is;
-              samples_are = run_samples_are samples out old ran.mid new fall opened ran.only (channels_of machine.image) _ done.1 files is;
+              samples_are =
+                  run_samples_are samples out old ran.mid new fall opened ran.only (channels_of machine.image) _ done.1
+                  files is;
             };
             put = run_put samples out old ran.mid new fall opened ran.only (channels_of machine.image) _ done.1;
           },
@@ -139,18 +159,24 @@ module _ (mic samples out : Name) (old mid new : View) (machine : Snapshot) (fir
         (λ stopped.
         subst (IsSimAnswer mic samples out old new kept) (sym stopped.1)
         (sim_stopped stopped.0
-        (ended_early samples out old ran.mid new fall opened ran.only (channels_of machine.image) (PutsRows machine) (IsRunOut (micro_of machine))
+        (ended_early samples out old ran.mid new fall opened ran.only (channels_of machine.image) (PutsRows machine)
+        (IsRunOut (micro_of machine))
         (λ rows conflict. StopsInLast machine rows conflict after) (IsConflictInLast (micro_of machine) [])
-        (λ rows puts is. fresh_puts machine fresh rows puts) (λ rows conflict is. fresh_meets machine fresh after rows conflict) stopped.0 stopped.2)))
+        (λ rows puts is. fresh_puts machine fresh rows puts)
+        (λ rows conflict is. fresh_meets machine fresh after rows conflict) stopped.0 stopped.2)))
         ran.ends
 
-  pub sim_answer : (kept : Kept) (ending : Status) → IsRunOver samples out machine mid new kept ending → IsSimAnswer mic samples out old new kept ending
+  pub sim_answer : (kept : Kept) (ending : Status)
+      → IsRunOver samples out machine mid new kept ending
+      → IsSimAnswer mic samples out old new kept ending
   sim_answer kept ending = ⊎_elim
       (λ desk. subst (IsSimAnswer mic samples out old new kept) (sym desk.0) (sim_not_opened kept desk.1))
       (λ ran. sim_ran kept ran.0 ending ran.2 ran.1)
 
 -- why no machine was made of MIC is why `sim` ends
-pub sim_unloaded : (mic samples out : Name) (old new : View) (kept : Kept) (status : Status) → OnlyReads mic mic old new → IsLoadError mic old new status
+pub sim_unloaded : (mic samples out : Name) (old new : View) (kept : Kept) (status : Status)
+    → OnlyReads mic mic old new
+    → IsLoadError mic old new status
     → IsSimAnswer mic samples out old new kept status
 sim_unloaded mic samples out old new kept status reads =
     let answer : Status → Type 0 = IsSimAnswer mic samples out old new kept in
@@ -159,22 +185,29 @@ sim_unloaded mic samples out old new kept status reads =
     (λ l. subst answer (sym l.1) (l.2, record { unchanged = reads.unchanged; read = l.3.read; why = l.3.why })))
 
 -- a report of the error leaves the answer of `sim` as it is
-module _ (mic samples out : Name) (old mid new : View) (same : IsUnchanged mid new) (later : FaultsNeverFall mid new) (before : FaultsNeverFall old mid) where
+module _ (mic samples out : Name) (old mid new : View) (same : IsUnchanged mid new) (later : FaultsNeverFall mid new)
+    (before : FaultsNeverFall old mid) where
   sim_unread_still : IsSimUnread mic samples old mid → IsSimUnread mic samples old new
   sim_unread_still h = record {
     unchanged = unchanged_still old mid new same h.unchanged;
     rose = ⊎_elim (λ r. inl (rose_earlier _ _ _ (before.reading mic) r (later.reading mic)))
-        (λ r. inr (unopened_still samples out old mid new same later before mic microcode_limit (HasSomeImage mic) r)) h.rose;
+        (λ r. inr (unopened_still samples out old mid new same later before mic microcode_limit (HasSomeImage mic) r))
+        h.rose;
   }
 
-  sim_stopped_still : (fault : StreamFault) → IsSimStopped mic samples out old mid fault → IsSimStopped mic samples out old new fault
+  sim_stopped_still : (fault : StreamFault)
+      → IsSimStopped mic samples out old mid fault
+      → IsSimStopped mic samples out old new fault
   sim_stopped_still fault h = record {
     image = h.image;
     specified = h.specified;
-    ended = ended_still samples out old mid new same later before (channels_of h.image) (IsRunOut (microprogram_of h.image)) (IsConflictInLast (microprogram_of h.image) []) fault h.ended;
+    ended =
+        ended_still samples out old mid new same later before (channels_of h.image) (IsRunOut (microprogram_of h.image))
+        (IsConflictInLast (microprogram_of h.image) []) fault h.ended;
   }
 
-  pub sim_reported : (kept : Kept) (status : Status) → IsSimAnswer mic samples out old mid kept status
+  pub sim_reported : (kept : Kept) (status : Status)
+      → IsSimAnswer mic samples out old mid kept status
       → IsSimAnswer mic samples out old new kept status
   sim_reported kept Done h = (
     h.0,
@@ -191,9 +224,11 @@ module _ (mic samples out : Name) (old mid new : View) (same : IsUnchanged mid n
   )
   sim_reported kept Memory h = unchanged_still old mid new same h
   sim_reported kept Words h = h
-  sim_reported kept Desk h = ⊎_elim (λ early. inl (sim_unread_still early)) (λ late. inr (sim_stopped_still stream.Desk late)) h
+  sim_reported kept Desk h =
+      ⊎_elim (λ early. inl (sim_unread_still early)) (λ late. inr (sim_stopped_still stream.Desk late)) h
   sim_reported kept (bad_image fault) h = (h.0, rejected_still old mid new same mic microcode_limit _ h.1)
-  sim_reported kept (bad_samples (sample_fault.Row line at)) h = sim_stopped_still (stream.Row (record { line = line; at = at })) h
+  sim_reported kept (bad_samples (sample_fault.Row line at)) h =
+      sim_stopped_still (stream.Row (record { line = line; at = at })) h
   sim_reported kept (bad_samples sample_fault.TooLong) h = sim_stopped_still stream.TooLong h
   sim_reported kept (in_conflict conflict) h = sim_stopped_still (stream.Conflict conflict) h
   sim_reported kept (FrontEnd fault) h = h

@@ -4,7 +4,7 @@ use Rattle.lists.specs.Rows.{Rows}
 use Rattle.desk_core.specs.View.{Name, Content, Files, View}
 use Rattle.desk_core.specs.Desk.{IfSpecified, WhereSpecified, ReadFaultsRose, IsPut, content_of}
 use Rattle.desk_core.specs.Whole.{IsUnchangedButInput}
-use Rattle.front_end.specs.Faults.{IsOfSource}
+use Rattle.source_faults.specs.Faults.{IsOfSource}
 use Rattle.sample_io.specs.declared.channel.Channel.{Channel}
 use Rattle.sample_io.specs.Samples.{printed}
 pub use Rattle.sample_loops.specs.Evaluators.{type_channel}
@@ -15,7 +15,7 @@ use Rattle.silage_meaning.specs.Value.{Words}
 use Rattle.silage_meaning.specs.Solves.{IsOneSolution, input_types, out}
 use Rattle.silc_files.specs.Endings.{IsRejected, IsFinished}
 use Rattle.silc_files.specs.Limits.{text_limit, samples_limit}
-use Rattle.plan_commands.specs.Sources.{IsProgramIn, HasSomeProgram, HasFrontFault}
+use Rattle.silc_files.specs.Sources.{IsProgramIn, HasSomeProgram, HasFrontFault}
 use Rattle.sample_commands.specs.Samples.{AreSamples, AreUnopened, IsEndedEarly}
 use Rattle.statuses.specs.declared.status.SampleFault.TheVariants as sample_fault
 use Rattle.statuses.specs.declared.status.Status.{Status}
@@ -52,8 +52,8 @@ pub record IsEvalUnread (src samples : Name) (old new : View) : Type 0 where
 pub record IsEvalStopped (src samples out : Name) (old new : View) (fault : StreamFault) : Type 0 where
   pub program : Program
   pub specified : WhereSpecified old (IsProgramIn src program)
-  pub ended : IsEndedEarly samples out (program_channels program) (IsSolutionRows program) (λ rows conflict. ⊥)
-      old new fault
+  pub ended :
+      IsEndedEarly samples out (program_channels program) (IsSolutionRows program) (λ rows conflict. ⊥) old new fault
 
 -- OUT has the output rows of the one solution of SRC's program over the stream of SAMPLES, as the files were at the
 -- start, and every other file is as it was

@@ -3,5 +3,5 @@ pub mod StreamEnds
 pub mod Sim
 pub mod Loaded
 pub mod Eval
-pub mod Run
+pub mod Streaming
 pub mod Private

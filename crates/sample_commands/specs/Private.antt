@@ -1,4 +1,2 @@
 pub mod Running
-pub mod Streaming
 pub mod Evaluating
-pub mod Executing

@@ -143,8 +143,13 @@ pub record HasConflict (samples out : Name) (channels : List Channel) (gives : R
 
 -- Why a run over SAMPLES did not come to its end, once SAMPLES was opened. `gives` says of rows which they put, `meets`
 -- which conflict comes with the last of them.
-abbrev pub IsEndedEarly : (samples out : Name) → List Channel → (gives : Rows → Rows → Type 0)
-    → (meets : Rows → ConflictValue → Type 0) → (old new : View) → StreamFault → Type 0
+abbrev pub IsEndedEarly : (samples out : Name)
+    → List Channel
+    → (gives : Rows → Rows → Type 0)
+    → (meets : Rows → ConflictValue → Type 0)
+    → (old new : View)
+    → StreamFault
+    → Type 0
 IsEndedEarly samples out channels gives meets old new Desk =
     IsNotCreated samples out old new ⊎ IsCutShort samples out channels gives old new
 IsEndedEarly samples out channels gives meets old new (Row fault) =

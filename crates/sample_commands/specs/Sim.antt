@@ -76,7 +76,8 @@ pub record IsSimUnread (mic samples : Name) (old new : View) : Type 0 where
 pub record IsSimStopped (mic samples out : Name) (old new : View) (fault : StreamFault) : Type 0 where
   pub image : Image
   pub specified : WhereSpecified old (λ files. HasImage mic files image)
-  pub ended : IsEndedEarly samples out (channels_of image) (IsRunOut (microprogram_of image))
+  pub ended :
+      IsEndedEarly samples out (channels_of image) (IsRunOut (microprogram_of image))
       (IsConflictInLast (microprogram_of image) []) old new fault
 
 -- MIC's image ran the stream of SAMPLES, as the files were at the start, to its end; OUT has the rows of the run, and

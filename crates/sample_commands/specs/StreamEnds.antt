@@ -20,8 +20,13 @@ status_of (stream.Conflict conflict) = status.Conflict conflict
 
 -- The input was run through, or the run stopped. `ran` and `gives` say of rows which they put, `meets` which conflict
 -- comes with the last of them.
-abbrev pub EndsStream : (end : ℕ) → List Channel → (ran gives : Rows → Rows → Type 0)
-    → (meets : Rows → ConflictValue → Type 0) → (old new : View) → Status → Type 0
+abbrev pub EndsStream : (end : ℕ)
+    → List Channel
+    → (ran gives : Rows → Rows → Type 0)
+    → (meets : Rows → ConflictValue → Type 0)
+    → (old new : View)
+    → Status
+    → Type 0
 EndsStream end channels ran gives meets old new ending =
     ((ending ≡ status.Done) × IsRunThrough end channels ran old new)
     ⊎ ((fault : StreamFault) × (ending ≡ status_of fault) × IsStopped end channels gives meets old new fault)

@@ -15,19 +15,20 @@ ghost use Rattle.silc_files.specs.Reading.{OnlyReads};
 ghost use Rattle.sample_commands.specs.Eval.{IsEvalAnswer};
 ghost use Rattle.sample_commands.specs.StreamEnds.{status_of, EndsStream};
 ghost use Rattle.sample_commands.specs.Private.Evaluating.{IsSourceRead, IsSourceError, IsEvaluatorOf, IsEvalOver};
-ghost use Rattle.sample_commands.specs.Private.Streaming.{StreamsOnly};
+ghost use Rattle.sample_commands.specs.Streaming.{StreamsOnly};
 ghost use Rattle.statuses.specs.declared.status.Status.TheVariants.{Memory};
 
 use crate::streams::{SAMPLES_END, open_files, stream_status};
 use desk_core::Desk;
 use equation_eval::Evaluator;
 use fix_word::SigType;
-use front_end::{Accepted, FrontFault, accept};
+use front_end::{Accepted, accept};
 use lists::List;
 use sample_io::{Channel, Rows};
 use sample_loops::eval_stream;
 use signal_graph::Graph;
 use silc_files::{Input, read_input};
+use source_faults::FrontFault;
 use statuses::{Ending, Status};
 use std::alloc::{AllocError, Global};
 

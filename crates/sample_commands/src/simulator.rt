@@ -8,7 +8,7 @@ ghost use Rattle.silc_files.specs.Reading.{OnlyReads};
 ghost use Rattle.sample_commands.specs.Loaded.{IsMachineOf, IsNoMachine, IsFresh, AreFreshRows};
 ghost use Rattle.sample_commands.specs.Sim.{IsSimAnswer};
 ghost use Rattle.sample_commands.specs.Private.Running.{IsLoaded, IsLoadError};
-ghost use Rattle.sample_commands.specs.Private.Streaming.{AreRunOver, StreamsOnly, IsRunOver};
+ghost use Rattle.sample_commands.specs.Streaming.{AreRunOver, StreamsOnly, IsRunOver};
 ghost use Rattle.sample_commands.specs.declared.simulator.Kept.TheVariants.{Nothing};
 ghost use Rattle.statuses.specs.declared.status.Status.TheVariants.{Memory};
 
@@ -32,7 +32,7 @@ pub enum Kept {
 
 /// A machine before its first sample, and the rows that its samples are read into.
 #[derive(Drop)]
-pub(crate) struct Ready {
+pub struct Ready {
     pub machine: Machine,
     pub rows: Rows,
 }
@@ -116,7 +116,7 @@ fn run_files<D: Desk>(
 }
 
 /// Runs the machine over SAMPLES into OUT, and keeps it where it came to the end.
-pub(crate) fn run_ready<D: Desk>(
+pub fn run_ready<D: Desk>(
     ready: Ready,
     desk: &mut D,
     samples: &str,

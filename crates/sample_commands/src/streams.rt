@@ -5,7 +5,7 @@ ghost use Rattle.sample_io.specs.Pieces.{HasTaken};
 ghost use Rattle.sample_loops.specs.Machines.{channels_of, IsReady, RunsRows, PutsRows, StopsInLast};
 ghost use Rattle.sample_loops.specs.Streams.{ChangesOutputAlone, IsKept};
 ghost use Rattle.sample_commands.specs.StreamEnds.{status_of, EndsStream};
-ghost use Rattle.sample_commands.specs.Private.Streaming.{IsOpened, IsNotOpened, StreamsOnly};
+ghost use Rattle.sample_commands.specs.Streaming.{IsOpened, IsNotOpened, StreamsOnly};
 
 use cycle_sim::Machine;
 use desk_core::{Desk, Failed};

@@ -18,14 +18,23 @@ use Rattle.statuses.specs.declared.status.Status.{Status}
 use Rattle.statuses.specs.declared.status.Status.TheVariants.{Done, Memory}
 
 -- microcode has no fault of microcode
-pub image_or_not : (content : Content) (image : MicroImage) → IsMicrocodeOf content image → (fault : ImageFault)
-    → IsImageFault content fault → ⊥
+pub image_or_not : (content : Content) (image : MicroImage)
+    → IsMicrocodeOf content image
+    → (fault : ImageFault)
+    → IsImageFault content fault
+    → ⊥
 image_or_not content image is image_fault.TooLong h = let short = is.within in omega arith
 image_or_not content image is (image_fault.File fault) h = spelled_no_fault content image fault is.spells h.1
 
-pub list_complete : (mic : Name) (old new : View) (files : Files) → old.files ≡ Some files → (image : MicroImage)
-    → HasImage mic files image → (ReadFaultsRose mic old new → ⊥) → (PrintFaultsRose old new → ⊥)
-    → (answer : Status) → IsListAnswer mic old new answer → (answer ≡ Done) ⊎ (answer ≡ Memory)
+pub list_complete : (mic : Name) (old new : View) (files : Files)
+    → old.files ≡ Some files
+    → (image : MicroImage)
+    → HasImage mic files image
+    → (ReadFaultsRose mic old new → ⊥)
+    → (PrintFaultsRose old new → ⊥)
+    → (answer : Status)
+    → IsListAnswer mic old new answer
+    → (answer ≡ Done) ⊎ (answer ≡ Memory)
 list_complete mic old new files told image has no_read no_print answer (inl done) = inl done.0
 list_complete mic old new files told image has no_read no_print answer (inr (inl cut)) = absurd (no_print cut.1.rose)
 list_complete mic old new files told image has no_read no_print answer (inr (inr (inl memory))) = inr memory.0
@@ -35,8 +44,11 @@ list_complete mic old new files told image has no_read no_print answer (inr (inr
     absurd (image_or_not _ image has fault (bad.rejected.why files told))
 
 pub demo_complete : (sections samples : ℕ) (old new : View) (kept : Kept)
-    → IsCascadePlannable sections → (PrintFaultsRose old new → ⊥)
-    → (answer : Status) → IsDemoAnswer sections samples old new kept answer → (answer ≡ Done) ⊎ (answer ≡ Memory)
+    → IsCascadePlannable sections
+    → (PrintFaultsRose old new → ⊥)
+    → (answer : Status)
+    → IsDemoAnswer sections samples old new kept answer
+    → (answer ≡ Done) ⊎ (answer ≡ Memory)
 demo_complete sections samples old new kept has no_print answer (inl done) = inl done.0
 demo_complete sections samples old new kept has no_print answer (inr (inl cut)) = absurd (no_print cut.1.rose)
 demo_complete sections samples old new kept has no_print answer (inr (inr error)) = by error.why

@@ -1,5 +1,7 @@
 -- How a machine runs a cascade, and how the parts of `demo` make up its answer.
-use Rattle.std.proofs.Common.{◌≡◌, refl, sym, ap, ap₂, subst, ◌∙◌, arith, inl, inr, ⊎_elim, ℕ, zero, suc, ◌+◌, ◌*◌, ◌%◌, ◌<◌, ◌≤◌, ◌^◌, List, [], ◌∷◌, ◌++◌, length, map, replicate, take, drop, take-append-drop, ℤ, pos, ◌+ℤ◌, length-append, get_or}
+use Rattle.std.proofs.Common.{◌≡◌, refl, sym, ap, ap₂, subst, ◌∙◌, arith, inl, inr, ⊎_elim, ℕ, zero, suc, ◌+◌, ◌*◌, ◌%◌}
+use Rattle.std.proofs.Common.{◌<◌, ◌≤◌, ◌^◌, List, [], ◌∷◌, ◌++◌, length, map, replicate, take, drop, take-append-drop}
+use Rattle.std.proofs.Common.{ℤ, pos, ◌+ℤ◌, length-append, get_or}
 use Rattle.std.specs.List.{AllZip}
 use Rattle.std.proofs.Math.Nat.{mod-lt}
 use Rattle.std.proofs.lemmas.Int.{ints}
@@ -14,7 +16,7 @@ use Rattle.desk_core.specs.View.{Content, View}
 use Rattle.desk_core.specs.Desk.{FaultsNeverFall, IfSpecified, IsUnchanged}
 use Rattle.desk_core.proofs.DeskLemmas.{rose_earlier, same_input_trans}
 use Rattle.fix_word.specs.Words.{IsWord}
-use Rattle.front_end.specs.Faults.{HasProgram}
+use Rattle.source_faults.specs.Faults.{HasProgram}
 use Rattle.micro_image.specs.declared.conflict.Conflict.{Conflict}
 use Rattle.micro_image.specs.declared.image.Image.{Image}
 use Rattle.micro_image.specs.Fields.{microprogram_of}
@@ -25,7 +27,8 @@ use Rattle.sample_io.specs.Samples.{printed}
 use Rattle.silage_meaning.specs.Solves.{IsRow, IsStream, out}
 use Rattle.silage_meaning.specs.Types.{IsInType}
 use Rattle.silage_syntax.specs.Tree.{Program}
-use Rattle.cascade.specs.Cascade.{cascade_source, cascade_datapath, cascade_word, cascade_rows, cascade_line, words_of, sum_of, last_of}
+use Rattle.cascade.specs.Cascade.{cascade_source, cascade_datapath, cascade_word, cascade_rows, cascade_line, words_of}
+use Rattle.cascade.specs.Cascade.{sum_of, last_of}
 use Rattle.silc.specs.Demo.{IsCascadeRun, IsDemoDone, IsDemoCutShort, IsDemoAnswer}
 use Rattle.plan_commands.specs.Refusals.{IsRefusal}
 use Rattle.plan_commands.specs.Headline.{RunsTheSolution}
@@ -57,49 +60,81 @@ rows_count n = length-map-range_with_len (λ k. cascade_word k ∷ []) 0 n
 -- an image that runs samples runs the first of them
 pub runs_fewer : (image : Image) (n samples : ℕ) → n ≤ samples → RunsCascade image samples → RunsCascade image n
 runs_fewer image n samples le runs =
-    let first : take n (cascade_rows samples) ≡ cascade_rows n = take-map-range_with_len (λ k. cascade_word k ∷ []) 0 samples n le in
+    let first : take n (cascade_rows samples) ≡ cascade_rows n =
+    take-map-range_with_len (λ k. cascade_word k ∷ []) 0 samples n le in
     let parts : cascade_rows samples ≡ cascade_rows n ++ drop n (cascade_rows samples) =
-    sym (take-append-drop n (cascade_rows samples)) ∙ ap (λ front. front ++ drop n (cascade_rows samples)) first in
-    (_, IsRunOut-fewer (microprogram_of image) (cascade_rows n) (drop n (cascade_rows samples)) runs.0 (subst (λ stream. IsRunOut (microprogram_of image) stream runs.0) parts runs.1))
+    sym (take-append-drop n (cascade_rows samples)) ∙ ap (λ front. front ++ drop n (cascade_rows samples)) first in (
+      _,
+      IsRunOut-fewer (microprogram_of image) (cascade_rows n) (drop n (cascade_rows samples)) runs.0
+          (subst (λ stream. IsRunOut (microprogram_of image) stream runs.0) parts runs.1),
+    )
 
 -- the run of `sim` over the same rows
-as_run : (image : Image) (n : ℕ) (machine : Snapshot) (words : List ℤ) → (put : HasPutWords image n machine words)
+as_run : (image : Image) (n : ℕ) (machine : Snapshot) (words : List ℤ)
+    → (put : HasPutWords image n machine words)
     → HasRun image (cascade_rows n) machine (printed put.rows)
-as_run image n machine words put = record { image_is = put.image_is; stands = put.stands; rows = put.rows; run = put.run; text_is = refl }
+as_run image n machine words put =
+    record { image_is = put.image_is; stands = put.stands; rows = put.rows; run = put.run; text_is = refl }
 
-pub ready : (machine : Snapshot) (n : ℕ) (words : List ℤ) → 1 ≤ machine.image.period → n < 2 ^ 32 → HasPutWords machine.image n machine words → IsAtSample machine
+pub ready : (machine : Snapshot) (n : ℕ) (words : List ℤ)
+    → 1 ≤ machine.image.period
+    → n < 2 ^ 32
+    → HasPutWords machine.image n machine words
+    → IsAtSample machine
 ready machine n words some few put =
-    at_sample machine (cascade_rows n) (printed put.rows) some (omega (arith, few, rows_count n)) (as_run machine.image n machine words put)
+    at_sample machine (cascade_rows n) (printed put.rows) some (omega (arith, few, rows_count n))
+    (as_run machine.image n machine words put)
 
 -- the next sample has no conflict
-pub no_conflict : (image : Image) (n : ℕ) (row : List ℤ) (conflict : Conflict) → row ≡ cascade_word n ∷ [] → RunsCascade image (n + 1)
-    → IsFirstOfSample (microprogram_of image) (spread image.period (cascade_rows n)) row conflict → ⊥
+pub no_conflict : (image : Image) (n : ℕ) (row : List ℤ) (conflict : Conflict)
+    → row ≡ cascade_word n ∷ []
+    → RunsCascade image (n + 1)
+    → IsFirstOfSample (microprogram_of image) (spread image.period (cascade_rows n)) row conflict
+    → ⊥
 no_conflict image n row conflict is runs first =
-    let all : cascade_rows n ++ row ∷ [] ≡ cascade_rows (n + 1) = ap (λ r. cascade_rows n ++ r ∷ []) is ∙ sym (rows_more n) in
+    let all : cascade_rows n ++ row ∷ [] ≡ cascade_rows (n + 1) =
+    ap (λ r. cascade_rows n ++ r ∷ []) is ∙ sym (rows_more n) in
     let met : IsFirstConflict (microprogram_of image) (spread image.period (cascade_rows (n + 1))) conflict =
-    subst (λ stream. IsFirstConflict (microprogram_of image) (spread image.period stream) conflict) all (conflict_in_row (microprogram_of image) (cascade_rows n) row conflict first) in
-    runs.1.clear conflict.cycle (omega (arith, met.within, length-spread image.period (cascade_rows (n + 1)))) conflict.kind conflict.place
+    subst (λ stream. IsFirstConflict (microprogram_of image) (spread image.period stream) conflict) all
+    (conflict_in_row (microprogram_of image) (cascade_rows n) row conflict first) in
+    runs.1.clear conflict.cycle (omega (arith, met.within, length-spread image.period (cascade_rows (n + 1))))
+    conflict.kind conflict.place
     met.there.there
 
 -- the next sample was run
-pub put_more : (image : Image) (n : ℕ) (row put : List ℤ) (word : ℤ) (old new : Snapshot) (words : List ℤ) → HasPutWords image n old words
-    → new.image ≡ image → row ≡ cascade_word n ∷ [] → put ≡ word ∷ []
+pub put_more : (image : Image) (n : ℕ) (row put : List ℤ) (word : ℤ) (old new : Snapshot) (words : List ℤ)
+    → HasPutWords image n old words
+    → new.image ≡ image
+    → row ≡ cascade_word n ∷ []
+    → put ≡ word ∷ []
     → Stands (state_of new) (microprogram_of image) (spread image.period (cascade_rows n) ++ replicate image.period row)
-    → put ≡ latches (microprogram_of image) (spread image.period (cascade_rows n) ++ replicate image.period row) (length (spread image.period (cascade_rows n)) + image.period)
+    → put
+    ≡ latches (microprogram_of image) (spread image.period (cascade_rows n) ++ replicate image.period row)
+    (length (spread image.period (cascade_rows n)) + image.period)
     → HasPutWords image (n + 1) new (words ++ word ∷ [])
 put_more image n row put word old new words before same row_is put_is stands puts =
     let stream : Rows = cascade_rows n in
     let more : stream ++ row ∷ [] ≡ cascade_rows (n + 1) = ap (λ r. stream ++ r ∷ []) row_is ∙ sym (rows_more n) in
     let cycles = sym (spread_row image.period stream row) in
-    let after : Stands (state_of new) (microprogram_of image) (spread image.period (stream ++ row ∷ [])) = subst (λ z. Stands (state_of new) (microprogram_of image) z) cycles stands in
-    let size : length (spread image.period (stream ++ row ∷ [])) ≡ (length stream + 1) * image.period = length-spread image.period (stream ++ row ∷ []) ∙ ap (λ k. k * image.period) (length-append stream (row ∷ [])) in
-    let last : put ≡ latches (microprogram_of image) (spread image.period (stream ++ row ∷ [])) ((length stream + 1) * image.period) = puts ∙ ap₂ (latches (microprogram_of image)) cycles (one_more image.period stream) in
-    let run = IsRunOut-more (microprogram_of image) stream before.rows row before.run (λ t late below. after.clear t (omega (arith, below, size))) in
+    let after : Stands (state_of new) (microprogram_of image) (spread image.period (stream ++ row ∷ [])) =
+    subst (λ z. Stands (state_of new) (microprogram_of image) z) cycles stands in
+    let size : length (spread image.period (stream ++ row ∷ [])) ≡ (length stream + 1) * image.period =
+    length-spread image.period (stream ++ row ∷ [])
+    ∙ ap (λ k. k * image.period) (length-append stream (row ∷ [])) in
+    let last : put
+    ≡ latches (microprogram_of image) (spread image.period (stream ++ row ∷ []))
+    ((length stream + 1) * image.period) =
+    puts ∙ ap₂ (latches (microprogram_of image)) cycles (one_more image.period stream) in
+    let run =
+    IsRunOut-more (microprogram_of image) stream before.rows row before.run
+    (λ t late below. after.clear t (omega (arith, below, size))) in
     record {
       image_is = same;
       stands = subst (λ rows. Stands (state_of new) (microprogram_of image) (spread image.period rows)) more after;
       rows = before.rows ++ put ∷ [];
-      run = subst (λ rows. IsRunOut (microprogram_of image) rows (before.rows ++ put ∷ [])) more (subst (λ r. IsRunOut (microprogram_of image) (stream ++ row ∷ []) (before.rows ++ r ∷ [])) (sym last) run);
+      run =
+          subst (λ rows. IsRunOut (microprogram_of image) rows (before.rows ++ put ∷ [])) more
+          (subst (λ r. IsRunOut (microprogram_of image) (stream ++ row ∷ []) (before.rows ++ r ∷ [])) (sym last) run);
       words_are = ap₂ ◌++◌ before.words_are (sym put_is) ∙ sym (words_push before.rows put);
     }
   where
@@ -130,22 +165,32 @@ word_valid n =
     record { low = omega (arith, ints, below); high = omega (arith, ints, below) }
 
 -- the program of the source is the one that is read from it
-one_word_read : (sections : ℕ) → sections ≤ 32 → (program : Program) → HasProgram (cascade_source sections) program → HasOneWordEach program
-one_word_read sections few program has = one_word_each sections few has.read.tokens has.read.lexed program has.read.parsed.is.only
+one_word_read : (sections : ℕ)
+    → sections ≤ 32
+    → (program : Program)
+    → HasProgram (cascade_source sections) program
+    → HasOneWordEach program
+one_word_read sections few program has =
+    one_word_each sections few has.read.tokens has.read.lexed program has.read.parsed.is.only
 
 row_valid : (program : Program) → HasOneWordEach program → (n : ℕ) → IsRow program (cascade_word n ∷ [])
-row_valid program has n = subst (λ types. AllZip IsInType types (cascade_word n ∷ [])) (sym has.inputs) (word_valid n, tt)
+row_valid program has n =
+    subst (λ types. AllZip IsInType types (cascade_word n ∷ [])) (sym has.inputs) (word_valid n, tt)
 
 pub rows_valid : (program : Program) → HasOneWordEach program → (samples : ℕ) → IsStream program (cascade_rows samples)
 rows_valid program has zero = All-nil (IsRow program)
 rows_valid program has (suc n) =
     let next : n + 1 ≡ suc n = omega arith in
     subst (IsStream program) (sym (rows_more n) ∙ ap cascade_rows next)
-    (All-push (IsRow program) (cascade_rows n) (cascade_word n ∷ []) (rows_valid program has n) (row_valid program has n))
+    (All-push (IsRow program) (cascade_rows n) (cascade_word n ∷ []) (rows_valid program has n)
+    (row_valid program has n))
 
 -- the plan of the cascade
-module _ (sections : ℕ) (source datapath : Content) (source_is : source ≡ cascade_source sections) (datapath_is : datapath ≡ cascade_datapath sections) where
-  pub cascade_plan : (planned : Planned) → IsInputPlan (Whole source) (Whole datapath) planned → IsCascadePlan sections planned
+module _ (sections : ℕ) (source datapath : Content) (source_is : source ≡ cascade_source sections)
+    (datapath_is : datapath ≡ cascade_datapath sections) where
+  pub cascade_plan : (planned : Planned)
+      → IsInputPlan (Whole source) (Whole datapath) planned
+      → IsCascadePlan sections planned
   cascade_plan planned h =
       let has = h.source_is (cascade_source sections) source_is in
       record {
@@ -154,18 +199,21 @@ module _ (sections : ℕ) (source datapath : Content) (source_is : source ≡ ca
         keeps = h.keeps;
         allowed = h.allowed;
         plan = h.plan;
-        over = planned_over (cascade_source sections) (cascade_datapath sections) h.program has.read h.graph has.graph planned.path
+        over =
+            planned_over (cascade_source sections) (cascade_datapath sections) h.program has.read h.graph has.graph
+            planned.path
             (h.path_is (cascade_datapath sections) datapath_is) planned.plan h.plan;
       }
 
 -- the machine of its microcode
-module _ (sections : ℕ) (few : sections ≤ 32) (planned : Planned) (plan : IsCascadePlan sections planned) (microcode : Content)
-    (made : IsMicrocodeOf planned.path planned.plan microcode) where
+module _ (sections : ℕ) (few : sections ≤ 32) (planned : Planned) (plan : IsCascadePlan sections planned)
+    (microcode : Content) (made : IsMicrocodeOf planned.path planned.plan microcode) where
   pub cascade_machine : (machine : Snapshot) → IsMachineOf microcode machine → IsCascadeMachine sections machine
   cascade_machine machine is =
       let has = one_word_read sections few plan.program plan.over.has.read in
       let same : made.image ≡ machine.image = sym (made.spelled.unique machine.image is.spells) in
-      let image_of : IsImageOf planned.path planned.plan machine.image = subst (IsImageOf planned.path planned.plan) same made.image_of in
+      let image_of : IsImageOf planned.path planned.plan machine.image =
+      subst (IsImageOf planned.path planned.plan) same made.image_of in
       record {
         fresh = is.fresh;
         program = plan.program;
@@ -174,7 +222,8 @@ module _ (sections : ℕ) (few : sections ≤ 32) (planned : Planned) (plan : Is
         over = plan.over;
         image_of = image_of;
         runs = subst (RunsTheSolution plan.program) same
-            (runs_the_solution plan.program plan.graph made.image plan.keeps (made.runs plan.graph plan.keeps.sound plan.plan));
+            (runs_the_solution plan.program plan.graph made.image plan.keeps
+            (made.runs plan.graph plan.keeps.sound plan.plan));
         one_word = record {
           inputs = image_of.inputs ∙ ap (map width_of) (plan.plan.inputs ∙ plan.keeps.keeps.inputs ∙ has.inputs);
           outs = image_of.outs ∙ plan.plan.outs ∙ plan.keeps.keeps.outs ∙ ap length has.outputs;
@@ -182,7 +231,8 @@ module _ (sections : ℕ) (few : sections ≤ 32) (planned : Planned) (plan : Is
       }
 
 -- its run
-module _ (sections samples : ℕ) (few : sections ≤ 32) (machine : Snapshot) (is : IsCascadeMachine sections machine) where
+module _ (sections samples : ℕ) (few : sections ≤ 32) (machine : Snapshot)
+    (is : IsCascadeMachine sections machine) where
   valid : IsStream is.program (cascade_rows samples)
   valid = rows_valid is.program (one_word_read sections few is.program is.over.has.read) samples
 
@@ -191,8 +241,11 @@ module _ (sections samples : ℕ) (few : sections ≤ 32) (machine : Snapshot) (
   runs_cascade = let run = is.runs (cascade_rows samples) valid in (_, run.2)
 
   -- and its words are those of the program's solution
-  pub cascade_run : (after : Snapshot) (totals : Totals) → (has : HasTotals machine.image samples after totals) → (line : Content)
-      → line ≡ cascade_line sections samples has.words → IsCascadeRun sections samples after line
+  pub cascade_run : (after : Snapshot) (totals : Totals)
+      → (has : HasTotals machine.image samples after totals)
+      → (line : Content)
+      → line ≡ cascade_line sections samples has.words
+      → IsCascadeRun sections samples after line
   cascade_run after totals has line line_is =
       let run = is.runs (cascade_rows samples) valid in
       let rows : has.put.rows ≡ out is.program run.0 samples =
@@ -203,14 +256,18 @@ module _ (sections samples : ℕ) (few : sections ≤ 32) (machine : Snapshot) (
         plan = is.plan;
         planned = is.over;
         image_of = subst (IsImageOf is.path is.plan) (sym has.put.image_is) is.image_of;
-        stands = subst (λ (image : Image). Stands (state_of after) (microprogram_of image) (spread image.period (cascade_rows samples))) (sym has.put.image_is) has.put.stands;
+        stands =
+            subst (λ (image : Image).
+            Stands (state_of after) (microprogram_of image) (spread image.period (cascade_rows samples)))
+            (sym has.put.image_is) has.put.stands;
         words = run.0;
         one = run.1;
         line_is = line_is ∙ ap (cascade_line sections samples) (has.put.words_are ∙ ap words_of rows);
       }
 
 -- a report of the error leaves the answer of `demo` as it is
-module _ (sections samples : ℕ) (old mid new : View) (same : IsUnchanged mid new) (later : FaultsNeverFall mid new) (before : FaultsNeverFall old mid) where
+module _ (sections samples : ℕ) (old mid new : View) (same : IsUnchanged mid new) (later : FaultsNeverFall mid new)
+    (before : FaultsNeverFall old mid) where
   unchanged_on : IsUnchanged old mid → IsUnchanged old new
   unchanged_on h = record {
     files = same.files ∙ h.files;
@@ -222,7 +279,9 @@ module _ (sections samples : ℕ) (old mid new : View) (same : IsUnchanged mid n
     writes = same.writes ∙ h.writes;
   }
 
-  printed_on : (R : Content → Content → Type 0) → IfSpecified R old.printed mid.printed → IfSpecified R old.printed new.printed
+  printed_on : (R : Content → Content → Type 0)
+      → IfSpecified R old.printed mid.printed
+      → IfSpecified R old.printed new.printed
   printed_on R h = λ after is. h after (sym same.printed ∙ is)
 
   demo_done_still : (kept : Kept) → IsDemoDone sections samples old mid kept → IsDemoDone sections samples old new kept
@@ -238,10 +297,14 @@ module _ (sections samples : ℕ) (old mid new : View) (same : IsUnchanged mid n
     printed = printed_on _ h.printed;
   }
 
-  pub demo_reported : (kept : Kept) (s : Status) → IsDemoAnswer sections samples old mid kept s → IsDemoAnswer sections samples old new kept s
+  pub demo_reported : (kept : Kept) (s : Status)
+      → IsDemoAnswer sections samples old mid kept s
+      → IsDemoAnswer sections samples old new kept s
   demo_reported kept s h =
       ⊎_elim (λ done. inl (done.0, demo_done_still kept done.1))
-      (λ rest. inr (⊎_elim (λ desk. inl (desk.0, demo_cut_short_still desk.1)) (λ error. inr (record { unchanged = unchanged_on error.unchanged; why = error.why })) rest))
+      (λ rest.
+      inr (⊎_elim (λ desk. inl (desk.0, demo_cut_short_still desk.1))
+      (λ error. inr (record { unchanged = unchanged_on error.unchanged; why = error.why })) rest))
       h
 
 pub prints_still : (old mid new : View) → IsUnchanged mid new → PrintsOnly old mid → PrintsOnly old new
@@ -255,7 +318,9 @@ prints_still old mid new same h = record {
 }
 
 -- where `demo` is done, it printed the line
-pub demo_done : (sections samples : ℕ) (old new : View) (kept : Kept) (s : Status) → s ≡ Done → IsDemoAnswer sections samples old new kept s
+pub demo_done : (sections samples : ℕ) (old new : View) (kept : Kept) (s : Status)
+    → s ≡ Done
+    → IsDemoAnswer sections samples old new kept s
     → IsDemoDone sections samples old new kept
 demo_done sections samples old new kept s done h =
     ⊎_elim (λ is. is.1)

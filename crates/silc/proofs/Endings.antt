@@ -28,10 +28,13 @@ list_not_words mic old new h =
     rest)
     h
 
-demo_not_words : (sections samples : ℕ) (old new : View) (kept : Kept) → IsDemoAnswer sections samples old new kept Words → ⊥
+demo_not_words : (sections samples : ℕ) (old new : View) (kept : Kept)
+    → IsDemoAnswer sections samples old new kept Words
+    → ⊥
 demo_not_words sections samples old new kept h =
     ⊎_elim (λ done. absurd (cc))
-    (λ rest. ⊎_elim (λ desk. absurd (cc)) (λ error. ⊎_elim (λ memory. absurd (cc)) (λ refused. refused.0) error.why) rest)
+    (λ rest.
+    ⊎_elim (λ desk. absurd (cc)) (λ error. ⊎_elim (λ memory. absurd (cc)) (λ refused. refused.0) error.why) rest)
     h
 
 pub never_words : (command : Command) (old new : View) (kept : Kept) → IsEnding command old new kept Words → ⊥
@@ -46,8 +49,11 @@ never_words (demo sections samples) old new kept h = demo_not_words sections sam
 -- where `compile` is done
 pub headline : (words : List (String Global)) (old new : View) (kept : Kept) (status : Status)
     → ((command : Command) → IsCommandIn words command → IsEnding command old new kept status)
-    → status ≡ Done → (src datapath out : Name) → IsCommandIn words (compile src datapath out)
+    → status ≡ Done
+    → (src datapath out : Name)
+    → IsCommandIn words (compile src datapath out)
     → IfSpecified (IsDone src datapath out) old.files new.files
 headline words old new kept status ending done src datapath out form =
     headline_at src datapath out old new
-    (subst (λ (s : Status). IsEnding (compile src datapath out) old new kept s) done (ending (compile src datapath out) form)).0
+    (subst (λ (s : Status). IsEnding (compile src datapath out) old new kept s) done
+    (ending (compile src datapath out) form)).0

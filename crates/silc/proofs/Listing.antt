@@ -20,7 +20,11 @@ use Rattle.plan_commands.proofs.Scheduling.{printed_still}
 
 -- MIC is no microcode
 module _ (mic : Name) (old new : View) (reads : OnlyReads mic mic old new) where
-  rejected : (s : Status) (fault : ImageFault) → IsOfMicrocode fault → s ≡ status.Image fault → IsBadMicrocode mic fault old new → IsListError mic old new s
+  rejected : (s : Status) (fault : ImageFault)
+      → IsOfMicrocode fault
+      → s ≡ status.Image fault
+      → IsBadMicrocode mic fault old new
+      → IsListError mic old new s
   rejected s fault of is bad = inr (inr (
     fault,
     is,
@@ -40,10 +44,12 @@ module _ (mic : Name) (old new : View) (reads : OnlyReads mic mic old new) where
       h
 
 -- the listing was made, and then printed
-module _ (mic : Name) (old mid new : View) (text : Content) (reads : OnlyReads mic mic old mid) (made : IsMadeListing mic old mid text)
-    (prints : PrintsOnly mid new) where
+module _ (mic : Name) (old mid new : View) (text : Content) (reads : OnlyReads mic mic old mid)
+    (made : IsMadeListing mic old mid text) (prints : PrintsOnly mid new) where
   through : IsReadThrough mic microcode_limit old new
-  through = through_stays mic microcode_limit old mid new made.read prints.input prints.place (ap (λ (f : Name → Bool). f mic) prints.reads)
+  through =
+      through_stays mic microcode_limit old mid new made.read prints.input prints.place
+      (ap (λ (f : Name → Bool). f mic) prints.reads)
 
   pub listed : IfSpecified (IsPrintedMore text) mid.printed new.printed → IsListed mic old new
   listed printed = record {
@@ -54,7 +60,9 @@ module _ (mic : Name) (old mid new : View) (text : Content) (reads : OnlyReads m
         (specified_from (IsPrintedMore text) old.printed mid.printed new.printed reads.unchanged.printed printed);
   }
 
-  pub listing_cut_short : PrintFaultsRose mid new → IfSpecified (IsPrintedInPart text) mid.printed new.printed → IsListingCutShort mic old new
+  pub listing_cut_short : PrintFaultsRose mid new
+      → IfSpecified (IsPrintedInPart text) mid.printed new.printed
+      → IsListingCutShort mic old new
   listing_cut_short rose printed = record {
     rose = rose_later _ _ _ reads.never_fall.printing rose;
     read = through;
@@ -65,7 +73,8 @@ module _ (mic : Name) (old mid new : View) (text : Content) (reads : OnlyReads m
   }
 
 -- a report of the error leaves the answer of `list` as it is
-module _ (mic : Name) (old mid new : View) (same : IsUnchanged mid new) (later : FaultsNeverFall mid new) (before : FaultsNeverFall old mid) where
+module _ (mic : Name) (old mid new : View) (same : IsUnchanged mid new) (later : FaultsNeverFall mid new)
+    (before : FaultsNeverFall old mid) where
   listed_still : IsListed mic old mid → IsListed mic old new
   listed_still h = record {
     read = through_still old mid new same mic microcode_limit h.read;
@@ -87,7 +96,14 @@ module _ (mic : Name) (old mid new : View) (same : IsUnchanged mid new) (later :
   list_error_still s h =
       ⊎_elim (λ memory. inl (memory.0, unchanged_still old mid new same memory.1))
       (λ rest. inr (⊎_elim
-      (λ desk. inl (desk.0, record { unchanged = unchanged_still old mid new same desk.1.unchanged; rose = rose_earlier _ _ _ (before.reading mic) desk.1.rose (later.reading mic) }))
+      (λ desk.
+      inl (
+        desk.0,
+        record {
+          unchanged = unchanged_still old mid new same desk.1.unchanged;
+          rose = rose_earlier _ _ _ (before.reading mic) desk.1.rose (later.reading mic);
+        },
+      ))
       (λ bad. inr (
         bad.0,
         bad.1,
@@ -102,7 +118,9 @@ module _ (mic : Name) (old mid new : View) (same : IsUnchanged mid new) (later :
   pub list_reported : (s : Status) → IsListAnswer mic old mid s → IsListAnswer mic old new s
   list_reported s h =
       ⊎_elim (λ done. inl (done.0, listed_still done.1))
-      (λ rest. inr (⊎_elim (λ desk. inl (desk.0, listing_cut_short_still desk.1)) (λ error. inr (list_error_still s error)) rest))
+      (λ rest.
+      inr (⊎_elim (λ desk. inl (desk.0, listing_cut_short_still desk.1)) (λ error. inr (list_error_still s error))
+      rest))
       h
 
 -- no error is the status of a command that is done
@@ -111,8 +129,13 @@ not_done mic old new h =
     ⊎_elim (λ memory. absurd (cc)) (λ rest. ⊎_elim (λ desk. absurd (cc)) (λ bad. absurd (cc)) rest) h
 
 -- where `list` is done, it printed the listing
-pub list_done : (mic : Name) (old new : View) (s : Status) → s ≡ status.Done → IsListAnswer mic old new s → IsListed mic old new
+pub list_done : (mic : Name) (old new : View) (s : Status)
+    → s ≡ status.Done
+    → IsListAnswer mic old new s
+    → IsListed mic old new
 list_done mic old new s done h =
     ⊎_elim (λ is. is.1)
-    (λ rest. ⊎_elim (λ desk. absurd (cc)) (λ error. absurd (not_done mic old new (subst (IsListError mic old new) done error))) rest)
+    (λ rest.
+    ⊎_elim (λ desk. absurd (cc))
+    (λ error. absurd (not_done mic old new (subst (IsListError mic old new) done error))) rest)
     h

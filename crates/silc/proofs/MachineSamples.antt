@@ -1,5 +1,6 @@
 -- A machine sample by sample: one more row, and the first conflict in it.
-use Rattle.std.proofs.Common.{◌≡◌, sym, ap, subst, ◌∙◌, arith, ℕ, ◌+◌, ◌*◌, ◌%◌, ◌<◌, ◌≤◌, ◌^◌, List, [], ◌∷◌, ◌++◌, length, replicate, ℤ, length-append}
+use Rattle.std.proofs.Common.{◌≡◌, sym, ap, subst, ◌∙◌, arith, ℕ, ◌+◌, ◌*◌, ◌%◌, ◌<◌, ◌≤◌, ◌^◌, List, [], ◌∷◌, ◌++◌}
+use Rattle.std.proofs.Common.{length, replicate, ℤ, length-append}
 use Rattle.std.proofs.Math.Nat.{mul-mod_left, mul-lt-mul_of_pos_right}
 use Rattle.std.proofs.lemmas.List.{append-nil}
 use Rattle.lists.specs.Rows.{Rows}
@@ -14,27 +15,44 @@ use Rattle.sample_loops.specs.Machines.{IsFirstConflict}
 use Rattle.sample_commands.specs.Sim.{HasRun}
 
 -- one more row, for a whole period
-pub spread_row : (period : ℕ) (stream : Rows) (row : List ℤ) → spread period (stream ++ row ∷ []) ≡ spread period stream ++ replicate period row
-spread_row period stream row = spread-append period stream (row ∷ []) ∙ ap (λ cycles. spread period stream ++ cycles) (append-nil (replicate period row))
+pub spread_row : (period : ℕ) (stream : Rows) (row : List ℤ)
+    → spread period (stream ++ row ∷ []) ≡ spread period stream ++ replicate period row
+spread_row period stream row =
+    spread-append period stream (row ∷ [])
+    ∙ ap (λ cycles. spread period stream ++ cycles) (append-nil (replicate period row))
 
 pub one_more : (period : ℕ) (stream : Rows) → length (spread period stream) + period ≡ (length stream + 1) * period
 one_more period stream = omega (arith, length-spread period stream)
 
 -- a machine after whole samples is ready for the next one
-pub at_sample : (machine : Snapshot) (stream : Rows) (text : Content) → 1 ≤ machine.image.period → length stream < 2 ^ 48 → HasRun machine.image stream machine text → IsAtSample machine
+pub at_sample : (machine : Snapshot) (stream : Rows) (text : Content)
+    → 1 ≤ machine.image.period
+    → length stream < 2 ^ 48
+    → HasRun machine.image stream machine text
+    → IsAtSample machine
 at_sample machine stream text some few ran =
-    let cycle : machine.cycle ≡ length stream * machine.image.period = ran.stands.cycle ∙ length-spread machine.image.period stream in
+    let cycle : machine.cycle ≡ length stream * machine.image.period =
+    ran.stands.cycle ∙ length-spread machine.image.period stream in
     record {
       whole = ap (λ n. n % machine.image.period) cycle ∙ mul-mod_left (length stream) machine.image.period;
       young = subst (λ n. n < 2 ^ 48 * machine.image.period) (sym cycle) (mul-lt-mul_of_pos_right few some);
     }
 
 -- the first conflict in one more sample is the first of all
-pub conflict_in_row : (micro : Microprogram) (stream : Rows) (row : List ℤ) (conflict : Conflict) → IsFirstOfSample micro (spread micro.period stream) row conflict → IsFirstConflict micro (spread micro.period (stream ++ row ∷ [])) conflict
+pub conflict_in_row : (micro : Microprogram) (stream : Rows) (row : List ℤ) (conflict : Conflict)
+    → IsFirstOfSample micro (spread micro.period stream) row conflict
+    → IsFirstConflict micro (spread micro.period (stream ++ row ∷ [])) conflict
 conflict_in_row micro stream row conflict first =
     let cycles = sym (spread_row micro.period stream row) in
     record {
       there = subst (λ z. IsConflict micro z conflict) cycles first.there;
       clear = subst (λ z. IsClearBelow micro z conflict.cycle) cycles first.clear;
-      within = omega (arith, first.within, one_more micro.period stream, length-spread micro.period (stream ++ row ∷ []), ap (λ n. n * micro.period) (length-append stream (row ∷ [])));
+      within =
+          omega (
+            arith,
+            first.within,
+            one_more micro.period stream,
+            length-spread micro.period (stream ++ row ∷ []),
+            ap (λ n. n * micro.period) (length-append stream (row ∷ [])),
+          );
     }

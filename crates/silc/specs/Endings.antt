@@ -6,7 +6,7 @@ use Rattle.desk_core.specs.Desk.{FaultsNeverFall, IsUnchanged}
 use Rattle.plan_commands.specs.Compile.{IsAnswer}
 use Rattle.plan_commands.specs.Schedule.{IsScheduleAnswer}
 use Rattle.sample_commands.specs.Eval.{IsEvalAnswer}
-use Rattle.sample_commands.specs.Run.{IsRunAnswer, RunUsesOnly}
+use Rattle.run_command.specs.Run.{IsRunAnswer, RunUsesOnly}
 use Rattle.sample_commands.specs.Sim.{IsSimAnswer}
 use Rattle.sample_commands.specs.declared.simulator.Kept.{Kept}
 use Rattle.sample_commands.specs.declared.simulator.Kept.TheVariants.{Nothing}

@@ -14,7 +14,8 @@ use crate::list::list;
 use command_words::{Command, command_in};
 use desk_core::Desk;
 use plan_commands::{compile, schedule};
-use sample_commands::{Kept, eval, run, sim};
+use run_command::run;
+use sample_commands::{Kept, eval, sim};
 use statuses::{Ending, Status, report};
 use std::alloc::Global;
 

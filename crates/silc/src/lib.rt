@@ -11,9 +11,9 @@ mod list;
 
 pub use command::silc;
 pub use datapath::{Kind, PathFault, Section};
-pub use front_end::{DefFault, FrontFault, LexFault, NameFault, ParseFault, TypeFault};
 pub use micro_file::FormFault;
 pub use micro_image::{Conflict, ConflictKind};
 pub use plan_commands::{Planned, plan_of};
 pub use sample_commands::{Kept, eval_samples, run_samples};
+pub use source_faults::{DefFault, FrontFault, LexFault, NameFault, ParseFault, TypeFault};
 pub use statuses::{ImageFault, SampleFault, Status, UnitRefusal, code};

@@ -5,7 +5,7 @@ use Rattle.std.proofs.lemmas.List.{length-map}
 use Rattle.std.proofs.lemmas.List.Elements.{All-head, All-tail, All-cons, All-nil, All-weaker}
 use Rattle.fix_word.specs.declared.types.SigType.{SigType}
 use Rattle.fix_word.specs.declared.types.SigType.TheVariants as sig
-use Rattle.front_end.specs.Faults.{HasProgram}
+use Rattle.source_faults.specs.Faults.{HasProgram}
 use Rattle.front_end.proofs.Counts.{checked}
 use Rattle.loop_expand.specs.Checked.{IsChecked}
 use Rattle.loop_expand.proofs.FlatWords.{input_count, input_types_allowed}
@@ -27,7 +27,8 @@ image_channels image valid =
       some = omega (arith, count, some);
       few = omega (arith, count, few);
       each = each_channel_is image.inputs
-          (All-weaker (λ width. width ≤ 32) (λ width. width ≤ 40) (λ width few. omega (arith, few)) image.inputs valid.inputs);
+          (All-weaker (λ width. width ≤ 32) (λ width. width ≤ 40) (λ width few. omega (arith, few)) image.inputs
+          valid.inputs);
     }
 
 type_channel_is : (ty : SigType) → IsType ty → IsChannel (type_channel ty)

@@ -12,7 +12,7 @@ use Rattle.plan_core.specs.declared.plan.Plan.{Plan}
 use Rattle.plan_run.specs.ImageOf.{IsImageOf}
 use Rattle.sample_commands.specs.Sim.{IsMicrocodeOf}
 use Rattle.silc_laws.specs.Complete.{HavePlan, HasImageOf}
-use Rattle.silc_laws.proofs.OnePlan.{one_plan}
+use Rattle.planner.proofs.OnePlan.{one_plan}
 use Rattle.silc_laws.proofs.OneRefusal.{path_allowed}
 
 module _ (s d : Content) (path : Datapath) (plan : Plan) (has : HasPlan s d path plan) where
@@ -27,10 +27,15 @@ module _ (s d : Content) (path : Datapath) (plan : Plan) (has : HasPlan s d path
       subst (λ (x : Datapath). IsImageOf x plan is.image) same
       (subst (λ (p : Plan). IsImageOf is.path p is.image) plans is.image_of)
 
-pub compiled_plan : (src datapath out : Name) (old new : View) → IsCompileDone src datapath out old new
-    → (files : Files) → old.files ≡ Some files
-    → (path : Datapath) (plan : Plan) → HavePlan src datapath path plan files
-    → (after : Files) → new.files ≡ Some after → HasImageOf out path plan after
+pub compiled_plan : (src datapath out : Name) (old new : View)
+    → IsCompileDone src datapath out old new
+    → (files : Files)
+    → old.files ≡ Some files
+    → (path : Datapath) (plan : Plan)
+    → HavePlan src datapath path plan files
+    → (after : Files)
+    → new.files ≡ Some after
+    → HasImageOf out path plan after
 compiled_plan src datapath out old new h files specified path plan has after told =
     let (before, were, put) = h.put after told in
     let is = h.compiled files specified in

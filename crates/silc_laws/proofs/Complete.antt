@@ -1,13 +1,15 @@
--- Where the files are as a command asks and no fault of its own rose, it is done or memory ran out. Where its samples stop
+-- Where the files are as a command asks and no fault of its own rose, it is done or memory ran out. Where its samples
+-- stop
 -- it, it answers why, or memory ran out.
 use Rattle.std.proofs.Common.{◌≡◌, ◌∙◌, ap, subst, inl, inr, ⊎_elim, ℕ, List, [], Option, Some, None, arith}
 use Rattle.std.specs.Prelude.{String}
 use Rattle.std.specs.declared.alloc.Global.{Global}
-use Rattle.command_words.specs.Command.{Command, compile, schedule, list, sim, eval, run, demo, IsCommandIn, IsCompile, IsSchedule, IsList, IsSim, IsEval, IsRun, IsDemo}
+use Rattle.command_words.specs.Command.{Command, compile, schedule, list, sim, eval, run, demo, IsCommandIn, IsCompile}
+use Rattle.command_words.specs.Command.{IsSchedule, IsList, IsSim, IsEval, IsRun, IsDemo}
 use Rattle.datapath.specs.declared.types.Datapath.{Datapath}
 use Rattle.desk_core.specs.View.{Name, Content, Files, View}
 use Rattle.desk_core.specs.Desk.{WhereSpecified, content_of}
-use Rattle.front_end.specs.Faults.{HasProgram}
+use Rattle.source_faults.specs.Faults.{HasProgram}
 use Rattle.lists.specs.Rows.{Rows}
 use Rattle.micro_image.specs.declared.conflict.Conflict.{Conflict as ConflictValue}
 use Rattle.micro_image.specs.declared.image.Image.{Image as MicroImage}
@@ -28,7 +30,9 @@ use Rattle.silage_syntax.specs.Tree.{Program}
 use Rattle.silc.specs.Demo.{IsCascadePlannable}
 use Rattle.silc.specs.Endings.{IsEnding, Reported}
 use Rattle.silc.proofs.Complete.{list_complete, demo_complete}
-use Rattle.silc_laws.specs.Complete.{Specifies, ArePlannable, HavePlan, HasImageOf, HasClearStream, HasProgramStream, HasPlannedStream, StopsSim, StopsEval, StopsPlanned, IsAccepted, IsThisOrMemory, IsDoneOrMemory, IsEndedBySamples, IsEndedByRun}
+use Rattle.silc_laws.specs.Complete.{Specifies, ArePlannable, HavePlan, HasImageOf, HasClearStream, HasProgramStream}
+use Rattle.silc_laws.specs.Complete.{HasPlannedStream, StopsSim, StopsEval, StopsPlanned, IsAccepted, IsThisOrMemory}
+use Rattle.silc_laws.specs.Complete.{IsDoneOrMemory, IsEndedBySamples, IsEndedByRun}
 use Rattle.silc_laws.specs.Faults.{HasNoFaultRisen}
 use Rattle.silc_laws.proofs.Channels.{image_channels, channels_of_program}
 use Rattle.silc_laws.proofs.Compiled.{compiled_plan}
@@ -41,14 +45,22 @@ use Rattle.statuses.specs.declared.status.Status.{Status}
 use Rattle.statuses.specs.declared.status.Status.TheVariants.{Done}
 
 -- memory ran out, or the end is the one that the files have
-ends_so : (Ends : Option StreamFault → Type 0) → ((one other : Option StreamFault) → Ends one → Ends other → one ≡ other)
-    → (end : Option StreamFault) → Ends end → (status : Status) → EndsBy Ends status → IsThisOrMemory (status_at end) status
+ends_so : (Ends : Option StreamFault → Type 0)
+    → ((one other : Option StreamFault) → Ends one → Ends other → one ≡ other)
+    → (end : Option StreamFault)
+    → Ends end
+    → (status : Status)
+    → EndsBy Ends status
+    → IsThisOrMemory (status_at end) status
 ends_so Ends one end its status =
     ⊎_elim (λ memory. inr memory) (λ h. inl (h.1 ∙ ap status_at (one h.0 end h.2 its)))
 
 -- only the samples, or a conflict, stop the run
-by_run : (end : ℕ) (channels : List Channel) (clear : Rows → Type 0) (meets : Rows → ConflictValue → Type 0)
-    (bytes : Content) (status : Status) → EndsBy (IsEnd end channels clear meets bytes) status → IsEndedByRun status
+by_run :
+    (end : ℕ) (channels : List Channel) (clear : Rows → Type 0) (meets : Rows → ConflictValue → Type 0)
+    (bytes : Content) (status : Status)
+    → EndsBy (IsEnd end channels clear meets bytes) status
+    → IsEndedByRun status
 by_run end channels clear meets bytes status (inl memory) = inl (inl (inr memory))
 by_run end channels clear meets bytes status (inr (None, is, ends)) = inl (inl (inl is))
 by_run end channels clear meets bytes status (inr (Some stream.Desk, is, ends)) = absurd ends
@@ -59,7 +71,8 @@ by_run end channels clear meets bytes status (inr (Some stream.TooLong, is, ends
 by_run end channels clear meets bytes status (inr (Some (stream.Conflict conflict), is, ends)) = inr (conflict, is)
 
 -- only the samples stop the run of a program, which meets no conflict
-by_samples : (bytes : Content) (program : Program) (status : Status) → EndsBy (RunsProgram bytes program) status
+by_samples : (bytes : Content) (program : Program) (status : Status)
+    → EndsBy (RunsProgram bytes program) status
     → IsEndedBySamples status
 by_samples bytes program status (inl memory) = inl (inr memory)
 by_samples bytes program status (inr (None, is, ends)) = inl (inl is)
@@ -70,16 +83,24 @@ by_samples bytes program status (inr (Some stream.TooLong, is, ends)) = inr (sam
 by_samples bytes program status (inr (Some (stream.Conflict conflict), is, ends)) = absurd ends.2
 
 module _ (words : List (String Global)) (old new : View) (kept : Kept) (status : Status)
-    (ending : (command : Command) → IsCommandIn words command → Reported (λ (mid : View). IsEnding command old mid kept status) status old new) where
-  pub compile_law : (src datapath out : Name) → IsCompile words src datapath out
-      → HasNoFaultRisen (compile src datapath out) old new → Specifies (ArePlannable src datapath) old
+    (ending : (command : Command)
+    → IsCommandIn words command
+    → Reported (λ (mid : View). IsEnding command old mid kept status) status old new) where
+  pub compile_law : (src datapath out : Name)
+      → IsCompile words src datapath out
+      → HasNoFaultRisen (compile src datapath out) old new
+      → Specifies (ArePlannable src datapath) old
       → IsDoneOrMemory status
   compile_law src datapath out form none files =
-      compile_complete src datapath old new files.files files.specified files.so (λ r. none (inl r)) (λ r. none (inr (inl r)))
+      compile_complete src datapath old new files.files files.specified files.so (λ r. none (inl r))
+      (λ r. none (inr (inl r)))
       out (λ r. none (inr (inr r))) status (answer_law words old new kept status ending src datapath out form)
 
-  pub compile_plan_law : status ≡ Done → (src datapath out : Name) → IsCompile words src datapath out
-      → (path : Datapath) (plan : Plan) → Specifies (HavePlan src datapath path plan) old
+  pub compile_plan_law : status ≡ Done
+      → (src datapath out : Name)
+      → IsCompile words src datapath out
+      → (path : Datapath) (plan : Plan)
+      → Specifies (HavePlan src datapath path plan) old
       → WhereSpecified new (HasImageOf out path plan)
   compile_plan_law done src datapath out form path plan given =
       compiled_plan src datapath out old new
@@ -87,21 +108,31 @@ module _ (words : List (String Global)) (old new : View) (kept : Kept) (status :
       (answer_law words old new kept status ending src datapath out form))
       given.files given.specified path plan given.so
 
-  pub plan_text_law : (src datapath : Name) → IsSchedule words src datapath
-      → HasNoFaultRisen (schedule src datapath) old new → Specifies (ArePlannable src datapath) old
+  pub plan_text_law : (src datapath : Name)
+      → IsSchedule words src datapath
+      → HasNoFaultRisen (schedule src datapath) old new
+      → Specifies (ArePlannable src datapath) old
       → IsDoneOrMemory status
   plan_text_law src datapath form none files =
-      schedule_complete src datapath old new files.files files.specified files.so (λ r. none (inl r)) (λ r. none (inr (inl r)))
+      schedule_complete src datapath old new files.files files.specified files.so (λ r. none (inl r))
+      (λ r. none (inr (inl r)))
       (λ r. none (inr (inr r))) status (schedule_law words old new kept status ending src datapath form)
 
-  pub listing_law : (mic : Name) → IsList words mic → HasNoFaultRisen (list mic) old new
-      → Specifies (HasSomeImage mic) old → IsDoneOrMemory status
+  pub listing_law : (mic : Name)
+      → IsList words mic
+      → HasNoFaultRisen (list mic) old new
+      → Specifies (HasSomeImage mic) old
+      → IsDoneOrMemory status
   listing_law mic form none files =
-      list_complete mic old new files.files files.specified files.so.0 files.so.1 (λ r. none (inl r)) (λ r. none (inr r)) status
+      list_complete mic old new files.files files.specified files.so.0 files.so.1 (λ r. none (inl r))
+      (λ r. none (inr r)) status
       (list_law words old new kept status ending mic form)
 
-  pub demonstration_law : (sections samples : ℕ) → IsDemo words sections samples
-      → HasNoFaultRisen (demo sections samples) old new → IsCascadePlannable sections → IsDoneOrMemory status
+  pub demonstration_law : (sections samples : ℕ)
+      → IsDemo words sections samples
+      → HasNoFaultRisen (demo sections samples) old new
+      → IsCascadePlannable sections
+      → IsDoneOrMemory status
   demonstration_law sections samples form none plannable =
       demo_complete sections samples old new kept plannable none status
       (demo_law words old new kept status ending sections samples form)
@@ -110,11 +141,13 @@ module _ (words : List (String Global)) (old new : View) (kept : Kept) (status :
   module _ (mic samples out : Name) (form : IsSim words mic samples out)
       (none : HasNoFaultRisen (sim mic samples out) old new) (files : Files) (specified : old.files ≡ Some files)
       (image : MicroImage) (has : HasImage mic files image) where
-    sim_so : (end : Option StreamFault) → RunsImage (content_of (files samples)) image end
+    sim_so : (end : Option StreamFault)
+        → RunsImage (content_of (files samples)) image end
         → IsThisOrMemory (status_at end) status
     sim_so end its =
         ends_so (RunsImage (content_of (files samples)) image)
-        (one_end samples_end (channels_of image) (image_channels image has.spells.valid) (content_of (files samples)) _ _
+        (one_end samples_end (channels_of image) (image_channels image has.spells.valid) (content_of (files samples)) _
+        _
         (clear_apart (microprogram_of image) []) (meets_once (microprogram_of image) [])) end its status
         (sim_ends mic samples out old new kept files specified none image has status
         (sim_law words old new kept status ending mic samples out form))
@@ -125,13 +158,18 @@ module _ (words : List (String Global)) (old new : View) (kept : Kept) (status :
         (sim_ends mic samples out old new kept files specified none image has status
         (sim_law words old new kept status ending mic samples out form))
 
-  pub sim_end_law : (mic samples out : Name) → IsSim words mic samples out
-      → HasNoFaultRisen (sim mic samples out) old new → Specifies (HasSomeImage mic) old → IsEndedByRun status
+  pub sim_end_law : (mic samples out : Name)
+      → IsSim words mic samples out
+      → HasNoFaultRisen (sim mic samples out) old new
+      → Specifies (HasSomeImage mic) old
+      → IsEndedByRun status
   sim_end_law mic samples out form none given =
       sim_ended mic samples out form none given.files given.specified given.so.0 given.so.1
 
-  pub simulation_law : (mic samples out : Name) → IsSim words mic samples out
-      → HasNoFaultRisen (sim mic samples out) old new → Specifies (HasClearStream mic samples) old
+  pub simulation_law : (mic samples out : Name)
+      → IsSim words mic samples out
+      → HasNoFaultRisen (sim mic samples out) old new
+      → Specifies (HasClearStream mic samples) old
       → IsDoneOrMemory status
   simulation_law mic samples out form none given =
       let so = given.so in
@@ -140,9 +178,12 @@ module _ (words : List (String Global)) (old new : View) (kept : Kept) (status :
       sim_so mic samples out form none given.files given.specified so.image so.has.microcode None
       (record { within = omega (arith, few); stream = so.stream; rows_of = are.rows; runs = so.clear })
 
-  pub sim_stop_law : (mic samples out : Name) → IsSim words mic samples out
-      → HasNoFaultRisen (sim mic samples out) old new → (fault : StreamFault)
-      → Specifies (StopsSim mic samples fault) old → IsThisOrMemory (status_of fault) status
+  pub sim_stop_law : (mic samples out : Name)
+      → IsSim words mic samples out
+      → HasNoFaultRisen (sim mic samples out) old new
+      → (fault : StreamFault)
+      → Specifies (StopsSim mic samples fault) old
+      → IsThisOrMemory (status_of fault) status
   sim_stop_law mic samples out form none fault given =
       let (image, has, stops) = given.so in
       sim_so mic samples out form none given.files given.specified image has (Some fault) stops
@@ -151,12 +192,14 @@ module _ (words : List (String Global)) (old new : View) (kept : Kept) (status :
   module _ (src samples out : Name) (form : IsEval words src samples out)
       (none : HasNoFaultRisen (eval src samples out) old new) (files : Files) (specified : old.files ≡ Some files)
       (program : Program) (has : HasProgram (content_of (files src)) program) where
-    eval_so : (end : Option StreamFault) → RunsProgram (content_of (files samples)) program end
+    eval_so : (end : Option StreamFault)
+        → RunsProgram (content_of (files samples)) program end
         → IsThisOrMemory (status_at end) status
     eval_so end its =
         ends_so (RunsProgram (content_of (files samples)) program)
         (one_end samples_end (program_channels program) (channels_of_program (content_of (files src)) program has)
-        (content_of (files samples)) _ _ (λ some more conflict runs met. met) (λ some more conflict other met meet. absurd met))
+        (content_of (files samples)) _ _ (λ some more conflict runs met. met)
+        (λ some more conflict other met meet. absurd met))
         end its status
         (eval_ends src samples out old new files specified program has none status
         (eval_law words old new kept status ending src samples out form))
@@ -167,13 +210,18 @@ module _ (words : List (String Global)) (old new : View) (kept : Kept) (status :
         (eval_ends src samples out old new files specified program has none status
         (eval_law words old new kept status ending src samples out form))
 
-  pub eval_end_law : (src samples out : Name) → IsEval words src samples out
-      → HasNoFaultRisen (eval src samples out) old new → Specifies (IsAccepted src) old → IsEndedBySamples status
+  pub eval_end_law : (src samples out : Name)
+      → IsEval words src samples out
+      → HasNoFaultRisen (eval src samples out) old new
+      → Specifies (IsAccepted src) old
+      → IsEndedBySamples status
   eval_end_law src samples out form none given =
       eval_ended src samples out form none given.files given.specified given.so.0 given.so.1
 
-  pub evaluation_law : (src samples out : Name) → IsEval words src samples out
-      → HasNoFaultRisen (eval src samples out) old new → Specifies (HasProgramStream src samples) old
+  pub evaluation_law : (src samples out : Name)
+      → IsEval words src samples out
+      → HasNoFaultRisen (eval src samples out) old new
+      → Specifies (HasProgramStream src samples) old
       → IsDoneOrMemory status
   evaluation_law src samples out form none given =
       let so = given.so in
@@ -181,9 +229,12 @@ module _ (words : List (String Global)) (old new : View) (kept : Kept) (status :
       eval_so src samples out form none given.files given.specified so.program so.read None
       (record { within = omega (arith, few); stream = so.stream; rows_of = so.samples_are.rows; runs = tt })
 
-  pub eval_stop_law : (src samples out : Name) → IsEval words src samples out
-      → HasNoFaultRisen (eval src samples out) old new → (fault : StreamFault)
-      → Specifies (StopsEval src samples fault) old → IsThisOrMemory (status_of fault) status
+  pub eval_stop_law : (src samples out : Name)
+      → IsEval words src samples out
+      → HasNoFaultRisen (eval src samples out) old new
+      → (fault : StreamFault)
+      → Specifies (StopsEval src samples fault) old
+      → IsThisOrMemory (status_of fault) status
   eval_stop_law src samples out form none fault given =
       let (program, has, stops) = given.so in
       eval_so src samples out form none given.files given.specified program has (Some fault) stops
@@ -193,12 +244,14 @@ module _ (words : List (String Global)) (old new : View) (kept : Kept) (status :
       (none : HasNoFaultRisen (run src datapath samples out) old new) (files : Files)
       (specified : old.files ≡ Some files) (program : Program) (path : Datapath) (plan : Plan)
       (has : IsPlanOver (content_of (files src)) (content_of (files datapath)) program path plan) where
-    run_so : (end : Option StreamFault) → RunsProgram (content_of (files samples)) program end
+    run_so : (end : Option StreamFault)
+        → RunsProgram (content_of (files samples)) program end
         → IsThisOrMemory (status_at end) status
     run_so end its =
         ends_so (RunsProgram (content_of (files samples)) program)
         (one_end samples_end (program_channels program) (channels_of_program (content_of (files src)) program has.read)
-        (content_of (files samples)) _ _ (λ some more conflict runs met. met) (λ some more conflict other met meet. absurd met))
+        (content_of (files samples)) _ _ (λ some more conflict runs met. met)
+        (λ some more conflict other met meet. absurd met))
         end its status
         (run_ends src datapath samples out old new kept files specified none program path plan has status
         (run_law words old new kept status ending src datapath samples out form))
@@ -209,15 +262,19 @@ module _ (words : List (String Global)) (old new : View) (kept : Kept) (status :
         (run_ends src datapath samples out old new kept files specified none program path plan has status
         (run_law words old new kept status ending src datapath samples out form))
 
-  pub run_end_law : (src datapath samples out : Name) → IsRun words src datapath samples out
-      → HasNoFaultRisen (run src datapath samples out) old new → Specifies (ArePlannable src datapath) old
+  pub run_end_law : (src datapath samples out : Name)
+      → IsRun words src datapath samples out
+      → HasNoFaultRisen (run src datapath samples out) old new
+      → Specifies (ArePlannable src datapath) old
       → IsEndedBySamples status
   run_end_law src datapath samples out form none given =
       let (path, plan, (program, has)) = given.so in
       run_ended src datapath samples out form none given.files given.specified program path plan has
 
-  pub planned_run_law : (src datapath samples out : Name) → IsRun words src datapath samples out
-      → HasNoFaultRisen (run src datapath samples out) old new → Specifies (HasPlannedStream src datapath samples) old
+  pub planned_run_law : (src datapath samples out : Name)
+      → IsRun words src datapath samples out
+      → HasNoFaultRisen (run src datapath samples out) old new
+      → Specifies (HasPlannedStream src datapath samples) old
       → IsDoneOrMemory status
   planned_run_law src datapath samples out form none given =
       let so = given.so in
@@ -225,9 +282,12 @@ module _ (words : List (String Global)) (old new : View) (kept : Kept) (status :
       run_so src datapath samples out form none given.files given.specified so.program so.path so.plan so.planned None
       (record { within = omega (arith, few); stream = so.stream; rows_of = so.samples_are.rows; runs = tt })
 
-  pub run_stop_law : (src datapath samples out : Name) → IsRun words src datapath samples out
-      → HasNoFaultRisen (run src datapath samples out) old new → (fault : StreamFault)
-      → Specifies (StopsPlanned src datapath samples fault) old → IsThisOrMemory (status_of fault) status
+  pub run_stop_law : (src datapath samples out : Name)
+      → IsRun words src datapath samples out
+      → HasNoFaultRisen (run src datapath samples out) old new
+      → (fault : StreamFault)
+      → Specifies (StopsPlanned src datapath samples fault) old
+      → IsThisOrMemory (status_of fault) status
   run_stop_law src datapath samples out form none fault given =
       let (program, path, plan, has, stops) = given.so in
       run_so src datapath samples out form none given.files given.specified program path plan has (Some fault) stops

@@ -11,7 +11,7 @@ use Rattle.plan_commands.specs.Compile.{IsAnswer}
 use Rattle.plan_commands.specs.Refusals.{IsPlanError}
 use Rattle.plan_commands.specs.Schedule.{IsScheduleAnswer}
 use Rattle.sample_commands.specs.Eval.{IsEvalAnswer}
-use Rattle.sample_commands.specs.Run.{IsRunAnswer}
+use Rattle.run_command.specs.Run.{IsRunAnswer}
 use Rattle.sample_commands.specs.Sim.{IsSimAnswer}
 use Rattle.sample_commands.specs.declared.simulator.Kept.{Kept}
 use Rattle.sample_commands.proofs.EarlyEnds.{cut_rose}
@@ -24,18 +24,21 @@ use Rattle.statuses.specs.declared.status.Status.{Status}
 use Rattle.statuses.specs.declared.status.Status.TheVariants.{Desk}
 
 module _ (old new : View) (kept : Kept) where
-  planning : (src datapath : Name) → IsPlanError src datapath old new Desk
+  planning : (src datapath : Name)
+      → IsPlanError src datapath old new Desk
       → ReadFaultsRose src old new ⊎ ReadFaultsRose datapath old new
   planning src datapath (inl memory) = absurd (let e = memory.0 in cc)
   planning src datapath (inr (inl unread)) = unread.1.rose
   planning src datapath (inr (inr refused)) = absurd refused.0
 
-  compiling : (src datapath out : Name) → IsAnswer src datapath out old new Desk
+  compiling : (src datapath out : Name)
+      → IsAnswer src datapath out old new Desk
       → HasFaultRisen (compile src datapath out) old new
   compiling src datapath out (inl error) = ⊎_elim (λ r. inl r) (λ r. inr (inl r)) (planning src datapath error)
   compiling src datapath out (inr cut) = inr (inr cut.written.rose)
 
-  scheduling : (src datapath : Name) → IsScheduleAnswer src datapath old new Desk
+  scheduling : (src datapath : Name)
+      → IsScheduleAnswer src datapath old new Desk
       → HasFaultRisen (schedule src datapath) old new
   scheduling src datapath (inl error) = ⊎_elim (λ r. inl r) (λ r. inr (inl r)) (planning src datapath error)
   scheduling src datapath (inr cut) = inr (inr cut.rose)
@@ -47,17 +50,22 @@ module _ (old new : View) (kept : Kept) where
   listing mic (inr (inr (inr (inl unread)))) = inl unread.1.rose
   listing mic (inr (inr (inr (inr (fault, e, rejected))))) = absurd (cc)
 
-  pub simulating : (mic samples out : Name) → IsSimAnswer mic samples out old new kept Desk
+  pub simulating : (mic samples out : Name)
+      → IsSimAnswer mic samples out old new kept Desk
       → HasFaultRisen (sim mic samples out) old new
   simulating mic samples out (inl unread) = ⊎_elim (λ r. inl r) (λ r. inr (inl r.rose)) unread.rose
-  simulating mic samples out (inr stopped) = inr (⊎_elim (λ not. inr not.rose) (λ cut. cut_rose samples out _ _ old new cut) stopped.ended)
+  simulating mic samples out (inr stopped) =
+      inr (⊎_elim (λ not. inr not.rose) (λ cut. cut_rose samples out _ _ old new cut) stopped.ended)
 
-  pub evaluating : (src samples out : Name) → IsEvalAnswer src samples out old new Desk
+  pub evaluating : (src samples out : Name)
+      → IsEvalAnswer src samples out old new Desk
       → HasFaultRisen (eval src samples out) old new
   evaluating src samples out (inl unread) = ⊎_elim (λ r. inl r) (λ r. inr (inl r.rose)) unread.rose
-  evaluating src samples out (inr stopped) = inr (⊎_elim (λ not. inr not.rose) (λ cut. cut_rose samples out _ _ old new cut) stopped.ended)
+  evaluating src samples out (inr stopped) =
+      inr (⊎_elim (λ not. inr not.rose) (λ cut. cut_rose samples out _ _ old new cut) stopped.ended)
 
-  pub running : (src datapath samples out : Name) → IsRunAnswer src datapath samples out old new kept Desk
+  pub running : (src datapath samples out : Name)
+      → IsRunAnswer src datapath samples out old new kept Desk
       → HasFaultRisen (run src datapath samples out) old new
   running src datapath samples out (inl (inl error)) =
       ⊎_elim (λ r. inl r) (λ r. inr (inl r)) (planning src datapath error)
@@ -65,7 +73,8 @@ module _ (old new : View) (kept : Kept) where
   running src datapath samples out (inr stopped) =
       inr (inr (⊎_elim (λ not. inr not.rose) (λ cut. cut_rose samples out _ _ old new cut) stopped.ended))
 
-  demonstrating : (sections samples : ℕ) → IsDemoAnswer sections samples old new kept Desk
+  demonstrating : (sections samples : ℕ)
+      → IsDemoAnswer sections samples old new kept Desk
       → HasFaultRisen (demo sections samples) old new
   demonstrating sections samples (inl done) = absurd (let e = done.0 in cc)
   demonstrating sections samples (inr (inl cut)) = cut.1.rose
@@ -73,7 +82,9 @@ module _ (old new : View) (kept : Kept) where
       absurd (⊎_elim (λ memory. cc) (λ refused. refused.0) error.why)
 
 module _ (words : List (String Global)) (old new : View) (kept : Kept) (status : Status)
-    (ending : (command : Command) → IsCommandIn words command → Reported (λ (mid : View). IsEnding command old mid kept status) status old new)
+    (ending : (command : Command)
+    → IsCommandIn words command
+    → Reported (λ (mid : View). IsEnding command old mid kept status) status old new)
     (fault : status ≡ Desk) where
   pub fault_law : (command : Command) → IsCommandIn words command → HasFaultRisen command old new
   fault_law (compile src datapath out) form =

@@ -1,5 +1,6 @@
 -- A run over the current input comes to the end that the input's bytes have, where no fault of the desk rose.
-use Rattle.std.proofs.Common.{◌≡◌, ◌∙◌, sym, ap, subst, arith, inl, inr, ⊎_elim, ℕ, ◌<◌, List, [], ◌∷◌, ◌++◌, length, Option, Some, None}
+use Rattle.std.proofs.Common.{◌≡◌, ◌∙◌, sym, ap, subst, arith, inl, inr, ⊎_elim, ℕ, ◌<◌, List, [], ◌∷◌, ◌++◌, length}
+use Rattle.std.proofs.Common.{Option, Some, None}
 use Rattle.lists.specs.Rows.{Rows}
 use Rattle.cycle_sim.specs.Machine.{Snapshot, micro_of, state_of}
 use Rattle.desk_core.specs.View.{Content, View}
@@ -25,8 +26,10 @@ use Rattle.statuses.specs.declared.status.Status.{Status}
 
 module _ (end : ℕ) (channels : List Channel) (old new : View) (bytes : Content)
     (input : old.input_bytes ≡ Some (Some bytes)) (clear : Rows → Type 0) (meets : Rows → ConflictValue → Type 0) where
-  pub through : (ran : Rows → Rows → Type 0) → ((rows puts : Rows) → ran rows puts → clear rows)
-      → IsRunThrough end channels ran old new → RunsThrough end channels clear bytes
+  pub through : (ran : Rows → Rows → Type 0)
+      → ((rows puts : Rows) → ran rows puts → clear rows)
+      → IsRunThrough end channels ran old new
+      → RunsThrough end channels clear bytes
   through ran runs h =
       let all = h.run in
       let is : all.bytes ≡ bytes = all.read.all bytes input in
@@ -40,8 +43,10 @@ module _ (end : ℕ) (channels : List Channel) (old new : View) (bytes : Content
   pub stopped : (gives : Rows → Rows → Type 0) (shows : Rows → ConflictValue → Type 0)
       → ((rows puts : Rows) → gives rows puts → clear rows)
       → ((rows : Rows) (conflict : ConflictValue) → shows rows conflict → meets rows conflict)
-      → (ReadFailed old new → ⊥) → (WriteFailed old new → ⊥)
-      → (fault : StreamFault) → IsStopped end channels gives shows old new fault
+      → (ReadFailed old new → ⊥)
+      → (WriteFailed old new → ⊥)
+      → (fault : StreamFault)
+      → IsStopped end channels gives shows old new fault
       → StopsRun end channels clear meets bytes fault
   stopped gives shows runs met no_read no_write Desk h =
       absurd (⊎_elim (λ read. no_read read.failed)
@@ -63,8 +68,11 @@ module _ (end : ℕ) (channels : List Channel) (old new : View) (bytes : Content
       let rows = h.rows ++ h.row ∷ [] in
       let prefix = h.read.prefix bytes input in (
         rows,
-        ⊎_elim (λ begins. lines_read end channels bytes h.bytes prefix h.within rows begins.0 begins.1 begins.2 begins.3)
-            (λ all. all_rows_read end channels bytes h.bytes prefix h.within rows (all.0.all bytes input) all.0.within all.1)
+        ⊎_elim
+            (λ begins. lines_read end channels bytes h.bytes prefix h.within rows begins.0 begins.1 begins.2 begins.3)
+            (λ all.
+            all_rows_read end channels bytes h.bytes prefix h.within rows (all.0.all bytes input) all.0.within
+            all.1)
             h.rows_are,
         met rows conflict h.met,
       )
@@ -78,11 +86,16 @@ module _ (end : ℕ) (channels : List Channel) (old new : View) (bytes : Content
       (once : (some more : Rows) (conflict other : ConflictValue)
       → meets some conflict → meets (some ++ more) other → conflict ≡ other)
       (no_read : ReadFailed old new → ⊥) (no_write : WriteFailed old new → ⊥) where
-    pub ends_so : (status : Status) → EndsStream end channels ran gives shows old new status
-        → (one : Option StreamFault) → IsEnd end channels clear meets bytes one → status ≡ status_at one
+    pub ends_so : (status : Status)
+        → EndsStream end channels ran gives shows old new status
+        → (one : Option StreamFault)
+        → IsEnd end channels clear meets bytes one
+        → status ≡ status_at one
     ends_so status ends one its =
         ⊎_elim (λ done. done.0 ∙ ap status_at (same None (through ran ran_clear done.1)))
-        (λ stop. stop.1 ∙ ap status_at (same (Some stop.0) (stopped gives shows gives_clear met no_read no_write stop.0 stop.2)))
+        (λ stop.
+        stop.1
+        ∙ ap status_at (same (Some stop.0) (stopped gives shows gives_clear met no_read no_write stop.0 stop.2)))
         ends
       where
         same : (other : Option StreamFault) → IsEnd end channels clear meets bytes other → other ≡ one
@@ -97,14 +110,16 @@ pub run_law : (limit : ℕ) (machine after : Snapshot) (cycles : Rows) (old new 
     → EndsStream limit (channels_of machine.image) (λ rows puts. RunsRows machine rows puts after) (PutsRows machine)
     (λ rows conflict. StopsInLast machine rows conflict after) old new status
     → (end : Option StreamFault)
-    → IsEnd limit (channels_of machine.image) (IsClearOver (micro_of machine) cycles) (IsConflictInLast (micro_of machine) cycles) bytes end
+    → IsEnd limit (channels_of machine.image) (IsClearOver (micro_of machine) cycles)
+    (IsConflictInLast (micro_of machine) cycles) bytes end
     → status ≡ status_at end
 run_law limit machine after cycles old new bytes stands reads are status ends end its =
     ends_so limit (channels_of machine.image) old new bytes reads.input (IsClearOver (micro_of machine) cycles)
     (IsConflictInLast (micro_of machine) cycles) are (λ rows puts. RunsRows machine rows puts after) (PutsRows machine)
     (λ rows conflict. StopsInLast machine rows conflict after)
     (λ rows puts ran. (runs_clear machine after rows puts ran).clear cycles stands)
-    (λ rows puts h. h.clear cycles stands) (λ rows conflict h. h.met cycles stands) (clear_apart (micro_of machine) cycles)
+    (λ rows puts h. h.clear cycles stands) (λ rows conflict h. h.met cycles stands)
+    (clear_apart (micro_of machine) cycles)
     (meets_once (micro_of machine) cycles) reads.no_read reads.no_write status ends end its
 
 -- an evaluator over the input

@@ -11,10 +11,10 @@ use Rattle.plan_commands.specs.Schedule.{IsScheduled, IsScheduleAnswer}
 use Rattle.plan_commands.proofs.Making.{reported}
 use Rattle.plan_commands.proofs.Scheduling.{schedule_reported, changes_still}
 use Rattle.sample_commands.specs.Eval.{IsEvalDone, IsEvalAnswer}
-use Rattle.sample_commands.specs.Run.{IsRunDone, IsRunAnswer, RunUsesOnly}
+use Rattle.run_command.specs.Run.{IsRunDone, IsRunAnswer, RunUsesOnly}
 use Rattle.sample_commands.specs.Sim.{IsSimDone, IsSimAnswer}
 use Rattle.sample_commands.specs.declared.simulator.Kept.{Kept}
-use Rattle.sample_commands.proofs.Executing.{run_reported, run_uses_still}
+use Rattle.run_command.proofs.Executing.{run_reported, run_uses_still}
 use Rattle.sample_commands.proofs.Simulating.{sim_reported}
 use Rattle.sample_commands.proofs.Solving.{eval_reported}
 use Rattle.silc.specs.Demo.{IsDemoDone, IsDemoAnswer}
@@ -31,13 +31,19 @@ use Rattle.statuses.specs.declared.status.Status.{Status}
 use Rattle.statuses.specs.declared.status.Status.TheVariants.{Done}
 
 module _ (words : List (String Global)) (old new : View) (kept : Kept) (status : Status)
-    (ending : (command : Command) → IsCommandIn words command → Reported (λ (mid : View). IsEnding command old mid kept status) status old new) where
-  pub answer_law : (src datapath out : Name) → IsCompile words src datapath out → IsAnswer src datapath out old new status
+    (ending : (command : Command)
+    → IsCommandIn words command
+    → Reported (λ (mid : View). IsEnding command old mid kept status) status old new) where
+  pub answer_law : (src datapath out : Name)
+      → IsCompile words src datapath out
+      → IsAnswer src datapath out old new status
   answer_law src datapath out form =
       let r = ending (compile src datapath out) form in
       reported src datapath out old r.mid new r.unchanged r.later r.before status r.holds.0
 
-  pub schedule_law : (src datapath : Name) → IsSchedule words src datapath → IsScheduleAnswer src datapath old new status
+  pub schedule_law : (src datapath : Name)
+      → IsSchedule words src datapath
+      → IsScheduleAnswer src datapath old new status
   schedule_law src datapath form =
       let r = ending (schedule src datapath) form in
       schedule_reported src datapath old r.mid new r.unchanged r.later r.before status r.holds.0
@@ -47,7 +53,9 @@ module _ (words : List (String Global)) (old new : View) (kept : Kept) (status :
       let r = ending (list mic) form in
       list_reported mic old r.mid new r.unchanged r.later r.before status r.holds.0
 
-  pub demo_law : (sections samples : ℕ) → IsDemo words sections samples → IsDemoAnswer sections samples old new kept status
+  pub demo_law : (sections samples : ℕ)
+      → IsDemo words sections samples
+      → IsDemoAnswer sections samples old new kept status
   demo_law sections samples form =
       let r = ending (demo sections samples) form in
       demo_reported sections samples old r.mid new r.unchanged r.later r.before kept status r.holds.0
@@ -62,7 +70,8 @@ module _ (words : List (String Global)) (old new : View) (kept : Kept) (status :
       let r = ending (eval src samples out) form in
       eval_reported src samples out old r.mid new r.unchanged r.later r.before status r.holds.0
 
-  pub run_law : (src datapath samples out : Name) → IsRun words src datapath samples out
+  pub run_law : (src datapath samples out : Name)
+      → IsRun words src datapath samples out
       → IsRunAnswer src datapath samples out old new kept status
   run_law src datapath samples out form =
       let r = ending (run src datapath samples out) form in
@@ -76,7 +85,8 @@ module _ (words : List (String Global)) (old new : View) (kept : Kept) (status :
   only_law first second out (inr (inr form)) =
       let r = ending (eval first second out) form in uses_still old r.mid new r.unchanged first second out r.holds.1
 
-  pub run_only_law : (src datapath samples out : Name) → IsRun words src datapath samples out
+  pub run_only_law : (src datapath samples out : Name)
+      → IsRun words src datapath samples out
       → RunUsesOnly src datapath samples out old new
   run_only_law src datapath samples out form =
       let r = ending (run src datapath samples out) form in
@@ -98,24 +108,32 @@ module _ (words : List (String Global)) (old new : View) (kept : Kept) (status :
 
   module _ (done : status ≡ Done) where
     pub printed_law : (src datapath : Name) → IsSchedule words src datapath → IsScheduled src datapath old new
-    printed_law src datapath form = subst (λ (s : Status). IsScheduleAnswer src datapath old new s) done (schedule_law src datapath form)
+    printed_law src datapath form =
+        subst (λ (s : Status). IsScheduleAnswer src datapath old new s) done (schedule_law src datapath form)
 
     pub listed_law : (mic : Name) → IsList words mic → IsListed mic old new
     listed_law mic form = list_done mic old new status done (list_law mic form)
 
-    pub demonstrated_law : (sections samples : ℕ) → IsDemo words sections samples → IsDemoDone sections samples old new kept
-    demonstrated_law sections samples form = demo_done sections samples old new kept status done (demo_law sections samples form)
+    pub demonstrated_law : (sections samples : ℕ)
+        → IsDemo words sections samples
+        → IsDemoDone sections samples old new kept
+    demonstrated_law sections samples form =
+        demo_done sections samples old new kept status done (demo_law sections samples form)
 
     pub simulated_law : (mic samples out : Name) → IsSim words mic samples out → IsSimDone mic samples out old new kept
-    simulated_law mic samples out form = subst (λ (s : Status). IsSimAnswer mic samples out old new kept s) done (sim_law mic samples out form)
+    simulated_law mic samples out form =
+        subst (λ (s : Status). IsSimAnswer mic samples out old new kept s) done (sim_law mic samples out form)
 
     pub one_solution_law : (src samples out : Name) → IsEval words src samples out → IsEvalDone src samples out old new
-    one_solution_law src samples out form = subst (λ (s : Status). IsEvalAnswer src samples out old new s) done (eval_law src samples out form)
+    one_solution_law src samples out form =
+        subst (λ (s : Status). IsEvalAnswer src samples out old new s) done (eval_law src samples out form)
 
-    pub equals_eval_law : (src datapath samples out : Name) → IsRun words src datapath samples out
+    pub equals_eval_law : (src datapath samples out : Name)
+        → IsRun words src datapath samples out
         → IsRunDone src datapath samples out old new kept
     equals_eval_law src datapath samples out form =
-        subst (λ (s : Status). IsRunAnswer src datapath samples out old new kept s) done (run_law src datapath samples out form)
+        subst (λ (s : Status). IsRunAnswer src datapath samples out old new kept s) done
+        (run_law src datapath samples out form)
 
     pub closed_law : (out : Name) → IsCommandTo words out → HasOutput None new
     closed_law = done_closed words old new kept status done answer_law sim_law eval_law run_law

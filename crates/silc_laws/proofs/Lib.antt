@@ -8,7 +8,6 @@ pub mod StreamEnds
 pub mod Inputs
 pub mod SampleEnds
 pub mod Complete
-pub mod OnePlan
 pub mod OneRefusal
 pub mod Refused
 pub mod Compiled

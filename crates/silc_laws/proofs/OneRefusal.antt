@@ -11,23 +11,24 @@ use Rattle.datapath.proofs.AllowedPath.{allowed_from_gives}
 use Rattle.datapath.proofs.DescribedPath.{is_read}
 use Rattle.datapath.proofs.FirstPath.{first_read}
 use Rattle.desk_core.specs.View.{Content}
-use Rattle.front_end.specs.Faults.{IsFrontFault, IsOfSource}
-use Rattle.front_end.specs.declared.fault.FrontError.TheVariants.{Fault, Memory as front_memory}
-use Rattle.front_end.specs.declared.fault.FrontFault.{FrontFault}
+use Rattle.source_faults.specs.Faults.{IsFrontFault, IsOfSource}
+use Rattle.source_faults.specs.declared.fault.FrontError.TheVariants.{Fault, Memory as front_memory}
+use Rattle.source_faults.specs.declared.fault.FrontFault.{FrontFault}
 use Rattle.front_end.proofs.OneAnswer.{no_fault, fault_error}
 use Rattle.front_end.proofs.SoundGraph.{program_graph_sound, program_graph_loopless}
 use Rattle.micro_file.proofs.FirstFault.{one_fault as one_form_fault}
 use Rattle.plan_commands.specs.Plans.{IsUnplannedOver}
 use Rattle.plan_commands.specs.Refusals.{IsRefusal, IsRefused}
-use Rattle.plan_commands.specs.Sources.{IsAcceptedSource}
+use Rattle.silc_files.specs.Sources.{IsAcceptedSource}
 use Rattle.plan_commands.proofs.PlanAnswers.{fault_for, its_refusal}
 use Rattle.sample_commands.specs.Sim.{IsImageFault}
-use Rattle.silc_laws.proofs.OnePlan.{one_plan_fault}
+use Rattle.planner.proofs.OnePlan.{one_plan_fault}
 use Rattle.statuses.specs.Faults.{of_plan}
 use Rattle.statuses.specs.declared.status.ImageFault.{ImageFault}
 use Rattle.statuses.specs.declared.status.ImageFault.TheVariants as image_fault
 use Rattle.statuses.specs.declared.status.Status.{Status}
-use Rattle.statuses.specs.declared.status.Status.TheVariants.{Done, Memory, Words, Desk, FrontEnd, Path, LinesFull, Period, FileFull, Image, Samples, Conflict}
+use Rattle.statuses.specs.declared.status.Status.TheVariants.{Done, Memory, Words, Desk, FrontEnd, Path, LinesFull}
+use Rattle.statuses.specs.declared.status.Status.TheVariants.{Period, FileFull, Image, Samples, Conflict}
 use Rattle.statuses.specs.declared.status.Status.TheVariants as status
 
 -- a source has one fault
@@ -106,7 +107,11 @@ module _ (s d : Content) where
     one_cause (of_graph over) (of_datapath g its have k) = absurd (path_or_not d over.path over.described g have)
     one_cause (of_graph over) (of_graph its) = one_unplanned over
 
-  pub one_refusal : (why other : Status) → IsRefusal why → IsRefused why s d → IsRefusal other → IsRefused other s d
+  pub one_refusal : (why other : Status)
+      → IsRefusal why
+      → IsRefused why s d
+      → IsRefusal other
+      → IsRefused other s d
       → why ≡ other
   one_refusal why other ours has is h = one_cause why other is h (cause why ours has) (cause other is h)
 

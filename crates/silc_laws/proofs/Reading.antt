@@ -1,5 +1,6 @@
 -- What a run has read shows to what end it comes over all bytes.
-use Rattle.std.proofs.Common.{◌≡◌, ◌∙◌, sym, ap, subst, arith, inl, inr, ◌⊎◌, ℕ, ◌<◌, ◌≤◌, List, ◌++◌, length, take, drop, append_assoc}
+use Rattle.std.proofs.Common.{◌≡◌, ◌∙◌, sym, ap, subst, arith, inl, inr, ◌⊎◌, ℕ, ◌<◌, ◌≤◌, List, ◌++◌, length, take}
+use Rattle.std.proofs.Common.{drop, append_assoc}
 use Rattle.std.proofs.lemmas.List.{length-take, take-append-drop, take-take, take_all}
 use Rattle.lists.specs.Rows.{Rows}
 use Rattle.desk_core.specs.View.{Content}
@@ -37,7 +38,9 @@ module _ (end : ℕ) (channels : List Channel) (all bytes : Content) (prefix : b
   bad_place_read rows fault (inr (is, less, stops)) =
       inr (few is less, subst (λ b. StopsAfter channels b rows fault) (whole is less) stops)
 
-  pub lines_read : (rows : Rows) (front rest : Content) → bytes ≡ front ++ rest → Lines front channels rows
+  pub lines_read : (rows : Rows) (front rest : Content)
+      → bytes ≡ front ++ rest
+      → Lines front channels rows
       → HasFirstRows end channels all rows
   lines_read rows front rest is lines = inl (
     front,
@@ -46,11 +49,16 @@ module _ (end : ℕ) (channels : List Channel) (all bytes : Content) (prefix : b
     lines,
   )
 
-  pub all_rows_read : (rows : Rows) → bytes ≡ all → length bytes < end → RowsOf bytes channels rows
+  pub all_rows_read : (rows : Rows)
+      → bytes ≡ all
+      → length bytes < end
+      → RowsOf bytes channels rows
       → HasFirstRows end channels all rows
   all_rows_read rows is less of = inr (few is less, subst (λ b. RowsOf b channels rows) (whole is less) of)
 
-  pub many_read : (rows : Rows) → length bytes ≡ end → AreLinesSoFar channels bytes rows
+  pub many_read : (rows : Rows)
+      → length bytes ≡ end
+      → AreLinesSoFar channels bytes rows
       → AreTooMany end channels all rows
   many_read rows place lines = record {
     many = omega (arith, ap length prefix, length-take (length bytes) all, place);

@@ -9,19 +9,19 @@ use Rattle.command_words.specs.Command.{IsCompile, IsSchedule, IsList, IsSim, Is
 use Rattle.datapath.specs.declared.types.Datapath.{Datapath}
 use Rattle.desk_core.specs.View.{Name, Files, View}
 use Rattle.desk_core.specs.Desk.{ReadFaultsRose, WriteFaultsRose, PrintFaultsRose, content_of}
-use Rattle.front_end.specs.Faults.{HasProgram}
-use Rattle.front_end.specs.declared.fault.FrontFault.{FrontFault}
+use Rattle.source_faults.specs.Faults.{HasProgram}
+use Rattle.source_faults.specs.declared.fault.FrontFault.{FrontFault}
 use Rattle.front_end.proofs.OneAnswer.{no_fault}
 use Rattle.micro_image.specs.declared.image.Image.{Image as MicroImage}
 use Rattle.plan_commands.specs.Compile.{IsAnswer}
 use Rattle.plan_commands.specs.Plans.{IsPlannedOver}
 use Rattle.plan_commands.specs.Refusals.{IsRefusal, AreRefused, IsPlanError}
 use Rattle.plan_commands.specs.Schedule.{IsScheduleAnswer}
-use Rattle.plan_commands.specs.Sources.{HasFrontFault}
+use Rattle.silc_files.specs.Sources.{HasFrontFault}
 use Rattle.plan_commands.proofs.Complete.{never_refused}
 use Rattle.plan_core.specs.declared.plan.Plan.{Plan}
 use Rattle.sample_commands.specs.Eval.{IsEvalAnswer}
-use Rattle.sample_commands.specs.Run.{IsRunAnswer}
+use Rattle.run_command.specs.Run.{IsRunAnswer}
 use Rattle.sample_commands.specs.Sim.{HasImage, HasImageFault, IsSimAnswer}
 use Rattle.sample_commands.specs.declared.simulator.Kept.{Kept}
 use Rattle.sample_commands.specs.declared.simulator.Kept.TheVariants.{Nothing}
@@ -39,7 +39,8 @@ use Rattle.statuses.specs.declared.status.ImageFault.{ImageFault}
 use Rattle.statuses.specs.declared.status.SampleFault.TheVariants as sample_fault
 use Rattle.statuses.specs.declared.status.Status.{Status}
 use Rattle.statuses.specs.declared.status.Status.TheVariants as status
-use Rattle.statuses.specs.declared.status.Status.TheVariants.{Done, Memory, Words, Desk, FrontEnd, Path, LinesFull, Period, FileFull, Image, Samples, Conflict}
+use Rattle.statuses.specs.declared.status.Status.TheVariants.{Done, Memory, Words, Desk, FrontEnd, Path, LinesFull}
+use Rattle.statuses.specs.declared.status.Status.TheVariants.{Period, FileFull, Image, Samples, Conflict}
 
 -- SRC is refused over DP
 module _ (src datapath : Name) (old new : View) (files : Files) (specified : old.files ≡ Some files)
@@ -48,7 +49,8 @@ module _ (src datapath : Name) (old new : View) (files : Files) (specified : old
   Tells = IsThisOrMemory why
 
   not_planned : (program : Program) (path : Datapath) (plan : Plan)
-      → IsPlannedOver (content_of (files src)) (content_of (files datapath)) program path plan → ⊥
+      → IsPlannedOver (content_of (files src)) (content_of (files datapath)) program path plan
+      → ⊥
   not_planned program path plan planned =
       never_refused (content_of (files src)) (content_of (files datapath)) (path, plan, (program, planned.has)) why is
       refused
@@ -61,8 +63,11 @@ module _ (src datapath : Name) (old new : View) (files : Files) (specified : old
         inl (one_refusal (content_of (files src)) (content_of (files datapath)) error why rejected.0
         (rejected.1.why files specified) is refused)
 
-    compile_refuses : (out : Name) → (WriteFaultsRose out old new → ⊥) → (answer : Status)
-        → IsAnswer src datapath out old new answer → Tells answer
+    compile_refuses : (out : Name)
+        → (WriteFaultsRose out old new → ⊥)
+        → (answer : Status)
+        → IsAnswer src datapath out old new answer
+        → Tells answer
     compile_refuses out no_out Done h =
         let its = h.compiled files specified in absurd (not_planned its.program its.path its.plan its.planned)
     compile_refuses out no_out Desk (inl h) = told Desk h
@@ -79,7 +84,9 @@ module _ (src datapath : Name) (old new : View) (files : Files) (specified : old
     compile_refuses out no_out (Samples fault) h = told (Samples fault) h
     compile_refuses out no_out (Conflict conflict) h = told (Conflict conflict) h
 
-    schedule_refuses : (PrintFaultsRose old new → ⊥) → (answer : Status) → IsScheduleAnswer src datapath old new answer
+    schedule_refuses : (PrintFaultsRose old new → ⊥)
+        → (answer : Status)
+        → IsScheduleAnswer src datapath old new answer
         → Tells answer
     schedule_refuses no_print Done h =
         let its = h.is_text files specified in
@@ -98,8 +105,11 @@ module _ (src datapath : Name) (old new : View) (files : Files) (specified : old
     schedule_refuses no_print (Samples fault) h = told (Samples fault) h
     schedule_refuses no_print (Conflict conflict) h = told (Conflict conflict) h
 
-  run_refuses : (samples out : Name) (kept : Kept) → HasNoFaultRisen (run src datapath samples out) old new
-      → (answer : Status) → IsRunAnswer src datapath samples out old new kept answer → Tells answer
+  run_refuses : (samples out : Name) (kept : Kept)
+      → HasNoFaultRisen (run src datapath samples out) old new
+      → (answer : Status)
+      → IsRunAnswer src datapath samples out old new kept answer
+      → Tells answer
   run_refuses samples out kept none = by
     where
       not_run : (error : Status) → IsPlanError src datapath old new error → Tells error
@@ -129,7 +139,8 @@ module _ (src samples out : Name) (old new : View) (files : Files) (specified : 
   not_read : (program : Program) → HasProgram (content_of (files src)) program → ⊥
   not_read program read = no_fault (content_of (files src)) program read fault has
 
-  eval_refuses : (answer : Status) → IsEvalAnswer src samples out old new answer
+  eval_refuses : (answer : Status)
+      → IsEvalAnswer src samples out old new answer
       → IsThisOrMemory (FrontEnd fault) answer
   eval_refuses Done h = absurd (not_read h.program (h.specified files specified).source.read)
   eval_refuses Memory h = inr refl
@@ -156,8 +167,11 @@ module _ (mic : Name) (old new : View) (files : Files) (specified : old.files �
   same_fault : (other : ImageFault) → HasImageFault mic other files → Image other ≡ Image fault
   same_fault other its = ap Image (one_image_fault (content_of (files mic)) other fault its has)
 
-  sim_refuses : (samples out : Name) (kept : Kept) → HasNoFaultRisen (sim mic samples out) old new → (answer : Status)
-      → IsSimAnswer mic samples out old new kept answer → IsThisOrMemory (Image fault) answer
+  sim_refuses : (samples out : Name) (kept : Kept)
+      → HasNoFaultRisen (sim mic samples out) old new
+      → (answer : Status)
+      → IsSimAnswer mic samples out old new kept answer
+      → IsThisOrMemory (Image fault) answer
   sim_refuses samples out kept none Done (machine, is, h) =
       absurd (no_image h.image (h.specified files specified).microcode)
   sim_refuses samples out kept none Memory h = inr refl
@@ -176,7 +190,9 @@ module _ (mic : Name) (old new : View) (files : Files) (specified : old.files �
   sim_refuses samples out kept none (Period node) h = absurd h
   sim_refuses samples out kept none (FileFull unit port node) h = absurd h
 
-  list_refuses : HasNoFaultRisen (list mic) old new → (answer : Status) → IsListAnswer mic old new answer
+  list_refuses : HasNoFaultRisen (list mic) old new
+      → (answer : Status)
+      → IsListAnswer mic old new answer
       → IsThisOrMemory (Image fault) answer
   list_refuses none answer (inl done) = absurd (no_image done.1.image (done.1.specified files specified))
   list_refuses none answer (inr (inl cut)) = absurd (none (inr cut.1.rose))
@@ -186,9 +202,14 @@ module _ (mic : Name) (old new : View) (files : Files) (specified : old.files �
       inl (is ∙ same_fault other (bad.rejected.why files specified))
 
 -- the cascade is refused
-demo_refuses : (sections samples : ℕ) (old new : View) (kept : Kept) → HasNoFaultRisen (demo sections samples) old new
-    → (why : Status) → IsRefusal why → IsCascadeRefused why sections → (answer : Status)
-    → IsDemoAnswer sections samples old new kept answer → IsThisOrMemory why answer
+demo_refuses : (sections samples : ℕ) (old new : View) (kept : Kept)
+    → HasNoFaultRisen (demo sections samples) old new
+    → (why : Status)
+    → IsRefusal why
+    → IsCascadeRefused why sections
+    → (answer : Status)
+    → IsDemoAnswer sections samples old new kept answer
+    → IsThisOrMemory why answer
 demo_refuses sections samples old new kept none why is refused answer (inl done) =
     let run = done.1.run in
     absurd (never_refused (cascade_source sections) (cascade_datapath sections)
@@ -202,52 +223,78 @@ demo_refuses sections samples old new kept none why is refused answer (inr (inr 
 module _ (words : List (String Global)) (old new : View) (kept : Kept) (status : Status)
     (ending : (command : Command) → IsCommandIn words command
     → Reported (λ (mid : View). IsEnding command old mid kept status) status old new) where
-  pub compile_refusal_law : (src datapath out : Name) → IsCompile words src datapath out
-      → HasNoFaultRisen (compile src datapath out) old new → (why : Status) → IsRefusal why
-      → Specifies (AreRefused src datapath why) old → IsThisOrMemory why status
+  pub compile_refusal_law : (src datapath out : Name)
+      → IsCompile words src datapath out
+      → HasNoFaultRisen (compile src datapath out) old new
+      → (why : Status)
+      → IsRefusal why
+      → Specifies (AreRefused src datapath why) old
+      → IsThisOrMemory why status
   compile_refusal_law src datapath out form none why is given =
       compile_refuses src datapath old new given.files given.specified why is given.so (λ r. none (inl r))
       (λ r. none (inr (inl r))) out (λ r. none (inr (inr r))) status
       (answer_law words old new kept status ending src datapath out form)
 
-  pub schedule_refusal_law : (src datapath : Name) → IsSchedule words src datapath
-      → HasNoFaultRisen (schedule src datapath) old new → (why : Status) → IsRefusal why
-      → Specifies (AreRefused src datapath why) old → IsThisOrMemory why status
+  pub schedule_refusal_law : (src datapath : Name)
+      → IsSchedule words src datapath
+      → HasNoFaultRisen (schedule src datapath) old new
+      → (why : Status)
+      → IsRefusal why
+      → Specifies (AreRefused src datapath why) old
+      → IsThisOrMemory why status
   schedule_refusal_law src datapath form none why is given =
       schedule_refuses src datapath old new given.files given.specified why is given.so (λ r. none (inl r))
       (λ r. none (inr (inl r))) (λ r. none (inr (inr r))) status
       (schedule_law words old new kept status ending src datapath form)
 
-  pub run_refusal_law : (src datapath samples out : Name) → IsRun words src datapath samples out
-      → HasNoFaultRisen (run src datapath samples out) old new → (why : Status) → IsRefusal why
-      → Specifies (AreRefused src datapath why) old → IsThisOrMemory why status
+  pub run_refusal_law : (src datapath samples out : Name)
+      → IsRun words src datapath samples out
+      → HasNoFaultRisen (run src datapath samples out) old new
+      → (why : Status)
+      → IsRefusal why
+      → Specifies (AreRefused src datapath why) old
+      → IsThisOrMemory why status
   run_refusal_law src datapath samples out form none why is given =
       run_refuses src datapath old new given.files given.specified why is given.so samples out kept none status
       (run_law words old new kept status ending src datapath samples out form)
 
-  pub eval_refusal_law : (src samples out : Name) → IsEval words src samples out
-      → HasNoFaultRisen (eval src samples out) old new → (fault : FrontFault)
-      → Specifies (HasFrontFault src fault) old → IsThisOrMemory (FrontEnd fault) status
+  pub eval_refusal_law : (src samples out : Name)
+      → IsEval words src samples out
+      → HasNoFaultRisen (eval src samples out) old new
+      → (fault : FrontFault)
+      → Specifies (HasFrontFault src fault) old
+      → IsThisOrMemory (FrontEnd fault) status
   eval_refusal_law src samples out form none fault given =
       eval_refuses src samples out old new given.files given.specified none fault given.so status
       (eval_law words old new kept status ending src samples out form)
 
-  pub sim_refusal_law : (mic samples out : Name) → IsSim words mic samples out
-      → HasNoFaultRisen (sim mic samples out) old new → (fault : ImageFault)
-      → Specifies (HasImageFault mic fault) old → IsThisOrMemory (Image fault) status
+  pub sim_refusal_law : (mic samples out : Name)
+      → IsSim words mic samples out
+      → HasNoFaultRisen (sim mic samples out) old new
+      → (fault : ImageFault)
+      → Specifies (HasImageFault mic fault) old
+      → IsThisOrMemory (Image fault) status
   sim_refusal_law mic samples out form none fault given =
       sim_refuses mic old new given.files given.specified fault given.so samples out kept none status
       (sim_law words old new kept status ending mic samples out form)
 
-  pub list_refusal_law : (mic : Name) → IsList words mic → HasNoFaultRisen (list mic) old new → (fault : ImageFault)
-      → Specifies (HasImageFault mic fault) old → IsThisOrMemory (Image fault) status
+  pub list_refusal_law : (mic : Name)
+      → IsList words mic
+      → HasNoFaultRisen (list mic) old new
+      → (fault : ImageFault)
+      → Specifies (HasImageFault mic fault) old
+      → IsThisOrMemory (Image fault) status
   list_refusal_law mic form none fault given =
       list_refuses mic old new given.files given.specified fault given.so none status
       (list_law words old new kept status ending mic form)
 
-  pub demo_refusal_law : (sections samples : ℕ) → IsDemo words sections samples
-      → HasNoFaultRisen (demo sections samples) old new → (why : Status) → IsRefusal why
-      → IsCascadeRefused why sections → IsThisOrMemory why status
+  pub demo_refusal_law : (sections samples : ℕ)
+      → IsDemo words sections samples
+      → HasNoFaultRisen (demo sections samples) old new
+      → (why : Status)
+      → IsRefusal why
+      → IsCascadeRefused why sections
+      → IsThisOrMemory why status
   demo_refusal_law sections samples form none why is refused =
       demo_refuses sections samples old new kept none why is refused status
       (demo_law words old new kept status ending sections samples form)

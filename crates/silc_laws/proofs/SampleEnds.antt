@@ -1,11 +1,13 @@
--- How `sim`, `eval` and `run` end is how a run over SAMPLES does, memory aside, where no fault of the command's own rose.
-use Rattle.std.proofs.Common.{◌≡◌, ◌∙◌, refl, sym, subst, arith, inl, inr, ⊎_elim, ◌⊎◌, ℕ, ◌+◌, List, [], ◌∷◌, ◌++◌, Option, Some, None}
+-- How `sim`, `eval` and `run` end is how a run over SAMPLES does, memory aside, where no fault of the command's own
+-- rose.
+use Rattle.std.proofs.Common.{◌≡◌, ◌∙◌, refl, sym, subst, arith, inl, inr, ⊎_elim, ◌⊎◌, ℕ, ◌+◌, List, [], ◌∷◌, ◌++◌}
+use Rattle.std.proofs.Common.{Option, Some, None}
 use Rattle.lists.specs.Rows.{Rows}
 use Rattle.command_words.specs.Command.{sim, eval, run}
 use Rattle.datapath.specs.declared.types.Datapath.{Datapath}
 use Rattle.desk_core.specs.View.{Name, Content, Files, View}
 use Rattle.desk_core.specs.Desk.{content_of}
-use Rattle.front_end.specs.Faults.{HasProgram}
+use Rattle.source_faults.specs.Faults.{HasProgram}
 use Rattle.front_end.proofs.OneAnswer.{one_program, no_fault}
 use Rattle.micro_file.proofs.Unique.{Spells-unique}
 use Rattle.micro_image.specs.declared.conflict.Conflict.{Conflict as ConflictValue}
@@ -19,7 +21,7 @@ use Rattle.plan_commands.specs.Refusals.{IsPlanError}
 use Rattle.plan_commands.proofs.Complete.{plan_memory}
 use Rattle.plan_core.specs.declared.plan.Plan.{Plan}
 use Rattle.sample_commands.specs.Eval.{program_channels, IsSolutionRows, IsEvalDone, IsEvalAnswer}
-use Rattle.sample_commands.specs.Run.{IsRunAnswer}
+use Rattle.run_command.specs.Run.{IsRunAnswer}
 use Rattle.sample_commands.specs.Samples.{IsEndedEarly}
 use Rattle.sample_commands.specs.Sim.{HasImage, IsSimAnswer}
 use Rattle.sample_commands.specs.declared.simulator.Kept.{Kept}
@@ -40,7 +42,8 @@ use Rattle.silc_laws.proofs.StreamEnds.{IsEnd, status_at}
 use Rattle.statuses.specs.declared.status.SampleFault.TheVariants as sample_fault
 use Rattle.statuses.specs.declared.status.Status.{Status}
 use Rattle.statuses.specs.declared.status.Status.TheVariants as status
-use Rattle.statuses.specs.declared.status.Status.TheVariants.{Done, Memory, Words, Desk, FrontEnd, Path, LinesFull, Period, FileFull, Image, Samples, Conflict}
+use Rattle.statuses.specs.declared.status.Status.TheVariants.{Done, Memory, Words, Desk, FrontEnd, Path, LinesFull}
+use Rattle.statuses.specs.declared.status.Status.TheVariants.{Period, FileFull, Image, Samples, Conflict}
 
 -- memory ran out, or the status is that of one of these ends
 abbrev pub EndsBy : (Option StreamFault → Type 0) → Status → Type 0
@@ -97,7 +100,9 @@ module _ (samples out : Name) (channels : List Channel) (old new : View) (files 
       let prefix = h.read.prefix files specified in (
         rows,
         ⊎_elim
-            (λ begins. lines_read samples_end channels bytes h.bytes prefix h.read.within rows begins.0 begins.1 begins.2 begins.3)
+            (λ begins.
+            lines_read samples_end channels bytes h.bytes prefix h.read.within rows begins.0 begins.1 begins.2
+            begins.3)
             (λ all.
             all_rows_read samples_end channels bytes h.bytes prefix h.read.within rows (all.0.content files specified)
             (omega (arith, all.0.within)) all.1)
@@ -106,9 +111,12 @@ module _ (samples out : Name) (channels : List Channel) (old new : View) (files 
       )
 
 -- no conflict comes with the rows of a run
-run_clear : (image : MicroImage) (rows puts : Rows) → IsRunOut (microprogram_of image) rows puts → IsClearOver (microprogram_of image) [] rows
+run_clear : (image : MicroImage) (rows puts : Rows)
+    → IsRunOut (microprogram_of image) rows puts
+    → IsClearOver (microprogram_of image) [] rows
 run_clear image rows puts ran =
-    subst (IsClearBelow (microprogram_of image) (spread image.period rows)) (sym (length-spread image.period rows)) ran.clear
+    subst (IsClearBelow (microprogram_of image) (spread image.period rows)) (sym (length-spread image.period rows))
+    ran.clear
 
 -- MIC has this image
 module _ (mic samples out : Name) (old new : View) (kept : Kept) (files : Files) (specified : old.files ≡ Some files)
@@ -117,13 +125,17 @@ module _ (mic samples out : Name) (old new : View) (kept : Kept) (files : Files)
   abbrev Ends : MicroImage → Option StreamFault → Type 0
   Ends = RunsImage (content_of (files samples))
 
-  of_image : (other : MicroImage) → HasImage mic files other → (end : Option StreamFault) → Ends other end
+  of_image : (other : MicroImage)
+      → HasImage mic files other
+      → (end : Option StreamFault)
+      → Ends other end
       → EndsBy (Ends image) (status_at end)
   of_image other its end ends =
       let same = Spells-unique (content_of (files mic)) other image its.spells has.spells in
       inr (end, refl, subst (λ i. Ends i end) same ends)
 
-  pub sim_ends : (status : Status) → IsSimAnswer mic samples out old new kept status
+  pub sim_ends : (status : Status)
+      → IsSimAnswer mic samples out old new kept status
       → EndsBy (RunsImage (content_of (files samples)) image) status
   sim_ends Done (machine, is, h) =
       let its = h.specified files specified in
@@ -142,15 +154,18 @@ module _ (mic samples out : Name) (old new : View) (kept : Kept) (files : Files)
   sim_ends (Samples (sample_fault.Row line at)) h =
       let fault : RowFault = record { line = line; at = at } in
       of_image h.image (h.specified files specified) (Some (stream.Row fault))
-      (row_stops samples out (channels_of h.image) old new files specified _ (IsConflictInLast (microprogram_of h.image) [])
+      (row_stops samples out (channels_of h.image) old new files specified _
+      (IsConflictInLast (microprogram_of h.image) [])
       (IsClearOver (microprogram_of h.image) []) (run_clear h.image) fault h.ended)
   sim_ends (Samples sample_fault.TooLong) h =
       of_image h.image (h.specified files specified) (Some stream.TooLong)
-      (long_stops samples out (channels_of h.image) old new files specified _ (IsConflictInLast (microprogram_of h.image) [])
+      (long_stops samples out (channels_of h.image) old new files specified _
+      (IsConflictInLast (microprogram_of h.image) [])
       (IsClearOver (microprogram_of h.image) []) (run_clear h.image) h.ended)
   sim_ends (Conflict conflict) h =
       of_image h.image (h.specified files specified) (Some (stream.Conflict conflict))
-      (conflict_stops samples out (channels_of h.image) old new files specified _ (IsConflictInLast (microprogram_of h.image) [])
+      (conflict_stops samples out (channels_of h.image) old new files specified _
+      (IsConflictInLast (microprogram_of h.image) [])
       (IsClearOver (microprogram_of h.image) []) (run_clear h.image) conflict h.ended)
   sim_ends Words h = absurd h
   sim_ends (FrontEnd fault) h = absurd h
@@ -166,8 +181,11 @@ module _ (src samples out : Name) (old new : View) (files : Files) (specified : 
   abbrev EvalEnds : Program → Option StreamFault → Type 0
   EvalEnds = RunsProgram (content_of (files samples))
 
-  of_program : (other : Program) → HasProgram (content_of (files src)) other → (end : Option StreamFault)
-      → EvalEnds other end → EndsBy (EvalEnds program) (status_at end)
+  of_program : (other : Program)
+      → HasProgram (content_of (files src)) other
+      → (end : Option StreamFault)
+      → EvalEnds other end
+      → EndsBy (EvalEnds program) (status_at end)
   of_program other its end ends =
       inr (end, refl, subst (λ p. EvalEnds p end) (one_program (content_of (files src)) program other has its) ends)
 
@@ -182,7 +200,8 @@ module _ (src samples out : Name) (old new : View) (files : Files) (specified : 
   EndsEarly other =
       IsEndedEarly samples out (program_channels other) (IsSolutionRows other) (λ rows conflict. ⊥) old new
 
-  bad_row : (line at : ℕ) (other : Program) → HasProgram (content_of (files src)) other
+  bad_row : (line at : ℕ) (other : Program)
+      → HasProgram (content_of (files src)) other
       → EndsEarly other (stream.Row (record { line = line; at = at }))
       → EndsBy (EvalEnds program) (Samples (sample_fault.Row line at))
   bad_row line at other its ended =
@@ -191,15 +210,19 @@ module _ (src samples out : Name) (old new : View) (files : Files) (specified : 
       (row_stops samples out (program_channels other) old new files specified (IsSolutionRows other)
       MeetsNone IsAlwaysClear (λ rows puts run. tt) fault ended)
 
-  too_long : (other : Program) → HasProgram (content_of (files src)) other → EndsEarly other stream.TooLong
+  too_long : (other : Program)
+      → HasProgram (content_of (files src)) other
+      → EndsEarly other stream.TooLong
       → EndsBy (EvalEnds program) (Samples sample_fault.TooLong)
   too_long other its ended =
       of_program other its (Some stream.TooLong)
       (long_stops samples out (program_channels other) old new files specified (IsSolutionRows other)
       MeetsNone IsAlwaysClear (λ rows puts run. tt) ended)
 
-  pub eval_ends : HasNoFaultRisen (eval src samples out) old new → (status : Status)
-      → IsEvalAnswer src samples out old new status → EndsBy (EvalEnds program) status
+  pub eval_ends : HasNoFaultRisen (eval src samples out) old new
+      → (status : Status)
+      → IsEvalAnswer src samples out old new status
+      → EndsBy (EvalEnds program) status
   eval_ends none Done h = done h
   eval_ends none Memory h = inl refl
   eval_ends none Desk h = absurd (none (evaluating old new Nothing src samples out h))

@@ -1,5 +1,6 @@
 -- A run over the bytes of samples comes to one end.
-use Rattle.std.proofs.Common.{◌≡◌, ◌∙◌, refl, sym, ap, subst, arith, inl, inr, ⊎_elim, ◌⊎◌, ℕ, ◌<◌, List, [], ◌++◌, length, take, Option, Some, None}
+use Rattle.std.proofs.Common.{◌≡◌, ◌∙◌, refl, sym, ap, subst, arith, inl, inr, ⊎_elim, ◌⊎◌, ℕ, ◌<◌, List, [], ◌++◌}
+use Rattle.std.proofs.Common.{length, take, Option, Some, None}
 use Rattle.std.proofs.lemmas.List.{append-nil, take_all}
 use Rattle.lists.specs.Rows.{Rows}
 use Rattle.desk_core.specs.View.{Content}
@@ -9,7 +10,8 @@ use Rattle.sample_io.specs.declared.RowFault.{RowFault}
 use Rattle.sample_io.specs.declared.channel.Channel.{Channel}
 use Rattle.sample_io.specs.Channels.{AreChannels}
 use Rattle.sample_io.specs.Samples.{RowsOf, StopsAfter}
-use Rattle.sample_io.proofs.Streams.{RowsOf_once, RowsOf_first, RowsOf-no_bad_place, bad_place_once, bad_place_first, first_lines, lines_compare}
+use Rattle.sample_io.proofs.Streams.{RowsOf_once, RowsOf_first, RowsOf-no_bad_place, bad_place_once, bad_place_first}
+use Rattle.sample_io.proofs.Streams.{first_lines, lines_compare}
 use Rattle.sample_io.proofs.Taken.{so_far_sound}
 use Rattle.sample_loops.specs.declared.stream.StreamFault.{StreamFault}
 use Rattle.sample_loops.specs.declared.stream.StreamFault.TheVariants.{Desk, Row, TooLong, Conflict}
@@ -18,8 +20,13 @@ use Rattle.statuses.specs.declared.status.Status.{Status}
 use Rattle.statuses.specs.declared.status.Status.TheVariants.{Done}
 
 -- it comes to the end of its stream, or stops so
-abbrev pub IsEnd : (end : ℕ) → List Channel → (clear : Rows → Type 0) → (meets : Rows → ConflictValue → Type 0)
-    → Content → Option StreamFault → Type 0
+abbrev pub IsEnd : (end : ℕ)
+    → List Channel
+    → (clear : Rows → Type 0)
+    → (meets : Rows → ConflictValue → Type 0)
+    → Content
+    → Option StreamFault
+    → Type 0
 IsEnd end channels clear meets bytes None = RunsThrough end channels clear bytes
 IsEnd end channels clear meets bytes (Some fault) = StopsRun end channels clear meets bytes fault
 
@@ -33,7 +40,8 @@ module _ (end : ℕ) (channels : List Channel) (are : AreChannels channels) (byt
   whole few = take_all end bytes (omega (arith, few))
 
   -- the first bad place is that of the first bytes
-  stop_of : (rows : Rows) (fault : RowFault) → HasFirstBadPlace end channels bytes rows fault
+  stop_of : (rows : Rows) (fault : RowFault)
+      → HasFirstBadPlace end channels bytes rows fault
       → StopsAfter channels (take end bytes) rows fault
   stop_of rows fault (inl stops) =
       subst (λ b. StopsAfter channels b rows fault) (append-nil (take end bytes)) (stops [])
@@ -116,12 +124,18 @@ module _ (end : ℕ) (channels : List Channel) (are : AreChannels channels) (byt
       (apart : (some more : Rows) (conflict : ConflictValue) → clear (some ++ more) → meets some conflict → ⊥)
       (once : (some more : Rows) (conflict other : ConflictValue)
       → meets some conflict → meets (some ++ more) other → conflict ≡ other) where
-    not_met : (some rows : Rows) (conflict : ConflictValue) → clear rows → meets some conflict
-        → (more : Rows) × (rows ≡ some ++ more) → ⊥
+    not_met : (some rows : Rows) (conflict : ConflictValue)
+        → clear rows
+        → meets some conflict
+        → (more : Rows) × (rows ≡ some ++ more)
+        → ⊥
     not_met some rows conflict runs met (more, is) = apart some more conflict (subst clear is runs) met
 
-    one_conflict : (some others : Rows) (conflict other : ConflictValue) → meets some conflict → meets others other
-        → ((more : Rows) × (others ≡ some ++ more)) ⊎ ((more : Rows) × (some ≡ others ++ more)) → conflict ≡ other
+    one_conflict : (some others : Rows) (conflict other : ConflictValue)
+        → meets some conflict
+        → meets others other
+        → ((more : Rows) × (others ≡ some ++ more)) ⊎ ((more : Rows) × (some ≡ others ++ more))
+        → conflict ≡ other
     one_conflict some others conflict other met its =
         ⊎_elim (λ h. once some h.0 conflict other met (subst (λ rows. meets rows other) h.1 its))
         (λ h. sym (once others h.0 other conflict its (subst (λ rows. meets rows conflict) h.1 met)))
@@ -134,11 +148,13 @@ module _ (end : ℕ) (channels : List Channel) (are : AreChannels channels) (byt
 
     pub one_end : (one other : Option StreamFault) → Ends one → Ends other → one ≡ other
     one_end None None a b = refl
-    one_end None (Some (Row fault)) a (rows, bad, runs) = absurd (stream_not_bad a.stream rows fault a.within a.rows_of bad)
+    one_end None (Some (Row fault)) a (rows, bad, runs) =
+        absurd (stream_not_bad a.stream rows fault a.within a.rows_of bad)
     one_end None (Some TooLong) a (rows, many, runs) = absurd (not_many a rows many)
     one_end None (Some (Conflict conflict)) a (some, are_first, met) =
         absurd (not_met some a.stream conflict a.runs met (first_of_stream some a.stream are_first a.within a.rows_of))
-    one_end (Some (Row fault)) None (rows, bad, runs) b = absurd (stream_not_bad b.stream rows fault b.within b.rows_of bad)
+    one_end (Some (Row fault)) None (rows, bad, runs) b =
+        absurd (stream_not_bad b.stream rows fault b.within b.rows_of bad)
     one_end (Some (Row fault)) (Some (Row other)) (rows, bad, runs) (others, its, run) =
         ap (λ f. Some (Row f)) (one_bad_place rows others fault other bad its)
     one_end (Some (Row fault)) (Some TooLong) (rows, bad, runs) (others, many, run) =
@@ -158,6 +174,7 @@ module _ (end : ℕ) (channels : List Channel) (are : AreChannels channels) (byt
     one_end (Some (Conflict conflict)) (Some TooLong) (some, are_first, met) (rows, many, runs) =
         absurd (not_met some rows conflict runs met (first_before_many some rows are_first many))
     one_end (Some (Conflict conflict)) (Some (Conflict other)) (some, are_first, met) (others, its, meet) =
-        ap (λ c. Some (Conflict c)) (one_conflict some others conflict other met meet (one_first some others are_first its))
+        ap (λ c. Some (Conflict c))
+        (one_conflict some others conflict other met meet (one_first some others are_first its))
     one_end (Some Desk) other a b = absurd a
     one_end one (Some Desk) a b = absurd b

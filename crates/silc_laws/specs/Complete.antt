@@ -6,13 +6,13 @@ use Rattle.cascade.specs.Cascade.{cascade_source, cascade_datapath}
 use Rattle.datapath.specs.declared.types.Datapath.{Datapath}
 use Rattle.desk_core.specs.View.{Name, Content, Files, View}
 use Rattle.desk_core.specs.Desk.{content_of}
-use Rattle.front_end.specs.Faults.{HasProgram}
+use Rattle.source_faults.specs.Faults.{HasProgram}
 use Rattle.micro_image.specs.declared.conflict.Conflict.{Conflict as ConflictValue}
 use Rattle.micro_image.specs.declared.image.Image.{Image}
 use Rattle.micro_image.specs.Fields.{microprogram_of}
 use Rattle.plan_commands.specs.Plans.{IsPlanOver, HasPlan, IsPlannable}
 use Rattle.plan_commands.specs.Refusals.{IsRefused}
-use Rattle.plan_commands.specs.Sources.{IsAcceptedSource}
+use Rattle.silc_files.specs.Sources.{IsAcceptedSource}
 use Rattle.plan_core.specs.declared.plan.Plan.{Plan}
 use Rattle.plan_run.specs.ImageOf.{IsImageOf}
 use Rattle.sample_commands.specs.Eval.{program_channels}

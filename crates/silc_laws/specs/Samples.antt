@@ -1,5 +1,6 @@
 -- What a run over the bytes of samples comes to where no call of the desk fails: to the end of its stream, or it stops.
--- `end` is the least number of bytes that are too many, `clear` says of rows that no conflict comes with any of them, and
+-- `end` is the least number of bytes that are too many, `clear` says of rows that no conflict comes with any of them,
+-- and
 -- `meets` which conflict comes with the last of them.
 use Rattle.std.specs.Prelude.{◌≡◌, ℕ, ◌<◌, ◌≤◌, List, length, take, Some}
 use Rattle.lists.specs.Rows.{Rows}
@@ -38,8 +39,13 @@ pub record AreTooMany (end : ℕ) (channels : List Channel) (bytes : Content) (r
   pub lines : AreLinesSoFar channels (take end bytes) rows
 
 -- why a run over the bytes stops: the rows before it meet no conflict
-abbrev pub StopsRun : (end : ℕ) → List Channel → (clear : Rows → Type 0) → (meets : Rows → ConflictValue → Type 0)
-    → Content → StreamFault → Type 0
+abbrev pub StopsRun : (end : ℕ)
+    → List Channel
+    → (clear : Rows → Type 0)
+    → (meets : Rows → ConflictValue → Type 0)
+    → Content
+    → StreamFault
+    → Type 0
 StopsRun end channels clear meets bytes Desk = ⊥
 StopsRun end channels clear meets bytes (Row fault) =
     (rows : Rows) × HasFirstBadPlace end channels bytes rows fault × clear rows

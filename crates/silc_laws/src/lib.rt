@@ -11,14 +11,14 @@ ghost use Rattle.command_words.specs.Command.{IsCompile, IsSchedule, IsList, IsS
 ghost use Rattle.datapath.specs.declared.types.Datapath.{Datapath};
 ghost use Rattle.desk_core.specs.Desk.{HasOutput, WhereSpecified};
 ghost use Rattle.desk_core.specs.View.{Name, View};
-ghost use Rattle.front_end.specs.declared.fault.FrontFault.{FrontFault};
+ghost use Rattle.source_faults.specs.declared.fault.FrontFault.{FrontFault};
 ghost use Rattle.plan_commands.specs.Compile.{IsAnswer};
 ghost use Rattle.plan_commands.specs.Refusals.{IsRefusal, AreRefused};
 ghost use Rattle.plan_commands.specs.Schedule.{IsScheduled, IsScheduleAnswer};
-ghost use Rattle.plan_commands.specs.Sources.{HasFrontFault};
+ghost use Rattle.silc_files.specs.Sources.{HasFrontFault};
 ghost use Rattle.plan_core.specs.declared.plan.Plan.{Plan};
 ghost use Rattle.sample_commands.specs.Eval.{IsEvalDone, IsEvalAnswer};
-ghost use Rattle.sample_commands.specs.Run.{IsRunDone, IsRunAnswer, RunUsesOnly};
+ghost use Rattle.run_command.specs.Run.{IsRunDone, IsRunAnswer, RunUsesOnly};
 ghost use Rattle.sample_commands.specs.Sim.{HasSomeImage, HasImageFault, IsSimDone, IsSimAnswer};
 ghost use Rattle.sample_commands.specs.StreamEnds.{status_of};
 ghost use Rattle.sample_commands.specs.declared.simulator.Kept.TheVariants.{Nothing};

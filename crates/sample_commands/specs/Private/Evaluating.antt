@@ -4,10 +4,10 @@ use Rattle.desk_core.specs.View.{Name, View}
 use Rattle.desk_core.specs.Desk.{WhereSpecified, ReadFaultsRose, FaultsNeverFall}
 use Rattle.desk_core.specs.Whole.{IsReadThrough}
 use Rattle.equation_eval.specs.Evaluation.{Evaluation}
-use Rattle.front_end.specs.Faults.{IsOfSource}
-use Rattle.plan_commands.specs.Planning.{IsGraphFor}
-use Rattle.plan_commands.specs.Sources.{IsProgramIn, HasFrontFault}
-use Rattle.sample_commands.specs.Private.Streaming.{IsOpened, IsNotOpened}
+use Rattle.source_faults.specs.Faults.{IsOfSource}
+use Rattle.loop_expand.specs.GraphFor.{IsGraphFor}
+use Rattle.silc_files.specs.Sources.{IsProgramIn, HasFrontFault}
+use Rattle.sample_commands.specs.Streaming.{IsOpened, IsNotOpened}
 use Rattle.sample_commands.specs.StreamEnds.{EndsStream}
 use Rattle.sample_loops.specs.Evaluators.{graph_channels, EvaluatesRows, SolvesRows}
 use Rattle.sample_loops.specs.Streams.{ChangesOutputAlone}
@@ -45,7 +45,8 @@ pub record EvaluatesFiles (samples out : Name) (evaluator : Evaluation) (old new
   pub never_fall : FaultsNeverFall old mid
   pub opened : IsOpened samples out old mid
   pub only : ChangesOutputAlone mid new
-  pub ends : EndsStream (samples_limit + 1) (graph_channels evaluator.graph)
+  pub ends :
+      EndsStream (samples_limit + 1) (graph_channels evaluator.graph)
       (λ ran puts. EvaluatesRows evaluator ran puts after) (SolvesRows evaluator) (λ rows conflict. ⊥) mid new ending
 
 -- the files could not be opened, or the stream was evaluated

@@ -15,7 +15,7 @@ use Rattle.silage_syntax.specs.Tree.{Program}
 use Rattle.cascade.specs.Cascade.{cascade_source, cascade_datapath, cascade_rows, words_of, sum_of, last_of}
 use Rattle.plan_commands.specs.Headline.{RunsTheSolution}
 use Rattle.plan_commands.specs.Plans.{IsPlannedOver}
-use Rattle.plan_commands.specs.Planning.{IsGraphFor}
+use Rattle.loop_expand.specs.GraphFor.{IsGraphFor}
 use Rattle.sample_commands.specs.Loaded.{IsFresh}
 use Rattle.cascade.specs.declared.Totals.{Totals}
 use Rattle.plan_commands.specs.declared.planning.Planned.{Planned}

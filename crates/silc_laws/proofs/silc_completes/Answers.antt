@@ -4,32 +4,40 @@ use Rattle.silc_laws.proofs.silc_completes.Goals as goal
 
 pub returns-clause-compiles : goal.returns-clause-compiles
 returns-clause-compiles g c =
-    compile_law c.args.words.now (g.D.Desk.view c.args.desk.now) (g.D.Desk.view c.silc.new.desk) c.silc.new.kept c.silc.result c.silc.ensures.ending
+    compile_law c.args.words.now (g.D.Desk.view c.args.desk.now) (g.D.Desk.view c.silc.new.desk) c.silc.new.kept
+    c.silc.result c.silc.ensures.ending
 
 pub returns-clause-compiles_plan : goal.returns-clause-compiles_plan
 returns-clause-compiles_plan g c =
-    compile_plan_law c.args.words.now (g.D.Desk.view c.args.desk.now) (g.D.Desk.view c.silc.new.desk) c.silc.new.kept c.silc.result c.silc.ensures.ending
+    compile_plan_law c.args.words.now (g.D.Desk.view c.args.desk.now) (g.D.Desk.view c.silc.new.desk) c.silc.new.kept
+    c.silc.result c.silc.ensures.ending
 
 pub returns-clause-schedules : goal.returns-clause-schedules
 returns-clause-schedules g c =
-    plan_text_law c.args.words.now (g.D.Desk.view c.args.desk.now) (g.D.Desk.view c.silc.new.desk) c.silc.new.kept c.silc.result c.silc.ensures.ending
+    plan_text_law c.args.words.now (g.D.Desk.view c.args.desk.now) (g.D.Desk.view c.silc.new.desk) c.silc.new.kept
+    c.silc.result c.silc.ensures.ending
 
 pub returns-clause-lists : goal.returns-clause-lists
 returns-clause-lists g c =
-    listing_law c.args.words.now (g.D.Desk.view c.args.desk.now) (g.D.Desk.view c.silc.new.desk) c.silc.new.kept c.silc.result c.silc.ensures.ending
+    listing_law c.args.words.now (g.D.Desk.view c.args.desk.now) (g.D.Desk.view c.silc.new.desk) c.silc.new.kept
+    c.silc.result c.silc.ensures.ending
 
 pub returns-clause-demonstrates : goal.returns-clause-demonstrates
 returns-clause-demonstrates g c =
-    demonstration_law c.args.words.now (g.D.Desk.view c.args.desk.now) (g.D.Desk.view c.silc.new.desk) c.silc.new.kept c.silc.result c.silc.ensures.ending
+    demonstration_law c.args.words.now (g.D.Desk.view c.args.desk.now) (g.D.Desk.view c.silc.new.desk) c.silc.new.kept
+    c.silc.result c.silc.ensures.ending
 
 pub returns-clause-simulates : goal.returns-clause-simulates
 returns-clause-simulates g c =
-    simulation_law c.args.words.now (g.D.Desk.view c.args.desk.now) (g.D.Desk.view c.silc.new.desk) c.silc.new.kept c.silc.result c.silc.ensures.ending
+    simulation_law c.args.words.now (g.D.Desk.view c.args.desk.now) (g.D.Desk.view c.silc.new.desk) c.silc.new.kept
+    c.silc.result c.silc.ensures.ending
 
 pub returns-clause-evaluates : goal.returns-clause-evaluates
 returns-clause-evaluates g c =
-    evaluation_law c.args.words.now (g.D.Desk.view c.args.desk.now) (g.D.Desk.view c.silc.new.desk) c.silc.new.kept c.silc.result c.silc.ensures.ending
+    evaluation_law c.args.words.now (g.D.Desk.view c.args.desk.now) (g.D.Desk.view c.silc.new.desk) c.silc.new.kept
+    c.silc.result c.silc.ensures.ending
 
 pub returns-clause-runs : goal.returns-clause-runs
 returns-clause-runs g c =
-    planned_run_law c.args.words.now (g.D.Desk.view c.args.desk.now) (g.D.Desk.view c.silc.new.desk) c.silc.new.kept c.silc.result c.silc.ensures.ending
+    planned_run_law c.args.words.now (g.D.Desk.view c.args.desk.now) (g.D.Desk.view c.silc.new.desk) c.silc.new.kept
+    c.silc.result c.silc.ensures.ending

@@ -1,30 +1,38 @@
-use Rattle.silc_laws.proofs.Laws.{printed_law, listed_law, demonstrated_law, simulated_law, one_solution_law, equals_eval_law, closed_law}
+use Rattle.silc_laws.proofs.Laws.{printed_law, listed_law, demonstrated_law, simulated_law, one_solution_law}
+use Rattle.silc_laws.proofs.Laws.{equals_eval_law, closed_law}
 use Rattle.silc_laws.proofs.silc_done.Goals as goal
 
 pub returns-clause-printed : goal.returns-clause-printed
 returns-clause-printed g c =
-    printed_law c.args.words.now (g.D.Desk.view c.args.desk.now) (g.D.Desk.view c.silc.new.desk) c.silc.new.kept c.silc.result c.silc.ensures.ending
+    printed_law c.args.words.now (g.D.Desk.view c.args.desk.now) (g.D.Desk.view c.silc.new.desk) c.silc.new.kept
+    c.silc.result c.silc.ensures.ending
 
 pub returns-clause-listed : goal.returns-clause-listed
 returns-clause-listed g c =
-    listed_law c.args.words.now (g.D.Desk.view c.args.desk.now) (g.D.Desk.view c.silc.new.desk) c.silc.new.kept c.silc.result c.silc.ensures.ending
+    listed_law c.args.words.now (g.D.Desk.view c.args.desk.now) (g.D.Desk.view c.silc.new.desk) c.silc.new.kept
+    c.silc.result c.silc.ensures.ending
 
 pub returns-clause-demonstrated : goal.returns-clause-demonstrated
 returns-clause-demonstrated g c =
-    demonstrated_law c.args.words.now (g.D.Desk.view c.args.desk.now) (g.D.Desk.view c.silc.new.desk) c.silc.new.kept c.silc.result c.silc.ensures.ending
+    demonstrated_law c.args.words.now (g.D.Desk.view c.args.desk.now) (g.D.Desk.view c.silc.new.desk) c.silc.new.kept
+    c.silc.result c.silc.ensures.ending
 
 pub returns-clause-simulated : goal.returns-clause-simulated
 returns-clause-simulated g c =
-    simulated_law c.args.words.now (g.D.Desk.view c.args.desk.now) (g.D.Desk.view c.silc.new.desk) c.silc.new.kept c.silc.result c.silc.ensures.ending
+    simulated_law c.args.words.now (g.D.Desk.view c.args.desk.now) (g.D.Desk.view c.silc.new.desk) c.silc.new.kept
+    c.silc.result c.silc.ensures.ending
 
 pub returns-clause-one_solution : goal.returns-clause-one_solution
 returns-clause-one_solution g c =
-    one_solution_law c.args.words.now (g.D.Desk.view c.args.desk.now) (g.D.Desk.view c.silc.new.desk) c.silc.new.kept c.silc.result c.silc.ensures.ending
+    one_solution_law c.args.words.now (g.D.Desk.view c.args.desk.now) (g.D.Desk.view c.silc.new.desk) c.silc.new.kept
+    c.silc.result c.silc.ensures.ending
 
 pub returns-clause-equals_eval : goal.returns-clause-equals_eval
 returns-clause-equals_eval g c =
-    equals_eval_law c.args.words.now (g.D.Desk.view c.args.desk.now) (g.D.Desk.view c.silc.new.desk) c.silc.new.kept c.silc.result c.silc.ensures.ending
+    equals_eval_law c.args.words.now (g.D.Desk.view c.args.desk.now) (g.D.Desk.view c.silc.new.desk) c.silc.new.kept
+    c.silc.result c.silc.ensures.ending
 
 pub returns-clause-closed : goal.returns-clause-closed
 returns-clause-closed g c =
-    closed_law c.args.words.now (g.D.Desk.view c.args.desk.now) (g.D.Desk.view c.silc.new.desk) c.silc.new.kept c.silc.result c.silc.ensures.ending
+    closed_law c.args.words.now (g.D.Desk.view c.args.desk.now) (g.D.Desk.view c.silc.new.desk) c.silc.new.kept
+    c.silc.result c.silc.ensures.ending

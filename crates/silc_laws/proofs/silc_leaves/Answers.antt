@@ -4,32 +4,40 @@ use Rattle.silc_laws.proofs.silc_leaves.Goals as goal
 
 pub returns-clause-only : goal.returns-clause-only
 returns-clause-only g c =
-    only_law c.args.words.now (g.D.Desk.view c.args.desk.now) (g.D.Desk.view c.silc.new.desk) c.silc.new.kept c.silc.result c.silc.ensures.ending
+    only_law c.args.words.now (g.D.Desk.view c.args.desk.now) (g.D.Desk.view c.silc.new.desk) c.silc.new.kept
+    c.silc.result c.silc.ensures.ending
 
 pub returns-clause-run_only : goal.returns-clause-run_only
 returns-clause-run_only g c =
-    run_only_law c.args.words.now (g.D.Desk.view c.args.desk.now) (g.D.Desk.view c.silc.new.desk) c.silc.new.kept c.silc.result c.silc.ensures.ending
+    run_only_law c.args.words.now (g.D.Desk.view c.args.desk.now) (g.D.Desk.view c.silc.new.desk) c.silc.new.kept
+    c.silc.result c.silc.ensures.ending
 
 pub returns-clause-schedule_only : goal.returns-clause-schedule_only
 returns-clause-schedule_only g c =
-    schedule_only_law c.args.words.now (g.D.Desk.view c.args.desk.now) (g.D.Desk.view c.silc.new.desk) c.silc.new.kept c.silc.result c.silc.ensures.ending
+    schedule_only_law c.args.words.now (g.D.Desk.view c.args.desk.now) (g.D.Desk.view c.silc.new.desk) c.silc.new.kept
+    c.silc.result c.silc.ensures.ending
 
 pub returns-clause-list_only : goal.returns-clause-list_only
 returns-clause-list_only g c =
-    list_only_law c.args.words.now (g.D.Desk.view c.args.desk.now) (g.D.Desk.view c.silc.new.desk) c.silc.new.kept c.silc.result c.silc.ensures.ending
+    list_only_law c.args.words.now (g.D.Desk.view c.args.desk.now) (g.D.Desk.view c.silc.new.desk) c.silc.new.kept
+    c.silc.result c.silc.ensures.ending
 
 pub returns-clause-demo_only : goal.returns-clause-demo_only
 returns-clause-demo_only g c =
-    demo_only_law c.args.words.now (g.D.Desk.view c.args.desk.now) (g.D.Desk.view c.silc.new.desk) c.silc.new.kept c.silc.result c.silc.ensures.ending
+    demo_only_law c.args.words.now (g.D.Desk.view c.args.desk.now) (g.D.Desk.view c.silc.new.desk) c.silc.new.kept
+    c.silc.result c.silc.ensures.ending
 
 pub returns-clause-compile_keeps_nothing : goal.returns-clause-compile_keeps_nothing
-returns-clause-compile_keeps_nothing g c = λ src datapath out form. (c.silc.ensures.ending (compile src datapath out) form).holds.2
+returns-clause-compile_keeps_nothing g c = λ src datapath out form. (c.silc.ensures.ending (compile src datapath out)
+    form).holds.2
 
 pub returns-clause-eval_keeps_nothing : goal.returns-clause-eval_keeps_nothing
-returns-clause-eval_keeps_nothing g c = λ src samples out form. (c.silc.ensures.ending (eval src samples out) form).holds.2
+returns-clause-eval_keeps_nothing g c = λ src samples out form. (c.silc.ensures.ending (eval src samples out)
+    form).holds.2
 
 pub returns-clause-schedule_keeps_nothing : goal.returns-clause-schedule_keeps_nothing
-returns-clause-schedule_keeps_nothing g c = λ src datapath form. (c.silc.ensures.ending (schedule src datapath) form).holds.2
+returns-clause-schedule_keeps_nothing g c = λ src datapath form. (c.silc.ensures.ending (schedule src datapath)
+    form).holds.2
 
 pub returns-clause-list_keeps_nothing : goal.returns-clause-list_keeps_nothing
 returns-clause-list_keeps_nothing g c = λ mic form. (c.silc.ensures.ending (list mic) form).holds.2

@@ -4,28 +4,35 @@ use Rattle.silc_laws.proofs.silc_refuses.Goals as goal
 
 pub returns-clause-compile_refuses : goal.returns-clause-compile_refuses
 returns-clause-compile_refuses g c =
-    compile_refusal_law c.args.words.now (g.D.Desk.view c.args.desk.now) (g.D.Desk.view c.silc.new.desk) c.silc.new.kept c.silc.result c.silc.ensures.ending
+    compile_refusal_law c.args.words.now (g.D.Desk.view c.args.desk.now) (g.D.Desk.view c.silc.new.desk) c.silc.new.kept
+    c.silc.result c.silc.ensures.ending
 
 pub returns-clause-schedule_refuses : goal.returns-clause-schedule_refuses
 returns-clause-schedule_refuses g c =
-    schedule_refusal_law c.args.words.now (g.D.Desk.view c.args.desk.now) (g.D.Desk.view c.silc.new.desk) c.silc.new.kept c.silc.result c.silc.ensures.ending
+    schedule_refusal_law c.args.words.now (g.D.Desk.view c.args.desk.now) (g.D.Desk.view c.silc.new.desk)
+    c.silc.new.kept c.silc.result c.silc.ensures.ending
 
 pub returns-clause-list_refuses : goal.returns-clause-list_refuses
 returns-clause-list_refuses g c =
-    list_refusal_law c.args.words.now (g.D.Desk.view c.args.desk.now) (g.D.Desk.view c.silc.new.desk) c.silc.new.kept c.silc.result c.silc.ensures.ending
+    list_refusal_law c.args.words.now (g.D.Desk.view c.args.desk.now) (g.D.Desk.view c.silc.new.desk) c.silc.new.kept
+    c.silc.result c.silc.ensures.ending
 
 pub returns-clause-demo_refuses : goal.returns-clause-demo_refuses
 returns-clause-demo_refuses g c =
-    demo_refusal_law c.args.words.now (g.D.Desk.view c.args.desk.now) (g.D.Desk.view c.silc.new.desk) c.silc.new.kept c.silc.result c.silc.ensures.ending
+    demo_refusal_law c.args.words.now (g.D.Desk.view c.args.desk.now) (g.D.Desk.view c.silc.new.desk) c.silc.new.kept
+    c.silc.result c.silc.ensures.ending
 
 pub returns-clause-sim_refuses : goal.returns-clause-sim_refuses
 returns-clause-sim_refuses g c =
-    sim_refusal_law c.args.words.now (g.D.Desk.view c.args.desk.now) (g.D.Desk.view c.silc.new.desk) c.silc.new.kept c.silc.result c.silc.ensures.ending
+    sim_refusal_law c.args.words.now (g.D.Desk.view c.args.desk.now) (g.D.Desk.view c.silc.new.desk) c.silc.new.kept
+    c.silc.result c.silc.ensures.ending
 
 pub returns-clause-eval_refuses : goal.returns-clause-eval_refuses
 returns-clause-eval_refuses g c =
-    eval_refusal_law c.args.words.now (g.D.Desk.view c.args.desk.now) (g.D.Desk.view c.silc.new.desk) c.silc.new.kept c.silc.result c.silc.ensures.ending
+    eval_refusal_law c.args.words.now (g.D.Desk.view c.args.desk.now) (g.D.Desk.view c.silc.new.desk) c.silc.new.kept
+    c.silc.result c.silc.ensures.ending
 
 pub returns-clause-run_refuses : goal.returns-clause-run_refuses
 returns-clause-run_refuses g c =
-    run_refusal_law c.args.words.now (g.D.Desk.view c.args.desk.now) (g.D.Desk.view c.silc.new.desk) c.silc.new.kept c.silc.result c.silc.ensures.ending
+    run_refusal_law c.args.words.now (g.D.Desk.view c.args.desk.now) (g.D.Desk.view c.silc.new.desk) c.silc.new.kept
+    c.silc.result c.silc.ensures.ending

@@ -10,7 +10,12 @@ pub returns-in-Ok-clause-answer : goal.returns-in-Ok-clause-answer
 returns-in-Ok-clause-answer g c =
     cut_short c.args.source.now c.args.datapath.now c.args.output.now c.in-Ok.microcode
     (g.D.Desk.view c.args.desk.now) (g.D.Desk.view c.make.new.desk) (g.D.Desk.view c.write_whole.new.desk)
-    c.from-in-Err-write_whole.result.status (ap (λ (e : Ending). e.status) c.from-in-Err-write_whole.ensures) c.in-Ok.ensures.ok
-    (not_written c.args.datapath.now c.args.output.now text_limit c.in-Ok.microcode (g.D.Desk.view c.args.desk.now) (g.D.Desk.view c.make.new.desk) (g.D.Desk.view c.write_whole.new.desk)
-    c.requires c.in-Ok.ensures.ok.read c.in-Ok.ensures.reads.unchanged.files c.in-Ok.ensures.reads.never_fall (c.in-Err-write_whole.ensures.cause refl)
-    (subst (λ bytes. IsWrittenInPart c.args.output.now bytes (g.D.Desk.view c.make.new.desk) (g.D.Desk.view c.write_whole.new.desk)) c.deref.ensures c.in-Err-write_whole.ensures.err))
+    c.from-in-Err-write_whole.result.status (ap (λ (e : Ending). e.status) c.from-in-Err-write_whole.ensures)
+    c.in-Ok.ensures.ok
+    (not_written c.args.datapath.now c.args.output.now text_limit c.in-Ok.microcode (g.D.Desk.view c.args.desk.now)
+    (g.D.Desk.view c.make.new.desk) (g.D.Desk.view c.write_whole.new.desk)
+    c.requires c.in-Ok.ensures.ok.read c.in-Ok.ensures.reads.unchanged.files c.in-Ok.ensures.reads.never_fall
+    (c.in-Err-write_whole.ensures.cause refl)
+    (subst (λ bytes.
+    IsWrittenInPart c.args.output.now bytes (g.D.Desk.view c.make.new.desk) (g.D.Desk.view c.write_whole.new.desk))
+    c.deref.ensures c.in-Err-write_whole.ensures.err))

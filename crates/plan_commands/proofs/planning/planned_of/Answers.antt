@@ -1,13 +1,15 @@
 use Rattle.std.proofs.Common.{rules}
+use Rattle.lists.proofs.Results.{if_err}
 use Rattle.silage_syntax.specs.Tree.{view}
 use Rattle.plan_commands.proofs.Plans.{no_path, no_input_plan, input_plan}
-use Rattle.silc_files.proofs.Results.{if_err}
 use Rattle.plan_commands.proofs.planning.planned_of.Goals as goal
 
 pub returns-clause-err : goal.returns-clause-err
 returns-clause-err c =
     if_err c.planned_over.result _ _
-    (λ ending. no_input_plan c.args.source.now c.args.datapath.now (view c.in_ok-accepted.accepted.program) c.in_ok-accepted.accepted.graph c.in_ok-accepted.ensures.ok
+    (λ ending.
+    no_input_plan c.args.source.now c.args.datapath.now (view c.in_ok-accepted.accepted.program)
+    c.in_ok-accepted.accepted.graph c.in_ok-accepted.ensures.ok
     c.in_ok-path.path c.in_ok-path.ensures.ok ending.status)
     c.planned_over.ensures.err
 
@@ -19,6 +21,8 @@ returns-in_err-path-clause-err c =
 
 pub returns-clause-ok : goal.returns-clause-ok
 returns-clause-ok c =
-    input_plan c.args.source.now c.args.datapath.now (view c.in_ok-accepted.accepted.program) c.in_ok-accepted.accepted.graph c.in_ok-accepted.ensures.ok
-    c.in_ok-accepted.ensures.graph c.in_ok-path.path c.in_ok-path.ensures.ok c.in_ok-path.ensures.allowed c.planned_over.result c.planned_over.ensures.path
+    input_plan c.args.source.now c.args.datapath.now (view c.in_ok-accepted.accepted.program)
+    c.in_ok-accepted.accepted.graph c.in_ok-accepted.ensures.ok
+    c.in_ok-accepted.ensures.graph c.in_ok-path.path c.in_ok-path.ensures.ok c.in_ok-path.ensures.allowed
+    c.planned_over.result c.planned_over.ensures.path
     c.planned_over.ensures.ok

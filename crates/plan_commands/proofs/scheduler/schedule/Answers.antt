@@ -10,9 +10,15 @@ use Rattle.plan_commands.proofs.scheduler.schedule.Goals as goal
 
 pub returns-in-Ok-clause-answer : goal.returns-in-Ok-clause-answer
 returns-in-Ok-clause-answer g c =
-    subst (λ (s : Status). IsScheduleAnswer c.args.source.now c.args.datapath.now (g.D.Desk.view c.args.desk.now) (g.D.Desk.view c.print_whole.new.desk) s)
+    subst (λ (s : Status).
+    IsScheduleAnswer c.args.source.now c.args.datapath.now (g.D.Desk.view c.args.desk.now)
+    (g.D.Desk.view c.print_whole.new.desk) s)
     (sym (ap (λ (e : Ending). e.status) c.from-in-Err-print_whole.ensures))
-    (inr (print_cut_short c.args.source.now c.args.datapath.now (g.D.Desk.view c.args.desk.now) (g.D.Desk.view c.make.new.desk) (g.D.Desk.view c.print_whole.new.desk) c.in-Ok.text
+    (inr (print_cut_short c.args.source.now c.args.datapath.now (g.D.Desk.view c.args.desk.now)
+    (g.D.Desk.view c.make.new.desk) (g.D.Desk.view c.print_whole.new.desk) c.in-Ok.text
     c.in-Ok.ensures.reads c.in-Err-print_whole.ensures.only c.in-Ok.ensures.ok (c.in-Err-print_whole.ensures.cause refl)
-    (subst (λ (text : Content). IfSpecified (IsPrintedInPart text) (g.D.Desk.view c.make.new.desk).printed (g.D.Desk.view c.print_whole.new.desk).printed) c.deref.ensures
+    (subst (λ (text : Content).
+    IfSpecified (IsPrintedInPart text) (g.D.Desk.view c.make.new.desk).printed
+    (g.D.Desk.view c.print_whole.new.desk).printed)
+    c.deref.ensures
     c.in-Err-print_whole.ensures.err)))

@@ -6,17 +6,22 @@ use Rattle.sample_commands.proofs.evaluator.eval.Goals as goal
 
 pub returns-in-Ok-clause-answer : goal.returns-in-Ok-clause-answer
 returns-in-Ok-clause-answer g c =
-    subst (IsEvalAnswer c.args.source.now c.args.samples.now c.args.output.now (g.D.Desk.view c.args.desk.now) (g.D.Desk.view c.eval_ready.new.desk))
+    subst (IsEvalAnswer c.args.source.now c.args.samples.now c.args.output.now (g.D.Desk.view c.args.desk.now)
+    (g.D.Desk.view c.eval_ready.new.desk))
     (sym (ap (λ (e : Ending). e.status) c.from.ensures))
-    (eval_answer c.args.source.now c.args.samples.now c.args.output.now (g.D.Desk.view c.args.desk.now) (g.D.Desk.view c.read_ready.new.desk) (g.D.Desk.view c.eval_ready.new.desk)
-    c.in-Ok.ready.evaluator c.in-Ok.ensures.reads c.in-Ok.ensures.evaluator c.eval_ready.result c.eval_ready.ensures.over)
+    (eval_answer c.args.source.now c.args.samples.now c.args.output.now (g.D.Desk.view c.args.desk.now)
+    (g.D.Desk.view c.read_ready.new.desk) (g.D.Desk.view c.eval_ready.new.desk)
+    c.in-Ok.ready.evaluator c.in-Ok.ensures.reads c.in-Ok.ensures.evaluator c.eval_ready.result
+    c.eval_ready.ensures.over)
 
 pub returns-in-Ok-clause-only : goal.returns-in-Ok-clause-only
 returns-in-Ok-clause-only g c =
-    eval_uses c.args.source.now c.args.samples.now c.args.output.now (g.D.Desk.view c.args.desk.now) (g.D.Desk.view c.read_ready.new.desk) (g.D.Desk.view c.eval_ready.new.desk)
+    eval_uses c.args.source.now c.args.samples.now c.args.output.now (g.D.Desk.view c.args.desk.now)
+    (g.D.Desk.view c.read_ready.new.desk) (g.D.Desk.view c.eval_ready.new.desk)
     c.in-Ok.ready.evaluator c.in-Ok.ensures.reads c.in-Ok.ensures.evaluator c.eval_ready.ensures.only
 
 pub returns-in-Err-clause-answer : goal.returns-in-Err-clause-answer
 returns-in-Err-clause-answer g c =
-    source_error c.args.source.now c.args.samples.now c.args.output.now (g.D.Desk.view c.args.desk.now) (g.D.Desk.view c.read_ready.new.desk)
+    source_error c.args.source.now c.args.samples.now c.args.output.now (g.D.Desk.view c.args.desk.now)
+    (g.D.Desk.view c.read_ready.new.desk)
     c.in-Err.ensures.reads c.in-Err.ending.status c.in-Err.ensures.err

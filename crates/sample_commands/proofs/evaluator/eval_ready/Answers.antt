@@ -4,7 +4,8 @@ use Rattle.sample_commands.proofs.evaluator.eval_ready.Goals as goal
 
 pub returns-in-Ok-clause-only : goal.returns-in-Ok-clause-only
 returns-in-Ok-clause-only g c =
-    streams_only c.args.samples.now c.args.output.now (g.D.Desk.view c.args.desk.now) (g.D.Desk.view c.open_files.new.desk) (g.D.Desk.view c.eval_samples.new.desk)
+    streams_only c.args.samples.now c.args.output.now (g.D.Desk.view c.args.desk.now)
+    (g.D.Desk.view c.open_files.new.desk) (g.D.Desk.view c.eval_samples.new.desk)
     c.in-Ok.ensures.ok c.in-Ok.ensures.only c.eval_samples.ensures.only
 
 pub returns-in-Ok-clause-over : goal.returns-in-Ok-clause-over

@@ -11,7 +11,8 @@ run_samples-requires-clause-young g c = fresh_young c.args.machine.now c.require
 
 pub returns-in-Ok-clause-only : goal.returns-in-Ok-clause-only
 returns-in-Ok-clause-only g c =
-    streams_only c.args.samples.now c.args.output.now (g.D.Desk.view c.args.desk.now) (g.D.Desk.view c.open_files.new.desk) (g.D.Desk.view c.run_samples.new.desk)
+    streams_only c.args.samples.now c.args.output.now (g.D.Desk.view c.args.desk.now)
+    (g.D.Desk.view c.open_files.new.desk) (g.D.Desk.view c.run_samples.new.desk)
     c.in-Ok.ensures.ok c.in-Ok.ensures.only c.run_samples.ensures.only
 
 pub returns-in-Ok-clause-over : goal.returns-in-Ok-clause-over

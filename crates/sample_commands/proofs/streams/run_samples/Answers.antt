@@ -8,4 +8,5 @@ returns-in-Ok-clause-kept g c = λ fault e. done_keeps c.run_stream.new.rows fau
 
 pub returns-in-Err-clause-kept : goal.returns-in-Err-clause-kept
 returns-in-Err-clause-kept g c =
-    λ fault e. told_keeps c.run_stream.new.rows c.in-Err.fault fault (sym c.stream_status.ensures ∙ e) c.in-Err.ensures.kept
+    λ fault e.
+    told_keeps c.run_stream.new.rows c.in-Err.fault fault (sym c.stream_status.ensures ∙ e) c.in-Err.ensures.kept

@@ -14,7 +14,11 @@ returns-in-Ok-print_whole-clause-answer g c =
         kept_is = refl;
         line = c.in-Ok.made.line;
         run = c.in-Ok.ensures.ok;
-        printed = subst (λ (line : Content). IfSpecified (IsPrintedMore line) (g.D.Desk.view c.args.desk.now).printed (g.D.Desk.view c.print_whole.new.desk).printed) c.deref.ensures
+        printed =
+            subst (λ (line : Content).
+            IfSpecified (IsPrintedMore line) (g.D.Desk.view c.args.desk.now).printed
+            (g.D.Desk.view c.print_whole.new.desk).printed)
+            c.deref.ensures
             c.in-Ok-print_whole.ensures.ok;
       },
     )
@@ -28,7 +32,11 @@ returns-in-Err-print_whole-clause-answer g c =
         machine = c.in-Ok.made.machine;
         line = c.in-Ok.made.line;
         run = c.in-Ok.ensures.ok;
-        printed = subst (λ (line : Content). IfSpecified (IsPrintedInPart line) (g.D.Desk.view c.args.desk.now).printed (g.D.Desk.view c.print_whole.new.desk).printed) c.deref.ensures
+        printed =
+            subst (λ (line : Content).
+            IfSpecified (IsPrintedInPart line) (g.D.Desk.view c.args.desk.now).printed
+            (g.D.Desk.view c.print_whole.new.desk).printed)
+            c.deref.ensures
             c.in-Err-print_whole.ensures.err;
       },
     ))

@@ -14,13 +14,16 @@ run_sample-requires-clause-one_word c = subst HasOneWord (sym c.loop-n.invariant
 
 pub run_sample-requires-clause-stands : goal.run_sample-requires-clause-stands
 run_sample-requires-clause-stands c =
-    let state = c.loop-n.invariant.state in
-    (state.words, subst (λ image. HasPutWords image c.loop-n.n c.loop-n.machine state.words) (sym state.put.image_is) state.put)
+    let state = c.loop-n.invariant.state in (
+      state.words,
+      subst (λ image. HasPutWords image c.loop-n.n c.loop-n.machine state.words) (sym state.put.image_is) state.put,
+    )
 
 pub run_sample-requires-clause-runs : goal.run_sample-requires-clause-runs
 run_sample-requires-clause-runs c =
     subst (λ image. RunsCascade image (c.loop-n.n + 1)) (sym c.loop-n.invariant.state.put.image_is)
-    (runs_fewer c.args.machine.image (c.loop-n.n + 1) c.args.samples (omega (arith, c.loop-n-test.true, c.loop-n.auto.n-end)) c.requires.runs)
+    (runs_fewer c.args.machine.image (c.loop-n.n + 1) c.args.samples
+    (omega (arith, c.loop-n-test.true, c.loop-n.auto.n-end)) c.requires.runs)
 
 pub loop-n-init : goal.loop-n-init
 loop-n-init c = record {
@@ -38,13 +41,17 @@ loop-n-preserved c =
     let end = c.loop-n.auto.n-end in
     let word : ℤ = c.in_ok-word.word in
     let last : to_z w64 (of_z w64 c.in_ok-word.word) ≡ c.in_ok-word.word = omega (arith, ints) in
-    let sum : to_z w128 (of_z w128 (to_z w128 (of_z w128 c.loop-n.totals.sum) +ℤ to_z w128 (of_z w128 c.from.result))) ≡ c.loop-n.totals.sum +ℤ c.in_ok-word.word =
+    let sum : to_z w128 (of_z w128 (to_z w128 (of_z w128 c.loop-n.totals.sum) +ℤ to_z w128 (of_z w128 c.from.result)))
+    ≡ c.loop-n.totals.sum +ℤ c.in_ok-word.word =
     omega (arith, ints, low, high, few, before, end, c.from.ensures) in
-    let own = subst (λ image. HasPutWords image c.loop-n.n c.loop-n.machine state.words) (sym state.put.image_is) state.put in
+    let own =
+    subst (λ image. HasPutWords image c.loop-n.n c.loop-n.machine state.words) (sym state.put.image_is) state.put in
     record {
       state = record {
         words = state.words ++ word ∷ [];
-        put = subst (λ image. HasPutWords image (c.loop-n.n + 1) c.run_sample.new.machine (state.words ++ word ∷ [])) state.put.image_is (c.in_ok-word.ensures.put state.words own);
+        put =
+            subst (λ image. HasPutWords image (c.loop-n.n + 1) c.run_sample.new.machine (state.words ++ word ∷ []))
+            state.put.image_is (c.in_ok-word.ensures.put state.words own);
         sum_is = sum ∙ ap (λ s. s +ℤ word) state.sum_is ∙ sym (sum_push state.words word);
         last_is = last ∙ sym (last_push state.words word);
       };

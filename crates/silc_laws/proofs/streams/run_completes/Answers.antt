@@ -6,11 +6,13 @@ use Rattle.silc_laws.proofs.streams.run_completes.Goals as goal
 pub returns-clause-completes : goal.returns-clause-completes
 returns-clause-completes g c = λ cycles bytes stands reads runs.
     run_law c.args.limit c.args.machine.now c.run_samples.new.machine cycles (g.D.Desk.view c.args.desk.now)
-    (g.D.Desk.view c.run_samples.new.desk) bytes stands reads (subst AreChannels c.requires.channels c.requires.fresh.sound)
+    (g.D.Desk.view c.run_samples.new.desk) bytes stands reads
+    (subst AreChannels c.requires.channels c.requires.fresh.sound)
     c.run_samples.result c.run_samples.ensures.ends None runs
 
 pub returns-clause-stops : goal.returns-clause-stops
 returns-clause-stops g c = λ cycles bytes stands reads fault stops.
     run_law c.args.limit c.args.machine.now c.run_samples.new.machine cycles (g.D.Desk.view c.args.desk.now)
-    (g.D.Desk.view c.run_samples.new.desk) bytes stands reads (subst AreChannels c.requires.channels c.requires.fresh.sound)
+    (g.D.Desk.view c.run_samples.new.desk) bytes stands reads
+    (subst AreChannels c.requires.channels c.requires.fresh.sound)
     c.run_samples.result c.run_samples.ensures.ends (Some fault) stops

@@ -11,11 +11,11 @@ use Rattle.signal_graph.specs.declared.graph.Graph.{Graph}
 use Rattle.silage_syntax.specs.Tree.{Program}
 use Rattle.silc_files.specs.Limits.{text_limit}
 use Rattle.plan_commands.specs.Headline.{RunsTheSolution}
-use Rattle.plan_commands.specs.Planning.{IsGraphFor}
+use Rattle.loop_expand.specs.GraphFor.{IsGraphFor}
 use Rattle.sample_loops.specs.Machines.{channels_of}
 use Rattle.sample_commands.specs.Eval.{program_channels}
 use Rattle.sample_commands.specs.Loaded.{IsFresh}
-use Rattle.sample_commands.specs.Run.{HasPlanIn}
+use Rattle.run_command.specs.Run.{HasPlanIn}
 
 -- the machine before its first cycle, with the image of the plan that SRC's program has over the datapath of DP, which
 -- was read through

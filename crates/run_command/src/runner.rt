@@ -4,13 +4,13 @@ ghost use Rattle.desk_core.specs.Desk.{FaultsNeverFall};
 ghost use Rattle.plan_commands.specs.Refusals.{IsPlanError};
 ghost use Rattle.silc_files.specs.Reading.{OnlyReads};
 ghost use Rattle.sample_commands.specs.Loaded.{AreFreshRows};
-ghost use Rattle.sample_commands.specs.Run.{IsRunAnswer, RunUsesOnly};
-ghost use Rattle.sample_commands.specs.Private.Executing.{IsCompiledMachine};
+ghost use Rattle.run_command.specs.Run.{IsRunAnswer, RunUsesOnly};
+ghost use Rattle.run_command.specs.Private.Executing.{IsCompiledMachine};
 ghost use Rattle.sample_commands.specs.declared.simulator.Kept.TheVariants.{Nothing};
 
-use crate::simulator::{Kept, Ready, machine_of, machine_rows, run_ready};
 use desk_core::Desk;
 use plan_commands::{microcode_of, read_plan};
+use sample_commands::{Kept, Ready, machine_of, machine_rows, run_ready};
 use statuses::{Ending, Status};
 use std::alloc::Global;
 

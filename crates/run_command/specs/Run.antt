@@ -54,8 +54,8 @@ pub record IsRunStopped (src datapath samples out : Name) (old new : View) (faul
   pub path : Datapath
   pub plan : Plan
   pub planned : WhereSpecified old (HasPlanIn src datapath program path plan)
-  pub ended : IsEndedEarly samples out (program_channels program) (IsSolutionRows program) (λ rows conflict. ⊥)
-      old new fault
+  pub ended :
+      IsEndedEarly samples out (program_channels program) (IsSolutionRows program) (λ rows conflict. ⊥) old new fault
 
 -- OUT has what `eval` writes, the output rows of the one solution of SRC's program over the stream of SAMPLES. The
 -- image of the program's plan over DP's datapath ran this stream to its end and put these rows, and the machine that

@@ -1,5 +1,6 @@
 -- How the parts of `run` make up its answer.
-use Rattle.std.proofs.Common.{◌≡◌, refl, sym, ap, ap₂, subst, ◌∙◌, arith, inl, inr, ⊎_elim, ◌+◌, List, [], ◌∷◌, map, Bool}
+use Rattle.std.proofs.Common.{◌≡◌, refl, sym, ap, ap₂, subst, ◌∙◌, arith, inl, inr, ⊎_elim, ◌+◌, List, [], ◌∷◌, map}
+use Rattle.std.proofs.Common.{Bool}
 use Rattle.lists.specs.Rows.{Rows}
 use Rattle.cycle_sim.specs.Machine.{Snapshot}
 use Rattle.desk_core.specs.View.{Name, Content, View}
@@ -29,34 +30,47 @@ use Rattle.plan_commands.specs.Compiling.{IsMicrocodeOf}
 use Rattle.plan_commands.specs.Headline.{RunsTheSolution}
 use Rattle.plan_commands.specs.Planning.{IsReadPlan}
 use Rattle.plan_commands.specs.Refusals.{IsRefusal, IsPlanError}
-use Rattle.plan_commands.specs.Sources.{IsProgramIn}
+use Rattle.silc_files.specs.Sources.{IsProgramIn}
 use Rattle.plan_commands.specs.declared.planning.Planned.{Planned}
 use Rattle.plan_commands.proofs.Compiled.{runs_the_solution}
 use Rattle.plan_commands.proofs.Errors.{error_still}
 use Rattle.sample_commands.specs.Eval.{type_channel, program_channels, IsSolutionRows}
 use Rattle.sample_commands.specs.Loaded.{IsMachineOf, IsNoMachine}
-use Rattle.sample_commands.specs.Run.{AreSamplesUnread, IsNotRun, IsRunStopped, IsRunDone, IsRunAnswer, RunUsesOnly, HasSomePlan}
+use Rattle.run_command.specs.Run.{AreSamplesUnread, IsNotRun, IsRunStopped, IsRunDone, IsRunAnswer, RunUsesOnly}
+use Rattle.run_command.specs.Run.{HasSomePlan}
 use Rattle.sample_commands.specs.Samples.{AreSamples, IsEndedEarly}
 use Rattle.sample_commands.specs.StreamEnds.{status_of}
-use Rattle.sample_commands.specs.Private.Executing.{IsCompiledMachine}
-use Rattle.sample_commands.specs.Private.Streaming.{IsOpened, IsNotOpened, StreamsOnly, RunsFiles, IsRunOver}
+use Rattle.run_command.specs.Private.Executing.{IsCompiledMachine}
+use Rattle.sample_commands.specs.Streaming.{IsOpened, IsNotOpened, StreamsOnly, RunsFiles, IsRunOver}
 use Rattle.sample_commands.specs.declared.simulator.Kept.{Kept}
 use Rattle.sample_commands.specs.declared.simulator.Kept.TheVariants.{One}
 use Rattle.statuses.specs.declared.status.SampleFault.TheVariants as sample_fault
 use Rattle.statuses.specs.declared.status.Status.{Status}
 use Rattle.statuses.specs.declared.status.Status.TheVariants as status
-use Rattle.statuses.specs.declared.status.Status.TheVariants.{Done, Memory, Words, Desk, FrontEnd, Path, LinesFull, Period, FileFull, Image, Samples, Conflict}
-use Rattle.sample_commands.proofs.EarlyEnds.{ended_early, run_finished, run_samples_are, run_stream_is, run_put, opened_from, unopened_from, not_created_from, unopened_still, ended_still}
+use Rattle.statuses.specs.declared.status.Status.TheVariants.{Done, Memory, Words, Desk, FrontEnd, Path, LinesFull}
+use Rattle.statuses.specs.declared.status.Status.TheVariants.{Period, FileFull, Image, Samples, Conflict}
+use Rattle.sample_commands.proofs.EarlyEnds.{ended_early, run_finished, run_samples_are, run_stream_is, run_put}
+use Rattle.sample_commands.proofs.EarlyEnds.{opened_from, unopened_from, not_created_from, unopened_still, ended_still}
 use Rattle.sample_commands.proofs.Simulating.{fresh_puts, fresh_meets, fresh_run}
 use Rattle.sample_commands.proofs.Solving.{program_stream, eval_done_still}
 
 -- where bytes spell an image, a machine lacks nothing but memory
-pub only_memory : (content : Content) (image : MicroImage) → Spells content image → (error : Status) → IsNoMachine content error → error ≡ Memory
-only_memory content image spells error = ⊎_elim (λ m. m) (λ bad. absurd (spelled_no_fault content image bad.0 spells bad.2))
+pub only_memory : (content : Content) (image : MicroImage)
+    → Spells content image
+    → (error : Status)
+    → IsNoMachine content error
+    → error ≡ Memory
+only_memory content image spells error =
+    ⊎_elim (λ m. m) (λ bad. absurd (spelled_no_fault content image bad.0 spells bad.2))
 
 -- neither want of memory nor a fault of the desk, and no refusal
-no_error : {src datapath : Name} {old new : View} (status : Status) → IsPlanError src datapath old new status → (status ≡ Memory → ⊥) → (status ≡ Desk → ⊥) → IsRefusal status
-no_error status h not_memory not_desk = ⊎_elim (λ m. absurd (not_memory m.0)) (λ rest. ⊎_elim (λ d. absurd (not_desk d.0)) (λ r. r.0) rest) h
+no_error : {src datapath : Name} {old new : View} (status : Status)
+    → IsPlanError src datapath old new status
+    → (status ≡ Memory → ⊥)
+    → (status ≡ Desk → ⊥)
+    → IsRefusal status
+no_error status h not_memory not_desk =
+    ⊎_elim (λ m. absurd (not_memory m.0)) (λ rest. ⊎_elim (λ d. absurd (not_desk d.0)) (λ r. r.0) rest) h
 
 same_channel : (ty : SigType) → channel_of (width_of ty) ≡ type_channel ty
 same_channel (sig.Fix t) = refl
@@ -70,10 +84,13 @@ same_channels (ty ∷ types) = ap₂ ◌∷◌ (same_channel ty) (same_channels 
 module _ (src datapath : Name) (old new : View) (planned : Planned) (plan : IsReadPlan src datapath old new planned)
     (microcode : Content) (made : IsMicrocodeOf planned.path planned.plan microcode) where
   -- its bytes spell the image of the plan and no other
-  pub compiled_machine : (machine : Snapshot) → IsMachineOf microcode machine → IsCompiledMachine src datapath old new machine
+  pub compiled_machine : (machine : Snapshot)
+      → IsMachineOf microcode machine
+      → IsCompiledMachine src datapath old new machine
   compiled_machine machine is =
       let same : made.image ≡ machine.image = sym (made.spelled.unique machine.image is.spells) in
-      let image_of : IsImageOf planned.path planned.plan machine.image = subst (IsImageOf planned.path planned.plan) same made.image_of in
+      let image_of : IsImageOf planned.path planned.plan machine.image =
+      subst (IsImageOf planned.path planned.plan) same made.image_of in
       record {
         read = plan.read;
         fresh = is.fresh;
@@ -85,13 +102,16 @@ module _ (src datapath : Name) (old new : View) (planned : Planned) (plan : IsRe
         planned = plan.specified;
         image_of = image_of;
         runs = subst (RunsTheSolution plan.program) same
-            (runs_the_solution plan.program plan.graph made.image plan.keeps (made.runs plan.graph plan.keeps.sound plan.plan));
-        channels = ap (map channel_of) image_of.inputs ∙ same_channels planned.plan.inputs ∙ ap (map type_channel) (plan.plan.inputs ∙ plan.keeps.keeps.inputs);
+            (runs_the_solution plan.program plan.graph made.image plan.keeps
+            (made.runs plan.graph plan.keeps.sound plan.plan));
+        channels =
+            ap (map channel_of) image_of.inputs ∙ same_channels planned.plan.inputs
+            ∙ ap (map type_channel) (plan.plan.inputs ∙ plan.keeps.keeps.inputs);
       }
 
 -- the machine was made, and then it ran over the files
-module _ (src datapath samples out : Name) (old mid new : View) (machine : Snapshot) (first : OnlyReads src datapath old mid)
-    (compiled : IsCompiledMachine src datapath old mid machine) where
+module _ (src datapath samples out : Name) (old mid new : View) (machine : Snapshot)
+    (first : OnlyReads src datapath old mid) (compiled : IsCompiledMachine src datapath old mid machine) where
   pub run_uses : StreamsOnly samples out mid new → RunUsesOnly src datapath samples out old new
   run_uses only = record {
     files = specified_from (ChangesOnly out) old.files mid.files new.files first.unchanged.files only.files;
@@ -113,7 +133,10 @@ module _ (src datapath samples out : Name) (old mid new : View) (machine : Snaps
       (subst (λ cs. IsStream cs rows) (compiled.channels ∙ sym (ap (map type_channel) compiled.keeps.keeps.inputs)) is)
 
   -- the rows of the run are those of the program's one solution
-  solution_rows : (rows puts : Rows) → IsStream (channels_of machine.image) rows → PutsRows machine rows puts → IsSolutionRows compiled.program rows puts
+  solution_rows : (rows puts : Rows)
+      → IsStream (channels_of machine.image) rows
+      → PutsRows machine rows puts
+      → IsSolutionRows compiled.program rows puts
   solution_rows rows puts is h =
       let (words, one, run) = compiled.runs rows (its_stream rows is) in
       record { words = words; one = one; puts_are = (fresh_puts machine compiled.fresh rows puts h).put ∙ sym run.put }
@@ -126,15 +149,20 @@ module _ (src datapath samples out : Name) (old mid new : View) (machine : Snaps
   no_conflict after rows conflict is h =
       let (words, one, run) = compiled.runs rows (its_stream rows is) in
       let met = (fresh_meets machine compiled.fresh after rows conflict h).first in
-      run.clear conflict.cycle (omega (arith, met.within, length-spread machine.image.period rows)) conflict.kind conflict.place
+      run.clear conflict.cycle (omega (arith, met.within, length-spread machine.image.period rows)) conflict.kind
+      conflict.place
       met.there.there
 
   -- SAMPLES or OUT could not be opened
-  run_not_opened : (kept : Kept) → IsNotOpened samples out mid new → IsRunAnswer src datapath samples out old new kept Desk
+  run_not_opened : (kept : Kept)
+      → IsNotOpened samples out mid new
+      → IsRunAnswer src datapath samples out old new kept Desk
   run_not_opened kept = ⊎_elim
       (λ unread. inl (inr (record {
         unchanged = unchanged_still old mid new unread.0 first.unchanged;
-        unopened = unopened_from samples datapath text_limit (HasSomePlan src datapath) old mid new first.never_fall compiled.read
+        unopened =
+            unopened_from samples datapath text_limit (HasSomePlan src datapath) old mid new first.never_fall
+            compiled.read
             (λ files is. (compiled.program, compiled.path, compiled.plan, compiled.planned files is)) unread.0 unread.1;
       })))
       (λ not. inr (record {
@@ -145,35 +173,46 @@ module _ (src datapath samples out : Name) (old mid new : View) (machine : Snaps
         ended = inl (not_created_from samples out old mid new first.unchanged.files first.never_fall not);
       }))
 
-  module _ (kept : Kept) (after : Snapshot) (ending : Status) (ran : RunsFiles samples out machine after mid new ending) where
+  module _ (kept : Kept) (after : Snapshot) (ending : Status)
+      (ran : RunsFiles samples out machine after mid new ending) where
     fall : FaultsNeverFall old ran.mid
     fall = never_fall_trans old mid ran.mid first.never_fall ran.never_fall
 
     opened : IsOpened samples out old ran.mid
     opened = opened_from samples out old mid ran.mid first.unchanged.files ran.opened
 
-    stopped_run : (fault : StreamFault) → IsEndedEarly samples out (channels_of machine.image) (IsSolutionRows compiled.program) (λ rows conflict. ⊥) old new fault
+    stopped_run : (fault : StreamFault)
+        → IsEndedEarly samples out (channels_of machine.image) (IsSolutionRows compiled.program) (λ rows conflict. ⊥)
+        old new fault
         → IsRunStopped src datapath samples out old new fault
     stopped_run fault h = record {
       program = compiled.program;
       path = compiled.path;
       plan = compiled.plan;
       planned = compiled.planned;
-      ended = subst (λ cs. IsEndedEarly samples out cs (IsSolutionRows compiled.program) (λ rows conflict. ⊥) old new fault) compiled.channels h;
+      ended =
+          subst (λ cs. IsEndedEarly samples out cs (IsSolutionRows compiled.program) (λ rows conflict. ⊥) old new fault)
+          compiled.channels h;
     }
 
-    run_stopped : (fault : StreamFault) → IsEndedEarly samples out (channels_of machine.image) (IsSolutionRows compiled.program) (λ rows conflict. ⊥) old new fault
+    run_stopped : (fault : StreamFault)
+        → IsEndedEarly samples out (channels_of machine.image) (IsSolutionRows compiled.program) (λ rows conflict. ⊥)
+        old new fault
         → IsRunAnswer src datapath samples out old new kept (status_of fault)
     run_stopped stream.Desk h = inr (stopped_run stream.Desk h)
     run_stopped (stream.Row fault) h = stopped_run (stream.Row fault) h
     run_stopped stream.TooLong h = stopped_run stream.TooLong h
     run_stopped (stream.Conflict conflict) h = absurd h.met
 
-    run_done : kept ≡ One after → IsRunThrough (samples_limit + 1) (channels_of machine.image) (λ rows puts. RunsRows machine rows puts after) ran.mid new
+    run_done : kept ≡ One after
+        → IsRunThrough (samples_limit + 1) (channels_of machine.image) (λ rows puts. RunsRows machine rows puts after)
+        ran.mid new
         → IsRunDone src datapath samples out old new kept
     run_done keeps h =
         let is = run_stream_is samples out old ran.mid new fall opened ran.only (channels_of machine.image) _ h in
-        let rows = solution_rows h.run.rows h.run.put.puts is (runs_clear machine after h.run.rows h.run.put.puts h.run.put.given) in
+        let rows =
+        solution_rows h.run.rows h.run.put.puts is
+        (runs_clear machine after h.run.rows h.run.put.puts h.run.put.given) in
         record {
           solved = record {
             finished = run_finished samples out old ran.mid new fall opened ran.only (channels_of machine.image) _ h;
@@ -184,7 +223,8 @@ module _ (src datapath samples out : Name) (old mid new : View) (machine : Snaps
             specified = λ files is. record {
               source = program_in files is;
               samples_are = subst (λ cs. AreSamples cs (content_of (files samples)) h.run.rows) compiled.channels
-                  (run_samples_are samples out old ran.mid new fall opened ran.only (channels_of machine.image) _ h files is);
+                  (run_samples_are samples out old ran.mid new fall opened ran.only (channels_of machine.image) _ h
+                  files is);
             };
             put = run_put samples out old ran.mid new fall opened ran.only (channels_of machine.image) _ h;
           };
@@ -200,21 +240,27 @@ module _ (src datapath samples out : Name) (old mid new : View) (machine : Snaps
 
     run_ran : (ending ≡ Done → kept ≡ One after) → IsRunAnswer src datapath samples out old new kept ending
     run_ran keeps = ⊎_elim
-        (λ done. subst (IsRunAnswer src datapath samples out old new kept) (sym done.0) (run_done (keeps done.0) done.1))
+        (λ done.
+        subst (IsRunAnswer src datapath samples out old new kept) (sym done.0) (run_done (keeps done.0) done.1))
         (λ stopped.
         subst (IsRunAnswer src datapath samples out old new kept) (sym stopped.1)
         (run_stopped stopped.0
-        (ended_early samples out old ran.mid new fall opened ran.only (channels_of machine.image) (PutsRows machine) (IsSolutionRows compiled.program)
-        (λ rows conflict. StopsInLast machine rows conflict after) (λ rows conflict. ⊥) solution_rows (no_conflict after) stopped.0 stopped.2)))
+        (ended_early samples out old ran.mid new fall opened ran.only (channels_of machine.image) (PutsRows machine)
+        (IsSolutionRows compiled.program)
+        (λ rows conflict. StopsInLast machine rows conflict after) (λ rows conflict. ⊥) solution_rows
+        (no_conflict after) stopped.0 stopped.2)))
         ran.ends
 
-  pub run_answer : (kept : Kept) (ending : Status) → IsRunOver samples out machine mid new kept ending → IsRunAnswer src datapath samples out old new kept ending
+  pub run_answer : (kept : Kept) (ending : Status)
+      → IsRunOver samples out machine mid new kept ending
+      → IsRunAnswer src datapath samples out old new kept ending
   run_answer kept ending = ⊎_elim
       (λ desk. subst (IsRunAnswer src datapath samples out old new kept) (sym desk.0) (run_not_opened kept desk.1))
       (λ ran. run_ran kept ran.0 ending ran.2 ran.1)
 
 -- why there is no plan is why `run` ends
-pub no_plan : (src datapath samples out : Name) (old new : View) (kept : Kept) (status : Status) → IsPlanError src datapath old new status
+pub no_plan : (src datapath samples out : Name) (old new : View) (kept : Kept) (status : Status)
+    → IsPlanError src datapath old new status
     → IsRunAnswer src datapath samples out old new kept status
 no_plan src datapath samples out old new kept Desk h = inl (inl h)
 no_plan src datapath samples out old new kept Memory h = h
@@ -227,16 +273,22 @@ no_plan src datapath samples out old new kept (Period node) h = h
 no_plan src datapath samples out old new kept (FileFull unit port node) h = h
 no_plan src datapath samples out old new kept Done h = absurd (no_error Done h (λ e. cc) (λ e. cc))
 no_plan src datapath samples out old new kept (Image fault) h = absurd (no_error (Image fault) h (λ e. cc) (λ e. cc))
-no_plan src datapath samples out old new kept (Samples (sample_fault.Row line at)) h = absurd (no_error (Samples (sample_fault.Row line at)) h (λ e. cc) (λ e. cc))
-no_plan src datapath samples out old new kept (Samples sample_fault.TooLong) h = absurd (no_error (Samples sample_fault.TooLong) h (λ e. cc) (λ e. cc))
-no_plan src datapath samples out old new kept (Conflict conflict) h = absurd (no_error (Conflict conflict) h (λ e. cc) (λ e. cc))
+no_plan src datapath samples out old new kept (Samples (sample_fault.Row line at)) h =
+    absurd (no_error (Samples (sample_fault.Row line at)) h (λ e. cc) (λ e. cc))
+no_plan src datapath samples out old new kept (Samples sample_fault.TooLong) h =
+    absurd (no_error (Samples sample_fault.TooLong) h (λ e. cc) (λ e. cc))
+no_plan src datapath samples out old new kept (Conflict conflict) h =
+    absurd (no_error (Conflict conflict) h (λ e. cc) (λ e. cc))
 
 -- a report of the error leaves the answer of `run` as it is
-module _ (src datapath samples out : Name) (old mid new : View) (same : IsUnchanged mid new) (later : FaultsNeverFall mid new) (before : FaultsNeverFall old mid) where
+module _ (src datapath samples out : Name) (old mid new : View) (same : IsUnchanged mid new)
+    (later : FaultsNeverFall mid new) (before : FaultsNeverFall old mid) where
   unread_still : AreSamplesUnread src datapath samples old mid → AreSamplesUnread src datapath samples old new
   unread_still h = record {
     unchanged = unchanged_still old mid new same h.unchanged;
-    unopened = unopened_still samples out old mid new same later before datapath text_limit (HasSomePlan src datapath) h.unopened;
+    unopened =
+        unopened_still samples out old mid new same later before datapath text_limit (HasSomePlan src datapath)
+        h.unopened;
   }
 
   still : (status : Status) → IsPlanError src datapath old mid status → IsPlanError src datapath old new status
@@ -245,24 +297,30 @@ module _ (src datapath samples out : Name) (old mid new : View) (same : IsUnchan
   not_run_still : IsNotRun src datapath samples old mid Desk → IsNotRun src datapath samples old new Desk
   not_run_still h = ⊎_elim (λ early. inl (still Desk early)) (λ unread. inr (unread_still unread)) h
 
-  stopped_still : (fault : StreamFault) → IsRunStopped src datapath samples out old mid fault → IsRunStopped src datapath samples out old new fault
+  stopped_still : (fault : StreamFault)
+      → IsRunStopped src datapath samples out old mid fault
+      → IsRunStopped src datapath samples out old new fault
   stopped_still fault h = record {
     program = h.program;
     path = h.path;
     plan = h.plan;
     planned = h.planned;
-    ended = ended_still samples out old mid new same later before (program_channels h.program) (IsSolutionRows h.program) (λ rows conflict. ⊥) fault h.ended;
+    ended =
+        ended_still samples out old mid new same later before (program_channels h.program) (IsSolutionRows h.program)
+        (λ rows conflict. ⊥) fault h.ended;
   }
 
   pub run_uses_still : RunUsesOnly src datapath samples out old mid → RunUsesOnly src datapath samples out old new
   run_uses_still h = record {
     files = specified_still old mid new same (ChangesOnly out) h.files;
     printed = same.printed ∙ h.printed;
-    reads = λ s not_src not_datapath not_samples is. h.reads s not_src not_datapath not_samples (ap (λ (f : Name → Bool). f s) (sym same.reads) ∙ is);
+    reads = λ s not_src not_datapath not_samples is.
+        h.reads s not_src not_datapath not_samples (ap (λ (f : Name → Bool). f s) (sym same.reads) ∙ is);
     writes = λ s ne is. h.writes s ne (ap (λ (f : Name → Bool). f s) (sym same.writes) ∙ is);
   }
 
-  pub run_reported : (kept : Kept) (status : Status) → IsRunAnswer src datapath samples out old mid kept status
+  pub run_reported : (kept : Kept) (status : Status)
+      → IsRunAnswer src datapath samples out old mid kept status
       → IsRunAnswer src datapath samples out old new kept status
   run_reported kept Done h = record {
     solved = eval_done_still src samples out old mid new same later before h.solved;
@@ -275,8 +333,10 @@ module _ (src datapath samples out : Name) (old mid new : View) (same : IsUnchan
     ran = h.ran;
     kept_is = h.kept_is;
   }
-  run_reported kept Desk h = ⊎_elim (λ early. inl (not_run_still early)) (λ late. inr (stopped_still stream.Desk late)) h
-  run_reported kept (Samples (sample_fault.Row line at)) h = stopped_still (stream.Row (record { line = line; at = at })) h
+  run_reported kept Desk h =
+      ⊎_elim (λ early. inl (not_run_still early)) (λ late. inr (stopped_still stream.Desk late)) h
+  run_reported kept (Samples (sample_fault.Row line at)) h =
+      stopped_still (stream.Row (record { line = line; at = at })) h
   run_reported kept (Samples sample_fault.TooLong) h = stopped_still stream.TooLong h
   run_reported kept Memory h = still Memory h
   run_reported kept Words h = still Words h

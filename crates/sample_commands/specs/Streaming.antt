@@ -2,7 +2,8 @@
 use Rattle.std.specs.Prelude.{◌≡◌, ◌⊎◌, ◌+◌, [], Some, true}
 use Rattle.cycle_sim.specs.Machine.{Snapshot}
 use Rattle.desk_core.specs.View.{Name, View}
-use Rattle.desk_core.specs.Desk.{IfSpecified, ReadFaultsRose, FaultsNeverFall, IsUnchanged, HasInput, HasOutput, NoOtherBegins, IsPut}
+use Rattle.desk_core.specs.Desk.{IfSpecified, ReadFaultsRose, FaultsNeverFall, IsUnchanged, HasInput, HasOutput}
+use Rattle.desk_core.specs.Desk.{NoOtherBegins, IsPut}
 use Rattle.sample_loops.specs.Machines.{channels_of, RunsRows, PutsRows, StopsInLast}
 use Rattle.sample_loops.specs.Streams.{ChangesOutputAlone}
 use Rattle.silc_files.specs.Endings.{ChangesOnly}
@@ -41,7 +42,8 @@ pub record RunsFiles (samples out : Name) (machine after : Snapshot) (old new : 
   pub never_fall : FaultsNeverFall old mid
   pub opened : IsOpened samples out old mid
   pub only : ChangesOutputAlone mid new
-  pub ends : EndsStream (samples_limit + 1) (channels_of machine.image) (λ ran puts. RunsRows machine ran puts after)
+  pub ends :
+      EndsStream (samples_limit + 1) (channels_of machine.image) (λ ran puts. RunsRows machine ran puts after)
       (PutsRows machine) (λ ran conflict. StopsInLast machine ran conflict after) mid new ending
 
 -- the files could not be opened; or the stream of the one was run into the other
