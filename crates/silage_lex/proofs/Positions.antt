@@ -1,5 +1,7 @@
 -- What the position of a text in a table tells, and which symbol stands at a place.
-use Rattle.std.proofs.Common.{◌≡◌, cond, ℕ, zero, suc, ◌+◌, ◌-◌, ◌≤◌, ◌<◌, Bool, true, false, inl, inr, ◌⊎◌, List, [], ◌∷◌, ◌++◌, length, refl, sym, ap, ◌∙◌, arith, Option, Some, None, not, ◌||◌, nat_eq, nat_le, nat_lt}
+use Rattle.std.proofs.Common.{◌≡◌, cond, ℕ, zero, suc, ◌+◌, ◌-◌, ◌≤◌, ◌<◌, Bool, true, false, inl, inr, ◌⊎◌, List, []}
+use Rattle.std.proofs.Common.{◌∷◌, ◌++◌, length, refl, sym, ap, ◌∙◌, arith, Option, Some, None, not, ◌||◌, nat_eq}
+use Rattle.std.proofs.Common.{nat_le, nat_lt}
 use Rattle.std.specs.Prelude.{slice_index, slice_index_or, slice_get, slice_range, Contains}
 use Rattle.std.specs.Cmp.Lexicographic.{pointwise}
 use Rattle.std.specs.List.{list_all, position_from}
@@ -24,13 +26,26 @@ text_same : (row text : List ℕ) → row ≡ text → pointwise nat_eq row text
 text_same row text h = (slice_eq-Decides Decides-eqb row text (pointwise nat_eq row text) refl).1 h
 
 -- where there is no position, no row is the text
-none_passes : (test : List ℕ → Bool) (rows : List (List ℕ)) (i : ℕ) → position_from test i rows ≡ None → (m : ℕ) → m < length rows → test (slice_index_or rows m []) ≡ false
+none_passes : (test : List ℕ → Bool) (rows : List (List ℕ)) (i : ℕ)
+    → position_from test i rows ≡ None
+    → (m : ℕ)
+    → m < length rows
+    → test (slice_index_or rows m []) ≡ false
 none_passes test [] i h m lt = absurd (omega arith)
-none_passes test (row ∷ rows) i h zero lt = elim (test row) as (λ v. cond v (Some i) (position_from test (i + 1) rows) ≡ None → v ≡ false) [ true ↦ λ e. cc | false ↦ λ e. refl ] h
+none_passes test (row ∷ rows) i h zero lt =
+    elim (test row) as (λ v. cond v (Some i) (position_from test (i + 1) rows) ≡ None → v ≡ false)
+    [ true ↦ λ e. cc | false ↦ λ e. refl ] h
 none_passes test (row ∷ rows) i h (suc m) lt =
-    none_passes test rows (i + 1) (elim (test row) as (λ v. cond v (Some i) (position_from test (i + 1) rows) ≡ None → position_from test (i + 1) rows ≡ None) [ true ↦ λ e. cc | false ↦ λ e. e ] h) m (omega arith)
+    none_passes test rows (i + 1)
+    (elim (test row) as
+    (λ v. cond v (Some i) (position_from test (i + 1) rows) ≡ None → position_from test (i + 1) rows ≡ None)
+    [ true ↦ λ e. cc | false ↦ λ e. e ] h) m (omega arith)
 
-pub no_row : (table : List (List ℕ)) (text : List ℕ) → position_of table text ≡ None → (m : ℕ) → m < length table → ¬ (slice_index_or table m [] ≡ text)
+pub no_row : (table : List (List ℕ)) (text : List ℕ)
+    → position_of table text ≡ None
+    → (m : ℕ)
+    → m < length table
+    → ¬ (slice_index_or table m [] ≡ text)
 no_row table text h m lt = λ same.
     let no = none_passes (λ row. pointwise nat_eq row text) table 0 h m lt in
     let yes = text_same (slice_index_or table m []) text same in
@@ -52,7 +67,9 @@ row_of table text n h =
       first = λ m lt same. both_ways _ (found.2 m lt) (text_same (slice_index_or table m []) text same);
     }
 
-pub listed : (table : List (List ℕ)) (text : List ℕ) (n : ℕ) → position_of table text ≡ Some n → slice_get table n ≡ Some text
+pub listed : (table : List (List ℕ)) (text : List ℕ) (n : ℕ)
+    → position_of table text ≡ Some n
+    → slice_get table n ≡ Some text
 listed table text n h =
     let row = row_of table text n h in
     slice_get-get_or table n [] row.listed ∙ ap Some row.same
@@ -64,9 +81,12 @@ not_true : (b : Bool) → ¬ (b ≡ true) → b ≡ false
 not_true true = λ no. absurd (no refl)
 not_true false = λ no. refl
 
-no_position : (test : List ℕ → Bool) (rows : List (List ℕ)) (i : ℕ) → ((m : ℕ) → m < length rows → test (slice_index_or rows m []) ≡ false) → position_from test i rows ≡ None
+no_position : (test : List ℕ → Bool) (rows : List (List ℕ)) (i : ℕ)
+    → ((m : ℕ) → m < length rows → test (slice_index_or rows m []) ≡ false)
+    → position_from test i rows ≡ None
 no_position test [] i none = refl
-no_position test (row ∷ rows) i none = rw (none zero (omega arith)) (no_position test rows (i + 1) (λ m lt. none (suc m) (omega arith)))
+no_position test (row ∷ rows) i none =
+    rw (none zero (omega arith)) (no_position test rows (i + 1) (λ m lt. none (suc m) (omega arith)))
 
 -- no reserved word has more than five bytes
 pub long_word : (word : List ℕ) → 6 ≤ length word → position_of reserved_words word ≡ None
@@ -79,17 +99,25 @@ long_word word long =
 -- the first byte, and the first two bytes, from a place on
 one_byte : (bytes : List ℕ) (at : ℕ) → at < length bytes → slice_range bytes at (at + 1) ≡ slice_index bytes at ∷ []
 one_byte bytes at within =
-    let empty : slice_range bytes at at ≡ [] = nil_from_length _ (length-between bytes at at (omega arith) ∙ omega arith) in
+    let empty : slice_range bytes at at ≡ [] =
+    nil_from_length _ (length-between bytes at at (omega arith) ∙ omega arith) in
     between_more bytes at at 0 (omega arith) within ∙ ap (λ xs. xs ++ slice_index bytes at ∷ []) empty
 
-two_bytes : (bytes : List ℕ) (at : ℕ) → at + 1 < length bytes → slice_range bytes at (at + 2) ≡ slice_index bytes at ∷ slice_index bytes (at + 1) ∷ []
+two_bytes : (bytes : List ℕ) (at : ℕ)
+    → at + 1 < length bytes
+    → slice_range bytes at (at + 2) ≡ slice_index bytes at ∷ slice_index bytes (at + 1) ∷ []
 two_bytes bytes at within =
     let next : at + 2 ≡ at + 1 + 1 = omega arith in
-    ap (slice_range bytes at) next ∙ between_more bytes at (at + 1) 0 (omega arith) within ∙ ap (λ xs. xs ++ slice_index bytes (at + 1) ∷ []) (one_byte bytes at (omega arith))
+    ap (slice_range bytes at) next ∙ between_more bytes at (at + 1) 0 (omega arith) within
+    ∙ ap (λ xs. xs ++ slice_index bytes (at + 1) ∷ []) (one_byte bytes at (omega arith))
 
 -- a symbol that stands at a place is the byte there, or the two bytes there
-stands_as : (bytes : List ℕ) (at m : ℕ) → at < length bytes → m < length symbols → stands_at bytes at (slice_index_or symbols m []) ≡ true
-    → (slice_index_or symbols m [] ≡ slice_index bytes at ∷ []) ⊎ (slice_index_or symbols m [] ≡ slice_index bytes at ∷ slice_index bytes (at + 1) ∷ [])
+stands_as : (bytes : List ℕ) (at m : ℕ)
+    → at < length bytes
+    → m < length symbols
+    → stands_at bytes at (slice_index_or symbols m []) ≡ true
+    → (slice_index_or symbols m [] ≡ slice_index bytes at ∷ [])
+    ⊎ (slice_index_or symbols m [] ≡ slice_index bytes at ∷ slice_index bytes (at + 1) ∷ [])
 stands_as bytes at m within lt stands =
     let is_symbol = symbol_row m lt in
     let some = is_symbol.some in
@@ -118,7 +146,10 @@ second_some first second n row =
     not_false false h = refl
 
 -- What `symbol_at` answers.
-pub double_at : (bytes : List ℕ) (at n : ℕ) → at < length bytes → position_of symbols (slice_index bytes at ∷ slice_index bytes (at + 1) ∷ []) ≡ Some n → IsFirstAt bytes at n × (at + 2 ≡ at + length (slice_index_or symbols n []))
+pub double_at : (bytes : List ℕ) (at n : ℕ)
+    → at < length bytes
+    → position_of symbols (slice_index bytes at ∷ slice_index bytes (at + 1) ∷ []) ≡ Some n
+    → IsFirstAt bytes at n × (at + 2 ≡ at + length (slice_index_or symbols n []))
 double_at bytes at n within h =
     let row = row_of symbols (slice_index bytes at ∷ slice_index bytes (at + 1) ∷ []) n h in
     let test : ℕ → Bool = λ b. not (nat_eq b 0) in
@@ -127,23 +158,35 @@ double_at bytes at n within h =
     let listed = row.listed in (
       record {
         listed = listed;
-        stands = ap (stands_at bytes at) row.same ∙ (stands_Decides bytes at (slice_index bytes at ∷ slice_index bytes (at + 1) ∷ [])).1 (two_bytes bytes at more);
+        stands =
+            ap (stands_at bytes at) row.same
+            ∙ (stands_Decides bytes at (slice_index bytes at ∷ slice_index bytes (at + 1) ∷ [])).1
+            (two_bytes bytes at more);
         first = λ m lt. not_true _ (λ yes. elim (stands_as bytes at m within (omega arith) yes) [
-          | inl one ↦ let falling = falling_sizes symbols refl m n (omega arith) listed in let short = ap length one in omega arith
+          | inl one ↦
+              let falling = falling_sizes symbols refl m n (omega arith) listed in
+              let short = ap length one in
+              omega arith
           | inr two ↦ row.first m lt two
         ]);
       },
       omega arith,
     )
 
-pub single_at : (bytes : List ℕ) (at n : ℕ) → at < length bytes → position_of symbols (slice_index bytes at ∷ slice_index bytes (at + 1) ∷ []) ≡ None → position_of symbols (slice_index bytes at ∷ []) ≡ Some n → IsFirstAt bytes at n × (at + 1 ≡ at + length (slice_index_or symbols n []))
+pub single_at : (bytes : List ℕ) (at n : ℕ)
+    → at < length bytes
+    → position_of symbols (slice_index bytes at ∷ slice_index bytes (at + 1) ∷ []) ≡ None
+    → position_of symbols (slice_index bytes at ∷ []) ≡ Some n
+    → IsFirstAt bytes at n × (at + 1 ≡ at + length (slice_index_or symbols n []))
 single_at bytes at n within none h =
     let row = row_of symbols (slice_index bytes at ∷ []) n h in
     let size = ap length row.same in
     let listed = row.listed in (
       record {
         listed = listed;
-        stands = ap (stands_at bytes at) row.same ∙ (stands_Decides bytes at (slice_index bytes at ∷ [])).1 (one_byte bytes at within);
+        stands =
+            ap (stands_at bytes at) row.same
+            ∙ (stands_Decides bytes at (slice_index bytes at ∷ [])).1 (one_byte bytes at within);
         first = λ m lt. not_true _ (λ yes. elim (stands_as bytes at m within (omega arith) yes) [
           | inl one ↦ row.first m lt one
           | inr two ↦ no_row symbols _ none m (omega arith) two
@@ -152,7 +195,11 @@ single_at bytes at n within none h =
       omega arith,
     )
 
-pub none_at : (bytes : List ℕ) (at : ℕ) → at < length bytes → position_of symbols (slice_index bytes at ∷ slice_index bytes (at + 1) ∷ []) ≡ None → position_of symbols (slice_index bytes at ∷ []) ≡ None → NoneBefore bytes at (length symbols)
+pub none_at : (bytes : List ℕ) (at : ℕ)
+    → at < length bytes
+    → position_of symbols (slice_index bytes at ∷ slice_index bytes (at + 1) ∷ []) ≡ None
+    → position_of symbols (slice_index bytes at ∷ []) ≡ None
+    → NoneBefore bytes at (length symbols)
 none_at bytes at within double single = λ m lt. not_true _ (λ yes. elim (stands_as bytes at m within lt yes) [
   | inl one ↦ no_row symbols _ single m lt one
   | inr two ↦ no_row symbols _ double m lt two

@@ -1,5 +1,6 @@
 -- What the bytes of a token's text are.
-use Rattle.std.proofs.Common.{◌≡◌, ℕ, suc, ◌+◌, ◌-◌, ◌<◌, Bool, true, false, ◌&&◌, ◌||◌, not, inl, inr, List, [], ◌∷◌, ◌++◌, length, refl, sym, ap, ◌∙◌, subst, arith, nat_eq, nat_lt, cond}
+use Rattle.std.proofs.Common.{◌≡◌, ℕ, suc, ◌+◌, ◌-◌, ◌<◌, Bool, true, false, ◌&&◌, ◌||◌, not, inl, inr, List, [], ◌∷◌}
+use Rattle.std.proofs.Common.{◌++◌, length, refl, sym, ap, ◌∙◌, subst, arith, nat_eq, nat_lt, cond}
 use Rattle.std.specs.Prelude.{slice_index, slice_index_or, Contains}
 use Rattle.std.specs.List.{list_all}
 use Rattle.std.proofs.lemmas.Bool.{and_parts, and_from, not-true, ltb-true}
@@ -30,7 +31,10 @@ pub word_head : (text : List ℕ) → is_word text ≡ true → is_letter (slice
 word_head [] h = absurd (cc)
 word_head (b ∷ bs) h = (and_parts (is_letter b) (list_all is_name_byte bs) h).0
 
-pub word_byte : (text : List ℕ) → is_word text ≡ true → (k : ℕ) → k < length text
+pub word_byte : (text : List ℕ)
+    → is_word text ≡ true
+    → (k : ℕ)
+    → k < length text
     → is_name_byte (slice_index text k) ≡ true
 word_byte [] h k lt = absurd (cc)
 word_byte (b ∷ bs) h k lt =
@@ -50,7 +54,10 @@ pub digits_from : (text : List ℕ) → 0 < length text → list_all is_digit te
 digits_from [] some h = absurd (omega arith)
 digits_from (b ∷ bs) some h = h
 
-pub digits_byte : (text : List ℕ) → is_digits text ≡ true → (k : ℕ) → k < length text
+pub digits_byte : (text : List ℕ)
+    → is_digits text ≡ true
+    → (k : ℕ)
+    → k < length text
     → is_digit (slice_index text k) ≡ true
 digits_byte text h k lt = AllPass-from_list_all is_digit text (digits_all text h) k 0 lt
 
@@ -67,31 +74,45 @@ point_place whole fraction text h =
     let P : List ℕ → Type 0 = λ xs. HasPointAt xs (length whole) in
     subst P (sym h.shape) record {
       before = digits_some whole h.whole_digits;
-      behind = let size = length-append whole (46 ∷ fraction) in let some = digits_some fraction h.fraction_digits in omega arith;
+      behind =
+          let size = length-append whole (46 ∷ fraction) in
+          let some = digits_some fraction h.fraction_digits in
+          omega arith;
       is_point = get_or_at whole 46 fraction 0 (length whole) refl;
-      whole = λ k lt. ap is_digit (get_or_append_left whole (46 ∷ fraction) 0 k lt) ∙ digits_byte whole h.whole_digits k lt;
-      fraction = λ k gt lt. ap is_digit (get_or-append_right whole (46 ∷ fraction) (length whole) k 0 refl (omega arith)) ∙ later k gt lt;
+      whole = λ k lt.
+          ap is_digit (get_or_append_left whole (46 ∷ fraction) 0 k lt) ∙ digits_byte whole h.whole_digits k lt;
+      fraction = λ k gt lt.
+          ap is_digit (get_or-append_right whole (46 ∷ fraction) (length whole) k 0 refl (omega arith)) ∙ later k gt lt;
     }
   where
-    later : (k : ℕ) → length whole < k → k < length (whole ++ 46 ∷ fraction)
+    later : (k : ℕ)
+        → length whole < k
+        → k < length (whole ++ 46 ∷ fraction)
         → is_digit (slice_index (46 ∷ fraction) (k - length whole)) ≡ true
     later k gt lt =
         let e : k - length whole ≡ suc (k - length whole - 1) = omega arith in
         let size = length-append whole (46 ∷ fraction) in
-        ap (λ n. is_digit (slice_index (46 ∷ fraction) n)) e ∙ digits_byte fraction h.fraction_digits (k - length whole - 1) (omega arith)
+        ap (λ n. is_digit (slice_index (46 ∷ fraction) n)) e
+        ∙ digits_byte fraction h.fraction_digits (k - length whole - 1) (omega arith)
 
 pub number_head : (text : List ℕ) → IsNumber text → is_digit (slice_index text 0) ≡ true
 number_head text (inl digits) = digits_byte text digits 0 (digits_some text digits)
-number_head text (inr pointed) = let place = point_place pointed.0 pointed.1 text pointed.2 in place.whole 0 place.before
+number_head text (inr pointed) =
+    let place = point_place pointed.0 pointed.1 text pointed.2 in place.whole 0 place.before
 
 -- each row of a table passes a test that the table passes
-abbrev pub row_passes : (test : List ℕ → Bool) (table : List (List ℕ)) → list_all test table ≡ true → (n : ℕ)
-    → n < length table → test (slice_index_or table n []) ≡ true
+abbrev pub row_passes : (test : List ℕ → Bool) (table : List (List ℕ))
+    → list_all test table ≡ true
+    → (n : ℕ)
+    → n < length table
+    → test (slice_index_or table n []) ≡ true
 row_passes test table h n lt = AllPass-from_list_all test table h n [] lt
 
 -- the first byte of a symbol begins no word, no number, no blank and no comment
 abbrev symbol_test : List ℕ → Bool
-symbol_test text = (nat_lt 0 (length text) && not (is_name_byte (slice_index text 0))) && (not (is_blank (slice_index text 0)) && not (nat_eq (slice_index text 0) 47))
+symbol_test text =
+    (nat_lt 0 (length text) && not (is_name_byte (slice_index text 0)))
+    && (not (is_blank (slice_index text 0)) && not (nat_eq (slice_index text 0) 47))
 
 pub record IsSymbolText (text : List ℕ) : Type 0 where
   pub some : 0 < length text
@@ -102,10 +123,16 @@ pub record IsSymbolText (text : List ℕ) : Type 0 where
 symbol_parts : (text : List ℕ) → symbol_test text ≡ true → IsSymbolText text
 symbol_parts text h =
     let halves =
-    and_parts (nat_lt 0 (length text) && not (is_name_byte (slice_index text 0))) (not (is_blank (slice_index text 0)) && not (nat_eq (slice_index text 0) 47)) h in
+    and_parts (nat_lt 0 (length text) && not (is_name_byte (slice_index text 0)))
+    (not (is_blank (slice_index text 0)) && not (nat_eq (slice_index text 0) 47)) h in
     let front = and_parts (nat_lt 0 (length text)) (not (is_name_byte (slice_index text 0))) halves.0 in
     let back = and_parts (not (is_blank (slice_index text 0))) (not (nat_eq (slice_index text 0) 47)) halves.1 in
-    record { some = ltb-true _ _ front.0; no_name_byte = not-true _ front.1; no_blank = not-true _ back.0; no_slash = not-true _ back.1 }
+    record {
+      some = ltb-true _ _ front.0;
+      no_name_byte = not-true _ front.1;
+      no_blank = not-true _ back.0;
+      no_slash = not-true _ back.1;
+    }
 
 pub symbol_row : (n : ℕ) → n < length symbols → IsSymbolText (slice_index_or symbols n [])
 symbol_row n lt = symbol_parts (slice_index_or symbols n []) (row_passes symbol_test symbols refl n lt)
@@ -113,8 +140,11 @@ symbol_row n lt = symbol_parts (slice_index_or symbols n []) (row_passes symbol_
 pub symbol_text : (text : List ℕ) → Contains symbols text → IsSymbolText text
 symbol_text text h = subst IsSymbolText (sym (get_or_default symbols h.0 text [] h.1) ∙ h.2) (symbol_row h.0 h.1)
 
-pub word_from : (text : List ℕ) → 0 < length text → is_letter (slice_index text 0) ≡ true
-    → list_all is_name_byte text ≡ true → is_word text ≡ true
+pub word_from : (text : List ℕ)
+    → 0 < length text
+    → is_letter (slice_index text 0) ≡ true
+    → list_all is_name_byte text ≡ true
+    → is_word text ≡ true
 word_from [] some letter all = absurd (omega arith)
 word_from (b ∷ bs) some letter all = and_from _ _ letter (and_parts (is_name_byte b) (list_all is_name_byte bs) all).1
 
@@ -134,7 +164,8 @@ digit_count-digits (b ∷ bs) h =
     let both : digit_count (b ∷ bs) ≡ digit_count (b ∷ []) + digit_count bs = digit_count-append (b ∷ []) bs in
     omega arith
 
-pub digit_count-pointed : (whole fraction text : List ℕ) → IsPointed whole fraction text
+pub digit_count-pointed : (whole fraction text : List ℕ)
+    → IsPointed whole fraction text
     → digit_count text + 1 ≡ length text
 digit_count-pointed whole fraction text h =
     let front = digit_count-append whole (46 ∷ fraction) in

@@ -1,5 +1,6 @@
 -- Which fault a source has, and the words for what `lex` answers.
-use Rattle.std.specs.Prelude.{◌≡◌, ℕ, ◌+◌, ◌≤◌, ◌<◌, true, false, ◌⊎◌, List, length, slice_index, slice_range, Result, Err}
+use Rattle.std.specs.Prelude.{◌≡◌, ℕ, ◌+◌, ◌≤◌, ◌<◌, true, false, ◌⊎◌, List, length, slice_index, slice_range, Result}
+use Rattle.std.specs.Prelude.{Err}
 use Rattle.silage_lex.specs.Bytes.{is_blank, is_letter, opens_comment, closes_comment}
 use Rattle.silage_lex.specs.Texts.{IsNumber, IsTokenText, digit_count}
 use Rattle.silage_lex.specs.Tokens.{IsLongest, Spaced}

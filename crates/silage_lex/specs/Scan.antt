@@ -1,5 +1,6 @@
 -- Words for the parts of the scanner.
-use Rattle.std.specs.Prelude.{◌≡◌, ℕ, ◌+◌, ◌≤◌, ◌<◌, true, false, List, [], length, drop, nat_eq, Bool, slice_index, slice_index_or, slice_range, Option}
+use Rattle.std.specs.Prelude.{◌≡◌, ℕ, ◌+◌, ◌≤◌, ◌<◌, true, false, List, [], length, drop, nat_eq, Bool, slice_index}
+use Rattle.std.specs.Prelude.{slice_index_or, slice_range, Option}
 use Rattle.std.specs.Cmp.Lexicographic.{pointwise}
 use Rattle.std.specs.List.{starts_with, position_from}
 use Rattle.silage_lex.specs.Bytes.{is_blank, is_digit, opens_comment, closes_comment}

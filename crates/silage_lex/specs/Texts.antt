@@ -1,5 +1,6 @@
 -- The texts of tokens: words, numbers and symbols.
-use Rattle.std.specs.Prelude.{◌≡◌, ℕ, ◌+◌, ◌-◌, ◌*◌, ◌≤◌, ◌&&◌, Bool, false, IsTrue, ◌⊎◌, List, [], ◌∷◌, ◌++◌, length, fold, count_by, slice_get, Some, Contains, codes}
+use Rattle.std.specs.Prelude.{◌≡◌, ℕ, ◌+◌, ◌-◌, ◌*◌, ◌≤◌, ◌&&◌, Bool, false, IsTrue, ◌⊎◌, List, [], ◌∷◌, ◌++◌, length}
+use Rattle.std.specs.Prelude.{fold, count_by, slice_get, Some, Contains, codes}
 use Rattle.std.specs.List.{list_all}
 use Rattle.silage_lex.specs.Bytes.{is_digit, is_letter, is_name_byte}
 use Rattle.silage_lex.specs.declared.TokenKind.{TokenKind}

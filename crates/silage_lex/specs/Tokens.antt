@@ -1,5 +1,6 @@
 -- Which list of tokens a source has, said of spans and texts.
-use Rattle.std.specs.Prelude.{◌≡◌, ℕ, ◌+◌, ◌≤◌, ◌<◌, true, false, ⊤, List, [], ◌∷◌, length, take, count_by, nat_eq, slice_index, slice_range}
+use Rattle.std.specs.Prelude.{◌≡◌, ℕ, ◌+◌, ◌≤◌, ◌<◌, true, false, ⊤, List, [], ◌∷◌, length, take, count_by, nat_eq}
+use Rattle.std.specs.Prelude.{slice_index, slice_range}
 use Rattle.silage_lex.specs.Bytes.{is_blank, is_name_byte, opens_comment, closes_comment, begins_fraction}
 use Rattle.silage_lex.specs.Texts.{IsText, IsTokenText}
 use Rattle.silage_lex.specs.declared.TokenKind.{TokenKind}

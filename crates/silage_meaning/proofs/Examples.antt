@@ -1,5 +1,6 @@
 -- Small programs, read by the definitions.
-use Rattle.std.proofs.Common.{◌≡◌, refl, sym, arith, ℕ, inl, inr, Bool, true, false, codes, List, [], ◌∷◌, Some, None, ℤ, pos, negsuc, ◌*ℤ◌}
+use Rattle.std.proofs.Common.{◌≡◌, refl, sym, arith, ℕ, inl, inr, Bool, true, false, codes, List, [], ◌∷◌, Some, None}
+use Rattle.std.proofs.Common.{ℤ, pos, negsuc, ◌*ℤ◌}
 use Rattle.std.proofs.lemmas.Int.{ints}
 use Rattle.fix_word.specs.Words.{IsWord, IsWrap, IsForm}
 use Rattle.fix_word.specs.declared.types.FixType.{FixType}
@@ -11,17 +12,22 @@ use Rattle.silage_syntax.specs.declared.tree.BinOp.TheVariants as op
 use Rattle.silage_syntax.specs.declared.tree.MOp.TheVariants as mop
 use Rattle.silage_syntax.specs.declared.tree.Decl.{Decl}
 use Rattle.silage_syntax.specs.declared.tree.Lit.TheVariants.{Number}
-use Rattle.silage_syntax.specs.Tree.{Manifest, whole, counter, minus, both, Place, Expr, literal, read, binary, cast, choose, no_branch, branch, equation, call, loop, initial, Items, no_item, item, Func, function, Program}
+use Rattle.silage_syntax.specs.Tree.{Manifest, whole, counter, minus, both, Place, Expr, literal, read, binary, cast}
+use Rattle.silage_syntax.specs.Tree.{choose, no_branch, branch, equation, call, loop, initial, Items, no_item, item}
+use Rattle.silage_syntax.specs.Tree.{Func, function, Program}
 use Rattle.silage_syntax.specs.Manifests.{manifest_value, LooksBack, no_delay, delay}
 use Rattle.silage_syntax.specs.Names.{IsOffset}
-use Rattle.silage_meaning.specs.Instances.{Instance, main, inside, element, IsTurn, IsInstance, main_is, inside_is, Site, Call}
+use Rattle.silage_meaning.specs.Instances.{Instance, main, inside, element, IsTurn, IsInstance, main_is, inside_is}
+use Rattle.silage_meaning.specs.Instances.{Site, Call}
 use Rattle.silage_meaning.specs.Value.{Words, IsRead, signal, IsValue, IsChosen}
 use Rattle.silage_meaning.specs.Solves.{value, same, IsDefined, equated, argument, result, IsPreset}
 use Rattle.silage_meaning.specs.Types.{IsRawWord}
 use Rattle.silage_meaning.specs.Rules.{reads_at, DependsNow, direct}
 
 -- manifest numbers
-odd : manifest_value ((codes "i", pos 3) ∷ []) (both 0 mop.Add (both 0 mop.Mul (whole 2 0) (counter (codes "i") 0)) (whole 1 0)) ≡ Some (pos 7)
+odd :
+    manifest_value ((codes "i", pos 3) ∷ [])
+    (both 0 mop.Add (both 0 mop.Mul (whole 2 0) (counter (codes "i") 0)) (whole 1 0)) ≡ Some (pos 7)
 odd = refl
 
 too_great : manifest_value [] (both 0 mop.Add (whole 2147483647 0) (whole 1 0)) ≡ None
@@ -93,7 +99,8 @@ acc =
 
 abbrev two_calls : Items
 two_calls =
-    item (call (named (codes "p") ∷ []) (codes "acc") (now (codes "a") ∷ []) 70) (item (call (named (codes "q") ∷ []) (codes "acc") (now (codes "b") ∷ []) 80) no_item)
+    item (call (named (codes "p") ∷ []) (codes "acc") (now (codes "a") ∷ []) 70)
+    (item (call (named (codes "q") ∷ []) (codes "acc") (now (codes "b") ∷ []) 80) no_item)
 
 abbrev pair : Func
 pair =
@@ -118,7 +125,15 @@ second = inside main (record { at = 80; turns = [] })
 second_is : IsInstance two second acc
 second_is =
     inside_is (main_is refl)
-    (record { places = named (codes "q") ∷ []; name = codes "acc"; args = now (codes "b") ∷ []; indices = []; occurs = inr (inl (refl, refl)); turns = refl; named = refl })
+    (record {
+      places = named (codes "q") ∷ [];
+      name = codes "acc";
+      args = now (codes "b") ∷ [];
+      indices = [];
+      occurs = inr (inl (refl, refl));
+      turns = refl;
+      named = refl;
+    })
 
 second_call : Call two (site main pair)
 second_call =
@@ -135,30 +150,42 @@ second_call =
 -- the second sum's parameter is b, q is the second sum's result
 second_parameter : IsDefined two (element second 0 0) (value (site main pair) (now (codes "b")) byte)
 unfolding second_call
-second_parameter = argument second_call 0 (typed (codes "x") [] byte) (record { parameter = refl; argument = refl }) refl refl
+second_parameter =
+    argument second_call 0 (typed (codes "x") [] byte) (record { parameter = refl; argument = refl }) refl refl
 
 second_result : IsDefined two (element main 3 0) (same (element second 1 0) byte byte)
 unfolding second_call
 second_result =
-    result (site main pair) second_call 0 3 0 (typed (codes "y") [] byte) (typed (codes "q") [] byte) (named (codes "q")) (record { result = refl; taken = refl }) refl (record { named = refl; placed = refl }) refl
+    result (site main pair) second_call 0 3 0 (typed (codes "y") [] byte) (typed (codes "q") [] byte)
+    (named (codes "q")) (record { result = refl; taken = refl }) refl (record { named = refl; placed = refl }) refl
 
 second_equation : IsDefined two (element second 1 0) (value (site second acc) sum byte)
 second_equation =
-    equated (named (codes "y")) 1 0 (typed (codes "y") [] byte) (record { instance = second_is; occurs = inl (refl, refl) }) (record { named = refl; placed = refl }) refl
+    equated (named (codes "y")) 1 0 (typed (codes "y") [] byte)
+    (record { instance = second_is; occurs = inl (refl, refl) }) (record { named = refl; placed = refl }) refl
 
 -- 10 at sample 0 and 20 at sample 1 are 30, in the second instance
-second_value : (words : Words) → words (element second 1 0) (pos 0) ≡ pos 10 → words (element second 0 0) (pos 1) ≡ pos 20 → IsValue two (site second acc) words 1 sum byte (pos 30)
+second_value : (words : Words)
+    → words (element second 1 0) (pos 0) ≡ pos 10
+    → words (element second 0 0) (pos 1) ≡ pos 20
+    → IsValue two (site second acc) words 1 sum byte (pos 30)
 second_value words y x = (
   pos 10,
   pos 20,
-  signal 1 0 1 (typed (codes "y") [] byte) (record { named = refl; placed = refl }) (delay refl (omega arith)) refl (sym y),
+  signal 1 0 1 (typed (codes "y") [] byte) (record { named = refl; placed = refl }) (delay refl (omega arith)) refl
+      (sym y),
   signal 0 0 0 (typed (codes "x") [] byte) (record { named = refl; placed = refl }) no_delay refl (sym x),
-  record { shape = record { narrowest = omega arith; widest = omega arith; places = omega arith }; wrapped = record { word = record { low = omega (arith, ints); high = omega (arith, ints) }; congruent = (pos 0, refl) } },
+  record {
+    shape = record { narrowest = omega arith; widest = omega arith; places = omega arith };
+    wrapped =
+        record { word = record { low = omega (arith, ints); high = omega (arith, ints) }; congruent = (pos 0, refl) };
+  },
 )
 
 -- Functions of one equation, over words.
 abbrev one : List Decl → List Decl → List Decl → Items → Func
-one params results locals items = record { name = codes "main"; at = 0; params = params; results = results; locals = locals; items = items }
+one params results locals items =
+    record { name = codes "main"; at = 0; params = params; results = results; locals = locals; items = items }
 
 abbrev alone : Func → Program
 alone f = record { tops = function f ∷ [] }
@@ -170,55 +197,124 @@ Reads f name ty words n v = IsRead (alone f) (site main f) words n (named name) 
 -- `y = if x > 3 -> 3 || x < -3 -> -3 || x fi;`
 abbrev clamp : Expr
 clamp =
-    choose 0 (branch (binary 0 op.Gt (now (codes "x")) (number false 3)) (number false 3) (branch (binary 0 op.Lt (now (codes "x")) (number true 3)) (number true 3) no_branch)) (now (codes "x"))
+    choose 0
+    (branch (binary 0 op.Gt (now (codes "x")) (number false 3)) (number false 3)
+    (branch (binary 0 op.Lt (now (codes "x")) (number true 3)) (number true 3) no_branch)) (now (codes "x"))
 
 abbrev clamped : Func
-clamped = one (typed (codes "x") [] byte ∷ []) (typed (codes "y") [] byte ∷ []) [] (item (equation (named (codes "y")) clamp) no_item)
+clamped =
+    one (typed (codes "x") [] byte ∷ []) (typed (codes "y") [] byte ∷ []) []
+    (item (equation (named (codes "y")) clamp) no_item)
 
 three : IsValue (alone clamped) (site main clamped) (λ e n. pos 0) 0 (number false 3) byte (pos 3)
-three = record { nearest = record { below = omega (arith, ints); above = omega (arith, ints) }; word = record { low = omega (arith, ints); high = omega (arith, ints) } }
+three = record {
+  nearest = record { below = omega (arith, ints); above = omega (arith, ints) };
+  word = record { low = omega (arith, ints); high = omega (arith, ints) };
+}
 
 below_three : IsValue (alone clamped) (site main clamped) (λ e n. pos 0) 0 (number true 3) byte (negsuc 2)
-below_three = record { nearest = record { below = omega (arith, ints); above = omega (arith, ints) }; word = record { low = omega (arith, ints); high = omega (arith, ints) } }
+below_three = record {
+  nearest = record { below = omega (arith, ints); above = omega (arith, ints) };
+  word = record { low = omega (arith, ints); high = omega (arith, ints) };
+}
 
 x_read : (words : Words) (v : ℤ) → words (element main 0 0) (pos 0) ≡ v → Reads clamped (codes "x") byte words 0 v
-x_read words v is = signal 0 0 0 (typed (codes "x") [] byte) (record { named = refl; placed = refl }) no_delay refl (sym is)
+x_read words v is =
+    signal 0 0 0 (typed (codes "x") [] byte) (record { named = refl; placed = refl }) no_delay refl (sym is)
 
 -- -9 becomes -3
-clamp_low : (words : Words) → words (element main 0 0) (pos 0) ≡ negsuc 8 → IsValue (alone clamped) (site main clamped) words 0 clamp byte (negsuc 2)
+clamp_low : (words : Words)
+    → words (element main 0 0) (pos 0) ≡ negsuc 8
+    → IsValue (alone clamped) (site main clamped) words 0 clamp byte (negsuc 2)
 clamp_low words is =
     let x : Reads clamped (codes "x") byte words 0 (negsuc 8) = x_read words (negsuc 8) is in
-    let second_arm : IsChosen (alone clamped) (site main clamped) words 0 (branch (binary 0 op.Lt (now (codes "x")) (number true 3)) (number true 3) no_branch) byte (negsuc 8) (negsuc 2) =
-    (pos 1, negsuc 2, negsuc 8, (negsuc 8, negsuc 2, x, below_three, inl (omega (arith, ints), refl)), below_three, refl, inl (λ e. cc, refl))
-    in
-    (negsuc 8, x, (pos 0, pos 3, negsuc 2, (negsuc 8, pos 3, x, three, inr (λ h. omega (arith, ints, h), refl)), three, second_arm, inr (refl, refl)))
+    let second_arm : IsChosen (alone clamped) (site main clamped) words 0
+    (branch (binary 0 op.Lt (now (codes "x")) (number true 3)) (number true 3) no_branch) byte (negsuc 8)
+    (negsuc 2) = (
+      pos 1,
+      negsuc 2,
+      negsuc 8,
+      (negsuc 8, negsuc 2, x, below_three, inl (omega (arith, ints), refl)),
+      below_three,
+      refl,
+      inl (λ e. cc, refl),
+    )
+    in (
+      negsuc 8,
+      x,
+      (
+        pos 0,
+        pos 3,
+        negsuc 2,
+        (negsuc 8, pos 3, x, three, inr (λ h. omega (arith, ints, h), refl)),
+        three,
+        second_arm,
+        inr (refl, refl),
+      ),
+    )
 
 -- `y = fix<8,0>(x); z = fix<8,0,round>(x);` of the raw words 384 and -384 of `fix<16,8>`
 abbrev casts : Func
-casts = one (typed (codes "x") [] (fix 16 8 Trunc) ∷ []) (typed (codes "y") [] byte ∷ typed (codes "z") [] (fix 8 0 Round) ∷ []) [] no_item
+casts =
+    one (typed (codes "x") [] (fix 16 8 Trunc) ∷ [])
+    (typed (codes "y") [] byte ∷ typed (codes "z") [] (fix 8 0 Round) ∷ []) [] no_item
 
 abbrev Casts : Mode → ℤ → ℤ → Type 0
-Casts mode a v = (words : Words) → words (element main 0 0) (pos 0) ≡ a → IsValue (alone casts) (site main casts) words 0 (cast 0 (fix_type 8 0 mode) (now (codes "x"))) (fix 8 0 mode) v
+Casts mode a v =
+    (words : Words)
+    → words (element main 0 0) (pos 0) ≡ a
+    → IsValue (alone casts) (site main casts) words 0 (cast 0 (fix_type 8 0 mode) (now (codes "x"))) (fix 8 0 mode) v
 
 cast_value : (mode : Mode) (a v : ℤ) → IsForm a (record { shift = pos 8; mode = mode; width = 8 }) v → Casts mode a v
-cast_value mode a v form words is =
-    (refl, (a, signal 0 0 0 (typed (codes "x") [] (fix 16 8 Trunc)) (record { named = refl; placed = refl }) no_delay refl (sym is), record { shape = record { narrowest = omega arith; widest = omega arith; places = omega arith }; conv = form }))
+cast_value mode a v form words is = (
+  refl,
+  (
+    a,
+    signal 0 0 0 (typed (codes "x") [] (fix 16 8 Trunc)) (record { named = refl; placed = refl }) no_delay refl
+        (sym is),
+    record { shape = record { narrowest = omega arith; widest = omega arith; places = omega arith }; conv = form },
+  ),
+)
 
 -- a word of 8 bits is its own wrapped word
 wrapped : (v : ℤ) → IsWord 8 v → IsWrap v 8 v
 wrapped v word = record { word = word; congruent = (pos 0, omega (arith, ints)) }
 
 cast_down : Casts Trunc (pos 384) (pos 1)
-cast_down = cast_value Trunc (pos 384) (pos 1) (record { whole = pos 1; scaled = record { below = omega (arith, ints); above = omega (arith, ints) }; wrapped = wrapped (pos 1) (record { low = omega (arith, ints); high = omega (arith, ints) }) })
+cast_down =
+    cast_value Trunc (pos 384) (pos 1)
+    (record {
+      whole = pos 1;
+      scaled = record { below = omega (arith, ints); above = omega (arith, ints) };
+      wrapped = wrapped (pos 1) (record { low = omega (arith, ints); high = omega (arith, ints) });
+    })
 
 cast_near : Casts Round (pos 384) (pos 2)
-cast_near = cast_value Round (pos 384) (pos 2) (record { whole = pos 2; scaled = record { below = omega (arith, ints); above = omega (arith, ints) }; wrapped = wrapped (pos 2) (record { low = omega (arith, ints); high = omega (arith, ints) }) })
+cast_near =
+    cast_value Round (pos 384) (pos 2)
+    (record {
+      whole = pos 2;
+      scaled = record { below = omega (arith, ints); above = omega (arith, ints) };
+      wrapped = wrapped (pos 2) (record { low = omega (arith, ints); high = omega (arith, ints) });
+    })
 
 cast_down_below : Casts Trunc (negsuc 383) (negsuc 1)
-cast_down_below = cast_value Trunc (negsuc 383) (negsuc 1) (record { whole = negsuc 1; scaled = record { below = omega (arith, ints); above = omega (arith, ints) }; wrapped = wrapped (negsuc 1) (record { low = omega (arith, ints); high = omega (arith, ints) }) })
+cast_down_below =
+    cast_value Trunc (negsuc 383) (negsuc 1)
+    (record {
+      whole = negsuc 1;
+      scaled = record { below = omega (arith, ints); above = omega (arith, ints) };
+      wrapped = wrapped (negsuc 1) (record { low = omega (arith, ints); high = omega (arith, ints) });
+    })
 
 cast_near_below : Casts Round (negsuc 383) (negsuc 0)
-cast_near_below = cast_value Round (negsuc 383) (negsuc 0) (record { whole = negsuc 0; scaled = record { below = omega (arith, ints); above = omega (arith, ints) }; wrapped = wrapped (negsuc 0) (record { low = omega (arith, ints); high = omega (arith, ints) }) })
+cast_near_below =
+    cast_value Round (negsuc 383) (negsuc 0)
+    (record {
+      whole = negsuc 0;
+      scaled = record { below = omega (arith, ints); above = omega (arith, ints) };
+      wrapped = wrapped (negsuc 0) (record { low = omega (arith, ints); high = omega (arith, ints) });
+    })
 
 -- `y = a * b; z = a * b;` of words of `fix<8,4>`
 abbrev product : Expr
@@ -226,12 +322,19 @@ product = binary 0 op.Mul (now (codes "a")) (now (codes "b"))
 
 abbrev products : Func
 products =
-    one (typed (codes "a") [] (fix 8 4 Trunc) ∷ typed (codes "b") [] (fix 8 4 Trunc) ∷ []) (typed (codes "y") [] (fix 8 4 Trunc) ∷ typed (codes "z") [] (fix 8 4 Round) ∷ []) [] no_item
+    one (typed (codes "a") [] (fix 8 4 Trunc) ∷ typed (codes "b") [] (fix 8 4 Trunc) ∷ [])
+    (typed (codes "y") [] (fix 8 4 Trunc) ∷ typed (codes "z") [] (fix 8 4 Round) ∷ []) [] no_item
 
 abbrev Products : Mode → ℤ → ℤ → ℤ → Type 0
-Products mode a b v = (words : Words) → words (element main 0 0) (pos 0) ≡ a → words (element main 1 0) (pos 0) ≡ b → IsValue (alone products) (site main products) words 0 product (fix 8 4 mode) v
+Products mode a b v =
+    (words : Words)
+    → words (element main 0 0) (pos 0) ≡ a
+    → words (element main 1 0) (pos 0) ≡ b
+    → IsValue (alone products) (site main products) words 0 product (fix 8 4 mode) v
 
-product_value : (mode : Mode) (a b v : ℤ) → IsForm (a *ℤ b) (record { shift = pos 4; mode = mode; width = 8 }) v → Products mode a b v
+product_value : (mode : Mode) (a b v : ℤ)
+    → IsForm (a *ℤ b) (record { shift = pos 4; mode = mode; width = 8 }) v
+    → Products mode a b v
 product_value mode a b v form words a_is b_is = (
   a,
   b,
@@ -241,22 +344,42 @@ product_value mode a b v form words a_is b_is = (
 )
 
 product_down : Products Trunc (negsuc 0) (pos 8) (negsuc 0)
-product_down = product_value Trunc (negsuc 0) (pos 8) (negsuc 0) (record { whole = negsuc 0; scaled = record { below = omega (arith, ints); above = omega (arith, ints) }; wrapped = wrapped (negsuc 0) (record { low = omega (arith, ints); high = omega (arith, ints) }) })
+product_down =
+    product_value Trunc (negsuc 0) (pos 8) (negsuc 0)
+    (record {
+      whole = negsuc 0;
+      scaled = record { below = omega (arith, ints); above = omega (arith, ints) };
+      wrapped = wrapped (negsuc 0) (record { low = omega (arith, ints); high = omega (arith, ints) });
+    })
 
 product_near : Products Round (negsuc 0) (pos 8) (pos 0)
-product_near = product_value Round (negsuc 0) (pos 8) (pos 0) (record { whole = pos 0; scaled = record { below = omega (arith, ints); above = omega (arith, ints) }; wrapped = wrapped (pos 0) (record { low = omega (arith, ints); high = omega (arith, ints) }) })
+product_near =
+    product_value Round (negsuc 0) (pos 8) (pos 0)
+    (record {
+      whole = pos 0;
+      scaled = record { below = omega (arith, ints); above = omega (arith, ints) };
+      wrapped = wrapped (pos 0) (record { low = omega (arith, ints); high = omega (arith, ints) });
+    })
 
 -- the exact product 16129 loses four bits on the right, and wraps
 product_wraps : Products Trunc (pos 127) (pos 127) (negsuc 15)
 product_wraps =
     product_value Trunc (pos 127) (pos 127) (negsuc 15)
-    (record { whole = pos 1008; scaled = record { below = omega (arith, ints); above = omega (arith, ints) }; wrapped = record { word = record { low = omega (arith, ints); high = omega (arith, ints) }; congruent = (pos 4, refl) } })
+    (record {
+      whole = pos 1008;
+      scaled = record { below = omega (arith, ints); above = omega (arith, ints) };
+      wrapped =
+          record { word = record { low = omega (arith, ints); high = omega (arith, ints) }; congruent = (pos 4, refl) };
+    })
 
 -- `q = x; p = q; y = p@1; q@@1 = 7; p@@1 = 2;`: p has a past of its own
 abbrev chained : Func
 chained =
-    one (typed (codes "x") [] byte ∷ []) (typed (codes "y") [] byte ∷ []) (typed (codes "p") [] byte ∷ typed (codes "q") [] byte ∷ [])
-    (item (equation (named (codes "y")) (before (codes "p"))) (item (initial (named (codes "q")) (whole 1 0) (Number false 7 0 0)) (item (initial (named (codes "p")) (whole 1 0) (Number false 2 0 0)) no_item)))
+    one (typed (codes "x") [] byte ∷ []) (typed (codes "y") [] byte ∷ [])
+    (typed (codes "p") [] byte ∷ typed (codes "q") [] byte ∷ [])
+    (item (equation (named (codes "y")) (before (codes "p")))
+    (item (initial (named (codes "q")) (whole 1 0) (Number false 7 0 0))
+    (item (initial (named (codes "p")) (whole 1 0) (Number false 2 0 0)) no_item)))
 
 p_preset : IsPreset (alone chained) (element main 2 0) 1 (Number false 2 0 0) byte
 p_preset =
@@ -281,7 +404,9 @@ at_index m = record { name = codes "a"; at = 0; subs = m ∷ [] }
 abbrev turns : Func
 turns =
     one (typed (codes "x") [] byte ∷ []) (typed (codes "y") [] byte ∷ []) (typed (codes "a") (4 ∷ []) byte ∷ [])
-    (item (loop (codes "i") (whole 0 0) (whole 3 0) (item (equation (at_index (counter (codes "i") 0)) (now (codes "x"))) no_item) 0) (item (equation (at_index (whole 3 0)) (now (codes "x"))) no_item))
+    (item (loop (codes "i") (whole 0 0) (whole 3 0)
+    (item (equation (at_index (counter (codes "i") 0)) (now (codes "x"))) no_item) 0)
+    (item (equation (at_index (whole 3 0)) (now (codes "x"))) no_item))
 
 abbrev last_turn : Site
 last_turn = record { instance = main; function = turns; indices = (codes "i", pos 3) ∷ [] }
@@ -289,29 +414,55 @@ last_turn = record { instance = main; function = turns; indices = (codes "i", po
 in_the_loop : IsDefined (alone turns) (element main 2 3) (value last_turn (now (codes "x")) byte)
 in_the_loop =
     equated (at_index (counter (codes "i") 0)) 2 3 (typed (codes "a") (4 ∷ []) byte)
-    (record { instance = main_is refl; occurs = inl (pos 3, record { first = pos 0; last = pos 3; from = refl; to = refl; begun = omega (arith, ints); ended = omega (arith, ints) }, inl (refl, refl)) })
+    (record {
+      instance = main_is refl;
+      occurs =
+          inl (
+            pos 3,
+            record {
+              first = pos 0;
+              last = pos 3;
+              from = refl;
+              to = refl;
+              begun = omega (arith, ints);
+              ended = omega (arith, ints);
+            },
+            inl (refl, refl),
+          );
+    })
     (record { named = refl; placed = (3, 0, refl, omega arith, refl, refl) }) refl
 
 after_the_loop : IsDefined (alone turns) (element main 2 3) (value (site main turns) (now (codes "x")) byte)
 after_the_loop =
-    equated (at_index (whole 3 0)) 2 3 (typed (codes "a") (4 ∷ []) byte) (record { instance = main_is refl; occurs = inr (inl (refl, refl)) })
+    equated (at_index (whole 3 0)) 2 3 (typed (codes "a") (4 ∷ []) byte)
+    (record { instance = main_is refl; occurs = inr (inl (refl, refl)) })
     (record { named = refl; placed = (3, 0, refl, omega arith, refl, refl) }) refl
 
 -- What has no value: `2 * 3`, `x & x`, a number as a condition, 1.0 in `fix<16,15>`, a delay of 1024.
-no_product : (words : Words) (v : ℤ) → IsValue (alone clamped) (site main clamped) words 0 (binary 0 op.Mul (number false 2) (number false 3)) byte v → ⊥
+no_product : (words : Words) (v : ℤ)
+    → IsValue (alone clamped) (site main clamped) words 0 (binary 0 op.Mul (number false 2) (number false 3)) byte v
+    → ⊥
 no_product words v h = h
 
-no_conjunction : (words : Words) (v : ℤ) → IsValue (alone clamped) (site main clamped) words 0 (binary 0 op.And (now (codes "x")) (now (codes "x"))) byte v → ⊥
+no_conjunction : (words : Words) (v : ℤ)
+    → IsValue (alone clamped) (site main clamped) words 0 (binary 0 op.And (now (codes "x")) (now (codes "x"))) byte v
+    → ⊥
 no_conjunction words v h = h
 
-no_condition : (words : Words) (v : ℤ) → IsValue (alone clamped) (site main clamped) words 0 (choose 0 (branch (number false 1) (number false 1) no_branch) (number false 2)) byte v → ⊥
+no_condition : (words : Words) (v : ℤ)
+    → IsValue (alone clamped) (site main clamped) words 0
+    (choose 0 (branch (number false 1) (number false 1) no_branch) (number false 2)) byte v
+    → ⊥
 no_condition words v (_, _, (_, _, _, condition, _, _, _)) = condition
 
 one_is_too_great : (v : ℤ) → IsRawWord (Number false 10 1 0) (fix 16 15 Trunc) v → ⊥
 one_is_too_great v is = omega (arith, ints, is.nearest.below, is.nearest.above, is.word.high)
 
 least_word : IsRawWord (Number true 10 1 0) (fix 16 15 Trunc) (negsuc 32767)
-least_word = record { nearest = record { below = omega (arith, ints); above = omega (arith, ints) }; word = record { low = omega (arith, ints); high = omega (arith, ints) } }
+least_word = record {
+  nearest = record { below = omega (arith, ints); above = omega (arith, ints) };
+  word = record { low = omega (arith, ints); high = omega (arith, ints) };
+}
 
 too_long_ago : (k : ℕ) → LooksBack [] (Some (whole 1024 0)) k → ⊥
 too_long_ago k (delay is most) =
@@ -321,13 +472,15 @@ too_long_ago k (delay is most) =
 -- `y = y + x;` depends on itself without a delay
 abbrev looped : Func
 looped =
-    one (typed (codes "x") [] byte ∷ []) (typed (codes "y") [] byte ∷ []) [] (item (equation (named (codes "y")) (binary 0 op.Add (now (codes "y")) (now (codes "x")))) no_item)
+    one (typed (codes "x") [] byte ∷ []) (typed (codes "y") [] byte ∷ []) []
+    (item (equation (named (codes "y")) (binary 0 op.Add (now (codes "y")) (now (codes "x")))) no_item)
 
 itself : DependsNow (alone looped) (element main 1 0) (element main 1 0)
 itself =
     direct (
       value (site main looped) (binary 0 op.Add (now (codes "y")) (now (codes "x"))) byte,
-      equated (named (codes "y")) 1 0 (typed (codes "y") [] byte) (record { instance = main_is refl; occurs = inl (refl, refl) }) (record { named = refl; placed = refl }) refl,
+      equated (named (codes "y")) 1 0 (typed (codes "y") [] byte)
+          (record { instance = main_is refl; occurs = inl (refl, refl) }) (record { named = refl; placed = refl }) refl,
       inl (reads_at 1 0 (typed (codes "y") [] byte) (record { named = refl; placed = refl }) no_delay refl),
     )
 

@@ -1,12 +1,15 @@
 -- A row has a word for each element.
-use Rattle.std.proofs.Common.{◌≡◌, refl, sym, ◌∙◌, ap, ap₂, ℕ, suc, ◌+◌, List, [], ◌∷◌, length, length-append, Option, Some, None, ℤ}
+use Rattle.std.proofs.Common.{◌≡◌, refl, sym, ◌∙◌, ap, ap₂, ℕ, suc, ◌+◌, List, [], ◌∷◌, length, length-append, Option}
+use Rattle.std.proofs.Common.{Some, None, ℤ}
 use Rattle.std.specs.List.{AllZip}
 use Rattle.std.proofs.lemmas.List.{length-replicate}
 use Rattle.std.proofs.lemmas.List.FromFn.{length-map-range_with_len}
+use Rattle.lists.proofs.Zips.{zip_length}
 use Rattle.silage_syntax.specs.declared.tree.Decl.{Decl}
 use Rattle.silage_syntax.specs.Tree.{Func, Program}
 use Rattle.silage_syntax.specs.Names.{element_count, main_of}
-use Rattle.silage_meaning.specs.Instances.{Instance, main, element, elements_from, parameters_of, results_of, inputs, outputs}
+use Rattle.silage_meaning.specs.Instances.{Instance, main, element, elements_from, parameters_of, results_of, inputs}
+use Rattle.silage_meaning.specs.Instances.{outputs}
 use Rattle.silage_meaning.specs.Types.{IsInType, word_types}
 use Rattle.silage_meaning.specs.Solves.{types_of, input_types, output_types, IsRow}
 
@@ -14,7 +17,9 @@ elements_types : (i : Instance) (ds : List Decl) (d : ℕ) → length (elements_
 elements_types i [] d = refl
 elements_types i (x ∷ ds) d =
     length-append _ _
-    ∙ ap₂ ◌+◌ (length-map-range_with_len (element i d) 0 (element_count x.dims) ∙ sym (length-replicate (element_count x.dims) x.ty)) (elements_types i ds (d + 1))
+    ∙ ap₂ ◌+◌ (length-map-range_with_len (element i d) 0 (element_count x.dims)
+    ∙ sym (length-replicate (element_count x.dims) x.ty))
+    (elements_types i ds (d + 1))
     ∙ sym (length-append _ _)
 
 inputs_of : (o : Option Func) → length (parameters_of o) ≡ length (types_of (λ f. f.params) o)
@@ -30,12 +35,6 @@ inputs_length p = inputs_of (main_of p)
 
 pub outputs_length : (p : Program) → length (outputs p) ≡ length (output_types p)
 outputs_length p = outputs_of (main_of p)
-
-zip_length : {A B : Type 0} (R : A → B → Type 0) (xs : List A) (ys : List B) → AllZip R xs ys → length ys ≡ length xs
-zip_length R [] [] h = refl
-zip_length R [] (y ∷ ys) h = absurd h
-zip_length R (x ∷ xs) [] h = absurd h
-zip_length R (x ∷ xs) (y ∷ ys) h = ap suc (zip_length R xs ys h.1)
 
 pub row_length : (p : Program) (row : List ℤ) → IsRow p row → length row ≡ length (inputs p)
 row_length p row is = zip_length IsInType (input_types p) row is ∙ sym (inputs_length p)

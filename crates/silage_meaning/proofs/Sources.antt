@@ -7,7 +7,10 @@ use Rattle.lists.specs.Rows.{Rows}
 use Rattle.silage_meaning.specs.Solves.{Source, word, value, same, number, Gives}
 use Rattle.silage_meaning.proofs.Values.{value_once, entry_once}
 
-pub gives_once : (p : Program) (stream : Rows) (words : Words) (n : ℕ) (source : Source) (v w : ℤ) → Gives p stream words n source v → Gives p stream words n source w → v ≡ w
+pub gives_once : (p : Program) (stream : Rows) (words : Words) (n : ℕ) (source : Source) (v w : ℤ)
+    → Gives p stream words n source v
+    → Gives p stream words n source w
+    → v ≡ w
 gives_once p stream words n (word j) v w (row, is, at) (row', is', at') =
     let same_row : row ≡ row' = some_once is is' in
     some_once at (ap (λ (r : List ℤ). slice_get r j) same_row ∙ at')

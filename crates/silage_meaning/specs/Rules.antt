@@ -1,7 +1,8 @@
 -- Two rules on the elements of a program: each is defined once, and none depends on itself without a delay.
 use Rattle.std.specs.Prelude.{◌≡◌, ◌⊎◌, ℕ, Option}
 use Rattle.silage_syntax.specs.declared.tree.Decl.{Decl}
-use Rattle.silage_syntax.specs.Tree.{Manifest, Place, Expr, literal, read, negate, not, binary, shift, cast, choose, Branches, no_branch, branch, Program}
+use Rattle.silage_syntax.specs.Tree.{Manifest, Place, Expr, literal, read, negate, not, binary, shift, cast, choose}
+use Rattle.silage_syntax.specs.Tree.{Branches, no_branch, branch, Program}
 use Rattle.silage_syntax.specs.Manifests.{LooksBack}
 use Rattle.silage_meaning.specs.Instances.{Element, element, IsElement, Site, IsSignal}
 use Rattle.silage_meaning.specs.Solves.{Source, word, value, same, number, IsDefined}

@@ -1,5 +1,6 @@
 -- What it is to solve the equations of a program over a stream of input rows.
-use Rattle.std.specs.Prelude.{◌≡◌, ℕ, ◌+◌, ◌<◌, List, [], map, length, slice_get, All, Option, Some, None, ℤ, pos, negsuc, neg_ℤ, ◌≤ℤ◌, ◌<ℤ◌}
+use Rattle.std.specs.Prelude.{◌≡◌, ℕ, ◌+◌, ◌<◌, List, [], map, length, slice_get, All, Option, Some, None, ℤ, pos}
+use Rattle.std.specs.Prelude.{negsuc, neg_ℤ, ◌≤ℤ◌, ◌<ℤ◌}
 use Rattle.std.specs.List.{AllZip, range_with_len}
 use Rattle.lists.specs.Rows.{Rows}
 use Rattle.fix_word.specs.declared.types.SigType.{SigType}
@@ -9,7 +10,8 @@ use Rattle.silage_syntax.specs.declared.tree.Lit.{Lit}
 use Rattle.silage_syntax.specs.Tree.{Manifest, Place, Expr, read, equation, initial, Func, Program}
 use Rattle.silage_syntax.specs.Manifests.{HasValue, max_delay}
 use Rattle.silage_syntax.specs.Names.{element_count, main_of}
-use Rattle.silage_meaning.specs.Instances.{Element, element, IsElement, Site, IsItemAt, IsSignal, IsArray, IsTable, Call, IsArgument, IsResult, parameter_of, result_of, inputs, outputs}
+use Rattle.silage_meaning.specs.Instances.{Element, element, IsElement, Site, IsItemAt, IsSignal, IsArray, IsTable}
+use Rattle.silage_meaning.specs.Instances.{Call, IsArgument, IsResult, parameter_of, result_of, inputs, outputs}
 use Rattle.silage_meaning.specs.Types.{IsInType, HasShapeOf, IsRawWord, word_types}
 use Rattle.silage_meaning.specs.Value.{Words, IsEntry, IsValue}
 

@@ -11,7 +11,8 @@ use Rattle.silage_syntax.specs.declared.tree.ConstDef.{ConstDef}
 use Rattle.silage_syntax.specs.declared.tree.Decl.{Decl}
 use Rattle.silage_syntax.specs.declared.tree.Lit.{Lit}
 use Rattle.silage_syntax.specs.declared.tree.Lit.TheVariants.{Number, Truth}
-use Rattle.silage_syntax.specs.Tree.{Expr, literal, read, negate, not, binary, shift, cast, choose, Branches, no_branch, branch, Func, Program}
+use Rattle.silage_syntax.specs.Tree.{Expr, literal, read, negate, not, binary, shift, cast, choose, Branches, no_branch}
+use Rattle.silage_syntax.specs.Tree.{branch, Func, Program}
 use Rattle.silage_syntax.specs.Names.{declared, table_named, element_count}
 
 -- the word is in the type's range

@@ -1,6 +1,7 @@
 -- The value of an expression against an expected type, by the rows of the typing table. A part that has no value, or a
 -- type that does not fit, leaves the whole without a value.
-use Rattle.std.specs.Prelude.{◌≡◌, ◌≢◌, ◌⊎◌, ℕ, ◌+◌, ◌^◌, true, false, slice_get, Option, Some, None, ℤ, pos, ◌+ℤ◌, ◌-ℤ◌, ◌*ℤ◌, neg_ℤ, ◌≤ℤ◌, ◌<ℤ◌}
+use Rattle.std.specs.Prelude.{◌≡◌, ◌≢◌, ◌⊎◌, ℕ, ◌+◌, ◌^◌, true, false, slice_get, Option, Some, None, ℤ, pos, ◌+ℤ◌}
+use Rattle.std.specs.Prelude.{◌-ℤ◌, ◌*ℤ◌, neg_ℤ, ◌≤ℤ◌, ◌<ℤ◌}
 use Rattle.fix_word.specs.Operations.{IsTruth, IsSet, IsChoice}
 use Rattle.fix_word.specs.Words.{IsShape, IsWrap, IsForm, IsConv}
 use Rattle.fix_word.specs.declared.types.FixType.{FixType}
@@ -10,7 +11,8 @@ use Rattle.silage_syntax.specs.declared.tree.BinOp.TheVariants as op
 use Rattle.silage_syntax.specs.declared.tree.ConstDef.{ConstDef}
 use Rattle.silage_syntax.specs.declared.tree.Decl.{Decl}
 use Rattle.silage_syntax.specs.declared.tree.Lit.{Lit}
-use Rattle.silage_syntax.specs.Tree.{Manifest, Place, Expr, literal, read, negate, not, binary, shift, cast, choose, Branches, no_branch, branch, Program}
+use Rattle.silage_syntax.specs.Tree.{Manifest, Place, Expr, literal, read, negate, not, binary, shift, cast, choose}
+use Rattle.silage_syntax.specs.Tree.{Branches, no_branch, branch, Program}
 use Rattle.silage_syntax.specs.Manifests.{IsAmount, LooksBack}
 use Rattle.silage_syntax.specs.Names.{declared, table_named, IsOffset}
 use Rattle.silage_meaning.specs.Instances.{Element, element, Site, IsSignal}

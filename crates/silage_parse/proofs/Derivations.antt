@@ -1,23 +1,41 @@
--- Readings without roles, a nonterminal at a time; and readings of nonterminals with all tokens inside expressions, or all outside.
-use Rattle.std.proofs.Common.{◌≡◌, ℕ, ◌+◌, ◌≤◌, Bool, true, false, ◌&&◌, if◌then◌else◌, map, List, [], ◌∷◌, ◌++◌, Option, Some, None, slice_get, refl, sym, ap, ◌∙◌, subst, ap₂, arith}
+-- Readings without roles, a nonterminal at a time; and readings of nonterminals with all tokens inside expressions, or
+-- all outside.
+use Rattle.std.proofs.Common.{◌≡◌, ℕ, ◌+◌, ◌≤◌, Bool, true, false, ◌&&◌, if◌then◌else◌, map, List, [], ◌∷◌, ◌++◌}
+use Rattle.std.proofs.Common.{Option, Some, None, slice_get, refl, sym, ap, ◌∙◌, subst, ap₂, arith}
+use Rattle.lists.proofs.Bools.{first_true, second_true}
 use Rattle.silage_lex.specs.declared.Token.{Token}
 use Rattle.silage_lex.specs.declared.TokenKind.{TokenKind}
 use Rattle.silage_syntax.specs.Grammar.{kind_of, kind_at, Or, And, Sum, Product, Role, weights, plain}
 use Rattle.silage_parse.specs.Private.ParseTable as the
-use Rattle.silage_parse.specs.Private.ParseTable.{Terminal, End, is_one, Effect, Outside, Begins, Inside, Enters, Leaves, Nonterminal, Source, Value, Symbol, Match, Expand, Act, Productions, productions, Action}
-use Rattle.silage_parse.specs.Private.Machine.{made, pushed, selected, predict, Among, here, there, alternatives, candidates, role_of, roles_of, Reads, r_end, r_match, r_expand, r_act}
+use Rattle.silage_parse.specs.Private.ParseTable.{Terminal, End, is_one, Effect, Outside, Begins, Inside, Enters}
+use Rattle.silage_parse.specs.Private.ParseTable.{Leaves, Nonterminal, Source, Value, Symbol, Match, Expand, Act}
+use Rattle.silage_parse.specs.Private.ParseTable.{Productions, productions, Action}
+use Rattle.silage_parse.specs.Private.Machine.{made, pushed, selected, predict, Among, here, there, alternatives}
+use Rattle.silage_parse.specs.Private.Machine.{candidates, role_of, roles_of, Reads, r_end, r_match, r_expand, r_act}
 use Rattle.silage_parse.proofs.SpanRoles.{weights_none, weights_more, weights_both, plain_none, plain_more, plain_both}
 
 mutual
   pub data Goes (us : List Token) : List Symbol → ℕ → List Value → ℕ → List Value → Type 0 where
     g_end : {i : ℕ} {vs : List Value} → Goes us [] i vs i vs
-    g_match : {ks : List Terminal} {e : Effect} {ss : List Symbol} {i j : ℕ} {t : Token} {vs ws : List Value} → slice_get us i ≡ Some t → is_one ks (Some t.kind) ≡ true → Goes us ss (i + 1) (the.token t ∷ vs) j ws → Goes us (Match ks e ∷ ss) i vs j ws
-    g_expand : {p : Nonterminal} {ss : List Symbol} {i j k : ℕ} {vs ws xs : List Value} → Does us p i vs j xs → Goes us ss j xs k ws → Goes us (Expand p ∷ ss) i vs k ws
-    g_act : {a : Action} {ss : List Symbol} {i j : ℕ} {vs ws : List Value} → Goes us ss i (made a vs) j ws → Goes us (Act a ∷ ss) i vs j ws
+    g_match : {ks : List Terminal} {e : Effect} {ss : List Symbol} {i j : ℕ} {t : Token} {vs ws : List Value}
+        → slice_get us i ≡ Some t
+        → is_one ks (Some t.kind) ≡ true
+        → Goes us ss (i + 1) (the.token t ∷ vs) j ws
+        → Goes us (Match ks e ∷ ss) i vs j ws
+    g_expand : {p : Nonterminal} {ss : List Symbol} {i j k : ℕ} {vs ws xs : List Value}
+        → Does us p i vs j xs
+        → Goes us ss j xs k ws
+        → Goes us (Expand p ∷ ss) i vs k ws
+    g_act : {a : Action} {ss : List Symbol} {i j : ℕ} {vs ws : List Value}
+        → Goes us ss i (made a vs) j ws
+        → Goes us (Act a ∷ ss) i vs j ws
 
   -- one nonterminal
   pub data Does (us : List Token) : Nonterminal → ℕ → List Value → ℕ → List Value → Type 0 where
-    does : {p : Nonterminal} {ps : List Symbol} {i j : ℕ} {vs ws : List Value} → Among (candidates p (kind_at us i)) ps → Goes us ps i vs j ws → Does us p i vs j ws
+    does : {p : Nonterminal} {ps : List Symbol} {i j : ℕ} {vs ws : List Value}
+        → Among (candidates p (kind_at us i)) ps
+        → Goes us ps i vs j ws
+        → Does us p i vs j ws
 
 -- the one effect of the tokens of a nonterminal, if they have one
 abbrev pub home : Nonterminal → Option Effect
@@ -87,17 +105,9 @@ abbrev every : {A : Type 0} → (A → Bool) → List A → Bool
 every f [] = true
 every f (x ∷ xs) = f x && every f xs
 
-pub and_first : (a b : Bool) → (a && b) ≡ true → a ≡ true
-and_first true b h = refl
-and_first false b h = h
-
-pub and_second : (a b : Bool) → (a && b) ≡ true → b ≡ true
-and_second true b h = h
-and_second false b h = cc
-
 each_among : {A : Type 0} (f : A → Bool) {xs : List A} {x : A} → Among xs x → every f xs ≡ true → f x ≡ true
-each_among f here h = and_first _ _ h
-each_among f (there a) h = each_among f a (and_second _ _ h)
+each_among f here h = first_true _ _ h
+each_among f (there a) h = each_among f a (second_true _ _ h)
 
 -- the productions of a nonterminal have its effect
 kept : Effect → Nonterminal → Bool
@@ -127,10 +137,22 @@ outside_kept (the.Mode Outside) = refl
 outside_kept (the.Mode _) = refl
 outside_kept _ = refl
 
-all_kept : (e : Effect) (p : Nonterminal) → has_home e (home p) ≡ true → every (all_at e) (alternatives (productions p)) ≡ true
+all_kept : (e : Effect) (p : Nonterminal)
+    → has_home e (home p) ≡ true
+    → every (all_at e) (alternatives (productions p)) ≡ true
 unfolding kept
-all_kept Inside p h = elim (has_home Inside (home p)) as (λ b. b ≡ true → (if b then every (all_at Inside) (alternatives (productions p)) else true) ≡ true → every (all_at Inside) (alternatives (productions p)) ≡ true) [ true ↦ λ q r. r | false ↦ λ q r. cc ] h (inside_kept p)
-all_kept Outside p h = elim (has_home Outside (home p)) as (λ b. b ≡ true → (if b then every (all_at Outside) (alternatives (productions p)) else true) ≡ true → every (all_at Outside) (alternatives (productions p)) ≡ true) [ true ↦ λ q r. r | false ↦ λ q r. cc ] h (outside_kept p)
+all_kept Inside p h =
+    elim (has_home Inside (home p)) as (λ b.
+    b ≡ true
+    → (if b then every (all_at Inside) (alternatives (productions p)) else true) ≡ true
+    → every (all_at Inside) (alternatives (productions p)) ≡ true)
+    [ true ↦ λ q r. r | false ↦ λ q r. cc ] h (inside_kept p)
+all_kept Outside p h =
+    elim (has_home Outside (home p)) as (λ b.
+    b ≡ true
+    → (if b then every (all_at Outside) (alternatives (productions p)) else true) ≡ true
+    → every (all_at Outside) (alternatives (productions p)) ≡ true)
+    [ true ↦ λ q r. r | false ↦ λ q r. cc ] h (outside_kept p)
 all_kept Begins p h = not_begins (home p) h
   where
     not_begins : {A : Type 0} (o : Option Effect) → has_home Begins o ≡ true → A
@@ -160,22 +182,36 @@ no_ends (the.Rest Product) h = refl
 no_ends _ h = refl
 
 -- what the tests of a list say of its first symbol and of the rest
-take_home : (e f : Effect) (ks : List Terminal) (ss : List Symbol) → all_at e (Match ks f ∷ ss) ≡ true → (same_effect e f ≡ true) × (opposite (is_one ks None) ≡ true) × (all_at e ss ≡ true)
+take_home : (e f : Effect) (ks : List Terminal) (ss : List Symbol)
+    → all_at e (Match ks f ∷ ss) ≡ true
+    → (same_effect e f ≡ true) × (opposite (is_one ks None) ≡ true) × (all_at e ss ≡ true)
 take_home e f ks ss h =
-    let b = and_second (same_effect e f) (opposite (is_one ks None) && all_at e ss) h in
-    (and_first (same_effect e f) (opposite (is_one ks None) && all_at e ss) h, and_first (opposite (is_one ks None)) (all_at e ss) b, and_second (opposite (is_one ks None)) (all_at e ss) b)
+    let b = second_true (same_effect e f) (opposite (is_one ks None) && all_at e ss) h in (
+      first_true (same_effect e f) (opposite (is_one ks None) && all_at e ss) h,
+      first_true (opposite (is_one ks None)) (all_at e ss) b,
+      second_true (opposite (is_one ks None)) (all_at e ss) b,
+    )
 
-go_home : (e : Effect) (p : Nonterminal) (ss : List Symbol) → all_at e (Expand p ∷ ss) ≡ true → (has_home e (home p) ≡ true) × (all_at e ss ≡ true)
-go_home e p ss h = (and_first (has_home e (home p)) (all_at e ss) h, and_second (has_home e (home p)) (all_at e ss) h)
+go_home : (e : Effect) (p : Nonterminal) (ss : List Symbol)
+    → all_at e (Expand p ∷ ss) ≡ true
+    → (has_home e (home p) ≡ true) × (all_at e ss ≡ true)
+go_home e p ss h = (first_true (has_home e (home p)) (all_at e ss) h, second_true (has_home e (home p)) (all_at e ss) h)
 
-asked_among : (xs : List (List Terminal × List Symbol)) (other : List Symbol) (k : Option TokenKind) → Among (map (λ x. x.1) xs ++ other ∷ []) (selected xs other k)
+asked_among : (xs : List (List Terminal × List Symbol)) (other : List Symbol) (k : Option TokenKind)
+    → Among (map (λ x. x.1) xs ++ other ∷ []) (selected xs other k)
 asked_among [] other k = here
-asked_among (x ∷ xs) other k = elim (is_one x.0 k) as (λ b. Among (x.1 ∷ (map (λ x. x.1) xs ++ other ∷ [])) (if b then x.1 else selected xs other k)) [ true ↦ here | false ↦ there (asked_among xs other k) ]
+asked_among (x ∷ xs) other k =
+    elim (is_one x.0 k) as
+    (λ b. Among (x.1 ∷ (map (λ x. x.1) xs ++ other ∷ [])) (if b then x.1 else selected xs other k))
+    [ true ↦ here | false ↦ there (asked_among xs other k) ]
 
-pub predict_among : (p : Nonterminal) (k : Option TokenKind) → Among (alternatives (productions p)) (predict (productions p) k)
+pub predict_among : (p : Nonterminal) (k : Option TokenKind)
+    → Among (alternatives (productions p)) (predict (productions p) k)
 predict_among p k = asked_among (productions p).by_lookahead (productions p).otherwise k
 
-pub way_among : (p : Nonterminal) (k : Option TokenKind) {ps : List Symbol} → Among (candidates p k) ps → Among (alternatives (productions p)) ps
+pub way_among : (p : Nonterminal) (k : Option TokenKind) {ps : List Symbol}
+    → Among (candidates p k) ps
+    → Among (alternatives (productions p)) ps
 way_among the.AfterMinus k here = predict_among the.AfterMinus k
 way_among the.AfterMinus k (there x) = elim x [ ]
 way_among p k a = a
@@ -189,7 +225,11 @@ span_none : (e : Effect) (us : List Token) (i : ℕ) → span e us i i ≡ []
 span_none Inside us i = weights_none us i
 span_none _ us i = plain_none i
 
-span_more : (e f : Effect) (us : List Token) (i j : ℕ) {t : Token} → same_effect e f ≡ true → slice_get us i ≡ Some t → i + 1 ≤ j → span e us i j ≡ role_of f t ∷ span e us (i + 1) j
+span_more : (e f : Effect) (us : List Token) (i j : ℕ) {t : Token}
+    → same_effect e f ≡ true
+    → slice_get us i ≡ Some t
+    → i + 1 ≤ j
+    → span e us i j ≡ role_of f t ∷ span e us (i + 1) j
 span_more Inside Inside us i j q h w = weights_more us i j h w
 span_more Outside Outside us i j q h w = plain_more i j w
 span_more _ _ us i j q h w = cc
@@ -199,7 +239,13 @@ span_both Inside us h w = weights_both us h w
 span_both _ us h w = plain_both h w
 
 -- one token, with its role
-pub take_reads : {us : List Token} {ks : List Terminal} {ss : List Symbol} {i j : ℕ} {t : Token} {vs ws : List Value} {rs : List Role} (e : Effect) → slice_get us i ≡ Some t → is_one ks (Some t.kind) ≡ true → Reads us ss (i + 1) (the.token t ∷ vs) rs j ws → Reads us (Match ks e ∷ ss) i vs (role_of e t ∷ rs) j ws
+pub take_reads :
+    {us : List Token} {ks : List Terminal} {ss : List Symbol} {i j : ℕ} {t : Token} {vs ws : List Value}
+    {rs : List Role} (e : Effect)
+    → slice_get us i ≡ Some t
+    → is_one ks (Some t.kind) ≡ true
+    → Reads us ss (i + 1) (the.token t ∷ vs) rs j ws
+    → Reads us (Match ks e ∷ ss) i vs (role_of e t ∷ rs) j ws
 take_reads {us} {ks} {ss} {i} {j} {t} {vs} {ws} {rs} e s f r =
     let a : is_one ks (kind_at us i) ≡ true = rw s f in
     let b : Reads us ss (i + 1) (pushed (slice_get us i) vs) rs j ws = rw s r in
@@ -207,20 +253,30 @@ take_reads {us} {ks} {ss} {i} {j} {t} {vs} {ws} {rs} e s f r =
     rw s at c
 
 -- a reading whose tokens are all inside, or all outside
-pub record Spans (us : List Token) (e : Effect) (ss : List Symbol) (i : ℕ) (vs : List Value) (j : ℕ) (ws : List Value) : Type 0 where
+pub record Spans
+    (us : List Token) (e : Effect) (ss : List Symbol) (i : ℕ) (vs : List Value) (j : ℕ) (ws : List Value)
+    : Type 0 where
   pub within : i ≤ j
   pub reads : Reads us ss i vs (span e us i j) j ws
 
-pub record Spans_one (us : List Token) (e : Effect) (p : Nonterminal) (i : ℕ) (vs : List Value) (j : ℕ) (ws : List Value) : Type 0 where
+pub record Spans_one
+    (us : List Token) (e : Effect) (p : Nonterminal) (i : ℕ) (vs : List Value) (j : ℕ) (ws : List Value)
+    : Type 0 where
   pub ps : List Symbol
   pub among : Among (candidates p (kind_at us i)) ps
   pub spans : Spans us e ps i vs j ws
 
-roles_to : {us : List Token} {ss : List Symbol} {i j : ℕ} {vs ws : List Value} {rs qs : List Role} → rs ≡ qs → Reads us ss i vs rs j ws → Reads us ss i vs qs j ws
+roles_to : {us : List Token} {ss : List Symbol} {i j : ℕ} {vs ws : List Value} {rs qs : List Role}
+    → rs ≡ qs
+    → Reads us ss i vs rs j ws
+    → Reads us ss i vs qs j ws
 roles_to {us} {ss} {i} {j} {vs} {ws} q r = let P : List Role → Type 0 = λ x. Reads us ss i vs x j ws in subst P q r
 
 mutual
-  pub goes_spans : {us : List Token} (e : Effect) {ss : List Symbol} {i j : ℕ} {vs ws : List Value} → Goes us ss i vs j ws → all_at e ss ≡ true → Spans us e ss i vs j ws
+  pub goes_spans : {us : List Token} (e : Effect) {ss : List Symbol} {i j : ℕ} {vs ws : List Value}
+      → Goes us ss i vs j ws
+      → all_at e ss ≡ true
+      → Spans us e ss i vs j ws
   goes_spans {us} e (g_end {i = i}) h = record { within = omega arith; reads = roles_to (sym (span_none e us i)) r_end }
   goes_spans {us} e {j = j} (g_match {ks = ks} {e = f} {ss = ss} {i = i} s q g) h =
       let n = take_home e f ks ss h in
@@ -233,29 +289,52 @@ mutual
       let r = goes_spans e g n.1 in
       let w = r.within in
       let v = d.spans.within in
-      record { within = omega arith; reads = roles_to (sym (span_both e us v w)) (r_expand d.among d.spans.reads r.reads) }
+      record {
+        within = omega arith;
+        reads = roles_to (sym (span_both e us v w)) (r_expand d.among d.spans.reads r.reads);
+      }
   goes_spans e (g_act g) h = let r = goes_spans e g h in record { within = r.within; reads = r_act r.reads }
 
-  pub does_spans : {us : List Token} (e : Effect) {p : Nonterminal} {i j : ℕ} {vs ws : List Value} → Does us p i vs j ws → has_home e (home p) ≡ true → Spans_one us e p i vs j ws
-  does_spans {us} e (does {p = p} {ps = ps} {i = i} a g) h = record { ps = ps; among = a; spans = goes_spans e g (each_among (all_at e) (way_among p (kind_at us i) a) (all_kept e p h)) }
+  pub does_spans : {us : List Token} (e : Effect) {p : Nonterminal} {i j : ℕ} {vs ws : List Value}
+      → Does us p i vs j ws
+      → has_home e (home p) ≡ true
+      → Spans_one us e p i vs j ws
+  does_spans {us} e (does {p = p} {ps = ps} {i = i} a g) h = record {
+    ps = ps;
+    among = a;
+    spans = goes_spans e g (each_among (all_at e) (way_among p (kind_at us i) a) (all_kept e p h));
+  }
 
 -- where a reading goes
-pub reads_within : {us : List Token} {ss : List Symbol} {i j : ℕ} {vs ws : List Value} {rs : List Role} → Reads us ss i vs rs j ws → i ≤ j
+pub reads_within : {us : List Token} {ss : List Symbol} {i j : ℕ} {vs ws : List Value} {rs : List Role}
+    → Reads us ss i vs rs j ws
+    → i ≤ j
 reads_within r_end = omega arith
 reads_within (r_match h a) = let w = reads_within a in omega arith
 reads_within (r_expand w a b) = let v = reads_within a in let u = reads_within b in omega arith
 reads_within (r_act a) = reads_within a
 
-pub way_no_end : (p : Nonterminal) (k : Option TokenKind) {ps : List Symbol} → Among (candidates p k) ps → opposite (is_source p) ≡ true → no_end ps ≡ true
-way_no_end p k w h = each_among no_end (way_among p k w) (no_ends p (elim (is_source p) as (λ b. opposite b ≡ true → b ≡ false) [ true ↦ λ q. sym q | false ↦ λ q. refl ] h))
+pub way_no_end : (p : Nonterminal) (k : Option TokenKind) {ps : List Symbol}
+    → Among (candidates p k) ps
+    → opposite (is_source p) ≡ true
+    → no_end ps ≡ true
+way_no_end p k w h =
+    each_among no_end (way_among p k w)
+    (no_ends p (elim (is_source p) as (λ b. opposite b ≡ true → b ≡ false) [ true ↦ λ q. sym q | false ↦ λ q. refl ] h))
 
 -- the token that was taken
-pub taken : (us : List Token) (ks : List Terminal) (o : Option Token) → is_one ks (kind_of o) ≡ true → opposite (is_one ks None) ≡ true → (t : Token) × (o ≡ Some t)
+pub taken : (us : List Token) (ks : List Terminal) (o : Option Token)
+    → is_one ks (kind_of o) ≡ true
+    → opposite (is_one ks None) ≡ true
+    → (t : Token) × (o ≡ Some t)
 taken us ks None h n = let c : opposite true ≡ true = ap opposite (sym h) ∙ n in cc
 taken us ks (Some t) h n = (t, refl)
 
 -- the roles of a reading whose tokens are all inside, or all outside
-pub reads_span : {us : List Token} (e : Effect) {ss : List Symbol} {i j : ℕ} {vs ws : List Value} {rs : List Role} → Reads us ss i vs rs j ws → all_at e ss ≡ true → rs ≡ span e us i j
+pub reads_span : {us : List Token} (e : Effect) {ss : List Symbol} {i j : ℕ} {vs ws : List Value} {rs : List Role}
+    → Reads us ss i vs rs j ws
+    → all_at e ss ≡ true
+    → rs ≡ span e us i j
 reads_span {us} e (r_end {i = i}) h = sym (span_none e us i)
 reads_span {us} e {j = j} (r_match {ks = ks} {e = f} {ss = ss} {i = i} {rs = rs} q a) h =
     let n = take_home e f ks ss h in
@@ -274,5 +353,11 @@ reads_span {us} e (r_expand {p = p} {ss = ss} {i = i} way a b) h =
 reads_span e (r_act a) h = reads_span e a h
 
 -- the same of one nonterminal
-pub phrase_span : {us : List Token} (e : Effect) (p : Nonterminal) {ps : List Symbol} {i j : ℕ} {vs ws : List Value} {rs : List Role} → Among (candidates p (kind_at us i)) ps → Reads us ps i vs rs j ws → has_home e (home p) ≡ true → rs ≡ span e us i j
-phrase_span {us} e p {i = i} way a h = reads_span e a (each_among (all_at e) (way_among p (kind_at us i) way) (all_kept e p h))
+pub phrase_span :
+    {us : List Token} (e : Effect) (p : Nonterminal) {ps : List Symbol} {i j : ℕ} {vs ws : List Value} {rs : List Role}
+    → Among (candidates p (kind_at us i)) ps
+    → Reads us ps i vs rs j ws
+    → has_home e (home p) ≡ true
+    → rs ≡ span e us i j
+phrase_span {us} e p {i = i} way a h =
+    reads_span e a (each_among (all_at e) (way_among p (kind_at us i) way) (all_kept e p h))

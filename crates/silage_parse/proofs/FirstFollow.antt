@@ -1,16 +1,28 @@
 -- FIRST and FOLLOW of each nonterminal, and that the table is LL(1): the next token alone decides the production.
-use Rattle.std.proofs.Common.{◌≡◌, ℕ, ◌+◌, Bool, true, false, not, ◌&&◌, ◌||◌, if◌then◌else◌, nat_lt, List, [], ◌∷◌, ◌++◌, refl}
+use Rattle.std.proofs.Common.{◌≡◌, ℕ, ◌+◌, Bool, true, false, not, ◌&&◌, ◌||◌, if◌then◌else◌, nat_lt, List, [], ◌∷◌}
+use Rattle.std.proofs.Common.{◌++◌, refl}
 use Rattle.silage_lex.specs.declared.punctuation.TheConstants as punctuation
 use Rattle.silage_lex.specs.declared.keywords.TheConstants as keyword
 use Rattle.silage_syntax.specs.Grammar.{Level, Or, And, Sum, Product}
 use Rattle.silage_parse.specs.Private.ParseTable as the
-use Rattle.silage_parse.specs.Private.ParseTable.{Terminal, Punctuation, Keyword, AName, AWhole, APoint, End, Effect, Nonterminal, Source, Tops, Signed, Words, MoreWords, Dims, SecondDim, FixIn, Mode, Type_, Name_, MoreNames, Decl_, MoreDecls, Results, Locals, Manifest_, Terms, Term, Factors, Factor, ManifestPrimary, Subs, SecondSub, Delay, Chain, Rest, Comparison, CompareRest, Shift, Shifts, Unary, OtherUnary, AfterMinus, Primary, OtherPrimary, Arms, ArmEnd, TargetSubs, SecondTargetSub, Target, MoreTargets, Args, MoreArgs, Items_, Item_, AfterTarget, RightSide, AfterRightName, AfterOpenName, InitialValue, Symbol, Match, Expand, Act, productions, number, operators, comparisons}
+use Rattle.silage_parse.specs.Private.ParseTable.{Terminal, Punctuation, Keyword, AName, AWhole, APoint, End, Effect}
+use Rattle.silage_parse.specs.Private.ParseTable.{Nonterminal, Source, Tops, Signed, Words, MoreWords, Dims, SecondDim}
+use Rattle.silage_parse.specs.Private.ParseTable.{FixIn, Mode, Type_, Name_, MoreNames, Decl_, MoreDecls, Results}
+use Rattle.silage_parse.specs.Private.ParseTable.{Locals, Manifest_, Terms, Term, Factors, Factor, ManifestPrimary}
+use Rattle.silage_parse.specs.Private.ParseTable.{Subs, SecondSub, Delay, Chain, Rest, Comparison, CompareRest, Shift}
+use Rattle.silage_parse.specs.Private.ParseTable.{Shifts, Unary, OtherUnary, AfterMinus, Primary, OtherPrimary, Arms}
+use Rattle.silage_parse.specs.Private.ParseTable.{ArmEnd, TargetSubs, SecondTargetSub, Target, MoreTargets, Args}
+use Rattle.silage_parse.specs.Private.ParseTable.{MoreArgs, Items_, Item_, AfterTarget, RightSide, AfterRightName}
+use Rattle.silage_parse.specs.Private.ParseTable.{AfterOpenName, InitialValue, Symbol, Match, Expand, Act, productions}
+use Rattle.silage_parse.specs.Private.ParseTable.{number, operators, comparisons}
 use Rattle.silage_parse.specs.Private.Machine.{alternatives}
 use Rattle.silage_parse.proofs.Terminals.{has, within, apart}
 
 -- what an expression may begin with that is no sign and no name
 abbrev others : List Terminal
-others = AWhole ∷ APoint ∷ Keyword keyword.TRUE ∷ Keyword keyword.FALSE ∷ Keyword keyword.FIX ∷ Keyword keyword.IF ∷ Punctuation punctuation.LEFT_PAREN ∷ []
+others =
+    AWhole ∷ APoint ∷ Keyword keyword.TRUE ∷ Keyword keyword.FALSE ∷ Keyword keyword.FIX ∷ Keyword keyword.IF
+    ∷ Punctuation punctuation.LEFT_PAREN ∷ []
 
 abbrev signed : List Terminal
 signed = Punctuation punctuation.MINUS ∷ Punctuation punctuation.BANG ∷ others
@@ -26,7 +38,9 @@ shifts = Punctuation punctuation.LESS_LESS ∷ Punctuation punctuation.GREATER_G
 
 -- what may follow a whole expression, an operand of the loosest operators, and so on inwards
 abbrev ends : List Terminal
-ends = Punctuation punctuation.ARROW ∷ Punctuation punctuation.RIGHT_PAREN ∷ Punctuation punctuation.COMMA ∷ Punctuation punctuation.PIPE_PIPE ∷ Keyword keyword.FI ∷ Punctuation punctuation.SEMICOLON ∷ []
+ends =
+    Punctuation punctuation.ARROW ∷ Punctuation punctuation.RIGHT_PAREN ∷ Punctuation punctuation.COMMA
+    ∷ Punctuation punctuation.PIPE_PIPE ∷ Keyword keyword.FI ∷ Punctuation punctuation.SEMICOLON ∷ []
 
 abbrev after_comparison : List Terminal
 after_comparison = Punctuation punctuation.AMPERSAND ∷ Punctuation punctuation.PIPE ∷ ends
@@ -47,7 +61,8 @@ after_chain Sum = comparisons ++ after_comparison
 after_chain Product = after_product
 
 abbrev after_manifest : List Terminal
-after_manifest = Punctuation punctuation.RIGHT_PAREN ∷ Punctuation punctuation.RIGHT_BRACKET ∷ Punctuation punctuation.DOT_DOT ∷ []
+after_manifest =
+    Punctuation punctuation.RIGHT_PAREN ∷ Punctuation punctuation.RIGHT_BRACKET ∷ Punctuation punctuation.DOT_DOT ∷ []
 
 -- FIRST: the terminals with which a nonterminal may begin
 abbrev pub first_set : Nonterminal → List Terminal
@@ -99,8 +114,11 @@ first_set Items_ = AName ∷ Punctuation punctuation.LEFT_PAREN ∷ []
 first_set Item_ = AName ∷ Punctuation punctuation.LEFT_PAREN ∷ []
 first_set AfterTarget = Punctuation punctuation.AT_AT ∷ Punctuation punctuation.EQUAL ∷ []
 first_set RightSide = expressions
-first_set AfterRightName = Punctuation punctuation.LEFT_PAREN ∷ Punctuation punctuation.LEFT_BRACKET ∷ Punctuation punctuation.AT ∷ after_unary
-first_set AfterOpenName = Punctuation punctuation.COLON ∷ Punctuation punctuation.LEFT_BRACKET ∷ Punctuation punctuation.COMMA ∷ Punctuation punctuation.RIGHT_PAREN ∷ []
+first_set AfterRightName =
+    Punctuation punctuation.LEFT_PAREN ∷ Punctuation punctuation.LEFT_BRACKET ∷ Punctuation punctuation.AT ∷ after_unary
+first_set AfterOpenName =
+    Punctuation punctuation.COLON ∷ Punctuation punctuation.LEFT_BRACKET ∷ Punctuation punctuation.COMMA
+    ∷ Punctuation punctuation.RIGHT_PAREN ∷ []
 first_set InitialValue = Keyword keyword.TRUE ∷ Keyword keyword.FALSE ∷ Punctuation punctuation.MINUS ∷ number
 
 -- whether a nonterminal may be empty
@@ -131,17 +149,25 @@ nullable _ = false
 abbrev pub follow_set : Nonterminal → List Terminal
 follow_set Source = []
 follow_set Tops = End ∷ []
-follow_set Signed = Punctuation punctuation.RIGHT_PAREN ∷ Punctuation punctuation.COMMA ∷ Punctuation punctuation.SEMICOLON ∷ []
+follow_set Signed =
+    Punctuation punctuation.RIGHT_PAREN ∷ Punctuation punctuation.COMMA ∷ Punctuation punctuation.SEMICOLON ∷ []
 follow_set Words = Punctuation punctuation.SEMICOLON ∷ []
 follow_set MoreWords = Punctuation punctuation.RIGHT_PAREN ∷ []
 follow_set Dims = Punctuation punctuation.COLON ∷ Punctuation punctuation.COMMA ∷ []
 follow_set SecondDim = Punctuation punctuation.COLON ∷ Punctuation punctuation.COMMA ∷ []
-follow_set (FixIn e) = Punctuation punctuation.RIGHT_PAREN ∷ Punctuation punctuation.COMMA ∷ Punctuation punctuation.EQUAL ∷ Punctuation punctuation.LEFT_PAREN ∷ Punctuation punctuation.SEMICOLON ∷ []
-follow_set (Mode e) = Punctuation punctuation.RIGHT_PAREN ∷ Punctuation punctuation.COMMA ∷ Punctuation punctuation.EQUAL ∷ Punctuation punctuation.LEFT_PAREN ∷ Punctuation punctuation.SEMICOLON ∷ []
-follow_set Type_ = Punctuation punctuation.RIGHT_PAREN ∷ Punctuation punctuation.COMMA ∷ Punctuation punctuation.EQUAL ∷ Punctuation punctuation.SEMICOLON ∷ []
+follow_set (FixIn e) =
+    Punctuation punctuation.RIGHT_PAREN ∷ Punctuation punctuation.COMMA ∷ Punctuation punctuation.EQUAL
+    ∷ Punctuation punctuation.LEFT_PAREN ∷ Punctuation punctuation.SEMICOLON ∷ []
+follow_set (Mode e) =
+    Punctuation punctuation.RIGHT_PAREN ∷ Punctuation punctuation.COMMA ∷ Punctuation punctuation.EQUAL
+    ∷ Punctuation punctuation.LEFT_PAREN ∷ Punctuation punctuation.SEMICOLON ∷ []
+follow_set Type_ =
+    Punctuation punctuation.RIGHT_PAREN ∷ Punctuation punctuation.COMMA ∷ Punctuation punctuation.EQUAL
+    ∷ Punctuation punctuation.SEMICOLON ∷ []
 follow_set Name_ = Punctuation punctuation.COLON ∷ Punctuation punctuation.COMMA ∷ []
 follow_set MoreNames = Punctuation punctuation.COLON ∷ []
-follow_set Decl_ = Punctuation punctuation.RIGHT_PAREN ∷ Punctuation punctuation.COMMA ∷ Punctuation punctuation.EQUAL ∷ []
+follow_set Decl_ =
+    Punctuation punctuation.RIGHT_PAREN ∷ Punctuation punctuation.COMMA ∷ Punctuation punctuation.EQUAL ∷ []
 follow_set MoreDecls = Punctuation punctuation.RIGHT_PAREN ∷ []
 follow_set Results = Punctuation punctuation.EQUAL ∷ []
 follow_set Locals = AName ∷ Keyword keyword.END ∷ Punctuation punctuation.LEFT_PAREN ∷ []
@@ -150,7 +176,9 @@ follow_set Terms = after_manifest
 follow_set Term = operators Sum ++ after_manifest
 follow_set Factors = operators Sum ++ after_manifest
 follow_set Factor = Punctuation punctuation.STAR ∷ operators Sum ++ after_manifest
-follow_set ManifestPrimary = Punctuation punctuation.RIGHT_BRACKET ∷ Punctuation punctuation.DOT_DOT ∷ Punctuation punctuation.EQUAL ∷ after_unary
+follow_set ManifestPrimary =
+    Punctuation punctuation.RIGHT_BRACKET ∷ Punctuation punctuation.DOT_DOT ∷ Punctuation punctuation.EQUAL
+    ∷ after_unary
 follow_set Subs = Punctuation punctuation.AT ∷ after_unary
 follow_set SecondSub = Punctuation punctuation.AT ∷ after_unary
 follow_set Delay = after_unary
@@ -167,9 +195,15 @@ follow_set Primary = after_unary
 follow_set OtherPrimary = after_unary
 follow_set Arms = after_unary
 follow_set ArmEnd = after_unary
-follow_set TargetSubs = Punctuation punctuation.RIGHT_PAREN ∷ Punctuation punctuation.COMMA ∷ Punctuation punctuation.EQUAL ∷ Punctuation punctuation.AT_AT ∷ []
-follow_set SecondTargetSub = Punctuation punctuation.RIGHT_PAREN ∷ Punctuation punctuation.COMMA ∷ Punctuation punctuation.EQUAL ∷ Punctuation punctuation.AT_AT ∷ []
-follow_set Target = Punctuation punctuation.RIGHT_PAREN ∷ Punctuation punctuation.COMMA ∷ Punctuation punctuation.EQUAL ∷ Punctuation punctuation.AT_AT ∷ []
+follow_set TargetSubs =
+    Punctuation punctuation.RIGHT_PAREN ∷ Punctuation punctuation.COMMA ∷ Punctuation punctuation.EQUAL
+    ∷ Punctuation punctuation.AT_AT ∷ []
+follow_set SecondTargetSub =
+    Punctuation punctuation.RIGHT_PAREN ∷ Punctuation punctuation.COMMA ∷ Punctuation punctuation.EQUAL
+    ∷ Punctuation punctuation.AT_AT ∷ []
+follow_set Target =
+    Punctuation punctuation.RIGHT_PAREN ∷ Punctuation punctuation.COMMA ∷ Punctuation punctuation.EQUAL
+    ∷ Punctuation punctuation.AT_AT ∷ []
 follow_set MoreTargets = Punctuation punctuation.RIGHT_PAREN ∷ []
 follow_set Args = Punctuation punctuation.RIGHT_PAREN ∷ []
 follow_set MoreArgs = Punctuation punctuation.RIGHT_PAREN ∷ []

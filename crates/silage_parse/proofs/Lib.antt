@@ -7,6 +7,7 @@ pub mod CompleteExpressions
 pub mod CompleteItems
 pub mod CompletePrograms
 pub mod SoundSteps
+pub mod SoundLists
 pub mod SoundManifests
 pub mod SoundTypes
 pub mod SoundExpressions

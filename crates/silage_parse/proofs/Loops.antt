@@ -15,11 +15,20 @@ use Rattle.silage_parse.specs.Private.ParseTable.{Punctuation, Keyword, Effect, 
 use Rattle.silage_parse.specs.Private.Parsed.{Matches, Passes, ReadsBlockEnd, block_end}
 use Rattle.silage_parse.proofs.Steps.{start, matches, stops_at}
 
-pub loop_made : (index : List ℕ) {name : List ℕ} (lo hi : Manifest) (v : Vec Item Global) {xs : List Item} (at : ℕ) {from : ℕ} → v.items ≡ xs → name ≡ index → from ≡ at → view_item (Loop index lo hi v at) ≡ loop name (view_manifest lo) (view_manifest hi) (items_of (map view_item xs)) from
+pub loop_made :
+    (index : List ℕ) {name : List ℕ} (lo hi : Manifest) (v : Vec Item Global) {xs : List Item} (at : ℕ) {from : ℕ}
+    → v.items ≡ xs
+    → name ≡ index
+    → from ≡ at
+    → view_item (Loop index lo hi v at)
+    ≡ loop name (view_manifest lo) (view_manifest hi) (items_of (map view_item xs)) from
 loop_made index lo hi v at same named where_ = view_Loop index lo hi v at ∙ rw (same, named, where_) refl
 
 -- a `;` after the `end` of a block is the end of the block
-pub block_ended : {from mid : Parser} (e : Effect) (to : Parser) (r : Result Unit ParseFault) → Matches (Keyword keyword.END ∷ []) e from mid
-    → Passes (Punctuation punctuation.SEMICOLON ∷ []) Outside mid to r → ReadsBlockEnd e from to r
-block_ended {from} e to (Ok x) closed ended = (closed.token, ended.token, matches (matches (start (block_end e) from []) closed) ended)
+pub block_ended : {from mid : Parser} (e : Effect) (to : Parser) (r : Result Unit ParseFault)
+    → Matches (Keyword keyword.END ∷ []) e from mid
+    → Passes (Punctuation punctuation.SEMICOLON ∷ []) Outside mid to r
+    → ReadsBlockEnd e from to r
+block_ended {from} e to (Ok x) closed ended =
+    (closed.token, ended.token, matches (matches (start (block_end e) from []) closed) ended)
 block_ended {from} e to (Err f) closed stop = stops_at f (matches (start (block_end e) from []) closed) stop

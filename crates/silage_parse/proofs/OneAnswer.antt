@@ -21,7 +21,8 @@ begins_less ts j k le b = record {
 
 -- a program begins with as many of its tokens as one likes
 begins_program : (ts : List Token) (p : Program) (k : ℕ) → k ≤ length ts → Derives ts p → Begins ts k
-begins_program ts p k le d = record { all = ts; program = p; roles = d.0; long = le; agrees = λ m lt. refl; derives = d.1 }
+begins_program ts p k le d =
+    record { all = ts; program = p; roles = d.0; long = le; agrees = λ m lt. refl; derives = d.1 }
 
 pub program_no_syntax : (ts : List Token) (p : Program) (k : ℕ) → Derives ts p → IsSyntax ts k → ⊥
 program_no_syntax ts p k d s =
@@ -38,7 +39,8 @@ syntax_deep ts k m s none d =
     ]
 
 not_earlier : (ts : List Token) (k m : ℕ) → IsSyntax ts k → IsSyntax ts m → k < m → ⊥
-not_earlier ts k m s t lt = let within = t.within in s.ends (omega arith) (begins_less ts (k + 1) m (omega arith) t.begins)
+not_earlier ts k m s t lt =
+    let within = t.within in s.ends (omega arith) (begins_less ts (k + 1) m (omega arith) t.begins)
 
 pub one_fault : (ts : List Token) (f g : ParseFault) → HasFault ts f → HasFault ts g → f ≡ g
 one_fault ts (Syntax k) (Syntax m) a b =

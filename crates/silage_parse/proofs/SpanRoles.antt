@@ -1,5 +1,6 @@
 -- The roles of the tokens inside an expression, and outside of any: one token more, and two stretches in a row.
-use Rattle.std.proofs.Common.{◌≡◌, ℕ, zero, suc, ◌+◌, ◌-◌, ◌≤◌, List, [], ◌∷◌, ◌++◌, map, drop, Some, slice_get, refl, ap, ◌∙◌, arith, drop-drop, take-add}
+use Rattle.std.proofs.Common.{◌≡◌, ℕ, zero, suc, ◌+◌, ◌-◌, ◌≤◌, List, [], ◌∷◌, ◌++◌, map, drop, Some, slice_get, refl}
+use Rattle.std.proofs.Common.{ap, ◌∙◌, arith, drop-drop, take-add}
 use Rattle.std.specs.List.{range_with_len}
 use Rattle.silage_lex.specs.declared.Token.{Token}
 use Rattle.silage_syntax.specs.Grammar.{Role, Plain, weight_role, weights, plain}
@@ -15,9 +16,13 @@ weights_none ts i = let e : i - i ≡ 0 = omega arith in rw e refl
 drop_first : (ts : List Token) (i : ℕ) {t : Token} → slice_get ts i ≡ Some t → drop i ts ≡ t ∷ drop (i + 1) ts
 drop_first [] i h = cc
 drop_first (x ∷ xs) zero h = cc
-drop_first (x ∷ xs) (suc i) {t = t} h = let e : suc (i + 1) ≡ suc i + 1 = omega arith in drop_first xs i h ∙ ap (λ (n : ℕ). t ∷ drop n (x ∷ xs)) e
+drop_first (x ∷ xs) (suc i) {t = t} h =
+    let e : suc (i + 1) ≡ suc i + 1 = omega arith in drop_first xs i h ∙ ap (λ (n : ℕ). t ∷ drop n (x ∷ xs)) e
 
-pub weights_more : (ts : List Token) (i j : ℕ) {t : Token} → slice_get ts i ≡ Some t → i + 1 ≤ j → weights ts i j ≡ weight_role t ∷ weights ts (i + 1) j
+pub weights_more : (ts : List Token) (i j : ℕ) {t : Token}
+    → slice_get ts i ≡ Some t
+    → i + 1 ≤ j
+    → weights ts i j ≡ weight_role t ∷ weights ts (i + 1) j
 weights_more ts i j {t} h w =
     let e : j - i ≡ suc (j - (i + 1)) = omega arith in
     rw (drop_first ts i h, e) refl

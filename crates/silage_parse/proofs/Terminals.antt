@@ -1,9 +1,11 @@
 -- Sets of terminals as lists, and the one terminal that a token is.
-use Rattle.std.proofs.Common.{◌≡◌, Bool, true, false, not, ◌&&◌, ◌||◌, List, [], ◌∷◌, ◌++◌, Option, Some, None, nat_eq, inl, inr, ◌⊎◌, refl, sym, ap, ap₂, ◌∙◌}
+use Rattle.std.proofs.Common.{◌≡◌, Bool, true, false, not, ◌&&◌, ◌||◌, List, [], ◌∷◌, ◌++◌, Option, Some, None, nat_eq}
+use Rattle.std.proofs.Common.{inl, inr, ◌⊎◌, refl, sym, ap, ap₂, ◌∙◌}
 use Rattle.std.proofs.lemmas.Bool.{and_parts, or_cases, or_left, or_right, or_from, not-true, eqb-true}
 use Rattle.silage_lex.specs.declared.TokenKind.{TokenKind}
 use Rattle.silage_lex.specs.declared.TokenKind.TheVariants as kind
-use Rattle.silage_parse.specs.Private.ParseTable.{Terminal, Punctuation, Keyword, AName, AWhole, APoint, End, is, is_one}
+use Rattle.silage_parse.specs.Private.ParseTable.{Terminal, Punctuation, Keyword, AName, AWhole, APoint, End, is}
+use Rattle.silage_parse.specs.Private.ParseTable.{is_one}
 
 abbrev pub terminal_of : Option TokenKind → Terminal
 terminal_of (Some (kind.Symbol n)) = Punctuation n
@@ -65,7 +67,9 @@ pub has_right : (xs ys : List Terminal) (t : Terminal) → has ys t ≡ true →
 has_right [] ys t h = h
 has_right (x ∷ xs) ys t h = or_right (same x t) (has (xs ++ ys) t) (has_right xs ys t h)
 
-pub has_either : (xs ys : List Terminal) (t : Terminal) → has (xs ++ ys) t ≡ true → (has xs t ≡ true) ⊎ (has ys t ≡ true)
+pub has_either : (xs ys : List Terminal) (t : Terminal)
+    → has (xs ++ ys) t ≡ true
+    → (has xs t ≡ true) ⊎ (has ys t ≡ true)
 has_either [] ys t h = inr h
 has_either (x ∷ xs) ys t h =
     elim (or_cases (same x t) (has (xs ++ ys) t) h) [

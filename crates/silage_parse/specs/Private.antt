@@ -1,4 +1,5 @@
 pub mod ParseTable
 pub mod Machine
+pub mod CommaLists
 pub mod Parsed
 pub mod Precedence

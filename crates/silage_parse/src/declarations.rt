@@ -2,11 +2,14 @@
 
 ghost use Rattle.std.specs.Prelude.{◌<◌, ◌≡◌, [], ◌∷◌, ◌++◌, map, OnOk};
 ghost use Rattle.silage_syntax.specs.Grammar.{dim as the_dim, typed as typed_decl};
-ghost use Rattle.silage_parse.specs.Private.ParseTable.{Expand, MoreDecls, MoreWords, MoreNames, Dims, Name_, Type_, Decl_, Results, Signed, Words};
+ghost use Rattle.silage_parse.specs.Private.ParseTable.{Dims, Name_, Type_, Decl_, Signed};
 ghost use Rattle.silage_parse.specs.Private.ParseTable as the;
-ghost use Rattle.silage_parse.specs.Private.Parsed.{IsParsed, IsRead, ReadsBetween, ReadsDim, decls_in_parentheses, words_in_parentheses, type_in_line, local_line, declared_value, declared_values, view_declared, name_list, decl_list, word_list, local_lines};
+ghost use Rattle.silage_parse.specs.Private.CommaLists as comma;
+ghost use Rattle.silage_parse.specs.Private.CommaLists.{viewed};
+ghost use Rattle.silage_parse.specs.Private.Parsed.{IsParsed, IsRead, ReadsBetween, ReadsDim, type_in_line, local_line, declared_value, view_declared, local_lines};
 
 use crate::ParseFault;
+use crate::comma_lists::Element;
 use crate::parser::{Effect, Parser};
 use fix_word::SigType;
 use lists::{List, Name};
@@ -29,6 +32,30 @@ impl Declared {
     {
         let Declared { name, at, dims } = self;
         Decl { name, at, dims, ty }
+    }
+}
+
+impl Element for Declared {
+    ghost listed = { viewed view_declared comma.names };
+
+    fn read(parser: &mut Parser<'_>) -> Result<Declared, ParseFault> {
+        parser.declared_name()
+    }
+}
+
+impl Element for Decl {
+    ghost listed = { comma.decls };
+
+    fn read(parser: &mut Parser<'_>) -> Result<Decl, ParseFault> {
+        parser.decl()
+    }
+}
+
+impl Element for Lit {
+    ghost listed = { comma.words };
+
+    fn read(parser: &mut Parser<'_>) -> Result<Lit, ParseFault> {
+        parser.signed()
     }
 }
 
@@ -107,72 +134,6 @@ impl Parser<'_> {
         Ok(declared.typed(ty))
     }
 
-    /// Reads declared names with commas between them.
-    fn declared_names(&mut self) -> Result<List<Declared>, ParseFault>
-        ensures { IsRead name_list self.old [] (λ xs. declared_values xs ∷ []) self.new result }
-    {
-        let mut list = List::new(self.alloc);
-        list.push(self.declared_name()?)?;
-        self.more_names(&mut list)?;
-        Ok(list)
-    }
-
-    /// Reads the declared names after the first one onto `list`.
-    fn more_names(&mut self, list: &mut List<Declared>) -> Result<(), ParseFault>
-        ensures { IsRead (Expand MoreNames ∷ []) self.old (declared_values list.old ∷ [])
-            (λ x. declared_values list.new ∷ []) self.new result }
-    {
-        'more: while self.is_symbol(punctuation::COMMA) {
-            self.advance(Effect::Outside)?;
-            list.push(self.declared_name()?)?;
-        }
-        Ok(())
-    }
-
-    /// Reads declarations with commas between them.
-    fn decls(&mut self) -> Result<List<Decl>, ParseFault>
-        ensures { IsRead decl_list self.old [] (λ xs. the.decls xs ∷ []) self.new result }
-    {
-        let mut list = List::new(self.alloc);
-        list.push(self.decl()?)?;
-        self.more_decls(&mut list)?;
-        Ok(list)
-    }
-
-    /// Reads the declarations after the first one onto `list`.
-    fn more_decls(&mut self, list: &mut List<Decl>) -> Result<(), ParseFault>
-        ensures { IsRead (Expand MoreDecls ∷ []) self.old (the.decls list.old ∷ [])
-            (λ x. the.decls list.new ∷ []) self.new result }
-    {
-        'more: while self.is_symbol(punctuation::COMMA) {
-            self.advance(Effect::Outside)?;
-            list.push(self.decl()?)?;
-        }
-        Ok(())
-    }
-
-    /// Reads declarations in parentheses.
-    pub fn decls_in_parentheses(&mut self) -> Result<List<Decl>, ParseFault>
-        ensures { ReadsBetween decls_in_parentheses (λ ds. the.decls ds) self.old self.new result }
-    {
-        self.expect_symbol(punctuation::LEFT_PAREN, Effect::Outside)?;
-        let list = self.decls()?;
-        self.expect_symbol(punctuation::RIGHT_PAREN, Effect::Outside)?;
-        Ok(list)
-    }
-
-    /// Reads the results of a function: one declaration, or some in parentheses.
-    pub fn results(&mut self) -> Result<List<Decl>, ParseFault>
-        ensures { IsParsed Results self.old (λ ds. the.decls ds) self.new result }
-    {
-        if self.is_symbol(punctuation::LEFT_PAREN) {
-            return self.decls_in_parentheses();
-        }
-        let mut list = List::new(self.alloc);
-        list.push(self.decl()?)?;
-        Ok(list)
-    }
-
     /// Reads the lines of locals, `var` and names of one type each.
     pub fn locals(&mut self) -> Result<List<Decl>, ParseFault>
         ensures { IsRead local_lines self.old [] (λ ds. the.decls ds ∷ []) self.new result }
@@ -191,7 +152,7 @@ impl Parser<'_> {
         ensures advances { OnOk result (self.old.at < self.new.at) }
     {
         self.expect_reserved(keywords::VAR, Effect::Outside)?;
-        let names = self.declared_names()?;
+        let names = self.list(Effect::Outside)?;
         let ty = self.type_in_line()?;
         add_typed(list, names, ty)?;
         Ok(())
@@ -231,49 +192,5 @@ impl Parser<'_> {
             places,
             at,
         })
-    }
-
-    /// Reads numbers with commas between them.
-    fn numbers(&mut self) -> Result<List<Lit>, ParseFault>
-        ensures { IsRead word_list self.old [] (λ xs. the.lits xs ∷ []) self.new result }
-    {
-        let mut list = List::new(self.alloc);
-        list.push(self.signed()?)?;
-        self.more_numbers(&mut list)?;
-        Ok(list)
-    }
-
-    /// Reads the numbers after the first one onto `list`.
-    fn more_numbers(&mut self, list: &mut List<Lit>) -> Result<(), ParseFault>
-        ensures { IsRead (Expand MoreWords ∷ []) self.old (the.lits list.old ∷ [])
-            (λ x. the.lits list.new ∷ []) self.new result }
-    {
-        'more: while self.is_symbol(punctuation::COMMA) {
-            self.advance(Effect::Outside)?;
-            list.push(self.signed()?)?;
-        }
-        Ok(())
-    }
-
-    /// Reads numbers in parentheses.
-    fn numbers_in_parentheses(&mut self) -> Result<List<Lit>, ParseFault>
-        ensures { ReadsBetween words_in_parentheses (λ ls. the.lits ls) self.old self.new result }
-    {
-        self.expect_symbol(punctuation::LEFT_PAREN, Effect::Outside)?;
-        let list = self.numbers()?;
-        self.expect_symbol(punctuation::RIGHT_PAREN, Effect::Outside)?;
-        Ok(list)
-    }
-
-    /// Reads the numbers of a table: one, or some in parentheses.
-    pub fn words(&mut self) -> Result<List<Lit>, ParseFault>
-        ensures { IsParsed Words self.old (λ ls. the.lits ls) self.new result }
-    {
-        if self.is_symbol(punctuation::LEFT_PAREN) {
-            return self.numbers_in_parentheses();
-        }
-        let mut list = List::new(self.alloc);
-        list.push(self.signed()?)?;
-        Ok(list)
     }
 }

@@ -3,16 +3,36 @@
 ghost use Rattle.std.specs.Prelude.{◌≡◌, ◌+◌, ◌<◌, [], ◌∷◌, true, false, length, IsTrue, OnOk};
 ghost use Rattle.silage_lex.specs.declared.Token.{Token as AToken};
 ghost use Rattle.silage_lex.specs.declared.punctuation.TheConstants as punctuation;
-ghost use Rattle.silage_parse.specs.Private.ParseTable.{MoreTargets, MoreArgs, AName, Punctuation, is_one, Args, Target, InitialValue, RightSide, AfterTarget, Item_, Expand};
+ghost use Rattle.silage_parse.specs.Private.ParseTable.{AName, Punctuation, is_one, Target, InitialValue, RightSide, AfterTarget, Item_, Expand};
 ghost use Rattle.silage_parse.specs.Private.ParseTable as the;
-ghost use Rattle.silage_parse.specs.Private.Parsed.{effect as effect_of, ReadsBlockEnd, ReadsLoopBody, next, later, IsParsed, IsRead, ReadsCallEnd, ReadsInitial, ReadsEquationEnd, ReadsUpperBound, ReadsBounds, is_called, place_value, place_values, expr_values, item_value, item_values, place_list, item_list, after_open};
+ghost use Rattle.silage_syntax.specs.Tree.{view_place, view_expr};
+ghost use Rattle.silage_parse.specs.Private.CommaLists as comma;
+ghost use Rattle.silage_parse.specs.Private.CommaLists.{viewed};
+ghost use Rattle.silage_parse.specs.Private.Parsed.{effect as effect_of, ReadsBlockEnd, ReadsLoopBody, next, later, IsParsed, IsRead, ReadsCallEnd, ReadsInitial, ReadsEquationEnd, ReadsUpperBound, ReadsBounds, is_called, place_value, item_value, item_values, item_list, after_open};
 
 use crate::ParseFault;
+use crate::comma_lists::Element;
 use crate::parser::{Effect, Parser};
 use lists::List;
 use silage_lex::{TokenKind, keywords, punctuation};
 use silage_syntax::{Expr, Item, Lit, Manifest, Place};
 use std::alloc::{AllocError, AllocFailed};
+
+impl Element for Place {
+    ghost listed = { viewed view_place comma.places };
+
+    fn read(parser: &mut Parser<'_>) -> Result<Place, ParseFault> {
+        parser.target()
+    }
+}
+
+impl Element for Expr {
+    ghost listed = { viewed view_expr comma.arguments };
+
+    fn read(parser: &mut Parser<'_>) -> Result<Expr, ParseFault> {
+        parser.expression()
+    }
+}
 
 impl Parser<'_> {
     /// Reads a place on the left.
@@ -26,56 +46,12 @@ impl Parser<'_> {
         Ok(Place { name, at, subs })
     }
 
-    /// Reads places on the left with commas between them.
-    fn targets(&mut self) -> Result<List<Place>, ParseFault>
-        ensures { IsRead place_list self.old [] (λ ps. place_values ps ∷ []) self.new result }
-    {
-        let mut list = List::new(self.alloc);
-        list.push(self.target()?)?;
-        self.more_targets(&mut list)?;
-        Ok(list)
-    }
-
-    /// Reads the places on the left after the first one onto `list`.
-    fn more_targets(&mut self, list: &mut List<Place>) -> Result<(), ParseFault>
-        ensures { IsRead (Expand MoreTargets ∷ []) self.old (place_values list.old ∷ [])
-            (λ x. place_values list.new ∷ []) self.new result }
-    {
-        'more: while self.is_symbol(punctuation::COMMA) {
-            self.advance(Effect::Outside)?;
-            list.push(self.target()?)?;
-        }
-        Ok(())
-    }
-
-    /// Reads the arguments of a call, with commas between them.
-    fn arguments(&mut self) -> Result<List<Expr>, ParseFault>
-        ensures { IsRead (Expand Args ∷ []) self.old [] (λ es. expr_values es ∷ []) self.new result }
-    {
-        let mut list = List::new(self.alloc);
-        list.push(self.expression()?)?;
-        self.more_arguments(&mut list)?;
-        Ok(list)
-    }
-
-    /// Reads the arguments after the first one onto `list`.
-    fn more_arguments(&mut self, list: &mut List<Expr>) -> Result<(), ParseFault>
-        ensures { IsRead (Expand MoreArgs ∷ []) self.old (expr_values list.old ∷ [])
-            (λ x. expr_values list.new ∷ []) self.new result }
-    {
-        'more: while self.is_symbol(punctuation::COMMA) {
-            self.advance(Effect::Begins)?;
-            list.push(self.expression()?)?;
-        }
-        Ok(())
-    }
-
     /// Reads the end of a call after the name of its function: the arguments in parentheses, and `;`.
     fn call_end(&mut self) -> Result<List<Expr>, ParseFault>
         ensures { ReadsCallEnd self.old self.new result }
     {
         self.expect_symbol(punctuation::LEFT_PAREN, Effect::Begins)?;
-        let args = self.arguments()?;
+        let args = self.list(Effect::Begins)?;
         self.expect_symbol(punctuation::RIGHT_PAREN, Effect::Outside)?;
         self.expect_symbol(punctuation::SEMICOLON, Effect::Outside)?;
         Ok(args)
@@ -162,7 +138,7 @@ impl Parser<'_> {
         ensures { (t : AToken) → IsRead after_open self.old (the.token t ∷ [])
             (λ x. item_value x ∷ []) self.new result }
     {
-        let places = self.targets()?;
+        let places = self.list(Effect::Outside)?;
         self.expect_symbol(punctuation::RIGHT_PAREN, Effect::Outside)?;
         self.expect_symbol(punctuation::EQUAL, Effect::Outside)?;
         let at = self.start();

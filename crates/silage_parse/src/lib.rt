@@ -1,6 +1,7 @@
 //! Which program the tokens of a source are.
 #![tactic(auto)]
 
+mod comma_lists;
 mod declarations;
 mod expressions;
 mod items;

@@ -49,7 +49,7 @@ impl Parser<'_> {
         self.expect_symbol(punctuation::COLON, Effect::Outside)?;
         let ty = self.fix_type(Effect::Outside)?;
         self.expect_symbol(punctuation::EQUAL, Effect::Outside)?;
-        let words = self.words()?;
+        let words = self.one_or_list()?;
         self.expect_symbol(punctuation::SEMICOLON, Effect::Outside)?;
         Ok((ty, words))
     }
@@ -84,8 +84,8 @@ impl Parser<'_> {
     {
         let at = self.start();
         let name = self.name(Effect::Outside)?;
-        let params = self.decls_in_parentheses()?;
-        let results = self.results()?;
+        let params = self.list_in_parentheses()?;
+        let results = self.one_or_list()?;
         Ok(Head {
             name,
             at,

@@ -13,8 +13,13 @@ use Rattle.silage_lex.specs.declared.keywords.TheConstants as keyword
 use Rattle.silage_syntax.specs.declared.tree.Lit.{Lit}
 use Rattle.silage_syntax.specs.declared.tree.Lit.TheVariants.{Number, Truth}
 use Rattle.silage_syntax.specs.declared.tree.Decl.{Decl}
-use Rattle.silage_syntax.specs.Tree.{Manifest, whole, counter, minus, both, Place, Expr, literal, read, negate, not, binary, shift, cast, choose, Branches, no_branch, branch, Item, equation, call, loop, initial, Items, no_item, item, Top, table, function}
-use Rattle.silage_print.specs.Text.{word, enclosed, listed, after_comma, bracketed, subscript_text, truth_word, lit_text, mode_word, fix_text, type_text, dims_text, decl_text, manifest_text, place_text, delay_text, expr_text, branches_text, clause_text, call_text, turns_text, items_text, local_text, top_text}
+use Rattle.silage_syntax.specs.Tree.{Manifest, whole, counter, minus, both, Place, Expr, literal, read, negate, not}
+use Rattle.silage_syntax.specs.Tree.{binary, shift, cast, choose, Branches, no_branch, branch, Item, equation, call}
+use Rattle.silage_syntax.specs.Tree.{loop, initial, Items, no_item, item, Top, table, function}
+use Rattle.silage_print.specs.Text.{word, enclosed, listed, after_comma, bracketed, subscript_text, truth_word}
+use Rattle.silage_print.specs.Text.{lit_text, mode_word, fix_text, type_text, dims_text, decl_text, manifest_text}
+use Rattle.silage_print.specs.Text.{place_text, delay_text, expr_text, branches_text, clause_text, call_text}
+use Rattle.silage_print.specs.Text.{turns_text, items_text, local_text, top_text}
 use Rattle.silage_print.proofs.KindsAt.{Each, no_kind, one_kind, joined}
 use Rattle.silage_print.proofs.Weights.{total}
 use Rattle.silage_print.proofs.TopWeights.{IsQuiet}
@@ -88,7 +93,11 @@ in_bracketed : {ks : List TokenKind} → Each IsInner ks → Each IsInner (brack
 in_bracketed h = one_kind refl (joined h (one_kind refl no_kind))
 
 in_fix : (ty : FixType) → Each IsInner (fix_text ty)
-in_fix ty = one_kind refl (one_kind refl (one_kind refl (one_kind refl (one_kind refl (one_kind refl (one_kind (mode_quiet ty.mode) (one_kind refl no_kind)))))))
+in_fix ty =
+    one_kind refl
+    (one_kind refl
+    (one_kind refl
+    (one_kind refl (one_kind refl (one_kind refl (one_kind (mode_quiet ty.mode) (one_kind refl no_kind)))))))
 
 in_type : (ty : SigType) → Each IsInner (type_text ty)
 in_type (Fix ty) = in_fix ty
@@ -135,14 +144,19 @@ in_call : (f : List ℕ) (es : List Expr) → Each IsInner (call_text f es)
 in_call f es = one_kind refl (one_kind refl (joined (in_list expr_text in_expr es) (one_kind refl no_kind)))
 
 in_turns : (index : List ℕ) (lo hi : Manifest) → Each IsInner (turns_text index lo hi)
-in_turns index lo hi = one_kind refl (one_kind refl (one_kind refl (joined (joined (in_manifest lo) (one_kind refl (in_manifest hi))) (one_kind refl no_kind))))
+in_turns index lo hi =
+    one_kind refl
+    (one_kind refl
+    (one_kind refl (joined (joined (in_manifest lo) (one_kind refl (in_manifest hi))) (one_kind refl no_kind))))
 
 mutual
   in_clause : (x : Item) → Each IsInner (clause_text x)
   in_clause (equation p e) = joined (in_place p) (one_kind refl (in_expr e))
   in_clause (call ps f es at) = joined (around _ (in_list place_text in_place ps)) (one_kind refl (in_call f es))
-  in_clause (loop index lo hi xs at) = joined (joined (in_turns index lo hi) (one_kind refl (one_kind refl (in_items xs)))) (one_kind refl no_kind)
-  in_clause (initial p k l) = joined (joined (in_place p) (one_kind refl (around _ (in_manifest k)))) (one_kind refl (in_literal l))
+  in_clause (loop index lo hi xs at) =
+      joined (joined (in_turns index lo hi) (one_kind refl (one_kind refl (in_items xs)))) (one_kind refl no_kind)
+  in_clause (initial p k l) =
+      joined (joined (in_place p) (one_kind refl (around _ (in_manifest k)))) (one_kind refl (in_literal l))
 
   in_items : (xs : Items) → Each IsInner (items_text xs)
   in_items no_item = no_kind
@@ -157,12 +171,20 @@ pub record IsHeaded (ks : List TokenKind) : Type 0 where
   pub one : total heads ks ≡ 1
 
 headed : (k : TokenKind) {ks : List TokenKind} → heads k ≡ 1 → Each IsInner ks → IsHeaded (k ∷ ks)
-headed k {ks} h n = record { first = k; rest = ks; is = refl; head = h; one = let rest = no_heads n in omega (arith, h, rest) }
+headed k {ks} h n =
+    record { first = k; rest = ks; is = refl; head = h; one = let rest = no_heads n in omega (arith, h, rest) }
 
 pub top_headed : (t : Top) → IsHeaded (top_text t)
 top_headed (table c) =
     headed (word keyword.CONST) refl
-    (joined (joined (joined (one_kind refl (in_dims c.dims)) (one_kind refl (in_fix c.ty))) (one_kind refl (around _ (in_list lit_text in_literal c.words)))) (one_kind refl no_kind))
+    (joined (joined (joined (one_kind refl (in_dims c.dims)) (one_kind refl (in_fix c.ty)))
+    (one_kind refl (around _ (in_list lit_text in_literal c.words))))
+    (one_kind refl no_kind))
 top_headed (function f) =
     headed (word keyword.FUNC) refl
-    (joined (joined (one_kind refl (around true (in_list decl_text in_decl f.params))) (around _ (in_list decl_text in_decl f.results))) (one_kind refl (one_kind refl (joined (joined (in_all local_text in_local f.locals) (in_items f.items)) (one_kind refl (one_kind refl no_kind))))))
+    (joined (joined (one_kind refl (around true (in_list decl_text in_decl f.params)))
+    (around _ (in_list decl_text in_decl f.results)))
+    (one_kind refl
+    (one_kind refl
+    (joined (joined (in_all local_text in_local f.locals) (in_items f.items))
+    (one_kind refl (one_kind refl no_kind))))))

@@ -11,7 +11,9 @@ abbrev pub AreAt : List Token → ℕ → List TokenKind → ℕ → Type 0
 AreAt us i [] j = i ≡ j
 AreAt us i (k ∷ ks) j = (kind_at us i ≡ Some k) × AreAt us (i + 1) ks j
 
-pub split : (us : List Token) (xs ys : List TokenKind) (i j : ℕ) → AreAt us i (xs ++ ys) j → (m : ℕ) × AreAt us i xs m × AreAt us m ys j
+pub split : (us : List Token) (xs ys : List TokenKind) (i j : ℕ)
+    → AreAt us i (xs ++ ys) j
+    → (m : ℕ) × AreAt us i xs m × AreAt us m ys j
 split us [] ys i j s = (i, refl, s)
 split us (x ∷ xs) ys i j s = let r = split us xs ys (i + 1) j s.1 in (r.0, (s.0, r.1), r.2)
 

@@ -1,6 +1,7 @@
 -- The rule that is read where a level of precedence is asked, and the level of each rule.
 use Rattle.std.specs.Prelude.{ℕ, suc, zero}
-use Rattle.silage_syntax.specs.Grammar.{Level, Or, And, Sum, Product, ExprRule, Chain, Comparison, Shift, Unary, Primary, ManifestRule, Manifest_, Term, Factor, Primary_}
+use Rattle.silage_syntax.specs.Grammar.{Level, Or, And, Sum, Product, ExprRule, Chain, Comparison, Shift, Unary}
+use Rattle.silage_syntax.specs.Grammar.{Primary, ManifestRule, Manifest_, Term, Factor, Primary_}
 
 abbrev pub expr_rule : ℕ → ExprRule
 expr_rule zero = Chain Or

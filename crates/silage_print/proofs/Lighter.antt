@@ -1,5 +1,6 @@
 -- Lists of roles that keep to the limits wherever others do.
-use Rattle.std.proofs.Common.{inl, inr, ◌≡◌, ℕ, zero, suc, ◌+◌, ◌-◌, ◌≤◌, ◌<◌, Bool, true, false, if◌then◌else◌, List, [], ◌∷◌, ◌++◌, Some, map, take, drop, fold, slice_get, refl, sym, ap, ◌∙◌, subst, arith}
+use Rattle.std.proofs.Common.{inl, inr, ◌≡◌, ℕ, zero, suc, ◌+◌, ◌-◌, ◌≤◌, ◌<◌, Bool, true, false, if◌then◌else◌, List}
+use Rattle.std.proofs.Common.{[], ◌∷◌, ◌++◌, Some, map, take, drop, fold, slice_get, refl, sym, ap, ◌∙◌, subst, arith}
 use Rattle.std.specs.Prelude.{slice_range}
 use Rattle.std.specs.List.{range_with_len}
 use Rattle.std.proofs.lemmas.Bool.{cases_lt}
@@ -8,7 +9,8 @@ use Rattle.silage_lex.specs.declared.Token.{Token}
 use Rattle.silage_lex.specs.declared.TokenKind.{TokenKind}
 use Rattle.fix_word.specs.declared.types.Mode.{Mode}
 use Rattle.fix_word.specs.declared.types.Mode.TheVariants.{Trunc, Round}
-use Rattle.silage_syntax.specs.Grammar.{weighs, weight_role, weights, plain, Role, Plain, Starts, Weighs, Enters, Leaves}
+use Rattle.silage_syntax.specs.Grammar.{weighs, weight_role, weights, plain, Role, Plain, Starts, Weighs, Enters}
+use Rattle.silage_syntax.specs.Grammar.{Leaves}
 use Rattle.silage_syntax.specs.Limits.{weigh, enter, Passes, too_heavy, too_deep, AreWithin}
 use Rattle.silage_print.specs.Text.{word, truth_word, mode_word}
 use Rattle.silage_print.proofs.KindsAt.{AreAt}
@@ -72,7 +74,11 @@ joined {a} {b} {c} {e} f g w v d le h =
     let y = g (fold weigh w a) (fold weigh v b) (fold enter d a) x.weight (subst P (sym x.loops) parts.1) in
     record {
       fits = fits_join a c w d x.fits y.fits;
-      weight = let p = fold-append weigh w a c in let q = fold-append weigh v b e in let z = y.weight in omega (arith, p, q, z);
+      weight =
+          let p = fold-append weigh w a c in
+          let q = fold-append weigh v b e in
+          let z = y.weight in
+          omega (arith, p, q, z);
       loops = fold-append enter d a c ∙ y.loops ∙ ap (λ n. fold enter n e) x.loops ∙ sym (fold-append enter d b e);
     }
 
@@ -100,7 +106,8 @@ same_role r f w v d le h =
 
 -- a start for a token that is plain
 pub start_for_plain : {a b : List Role} → Lighter a b → Lighter (Starts ∷ a) (Plain ∷ b)
-start_for_plain f w v d le h = let x = f 0 v d (omega arith) h.1 in record { fits = (tt, x.fits); weight = x.weight; loops = x.loops }
+start_for_plain f w v d le h =
+    let x = f 0 v d (omega arith) h.1 in record { fits = (tt, x.fits); weight = x.weight; loops = x.loops }
 
 -- plain tokens on either side
 pub plain_more : {a b : List Role} → Lighter a b → Lighter (Plain ∷ a) b
@@ -111,7 +118,8 @@ plain_less f w v d le h = let x = f w v d le h.1 in record { fits = x.fits; weig
 
 -- one more start before what begins with a start
 pub start_late : {a b : List Role} → Lighter (Starts ∷ a) b → Lighter (Starts ∷ a) (Starts ∷ b)
-start_late f w v d le h = let x = f 0 0 d (omega arith) h.1 in record { fits = x.fits; weight = x.weight; loops = x.loops }
+start_late f w v d le h =
+    let x = f 0 0 d (omega arith) h.1 in record { fits = x.fits; weight = x.weight; loops = x.loops }
 
 -- The tokens of an expression.
 abbrev heft : List Token → ℕ
@@ -150,7 +158,8 @@ heft_fits [] w d h = tt
 heft_fits (t ∷ ts) w d h =
     let y = role_weighed (weighs t.kind) w in (
       allows_role (weighs t.kind) w d (λ lt. let x = h (omega (arith, lt)) in omega (arith, x, lt)),
-      heft_fits ts (weigh w (weight_role t)) (enter d (weight_role t)) (λ lt. let x = h (omega (arith, lt)) in omega (arith, x, y)),
+      heft_fits ts (weigh w (weight_role t)) (enter d (weight_role t))
+          (λ lt. let x = h (omega (arith, lt)) in omega (arith, x, y)),
     )
 
 fits_heft : (ts : List Token) (w d : ℕ) → Fits w d (map weight_role ts) → 0 < heft ts → w + heft ts ≤ 256
@@ -158,8 +167,12 @@ fits_heft [] w d f lt = absurd (omega arith)
 fits_heft (t ∷ ts) w d f lt =
     let y = role_weighed (weighs t.kind) w in
     elim (cases_lt 0 (heft ts)) [
-      | inl some ↦ let x = fits_heft ts (weigh w (weight_role t)) (enter d (weight_role t)) f.1 some in omega (arith, x, y)
-      | inr none ↦ let x = role_allowed (weighs t.kind) w d f.0 (omega (arith, lt, none)) in let z = weight_small t.kind in omega (arith, x, none, z)
+      | inl some ↦
+          let x = fits_heft ts (weigh w (weight_role t)) (enter d (weight_role t)) f.1 some in omega (arith, x, y)
+      | inr none ↦
+          let x = role_allowed (weighs t.kind) w d f.0 (omega (arith, lt, none)) in
+          let z = weight_small t.kind in
+          omega (arith, x, none, z)
     ]
 
 heft_lighter : (ts us : List Token) → heft ts ≤ heft us → Lighter (map weight_role ts) (map weight_role us)
@@ -167,7 +180,8 @@ heft_lighter ts us less w v d le f =
     let x = heft_weighed ts w in
     let y = heft_weighed us v in
     record {
-      fits = heft_fits ts w d (λ lt. let h = fits_heft us v d f (omega (arith, lt, less)) in omega (arith, h, less, le));
+      fits =
+          heft_fits ts w d (λ lt. let h = fits_heft us v d f (omega (arith, lt, less)) in omega (arith, h, less, le));
       weight = omega (arith, x, y, less, le);
       loops = heft_enters ts d ∙ sym (heft_enters us d);
     }
@@ -186,7 +200,11 @@ front_heft [] (suc n) = refl
 front_heft (t ∷ ts) (suc n) = let x = front_heft ts n in omega (arith, x)
 
 range_heft : (ts : List Token) (i j : ℕ) → before weight ts j ≤ before weight ts i + heft (take (j - i) (drop i ts))
-range_heft ts zero j = let e : j - 0 ≡ j = omega arith in let x = front_heft ts j in let y = ap (λ n. heft (take n ts)) e in omega (arith, x, y)
+range_heft ts zero j =
+    let e : j - 0 ≡ j = omega arith in
+    let x = front_heft ts j in
+    let y = ap (λ n. heft (take n ts)) e in
+    omega (arith, x, y)
 range_heft ts (suc i) zero = omega arith
 range_heft [] (suc i) (suc j) = omega arith
 range_heft (t ∷ ts) (suc i) (suc j) =
@@ -195,8 +213,14 @@ range_heft (t ∷ ts) (suc i) (suc j) =
     let y = ap (λ n. heft (take n (drop i ts))) e in
     omega (arith, x, y)
 
-heft_range : (ts : List Token) (i j : ℕ) → i ≤ j → before weight ts i + heft (take (j - i) (drop i ts)) ≡ before weight ts j
-heft_range ts zero j le = let e : j - 0 ≡ j = omega arith in let x = front_heft ts j in let y = ap (λ n. heft (take n ts)) e in omega (arith, x, y)
+heft_range : (ts : List Token) (i j : ℕ)
+    → i ≤ j
+    → before weight ts i + heft (take (j - i) (drop i ts)) ≡ before weight ts j
+heft_range ts zero j le =
+    let e : j - 0 ≡ j = omega arith in
+    let x = front_heft ts j in
+    let y = ap (λ n. heft (take n ts)) e in
+    omega (arith, x, y)
 heft_range ts (suc i) zero le = absurd (omega arith)
 heft_range [] (suc i) (suc j) le = let e = ap heft (take_none (suc j - suc i)) in omega (arith, e)
 heft_range (t ∷ ts) (suc i) (suc j) le =
@@ -205,7 +229,9 @@ heft_range (t ∷ ts) (suc i) (suc j) le =
     let y = ap (λ n. heft (take n (drop i ts))) e in
     omega (arith, x, y)
 
-stands_size : (us : List Token) (ks : List TokenKind) (i j : ℕ) → AreAt us i ks j → (i ≤ j) × (before weight us j ≡ before weight us i + total weight ks)
+stands_size : (us : List Token) (ks : List TokenKind) (i j : ℕ)
+    → AreAt us i ks j
+    → (i ≤ j) × (before weight us j ≡ before weight us i + total weight ks)
 stands_size us [] i j s = let e = ap (before weight us) s in (omega (arith, s), omega (arith, e))
 stands_size us (k ∷ ks) i j s =
     let x = stands_size us ks (i + 1) j s.1 in
@@ -215,7 +241,10 @@ stands_size us (k ∷ ks) i j s =
     (omega (arith, le), omega (arith, same, y))
 
 -- a text that counts no more than the tokens from a to b
-pub text_lighter : (us ts : List Token) (ks : List TokenKind) (i j a b : ℕ) → AreAt us i ks j → total weight ks + before weight ts a ≤ before weight ts b → Lighter (weights us i j) (weights ts a b)
+pub text_lighter : (us ts : List Token) (ks : List TokenKind) (i j a b : ℕ)
+    → AreAt us i ks j
+    → total weight ks + before weight ts a ≤ before weight ts b
+    → Lighter (weights us i j) (weights ts a b)
 text_lighter us ts ks i j a b s less =
     let x = stands_size us ks i j s in
     let le = x.0 in
@@ -241,7 +270,11 @@ all_plain : (xs ys : List ℕ) → Lighter (map (λ _. Plain) xs) (map (λ _. Pl
 all_plain xs ys w v d le f =
     let x = plain_weighed xs w in
     let y = plain_weighed ys v in
-    record { fits = plain_fits xs w d; weight = omega (arith, x, y, le); loops = plain_entered xs d ∙ sym (plain_entered ys d) }
+    record {
+      fits = plain_fits xs w d;
+      weight = omega (arith, x, y, le);
+      loops = plain_entered xs d ∙ sym (plain_entered ys d);
+    }
 
 pub plain_lighter : (i j k m : ℕ) → Lighter (plain i j) (plain k m)
 plain_lighter i j k m = all_plain (range_with_len i (j - i)) (range_with_len k (m - k))
@@ -255,14 +288,18 @@ Passing w d front _ = ⊥
 abbrev Free : ℕ → ℕ → List Role → Type 0
 Free w d roles = (k : ℕ) (r : Role) → slice_get roles k ≡ Some r → Passing w d (take k roles) r → ⊥
 
-passing_on : (w d : ℕ) (s : Role) (front : List Role) (r : Role) → Passing (weigh w s) (enter d s) front r → Passing w d (s ∷ front) r
+passing_on : (w d : ℕ) (s : Role) (front : List Role) (r : Role)
+    → Passing (weigh w s) (enter d s) front r
+    → Passing w d (s ∷ front) r
 passing_on w d s front Plain p = p
 passing_on w d s front Starts p = p
 passing_on w d s front Weighs p = p
 passing_on w d s front Enters p = p
 passing_on w d s front Leaves p = p
 
-passing_back : (w d : ℕ) (s : Role) (front : List Role) (r : Role) → Passing w d (s ∷ front) r → Passing (weigh w s) (enter d s) front r
+passing_back : (w d : ℕ) (s : Role) (front : List Role) (r : Role)
+    → Passing w d (s ∷ front) r
+    → Passing (weigh w s) (enter d s) front r
 passing_back w d s front Plain p = p
 passing_back w d s front Starts p = p
 passing_back w d s front Weighs p = p
@@ -303,15 +340,22 @@ enter_within w d Leaves a h = omega arith
 free_fits : (roles : List Role) (w d : ℕ) → w ≤ 256 → d ≤ 16 → Free w d roles → Fits w d roles
 free_fits [] w d a b h = tt
 free_fits (r ∷ rs) w d a b h =
-    let ok = allows_free w d r a b (h 0 r refl) in
-    (ok, free_fits rs (weigh w r) (enter d r) (weigh_within w d r a ok) (enter_within w d r b ok) (λ k s e p. h (suc k) s e (passing_on w d r (take k rs) s p)))
+    let ok = allows_free w d r a b (h 0 r refl) in (
+      ok,
+      free_fits rs (weigh w r) (enter d r) (weigh_within w d r a ok) (enter_within w d r b ok)
+          (λ k s e p. h (suc k) s e (passing_on w d r (take k rs) s p)),
+    )
 
 fits_free : (roles : List Role) (w d : ℕ) → Fits w d roles → Free w d roles
 fits_free [] w d f k r e p = cc
 fits_free (s ∷ rs) w d f zero r e p = let same : s ≡ r = cc in allowed_free w d r (subst (Allows w d) same f.0) p
-fits_free (s ∷ rs) w d f (suc k) r e p = fits_free rs (weigh w s) (enter d s) f.1 k r e (passing_back w d s (take k rs) r p)
+fits_free (s ∷ rs) w d f (suc k) r e p =
+    fits_free rs (weigh w s) (enter d s) f.1 k r e (passing_back w d s (take k rs) r p)
 
-passes_of : (roles : List Role) (k : ℕ) (r : Role) → slice_get roles k ≡ Some r → Passing 0 0 (take k roles) r → Passes roles k
+passes_of : (roles : List Role) (k : ℕ) (r : Role)
+    → slice_get roles k ≡ Some r
+    → Passing 0 0 (take k roles) r
+    → Passes roles k
 passes_of roles k Plain e p = absurd p
 passes_of roles k Starts e p = absurd p
 passes_of roles k Weighs e p = too_heavy e p

@@ -1,6 +1,8 @@
--- Each pair of parentheses of the canonical text is needed: tokens that derive a definition have as many `(` as its text,
+-- Each pair of parentheses of the canonical text is needed: tokens that derive a definition have as many `(` as its
+-- text,
 -- and a list of tokens without one of them has too few. A definition's own tokens begin at its `func` or `const`.
-use Rattle.std.proofs.Common.{◌≡◌, ℕ, zero, suc, ◌+◌, ◌≤◌, Bool, true, false, inl, inr, List, [], ◌∷◌, ◌++◌, Some, length, map, nat_eq, refl, sym, ap, ◌∙◌, arith}
+use Rattle.std.proofs.Common.{◌≡◌, ℕ, zero, suc, ◌+◌, ◌≤◌, Bool, true, false, inl, inr, List, [], ◌∷◌, ◌++◌, Some}
+use Rattle.std.proofs.Common.{length, map, nat_eq, refl, sym, ap, ◌∙◌, arith}
 use Rattle.std.specs.Prelude.{if◌then◌else◌}
 use Rattle.std.proofs.lemmas.Bool.{cases_lt}
 use Rattle.std.proofs.lemmas.List.{length-map}
@@ -53,7 +55,9 @@ parens_quiet = record {
 abbrev kinds : List Token → List TokenKind
 kinds ts = map (λ (t : Token). t.kind) ts
 
-front : (count : TokenKind → ℕ) (ts : List Token) (xs ys : List TokenKind) → kinds ts ≡ xs ++ ys → before count ts (length xs) ≡ total count xs
+front : (count : TokenKind → ℕ) (ts : List Token) (xs ys : List TokenKind)
+    → kinds ts ≡ xs ++ ys
+    → before count ts (length xs) ≡ total count xs
 front count ts [] ys e = refl
 front count [] (x ∷ xs) ys e = cc
 front count (t ∷ ts) (x ∷ xs) ys e =
@@ -72,14 +76,18 @@ at_most_all count ts zero = omega arith
 at_most_all count [] (suc i) = omega arith
 at_most_all count (t ∷ ts) (suc i) = let a = at_most_all count ts i in omega (arith, a)
 
-kind_after : (ts : List Token) (xs ys : List TokenKind) (k : TokenKind) → kinds ts ≡ xs ++ k ∷ ys → kind_at ts (length xs) ≡ Some k
+kind_after : (ts : List Token) (xs ys : List TokenKind) (k : TokenKind)
+    → kinds ts ≡ xs ++ k ∷ ys
+    → kind_at ts (length xs) ≡ Some k
 kind_after [] [] ys k e = cc
 kind_after [] (x ∷ xs) ys k e = cc
 kind_after (t ∷ ts) [] ys k e = let same : t.kind ≡ k = cc in ap Some same
 kind_after (t ∷ ts) (x ∷ xs) ys k e = let others : kinds ts ≡ xs ++ k ∷ ys = cc in kind_after ts xs ys k others
 
 -- Definitions and their heads.
-head_first : {ts : List Token} {i j : ℕ} {t : Top} {rs : List Role} → IsTop ts i t rs j → before heads ts (i + 1) ≡ before heads ts i + 1
+head_first : {ts : List Token} {i j : ℕ} {t : Top} {rs : List Role}
+    → IsTop ts i t rs j
+    → before heads ts (i + 1) ≡ before heads ts i + 1
 head_first {ts} (is_table {i = i} c n o ty e w s) = counts heads ts i c
 head_first {ts} (is_function {i = i} a n o ps c rs d b lo xs e s) = counts heads ts i a
 
@@ -91,10 +99,15 @@ heads_of (t ∷ ts) =
     let c = heads_of ts in
     omega (arith, a, b, c)
 
-one_head : {ts : List Token} {i j : ℕ} {t : Top} {rs : List Role} → IsTop ts i t rs j → before heads ts i + 1 ≤ before heads ts j
-one_head {t = t} d = let a = top_total heads heads_quiet d (λ h. refl) in let b = (top_headed t).one in omega (arith, a, b)
+one_head : {ts : List Token} {i j : ℕ} {t : Top} {rs : List Role}
+    → IsTop ts i t rs j
+    → before heads ts i + 1 ≤ before heads ts j
+one_head {t = t} d =
+    let a = top_total heads heads_quiet d (λ h. refl) in let b = (top_headed t).one in omega (arith, a, b)
 
-head_each : {ts : List Token} {i j : ℕ} {tops : List Top} {rs : List Role} → IsTops ts i tops rs j → before heads ts i + length tops ≤ before heads ts j
+head_each : {ts : List Token} {i j : ℕ} {tops : List Top} {rs : List Role}
+    → IsTops ts i tops rs j
+    → before heads ts i + length tops ≤ before heads ts j
 head_each no_tops = omega arith
 head_each (one_top d rest) = let a = one_head d in let b = head_each rest in omega (arith, a, b)
 
@@ -109,7 +122,10 @@ record Read (ts : List Token) (t : Top) (earlier later i k : ℕ) : Type 0 where
   heads_before : before heads ts i + earlier ≤ before heads ts from
   heads_after : before heads ts to + later ≤ before heads ts k
 
-read_at : {ts : List Token} {i k : ℕ} {tops : List Top} {rs : List Role} (earlier : List Top) (t : Top) (later : List Top) → IsTops ts i tops rs k → map unpositioned_top tops ≡ map unpositioned_top (earlier ++ t ∷ later)
+read_at :
+    {ts : List Token} {i k : ℕ} {tops : List Top} {rs : List Role} (earlier : List Top) (t : Top) (later : List Top)
+    → IsTops ts i tops rs k
+    → map unpositioned_top tops ≡ map unpositioned_top (earlier ++ t ∷ later)
     → Read ts t (length earlier) (length later) i k
 read_at [] t later no_tops e = cc
 read_at (x ∷ xs) t later no_tops e = cc
@@ -120,13 +136,31 @@ read_at [] t later (one_top {t = read} {rest = rest} d ds) e =
     let b = length-map rest unpositioned_top in
     let c = length-map later unpositioned_top in
     let h = head_each ds in
-    record { from = _; to = _; tree = read; roles = _; is = d; same = same; heads_before = omega arith; heads_after = omega (arith, a, b, c, h) }
+    record {
+      from = _;
+      to = _;
+      tree = read;
+      roles = _;
+      is = d;
+      same = same;
+      heads_before = omega arith;
+      heads_after = omega (arith, a, b, c, h);
+    }
 read_at (x ∷ xs) t later (one_top {rest = rest} d ds) e =
     let others : map unpositioned_top rest ≡ map unpositioned_top (xs ++ t ∷ later) = cc in
     let r = read_at xs t later ds others in
     let a = one_head d in
     let b = r.heads_before in
-    record { from = r.from; to = r.to; tree = r.tree; roles = r.roles; is = r.is; same = r.same; heads_before = omega (arith, a, b); heads_after = r.heads_after }
+    record {
+      from = r.from;
+      to = r.to;
+      tree = r.tree;
+      roles = r.roles;
+      is = r.is;
+      same = r.same;
+      heads_before = omega (arith, a, b);
+      heads_after = r.heads_after;
+    }
 
 -- Trees that are the same up to positions.
 abbrev word_count : Top → ℕ
@@ -138,7 +172,8 @@ word_count_same (table c) = length-map c.words _
 word_count_same (function f) = refl
 
 one_word_too : (t s : Top) → unpositioned_top t ≡ unpositioned_top s → HasOneWord t → HasOneWord s
-one_word_too (table c) (table d) e h = sym (word_count_same (table d)) ∙ sym (ap word_count e) ∙ word_count_same (table c) ∙ h
+one_word_too (table c) (table d) e h =
+    sym (word_count_same (table d)) ∙ sym (ap word_count e) ∙ word_count_same (table c) ∙ h
 one_word_too (table c) (function f) e h = cc
 one_word_too (function f) s e h = absurd h
 
@@ -159,7 +194,9 @@ module _ (program : Program) (pair : Pair program) where
   own_total : (count : TokenKind → ℕ) → total count (top_text pair.top) ≡ total count own_text + extra count true
   own_total count =
       let a = ap (total count) pair.text in
-      let b = total_join count (pair.before ++ symbol punctuation.LEFT_PAREN ∷ pair.between) (symbol punctuation.RIGHT_PAREN ∷ pair.after) in
+      let b =
+      total_join count (pair.before ++ symbol punctuation.LEFT_PAREN ∷ pair.between)
+      (symbol punctuation.RIGHT_PAREN ∷ pair.after) in
       let c = total_join count pair.before (symbol punctuation.LEFT_PAREN ∷ pair.between) in
       let d = total_join count (pair.before ++ pair.between) pair.after in
       let e = total_join count pair.before pair.between in
@@ -178,7 +215,8 @@ module _ (program : Program) (pair : Pair program) where
     at_end : (count : TokenKind → ℕ) → before count ts end ≡ total count front_text + total count own_text
     at_end count = front count ts (front_text ++ own_text) end_text is ∙ total_join count front_text own_text
 
-    at_length : (count : TokenKind → ℕ) → before count ts (length ts) ≡ total count front_text + (total count own_text + total count end_text)
+    at_length : (count : TokenKind → ℕ)
+        → before count ts (length ts) ≡ total count front_text + (total count own_text + total count end_text)
     at_length count =
         let a = all count ts in
         let b = ap (total count) is in
@@ -187,7 +225,10 @@ module _ (program : Program) (pair : Pair program) where
         omega (arith, a, b, c, d)
 
     -- what was read for the definition begins no earlier than its text without the pair, and counts no further
-    begins : {from to : ℕ} {t : Top} {rs : List Role} → IsTop ts from t rs to → before heads ts from ≡ length pair.earlier → begin ≤ from
+    begins : {from to : ℕ} {t : Top} {rs : List Role}
+        → IsTop ts from t rs to
+        → before heads ts from ≡ length pair.earlier
+        → begin ≤ from
     begins {from} d h =
         elim (cases_lt from begin) [
           | inl early ↦
@@ -199,7 +240,11 @@ module _ (program : Program) (pair : Pair program) where
           | inr late ↦ late
         ]
 
-    ends_by : (later : List Top) → later ≡ pair.later → (to : ℕ) → before heads ts to ≤ length pair.earlier + 1 → before parens ts to ≤ before parens ts end
+    ends_by : (later : List Top)
+        → later ≡ pair.later
+        → (to : ℕ)
+        → before heads ts to ≤ length pair.earlier + 1
+        → before parens ts to ≤ before parens ts end
     ends_by [] e to h =
         let none : total parens end_text ≡ 0 = ap (λ tops. total parens (tops_text tops)) (sym e) in
         let a = at_most_all parens ts to in
@@ -210,8 +255,11 @@ module _ (program : Program) (pair : Pair program) where
         elim (cases_lt end to) [
           | inl long ↦
               let first = top_headed t in
-              let texts : end_text ≡ first.first ∷ (first.rest ++ tops_text rest) = ap (tops_text) (sym e) ∙ ap (λ ks. ks ++ tops_text rest) first.is in
-              let next = kind_after ts (front_text ++ own_text) (first.rest ++ tops_text rest) first.first (is ∙ ap (λ ks. front_text ++ own_text ++ ks) texts) in
+              let texts : end_text ≡ first.first ∷ (first.rest ++ tops_text rest) =
+              ap (tops_text) (sym e) ∙ ap (λ ks. ks ++ tops_text rest) first.is in
+              let next =
+              kind_after ts (front_text ++ own_text) (first.rest ++ tops_text rest) first.first
+              (is ∙ ap (λ ks. front_text ++ own_text ++ ks) texts) in
               let a = counts heads ts end next in
               let b = forth heads heads_quiet ts (end + 1) to (omega (arith, long)) in
               let c = at_end heads in
@@ -236,7 +284,8 @@ module _ (program : Program) (pair : Pair program) where
         let from_heads : before heads ts r.from ≡ length pair.earlier = omega (arith, a, b, c, d, e, f, g, h) in
         let k = begins r.is from_heads in
         let l = ends_by pair.later refl r.to (omega (arith, a, b, c, d, e, f, g, h)) in
-        let m = top_total parens parens_quiet r.is (λ one. absurd (several (one_word_too r.tree pair.top r.same one))) in
+        let m =
+        top_total parens parens_quiet r.is (λ one. absurd (several (one_word_too r.tree pair.top r.same one))) in
         let n = ap (total parens) (text_too r.tree pair.top r.same) in
         let o = own_total parens in
         let p = at_begin parens in
@@ -246,5 +295,6 @@ module _ (program : Program) (pair : Pair program) where
 
 pub each_needed : EachPairIsNeeded
 each_needed program pair several given =
-    let trees : map unpositioned_top given.read.tops ≡ map unpositioned_top (pair.earlier ++ pair.top ∷ pair.later) = ap (λ (p : Program). p.tops) given.same ∙ ap (map unpositioned_top) pair.tops in
+    let trees : map unpositioned_top given.read.tops ≡ map unpositioned_top (pair.earlier ++ pair.top ∷ pair.later) =
+    ap (λ (p : Program). p.tops) given.same ∙ ap (map unpositioned_top) pair.tops in
     too_few program pair given.tokens given.are (read_at pair.earlier pair.top pair.later given.derives.1 trees) several

@@ -1,5 +1,6 @@
 -- The decimal texts of numbers.
-use Rattle.std.proofs.Common.{◌≡◌, ℕ, zero, suc, ◌+◌, ◌-◌, ◌*◌, ◌/◌, ◌%◌, ◌≤◌, ◌<◌, ◌^◌, true, false, List, [], ◌∷◌, ◌++◌, length, take, drop, refl, sym, ap, ◌∙◌, subst, arith, decimal, nat_eq, replicate}
+use Rattle.std.proofs.Common.{◌≡◌, ℕ, zero, suc, ◌+◌, ◌-◌, ◌*◌, ◌/◌, ◌%◌, ◌≤◌, ◌<◌, ◌^◌, true, false, List, [], ◌∷◌}
+use Rattle.std.proofs.Common.{◌++◌, length, take, drop, refl, sym, ap, ◌∙◌, subst, arith, decimal, nat_eq, replicate}
 use Rattle.std.specs.List.{list_all}
 use Rattle.std.specs.Prelude.{if◌then◌else◌}
 use Rattle.std.proofs.Math.Nat.{pow-le-pow_right, pow-suc, mul_assoc, mul-le-mul_right}
@@ -31,7 +32,10 @@ more_digits n ds h front =
     let digit : is_digit (48 + n % 10) ≡ true = grind (arith, nat_tests) in
     let last = fold-append (λ m b. 10 * m + (b - 48)) 0 ds ((48 + n % 10) ∷ []) in
     let before = ap (λ m. 10 * m + (48 + n % 10 - 48)) front.same in
-    record { all = list_all-append is_digit ds ((48 + n % 10) ∷ []) ∙ and_from _ _ front.all (and_from _ _ digit refl); same = last ∙ before ∙ (omega arith) }
+    record {
+      all = list_all-append is_digit ds ((48 + n % 10) ∷ []) ∙ and_from _ _ front.all (and_from _ _ digit refl);
+      same = last ∙ before ∙ (omega arith);
+    }
 
 small_number : (n : ℕ) → n < 10 ^ 18 → n < 2 ^ 64
 small_number n h = omega arith
@@ -62,7 +66,9 @@ turned p = omega arith
 within : (a b c : ℕ) {d : ℕ} → a ≤ b → b ≤ c → d ≡ c → a ≤ d
 within a b c h k e = omega arith
 
-below : (number : ℕ) (ds : List ℕ) → list_all is_digit ds ≡ true → decimal_after number ds + 1 ≤ (number + 1) * 10 ^ length ds
+below : (number : ℕ) (ds : List ℕ)
+    → list_all is_digit ds ≡ true
+    → decimal_after number ds + 1 ≤ (number + 1) * 10 ^ length ds
 below number [] h = omega arith
 below number (d ∷ ds) h =
     let parts = and_parts (is_digit d) (list_all is_digit ds) h in
@@ -98,29 +104,59 @@ pub point_has_places : (digits places : ℕ) → IsWritten (kind.Point digits pl
 point_has_places digits places h =
     let some = point_has digits places h in
     let no : nat_eq places 0 ≡ false = grind (arith, nat_tests) in
-    let same : kind.Point digits places ≡ number digits places = ap (λ t. if t then kind.Whole digits else kind.Point digits places) (sym no) in
+    let same : kind.Point digits places ≡ number digits places =
+    ap (λ t. if t then kind.Whole digits else kind.Point digits places) (sym no) in
     subst IsWritten same h
 
 -- the text of a number with a point, whose digits are filled with leading zeros
-point_of : (digits places : ℕ) (ds : List ℕ) → list_all is_digit ds ≡ true → places < length ds → 1 ≤ places → length ds ≤ 18 → value ds ≡ digits → IsPoint digits places (pointed ds places)
+point_of : (digits places : ℕ) (ds : List ℕ)
+    → list_all is_digit ds ≡ true
+    → places < length ds
+    → 1 ≤ places
+    → length ds ≤ 18
+    → value ds ≡ digits
+    → IsPoint digits places (pointed ds places)
 point_of digits places ds all more some few same =
     let whole = take (length ds - places) ds in
     let fraction = drop (length ds - places) ds in
     let halves = take-append-drop (length ds - places) ds in
-    let parts = and_parts (list_all is_digit whole) (list_all is_digit fraction) (sym (list_all-append is_digit whole fraction) ∙ ap (list_all is_digit) halves ∙ all) in
+    let parts =
+    and_parts (list_all is_digit whole) (list_all is_digit fraction)
+    (sym (list_all-append is_digit whole fraction) ∙ ap (list_all is_digit) halves ∙ all) in
     let front : length whole ≡ length ds - places = length-take-le (length ds - places) ds (omega arith) in
     let back : length fraction ≡ length ds - (length ds - places) = length-drop (length ds - places) ds in
     let shape : IsPointed whole fraction (pointed ds places) =
-    record { shape = refl; whole_digits = digits_from whole (omega arith) parts.0; fraction_digits = digits_from fraction (omega arith) parts.1 } in
+    record {
+      shape = refl;
+      whole_digits = digits_from whole (omega arith) parts.0;
+      fraction_digits = digits_from fraction (omega arith) parts.1;
+    } in
     let count = digit_count-pointed whole fraction (pointed ds places) shape in
     let size = length-append whole (46 ∷ fraction) in
-    record { whole = whole; fraction = fraction; pointed = shape; short = omega arith; digits_are = sym (ap value halves ∙ same); places_are = omega arith }
+    record {
+      whole = whole;
+      fraction = fraction;
+      pointed = shape;
+      short = omega arith;
+      digits_are = sym (ap value halves ∙ same);
+      places_are = omega arith;
+    }
 
-pub point_written : (digits places : ℕ) → digits < 10 ^ 18 → 1 ≤ places → places < 18 → IsWritten (kind.Point digits places)
+pub point_written : (digits places : ℕ)
+    → digits < 10 ^ 18
+    → 1 ≤ places
+    → places < 18
+    → IsWritten (kind.Point digits places)
 point_written digits places small some few =
     let h = decimal_digits digits small in
     let zeros : List ℕ = replicate (places + 1 - length (decimal digits)) 48 in
-    let all : list_all is_digit (zeros ++ decimal digits) ≡ true = list_all-append is_digit zeros (decimal digits) ∙ and_from _ _ (zeros_digits (places + 1 - length (decimal digits))) h.all in
-    let size : length (zeros ++ decimal digits) ≡ places + 1 - length (decimal digits) + length (decimal digits) = length-append zeros (decimal digits) ∙ ap (λ n. n + length (decimal digits)) (length-replicate (places + 1 - length (decimal digits)) 48) in
-    let short : length (decimal digits) ≤ 18 = length-decimal-le 18 digits (omega arith) small (small_number digits small) in
-    point_of digits places (zeros ++ decimal digits) all (omega arith) some (omega arith) (zeros_before (places + 1 - length (decimal digits)) (decimal digits) ∙ h.same)
+    let all : list_all is_digit (zeros ++ decimal digits) ≡ true =
+    list_all-append is_digit zeros (decimal digits)
+    ∙ and_from _ _ (zeros_digits (places + 1 - length (decimal digits))) h.all in
+    let size : length (zeros ++ decimal digits) ≡ places + 1 - length (decimal digits) + length (decimal digits) =
+    length-append zeros (decimal digits)
+    ∙ ap (λ n. n + length (decimal digits)) (length-replicate (places + 1 - length (decimal digits)) 48) in
+    let short : length (decimal digits) ≤ 18 =
+    length-decimal-le 18 digits (omega arith) small (small_number digits small) in
+    point_of digits places (zeros ++ decimal digits) all (omega arith) some (omega arith)
+    (zeros_before (places + 1 - length (decimal digits)) (decimal digits) ∙ h.same)

@@ -1,5 +1,6 @@
 -- The texts of numbers, types and places are read as what they are texts of, up to positions.
-use Rattle.std.proofs.Common.{◌≡◌, ℕ, zero, suc, ◌+◌, ◌≤◌, Bool, true, false, List, [], ◌∷◌, Option, Some, None, map, refl, sym, ap, ◌∙◌, subst, arith, lit≤}
+use Rattle.std.proofs.Common.{◌≡◌, ℕ, zero, suc, ◌+◌, ◌≤◌, Bool, true, false, List, [], ◌∷◌, Option, Some, None, map}
+use Rattle.std.proofs.Common.{refl, sym, ap, ◌∙◌, subst, arith, lit≤}
 use Rattle.std.specs.Prelude.{nat_eq, if◌then◌else◌}
 use Rattle.std.proofs.lemmas.Bool.Decides.{nat_tests}
 use Rattle.fix_word.specs.declared.types.FixType.{FixType}
@@ -13,14 +14,23 @@ use Rattle.silage_syntax.specs.declared.tree.Lit.{Lit}
 use Rattle.silage_syntax.specs.declared.tree.Lit.TheVariants.{Number}
 use Rattle.silage_syntax.specs.Tree.{Manifest}
 use Rattle.silage_syntax.specs.Positions.{unpositioned_lit, unpositioned_manifest, unpositioned_delay}
-use Rattle.silage_syntax.specs.Grammar.{kind_at, from_at, number_of, IsPunctuation, IsNumber, IsSigned, positive, negative, size, mode_of, fix_type, IsFix, no_mode, with_mode, truth_of, IsManifest, Manifest_, IsSubscripts, no_sub, one_sub, two_subs, IsDelay, no_delay, delay}
-use Rattle.silage_print.specs.Text.{symbol, word, number, bracketed, lit_text, truth_word, mode_word, fix_text, manifest_text, subscripts_text, delay_text}
+use Rattle.silage_syntax.specs.Grammar.{kind_at, from_at, number_of, IsPunctuation, IsNumber, IsSigned, positive}
+use Rattle.silage_syntax.specs.Grammar.{negative, size, mode_of, fix_type, IsFix, no_mode, with_mode, truth_of}
+use Rattle.silage_syntax.specs.Grammar.{IsManifest, Manifest_, IsSubscripts, no_sub, one_sub, two_subs, IsDelay}
+use Rattle.silage_syntax.specs.Grammar.{no_delay, delay}
+use Rattle.silage_print.specs.Text.{symbol, word, number, bracketed, lit_text, truth_word, mode_word, fix_text}
+use Rattle.silage_print.specs.Text.{manifest_text, subscripts_text, delay_text}
 use Rattle.silage_print.proofs.Numbers.{whole_written, point_has_places}
-use Rattle.silage_print.proofs.KindsAt.{AreAt, split, moved, IsWritten, AreWritten, no_kind, one_kind, joined, enclosed_written, TokensWritten}
-use Rattle.silage_print.proofs.ReadManifests.{ReadsManifest, GoodManifest, placed, as_manifest, good_manifest, good_amount}
+use Rattle.silage_print.proofs.KindsAt.{AreAt, split, moved, IsWritten, AreWritten, no_kind, one_kind, joined}
+use Rattle.silage_print.proofs.KindsAt.{enclosed_written, TokensWritten}
+use Rattle.silage_print.proofs.ReadManifests.{ReadsManifest, GoodManifest, placed, as_manifest, good_manifest}
+use Rattle.silage_print.proofs.ReadManifests.{good_amount}
 
 -- Numbers.
-number_is : (x : Option TokenKind) (d p : ℕ) → number_of x ≡ Some (d, p) → ((k : TokenKind) → x ≡ Some k → IsWritten k) → IsWritten (number d p)
+number_is : (x : Option TokenKind) (d p : ℕ)
+    → number_of x ≡ Some (d, p)
+    → ((k : TokenKind) → x ≡ Some k → IsWritten k)
+    → IsWritten (number d p)
 number_is None d p e w = cc
 number_is (Some (kind.Whole n)) d p e w =
     let pair : (n, 0) ≡ (d, p) = cc in
@@ -56,21 +66,30 @@ truth_written false = refl
 -- a literal with a sign, that its tokens are read as
 pub record GoodSigned (l : Lit) : Type 0 where
   pub written : AreWritten (lit_text l)
-  pub reads : (us : List Token) (i j : ℕ) → AreAt us i (lit_text l) j → (m : Lit) × (unpositioned_lit m ≡ unpositioned_lit l) × IsSigned us i m j
+  pub reads : (us : List Token) (i j : ℕ)
+      → AreAt us i (lit_text l) j
+      → (m : Lit) × (unpositioned_lit m ≡ unpositioned_lit l) × IsSigned us i m j
 
-signed_end : (us : List Token) (l : Lit) (i j k : ℕ) → j ≡ k → (m : Lit) × (unpositioned_lit m ≡ unpositioned_lit l) × IsSigned us i m j → (m : Lit) × (unpositioned_lit m ≡ unpositioned_lit l) × IsSigned us i m k
-signed_end us l i j k e h = let P : ℕ → Type 0 = λ n. (m : Lit) × (unpositioned_lit m ≡ unpositioned_lit l) × IsSigned us i m n in subst P e h
+signed_end : (us : List Token) (l : Lit) (i j k : ℕ)
+    → j ≡ k
+    → (m : Lit) × (unpositioned_lit m ≡ unpositioned_lit l) × IsSigned us i m j
+    → (m : Lit) × (unpositioned_lit m ≡ unpositioned_lit l) × IsSigned us i m k
+signed_end us l i j k e h =
+    let P : ℕ → Type 0 = λ n. (m : Lit) × (unpositioned_lit m ≡ unpositioned_lit l) × IsSigned us i m n in subst P e h
 
 pub good_signed : (ts : List Token) → TokensWritten ts → {i j : ℕ} {l : Lit} → IsSigned ts i l j → GoodSigned l
 good_signed ts w (positive {i = i} {d = d} {p = p} e) = record {
   written = one_kind (number_written ts w i d p e) no_kind;
-  reads = λ us k j s. signed_end us (Number false d p (from_at ts i)) k (k + 1) j s.1 (Number false d p (from_at us k), refl, positive (number_read us k d p s.0));
+  reads = λ us k j s.
+      signed_end us (Number false d p (from_at ts i)) k (k + 1) j s.1
+      (Number false d p (from_at us k), refl, positive (number_read us k d p s.0));
 }
 good_signed ts w (negative {i = i} {d = d} {p = p} m e) = record {
   written = one_kind refl (one_kind (number_written ts w (i + 1) d p e) no_kind);
   reads = λ us k j s.
       let end = s.1.1 in
-      signed_end us (Number true d p (from_at ts i)) k (k + 2) j (omega arith) (Number true d p (from_at us k), refl, negative s.0 (number_read us (k + 1) d p s.1.0));
+      signed_end us (Number true d p (from_at ts i)) k (k + 2) j (omega arith)
+      (Number true d p (from_at us k), refl, negative s.0 (number_read us (k + 1) d p s.1.0));
 }
 
 -- Types.
@@ -97,7 +116,10 @@ pub fix_written : (ty : FixType) → GoodFix ty → AreWritten (fix_text ty)
 fix_written ty good =
     let w = good.w in
     let f = good.f in
-    one_kind refl (one_kind refl (one_kind (whole_written ty.shape.w (omega arith)) (one_kind refl (one_kind (whole_written ty.shape.f (omega arith)) (one_kind refl
+    one_kind refl
+    (one_kind refl
+    (one_kind (whole_written ty.shape.w (omega arith))
+    (one_kind refl (one_kind (whole_written ty.shape.f (omega arith)) (one_kind refl
     (one_kind (mode_written ty.mode) (one_kind refl no_kind)))))))
 
 same_size : (n : ℕ) → n ≤ 255 → size n ≡ n
@@ -107,7 +129,9 @@ pub fix_read : (us : List Token) (ty : FixType) → GoodFix ty → (i j : ℕ) �
 fix_read us ty good i j s =
     let w : size ty.shape.w ≡ ty.shape.w = same_size ty.shape.w good.w in
     let f : size ty.shape.f ≡ ty.shape.f = same_size ty.shape.f good.f in
-    let type : fix_type ty.shape.w ty.shape.f ty.mode ≡ ty = ap (λ n. record { shape = record { w = n; f = size ty.shape.f }; mode = ty.mode }) w ∙ ap (λ n. record { shape = record { w = ty.shape.w; f = n }; mode = ty.mode }) f in
+    let type : fix_type ty.shape.w ty.shape.f ty.mode ≡ ty =
+    ap (λ n. record { shape = record { w = n; f = size ty.shape.f }; mode = ty.mode }) w
+    ∙ ap (λ n. record { shape = record { w = ty.shape.w; f = n }; mode = ty.mode }) f in
     let P : FixType → Type 0 = λ t. IsFix us i t j in
     let Q : ℕ → Type 0 = λ k. IsFix us i (fix_type ty.shape.w ty.shape.f ty.mode) k in
     let t2 = s.1.1 in
@@ -119,7 +143,8 @@ fix_read us ty good i j s =
     let second = moved us (i + 1 + 1 + 1 + 1) (i + 4) (Some (kind.Whole ty.shape.f)) (omega arith) t4.0 in
     let comma_too = moved us (i + 1 + 1 + 1 + 1 + 1) (i + 5) (Some (symbol punctuation.COMMA)) (omega arith) t4.1.0 in
     let mode = moved us (i + 1 + 1 + 1 + 1 + 1 + 1) (i + 6) (Some (word (mode_word ty.mode))) (omega arith) t6.0 in
-    let close = moved us (i + 1 + 1 + 1 + 1 + 1 + 1 + 1) (i + 7) (Some (symbol punctuation.GREATER)) (omega arith) t6.1.0 in
+    let close =
+    moved us (i + 1 + 1 + 1 + 1 + 1 + 1 + 1) (i + 7) (Some (symbol punctuation.GREATER)) (omega arith) t6.1.0 in
     subst P type (subst Q end (with_mode s.0 s.1.0 first comma second comma_too (mode_read ty.mode mode) close))
 
 -- Subscripts, delays.
@@ -145,10 +170,21 @@ pub record ReadsBracketed (us : List Token) (m : Manifest) (i j : ℕ) : Type 0 
   pub closes : IsPunctuation us end punctuation.RIGHT_BRACKET
   pub ends : end + 1 ≡ j
 
-pub read_bracketed : (us : List Token) (m : Manifest) → GoodManifest m → (i j : ℕ) → AreAt us i (bracketed (manifest_text m)) j → ReadsBracketed us m i j
+pub read_bracketed : (us : List Token) (m : Manifest)
+    → GoodManifest m
+    → (i j : ℕ)
+    → AreAt us i (bracketed (manifest_text m)) j
+    → ReadsBracketed us m i j
 read_bracketed us m good i j s =
     let r = split us (manifest_text m) (symbol punctuation.RIGHT_BRACKET ∷ []) (i + 1) j s.1 in
-    record { end = r.0; opens = s.0; kinds_at = r.1; inside = as_manifest m good us (i + 1) r.0 r.1; closes = r.2.0; ends = r.2.1 }
+    record {
+      end = r.0;
+      opens = s.0;
+      kinds_at = r.1;
+      inside = as_manifest m good us (i + 1) r.0 r.1;
+      closes = r.2.0;
+      ends = r.2.1;
+    }
 
 -- the second of two numbers in brackets begins where the first ends
 pub record ReadsTwo (us : List Token) (m n : Manifest) (i j : ℕ) : Type 0 where
@@ -156,7 +192,12 @@ pub record ReadsTwo (us : List Token) (m n : Manifest) (i j : ℕ) : Type 0 wher
   pub first : ReadsBracketed us m i middle
   pub second : ReadsBracketed us n (first.end + 1) j
 
-pub read_two : (us : List Token) (m n : Manifest) → GoodManifest m → GoodManifest n → (i j : ℕ) → AreAt us i (subscripts_text (m ∷ n ∷ [])) j → ReadsTwo us m n i j
+pub read_two : (us : List Token) (m n : Manifest)
+    → GoodManifest m
+    → GoodManifest n
+    → (i j : ℕ)
+    → AreAt us i (subscripts_text (m ∷ n ∷ [])) j
+    → ReadsTwo us m n i j
 read_two us m n g h i j s =
     let r = split us (bracketed (manifest_text m)) (subscripts_text (n ∷ [])) i j s in
     let x = read_bracketed us m g i r.0 r.1 in
@@ -165,7 +206,11 @@ read_two us m n g h i j s =
     let Q : ℕ → Type 0 = λ l. ReadsBracketed us n (x.end + 1) l in
     record { middle = r.0; first = x; second = subst Q q.2 (read_bracketed us n h (x.end + 1) q.0 q.1) }
 
-pub read_one : (us : List Token) (m : Manifest) → GoodManifest m → (i j : ℕ) → AreAt us i (subscripts_text (m ∷ [])) j → ReadsBracketed us m i j
+pub read_one : (us : List Token) (m : Manifest)
+    → GoodManifest m
+    → (i j : ℕ)
+    → AreAt us i (subscripts_text (m ∷ [])) j
+    → ReadsBracketed us m i j
 read_one us m g i j s =
     let r = split us (bracketed (manifest_text m)) [] i j s in
     let Q : ℕ → Type 0 = λ l. ReadsBracketed us m i l in
@@ -179,11 +224,20 @@ pub record ReadsSubs (us : List Token) (ms : List Manifest) (i j : ℕ) : Type 0
 subs_end : {us : List Token} {ms : List Manifest} {i j k : ℕ} → j ≡ k → ReadsSubs us ms i j → ReadsSubs us ms i k
 subs_end {us} {ms} {i} {j} {k} e h = let P : ℕ → Type 0 = λ l. ReadsSubs us ms i l in subst P e h
 
-pub subs_read : (us : List Token) (ms : List Manifest) → GoodSubs ms → (i j : ℕ) → AreAt us i (subscripts_text ms) j → ReadsSubs us ms i j
+pub subs_read : (us : List Token) (ms : List Manifest)
+    → GoodSubs ms
+    → (i j : ℕ)
+    → AreAt us i (subscripts_text ms) j
+    → ReadsSubs us ms i j
 subs_read us ms scalar i j s = subs_end s (record { trees = []; same = refl; reads = no_sub })
 subs_read us ms (vector {m = m} g) i j s =
     let x = read_one us m g i j s in
-    subs_end x.ends (record { trees = x.inside.tree ∷ []; same = ap (λ t. t ∷ []) x.inside.same; reads = one_sub x.opens x.inside.reads x.closes })
+    subs_end x.ends
+    (record {
+      trees = x.inside.tree ∷ [];
+      same = ap (λ t. t ∷ []) x.inside.same;
+      reads = one_sub x.opens x.inside.reads x.closes;
+    })
 subs_read us ms (matrix {m = m} {n = n} g h) i j s =
     let r = read_two us m n g h i j s in
     let x = r.first in
@@ -192,11 +246,17 @@ subs_read us ms (matrix {m = m} {n = n} g h) i j s =
     let second : IsManifest us Manifest_ (x.end + 2) y.inside.tree y.end = subst P (omega arith) y.inside.reads in
     subs_end y.ends (record {
       trees = x.inside.tree ∷ y.inside.tree ∷ [];
-      same = ap (λ t. t ∷ unpositioned_manifest y.inside.tree ∷ []) x.inside.same ∙ ap (λ t. unpositioned_manifest m ∷ t ∷ []) y.inside.same;
+      same =
+          ap (λ t. t ∷ unpositioned_manifest y.inside.tree ∷ []) x.inside.same
+          ∙ ap (λ t. unpositioned_manifest m ∷ t ∷ []) y.inside.same;
       reads = two_subs x.opens x.inside.reads x.closes y.opens second y.closes;
     })
 
-pub good_subs : (ts : List Token) → TokensWritten ts → {i j : ℕ} {ms : List Manifest} → IsSubscripts ts i ms j → GoodSubs ms
+pub good_subs : (ts : List Token)
+    → TokensWritten ts
+    → {i j : ℕ} {ms : List Manifest}
+    → IsSubscripts ts i ms j
+    → GoodSubs ms
 good_subs ts w no_sub = scalar
 good_subs ts w (one_sub a d b) = vector (good_manifest ts w d)
 good_subs ts w (two_subs a d b c e f) = matrix (good_manifest ts w d) (good_manifest ts w e)
@@ -218,8 +278,14 @@ pub record ReadsDelay (us : List Token) (d : Option Manifest) (i j : ℕ) : Type
   pub same : unpositioned_delay tree ≡ unpositioned_delay d
   pub reads : IsDelay us i tree j
 
-pub delay_read : (us : List Token) (d : Option Manifest) → GoodDelay d → (i j : ℕ) → AreAt us i (delay_text d) j → ReadsDelay us d i j
-delay_read us d now i j s = let P : ℕ → Type 0 = λ l. ReadsDelay us None i l in subst P s (record { tree = None; same = refl; reads = no_delay })
+pub delay_read : (us : List Token) (d : Option Manifest)
+    → GoodDelay d
+    → (i j : ℕ)
+    → AreAt us i (delay_text d) j
+    → ReadsDelay us d i j
+delay_read us d now i j s =
+    let P : ℕ → Type 0 = λ l. ReadsDelay us None i l in
+    subst P s (record { tree = None; same = refl; reads = no_delay })
 delay_read us d (earlier {m = m} g) i j s =
     let x = placed m g 7 (lit≤ tt) us (i + 1) j s.1 in
     record { tree = Some x.tree; same = ap (λ t. Some t) x.same; reads = delay s.0 x.reads }

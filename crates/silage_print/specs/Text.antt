@@ -1,5 +1,7 @@
 -- The canonical text of a program: its tokens, each followed by one blank.
-use Rattle.std.specs.Prelude.{ℕ, ◌+◌, ◌-◌, ◌||◌, not as negation, if◌then◌else◌, nat_eq, nat_lt, Bool, true, false, List, [], ◌∷◌, ◌++◌, Option, Some, None, length, take, drop, replicate, slice_index_or, decimal}
+use Rattle.std.specs.Prelude.{ℕ, ◌+◌, ◌-◌, ◌||◌, not as negation, if◌then◌else◌, nat_eq, nat_lt, Bool, true, false}
+use Rattle.std.specs.Prelude.{List, [], ◌∷◌, ◌++◌, Option, Some, None, length, take, drop, replicate, slice_index_or}
+use Rattle.std.specs.Prelude.{decimal}
 use Rattle.std.specs.List.{flat_map}
 use Rattle.fix_word.specs.declared.types.FixType.{FixType}
 use Rattle.fix_word.specs.declared.types.Mode.{Mode}
@@ -9,8 +11,14 @@ use Rattle.fix_word.specs.declared.types.SigType.TheVariants.{Fix, Bool as Truth
 use Rattle.silage_lex.specs.declared.TokenKind.{TokenKind}
 use Rattle.silage_lex.specs.declared.TokenKind.TheVariants as kind
 use Rattle.silage_lex.specs.Texts.{reserved_words, symbols}
-use Rattle.silage_lex.specs.declared.punctuation.TheConstants.{COLON_COLON, DOT_DOT, EQUAL_EQUAL, BANG_EQUAL, LESS_EQUAL, GREATER_EQUAL, LESS_LESS, GREATER_GREATER, ARROW, PIPE_PIPE, AT_AT, LEFT_PAREN, RIGHT_PAREN, LEFT_BRACKET, RIGHT_BRACKET, COMMA, SEMICOLON, COLON, EQUAL, LESS, GREATER, PLUS, MINUS, STAR, AMPERSAND, PIPE, BANG, AT}
-use Rattle.silage_lex.specs.declared.keywords.TheConstants.{FUNC, CONST, VAR, BEGIN, END, FIX, BOOL, TRUNC, ROUND, IF, FI, TRUE, FALSE}
+use Rattle.silage_lex.specs.declared.punctuation.TheConstants.{COLON_COLON, DOT_DOT, EQUAL_EQUAL, BANG_EQUAL}
+use Rattle.silage_lex.specs.declared.punctuation.TheConstants.{LESS_EQUAL, GREATER_EQUAL, LESS_LESS, GREATER_GREATER}
+use Rattle.silage_lex.specs.declared.punctuation.TheConstants.{ARROW, PIPE_PIPE, AT_AT, LEFT_PAREN, RIGHT_PAREN}
+use Rattle.silage_lex.specs.declared.punctuation.TheConstants.{LEFT_BRACKET, RIGHT_BRACKET, COMMA, SEMICOLON, COLON}
+use Rattle.silage_lex.specs.declared.punctuation.TheConstants.{EQUAL, LESS, GREATER, PLUS, MINUS, STAR, AMPERSAND, PIPE}
+use Rattle.silage_lex.specs.declared.punctuation.TheConstants.{BANG, AT}
+use Rattle.silage_lex.specs.declared.keywords.TheConstants.{FUNC, CONST, VAR, BEGIN, END, FIX, BOOL, TRUNC, ROUND, IF}
+use Rattle.silage_lex.specs.declared.keywords.TheConstants.{FI, TRUE, FALSE}
 use Rattle.silage_print.specs.Precedence as precedence
 use Rattle.silage_syntax.specs.declared.tree.BinOp.{BinOp}
 use Rattle.silage_syntax.specs.declared.tree.BinOp.TheVariants as op
@@ -20,7 +28,9 @@ use Rattle.silage_syntax.specs.declared.tree.Lit.{Lit}
 use Rattle.silage_syntax.specs.declared.tree.Lit.TheVariants.{Number, Truth}
 use Rattle.silage_syntax.specs.declared.tree.ConstDef.{ConstDef}
 use Rattle.silage_syntax.specs.declared.tree.Decl.{Decl}
-use Rattle.silage_syntax.specs.Tree.{Manifest, whole, counter, minus, both, Place, Expr, literal, read, negate, not, binary, shift, cast, choose, Branches, no_branch, branch, Item, equation, call, loop, initial, Items, no_item, item, Func, Top, table, function, Program}
+use Rattle.silage_syntax.specs.Tree.{Manifest, whole, counter, minus, both, Place, Expr, literal, read, negate, not}
+use Rattle.silage_syntax.specs.Tree.{binary, shift, cast, choose, Branches, no_branch, branch, Item, equation, call}
+use Rattle.silage_syntax.specs.Tree.{loop, initial, Items, no_item, item, Func, Top, table, function, Program}
 
 -- Lexemes.
 -- digits, with leading zeros where no digit would be left before the point

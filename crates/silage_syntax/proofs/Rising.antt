@@ -5,7 +5,9 @@ use Rattle.silage_syntax.specs.declared.tree.Lit.{Lit}
 use Rattle.fix_word.specs.declared.types.FixType.{FixType}
 use Rattle.silage_syntax.specs.Tree.{Manifest, Place, Expr, Item, Items}
 use Rattle.silage_syntax.specs.Grammar as g
-use Rattle.silage_syntax.specs.Grammar.{IsSigned, IsManifest, IsFix, IsSubscripts, IsDelay, IsExpr, IsTargetSubscripts, IsTarget, IsTargets, IsArguments, IsInitialValue, IsItem, IsItems, Role, ManifestRule, ExprRule}
+use Rattle.silage_syntax.specs.Grammar.{IsSigned, IsManifest, IsFix, IsSubscripts, IsDelay, IsExpr, IsTargetSubscripts}
+use Rattle.silage_syntax.specs.Grammar.{IsTarget, IsTargets, IsArguments, IsInitialValue, IsItem, IsItems, Role}
+use Rattle.silage_syntax.specs.Grammar.{ManifestRule, ExprRule}
 
 module _ (ts : List Token) where
   pub manifest_rises : (r : ManifestRule) (i : ℕ) (m : Manifest) (j : ℕ) → IsManifest ts r i m j → i ≤ j
@@ -52,14 +54,17 @@ module _ (ts : List Token) where
   expr_rises r i e j (g.place n s d) = omega (arith, subs_rise _ _ _ s, delay_rises _ _ _ d)
   expr_rises r i e j (g.cast_of f o a c) = omega (arith, fix_rises _ _ _ f, expr_rises _ _ _ _ a)
   expr_rises r i e j (g.paren o a c) = omega (arith, expr_rises _ _ _ _ a)
-  expr_rises r i e j (g.choice o a b c d) = omega (arith, expr_rises _ _ _ _ a, expr_rises _ _ _ _ c, expr_rises _ _ _ _ d)
-  expr_rises r i e j (g.one_arm o a b c d) = omega (arith, expr_rises _ _ _ _ a, expr_rises _ _ _ _ c, expr_rises _ _ _ _ d)
+  expr_rises r i e j (g.choice o a b c d) =
+      omega (arith, expr_rises _ _ _ _ a, expr_rises _ _ _ _ c, expr_rises _ _ _ _ d)
+  expr_rises r i e j (g.one_arm o a b c d) =
+      omega (arith, expr_rises _ _ _ _ a, expr_rises _ _ _ _ c, expr_rises _ _ _ _ d)
   expr_rises r i e j (g.last_arm o a c) = omega (arith, expr_rises _ _ _ _ a)
 
   target_subs_rise : (i : ℕ) (ms : List Manifest) (rs : List Role) (j : ℕ) → IsTargetSubscripts ts i ms rs j → i ≤ j
   target_subs_rise i ms rs j g.no_target_sub = omega arith
   target_subs_rise i ms rs j (g.one_target_sub a b c) = omega (arith, manifest_rises _ _ _ _ b)
-  target_subs_rise i ms rs j (g.two_target_subs a b c d e h) = omega (arith, manifest_rises _ _ _ _ b, manifest_rises _ _ _ _ e)
+  target_subs_rise i ms rs j (g.two_target_subs a b c d e h) =
+      omega (arith, manifest_rises _ _ _ _ b, manifest_rises _ _ _ _ e)
 
   pub target_rises : (i : ℕ) (p : Place) (rs : List Role) (j : ℕ) → IsTarget ts i p rs j → i + 1 ≤ j
   target_rises i p rs j (g.target n s) = target_subs_rise _ _ _ _ s
@@ -85,8 +90,10 @@ module _ (ts : List Token) where
     item_rises i x rs j (g.is_equation p d e s) = omega (arith, target_rises _ _ _ _ p, expr_rises _ _ _ _ e)
     item_rises i x rs j (g.is_call p d n o a c s) = omega (arith, target_rises _ _ _ _ p, args_rise _ _ _ _ a)
     item_rises i x rs j (g.is_calls o p c d n u a v s) = omega (arith, targets_rise _ _ _ _ p, args_rise _ _ _ _ a)
-    item_rises i x rs j (g.is_loop o n c lo t hi u v b xs e s) = omega (arith, manifest_rises _ _ _ _ lo, manifest_rises _ _ _ _ hi, items_rise _ _ _ _ xs)
-    item_rises i x rs j (g.is_initial p o a d v s) = omega (arith, target_rises _ _ _ _ p, manifest_rises _ _ _ _ a, initial_value_rises _ _ _ v)
+    item_rises i x rs j (g.is_loop o n c lo t hi u v b xs e s) =
+        omega (arith, manifest_rises _ _ _ _ lo, manifest_rises _ _ _ _ hi, items_rise _ _ _ _ xs)
+    item_rises i x rs j (g.is_initial p o a d v s) =
+        omega (arith, target_rises _ _ _ _ p, manifest_rises _ _ _ _ a, initial_value_rises _ _ _ v)
 
     pub items_rise : (i : ℕ) (xs : Items) (rs : List Role) (j : ℕ) → IsItems ts i xs rs j → i ≤ j
     items_rise i xs rs j g.no_items = omega arith

@@ -2,10 +2,15 @@
 use Rattle.std.proofs.Common.{◌≡◌, ℕ, List, Vec, Box, refl, ap, ◌∙◌, map}
 use Rattle.std.specs.Global.{Global}
 use mathlib.Core.Former.{Count}
-use Rattle.silage_syntax.specs.declared.tree.Expr.{Expr as RustExpr, Choose, Choose', Row_of-Expr-Choose-1-2, end_of-Expr-Choose-1-2, more_of-Expr-Choose-1-2, items-the_row-Expr-Choose-1-2, items_hidden-the_row-Expr-Choose-1-2-0}
+use Rattle.silage_syntax.specs.declared.tree.Expr.{Expr as RustExpr, Choose, Choose', Row_of-Expr-Choose-1-2}
+use Rattle.silage_syntax.specs.declared.tree.Expr.{end_of-Expr-Choose-1-2, more_of-Expr-Choose-1-2}
+use Rattle.silage_syntax.specs.declared.tree.Expr.{items-the_row-Expr-Choose-1-2}
+use Rattle.silage_syntax.specs.declared.tree.Expr.{items_hidden-the_row-Expr-Choose-1-2-0}
 use Rattle.silage_syntax.specs.declared.tree.Manifest.{Manifest as RustManifest}
-use Rattle.silage_syntax.specs.declared.tree.Item.{Item as RustItem, Loop, Loop', Row_of-Item, end_of-Item, more_of-Item, items-the_row-Item, items_hidden-the_row-Item-0}
-use Rattle.silage_syntax.specs.Tree.{branch, choose, loop, item, items_of, view_expr, view_branches, view_arms, view_manifest, view_item, view_row, view_items}
+use Rattle.silage_syntax.specs.declared.tree.Item.{Item as RustItem, Loop, Loop', Row_of-Item, end_of-Item}
+use Rattle.silage_syntax.specs.declared.tree.Item.{more_of-Item, items-the_row-Item, items_hidden-the_row-Item-0}
+use Rattle.silage_syntax.specs.Tree.{branch, choose, loop, item, items_of, view_expr, view_branches, view_arms}
+use Rattle.silage_syntax.specs.Tree.{view_manifest, view_item, view_row, view_items}
 
 arms_row : (m : _) (k : Row_of-Expr-Choose-1-2 m) → view_branches k ≡ view_arms (items-the_row-Expr-Choose-1-2 m k)
 arms_row _ end_of-Expr-Choose-1-2 = refl

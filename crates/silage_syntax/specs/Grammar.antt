@@ -1,6 +1,7 @@
 -- The grammar: which tokens are which tree. The production in EBNF is above each rule; a rule has one case for each way
 -- through its production. A chain continues from the tree before it, so that chains are left-associative.
-use Rattle.std.specs.Prelude.{◌≡◌, ℕ, ◌+◌, ◌-◌, ◌^◌, ◌||◌, if◌then◌else◌, nat_eq, min, Bool, true, false, List, [], ◌∷◌, ◌++◌, map, Option, Some, None, length, slice_get, slice_range}
+use Rattle.std.specs.Prelude.{◌≡◌, ℕ, ◌+◌, ◌-◌, ◌^◌, ◌||◌, if◌then◌else◌, nat_eq, min, Bool, true, false, List, [], ◌∷◌}
+use Rattle.std.specs.Prelude.{◌++◌, map, Option, Some, None, length, slice_get, slice_range}
 use Rattle.std.specs.List.{range_with_len}
 use Rattle.fix_word.specs.declared.types.FixType.{FixType}
 use Rattle.fix_word.specs.declared.types.Mode.{Mode}
@@ -10,8 +11,14 @@ use Rattle.fix_word.specs.declared.types.SigType.TheVariants.{Fix, Bool as Truth
 use Rattle.silage_lex.specs.declared.Token.{Token}
 use Rattle.silage_lex.specs.declared.TokenKind.{TokenKind}
 use Rattle.silage_lex.specs.declared.TokenKind.TheVariants as kind
-use Rattle.silage_lex.specs.declared.punctuation.TheConstants.{COLON_COLON, DOT_DOT, EQUAL_EQUAL, BANG_EQUAL, LESS_EQUAL, GREATER_EQUAL, LESS_LESS, GREATER_GREATER, ARROW, PIPE_PIPE, AT_AT, LEFT_PAREN, RIGHT_PAREN, LEFT_BRACKET, RIGHT_BRACKET, COMMA, SEMICOLON, COLON, EQUAL, LESS, GREATER, PLUS, MINUS, STAR, AMPERSAND, PIPE, BANG, AT}
-use Rattle.silage_lex.specs.declared.keywords.TheConstants.{FUNC, CONST, VAR, BEGIN, END, FIX, BOOL, TRUNC, ROUND, IF, FI, TRUE, FALSE}
+use Rattle.silage_lex.specs.declared.punctuation.TheConstants.{COLON_COLON, DOT_DOT, EQUAL_EQUAL, BANG_EQUAL}
+use Rattle.silage_lex.specs.declared.punctuation.TheConstants.{LESS_EQUAL, GREATER_EQUAL, LESS_LESS, GREATER_GREATER}
+use Rattle.silage_lex.specs.declared.punctuation.TheConstants.{ARROW, PIPE_PIPE, AT_AT, LEFT_PAREN, RIGHT_PAREN}
+use Rattle.silage_lex.specs.declared.punctuation.TheConstants.{LEFT_BRACKET, RIGHT_BRACKET, COMMA, SEMICOLON, COLON}
+use Rattle.silage_lex.specs.declared.punctuation.TheConstants.{EQUAL, LESS, GREATER, PLUS, MINUS, STAR, AMPERSAND, PIPE}
+use Rattle.silage_lex.specs.declared.punctuation.TheConstants.{BANG, AT}
+use Rattle.silage_lex.specs.declared.keywords.TheConstants.{FUNC, CONST, VAR, BEGIN, END, FIX, BOOL, TRUNC, ROUND, IF}
+use Rattle.silage_lex.specs.declared.keywords.TheConstants.{FI, TRUE, FALSE}
 use Rattle.silage_syntax.specs.declared.tree.BinOp.{BinOp}
 use Rattle.silage_syntax.specs.declared.tree.BinOp.TheVariants as op
 use Rattle.silage_syntax.specs.declared.tree.MOp.{MOp}
@@ -19,7 +26,9 @@ use Rattle.silage_syntax.specs.declared.tree.MOp.TheVariants as mop
 use Rattle.silage_syntax.specs.declared.tree.Lit.{Lit}
 use Rattle.silage_syntax.specs.declared.tree.Lit.TheVariants.{Number, Truth}
 use Rattle.silage_syntax.specs.declared.tree.Decl.{Decl}
-use Rattle.silage_syntax.specs.Tree.{Manifest, whole, counter, minus, both, Place, Expr, literal, read, negate, not, binary, shift, cast, choose, Branches, no_branch, branch, Item, equation, call, loop, initial, Items, no_item, item, Top, table, function, Program}
+use Rattle.silage_syntax.specs.Tree.{Manifest, whole, counter, minus, both, Place, Expr, literal, read, negate, not}
+use Rattle.silage_syntax.specs.Tree.{binary, shift, cast, choose, Branches, no_branch, branch, Item, equation, call}
+use Rattle.silage_syntax.specs.Tree.{loop, initial, Items, no_item, item, Top, table, function, Program}
 
 -- What tokens are. The position of a token is the byte at which it begins.
 abbrev pub kind_of : Option Token → Option TokenKind
@@ -520,8 +529,8 @@ module _ (ts : List Token) where
           → IsArguments (j + 3) es qs k
           → IsPunctuation k RIGHT_PAREN
           → IsPunctuation (k + 1) SEMICOLON
-          → IsItem i (call (p ∷ []) f es (from_at (j + 1)))
-          (rs ++ Starts ∷ Plain ∷ Starts ∷ qs ++ Plain ∷ Plain ∷ []) (k + 2)
+          → IsItem i (call (p ∷ []) f es (from_at (j + 1))) (rs ++ Starts ∷ Plain ∷ Starts ∷ qs ++ Plain ∷ Plain ∷ [])
+          (k + 2)
       -- calls = "(" target { "," target } ")" "=" name "(" arguments ")" ";"
       is_calls : {i j k : ℕ} {ps : List Place} {f : List ℕ} {es : List Expr} {rs qs : List Role}
           → IsPunctuation i LEFT_PAREN
@@ -550,8 +559,9 @@ module _ (ts : List Token) where
           → IsKeyword m END
           → IsPunctuation (m + 1) SEMICOLON
           → IsItem i (loop name lo hi xs (from_at i))
-          (Plain ∷ Plain ∷ Starts ∷ weights (i + 3) j ++ Starts ∷ weights (j + 1) k
-          ++ Plain ∷ Plain ∷ Enters ∷ rs ++ Leaves ∷ Plain ∷ []) (m + 2)
+          (Plain ∷ Plain ∷ Starts ∷ weights (i + 3) j ++ Starts ∷ weights (j + 1) k ++ Plain ∷ Plain ∷ Enters ∷ rs
+          ++ Leaves ∷ Plain ∷ [])
+          (m + 2)
       -- initial = target "@@" manifest_primary "=" ( signed | "true" | "false" ) ";"
       is_initial : {i j k m : ℕ} {p : Place} {a : Manifest} {l : Lit} {rs : List Role}
           → IsTarget i p rs j
@@ -614,8 +624,8 @@ module _ (ts : List Token) where
         → IsPunctuation k EQUAL
         → IsWords (k + 1) ls m
         → IsPunctuation m SEMICOLON
-        → IsTop i (table (record { name = d.name; at = d.at; dims = d.dims; ty = f; words = ls }))
-        (plain i (m + 1)) (m + 1)
+        → IsTop i (table (record { name = d.name; at = d.at; dims = d.dims; ty = f; words = ls })) (plain i (m + 1))
+        (m + 1)
     -- function = "func" name "(" decl { "," decl } ")" results "=" "begin" { locals } { item } "end" ";"
     is_function : {i j k m n : ℕ} {name : List ℕ} {ps rs ls : List Decl} {xs : Items} {qs : List Role}
         → IsKeyword i FUNC
@@ -630,15 +640,9 @@ module _ (ts : List Token) where
         → IsItems m xs qs n
         → IsKeyword n END
         → IsPunctuation (n + 1) SEMICOLON
-        → IsTop i
-        (function (record {
-          name = name;
-          at = from_at (i + 1);
-          params = ps;
-          results = rs;
-          locals = ls;
-          items = xs;
-        })) (plain i m ++ qs ++ Plain ∷ Plain ∷ []) (n + 2)
+        → IsTop i (function
+        (record { name = name; at = from_at (i + 1); params = ps; results = rs; locals = ls; items = xs }))
+        (plain i m ++ qs ++ Plain ∷ Plain ∷ []) (n + 2)
 
   -- program = { table | function }
   pub data IsTops : ℕ → List Top → List Role → ℕ → Type 0 where

@@ -1,5 +1,6 @@
 -- Manifest constants: compile-time integers, which are known once the indices of the loops have values.
-use Rattle.std.specs.Prelude.{◌≡◌, ℕ, ◌-◌, ◌^◌, ◌≤◌, ◌&&◌, if◌then◌else◌, List, find, Option, Some, None, option_map, option_and_then, ℤ, pos, neg_ℤ, ◌+ℤ◌, ◌-ℤ◌, ◌*ℤ◌, int_le, bytes_eq}
+use Rattle.std.specs.Prelude.{◌≡◌, ℕ, ◌-◌, ◌^◌, ◌≤◌, ◌&&◌, if◌then◌else◌, List, find, Option, Some, None, option_map}
+use Rattle.std.specs.Prelude.{option_and_then, ℤ, pos, neg_ℤ, ◌+ℤ◌, ◌-ℤ◌, ◌*ℤ◌, int_le, bytes_eq}
 use Rattle.silage_syntax.specs.declared.tree.MOp.{MOp}
 use Rattle.silage_syntax.specs.declared.tree.MOp.TheVariants as mop
 use Rattle.silage_syntax.specs.Tree.{Manifest, whole, counter, minus, both}

@@ -8,7 +8,8 @@ use Rattle.silage_syntax.specs.declared.tree.ConstDef.{ConstDef}
 use Rattle.silage_syntax.specs.declared.tree.Decl.{Decl}
 use Rattle.silage_syntax.specs.declared.tree.Manifest.{Manifest as RustManifest, Whole, Index, Negate', Binary'}
 use Rattle.silage_syntax.specs.declared.tree.Place.{Place as RustPlace}
-use Rattle.silage_syntax.specs.declared.tree.Expr.{Expr as RustExpr, Row_of-Expr-Choose-1-2, end_of-Expr-Choose-1-2, more_of-Expr-Choose-1-2}
+use Rattle.silage_syntax.specs.declared.tree.Expr.{Expr as RustExpr, Row_of-Expr-Choose-1-2, end_of-Expr-Choose-1-2}
+use Rattle.silage_syntax.specs.declared.tree.Expr.{more_of-Expr-Choose-1-2}
 use Rattle.silage_syntax.specs.declared.tree.Expr.TheVariants as e
 use Rattle.silage_syntax.specs.declared.tree.Item.{Item as RustItem, Row_of-Item, end_of-Item, more_of-Item}
 use Rattle.silage_syntax.specs.declared.tree.Item.TheVariants as i

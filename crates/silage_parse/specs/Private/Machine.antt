@@ -1,5 +1,6 @@
 -- The machine that reads tokens by the LL(1) table: its semantic actions, and where it stops.
-use Rattle.std.specs.Prelude.{◌≡◌, ℕ, ◌+◌, ◌-◌, Bool, true, false, if◌then◌else◌, nat_lt, List, [], ◌∷◌, ◌++◌, map, Option, Some, None, slice_get}
+use Rattle.std.specs.Prelude.{◌≡◌, ℕ, ◌+◌, ◌-◌, Bool, true, false, if◌then◌else◌, nat_lt, List, [], ◌∷◌, ◌++◌, map}
+use Rattle.std.specs.Prelude.{Option, Some, None, slice_get}
 use Rattle.fix_word.specs.declared.types.Mode.TheVariants.{Trunc}
 use Rattle.fix_word.specs.declared.types.SigType.TheVariants.{Fix, Bool as Truths}
 use Rattle.silage_lex.specs.declared.Token.{Token}
@@ -9,12 +10,18 @@ use Rattle.silage_syntax.specs.declared.tree.BinOp.TheVariants as op
 use Rattle.silage_syntax.specs.declared.tree.MOp.TheVariants as mop
 use Rattle.silage_syntax.specs.declared.tree.Lit.{Lit}
 use Rattle.silage_syntax.specs.declared.tree.Lit.TheVariants.{Number, Truth}
-use Rattle.silage_syntax.specs.Tree.{whole, counter, minus, both, Expr, literal, read, negate, not, binary, shift, cast, choose, Branches, no_branch, branch, equation, call, loop, initial, items_of, table, function}
-use Rattle.silage_syntax.specs.Grammar.{kind_at, Declared, typed, dim, fix_type, mode_of, number_of, term_operator, Level, operator, comparison, shift_operator, truth_of, weighs, weight_role, Role, Plain, Starts}
+use Rattle.silage_syntax.specs.Tree.{whole, counter, minus, both, Expr, literal, read, negate, not, binary, shift, cast}
+use Rattle.silage_syntax.specs.Tree.{choose, Branches, no_branch, branch, equation, call, loop, initial, items_of}
+use Rattle.silage_syntax.specs.Tree.{table, function}
+use Rattle.silage_syntax.specs.Grammar.{kind_at, Declared, typed, dim, fix_type, mode_of, number_of, term_operator}
+use Rattle.silage_syntax.specs.Grammar.{Level, operator, comparison, shift_operator, truth_of, weighs, weight_role}
+use Rattle.silage_syntax.specs.Grammar.{Role, Plain, Starts}
 use Rattle.silage_syntax.specs.Grammar as role
 use Rattle.silage_parse.specs.declared.ParseFault.{ParseFault}
 use Rattle.silage_parse.specs.declared.ParseFault.TheVariants.{Syntax, Deep}
-use Rattle.silage_parse.specs.Private.ParseTable.{Terminal, is_one, Effect, Outside, Begins, Inside, Enters, Leaves, Nonterminal, Source, AfterMinus, Value, Symbol, Match, Expand, Act, Productions, productions, Action}
+use Rattle.silage_parse.specs.Private.ParseTable.{Terminal, is_one, Effect, Outside, Begins, Inside, Enters, Leaves}
+use Rattle.silage_parse.specs.Private.ParseTable.{Nonterminal, Source, AfterMinus, Value, Symbol, Match, Expand, Act}
+use Rattle.silage_parse.specs.Private.ParseTable.{Productions, productions, Action}
 use Rattle.silage_parse.specs.Private.ParseTable as the
 
 -- what a token says

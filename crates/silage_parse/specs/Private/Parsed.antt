@@ -1,5 +1,6 @@
 -- What the methods of the parser ensure, said of the run of the LL(1) machine.
-use Rattle.std.specs.Prelude.{Box, ◌≡◌, ℕ, ◌+◌, ◌≤◌, ◌&&◌, Bool, true, List, [], ◌∷◌, ◌++◌, map, slice_get, Option, Some, None, Result, Ok, Err}
+use Rattle.std.specs.Prelude.{Box, ◌≡◌, ℕ, ◌+◌, ◌≤◌, ◌&&◌, Bool, true, List, [], ◌∷◌, ◌++◌, map, slice_get, Option}
+use Rattle.std.specs.Prelude.{Some, None, Result, Ok, Err}
 use Rattle.fix_word.specs.declared.types.Mode.{Mode}
 use Rattle.fix_word.specs.declared.types.FixType.{FixType}
 use Rattle.silage_syntax.specs.declared.tree.Lit.{Lit}
@@ -19,7 +20,8 @@ use Rattle.silage_syntax.specs.declared.tree.Func.{Func}
 use Rattle.silage_syntax.specs.declared.tree.Top.{Top as RustTop}
 use Rattle.silage_syntax.specs.declared.tree.Program.{Program}
 use Rattle.silage_syntax.specs.Tree as tree
-use Rattle.silage_syntax.specs.Tree.{Top, table, function, view, view_manifest, view_delay, view_place, view_expr, view_item, view_func, view_top}
+use Rattle.silage_syntax.specs.Tree.{Top, table, function, view, view_manifest, view_delay, view_place, view_expr}
+use Rattle.silage_syntax.specs.Tree.{view_item, view_func, view_top}
 use Rattle.silage_syntax.specs.Grammar.{Or, dim, Declared, fix_type, kind_at, from_at, mode_of, number_of}
 use Rattle.silage_parse.specs.declared.ParseFault.{ParseFault}
 use Rattle.silage_parse.specs.declared.ParseFault.TheVariants.{Syntax, Deep, Memory}
@@ -30,9 +32,19 @@ use Rattle.silage_parse.specs.declared.parser.Parser.{Parser}
 use Rattle.silage_parse.specs.declared.program.Head.{Head}
 use Rattle.silage_syntax.specs.declared.tree.Decl.{Decl}
 use Rattle.silage_parse.specs.declared.declarations.Declared.{Declared as RustDeclared}
-use Rattle.silage_parse.specs.Private.ParseTable.{productions, if_punctuation, no_subs, two_subs, one_sub, add_locals, Type_, Chain, shift_operators, add_shift, choose_expr, Terminal, Punctuation, Keyword, AName, AWhole, End, is_one, Effect, Outside, Begins, Inside, Enters, Leaves, Value, Symbol, Match, Expand, Act, modes, punctuation_of, keyword_of, Nonterminal, number, Decl_, MoreDecls, first_decl, Name_, MoreNames, first_name, Locals, no_locals, Signed, MoreWords, first_word, Target, MoreTargets, first_place, Args, Manifest_, ManifestPrimary, InitialValue, AfterOpenName, Items_, no_items, FixIn, Words, add_table, Results, add_function, Tops}
+use Rattle.silage_parse.specs.Private.ParseTable.{productions, if_punctuation, no_subs, two_subs, one_sub, add_locals}
+use Rattle.silage_parse.specs.Private.ParseTable.{Type_, Chain, shift_operators, add_shift, choose_expr, Terminal}
+use Rattle.silage_parse.specs.Private.ParseTable.{Punctuation, Keyword, AName, AWhole, End, is_one, Effect, Outside}
+use Rattle.silage_parse.specs.Private.ParseTable.{Begins, Inside, Enters, Leaves, Value, Symbol, Match, Expand, Act}
+use Rattle.silage_parse.specs.Private.ParseTable.{modes, punctuation_of, keyword_of, Nonterminal, number, Name_, Locals}
+use Rattle.silage_parse.specs.Private.ParseTable.{no_locals, Args, Manifest_, ManifestPrimary, InitialValue}
+use Rattle.silage_parse.specs.Private.ParseTable.{AfterOpenName, Items_, no_items, FixIn, Words, add_table, Results}
+use Rattle.silage_parse.specs.Private.ParseTable.{add_function, Tops}
 use Rattle.silage_parse.specs.Private.ParseTable as the
-use Rattle.silage_parse.specs.Private.Machine.{branches_of, name_text, whole_value, Count, allowed, counted, Outcome, done, fault, Runs, RunsTo}
+use Rattle.silage_parse.specs.Private.CommaLists.{list_of, list_in_parentheses}
+use Rattle.silage_parse.specs.Private.CommaLists as comma
+use Rattle.silage_parse.specs.Private.Machine.{branches_of, name_text, whole_value, Count, allowed, counted, Outcome}
+use Rattle.silage_parse.specs.Private.Machine.{done, fault, Runs, RunsTo}
 
 -- THE STATE OF THE PARSER
 
@@ -90,11 +102,21 @@ Halts ss from vs (Deep k) =
 
 -- WHAT A METHOD READS
 
+-- Where it answers a value, this is so of the value; where it answers a fault, the machine stops with it inside ss.
+abbrev pub Reads : {A : Type 0} → List Symbol → Parser → List Value → (A → Type 0) → Result A ParseFault → Type 0
+Reads ss from vs is (Ok x) = is x
+Reads ss from vs is (Err f) = Halts ss from vs f
+
 -- It goes through the symbols, and the values vs on the stack become those of what it answers.
-abbrev pub IsRead : {A : Type 0} → List Symbol → Parser → List Value → (A → List Value)
-    → Parser → Result A ParseFault → Type 0
-IsRead ss from vs values to (Ok x) = Leads ss from vs [] to (values x)
-IsRead ss from vs values to (Err f) = Halts ss from vs f
+abbrev pub IsRead : {A : Type 0}
+    → List Symbol
+    → Parser
+    → List Value
+    → (A → List Value)
+    → Parser
+    → Result A ParseFault
+    → Type 0
+IsRead ss from vs values to result = Reads ss from vs (λ x. Leads ss from vs [] to (values x)) result
 
 -- it reads one nonterminal
 abbrev pub IsParsed : {A : Type 0} → Nonterminal → Parser → (A → Value) → Parser → Result A ParseFault → Type 0
@@ -102,9 +124,9 @@ IsParsed p from value to result = IsRead (Expand p ∷ []) from [] (λ x. value 
 
 -- it reads what is between two tokens
 abbrev pub ReadsBetween : {A : Type 0} → List Symbol → (A → Value) → Parser → Parser → Result A ParseFault → Type 0
-ReadsBetween ss value from to (Ok x) = (opened : Token) × (closed : Token)
-    × Leads ss from [] [] to (the.token closed ∷ value x ∷ the.token opened ∷ [])
-ReadsBetween ss value from to (Err f) = Halts ss from [] f
+ReadsBetween ss value from to result = Reads ss from [] (λ x.
+    (opened : Token) × (closed : Token)
+    × Leads ss from [] [] to (the.token closed ∷ value x ∷ the.token opened ∷ [])) result
 
 -- the next token is one of these, and the parser goes past it
 pub record Matches (ks : List Terminal) (e : Effect) (from to : Parser) : Type 0 where
@@ -113,7 +135,8 @@ pub record Matches (ks : List Terminal) (e : Effect) (from to : Parser) : Type 0
   pub is_of : is_one ks (next from) ≡ true
   pub same : to.tokens.now ≡ from.tokens.now
   pub one : to.at ≡ from.at + 1
-  pub run : (below : List Symbol) (under : List Value) (o : Outcome) → RunsFrom to below (the.token token ∷ under) o
+  pub run : (below : List Symbol) (under : List Value) (o : Outcome)
+      → RunsFrom to below (the.token token ∷ under) o
       → RunsFrom from (Match ks e ∷ below) under o
 
 -- the limits let the token pass, and the counts become these
@@ -129,8 +152,7 @@ pub record Advances (e : Effect) (from to : Parser) : Type 0 where
 
 -- it goes past a token that may be one of these, and past any token
 abbrev pub Passes : List Terminal → Effect → Parser → Parser → Result Unit ParseFault → Type 0
-Passes ks e from to (Ok x) = Matches ks e from to
-Passes ks e from to (Err f) = Halts (Match ks e ∷ []) from [] f
+Passes ks e from to result = Reads (Match ks e ∷ []) from [] (λ x. Matches ks e from to) result
 
 abbrev pub PassesAny : Effect → Parser → Parser → Result Unit ParseFault → Type 0
 PassesAny e from to (Ok x) = Advances e from to
@@ -138,22 +160,22 @@ PassesAny e from to (Err f) = (ks : List Terminal) → is_one ks (next from) ≡
 
 -- it reads a name, a number without a point, the digits and the places of a number
 abbrev pub ReadsName : Effect → Parser → Parser → Result (List ℕ) ParseFault → Type 0
-ReadsName e from to (Ok name) = Matches (AName ∷ []) e from to × (next from ≡ Some (kind.Name name))
-ReadsName e from to (Err f) = Halts (Match (AName ∷ []) e ∷ []) from [] f
+ReadsName e from to result = Reads (Match (AName ∷ []) e ∷ []) from [] (λ name.
+    Matches (AName ∷ []) e from to × (next from ≡ Some (kind.Name name))) result
 
 abbrev pub ReadsWhole : Effect → Parser → Parser → Result ℕ ParseFault → Type 0
-ReadsWhole e from to (Ok n) = Matches (AWhole ∷ []) e from to × (next from ≡ Some (kind.Whole n))
-ReadsWhole e from to (Err f) = Halts (Match (AWhole ∷ []) e ∷ []) from [] f
+ReadsWhole e from to result = Reads (Match (AWhole ∷ []) e ∷ []) from [] (λ n.
+    Matches (AWhole ∷ []) e from to × (next from ≡ Some (kind.Whole n))) result
 
 abbrev pub ReadsNumber : Effect → Parser → Parser → Result (ℕ × ℕ) ParseFault → Type 0
-ReadsNumber e from to (Ok n) = Matches number e from to × (number_of (next from) ≡ Some n)
-ReadsNumber e from to (Err f) = Halts (Match number e ∷ []) from [] f
+ReadsNumber e from to result = Reads (Match number e ∷ []) from [] (λ n.
+    Matches number e from to × (number_of (next from) ≡ Some n)) result
 
 -- TYPES
 
 abbrev pub ReadsMode : Effect → Parser → Parser → Result Mode ParseFault → Type 0
-ReadsMode e from to (Ok m) = Matches modes e from to × (mode_of (next from) ≡ Some m)
-ReadsMode e from to (Err f) = Halts (Match modes e ∷ []) from [] f
+ReadsMode e from to result = Reads (Match modes e ∷ []) from [] (λ m.
+    Matches modes e from to × (mode_of (next from) ≡ Some m)) result
 
 -- what is on the stack where the sizes of a fix type are read
 abbrev pub sizes_read : (fraction comma width below fix : Token) → List Value
@@ -191,10 +213,10 @@ in_brackets before after =
 
 -- the nonterminal stands for none, one or two manifests in brackets with these effects
 pub record AreSubscripts (subs second : Nonterminal) (before after : Effect) : Type 0 where
-  pub none : productions subs ≡ if_punctuation punctuation.LEFT_BRACKET
-      (in_brackets before after ++ Expand second ∷ []) (Act no_subs ∷ [])
-  pub one : productions second ≡ if_punctuation punctuation.LEFT_BRACKET
-      (in_brackets before after ++ Act two_subs ∷ []) (Act one_sub ∷ [])
+  pub none : productions subs
+      ≡ if_punctuation punctuation.LEFT_BRACKET (in_brackets before after ++ Expand second ∷ []) (Act no_subs ∷ [])
+  pub one : productions second
+      ≡ if_punctuation punctuation.LEFT_BRACKET (in_brackets before after ++ Act two_subs ∷ []) (Act one_sub ∷ [])
 
 -- DECLARATIONS
 
@@ -207,30 +229,13 @@ declared_value d = the.name (view_declared d)
 abbrev pub declared_values : List RustDeclared → Value
 declared_values ds = the.names (map view_declared ds)
 
--- lists with commas between their parts, some of them in parentheses, and the lines of locals
-abbrev pub name_list : List Symbol
-name_list = Expand Name_ ∷ Act first_name ∷ Expand MoreNames ∷ []
-
-abbrev pub decl_list : List Symbol
-decl_list = Expand Decl_ ∷ Act first_decl ∷ Expand MoreDecls ∷ []
-
-abbrev pub word_list : List Symbol
-word_list = Expand Signed ∷ Act first_word ∷ Expand MoreWords ∷ []
-
-abbrev pub decls_in_parentheses : List Symbol
-decls_in_parentheses =
-    punctuation_of punctuation.LEFT_PAREN Outside ∷ decl_list ++ punctuation_of punctuation.RIGHT_PAREN Outside ∷ []
-
-abbrev pub words_in_parentheses : List Symbol
-words_in_parentheses =
-    punctuation_of punctuation.LEFT_PAREN Outside ∷ word_list ++ punctuation_of punctuation.RIGHT_PAREN Outside ∷ []
-
+-- the type of a line of locals, the line, and all lines
 abbrev pub type_in_line : List Symbol
 type_in_line =
     punctuation_of punctuation.COLON Outside ∷ Expand Type_ ∷ punctuation_of punctuation.SEMICOLON Outside ∷ []
 
 abbrev pub local_line : List Symbol
-local_line = keyword_of keyword.VAR Outside ∷ name_list ++ type_in_line ++ Act add_locals ∷ []
+local_line = keyword_of keyword.VAR Outside ∷ list_of comma.names ++ type_in_line ++ Act add_locals ∷ []
 
 abbrev pub local_lines : List Symbol
 local_lines = Act no_locals ∷ Expand Locals ∷ []
@@ -242,9 +247,9 @@ dim_in_brackets =
     ∷ punctuation_of punctuation.RIGHT_BRACKET Outside ∷ []
 
 abbrev pub ReadsDim : Parser → Parser → Result ℕ ParseFault → Type 0
-ReadsDim from to (Ok n) = (opened : Token) × (size : Token) × (closed : Token) × (dim (whole_value size) ≡ n)
-    × Leads dim_in_brackets from [] [] to (the.token closed ∷ the.token size ∷ the.token opened ∷ [])
-ReadsDim from to (Err f) = Halts dim_in_brackets from [] f
+ReadsDim from to result = Reads dim_in_brackets from [] (λ n.
+    (opened : Token) × (size : Token) × (closed : Token) × (dim (whole_value size) ≡ n)
+    × Leads dim_in_brackets from [] [] to (the.token closed ∷ the.token size ∷ the.token opened ∷ [])) result
 
 -- EXPRESSIONS
 
@@ -272,10 +277,9 @@ choice_end = keyword_of keyword.FI Inside ∷ Act choose_expr ∷ []
 
 -- it reads the value of a branch, and adds the branch with this condition to the others
 abbrev pub ReadsBranch : Expr → (before after : List (Expr × Expr)) → Parser → Parser → Result Unit ParseFault → Type 0
-ReadsBranch when before after from to (Ok x) = (arrow : Token) × (value : Expr)
-    × (after ≡ before ++ (when, value) ∷ [])
-    × Leads branch_value from [] [] to (expr_value value ∷ the.token arrow ∷ [])
-ReadsBranch when before after from to (Err f) = Halts branch_value from [] f
+ReadsBranch when before after from to result = Reads branch_value from [] (λ x.
+    (arrow : Token) × (value : Expr) × (after ≡ before ++ (when, value) ∷ [])
+    × Leads branch_value from [] [] to (expr_value value ∷ the.token arrow ∷ [])) result
 
 -- the tree of an operator at this byte with its operands
 abbrev pub binary_value : ℕ → BinOp → tree.Expr → Box Expr Global → Value
@@ -298,9 +302,6 @@ item_value x = the.an_item (view_item x)
 
 abbrev pub item_values : List Item → Value
 item_values xs = the.items (map view_item xs)
-
-abbrev pub place_list : List Symbol
-place_list = Expand Target ∷ Act first_place ∷ Expand MoreTargets ∷ []
 
 abbrev pub item_list : List Symbol
 item_list = Act no_items ∷ Expand Items_ ∷ []
@@ -338,24 +339,26 @@ abbrev pub is_called : Parser → Bool
 is_called p = is_one (AName ∷ []) (next p) && is_one (Punctuation punctuation.LEFT_PAREN ∷ []) (later p)
 
 abbrev pub ReadsCallEnd : Parser → Parser → Result (List Expr) ParseFault → Type 0
-ReadsCallEnd from to (Ok args) = (opened : Token) × (closed : Token) × (ended : Token)
-    × Leads call_end from [] [] to (the.token ended ∷ the.token closed ∷ expr_values args ∷ the.token opened ∷ [])
-ReadsCallEnd from to (Err f) = Halts call_end from [] f
+ReadsCallEnd from to result = Reads call_end from [] (λ args.
+    (opened : Token) × (closed : Token) × (ended : Token)
+    × Leads call_end from [] [] to
+    (the.token ended ∷ the.token closed ∷ expr_values args ∷ the.token opened ∷ [])) result
 
 abbrev pub ReadsInitial : Parser → Parser → Result (RustManifest × Lit) ParseFault → Type 0
-ReadsInitial from to (Ok x) = (marks : Token) × (equal : Token) × (ended : Token) × Leads initial_end from [] [] to
-    (the.token ended ∷ the.lit x.1 ∷ the.token equal ∷ manifest_value x.0 ∷ the.token marks ∷ [])
-ReadsInitial from to (Err f) = Halts initial_end from [] f
+ReadsInitial from to result = Reads initial_end from [] (λ x.
+    (marks : Token) × (equal : Token) × (ended : Token)
+    × Leads initial_end from [] [] to
+    (the.token ended ∷ the.lit x.1 ∷ the.token equal ∷ manifest_value x.0 ∷ the.token marks ∷ [])) result
 
 abbrev pub ReadsEquationEnd : Parser → Parser → Result Expr ParseFault → Type 0
-ReadsEquationEnd from to (Ok e) = (ended : Token)
-    × Leads equation_end from [] [] to (the.token ended ∷ expr_value e ∷ [])
-ReadsEquationEnd from to (Err f) = Halts equation_end from [] f
+ReadsEquationEnd from to result = Reads equation_end from [] (λ e.
+    (ended : Token) × Leads equation_end from [] [] to (the.token ended ∷ expr_value e ∷ [])) result
 
 abbrev pub ReadsUpperBound : Parser → Parser → Result RustManifest ParseFault → Type 0
-ReadsUpperBound from end (Ok hi) = (each : Token) × (closed : Token) × (to : Token)
-    × Leads upper_bound from [] [] end (the.token each ∷ the.token closed ∷ manifest_value hi ∷ the.token to ∷ [])
-ReadsUpperBound from end (Err f) = Halts upper_bound from [] f
+ReadsUpperBound from end result = Reads upper_bound from [] (λ hi.
+    (each : Token) × (closed : Token) × (to : Token)
+    × Leads upper_bound from [] [] end
+    (the.token each ∷ the.token closed ∷ manifest_value hi ∷ the.token to ∷ [])) result
 
 -- what is on the stack where the bounds of a loop are read
 abbrev pub bounds_read : (each closed to colon : Token) → RustManifest × RustManifest → List Value
@@ -371,19 +374,20 @@ abbrev pub loop_body : List Symbol
 loop_body = keyword_of keyword.BEGIN Enters ∷ item_list ++ block_end Leaves
 
 abbrev pub ReadsBlockEnd : Effect → Parser → Parser → Result Unit ParseFault → Type 0
-ReadsBlockEnd e from to (Ok x) = (closed : Token) × (ended : Token)
-    × Leads (block_end e) from [] [] to (the.token ended ∷ the.token closed ∷ [])
-ReadsBlockEnd e from to (Err f) = Halts (block_end e) from [] f
+ReadsBlockEnd e from to result = Reads (block_end e) from [] (λ x.
+    (closed : Token) × (ended : Token)
+    × Leads (block_end e) from [] [] to (the.token ended ∷ the.token closed ∷ [])) result
 
 abbrev pub ReadsLoopBody : Parser → Parser → Result (List Item) ParseFault → Type 0
-ReadsLoopBody from to (Ok xs) = (opened : Token) × (closed : Token) × (ended : Token)
-    × Leads loop_body from [] [] to (the.token ended ∷ the.token closed ∷ item_values xs ∷ the.token opened ∷ [])
-ReadsLoopBody from to (Err f) = Halts loop_body from [] f
+ReadsLoopBody from to result = Reads loop_body from [] (λ xs.
+    (opened : Token) × (closed : Token) × (ended : Token)
+    × Leads loop_body from [] [] to
+    (the.token ended ∷ the.token closed ∷ item_values xs ∷ the.token opened ∷ [])) result
 
 abbrev pub ReadsBounds : Parser → Parser → Result (RustManifest × RustManifest) ParseFault → Type 0
-ReadsBounds from end (Ok bounds) = (each : Token) × (closed : Token) × (to : Token) × (colon : Token)
-    × Leads loop_bounds from [] [] end (bounds_read each closed to colon bounds)
-ReadsBounds from end (Err f) = Halts loop_bounds from [] f
+ReadsBounds from end result = Reads loop_bounds from [] (λ bounds.
+    (each : Token) × (closed : Token) × (to : Token) × (colon : Token)
+    × Leads loop_bounds from [] [] end (bounds_read each closed to colon bounds)) result
 
 -- THE WHOLE SOURCE
 
@@ -403,13 +407,13 @@ content_read colon equal ended at content =
     the.token ended ∷ the.lits content.1 ∷ the.token equal ∷ the.fix at content.0 ∷ the.token colon ∷ []
 
 abbrev pub ReadsContent : Parser → Parser → Result (FixType × List Lit) ParseFault → Type 0
-ReadsContent from to (Ok content) = (colon : Token) × (equal : Token) × (ended : Token) × (at : ℕ)
-    × Leads table_content from [] [] to (content_read colon equal ended at content)
-ReadsContent from to (Err f) = Halts table_content from [] f
+ReadsContent from to result = Reads table_content from [] (λ content.
+    (colon : Token) × (equal : Token) × (ended : Token) × (at : ℕ)
+    × Leads table_content from [] [] to (content_read colon equal ended at content)) result
 
 -- a function has a head, which are its name, its parameters and its results, and a body
 abbrev pub function_head : List Symbol
-function_head = Match (AName ∷ []) Outside ∷ decls_in_parentheses ++ Expand Results ∷ []
+function_head = Match (AName ∷ []) Outside ∷ list_in_parentheses comma.decls ++ Expand Results ∷ []
 
 abbrev pub function_body : List Symbol
 function_body =
@@ -430,15 +434,14 @@ body_read equal opened closed ended body =
     ∷ []
 
 abbrev pub ReadsHead : Parser → Parser → Result Head ParseFault → Type 0
-ReadsHead from to (Ok head) = (name : Token) × (opened : Token) × (closed : Token)
-    × (name_text name ≡ head.name) × (name.from ≡ head.at)
-    × Leads function_head from [] [] to (head_read name opened closed head)
-ReadsHead from to (Err f) = Halts function_head from [] f
+ReadsHead from to result = Reads function_head from [] (λ head.
+    (name : Token) × (opened : Token) × (closed : Token) × (name_text name ≡ head.name) × (name.from ≡ head.at)
+    × Leads function_head from [] [] to (head_read name opened closed head)) result
 
 abbrev pub ReadsBody : Parser → Parser → Result (List Decl × List Item) ParseFault → Type 0
-ReadsBody from to (Ok body) = (equal : Token) × (opened : Token) × (closed : Token) × (ended : Token)
-    × Leads function_body from [] [] to (body_read equal opened closed ended body)
-ReadsBody from to (Err f) = Halts function_body from [] f
+ReadsBody from to result = Reads function_body from [] (λ body.
+    (equal : Token) × (opened : Token) × (closed : Token) × (ended : Token)
+    × Leads function_body from [] [] to (body_read equal opened closed ended body)) result
 
 -- what the whole source goes on with between tables and functions
 abbrev pub source_rest : List Symbol
@@ -456,8 +459,8 @@ with_top tops t = the.tops (tops ++ view_top t ∷ []) ∷ []
 
 -- it reads a table or a function, to where the machine looks for the next one
 abbrev pub ReadsTop : Parser → List Top → Parser → Result RustTop ParseFault → Type 0
-ReadsTop from tops to (Ok top) = Leads source_rest from (the.tops tops ∷ []) source_rest to (with_top tops top)
-ReadsTop from tops to (Err f) = Halts source_rest from (the.tops tops ∷ []) f
+ReadsTop from tops to result = Reads source_rest from (the.tops tops ∷ []) (λ top.
+    Leads source_rest from (the.tops tops ∷ []) source_rest to (with_top tops top)) result
 
 -- what the whole run comes to, memory aside
 abbrev pub IsRun : List Token → Result Program ParseFault → Type 0

@@ -7,7 +7,9 @@ use Rattle.silage_syntax.specs.declared.tree.BinOp.TheVariants as op
 use Rattle.silage_syntax.specs.Grammar.{marked, Or, And, Sum, Product}
 use Rattle.silage_parse.specs.declared.expressions.Precedence.{Precedence}
 use Rattle.silage_parse.specs.declared.expressions.Precedence.TheVariants as r
-use Rattle.silage_parse.specs.Private.ParseTable.{Terminal, is_one, operators, comparisons, Inside, Symbol, Match, Expand, Act, Action, Nonterminal, Chain, Comparison, Shift, add_part, compare}
+use Rattle.silage_parse.specs.Private.ParseTable.{Terminal, is_one, operators, comparisons, Inside, Symbol, Match}
+use Rattle.silage_parse.specs.Private.ParseTable.{Expand, Act, Action, Nonterminal, Chain, Comparison, Shift, add_part}
+use Rattle.silage_parse.specs.Private.ParseTable.{compare}
 
 -- how many precedences are lower
 abbrev pub rank : Precedence → ℕ

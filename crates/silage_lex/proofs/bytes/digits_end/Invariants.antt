@@ -5,7 +5,8 @@ use Rattle.silage_lex.specs.Bytes.{is_digit}
 use Rattle.silage_lex.proofs.bytes.digits_end.Given as goal
 
 abbrev pub invariant-loop-end : goal.invariant-loop-end
-invariant-loop-end l = (l.fn.from ≤ l.end) × (l.end ≤ length l.src) × IsTrue (list_all is_digit (slice_range l.src l.fn.from l.end))
+invariant-loop-end l =
+    (l.fn.from ≤ l.end) × (l.end ≤ length l.src) × IsTrue (list_all is_digit (slice_range l.src l.fn.from l.end))
 
 abbrev pub decreases-loop-end : goal.decreases-loop-end
 decreases-loop-end l = length l.src - l.end

@@ -15,7 +15,15 @@ returns-in-Some-clause-gap c =
     let close = c.in-Some.ensures.some in
     let behind = close.behind in
     let opened =
-    opened_by c.args.src.now c.args.at (sym c.byte_at-2.ensures ∙ c.if-byte_at-ne47.false) (sym c.byte_at-else-byte_at-ne47.ensures ∙ c.if-byte_at-ne42.false) in
+    opened_by c.args.src.now c.args.at (sym c.byte_at-2.ensures ∙ c.if-byte_at-ne47.false)
+    (sym c.byte_at-else-byte_at-ne47.ensures ∙ c.if-byte_at-ne42.false) in
     let is_comment : IsComment c.args.src.now c.args.at (c.in-Some.close + 2) =
-    record { opened = opened; close = c.in-Some.close; behind = behind; closed = close.closed; next = close.next; ends = refl } in
+    record {
+      opened = opened;
+      close = c.in-Some.close;
+      behind = behind;
+      closed = close.closed;
+      next = close.next;
+      ends = refl;
+    } in
     ((omega arith), record { order = omega arith; within = close.within; gap = comment is_comment none })

@@ -21,6 +21,9 @@ returns-in-None-clause-err c = λ _. (
     within = c.requires.inside;
     no_blank = c.requires.starts.no_blank;
     no_comment = c.requires.starts.no_comment;
-    no_token = no_token c.args.src.now c.args.at (no_name_byte (slice_index c.args.src.now c.args.at) (sym c.if-is_letter.ensures) (sym c.if-is_digit.ensures)) c.in-None.ensures.none;
+    no_token =
+        no_token c.args.src.now c.args.at
+        (no_name_byte (slice_index c.args.src.now c.args.at) (sym c.if-is_letter.ensures) (sym c.if-is_digit.ensures))
+        c.in-None.ensures.none;
   },
 )

@@ -1,6 +1,7 @@
 use Rattle.std.proofs.Common.{◌+◌, arith, ◌∙◌}
 use Rattle.std.specs.Prelude.{slice_index, slice_range}
-use Rattle.silage_lex.proofs.Numbers.{pointed_text, pointed_span, pointed_digits, room_for, room_after, decimal-append, no_name_byte}
+use Rattle.silage_lex.proofs.Numbers.{pointed_text, pointed_span, pointed_digits, room_for, room_after, decimal-append}
+use Rattle.silage_lex.proofs.Numbers.{no_name_byte}
 use Rattle.silage_lex.proofs.Longest.{span_size}
 use Rattle.silage_lex.proofs.kinds.pointed_number.Goals as goal
 
@@ -49,7 +50,10 @@ returns-clause-ok c =
         fraction = slice_range c.args.src.now (c.args.point + 1) c.args.to;
         pointed = text;
         short = omega arith;
-        digits_are = c.value_after-digits.ensures.value ∙ decimal-append c.value_after-whole.result (slice_range c.args.src.now c.args.from c.args.point) (slice_range c.args.src.now (c.args.point + 1) c.args.to) c.value_after-whole.ensures.value;
+        digits_are =
+            c.value_after-digits.ensures.value
+            ∙ decimal-append c.value_after-whole.result (slice_range c.args.src.now c.args.from c.args.point)
+            (slice_range c.args.src.now (c.args.point + 1) c.args.to) c.value_after-whole.ensures.value;
         places_are = omega arith;
       };
       longest = span.longest;

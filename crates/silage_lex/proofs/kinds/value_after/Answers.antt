@@ -9,16 +9,20 @@ pub overflow_mul-value : goal.overflow_mul-value
 overflow_mul-value c =
     let i = c.loop-digit.invariant in
     let fits =
-    bound_within c.args.number c.loop-digit.value c.loop-digit.digit-index _ i.1 c.loop-digit-test.true c.requires.room in
+    bound_within c.args.number c.loop-digit.value c.loop-digit.digit-index _ i.1 c.loop-digit-test.true
+    c.requires.room in
     omega arith
 
 pub overflow_add-value : goal.overflow_add-value
 overflow_add-value c =
     let i = c.loop-digit.invariant in
     let fits =
-    bound_within c.args.number c.loop-digit.value c.loop-digit.digit-index _ i.1 c.loop-digit-test.true c.requires.room in
+    bound_within c.args.number c.loop-digit.value c.loop-digit.digit-index _ i.1 c.loop-digit-test.true
+    c.requires.room in
     let d =
-    digit_range (slice_index c.args.digits.now c.loop-digit.digit-index) (AllPass-from_list_all is_digit c.args.digits.now c.requires.digits c.loop-digit.digit-index 0 c.loop-digit-test.true) in
+    digit_range (slice_index c.args.digits.now c.loop-digit.digit-index)
+    (AllPass-from_list_all is_digit c.args.digits.now c.requires.digits c.loop-digit.digit-index 0
+    c.loop-digit-test.true) in
     let e = c.from.ensures in
     omega arith
 
@@ -26,7 +30,11 @@ pub loop-digit-preserved : goal.loop-digit-preserved
 loop-digit-preserved c =
     let i = c.loop-digit.invariant in
     let d =
-    digit_range (slice_index c.args.digits.now c.loop-digit.digit-index) (AllPass-from_list_all is_digit c.args.digits.now c.requires.digits c.loop-digit.digit-index 0 c.loop-digit-test.true) in
+    digit_range (slice_index c.args.digits.now c.loop-digit.digit-index)
+    (AllPass-from_list_all is_digit c.args.digits.now c.requires.digits c.loop-digit.digit-index 0
+    c.loop-digit-test.true) in
     let e = c.from.ensures in
-    let more = decimal_more c.args.number c.args.digits.now c.loop-digit.digit-index c.loop-digit-test.true in
-    ((omega arith), bound_more c.args.number c.loop-digit.value c.loop-digit.digit-index c.from.result i.1 (omega arith))
+    let more = decimal_more c.args.number c.args.digits.now c.loop-digit.digit-index c.loop-digit-test.true in (
+      (omega arith),
+      bound_more c.args.number c.loop-digit.value c.loop-digit.digit-index c.from.result i.1 (omega arith),
+    )

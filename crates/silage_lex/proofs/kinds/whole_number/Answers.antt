@@ -5,7 +5,8 @@ use Rattle.silage_lex.proofs.Longest.{span_size}
 use Rattle.silage_lex.proofs.kinds.whole_number.Goals as goal
 
 pub check_number-requires-clause-number : goal.check_number-requires-clause-number
-check_number-requires-clause-number c = whole_span c.args.src.now c.args.from c.args.to c.requires.digits c.requires.no_fraction
+check_number-requires-clause-number c =
+    whole_span c.args.src.now c.args.from c.args.to c.requires.digits c.requires.no_fraction
 
 pub check_number-requires-clause-digits : goal.check_number-requires-clause-digits
 check_number-requires-clause-digits c = sym (whole_digits c.args.src.now c.args.from c.args.to c.requires.digits)

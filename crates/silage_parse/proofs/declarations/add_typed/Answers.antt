@@ -10,20 +10,36 @@ use Rattle.silage_parse.proofs.declarations.add_typed.Goals as goal
 abbrev decls_of : SigType → List Declared → List Decl
 decls_of ty ds = map (typed ty) (map view_declared ds)
 
-one_more : (list : List Decl) {new all : List Decl} {items rest : List Declared} {ty : SigType} {d : Declared} {made : Decl} → items ≡ d ∷ rest → new ≡ list ++ made ∷ [] → made ≡ typed ty (view_declared d) → list ++ decls_of ty items ≡ all → new ++ decls_of ty rest ≡ all
+one_more :
+    (list : List Decl) {new all : List Decl} {items rest : List Declared} {ty : SigType} {d : Declared} {made : Decl}
+    → items ≡ d ∷ rest
+    → new ≡ list ++ made ∷ []
+    → made ≡ typed ty (view_declared d)
+    → list ++ decls_of ty items ≡ all
+    → new ++ decls_of ty rest ≡ all
 one_more list {new} {all} {items} {rest} {ty} {d} first grown is h =
-    ap (λ x. x ++ decls_of ty rest) grown ∙ append_assoc list _ _ ∙ ap (λ x. list ++ x ∷ decls_of ty rest) is ∙ ap (λ x. list ++ decls_of ty x) (sym first) ∙ h
+    ap (λ x. x ++ decls_of ty rest) grown ∙ append_assoc list _ _ ∙ ap (λ x. list ++ x ∷ decls_of ty rest) is
+    ∙ ap (λ x. list ++ decls_of ty x) (sym first) ∙ h
 
-no_more : (list : List Decl) {all : List Decl} {items : List Declared} (ty : SigType) → items ≡ [] → list ++ decls_of ty items ≡ all → list ≡ all
+no_more : (list : List Decl) {all : List Decl} {items : List Declared} (ty : SigType)
+    → items ≡ []
+    → list ++ decls_of ty items ≡ all
+    → list ≡ all
 no_more list ty none h = sym (append-nil list) ∙ ap (λ x. list ++ decls_of ty x) (sym none) ∙ h
 
-length_after : {items rest : List Declared} {d : Declared} {n m : ℕ} → items ≡ d ∷ rest → n + 1 ≡ m → m ≡ length items → n ≡ length rest
+length_after : {items rest : List Declared} {d : Declared} {n m : ℕ}
+    → items ≡ d ∷ rest
+    → n + 1 ≡ m
+    → m ≡ length items
+    → n ≡ length rest
 length_after first one h = let same = ap length first in omega arith
 
 pub loop-declared-init : goal.loop-declared-init
 loop-declared-init c =
-    let g = c.into_iter-declared-iterator.ensures.into_iter_gives in
-    (g.1 ∙ c.into_vec-declared-items.result.ok.0 ∙ ap length (sym g.0), ap (λ x. c.args.list.now ++ decls_of c.args.ty x) (g.0 ∙ c.into_vec-declared-items.ensures))
+    let g = c.into_iter-declared-iterator.ensures.into_iter_gives in (
+      g.1 ∙ c.into_vec-declared-items.result.ok.0 ∙ ap length (sym g.0),
+      ap (λ x. c.args.list.now ++ decls_of c.args.ty x) (g.0 ∙ c.into_vec-declared-items.ensures),
+    )
 
 pub loop-declared-preserved : goal.loop-declared-preserved
 loop-declared-preserved c =

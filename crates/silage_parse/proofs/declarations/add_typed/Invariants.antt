@@ -8,4 +8,5 @@ use Rattle.silage_parse.proofs.declarations.add_typed.Given as goal
 abbrev pub invariant-loop-declared : goal.invariant-loop-declared
 invariant-loop-declared l =
     (into_iter_len l.declared-iterator ≡ length (into_iter_items l.declared-iterator))
-    × (l.list ++ map (typed l.ty) (map view_declared (into_iter_items l.declared-iterator)) ≡ l.fn.list ++ map (typed l.ty) (map view_declared l.fn.names))
+    × (l.list ++ map (typed l.ty) (map view_declared (into_iter_items l.declared-iterator))
+    ≡ l.fn.list ++ map (typed l.ty) (map view_declared l.fn.names))

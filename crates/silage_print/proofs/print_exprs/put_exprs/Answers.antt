@@ -9,4 +9,7 @@ returns-in-empty c = none_viewed expr_text view_expr c.args.exprs.now _ c.in-emp
 
 pub returns-in_ok-put_expr-in-len1-up : goal.returns-in_ok-put_expr-in-len1-up
 returns-in_ok-put_expr-in-len1-up c =
-    ends _ _ c.put_other_exprs.result (λ h. some_viewed expr_text view_expr c.args.exprs.now _ _ c.in-len1-up.len_at_least c.first-item.is c.in_ok-put_expr-in-len1-up.ensures h) c.put_other_exprs.ensures
+    ends _ _ c.put_other_exprs.result (λ h.
+    some_viewed expr_text view_expr c.args.exprs.now _ _ c.in-len1-up.len_at_least c.first-item.is
+    c.in_ok-put_expr-in-len1-up.ensures h)
+    c.put_other_exprs.ensures

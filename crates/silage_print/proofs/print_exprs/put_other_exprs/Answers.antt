@@ -9,4 +9,5 @@ loop-e-init c = nothing
 
 pub loop-e-preserved : goal.loop-e-preserved
 loop-e-preserved c =
-    more (λ x. after_comma expr_text (view_expr x)) _ _ _ _ _ _ _ c.loop-e-test.true c.e-item.is c.loop-e.invariant (followed c.in_ok-put_symbol.ensures c.in_ok-put_expr.ensures)
+    more (λ x. after_comma expr_text (view_expr x)) _ _ _ _ _ _ _ c.loop-e-test.true c.e-item.is c.loop-e.invariant
+    (followed c.in_ok-put_symbol.ensures c.in_ok-put_expr.ensures)

@@ -9,4 +9,5 @@ loop-place-init c = nothing
 
 pub loop-place-preserved : goal.loop-place-preserved
 loop-place-preserved c =
-    more (λ p. after_comma place_text (view_place p)) _ _ _ _ _ _ _ c.loop-place-test.true c.place-item.is c.loop-place.invariant (followed c.in_ok-put_symbol.ensures c.in_ok-put_place.ensures)
+    more (λ p. after_comma place_text (view_place p)) _ _ _ _ _ _ _ c.loop-place-test.true c.place-item.is
+    c.loop-place.invariant (followed c.in_ok-put_symbol.ensures c.in_ok-put_place.ensures)

@@ -6,4 +6,5 @@ use Rattle.silage_print.specs.Private.Puts.{Puts}
 use Rattle.silage_print.proofs.print_exprs.put_other_places.Given as goal
 
 abbrev pub invariant-loop-place : goal.invariant-loop-place
-invariant-loop-place l = Puts l.fn.out (flat_map (λ p. after_comma place_text (view_place p)) (take l.place-index l.places)) l.out
+invariant-loop-place l =
+    Puts l.fn.out (flat_map (λ p. after_comma place_text (view_place p)) (take l.place-index l.places)) l.out

@@ -9,4 +9,7 @@ returns-in-empty c = none_viewed place_text view_place c.args.places.now _ c.in-
 
 pub returns-in_ok-put_place-in-len1-up : goal.returns-in_ok-put_place-in-len1-up
 returns-in_ok-put_place-in-len1-up c =
-    ends _ _ c.put_other_places.result (λ h. some_viewed place_text view_place c.args.places.now _ _ c.in-len1-up.len_at_least c.first-item.is c.in_ok-put_place-in-len1-up.ensures h) c.put_other_places.ensures
+    ends _ _ c.put_other_places.result (λ h.
+    some_viewed place_text view_place c.args.places.now _ _ c.in-len1-up.len_at_least c.first-item.is
+    c.in_ok-put_place-in-len1-up.ensures h)
+    c.put_other_places.ensures

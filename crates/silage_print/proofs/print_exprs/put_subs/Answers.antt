@@ -9,4 +9,5 @@ loop-sub-init c = nothing
 
 pub loop-sub-preserved : goal.loop-sub-preserved
 loop-sub-preserved c =
-    more (λ m. subscript_text (view_manifest m)) _ _ _ _ _ _ _ c.loop-sub-test.true c.sub-item.is c.loop-sub.invariant (followed (followed c.in_ok-put_symbol.ensures c.in_ok-put_manifest.ensures) c.in_ok-put_symbol-2.ensures)
+    more (λ m. subscript_text (view_manifest m)) _ _ _ _ _ _ _ c.loop-sub-test.true c.sub-item.is c.loop-sub.invariant
+    (followed (followed c.in_ok-put_symbol.ensures c.in_ok-put_manifest.ensures) c.in_ok-put_symbol-2.ensures)

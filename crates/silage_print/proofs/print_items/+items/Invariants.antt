@@ -7,4 +7,6 @@ use Rattle.silage_print.specs.Private.Puts.{Puts}
 use Rattle.silage_print.proofs.print_items.+items.Given as goal
 
 abbrev pub invariant-put_items-loop-item : goal.invariant-put_items-loop-item
-invariant-put_items-loop-item l = Puts l.fn.out (flat_map (λ x. clause_text (view_item x) ++ symbol punctuation.SEMICOLON ∷ []) (take l.item-index l.items)) l.out
+invariant-put_items-loop-item l =
+    Puts l.fn.out
+    (flat_map (λ x. clause_text (view_item x) ++ symbol punctuation.SEMICOLON ∷ []) (take l.item-index l.items)) l.out

@@ -11,5 +11,10 @@ returns c =
     let digits = c.as_bytes.ensures.value ∙ c.format.ensures.text in
     let places = c.from.ensures in
     let some = c.if-places-eq0.false in
-    let added = text ∙ ap (λ ds. c.args.out.now ++ pointed (filled ds c.from.result) c.from.result) digits ∙ ap (λ n. c.args.out.now ++ pointed (filled (decimal c.args.digits) n) n) places in
-    ends _ _ c.put_blank.result (λ h. pointed_put c.args.digits c.args.places c.args.out.now c.put_filled.new.out c.put_blank.new.out (grind (arith, nat_tests)) added h) c.put_blank.ensures
+    let added =
+    text ∙ ap (λ ds. c.args.out.now ++ pointed (filled ds c.from.result) c.from.result) digits
+    ∙ ap (λ n. c.args.out.now ++ pointed (filled (decimal c.args.digits) n) n) places in
+    ends _ _ c.put_blank.result (λ h.
+    pointed_put c.args.digits c.args.places c.args.out.now c.put_filled.new.out c.put_blank.new.out
+    (grind (arith, nat_tests)) added h)
+    c.put_blank.ensures

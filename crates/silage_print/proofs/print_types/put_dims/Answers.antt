@@ -10,5 +10,6 @@ loop-dim-init c = nothing
 
 pub loop-dim-preserved : goal.loop-dim-preserved
 loop-dim-preserved c =
-    more (λ n. bracketed (kind.Whole n ∷ [])) _ _ c.from.result _ _ _ _ c.loop-dim-test.true c.from.ensures c.loop-dim.invariant
+    more (λ n. bracketed (kind.Whole n ∷ [])) _ _ c.from.result _ _ _ _ c.loop-dim-test.true c.from.ensures
+    c.loop-dim.invariant
     (followed c.in_ok-put_symbol.ensures (followed c.in_ok-put_whole.ensures c.in_ok-put_symbol-2.ensures))

@@ -6,4 +6,5 @@ use Rattle.silage_print.proofs.print_types.put_lit.Goals as goal
 
 pub returns-in_ok-put_sign-in-Number : goal.returns-in_ok-put_sign-in-Number
 returns-in_ok-put_sign-in-Number c =
-    ends _ _ c.put_number.result (λ h. alike (sym (ap lit_text c.in-Number.is)) (followed c.in_ok-put_sign-in-Number.ensures h)) c.put_number.ensures
+    ends _ _ c.put_number.result
+    (λ h. alike (sym (ap lit_text c.in-Number.is)) (followed c.in_ok-put_sign-in-Number.ensures h)) c.put_number.ensures

@@ -9,4 +9,6 @@ returns-in-empty c = none_listed lit_text c.args.lits.now _ c.in-empty.len_below
 
 pub returns-in_ok-put_lit-in-len1-up : goal.returns-in_ok-put_lit-in-len1-up
 returns-in_ok-put_lit-in-len1-up c =
-    ends _ _ c.put_other_lits.result (λ h. some_listed lit_text c.args.lits.now _ _ c.in-len1-up.len_at_least refl c.in_ok-put_lit-in-len1-up.ensures h) c.put_other_lits.ensures
+    ends _ _ c.put_other_lits.result
+    (λ h. some_listed lit_text c.args.lits.now _ _ c.in-len1-up.len_at_least refl c.in_ok-put_lit-in-len1-up.ensures h)
+    c.put_other_lits.ensures

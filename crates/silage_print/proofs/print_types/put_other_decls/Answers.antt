@@ -8,4 +8,5 @@ loop-decl-init c = nothing
 
 pub loop-decl-preserved : goal.loop-decl-preserved
 loop-decl-preserved c =
-    more (after_comma decl_text) _ _ _ _ _ _ _ c.loop-decl-test.true c.decl-item.is c.loop-decl.invariant (followed c.in_ok-put_symbol.ensures c.in_ok-put_decl.ensures)
+    more (after_comma decl_text) _ _ _ _ _ _ _ c.loop-decl-test.true c.decl-item.is c.loop-decl.invariant
+    (followed c.in_ok-put_symbol.ensures c.in_ok-put_decl.ensures)

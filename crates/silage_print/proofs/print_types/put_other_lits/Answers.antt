@@ -9,4 +9,5 @@ loop-lit-init c = nothing
 
 pub loop-lit-preserved : goal.loop-lit-preserved
 loop-lit-preserved c =
-    more (after_comma lit_text) _ _ _ _ _ _ _ c.loop-lit-test.true refl c.loop-lit.invariant (followed c.in_ok-put_symbol.ensures c.in_ok-put_lit.ensures)
+    more (after_comma lit_text) _ _ _ _ _ _ _ c.loop-lit-test.true refl c.loop-lit.invariant
+    (followed c.in_ok-put_symbol.ensures c.in_ok-put_lit.ensures)

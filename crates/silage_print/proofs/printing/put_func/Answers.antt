@@ -8,5 +8,8 @@ use Rattle.silage_print.proofs.printing.put_func.Goals as goal
 pub returns : goal.returns
 returns c =
     let func = c.args.func.now in
-    let body = ap (λ ds. body_text ds (view_items c.deref-2.result.now)) c.deref.ensures ∙ ap (λ xs. body_text func.locals (view_items xs)) c.deref-2.ensures in
-    ends _ _ c.put_body.result (λ h. followed c.in_ok-put_head.ensures (followed c.in_ok-put_symbol.ensures (alike body h))) c.put_body.ensures
+    let body =
+    ap (λ ds. body_text ds (view_items c.deref-2.result.now)) c.deref.ensures
+    ∙ ap (λ xs. body_text func.locals (view_items xs)) c.deref-2.ensures in
+    ends _ _ c.put_body.result
+    (λ h. followed c.in_ok-put_head.ensures (followed c.in_ok-put_symbol.ensures (alike body h))) c.put_body.ensures

@@ -9,4 +9,5 @@ loop-top-init c = nothing
 
 pub loop-top-preserved : goal.loop-top-preserved
 loop-top-preserved c =
-    more (λ top. top_text (view_top top)) _ _ _ _ _ _ _ c.loop-top-test.true c.top-item.is c.loop-top.invariant c.in_ok-put_top.ensures
+    more (λ top. top_text (view_top top)) _ _ _ _ _ _ _ c.loop-top-test.true c.top-item.is c.loop-top.invariant
+    c.in_ok-put_top.ensures

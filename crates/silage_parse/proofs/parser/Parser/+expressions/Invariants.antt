@@ -51,20 +51,24 @@ abbrev pub decreases-more_branches : goal.decreases-more_branches
 decreases-more_branches l = 8 * (length l.self.now.tokens.now - l.self.now.at) + 0
 
 abbrev pub invariant-operation-operators : goal.invariant-operation-operators
-invariant-operation-operators l = Leads (Expand (operation l.loosest) ∷ []) l.fn.self [] (rests (rank l.tightest + 1) (rank l.loosest) ++ []) l.self (expr_value l.left ∷ [])
+invariant-operation-operators l =
+    Leads (Expand (operation l.loosest) ∷ []) l.fn.self [] (rests (rank l.tightest + 1) (rank l.loosest) ++ []) l.self
+    (expr_value l.left ∷ [])
 
 abbrev pub decreases-operation-operators : goal.decreases-operation-operators
 decreases-operation-operators l = length l.self.tokens.now - l.self.at
 
 abbrev pub invariant-shift-shifts : goal.invariant-shift-shifts
-invariant-shift-shifts l = Leads (Expand Shift ∷ []) l.fn.self [] (Expand Shifts ∷ []) l.self (expr_value l.operand ∷ [])
+invariant-shift-shifts l =
+    Leads (Expand Shift ∷ []) l.fn.self [] (Expand Shifts ∷ []) l.self (expr_value l.operand ∷ [])
 
 abbrev pub decreases-shift-shifts : goal.decreases-shift-shifts
 decreases-shift-shifts l = length l.self.tokens.now - l.self.at
 
 abbrev pub invariant-more_branches-arms : goal.invariant-more_branches-arms
 invariant-more_branches-arms l = (at : ℕ)
-    → Leads (Expand Arms ∷ []) l.fn.self (branches_value at l.fn.branches.items ∷ []) (Expand Arms ∷ []) l.self (branches_value at l.branches.items ∷ [])
+    → Leads (Expand Arms ∷ []) l.fn.self (branches_value at l.fn.branches.items ∷ [])
+    (Expand Arms ∷ []) l.self (branches_value at l.branches.items ∷ [])
 
 abbrev pub decreases-more_branches-arms : goal.decreases-more_branches-arms
 decreases-more_branches-arms l = length l.self.tokens.now - l.self.at

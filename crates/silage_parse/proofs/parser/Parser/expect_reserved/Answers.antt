@@ -1,5 +1,4 @@
-use Rattle.std.proofs.Common.{sym}
-use Rattle.silage_parse.proofs.Steps.{unlike}
+use Rattle.silage_parse.proofs.Steps.{sym, unlike}
 use Rattle.silage_parse.proofs.parser.Parser.expect_reserved.Goals as goal
 
 pub returns-then-not-is_reserved : goal.returns-then-not-is_reserved
