@@ -1,5 +1,6 @@
 -- A sample file that is fed to rows, from one end of a row to the next.
-use Rattle.std.proofs.Common.{◌≡◌, ℕ, ◌+◌, ◌-◌, ◌<◌, ◌≤◌, ◌^◌, List, [], ◌∷◌, ◌++◌, length, take, drop, refl, sym, ◌∙◌, subst, inl, inr, arith, length-drop}
+use Rattle.std.proofs.Common.{◌≡◌, ℕ, ◌+◌, ◌-◌, ◌<◌, ◌≤◌, ◌^◌, List, [], ◌∷◌, ◌++◌, length, take, drop, refl, sym, ◌∙◌}
+use Rattle.std.proofs.Common.{subst, inl, inr, arith, length-drop}
 use Rattle.std.proofs.Math.Seq.{take-add}
 use Rattle.std.proofs.lemmas.List.{length-take-le, take-append-drop, take_all}
 use Rattle.lists.specs.Rows.{Rows as Stream}
@@ -20,7 +21,9 @@ pub fed_none : (rows : FedRows) (samples : List ℕ) → HasTaken rows [] [] →
 fed_none rows samples fresh = record { within = omega arith; channels_are = refl; taken = fresh }
 
 -- all that is left
-pub rest_of : (samples : List ℕ) (at : ℕ) → at ≤ length samples → take (length samples - at) (drop at samples) ≡ drop at samples
+pub rest_of : (samples : List ℕ) (at : ℕ)
+    → at ≤ length samples
+    → take (length samples - at) (drop at samples) ≡ drop at samples
 rest_of samples at within = take_all (length samples - at) (drop at samples) (omega (arith, length-drop at samples))
 
 pub can_feed : (channels : List Channel) (samples : List ℕ) (at : ℕ) (rows : FedRows) (list : Stream)
@@ -28,7 +31,8 @@ pub can_feed : (channels : List Channel) (samples : List ℕ) (at : ℕ) (rows :
     → IsFedTo channels samples at rows list
     → CanTake rows (length (drop at samples))
 can_feed channels samples at rows list few fed =
-    inr (take at samples, list, fed.taken, omega (arith, length-take-le at samples fed.within, length-drop at samples, few))
+    inr
+    (take at samples, list, fed.taken, omega (arith, length-take-le at samples fed.within, length-drop at samples, few))
 
 -- a row more
 pub fed_more : (channels : List Channel) (samples : List ℕ) (at count : ℕ) (rows new : FedRows) (list : Stream)

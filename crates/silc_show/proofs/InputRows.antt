@@ -33,18 +33,27 @@ as_many [] (word ∷ row) h = absurd h
 as_many (width ∷ widths) [] h = absurd h
 as_many (width ∷ widths) (word ∷ row) h = let same = as_many widths row h.1 in omega (arith, same)
 
-input_row : (widths : List ℕ) (row : List ℤ) → All (λ width. width ≤ 32) widths → IsRow (map channel_of widths) row
+input_row : (widths : List ℕ) (row : List ℤ)
+    → All (λ width. width ≤ 32) widths
+    → IsRow (map channel_of widths) row
     → IsInputRow widths row
 input_row widths row all h = record { count = as_many widths row h; words = words_fit widths row all h }
 
-pub input_rows : (widths : List ℕ) (channels : List Channel) (rows : Rows) → All (λ width. width ≤ 32) widths
-    → channels ≡ map channel_of widths → IsStream channels rows → AreInputRows widths rows
+pub input_rows : (widths : List ℕ) (channels : List Channel) (rows : Rows)
+    → All (λ width. width ≤ 32) widths
+    → channels ≡ map channel_of widths
+    → IsStream channels rows
+    → AreInputRows widths rows
 input_rows widths channels rows all are h =
     All-weaker (IsRow (map channel_of widths)) (IsInputRow widths) (λ row is. input_row widths row all is) rows
     (subst (λ list. IsStream list rows) are h)
 
-pub are_channels : (widths : List ℕ) (channels : List Channel) → 1 ≤ length widths → length widths ≤ 16
-    → channels ≡ map channel_of widths → All IsChannel channels → AreChannels channels
+pub are_channels : (widths : List ℕ) (channels : List Channel)
+    → 1 ≤ length widths
+    → length widths ≤ 16
+    → channels ≡ map channel_of widths
+    → All IsChannel channels
+    → AreChannels channels
 are_channels widths channels some few are each =
     let count : length channels ≡ length widths = ap length are ∙ length-map widths channel_of in
     record { some = omega (arith, count, some); few = omega (arith, count, few); each = each }

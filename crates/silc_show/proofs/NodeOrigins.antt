@@ -1,17 +1,20 @@
 -- The typed form and the elements of a program that has no fault are what its flat program is made of.
 use Rattle.std.proofs.Common.{◌≡◌, ℕ, List}
 use Rattle.silage_syntax.specs.Tree.{Program}
-use Rattle.single_def.specs.declared.elements.Elements.{Elements}
-use Rattle.single_def.specs.Expansion.{IsExpansion}
-use Rattle.fix_types.specs.Translation.{typed_program}
-use Rattle.fix_types.specs.TypedTree.{view_typed}
-use Rattle.fix_types.specs.declared.typed.Typed.{Typed}
+use Rattle.source_elements.specs.declared.elements.Elements.{Elements}
+use Rattle.source_elements.specs.Expansion.{IsExpansion}
+use Rattle.typed_source.specs.Translation.{typed_program}
+use Rattle.typed_source.specs.TypedTree.{view_typed}
+use Rattle.typed_source.specs.declared.typed.Typed.{Typed}
 use Rattle.loop_expand.specs.Expanded.{AreOfOneProgram}
-use Rattle.front_end.specs.Faults.{HasProgram}
+use Rattle.source_faults.specs.Faults.{HasProgram}
 use Rattle.front_end.proofs.Counts.{checked}
 
-pub of_one : (source : List ℕ) (p : Program) (typed : Typed) (es : Elements) → HasProgram source p
-    → view_typed typed ≡ typed_program p → IsExpansion p es → AreOfOneProgram typed es
+pub of_one : (source : List ℕ) (p : Program) (typed : Typed) (es : Elements)
+    → HasProgram source p
+    → view_typed typed ≡ typed_program p
+    → IsExpansion p es
+    → AreOfOneProgram typed es
 of_one source p typed es has program elements = (
   p,
   record {

@@ -7,14 +7,18 @@ use Rattle.fix_word.specs.declared.types.Format.{Format}
 use Rattle.fix_word.specs.declared.types.SigType.{SigType}
 use Rattle.signal_graph.specs.Operations.{Class, input, output, constant, quantised, truth, choice, memory, class_of}
 use Rattle.signal_graph.specs.Rules.{IsWithin}
-use Rattle.signal_graph.specs.Flat.{Expr, raw, read, calculation, Parts, no_part, part, Body, word, value, Element, Program, view, view_elem}
-use Rattle.signal_graph.specs.FlatRules.{GivesWidth, IsExpr, AreExprs, Fits, ChoicesFit, AllFit, IsBodyOf, IsElement, IsFlat}
+use Rattle.signal_graph.specs.Flat.{Expr, raw, read, calculation, Parts, no_part, part, Body, word, value, Element}
+use Rattle.signal_graph.specs.Flat.{Program, view, view_elem}
+use Rattle.signal_graph.specs.FlatRules.{GivesWidth, IsExpr, AreExprs, Fits, ChoicesFit, AllFit, IsBodyOf, IsElement}
+use Rattle.signal_graph.specs.FlatRules.{IsFlat}
 use Rattle.signal_graph.specs.declared.flat.FlatProgram.{FlatProgram}
 
 abbrev with_outs : Program → List ℕ → Program
 with_outs p outs = record p { outs = outs }
 
-gives : (class : Class) (fmt : Format) (A B : Type 0) (w : ℕ) → (A → B) → GivesWidth class fmt A w
+gives : (class : Class) (fmt : Format) (A B : Type 0) (w : ℕ)
+    → (A → B)
+    → GivesWidth class fmt A w
     → GivesWidth class fmt B w
 gives input fmt A B w f h = h
 gives output fmt A B w f h = h
@@ -57,7 +61,9 @@ module _ (p : Program) (outs : List ℕ) where
   element : (e : Element) → IsElement p e → IsElement (with_outs p outs) e
   element e h = record { ty = h.ty; body = body e.ty e.body h.body; inits = h.inits }
 
-  with_outputs : IsFlat p → IsWithin 1 16 (length outs) → All (λ (e : ℕ). e < length p.elems) outs
+  with_outputs : IsFlat p
+      → IsWithin 1 16 (length outs)
+      → All (λ (e : ℕ). e < length p.elems) outs
       → IsFlat (with_outs p outs)
   with_outputs is count within = record {
     input_count = is.input_count;
@@ -70,8 +76,11 @@ module _ (p : Program) (outs : List ℕ) where
   }
 
 -- the outputs are elements
-pub flat_with : (p : FlatProgram) (outs : List ℕ) → IsFlat (view p) → IsWithin 1 16 (length outs)
-    → All (λ (e : ℕ). e < length p.elems) outs → IsFlat (view (record p { outs = outs }))
+pub flat_with : (p : FlatProgram) (outs : List ℕ)
+    → IsFlat (view p)
+    → IsWithin 1 16 (length outs)
+    → All (λ (e : ℕ). e < length p.elems) outs
+    → IsFlat (view (record p { outs = outs }))
 flat_with p outs is count within =
     with_outputs (view p) outs is count
     (subst (λ n. All (λ (e : ℕ). e < n) outs) (sym (length-map p.elems view_elem)) within)

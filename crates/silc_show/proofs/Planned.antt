@@ -21,5 +21,6 @@ planned g d p sound plan = record { graph = g; sound = sound; plan = plan }
 pub lifetimes_allottable : (d : Datapath) (p : Plan) → IsDatapath d → IsPlanned d p → AreAllottable d p.arcs
 lifetimes_allottable d p allowed planned =
     let plan = planned.plan in
-    allottable planned.graph d planned.sound p.assigned plan.lowered allowed plan.assigned p.schedule plan.schedule p.arcs
+    allottable planned.graph d planned.sound p.assigned plan.lowered allowed plan.assigned p.schedule plan.schedule
+    p.arcs
     plan.arcs

@@ -1,10 +1,13 @@
 -- What a trace reads is there.
-use Rattle.std.proofs.Common.{◌≡◌, ◌<◌, ◌≤◌, ◌⊎◌, inl, inr, ◌∙◌, refl, sym, ap, subst, arith, ℕ, ◌+◌, ◌*◌, ◌/◌, ◌^◌, List, [], ◌∷◌, ◌++◌, length, map, slice_get, slice_index_or, Option, Some, None, IsSomeAnd, lit≤}
+use Rattle.std.proofs.Common.{◌≡◌, ◌<◌, ◌≤◌, ◌⊎◌, inl, inr, ◌∙◌, refl, sym, ap, subst, arith, ℕ, ◌+◌, ◌*◌, ◌/◌, ◌^◌}
+use Rattle.std.proofs.Common.{List, [], ◌∷◌, ◌++◌, length, map, slice_get, slice_index_or, Option, Some, None}
+use Rattle.std.proofs.Common.{IsSomeAnd, lit≤}
 use Rattle.std.specs.List.{range_with_len}
 use Rattle.std.proofs.Math.Nat.{mod-lt, div-le_self}
 use Rattle.std.proofs.lemmas.List.{get_or_default}
 use Rattle.std.proofs.lemmas.List.FromFn.{map-range_with_len_more}
 use Rattle.std.proofs.lemmas.Option.{get_or_from_slice_get, slice_get-get_or, slice_get_read, slice_get_within}
+use Rattle.operations.proofs.Ports.{enough_ports}
 use Rattle.fix_word.specs.Operations.{IsReady}
 use Rattle.fix_word.specs.declared.types.Format.{Format}
 use Rattle.fix_word.specs.declared.operation.Op.{Op}
@@ -92,13 +95,10 @@ pub unit_valid : (image : Image) (number : ℕ) (unit : UnitDesc)
     → IsUnit image.units unit
 unit_valid image number unit valid below is = subst (IsUnit image.units) (sym is) (valid.units number unit below)
 
-reads-le : (o : Op) → reads o ≤ ports (kind_of o)
-reads-le op.Sel = lit≤ tt
-reads-le _ = lit≤ tt
-
-module _ (image : Image) (issue : Issue) (unit : UnitDesc) (on : CanDo image issue unit) (is : IsUnit image.units unit) where
+module _ (image : Image) (issue : Issue) (unit : UnitDesc) (on : CanDo image issue unit)
+    (is : IsUnit image.units unit) where
   port_below : (port : ℕ) → port < reads issue.op → port < length unit.files
-  port_below port lt = omega (arith, lt, reads-le issue.op, ap ports on.does, is.file_count)
+  port_below port lt = omega (arith, lt, enough_ports issue.op, ap ports on.does, is.file_count)
 
   -- an issue has a register for each port that its operation reads
   pub regs_below : (port : ℕ) → port < reads issue.op → port < length issue.regs
@@ -111,7 +111,8 @@ module _ (image : Image) (issue : Issue) (unit : UnitDesc) (on : CanDo image iss
       → HasRegister unit port reg
   register_there port reg lt at =
       let below = port_below port lt in
-      let named : slice_get issue.regs port ≡ Some reg = slice_get_read issue.regs _ port reg refl (regs_below port lt) at in
+      let named : slice_get issue.regs port ≡ Some reg =
+      slice_get_read issue.regs _ port reg refl (regs_below port lt) at in
       let same : nth issue.regs port 0 ≡ reg = get_or_from_slice_get issue.regs port reg 0 named in
       subst (λ o. IsSomeAnd o (λ file. reg < length file)) (sym (slice_get-get_or unit.files port [] below))
       (subst (λ r. r < length (nth unit.files port [])) same (on.regs.there port below))

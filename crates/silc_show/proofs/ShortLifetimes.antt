@@ -1,5 +1,6 @@
 -- Short lifetimes can get registers.
-use Rattle.std.proofs.Common.{◌≡◌, inl, inr, ⊎_elim, ℕ, ◌+◌, ◌/◌, ◌<◌, ◌≤◌, sym, subst, arith, List, [], ◌∷◌, ◌++◌, length, get_or}
+use Rattle.std.proofs.Common.{◌≡◌, inl, inr, ⊎_elim, ℕ, ◌+◌, ◌/◌, ◌<◌, ◌≤◌, sym, subst, arith, List, [], ◌∷◌, ◌++◌}
+use Rattle.std.proofs.Common.{length, get_or}
 use Rattle.std.specs.List.{All, AllPairs}
 use Rattle.std.proofs.lemmas.Bool.{cases_lt}
 use Rattle.std.proofs.lemmas.List.Elements.{All-get_or, All-nil, All-push, All-weaker}
@@ -33,8 +34,11 @@ none_short d port = record {
 later : (m n : ℕ) → m < n → m / 2 ≤ n / 2
 later m n less = omega (arith, less)
 
-before : (port : PortRef) (node : ℕ) (a b : Arc) → IsShort port node a
-    → b.node ≡ node → b.w ≡ node / 2 → b.port ≡ port
+before : (port : PortRef) (node : ℕ) (a b : Arc)
+    → IsShort port node a
+    → b.node ≡ node
+    → b.w ≡ node / 2
+    → b.port ≡ port
     → IsArcBefore a b
 before port node a b short node_is write port_is =
     inr (
@@ -55,8 +59,11 @@ differs port node a b short node_is same =
     omega (arith, less, one, node_is)
 
 pub short_pushed : (d : Datapath) (port : PortRef) (node : ℕ) (arcs : List Arc) (arc : Arc)
-    → AreShort d port node arcs → IsAllottable d arc
-    → arc.node ≡ node → arc.w ≡ node / 2 → arc.port ≡ port
+    → AreShort d port node arcs
+    → IsAllottable d arc
+    → arc.node ≡ node
+    → arc.w ≡ node / 2
+    → arc.port ≡ port
     → AreShort d port (node + 1) (arcs ++ arc ∷ [])
 short_pushed d port node arcs arc short allottable node_is write port_is =
     let at : (k : ℕ) (default : Arc) → k < length arcs → IsShort port node (get_or arcs k default)
@@ -64,14 +71,16 @@ short_pushed d port node arcs arc short allottable node_is write port_is =
     record {
       allottable = record {
         order = all_pairs_push IsArcBefore arcs arc short.allottable.order
-            (λ k default below. before port node (get_or arcs k default) arc (at k default below) node_is write port_is);
+            (λ k default below.
+            before port node (get_or arcs k default) arc (at k default below) node_is write port_is);
         once = all_pairs_push AreDifferent arcs arc short.allottable.once
             (λ k default below. differs port node (get_or arcs k default) arc (at k default below) node_is);
         each = All-push (IsAllottable d) arcs arc short.allottable.each allottable;
       };
       each = All-push (IsShort port (node + 1)) arcs arc
           (All-weaker (IsShort port node) (IsShort port (node + 1))
-          (λ a is. let less = is.before in record { before = omega (arith, less); write = is.write; port_is = is.port_is })
+          (λ a is.
+          let less = is.before in record { before = omega (arith, less); write = is.write; port_is = is.port_is })
           arcs short.each)
           (record { before = omega (arith, node_is); write = omega (arith, write, node_is); port_is = port_is });
     }

@@ -18,7 +18,9 @@ zero_in_type : (ty : SigType) → IsInType ty (pos 0)
 zero_in_type (sig.Fix t) = zero_word t.shape.w
 zero_in_type sig.Bool = (omega (arith, ints), omega (arith, ints))
 
-pub zeros_fit : (types : List SigType) (row : List ℤ) → length row ≡ length types → All (λ (z : ℤ). z ≡ pos 0) row
+pub zeros_fit : (types : List SigType) (row : List ℤ)
+    → length row ≡ length types
+    → All (λ (z : ℤ). z ≡ pos 0) row
     → AllZip IsInType types row
 zeros_fit [] [] count zeros = tt
 zeros_fit [] (z ∷ row) count zeros = absurd (omega (arith, count))

@@ -15,20 +15,11 @@ use micro_image::{Image, Issue, UnitDesc};
 use operations::{Operand, reads};
 use std::alloc::{AllocError, Global};
 
-/// A register of the file at a port of a unit.
-#[derive(Clone, Copy, PartialEq, Eq, Hash)]
-struct Register {
-    unit: u8,
-    port: usize,
-    reg: u8,
-}
+/// A unit, a port of it, and a register of the file there.
+type Register = (u8, usize, u8);
 
-/// A cell of a ram.
-#[derive(Clone, Copy, PartialEq, Eq, Hash)]
-struct Cell {
-    ram: u8,
-    cell: usize,
-}
+/// A ram, and a cell of it.
+type Cell = (u8, usize);
 
 /// The words that were written to registers and cells. A place that was not written holds the word of the image.
 #[derive(Drop)]
@@ -51,13 +42,11 @@ impl Contents {
     {
         match wrote.spot {
             Spot::Register { unit, port, reg } => {
-                let port = usize::from(port);
-                let register = Register { unit, port, reg };
+                let register = (unit, usize::from(port), reg);
                 self.registers.insert(register, Operand::new(wrote.value))?;
             }
             Spot::Cell { ram, cell } => {
-                let cell = cell as usize;
-                self.cells.insert(Cell { ram, cell }, wrote.value)?;
+                self.cells.insert((ram, cell as usize), wrote.value)?;
             }
             Spot::Latch(_) => {}
         }
@@ -72,12 +61,7 @@ impl Contents {
     {
         let unit = &image.units[issue.unit as usize];
         let reg = issue.regs[port];
-        let register = Register {
-            unit: issue.unit,
-            port,
-            reg,
-        };
-        match self.registers.get(&register) {
+        match self.registers.get(&(issue.unit, port, reg)) {
             Some(word) => *word,
             None => first_word(unit, port, reg),
         }
@@ -102,7 +86,7 @@ impl Contents {
         let Ok(cell) = usize::try_from(address.get()) else {
             return 0;
         };
-        if let Some(word) = self.cells.get(&Cell { ram, cell }) {
+        if let Some(word) = self.cells.get(&(ram, cell)) {
             return *word;
         }
         match image.units[ram as usize].cells.get(cell) {

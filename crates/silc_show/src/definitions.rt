@@ -1,9 +1,9 @@
 //! Where the elements of a program are defined.
 
 use lists::{List, Name};
-use name_check::{Env, manifest};
 use silage_tree::{Decl, Func, Item, Place, Program, Top};
-use single_def::{Element, Elements, Instance};
+use source_elements::{Element, Elements, Instance};
+use source_names::{Env, manifest};
 use std::alloc::{AllocError, Global};
 
 /// What defines an element of a function, or all elements of an array where it names no place in it.
@@ -16,27 +16,28 @@ pub struct Definition {
     at: u32,
 }
 
-/// The signals of a function in the order of its elements.
+/// The declaration at a position, in the order of the function's elements.
 pub fn declaration(func: &Func, position: u32) -> Option<&Decl> {
-    func.params
-        .iter()
-        .chain(func.results.iter())
-        .chain(func.locals.iter())
-        .nth(position as usize)
+    let mut position = position as usize;
+    for decls in [&func.params, &func.results, &func.locals] {
+        if let Some(decl) = decls.get(position) {
+            return Some(decl);
+        }
+        position = position.saturating_sub(decls.len());
+    }
+    None
 }
 
+/// The position of the declaration of a name.
 fn position_of(func: &Func, name: &Name) -> Option<u32> {
     let mut position = 0u32;
-    let decls = func
-        .params
-        .iter()
-        .chain(func.results.iter())
-        .chain(func.locals.iter());
-    for decl in decls {
-        if decl.name == *name {
-            return Some(position);
+    for decls in [&func.params, &func.results, &func.locals] {
+        for decl in decls {
+            if decl.name == *name {
+                return Some(position);
+            }
+            position = position.saturating_add(1);
         }
-        position = position.saturating_add(1);
     }
     None
 }
@@ -130,7 +131,12 @@ fn add_item(
 }
 
 fn is_met(found: &[Instance], func: u32) -> bool {
-    found.iter().any(|instance| instance.func == func)
+    for instance in found {
+        if instance.func == func {
+            return true;
+        }
+    }
+    false
 }
 
 /// What defines the elements of the functions that have an instance.
@@ -170,7 +176,7 @@ pub fn defined_at(
         if element.inst > 0 {
             return Some(instance.site);
         }
-        return declaration(func, element.decl).map(|decl| decl.at);
+        return Some(declaration(func, element.decl)?.at);
     }
     for definition in definitions {
         let is_here = match definition.place {

@@ -3,18 +3,19 @@
 ghost use Rattle.std.specs.Prelude.{◌≡◌, IfOk};
 ghost use Rattle.ranked_faults.specs.Ranked.{IsClear};
 ghost use Rattle.silage_syntax.specs.Tree.{view};
-ghost use Rattle.name_check.specs.NameFaults.{name_faults, IsMain};
-ghost use Rattle.name_check.specs.TopNames.{top_names};
-ghost use Rattle.single_def.specs.Expansion.{IsExpansion};
-ghost use Rattle.single_def.specs.Signatures.{HaveResults};
+ghost use Rattle.source_names.specs.NameFaults.{name_faults, IsMain};
+ghost use Rattle.source_names.specs.TopNames.{top_names};
+ghost use Rattle.source_elements.specs.Expansion.{IsExpansion};
+ghost use Rattle.source_elements.specs.Signatures.{HaveResults};
 
+use crate::definitions::declaration;
 use crate::names::names_of;
-use crate::page::Page;
-use crate::source::{Refusal, of_elements, program_of};
-use name_check::Names;
-use silage_tree::Program;
-use single_def::{Element, Elements, Instance, Subscripts, check_elements};
-use std::alloc::Global;
+use crate::page::{Page, Refused};
+use crate::source::{program_of, refuse_elements};
+use silage_tree::{Func, Program};
+use single_def::check_elements;
+use source_elements::{Element, Elements, Instance, Subscripts, subscripts_at};
+use source_names::Names;
 
 fn put_instance(page: &mut Page, number: usize, instance: &Instance) {
     page.number("instance ", number);
@@ -35,8 +36,7 @@ fn put_element(page: &mut Page, number: usize, element: &Element) {
     page.end();
 }
 
-/// The subscripts of an element of an array.
-pub fn put_subscripts(page: &mut Page, subscripts: Option<Subscripts>) {
+fn put_subscripts(page: &mut Page, subscripts: Option<Subscripts>) {
     match subscripts {
         Some(Subscripts::One(first)) => {
             page.number("[", first);
@@ -51,39 +51,46 @@ pub fn put_subscripts(page: &mut Page, subscripts: Option<Subscripts>) {
     }
 }
 
+/// The name that an element has in its function, and its subscripts in an array.
+pub fn put_signal(page: &mut Page, func: &Func, element: &Element) {
+    if let Some(decl) = declaration(func, element.decl) {
+        page.name("", &decl.name);
+        put_subscripts(page, subscripts_at(&decl.dims, element.place));
+    }
+}
+
 /// The instances and elements of a program with its names.
 pub fn expanded(
-    alloc: Global,
+    page: &mut Page,
     source: &[u8],
     program: &Program,
     names: &Names,
-) -> Result<Elements, Refusal>
+) -> Result<Elements, Refused>
     requires clear { IsClear (name_faults (view program.now)) }
     requires tops { names.now.tops ≡ top_names (view program.now) }
     requires main { IsMain (view program.now) names.now.main }
     requires results { HaveResults (view program.now) }
     ensures { IfOk result (IsExpansion (view program.now)) }
 {
-    match check_elements(alloc, program, names) {
+    match check_elements(page.alloc, program, names) {
         Ok(elements) => Ok(elements),
-        Err(fault) => Err(of_elements(alloc, source, fault)),
+        Err(fault) => Err(refuse_elements(page, source, fault)),
     }
 }
 
-pub fn elements_of(alloc: Global, source: &[u8]) -> Result<Elements, Refusal> {
-    let program = program_of(alloc, source)?;
-    let names = names_of(alloc, source, &program)?;
-    expanded(alloc, source, &program, &names)
+pub fn elements_of(page: &mut Page, source: &[u8]) -> Result<Elements, Refused> {
+    let program = program_of(page, source)?;
+    let names = names_of(page, source, &program)?;
+    expanded(page, source, &program, &names)
 }
 
-pub fn page(alloc: Global, source: &[u8]) -> Result<Page, Refusal> {
-    let found = elements_of(alloc, source)?;
-    let mut page = Page::new(alloc);
+pub fn put(page: &mut Page, source: &[u8]) -> Result<(), Refused> {
+    let found = elements_of(page, source)?;
     for (number, instance) in found.instances.iter().enumerate() {
-        put_instance(&mut page, number, instance);
+        put_instance(page, number, instance);
     }
     for (number, element) in found.elements.iter().enumerate() {
-        put_element(&mut page, number, element);
+        put_element(page, number, element);
     }
-    Ok(page)
+    Ok(())
 }

@@ -73,13 +73,6 @@ fn operator_text(op: BinOp) -> &'static str {
     }
 }
 
-fn put_read(page: &mut Page, lead: Lead, place: &Place, delay: &Option<Manifest>) {
-    put_place(page, lead, "read", place);
-    if let Some(amount) = delay {
-        put_manifest(page, lead.below("delay"), amount);
-    }
-}
-
 fn put_cast(page: &mut Page, lead: Lead, ty: FixType, at: u32) {
     page.lead(lead);
     page.fix_type("cast ", ty);
@@ -89,7 +82,12 @@ fn put_cast(page: &mut Page, lead: Lead, ty: FixType, at: u32) {
 pub fn put_expr(page: &mut Page, lead: Lead, expr: &Expr) {
     match expr {
         Expr::Lit(lit) => put_lit(page, lead, *lit),
-        Expr::Read { place, delay } => put_read(page, lead, place, delay),
+        Expr::Read { place, delay } => {
+            put_place(page, lead, "read", place);
+            if let Some(amount) = delay {
+                put_manifest(page, lead.below("delay"), amount);
+            }
+        }
         Expr::Negate(at, operand) => {
             page.node(lead, "negate", *at);
             put_expr(page, lead.below("operand"), operand);

@@ -3,41 +3,40 @@
 
 ghost use Rattle.std.specs.Prelude.{IfOk};
 ghost use Rattle.silage_syntax.specs.Tree.{view};
-ghost use Rattle.front_end.specs.Faults.{HasProgram};
+ghost use Rattle.source_faults.specs.Faults.{HasProgram};
 ghost use Rattle.signal_graph.specs.GraphRules.{IsGraph};
 ghost use Rattle.signal_graph.specs.GraphSolves.{IsGraphLoopless};
 
-use crate::page::Page;
-use crate::source::{Refusal, refusal};
-use front_end::{Accepted, FrontError, Rejection, accept};
+use crate::page::{Page, Refused};
+use front_end::{Accepted, accept};
 use operations::operation_name;
 use signal_graph::{Graph, Node};
-use std::alloc::Global;
+use source_faults::{FrontError, Rejection};
 
-fn rejected(alloc: Global, rejection: &Rejection) -> Refusal {
+fn refuse_source(page: &mut Page, rejection: &Rejection) -> Refused {
     match rejection.error {
-        FrontError::Fault(fault) => refusal(alloc, &fault, rejection.line),
-        FrontError::Memory => Page::cut(alloc),
+        FrontError::Fault(fault) => page.refuse_at(&fault, rejection.line),
+        FrontError::Memory => page.cut(),
     }
 }
 
 /// The program of a source, and its graph.
-pub fn accepted_of(alloc: Global, source: &[u8]) -> Result<Accepted, Refusal>
+pub fn accepted_of(page: &mut Page, source: &[u8]) -> Result<Accepted, Refused>
     ensures program { IfOk result (λ accepted. HasProgram source.now (view accepted.program)) }
     ensures sound { IfOk result (λ accepted. IsGraph accepted.graph) }
     ensures loopless { IfOk result (λ accepted. IsGraphLoopless accepted.graph) }
 {
-    match accept(alloc, source) {
+    match accept(page.alloc, source) {
         Ok(accepted) => Ok(accepted),
-        Err(rejection) => Err(rejected(alloc, &rejection)),
+        Err(rejection) => Err(refuse_source(page, &rejection)),
     }
 }
 
-pub fn graph_of(alloc: Global, source: &[u8]) -> Result<Graph, Refusal>
+pub fn graph_of(page: &mut Page, source: &[u8]) -> Result<Graph, Refused>
     ensures sound { IfOk result IsGraph }
     ensures loopless { IfOk result IsGraphLoopless }
 {
-    Ok(accepted_of(alloc, source)?.graph)
+    Ok(accepted_of(page, source)?.graph)
 }
 
 pub fn put_operands(page: &mut Page, node: &Node) {
@@ -69,15 +68,14 @@ fn put_node(page: &mut Page, number: usize, node: &Node) {
     page.end();
 }
 
-pub fn page(alloc: Global, source: &[u8]) -> Result<Page, Refusal> {
-    let graph = graph_of(alloc, source)?;
-    let mut page = Page::new(alloc);
+pub fn put(page: &mut Page, source: &[u8]) -> Result<(), Refused> {
+    let graph = graph_of(page, source)?;
     for ty in &graph.inputs {
         page.sig_type("input ", *ty);
         page.end();
     }
     for (number, node) in graph.nodes.iter().enumerate() {
-        put_node(&mut page, number, node);
+        put_node(page, number, node);
     }
-    Ok(page)
+    Ok(())
 }

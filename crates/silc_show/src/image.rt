@@ -5,13 +5,11 @@ ghost use Rattle.std.specs.Prelude.{IfOk};
 ghost use Rattle.micro_image.specs.Spells.{Spells};
 ghost use Rattle.micro_image.specs.Valid.{IsValid};
 
-use crate::page::Page;
-use crate::source::{Refusal, refusal, too_long};
+use crate::page::{Page, Refused};
 use lists::Bytes;
 use micro_file::{CodeFault, FormFault, decode, encode};
 use micro_image::{Enable, Image, Issue, Take, UnitDesc, Word};
 use operations::operation_name;
-use std::alloc::Global;
 
 /// A microcode file has at most this many bytes.
 const MICROCODE_LIMIT: usize = 1 << 26;
@@ -91,38 +89,37 @@ fn put_image(page: &mut Page, image: &Image) {
     }
 }
 
-pub fn image_of(alloc: Global, bytes: &[u8]) -> Result<Image, Refusal>
+pub fn image_of(page: &mut Page, bytes: &[u8]) -> Result<Image, Refused>
     ensures spelled { IfOk result (λ image. Spells bytes.now image) }
     ensures valid { IfOk result (λ image. IsValid image) }
 {
     if bytes.len() > MICROCODE_LIMIT {
-        return Err(too_long(alloc));
+        return Err(page.refuse_length());
     }
-    match decode(alloc, bytes) {
+    match decode(page.alloc, bytes) {
         Ok(image) => Ok(image),
-        Err(FormFault::Memory) => Err(Page::cut(alloc)),
-        Err(fault) => Err(refusal(alloc, &fault, None)),
+        Err(FormFault::Memory) => Err(page.cut()),
+        Err(fault) => Err(page.refuse(&fault)),
     }
 }
 
-pub fn bytes_of(alloc: Global, image: &Image) -> Result<Bytes, Refusal>
+pub fn bytes_of(page: &mut Page, image: &Image) -> Result<Bytes, Refused>
     requires { IsValid image.now }
 {
-    match encode(alloc, image) {
+    match encode(page.alloc, image) {
         Ok(bytes) => Ok(bytes),
-        Err(CodeFault::Memory) => Err(Page::cut(alloc)),
+        Err(CodeFault::Memory) => Err(page.cut()),
     }
 }
 
-pub fn page(alloc: Global, bytes: &[u8]) -> Result<Page, Refusal> {
-    let image = image_of(alloc, bytes)?;
-    let again = bytes_of(alloc, &image)?;
-    let mut page = Page::new(alloc);
-    put_image(&mut page, &image);
+pub fn put(page: &mut Page, bytes: &[u8]) -> Result<(), Refused> {
+    let image = image_of(page, bytes)?;
+    let again = bytes_of(page, &image)?;
+    put_image(page, &image);
     page.text(if again.as_slice() == bytes {
         "same\n"
     } else {
         "other bytes\n"
     });
-    Ok(page)
+    Ok(())
 }

@@ -5,9 +5,8 @@ ghost use Rattle.std.specs.Prelude.{◌≡◌, ◌/◌, ◌+◌, IfOk, IfSome};
 ghost use Rattle.datapath.specs.Allowed.{IsDatapath, IsPort};
 ghost use Rattle.reg_alloc.specs.Allottable.{AreAllottable};
 
-use crate::page::Page;
+use crate::page::{Page, Refused};
 use crate::path::datapath_of;
-use crate::source::{Refusal, told};
 use datapath::{Datapath, PortRef};
 use lists::List;
 use plan_core::{Arc, Arcs};
@@ -61,45 +60,43 @@ fn short_lifetimes(alloc: Global, path: &Datapath, port: PortRef) -> Result<Arcs
     Ok(arcs)
 }
 
-/// What the turns of `allot` over these lifetimes add up to: the lifetimes that got registers.
-pub fn allot_again(
-    alloc: Global,
-    turns: u32,
-    arcs: &Arcs,
-    path: &Datapath,
-) -> Result<u64, FileFault>
+/// How many lifetimes get registers.
+pub fn registers(page: &mut Page, arcs: &Arcs, path: &Datapath) -> Result<usize, Refused>
+    requires path { IsDatapath path.now }
+    requires arcs { AreAllottable path.now arcs.now }
+{
+    match allot(page.alloc, arcs, path) {
+        Ok(allotted) => Ok(allotted.regs.len()),
+        Err(FileFault::Memory) => Err(page.cut()),
+        Err(fault) => Err(page.refuse_in_words(&fault)),
+    }
+}
+
+fn allot_again(page: &mut Page, turns: u32, arcs: &Arcs, path: &Datapath) -> Result<u64, Refused>
     requires path { IsDatapath path.now }
     requires arcs { AreAllottable path.now arcs.now }
 {
     let mut count = 0u64;
     for _ in 0..turns {
-        count = count.wrapping_add(allot(alloc, arcs, path)?.regs.len() as u64);
+        count = count.wrapping_add(registers(page, arcs, path)? as u64);
     }
     Ok(count)
 }
 
-fn allot_short(alloc: Global, turns: u32, path: &Datapath) -> Result<u64, FileFault>
+fn allot_short(page: &mut Page, turns: u32, path: &Datapath) -> Result<u64, Refused>
     requires { IsDatapath path.now }
 {
     let Some(port) = first_port(path) else {
         return Ok(0);
     };
-    let arcs = short_lifetimes(alloc, path, port)?;
-    allot_again(alloc, turns, &arcs, path)
-}
-
-pub fn without_registers(alloc: Global, fault: FileFault) -> Refusal {
-    match fault {
-        FileFault::Memory => Page::cut(alloc),
-        fault => told(alloc, &fault),
+    match short_lifetimes(page.alloc, path, port) {
+        Ok(arcs) => allot_again(page, turns, &arcs, path),
+        Err(_) => Err(page.cut()),
     }
 }
 
 /// What the turns of `allot` over short lifetimes at the first port of a datapath file's first bus add up to.
-pub fn allot_path(alloc: Global, turns: u32, path: &[u8]) -> Result<u64, Refusal> {
-    let path = datapath_of(alloc, path)?;
-    match allot_short(alloc, turns, &path) {
-        Ok(count) => Ok(count),
-        Err(fault) => Err(without_registers(alloc, fault)),
-    }
+pub fn allot_path(page: &mut Page, turns: u32, path: &[u8]) -> Result<u64, Refused> {
+    let path = datapath_of(page, path)?;
+    allot_short(page, turns, &path)
 }

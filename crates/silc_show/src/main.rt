@@ -6,6 +6,7 @@ mod contents;
 mod definitions;
 mod elements;
 mod expressions;
+mod flat;
 mod graph;
 mod image;
 mod lifetimes;
@@ -28,13 +29,11 @@ mod types;
 mod values;
 mod words;
 
-use crate::page::Page;
+use crate::page::{Page, Refused};
 use crate::plans::plan_call_named;
 use crate::repeat::call_named;
-use crate::source::Refusal;
 use crate::trace::{Span, View};
 use anyhow::{Context, Result};
-use std::alloc::Global;
 use std::process::ExitCode;
 use std::rt::{Env, Files};
 use std::{env, fs};
@@ -48,6 +47,11 @@ const BAD_WORDS: u8 = 2;
 
 fn read<R: Files + AllocGlobal>(rt: &R, file: &str) -> Result<Vec<u8>> {
     fs::read(rt, file).context(format_args!("{file} can't be read"))
+}
+
+fn read_both<R: Files + AllocGlobal>(rt: &R, one: &str, other: &str) -> Result<(Vec<u8>, Vec<u8>)> {
+    let one = read(rt, one)?;
+    Ok((one, read(rt, other)?))
 }
 
 /// A layer, which answers for a source, a table, a microcode file or a datapath file.
@@ -83,65 +87,68 @@ fn layer_called(word: &str) -> Option<Layer> {
     }
 }
 
-/// What a layer answers for a file with these bytes.
-fn answer(alloc: Global, layer: Layer, bytes: &[u8]) -> Result<Page, Refusal> {
+/// Puts what a layer answers for a file with these bytes.
+fn put_layer(page: &mut Page, layer: Layer, bytes: &[u8]) -> Result<(), Refused> {
     match layer {
-        Layer::Tokens => tokens::page(alloc, bytes),
-        Layer::Tree => tree::page(alloc, bytes),
-        Layer::Text => text::page(alloc, bytes),
-        Layer::Names => names::page(alloc, bytes),
-        Layer::Elements => elements::page(alloc, bytes),
-        Layer::Types => types::page(alloc, bytes),
-        Layer::Graph => graph::page(alloc, bytes),
-        Layer::Manifests => manifests::page(alloc, bytes),
-        Layer::Words => words::page(alloc, bytes),
-        Layer::Image => image::page(alloc, bytes),
-        Layer::Datapath => path::page(alloc, bytes),
+        Layer::Tokens => tokens::put(page, bytes),
+        Layer::Tree => tree::put(page, bytes),
+        Layer::Text => text::put(page, bytes),
+        Layer::Names => names::put(page, bytes),
+        Layer::Elements => elements::put(page, bytes),
+        Layer::Types => types::put(page, bytes),
+        Layer::Graph => graph::put(page, bytes),
+        Layer::Manifests => manifests::put(page, bytes),
+        Layer::Words => words::put(page, bytes),
+        Layer::Image => image::put(page, bytes),
+        Layer::Datapath => path::put(page, bytes),
     }
 }
 
-fn print(rt: &impl Print, answer: Result<Page, Refusal>) -> Result<()> {
-    match answer {
-        Ok(page) => page.print(rt),
-        Err(refusal) => refusal.print(rt),
-    }
-}
-
-fn print_sum(rt: &impl Print, sum: Result<u64, Refusal>) -> Result<()> {
-    match sum {
-        Ok(sum) => println!(rt; "{sum}")?,
-        Err(refusal) => refusal.print(rt)?,
-    }
-    Ok(())
-}
-
-/// Shows what a layer answers for a file. `false`: no layer has this name.
-fn show_layer<R: Files + Print + AllocGlobal>(rt: &R, layer: &str, file: &str) -> Result<bool> {
-    let Some(layer) = layer_called(layer) else {
+/// Puts what a layer answers for a file. `false`: no layer has this name.
+fn show_layer<R: Files + AllocGlobal>(
+    rt: &R,
+    page: &mut Page,
+    layer: &str,
+    words: &[String],
+) -> Result<bool> {
+    let (Some(layer), [file]) = (layer_called(layer), words) else {
         return Ok(false);
     };
-    let bytes = read(rt, file)?;
-    print(rt, answer(rt.alloc(), layer, &bytes))?;
+    let bytes = read(rt, file.as_str())?;
+    let _ = put_layer(page, layer, &bytes);
     Ok(true)
 }
 
-/// Shows where the nodes of a source that are planned for a datapath come from.
-fn show_origins<R: Files + Print + AllocGlobal>(rt: &R, source: &str, path: &str) -> Result<bool> {
-    let source = read(rt, source)?;
-    let path = read(rt, path)?;
-    print(rt, origins::page(rt.alloc(), &source, &path))?;
+/// Puts where the nodes of a source that are planned for a datapath come from.
+fn show_origins<R: Files + AllocGlobal>(rt: &R, page: &mut Page, words: &[String]) -> Result<bool> {
+    let [source, path] = words else {
+        return Ok(false);
+    };
+    let (source, path) = read_both(rt, source.as_str(), path.as_str())?;
+    let _ = origins::put(page, &source, &path);
     Ok(true)
 }
 
-/// Shows the words of all elements of a source over the rows of a sample file.
-fn show_values<R: Files + Print + AllocGlobal>(
-    rt: &R,
-    source: &str,
-    samples: &str,
-) -> Result<bool> {
-    let source = read(rt, source)?;
-    let samples = read(rt, samples)?;
-    print(rt, values::page(rt.alloc(), &source, &samples))?;
+/// Puts the words of all elements of a source over the rows of a sample file.
+fn show_values<R: Files + AllocGlobal>(rt: &R, page: &mut Page, words: &[String]) -> Result<bool> {
+    let [source, samples] = words else {
+        return Ok(false);
+    };
+    let (source, samples) = read_both(rt, source.as_str(), samples.as_str())?;
+    let _ = values::put(page, &source, &samples);
+    Ok(true)
+}
+
+/// Puts the rows of a sample file. `false`: these are no widths.
+fn show_rows<R: Files + AllocGlobal>(rt: &R, page: &mut Page, words: &[String]) -> Result<bool> {
+    let [widths, file] = words else {
+        return Ok(false);
+    };
+    let Some(channels) = rows::channels(page.alloc, widths.as_str())? else {
+        return Ok(false);
+    };
+    let samples = read(rt, file.as_str())?;
+    let _ = rows::put(page, &channels, &samples);
     Ok(true)
 }
 
@@ -153,117 +160,83 @@ fn span(from: &str, to: &str) -> Option<Span> {
     }
 }
 
+/// What is shown of a run. `None`: there are no such cycles.
+fn view_of(words: &[String]) -> Option<View<'_>> {
+    let (span, order) = match words {
+        [] => (Span::whole(), None),
+        [from, to] => (span(from.as_str(), to.as_str())?, None),
+        [from, to, order] => (span(from.as_str(), to.as_str())?, Some(order.as_str())),
+        _ => return None,
+    };
+    Some(View { span, order })
+}
+
 /// Shows a run of microcode over the rows of a sample file, cycle by cycle. `false`: there are no such cycles, or the
 /// units have no such order.
 fn show_trace<R: Files + Print + AllocGlobal>(
     rt: &R,
-    mic: &str,
-    samples: &str,
-    span: Option<Span>,
-    order: Option<&str>,
+    page: &mut Page,
+    words: &[String],
 ) -> Result<bool> {
-    let Some(span) = span else {
+    let [mic, samples, view @ ..] = words else {
         return Ok(false);
     };
-    let mic = read(rt, mic)?;
-    let samples = read(rt, samples)?;
-    trace::print(rt, rt.alloc(), &mic, &samples, View { span, order })
+    let Some(view) = view_of(view) else {
+        return Ok(false);
+    };
+    let (mic, samples) = read_both(rt, mic.as_str(), samples.as_str())?;
+    trace::print(rt, page, &mic, &samples, view)
 }
 
-/// Shows the rows of a sample file. `false`: these are no widths.
-fn show_rows<R: Files + Print + AllocGlobal>(rt: &R, widths: &str, file: &str) -> Result<bool> {
-    let Some(channels) = rows::channels(rt.alloc(), widths)? else {
+/// Puts what the turns of a call add up to. `false`: no call has this name, or the turns are no number.
+fn show_repeat<R: Files + AllocGlobal>(rt: &R, page: &mut Page, words: &[String]) -> Result<bool> {
+    let [call, turns, file] = words else {
         return Ok(false);
     };
-    let samples = read(rt, file)?;
-    print(rt, rows::page(rt.alloc(), &channels, &samples))?;
+    let (Some(call), Ok(turns)) = (call_named(call.as_str()), turns.as_str().parse::<u32>()) else {
+        return Ok(false);
+    };
+    let bytes = read(rt, file.as_str())?;
+    let _ = repeat::put(page, call, turns, &bytes);
     Ok(true)
 }
 
-/// Shows what the turns of a call add up to. `false`: no call has this name, or the turns are no number.
-fn show_repeat<R: Files + Print + AllocGlobal>(
-    rt: &R,
-    call: &str,
-    turns: &str,
-    file: &str,
-) -> Result<bool> {
-    let (Some(call), Ok(turns)) = (call_named(call), turns.parse::<u32>()) else {
-        return Ok(false);
-    };
-    let bytes = read(rt, file)?;
-    print_sum(rt, repeat::sum(rt.alloc(), call, turns, &bytes))?;
-    Ok(true)
-}
-
-/// Shows what the turns of a call on a source and a datapath add up to. `false`: no such call has this name, or the
+/// Puts what the turns of a call on a source and a datapath add up to. `false`: no such call has this name, or the
 /// turns are no number.
-fn show_plans<R: Files + Print + AllocGlobal>(
-    rt: &R,
-    call: &str,
-    turns: &str,
-    source: &str,
-    path: &str,
-) -> Result<bool> {
-    let (Some(call), Ok(turns)) = (plan_call_named(call), turns.parse::<u32>()) else {
+fn show_plans<R: Files + AllocGlobal>(rt: &R, page: &mut Page, words: &[String]) -> Result<bool> {
+    let [call, turns, source, path] = words else {
         return Ok(false);
     };
-    let source = read(rt, source)?;
-    let path = read(rt, path)?;
-    print_sum(rt, plans::sum(rt.alloc(), call, turns, &source, &path))?;
+    let (Some(call), Ok(turns)) = (
+        plan_call_named(call.as_str()),
+        turns.as_str().parse::<u32>(),
+    ) else {
+        return Ok(false);
+    };
+    let (source, path) = read_both(rt, source.as_str(), path.as_str())?;
+    let _ = plans::put(page, call, turns, &source, &path);
     Ok(true)
 }
 
 /// Shows what the words ask for. `false`: they ask for nothing that there is.
 fn show<R: Env + Files + Print + AllocGlobal>(rt: &R) -> Result<bool> {
     let words: Vec<String> = env::args(rt)?.collect(rt.alloc())?;
-    match words.as_slice() {
-        [_, layer, file] => show_layer(rt, layer.as_str(), file.as_str()),
-        [_, rows, widths, file] if rows.as_str() == "rows" => show_rows(
-            rt,
-            widths.as_str(),
-            file.as_str(),
-        ),
-        [_, origins, source, path] if origins.as_str() == "origins" => {
-            show_origins(rt, source.as_str(), path.as_str())
-        }
-        [_, values, source, samples] if values.as_str() == "values" => {
-            show_values(rt, source.as_str(), samples.as_str())
-        }
-        [_, trace, mic, samples] if trace.as_str() == "trace" => {
-            show_trace(
-                rt,
-                mic.as_str(),
-                samples.as_str(),
-                Some(Span::whole()),
-                None,
-            )
-        }
-        [_, trace, mic, samples, from, to] if trace.as_str() == "trace" => show_trace(
-            rt,
-            mic.as_str(),
-            samples.as_str(),
-            span(from.as_str(), to.as_str()),
-            None,
-        ),
-        [_, trace, mic, samples, from, to, order] if trace.as_str() == "trace" => show_trace(
-            rt,
-            mic.as_str(),
-            samples.as_str(),
-            span(from.as_str(), to.as_str()),
-            Some(order.as_str()),
-        ),
-        [_, repeat, call, turns, file] if repeat.as_str() == "repeat" => {
-            show_repeat(rt, call.as_str(), turns.as_str(), file.as_str())
-        }
-        [_, repeat, call, turns, source, path] if repeat.as_str() == "repeat" => show_plans(
-            rt,
-            call.as_str(),
-            turns.as_str(),
-            source.as_str(),
-            path.as_str(),
-        ),
-        _ => Ok(false),
-    }
+    let [_, verb, words @ ..] = words.as_slice() else {
+        return Ok(false);
+    };
+    let mut page = Page::new(rt.alloc());
+    let is_asked = match verb.as_str() {
+        "origins" => show_origins(rt, &mut page, words),
+        "values" => show_values(rt, &mut page, words),
+        "rows" => show_rows(rt, &mut page, words),
+        "trace" => show_trace(rt, &mut page, words),
+        "repeat" if words.len() == 3 => show_repeat(rt, &mut page, words),
+        "repeat" => show_plans(rt, &mut page, words),
+        layer => show_layer(rt, &mut page, layer, words),
+    };
+    let is_asked = is_asked?;
+    page.print(rt)?;
+    Ok(is_asked)
 }
 
 fn main(rt: HostRuntime) -> ExitCode {

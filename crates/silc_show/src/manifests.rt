@@ -1,10 +1,10 @@
 //! A table of manifest constants, one a line, each with its value: `2 * i + 1 with i=3 k=-2`.
 
-use crate::page::Page;
-use crate::source::{Refusal, program_of, text_of};
+use crate::page::{Page, Refused};
+use crate::source::{program_of, text_of};
 use lists::{List, Name};
-use name_check::{Env, manifest};
 use silage_tree::{Item, Manifest, Program, Top};
+use source_names::{Env, manifest};
 use std::alloc::{AllocError, Global};
 
 const REFUSED: &str = " refused: row";
@@ -54,21 +54,24 @@ fn put_amount(page: &mut Page, program: &Program, env: &Env) {
 }
 
 /// Puts the value of a manifest constant, which is read as an amount in a source made round it.
-fn put_value(page: &mut Page, alloc: Global, text: &str, env: &Env) -> Result<(), AllocError> {
+fn put_value(page: &mut Page, text: &str, env: &Env) -> Result<(), AllocError> {
+    let alloc = page.alloc;
     let source = format!(in alloc; "func f(x : bool) y : bool = begin y@@({text}) = false; end;")?;
-    match program_of(alloc, source.as_bytes()) {
+    let mut unread = Page::new(alloc);
+    match program_of(&mut unread, source.as_bytes()) {
         Ok(program) => put_amount(page, &program, env),
         Err(_) => page.text(REFUSED),
     }
     Ok(())
 }
 
-fn put_row(page: &mut Page, alloc: Global, row: &str) -> Result<(), AllocError> {
+fn put_row(page: &mut Page, row: &str) -> Result<(), AllocError> {
+    let alloc = page.alloc;
     let Some((text, values)) = row.split_once(" with ") else {
-        return put_value(page, alloc, row, &List::new(alloc));
+        return put_value(page, row, &List::new(alloc));
     };
     match indices(alloc, values)? {
-        Some(env) => put_value(page, alloc, text, &env),
+        Some(env) => put_value(page, text, &env),
         None => {
             page.text(REFUSED);
             Ok(())
@@ -76,15 +79,14 @@ fn put_row(page: &mut Page, alloc: Global, row: &str) -> Result<(), AllocError> 
     }
 }
 
-pub fn page(alloc: Global, table: &[u8]) -> Result<Page, Refusal> {
-    let table = text_of(alloc, table)?;
-    let mut page = Page::new(alloc);
+pub fn put(page: &mut Page, table: &[u8]) -> Result<(), Refused> {
+    let table = text_of(page, table)?;
     for row in table.lines() {
         page.text(row);
-        if put_row(&mut page, alloc, row).is_err() {
-            return Err(Page::cut(alloc));
+        if put_row(page, row).is_err() {
+            return Err(page.cut());
         }
         page.end();
     }
-    Ok(page)
+    Ok(())
 }

@@ -3,14 +3,14 @@
 ghost use Rattle.std.specs.Prelude.{◌≡◌, ◌<◌, ◌^◌, length, IfOk, OnOk};
 ghost use Rattle.ranked_faults.specs.Ranked.{IsClear};
 ghost use Rattle.silage_syntax.specs.Tree.{view};
-ghost use Rattle.name_check.specs.NameFaults.{name_faults, IsMain};
-ghost use Rattle.name_check.specs.TopNames.{top_names};
+ghost use Rattle.source_names.specs.NameFaults.{name_faults, IsMain};
+ghost use Rattle.source_names.specs.TopNames.{top_names};
 
-use crate::page::Page;
-use crate::source::{Refusal, SOURCE_LIMIT, of_names, program_of, too_long};
-use name_check::{Names, check_names};
+use crate::page::{Page, Refused};
+use crate::source::{SOURCE_LIMIT, program_of, refuse_names};
+use name_check::check_names;
 use silage_tree::{Program, Top};
-use std::alloc::Global;
+use source_names::Names;
 
 fn put_top(page: &mut Page, names: &Names, top: &Top) {
     let name = match top {
@@ -25,29 +25,28 @@ fn put_top(page: &mut Page, names: &Names, top: &Top) {
     page.end();
 }
 
-pub fn names_of(alloc: Global, source: &[u8], program: &Program) -> Result<Names, Refusal>
+pub fn names_of(page: &mut Page, source: &[u8], program: &Program) -> Result<Names, Refused>
     ensures clear { OnOk result (IsClear (name_faults (view program.now))) }
     ensures tops { IfOk result (λ names. names.tops ≡ top_names (view program.now)) }
     ensures main { IfOk result (λ names. IsMain (view program.now) names.main) }
     ensures few { OnOk result (length (view program.now).tops < 2 ^ 32) }
 {
     if program.tops.len() > SOURCE_LIMIT {
-        return Err(too_long(alloc));
+        return Err(page.refuse_length());
     }
-    match check_names(alloc, program) {
+    match check_names(page.alloc, program) {
         Ok(names) => Ok(names),
-        Err(fault) => Err(of_names(alloc, source, fault)),
+        Err(fault) => Err(refuse_names(page, source, fault)),
     }
 }
 
-pub fn page(alloc: Global, source: &[u8]) -> Result<Page, Refusal> {
-    let program = program_of(alloc, source)?;
-    let names = names_of(alloc, source, &program)?;
-    let mut page = Page::new(alloc);
+pub fn put(page: &mut Page, source: &[u8]) -> Result<(), Refused> {
+    let program = program_of(page, source)?;
+    let names = names_of(page, source, &program)?;
     page.number("main ", names.main);
     page.end();
     for top in &program.tops {
-        put_top(&mut page, &names, top);
+        put_top(page, &names, top);
     }
-    Ok(page)
+    Ok(())
 }

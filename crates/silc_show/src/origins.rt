@@ -3,54 +3,41 @@
 //! graph, and the fault follows. Pages `docs/GRAPH.md`, "The graph of a flat program", and `docs/PLANNING.md`, "Delay
 //! lines".
 
-ghost use Rattle.std.specs.Prelude.{IfOk};
 ghost use Rattle.silage_syntax.specs.Tree.{view};
+ghost use Rattle.signal_graph.specs.Flat as flat_form;
+ghost use Rattle.signal_graph.specs.FlatRules.{IsFlat};
 ghost use Rattle.signal_graph.specs.GraphRules.{IsGraph};
 ghost use Rattle.datapath.specs.Allowed.{IsDatapath};
-ghost use Rattle.front_end.specs.Faults.{HasProgram};
+ghost use Rattle.source_faults.specs.Faults.{HasProgram};
 
-use crate::definitions::{Definition, declaration, defined_at, definitions};
-use crate::elements::expanded;
+use crate::definitions::{Definition, defined_at, definitions};
+use crate::elements::put_signal;
+use crate::flat::expanded_of;
 use crate::graph::{accepted_of, put_operands};
-use crate::names::names_of;
 use crate::owners::owners_of;
-use crate::page::Page;
+use crate::page::{Page, Refused};
 use crate::path::datapath_of;
-use crate::source::{Refusal, line_of, told};
-use crate::types::typed;
+use crate::source::line_of;
 use datapath::Datapath;
 use delay_memory::{LineFault, lower};
 use fix_word::Op;
 use flow_graph::build;
 use front_end::Accepted;
 use lists::List;
-use loop_expand::expand;
 use operations::operation_name;
-use signal_graph::{Graph, Node};
+use signal_graph::{FlatProgram, Graph, Node};
 use silage_tree::{Program, Top};
-use single_def::{Element, Elements, Subscripts, subscripts_at};
-use std::alloc::Global;
+use source_elements::{Element, Elements};
 
-/// The elements of a program, and for each node of its graph the number of its element.
-#[derive(Drop)]
-struct Origins {
-    elements: Elements,
-    owners: Vec<u32>,
-}
-
-fn put_subscripts(page: &mut Page, subscripts: Option<Subscripts>) {
-    match subscripts {
-        Some(Subscripts::One(first)) => {
-            page.number("[", first);
-            page.text("]");
-        }
-        Some(Subscripts::Two(first, second)) => {
-            page.number("[", first);
-            page.number("][", second);
-            page.text("]");
-        }
-        Some(Subscripts::Bare) | None => {}
-    }
+/// What the origins of nodes are told from.
+#[derive(Clone, Copy)]
+struct Origins<'a> {
+    source: &'a [u8],
+    program: &'a Program,
+    elements: &'a Elements,
+    definitions: &'a [Definition],
+    /// For each node of the graph the number of its element.
+    owners: &'a [u32],
 }
 
 /// The name of an element, after that of its function where this is not main's instance.
@@ -62,32 +49,25 @@ fn put_element(page: &mut Page, program: &Program, func: u32, element: &Element)
         page.name("", &func.name);
         page.text(".");
     }
-    if let Some(decl) = declaration(func, element.decl) {
-        page.name("", &decl.name);
-        put_subscripts(page, subscripts_at(decl.dims.as_slice(), element.place));
-    }
+    put_signal(page, func, element);
 }
 
 /// The line and the name of the element with this number.
-fn put_origin(
-    page: &mut Page,
-    source: &[u8],
-    program: &Program,
-    found: &[Definition],
-    elements: &Elements,
-    number: u32,
-) {
-    let Some(element) = elements.elements.get(number as usize) else {
+fn put_origin(page: &mut Page, of: &Origins<'_>, number: u32) {
+    let Some(element) = of.elements.elements.get(number as usize) else {
         return;
     };
-    let Some(instance) = elements.instances.get(element.inst as usize) else {
+    let Some(instance) = of.elements.instances.get(element.inst as usize) else {
         return;
     };
-    let at = defined_at(program, found, instance, element);
-    page.number(" line ", at.and_then(|at| line_of(source, at)).unwrap_or(0));
+    let line = match defined_at(of.program, of.definitions, instance, element) {
+        Some(at) => line_of(of.source, at),
+        None => None,
+    };
+    page.number(" line ", line.unwrap_or(0));
     page.number(" element ", number);
     page.text(" ");
-    put_element(page, program, instance.func, element);
+    put_element(page, of.program, instance.func, element);
 }
 
 fn put_operation(page: &mut Page, node: &Node) {
@@ -105,14 +85,7 @@ fn is_of_line(op: Op) -> bool {
     matches!(op, Op::Addr | Op::Store | Op::Load)
 }
 
-fn put_nodes(
-    page: &mut Page,
-    source: &[u8],
-    program: &Program,
-    found: &[Definition],
-    origins: &Origins,
-    nodes: &List<Node>,
-) {
+fn put_nodes(page: &mut Page, of: &Origins<'_>, nodes: &List<Node>) {
     let mut count = 0usize;
     for (number, node) in nodes.iter().enumerate() {
         if !is_of_line(node.op) {
@@ -121,50 +94,41 @@ fn put_nodes(
         let graph_node = count.saturating_sub(1);
         page.number("node ", number);
         page.number(" graph ", graph_node);
-        if let Some(owner) = origins.owners.get(graph_node) {
-            put_origin(page, source, program, found, &origins.elements, *owner);
+        if let Some(owner) = of.owners.get(graph_node) {
+            put_origin(page, of, *owner);
         }
         put_operation(page, node);
     }
 }
 
-fn origins_of(alloc: Global, source: &[u8], program: &Program) -> Result<Origins, Refusal>
-    requires { HasProgram source.now (view program.now) }
+/// For each node of the graph of a flat program the number of its element.
+fn node_owners(page: &mut Page, flat: &FlatProgram) -> Result<Vec<u32>, Refused>
+    requires { IsFlat (flat_form.view flat.now) }
 {
-    let names = names_of(alloc, source, program)?;
-    let elements = expanded(alloc, source, program, &names)?;
-    let typed = typed(alloc, source, program, &names)?;
-    let Ok(flat) = expand(alloc, &typed, &elements) else {
-        return Err(Page::cut(alloc));
+    let Ok(whole) = build(page.alloc, flat) else {
+        return Err(page.cut());
     };
-    let Ok(whole) = build(alloc, &flat) else {
-        return Err(Page::cut(alloc));
-    };
-    match owners_of(alloc, &flat, &whole) {
-        Ok(owners) => Ok(Origins { elements, owners }),
-        Err(_) => Err(Page::cut(alloc)),
+    match owners_of(page.alloc, flat, &whole) {
+        Ok(owners) => Ok(owners),
+        Err(_) => Err(page.cut()),
     }
 }
 
 /// The nodes that are planned, or those of the graph and the fault of the first that gets no delay line.
 fn put_lowered(
-    alloc: Global,
     page: &mut Page,
-    source: &[u8],
-    program: &Program,
-    found: &[Definition],
-    origins: &Origins,
+    of: &Origins<'_>,
     graph: &Graph,
     path: &Datapath,
-) -> Result<(), Refusal>
+) -> Result<(), Refused>
     requires sound { IsGraph graph.now }
     requires path { IsDatapath path.now }
 {
-    match lower(alloc, graph, path) {
-        Ok(lowered) => put_nodes(page, source, program, found, origins, &lowered.nodes),
-        Err(LineFault::Memory) => return Err(Page::cut(alloc)),
+    match lower(page.alloc, graph, path) {
+        Ok(lowered) => put_nodes(page, of, &lowered.nodes),
+        Err(LineFault::Memory) => return Err(page.cut()),
         Err(fault) => {
-            put_nodes(page, source, program, found, origins, &graph.nodes);
+            put_nodes(page, of, &graph.nodes);
             page.shown("fault ", &fault);
             page.end();
         }
@@ -172,16 +136,34 @@ fn put_lowered(
     Ok(())
 }
 
-pub fn page(alloc: Global, source: &[u8], path: &[u8]) -> Result<Page, Refusal> {
-    let Accepted { program, graph } = accepted_of(alloc, source)?;
-    let path = datapath_of(alloc, path)?;
-    let origins = origins_of(alloc, source, &program)?;
-    let Ok(found) = definitions(alloc, &program, &origins.elements) else {
-        return Err(Page::cut(alloc));
+fn put_planned(
+    page: &mut Page,
+    source: &[u8],
+    accepted: &Accepted,
+    path: &Datapath,
+) -> Result<(), Refused>
+    requires program { HasProgram source.now (view accepted.now.program) }
+    requires sound { IsGraph accepted.now.graph }
+    requires path { IsDatapath path.now }
+{
+    let program = &accepted.program;
+    let expanded = expanded_of(page, source, program)?;
+    let owners = node_owners(page, &expanded.flat)?;
+    let Ok(definitions) = definitions(page.alloc, program, &expanded.elements) else {
+        return Err(page.cut());
     };
-    let mut page = Page::new(alloc);
-    put_lowered(
-        alloc, &mut page, source, &program, &found, &origins, &graph, &path,
-    )?;
-    Ok(page)
+    let of = Origins {
+        source,
+        program,
+        elements: &expanded.elements,
+        definitions: &definitions,
+        owners: &owners,
+    };
+    put_lowered(page, &of, &accepted.graph, path)
+}
+
+pub fn put(page: &mut Page, source: &[u8], path: &[u8]) -> Result<(), Refused> {
+    let accepted = accepted_of(page, source)?;
+    let path = datapath_of(page, path)?;
+    put_planned(page, source, &accepted, &path)
 }

@@ -77,27 +77,43 @@ fn add_element(
     Ok(())
 }
 
-/// For each node of the graph of a flat program, before nodes are left out, the number of its element.
-fn owners_of_all(alloc: Global, flat: &FlatProgram) -> Result<Vec<u32>, AllocError> {
+/// Whether each element is read with a delay.
+fn delayed_elements(alloc: Global, flat: &FlatProgram) -> Result<Vec<bool>, AllocError> {
     let mut delayed = vec![in alloc; false; flat.elems.len()]?;
     for element in &flat.elems {
         if let FlatBody::Value(value) = &element.body {
             mark_delayed(value, &mut delayed);
         }
     }
-    let mut owners = Owners {
-        elements: Vec::new(alloc),
-        words: Vec::new(alloc),
-    };
+    Ok(delayed)
+}
+
+/// Adds the nodes of all elements, and those of the outputs.
+fn add_elements(
+    owners: &mut Owners,
+    flat: &FlatProgram,
+    delayed: &[bool],
+) -> Result<(), AllocError> {
     let mut number = 0u32;
     for (element, is_delayed) in flat.elems.iter().zip(delayed.iter()) {
-        add_element(&mut owners, number, &element.body, *is_delayed)?;
+        add_element(owners, number, &element.body, *is_delayed)?;
         number = number.saturating_add(1);
     }
     for out in &flat.outs {
         owners.elements.push(*out)?;
     }
-    Ok(owners.elements)
+    Ok(())
+}
+
+/// The elements of the nodes of a flat program's graph, before nodes are left out.
+fn owners_of_all(alloc: Global, flat: &FlatProgram) -> Result<Owners, AllocError> {
+    let delayed = delayed_elements(alloc, flat)?;
+    let mut owners = Owners {
+        elements: Vec::new(alloc),
+        words: Vec::new(alloc),
+    };
+    add_elements(&mut owners, flat, &delayed)?;
+    Ok(owners)
 }
 
 /// Marks a node, which is then followed.
@@ -111,14 +127,12 @@ fn reach(node: u32, marks: &mut [bool], waiting: &mut Vec<u32>) -> Result<(), Al
     Ok(())
 }
 
-/// Whether an output is reached from each node.
-fn kept(alloc: Global, graph: &Graph) -> Result<Vec<bool>, AllocError> {
-    let mut marks = vec![in alloc; false; graph.nodes.len()]?;
-    let mut waiting = Vec::new(alloc);
+/// Marks the nodes from which an output is reached.
+fn reach_all(graph: &Graph, marks: &mut [bool], waiting: &mut Vec<u32>) -> Result<(), AllocError> {
     let mut number = 0u32;
     for node in &graph.nodes {
         if matches!(node.op, Op::Output) {
-            reach(number, &mut marks, &mut waiting)?;
+            reach(number, marks, waiting)?;
         }
         number = number.saturating_add(1);
     }
@@ -127,10 +141,18 @@ fn kept(alloc: Global, graph: &Graph) -> Result<Vec<bool>, AllocError> {
             && let Some(node) = graph.nodes.get(number as usize)
         {
             for edge in &node.edges {
-                reach(edge.node, &mut marks, &mut waiting)?;
+                reach(edge.node, marks, waiting)?;
             }
         }
     }
+    Ok(())
+}
+
+/// Whether an output is reached from each node.
+fn kept(alloc: Global, graph: &Graph) -> Result<Vec<bool>, AllocError> {
+    let mut marks = vec![in alloc; false; graph.nodes.len()]?;
+    let mut waiting = Vec::new(alloc);
+    reach_all(graph, &mut marks, &mut waiting)?;
     Ok(marks)
 }
 
@@ -139,7 +161,7 @@ pub fn owners_of(alloc: Global, flat: &FlatProgram, whole: &Graph) -> Result<Vec
     let mut owners = Vec::new(alloc);
     let all = owners_of_all(alloc, flat)?;
     let kept = kept(alloc, whole)?;
-    for (owner, is_kept) in all.iter().zip(kept.iter()) {
+    for (owner, is_kept) in all.elements.iter().zip(kept.iter()) {
         if *is_kept {
             owners.push(*owner)?;
         }

@@ -11,11 +11,17 @@ use std::io::Write;
 /// Lines that are printed together, or why none is printed.
 #[derive(Drop)]
 pub struct Page {
+    /// Where the memory comes from, for the page and for what a layer answers.
+    pub alloc: Global,
     bytes: Vec<u8>,
     trouble: Option<&'static str>,
 }
 
-pub const NO_MEMORY: &str = "no memory";
+/// There is no answer, and the page says why in its place.
+#[derive(Clone, Copy)]
+pub struct Refused;
+
+const NO_MEMORY: &str = "no memory";
 
 /// How deep the node of a line stands, and what it is to the node above it.
 #[derive(Clone, Copy)]
@@ -41,22 +47,10 @@ impl Lead {
 impl Page {
     pub fn new(alloc: Global) -> Page {
         Page {
+            alloc,
             bytes: Vec::new(alloc),
             trouble: None,
         }
-    }
-
-    /// The page of which nothing is printed, and why.
-    pub fn without_lines(alloc: Global, trouble: &'static str) -> Page {
-        Page {
-            bytes: Vec::new(alloc),
-            trouble: Some(trouble),
-        }
-    }
-
-    /// The page for which there was no memory.
-    pub fn cut(alloc: Global) -> Page {
-        Page::without_lines(alloc, NO_MEMORY)
     }
 
     pub fn print(&self, rt: &impl Print) -> Result<()> {
@@ -67,14 +61,57 @@ impl Page {
         Ok(())
     }
 
+    /// Takes the lines off.
+    pub fn clear(&mut self) {
+        self.bytes.clear();
+        self.trouble = None;
+    }
+
     /// Lets nothing be printed.
-    pub fn fail(&mut self, trouble: &'static str) {
+    pub fn fail(&mut self, trouble: &'static str) -> Refused {
         self.trouble = Some(trouble);
+        Refused
+    }
+
+    /// Lets nothing be printed, for want of memory.
+    pub fn cut(&mut self) -> Refused {
+        self.fail(NO_MEMORY)
+    }
+
+    /// Puts a fault in place of the lines.
+    pub fn refuse(&mut self, fault: &impl Debug) -> Refused {
+        self.refuse_at(fault, None)
+    }
+
+    /// Puts a fault in place of the lines, and the line of its place where it has one.
+    pub fn refuse_at(&mut self, fault: &impl Debug, line: Option<u64>) -> Refused {
+        self.clear();
+        self.debug("fault ", fault);
+        if let Some(line) = line {
+            self.number(" line ", line);
+        }
+        self.end();
+        Refused
+    }
+
+    /// Puts a fault in place of the lines, in the words of its error.
+    pub fn refuse_in_words(&mut self, fault: &impl Display) -> Refused {
+        self.clear();
+        self.shown("fault ", fault);
+        self.end();
+        Refused
+    }
+
+    /// Says that a file is too long, in place of the lines.
+    pub fn refuse_length(&mut self) -> Refused {
+        self.clear();
+        self.text("fault TooLong\n");
+        Refused
     }
 
     pub fn bytes(&mut self, bytes: &[u8]) {
         if self.bytes.extend_from_slice(bytes).is_err() {
-            self.fail(NO_MEMORY);
+            self.trouble = Some(NO_MEMORY);
         }
     }
 
@@ -107,14 +144,14 @@ impl Page {
     pub fn debug(&mut self, before: &str, value: &impl Debug) {
         self.text(before);
         if write!(self.bytes, "{value:?}").is_err() {
-            self.fail(NO_MEMORY);
+            self.trouble = Some(NO_MEMORY);
         }
     }
 
     pub fn shown(&mut self, before: &str, value: &impl Display) {
         self.text(before);
         if write!(self.bytes, "{value}").is_err() {
-            self.fail(NO_MEMORY);
+            self.trouble = Some(NO_MEMORY);
         }
     }
 
@@ -179,7 +216,8 @@ impl Page {
     pub fn node(&mut self, lead: Lead, what: &str, at: u32) {
         self.lead(lead);
         self.text(what);
-        self.end_at(at);
+        self.number(" at ", at);
+        self.end();
     }
 
     /// The line of a node that has a name.
@@ -187,7 +225,8 @@ impl Page {
         self.lead(lead);
         self.text(what);
         self.name(" ", name);
-        self.end_at(at);
+        self.number(" at ", at);
+        self.end();
     }
 }
 

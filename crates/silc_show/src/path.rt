@@ -3,10 +3,8 @@
 ghost use Rattle.std.specs.Prelude.{IfOk};
 ghost use Rattle.datapath.specs.Allowed.{IsDatapath};
 
-use crate::page::Page;
-use crate::source::{Refusal, told};
+use crate::page::{Page, Refused};
 use datapath::{Bus, Datapath, PathFault, PortRef, Unit, read};
-use std::alloc::Global;
 
 fn put_unit(page: &mut Page, number: usize, unit: &Unit) {
     page.number("unit ", number);
@@ -50,19 +48,18 @@ fn put_datapath(page: &mut Page, path: &Datapath) {
     }
 }
 
-pub fn datapath_of(alloc: Global, bytes: &[u8]) -> Result<Datapath, Refusal>
+pub fn datapath_of(page: &mut Page, bytes: &[u8]) -> Result<Datapath, Refused>
     ensures { IfOk result IsDatapath }
 {
-    match read(alloc, bytes) {
+    match read(page.alloc, bytes) {
         Ok(path) => Ok(path),
-        Err(PathFault::Memory) => Err(Page::cut(alloc)),
-        Err(fault) => Err(told(alloc, &fault)),
+        Err(PathFault::Memory) => Err(page.cut()),
+        Err(fault) => Err(page.refuse_in_words(&fault)),
     }
 }
 
-pub fn page(alloc: Global, bytes: &[u8]) -> Result<Page, Refusal> {
-    let path = datapath_of(alloc, bytes)?;
-    let mut page = Page::new(alloc);
-    put_datapath(&mut page, &path);
-    Ok(page)
+pub fn put(page: &mut Page, bytes: &[u8]) -> Result<(), Refused> {
+    let path = datapath_of(page, bytes)?;
+    put_datapath(page, &path);
+    Ok(())
 }

@@ -8,10 +8,9 @@ ghost use Rattle.signal_graph.specs.GraphSolves.{IsGraphLoopless};
 ghost use Rattle.microcode_asm.specs.Planned.{IsPlanned};
 
 use crate::graph::graph_of;
-use crate::lifetimes::{allot_again, without_registers};
-use crate::page::Page;
+use crate::lifetimes::registers;
+use crate::page::{Page, Refused};
 use crate::path::datapath_of;
-use crate::source::{Refusal, told};
 use datapath::Datapath;
 use delay_memory::lower;
 use microcode_asm::{AsmFault, assemble};
@@ -21,6 +20,15 @@ use signal_graph::Graph;
 use std::alloc::Global;
 use unit_assign::assign;
 
+/// A call on a plan, and what is added up over its turns.
+#[derive(Clone, Copy)]
+pub enum ReadyCall {
+    /// From the lifetimes to their registers: the lifetimes.
+    Allot,
+    /// To the image: the words.
+    Assemble,
+}
+
 /// A call, and what is added up over its turns.
 #[derive(Clone, Copy)]
 pub enum PlanCall {
@@ -28,58 +36,55 @@ pub enum PlanCall {
     Assign,
     /// From a source to its plan: the lifetimes.
     Plan,
-    /// From the lifetimes of a plan to their registers: the lifetimes.
-    Allot,
-    /// From a plan to its image: the words.
-    Assemble,
+    OnPlan(ReadyCall),
 }
 
 pub fn plan_call_named(word: &str) -> Option<PlanCall> {
     match word {
         "assign" => Some(PlanCall::Assign),
         "plan" => Some(PlanCall::Plan),
-        "allot" => Some(PlanCall::Allot),
-        "assemble" => Some(PlanCall::Assemble),
+        "allot" => Some(PlanCall::OnPlan(ReadyCall::Allot)),
+        "assemble" => Some(PlanCall::OnPlan(ReadyCall::Assemble)),
         _ => None,
     }
 }
 
-fn without_plan(alloc: Global, fault: PlanFault) -> Refusal {
+fn refuse_plan(page: &mut Page, fault: PlanFault) -> Refused {
     match fault {
-        PlanFault::Memory => Page::cut(alloc),
-        fault => told(alloc, &fault),
+        PlanFault::Memory => page.cut(),
+        fault => page.refuse_in_words(&fault),
     }
 }
 
 #[tactic(auto, using(crate::proofs::Planned::planned))]
-fn plan_over(alloc: Global, graph: Graph, path: &Datapath) -> Result<Plan, Refusal>
+fn plan_over(page: &mut Page, graph: Graph, path: &Datapath) -> Result<Plan, Refused>
     requires sound { IsGraph graph }
     requires loopless { IsGraphLoopless graph }
     requires path { IsDatapath path.now }
     ensures { IfOk result (IsPlanned path.now) }
 {
-    match plan(alloc, graph, path) {
+    match plan(page.alloc, graph, path) {
         Ok(plan) => Ok(plan),
-        Err(fault) => Err(without_plan(alloc, fault)),
+        Err(fault) => Err(refuse_plan(page, fault)),
     }
 }
 
-fn plan_of(alloc: Global, source: &[u8], path: &Datapath) -> Result<Plan, Refusal>
+fn plan_of(page: &mut Page, source: &[u8], path: &Datapath) -> Result<Plan, Refused>
     requires { IsDatapath path.now }
     ensures { IfOk result (IsPlanned path.now) }
 {
-    let graph = graph_of(alloc, source)?;
-    plan_over(alloc, graph, path)
+    let graph = graph_of(page, source)?;
+    plan_over(page, graph, path)
 }
 
 /// How many nodes are bound to units.
 #[tactic(auto, using(crate::proofs::Planned::lowered_wired))]
-fn nodes_on_units(alloc: Global, graph: &Graph, path: &Datapath) -> Result<u64, PlanFault>
+fn nodes_on_units(alloc: Global, graph: &Graph, path: &Datapath) -> Result<usize, PlanFault>
     requires sound { IsGraph graph.now }
     requires path { IsDatapath path.now }
 {
     let lowered = lower(alloc, graph, path)?;
-    Ok(assign(alloc, &lowered, path)?.units.len() as u64)
+    Ok(assign(alloc, &lowered, path)?.units.len())
 }
 
 fn assign_again(alloc: Global, turns: u32, graph: &Graph, path: &Datapath) -> Result<u64, PlanFault>
@@ -88,96 +93,110 @@ fn assign_again(alloc: Global, turns: u32, graph: &Graph, path: &Datapath) -> Re
 {
     let mut count = 0u64;
     for _ in 0..turns {
-        count = count.wrapping_add(nodes_on_units(alloc, graph, path)?);
+        count = count.wrapping_add(nodes_on_units(alloc, graph, path)? as u64);
     }
     Ok(count)
 }
 
-fn assign_source(alloc: Global, turns: u32, source: &[u8], path: &Datapath) -> Result<u64, Refusal>
+fn assign_source(
+    page: &mut Page,
+    turns: u32,
+    source: &[u8],
+    path: &Datapath,
+) -> Result<u64, Refused>
     requires { IsDatapath path.now }
 {
-    let graph = graph_of(alloc, source)?;
-    match assign_again(alloc, turns, &graph, path) {
+    let graph = graph_of(page, source)?;
+    match assign_again(page.alloc, turns, &graph, path) {
         Ok(nodes) => Ok(nodes),
-        Err(fault) => Err(without_plan(alloc, fault)),
+        Err(fault) => Err(refuse_plan(page, fault)),
     }
 }
 
 /// How many lifetimes the plan has.
-fn lifetimes(alloc: Global, source: &[u8], path: &Datapath) -> Result<u64, Refusal>
+fn lifetimes(page: &mut Page, source: &[u8], path: &Datapath) -> Result<usize, Refused>
     requires { IsDatapath path.now }
 {
-    Ok(plan_of(alloc, source, path)?.arcs.len() as u64)
+    Ok(plan_of(page, source, path)?.arcs.len())
 }
 
-fn plan_again(alloc: Global, turns: u32, source: &[u8], path: &Datapath) -> Result<u64, Refusal>
+fn plan_again(page: &mut Page, turns: u32, source: &[u8], path: &Datapath) -> Result<u64, Refused>
     requires { IsDatapath path.now }
 {
     let mut count = 0u64;
     for _ in 0..turns {
-        count = count.wrapping_add(lifetimes(alloc, source, path)?);
+        count = count.wrapping_add(lifetimes(page, source, path)? as u64);
     }
     Ok(count)
-}
-
-#[tactic(auto, using(crate::proofs::Planned::lifetimes_allottable))]
-fn allot_source(alloc: Global, turns: u32, source: &[u8], path: &Datapath) -> Result<u64, Refusal>
-    requires { IsDatapath path.now }
-{
-    let plan = plan_of(alloc, source, path)?;
-    match allot_again(alloc, turns, &plan.arcs, path) {
-        Ok(count) => Ok(count),
-        Err(fault) => Err(without_registers(alloc, fault)),
-    }
 }
 
 /// How many microwords the image has.
-fn words(alloc: Global, plan: &Plan, path: &Datapath) -> Result<u64, AsmFault>
+fn words(page: &mut Page, plan: &Plan, path: &Datapath) -> Result<usize, Refused>
     requires path { IsDatapath path.now }
     requires plan { IsPlanned path.now plan.now }
 {
-    Ok(assemble(alloc, plan, path)?.words.len() as u64)
+    match assemble(page.alloc, plan, path) {
+        Ok(image) => Ok(image.words.len()),
+        Err(AsmFault::Memory) => Err(page.cut()),
+    }
 }
 
-fn assemble_again(alloc: Global, turns: u32, plan: &Plan, path: &Datapath) -> Result<u64, AsmFault>
+/// What one turn of a call on a plan gives.
+fn turn(page: &mut Page, call: ReadyCall, plan: &Plan, path: &Datapath) -> Result<usize, Refused>
+    requires path { IsDatapath path.now }
+    requires plan { IsPlanned path.now plan.now }
+{
+    match call {
+        ReadyCall::Allot => registers(page, &plan.arcs, path),
+        ReadyCall::Assemble => words(page, plan, path),
+    }
+}
+
+fn turn_again(
+    page: &mut Page,
+    call: ReadyCall,
+    turns: u32,
+    plan: &Plan,
+    path: &Datapath,
+) -> Result<u64, Refused>
     requires path { IsDatapath path.now }
     requires plan { IsPlanned path.now plan.now }
 {
     let mut count = 0u64;
     for _ in 0..turns {
-        count = count.wrapping_add(words(alloc, plan, path)?);
+        count = count.wrapping_add(turn(page, call, plan, path)? as u64);
     }
     Ok(count)
 }
 
-fn assemble_source(
-    alloc: Global,
+fn plan_source(
+    page: &mut Page,
+    call: ReadyCall,
     turns: u32,
     source: &[u8],
     path: &Datapath,
-) -> Result<u64, Refusal>
+) -> Result<u64, Refused>
     requires { IsDatapath path.now }
 {
-    let plan = plan_of(alloc, source, path)?;
-    match assemble_again(alloc, turns, &plan, path) {
-        Ok(words) => Ok(words),
-        Err(AsmFault::Memory) => Err(Page::cut(alloc)),
-    }
+    let plan = plan_of(page, source, path)?;
+    turn_again(page, call, turns, &plan, path)
 }
 
-/// What the turns of a call on a source and a datapath file add up to.
-pub fn sum(
-    alloc: Global,
+/// Puts what the turns of a call on a source and a datapath file add up to.
+pub fn put(
+    page: &mut Page,
     call: PlanCall,
     turns: u32,
     source: &[u8],
     path: &[u8],
-) -> Result<u64, Refusal> {
-    let path = datapath_of(alloc, path)?;
-    match call {
-        PlanCall::Assign => assign_source(alloc, turns, source, &path),
-        PlanCall::Plan => plan_again(alloc, turns, source, &path),
-        PlanCall::Allot => allot_source(alloc, turns, source, &path),
-        PlanCall::Assemble => assemble_source(alloc, turns, source, &path),
-    }
+) -> Result<(), Refused> {
+    let path = datapath_of(page, path)?;
+    let sum = match call {
+        PlanCall::Assign => assign_source(page, turns, source, &path),
+        PlanCall::Plan => plan_again(page, turns, source, &path),
+        PlanCall::OnPlan(call) => plan_source(page, call, turns, source, &path),
+    };
+    page.number("", sum?);
+    page.end();
+    Ok(())
 }

@@ -8,109 +8,132 @@ ghost use Rattle.micro_image.specs.Valid.{IsValid};
 ghost use Rattle.ranked_faults.specs.Ranked.{IsClear};
 ghost use Rattle.signal_graph.specs.Rules.{IsInType};
 ghost use Rattle.silage_syntax.specs.Tree.{view};
-ghost use Rattle.name_check.specs.NameFaults.{name_faults, IsMain};
-ghost use Rattle.name_check.specs.TopNames.{top_names};
-ghost use Rattle.single_def.specs.Signatures.{HaveResults};
-ghost use Rattle.fix_types.specs.Numbers.{AreNumbersShort};
+ghost use Rattle.source_names.specs.NameFaults.{name_faults, IsMain};
+ghost use Rattle.source_names.specs.TopNames.{top_names};
+ghost use Rattle.source_elements.specs.Signatures.{HaveResults};
+ghost use Rattle.typed_source.specs.Numbers.{AreNumbersShort};
 
 use crate::elements::{elements_of, expanded};
 use crate::graph::graph_of;
 use crate::image::{bytes_of, image_of};
 use crate::lifetimes::allot_path;
 use crate::names::names_of;
-use crate::page::Page;
+use crate::page::{Page, Refused};
 use crate::path::datapath_of;
-use crate::source::{Refusal, parsed, program_of, refusal, tokens_of};
+use crate::source::{parsed, program_of, tokens_of};
 use crate::types::typed;
 use cycle_sim::{Conflict, Machine};
 use equation_eval::{EvalFault, Evaluator};
 use fix_word::SigType;
 use micro_image::Image;
-use name_check::Names;
 use silage_tree::Program;
+use source_names::Names;
 use std::alloc::{AllocError, Global};
 
-/// A call, and what is added up over its turns.
+/// A call of which nothing is ready before the turns, and what is added up over these.
 #[derive(Clone, Copy)]
-pub enum Call {
+pub enum FileCall {
     /// From bytes to an image: its words.
     Decode,
-    /// From an image to bytes: these.
-    Encode,
-    /// One cycle a turn: the samples that ran.
-    Clock,
     /// From a source to tokens: these.
     Lex,
-    /// From tokens to a program: its tables and functions.
-    Parse,
-    /// From a program to its names: the tables and functions before `main`.
-    Names,
-    /// From a program and its names to instances and elements: the elements.
-    Elements,
-    /// From a program and its names to its typed form: the functions.
-    Types,
     /// From a source to instances and elements: the elements.
     Front,
     /// From a source to its graph: the nodes.
     Graph,
-    /// One sample a turn, with 0 for each input word: the output words of the last one that are 0.
-    Step,
     /// From a datapath file to its datapath: the units.
     Datapath,
+}
+
+/// A call on a program and its names, and what is added up over its turns.
+#[derive(Clone, Copy)]
+pub enum ProgramCall {
+    /// To instances and elements: the elements.
+    Elements,
+    /// To the typed form: the functions.
+    Types,
+}
+
+/// A call, and what is added up over its turns.
+#[derive(Clone, Copy)]
+pub enum Call {
+    OnFile(FileCall),
+    OnProgram(ProgramCall),
+    /// From an image to bytes: these.
+    Encode,
+    /// One cycle a turn: the samples that ran.
+    Clock,
+    /// From tokens to a program: its tables and functions.
+    Parse,
+    /// From a program to its names: the tables and functions before `main`.
+    Names,
+    /// One sample a turn, with 0 for each input word: the output words of the last one that are 0.
+    Step,
     /// From short lifetimes at a port of a datapath to their registers: the lifetimes.
     Allot,
 }
 
 pub fn call_named(word: &str) -> Option<Call> {
     match word {
-        "decode" => Some(Call::Decode),
+        "decode" => Some(Call::OnFile(FileCall::Decode)),
         "encode" => Some(Call::Encode),
         "clock" => Some(Call::Clock),
-        "lex" => Some(Call::Lex),
+        "lex" => Some(Call::OnFile(FileCall::Lex)),
         "parse" => Some(Call::Parse),
         "names" => Some(Call::Names),
-        "elements" => Some(Call::Elements),
-        "types" => Some(Call::Types),
-        "front" => Some(Call::Front),
-        "graph" => Some(Call::Graph),
+        "elements" => Some(Call::OnProgram(ProgramCall::Elements)),
+        "types" => Some(Call::OnProgram(ProgramCall::Types)),
+        "front" => Some(Call::OnFile(FileCall::Front)),
+        "graph" => Some(Call::OnFile(FileCall::Graph)),
         "step" => Some(Call::Step),
-        "datapath" => Some(Call::Datapath),
+        "datapath" => Some(Call::OnFile(FileCall::Datapath)),
         "allot" => Some(Call::Allot),
         _ => None,
     }
 }
 
-fn decode_again(alloc: Global, turns: u32, bytes: &[u8]) -> Result<u64, Refusal> {
-    let mut words = 0u64;
-    for _ in 0..turns {
-        words = words.wrapping_add(image_of(alloc, bytes)?.words.len() as u64);
+/// What one turn of a call on a file gives.
+fn file_turn(page: &mut Page, call: FileCall, bytes: &[u8]) -> Result<usize, Refused> {
+    match call {
+        FileCall::Decode => Ok(image_of(page, bytes)?.words.len()),
+        FileCall::Lex => Ok(tokens_of(page, bytes)?.len()),
+        FileCall::Front => Ok(elements_of(page, bytes)?.elements.len()),
+        FileCall::Graph => Ok(graph_of(page, bytes)?.nodes.len()),
+        FileCall::Datapath => Ok(datapath_of(page, bytes)?.units.len()),
     }
-    Ok(words)
 }
 
-fn encode_again(alloc: Global, turns: u32, image: &Image) -> Result<u64, Refusal>
+fn file_turns(page: &mut Page, call: FileCall, turns: u32, bytes: &[u8]) -> Result<u64, Refused> {
+    let mut count = 0u64;
+    for _ in 0..turns {
+        count = count.wrapping_add(file_turn(page, call, bytes)? as u64);
+    }
+    Ok(count)
+}
+
+fn encode_again(page: &mut Page, turns: u32, image: &Image) -> Result<u64, Refused>
     requires { IsValid image.now }
 {
     let mut written = 0u64;
     for _ in 0..turns {
-        written = written.wrapping_add(bytes_of(alloc, image)?.len() as u64);
+        written = written.wrapping_add(bytes_of(page, image)?.len() as u64);
     }
     Ok(written)
 }
 
-fn encode_image(alloc: Global, turns: u32, bytes: &[u8]) -> Result<u64, Refusal> {
-    let image = image_of(alloc, bytes)?;
-    encode_again(alloc, turns, &image)
+fn encode_image(page: &mut Page, turns: u32, bytes: &[u8]) -> Result<u64, Refused> {
+    let image = image_of(page, bytes)?;
+    encode_again(page, turns, &image)
 }
 
 /// The machine before its first cycle.
-pub fn machine_of(alloc: Global, bytes: &[u8]) -> Result<Machine, Refusal>
+pub fn machine_of(page: &mut Page, bytes: &[u8]) -> Result<Machine, Refused>
     ensures image { IfOk result (λ machine. Spells bytes.now machine.image) }
     ensures cycle { IfOk result (λ machine. machine.cycle ≡ 0) }
 {
-    match Machine::load(alloc, image_of(alloc, bytes)?) {
+    match Machine::load(page.alloc, image_of(page, bytes)?) {
         Ok(machine) => Ok(machine),
-        Err(_) => Err(Page::cut(alloc)),
+        Err(_) => Err(page.cut()),
     }
 }
 
@@ -132,128 +155,100 @@ fn clock_again(machine: &mut Machine, cycles: u32, row: &[i64]) -> Result<(), Co
     Ok(())
 }
 
-fn clock_machine(alloc: Global, cycles: u32, machine: &mut Machine) -> Result<u64, Refusal>
+fn clock_machine(page: &mut Page, cycles: u32, machine: &mut Machine) -> Result<u64, Refused>
     requires { machine.old.cycle ≡ 0 }
 {
-    let Ok(row) = row(alloc, machine) else {
-        return Err(Page::cut(alloc));
+    let Ok(row) = row(page.alloc, machine) else {
+        return Err(page.cut());
     };
     match clock_again(machine, cycles, &row) {
         Ok(()) => Ok(machine.samples()),
-        Err(conflict) => Err(refusal(alloc, &conflict, None)),
+        Err(conflict) => Err(page.refuse(&conflict)),
     }
 }
 
-fn clock_image(alloc: Global, cycles: u32, bytes: &[u8]) -> Result<u64, Refusal> {
-    let mut machine = machine_of(alloc, bytes)?;
-    clock_machine(alloc, cycles, &mut machine)
+fn clock_image(page: &mut Page, cycles: u32, bytes: &[u8]) -> Result<u64, Refused> {
+    let mut machine = machine_of(page, bytes)?;
+    clock_machine(page, cycles, &mut machine)
 }
 
-fn lex_again(alloc: Global, turns: u32, source: &[u8]) -> Result<u64, Refusal> {
-    let mut count = 0u64;
-    for _ in 0..turns {
-        count = count.wrapping_add(tokens_of(alloc, source)?.len() as u64);
-    }
-    Ok(count)
-}
-
-fn parse_again(alloc: Global, turns: u32, source: &[u8]) -> Result<u64, Refusal> {
-    let tokens = tokens_of(alloc, source)?;
+fn parse_again(page: &mut Page, turns: u32, source: &[u8]) -> Result<u64, Refused> {
+    let tokens = tokens_of(page, source)?;
     let mut tops = 0u64;
     for _ in 0..turns {
-        tops = tops.wrapping_add(parsed(alloc, source, &tokens)?.tops.len() as u64);
+        tops = tops.wrapping_add(parsed(page, source, &tokens)?.tops.len() as u64);
     }
     Ok(tops)
 }
 
-fn names_again(alloc: Global, turns: u32, source: &[u8]) -> Result<u64, Refusal> {
-    let program = program_of(alloc, source)?;
+fn names_again(page: &mut Page, turns: u32, source: &[u8]) -> Result<u64, Refused> {
+    let program = program_of(page, source)?;
     let mut before = 0u64;
     for _ in 0..turns {
-        before = before.wrapping_add(u64::from(names_of(alloc, source, &program)?.main));
+        before = before.wrapping_add(u64::from(names_of(page, source, &program)?.main));
     }
     Ok(before)
 }
 
-fn elements_again(
-    alloc: Global,
+/// What one turn of a call on a program and its names gives.
+fn program_turn(
+    page: &mut Page,
+    call: ProgramCall,
+    source: &[u8],
+    program: &Program,
+    names: &Names,
+) -> Result<usize, Refused>
+    requires clear { IsClear (name_faults (view program.now)) }
+    requires tops { names.now.tops ≡ top_names (view program.now) }
+    requires main { IsMain (view program.now) names.now.main }
+    requires few { length (view program.now).tops < 2 ^ 32 }
+    requires numbers { AreNumbersShort (view program.now) }
+    requires results { HaveResults (view program.now) }
+{
+    match call {
+        ProgramCall::Elements => Ok(expanded(page, source, program, names)?.elements.len()),
+        ProgramCall::Types => Ok(typed(page, source, program, names)?.funcs.len()),
+    }
+}
+
+fn program_turns(
+    page: &mut Page,
+    call: ProgramCall,
     turns: u32,
     source: &[u8],
     program: &Program,
     names: &Names,
-) -> Result<u64, Refusal>
+) -> Result<u64, Refused>
     requires clear { IsClear (name_faults (view program.now)) }
     requires tops { names.now.tops ≡ top_names (view program.now) }
     requires main { IsMain (view program.now) names.now.main }
+    requires few { length (view program.now).tops < 2 ^ 32 }
+    requires numbers { AreNumbersShort (view program.now) }
     requires results { HaveResults (view program.now) }
 {
     let mut count = 0u64;
     for _ in 0..turns {
-        count = count.wrapping_add(expanded(alloc, source, program, names)?.elements.len() as u64);
+        count = count.wrapping_add(program_turn(page, call, source, program, names)? as u64);
     }
     Ok(count)
 }
 
-fn expand_program(alloc: Global, turns: u32, source: &[u8]) -> Result<u64, Refusal> {
-    let program = program_of(alloc, source)?;
-    let names = names_of(alloc, source, &program)?;
-    elements_again(alloc, turns, source, &program, &names)
-}
-
-fn types_again(
-    alloc: Global,
+fn name_program(
+    page: &mut Page,
+    call: ProgramCall,
     turns: u32,
     source: &[u8],
-    program: &Program,
-    names: &Names,
-) -> Result<u64, Refusal>
-    requires clear { IsClear (name_faults (view program.now)) }
-    requires tops { names.now.tops ≡ top_names (view program.now) }
-    requires few { length (view program.now).tops < 2 ^ 32 }
-    requires numbers { AreNumbersShort (view program.now) }
-{
-    let mut count = 0u64;
-    for _ in 0..turns {
-        count = count.wrapping_add(typed(alloc, source, program, names)?.funcs.len() as u64);
-    }
-    Ok(count)
+) -> Result<u64, Refused> {
+    let program = program_of(page, source)?;
+    let names = names_of(page, source, &program)?;
+    program_turns(page, call, turns, source, &program, &names)
 }
 
-fn type_program(alloc: Global, turns: u32, source: &[u8]) -> Result<u64, Refusal> {
-    let program = program_of(alloc, source)?;
-    let names = names_of(alloc, source, &program)?;
-    types_again(alloc, turns, source, &program, &names)
-}
-
-fn front_again(alloc: Global, turns: u32, source: &[u8]) -> Result<u64, Refusal> {
-    let mut count = 0u64;
-    for _ in 0..turns {
-        count = count.wrapping_add(elements_of(alloc, source)?.elements.len() as u64);
-    }
-    Ok(count)
-}
-
-fn graph_again(alloc: Global, turns: u32, source: &[u8]) -> Result<u64, Refusal> {
-    let mut count = 0u64;
-    for _ in 0..turns {
-        count = count.wrapping_add(graph_of(alloc, source)?.nodes.len() as u64);
-    }
-    Ok(count)
-}
-
-fn datapath_again(alloc: Global, turns: u32, file: &[u8]) -> Result<u64, Refusal> {
-    let mut count = 0u64;
-    for _ in 0..turns {
-        count = count.wrapping_add(datapath_of(alloc, file)?.units.len() as u64);
-    }
-    Ok(count)
-}
-
-fn evaluator_of(alloc: Global, source: &[u8]) -> Result<Evaluator, Refusal> {
-    let graph = graph_of(alloc, source)?;
-    match Evaluator::new(alloc, &graph) {
+fn evaluator_of(page: &mut Page, source: &[u8]) -> Result<Evaluator, Refused> {
+    let graph = graph_of(page, source)?;
+    match Evaluator::new(page.alloc, &graph) {
         Ok(evaluator) => Ok(evaluator),
-        Err(EvalFault::Memory) => Err(Page::cut(alloc)),
+        Err(EvalFault::Memory) => Err(page.cut()),
     }
 }
 
@@ -297,29 +292,27 @@ fn step_rows(alloc: Global, turns: u32, evaluator: &mut Evaluator) -> Result<u64
     Ok(zeros_in(&put))
 }
 
-fn step_source(alloc: Global, turns: u32, source: &[u8]) -> Result<u64, Refusal> {
-    let mut evaluator = evaluator_of(alloc, source)?;
-    match step_rows(alloc, turns, &mut evaluator) {
+fn step_source(page: &mut Page, turns: u32, source: &[u8]) -> Result<u64, Refused> {
+    let mut evaluator = evaluator_of(page, source)?;
+    match step_rows(page.alloc, turns, &mut evaluator) {
         Ok(word) => Ok(word),
-        Err(_) => Err(Page::cut(alloc)),
+        Err(_) => Err(page.cut()),
     }
 }
 
-/// What the turns of a call on a file add up to.
-pub fn sum(alloc: Global, call: Call, turns: u32, bytes: &[u8]) -> Result<u64, Refusal> {
-    match call {
-        Call::Decode => decode_again(alloc, turns, bytes),
-        Call::Encode => encode_image(alloc, turns, bytes),
-        Call::Clock => clock_image(alloc, turns, bytes),
-        Call::Lex => lex_again(alloc, turns, bytes),
-        Call::Parse => parse_again(alloc, turns, bytes),
-        Call::Names => names_again(alloc, turns, bytes),
-        Call::Elements => expand_program(alloc, turns, bytes),
-        Call::Types => type_program(alloc, turns, bytes),
-        Call::Front => front_again(alloc, turns, bytes),
-        Call::Graph => graph_again(alloc, turns, bytes),
-        Call::Step => step_source(alloc, turns, bytes),
-        Call::Datapath => datapath_again(alloc, turns, bytes),
-        Call::Allot => allot_path(alloc, turns, bytes),
-    }
+/// Puts what the turns of a call on a file add up to.
+pub fn put(page: &mut Page, call: Call, turns: u32, bytes: &[u8]) -> Result<(), Refused> {
+    let sum = match call {
+        Call::OnFile(call) => file_turns(page, call, turns, bytes),
+        Call::OnProgram(call) => name_program(page, call, turns, bytes),
+        Call::Encode => encode_image(page, turns, bytes),
+        Call::Clock => clock_image(page, turns, bytes),
+        Call::Parse => parse_again(page, turns, bytes),
+        Call::Names => names_again(page, turns, bytes),
+        Call::Step => step_source(page, turns, bytes),
+        Call::Allot => allot_path(page, turns, bytes),
+    };
+    page.number("", sum?);
+    page.end();
+    Ok(())
 }

@@ -10,8 +10,7 @@ ghost use Rattle.signal_graph.specs.Rules.{IsType};
 ghost use Rattle.silc_show.specs.Trace.{AreInputRows};
 ghost use Rattle.silc_show.specs.TypeChannels.{channel_width, type_channel};
 
-use crate::page::Page;
-use crate::source::{Refusal, too_long};
+use crate::page::{Page, Refused};
 use fix_word::SigType;
 use lists::List;
 use sample_io::{Channel, RowFault, Rows, Step, put_row};
@@ -109,45 +108,44 @@ fn rows_of(alloc: Global, rows: &mut Rows, samples: &[u8]) -> Result<List<List<i
     Ok(list)
 }
 
-/// The rows of a sample file, or the page of its first bad place.
+/// The rows of a sample file, or else the page has its first bad place.
 #[tactic(auto, using(crate::proofs::TypedRows::rows_read))]
 pub fn read(
-    alloc: Global,
+    page: &mut Page,
     channels: &List<Channel>,
     samples: &[u8],
-) -> Result<List<List<i64>>, Refusal>
+) -> Result<List<List<i64>>, Refused>
     requires { AreChannels channels.now }
     ensures { IfOk result (IsStream channels.now) }
 {
     if samples.len() >= SAMPLES_END {
-        return Err(too_long(alloc));
+        return Err(page.refuse_length());
     }
-    let Ok(mut rows) = Rows::new(alloc, channels) else {
-        return Err(Page::cut(alloc));
+    let Ok(mut rows) = Rows::new(page.alloc, channels) else {
+        return Err(page.cut());
     };
-    match rows_of(alloc, &mut rows, samples) {
+    match rows_of(page.alloc, &mut rows, samples) {
         Ok(list) => Ok(list),
-        Err(SamplesFault::Row(fault)) => Err(bad_place(alloc, fault)),
-        Err(SamplesFault::Memory) => Err(Page::cut(alloc)),
+        Err(SamplesFault::Row(fault)) => Err(refuse_row(page, fault)),
+        Err(SamplesFault::Memory) => Err(page.cut()),
     }
 }
 
-/// The page of the first bad place of a sample file.
-fn bad_place(alloc: Global, fault: RowFault) -> Refusal {
-    let mut page = Page::new(alloc);
+/// Puts the first bad place of a sample file in place of the lines.
+fn refuse_row(page: &mut Page, fault: RowFault) -> Refused {
+    page.clear();
     page.number("fault line ", fault.line);
     page.number(" byte ", fault.at);
     page.end();
-    page
+    Refused
 }
 
-pub fn page(alloc: Global, channels: &List<Channel>, samples: &[u8]) -> Result<Page, Refusal>
+pub fn put(page: &mut Page, channels: &List<Channel>, samples: &[u8]) -> Result<(), Refused>
     requires { AreChannels channels.now }
 {
-    let mut page = Page::new(alloc);
-    let rows = read(alloc, channels, samples)?;
-    put_rows(&mut page, &rows);
-    Ok(page)
+    let rows = read(page, channels, samples)?;
+    put_rows(page, &rows);
+    Ok(())
 }
 
 /// The bits of the type's words in a sample file; 0 for `bool`.
@@ -173,21 +171,21 @@ fn type_channels(alloc: Global, types: &[SigType]) -> Result<List<Channel>, Allo
     Ok(channels)
 }
 
-/// The rows of a sample file whose words have these types, or the page of its first bad place.
+/// The rows of a sample file whose words have these types, or else the page has its first bad place.
 #[tactic(auto, using(crate::proofs::TypedRows::typed_stream, crate::proofs::TypedRows::are_channels))]
 pub fn read_typed(
-    alloc: Global,
+    page: &mut Page,
     types: &List<SigType>,
     samples: &[u8],
-) -> Result<List<List<i64>>, Refusal>
+) -> Result<List<List<i64>>, Refused>
     requires types { All IsType types.now }
     requires some { 1 ≤ length types.now }
     requires few { length types.now ≤ 16 }
     ensures { IfOk result (IsStreamOf types.now) }
 {
-    match type_channels(alloc, types) {
-        Ok(channels) => read(alloc, &channels, samples),
-        Err(_) => Err(Page::cut(alloc)),
+    match type_channels(page.alloc, types) {
+        Ok(channels) => read(page, &channels, samples),
+        Err(_) => Err(page.cut()),
     }
 }
 
@@ -204,20 +202,20 @@ fn width_channels(alloc: Global, widths: &[u8]) -> Result<List<Channel>, AllocEr
     Ok(channels)
 }
 
-/// The rows of a sample file whose words have these widths, or the page of its first bad place.
+/// The rows of a sample file whose words have these widths, or else the page has its first bad place.
 #[tactic(auto, using(crate::proofs::InputRows::input_rows, crate::proofs::InputRows::are_channels))]
 pub fn read_widths(
-    alloc: Global,
+    page: &mut Page,
     widths: &List<u8>,
     samples: &[u8],
-) -> Result<List<List<i64>>, Refusal>
+) -> Result<List<List<i64>>, Refused>
     requires widths { All (λ width. width ≤ 32) widths.now }
     requires some { 1 ≤ length widths.now }
     requires few { length widths.now ≤ 16 }
     ensures { IfOk result (AreInputRows widths.now) }
 {
-    match width_channels(alloc, widths) {
-        Ok(channels) => read(alloc, &channels, samples),
-        Err(_) => Err(Page::cut(alloc)),
+    match width_channels(page.alloc, widths) {
+        Ok(channels) => read(page, &channels, samples),
+        Err(_) => Err(page.cut()),
     }
 }

@@ -3,82 +3,52 @@
 ghost use Rattle.std.specs.Prelude.{IfOk};
 ghost use Rattle.silage_lex.specs.Tokens.{HasTokens};
 ghost use Rattle.silage_syntax.specs.Tree.{view};
-ghost use Rattle.single_def.specs.Signatures.{HaveResults};
-ghost use Rattle.fix_types.specs.Numbers.{AreNumbersShort};
+ghost use Rattle.source_elements.specs.Signatures.{HaveResults};
+ghost use Rattle.typed_source.specs.Numbers.{AreNumbersShort};
 
-use crate::page::Page;
-use fix_types::TypeFault;
-use name_check::NameFault;
+use crate::page::{Page, Refused};
 use silage_lex::{LexFault, Tokens, lex};
 use silage_parse::{ParseFault, parse};
 use silage_tree::Program;
-use single_def::PlacedFault;
-use std::alloc::Global;
-use std::fmt::{Debug, Display};
+use source_elements::PlacedFault;
+use source_names::NameFault;
 use std::str;
+use typed_source::TypeFault;
 
 /// A source has at most this many bytes, and so at most this many tokens, tables and functions.
 pub const SOURCE_LIMIT: usize = 1 << 20;
 
-/// The page that is answered in place of another: of a source the fault, and the line of its place where it has one.
-pub type Refusal = Page;
-
-pub fn refusal(alloc: Global, fault: &impl Debug, line: Option<u64>) -> Refusal {
-    let mut page = Page::new(alloc);
-    page.debug("fault ", fault);
-    if let Some(line) = line {
-        page.number(" line ", line);
-    }
-    page.end();
-    page
-}
-
-/// The fault in the words of its error.
-pub fn told(alloc: Global, fault: &impl Display) -> Refusal {
-    let mut page = Page::new(alloc);
-    page.shown("fault ", fault);
-    page.end();
-    page
-}
-
-pub fn too_long(alloc: Global) -> Refusal {
-    let mut page = Page::new(alloc);
-    page.text("fault TooLong\n");
-    page
-}
-
-fn of_tokens(alloc: Global, source: &[u8], fault: LexFault) -> Refusal {
+fn refuse_tokens(page: &mut Page, source: &[u8], fault: LexFault) -> Refused {
     match fault {
         LexFault::BadByte(at) | LexFault::BadNumber(at) | LexFault::OpenComment(at) => {
-            refusal(alloc, &fault, line_of(source, at))
+            page.refuse_at(&fault, line_of(source, at))
         }
-        LexFault::Memory => Page::cut(alloc),
+        LexFault::Memory => page.cut(),
     }
 }
 
-fn of_program(alloc: Global, source: &[u8], tokens: &Tokens, fault: ParseFault) -> Refusal {
+fn refuse_program(page: &mut Page, source: &[u8], tokens: &Tokens, fault: ParseFault) -> Refused {
     match fault {
         ParseFault::Syntax(token) | ParseFault::Deep(token) => {
-            let line = line_of_token(source, tokens, token);
-            refusal(alloc, &fault, Some(line))
+            page.refuse_at(&fault, Some(line_of_token(source, tokens, token)))
         }
-        ParseFault::Memory => Page::cut(alloc),
+        ParseFault::Memory => page.cut(),
     }
 }
 
-pub fn of_names(alloc: Global, source: &[u8], fault: NameFault) -> Refusal {
+pub fn refuse_names(page: &mut Page, source: &[u8], fault: NameFault) -> Refused {
     match fault {
         NameFault::Unknown(at)
         | NameFault::Twice(at)
         | NameFault::Recursive(at)
         | NameFault::Arity(at)
-        | NameFault::Size(at) => refusal(alloc, &fault, line_of(source, at)),
-        NameFault::NoMain => refusal(alloc, &fault, None),
-        NameFault::Memory => Page::cut(alloc),
+        | NameFault::Size(at) => page.refuse_at(&fault, line_of(source, at)),
+        NameFault::NoMain => page.refuse(&fault),
+        NameFault::Memory => page.cut(),
     }
 }
 
-pub fn of_elements(alloc: Global, source: &[u8], fault: PlacedFault) -> Refusal {
+pub fn refuse_elements(page: &mut Page, source: &[u8], fault: PlacedFault) -> Refused {
     match fault {
         PlacedFault::Index(at)
         | PlacedFault::Bounds(at)
@@ -86,18 +56,18 @@ pub fn of_elements(alloc: Global, source: &[u8], fault: PlacedFault) -> Refusal 
         | PlacedFault::Shift(at)
         | PlacedFault::DefinedTwice(at)
         | PlacedFault::NotDefined { at, .. }
-        | PlacedFault::TooLarge(at) => refusal(alloc, &fault, line_of(source, at)),
-        PlacedFault::Memory => Page::cut(alloc),
+        | PlacedFault::TooLarge(at) => page.refuse_at(&fault, line_of(source, at)),
+        PlacedFault::Memory => page.cut(),
     }
 }
 
-pub fn of_types(alloc: Global, source: &[u8], fault: TypeFault) -> Refusal {
+pub fn refuse_types(page: &mut Page, source: &[u8], fault: TypeFault) -> Refused {
     match fault {
         TypeFault::Mismatch(at)
         | TypeFault::NeedsCast(at)
         | TypeFault::Literal(at)
-        | TypeFault::NotBool(at) => refusal(alloc, &fault, line_of(source, at)),
-        TypeFault::Memory => Page::cut(alloc),
+        | TypeFault::NotBool(at) => page.refuse_at(&fault, line_of(source, at)),
+        TypeFault::Memory => page.cut(),
     }
 }
 
@@ -127,44 +97,44 @@ fn line_of_token(source: &[u8], tokens: &Tokens, token: u32) -> u64 {
     }
 }
 
-pub fn text_of(alloc: Global, table: &[u8]) -> Result<&str, Refusal> {
+pub fn text_of<'a>(page: &mut Page, table: &'a [u8]) -> Result<&'a str, Refused> {
     match str::from_utf8(table) {
         Ok(text) => Ok(text),
-        Err(_) => Err(Page::without_lines(alloc, "the table is no text")),
+        Err(_) => Err(page.fail("the table is no text")),
     }
 }
 
-pub fn tokens_of(alloc: Global, source: &[u8]) -> Result<Tokens, Refusal>
+pub fn tokens_of(page: &mut Page, source: &[u8]) -> Result<Tokens, Refused>
     ensures { IfOk result (HasTokens source.now) }
 {
     if source.len() > SOURCE_LIMIT {
-        return Err(too_long(alloc));
+        return Err(page.refuse_length());
     }
-    match lex(alloc, source) {
+    match lex(page.alloc, source) {
         Ok(tokens) => Ok(tokens),
-        Err(fault) => Err(of_tokens(alloc, source, fault)),
+        Err(fault) => Err(refuse_tokens(page, source, fault)),
     }
 }
 
 /// The program of the tokens of a source.
-pub fn parsed(alloc: Global, source: &[u8], tokens: &Tokens) -> Result<Program, Refusal>
+pub fn parsed(page: &mut Page, source: &[u8], tokens: &Tokens) -> Result<Program, Refused>
     requires { HasTokens source.now tokens.now }
     ensures numbers { IfOk result (λ program. AreNumbersShort (view program)) }
     ensures results { IfOk result (λ program. HaveResults (view program)) }
 {
     if tokens.len() > SOURCE_LIMIT {
-        return Err(too_long(alloc));
+        return Err(page.refuse_length());
     }
-    match parse(alloc, tokens) {
+    match parse(page.alloc, tokens) {
         Ok(program) => Ok(program),
-        Err(fault) => Err(of_program(alloc, source, tokens, fault)),
+        Err(fault) => Err(refuse_program(page, source, tokens, fault)),
     }
 }
 
-pub fn program_of(alloc: Global, source: &[u8]) -> Result<Program, Refusal>
+pub fn program_of(page: &mut Page, source: &[u8]) -> Result<Program, Refused>
     ensures numbers { IfOk result (λ program. AreNumbersShort (view program)) }
     ensures results { IfOk result (λ program. HaveResults (view program)) }
 {
-    let tokens = tokens_of(alloc, source)?;
-    parsed(alloc, source, &tokens)
+    let tokens = tokens_of(page, source)?;
+    parsed(page, source, &tokens)
 }

@@ -1,19 +1,17 @@
 //! The canonical text of a source.
 
-use crate::page::Page;
-use crate::source::{Refusal, program_of};
+use crate::page::{Page, Refused};
+use crate::source::program_of;
 use silage_tree::{TreeFault, print};
-use std::alloc::Global;
 
 /// The text as it is, with no end of line.
-pub fn page(alloc: Global, source: &[u8]) -> Result<Page, Refusal> {
-    let program = program_of(alloc, source)?;
-    match print(alloc, &program) {
+pub fn put(page: &mut Page, source: &[u8]) -> Result<(), Refused> {
+    let program = program_of(page, source)?;
+    match print(page.alloc, &program) {
         Ok(text) => {
-            let mut page = Page::new(alloc);
             page.bytes(&text);
-            Ok(page)
+            Ok(())
         }
-        Err(TreeFault::Memory) => Err(Page::cut(alloc)),
+        Err(TreeFault::Memory) => Err(page.cut()),
     }
 }

@@ -1,9 +1,8 @@
 //! The tokens of a source, a line for each: its line, its span, its kind and its text or value.
 
-use crate::page::Page;
-use crate::source::{Refusal, tokens_of};
+use crate::page::{Page, Refused};
+use crate::source::tokens_of;
 use silage_lex::{RESERVED_COUNT, SYMBOL_COUNT, Token, TokenKind, reserved_text, symbol_text};
-use std::alloc::Global;
 
 fn put_kind(page: &mut Page, kind: &TokenKind) {
     match kind {
@@ -34,11 +33,10 @@ fn put_token(page: &mut Page, token: &Token) {
     page.end();
 }
 
-pub fn page(alloc: Global, source: &[u8]) -> Result<Page, Refusal> {
-    let tokens = tokens_of(alloc, source)?;
-    let mut page = Page::new(alloc);
+pub fn put(page: &mut Page, source: &[u8]) -> Result<(), Refused> {
+    let tokens = tokens_of(page, source)?;
     for token in &tokens {
-        put_token(&mut page, token);
+        put_token(page, token);
     }
-    Ok(page)
+    Ok(())
 }

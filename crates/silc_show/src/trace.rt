@@ -10,10 +10,9 @@ ghost use Rattle.silc_show.specs.Trace.{AreInputRows, IsInputRow, IsRunOf};
 use crate::conflicts::put_conflict;
 use crate::contents::Contents;
 use crate::image::{image_of, put_issue};
-use crate::page::{NO_MEMORY, Page};
+use crate::page::{Page, Refused};
 use crate::repeat::machine_of;
 use crate::rows::{MAX_CHANNELS, put_words, read_widths};
-use crate::source::Refusal;
 use anyhow::Result;
 use cycle_sim::{Conflict, Machine, Spot, Wrote};
 use lists::List;
@@ -293,7 +292,9 @@ impl Run {
     {
         match stop {
             Stop::Span => {}
-            Stop::Memory => page.fail(NO_MEMORY),
+            Stop::Memory => {
+                page.cut();
+            }
             Stop::Conflict(conflict) => {
                 put_time(page, &self.image, conflict.cycle);
                 put_conflict(page, &self.image, &self.state.contents, conflict);
@@ -350,27 +351,27 @@ fn units_in_order(alloc: Global, image: &Image) -> Result<List<u8>, AllocError>
 }
 
 /// A run of microcode before its first cycle.
-fn run_of(alloc: Global, mic: &[u8]) -> Result<Run, Refusal>
+fn run_of(page: &mut Page, mic: &[u8]) -> Result<Run, Refused>
     ensures { IfOk result (λ run. IsRunOf run.image run.order run.machine run.cycle) }
 {
-    let image = image_of(alloc, mic)?;
-    let machine = machine_of(alloc, mic)?;
-    let Ok(order) = units_in_order(alloc, &image) else {
-        return Err(Page::cut(alloc));
+    let image = image_of(page, mic)?;
+    let Ok(order) = units_in_order(page.alloc, &image) else {
+        return Err(page.cut());
     };
+    let machine = machine_of(page, mic)?;
     Ok(Run {
         image,
         order,
         machine,
         cycle: 0,
-        state: State::new(alloc),
+        state: State::new(page.alloc),
     })
 }
 
 /// Runs the rows, and prints each sample by itself, so that a long run takes little memory.
 fn print_rows(
     rt: &impl Print,
-    alloc: Global,
+    page: &mut Page,
     run: &mut Run,
     rows: &[List<i64>],
     span: Span,
@@ -379,12 +380,12 @@ fn print_rows(
     requires rows { AreInputRows run.old.image.inputs rows.now }
 {
     for row in rows {
-        let mut page = Page::new(alloc);
-        let ran = run.put_sample(&mut page, row, span);
+        let ran = run.put_sample(page, row, span);
         if let Err(stop) = ran {
-            run.put_stop(&mut page, stop);
+            run.put_stop(page, stop);
         }
         page.print(rt)?;
+        page.clear();
         if ran.is_err() {
             break;
         }
@@ -399,29 +400,36 @@ pub struct View<'a> {
     pub order: Option<&'a str>,
 }
 
-/// Prints the run of microcode over the rows of a sample file. `false`: the units have no such order.
+/// Runs the rows of a sample file. `false`: the units have no such order.
+fn print_run(
+    rt: &impl Print,
+    page: &mut Page,
+    run: &mut Run,
+    samples: &[u8],
+    view: View<'_>,
+) -> Result<bool>
+    requires { IsRunOf run.old.image run.old.order run.old.machine run.old.cycle }
+{
+    if !run.arrange(view.order) {
+        return Ok(false);
+    }
+    if let Ok(rows) = read_widths(page, &run.image.inputs, samples) {
+        print_rows(rt, page, run, &rows, view.span)?;
+    }
+    Ok(true)
+}
+
+/// Prints the run of microcode over the rows of a sample file, up to the page that is left. `false`: the units have no
+/// such order.
 pub fn print(
     rt: &impl Print,
-    alloc: Global,
+    page: &mut Page,
     mic: &[u8],
     samples: &[u8],
     view: View<'_>,
 ) -> Result<bool> {
-    let mut run = match run_of(alloc, mic) {
-        Ok(run) => run,
-        Err(refusal) => return shown(refusal.print(rt)),
-    };
-    if !run.arrange(view.order) {
-        return Ok(false);
+    match run_of(page, mic) {
+        Ok(mut run) => print_run(rt, page, &mut run, samples, view),
+        Err(_) => Ok(true),
     }
-    match read_widths(alloc, &run.image.inputs, samples) {
-        Ok(rows) => shown(print_rows(rt, alloc, &mut run, &rows, view.span)),
-        Err(refusal) => shown(refusal.print(rt)),
-    }
-}
-
-/// Something was shown, unless printing failed.
-fn shown(printed: Result<()>) -> Result<bool> {
-    printed?;
-    Ok(true)
 }

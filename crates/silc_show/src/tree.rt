@@ -1,10 +1,9 @@
 //! The tree of a source: a line for each node, below the node that it belongs to, with all its fields.
 
 use crate::expressions::{put_expr, put_lit, put_manifest, put_place};
-use crate::page::{Lead, Page};
-use crate::source::{Refusal, program_of};
-use silage_tree::{ConstDef, Decl, Expr, Func, Item, Place, Top};
-use std::alloc::Global;
+use crate::page::{Lead, Page, Refused};
+use crate::source::program_of;
+use silage_tree::{ConstDef, Decl, Func, Item, Top};
 
 fn put_table(page: &mut Page, lead: Lead, table: &ConstDef) {
     page.lead(lead);
@@ -39,15 +38,6 @@ fn put_func(page: &mut Page, lead: Lead, func: &Func) {
     }
 }
 
-fn put_call(page: &mut Page, lead: Lead, places: &[Place], args: &[Expr]) {
-    for place in places {
-        put_place(page, lead.below(""), "place", place);
-    }
-    for arg in args {
-        put_expr(page, lead.below("argument"), arg);
-    }
-}
-
 fn put_item(page: &mut Page, lead: Lead, item: &Item) {
     match item {
         Item::Equation { place, value } => {
@@ -62,7 +52,12 @@ fn put_item(page: &mut Page, lead: Lead, item: &Item) {
             at,
         } => {
             page.named(lead, "call", func, *at);
-            put_call(page, lead, places, args);
+            for place in places {
+                put_place(page, lead.below(""), "place", place);
+            }
+            for arg in args {
+                put_expr(page, lead.below("argument"), arg);
+            }
         }
         Item::Loop {
             index,
@@ -87,14 +82,13 @@ fn put_item(page: &mut Page, lead: Lead, item: &Item) {
     }
 }
 
-pub fn page(alloc: Global, source: &[u8]) -> Result<Page, Refusal> {
-    let program = program_of(alloc, source)?;
-    let mut page = Page::new(alloc);
+pub fn put(page: &mut Page, source: &[u8]) -> Result<(), Refused> {
+    let program = program_of(page, source)?;
     for top in &program.tops {
         match top {
-            Top::Const(table) => put_table(&mut page, Lead::top(), table),
-            Top::Func(func) => put_func(&mut page, Lead::top(), func),
+            Top::Const(table) => put_table(page, Lead::top(), table),
+            Top::Func(func) => put_func(page, Lead::top(), func),
         }
     }
-    Ok(page)
+    Ok(())
 }

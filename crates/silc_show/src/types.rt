@@ -4,22 +4,21 @@
 ghost use Rattle.std.specs.Prelude.{◌≡◌, ◌<◌, ◌^◌, length, IfOk};
 ghost use Rattle.ranked_faults.specs.Ranked.{IsClear};
 ghost use Rattle.silage_syntax.specs.Tree.{view};
-ghost use Rattle.name_check.specs.NameFaults.{name_faults};
-ghost use Rattle.name_check.specs.TopNames.{top_names};
-ghost use Rattle.fix_types.specs.Numbers.{AreNumbersShort};
-ghost use Rattle.fix_types.specs.Translation.{typed_program};
-ghost use Rattle.fix_types.specs.TypedTree.{view_typed};
+ghost use Rattle.source_names.specs.NameFaults.{name_faults};
+ghost use Rattle.source_names.specs.TopNames.{top_names};
+ghost use Rattle.typed_source.specs.Numbers.{AreNumbersShort};
+ghost use Rattle.typed_source.specs.Translation.{typed_program};
+ghost use Rattle.typed_source.specs.TypedTree.{view_typed};
 
 use crate::names::names_of;
-use crate::page::{Lead, Page, mode_text};
-use crate::source::{Refusal, of_types, program_of};
+use crate::page::{Lead, Page, Refused, mode_text};
+use crate::source::{program_of, refuse_types};
 use crate::tree::put_decls;
-use fix_types::{Typed, TypedConst, TypedExpr, TypedFunc, TypedItem, check_types};
-use fix_word::{Format, Op};
-use name_check::Names;
+use fix_types::check_types;
 use operations::operation_name;
 use silage_tree::{MOp, Manifest, Place, Program};
-use std::alloc::Global;
+use source_names::Names;
+use typed_source::{Typed, TypedConst, TypedExpr, TypedFunc, TypedItem};
 
 fn sign_text(op: MOp) -> &'static str {
     match op {
@@ -63,16 +62,6 @@ fn put_place(page: &mut Page, place: &Place) {
     }
 }
 
-fn put_operation(page: &mut Page, op: Op, format: Format, amount: &Option<Manifest>) {
-    page.text(operation_name(op));
-    page.number("<", format.shift);
-    put_optional(page, "*", amount);
-    page.text(",");
-    page.text(mode_text(format.mode));
-    page.number(",", format.width);
-    page.text(">");
-}
-
 /// What stands before one of several parts.
 fn put_before(page: &mut Page, is_first: bool) {
     page.text(if is_first { "(" } else { ", " });
@@ -91,7 +80,13 @@ fn put_expr(page: &mut Page, expr: &TypedExpr) {
             parts,
             amount,
         } => {
-            put_operation(page, *op, *fmt, amount);
+            page.text(operation_name(*op));
+            page.number("<", fmt.shift);
+            put_optional(page, "*", amount);
+            page.text(",");
+            page.text(mode_text(fmt.mode));
+            page.number(",", fmt.width);
+            page.text(">");
             let mut is_first = true;
             for part in parts {
                 put_before(page, is_first);
@@ -186,33 +181,32 @@ fn put_func(page: &mut Page, func: &TypedFunc) {
 
 /// The typed form of a program with its names.
 pub fn typed(
-    alloc: Global,
+    page: &mut Page,
     source: &[u8],
     program: &Program,
     names: &Names,
-) -> Result<Typed, Refusal>
+) -> Result<Typed, Refused>
     requires clear { IsClear (name_faults (view program.now)) }
     requires tops { names.now.tops ≡ top_names (view program.now) }
     requires few { length (view program.now).tops < 2 ^ 32 }
     requires numbers { AreNumbersShort (view program.now) }
     ensures { IfOk result (λ typed. view_typed typed ≡ typed_program (view program.now)) }
 {
-    match check_types(alloc, program, names) {
+    match check_types(page.alloc, program, names) {
         Ok(typed) => Ok(typed),
-        Err(fault) => Err(of_types(alloc, source, fault)),
+        Err(fault) => Err(refuse_types(page, source, fault)),
     }
 }
 
-pub fn page(alloc: Global, source: &[u8]) -> Result<Page, Refusal> {
-    let program = program_of(alloc, source)?;
-    let names = names_of(alloc, source, &program)?;
-    let typed = typed(alloc, source, &program, &names)?;
-    let mut page = Page::new(alloc);
+pub fn put(page: &mut Page, source: &[u8]) -> Result<(), Refused> {
+    let program = program_of(page, source)?;
+    let names = names_of(page, source, &program)?;
+    let typed = typed(page, source, &program, &names)?;
     for table in &typed.consts {
-        put_table(&mut page, table);
+        put_table(page, table);
     }
     for func in &typed.funcs {
-        put_func(&mut page, func);
+        put_func(page, func);
     }
-    Ok(page)
+    Ok(())
 }

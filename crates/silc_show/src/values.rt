@@ -3,52 +3,26 @@
 //! and then a line for each sample with their words. So a word is the evaluator's. Page `docs/GRAPH.md`, "Evaluation".
 
 ghost use Rattle.std.specs.Prelude.{◌≡◌, ◌<◌, ◌≤◌, length, All, IfOk, OnOk};
-ghost use Rattle.front_end.specs.Faults.{HasProgram};
 ghost use Rattle.signal_graph.specs.Flat as flat_form;
 ghost use Rattle.signal_graph.specs.FlatRules.{IsFlat};
 ghost use Rattle.signal_graph.specs.Keeps.{IsStreamOf};
 ghost use Rattle.signal_graph.specs.Rules.{IsWithin};
-ghost use Rattle.silage_syntax.specs.Tree.{view};
 
-use crate::definitions::declaration;
-use crate::elements::{expanded, put_subscripts};
+use crate::elements::put_signal;
+use crate::flat::{Expanded, expanded_of};
 use crate::graph::accepted_of;
-use crate::names::names_of;
-use crate::page::Page;
+use crate::page::{Page, Refused};
 use crate::rows::{MAX_CHANNELS, put_words, read_typed};
-use crate::source::{Refusal, told};
-use crate::types::typed;
 use equation_eval::Evaluator;
 use flow_graph::{GraphFault, build};
 use lists::List;
-use loop_expand::expand;
 use signal_graph::FlatProgram;
 use silage_tree::{Program, Top};
-use single_def::{Element, Elements, Instance, subscripts_at};
+use source_elements::{Element, Instance};
 use std::alloc::{AllocError, Global};
 
 /// As many elements are outputs at a time: a row has at most 16 words.
 const GROUP: u32 = MAX_CHANNELS as u32;
-
-/// The elements of a program, and its flat program.
-#[derive(Drop)]
-struct Expanded {
-    elements: Elements,
-    flat: FlatProgram,
-}
-
-fn expanded_of(alloc: Global, source: &[u8], program: &Program) -> Result<Expanded, Refusal>
-    requires { HasProgram source.now (view program.now) }
-    ensures { IfOk result (λ expanded. IsFlat (flat_form.view expanded.flat)) }
-{
-    let names = names_of(alloc, source, program)?;
-    let elements = expanded(alloc, source, program, &names)?;
-    let typed = typed(alloc, source, program, &names)?;
-    match expand(alloc, &typed, &elements) {
-        Ok(flat) => Ok(Expanded { elements, flat }),
-        Err(_) => Err(Page::cut(alloc)),
-    }
-}
 
 /// Which of its function's instances, from 1, the instance with this number is.
 fn count_of(instances: &[Instance], number: u32, func: u32) -> u32 {
@@ -76,10 +50,7 @@ fn put_name(page: &mut Page, program: &Program, instances: &[Instance], element:
         page.number("#", count_of(instances, element.inst, instance.func));
         page.text(".");
     }
-    if let Some(decl) = declaration(func, element.decl) {
-        page.name("", &decl.name);
-        put_subscripts(page, subscripts_at(decl.dims.as_slice(), element.place));
-    }
+    put_signal(page, func, element);
 }
 
 /// The lines of the elements with these numbers.
@@ -112,19 +83,19 @@ fn numbers_from(alloc: Global, first: u32, end: u32) -> Result<List<u32>, AllocE
 }
 
 /// An evaluator of a flat program.
-fn evaluator_of(alloc: Global, flat: &FlatProgram) -> Result<Evaluator, Refusal>
+fn evaluator_of(page: &mut Page, flat: &FlatProgram) -> Result<Evaluator, Refused>
     requires { IsFlat (flat_form.view flat.now) }
     ensures inputs { IfOk result (λ evaluator. evaluator.graph.inputs ≡ flat.now.inputs) }
     ensures outs { IfOk result (λ evaluator. evaluator.graph.outs ≤ 16) }
 {
-    let graph = match build(alloc, flat) {
+    let graph = match build(page.alloc, flat) {
         Ok(graph) => graph,
-        Err(GraphFault::Memory) => return Err(Page::cut(alloc)),
-        Err(fault) => return Err(told(alloc, &fault)),
+        Err(GraphFault::Memory) => return Err(page.cut()),
+        Err(fault) => return Err(page.refuse_in_words(&fault)),
     };
-    match Evaluator::new(alloc, &graph) {
+    match Evaluator::new(page.alloc, &graph) {
         Ok(evaluator) => Ok(evaluator),
-        Err(_) => Err(Page::cut(alloc)),
+        Err(_) => Err(page.cut()),
     }
 }
 
@@ -144,13 +115,12 @@ fn put_samples(page: &mut Page, evaluator: &mut Evaluator, rows: &[List<i64>])
 /// The elements from this number on, as many as are outputs at a time, and their words.
 #[tactic(auto, using(crate::proofs::Outputs::flat_with))]
 fn put_group(
-    alloc: Global,
     page: &mut Page,
     program: &Program,
     of: &mut Expanded,
     first: u32,
     rows: &[List<i64>],
-) -> Result<(), Refusal>
+) -> Result<(), Refused>
     requires flat { IsFlat (flat_form.view of.old.flat) }
     requires there { first < length of.old.flat.elems }
     requires rows { IsStreamOf of.old.flat.inputs rows.now }
@@ -158,38 +128,35 @@ fn put_group(
     ensures elements { of.new.flat.elems ≡ of.old.flat.elems }
     ensures inputs { of.new.flat.inputs ≡ of.old.flat.inputs }
 {
-    let Ok(numbers) = numbers_from(alloc, first, of.flat.elems.len() as u32) else {
-        return Err(Page::cut(alloc));
+    let Ok(numbers) = numbers_from(page.alloc, first, of.flat.elems.len() as u32) else {
+        return Err(page.cut());
     };
     put_elements(page, program, of, &numbers);
     of.flat.outs = numbers;
-    let mut evaluator = evaluator_of(alloc, &of.flat)?;
+    let mut evaluator = evaluator_of(page, &of.flat)?;
     put_samples(page, &mut evaluator, rows);
     Ok(())
 }
 
 fn put_groups(
-    alloc: Global,
     page: &mut Page,
     program: &Program,
     of: &mut Expanded,
     rows: &[List<i64>],
-) -> Result<(), Refusal>
+) -> Result<(), Refused>
     requires flat { IsFlat (flat_form.view of.old.flat) }
     requires rows { IsStreamOf of.old.flat.inputs rows.now }
 {
     let count = of.flat.elems.len() as u32;
     for first in (0..count).step_by(MAX_CHANNELS) {
-        put_group(alloc, page, program, of, first, rows)?;
+        put_group(page, program, of, first, rows)?;
     }
     Ok(())
 }
 
-pub fn page(alloc: Global, source: &[u8], samples: &[u8]) -> Result<Page, Refusal> {
-    let program = accepted_of(alloc, source)?.program;
-    let mut of = expanded_of(alloc, source, &program)?;
-    let rows = read_typed(alloc, &of.flat.inputs, samples)?;
-    let mut page = Page::new(alloc);
-    put_groups(alloc, &mut page, &program, &mut of, &rows)?;
-    Ok(page)
+pub fn put(page: &mut Page, source: &[u8], samples: &[u8]) -> Result<(), Refused> {
+    let program = accepted_of(page, source)?.program;
+    let mut of = expanded_of(page, source, &program)?;
+    let rows = read_typed(page, &of.flat.inputs, samples)?;
+    put_groups(page, &program, &mut of, &rows)
 }

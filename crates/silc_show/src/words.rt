@@ -12,59 +12,43 @@ ghost use Rattle.fix_word.specs.Operations.{IsReady};
 ghost use Rattle.fix_word.specs.Words.{IsFormat, IsShape};
 
 use crate::operation_names::operation_named;
-use crate::page::Page;
-use crate::source::{Refusal, text_of};
-use fix_word::{Format, LitFault, Mode, Op, Shape, apply, conv, form, literal, wrap};
-use std::alloc::{AllocError, Global};
+use crate::page::{Page, Refused};
+use crate::source::text_of;
+use fix_word::{Format, Mode, Op, Shape, apply, conv, form, literal, wrap};
+use std::alloc::AllocError;
 
-/// The condition that a row breaks, so that it has no result.
-#[derive(Clone, Copy)]
-enum Broken {
-    /// The words are no operation with its numbers.
-    Row,
-    /// A number is below -2^80 or above 2^80.
-    Number,
-    /// A width is not 1 to 32.
-    Width,
-    /// A width is not 1 to 32, or there are more fraction bits than bits.
-    Shape,
-    /// The fraction bits of a number are not 0 to 64.
-    FractionBits,
-    /// A literal has more than 18 digits.
-    Digits,
-    /// A literal has more than 17 digits behind its point.
-    Places,
-    /// A shift is not -32 to 64, or a width not 1 to 32.
-    Format,
-    /// The operation is one that has no result by itself.
-    Operation,
-    /// An operand is below -2^39 or above 2^39.
-    Operand,
-}
+/// What is said of a row that has no result: the condition that it breaks.
+type Broken = &'static str;
 
-impl Broken {
-    fn text(self) -> &'static str {
-        match self {
-            Broken::Row => " refused: row",
-            Broken::Number => " refused: number",
-            Broken::Width => " refused: width",
-            Broken::Shape => " refused: shape",
-            Broken::FractionBits => " refused: fraction bits",
-            Broken::Digits => " refused: digits",
-            Broken::Places => " refused: places",
-            Broken::Format => " refused: format",
-            Broken::Operation => " refused: operation",
-            Broken::Operand => " refused: operand",
-        }
-    }
-}
+/// The words are no operation with its numbers.
+const ROW: Broken = " refused: row";
 
-/// What a row gives.
-#[derive(Clone, Copy)]
-enum Answer {
-    Word(i64),
-    Fault(LitFault),
-}
+/// A number is below -2^80 or above 2^80.
+const NUMBER: Broken = " refused: number";
+
+/// A width is not 1 to 32.
+const WIDTH: Broken = " refused: width";
+
+/// A width is not 1 to 32, or there are more fraction bits than bits.
+const SHAPE: Broken = " refused: shape";
+
+/// The fraction bits of a number are not 0 to 64.
+const FRACTION_BITS: Broken = " refused: fraction bits";
+
+/// A literal has more than 18 digits.
+const DIGITS: Broken = " refused: digits";
+
+/// A literal has more than 17 digits behind its point.
+const PLACES: Broken = " refused: places";
+
+/// A shift is not -32 to 64, or a width not 1 to 32.
+const FORMAT: Broken = " refused: format";
+
+/// The operation is one that has no result by itself.
+const OPERATION: Broken = " refused: operation";
+
+/// An operand is below -2^39 or above 2^39.
+const OPERAND: Broken = " refused: operand";
 
 /// The greatest size of a number, and of an operand.
 const NUMBER_LIMIT: u128 = 1 << 80;
@@ -84,10 +68,10 @@ fn number(word: &str) -> Result<i128, Broken>
     ensures { IfOk result (λ q. unsigned_abs q ≤ 2 ^ 80) }
 {
     let Ok(number) = word.parse::<i128>() else {
-        return Err(Broken::Row);
+        return Err(ROW);
     };
     if number.unsigned_abs() > NUMBER_LIMIT {
-        return Err(Broken::Number);
+        return Err(NUMBER);
     }
     Ok(number)
 }
@@ -96,10 +80,10 @@ fn operand(word: &str) -> Result<i64, Broken>
     ensures { IfOk result (λ a. unsigned_abs a ≤ 2 ^ 39) }
 {
     let Ok(operand) = word.parse::<i64>() else {
-        return Err(Broken::Row);
+        return Err(ROW);
     };
     if operand.unsigned_abs() > OPERAND_LIMIT {
-        return Err(Broken::Operand);
+        return Err(OPERAND);
     }
     Ok(operand)
 }
@@ -108,13 +92,13 @@ fn mode(word: &str) -> Result<Mode, Broken> {
     match word {
         "trunc" => Ok(Mode::Trunc),
         "round" => Ok(Mode::Round),
-        _ => Err(Broken::Row),
+        _ => Err(ROW),
     }
 }
 
 fn format(shift: &str, mode_word: &str, width: &str) -> Result<Format, Broken> {
     let (Ok(shift), Ok(width)) = (shift.parse::<i8>(), width.parse::<u8>()) else {
-        return Err(Broken::Row);
+        return Err(ROW);
     };
     Ok(Format {
         shift,
@@ -131,11 +115,11 @@ fn is_format(fmt: &Format) -> bool
 
 fn wrapped(q: &str, width: &str) -> Result<i64, Broken> {
     let Ok(w) = width.parse::<u8>() else {
-        return Err(Broken::Row);
+        return Err(ROW);
     };
     let q = number(q)?;
     if w < 1 || w > 32 {
-        return Err(Broken::Width);
+        return Err(WIDTH);
     }
     Ok(wrap(q, w))
 }
@@ -143,7 +127,7 @@ fn wrapped(q: &str, width: &str) -> Result<i64, Broken> {
 fn formed(q: &str, fmt: &Format) -> Result<i64, Broken> {
     let q = number(q)?;
     if !is_format(fmt) {
-        return Err(Broken::Format);
+        return Err(FORMAT);
     }
     Ok(form(q, fmt))
 }
@@ -152,10 +136,10 @@ fn shape(w: &str, f: &str) -> Result<Shape, Broken>
     ensures { IfOk result IsShape }
 {
     let (Ok(w), Ok(f)) = (w.parse::<u8>(), f.parse::<u8>()) else {
-        return Err(Broken::Row);
+        return Err(ROW);
     };
     if w < 1 || w > 32 || f > w {
-        return Err(Broken::Shape);
+        return Err(SHAPE);
     }
     Ok(Shape { w, f })
 }
@@ -164,11 +148,11 @@ fn converted(m: &str, f1: &str, to: Shape, mode: Mode) -> Result<i64, Broken>
     requires { IsShape to }
 {
     let Ok(f1) = f1.parse::<i16>() else {
-        return Err(Broken::Row);
+        return Err(ROW);
     };
     let m = number(m)?;
     if f1 < 0 || f1 > FRACTION_BITS_LIMIT {
-        return Err(Broken::FractionBits);
+        return Err(FRACTION_BITS);
     }
     Ok(conv(m, f1, to, mode))
 }
@@ -177,27 +161,28 @@ fn is_negative(sign: &str) -> Result<bool, Broken> {
     match sign {
         "+" => Ok(false),
         "-" => Ok(true),
-        _ => Err(Broken::Row),
+        _ => Err(ROW),
     }
 }
 
-fn literal_answer(sign: &str, digits: &str, places: &str, to: Shape) -> Result<Answer, Broken>
+fn put_literal(page: &mut Page, sign: &str, number: [&str; 2], to: Shape) -> Result<(), Broken>
     requires { IsShape to }
 {
     let neg = is_negative(sign)?;
-    let (Ok(digits), Ok(places)) = (digits.parse::<u64>(), places.parse::<u8>()) else {
-        return Err(Broken::Row);
+    let (Ok(digits), Ok(places)) = (number[0].parse::<u64>(), number[1].parse::<u8>()) else {
+        return Err(ROW);
     };
     if digits >= DIGITS_LIMIT {
-        return Err(Broken::Digits);
+        return Err(DIGITS);
     }
     if places > PLACES_LIMIT {
-        return Err(Broken::Places);
+        return Err(PLACES);
     }
     match literal(neg, digits, places, to) {
-        Ok(word) => Ok(Answer::Word(word)),
-        Err(fault) => Ok(Answer::Fault(fault)),
+        Ok(word) => page.number(" = ", word),
+        Err(fault) => page.shown(" fault: ", &fault),
     }
+    Ok(())
 }
 
 /// Whether the operation has a result in the format, which the formatted ones alone go through.
@@ -205,15 +190,9 @@ fn check_ready(op: Op, fmt: &Format) -> Result<(), Broken>
     ensures { IfOk result (λ _. IsReady op fmt.now) }
 {
     match op {
-        Op::Input | Op::Output | Op::Const | Op::Load | Op::Store | Op::Addr => {
-            Err(Broken::Operation)
-        }
+        Op::Input | Op::Output | Op::Const | Op::Load | Op::Store | Op::Addr => { Err(OPERATION) }
         Op::Add | Op::Sub | Op::Neg | Op::Pass | Op::Mul => {
-            if is_format(fmt) {
-                Ok(())
-            } else {
-                Err(Broken::Format)
-            }
+            if is_format(fmt) { Ok(()) } else { Err(FORMAT) }
         }
         Op::Lt | Op::Le | Op::Eq | Op::Ne | Op::And | Op::Or | Op::Not | Op::Sel => Ok(()),
     }
@@ -221,7 +200,7 @@ fn check_ready(op: Op, fmt: &Format) -> Result<(), Broken>
 
 fn applied(name: &str, fmt: &Format, operands: [&str; 3]) -> Result<i64, Broken> {
     let Some(op) = operation_named(name) else {
-        return Err(Broken::Row);
+        return Err(ROW);
     };
     let a = operand(operands[0])?;
     let b = operand(operands[1])?;
@@ -240,38 +219,37 @@ fn word(row: &[&str]) -> Result<i64, Broken> {
         [verb, name, shift, mode, width, a, b, c] if *verb == "apply" => {
             applied(name, &format(shift, mode, width)?, [*a, *b, *c])
         }
-        _ => Err(Broken::Row),
+        _ => Err(ROW),
     }
 }
 
-fn answer_of(row: &[&str]) -> Result<Answer, Broken> {
+/// Puts what a row gives.
+fn put_result(page: &mut Page, row: &[&str]) -> Result<(), Broken> {
     match row {
         [verb, sign, digits, places, w, f] if *verb == "literal" => {
-            literal_answer(sign, digits, places, shape(w, f)?)
+            put_literal(page, sign, [*digits, *places], shape(w, f)?)?
         }
-        _ => Ok(Answer::Word(word(row)?)),
-    }
-}
-
-fn put_answer(page: &mut Page, alloc: Global, line: &str) -> Result<(), AllocError> {
-    let row: Vec<&str> = line.split(' ').collect(alloc)?;
-    match answer_of(&row) {
-        Ok(Answer::Word(word)) => page.number(" = ", word),
-        Ok(Answer::Fault(fault)) => page.shown(" fault: ", &fault),
-        Err(broken) => page.text(broken.text()),
+        _ => page.number(" = ", word(row)?),
     }
     Ok(())
 }
 
-pub fn page(alloc: Global, table: &[u8]) -> Result<Page, Refusal> {
-    let table = text_of(alloc, table)?;
-    let mut page = Page::new(alloc);
+fn put_answer(page: &mut Page, line: &str) -> Result<(), AllocError> {
+    let row: Vec<&str> = line.split(' ').collect(page.alloc)?;
+    if let Err(broken) = put_result(page, &row) {
+        page.text(broken);
+    }
+    Ok(())
+}
+
+pub fn put(page: &mut Page, table: &[u8]) -> Result<(), Refused> {
+    let table = text_of(page, table)?;
     for line in table.lines() {
         page.text(line);
-        if put_answer(&mut page, alloc, line).is_err() {
-            return Err(Page::cut(alloc));
+        if put_answer(page, line).is_err() {
+            return Err(page.cut());
         }
         page.end();
     }
-    Ok(page)
+    Ok(())
 }

@@ -7,6 +7,7 @@ computed-requires c =
     record {
       valid = c.requires.valid;
       issue = c.requires.issue;
-      ready = ready c.args.issue.now.op c.args.issue.now.fmt (format_of c.args.image.now c.args.issue.now c.requires.issue)
+      ready =
+          ready c.args.issue.now.op c.args.issue.now.fmt (format_of c.args.image.now c.args.issue.now c.requires.issue)
           not.not-Input not.not-Const not.not-Addr not.not-Load not.not-Store not.not-Output;
     }

@@ -1,7 +1,7 @@
 use Rattle.silage_syntax.specs.Tree.{view}
 use Rattle.front_end.proofs.Counts.{short_numbers, results}
 use Rattle.silc_show.proofs.NodeOrigins.{of_one}
-use Rattle.silc_show.proofs.values.expanded_of.Goals as goal
+use Rattle.silc_show.proofs.flat.expanded_of.Goals as goal
 
 pub expanded-requires-clause-results : goal.expanded-requires-clause-results
 expanded-requires-clause-results c = results c.args.source.now (view c.args.program.now) c.requires.read
