@@ -1,5 +1,6 @@
 -- The program of a cascade's source: it has one input word and one output word, of 16 bits each.
-use Rattle.std.proofs.Common.{◌≡◌, refl, sym, subst, ◌∙◌, arith, ℕ, ◌+◌, ◌-◌, ◌<◌, ◌≤◌, true, Bool, ◌&&◌, nat_le, nat_eq, List, [], ◌∷◌, ◌++◌, map, Some}
+use Rattle.std.proofs.Common.{◌≡◌, refl, sym, subst, ◌∙◌, arith, ℕ, ◌+◌, ◌-◌, ◌<◌, ◌≤◌, true, Bool, ◌&&◌, nat_le}
+use Rattle.std.proofs.Common.{nat_eq, List, [], ◌∷◌, ◌++◌, map, Some}
 use Rattle.std.specs.Prelude.{codes, decimal}
 use Rattle.std.specs.Fmt.{digits}
 use Rattle.std.specs.List.{range_with_len}
@@ -13,14 +14,24 @@ use Rattle.fix_word.specs.declared.types.SigType.TheVariants.{Fix}
 use Rattle.silage_lex.specs.Texts.{is_digits, digit_count, decimal as value_of}
 use Rattle.silage_lex.specs.Tokens.{TokenList, HasTokens}
 use Rattle.silage_lex.specs.declared.keywords.TheConstants.{BEGIN, END, FIX, FUNC, VAR}
-use Rattle.silage_lex.specs.declared.punctuation.TheConstants.{AT, COLON, COLON_COLON, COMMA, DOT_DOT, EQUAL, GREATER, LEFT_BRACKET, LEFT_PAREN, LESS, MINUS, PLUS, RIGHT_BRACKET, RIGHT_PAREN, SEMICOLON, STAR}
+use Rattle.silage_lex.specs.declared.punctuation.TheConstants.{AT, COLON, COLON_COLON, COMMA, DOT_DOT, EQUAL, GREATER}
+use Rattle.silage_lex.specs.declared.punctuation.TheConstants.{LEFT_BRACKET, LEFT_PAREN, LESS, MINUS, PLUS}
+use Rattle.silage_lex.specs.declared.punctuation.TheConstants.{RIGHT_BRACKET, RIGHT_PAREN, SEMICOLON, STAR}
 use Rattle.silage_lex.proofs.OneReading.{tokens_once}
-use Rattle.silage_syntax.specs.Grammar.{Derives, kind_at, from_at, operator, IsManifest, Manifest_, Term, Primary_, IsExpr, Chain, Or, Sum, Product, Shift, Primary, last, scalar, vector, no_mode, fix, declared, decl, terms, no_term, one_term, factors, no_factor, primary_factor, whole_primary, name_primary, no_sub, one_sub, no_delay, delay, chain, no_more, one_more, no_comparison, shifts, no_shift, primary, number, place, no_target_sub, one_target_sub, target, last_arg, is_equation, is_call, is_loop, no_items, one_item, no_locals, some_locals, one_result, is_function, no_tops, one_top}
+use Rattle.silage_syntax.specs.Grammar.{Derives, kind_at, from_at, operator, IsManifest, Manifest_, Term, Primary_}
+use Rattle.silage_syntax.specs.Grammar.{IsExpr, Chain, Or, Sum, Product, Shift, Primary, last, scalar, vector, no_mode}
+use Rattle.silage_syntax.specs.Grammar.{fix, declared, decl, terms, no_term, one_term, factors, no_factor}
+use Rattle.silage_syntax.specs.Grammar.{primary_factor, whole_primary, name_primary, no_sub, one_sub, no_delay, delay}
+use Rattle.silage_syntax.specs.Grammar.{chain, no_more, one_more, no_comparison, shifts, no_shift, primary, number}
+use Rattle.silage_syntax.specs.Grammar.{place, no_target_sub, one_target_sub, target, last_arg, is_equation, is_call}
+use Rattle.silage_syntax.specs.Grammar.{is_loop, no_items, one_item, no_locals, some_locals, one_result, is_function}
+use Rattle.silage_syntax.specs.Grammar.{no_tops, one_top}
 use Rattle.silage_syntax.specs.Tree.{Manifest, Expr, binary, Program}
 use Rattle.silage_syntax.specs.declared.tree.BinOp.{BinOp}
 use Rattle.silage_meaning.specs.Solves.{input_types, output_types}
 use Rattle.cascade.specs.Cascade.{cascade_source, source_head, first_signal, section_call, source_end}
-use Rattle.cascade.proofs.Spelling.{Spelling, a_name, a_word, a_symbol, a_whole, a_point, Piece, joined, spaced, on_line, spelled, ArePieces, pieces_front, laid, spelled_tokens}
+use Rattle.cascade.proofs.Spelling.{Spelling, a_name, a_word, a_symbol, a_whole, a_point, Piece, joined, spaced}
+use Rattle.cascade.proofs.Spelling.{on_line, spelled, ArePieces, pieces_front, laid, spelled_tokens}
 
 -- The source, token by token.
 -- up to the size of the array
@@ -110,7 +121,8 @@ written : (n : ℕ) → n < 34 → is_written n ≡ true
 unfolding digits
 written n below =
     sym (get_or-map-range_with_len is_written 0 34 n n true below (omega arith))
-    ∙ AllPass-from_list_all (λ b. b) (map is_written (range_with_len 0 34)) refl n true (omega (arith, below, length-map-range_with_len is_written 0 34))
+    ∙ AllPass-from_list_all (λ b. b) (map is_written (range_with_len 0 34)) refl n true
+    (omega (arith, below, length-map-range_with_len is_written 0 34))
 
 number_pass : (n : ℕ) (behind : Bool) → n < 34 → behind ≡ true → (is_written n && behind) ≡ true
 number_pass n behind below h = and_from _ _ (written n below) h
@@ -121,20 +133,23 @@ are_pieces sections few =
       number_pass (sections + 1) _ (omega (arith, few)) refl,
       pieces_front array_pieces (from_index sections) line_end refl (
         number_pass (sections - 1) _ (omega (arith, few)) refl,
-        pieces_front loop_pieces (from_output sections) line_end refl (number_pass sections _ (omega (arith, few)) refl, pieces_front end_pieces [] line_end refl refl),
+        pieces_front loop_pieces (from_output sections) line_end refl
+            (number_pass sections _ (omega (arith, few)) refl, pieces_front end_pieces [] line_end refl refl),
       ),
     )
 
 -- the source is the text of the pieces
 numbers_between : (a m b n c o d : List ℕ) → a ++ m ++ b ++ n ++ c ++ o ++ d ≡ a ++ (m ++ (b ++ (n ++ (c ++ (o ++ d)))))
 numbers_between a m b n c o d =
-    append_assoc (a ++ m ++ b ++ n ++ c) o d ∙ append_assoc (a ++ m ++ b ++ n) c (o ++ d) ∙ append_assoc (a ++ m ++ b) n (c ++ (o ++ d))
+    append_assoc (a ++ m ++ b ++ n ++ c) o d ∙ append_assoc (a ++ m ++ b ++ n) c (o ++ d)
+    ∙ append_assoc (a ++ m ++ b) n (c ++ (o ++ d))
     ∙ append_assoc (a ++ m) b (n ++ (c ++ (o ++ d))) ∙ append_assoc a m (b ++ (n ++ (c ++ (o ++ d))))
 
 is_spelled : (sections : ℕ) → cascade_source sections ≡ spelled (cascade_pieces sections) line_end
 unfolding cascade_source
 is_spelled sections =
-    numbers_between source_head (decimal (sections + 1)) first_signal (decimal (sections - 1)) section_call (decimal sections) source_end
+    numbers_between source_head (decimal (sections + 1)) first_signal (decimal (sections - 1)) section_call
+    (decimal sections) source_end
 
 has_tokens : (sections : ℕ) → sections ≤ 32 → HasTokens (cascade_source sections) (cascade_tokens sections)
 has_tokens sections few =
@@ -161,7 +176,10 @@ module _ {ts : TokenList} where
   lone_term : {i j : ℕ} {m : Manifest} → IsManifest ts Primary_ i m j → IsManifest ts Manifest_ i m j
   lone_term x = terms (term x) no_term
 
-  product : {i j k : ℕ} {a b : Expr} {o : BinOp} → IsExpr ts Primary i a j → operator Product (kind_at ts j) ≡ Some o → IsExpr ts Primary (j + 1) b k
+  product : {i j k : ℕ} {a b : Expr} {o : BinOp}
+      → IsExpr ts Primary i a j
+      → operator Product (kind_at ts j) ≡ Some o
+      → IsExpr ts Primary (j + 1) b k
       → IsExpr ts (Chain Product) i (binary (from_at ts j) o a b) k
   product x star y = chain (shift_of x) (one_more star (shift_of y) no_more)
 
@@ -186,11 +204,13 @@ cascade_derives sections = (
         refl refl
         no_locals
         (one_item
-        (is_equation (target refl no_target_sub) refl (expression (chain (product (number refl) refl (place refl no_sub no_delay))
+        (is_equation (target refl no_target_sub) refl
+        (expression (chain (product (number refl) refl (place refl no_sub no_delay))
         (one_more refl (product (number refl) refl (place refl no_sub (delay refl (whole_primary refl))))
         (one_more refl (product (number refl) refl (place refl no_sub (delay refl (whole_primary refl))))
         (one_more refl (product (number refl) refl (place refl no_sub (delay refl (whole_primary refl))))
-        (one_more refl (product (number refl) refl (place refl no_sub (delay refl (whole_primary refl)))) no_more)))))) refl)
+        (one_more refl (product (number refl) refl (place refl no_sub (delay refl (whole_primary refl)))) no_more))))))
+        refl)
         no_items)
         refl refl)
         (one_top
@@ -198,15 +218,23 @@ cascade_derives sections = (
         (last (decl (declared refl scalar) refl (fix (no_mode refl refl refl refl refl refl)))) refl
         (one_result (decl (declared refl scalar) refl (fix (no_mode refl refl refl refl refl refl))))
         refl refl
-        (some_locals refl (last (declared refl (vector refl refl refl))) refl (fix (no_mode refl refl refl refl refl refl)) refl no_locals)
+        (some_locals refl (last (declared refl (vector refl refl refl))) refl
+        (fix (no_mode refl refl refl refl refl refl)) refl no_locals)
         (one_item
-        (is_equation (target refl (one_target_sub refl (lone_term (whole_primary refl)) refl)) refl (lone (place refl no_sub no_delay)) refl)
+        (is_equation (target refl (one_target_sub refl (lone_term (whole_primary refl)) refl)) refl
+        (lone (place refl no_sub no_delay)) refl)
         (one_item
-        (is_loop refl refl refl (lone_term (whole_primary refl)) refl (lone_term (whole_primary refl)) refl refl refl (one_item
-        (is_call (target refl (one_target_sub refl (terms (term (name_primary refl)) (one_term refl (term (whole_primary refl)) no_term)) refl)) refl refl refl (last_arg (lone (place refl (one_sub refl (lone_term (name_primary refl)) refl) no_delay))) refl refl)
+        (is_loop refl refl refl (lone_term (whole_primary refl)) refl (lone_term (whole_primary refl)) refl refl refl
+        (one_item
+        (is_call (target refl
+        (one_target_sub refl (terms (term (name_primary refl)) (one_term refl (term (whole_primary refl)) no_term))
+        refl))
+        refl refl refl (last_arg (lone (place refl (one_sub refl (lone_term (name_primary refl)) refl) no_delay))) refl
+        refl)
         no_items) refl refl)
         (one_item
-        (is_equation (target refl no_target_sub) refl (lone (place refl (one_sub refl (lone_term (whole_primary refl)) refl) no_delay)) refl)
+        (is_equation (target refl no_target_sub) refl
+        (lone (place refl (one_sub refl (lone_term (whole_primary refl)) refl) no_delay)) refl)
         no_items)))
         refl refl)
         no_tops),
@@ -215,8 +243,13 @@ cascade_derives sections = (
 )
 
 -- so the only program of the source is one
-pub one_word_each : (sections : ℕ) → sections ≤ 32 → (ts : TokenList) → HasTokens (cascade_source sections) ts
-    → (p : Program) → ((other : Program) → Derives ts other → other ≡ p) → HasOneWordEach p
+pub one_word_each : (sections : ℕ)
+    → sections ≤ 32
+    → (ts : TokenList)
+    → HasTokens (cascade_source sections) ts
+    → (p : Program)
+    → ((other : Program) → Derives ts other → other ≡ p)
+    → HasOneWordEach p
 one_word_each sections few ts lexed p only =
     let same = tokens_once (cascade_source sections) ts (cascade_tokens sections) lexed (has_tokens sections few) in
     let (own, derives, one) = cascade_derives sections in

@@ -1,5 +1,6 @@
 -- Numbers in decimal, read from their first digit on.
-use Rattle.std.proofs.Common.{◌≡◌, sym, ap, ◌∙◌, arith, ℕ, ◌+◌, ◌-◌, ◌*◌, ◌<◌, ◌≤◌, List, [], ◌∷◌, length, take, drop, take-append-drop, get_or, true}
+use Rattle.std.proofs.Common.{◌≡◌, sym, ap, ◌∙◌, arith, ℕ, ◌+◌, ◌-◌, ◌*◌, ◌<◌, ◌≤◌, List, [], ◌∷◌, length, take, drop}
+use Rattle.std.proofs.Common.{take-append-drop, get_or, true}
 use Rattle.std.specs.List.{list_all}
 use Rattle.std.proofs.lemmas.List.Sums.{fold-append, fold_more}
 use Rattle.silage_lex.specs.Bytes.{is_digit}
@@ -8,8 +9,12 @@ use Rattle.silage_lex.proofs.TextLemmas.{digits_from}
 use Rattle.command_words.specs.Command.{IsNumeral}
 
 -- one more digit
-pub decimal_push : (text : List ℕ) (i x d : ℕ) → i < length text → d ≡ get_or text i x - 48 → decimal (take (i + 1) text) ≡ 10 * decimal (take i text) + d
-decimal_push text i x d there is = fold_more (λ n b. 10 * n + (b - 48)) 0 text i x there ∙ ap (λ k. 10 * decimal (take i text) + k) (sym is)
+pub decimal_push : (text : List ℕ) (i x d : ℕ)
+    → i < length text
+    → d ≡ get_or text i x - 48
+    → decimal (take (i + 1) text) ≡ 10 * decimal (take i text) + d
+decimal_push text i x d there is =
+    fold_more (λ n b. 10 * n + (b - 48)) 0 text i x there ∙ ap (λ k. 10 * decimal (take i text) + k) (sym is)
 
 -- digits that follow make a number no less
 after_le : (number : ℕ) (digits : List ℕ) → number ≤ decimal_after number digits
@@ -23,6 +28,10 @@ front_le text i =
     omega (arith, whole, after_le (decimal (take i text)) (drop i text))
 
 -- digits that are a number above 0
-pub numeral : (text : List ℕ) (number : ℕ) → list_all is_digit text ≡ true → number ≡ decimal text → 1 ≤ number → IsNumeral text number
+pub numeral : (text : List ℕ) (number : ℕ)
+    → list_all is_digit text ≡ true
+    → number ≡ decimal text
+    → 1 ≤ number
+    → IsNumeral text number
 numeral [] number all is some = absurd (omega (arith, is, some))
 numeral (b ∷ digits) number all is some = record { digits = digits_from (b ∷ digits) (omega arith) all; value = is }

@@ -1,5 +1,6 @@
 -- The commands, and which words are which.
-use Rattle.std.specs.Prelude.{◌≡◌, ◌≢◌, ◌≤◌, ⊤, IsTrue, ℕ, List, [], ◌∷◌, map, Option, Some, None, Bool, true, ◌&&◌, not, if◌then◌else◌, nat_le, bytes_eq, codes, String, string_bytes}
+use Rattle.std.specs.Prelude.{◌≡◌, ◌≢◌, ◌≤◌, ⊤, IsTrue, ℕ, List, [], ◌∷◌, map, Option, Some, None, Bool, true, ◌&&◌}
+use Rattle.std.specs.Prelude.{not, if◌then◌else◌, nat_le, bytes_eq, codes, String, string_bytes}
 use Rattle.std.specs.declared.alloc.Global.{Global}
 use Rattle.desk_core.specs.View.{Name}
 use Rattle.silage_lex.specs.Texts.{is_digits, decimal}

@@ -1,5 +1,6 @@
 -- What a desk in memory holds, and what its calls do besides what they do to any desk.
-use Rattle.std.specs.Prelude.{◌≡◌, ◌≢◌, ◌⊎◌, ◌↔◌, ℕ, ◌+◌, ◌-◌, ◌<◌, ◌^◌, min, List, [], ◌∷◌, ◌++◌, Option, Some, None, Bool, false, bytes_eq, Contains, Result, IsErr, OnOk, OnErr}
+use Rattle.std.specs.Prelude.{◌≡◌, ◌≢◌, ◌⊎◌, ◌↔◌, ℕ, ◌+◌, ◌-◌, ◌<◌, ◌^◌, min, List, [], ◌∷◌, ◌++◌, Option, Some, None}
+use Rattle.std.specs.Prelude.{Bool, false, bytes_eq, Contains, Result, IsErr, OnOk, OnErr}
 use Rattle.desk_core.specs.View.{Name, Content, Files, View}
 use Rattle.desk_core.specs.Desk.{IsPut, IsOutputSpecified}
 use Rattle.desk_core.specs.Stored.{lookup, input_name, input_bytes, output_name}

@@ -1,5 +1,6 @@
 -- Files in memory, as a list in which the first of a name counts.
-use Rattle.std.specs.Prelude.{◌≡◌, ◌≢◌, ℕ, zero, suc, ◌<◌, ◌≤◌, List, [], ◌∷◌, ◌++◌, length, take, Option, Some, None, nat_eq, bytes_eq, if◌then◌else◌}
+use Rattle.std.specs.Prelude.{◌≡◌, ◌≢◌, ℕ, zero, suc, ◌<◌, ◌≤◌, List, [], ◌∷◌, ◌++◌, length, take, Option, Some, None}
+use Rattle.std.specs.Prelude.{nat_eq, bytes_eq, if◌then◌else◌}
 use Rattle.desk_core.specs.View.{Name, Content}
 use Rattle.desk_core.specs.Desk.{IsPut, content_of}
 use Rattle.desk_core.specs.declared.stored.OpenInput.{OpenInput}
@@ -68,5 +69,6 @@ pub record IsAppended (old new : List Stored) (file : ℕ) (piece : Content) : T
   pub names : (k : ℕ) → name_at new k ≡ name_at old k
   pub put : IsPut (name_at old file) (content_of (lookup old (name_at old file)) ++ piece)
       (lookup old) (lookup new)
-  pub prefixes : (k : ℕ) (n : ℕ) → n ≤ length (bytes_at old k)
+  pub prefixes : (k : ℕ) (n : ℕ)
+      → n ≤ length (bytes_at old k)
       → (n ≤ length (bytes_at new k)) × (take n (bytes_at new k) ≡ take n (bytes_at old k))

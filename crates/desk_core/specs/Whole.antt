@@ -1,7 +1,8 @@
 -- What reading or writing a file whole does.
 use Rattle.std.specs.Prelude.{◌≡◌, ◌≢◌, ◌⊎◌, ℕ, ◌+◌, ◌<◌, ◌≤◌, min, length, take, Some, None}
 use Rattle.desk_core.specs.View.{Name, Content, Files, View}
-use Rattle.desk_core.specs.Desk.{IfSpecified, WhereSpecified, IsPut, content_of, HasInput, HasOutput, HasNoInput, IsSameInput, NoneBegins, NoOtherBegins, IsReading}
+use Rattle.desk_core.specs.Desk.{IfSpecified, WhereSpecified, IsPut, content_of, HasInput, HasOutput, HasNoInput}
+use Rattle.desk_core.specs.Desk.{IsSameInput, NoneBegins, NoOtherBegins, IsReading}
 
 -- at most the input and the faults changed
 pub record IsUnchangedButInput (old new : View) : Type 0 where

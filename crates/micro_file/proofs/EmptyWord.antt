@@ -28,7 +28,8 @@ module _ (image : Image) (rest : List ℕ) where
 -- they are read as the word
 pub empty_word_at : (image : Image) (rest : List ℕ) → word_at image (empty_word ++ rest) ≡ Ok (no_word, rest)
 unfolding word_at
-empty_word_at image rest = rw (no_issues image (0 ∷ 0 ∷ 0 ∷ 0 ∷ rest), no_enables image (0 ∷ 0 ∷ rest), no_takes image rest) refl
+empty_word_at image rest =
+    rw (no_issues image (0 ∷ 0 ∷ 0 ∷ 0 ∷ rest), no_enables image (0 ∷ 0 ∷ rest), no_takes image rest) refl
 
 -- they spell it
 pub spelled_empty : spelled_word no_word ≡ empty_word

@@ -9,17 +9,21 @@ use Rattle.micro_file.specs.Faults.{placed, IsFormFault}
 use Rattle.micro_file.proofs.ImageReader.{whole_spells, spelled_whole}
 use Rattle.micro_file.proofs.Readers.{IsBytes, misread_as, not_both}
 
-pub spelled_or_faulty : (bytes : List ℕ) → IsBytes bytes
+pub spelled_or_faulty : (bytes : List ℕ)
+    → IsBytes bytes
     → ((image : Image) × Spells bytes image) ⊎ ((fault : FormFault) × IsFormFault bytes fault)
 spelled_or_faulty bytes fits = by (whole_at bytes) refl
   where
-    by : (r : Result Image Misread) → whole_at bytes ≡ r
+    by : (r : Result Image Misread)
+        → whole_at bytes ≡ r
         → ((image : Image) × Spells bytes image) ⊎ ((fault : FormFault) × IsFormFault bytes fault)
     by (Ok image) e = inl (image, whole_spells bytes fits image e)
     by (Err misread) e = inr (placed (length bytes) misread, record { misread = misread; stopped = e; place = refl })
 
-pub spelled_no_fault : (bytes : List ℕ) (image : Image) (fault : FormFault) → Spells bytes image
-    → IsFormFault bytes fault → ⊥
+pub spelled_no_fault : (bytes : List ℕ) (image : Image) (fault : FormFault)
+    → Spells bytes image
+    → IsFormFault bytes fault
+    → ⊥
 spelled_no_fault bytes image fault spells faulty =
     not_both (whole_at bytes) image faulty.misread (spelled_whole bytes image spells) faulty.stopped
 

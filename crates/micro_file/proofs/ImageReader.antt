@@ -1,5 +1,6 @@
 -- The reader of an image: what it reads is spelled so, and what is spelled so is read.
-use Rattle.std.proofs.Common.{◌≡◌, ℕ, ◌*◌, ◌≤◌, true, cond, eqb, List, [], ◌∷◌, ◌++◌, length, Result, Ok, Err, refl, sym, ap, subst, ◌∙◌, append_assoc, arith}
+use Rattle.std.proofs.Common.{◌≡◌, ℕ, ◌*◌, ◌≤◌, true, cond, eqb, List, [], ◌∷◌, ◌++◌, length, Result, Ok, Err, refl}
+use Rattle.std.proofs.Common.{sym, ap, subst, ◌∙◌, append_assoc, arith}
 use Rattle.std.specs.Prelude.{◌⊎◌, slice_index_or}
 use Rattle.std.specs.Int.{w16}
 use Rattle.std.specs.List.{All, flat_map}
@@ -16,7 +17,8 @@ use Rattle.micro_file.specs.Fields.{Reading, only_byte, byte_within, number_with
 use Rattle.micro_file.specs.Units.{units_at}
 use Rattle.micro_file.specs.Words.{word_at}
 use Rattle.micro_file.specs.File.{head_at, is_unroll, unroll_at, inputs_at, hardware_at, image_at, whole_at}
-use Rattle.micro_file.proofs.Readers.{IsBytes, Takes, ◌⨟◌, Took, IsReader, tested, such_reader, so_spelled, ok_is, bound, joined}
+use Rattle.micro_file.proofs.Readers.{IsBytes, Takes, ◌⨟◌, Took, IsReader, tested, such_reader, so_spelled, ok_is}
+use Rattle.micro_file.proofs.Readers.{bound, joined}
 use Rattle.micro_file.proofs.Several.{all_from, grows_all, many_reader, counted}
 use Rattle.micro_file.proofs.Leaves.{one_byte, or_misread, only_reader, byte_reader, within_reader, two_reader}
 use Rattle.micro_file.proofs.UnitReader.{AreUnits, units_reader}
@@ -46,7 +48,14 @@ behind_all s i l m v = Ok v.1
 abbrev head : List ℕ
 head = 83 ∷ 73 ∷ 76 ∷ 77 ∷ 1 ∷ []
 
-is_head : (bytes rest : List ℕ) (s i l m v : ℕ) → s ≡ 83 → i ≡ 73 → l ≡ 76 → m ≡ 77 → v ≡ 1 → Takes bytes (s ∷ i ∷ l ∷ m ∷ v ∷ []) rest → Takes bytes head rest
+is_head : (bytes rest : List ℕ) (s i l m v : ℕ)
+    → s ≡ 83
+    → i ≡ 73
+    → l ≡ 76
+    → m ≡ 77
+    → v ≡ 1
+    → Takes bytes (s ∷ i ∷ l ∷ m ∷ v ∷ []) rest
+    → Takes bytes head rest
 is_head bytes rest s i l m v a b c d e h = rw (a, b, c, d, e) at h
 
 head_took : (bytes : List ℕ) → IsBytes bytes → (rest : List ℕ) → head_at bytes ≡ Ok rest → Takes bytes head rest
@@ -78,7 +87,9 @@ unroll_whole : (n : ℕ) → IsUnroll n → is_unroll n ≡ true
 unroll_whole n h = grind (arith, nat_tests)
 
 unroll_reader : IsReader IsUnroll one_byte unroll_at
-unroll_reader = such_reader (λ n h. h.1) (λ n h. (tt, h)) (tested byte_reader (record { sound = λ n e. unroll_sound n e; whole = λ n h. unroll_whole n h }))
+unroll_reader =
+    such_reader (λ n h. h.1) (λ n h. (tt, h))
+    (tested byte_reader (record { sound = λ n e. unroll_sound n e; whole = λ n h. unroll_whole n h }))
 
 abbrev AreInputs : List ℕ → Type 0
 AreInputs inputs = IsWithin 1 16 (length inputs) × All (λ width. width ≤ 32) inputs
@@ -124,35 +135,70 @@ units_behind p u i o = units_at o.1
 abbrev buses_behind : ℕ × List ℕ → ℕ × List ℕ → List ℕ × List ℕ → ℕ × List ℕ → List UnitDesc × List ℕ → Reading ℕ
 buses_behind p u i o n = byte_within 1 32 n.1
 
-abbrev whole_hardware : ℕ × List ℕ → ℕ × List ℕ → List ℕ × List ℕ → ℕ × List ℕ → List UnitDesc × List ℕ → ℕ × List ℕ → Reading Image
-whole_hardware p u i o n b = Ok (record { period = p.0; unroll = u.0; inputs = i.0; outs = o.0; units = n.0; buses = b.0; words = [] }, b.1)
+abbrev whole_hardware : ℕ × List ℕ
+    → ℕ × List ℕ
+    → List ℕ × List ℕ
+    → ℕ × List ℕ
+    → List UnitDesc × List ℕ
+    → ℕ × List ℕ
+    → Reading Image
+whole_hardware p u i o n b =
+    Ok (record { period = p.0; unroll = u.0; inputs = i.0; outs = o.0; units = n.0; buses = b.0; words = [] }, b.1)
 
-hardware_took : (bytes : List ℕ) → IsBytes bytes → (x : Image × List ℕ) → hardware_at bytes ≡ Ok x → Took IsHardware spelled_hardware bytes x
+hardware_took : (bytes : List ℕ)
+    → IsBytes bytes
+    → (x : Image × List ℕ)
+    → hardware_at bytes ≡ Ok x
+    → Took IsHardware spelled_hardware bytes x
 unfolding hardware_at
 hardware_took bytes fits x e =
-    let s = bound6 (number_within w16 1 4096 bytes) unroll_behind inputs_behind outs_behind units_behind buses_behind whole_hardware x e in
+    let s =
+    bound6 (number_within w16 1 4096 bytes) unroll_behind inputs_behind outs_behind units_behind buses_behind
+    whole_hardware x e in
     let p = (two_reader 1 4096 (omega arith)).took bytes fits s.0 s.6 in
     let u = unroll_reader.took s.0.1 p.text.rest_fits s.1 s.7 in
     let i = inputs_reader.took s.1.1 u.text.rest_fits s.2 s.8 in
     let o = (within_reader 1 16).took s.2.1 i.text.rest_fits s.3 s.9 in
     let n = units_reader.took s.3.1 o.text.rest_fits s.4 s.10 in
     let b = (within_reader 1 32).took s.4.1 n.text.rest_fits s.5 s.11 in
-    let image : Image = record { period = s.0.0; unroll = s.1.0; inputs = s.2.0; outs = s.3.0; units = s.4.0; buses = s.5.0; words = [] } in
+    let image : Image = record {
+      period = s.0.0;
+      unroll = s.1.0;
+      inputs = s.2.0;
+      outs = s.3.0;
+      units = s.4.0;
+      buses = s.5.0;
+      words = [];
+    } in
     subst (λ (q : Image × List ℕ). Took IsHardware spelled_hardware bytes q) (ok_is (image, s.5.1) x s.12) (record {
-      allowed = record { period = p.allowed; unroll = u.allowed; inputs = i.allowed; outs = o.allowed; units = n.allowed; buses = b.allowed; no_words = refl };
+      allowed = record {
+        period = p.allowed;
+        unroll = u.allowed;
+        inputs = i.allowed;
+        outs = o.allowed;
+        units = n.allowed;
+        buses = b.allowed;
+        no_words = refl;
+      };
       text = p.text ⨟ u.text ⨟ i.text ⨟ o.text ⨟ n.text ⨟ b.text;
     })
 
-hardware_again : (image : Image) (rest : List ℕ) → IsHardware image → hardware_at (spelled_hardware image ++ rest) ≡ Ok (image, rest)
+hardware_again : (image : Image) (rest : List ℕ)
+    → IsHardware image
+    → hardware_at (spelled_hardware image ++ rest) ≡ Ok (image, rest)
 unfolding hardware_at
 hardware_again image rest ok =
     let P = two_bytes image.period in
     let I = one_byte (length image.inputs) ++ image.inputs in
     let N = one_byte (length image.units) ++ flat_map spelled_unit image.units in
-    let texts : spelled_hardware image ++ rest ≡ P ++ (image.unroll ∷ (I ++ (image.outs ∷ (N ++ (image.buses ∷ rest))))) = simp append_assoc in
+    let texts : spelled_hardware image ++ rest
+    ≡ P ++ (image.unroll ∷ (I ++ (image.outs ∷ (N ++ (image.buses ∷ rest))))) = simp append_assoc in
     ap hardware_at texts
-    ∙ joined6 (number_within w16 1 4096 (P ++ (image.unroll ∷ (I ++ (image.outs ∷ (N ++ (image.buses ∷ rest))))))) unroll_behind inputs_behind outs_behind units_behind buses_behind whole_hardware
-    (image.period, image.unroll ∷ (I ++ (image.outs ∷ (N ++ (image.buses ∷ rest))))) (image.unroll, I ++ (image.outs ∷ (N ++ (image.buses ∷ rest)))) (image.inputs, image.outs ∷ (N ++ (image.buses ∷ rest)))
+    ∙ joined6 (number_within w16 1 4096 (P ++ (image.unroll ∷ (I ++ (image.outs ∷ (N ++ (image.buses ∷ rest)))))))
+    unroll_behind inputs_behind outs_behind units_behind buses_behind whole_hardware
+    (image.period, image.unroll ∷ (I ++ (image.outs ∷ (N ++ (image.buses ∷ rest)))))
+    (image.unroll, I ++ (image.outs ∷ (N ++ (image.buses ∷ rest))))
+    (image.inputs, image.outs ∷ (N ++ (image.buses ∷ rest)))
     (image.outs, N ++ (image.buses ∷ rest)) (image.units, image.buses ∷ rest) (image.buses, rest)
     ((two_reader 1 4096 (omega arith)).again image.period _ ok.period)
     (unroll_reader.again image.unroll _ ok.unroll)
@@ -171,7 +217,9 @@ all_have : (image : Image) → IsHardware image → AllHave image
 all_have image ok k d lt port there = ((ok.units.1 k d lt).files port [] there).size.0
 
 -- a word is asked nothing about the others
-other_words : (image : Image) (words : List Word) (word : Word) → IsWordOf image word → IsWordOf (record image { words = words }) word
+other_words : (image : Image) (words : List Word) (word : Word)
+    → IsWordOf image word
+    → IsWordOf (record image { words = words }) word
 other_words image words word ok = record {
   issues = ok.issues;
   issues_rise = ok.issues_rise;
@@ -183,7 +231,11 @@ other_words image words word ok = record {
   takes_rise = ok.takes_rise;
 }
 
-valid_image : (hardware : Image) (words : List Word) → IsHardware hardware → length words ≡ hardware.period * hardware.unroll → All (IsWordOf hardware) words → IsValid (record hardware { words = words })
+valid_image : (hardware : Image) (words : List Word)
+    → IsHardware hardware
+    → length words ≡ hardware.period * hardware.unroll
+    → All (IsWordOf hardware) words
+    → IsValid (record hardware { words = words })
 valid_image hardware words ok count all = record {
   period = ok.period;
   unroll = ok.unroll;
@@ -213,10 +265,16 @@ in_parts : (image : Image) → head ++ spelled_hardware image ++ flat_map spelle
 unfolding spelling
 in_parts image = simp append_assoc
 
-words_reader : (hardware : Image) → IsHardware hardware → (count : ℕ) → IsReader (λ words. (length words ≡ count) × All (IsWordOf hardware) words) (flat_map spelled_word) (many_at (λ _. word_at hardware) [] count)
+words_reader : (hardware : Image)
+    → IsHardware hardware
+    → (count : ℕ)
+    → IsReader (λ words. (length words ≡ count) × All (IsWordOf hardware) words) (flat_map spelled_word)
+    (many_at (λ _. word_at hardware) [] count)
 words_reader hardware ok count =
-    such_reader (λ words h. (h.0, all_from (IsWordOf hardware) words h.1)) (λ words h. (h.0, grows_all (IsWordOf hardware) words h.1))
-    (many_reader (λ _. IsWordOf hardware) spelled_word (λ _. word_at hardware) (λ _. word_reader hardware (few_words hardware ok) (all_have hardware ok)) count)
+    such_reader (λ words h. (h.0, all_from (IsWordOf hardware) words h.1))
+    (λ words h. (h.0, grows_all (IsWordOf hardware) words h.1))
+    (many_reader (λ _. IsWordOf hardware) spelled_word (λ _. word_at hardware)
+    (λ _. word_reader hardware (few_words hardware ok) (all_have hardware ok)) count)
 
 abbrev hardware_behind : List ℕ → Reading Image
 hardware_behind rest = hardware_at rest
@@ -227,7 +285,11 @@ words_behind rest h = many_at (λ _. word_at h.0) [] (h.0.period * h.0.unroll) h
 abbrev whole_image : List ℕ → Image × List ℕ → List Word × List ℕ → Reading Image
 whole_image rest h w = Ok (record h.0 { words = w.0 }, w.1)
 
-image_took : (bytes : List ℕ) → IsBytes bytes → (x : Image × List ℕ) → image_at bytes ≡ Ok x → Took IsValid spelling bytes x
+image_took : (bytes : List ℕ)
+    → IsBytes bytes
+    → (x : Image × List ℕ)
+    → image_at bytes ≡ Ok x
+    → Took IsValid spelling bytes x
 unfolding image_at
 image_took bytes fits x e =
     let s = bound3 (head_at bytes) hardware_behind words_behind whole_image x e in
@@ -247,12 +309,16 @@ image_again image rest ok =
     let W = flat_map spelled_word image.words in
     let hardware : Image = record image { words = [] } in
     let good = valid_hardware image ok in
-    let texts : spelling image ++ rest ≡ head ++ (H ++ (W ++ rest)) = ap (λ (t : List ℕ). t ++ rest) (sym (in_parts image)) ∙ append_assoc (head ++ H) W rest ∙ append_assoc head H (W ++ rest) in
+    let texts : spelling image ++ rest ≡ head ++ (H ++ (W ++ rest)) =
+    ap (λ (t : List ℕ). t ++ rest) (sym (in_parts image)) ∙ append_assoc (head ++ H) W rest
+    ∙ append_assoc head H (W ++ rest) in
     ap image_at texts
-    ∙ joined3 (head_at (head ++ (H ++ (W ++ rest)))) hardware_behind words_behind whole_image (H ++ (W ++ rest)) (hardware, W ++ rest) (image.words, rest)
+    ∙ joined3 (head_at (head ++ (H ++ (W ++ rest)))) hardware_behind words_behind whole_image (H ++ (W ++ rest))
+    (hardware, W ++ rest) (image.words, rest)
     (head_again (H ++ (W ++ rest)))
     (hardware_again hardware (W ++ rest) good)
-    ((words_reader hardware good (image.period * image.unroll)).again image.words rest (ok.word_count, λ k d lt. other_words image [] (slice_index_or image.words k d) (ok.words k d lt)))
+    ((words_reader hardware good (image.period * image.unroll)).again image.words rest
+    (ok.word_count, λ k d lt. other_words image [] (slice_index_or image.words k d) (ok.words k d lt)))
 
 -- ---- the whole file
 
@@ -274,11 +340,16 @@ whole_spells bytes fits image e =
     let k = or_misread (Trailing (length s.0.1)) (eqb (length s.0.1) 0) s.0.0 image s.2 in
     let t = image_took bytes fits s.0 s.1 in
     let none : s.0.1 ≡ [] = no_more s.0.1 k.0 in
-    subst (Spells bytes) k.1 (record { valid = t.allowed; spelled = t.text.parts ∙ ap (λ (rest : List ℕ). spelling s.0.0 ++ rest) none ∙ append-nil (spelling s.0.0) })
+    subst (Spells bytes) k.1
+    (record {
+      valid = t.allowed;
+      spelled = t.text.parts ∙ ap (λ (rest : List ℕ). spelling s.0.0 ++ rest) none ∙ append-nil (spelling s.0.0);
+    })
 
 -- and what is spelled is read
 pub spelled_whole : (bytes : List ℕ) (image : Image) → Spells bytes image → whole_at bytes ≡ Ok image
 unfolding whole_at
 spelled_whole bytes image h =
-    let found : image_at bytes ≡ Ok (image, []) = ap image_at (h.spelled ∙ sym (append-nil (spelling image))) ∙ image_again image [] h.valid in
+    let found : image_at bytes ≡ Ok (image, []) =
+    ap image_at (h.spelled ∙ sym (append-nil (spelling image))) ∙ image_again image [] h.valid in
     joined (image_at bytes) with_end (image, []) (Ok image) found refl

@@ -1,5 +1,6 @@
 -- A file is misread at a place in it.
-use Rattle.std.proofs.Common.{◌≡◌, ℕ, ◌*◌, ◌≤◌, Bool, true, false, cond, eqb, List, [], length, Result, Ok, Err, subst, arith}
+use Rattle.std.proofs.Common.{◌≡◌, ℕ, ◌*◌, ◌≤◌, Bool, true, false, cond, eqb, List, [], length, Result, Ok, Err, subst}
+use Rattle.std.proofs.Common.{arith}
 use Rattle.std.specs.Int.{w16}
 use Rattle.micro_image.specs.declared.image.Image.{Image}
 use Rattle.micro_file.specs.declared.misread.Misread.{Misread}
@@ -10,7 +11,8 @@ use Rattle.micro_file.specs.Words.{word_at}
 use Rattle.micro_file.specs.File.{head_at, is_unroll, unroll_at, inputs_at, hardware_at, image_at, whole_at}
 use Rattle.micro_file.specs.Private.Places.{IsIn}
 use Rattle.micro_file.proofs.Readers.{misread_as}
-use Rattle.micro_file.proofs.Inside.{IsInside, in_more, inside_more, next, behind, byte_in, tested_in, within_in, number_within_in, many_in}
+use Rattle.micro_file.proofs.Inside.{IsInside, in_more, inside_more, next, behind, byte_in, tested_in, within_in}
+use Rattle.micro_file.proofs.Inside.{number_within_in, many_in}
 use Rattle.micro_file.proofs.InsideUnits.{units_in}
 use Rattle.micro_file.proofs.InsideWords.{word_in}
 
@@ -20,7 +22,8 @@ unroll_in bytes = tested_in bytes (byte_at bytes) is_unroll (byte_in bytes)
 inputs_in : (bytes : List ℕ) → IsInside (length bytes) (inputs_at bytes)
 unfolding inputs_at
 inputs_in bytes =
-    behind (length bytes) (byte_within 1 16 bytes) (λ count. many_at (λ _. byte_within 0 32) [] count.0 count.1) (within_in 1 16 bytes)
+    behind (length bytes) (byte_within 1 16 bytes) (λ count. many_at (λ _. byte_within 0 32) [] count.0 count.1)
+    (within_in 1 16 bytes)
     (λ count. many_in (λ _. byte_within 0 32) (λ _. within_in 0 32) [] count.0 count.1)
 
 hardware_in : (bytes : List ℕ) → IsInside (length bytes) (hardware_at bytes)
@@ -36,24 +39,30 @@ hardware_in bytes =
 -- all but the head
 abbrev image_behind : List ℕ → Reading Image
 image_behind rest =
-    hardware_at rest >>= λ hardware. many_at (λ _. word_at hardware.0) [] (hardware.0.period * hardware.0.unroll) hardware.1 >>= λ words.
+    hardware_at rest
+    >>= λ hardware. many_at (λ _. word_at hardware.0) [] (hardware.0.period * hardware.0.unroll) hardware.1 >>= λ words.
     Ok (record hardware.0 { words = words.0 }, words.1)
 
 image_behind_in : (rest : List ℕ) → IsInside (length rest) (image_behind rest)
 image_behind_in rest =
     behind (length rest) (hardware_at rest) _ (hardware_in rest) (λ h.
-    behind (length h.1) (many_at (λ _. word_at h.0) [] (h.0.period * h.0.unroll) h.1) _ (many_in (λ _. word_at h.0) (λ _. word_in h.0) [] (h.0.period * h.0.unroll) h.1) (λ w. omega arith))
+    behind (length h.1) (many_at (λ _. word_at h.0) [] (h.0.period * h.0.unroll) h.1) _
+    (many_in (λ _. word_at h.0) (λ _. word_in h.0) [] (h.0.period * h.0.unroll) h.1) (λ w. omega arith))
 
 -- a byte of the head has no place of its own
 abbrev HasNoPlace : Misread → Type 0
 HasNoPlace misread = (size : ℕ) → IsIn size misread
 
-only_in : (misread : Misread) (only : ℕ) (bytes : List ℕ) → HasNoPlace misread
+only_in : (misread : Misread) (only : ℕ) (bytes : List ℕ)
+    → HasNoPlace misread
     → IsInside (length bytes) (only_byte misread only bytes)
 only_in misread only bytes free =
-    next (length bytes) (byte_at bytes) (λ b. cond (eqb b.0 only) (Ok b) (Err misread)) (byte_in bytes) (λ b le. by b le (eqb b.0 only))
+    next (length bytes) (byte_at bytes) (λ b. cond (eqb b.0 only) (Ok b) (Err misread)) (byte_in bytes)
+    (λ b le. by b le (eqb b.0 only))
   where
-    by : (b : ℕ × List ℕ) → length b.1 ≤ length bytes → (same : Bool)
+    by : (b : ℕ × List ℕ)
+        → length b.1 ≤ length bytes
+        → (same : Bool)
         → IsInside (length bytes) (cond same (Ok b) (Err misread))
     by b le true = le
     by b le false = free (length bytes)
@@ -67,8 +76,10 @@ leaves_more : (m n : ℕ) (r : Result (List ℕ) Misread) → m ≤ n → Leaves
 leaves_more m n (Ok rest) le h = omega arith
 leaves_more m n (Err misread) le h = in_more m n misread le h
 
-leaves_next : (size : ℕ) (r : Reading ℕ) (f : ℕ × List ℕ → Result (List ℕ) Misread) → IsInside size r
-    → ((x : ℕ × List ℕ) → LeavesIn (length x.1) (f x)) → LeavesIn size (r >>= f)
+leaves_next : (size : ℕ) (r : Reading ℕ) (f : ℕ × List ℕ → Result (List ℕ) Misread)
+    → IsInside size r
+    → ((x : ℕ × List ℕ) → LeavesIn (length x.1) (f x))
+    → LeavesIn size (r >>= f)
 leaves_next size (Ok x) f h g = leaves_more (length x.1) size (f x) h (g x)
 leaves_next size (Err misread) f h g = h
 
@@ -94,16 +105,23 @@ pub stops_inside : (bytes : List ℕ) (misread : Misread) → whole_at bytes ≡
 unfolding whole_at
 stops_inside bytes misread e = by (image_at bytes) (image_in bytes) e
   where
-    stopped : {A : Type 0} (at : Misread) → IsIn (length bytes) at → misread_as A at ≡ Err misread
+    stopped : {A : Type 0} (at : Misread)
+        → IsIn (length bytes) at
+        → misread_as A at ≡ Err misread
         → IsIn (length bytes) misread
     stopped {A} at h same = let is : at ≡ misread = cc in subst (IsIn (length bytes)) is h
 
-    at_end : (x : Image × List ℕ) → length x.1 ≤ length bytes → (b : Bool)
-        → cond b (Ok x.0) (misread_as Image (Trailing (length x.1))) ≡ Err misread → IsIn (length bytes) misread
+    at_end : (x : Image × List ℕ)
+        → length x.1 ≤ length bytes
+        → (b : Bool)
+        → cond b (Ok x.0) (misread_as Image (Trailing (length x.1))) ≡ Err misread
+        → IsIn (length bytes) misread
     at_end x le true same = absurd cc
     at_end x le false same = stopped (Trailing (length x.1)) le same
 
-    by : (r : Reading Image) → IsInside (length bytes) r
-        → (r >>= λ x. cond (eqb (length x.1) 0) (Ok x.0) (Err (Trailing (length x.1)))) ≡ Err misread → IsIn (length bytes) misread
+    by : (r : Reading Image)
+        → IsInside (length bytes) r
+        → (r >>= λ x. cond (eqb (length x.1) 0) (Ok x.0) (Err (Trailing (length x.1)))) ≡ Err misread
+        → IsIn (length bytes) misread
     by (Ok x) h same = at_end x h (eqb (length x.1) 0) same
     by (Err at) h same = stopped at h same

@@ -1,5 +1,6 @@
 -- Units are misread inside the bytes.
-use Rattle.std.proofs.Common.{◌≡◌, ℕ, zero, suc, ◌+◌, ◌<◌, ◌≤◌, Bool, true, false, cond, List, [], ◌∷◌, length, Option, Some, None, Result, Ok, Err, refl, subst, arith}
+use Rattle.std.proofs.Common.{◌≡◌, ℕ, zero, suc, ◌+◌, ◌<◌, ◌≤◌, Bool, true, false, cond, List, [], ◌∷◌, length, Option}
+use Rattle.std.proofs.Common.{Some, None, Result, Ok, Err, refl, subst, arith}
 use Rattle.std.specs.Prelude.{slice_get}
 use Rattle.std.specs.Int.{w16, w32}
 use Rattle.operations.specs.declared.units.Kind.{Kind}
@@ -9,22 +10,29 @@ use Rattle.micro_image.specs.Valid.{ports}
 use Rattle.micro_file.specs.declared.misread.Misread.{Misread}
 use Rattle.micro_file.specs.declared.misread.Misread.TheVariants.{Field}
 use Rattle.micro_file.specs.Tables.{kinds}
-use Rattle.micro_file.specs.Fields.{Reading, ◌>>=◌, found, byte_within, number_within, raw_word_at, entry_at, many_at, raw_words_at}
-use Rattle.micro_file.specs.Units.{file_at, cells_at, ram_at, unit_at, is_tied, judged, judged_at, some_units_at, units_at}
+use Rattle.micro_file.specs.Fields.{Reading, ◌>>=◌, found, byte_within, number_within, raw_word_at, entry_at, many_at}
+use Rattle.micro_file.specs.Fields.{raw_words_at}
+use Rattle.micro_file.specs.Units.{file_at, cells_at, ram_at, unit_at, is_tied, judged, judged_at, some_units_at}
+use Rattle.micro_file.specs.Units.{units_at}
 use Rattle.micro_file.specs.Private.Places.{IsIn}
 use Rattle.micro_file.proofs.Readers.{bound}
-use Rattle.micro_file.proofs.Inside.{IsInside, in_more, next, behind, byte_in, within_in, number_within_in, raw_word_in, entry_in, many_in}
+use Rattle.micro_file.proofs.Inside.{IsInside, in_more, next, behind, byte_in, within_in, number_within_in, raw_word_in}
+use Rattle.micro_file.proofs.Inside.{entry_in, many_in}
 
 raw_words_in : (n : ℕ) (bytes : List ℕ) → IsInside (length bytes) (raw_words_at n bytes)
 raw_words_in n bytes = many_in (λ _. raw_word_at) (λ _. raw_word_in) [] n bytes
 
 file_in : (bytes : List ℕ) → IsInside (length bytes) (file_at bytes)
 unfolding file_at
-file_in bytes = behind (length bytes) (number_within w16 1 256 bytes) (λ size. raw_words_at size.0 size.1) (number_within_in w16 1 256 bytes) (λ size. raw_words_in size.0 size.1)
+file_in bytes =
+    behind (length bytes) (number_within w16 1 256 bytes) (λ size. raw_words_at size.0 size.1)
+    (number_within_in w16 1 256 bytes) (λ size. raw_words_in size.0 size.1)
 
 cells_in : (k : Kind) (bytes : List ℕ) → IsInside (length bytes) (cells_at k bytes)
 unfolding cells_at
-cells_in kind.Ram bytes = behind (length bytes) (number_within w32 1 65536 bytes) (λ size. raw_words_at size.0 size.1) (number_within_in w32 1 65536 bytes) (λ size. raw_words_in size.0 size.1)
+cells_in kind.Ram bytes =
+    behind (length bytes) (number_within w32 1 65536 bytes) (λ size. raw_words_at size.0 size.1)
+    (number_within_in w32 1 65536 bytes) (λ size. raw_words_in size.0 size.1)
 cells_in _ bytes = omega arith
 
 ram_in : (k : Kind) (bytes : List ℕ) → IsInside (length bytes) (ram_at k bytes)
@@ -43,7 +51,8 @@ unit_behind_in : (k : Kind × List ℕ) → IsInside (length k.1) (unit_behind k
 unit_behind_in k =
     behind (length k.1) (byte_within 1 8 k.1) _ (within_in 1 8 k.1) (λ l.
     behind (length l.1) (byte_within 1 l.0 l.1) _ (within_in 1 l.0 l.1) (λ g.
-    behind (length g.1) (many_at (λ _. file_at) [] (ports k.0) g.1) _ (many_in (λ _. file_at) (λ _. file_in) [] (ports k.0) g.1) (λ f.
+    behind (length g.1) (many_at (λ _. file_at) [] (ports k.0) g.1) _
+    (many_in (λ _. file_at) (λ _. file_in) [] (ports k.0) g.1) (λ f.
     behind (length f.1) (cells_at k.0 f.1) _ (cells_in k.0 f.1) (λ c.
     behind (length c.1) (ram_at k.0 c.1) _ (ram_in k.0 c.1) (λ r. omega arith)))))
 
@@ -51,7 +60,8 @@ unit_in : (bytes : List ℕ) → IsInside (length bytes) (unit_at bytes)
 unfolding unit_at
 unit_in bytes = behind (length bytes) (entry_at kinds bytes) unit_behind (entry_in kinds bytes) unit_behind_in
 
-entry_shorter : {A : Type 0} (table : List A) (bytes : List ℕ) (x : A × List ℕ) → entry_at table bytes ≡ Ok x
+entry_shorter : {A : Type 0} (table : List A) (bytes : List ℕ) (x : A × List ℕ)
+    → entry_at table bytes ≡ Ok x
     → length x.1 < length bytes
 entry_shorter table [] x e = absurd cc
 entry_shorter {A} table (b ∷ rest) x e = by (slice_get table b) e
@@ -80,12 +90,15 @@ stops_more : {A : Type 0} (m n : ℕ) (r : Result A Misread) → m ≤ n → Sto
 stops_more m n (Ok x) le h = tt
 stops_more m n (Err misread) le h = in_more m n misread le h
 
-stops_next : {A B : Type 0} (size : ℕ) (r : Result A Misread) (f : A → Result B Misread) → StopsIn size r
-    → ((x : A) → StopsIn size (f x)) → StopsIn size (r >>= f)
+stops_next : {A B : Type 0} (size : ℕ) (r : Result A Misread) (f : A → Result B Misread)
+    → StopsIn size r
+    → ((x : A) → StopsIn size (f x))
+    → StopsIn size (r >>= f)
 stops_next size (Ok x) f h g = g x
 stops_next size (Err misread) f h g = h
 
-judged_stops : (units : List UnitDesc) (unit : UnitDesc) (behind size : ℕ) → behind < size
+judged_stops : (units : List UnitDesc) (unit : UnitDesc) (behind size : ℕ)
+    → behind < size
     → StopsIn size (judged units unit behind)
 judged_stops units unit behind size lt = by (is_tied units unit)
   where
@@ -94,14 +107,17 @@ judged_stops units unit behind size lt = by (is_tied units unit)
     by false = omega (arith, lt)
 
 one_stops : (units : List UnitDesc) (n : ℕ) (bytes : List ℕ)
-    → ((rest : List ℕ) → StopsIn (length rest) (judged_at units n rest)) → (r : Reading UnitDesc) → unit_at bytes ≡ r
+    → ((rest : List ℕ) → StopsIn (length rest) (judged_at units n rest))
+    → (r : Reading UnitDesc)
+    → unit_at bytes ≡ r
     → StopsIn (length bytes) (r >>= λ unit. judged units unit.0 (length unit.1) >>= λ ok. judged_at units n unit.1)
 one_stops units n bytes others (Ok unit) e =
     let shorter = unit_shorter bytes unit e in
     stops_next (length bytes) (judged units unit.0 (length unit.1)) (λ ok. judged_at units n unit.1)
     (judged_stops units unit.0 (length unit.1) (length bytes) shorter)
     (λ ok. stops_more (length unit.1) (length bytes) (judged_at units n unit.1) (omega arith) (others unit.1))
-one_stops units n bytes others (Err misread) e = subst (λ (r : Reading UnitDesc). IsInside (length bytes) r) e (unit_in bytes)
+one_stops units n bytes others (Err misread) e =
+    subst (λ (r : Reading UnitDesc). IsInside (length bytes) r) e (unit_in bytes)
 
 judged_at_stops : (units : List UnitDesc) (n : ℕ) (bytes : List ℕ) → StopsIn (length bytes) (judged_at units n bytes)
 unfolding judged_at
@@ -109,7 +125,9 @@ judged_at_stops units zero bytes = tt
 judged_at_stops units (suc n) bytes = one_stops units n bytes (judged_at_stops units n) (unit_at bytes) refl
 
 -- what is read, once all else passes
-passes : {A X : Type 0} (size : ℕ) (r : Result X Misread) (x : A × List ℕ) → StopsIn size r → length x.1 ≤ size
+passes : {A X : Type 0} (size : ℕ) (r : Result X Misread) (x : A × List ℕ)
+    → StopsIn size r
+    → length x.1 ≤ size
     → IsInside size (r >>= λ _. Ok x)
 passes size (Ok y) x h le = le
 passes size (Err misread) x h le = h
@@ -117,10 +135,13 @@ passes size (Err misread) x h le = h
 some_units_in : (count : ℕ) (bytes : List ℕ) → IsInside (length bytes) (some_units_at count bytes)
 unfolding some_units_at
 some_units_in count bytes =
-    next (length bytes) (many_at (λ _. unit_at) [] count bytes) (λ units. judged_at units.0 count bytes >>= λ ok. Ok units)
+    next (length bytes) (many_at (λ _. unit_at) [] count bytes)
+    (λ units. judged_at units.0 count bytes >>= λ ok. Ok units)
     (many_in (λ _. unit_at) (λ _. unit_in) [] count bytes)
     (λ units le. passes (length bytes) (judged_at units.0 count bytes) units (judged_at_stops units.0 count bytes) le)
 
 pub units_in : (bytes : List ℕ) → IsInside (length bytes) (units_at bytes)
 unfolding units_at
-units_in bytes = behind (length bytes) (byte_within 1 32 bytes) (λ count. some_units_at count.0 count.1) (within_in 1 32 bytes) (λ count. some_units_in count.0 count.1)
+units_in bytes =
+    behind (length bytes) (byte_within 1 32 bytes) (λ count. some_units_at count.0 count.1) (within_in 1 32 bytes)
+    (λ count. some_units_in count.0 count.1)

@@ -11,9 +11,13 @@ use Rattle.micro_image.specs.declared.image.Take.{Take}
 use Rattle.micro_image.specs.declared.image.UnitDesc.{UnitDesc}
 use Rattle.micro_image.specs.Operations.{kind_of, reads, is_formatted}
 use Rattle.micro_file.specs.Tables.{operations, modes}
-use Rattle.micro_file.specs.Fields.{Reading, ◌>>=◌, byte_at, byte_within, byte_below, byte_upto, number_within, signed_at, entry_at, many_at}
-use Rattle.micro_file.specs.Words.{some_format_at, no_format_at, format_at, is_argument, argument_at, register_count, register_at, same_kind, last_of, is_above, is_next, enable_before, take_before, issue_on_at, issue_at, issues_at, enable_at, enables_at, take_at, takes_at, word_at}
-use Rattle.micro_file.proofs.Inside.{IsInside, inside_more, next, behind, keeps, kept_then, finds, byte_in, tested_in, within_in, below_in, upto_in, number_within_in, signed_in, entry_in, many_in}
+use Rattle.micro_file.specs.Fields.{Reading, ◌>>=◌, byte_at, byte_within, byte_below, byte_upto, number_within}
+use Rattle.micro_file.specs.Fields.{signed_at, entry_at, many_at}
+use Rattle.micro_file.specs.Words.{some_format_at, no_format_at, format_at, is_argument, argument_at, register_count}
+use Rattle.micro_file.specs.Words.{register_at, same_kind, last_of, is_above, is_next, enable_before, take_before}
+use Rattle.micro_file.specs.Words.{issue_on_at, issue_at, issues_at, enable_at, enables_at, take_at, takes_at, word_at}
+use Rattle.micro_file.proofs.Inside.{IsInside, inside_more, next, behind, keeps, kept_then, finds, byte_in, tested_in}
+use Rattle.micro_file.proofs.Inside.{within_in, below_in, upto_in, number_within_in, signed_in, entry_in, many_in}
 
 -- a format, once its shift is read
 abbrev format_behind : ℕ × List ℕ → Reading Format
@@ -30,7 +34,8 @@ some_format_in : (bytes : List ℕ) → IsInside (length bytes) (some_format_at 
 unfolding some_format_at
 some_format_in bytes =
     next (length bytes) (byte_at bytes) _ (byte_in bytes) (λ s le.
-    kept_then (length bytes) bytes (int_le (negsuc 31) (cast_signed w8 s.0) && int_le (cast_signed w8 s.0) (pos 64)) s format_behind (omega arith)
+    kept_then (length bytes) bytes (int_le (negsuc 31) (cast_signed w8 s.0) && int_le (cast_signed w8 s.0) (pos 64)) s
+    format_behind (omega arith)
     (inside_more (length s.1) (length bytes) (format_behind s) le (format_behind_in s)))
 
 no_format_in : (bytes : List ℕ) → IsInside (length bytes) (no_format_at bytes)
@@ -62,9 +67,12 @@ module _ (image : Image) (number : ℕ) (unit : UnitDesc) where
   operands_behind_in : (o : Op × List ℕ) → IsInside (length o.1) (operands_behind o)
   operands_behind_in o =
       behind (length o.1) (format_at o.0 o.1) _ (format_in o.0 o.1) (λ f.
-      behind (length f.1) (argument_at o.0 (length image.inputs) image.outs f.1) _ (argument_in o.0 (length image.inputs) image.outs f.1) (λ a.
+      behind (length f.1) (argument_at o.0 (length image.inputs) image.outs f.1) _
+      (argument_in o.0 (length image.inputs) image.outs f.1) (λ a.
       behind (length a.1) (many_at (register_at unit.files (reads o.0)) [] (length unit.files) a.1) _
-      (many_in (register_at unit.files (reads o.0)) (λ front bytes. below_in (register_count unit.files (reads o.0) (length front)) bytes) [] (length unit.files) a.1) (λ r. omega arith)))
+      (many_in (register_at unit.files (reads o.0))
+      (λ front bytes. below_in (register_count unit.files (reads o.0) (length front)) bytes) [] (length unit.files)
+      a.1) (λ r. omega arith)))
 
   issue_on_in : (bytes : List ℕ) → IsInside (length bytes) (issue_on_at image number unit bytes)
   unfolding issue_on_at
@@ -84,7 +92,8 @@ issue_in image front bytes =
 issues_in : (image : Image) (bytes : List ℕ) → IsInside (length bytes) (issues_at image bytes)
 unfolding issues_at
 issues_in image bytes =
-    behind (length bytes) (byte_upto (length image.units) bytes) (λ count. many_at (issue_at image) [] count.0 count.1) (upto_in (length image.units) bytes)
+    behind (length bytes) (byte_upto (length image.units) bytes) (λ count. many_at (issue_at image) [] count.0 count.1)
+    (upto_in (length image.units) bytes)
     (λ count. many_in (issue_at image) (issue_in image) [] count.0 count.1)
 
 enable_in : (image : Image) (front : List Enable) (bytes : List ℕ)
@@ -92,13 +101,16 @@ enable_in : (image : Image) (front : List Enable) (bytes : List ℕ)
 unfolding enable_at
 enable_in image front bytes =
     next (length bytes) (byte_below (length image.units) bytes) _ (below_in (length image.units) bytes) (λ u lu.
-    next (length bytes) (byte_below image.buses u.1) _ (inside_more (length u.1) (length bytes) (byte_below image.buses u.1) lu (below_in image.buses u.1)) (λ b lb.
-    keeps (length bytes) bytes (is_next enable_before (last_of front) (record { unit = u.0; bus = b.0 })) (record { unit = u.0; bus = b.0 }, b.1) (omega arith) lb))
+    next (length bytes) (byte_below image.buses u.1) _
+    (inside_more (length u.1) (length bytes) (byte_below image.buses u.1) lu (below_in image.buses u.1)) (λ b lb.
+    keeps (length bytes) bytes (is_next enable_before (last_of front) (record { unit = u.0; bus = b.0 }))
+    (record { unit = u.0; bus = b.0 }, b.1) (omega arith) lb))
 
 enables_in : (image : Image) (bytes : List ℕ) → IsInside (length bytes) (enables_at image bytes)
 unfolding enables_at
 enables_in image bytes =
-    behind (length bytes) (number_within w16 0 1024 bytes) (λ count. many_at (enable_at image) [] count.0 count.1) (number_within_in w16 0 1024 bytes)
+    behind (length bytes) (number_within w16 0 1024 bytes) (λ count. many_at (enable_at image) [] count.0 count.1)
+    (number_within_in w16 0 1024 bytes)
     (λ count. many_in (enable_at image) (enable_in image) [] count.0 count.1)
 
 take_in : (image : Image) (front : List Take) (bytes : List ℕ) → IsInside (length bytes) (take_at image front bytes)
@@ -106,17 +118,21 @@ unfolding take_at
 take_in image front bytes =
     next (length bytes) (byte_at bytes) _ (byte_in bytes) (λ n ln.
     finds (length bytes) bytes (slice_get image.units n.0) _ (omega arith) (λ unit.
-    next (length bytes) (byte_at n.1) _ (inside_more (length n.1) (length bytes) (byte_at n.1) ln (byte_in n.1)) (λ p lp.
+    next (length bytes) (byte_at n.1) _ (inside_more (length n.1) (length bytes) (byte_at n.1) ln (byte_in n.1))
+    (λ p lp.
     finds (length bytes) n.1 (slice_get unit.files p.0) _ ln (λ file.
-    next (length bytes) (byte_below image.buses p.1) _ (inside_more (length p.1) (length bytes) (byte_below image.buses p.1) lp (below_in image.buses p.1)) (λ b lb.
-    next (length bytes) (byte_below (length file) b.1) _ (inside_more (length b.1) (length bytes) (byte_below (length file) b.1) lb (below_in (length file) b.1)) (λ r lr.
+    next (length bytes) (byte_below image.buses p.1) _
+    (inside_more (length p.1) (length bytes) (byte_below image.buses p.1) lp (below_in image.buses p.1)) (λ b lb.
+    next (length bytes) (byte_below (length file) b.1) _
+    (inside_more (length b.1) (length bytes) (byte_below (length file) b.1) lb (below_in (length file) b.1)) (λ r lr.
     let take : Take = record { port = record { unit = n.0; port = p.0 }; bus = b.0; reg = r.0 } in
     keeps (length bytes) bytes (is_next take_before (last_of front) take) (take, r.1) (omega arith) lr))))))
 
 takes_in : (image : Image) (bytes : List ℕ) → IsInside (length bytes) (takes_at image bytes)
 unfolding takes_at
 takes_in image bytes =
-    behind (length bytes) (number_within w16 0 1024 bytes) (λ count. many_at (take_at image) [] count.0 count.1) (number_within_in w16 0 1024 bytes)
+    behind (length bytes) (number_within w16 0 1024 bytes) (λ count. many_at (take_at image) [] count.0 count.1)
+    (number_within_in w16 0 1024 bytes)
     (λ count. many_in (take_at image) (take_in image) [] count.0 count.1)
 
 pub word_in : (image : Image) (bytes : List ℕ) → IsInside (length bytes) (word_at image bytes)

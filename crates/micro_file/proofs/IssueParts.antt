@@ -1,5 +1,6 @@
 -- The readers of an issue's parts: format, argument, registers.
-use Rattle.std.proofs.Common.{◌≡◌, ℕ, zero, suc, ◌^◌, ◌<◌, ◌≤◌, Bool, true, false, cond, ltb, ◌&&◌, List, [], ◌∷◌, ◌++◌, length, get_or, Ok, ℤ, pos, negsuc, refl, sym, subst, ◌∙◌, arith, inl, inr}
+use Rattle.std.proofs.Common.{◌≡◌, ℕ, zero, suc, ◌^◌, ◌<◌, ◌≤◌, Bool, true, false, cond, ltb, ◌&&◌, List, [], ◌∷◌, ◌++◌}
+use Rattle.std.proofs.Common.{length, get_or, Ok, ℤ, pos, negsuc, refl, sym, subst, ◌∙◌, arith, inl, inr}
 use Rattle.std.specs.Prelude.{int_le, ◌≤ℤ◌}
 use Rattle.std.specs.Int.{w8, w64, cast_signed, cast_unsigned}
 use Rattle.std.specs.Int.RustNames.{FitsSigned}
@@ -21,10 +22,13 @@ use Rattle.micro_image.specs.Spells.{eight_bytes, mode_byte, spelled_format}
 use Rattle.micro_image.specs.Valid.{IsWithin, IsBelow, IsNoFormat, IsFormatWhere, IsFormatFor, IsArgument, AreRegisters}
 use Rattle.micro_file.specs.Tables.{modes}
 use Rattle.micro_file.specs.Fields.{Reading, kept, byte_at, byte_within, entry_at, many_at}
-use Rattle.micro_file.specs.Words.{some_format_at, no_format_at, format_at, is_below, is_argument, argument_at, register_at}
-use Rattle.micro_file.proofs.Readers.{IsBytes, Takes, ◌⨟◌, Took, IsReader, IsTestOf, tested, such_reader, so_spelled, ok_is, was_kept}
+use Rattle.micro_file.specs.Words.{some_format_at, no_format_at, format_at, is_below, is_argument, argument_at}
+use Rattle.micro_file.specs.Words.{register_at}
+use Rattle.micro_file.proofs.Readers.{IsBytes, Takes, ◌⨟◌, Took, IsReader, IsTestOf, tested, such_reader, so_spelled}
+use Rattle.micro_file.proofs.Readers.{ok_is, was_kept}
 use Rattle.micro_file.proofs.Several.{Grows, grows_at, grows_from, many_reader}
-use Rattle.micro_file.proofs.Leaves.{one_byte, byte_reader, within_reader, below_reader, signed_reader, raw_word_test, word_fits, mode_reader}
+use Rattle.micro_file.proofs.Leaves.{one_byte, byte_reader, within_reader, below_reader, signed_reader, raw_word_test}
+use Rattle.micro_file.proofs.Leaves.{word_fits, mode_reader}
 use Rattle.micro_file.proofs.Steps.{bound3, bound4, joined4}
 
 -- ---- formats
@@ -62,31 +66,48 @@ width_behind b s m = byte_within 1 32 m.1
 abbrev whole_format : ℕ × List ℕ → ℕ × List ℕ → Mode × List ℕ → ℕ × List ℕ → Reading Format
 whole_format b s m w = Ok (record { shift = cast_signed w8 s.0; mode = m.0; width = w.0 }, w.1)
 
-some_format_took : (bytes : List ℕ) → IsBytes bytes → (x : Format × List ℕ) → some_format_at bytes ≡ Ok x → Took IsFormat spelled_format bytes x
+some_format_took : (bytes : List ℕ)
+    → IsBytes bytes
+    → (x : Format × List ℕ)
+    → some_format_at bytes ≡ Ok x
+    → Took IsFormat spelled_format bytes x
 unfolding some_format_at spelled_format
 some_format_took bytes fits x e =
     let s = bound4 (byte_at bytes) (shift_kept bytes) mode_behind width_behind whole_format x e in
     let b = byte_reader.took bytes fits s.0 s.4 in
     let k = was_kept bytes (is_shift (cast_signed w8 s.0.0)) s.0 s.1 s.5 in
-    let shift : Takes bytes (one_byte s.1.0) s.1.1 = subst (λ (p : ℕ × List ℕ). Takes bytes (one_byte p.0) p.1) k.1 b.text in
-    let good : is_shift (cast_signed w8 s.1.0) ≡ true = subst (λ (p : ℕ × List ℕ). is_shift (cast_signed w8 p.0) ≡ true) k.1 k.0 in
+    let shift : Takes bytes (one_byte s.1.0) s.1.1 =
+    subst (λ (p : ℕ × List ℕ). Takes bytes (one_byte p.0) p.1) k.1 b.text in
+    let good : is_shift (cast_signed w8 s.1.0) ≡ true =
+    subst (λ (p : ℕ × List ℕ). is_shift (cast_signed w8 p.0) ≡ true) k.1 k.0 in
     let small : s.1.0 < 2 ^ 8 = subst (λ (p : ℕ × List ℕ). p.0 < 2 ^ 8) k.1 (byte_fits bytes fits s.0 s.4) in
     let m = mode_reader.took s.1.1 shift.rest_fits s.2 s.6 in
     let w = (within_reader 1 32).took s.2.1 m.text.rest_fits s.3 s.7 in
     let fmt : Format = record { shift = cast_signed w8 s.1.0; mode = s.2.0; width = s.3.0 } in
     subst (λ (p : Format × List ℕ). Took IsFormat spelled_format bytes p) (ok_is (fmt, s.3.1) x s.8) (record {
-      allowed = record { lowest = shift_low fmt.shift good; highest = shift_high fmt.shift good; narrowest = w.allowed.0; widest = w.allowed.1 };
+      allowed = record {
+        lowest = shift_low fmt.shift good;
+        highest = shift_high fmt.shift good;
+        narrowest = w.allowed.0;
+        widest = w.allowed.1;
+      };
       text = rw (of_z-to_z w8 s.1.0 small) (shift ⨟ m.text ⨟ w.text);
     })
 
-some_format_again : (fmt : Format) (rest : List ℕ) → IsFormat fmt → some_format_at (spelled_format fmt ++ rest) ≡ Ok (fmt, rest)
+some_format_again : (fmt : Format) (rest : List ℕ)
+    → IsFormat fmt
+    → some_format_at (spelled_format fmt ++ rest) ≡ Ok (fmt, rest)
 unfolding some_format_at spelled_format
 some_format_again fmt rest ok =
-    let back : cast_signed w8 (cast_unsigned w8 fmt.shift) ≡ fmt.shift = to_z-of_z w8 fmt.shift (shift_fits fmt.shift ok.lowest ok.highest) in
-    let good : is_shift (cast_signed w8 (cast_unsigned w8 fmt.shift)) ≡ true = rw back (shift_is fmt.shift ok.lowest ok.highest) in
+    let back : cast_signed w8 (cast_unsigned w8 fmt.shift) ≡ fmt.shift =
+    to_z-of_z w8 fmt.shift (shift_fits fmt.shift ok.lowest ok.highest) in
+    let good : is_shift (cast_signed w8 (cast_unsigned w8 fmt.shift)) ≡ true =
+    rw back (shift_is fmt.shift ok.lowest ok.highest) in
     let byte = cast_unsigned w8 fmt.shift in
-    joined4 (byte_at (byte ∷ mode_byte fmt.mode ∷ fmt.width ∷ rest)) (shift_kept (byte ∷ mode_byte fmt.mode ∷ fmt.width ∷ rest)) mode_behind width_behind whole_format
-    (byte, mode_byte fmt.mode ∷ fmt.width ∷ rest) (byte, mode_byte fmt.mode ∷ fmt.width ∷ rest) (fmt.mode, fmt.width ∷ rest) (fmt.width, rest)
+    joined4 (byte_at (byte ∷ mode_byte fmt.mode ∷ fmt.width ∷ rest))
+    (shift_kept (byte ∷ mode_byte fmt.mode ∷ fmt.width ∷ rest)) mode_behind width_behind whole_format
+    (byte, mode_byte fmt.mode ∷ fmt.width ∷ rest) (byte, mode_byte fmt.mode ∷ fmt.width ∷ rest)
+    (fmt.mode, fmt.width ∷ rest) (fmt.width, rest)
     refl
     (rw good refl)
     (mode_reader.again fmt.mode (fmt.width ∷ rest) tt)
@@ -111,18 +132,30 @@ format_of_zeros a b c = Ok (no_format, c.1)
 is_zero : (n : ℕ) → IsWithin 0 0 n → n ≡ 0
 is_zero n h = omega arith
 
-three_zeros : (bytes : List ℕ) (a b c : ℕ) (rest : List ℕ) → a ≡ 0 → b ≡ 0 → c ≡ 0 → Takes bytes (a ∷ b ∷ c ∷ []) rest → Takes bytes (0 ∷ 0 ∷ 0 ∷ []) rest
+three_zeros : (bytes : List ℕ) (a b c : ℕ) (rest : List ℕ)
+    → a ≡ 0
+    → b ≡ 0
+    → c ≡ 0
+    → Takes bytes (a ∷ b ∷ c ∷ []) rest
+    → Takes bytes (0 ∷ 0 ∷ 0 ∷ []) rest
 three_zeros bytes a b c rest p q r h = rw (p, q, r) at h
 
-no_format_took : (bytes : List ℕ) → IsBytes bytes → (x : Format × List ℕ) → no_format_at bytes ≡ Ok x → Took IsNoFormat spelled_format bytes x
+no_format_took : (bytes : List ℕ)
+    → IsBytes bytes
+    → (x : Format × List ℕ)
+    → no_format_at bytes ≡ Ok x
+    → Took IsNoFormat spelled_format bytes x
 unfolding no_format_at spelled_format
 no_format_took bytes fits x e =
     let s = bound3 (byte_within 0 0 bytes) zero_behind last_zero format_of_zeros x e in
     let a = (within_reader 0 0).took bytes fits s.0 s.3 in
     let b = (within_reader 0 0).took s.0.1 a.text.rest_fits s.1 s.4 in
     let c = (within_reader 0 0).took s.1.1 b.text.rest_fits s.2 s.5 in
-    let zeros = three_zeros bytes s.0.0 s.1.0 s.2.0 s.2.1 (is_zero s.0.0 a.allowed) (is_zero s.1.0 b.allowed) (is_zero s.2.0 c.allowed) (a.text ⨟ b.text ⨟ c.text) in
-    subst (λ (p : Format × List ℕ). Took IsNoFormat spelled_format bytes p) (ok_is (no_format, s.2.1) x s.6) (record { allowed = refl; text = zeros })
+    let zeros =
+    three_zeros bytes s.0.0 s.1.0 s.2.0 s.2.1 (is_zero s.0.0 a.allowed) (is_zero s.1.0 b.allowed)
+    (is_zero s.2.0 c.allowed) (a.text ⨟ b.text ⨟ c.text) in
+    subst (λ (p : Format × List ℕ). Took IsNoFormat spelled_format bytes p) (ok_is (no_format, s.2.1) x s.6)
+    (record { allowed = refl; text = zeros })
 
 no_format_reader : IsReader IsNoFormat spelled_format no_format_at
 unfolding no_format_at spelled_format
@@ -131,7 +164,9 @@ no_format_reader = record {
   again = λ fmt rest ok. rw ok refl;
 }
 
-format_where : (formatted : Bool) → IsReader (IsFormatWhere formatted) spelled_format (λ bytes. cond formatted (some_format_at bytes) (no_format_at bytes))
+format_where : (formatted : Bool)
+    → IsReader (IsFormatWhere formatted) spelled_format
+    (λ bytes. cond formatted (some_format_at bytes) (no_format_at bytes))
 format_where true = some_format_reader
 format_where false = no_format_reader
 
@@ -184,7 +219,11 @@ below_fits : (n : ℕ) (z : ℤ) → n ≤ 65536 → IsBelow n z → FitsSigned 
 below_fits n (pos k) le h = record { sfits = omega arith }
 below_fits n (negsuc k) le h = absurd h
 
-argument_fits : (o : Op) (inputs outs : ℕ) (z : ℤ) → inputs ≤ 65536 → outs ≤ 65536 → IsArgument o inputs outs z → FitsSigned w64 z
+argument_fits : (o : Op) (inputs outs : ℕ) (z : ℤ)
+    → inputs ≤ 65536
+    → outs ≤ 65536
+    → IsArgument o inputs outs z
+    → FitsSigned w64 z
 argument_fits op.Input inputs outs z few less h = below_fits inputs z few h
 argument_fits op.Output inputs outs z few less h = below_fits outs z less h
 argument_fits op.Const inputs outs z few less h = word_fits z h
@@ -205,10 +244,14 @@ argument_fits op.Load inputs outs z few less h = below_fits 1 z (omega arith) (r
 argument_fits op.Store inputs outs z few less h = below_fits 1 z (omega arith) (rw h (omega arith))
 argument_fits op.Addr inputs outs z few less h = below_fits 65536 z (omega arith) h
 
-pub argument_reader : (o : Op) (inputs outs : ℕ) → inputs ≤ 65536 → outs ≤ 65536 → IsReader (IsArgument o inputs outs) eight_bytes (argument_at o inputs outs)
+pub argument_reader : (o : Op) (inputs outs : ℕ)
+    → inputs ≤ 65536
+    → outs ≤ 65536
+    → IsReader (IsArgument o inputs outs) eight_bytes (argument_at o inputs outs)
 unfolding argument_at
 argument_reader o inputs outs few less =
-    such_reader (λ z h. h.1) (λ z h. (argument_fits o inputs outs z few less h, h)) (tested signed_reader (argument_test o inputs outs))
+    such_reader (λ z h. h.1) (λ z h. (argument_fits o inputs outs z few less h, h))
+    (tested signed_reader (argument_test o inputs outs))
 
 -- ---- registers
 
@@ -220,7 +263,9 @@ HaveRegisters files = (port : ℕ) → port < length files → 0 < length (nth f
 abbrev choice : List (List ℤ) → ℕ → ℕ → ℕ
 choice files read port = cond (ltb port read) (length (nth files port [])) 1
 
-choice_read : (files : List (List ℤ)) (read port : ℕ) → port < read → choice files read port ≡ length (nth files port [])
+choice_read : (files : List (List ℤ)) (read port : ℕ)
+    → port < read
+    → choice files read port ≡ length (nth files port [])
 choice_read files read port lt = grind (arith, nat_tests)
 
 choice_unread : (files : List (List ℤ)) (read port : ℕ) → read ≤ port → choice files read port ≡ 1
@@ -230,28 +275,45 @@ choice_unread files read port le = grind (arith, nat_tests)
 abbrev NextRegister : List (List ℤ) → ℕ → List ℕ → ℕ → Type 0
 NextRegister files read front reg = reg < choice files read (length front)
 
-register_chosen : (files : List (List ℤ)) (read : ℕ) (regs : List ℕ) → Grows (NextRegister files read) [] regs → (port : ℕ) → port < length regs → nth regs port 0 < choice files read port
+register_chosen : (files : List (List ℤ)) (read : ℕ) (regs : List ℕ)
+    → Grows (NextRegister files read) [] regs
+    → (port : ℕ)
+    → port < length regs
+    → nth regs port 0 < choice files read port
 register_chosen files read regs g port lt =
     let at = grows_at (NextRegister files read) [] regs g port 0 lt in
     subst (λ (p : ℕ). nth regs port 0 < choice files read p) (length-take-le port regs (omega arith)) at
 
-are_registers : (files : List (List ℤ)) (read : ℕ) (regs : List ℕ) → HaveRegisters files → length regs ≡ length files → Grows (NextRegister files read) [] regs → AreRegisters files read regs
+are_registers : (files : List (List ℤ)) (read : ℕ) (regs : List ℕ)
+    → HaveRegisters files
+    → length regs ≡ length files
+    → Grows (NextRegister files read) [] regs
+    → AreRegisters files read regs
 are_registers files read regs have count g = record {
   count = count;
   there = λ port lt. elim (cases_lt port read) [
     | inl below ↦ rw (← choice_read files read port below) (register_chosen files read regs g port (omega arith))
-    | inr past ↦ omega (arith, have port lt, choice_unread files read port past, register_chosen files read regs g port (omega arith))
+    | inr past ↦
+        omega
+        (arith, have port lt, choice_unread files read port past, register_chosen files read regs g port (omega arith))
   ];
-  unread = λ port le lt. omega (arith, choice_unread files read port le, register_chosen files read regs g port (omega arith));
+  unread = λ port le lt.
+      omega (arith, choice_unread files read port le, register_chosen files read regs g port (omega arith));
 }
 
-chosen_register : (files : List (List ℤ)) (read : ℕ) (regs : List ℕ) → AreRegisters files read regs → (port : ℕ) → port < length regs → nth regs port 0 < choice files read port
+chosen_register : (files : List (List ℤ)) (read : ℕ) (regs : List ℕ)
+    → AreRegisters files read regs
+    → (port : ℕ)
+    → port < length regs
+    → nth regs port 0 < choice files read port
 chosen_register files read regs ok port lt = elim (cases_lt port read) [
   | inl below ↦ rw (choice_read files read port below) (ok.there port (omega (arith, ok.count)))
   | inr past ↦ omega (arith, choice_unread files read port past, ok.unread port past (omega (arith, ok.count)))
 ]
 
-grown_registers : (files : List (List ℤ)) (read : ℕ) (regs : List ℕ) → AreRegisters files read regs → Grows (NextRegister files read) [] regs
+grown_registers : (files : List (List ℤ)) (read : ℕ) (regs : List ℕ)
+    → AreRegisters files read regs
+    → Grows (NextRegister files read) [] regs
 grown_registers files read regs ok = grows_from (NextRegister files read) [] regs (λ port d lt.
     let chosen = chosen_register files read regs ok port lt in
     let at : get_or regs port d < choice files read port = rw (get_or_default regs port d 0 lt) chosen in
@@ -261,9 +323,12 @@ grown_registers files read regs ok = grows_from (NextRegister files read) [] reg
 pub bytes_alone : (xs : List ℕ) → flat_map one_byte xs ≡ xs
 bytes_alone xs = flat_map_single (λ (x : ℕ). x) xs ∙ map-id xs
 
-pub registers_reader : (files : List (List ℤ)) (read : ℕ) → HaveRegisters files → IsReader (AreRegisters files read) (λ regs. regs) (many_at (register_at files read) [] (length files))
+pub registers_reader : (files : List (List ℤ)) (read : ℕ)
+    → HaveRegisters files
+    → IsReader (AreRegisters files read) (λ regs. regs) (many_at (register_at files read) [] (length files))
 registers_reader files read have =
     so_spelled bytes_alone (such_reader
     (λ regs h. are_registers files read regs have h.0 h.1)
     (λ regs ok. (ok.count, grown_registers files read regs ok))
-    (many_reader (NextRegister files read) one_byte (register_at files read) (λ front. below_reader (choice files read (length front))) (length files)))
+    (many_reader (NextRegister files read) one_byte (register_at files read)
+    (λ front. below_reader (choice files read (length front))) (length files)))

@@ -1,17 +1,22 @@
 -- The readers of single fields.
-use Rattle.std.proofs.Common.{◌≡◌, ℕ, suc, ◌+◌, ◌^◌, ◌<◌, ◌≤◌, Bool, true, false, cond, ltb, leb, eqb, List, [], ◌∷◌, ◌++◌, length, get_or, take, drop, map, Some, Result, Ok, Err, ℤ, pos, negsuc, refl, sym, ap, subst, arith}
+use Rattle.std.proofs.Common.{◌≡◌, ℕ, suc, ◌+◌, ◌^◌, ◌<◌, ◌≤◌, Bool, true, false, cond, ltb, leb, eqb, List, [], ◌∷◌}
+use Rattle.std.proofs.Common.{◌++◌, length, get_or, take, drop, map, Some, Result, Ok, Err, ℤ, pos, negsuc, refl, sym}
+use Rattle.std.proofs.Common.{ap, subst, arith}
 use Rattle.std.proofs.Math.Facts.{sfits_to_z}
 use Rattle.std.proofs.lemmas.List.FromFn.{get_or-range_with_len, length-range_with_len}
 use Rattle.std.proofs.lemmas.Option.{slice_get_within, get_or_from_slice_get}
 use Rattle.std.specs.List.{range_with_len}
 use Rattle.std.specs.Prelude.{slice_get}
-use Rattle.std.specs.Int.{Width, w16, w32, w64, byte_len, from_be_bytes, to_be_bytes, cast_signed, cast_unsigned, is_in_range}
+use Rattle.std.specs.Int.{Width, w16, w32, w64, byte_len, from_be_bytes, to_be_bytes, cast_signed, cast_unsigned}
+use Rattle.std.specs.Int.{is_in_range}
 use Rattle.std.specs.Int.RustNames.{FitsSigned}
 use Rattle.std.proofs.lemmas.Bool.{ltb-false, le-ltb}
 use Rattle.std.proofs.lemmas.Bool.Decides.{nat_tests}
 use Rattle.std.proofs.lemmas.Int.{ints, to_z-of_z, of_z-to_z}
-use Rattle.std.proofs.lemmas.List.{take_at, drop_at, take-append-drop, length-append, length-take, length-map, get_or-map}
-use Rattle.std.proofs.lemmas.Nat.{be_bytes_2, be_bytes_4, be_bytes_8, from_be_bytes-to_be_bytes_2, from_be_bytes-to_be_bytes_4, from_be_bytes-to_be_bytes_8}
+use Rattle.std.proofs.lemmas.List.{take_at, drop_at, take-append-drop, length-append, length-take, length-map}
+use Rattle.std.proofs.lemmas.List.{get_or-map}
+use Rattle.std.proofs.lemmas.Nat.{be_bytes_2, be_bytes_4, be_bytes_8, from_be_bytes-to_be_bytes_2}
+use Rattle.std.proofs.lemmas.Nat.{from_be_bytes-to_be_bytes_4, from_be_bytes-to_be_bytes_8}
 use Rattle.fix_word.specs.Words.{IsWord}
 use Rattle.fix_word.specs.declared.types.Mode.{Mode}
 use Rattle.fix_word.specs.declared.types.Mode.TheVariants.{Trunc, Round}
@@ -25,17 +30,24 @@ use Rattle.micro_image.specs.Valid.{IsWithin}
 use Rattle.micro_file.specs.Tables.{kinds, operations, modes}
 use Rattle.micro_file.specs.declared.misread.Misread.{Misread}
 use Rattle.micro_file.specs.declared.misread.Misread.TheVariants.{Short}
-use Rattle.micro_file.specs.Fields.{◌>>=◌, found, only_byte, byte_at, byte_within, byte_below, byte_upto, number_at, number_within, signed_at, is_raw_word, raw_word_at, entry_at}
-use Rattle.micro_file.proofs.Readers.{IsBytes, IsBytes-take, IsBytes-drop, Took, IsReader, IsTestOf, tested, such_reader, well, bound, ok_is, was_found, joined}
+use Rattle.micro_file.specs.Fields.{◌>>=◌, found, only_byte, byte_at, byte_within, byte_below, byte_upto, number_at}
+use Rattle.micro_file.specs.Fields.{number_within, signed_at, is_raw_word, raw_word_at, entry_at}
+use Rattle.micro_file.proofs.Readers.{IsBytes, IsBytes-take, IsBytes-drop, Took, IsReader, IsTestOf, tested}
+use Rattle.micro_file.proofs.Readers.{such_reader, well, bound, ok_is, was_found, joined}
 
 -- a field of one byte
 abbrev pub one_byte : ℕ → List ℕ
 one_byte b = b ∷ []
 
-took_byte : (bytes : List ℕ) → IsBytes bytes → (x : ℕ × List ℕ) → byte_at bytes ≡ Ok x → Took (λ _. Unit {0}) one_byte bytes x
+took_byte : (bytes : List ℕ)
+    → IsBytes bytes
+    → (x : ℕ × List ℕ)
+    → byte_at bytes ≡ Ok x
+    → Took (λ _. Unit {0}) one_byte bytes x
 took_byte [] fits x e = absurd cc
 took_byte (b ∷ bytes) fits x e =
-    subst (λ (p : ℕ × List ℕ). Took (λ (_ : ℕ). Unit {0}) one_byte (b ∷ bytes) p) (ok_is (b, bytes) x e) (record { allowed = tt; text = record { parts = refl; rest_fits = record { byte = λ i. fits.byte (suc i) } } })
+    subst (λ (p : ℕ × List ℕ). Took (λ (_ : ℕ). Unit {0}) one_byte (b ∷ bytes) p) (ok_is (b, bytes) x e)
+    (record { allowed = tt; text = record { parts = refl; rest_fits = record { byte = λ i. fits.byte (suc i) } } })
 
 pub byte_reader : IsReader (λ _. Unit {0}) one_byte byte_at
 byte_reader = record {
@@ -87,7 +99,9 @@ same_byte only n e = grind (arith, nat_tests)
 byte_same : (only n : ℕ) → n ≡ only → eqb n only ≡ true
 byte_same only n h = grind (arith, nat_tests)
 
-pub or_misread : {A : Type 0} (misread : Misread) (b : Bool) (x y : A) → cond b (Ok x) (Err misread) ≡ well y → (b ≡ true) × (x ≡ y)
+pub or_misread : {A : Type 0} (misread : Misread) (b : Bool) (x y : A)
+    → cond b (Ok x) (Err misread) ≡ well y
+    → (b ≡ true) × (x ≡ y)
 or_misread misread true x y e = (refl, cc)
 or_misread misread false x y e = absurd cc
 
@@ -97,7 +111,8 @@ only_reader misread only = record {
       let s = bound (byte_at bytes) (λ (b : ℕ × List ℕ). cond (eqb b.0 only) (Ok b) (Err misread)) x e in
       let k = or_misread misread (eqb s.0.0 only) s.0 x s.2 in
       let t = byte_reader.took bytes fits s.0 s.1 in
-      subst (λ (a : ℕ × List ℕ). Took (λ (n : ℕ). n ≡ only) one_byte bytes a) k.1 (record { allowed = same_byte only s.0.0 k.0; text = t.text });
+      subst (λ (a : ℕ × List ℕ). Took (λ (n : ℕ). n ≡ only) one_byte bytes a) k.1
+      (record { allowed = same_byte only s.0.0 k.0; text = t.text });
   again = λ x rest ok. rw (byte_same only x ok) refl;
 }
 
@@ -140,7 +155,9 @@ wide64 = record {
   len = λ n. refl;
   back = λ bytes len fits. be_bytes_8 bytes _ len fits.byte refl;
   again = λ n lt. from_be_bytes-to_be_bytes_8 n lt;
-  below = λ bytes fits. omega (arith, fits.byte 0, fits.byte 1, fits.byte 2, fits.byte 3, fits.byte 4, fits.byte 5, fits.byte 6, fits.byte 7);
+  below = λ bytes fits.
+      omega
+      (arith, fits.byte 0, fits.byte 1, fits.byte 2, fits.byte 3, fits.byte 4, fits.byte 5, fits.byte 6, fits.byte 7);
 }
 
 -- what is read, where there are enough bytes
@@ -151,32 +168,60 @@ guarded : {A : Type 0} (b : Bool) (x y : A) → unless_short b x ≡ Ok y → (b
 guarded true x y e = absurd cc
 guarded false x y e = (refl, cc)
 
-number_took : (w : Width) (limit : ℕ) → IsWide w limit → (bytes : List ℕ) → IsBytes bytes → (x : ℕ × List ℕ) → number_at w bytes ≡ Ok x → Took (λ n. n < limit) (to_be_bytes w) bytes x
+number_took : (w : Width) (limit : ℕ)
+    → IsWide w limit
+    → (bytes : List ℕ)
+    → IsBytes bytes
+    → (x : ℕ × List ℕ)
+    → number_at w bytes ≡ Ok x
+    → Took (λ n. n < limit) (to_be_bytes w) bytes x
 number_took w limit wide bytes fits x e =
-    let g = guarded (ltb (length bytes) (byte_len w)) (from_be_bytes w (take (byte_len w) bytes), drop (byte_len w) bytes) x e in
+    let g =
+    guarded (ltb (length bytes) (byte_len w)) (from_be_bytes w (take (byte_len w) bytes), drop (byte_len w) bytes) x
+    e in
     let long : byte_len w ≤ length bytes = ltb-false _ _ g.0 in
-    let front : to_be_bytes w (from_be_bytes w (take (byte_len w) bytes)) ≡ take (byte_len w) bytes = wide.back (take (byte_len w) bytes) (omega (arith, length-take (byte_len w) bytes)) (IsBytes-take (byte_len w) bytes fits) in
+    let front : to_be_bytes w (from_be_bytes w (take (byte_len w) bytes)) ≡ take (byte_len w) bytes =
+    wide.back (take (byte_len w) bytes) (omega (arith, length-take (byte_len w) bytes))
+    (IsBytes-take (byte_len w) bytes fits) in
     subst (λ (p : ℕ × List ℕ). Took (λ (n : ℕ). n < limit) (to_be_bytes w) bytes p) g.1 (record {
       allowed = wide.below (take (byte_len w) bytes) (IsBytes-take (byte_len w) bytes fits);
-      text = record { parts = rw front (sym (take-append-drop (byte_len w) bytes)); rest_fits = IsBytes-drop (byte_len w) bytes fits };
+      text = record {
+        parts = rw front (sym (take-append-drop (byte_len w) bytes));
+        rest_fits = IsBytes-drop (byte_len w) bytes fits;
+      };
     })
 
-number_again : (w : Width) (limit : ℕ) → IsWide w limit → (n : ℕ) (rest : List ℕ) → n < limit → number_at w (to_be_bytes w n ++ rest) ≡ Ok (n, rest)
+number_again : (w : Width) (limit : ℕ)
+    → IsWide w limit
+    → (n : ℕ) (rest : List ℕ)
+    → n < limit
+    → number_at w (to_be_bytes w n ++ rest) ≡ Ok (n, rest)
 number_again w limit wide n rest lt =
     let len = wide.len n in
-    let long : ltb (length (to_be_bytes w n ++ rest)) (byte_len w) ≡ false = le-ltb _ _ (omega (arith, length-append (to_be_bytes w n) rest)) in
-    rw (long, take_at (to_be_bytes w n) rest (byte_len w) len, drop_at (to_be_bytes w n) rest (byte_len w) len, wide.again n lt) refl
+    let long : ltb (length (to_be_bytes w n ++ rest)) (byte_len w) ≡ false =
+    le-ltb _ _ (omega (arith, length-append (to_be_bytes w n) rest)) in
+    rw (
+      long,
+      take_at (to_be_bytes w n) rest (byte_len w) len,
+      drop_at (to_be_bytes w n) rest (byte_len w) len,
+      wide.again n lt,
+    )
+    refl
 
 number_reader : (w : Width) (limit : ℕ) → IsWide w limit → IsReader (λ n. n < limit) (to_be_bytes w) (number_at w)
 number_reader w limit wide = record { took = number_took w limit wide; again = number_again w limit wide }
 
 pub two_reader : (low high : ℕ) → high < 2 ^ 16 → IsReader (IsWithin low high) two_bytes (number_within w16 low high)
 unfolding two_bytes
-two_reader low high lt = such_reader (λ n h. h.1) (λ n h. (omega arith, h)) (tested (number_reader w16 (2 ^ 16) wide16) (range_test low high))
+two_reader low high lt =
+    such_reader (λ n h. h.1) (λ n h. (omega arith, h))
+    (tested (number_reader w16 (2 ^ 16) wide16) (range_test low high))
 
 pub four_reader : (low high : ℕ) → high < 2 ^ 32 → IsReader (IsWithin low high) four_bytes (number_within w32 low high)
 unfolding four_bytes
-four_reader low high lt = such_reader (λ n h. h.1) (λ n h. (omega arith, h)) (tested (number_reader w32 (2 ^ 32) wide32) (range_test low high))
+four_reader low high lt =
+    such_reader (λ n h. h.1) (λ n h. (omega arith, h))
+    (tested (number_reader w32 (2 ^ 32) wide32) (range_test low high))
 
 -- ---- numbers with a sign
 
@@ -190,15 +235,21 @@ bits_fit n lt = sfits_to_z (record { fits = lt })
 signed_again : (z : ℤ) (rest : List ℕ) → FitsSigned w64 z → signed_at (eight_bytes z ++ rest) ≡ Ok (z, rest)
 unfolding eight_bytes
 signed_again z rest fits =
-    joined (number_at w64 (to_be_bytes w64 (cast_unsigned w64 z) ++ rest)) (λ (n : ℕ × List ℕ). Ok (cast_signed w64 n.0, n.1)) (cast_unsigned w64 z, rest) (Ok (z, rest))
+    joined (number_at w64 (to_be_bytes w64 (cast_unsigned w64 z) ++ rest))
+    (λ (n : ℕ × List ℕ). Ok (cast_signed w64 n.0, n.1)) (cast_unsigned w64 z, rest) (Ok (z, rest))
     (number_again w64 (2 ^ 64) wide64 (cast_unsigned w64 z) rest (bits_below z fits)) (rw (to_z-of_z w64 z fits) refl)
 
-signed_took : (bytes : List ℕ) → IsBytes bytes → (x : ℤ × List ℕ) → signed_at bytes ≡ Ok x → Took (FitsSigned w64) eight_bytes bytes x
+signed_took : (bytes : List ℕ)
+    → IsBytes bytes
+    → (x : ℤ × List ℕ)
+    → signed_at bytes ≡ Ok x
+    → Took (FitsSigned w64) eight_bytes bytes x
 unfolding eight_bytes
 signed_took bytes fits x e =
     let s = bound (number_at w64 bytes) (λ (n : ℕ × List ℕ). Ok (cast_signed w64 n.0, n.1)) x e in
     let t = number_took w64 (2 ^ 64) wide64 bytes fits s.0 s.1 in
-    subst (λ (p : ℤ × List ℕ). Took (FitsSigned w64) eight_bytes bytes p) (ok_is (cast_signed w64 s.0.0, s.0.1) x s.2) (record {
+    subst (λ (p : ℤ × List ℕ). Took (FitsSigned w64) eight_bytes bytes p) (ok_is (cast_signed w64 s.0.0, s.0.1) x s.2)
+    (record {
       allowed = bits_fit s.0.0 t.allowed;
       text = rw (of_z-to_z w64 s.0.0 t.allowed) t.text;
     })
@@ -233,24 +284,34 @@ record IsTable {A : Type 0} (table : List A) (byte : A → ℕ) : Type 0 where
   there : (x : A) → slice_get table (byte x) ≡ Some x
   only : (b : ℕ) (x : A) → slice_get table b ≡ Some x → byte x ≡ b
 
-entry_reader : {A : Type 0} (table : List A) (byte : A → ℕ) → IsTable table byte → IsReader (λ _. Unit {0}) (λ x. one_byte (byte x)) (entry_at table)
+entry_reader : {A : Type 0} (table : List A) (byte : A → ℕ)
+    → IsTable table byte
+    → IsReader (λ _. Unit {0}) (λ x. one_byte (byte x)) (entry_at table)
 entry_reader {A} table byte is = record {
   took = λ bytes fits x e.
       let s = bound (byte_at bytes) (λ (b : ℕ × List ℕ). found bytes (slice_get table b.0) >>= λ x. Ok (x, b.1)) x e in
       let t = byte_reader.took bytes fits s.0 s.1 in
       let u = bound (found bytes (slice_get table s.0.0)) (λ (y : A). Ok (y, s.0.1)) x s.2 in
-      subst (λ (p : A × List ℕ). Took (λ (_ : A). Unit {0}) (λ (y : A). one_byte (byte y)) bytes p) (ok_is (u.0, s.0.1) x u.2) (record { allowed = tt; text = rw (is.only s.0.0 u.0 (was_found bytes (slice_get table s.0.0) u.0 u.1)) t.text });
+      subst (λ (p : A × List ℕ). Took (λ (_ : A). Unit {0}) (λ (y : A). one_byte (byte y)) bytes p)
+      (ok_is (u.0, s.0.1) x u.2)
+      (record { allowed = tt; text = rw (is.only s.0.0 u.0 (was_found bytes (slice_get table s.0.0) u.0 u.1)) t.text });
   again = λ x rest ok. rw (is.there x) refl;
 }
 
 -- an entry's byte is its place, where the bytes of the table count up
-place : {A : Type 0} (table : List A) (byte : A → ℕ) (count : ℕ) → map byte table ≡ range_with_len 0 count → (b : ℕ) (x : A) → slice_get table b ≡ Some x → byte x ≡ b
+place : {A : Type 0} (table : List A) (byte : A → ℕ) (count : ℕ)
+    → map byte table ≡ range_with_len 0 count
+    → (b : ℕ) (x : A)
+    → slice_get table b ≡ Some x
+    → byte x ≡ b
 place table byte count e b x h =
     let lt = slice_get_within table b x h in
-    let counted : length table ≡ count = omega (arith, length-map table byte, ap length e, length-range_with_len 0 count) in
+    let counted : length table ≡ count =
+    omega (arith, length-map table byte, ap length e, length-range_with_len 0 count) in
     let found : byte (get_or table b x) ≡ byte x = ap byte (get_or_from_slice_get table b x x h) in
     let mapped : get_or (map byte table) b 0 ≡ byte (get_or table b x) = get_or-map byte table b x 0 lt in
-    let counts : get_or (map byte table) b 0 ≡ get_or (range_with_len 0 count) b 0 = ap (λ (xs : List ℕ). get_or xs b 0) e in
+    let counts : get_or (map byte table) b 0 ≡ get_or (range_with_len 0 count) b 0 =
+    ap (λ (xs : List ℕ). get_or xs b 0) e in
     let there : get_or (range_with_len 0 count) b 0 ≡ 0 + b = get_or-range_with_len 0 count b 0 (omega arith) in
     omega arith
 

@@ -1,5 +1,6 @@
 -- Reading values one after the other, as a loop does.
-use Rattle.std.proofs.Common.{◌≡◌, ℕ, suc, ◌-◌, ◌+◌, ◌≤◌, ◌<◌, List, [], ◌∷◌, ◌++◌, Result, Ok, Err, refl, sym, ◌∙◌, arith}
+use Rattle.std.proofs.Common.{◌≡◌, ℕ, suc, ◌-◌, ◌+◌, ◌≤◌, ◌<◌, List, [], ◌∷◌, ◌++◌, Result, Ok, Err, refl, sym, ◌∙◌}
+use Rattle.std.proofs.Common.{arith}
 use Rattle.micro_file.specs.declared.misread.Misread.{Misread}
 use Rattle.micro_file.specs.declared.misread.Unread.{Unread}
 use Rattle.micro_file.specs.declared.misread.Unread.TheVariants as unread
@@ -7,19 +8,24 @@ use Rattle.micro_file.specs.Fields.{Reading, ◌>>=◌, many_at}
 use Rattle.micro_file.specs.Private.Reads.{Fails}
 
 -- what is read first fails, so all does
-pub fails_then : {A B : Type 0} (e : Unread) (r : Result A Misread) (f : A → Result B Misread) → Fails e r
+pub fails_then : {A B : Type 0} (e : Unread) (r : Result A Misread) (f : A → Result B Misread)
+    → Fails e r
     → Fails e (r >>= f)
 fails_then (unread.Misread misread) r f h = rw h refl
 fails_then unread.Memory r f h = tt
 
-module _ {A : Type 0} (one : List A → List ℕ → Reading A) (front : List A) (count i : ℕ) (bytes : List ℕ) (total : Reading (List A)) (so_far : many_at one front (count - i) bytes ≡ total) where
+module _ {A : Type 0} (one : List A → List ℕ → Reading A) (front : List A) (count i : ℕ) (bytes : List ℕ)
+    (total : Reading (List A)) (so_far : many_at one front (count - i) bytes ≡ total) where
   -- the step of a loop that reads one more
-  pub goes_on : (x : A) (after : List ℕ) → i < count → one front bytes ≡ Ok (x, after)
+  pub goes_on : (x : A) (after : List ℕ)
+      → i < count
+      → one front bytes ≡ Ok (x, after)
       → many_at one (front ++ x ∷ []) (count - (i + 1)) after ≡ total
   unfolding many_at
   goes_on x after lt h =
       let k : count - i ≡ suc (count - (i + 1)) = omega arith in
-      let step : many_at one front (count - i) bytes ≡ many_at one (front ++ x ∷ []) (count - (i + 1)) after = rw (k, h) refl in
+      let step : many_at one front (count - i) bytes
+      ≡ many_at one (front ++ x ∷ []) (count - (i + 1)) after = rw (k, h) refl in
       sym step ∙ so_far
 
   -- what could not be read ends the loop

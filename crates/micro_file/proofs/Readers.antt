@@ -1,5 +1,6 @@
 -- A reader takes a value's bytes from the front and no others, and reads again what spells an allowed value.
-use Rattle.std.proofs.Common.{◌≡◌, ℕ, ◌+◌, ◌<◌, Bool, true, false, List, [], ◌++◌, get_or, take, drop, Option, Some, None, Result, Ok, Err, refl, sym, ap, subst, ◌∙◌, append_assoc, arith, inl, inr}
+use Rattle.std.proofs.Common.{◌≡◌, ℕ, ◌+◌, ◌<◌, Bool, true, false, List, [], ◌++◌, get_or, take, drop, Option, Some}
+use Rattle.std.proofs.Common.{None, Result, Ok, Err, refl, sym, ap, subst, ◌∙◌, append_assoc, arith, inl, inr}
 use Rattle.std.proofs.lemmas.Bool.{cases_lt}
 use Rattle.std.proofs.lemmas.List.{length-take, get_or-drop, get_or-take, get_or_past}
 use Rattle.micro_file.specs.declared.misread.Misread.{Misread}
@@ -28,13 +29,15 @@ pub record Takes (bytes text rest : List ℕ) : Type 0 where
 
 infixl 20 ◌⨟◌
 pub ◌⨟◌ : {a x b y c : List ℕ} → Takes a x b → Takes b y c → Takes a (x ++ y) c
-◌⨟◌ {a} {x} {b} {y} {c} p q = record { parts = p.parts ∙ ap (λ (t : List ℕ). x ++ t) q.parts ∙ sym (append_assoc x y c); rest_fits = q.rest_fits }
+◌⨟◌ {a} {x} {b} {y} {c} p q =
+    record { parts = p.parts ∙ ap (λ (t : List ℕ). x ++ t) q.parts ∙ sym (append_assoc x y c); rest_fits = q.rest_fits }
 
 pub takes_none : (a : List ℕ) → IsBytes a → Takes a [] a
 takes_none a h = record { parts = refl; rest_fits = h }
 
 -- an allowed value whose bytes stand in front
-pub record Took {A : Type 0} (Allowed : A → Type 0) (spell : A → List ℕ) (bytes : List ℕ) (x : A × List ℕ) : Type 0 where
+pub record Took {A : Type 0}
+    (Allowed : A → Type 0) (spell : A → List ℕ) (bytes : List ℕ) (x : A × List ℕ) : Type 0 where
   pub allowed : Allowed x.0
   pub text : Takes bytes (spell x.0) x.1
 
@@ -43,9 +46,6 @@ pub record IsReader {A : Type 0} (Allowed : A → Type 0) (spell : A → List �
   pub again : (x : A) (rest : List ℕ) → Allowed x → read (spell x ++ rest) ≡ Ok (x, rest)
 
 -- ---- steps, one after another
-
-pub some_is : {A : Type 0} (x y : A) → Some x ≡ Some y → x ≡ y
-some_is x y e = cc
 
 -- what was read, and nothing misread
 abbrev pub well : {A : Type 0} → A → Result A Misread
@@ -62,7 +62,9 @@ pub not_both : {A : Type 0} (r : Result A Misread) (x : A) (misread : Misread) �
 not_both (Ok y) x misread well bad = absurd cc
 not_both (Err other) x misread well bad = absurd cc
 
-pub bound : {A B : Type 0} (r : Result A Misread) (f : A → Result B Misread) (y : B) → (r >>= f) ≡ Ok y → (a : A) × (r ≡ Ok a) × (f a ≡ Ok y)
+pub bound : {A B : Type 0} (r : Result A Misread) (f : A → Result B Misread) (y : B)
+    → (r >>= f) ≡ Ok y
+    → (a : A) × (r ≡ Ok a) × (f a ≡ Ok y)
 bound (Ok x) f y e = (x, refl, e)
 bound (Err misread) f y e = absurd cc
 
@@ -77,7 +79,10 @@ was_found bytes (Some y) x e = cc
 pub found_is : {A : Type 0} (bytes : List ℕ) (o : Option A) (x : A) → o ≡ Some x → found bytes o ≡ Ok x
 found_is bytes o x e = rw e refl
 
-pub joined : {A B : Type 0} (r : Result A Misread) (f : A → Result B Misread) (a : A) (y : Result B Misread) → r ≡ Ok a → f a ≡ y → (r >>= f) ≡ y
+pub joined : {A B : Type 0} (r : Result A Misread) (f : A → Result B Misread) (a : A) (y : Result B Misread)
+    → r ≡ Ok a
+    → f a ≡ y
+    → (r >>= f) ≡ y
 joined r f a y e h = rw e h
 
 -- ---- a test of the value
@@ -87,27 +92,40 @@ pub record IsTestOf {A : Type 0} (test : A → Bool) (Such : A → Type 0) : Typ
   pub sound : (x : A) → test x ≡ true → Such x
   pub whole : (x : A) → Such x → test x ≡ true
 
-pub tested : {A : Type 0} {Allowed : A → Type 0} {spell : A → List ℕ} {read : List ℕ → Reading A} (reader : IsReader Allowed spell read) {test : A → Bool} {Such : A → Type 0} (is : IsTestOf test Such)
+pub tested :
+    {A : Type 0} {Allowed : A → Type 0} {spell : A → List ℕ} {read : List ℕ → Reading A}
+    (reader : IsReader Allowed spell read) {test : A → Bool} {Such : A → Type 0} (is : IsTestOf test Such)
     → IsReader (λ x. Allowed x × Such x) spell (λ bytes. read bytes >>= λ x. kept bytes (test x.0) x)
 tested {A} {Allowed} {spell} {read} reader {test} {Such} is = record {
   took = λ bytes fits x e.
       let s = bound (read bytes) (λ (a : A × List ℕ). kept bytes (test a.0) a) x e in
       let k = was_kept bytes (test s.0.0) s.0 x s.2 in
       let t = reader.took bytes fits s.0 s.1 in
-      subst (λ (a : A × List ℕ). Took (λ (v : A). Allowed v × Such v) spell bytes a) k.1 (record { allowed = (t.allowed, is.sound s.0.0 k.0); text = t.text });
-  again = λ x rest ok. joined (read (spell x ++ rest)) (λ (a : A × List ℕ). kept (spell x ++ rest) (test a.0) a) (x, rest) (Ok (x, rest)) (reader.again x rest ok.0) (rw (is.whole x ok.1) refl);
+      subst (λ (a : A × List ℕ). Took (λ (v : A). Allowed v × Such v) spell bytes a) k.1
+      (record { allowed = (t.allowed, is.sound s.0.0 k.0); text = t.text });
+  again = λ x rest ok.
+      joined (read (spell x ++ rest)) (λ (a : A × List ℕ). kept (spell x ++ rest) (test a.0) a) (x, rest) (Ok (x, rest))
+      (reader.again x rest ok.0) (rw (is.whole x ok.1) refl);
 }
 
 -- the same reader, at a fact that says the same
-pub such_reader : {A : Type 0} {Allowed Such : A → Type 0} {spell : A → List ℕ} {read : List ℕ → Reading A} → ((x : A) → Allowed x → Such x) → ((x : A) → Such x → Allowed x) → IsReader Allowed spell read → IsReader Such spell read
+pub such_reader : {A : Type 0} {Allowed Such : A → Type 0} {spell : A → List ℕ} {read : List ℕ → Reading A}
+    → ((x : A) → Allowed x → Such x)
+    → ((x : A) → Such x → Allowed x)
+    → IsReader Allowed spell read
+    → IsReader Such spell read
 such_reader to from reader = record {
   took = λ bytes fits x e. let t = reader.took bytes fits x e in record { allowed = to x.0 t.allowed; text = t.text };
   again = λ x rest ok. reader.again x rest (from x ok);
 }
 
 -- the same reader, where the spelling is the same
-pub so_spelled : {A : Type 0} {Allowed : A → Type 0} {spell other : A → List ℕ} {read : List ℕ → Reading A} → ((x : A) → spell x ≡ other x) → IsReader Allowed spell read → IsReader Allowed other read
+pub so_spelled : {A : Type 0} {Allowed : A → Type 0} {spell other : A → List ℕ} {read : List ℕ → Reading A}
+    → ((x : A) → spell x ≡ other x)
+    → IsReader Allowed spell read
+    → IsReader Allowed other read
 so_spelled same reader = record {
-  took = λ bytes fits x e. let t = reader.took bytes fits x e in record { allowed = t.allowed; text = rw (← same x.0) t.text };
+  took = λ bytes fits x e.
+      let t = reader.took bytes fits x e in record { allowed = t.allowed; text = rw (← same x.0) t.text };
   again = λ x rest ok. rw (← same x) (reader.again x rest ok);
 }

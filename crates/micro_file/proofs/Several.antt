@@ -1,5 +1,6 @@
 -- Many values, one after another, each allowed behind those before it.
-use Rattle.std.proofs.Common.{◌≡◌, ℕ, zero, suc, ◌+◌, ◌-◌, ◌<◌, List, [], ◌∷◌, ◌++◌, length, get_or, take, Option, Some, None, Ok, refl, sym, ap, subst, ◌∙◌, append_assoc, arith}
+use Rattle.std.proofs.Common.{◌≡◌, ℕ, zero, suc, ◌+◌, ◌-◌, ◌<◌, List, [], ◌∷◌, ◌++◌, length, get_or, take, Option, Some}
+use Rattle.std.proofs.Common.{None, Ok, refl, sym, ap, subst, ◌∙◌, append_assoc, arith}
 use Rattle.std.specs.Prelude.{slice_get}
 use Rattle.std.specs.List.{All, AllAdjacentBelow, flat_map}
 use Rattle.std.proofs.lemmas.List.{append-nil, length-take-le, get_or-take}
@@ -12,33 +13,57 @@ use Rattle.micro_file.proofs.Readers.{IsBytes, Takes, ◌⨟◌, takes_none, IsR
 -- each value is allowed behind those before it, the first ones being in front
 pub data Grows {A : Type 0} (Next : List A → A → Type 0) : List A → List A → Type 0 where
   Whole : (front : List A) → Grows Next front []
-  More : (front : List A) (x : A) (xs : List A) → Next front x → Grows Next (front ++ x ∷ []) xs → Grows Next front (x ∷ xs)
+  More : (front : List A) (x : A) (xs : List A)
+      → Next front x
+      → Grows Next (front ++ x ∷ []) xs
+      → Grows Next front (x ∷ xs)
 
 module _ {A : Type 0} (Next : List A → A → Type 0) where
-  pub grows_at : (front xs : List A) → Grows Next front xs → (k : ℕ) (d : A) → k < length xs → Next (front ++ take k xs) (get_or xs k d)
+  pub grows_at : (front xs : List A)
+      → Grows Next front xs
+      → (k : ℕ) (d : A)
+      → k < length xs
+      → Next (front ++ take k xs) (get_or xs k d)
   grows_at front [] g k d lt = absurd (omega arith)
   grows_at front (x ∷ xs) (More _ _ _ next g) zero d lt = rw (append-nil front) next
-  grows_at front (x ∷ xs) (More _ _ _ next g) (suc k) d lt = rw append_assoc at (grows_at (front ++ x ∷ []) xs g k d (omega arith))
+  grows_at front (x ∷ xs) (More _ _ _ next g) (suc k) d lt =
+      rw append_assoc at (grows_at (front ++ x ∷ []) xs g k d (omega arith))
 
-  pub grows_from : (front xs : List A) → ((k : ℕ) (d : A) → k < length xs → Next (front ++ take k xs) (get_or xs k d)) → Grows Next front xs
+  pub grows_from : (front xs : List A)
+      → ((k : ℕ) (d : A) → k < length xs → Next (front ++ take k xs) (get_or xs k d))
+      → Grows Next front xs
   grows_from front [] at = Whole front
   grows_from front (x ∷ xs) at =
       More front x xs (rw (append-nil front) at (at 0 x (omega arith)))
       (grows_from (front ++ x ∷ []) xs (λ k d lt. rw append_assoc (at (suc k) d (omega arith))))
 
 -- what was read behind those in front
-pub record Read {A : Type 0} (Next : List A → A → Type 0) (spell : A → List ℕ) (front : List A) (count : ℕ) (bytes : List ℕ) (x : List A × List ℕ) : Type 0 where
+pub record Read {A : Type 0}
+    (Next : List A → A → Type 0) (spell : A → List ℕ) (front : List A) (count : ℕ) (bytes : List ℕ)
+    (x : List A × List ℕ) : Type 0 where
   pub back : List A
   pub whole : x.0 ≡ front ++ back
   pub counted : length back ≡ count
   pub grows : Grows Next front back
   pub text : Takes bytes (flat_map spell back) x.1
 
-module _ {A : Type 0} (Next : List A → A → Type 0) (spell : A → List ℕ) (one : List A → List ℕ → Reading A) (each : (front : List A) → IsReader (Next front) spell (one front)) where
-  many_took : (front : List A) (count : ℕ) (bytes : List ℕ) → IsBytes bytes → (x : List A × List ℕ) → many_at one front count bytes ≡ Ok x → Read Next spell front count bytes x
+module _ {A : Type 0} (Next : List A → A → Type 0) (spell : A → List ℕ) (one : List A → List ℕ → Reading A)
+    (each : (front : List A) → IsReader (Next front) spell (one front)) where
+  many_took : (front : List A) (count : ℕ) (bytes : List ℕ)
+      → IsBytes bytes
+      → (x : List A × List ℕ)
+      → many_at one front count bytes ≡ Ok x
+      → Read Next spell front count bytes x
   unfolding many_at
   many_took front zero bytes fits x e =
-      subst (λ (p : List A × List ℕ). Read Next spell front 0 bytes p) (ok_is (front, bytes) x e) (record { back = []; whole = sym (append-nil front); counted = refl; grows = Whole front; text = takes_none bytes fits })
+      subst (λ (p : List A × List ℕ). Read Next spell front 0 bytes p) (ok_is (front, bytes) x e)
+      (record {
+        back = [];
+        whole = sym (append-nil front);
+        counted = refl;
+        grows = Whole front;
+        text = takes_none bytes fits;
+      })
   many_took front (suc count) bytes fits x e =
       let s = bound (one front bytes) (λ (a : A × List ℕ). many_at one (front ++ a.0 ∷ []) count a.1) x e in
       let t = (each front).took bytes fits s.0 s.1 in
@@ -52,16 +77,23 @@ module _ {A : Type 0} (Next : List A → A → Type 0) (spell : A → List ℕ) 
         text = rw (flat_map-cons spell s.0.0 more.back) text;
       }
 
-  many_again : (front back : List A) (rest : List ℕ) → Grows Next front back → many_at one front (length back) (flat_map spell back ++ rest) ≡ Ok (front ++ back, rest)
+  many_again : (front back : List A) (rest : List ℕ)
+      → Grows Next front back
+      → many_at one front (length back) (flat_map spell back ++ rest) ≡ Ok (front ++ back, rest)
   unfolding many_at
   many_again front [] rest g = ap (λ (xs : List A). Ok (xs, rest)) (sym (append-nil front))
   many_again front (x ∷ xs) rest (More _ _ _ next g) =
-      let texts : flat_map spell (x ∷ xs) ++ rest ≡ spell x ++ (flat_map spell xs ++ rest) = rw (flat_map-cons spell x xs) (append_assoc (spell x) (flat_map spell xs) rest) in
-      let first : one front (flat_map spell (x ∷ xs) ++ rest) ≡ Ok (x, flat_map spell xs ++ rest) = ap (one front) texts ∙ (each front).again x (flat_map spell xs ++ rest) next in
-      joined (one front (flat_map spell (x ∷ xs) ++ rest)) (λ (a : A × List ℕ). many_at one (front ++ a.0 ∷ []) (length xs) a.1) (x, flat_map spell xs ++ rest) (Ok (front ++ x ∷ xs, rest)) first
+      let texts : flat_map spell (x ∷ xs) ++ rest ≡ spell x ++ (flat_map spell xs ++ rest) =
+      rw (flat_map-cons spell x xs) (append_assoc (spell x) (flat_map spell xs) rest) in
+      let first : one front (flat_map spell (x ∷ xs) ++ rest) ≡ Ok (x, flat_map spell xs ++ rest) =
+      ap (one front) texts ∙ (each front).again x (flat_map spell xs ++ rest) next in
+      joined (one front (flat_map spell (x ∷ xs) ++ rest))
+      (λ (a : A × List ℕ). many_at one (front ++ a.0 ∷ []) (length xs) a.1) (x, flat_map spell xs ++ rest)
+      (Ok (front ++ x ∷ xs, rest)) first
       (many_again (front ++ x ∷ []) xs rest g ∙ ap (λ (ys : List A). Ok (ys, rest)) (append_assoc front (x ∷ []) xs))
 
-  pub many_reader : (count : ℕ) → IsReader (λ xs. (length xs ≡ count) × Grows Next [] xs) (flat_map spell) (many_at one [] count)
+  pub many_reader : (count : ℕ)
+      → IsReader (λ xs. (length xs ≡ count) × Grows Next [] xs) (flat_map spell) (many_at one [] count)
   many_reader count = record {
     took = λ bytes fits x e.
         let r = many_took [] count bytes fits x e in
@@ -70,7 +102,9 @@ module _ {A : Type 0} (Next : List A → A → Type 0) (spell : A → List ℕ) 
           allowed = subst (λ (xs : List A). (length xs ≡ count) × Grows Next [] xs) same (r.counted, r.grows);
           text = subst (λ (xs : List A). Takes bytes (flat_map spell xs) x.1) same r.text;
         };
-    again = λ xs rest ok. subst (λ (n : ℕ). many_at one [] n (flat_map spell xs ++ rest) ≡ Ok (xs, rest)) ok.0 (many_again [] xs rest ok.1);
+    again = λ xs rest ok.
+        subst (λ (n : ℕ). many_at one [] n (flat_map spell xs ++ rest) ≡ Ok (xs, rest)) ok.0
+        (many_again [] xs rest ok.1);
   }
 
 -- ---- what holds of each, and of each beside the next
@@ -87,10 +121,13 @@ abbrev pub Behind : {A : Type 0} → (A → A → Type 0) → Option A → A →
 Behind R None x = Unit {0}
 Behind R (Some last) x = R last x
 
-last_of_take : {A : Type 0} (xs : List A) (k : ℕ) (d : A) → k + 1 < length xs → last_of (take (k + 1) xs) ≡ Some (get_or xs k d)
+last_of_take : {A : Type 0} (xs : List A) (k : ℕ) (d : A)
+    → k + 1 < length xs
+    → last_of (take (k + 1) xs) ≡ Some (get_or xs k d)
 last_of_take xs k d lt =
     let len : length (take (k + 1) xs) ≡ k + 1 = length-take-le (k + 1) xs (omega arith) in
-    let there : slice_get (take (k + 1) xs) k ≡ Some (get_or (take (k + 1) xs) k d) = slice_get-get_or (take (k + 1) xs) k d (omega arith) in
+    let there : slice_get (take (k + 1) xs) k ≡ Some (get_or (take (k + 1) xs) k d) =
+    slice_get-get_or (take (k + 1) xs) k d (omega arith) in
     let at : length (take (k + 1) xs) - 1 ≡ k = omega arith in
     rw (at, there, get_or-take (k + 1) xs k d (omega arith)) refl
 
@@ -105,7 +142,11 @@ module _ {A : Type 0} (P : A → Type 0) (R : A → A → Type 0) where
   pub risen_beside : (xs : List A) → Grows (Rising P R) [] xs → AllAdjacentBelow R xs (length xs)
   risen_beside xs g k d lt = rw (last_of_take xs k d lt) at ((grows_at (Rising P R) [] xs g (k + 1) d lt).1)
 
-  behind_at : (xs : List A) → AllAdjacentBelow R xs (length xs) → (k : ℕ) (d : A) → k < length xs → Behind R (last_of (take k xs)) (get_or xs k d)
+  behind_at : (xs : List A)
+      → AllAdjacentBelow R xs (length xs)
+      → (k : ℕ) (d : A)
+      → k < length xs
+      → Behind R (last_of (take k xs)) (get_or xs k d)
   behind_at xs beside zero d lt = tt
   behind_at xs beside (suc k) d lt =
       let e : k + 1 ≡ suc k = omega arith in
@@ -117,9 +158,13 @@ module _ {A : Type 0} (P : A → Type 0) (R : A → A → Type 0) where
 
 -- ---- a count, and that many values
 
-pub counted_by : {A : Type 0} {P : ℕ → Type 0} {spell_count : ℕ → List ℕ} {count_at : List ℕ → Reading ℕ} (counter : IsReader P spell_count count_at)
-    (Q : List A → Type 0) (spell : A → List ℕ) (several : ℕ → List ℕ → Reading (List A)) (each : (n : ℕ) → IsReader (λ xs. (length xs ≡ n) × Q xs) (flat_map spell) (several n))
-    → IsReader (λ xs. P (length xs) × Q xs) (λ xs. spell_count (length xs) ++ flat_map spell xs) (λ bytes. count_at bytes >>= λ n. several n.0 n.1)
+pub counted_by :
+    {A : Type 0} {P : ℕ → Type 0} {spell_count : ℕ → List ℕ} {count_at : List ℕ → Reading ℕ}
+    (counter : IsReader P spell_count count_at) (Q : List A → Type 0) (spell : A → List ℕ)
+    (several : ℕ → List ℕ → Reading (List A))
+    (each : (n : ℕ) → IsReader (λ xs. (length xs ≡ n) × Q xs) (flat_map spell) (several n))
+    → IsReader (λ xs. P (length xs) × Q xs) (λ xs. spell_count (length xs) ++ flat_map spell xs)
+    (λ bytes. count_at bytes >>= λ n. several n.0 n.1)
 counted_by {A} {P} {spell_count} {count_at} counter Q spell several each = record {
   took = λ bytes fits x e.
       let s = bound (count_at bytes) (λ (n : ℕ × List ℕ). several n.0 n.1) x e in
@@ -127,15 +172,23 @@ counted_by {A} {P} {spell_count} {count_at} counter Q spell several each = recor
       let m = (each s.0.0).took s.0.1 t.text.rest_fits x s.2 in
       record {
         allowed = (subst P (sym m.allowed.0) t.allowed, m.allowed.1);
-        text = subst (λ (n : ℕ). Takes bytes (spell_count n ++ flat_map spell x.0) x.1) (sym m.allowed.0) (t.text ⨟ m.text);
+        text =
+            subst (λ (n : ℕ). Takes bytes (spell_count n ++ flat_map spell x.0) x.1) (sym m.allowed.0)
+            (t.text ⨟ m.text);
       };
   again = λ xs rest ok.
-      joined (count_at ((spell_count (length xs) ++ flat_map spell xs) ++ rest)) (λ (n : ℕ × List ℕ). several n.0 n.1) (length xs, flat_map spell xs ++ rest) (Ok (xs, rest))
-      (ap count_at (append_assoc (spell_count (length xs)) (flat_map spell xs) rest) ∙ counter.again (length xs) (flat_map spell xs ++ rest) ok.0)
+      joined (count_at ((spell_count (length xs) ++ flat_map spell xs) ++ rest)) (λ (n : ℕ × List ℕ). several n.0 n.1)
+      (length xs, flat_map spell xs ++ rest) (Ok (xs, rest))
+      (ap count_at (append_assoc (spell_count (length xs)) (flat_map spell xs) rest)
+      ∙ counter.again (length xs) (flat_map spell xs ++ rest) ok.0)
       ((each (length xs)).again xs rest (refl, ok.1));
 }
 
-pub counted : {A : Type 0} {P : ℕ → Type 0} {spell_count : ℕ → List ℕ} {count_at : List ℕ → Reading ℕ} (counter : IsReader P spell_count count_at)
-    (Next : List A → A → Type 0) (spell : A → List ℕ) (one : List A → List ℕ → Reading A) (each : (front : List A) → IsReader (Next front) spell (one front))
-    → IsReader (λ xs. P (length xs) × Grows Next [] xs) (λ xs. spell_count (length xs) ++ flat_map spell xs) (λ bytes. count_at bytes >>= λ n. many_at one [] n.0 n.1)
-counted counter Next spell one each = counted_by counter (Grows Next []) spell (many_at one []) (many_reader Next spell one each)
+pub counted :
+    {A : Type 0} {P : ℕ → Type 0} {spell_count : ℕ → List ℕ} {count_at : List ℕ → Reading ℕ}
+    (counter : IsReader P spell_count count_at) (Next : List A → A → Type 0) (spell : A → List ℕ)
+    (one : List A → List ℕ → Reading A) (each : (front : List A) → IsReader (Next front) spell (one front))
+    → IsReader (λ xs. P (length xs) × Grows Next [] xs) (λ xs. spell_count (length xs) ++ flat_map spell xs)
+    (λ bytes. count_at bytes >>= λ n. many_at one [] n.0 n.1)
+counted counter Next spell one each =
+    counted_by counter (Grows Next []) spell (many_at one []) (many_reader Next spell one each)

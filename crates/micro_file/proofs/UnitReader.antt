@@ -1,5 +1,6 @@
 -- The readers of units.
-use Rattle.std.proofs.Common.{◌≡◌, ◌≢◌, Bool, true, false, cond, ℕ, suc, ◌+◌, arith, List, [], ◌∷◌, ◌++◌, length, Option, Some, None, Result, Ok, Err, ℤ, refl, sym, ap, subst, ◌∙◌, append_assoc}
+use Rattle.std.proofs.Common.{◌≡◌, ◌≢◌, Bool, true, false, cond, ℕ, suc, ◌+◌, arith, List, [], ◌∷◌, ◌++◌, length}
+use Rattle.std.proofs.Common.{Option, Some, None, Result, Ok, Err, ℤ, refl, sym, ap, subst, ◌∙◌, append_assoc}
 use Rattle.std.specs.Prelude.{IsSomeAnd, slice_get, slice_index_or}
 use Rattle.std.specs.Bool.{Decides}
 use Rattle.std.specs.List.{All, flat_map}
@@ -15,21 +16,26 @@ use Rattle.micro_file.specs.Tables.{kinds}
 use Rattle.micro_file.specs.declared.misread.Misread.{Misread}
 use Rattle.micro_file.specs.declared.misread.Misread.TheVariants.{Field}
 use Rattle.micro_file.specs.Fields.{Reading, byte_within, raw_word_at, entry_at, many_at}
-use Rattle.micro_file.specs.Units.{file_at, cells_at, ram_at, unit_at, is_ram, is_some_ram, is_tied_by, is_tied, judged, judged_at, some_units_at, units_at}
+use Rattle.micro_file.specs.Units.{file_at, cells_at, ram_at, unit_at, is_ram, is_some_ram, is_tied_by, is_tied, judged}
+use Rattle.micro_file.specs.Units.{judged_at, some_units_at, units_at}
 use Rattle.micro_file.specs.Private.Ends.{ends_of, all_judged}
 use Rattle.micro_file.proofs.Judgement.{judged_by}
 use Rattle.micro_file.proofs.Readers.{IsBytes, ◌⨟◌, takes_none, Took, IsReader, such_reader, well, bound, ok_is}
 use Rattle.micro_file.proofs.Several.{all_from, grows_all, many_reader, counted, counted_by}
-use Rattle.micro_file.proofs.Leaves.{one_byte, byte_reader, within_reader, two_reader, four_reader, raw_word_reader, kind_reader}
+use Rattle.micro_file.proofs.Leaves.{one_byte, byte_reader, within_reader, two_reader, four_reader, raw_word_reader}
+use Rattle.micro_file.proofs.Leaves.{kind_reader}
 use Rattle.micro_file.proofs.Steps.{bound2, joined2, bound6, joined6}
 
 file_reader : IsReader IsFile spelled_file file_at
 unfolding file_at spelled_file
 file_reader =
-    such_reader (λ file h. record { size = h.0; words = all_from (IsWord 32) file h.1 }) (λ file h. (h.size, grows_all (IsWord 32) file h.words))
+    such_reader (λ file h. record { size = h.0; words = all_from (IsWord 32) file h.1 })
+    (λ file h. (h.size, grows_all (IsWord 32) file h.words))
     (counted (two_reader 1 256 (omega arith)) (λ _. IsWord 32) eight_bytes (λ _. raw_word_at) (λ _. raw_word_reader))
 
-files_reader : (count : ℕ) → IsReader (λ files. (length files ≡ count) × All IsFile files) (flat_map spelled_file) (many_at (λ _. file_at) [] count)
+files_reader : (count : ℕ)
+    → IsReader (λ files. (length files ≡ count) × All IsFile files) (flat_map spelled_file)
+    (many_at (λ _. file_at) [] count)
 files_reader count =
     such_reader (λ files h. (h.0, all_from IsFile files h.1)) (λ files h. (h.0, grows_all IsFile files h.1))
     (many_reader (λ _. IsFile) spelled_file (λ _. file_at) (λ _. file_reader) count)
@@ -60,7 +66,9 @@ memory_is _ unit = refl
 -- a value that takes no bytes
 nothing_reader : {A : Type 0} (only : A) → IsReader (λ x. x ≡ only) (λ _. []) (λ bytes. Ok (only, bytes))
 nothing_reader {A} only = record {
-  took = λ bytes fits x e. subst (λ (p : A × List ℕ). Took (λ (y : A). y ≡ only) (λ _. []) bytes p) (ok_is (only, bytes) x e) (record { allowed = refl; text = takes_none bytes fits });
+  took = λ bytes fits x e.
+      subst (λ (p : A × List ℕ). Took (λ (y : A). y ≡ only) (λ _. []) bytes p) (ok_is (only, bytes) x e)
+      (record { allowed = refl; text = takes_none bytes fits });
   again = λ x rest ok. rw ok refl;
 }
 
@@ -102,10 +110,20 @@ memory_at k l g f = cells_at k.0 f.1
 abbrev tie_at : Kind × List ℕ → ℕ × List ℕ → ℕ × List ℕ → List (List ℤ) × List ℕ → List ℤ × List ℕ → Reading ℕ
 tie_at k l g f c = ram_at k.0 c.1
 
-abbrev whole_unit : Kind × List ℕ → ℕ × List ℕ → ℕ × List ℕ → List (List ℤ) × List ℕ → List ℤ × List ℕ → ℕ × List ℕ → Reading UnitDesc
+abbrev whole_unit : Kind × List ℕ
+    → ℕ × List ℕ
+    → ℕ × List ℕ
+    → List (List ℤ) × List ℕ
+    → List ℤ × List ℕ
+    → ℕ × List ℕ
+    → Reading UnitDesc
 whole_unit k l g f c r = Ok (record { kind = k.0; latency = l.0; gap = g.0; files = f.0; cells = c.0; ram = r.0 }, r.1)
 
-unit_took : (bytes : List ℕ) → IsBytes bytes → (x : UnitDesc × List ℕ) → unit_at bytes ≡ Ok x → Took IsUnitAlone spelled_unit bytes x
+unit_took : (bytes : List ℕ)
+    → IsBytes bytes
+    → (x : UnitDesc × List ℕ)
+    → unit_at bytes ≡ Ok x
+    → Took IsUnitAlone spelled_unit bytes x
 unfolding unit_at spelled_unit
 unit_took bytes fits x e =
     let s = bound6 (entry_at kinds bytes) latency_at gap_at files_at memory_at tie_at whole_unit x e in
@@ -115,23 +133,38 @@ unit_took bytes fits x e =
     let f = (files_reader (ports s.0.0)).took s.2.1 g.text.rest_fits s.3 s.9 in
     let c = (cells_reader s.0.0).took s.3.1 f.text.rest_fits s.4 s.10 in
     let r = (ram_reader s.0.0).took s.4.1 c.text.rest_fits s.5 s.11 in
-    let unit : UnitDesc = record { kind = s.0.0; latency = s.1.0; gap = s.2.0; files = s.3.0; cells = s.4.0; ram = s.5.0 } in
+    let unit : UnitDesc =
+    record { kind = s.0.0; latency = s.1.0; gap = s.2.0; files = s.3.0; cells = s.4.0; ram = s.5.0 } in
     subst (λ (p : UnitDesc × List ℕ). Took IsUnitAlone spelled_unit bytes p) (ok_is (unit, s.5.1) x s.12) (record {
-      allowed = record { latency = l.allowed; gap = g.allowed; file_count = f.allowed.0; files = f.allowed.1; cells = c.allowed; ram = r.allowed };
+      allowed = record {
+        latency = l.allowed;
+        gap = g.allowed;
+        file_count = f.allowed.0;
+        files = f.allowed.1;
+        cells = c.allowed;
+        ram = r.allowed;
+      };
       text = rw (memory_is s.0.0 unit) (k.text ⨟ l.text ⨟ g.text ⨟ f.text ⨟ (c.text ⨟ r.text));
     })
 
-unit_again : (unit : UnitDesc) (rest : List ℕ) → IsUnitAlone unit → unit_at (spelled_unit unit ++ rest) ≡ Ok (unit, rest)
+unit_again : (unit : UnitDesc) (rest : List ℕ)
+    → IsUnitAlone unit
+    → unit_at (spelled_unit unit ++ rest) ≡ Ok (unit, rest)
 unfolding unit_at spelled_unit
 unit_again unit rest ok =
     let F = flat_map spelled_file unit.files in
     let C = spelled_cells unit.kind unit.cells in
     let R = spelled_ram unit.kind unit.ram in
-    let memory : spelled_memory unit.kind unit ++ rest ≡ C ++ (R ++ rest) = rw (memory_is unit.kind unit) (append_assoc C R rest) in
-    let texts : F ++ spelled_memory unit.kind unit ++ rest ≡ F ++ (C ++ (R ++ rest)) = append_assoc F (spelled_memory unit.kind unit) rest ∙ ap (λ (t : List ℕ). F ++ t) memory in
+    let memory : spelled_memory unit.kind unit ++ rest ≡ C ++ (R ++ rest) =
+    rw (memory_is unit.kind unit) (append_assoc C R rest) in
+    let texts : F ++ spelled_memory unit.kind unit ++ rest ≡ F ++ (C ++ (R ++ rest)) =
+    append_assoc F (spelled_memory unit.kind unit) rest ∙ ap (λ (t : List ℕ). F ++ t) memory in
     ap (λ (t : List ℕ). unit_at (kind_byte unit.kind ∷ unit.latency ∷ unit.gap ∷ t)) texts
-    ∙ joined6 (entry_at kinds (kind_byte unit.kind ∷ unit.latency ∷ unit.gap ∷ (F ++ (C ++ (R ++ rest))))) latency_at gap_at files_at memory_at tie_at whole_unit
-    (unit.kind, unit.latency ∷ unit.gap ∷ (F ++ (C ++ (R ++ rest)))) (unit.latency, unit.gap ∷ (F ++ (C ++ (R ++ rest)))) (unit.gap, F ++ (C ++ (R ++ rest))) (unit.files, C ++ (R ++ rest)) (unit.cells, R ++ rest) (unit.ram, rest)
+    ∙ joined6 (entry_at kinds (kind_byte unit.kind ∷ unit.latency ∷ unit.gap ∷ (F ++ (C ++ (R ++ rest))))) latency_at
+    gap_at files_at memory_at tie_at whole_unit
+    (unit.kind, unit.latency ∷ unit.gap ∷ (F ++ (C ++ (R ++ rest))))
+    (unit.latency, unit.gap ∷ (F ++ (C ++ (R ++ rest)))) (unit.gap, F ++ (C ++ (R ++ rest)))
+    (unit.files, C ++ (R ++ rest)) (unit.cells, R ++ rest) (unit.ram, rest)
     (kind_reader.again unit.kind _ tt)
     ((within_reader 1 8).again unit.latency _ ok.latency)
     ((within_reader 1 unit.latency).again unit.gap _ ok.gap)
@@ -163,14 +196,19 @@ tied_by : (k : Kind) (ram : ℕ) (units : List UnitDesc) → Decides (is_tied_by
 tied_by kind.Acu ram units = let d = some_ram (slice_get units ram) in (λ e _. d.0 e, λ h. d.1 (h refl))
 tied_by _ ram units = (λ e is. absurd (cc), λ h. refl)
 
-was_judged : (units : List UnitDesc) (unit : UnitDesc) (behind : ℕ) (ok : Unit {0}) → judged units unit behind ≡ Ok ok → is_tied units unit ≡ true
+was_judged : (units : List UnitDesc) (unit : UnitDesc) (behind : ℕ) (ok : Unit {0})
+    → judged units unit behind ≡ Ok ok
+    → is_tied units unit ≡ true
 was_judged units unit behind ok e = passed (is_tied units unit) e
   where
     passed : (b : Bool) → cond b (well ok) (Err (Field (behind + 1))) ≡ Ok ok → b ≡ true
     passed true e = refl
     passed false e = absurd cc
 
-all_tied : (units xs : List UnitDesc) (ends : List ℕ) (ok : Unit {0}) → length ends ≡ length xs → all_judged units xs ends ≡ Ok ok → All (IsTied units) xs
+all_tied : (units xs : List UnitDesc) (ends : List ℕ) (ok : Unit {0})
+    → length ends ≡ length xs
+    → all_judged units xs ends ≡ Ok ok
+    → All (IsTied units) xs
 unfolding all_judged
 all_tied units [] ends ok len e = All-nil (IsTied units)
 all_tied units (x ∷ xs) [] ok len e = absurd (omega arith)
@@ -179,7 +217,10 @@ all_tied units (x ∷ xs) (end ∷ ends) ok len e =
     let first : IsTied units x = (tied_by x.kind x.ram units).0 (was_judged units x end s.0 s.1) in
     All-cons (IsTied units) x xs first (all_tied units xs ends ok (omega arith) s.2)
 
-none_blamed : (units xs : List UnitDesc) (ends : List ℕ) → length ends ≡ length xs → All (IsTied units) xs → all_judged units xs ends ≡ Ok tt
+none_blamed : (units xs : List UnitDesc) (ends : List ℕ)
+    → length ends ≡ length xs
+    → All (IsTied units) xs
+    → all_judged units xs ends ≡ Ok tt
 unfolding all_judged
 none_blamed units [] ends len all = refl
 none_blamed units (x ∷ xs) [] len all = refl
@@ -195,7 +236,11 @@ record AreUnitCells (k : Kind) (cells : List ℤ) : Type 0 where
 
 are_unit_cells : (k : Kind) (cells : List ℤ) → AreCells k cells → AreUnitCells k cells
 are_unit_cells kind.Ram cells h = record { raw_words = h.1; cell_count = λ _. h.0; no_cells = λ ne. absurd (ne refl) }
-are_unit_cells _ cells h = record { raw_words = subst (All (IsWord 32)) (sym h) (All-nil (IsWord 32)); cell_count = λ is. absurd (cc); no_cells = λ _. h }
+are_unit_cells _ cells h = record {
+  raw_words = subst (All (IsWord 32)) (sym h) (All-nil (IsWord 32));
+  cell_count = λ is. absurd (cc);
+  no_cells = λ _. h;
+}
 
 are_cells : (k : Kind) (cells : List ℤ) → AreUnitCells k cells → AreCells k cells
 are_cells kind.Ram cells h = (h.cell_count refl, h.raw_words)
@@ -230,7 +275,9 @@ is_alone units unit ok = record {
   gap = ok.gap;
   file_count = ok.file_count;
   files = ok.files;
-  cells = are_cells unit.kind unit.cells (record { raw_words = ok.cells; cell_count = ok.cell_count; no_cells = ok.no_cells });
+  cells =
+      are_cells unit.kind unit.cells
+      (record { raw_words = ok.cells; cell_count = ok.cell_count; no_cells = ok.no_cells });
   ram = ram_number unit.kind unit.ram ok.no_ram;
 }
 
@@ -239,7 +286,9 @@ abbrev pub AreUnits : List UnitDesc → Type 0
 AreUnits units = IsWithin 1 32 (length units) × All (IsUnit units) units
 
 -- each unit by itself
-alone_reader : (count : ℕ) → IsReader (λ units. (length units ≡ count) × All IsUnitAlone units) (flat_map spelled_unit) (many_at (λ _. unit_at) [] count)
+alone_reader : (count : ℕ)
+    → IsReader (λ units. (length units ≡ count) × All IsUnitAlone units) (flat_map spelled_unit)
+    (many_at (λ _. unit_at) [] count)
 alone_reader count =
     such_reader (λ units h. (h.0, all_from IsUnitAlone units h.1)) (λ units h. (h.0, grows_all IsUnitAlone units h.1))
     (many_reader (λ _. IsUnitAlone) spelled_unit (λ _. unit_at) (λ _. unit_reader) count)
@@ -250,32 +299,46 @@ judged_behind count bytes units = judged_at units.0 count bytes
 abbrev whole_units : List UnitDesc × List ℕ → Unit {0} → Reading (List UnitDesc)
 whole_units units ok = Ok units
 
-some_units_took : (count : ℕ) (bytes : List ℕ) → IsBytes bytes → (x : List UnitDesc × List ℕ) → some_units_at count bytes ≡ Ok x → Took (λ units. (length units ≡ count) × All (IsUnit units) units) (flat_map spelled_unit) bytes x
+some_units_took : (count : ℕ) (bytes : List ℕ)
+    → IsBytes bytes
+    → (x : List UnitDesc × List ℕ)
+    → some_units_at count bytes ≡ Ok x
+    → Took (λ units. (length units ≡ count) × All (IsUnit units) units) (flat_map spelled_unit) bytes x
 unfolding some_units_at
 some_units_took count bytes fits x e =
     let s = bound2 (many_at (λ _. unit_at) [] count bytes) (judged_behind count bytes) whole_units x e in
     let t = (alone_reader count).took bytes fits s.0 s.2 in
     let j = judged_by s.0.0 count [] bytes s.0 s.2 in
-    let tied : All (IsTied s.0.0) j.0 = all_tied s.0.0 j.0 (ends_of count bytes) s.1 (omega (arith, j.2, j.3)) (sym j.4 ∙ s.3) in
+    let tied : All (IsTied s.0.0) j.0 =
+    all_tied s.0.0 j.0 (ends_of count bytes) s.1 (omega (arith, j.2, j.3)) (sym j.4 ∙ s.3) in
     let all : All (IsTied s.0.0) s.0.0 = subst (All (IsTied s.0.0)) (sym j.1) tied in
-    subst (λ (p : List UnitDesc × List ℕ). Took (λ units. (length units ≡ count) × All (IsUnit units) units) (flat_map spelled_unit) bytes p) (ok_is s.0 x s.4) (record {
+    subst (λ (p : List UnitDesc × List ℕ).
+    Took (λ units. (length units ≡ count) × All (IsUnit units) units) (flat_map spelled_unit) bytes p)
+    (ok_is s.0 x s.4) (record {
       allowed = (t.allowed.0, λ k d lt. is_unit s.0.0 (slice_index_or s.0.0 k d) (t.allowed.1 k d lt) (all k d lt));
       text = t.text;
     })
 
-some_units_again : (count : ℕ) (units : List UnitDesc) (rest : List ℕ) → (length units ≡ count) × All (IsUnit units) units → some_units_at count (flat_map spelled_unit units ++ rest) ≡ Ok (units, rest)
+some_units_again : (count : ℕ) (units : List UnitDesc) (rest : List ℕ)
+    → (length units ≡ count) × All (IsUnit units) units
+    → some_units_at count (flat_map spelled_unit units ++ rest) ≡ Ok (units, rest)
 unfolding some_units_at
 some_units_again count units rest ok =
     let bytes = flat_map spelled_unit units ++ rest in
-    let read = (alone_reader count).again units rest (ok.0, λ k d lt. is_alone units (slice_index_or units k d) (ok.1 k d lt)) in
+    let read =
+    (alone_reader count).again units rest
+    (ok.0, λ k d lt. is_alone units (slice_index_or units k d) (ok.1 k d lt)) in
     let j = judged_by units count [] bytes (units, rest) read in
     let tied : All (IsTied units) j.0 = subst (All (IsTied units)) j.1 (λ k d lt. (ok.1 k d lt).ram) in
     joined2 (many_at (λ _. unit_at) [] count bytes) (judged_behind count bytes) whole_units (units, rest) tt read
     (j.4 ∙ none_blamed units j.0 (ends_of count bytes) (omega (arith, j.2, j.3)) tied)
 
-some_units_reader : (count : ℕ) → IsReader (λ units. (length units ≡ count) × All (IsUnit units) units) (flat_map spelled_unit) (some_units_at count)
+some_units_reader : (count : ℕ)
+    → IsReader (λ units. (length units ≡ count) × All (IsUnit units) units) (flat_map spelled_unit)
+    (some_units_at count)
 some_units_reader count = record { took = some_units_took count; again = some_units_again count }
 
 pub units_reader : IsReader AreUnits (λ units. one_byte (length units) ++ flat_map spelled_unit units) units_at
 unfolding units_at
-units_reader = counted_by (within_reader 1 32) (λ units. All (IsUnit units) units) spelled_unit some_units_at some_units_reader
+units_reader =
+    counted_by (within_reader 1 32) (λ units. All (IsUnit units) units) spelled_unit some_units_at some_units_reader

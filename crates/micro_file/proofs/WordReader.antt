@@ -17,7 +17,10 @@ use Rattle.micro_file.proofs.IssueReader.{HasFewWords, AllHave, issues_reader}
 use Rattle.micro_file.proofs.Steps.{bound3, joined3}
 
 -- the bytes of a word by its lists
-in_lists : (word : Word) → (one_byte (length word.issues) ++ flat_map spelled_issue word.issues) ++ (two_bytes (length word.enables) ++ flat_map spelled_enable word.enables) ++ (two_bytes (length word.takes) ++ flat_map spelled_take word.takes) ≡ spelled_word word
+in_lists : (word : Word)
+    → (one_byte (length word.issues) ++ flat_map spelled_issue word.issues)
+    ++ (two_bytes (length word.enables) ++ flat_map spelled_enable word.enables)
+    ++ (two_bytes (length word.takes) ++ flat_map spelled_take word.takes) ≡ spelled_word word
 unfolding spelled_word
 in_lists word = simp append_assoc
 
@@ -31,7 +34,11 @@ module _ (image : Image) (few : HasFewWords image) (have : AllHave image) where
   abbrev whole_word : List Issue × List ℕ → List Enable × List ℕ → List Take × List ℕ → Reading Word
   whole_word i e t = Ok (record { issues = i.0; enables = e.0; takes = t.0 }, t.1)
 
-  word_took : (bytes : List ℕ) → IsBytes bytes → (x : Word × List ℕ) → word_at image bytes ≡ Ok x → Took (IsWordOf image) spelled_word bytes x
+  word_took : (bytes : List ℕ)
+      → IsBytes bytes
+      → (x : Word × List ℕ)
+      → word_at image bytes ≡ Ok x
+      → Took (IsWordOf image) spelled_word bytes x
   unfolding word_at
   word_took bytes fits x e =
       let s = bound3 (issues_at image bytes) enables_behind takes_behind whole_word x e in
@@ -53,15 +60,20 @@ module _ (image : Image) (few : HasFewWords image) (have : AllHave image) where
         text = subst (λ (text : List ℕ). Takes bytes text s.2.1) (in_lists word) (i.text ⨟ n.text ⨟ t.text);
       })
 
-  word_again : (word : Word) (rest : List ℕ) → IsWordOf image word → word_at image (spelled_word word ++ rest) ≡ Ok (word, rest)
+  word_again : (word : Word) (rest : List ℕ)
+      → IsWordOf image word
+      → word_at image (spelled_word word ++ rest) ≡ Ok (word, rest)
   unfolding word_at
   word_again word rest ok =
       let I = one_byte (length word.issues) ++ flat_map spelled_issue word.issues in
       let E = two_bytes (length word.enables) ++ flat_map spelled_enable word.enables in
       let T = two_bytes (length word.takes) ++ flat_map spelled_take word.takes in
-      let texts : spelled_word word ++ rest ≡ I ++ (E ++ (T ++ rest)) = ap (λ (t : List ℕ). t ++ rest) (sym (in_lists word)) ∙ append_assoc (I ++ E) T rest ∙ append_assoc I E (T ++ rest) in
+      let texts : spelled_word word ++ rest ≡ I ++ (E ++ (T ++ rest)) =
+      ap (λ (t : List ℕ). t ++ rest) (sym (in_lists word)) ∙ append_assoc (I ++ E) T rest
+      ∙ append_assoc I E (T ++ rest) in
       ap (word_at image) texts
-      ∙ joined3 (issues_at image (I ++ (E ++ (T ++ rest)))) enables_behind takes_behind whole_word (word.issues, E ++ (T ++ rest)) (word.enables, T ++ rest) (word.takes, rest)
+      ∙ joined3 (issues_at image (I ++ (E ++ (T ++ rest)))) enables_behind takes_behind whole_word
+      (word.issues, E ++ (T ++ rest)) (word.enables, T ++ rest) (word.takes, rest)
       ((issues_reader image few have).again word.issues _ (ok.issues, ok.issues_rise))
       ((enables_reader image).again word.enables _ ((omega arith, ok.enable_count), ok.enables, ok.enables_rise))
       ((takes_reader image).again word.takes _ ((omega arith, ok.take_count), ok.takes, ok.takes_rise))

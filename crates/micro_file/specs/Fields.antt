@@ -1,6 +1,8 @@
 -- The fields of a file. Each is read from the front of the bytes that are left, and judged when it is whole: it is a
 -- value and the bytes behind it, or why there is none.
-use Rattle.std.specs.Prelude.{ℕ, zero, suc, ◌^◌, List, [], ◌∷◌, ◌++◌, length, take, drop, slice_get, Option, Some, None, Result, Ok, Err, Bool, ◌==◌, nat_lt, nat_le, ◌&&◌, if◌then◌else◌, ℤ, pos, neg_ℤ, int_le, int_lt}
+use Rattle.std.specs.Prelude.{ℕ, zero, suc, ◌^◌, List, [], ◌∷◌, ◌++◌, length, take, drop, slice_get, Option, Some, None}
+use Rattle.std.specs.Prelude.{Result, Ok, Err, Bool, ◌==◌, nat_lt, nat_le, ◌&&◌, if◌then◌else◌, ℤ, pos, neg_ℤ, int_le}
+use Rattle.std.specs.Prelude.{int_lt}
 use Rattle.std.specs.Int.{Width, w64, byte_len, from_be_bytes, cast_signed, is_in_range}
 use Rattle.micro_file.specs.declared.misread.Misread.{Misread}
 use Rattle.micro_file.specs.declared.misread.Misread.TheVariants.{Short, Field}

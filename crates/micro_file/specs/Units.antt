@@ -1,5 +1,6 @@
 -- The units of a file.
-use Rattle.std.specs.Prelude.{ℕ, zero, suc, ◌+◌, List, [], length, slice_get, Option, Some, None, Result, Ok, Err, Bool, true, false, if◌then◌else◌, ℤ}
+use Rattle.std.specs.Prelude.{ℕ, zero, suc, ◌+◌, List, [], length, slice_get, Option, Some, None, Result, Ok, Err, Bool}
+use Rattle.std.specs.Prelude.{true, false, if◌then◌else◌, ℤ}
 use Rattle.std.specs.Int.{w16, w32}
 use Rattle.operations.specs.declared.units.Kind.{Kind}
 use Rattle.operations.specs.declared.units.Kind.TheVariants as kind
@@ -8,7 +9,8 @@ use Rattle.micro_image.specs.Valid.{ports}
 use Rattle.micro_file.specs.Tables.{kinds}
 use Rattle.micro_file.specs.declared.misread.Misread.{Misread}
 use Rattle.micro_file.specs.declared.misread.Misread.TheVariants.{Field}
-use Rattle.micro_file.specs.Fields.{Reading, ◌>>=◌, byte_at, byte_within, number_within, entry_at, many_at, raw_words_at}
+use Rattle.micro_file.specs.Fields.{Reading, ◌>>=◌, byte_at, byte_within, number_within, entry_at, many_at}
+use Rattle.micro_file.specs.Fields.{raw_words_at}
 
 -- a register file: its size, and that many raw words
 unfoldable pub file_at : List ℕ → Reading (List ℤ)

@@ -1,5 +1,6 @@
 -- The microwords of a file: what is issued, which buses are driven, which registers are written.
-use Rattle.std.specs.Prelude.{ℕ, ◌-◌, List, [], length, slice_get, Option, Some, None, Ok, Bool, true, ◌==◌, nat_lt, ◌&&◌, ◌||◌, if◌then◌else◌, ℤ, pos, negsuc, int_le, int_lt}
+use Rattle.std.specs.Prelude.{ℕ, ◌-◌, List, [], length, slice_get, Option, Some, None, Ok, Bool, true, ◌==◌, nat_lt}
+use Rattle.std.specs.Prelude.{◌&&◌, ◌||◌, if◌then◌else◌, ℤ, pos, negsuc, int_le, int_lt}
 use Rattle.std.specs.Int.{w8, w16, cast_signed}
 use Rattle.fix_word.specs.declared.types.Format.{Format}
 use Rattle.fix_word.specs.declared.types.Mode.TheVariants.{Trunc}
@@ -16,7 +17,8 @@ use Rattle.micro_image.specs.Fields.{nth}
 use Rattle.micro_image.specs.Spells.{kind_byte}
 use Rattle.micro_image.specs.Operations.{kind_of, reads, is_formatted}
 use Rattle.micro_file.specs.Tables.{operations, modes}
-use Rattle.micro_file.specs.Fields.{Reading, ◌>>=◌, kept, found, byte_at, byte_within, byte_below, byte_upto, number_within, signed_at, is_raw_word, entry_at, many_at}
+use Rattle.micro_file.specs.Fields.{Reading, ◌>>=◌, kept, found, byte_at, byte_within, byte_below, byte_upto}
+use Rattle.micro_file.specs.Fields.{number_within, signed_at, is_raw_word, entry_at, many_at}
 
 -- shift, mode and width
 unfoldable pub some_format_at : List ℕ → Reading Format

@@ -1,3 +1,5 @@
+//! A microcode file to its image, or the first byte that is wrong.
+
 ghost use Rattle.std.specs.Prelude.{◌≡◌, ◌≢◌, ◌<◌, ◌^◌, ◌*◌, [], length, IfOk, IfErr, MatchResult};
 ghost use Rattle.micro_image.specs.Spells.{Spells};
 ghost use Rattle.micro_file.specs.declared.fault.FormFault.TheVariants.{Memory};

@@ -1,3 +1,5 @@
+//! Why an image has no file, and a file no image.
+
 ghost use Rattle.std.specs.Prelude.{◌≡◌};
 
 use std::alloc::AllocError;

@@ -1,5 +1,6 @@
 -- The end of the input, and of the output.
-use Rattle.std.proofs.Common.{arith, ◌≡◌, ℕ, List, [], ◌∷◌, ◌++◌, length, refl, ap, sym, ◌∙◌, subst, append_assoc, inl, inr, ⊎_elim}
+use Rattle.std.proofs.Common.{arith, ◌≡◌, ℕ, List, [], ◌∷◌, ◌++◌, length, refl, ap, sym, ◌∙◌, subst, append_assoc, inl}
+use Rattle.std.proofs.Common.{inr, ⊎_elim}
 use Rattle.std.proofs.lemmas.List.{append-nil, length-append}
 use Rattle.lists.specs.Rows.{Rows}
 use Rattle.desk_core.specs.Desk.{FaultsNeverFall, IsClosed, IsUnchangedButOutput, WriteFailed}
@@ -13,11 +14,13 @@ use Rattle.sample_loops.specs.Output.{HasPut}
 use Rattle.sample_loops.specs.Streams.{HasPutRows, HasRunAll, IsRunThrough, IsStopped, IsCloseTried, ChangesOutputAlone}
 use Rattle.sample_loops.specs.Private.Buffers.{IsAppended, IsAppendedInPart}
 use Rattle.sample_loops.specs.Private.Running.{RunsEnd, StopsAtEnd}
-use Rattle.sample_loops.specs.Private.Streaming.{HasPassed, IsHeld, IsAtEnd, RunsInput, ShowsRefusal, IsRefused, IsCut, StopsInInput}
+use Rattle.sample_loops.specs.Private.Streaming.{HasPassed, IsHeld, IsAtEnd, RunsInput, ShowsRefusal, IsRefused, IsCut}
+use Rattle.sample_loops.specs.Private.Streaming.{StopsInInput}
 use Rattle.sample_loops.specs.declared.stream.StreamFault.{StreamFault}
 use Rattle.sample_loops.specs.declared.stream.StreamFault.TheVariants.{Desk, Row, TooLong, Conflict}
 use Rattle.sample_loops.proofs.Growing.{grown_more, grown_closed, grown_perhaps_closed, put_kept, write_failed}
-use Rattle.sample_loops.proofs.Streaming.{all_written, early_now, sound_now, held_cut, passed_flushed, printed-append, read_at, read_all_at, running_rows, sound_more}
+use Rattle.sample_loops.proofs.Streaming.{all_written, early_now, sound_now, held_cut, passed_flushed, printed-append}
+use Rattle.sample_loops.proofs.Streaming.{read_at, read_all_at, running_rows, sound_more}
 
 -- the last row ran
 pub end_ran : (channels : List Channel) (ran more next : Rows → Rows → Type 0) (end : ℕ) (rows : FedRows)
@@ -32,7 +35,9 @@ end_ran channels ran more next end rows waited waits start mid now ended never p
     let h = run.passed in
     let whole = all_written h.written run.puts h.text in
     let all = read_all_at end run.bytes start mid now ended.all p.passes.2.place in
-    let of = subst (λ c. RowsOf run.bytes c (run.before ++ p.rows)) run.channels_are (p.ends run.bytes run.before run.taken) in
+    let of =
+    subst (λ c. RowsOf run.bytes c (run.before ++ p.rows)) run.channels_are
+    (p.ends run.bytes run.before run.taken) in
     let written = h.written ++ p.passes.0 in
     record {
       rows = run.before ++ p.rows;
@@ -47,9 +52,14 @@ end_ran channels ran more next end rows waited waits start mid now ended never p
           text = ap (λ w. (w ++ p.passes.0) ++ waits) whole ∙ append_assoc (printed run.puts) p.passes.0 waits
               ∙ ap (λ l. printed run.puts ++ l) p.passes.1 ∙ sym (printed-append run.puts p.puts);
           grown = grown_more h.written p.passes.0 start mid now h.grown p.passes.2;
-          early = early_now channels rows run.bytes [] run.bytes run.before p.rows run.puts p.puts (length written) now.place run.channels_are run.taken run.as_many
-              (sym (append-nil run.bytes)) (omega arith) all.read.place (omega (arith, ap length whole, length-append h.written p.passes.0));
-          sound = sound_now channels rows run.bytes [] run.bytes run.before now.place run.channels_are run.taken (sym (append-nil run.bytes)) (omega arith) all.read.place;
+          early =
+              early_now channels rows run.bytes [] run.bytes run.before p.rows run.puts p.puts (length written)
+              now.place run.channels_are run.taken run.as_many
+              (sym (append-nil run.bytes)) (omega arith) all.read.place
+              (omega (arith, ap length whole, length-append h.written p.passes.0));
+          sound =
+              sound_now channels rows run.bytes [] run.bytes run.before now.place run.channels_are run.taken
+              (sym (append-nil run.bytes)) (omega arith) all.read.place;
         };
       };
       all = all;
@@ -69,7 +79,10 @@ end_held channels ran gives end rows waited waits start mid now ended given neve
     let run = ended.running in
     subst (λ w. IsHeld end channels gives run.before run.puts w start now) (sym none) (record {
       bytes = run.bytes;
-      read = running_rows end channels rows run.bytes run.before start now (read_at run.bytes start mid now run.read added.place) run.channels_are run.taken (omega (arith, run.left_is));
+      read =
+          running_rows end channels rows run.bytes run.before start now
+          (read_at run.bytes start mid now run.read added.place) run.channels_are run.taken
+          (omega (arith, run.left_is));
       given = given;
       passed = passed_flushed channels run.bytes run.before run.puts [] start mid now run.passed never added;
     })
@@ -87,7 +100,8 @@ pub end_stops : (channels : List Channel) (ran gives : Rows → Rows → Type 0)
     → (fault : StreamFault)
     → StopsAtEnd meets_some rows [] mid waits now fault
     → StopsInInput end channels gives meets start waits now fault
-end_stops channels ran gives meets meets_some end rows waited waits start mid now ended given later never (Row fault) (stops, none, added) =
+end_stops channels ran gives meets meets_some end rows waited waits start mid now ended given later never (Row fault)
+    (stops, none, added) =
     let run = ended.running in
     let all = read_all_at end run.bytes start mid now ended.all added.place in
     let held = end_held channels ran gives end rows waited waits start mid now ended given never none added in
@@ -99,11 +113,17 @@ end_stops channels ran gives meets meets_some end rows waited waits start mid no
         bytes = run.bytes;
         read = all.read;
         within = omega (arith, all.within);
-        stops = inr (all, subst (λ c. StopsAfter c run.bytes run.before fault) run.channels_are (stops run.bytes run.before run.taken));
+        stops =
+            inr (
+              all,
+              subst (λ c. StopsAfter c run.bytes run.before fault) run.channels_are
+                  (stops run.bytes run.before run.taken),
+            );
         sound = sound_more channels run.bytes mid.place now.place run.passed.sound added.place;
       };
     }
-end_stops channels ran gives meets meets_some end rows waited waits start mid now ended given later never (Conflict conflict) (row, last, met, none, added) =
+end_stops channels ran gives meets meets_some end rows waited waits start mid now ended given later never
+    (Conflict conflict) (row, last, met, none, added) =
     let run = ended.running in
     let all = read_all_at end run.bytes start mid now ended.all added.place in
     record {
@@ -115,12 +135,19 @@ end_stops channels ran gives meets meets_some end rows waited waits start mid no
         row = row;
         read = all.read;
         within = omega (arith, all.within);
-        rows_are = inr (all, subst (λ c. RowsOf run.bytes c (run.before ++ row ∷ [])) run.channels_are (last run.bytes run.before run.taken));
+        rows_are =
+            inr (
+              all,
+              subst (λ c. RowsOf run.bytes c (run.before ++ row ∷ [])) run.channels_are
+                  (last run.bytes run.before run.taken),
+            );
         met = later (row ∷ []) conflict met;
       };
     }
-end_stops channels ran gives meets meets_some end rows waited waits start mid now ended given later never Desk (row, last, failed, added) = absurd (omega (arith, added.1))
-end_stops channels ran gives meets meets_some end rows waited waits start mid now ended given later never TooLong ends = absurd ends
+end_stops channels ran gives meets meets_some end rows waited waits start mid now ended given later never Desk
+    (row, last, failed, added) = absurd (omega (arith, added.1))
+end_stops channels ran gives meets meets_some end rows waited waits start mid now ended given later never TooLong
+    ends = absurd ends
 
 -- what the rows put is written
 put_all : (channels : List Channel) (bytes : Content) (gives : Rows → Rows → Type 0) (rows puts : Rows)
@@ -180,7 +207,12 @@ pub input_cut : (end : ℕ) (channels : List Channel) (ran gives : Rows → Rows
     → IsCut end channels gives start now
 input_cut end channels ran gives waits start mid now r given failed added =
     let held : IsHeld end channels gives r.rows r.puts waits start mid =
-    record { bytes = r.held.bytes; read = r.held.read; given = given r.rows r.puts r.held.given; passed = r.held.passed } in
+    record {
+      bytes = r.held.bytes;
+      read = r.held.read;
+      given = given r.rows r.puts r.held.given;
+      passed = r.held.passed;
+    } in
     held_cut end channels gives r.rows r.puts waits start mid now held failed added
 
 -- or the output could not be closed
@@ -198,8 +230,12 @@ input_close_cut end channels ran gives waits start mid now later r given never a
     let grown = grown_more h.written waits start mid now h.grown added in
     record {
       cut = inr (inr (record {
-        failed = write_failed (h.written ++ waits) start now later (never_fall_trans start mid now h.never_fall never) grown failed;
-        run = ran_all end channels ran gives waits start mid now later r (given r.rows r.puts r.held.given) added same.files same.place;
+        failed =
+            write_failed (h.written ++ waits) start now later (never_fall_trans start mid now h.never_fall never) grown
+            failed;
+        run =
+            ran_all end channels ran gives waits start mid now later r (given r.rows r.puts r.held.given) added
+            same.files same.place;
       }));
       alone = grown_perhaps_closed (h.written ++ waits) start now later grown same;
     }
@@ -239,7 +275,9 @@ module _ (end : ℕ) (channels : List Channel) (gives : Rows → Rows → Type 0
       bytes = shown.bytes;
       read = read_at shown.bytes start mid now shown.read place;
       within = shown.within;
-      stops = ⊎_elim (λ within. inl within) (λ ends. inr (read_all_at end shown.bytes start mid now ends.0 place, ends.1)) shown.stops;
+      stops =
+          ⊎_elim (λ within. inl within) (λ ends. inr (read_all_at end shown.bytes start mid now ends.0 place, ends.1))
+          shown.stops;
       sound = sound_more channels shown.bytes mid.place now.place shown.sound place;
     };
     put = put;
@@ -264,7 +302,9 @@ module _ (end : ℕ) (channels : List Channel) (gives : Rows → Rows → Type 0
     row = shown.row;
     read = read_at shown.bytes start mid now shown.read place;
     within = shown.within;
-    rows_are = ⊎_elim (λ near. inl near) (λ ends. inr (read_all_at end shown.bytes start mid now ends.0 place, ends.1)) shown.rows_are;
+    rows_are =
+        ⊎_elim (λ near. inl near) (λ ends. inr (read_all_at end shown.bytes start mid now ends.0 place, ends.1))
+        shown.rows_are;
     met = shown.met;
     put = put;
     closed = closed;
@@ -287,7 +327,9 @@ module _ (end : ℕ) (channels : List Channel) (gives : Rows → Rows → Type 0
       refusal_put fault r.rows later r.shown (same.place ∙ added.place)
       (put_all channels r.held.bytes gives r.rows r.puts waits start mid now later r.held.given h added same.files)
       (⊎_elim (λ closed. inl closed)
-      (λ failed. inr (write_failed (h.written ++ waits) start now later (never_fall_trans start mid now h.never_fall never) grown failed))
+      (λ failed.
+      inr (write_failed (h.written ++ waits) start now later (never_fall_trans start mid now h.never_fall never)
+      grown failed))
       tried)
 
   -- nothing but the output changed
@@ -299,4 +341,5 @@ module _ (end : ℕ) (channels : List Channel) (gives : Rows → Rows → Type 0
       → ChangesOutputAlone start later
   stop_alone fault now later other stops added same =
       let h = (is_refused fault other stops).held.passed in
-      grown_perhaps_closed (h.written ++ waits) start now later (grown_more h.written waits start mid now h.grown added) same
+      grown_perhaps_closed (h.written ++ waits) start now later (grown_more h.written waits start mid now h.grown added)
+      same

@@ -96,15 +96,20 @@ pub piece_passed : (end : ℕ) (channels : List Channel) (rows : FedRows) (bytes
     → FaultsNeverFall then now
     → PassesOn [] (printed next) waits then now
     → HasPassed channels (bytes ++ piece) (before ++ others) (puts ++ next) waits start now
-piece_passed end channels rows bytes piece before puts others next waits start then now h never (more, text, added) = record {
-  never_fall = never_fall_trans start then now h.never_fall never;
-  written = printed puts ++ more;
-  text = append_assoc (printed puts) more waits ∙ ap (λ l. printed puts ++ l) text ∙ sym (printed-append puts next);
-  grown = grown_more (printed puts) more start then now h.grown added;
-  early = early_now channels rows bytes piece (bytes ++ piece) before others puts next (length (printed puts ++ more)) now.place h.channels_are h.taken h.as_many refl h.few
-      (added.place ∙ h.read.place) (omega (arith, length-append (printed puts) more));
-  sound = sound_now channels rows bytes piece (bytes ++ piece) before now.place h.channels_are h.taken refl h.few (added.place ∙ h.read.place);
-}
+piece_passed end channels rows bytes piece before puts others next waits start then now h never
+    (more, text, added) = record {
+      never_fall = never_fall_trans start then now h.never_fall never;
+      written = printed puts ++ more;
+      text = append_assoc (printed puts) more waits ∙ ap (λ l. printed puts ++ l) text ∙ sym (printed-append puts next);
+      grown = grown_more (printed puts) more start then now h.grown added;
+      early =
+          early_now channels rows bytes piece (bytes ++ piece) before others puts next (length (printed puts ++ more))
+          now.place h.channels_are h.taken h.as_many refl h.few
+          (added.place ∙ h.read.place) (omega (arith, length-append (printed puts) more));
+      sound =
+          sound_now channels rows bytes piece (bytes ++ piece) before now.place h.channels_are h.taken refl h.few
+          (added.place ∙ h.read.place);
+    }
 
 -- the rows of the piece ran
 pub piece_ran : (channels : List Channel) (ran more next : Rows → Rows → Type 0) (left end n later : ℕ)
@@ -120,8 +125,11 @@ pub piece_ran : (channels : List Channel) (ran more next : Rows → Rows → Typ
     → (p : RunsPiece more rows piece [] then new waits now)
     → next (run.before ++ p.rows) (run.puts ++ p.puts)
     → IsRunning channels next later end new waits start now
-piece_ran channels ran more next left end n later rows new old_buf new_buf piece waits start mid then now run never step is size few behind on p ran_all =
-    let h = has_piece channels ran left end n rows old_buf new_buf piece start mid then run never step is size few (omega (arith, behind)) in
+piece_ran channels ran more next left end n later rows new old_buf new_buf piece waits start mid then now run never step
+    is size few behind on p ran_all =
+    let h =
+    has_piece channels ran left end n rows old_buf new_buf piece start mid then run never step is size few
+    (omega (arith, behind)) in
     record {
       bytes = run.bytes ++ piece;
       before = run.before ++ p.rows;
@@ -132,7 +140,9 @@ piece_ran channels ran more next left end n later rows new old_buf new_buf piece
       taken = p.takes.taken run.bytes run.before run.taken;
       as_many = omega (arith, length-append run.puts p.puts, length-append run.before p.rows, run.as_many, p.as_many);
       ran_rows = ran_all;
-      passed = piece_passed end channels rows run.bytes piece run.before run.puts p.rows p.puts waits start then now h on p.passes;
+      passed =
+          piece_passed end channels rows run.bytes piece run.before run.puts p.rows p.puts waits start then now h on
+          p.passes;
     }
 
 -- rows of the piece before a fault are held
@@ -144,12 +154,17 @@ piece_held : (end : ℕ) (channels : List Channel) (gives : Rows → Rows → Ty
     → BeginsWith (bytes ++ piece) channels (before ++ others)
     → gives (before ++ others) (puts ++ next)
     → IsHeld end channels gives (before ++ others) (puts ++ next) waits start now
-piece_held end channels gives rows bytes piece before puts others next waits start then now h never passes begins given = record {
-  bytes = bytes ++ piece;
-  read = record { read = record { place = passes.2.place ∙ h.read.place; prefix = h.read.prefix }; within = h.within; rows_are = inl begins };
-  given = given;
-  passed = piece_passed end channels rows bytes piece before puts others next waits start then now h never passes;
-}
+piece_held end channels gives rows bytes piece before puts others next waits start then now h never passes begins
+    given = record {
+      bytes = bytes ++ piece;
+      read = record {
+        read = record { place = passes.2.place ∙ h.read.place; prefix = h.read.prefix };
+        within = h.within;
+        rows_are = inl begins;
+      };
+      given = given;
+      passed = piece_passed end channels rows bytes piece before puts others next waits start then now h never passes;
+    }
 
 -- lines that end in the piece
 lines_end : (channels : List Channel) (rows : FedRows) (bytes piece : Content) (before others : Rows)
@@ -177,15 +192,20 @@ some_begin : (channels : List Channel) (rows : FedRows) (bytes piece : Content) 
     → EndsLines rows piece (others ++ more)
     → BeginsWith (bytes ++ piece) channels (before ++ others)
 some_begin channels rows bytes piece before others more same few taken ends =
-    let (front, rest, is, lines, near) = lines_end channels rows bytes piece before (others ++ more) same few taken ends in
-    let some = lines_front front channels (before ++ others) more (subst (Lines front channels) (sym (append_assoc before others more)) lines) in
-    subst (λ b. BeginsWith b channels (before ++ others)) (sym is) (begins_more front rest channels (before ++ others) some)
+    let (front, rest, is, lines, near) =
+    lines_end channels rows bytes piece before (others ++ more) same few taken ends in
+    let some =
+    lines_front front channels (before ++ others) more
+    (subst (Lines front channels) (sym (append_assoc before others more)) lines) in
+    subst (λ b. BeginsWith b channels (before ++ others)) (sym is)
+    (begins_more front rest channels (before ++ others) some)
 
 -- a bad place behind the lines
 fault_begins : (channels : List Channel) (bytes : Content) (rows : Rows) (fault : RowFault)
     → StopsAfter channels bytes rows fault
     → BeginsWith bytes channels rows
-fault_begins channels bytes rows fault (bad, same) = (bad.front, bad.rest, bad.bytes_are, subst (Lines bad.front channels) same bad.before)
+fault_begins channels bytes rows fault (bad, same) =
+    (bad.front, bad.rest, bad.bytes_are, subst (Lines bad.front channels) same bad.before)
 
 module _ (end : ℕ) (channels : List Channel) (gives some : Rows → Rows → Type 0)
     (meets meets_some : Rows → ConflictValue → Type 0)
@@ -202,26 +222,33 @@ module _ (end : ℕ) (channels : List Channel) (gives some : Rows → Rows → T
       → StopsInInput end channels gives meets start waits now fault
   piece_stops (Row fault) (others, next, given, passes, after) =
       let stops : (more : Content) → StopsAfter channels (bytes ++ piece ++ more) (before ++ others) fault =
-      λ more. subst (λ c. StopsAfter c (bytes ++ piece ++ more) (before ++ others) fault) h.channels_are (after bytes before h.taken more) in
-      let front = subst (λ b. StopsAfter channels b (before ++ others) fault) (append-nil (bytes ++ piece)) (stops []) in
+      λ more.
+      subst (λ c. StopsAfter c (bytes ++ piece ++ more) (before ++ others) fault) h.channels_are
+      (after bytes before h.taken more) in
+      let front =
+      subst (λ b. StopsAfter channels b (before ++ others) fault) (append-nil (bytes ++ piece)) (stops []) in
       record {
         rows = before ++ others;
         puts = puts ++ next;
-        held = piece_held end channels gives rows bytes piece before puts others next waits start then now h never passes
+        held =
+            piece_held end channels gives rows bytes piece before puts others next waits start then now h never passes
             (fault_begins channels (bytes ++ piece) (before ++ others) fault front) (later others next given);
         shown = record {
           bytes = bytes ++ piece;
           read = record { place = passes.2.place ∙ h.read.place; prefix = h.read.prefix };
           within = h.within;
           stops = inl stops;
-          sound = (piece_passed end channels rows bytes piece before puts others next waits start then now h never passes).sound;
+          sound =
+              (piece_passed end channels rows bytes piece before puts others next waits start then now h never
+              passes).sound;
         };
       }
   piece_stops (Conflict conflict) (others, row, next, given, met, passes, ends) = record {
     rows = before ++ others;
     puts = puts ++ next;
     held = piece_held end channels gives rows bytes piece before puts others next waits start then now h never passes
-        (some_begin channels rows bytes piece before others (row ∷ []) h.channels_are h.few h.taken ends) (later others next given);
+        (some_begin channels rows bytes piece before others (row ∷ []) h.channels_are h.few h.taken ends)
+        (later others next given);
     shown = record {
       bytes = bytes ++ piece;
       row = row;
@@ -229,11 +256,17 @@ module _ (end : ℕ) (channels : List Channel) (gives some : Rows → Rows → T
       within = h.within;
       rows_are = inl (subst (EndsInLastPiece (bytes ++ piece) channels) (sym (append_assoc before others (row ∷ [])))
           (lines_end channels rows bytes piece before (others ++ row ∷ []) h.channels_are h.few h.taken ends));
-      met = subst (λ r. meets r conflict) (sym (append_assoc before others (row ∷ []))) (meets_later (others ++ row ∷ []) conflict met);
+      met =
+          subst (λ r. meets r conflict) (sym (append_assoc before others (row ∷ [])))
+          (meets_later (others ++ row ∷ []) conflict met);
     };
   }
   piece_stops Desk (others, row, next, given, failed, added, ends) =
-      let held = piece_held end channels gives rows bytes piece before puts others next (printed next) start then then h (never_fall_same then)
-      ([], refl, appended_none then) (some_begin channels rows bytes piece before others (row ∷ []) h.channels_are h.few h.taken ends) (later others next given) in
+      let held =
+      piece_held end channels gives rows bytes piece before puts others next (printed next) start then then h
+      (never_fall_same then)
+      ([], refl, appended_none then)
+      (some_begin channels rows bytes piece before others (row ∷ []) h.channels_are h.few h.taken ends)
+      (later others next given) in
       held_cut end channels gives (before ++ others) (puts ++ next) (printed next) start then now held failed added
   piece_stops TooLong ends = absurd ends

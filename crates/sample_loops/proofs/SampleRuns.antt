@@ -4,7 +4,8 @@ use Rattle.std.proofs.Common.{List, [], ◌∷◌, ◌++◌, length, replicate, 
 use Rattle.std.proofs.Math.Nat.{add-div_right, add-mod_right, div-lt_iff_lt-mul}
 use Rattle.std.proofs.lemmas.List.{append-nil, length-append, length-replicate}
 use Rattle.lists.specs.Rows.{Rows}
-use Rattle.cycle_sim.specs.Machine.{Snapshot, micro_of, state_of, sample_rows, RanRows, IsOutputRow, MeetsConflictInSample}
+use Rattle.cycle_sim.specs.Machine.{Snapshot, micro_of, state_of, sample_rows, RanRows, IsOutputRow}
+use Rattle.cycle_sim.specs.Machine.{MeetsConflictInSample}
 use Rattle.micro_image.specs.declared.conflict.Conflict.{Conflict}
 use Rattle.micro_image.specs.declared.image.Image.{Image}
 use Rattle.micro_image.specs.Conflict.{IsConflict, IsClearBelow}

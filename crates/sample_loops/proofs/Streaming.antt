@@ -1,5 +1,6 @@
 -- Pieces of a stream are read, and the rows that they end run.
-use Rattle.std.proofs.Common.{arith, ◌≡◌, ℕ, ◌+◌, ◌<◌, ◌≤◌, List, [], ◌++◌, length, take, drop, refl, ap, sym, ◌∙◌, subst, inl, inr}
+use Rattle.std.proofs.Common.{arith, ◌≡◌, ℕ, ◌+◌, ◌<◌, ◌≤◌, List, [], ◌++◌, length, take, drop, refl, ap, sym, ◌∙◌}
+use Rattle.std.proofs.Common.{subst, inl, inr}
 use Rattle.std.proofs.lemmas.Grind.{flat_map-append}
 use Rattle.std.proofs.lemmas.List.{append-nil, length-append, take-append-le, take-append-drop, take_all}
 use Rattle.std.proofs.Math.Seq.{take-add, take-append-add}
@@ -17,7 +18,8 @@ use Rattle.sample_loops.specs.Reading.{piece_size, HasEarly, IsSoundEarly}
 use Rattle.sample_loops.specs.Streams.{HasRead, HasReadAll, HasReadRows, HasReadLines, HasReadTooMany}
 use Rattle.sample_loops.specs.Private.Buffers.{IsAppended, IsAppendedInPart}
 use Rattle.sample_loops.specs.Private.Streaming.{HasPassed, IsHeld, IsRunning, IsAtEnd, IsCut}
-use Rattle.sample_loops.proofs.Growing.{never_fall_same, grown_none, grown_more, grown_read, grown_unchanged, grown_alone, read_failed, write_failed}
+use Rattle.sample_loops.proofs.Growing.{never_fall_same, grown_none, grown_more, grown_read, grown_unchanged}
+use Rattle.sample_loops.proofs.Growing.{grown_alone, read_failed, write_failed}
 
 pub printed-append : (puts more : Rows) → printed (puts ++ more) ≡ printed puts ++ printed more
 printed-append puts more = flat_map-append printed_row puts more
@@ -50,14 +52,18 @@ pub early_now : (channels : List Channel) (rows : FedRows) (bytes more all : Con
     → place ≡ length all
     → length (printed puts) ≤ count
     → HasEarly channels all (before ++ others) (puts ++ next) count place
-early_now channels rows bytes more all before others puts next count place same taken as_many all_is few at written front rest some is lines ended =
+early_now channels rows bytes more all before others puts next count place same taken as_many all_is few at written
+    front rest some is lines ended =
     let size : length all ≡ length bytes + length more = ap length all_is ∙ length-append bytes more in
     let within : length front ≤ length bytes = omega (arith, size, few, at, ended) in
     let front_is = front_within bytes more front rest (sym all_is ∙ is) within in
     let fewer : length some ≤ length before =
-    taken_lines rows bytes before taken front (drop (length front) bytes) some front_is (subst (λ c. Lines front c some) (sym same) lines) in
-    let kept : take (length some) (puts ++ next) ≡ take (length some) puts = take-append-le (length some) puts next (omega (arith, fewer, as_many)) in
-    let text : length (printed (take (length some) (puts ++ next))) ≡ length (printed (take (length some) puts)) = ap (λ p. length (printed p)) kept in (
+    taken_lines rows bytes before taken front (drop (length front) bytes) some front_is
+    (subst (λ c. Lines front c some) (sym same) lines) in
+    let kept : take (length some) (puts ++ next) ≡ take (length some) puts =
+    take-append-le (length some) puts next (omega (arith, fewer, as_many)) in
+    let text : length (printed (take (length some) (puts ++ next))) ≡ length (printed (take (length some) puts)) =
+    ap (λ p. length (printed p)) kept in (
       omega (arith, fewer, length-append before others),
       omega (arith, text, printed_front puts (length some), written),
     )
@@ -141,7 +147,8 @@ starts channels ran end rows waits start same taken at none ran_none = record {
     written = [];
     text = none;
     grown = grown_none start;
-    early = early_now channels rows [] [] [] [] [] [] [] 0 start.place same taken refl refl (omega arith) at (omega arith);
+    early =
+        early_now channels rows [] [] [] [] [] [] [] 0 start.place same taken refl refl (omega arith) at (omega arith);
     sound = sound_now channels rows [] [] [] [] start.place same taken refl (omega arith) at;
   };
 }
@@ -158,7 +165,8 @@ passed_flushed channels bytes rows puts waits start mid now h never added = reco
   written = h.written ++ waits;
   text = append-nil (h.written ++ waits) ∙ h.text;
   grown = grown_more h.written waits start mid now h.grown added;
-  early = early_more channels bytes rows puts (length h.written) (length (h.written ++ waits)) mid.place now.place h.early
+  early =
+      early_more channels bytes rows puts (length h.written) (length (h.written ++ waits)) mid.place now.place h.early
       (omega (arith, length-append h.written waits)) added.place;
   sound = sound_more channels bytes mid.place now.place h.sound added.place;
 }
@@ -192,7 +200,11 @@ pub running_rows : (end : ℕ) (channels : List Channel) (rows : FedRows) (bytes
     → HasReadRows end channels bytes before start now
 running_rows end channels rows bytes before start now read same taken within =
     let so = taken.so_far in
-    record { read = read; within = within; rows_are = inl (so.front, so.line, so.bytes_are, subst (λ c. Lines so.front c before) same so.before) }
+    record {
+      read = read;
+      within = within;
+      rows_are = inl (so.front, so.line, so.bytes_are, subst (λ c. Lines so.front c before) same so.before);
+    }
 
 pub running_held : (channels : List Channel) (ran gives : Rows → Rows → Type 0) (left end : ℕ) (rows : FedRows)
     → (waits : Content) (start now : View)
@@ -201,7 +213,9 @@ pub running_held : (channels : List Channel) (ran gives : Rows → Rows → Type
     → IsHeld end channels gives run.before run.puts waits start now
 running_held channels ran gives left end rows waits start now run given = record {
   bytes = run.bytes;
-  read = running_rows end channels rows run.bytes run.before start now run.read run.channels_are run.taken (omega (arith, run.left_is));
+  read =
+      running_rows end channels rows run.bytes run.before start now run.read run.channels_are run.taken
+      (omega (arith, run.left_is));
   given = given;
   passed = run.passed;
 }
@@ -230,7 +244,9 @@ held_cut end channels gives rows puts waits start mid now held failed (k, within
         given = held.given;
         short = omega (arith, size, within);
         put = subst (λ t. HasPut t start now) (sym text) grown.files;
-        early = early_more channels held.bytes rows puts (length h.written) (length h.written + k) mid.place now.place h.early (omega arith) added.place;
+        early =
+            early_more channels held.bytes rows puts (length h.written) (length h.written + k) mid.place now.place
+            h.early (omega arith) added.place;
         sound = sound_more channels held.bytes mid.place now.place h.sound added.place;
       }));
       alone = grown_alone (h.written ++ take k waits) start now grown;
@@ -299,12 +315,15 @@ pub read_more : (bytes piece : Content) (n : ℕ) (old_buf new_buf : Content) (s
     → length piece ≡ n
     → HasRead (bytes ++ piece) start now
 read_more bytes piece n old_buf new_buf start mid now read same step is size = record {
-  place = step.place ∙ ap (λ p. p + n) read.place ∙ ap (λ l. length bytes + l) (sym size) ∙ sym (length-append bytes piece);
+  place =
+      step.place ∙ ap (λ p. p + n) read.place ∙ ap (λ l. length bytes + l) (sym size) ∙ sym (length-append bytes piece);
   prefix = λ all there.
       let taken = step.taken all (same ∙ there) in
-      let added : piece ≡ take n (drop (length bytes) all) = is ∙ taken.front ∙ ap (λ p. take n (drop p all)) read.place in
+      let added : piece ≡ take n (drop (length bytes) all) =
+      is ∙ taken.front ∙ ap (λ p. take n (drop p all)) read.place in
       ap (λ b. b ++ piece) (read.prefix all there) ∙ ap (λ p. take (length bytes) all ++ p) added
-      ∙ sym (take-add (length bytes) n all) ∙ ap (λ m. take m all) (sym (length-append bytes piece ∙ ap (λ l. length bytes + l) size));
+      ∙ sym (take-add (length bytes) n all)
+      ∙ ap (λ m. take m all) (sym (length-append bytes piece ∙ ap (λ l. length bytes + l) size));
 }
 
 -- no byte came
@@ -339,7 +358,9 @@ at_end channels ran left end n rows waits old_buf new_buf start mid now run none
           written = h.written;
           text = h.text;
           grown = grown_read h.written n old_buf new_buf start mid now h.grown step;
-          early = early_more channels run.bytes run.before run.puts (length h.written) (length h.written) mid.place now.place h.early (omega arith) same;
+          early =
+              early_more channels run.bytes run.before run.puts (length h.written) (length h.written) mid.place
+              now.place h.early (omega arith) same;
           sound = sound_more channels run.bytes mid.place now.place h.sound same;
         };
       };

@@ -1,5 +1,6 @@
 -- Rows of the channels of types are rows of words in the ranges of the types.
-use Rattle.std.proofs.Common.{◌≡◌, subst, arith, ℕ, suc, zero, ◌-◌, ◌≤◌, ◌<◌, ◌^◌, List, [], ◌∷◌, map, ℤ, pos, neg_ℤ, ◌≤ℤ◌, ◌<ℤ◌}
+use Rattle.std.proofs.Common.{◌≡◌, subst, arith, ℕ, suc, zero, ◌-◌, ◌≤◌, ◌<◌, ◌^◌, List, [], ◌∷◌, map, ℤ, pos, neg_ℤ}
+use Rattle.std.proofs.Common.{◌≤ℤ◌, ◌<ℤ◌}
 use Rattle.std.specs.List.{All}
 use Rattle.std.proofs.lemmas.Int.{ints}
 use Rattle.std.proofs.lemmas.List.Elements.{All-head, All-tail, All-weaker}
@@ -20,18 +21,33 @@ in_width (suc n) word some h =
     let width : n ≡ suc n - 1 = omega arith in
     let positive : 0 < 2 ^ n = pow_pos n in
     let below : word <ℤ pos (2 ^ n) = omega (arith, ints, h.1, positive) in
-    record { low = subst (λ k. neg_ℤ (pos (2 ^ k)) ≤ℤ word) width h.0; high = subst (λ k. word <ℤ pos (2 ^ k)) width below }
+    record {
+      low = subst (λ k. neg_ℤ (pos (2 ^ k)) ≤ℤ word) width h.0;
+      high = subst (λ k. word <ℤ pos (2 ^ k)) width below;
+    }
 
-in_graph_type : (ty : SigType) (word : ℤ) → graph.IsType ty → IsInChannel (type_channel ty) word → graph.IsInType ty word
+in_graph_type : (ty : SigType) (word : ℤ)
+    → graph.IsType ty
+    → IsInChannel (type_channel ty) word
+    → graph.IsInType ty word
 in_graph_type (sig.Fix t) word is h = in_width t.shape.w word is.narrowest h
 in_graph_type sig.Bool word is h = h
 
-pub graph_row : (types : List SigType) (row : List ℤ) → All graph.IsType types → IsRow (map type_channel types) row → IsRowOf types row
+pub graph_row : (types : List SigType) (row : List ℤ)
+    → All graph.IsType types
+    → IsRow (map type_channel types) row
+    → IsRowOf types row
 graph_row [] [] all h = tt
 graph_row [] (word ∷ row) all h = absurd h
 graph_row (ty ∷ types) [] all h = absurd h
-graph_row (ty ∷ types) (word ∷ row) all h =
-    (in_graph_type ty word (All-head graph.IsType ty types all) h.0, graph_row types row (All-tail graph.IsType ty types all) h.1)
+graph_row (ty ∷ types) (word ∷ row) all h = (
+  in_graph_type ty word (All-head graph.IsType ty types all) h.0,
+  graph_row types row (All-tail graph.IsType ty types all) h.1,
+)
 
-pub graph_stream : (types : List SigType) (stream : Rows) → All graph.IsType types → IsStream (map type_channel types) stream → IsStreamOf types stream
-graph_stream types stream all h = All-weaker (IsRow (map type_channel types)) (IsRowOf types) (λ row is. graph_row types row all is) stream h
+pub graph_stream : (types : List SigType) (stream : Rows)
+    → All graph.IsType types
+    → IsStream (map type_channel types) stream
+    → IsStreamOf types stream
+graph_stream types stream all h =
+    All-weaker (IsRow (map type_channel types)) (IsRowOf types) (λ row is. graph_row types row all is) stream h

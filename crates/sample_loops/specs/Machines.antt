@@ -57,9 +57,11 @@ pub record RunsRows (old : Snapshot) (rows puts : Rows) (new : Snapshot) : Type 
 -- over these rows the machine meets no conflict and puts these
 pub record PutsRows (machine : Snapshot) (rows puts : Rows) : Type 0 where
   pub clear : (cycles : Rows)
-      → Stands (state_of machine) (micro_of machine) cycles → IsClearOver (micro_of machine) cycles rows
+      → Stands (state_of machine) (micro_of machine) cycles
+      → IsClearOver (micro_of machine) cycles rows
   pub put : (cycles : Rows)
-      → Stands (state_of machine) (micro_of machine) cycles → puts ≡ rows_put (micro_of machine) cycles rows
+      → Stands (state_of machine) (micro_of machine) cycles
+      → puts ≡ rows_put (micro_of machine) cycles rows
 
 -- in the last of these rows the machine meets the conflict first
 abbrev pub MeetsInLast : Snapshot → Rows → Conflict → Type 0

@@ -131,7 +131,8 @@ pub record IsTooLong (end : ℕ) (channels : List Channel) (gives : Rows → Row
   pub put : HasPutRows gives rows old new
   pub closed : IsCloseTried old new
 
--- A conflict came with a row, in the last piece of what was read. What the rows before it put is written, and the output
+-- A conflict came with a row, in the last piece of what was read. What the rows before it put is written, and the
+-- output
 -- is closed, or its close failed.
 pub record HasConflict (end : ℕ) (channels : List Channel) (gives : Rows → Rows → Type 0)
     (meets : Rows → ConflictValue → Type 0) (conflict : ConflictValue) (old new : View) : Type 0 where
@@ -147,9 +148,13 @@ pub record HasConflict (end : ℕ) (channels : List Channel) (gives : Rows → R
 
 -- Why the samples were not run to their end. `gives` says of rows which they put, `meets` which conflict comes with the
 -- last of them.
-abbrev pub IsStopped : (end : ℕ) → List Channel → (gives : Rows → Rows → Type 0)
+abbrev pub IsStopped : (end : ℕ)
+    → List Channel
+    → (gives : Rows → Rows → Type 0)
     → (meets : Rows → ConflictValue → Type 0)
-    → (old new : View) → StreamFault → Type 0
+    → (old new : View)
+    → StreamFault
+    → Type 0
 IsStopped end channels gives meets old new Desk = IsCutShort end channels gives old new
 IsStopped end channels gives meets old new (Row fault) = HasBadRow end channels gives fault old new
 IsStopped end channels gives meets old new TooLong = IsTooLong end channels gives old new

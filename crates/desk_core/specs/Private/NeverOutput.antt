@@ -9,7 +9,9 @@ use Rattle.desk_core.specs.declared.never_fails.NeverFails.{NeverFails}
 pub output_always_specified : (desk : NeverFails) → IsOutputSpecified (view_of desk)
 output_always_specified desk files is unspecified = go desk.created is unspecified
   where
-    go : (b : Bool) → ◌≡◌ {A = Option Files} (if b then None else Some (lookup desk.files)) (Some files)
-        → ◌≡◌ {A = Option (Option Name)} (if b then None else Some None) None → ⊥
+    go : (b : Bool)
+        → ◌≡◌ {A = Option Files} (if b then None else Some (lookup desk.files)) (Some files)
+        → ◌≡◌ {A = Option (Option Name)} (if b then None else Some None) None
+        → ⊥
     go true is none = cc
     go false is none = cc

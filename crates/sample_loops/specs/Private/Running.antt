@@ -29,7 +29,8 @@ EndsAtRow meets waited waits old new TooLong = ⊥
 pub record TakesRows (old : FedRows) (bytes : Content) (rows : Rows) (new : FedRows) : Type 0 where
   pub channels : new.channels ≡ old.channels
   pub taken : (front : Content) (before : Rows)
-      → HasTaken old front before → HasTaken new (front ++ bytes) (before ++ rows)
+      → HasTaken old front before
+      → HasTaken new (front ++ bytes) (before ++ rows)
 
 -- The rows that end in these bytes ran, and what they put is passed on.
 pub record RunsPiece (ran : Rows → Rows → Type 0) (old : FedRows) (bytes waited : Content) (start : View)
@@ -66,10 +67,18 @@ EndsLines old piece rows =
     × ((front : Content) (before : Rows) → HasTaken old front before
     → Lines (front ++ take count piece) old.channels (before ++ rows))
 
--- Why the rows of a piece did not all run: a line is no row, or in a row a conflict was met, or what waited could not be
+-- Why the rows of a piece did not all run: a line is no row, or in a row a conflict was met, or what waited could not
+-- be
 -- written. What the rows before it put is passed on, or a prefix of it.
-abbrev pub EndsInPiece : (Rows → Rows → Type 0) → (Rows → ConflictValue → Type 0) → FedRows → (piece waited : Content)
-    → (start : View) → (waits : Content) → (now : View) → StreamFault → Type 0
+abbrev pub EndsInPiece : (Rows → Rows → Type 0)
+    → (Rows → ConflictValue → Type 0)
+    → FedRows
+    → (piece waited : Content)
+    → (start : View)
+    → (waits : Content)
+    → (now : View)
+    → StreamFault
+    → Type 0
 EndsInPiece gives meets old piece waited start waits now (Row fault) =
     (rows : Rows) × (puts : Rows) × gives rows puts × PassesOn waited (printed puts) waits start now
     × MeetsAfter old piece rows fault
@@ -97,7 +106,13 @@ pub record RunsEnd (gives : Rows → Rows → Type 0) (old : FedRows) (waited : 
   pub passes : PassesOn waited (printed puts) waits start now
 
 -- why it did not
-abbrev pub StopsAtEnd : (Rows → ConflictValue → Type 0) → FedRows → Content → View → Content → View → StreamFault
+abbrev pub StopsAtEnd : (Rows → ConflictValue → Type 0)
+    → FedRows
+    → Content
+    → View
+    → Content
+    → View
+    → StreamFault
     → Type 0
 StopsAtEnd meets old waited start waits now (Row fault) =
     EndsInFault old fault × (waits ≡ waited) × IsAppended [] start now

@@ -11,7 +11,8 @@ use Rattle.sample_io.specs.Pieces.{HasTaken}
 use Rattle.sample_io.specs.Samples.{RowsOf, printed}
 use Rattle.sample_loops.specs.Output.{HasPut}
 use Rattle.sample_loops.specs.Reading.{HaveLastRow, HasEarly, IsSoundEarly}
-use Rattle.sample_loops.specs.Streams.{HasRead, HasReadAll, HasReadRows, HasReadFault, HasReadTooMany, IsCutShort, ChangesOutputAlone}
+use Rattle.sample_loops.specs.Streams.{HasRead, HasReadAll, HasReadRows, HasReadFault, HasReadTooMany, IsCutShort}
+use Rattle.sample_loops.specs.Streams.{ChangesOutputAlone}
 use Rattle.sample_loops.specs.declared.stream.StreamFault.{StreamFault}
 use Rattle.sample_loops.specs.declared.stream.StreamFault.TheVariants.{Desk, Row, TooLong, Conflict}
 
@@ -96,8 +97,13 @@ pub record HasReadConflict (end : ℕ) (channels : List Channel) (meets : Rows �
   pub met : meets (rows ++ row ∷ []) conflict
 
 -- what was read shows why not all rows of the input ran; these are the rows before that
-abbrev pub ShowsRefusal : (end : ℕ) → List Channel → (meets : Rows → ConflictValue → Type 0) → Rows
-    → (start now : View) → StreamFault → Type 0
+abbrev pub ShowsRefusal : (end : ℕ)
+    → List Channel
+    → (meets : Rows → ConflictValue → Type 0)
+    → Rows
+    → (start now : View)
+    → StreamFault
+    → Type 0
 ShowsRefusal end channels meets rows start now Desk = ⊥
 ShowsRefusal end channels meets rows start now (Row fault) = HasReadFault end channels rows fault start now
 ShowsRefusal end channels meets rows start now TooLong = HasReadTooMany end channels rows start now
@@ -119,8 +125,14 @@ pub record IsCut (end : ℕ) (channels : List Channel) (gives : Rows → Rows �
   pub alone : ChangesOutputAlone start now
 
 -- why not all rows of the input ran
-abbrev pub StopsInInput : (end : ℕ) → List Channel → (gives : Rows → Rows → Type 0)
+abbrev pub StopsInInput : (end : ℕ)
+    → List Channel
+    → (gives : Rows → Rows → Type 0)
     → (meets : Rows → ConflictValue → Type 0)
-    → (start : View) → (waits : Content) → (now : View) → StreamFault → Type 0
+    → (start : View)
+    → (waits : Content)
+    → (now : View)
+    → StreamFault
+    → Type 0
 StopsInInput end channels gives meets start waits now Desk = IsCut end channels gives start now
 StopsInInput end channels gives meets start waits now fault = IsRefused end channels gives meets start waits now fault

@@ -9,16 +9,24 @@ use Rattle.micro_file.proofs.decoder.decode.Goals as goal
 
 pub fault_at-requires-clause-inside : goal.fault_at-requires-clause-inside
 fault_at-requires-clause-inside c =
-    let stopped = subst (λ (unread : Unread). Fails unread (whole_at c.args.bytes.now)) c.in-Err-Misread.field-0-is c.in-Err-Misread.ensures in
+    let stopped =
+    subst (λ (unread : Unread). Fails unread (whole_at c.args.bytes.now)) c.in-Err-Misread.field-0-is
+    c.in-Err-Misread.ensures in
     stops_inside c.args.bytes.now c.in-Err-Misread.misread stopped
 
 pub returns-in-Ok-clause-spelled : goal.returns-in-Ok-clause-spelled
-returns-in-Ok-clause-spelled c = whole_spells c.args.bytes.now (record { byte = λ i. omega (arith, c.type_inv.bytes i) }) c.in-Ok.image c.in-Ok.ensures
+returns-in-Ok-clause-spelled c =
+    whole_spells c.args.bytes.now (record { byte = λ i. omega (arith, c.type_inv.bytes i) }) c.in-Ok.image
+    c.in-Ok.ensures
 
 pub returns-in-Ok-clause-every_spelling : goal.returns-in-Ok-clause-every_spelling
-returns-in-Ok-clause-every_spelling c = λ image spells. ok_is c.in-Ok.image image (sym c.in-Ok.ensures ∙ spelled_whole c.args.bytes.now image spells)
+returns-in-Ok-clause-every_spelling c = λ image spells.
+    ok_is c.in-Ok.image image (sym c.in-Ok.ensures ∙ spelled_whole c.args.bytes.now image spells)
 
 pub returns-in-Err-Misread-clause-every_spelling : goal.returns-in-Err-Misread-clause-every_spelling
 returns-in-Err-Misread-clause-every_spelling c = λ image spells.
-    let stopped = subst (λ (unread : Unread). Fails unread (whole_at c.args.bytes.now)) c.in-Err-Misread.field-0-is c.in-Err-Misread.ensures in
-    absurd (not_both (whole_at c.args.bytes.now) image c.in-Err-Misread.misread (spelled_whole c.args.bytes.now image spells) stopped)
+    let stopped =
+    subst (λ (unread : Unread). Fails unread (whole_at c.args.bytes.now)) c.in-Err-Misread.field-0-is
+    c.in-Err-Misread.ensures in
+    absurd (not_both (whole_at c.args.bytes.now) image c.in-Err-Misread.misread
+    (spelled_whole c.args.bytes.now image spells) stopped)

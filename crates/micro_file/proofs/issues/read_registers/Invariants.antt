@@ -5,4 +5,5 @@ use Rattle.micro_file.proofs.issues.read_registers.Given as goal
 
 abbrev pub invariant-loop : goal.invariant-loop
 invariant-loop l =
-    many_at (register_at l.files l.read) l.regs (l.count - l.counter) l.reader ≡ many_at (register_at l.files l.read) [] l.count l.fn.reader
+    many_at (register_at l.files l.read) l.regs (l.count - l.counter) l.reader
+    ≡ many_at (register_at l.files l.read) [] l.count l.fn.reader

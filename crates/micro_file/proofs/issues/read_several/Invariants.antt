@@ -5,4 +5,5 @@ use Rattle.micro_file.proofs.issues.read_several.Given as goal
 
 abbrev pub invariant-loop : goal.invariant-loop
 invariant-loop l =
-    many_at (issue_at l.image) l.issues (l.count - l.counter) l.reader ≡ many_at (issue_at l.image) [] l.count l.fn.reader
+    many_at (issue_at l.image) l.issues (l.count - l.counter) l.reader
+    ≡ many_at (issue_at l.image) [] l.count l.fn.reader

@@ -16,10 +16,12 @@ abbrev with_rest : List UnitDesc → List ℕ → Unit {0} → Reading (List Uni
 with_rest units after ok = Ok (units, after)
 
 several_failed : (e : Unread) (count : ℕ) (bytes : List ℕ)
-    → Fails e (many_at (λ _. unit_at) [] count bytes) → Fails e (some_units_at count bytes)
+    → Fails e (many_at (λ _. unit_at) [] count bytes)
+    → Fails e (some_units_at count bytes)
 unfolding some_units_at
 several_failed e count bytes h =
-    fails_then e (many_at (λ _. unit_at) [] count bytes) (λ (units : List UnitDesc × List ℕ). judged_at units.0 count bytes >>= λ ok. Ok units) h
+    fails_then e (many_at (λ _. unit_at) [] count bytes)
+    (λ (units : List UnitDesc × List ℕ). judged_at units.0 count bytes >>= λ ok. Ok units) h
 
 pub returns-in_err-units : goal.returns-in_err-units
 returns-in_err-units c =
@@ -28,22 +30,37 @@ returns-in_err-units c =
 
 pub judge-requires : goal.judge-requires
 judge-requires c =
-    let noted = c.in_ok-units.ensures.ends ∙ ap (λ (t : List ℕ). t ++ ends_of c.args.count c.args.reader.now) c.in_ok-ends.ensures in
+    let noted =
+    c.in_ok-units.ensures.ends
+    ∙ ap (λ (t : List ℕ). t ++ ends_of c.args.count c.args.reader.now) c.in_ok-ends.ensures in
     record {
-      ends = as_many c.in_ok-units.units c.args.count c.args.reader.now c.read_several.new.reader c.read_several.new.ends c.in_ok-units.ensures.units noted;
+      ends =
+          as_many c.in_ok-units.units c.args.count c.args.reader.now c.read_several.new.reader c.read_several.new.ends
+          c.in_ok-units.ensures.units noted;
       room = c.in_ok-units.ensures.room;
     }
 
 pub returns-in_err-judge : goal.returns-in_err-judge
 returns-in_err-judge c =
-    let noted = c.in_ok-units.ensures.ends ∙ ap (λ (t : List ℕ). t ++ ends_of c.args.count c.args.reader.now) c.in_ok-ends.ensures in
-    let judged = once_judged c.in_ok-units.units c.args.count c.args.reader.now c.read_several.new.reader c.read_several.new.ends c.in_ok-units.ensures.units noted in
+    let noted =
+    c.in_ok-units.ensures.ends
+    ∙ ap (λ (t : List ℕ). t ++ ends_of c.args.count c.args.reader.now) c.in_ok-ends.ensures in
+    let judged =
+    once_judged c.in_ok-units.units c.args.count c.args.reader.now c.read_several.new.reader c.read_several.new.ends
+    c.in_ok-units.ensures.units noted in
     let p = err_from_is_err_and c.from_residual-in_err-judge.result c.from_residual-in_err-judge.ensures.1 in
-    rw (p.1, p.2, judged) (fails_then c.in_err-judge.field-0.0 (all_judged c.in_ok-units.units c.in_ok-units.units c.read_several.new.ends) (with_rest c.in_ok-units.units c.read_several.new.reader) c.in_err-judge.ensures)
+    rw (p.1, p.2, judged)
+    (fails_then c.in_err-judge.field-0.0 (all_judged c.in_ok-units.units c.in_ok-units.units c.read_several.new.ends)
+    (with_rest c.in_ok-units.units c.read_several.new.reader) c.in_err-judge.ensures)
 
 pub returns : goal.returns
 returns c =
-    let noted = c.in_ok-units.ensures.ends ∙ ap (λ (t : List ℕ). t ++ ends_of c.args.count c.args.reader.now) c.in_ok-ends.ensures in
-    let judged = once_judged c.in_ok-units.units c.args.count c.args.reader.now c.read_several.new.reader c.read_several.new.ends c.in_ok-units.ensures.units noted in
+    let noted =
+    c.in_ok-units.ensures.ends
+    ∙ ap (λ (t : List ℕ). t ++ ends_of c.args.count c.args.reader.now) c.in_ok-ends.ensures in
+    let judged =
+    once_judged c.in_ok-units.units c.args.count c.args.reader.now c.read_several.new.reader c.read_several.new.ends
+    c.in_ok-units.ensures.units noted in
     judged
-    ∙ joined (all_judged c.in_ok-units.units c.in_ok-units.units c.read_several.new.ends) (with_rest c.in_ok-units.units c.read_several.new.reader) tt _ c.in_ok-judge.ensures refl
+    ∙ joined (all_judged c.in_ok-units.units c.in_ok-units.units c.read_several.new.ends)
+    (with_rest c.in_ok-units.units c.read_several.new.reader) tt _ c.in_ok-judge.ensures refl

@@ -8,11 +8,19 @@ use Rattle.micro_file.proofs.units.read_files.Goals as goal
 pub returns-in_err-file : goal.returns-in_err-file
 returns-in_err-file c =
     let p = err_from_is_err_and c.from_residual-in_err-file.result c.from_residual-in_err-file.ensures.1 in
-    rw (p.1, p.2) (ends (λ _. file_at) c.loop.files c.args.count c.loop.counter c.loop.reader (many_at (λ _. file_at) [] c.args.count c.args.reader.now) c.loop.invariant c.in_err-file.field-0.0 c.loop-test.true c.in_err-file.ensures)
+    rw (p.1, p.2)
+    (ends (λ _. file_at) c.loop.files c.args.count c.loop.counter c.loop.reader
+    (many_at (λ _. file_at) [] c.args.count c.args.reader.now) c.loop.invariant c.in_err-file.field-0.0
+    c.loop-test.true c.in_err-file.ensures)
 
 pub loop-preserved : goal.loop-preserved
 loop-preserved c =
-    rw c.in_ok-push.ensures.ok (goes_on (λ _. file_at) c.loop.files c.args.count c.loop.counter c.loop.reader (many_at (λ _. file_at) [] c.args.count c.args.reader.now) c.loop.invariant c.in_ok-file.file c.read_file.new.reader c.loop-test.true c.in_ok-file.ensures)
+    rw c.in_ok-push.ensures.ok
+    (goes_on (λ _. file_at) c.loop.files c.args.count c.loop.counter c.loop.reader
+    (many_at (λ _. file_at) [] c.args.count c.args.reader.now) c.loop.invariant c.in_ok-file.file
+    c.read_file.new.reader c.loop-test.true c.in_ok-file.ensures)
 
 pub returns : goal.returns
-returns c = is_done (λ _. file_at) c.loop.files c.args.count c.loop.counter c.loop.reader (many_at (λ _. file_at) [] c.args.count c.args.reader.now) c.loop.invariant c.loop-test.false
+returns c =
+    is_done (λ _. file_at) c.loop.files c.args.count c.loop.counter c.loop.reader
+    (many_at (λ _. file_at) [] c.args.count c.args.reader.now) c.loop.invariant c.loop-test.false

@@ -12,21 +12,32 @@ pub returns-in_err-unit : goal.returns-in_err-unit
 returns-in_err-unit c =
     let p = err_from_is_err_and c.from_residual-in_err-unit.result c.from_residual-in_err-unit.ensures.1 in
     rw (p.1, p.2) (record {
-      units = ends (λ _. unit_at) c.loop.units c.args.count c.loop.counter c.loop.reader (many_at (λ _. unit_at) [] c.args.count c.args.reader.now) c.loop.invariant.0 c.in_err-unit.field-0.0 c.loop-test.true c.in_err-unit.ensures;
+      units =
+          ends (λ _. unit_at) c.loop.units c.args.count c.loop.counter c.loop.reader
+          (many_at (λ _. unit_at) [] c.args.count c.args.reader.now) c.loop.invariant.0 c.in_err-unit.field-0.0
+          c.loop-test.true c.in_err-unit.ensures;
       ends = tt;
       room = tt;
     })
 
 pub loop-preserved : goal.loop-preserved
 loop-preserved c = (
-  rw c.in_ok-push-2.ensures.ok (goes_on (λ _. unit_at) c.loop.units c.args.count c.loop.counter c.loop.reader (many_at (λ _. unit_at) [] c.args.count c.args.reader.now) c.loop.invariant.0 c.in_ok-unit.unit c.read_unit.new.reader c.loop-test.true c.in_ok-unit.ensures),
-  rw (c.in_ok-push.ensures.ok, c.left.ensures.count) (ends_go_on c.loop.ends c.args.count c.loop.counter c.loop.reader c.in_ok-unit.unit c.read_unit.new.reader c.loop-test.true c.in_ok-unit.ensures) ∙ c.loop.invariant.1,
-  rw c.in_ok-push.ensures.ok (All-push (λ end. end < usize.MAX) c.loop.ends c.left.result c.loop.invariant.2 c.left.ensures.room),
+  rw c.in_ok-push-2.ensures.ok
+      (goes_on (λ _. unit_at) c.loop.units c.args.count c.loop.counter c.loop.reader
+      (many_at (λ _. unit_at) [] c.args.count c.args.reader.now) c.loop.invariant.0 c.in_ok-unit.unit
+      c.read_unit.new.reader c.loop-test.true c.in_ok-unit.ensures),
+  rw (c.in_ok-push.ensures.ok, c.left.ensures.count)
+      (ends_go_on c.loop.ends c.args.count c.loop.counter c.loop.reader c.in_ok-unit.unit c.read_unit.new.reader
+      c.loop-test.true c.in_ok-unit.ensures) ∙ c.loop.invariant.1,
+  rw c.in_ok-push.ensures.ok
+      (All-push (λ end. end < usize.MAX) c.loop.ends c.left.result c.loop.invariant.2 c.left.ensures.room),
 )
 
 pub returns : goal.returns
 returns c = record {
-  units = is_done (λ _. unit_at) c.loop.units c.args.count c.loop.counter c.loop.reader (many_at (λ _. unit_at) [] c.args.count c.args.reader.now) c.loop.invariant.0 c.loop-test.false;
+  units =
+      is_done (λ _. unit_at) c.loop.units c.args.count c.loop.counter c.loop.reader
+      (many_at (λ _. unit_at) [] c.args.count c.args.reader.now) c.loop.invariant.0 c.loop-test.false;
   ends = sym (ends_done c.loop.ends c.args.count c.loop.counter c.loop.reader c.loop-test.false) ∙ c.loop.invariant.1;
   room = c.loop.invariant.2;
 }

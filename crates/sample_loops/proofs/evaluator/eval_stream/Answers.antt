@@ -5,4 +5,5 @@ use Rattle.sample_io.specs.Channels.{IsRow}
 use Rattle.sample_loops.proofs.evaluator.eval_stream.Goals as goal
 
 pub run_all-requires-clause-fits : goal.run_all-requires-clause-fits
-run_all-requires-clause-fits g c = λ row is. subst (λ (channels : List Channel). IsRow channels row) c.requires.channels is
+run_all-requires-clause-fits g c = λ row is.
+    subst (λ (channels : List Channel). IsRow channels row) c.requires.channels is

@@ -13,7 +13,8 @@ use Rattle.sample_loops.specs.Private.Running.{EndsInPiece}
 use Rattle.sample_loops.proofs.Appending.{appended_none}
 use Rattle.sample_loops.proofs.Growing.{never_fall_same}
 use Rattle.sample_loops.proofs.Passing.{passes_more, printed-push, as_many_more}
-use Rattle.sample_loops.proofs.Piecing.{takes_none, rest_of, room_for_rest, row_shown, takes_more, takes_end, fault_after, lines_ended}
+use Rattle.sample_loops.proofs.Piecing.{takes_none, rest_of, room_for_rest, row_shown, takes_more, takes_end}
+use Rattle.sample_loops.proofs.Piecing.{fault_after, lines_ended}
 use Rattle.sample_loops.proofs.Stops.{ends_at_row}
 use Rattle.sample_loops.proofs.stream.run_piece.Goals as goal
 
@@ -43,7 +44,8 @@ feed-requires g c =
     let (sofar, run) = c.rows.invariant in
     let piece = c.args.piece.now in
     subst (λ p. CanTake c.rows.rows (length p)) (sym (rest_of piece c.rows.at sofar.within))
-    (room_for_rest c.args.rows.now c.rows.rows piece c.rows.at run.rows c.requires.room c.requires.running sofar.within run.takes)
+    (room_for_rest c.args.rows.now c.rows.rows piece c.rows.at run.rows c.requires.room c.requires.running sofar.within
+    run.takes)
 
 pub run_row-requires-clause-row : goal.run_row-requires-clause-row
 run_row-requires-clause-row g c =
@@ -51,10 +53,12 @@ run_row-requires-clause-row g c =
     let piece = c.args.piece.now in
     let found : TakesPiece c.rows.rows (drop c.rows.at piece) c.feed.new.self (Row c.in-Row.count) =
     subst (TakesPiece c.rows.rows (drop c.rows.at piece) c.feed.new.self) c.in-Row.is
-    (subst (λ p. TakesPiece c.rows.rows p c.feed.new.self c.in_ok-count.field-0) (rest_of piece c.rows.at sofar.within) c.in_ok-count.ensures.takes) in
+    (subst (λ p. TakesPiece c.rows.rows p c.feed.new.self c.in_ok-count.field-0) (rest_of piece c.rows.at sofar.within)
+    c.in_ok-count.ensures.takes) in
     subst (g.E.Engine.accepts c.rows.engine) (sym c.row.ensures.row)
     (sofar.fits c.feed.new.self.row
-    (row_shown c.args.rows.now c.rows.rows c.feed.new.self piece c.rows.at c.in-Row.count run.rows c.requires.room c.requires.running run.takes found))
+    (row_shown c.args.rows.now c.rows.rows c.feed.new.self piece c.rows.at c.in-Row.count run.rows c.requires.room
+    c.requires.running run.takes found))
 
 pub rows-preserved : goal.rows-preserved
 rows-preserved g c =
@@ -62,11 +66,13 @@ rows-preserved g c =
     let piece = c.args.piece.now in
     let found : TakesPiece c.rows.rows (drop c.rows.at piece) c.feed.new.self (Row c.in-Row.count) =
     subst (TakesPiece c.rows.rows (drop c.rows.at piece) c.feed.new.self) c.in-Row.is
-    (subst (λ p. TakesPiece c.rows.rows p c.feed.new.self c.in_ok-count.field-0) (rest_of piece c.rows.at sofar.within) c.in_ok-count.ensures.takes) in
+    (subst (λ p. TakesPiece c.rows.rows p c.feed.new.self c.in_ok-count.field-0) (rest_of piece c.rows.at sofar.within)
+    c.in_ok-count.ensures.takes) in
     let ran = c.in_ok-run_row.ensures in
     let put = ran.ok.0 in
     let row = c.feed.new.self.row in
-    let step = subst (λ r. g.E.Engine.ran c.rows.engine (r ∷ []) (put ∷ []) c.run_row.new.engine) c.row.ensures.row ran.ok.1 in
+    let step =
+    subst (λ r. g.E.Engine.ran c.rows.engine (r ∷ []) (put ∷ []) c.run_row.new.engine) c.row.ensures.row ran.ok.1 in
     let start = g.D.Desk.view c.args.desk.now in
     let before = g.D.Desk.view c.rows.desk in
     let now = g.D.Desk.view c.run_row.new.desk in (
@@ -82,10 +88,17 @@ rows-preserved g c =
         rows = run.rows ++ row ∷ [];
         puts = run.puts ++ put ∷ [];
         as_many = as_many_more run.rows run.puts row put run.as_many;
-        takes = takes_more c.args.rows.now c.rows.rows c.feed.new.self piece c.rows.at c.in-Row.count run.rows run.takes c.in_ok-count.ensures.channels found;
-        ran_rows = g.met.E.Engine.ran_on c.args.engine.now c.rows.engine c.run_row.new.engine run.rows run.puts (row ∷ []) (put ∷ []) run.ran_rows step;
-        passes = subst (λ text. PassesOn c.args.output.now text c.run_row.new.output start now) (sym (printed-push run.puts put))
-            (passes_more c.args.output.now (printed run.puts) c.rows.output (printed_row put) c.run_row.new.output start before now run.passes ran.ok.2);
+        takes =
+            takes_more c.args.rows.now c.rows.rows c.feed.new.self piece c.rows.at c.in-Row.count run.rows run.takes
+            c.in_ok-count.ensures.channels found;
+        ran_rows =
+            g.met.E.Engine.ran_on c.args.engine.now c.rows.engine c.run_row.new.engine run.rows run.puts (row ∷ [])
+            (put ∷ []) run.ran_rows step;
+        passes =
+            subst (λ text. PassesOn c.args.output.now text c.run_row.new.output start now)
+            (sym (printed-push run.puts put))
+            (passes_more c.args.output.now (printed run.puts) c.rows.output (printed_row put) c.run_row.new.output start
+            before now run.passes ran.ok.2);
       },
     )
 
@@ -93,12 +106,16 @@ pub returns-clause-ok : goal.returns-clause-ok
 returns-clause-ok g c =
     let (sofar, run) = c.rows.invariant in
     let piece = c.args.piece.now in
-    let ended = subst (λ p. TakesPiece c.rows.rows p c.feed.new.self c.in_ok-count.field-0) (rest_of piece c.rows.at sofar.within) c.in_ok-count.ensures.takes in
+    let ended =
+    subst (λ p. TakesPiece c.rows.rows p c.feed.new.self c.in_ok-count.field-0)
+    (rest_of piece c.rows.at sofar.within) c.in_ok-count.ensures.takes in
     record {
       rows = run.rows;
       puts = run.puts;
       as_many = run.as_many;
-      takes = takes_end c.args.rows.now c.rows.rows c.feed.new.self piece c.rows.at run.rows c.in_ok-count.field-0 run.takes c.in_ok-count.ensures.channels ended c.in_default.not-Row;
+      takes =
+          takes_end c.args.rows.now c.rows.rows c.feed.new.self piece c.rows.at run.rows c.in_ok-count.field-0 run.takes
+          c.in_ok-count.ensures.channels ended c.in_default.not-Row;
       ran_rows = run.ran_rows;
       passes = run.passes;
     }
@@ -107,10 +124,15 @@ pub returns-in_err-count-clause-err : goal.returns-in_err-count-clause-err
 returns-in_err-count-clause-err g c =
     let (sofar, run) = c.rows.invariant in
     let piece = c.args.piece.now in
-    let ends = EndsInPiece (λ ran puts. (mid : g.row.E.Denot) × g.E.Engine.ran c.args.engine.now ran puts mid) (λ ran conflict. g.E.Engine.meets c.args.engine.now ran conflict c.rows.engine) c.args.rows.now piece c.args.output.now (g.D.Desk.view c.args.desk.now)
+    let ends =
+    EndsInPiece (λ ran puts. (mid : g.row.E.Denot) × g.E.Engine.ran c.args.engine.now ran puts mid)
+    (λ ran conflict. g.E.Engine.meets c.args.engine.now ran conflict c.rows.engine) c.args.rows.now piece
+    c.args.output.now (g.D.Desk.view c.args.desk.now)
     c.rows.output (g.D.Desk.view c.rows.desk) in
     let p = err_from_is_err_and c.from_residual.result c.from_residual.ensures.1 in
-    let meets = subst (λ b. MeetsFault c.rows.rows b c.in_err-count.field-0.0) (rest_of piece c.rows.at sofar.within) c.in_err-count.ensures.fault in
+    let meets =
+    subst (λ b. MeetsFault c.rows.rows b c.in_err-count.field-0.0) (rest_of piece c.rows.at sofar.within)
+    c.in_err-count.ensures.fault in
     subst (λ r. IfErr r ends) (sym p.1)
     (subst ends (sym p.2) (
       run.rows,
@@ -127,21 +149,29 @@ returns-in_err-run_row-clause-err g c =
     let start = g.D.Desk.view c.args.desk.now in
     let before = g.D.Desk.view c.rows.desk in
     let now = g.D.Desk.view c.run_row.new.desk in
-    let gives : Rows → Rows → Type 0 = λ ran puts. (mid : g.row.E.Denot) × g.E.Engine.ran c.args.engine.now ran puts mid in
-    let meets : Rows → ConflictValue → Type 0 = λ ran conflict. g.E.Engine.meets c.args.engine.now ran conflict c.run_row.new.engine in
+    let gives : Rows → Rows → Type 0 = λ ran puts.
+    (mid : g.row.E.Denot) × g.E.Engine.ran c.args.engine.now ran puts mid in
+    let meets : Rows → ConflictValue → Type 0 = λ ran conflict.
+    g.E.Engine.meets c.args.engine.now ran conflict c.run_row.new.engine in
     let ends = EndsInPiece gives meets c.args.rows.now piece c.args.output.now start c.run_row.new.output now in
     let found : TakesPiece c.rows.rows (drop c.rows.at piece) c.feed.new.self (Row c.in-Row.count) =
     subst (TakesPiece c.rows.rows (drop c.rows.at piece) c.feed.new.self) c.in-Row.is
-    (subst (λ b. TakesPiece c.rows.rows b c.feed.new.self c.in_ok-count.field-0) (rest_of piece c.rows.at sofar.within) c.in_ok-count.ensures.takes) in
+    (subst (λ b. TakesPiece c.rows.rows b c.feed.new.self c.in_ok-count.field-0) (rest_of piece c.rows.at sofar.within)
+    c.in_ok-count.ensures.takes) in
     let row = c.feed.new.self.row in
     let given : gives run.rows run.puts = (c.rows.engine, run.ran_rows) in
-    let lines = lines_ended c.args.rows.now c.rows.rows c.feed.new.self piece c.rows.at c.in-Row.count run.rows sofar.within run.takes found in
+    let lines =
+    lines_ended c.args.rows.now c.rows.rows c.feed.new.self piece c.rows.at c.in-Row.count run.rows sofar.within
+    run.takes found in
     let p = err_from_is_err_and c.from_residual-in_err-run_row.result c.from_residual-in_err-run_row.ensures.1 in
     subst (λ r. IfErr r ends) (sym p.1)
     (subst ends (sym p.2)
-    (ends_at_row gives meets (λ conflict. g.E.Engine.meets c.rows.engine (c.row.result.now ∷ []) conflict c.run_row.new.engine) c.args.rows.now piece c.args.output.now start c.rows.output before c.run_row.new.output now
+    (ends_at_row gives meets
+    (λ conflict. g.E.Engine.meets c.rows.engine (c.row.result.now ∷ []) conflict c.run_row.new.engine) c.args.rows.now
+    piece c.args.output.now start c.rows.output before c.run_row.new.output now
     run.rows run.puts row given
     (λ conflict one.
-    g.met.E.Engine.meets_later c.args.engine.now c.rows.engine c.run_row.new.engine run.rows run.puts (row ∷ []) conflict run.ran_rows
+    g.met.E.Engine.meets_later c.args.engine.now c.rows.engine c.run_row.new.engine run.rows run.puts (row ∷ [])
+    conflict run.ran_rows
     (subst (λ r. g.E.Engine.meets c.rows.engine (r ∷ []) conflict c.run_row.new.engine) c.row.ensures.row one))
     lines sofar.never_fall run.passes c.in_err-run_row.field-0.0 c.in_err-run_row.ensures.err))

@@ -22,6 +22,7 @@ loop-done-preserved g c =
       never_fall = never_fall_trans _ _ _ sofar.never_fall c.in_ok-done.ensures.never_fall;
       within = omega (arith, length-drop done bytes, ap (length {A = ℕ}) rest);
       appended = subst (λ b. IsAppended b old new)
-          (ap (λ (p : List ℕ). take done bytes ++ take c.in_ok-done.field-0 p) rest ∙ sym (take-add done c.in_ok-done.field-0 bytes))
+          (ap (λ (p : List ℕ). take done bytes ++ take c.in_ok-done.field-0 p) rest
+          ∙ sym (take-add done c.in_ok-done.field-0 bytes))
           (appended_more _ _ _ _ _ _ sofar.appended step);
     }

@@ -8,4 +8,6 @@ use Rattle.cycle_sim.proofs.cycle.Cycle.log_port.Given as goal
 
 abbrev pub invariant-loop-take : goal.invariant-loop-take
 invariant-loop-take l =
-    IsLogged l.at (map (wrote_by (microprogram_of l.self.image) l.self.number (value_after l.self l.storage l.row l.values)) (filter (is_into l.port.unit l.port.port) (take l.take-index l.take-items))) l.fn.log l.filled l.log
+    IsLogged l.at
+    (map (wrote_by (microprogram_of l.self.image) l.self.number (value_after l.self l.storage l.row l.values))
+    (filter (is_into l.port.unit l.port.port) (take l.take-index l.take-items))) l.fn.log l.filled l.log

@@ -7,5 +7,8 @@ use Rattle.cycle_sim.proofs.cycle.Cycle.log_takes.Given as goal
 
 abbrev pub invariant-loop-port : goal.invariant-loop-port
 invariant-loop-port l =
-    IsLogged l.at (flat_map (wrote_into (microprogram_of l.self.image) l.self.number (value_after l.self l.storage l.row l.values) l.unit) (range_with_len 0 l.port)) l.fn.log l.filled l.log
+    IsLogged l.at
+    (flat_map
+    (wrote_into (microprogram_of l.self.image) l.self.number (value_after l.self l.storage l.row l.values) l.unit)
+    (range_with_len 0 l.port)) l.fn.log l.filled l.log
     × (l.filled ≤ l.at + l.port)

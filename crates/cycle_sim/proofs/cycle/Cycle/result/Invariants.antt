@@ -7,4 +7,7 @@ use Rattle.cycle_sim.proofs.cycle.Cycle.result.Given as goal
 
 abbrev pub invariant-loop-issue : goal.invariant-loop-issue
 invariant-loop-issue l =
-    l.value ≡ fold (after_issue (microprogram_of l.self.image) l.storage l.row l.self.sample l.self.number (slot_of l.self.number l.unit)) (nth l.values (slot_of l.self.number l.unit) (pos 0)) (take l.issue-index l.issue-items)
+    l.value
+    ≡ fold (after_issue (microprogram_of l.self.image) l.storage l.row l.self.sample l.self.number
+    (slot_of l.self.number l.unit))
+    (nth l.values (slot_of l.self.number l.unit) (pos 0)) (take l.issue-index l.issue-items)

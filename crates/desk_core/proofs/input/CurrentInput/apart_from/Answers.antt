@@ -20,7 +20,8 @@ returns-in-File c =
     let same : c.as_slice.result.now ≡ c.as_bytes.result.now =
     (bytes_eq-Decides c.as_slice.result.now c.as_bytes.result.now).0 (sym c.if-eq.ensures) in
     sym (ap (λ (i : CurrentInput). apart_from c.args.files.now i c.args.name.now) c.in-File.is
-    ∙ apart_same c.args.files.now c.in-File.input c.args.name.now (sym name ∙ sym c.as_slice.ensures ∙ same ∙ c.as_bytes.ensures.value))
+    ∙ apart_same c.args.files.now c.in-File.input c.args.name.now
+    (sym name ∙ sym c.as_slice.ensures ∙ same ∙ c.as_bytes.ensures.value))
 
 pub returns-in_default : goal.returns-in_default
 returns-in_default c =

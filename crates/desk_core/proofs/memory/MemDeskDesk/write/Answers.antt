@@ -14,5 +14,6 @@ invariant_of-self c =
       moves = c.args.self.now.moves;
       input_stands = λ i e. appended_open _ _ _ _ i grown (c.args.self.now.input_stands i e);
       output_stands = λ i e. appended_first _ _ _ i _ grown (c.args.self.now.output_stands i e);
-      wants_within = (let counted = c.saturating_add-self.ensures in let within = c.args.self.now.wants_within in omega arith);
+      wants_within =
+          (let counted = c.saturating_add-self.ensures in let within = c.args.self.now.wants_within in omega arith);
     }

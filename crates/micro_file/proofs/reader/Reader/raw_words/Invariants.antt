@@ -4,4 +4,5 @@ use Rattle.micro_file.proofs.reader.Reader.raw_words.Given as goal
 
 abbrev pub invariant-loop : goal.invariant-loop
 invariant-loop l =
-    many_at (λ _. raw_word_at) l.raw_words (l.count - l.counter) l.self ≡ many_at (λ _. raw_word_at) [] l.count l.fn.self
+    many_at (λ _. raw_word_at) l.raw_words (l.count - l.counter) l.self
+    ≡ many_at (λ _. raw_word_at) [] l.count l.fn.self

@@ -3,4 +3,5 @@ use Rattle.sample_loops.proofs.TypedRows.{graph_row}
 use Rattle.sample_loops.proofs.evaluator.EvaluatorEngine.step.Goals as goal
 
 pub step-requires-clause-row : goal.step-requires-clause-row
-step-requires-clause-row c = graph_row c.args.self.now.graph.inputs c.args.row.now c.outs.ensures.sound.inputs c.requires.row
+step-requires-clause-row c =
+    graph_row c.args.self.now.graph.inputs c.args.row.now c.outs.ensures.sound.inputs c.requires.row

@@ -25,16 +25,22 @@ sample-requires-clause-words c = row_words c.args.self.now.image c.args.row.now 
 
 pub returns-clause-age : goal.returns-clause-age
 returns-clause-age c =
-    on_ok_weaker c.sample.result (sample_later c.args.self.now c.sample.new.self c.outs.ensures.valid.period.0 c.sample.ensures.image) c.sample.ensures.cycle
+    on_ok_weaker c.sample.result
+    (sample_later c.args.self.now c.sample.new.self c.outs.ensures.valid.period.0 c.sample.ensures.image)
+    c.sample.ensures.cycle
 
 pub returns-clause-ready : goal.returns-clause-ready
 returns-clause-ready c =
-    both c.sample.result _ _ _ (ready_after c.args.self.now c.sample.new.self c.requires.ready c.sample.ensures.image) c.sample.ensures.cycle c.sample.ensures.running
+    both c.sample.result _ _ _ (ready_after c.args.self.now c.sample.new.self c.requires.ready c.sample.ensures.image)
+    c.sample.ensures.cycle c.sample.ensures.running
 
 pub returns-clause-ran : goal.returns-clause-ran
 returns-clause-ran c =
-    both c.sample.result _ _ _ (runs_row c.args.self.now c.sample.new.self c.args.row.now c.sample.new.put c.sample.ensures.image) c.sample.ensures.stands c.sample.ensures.puts
+    both c.sample.result _ _ _
+    (runs_row c.args.self.now c.sample.new.self c.args.row.now c.sample.new.put c.sample.ensures.image)
+    c.sample.ensures.stands c.sample.ensures.puts
 
 pub returns-clause-meets : goal.returns-clause-meets
 returns-clause-meets c =
-    both_err c.sample.result _ _ _ (meets_in_row c.args.self.now c.sample.new.self c.args.row.now) c.sample.ensures.conflict c.sample.ensures.stays
+    both_err c.sample.result _ _ _ (meets_in_row c.args.self.now c.sample.new.self c.args.row.now)
+    c.sample.ensures.conflict c.sample.ensures.stays
