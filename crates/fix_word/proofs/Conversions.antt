@@ -1,23 +1,23 @@
 -- A word has one word in another shape.
-use Rattle.std.proofs.Common.{◌≡◌, subst, ◌∙◌, ◌≤◌, ℤ, pos, ◌-ℤ◌}
-use Rattle.fix_word.specs.Words.{IsWord, IsConv}
+use Rattle.std.proofs.Common.{◌≡◌, subst, ◌∙◌, ℤ, pos, ◌-ℤ◌}
+use Rattle.fix_word.specs.Words.{IsWord, IsWidth, IsConv}
 use Rattle.fix_word.specs.Values.{form_of, conv_of}
 use Rattle.fix_word.specs.declared.types.Shape.{Shape}
 use Rattle.fix_word.specs.declared.types.Mode.{Mode}
 use Rattle.fix_word.proofs.Forms.{form_is, form_word, form_unique}
 
 pub conv_is : (m places : ℤ) (shape : Shape) (mode : Mode)
-    → 1 ≤ shape.w
+    → IsWidth shape.w
     → IsConv m places shape mode (conv_of m places shape mode)
 conv_is m places shape mode h = form_is m (record { shift = places -ℤ pos shape.f; mode = mode; width = shape.w }) h
 
 pub conv_word : (m places : ℤ) (shape : Shape) (mode : Mode)
-    → 1 ≤ shape.w
+    → IsWidth shape.w
     → IsWord shape.w (conv_of m places shape mode)
 conv_word m places shape mode h = form_word m (record { shift = places -ℤ pos shape.f; mode = mode; width = shape.w }) h
 
 pub conv_unique : (m places : ℤ) (shape : Shape) (mode : Mode) (r r' : ℤ)
-    → 1 ≤ shape.w
+    → IsWidth shape.w
     → IsConv m places shape mode r
     → IsConv m places shape mode r'
     → r ≡ r'

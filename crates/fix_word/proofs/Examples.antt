@@ -1,7 +1,7 @@
 -- The functions compute on numbers that are given.
-use Rattle.std.proofs.Common.{◌≡◌, refl, pos, negsuc, true, false}
-use Rattle.fix_word.specs.Values.{wrap_of, form_of, conv_of, nearest_of, apply_of}
-use Rattle.fix_word.specs.declared.types.Mode.TheVariants.{Trunc, Round}
+use Rattle.std.proofs.Common.{◌≡◌, refl, pos, negsuc, true, false, ◌^◌, ◌-◌}
+use Rattle.fix_word.specs.Values.{wrap_of, clip_of, form_of, conv_of, nearest_of, apply_of}
+use Rattle.fix_word.specs.declared.types.Mode.TheVariants.{Trunc, Round, Sat, RoundSat}
 use Rattle.fix_word.specs.declared.operation.Op.TheVariants.{And, Mul, Sel, Load}
 
 -- 128 in 8 bits
@@ -22,10 +22,27 @@ form_of-cut : form_of (negsuc 7) (record { shift = pos 4; mode = Trunc; width = 
 unfolding wrap_of
 form_of-cut = refl
 
--- 5 times 2 ^ 32 in 32 bits
-form_of-up : form_of (pos 5) (record { shift = negsuc 31; mode = Trunc; width = 32 }) ≡ pos 0
+-- 5 times 2 ^ 40 in 40 bits
+form_of-up : form_of (pos 5) (record { shift = negsuc 39; mode = Trunc; width = 40 }) ≡ pos 0
 unfolding wrap_of
 form_of-up = refl
+
+form_of-up_clipped : form_of (pos 5) (record { shift = negsuc 39; mode = Sat; width = 40 }) ≡ pos (2 ^ 39 - 1)
+unfolding clip_of
+form_of-up_clipped = refl
+
+-- 127.5 and -128.5 in 8 bits: rounded first, then brought to the width
+form_of-rounded_wrapped : form_of (pos 255) (record { shift = pos 1; mode = Round; width = 8 }) ≡ negsuc 127
+unfolding wrap_of
+form_of-rounded_wrapped = refl
+
+form_of-rounded_clipped : form_of (pos 255) (record { shift = pos 1; mode = RoundSat; width = 8 }) ≡ pos 127
+unfolding clip_of
+form_of-rounded_clipped = refl
+
+form_of-cut_clipped : form_of (negsuc 256) (record { shift = pos 1; mode = Sat; width = 8 }) ≡ negsuc 127
+unfolding clip_of
+form_of-cut_clipped = refl
 
 -- the raw word -8 with 8 fraction bits, in 8 bits with 4 of them
 conv_of-cut : conv_of (negsuc 7) (pos 8) (record { w = 8; f = 4 }) Trunc ≡ negsuc 0

@@ -1,5 +1,7 @@
 pub mod Floors
 pub mod Wraps
+pub mod Clips
+pub mod Shifts
 pub mod Forms
 pub mod Conversions
 pub mod Nearest

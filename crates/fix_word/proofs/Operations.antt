@@ -13,6 +13,7 @@ use Rattle.fix_word.specs.declared.types.Format.{Format}
 use Rattle.fix_word.specs.declared.operation.Op.{Op}
 use Rattle.fix_word.specs.declared.operation.Op.TheVariants.{Add, Sub, Neg, Pass, Lt, Le, Eq, Ne, And, Or, Not, Mul}
 use Rattle.fix_word.specs.declared.operation.Op.TheVariants.{Sel}
+use Rattle.fix_word.proofs.Clips.{lt_decides}
 use Rattle.fix_word.proofs.Forms.{form_is, form_word, form_unique}
 
 truth_is : (P : Type 0) (b : Bool) → Decides b P → IsTruth P (bit_of b)
@@ -39,9 +40,6 @@ or_decides P Q true b h k = (λ e. inl (h.0 refl), λ pq. refl)
 or_decides P Q false true h k = (λ e. inr (k.0 refl), λ pq. refl)
 or_decides P Q false false h k = (λ e. absurd (cc e), λ pq. elim pq [ inl p ↦ h.1 p | inr q ↦ k.1 q ])
 
-lt_decides : (a b : ℤ) → Decides (int_lt a b) (a <ℤ b)
-lt_decides a b = (λ e. grind (arith, ints, e), λ h. grind (arith, ints, h))
-
 le_decides : (a b : ℤ) → Decides (int_le a b) (a ≤ℤ b)
 le_decides a b = (λ e. grind (arith, ints, e), λ h. grind (arith, ints, h))
 
@@ -59,11 +57,11 @@ choice_unique a b c m m' (inr x) (inl y) = absurd (y.0 x.0)
 choice_unique a b c m m' (inr x) (inr y) = x.1 ∙ sym y.1
 
 pub apply_is : (op : Op) (fmt : Format) (a b c : ℤ) → IsReady op fmt → IsApply op fmt a b c (apply_of op fmt a b c)
-apply_is Add fmt a b c h = form_is (a +ℤ b) fmt h.narrowest
-apply_is Sub fmt a b c h = form_is (a -ℤ b) fmt h.narrowest
-apply_is Neg fmt a b c h = form_is (neg_ℤ a) fmt h.narrowest
-apply_is Pass fmt a b c h = form_is a fmt h.narrowest
-apply_is Mul fmt a b c h = form_is (a *ℤ b) fmt h.narrowest
+apply_is Add fmt a b c h = form_is (a +ℤ b) fmt h.width
+apply_is Sub fmt a b c h = form_is (a -ℤ b) fmt h.width
+apply_is Neg fmt a b c h = form_is (neg_ℤ a) fmt h.width
+apply_is Pass fmt a b c h = form_is a fmt h.width
+apply_is Mul fmt a b c h = form_is (a *ℤ b) fmt h.width
 apply_is Lt fmt a b c h = truth_is (a <ℤ b) (int_lt a b) (lt_decides a b)
 apply_is Le fmt a b c h = truth_is (a ≤ℤ b) (int_le a b) (le_decides a b)
 apply_is Eq fmt a b c h = truth_is (a ≡ b) (int_eq a b) (Decides-int_eq a b)
@@ -83,11 +81,11 @@ pub apply_unique : (op : Op) (fmt : Format) (a b c m m' : ℤ)
     → IsApply op fmt a b c m
     → IsApply op fmt a b c m'
     → m ≡ m'
-apply_unique Add fmt a b c m m' h x y = form_unique (a +ℤ b) fmt m m' h.narrowest x y
-apply_unique Sub fmt a b c m m' h x y = form_unique (a -ℤ b) fmt m m' h.narrowest x y
-apply_unique Neg fmt a b c m m' h x y = form_unique (neg_ℤ a) fmt m m' h.narrowest x y
-apply_unique Pass fmt a b c m m' h x y = form_unique a fmt m m' h.narrowest x y
-apply_unique Mul fmt a b c m m' h x y = form_unique (a *ℤ b) fmt m m' h.narrowest x y
+apply_unique Add fmt a b c m m' h x y = form_unique (a +ℤ b) fmt m m' h.width x y
+apply_unique Sub fmt a b c m m' h x y = form_unique (a -ℤ b) fmt m m' h.width x y
+apply_unique Neg fmt a b c m m' h x y = form_unique (neg_ℤ a) fmt m m' h.width x y
+apply_unique Pass fmt a b c m m' h x y = form_unique a fmt m m' h.width x y
+apply_unique Mul fmt a b c m m' h x y = form_unique (a *ℤ b) fmt m m' h.width x y
 apply_unique Lt fmt a b c m m' h x y = truth_unique (a <ℤ b) m m' x y
 apply_unique Le fmt a b c m m' h x y = truth_unique (a ≤ℤ b) m m' x y
 apply_unique Eq fmt a b c m m' h x y = truth_unique (a ≡ b) m m' x y
@@ -106,8 +104,8 @@ apply_value op fmt a b c m h x = apply_unique op fmt a b c m (apply_of op fmt a 
 
 form_small : (q : ℤ) (fmt : Format) → IsFormat fmt → unsigned_abs (form_of q fmt) ≤ 2 ^ 39
 form_small q fmt h =
-    let word : IsWord fmt.width (form_of q fmt) = form_word q fmt h.narrowest in
-    let most : 2 ^ (fmt.width - 1) ≤ 2 ^ 31 = pow_mono {j = 31} (omega (arith, h.widest)) in
+    let word : IsWord fmt.width (form_of q fmt) = form_word q fmt h.width in
+    let most : 2 ^ (fmt.width - 1) ≤ 2 ^ 39 = pow_mono {j = 39} (omega (arith, h.width.widest)) in
     omega (arith, ints, word.low, word.high)
 
 bit_small : (b : Bool) → unsigned_abs (bit_of b) ≤ 2 ^ 39

@@ -4,9 +4,16 @@ use Rattle.std.proofs.Common.{neg_ℤ, ◌≤ℤ◌, ◌<ℤ◌}
 use Rattle.std.proofs.lemmas.Int.{ints}
 use Rattle.std.proofs.lemmas.Nat.{pow_pos}
 use Rattle.std.proofs.lemmas.Grind.{pow_more}
+use Rattle.std.proofs.Math.Pow.{pow_mono}
 use Rattle.fix_word.specs.Words.{IsWord, IsWrap, IsFloor}
 use Rattle.fix_word.specs.Values.{floor_of, wrap_of}
 use Rattle.fix_word.proofs.Floors.{floor_is, times_apart}
+
+-- a word of a width is a word of each greater width
+pub word_wider : (w v : ℕ) (z : ℤ) → w ≤ v → IsWord w z → IsWord v z
+word_wider w v z few word =
+    let more : 2 ^ (w - 1) ≤ 2 ^ (v - 1) = pow_mono {j = v - 1} (omega arith) in
+    record { low = omega (arith, ints, word.low); high = omega (arith, ints, word.high) }
 
 -- the range has as many numbers below 0 as from 0 up
 pub two_halves : (w : ℕ) → 1 ≤ w → 2 ^ w ≡ 2 * 2 ^ (w - 1)

@@ -2,11 +2,11 @@
 use Rattle.std.specs.Prelude.{ℕ, zero, suc, ◌-◌, ◌*◌, ◌/◌, ◌^◌, ℤ, pos, negsuc, ◌+ℤ◌, ◌-ℤ◌, ◌*ℤ◌, neg_ℤ, int_lt, int_le}
 use Rattle.std.specs.Prelude.{Bool, true, false, not, ◌&&◌, ◌||◌}
 use Rattle.std.specs.Ordering.{int_eq}
-use Rattle.fix_word.specs.Words.{signed}
+use Rattle.fix_word.specs.Words.{signed, lowest_word, highest_word, rounding}
 use Rattle.fix_word.specs.declared.types.Shape.{Shape}
 use Rattle.fix_word.specs.declared.types.Format.{Format}
 use Rattle.fix_word.specs.declared.types.Mode.{Mode}
-use Rattle.fix_word.specs.declared.types.Mode.TheVariants.{Trunc, Round}
+use Rattle.fix_word.specs.declared.types.Mode.TheVariants.{Trunc, Round, Sat, RoundSat}
 use Rattle.fix_word.specs.declared.operation.Op.{Op}
 use Rattle.fix_word.specs.declared.operation.Op.TheVariants.{Add, Sub, Neg, Pass, Lt, Le, Eq, Ne, And, Or, Not, Mul}
 use Rattle.fix_word.specs.declared.operation.Op.TheVariants.{Sel}
@@ -20,16 +20,32 @@ floor_of (negsuc n) d = negsuc (n / d)
 unfoldable pub wrap_of : ℤ → ℕ → ℤ
 wrap_of q w = q -ℤ floor_of (q +ℤ pos (2 ^ (w - 1))) (2 ^ w) *ℤ pos (2 ^ w)
 
+-- the end of the range of w bits on the side on which q is outside, and q where it is on none
+abbrev pub clip_by : (below above : Bool) → ℤ → ℕ → ℤ
+clip_by true above q w = lowest_word w
+clip_by false true q w = highest_word w
+clip_by false false q w = q
+
+-- the word of w bits that is nearest to q
+unfoldable pub clip_of : ℤ → ℕ → ℤ
+clip_of q w = clip_by (int_lt q (lowest_word w)) (int_lt (highest_word w) q) q w
+
+-- q brought to w bits as the mode says
+abbrev pub fit_of : ℤ → ℕ → Mode → ℤ
+fit_of q w Trunc = wrap_of q w
+fit_of q w Round = wrap_of q w
+fit_of q w Sat = clip_of q w
+fit_of q w RoundSat = clip_of q w
+
 -- q / 2 ^ shift, brought to a whole number by the mode
 abbrev pub scaled_of : ℤ → ℤ → Mode → ℤ
 scaled_of q (negsuc s) mode = q *ℤ pos (2 ^ suc s)
 scaled_of q (pos zero) mode = q
-scaled_of q (pos (suc s)) Trunc = floor_of q (2 ^ suc s)
-scaled_of q (pos (suc s)) Round = floor_of (q +ℤ pos (2 ^ s)) (2 ^ suc s)
+scaled_of q (pos (suc s)) mode = floor_of (q +ℤ pos (rounding mode (2 ^ s))) (2 ^ suc s)
 
 -- the exact number q in the format
 abbrev pub form_of : ℤ → Format → ℤ
-form_of q fmt = wrap_of (scaled_of q fmt.shift fmt.mode) fmt.width
+form_of q fmt = fit_of (scaled_of q fmt.shift fmt.mode) fmt.width fmt.mode
 
 -- the raw word m with `places` fraction bits, requantised to the shape
 abbrev pub conv_of : ℤ → ℤ → Shape → Mode → ℤ

@@ -17,9 +17,9 @@ fn power_of_ten(k: u8) -> i128
 /// Twice the digits, with `f` fraction bits.
 fn doubled(digits: u64, f: u8) -> i128
     requires digits { digits < 10 ^ 18 }
-    requires bits { f ≤ 32 }
+    requires bits { f ≤ 40 }
     ensures value { result ≡ pos (2 * digits * 2 ^ f) }
-    ensures most { unsigned_abs result ≤ 2 ^ 93 }
+    ensures most { unsigned_abs result ≤ 2 ^ 101 }
 {
     2 * digits as i128 * power_of_two(f)
 }
@@ -28,7 +28,7 @@ fn doubled(digits: u64, f: u8) -> i128
 fn nearest(neg: bool, digits: u64, places: u8, f: u8) -> i128
     requires digits { digits < 10 ^ 18 }
     requires places { places ≤ 17 }
-    requires bits { f ≤ 32 }
+    requires bits { f ≤ 40 }
     ensures { result ≡ nearest_of neg digits places f }
 {
     let unit = power_of_ten(places);

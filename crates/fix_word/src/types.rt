@@ -1,4 +1,10 @@
+ghost use Rattle.std.specs.Prelude.{◌≡◌};
+ghost use Rattle.fix_word.specs.Words.{overflow_of};
+
 use thiserror::Error;
+
+/// The most bits of a word.
+pub const MOST_BITS: u8 = 40;
 
 /// The size of a fixed-point number, Q(w-f).f in two's complement: `w` bits with the sign, of which `f` are fraction
 /// bits. A raw word, its raw integer, is m for the value m / 2^f.
@@ -8,17 +14,34 @@ pub struct Shape {
     pub f: u8,
 }
 
-/// How a number is rounded to a whole one.
+/// How a number is rounded to a whole one, and what becomes of one that a word of its width does not hold.
 #[derive(Clone, Copy, Debug, PartialEq, Eq)]
 pub enum Mode {
-    /// Toward minus infinity: the floor.
+    /// Toward minus infinity, the floor; the word wraps.
     Trunc,
-    /// To the nearest, ties up.
+    /// To the nearest, ties up; the word wraps.
     Round,
+    /// Toward minus infinity; the word saturates.
+    Sat,
+    /// To the nearest, ties up; the word saturates.
+    RoundSat,
+}
+
+impl Mode {
+    /// The overflow mode alone, for a result that has nothing to round, as a sum: the word wraps or saturates as in
+    /// this mode.
+    pub fn overflow(self) -> Mode
+        ensures { result ≡ overflow_of self }
+    {
+        match self {
+            Mode::Trunc | Mode::Round => Mode::Trunc,
+            Mode::Sat | Mode::RoundSat => Mode::Sat,
+        }
+    }
 }
 
 /// How an exact number is quantised to a word: divided by 2^shift, which multiplies where the shift is negative,
-/// rounded to a whole number by the mode, and wrapped to `width` bits.
+/// rounded to a whole number by the mode, and wrapped or saturated to `width` bits by the mode.
 #[derive(Clone, Copy, Debug, PartialEq, Eq)]
 pub struct Format {
     pub shift: i8,

@@ -13,7 +13,7 @@ returns c =
       | then-neg w ↦ (omega (arith, ints)) ∙ signed_true c.args.neg (2 * c.args.digits * 2 ^ c.args.f) w.if-neg.true
       | else-neg w ↦ (omega (arith, ints)) ∙ signed_false c.args.neg (2 * c.args.digits * 2 ^ c.args.f) w.if-neg.false
     ] in
-    let bound : unsigned_abs (to_z w128 c.if-neg.exact-bits) ≤ 2 ^ 93 =
+    let bound : unsigned_abs (to_z w128 c.if-neg.exact-bits) ≤ 2 ^ 101 =
     elim c.if-neg.branch [ then-neg w ↦ omega (arith, ints) | else-neg w ↦ omega (arith, ints) ] in
     nearest_as c.args.neg c.args.digits c.args.places c.args.f
     (to_z w128 (of_z w128 (to_z w128 c.if-neg.exact-bits +ℤ to_z w128 (of_z w128 c.power_of_ten-unit.result))))

@@ -14,4 +14,4 @@ returns-clause-value c =
 pub returns-clause-meaning : goal.returns-clause-meaning
 returns-clause-meaning c =
     subst (λ (r : ℤ). IsConv c.args.m c.args.f1 c.args.to c.args.mode r) (sym (returns-clause-value c))
-    (conv_is c.args.m c.args.f1 c.args.to c.args.mode c.requires.shape.narrowest)
+    (conv_is c.args.m c.args.f1 c.args.to c.args.mode c.requires.shape.width)
