@@ -26,9 +26,9 @@ pub const FI: u8 = 10;
 pub const TRUE: u8 = 11;
 /// `false`
 pub const FALSE: u8 = 12;
-/// `sat`, which stands in no rule of the grammar, as the two below.
+/// `sat`
 pub const SAT: u8 = 13;
-/// `down`
+/// `down`, which stands in no rule of the grammar, as the one below.
 pub const DOWN: u8 = 14;
 /// `up`
 pub const UP: u8 = 15;

@@ -1,11 +1,11 @@
 -- Small programs, read by the definitions.
 use Rattle.std.proofs.Common.{◌≡◌, refl, sym, arith, ℕ, inl, inr, Bool, true, false, codes, List, [], ◌∷◌, Some, None}
-use Rattle.std.proofs.Common.{ℤ, pos, negsuc, ◌*ℤ◌}
+use Rattle.std.proofs.Common.{◌≤◌, ℤ, pos, negsuc, ◌+ℤ◌, ◌*ℤ◌}
 use Rattle.std.proofs.lemmas.Int.{ints}
-use Rattle.fix_word.specs.Words.{IsWord, IsWrap, IsForm}
+use Rattle.fix_word.specs.Words.{IsWord, IsWrap, IsFit, IsForm, IsShape}
 use Rattle.fix_word.specs.declared.types.FixType.{FixType}
 use Rattle.fix_word.specs.declared.types.Mode.{Mode}
-use Rattle.fix_word.specs.declared.types.Mode.TheVariants.{Trunc, Round}
+use Rattle.fix_word.specs.declared.types.Mode.TheVariants.{Trunc, Round, Sat}
 use Rattle.fix_word.specs.declared.types.SigType.{SigType}
 use Rattle.fix_word.specs.declared.types.SigType.TheVariants as sig
 use Rattle.silage_syntax.specs.declared.tree.BinOp.TheVariants as op
@@ -60,6 +60,10 @@ fix_type w f mode = record { shape = record { w = w; f = f }; mode = mode }
 
 abbrev fix : ℕ → ℕ → Mode → SigType
 fix w f mode = sig.Fix (fix_type w f mode)
+
+shape_of_8 : (f : ℕ) → f ≤ 8 → IsShape (record { w = 8; f = f })
+shape_of_8 f within =
+    record { width = record { narrowest = omega arith; widest = omega arith }; places = within }
 
 abbrev typed : List ℕ → List ℕ → SigType → Decl
 typed name dims ty = record { name = name; at = 0; dims = dims; ty = ty }
@@ -176,8 +180,8 @@ second_value words y x = (
       (sym y),
   signal 0 0 0 (typed (codes "x") [] byte) (record { named = refl; placed = refl }) no_delay refl (sym x),
   record {
-    shape = record { narrowest = omega arith; widest = omega arith; places = omega arith };
-    wrapped =
+    shape = shape_of_8 0 (omega arith);
+    fitted =
         record { word = record { low = omega (arith, ints); high = omega (arith, ints) }; congruent = (pos 0, refl) };
   },
 )
@@ -272,7 +276,7 @@ cast_value mode a v form words is = (
     a,
     signal 0 0 0 (typed (codes "x") [] (fix 16 8 Trunc)) (record { named = refl; placed = refl }) no_delay refl
         (sym is),
-    record { shape = record { narrowest = omega arith; widest = omega arith; places = omega arith }; conv = form },
+    record { shape = shape_of_8 0 (omega arith); conv = form },
   ),
 )
 
@@ -286,7 +290,7 @@ cast_down =
     (record {
       whole = pos 1;
       scaled = record { below = omega (arith, ints); above = omega (arith, ints) };
-      wrapped = wrapped (pos 1) (record { low = omega (arith, ints); high = omega (arith, ints) });
+      fitted = wrapped (pos 1) (record { low = omega (arith, ints); high = omega (arith, ints) });
     })
 
 cast_near : Casts Round (pos 384) (pos 2)
@@ -295,7 +299,7 @@ cast_near =
     (record {
       whole = pos 2;
       scaled = record { below = omega (arith, ints); above = omega (arith, ints) };
-      wrapped = wrapped (pos 2) (record { low = omega (arith, ints); high = omega (arith, ints) });
+      fitted = wrapped (pos 2) (record { low = omega (arith, ints); high = omega (arith, ints) });
     })
 
 cast_down_below : Casts Trunc (negsuc 383) (negsuc 1)
@@ -304,7 +308,7 @@ cast_down_below =
     (record {
       whole = negsuc 1;
       scaled = record { below = omega (arith, ints); above = omega (arith, ints) };
-      wrapped = wrapped (negsuc 1) (record { low = omega (arith, ints); high = omega (arith, ints) });
+      fitted = wrapped (negsuc 1) (record { low = omega (arith, ints); high = omega (arith, ints) });
     })
 
 cast_near_below : Casts Round (negsuc 383) (negsuc 0)
@@ -313,7 +317,7 @@ cast_near_below =
     (record {
       whole = negsuc 0;
       scaled = record { below = omega (arith, ints); above = omega (arith, ints) };
-      wrapped = wrapped (negsuc 0) (record { low = omega (arith, ints); high = omega (arith, ints) });
+      fitted = wrapped (negsuc 0) (record { low = omega (arith, ints); high = omega (arith, ints) });
     })
 
 -- `y = a * b; z = a * b;` of words of `fix<8,4>`
@@ -340,7 +344,7 @@ product_value mode a b v form words a_is b_is = (
   b,
   signal 0 0 0 (typed (codes "a") [] (fix 8 4 Trunc)) (record { named = refl; placed = refl }) no_delay refl (sym a_is),
   signal 1 0 0 (typed (codes "b") [] (fix 8 4 Trunc)) (record { named = refl; placed = refl }) no_delay refl (sym b_is),
-  record { shape = record { narrowest = omega arith; widest = omega arith; places = omega arith }; conv = form },
+  record { shape = shape_of_8 4 (omega arith); conv = form },
 )
 
 product_down : Products Trunc (negsuc 0) (pos 8) (negsuc 0)
@@ -349,7 +353,7 @@ product_down =
     (record {
       whole = negsuc 0;
       scaled = record { below = omega (arith, ints); above = omega (arith, ints) };
-      wrapped = wrapped (negsuc 0) (record { low = omega (arith, ints); high = omega (arith, ints) });
+      fitted = wrapped (negsuc 0) (record { low = omega (arith, ints); high = omega (arith, ints) });
     })
 
 product_near : Products Round (negsuc 0) (pos 8) (pos 0)
@@ -358,7 +362,7 @@ product_near =
     (record {
       whole = pos 0;
       scaled = record { below = omega (arith, ints); above = omega (arith, ints) };
-      wrapped = wrapped (pos 0) (record { low = omega (arith, ints); high = omega (arith, ints) });
+      fitted = wrapped (pos 0) (record { low = omega (arith, ints); high = omega (arith, ints) });
     })
 
 -- the exact product 16129 loses four bits on the right, and wraps
@@ -368,9 +372,62 @@ product_wraps =
     (record {
       whole = pos 1008;
       scaled = record { below = omega (arith, ints); above = omega (arith, ints) };
-      wrapped =
+      fitted =
           record { word = record { low = omega (arith, ints); high = omega (arith, ints) }; congruent = (pos 4, refl) };
     })
+
+-- `y = x + 100; z = x + 100;` where y saturates and z wraps
+abbrev raised : Expr
+raised = binary 0 op.Add (now (codes "x")) (number false 100)
+
+abbrev sums : Func
+sums =
+    one (typed (codes "x") [] byte ∷ []) (typed (codes "y") [] (fix 8 0 Sat) ∷ typed (codes "z") [] byte ∷ []) []
+    (item (equation (named (codes "y")) raised) (item (equation (named (codes "z")) raised) no_item))
+
+abbrev Sums : Mode → ℤ → ℤ → Type 0
+Sums mode a v =
+    (words : Words)
+    → words (element main 0 0) (pos 0) ≡ a
+    → IsValue (alone sums) (site main sums) words 0 raised (fix 8 0 mode) v
+
+sum_value : (mode : Mode) (a v : ℤ) → IsFit (a +ℤ pos 100) 8 mode v → Sums mode a v
+sum_value mode a v fitted words is = (
+  a,
+  pos 100,
+  signal 0 0 0 (typed (codes "x") [] byte) (record { named = refl; placed = refl }) no_delay refl (sym is),
+  record {
+    nearest = record { below = omega (arith, ints); above = omega (arith, ints) };
+    word = record { low = omega (arith, ints); high = omega (arith, ints) };
+  },
+  record { shape = shape_of_8 0 (omega arith); fitted = fitted },
+)
+
+-- 100 + 100 is 127 in y and -56 in z
+sum_saturates : Sums Sat (pos 100) (pos 127)
+sum_saturates =
+    sum_value Sat (pos 100) (pos 127)
+    (record {
+      below = λ h. omega (arith, ints, h);
+      above = λ h. refl;
+      inside = λ word. omega (arith, ints, word.high);
+    })
+
+sum_wraps : Sums Trunc (pos 100) (negsuc 55)
+sum_wraps =
+    sum_value Trunc (pos 100) (negsuc 55)
+    (record { word = record { low = omega (arith, ints); high = omega (arith, ints) }; congruent = (pos 1, refl) })
+
+-- -128 + 100 is -28 in both
+low_sum_saturates : Sums Sat (negsuc 127) (negsuc 27)
+low_sum_saturates =
+    sum_value Sat (negsuc 127) (negsuc 27)
+    (record { below = λ h. omega (arith, ints, h); above = λ h. omega (arith, ints, h); inside = λ word. refl })
+
+low_sum_wraps : Sums Trunc (negsuc 127) (negsuc 27)
+low_sum_wraps =
+    sum_value Trunc (negsuc 127) (negsuc 27)
+    (wrapped (negsuc 27) (record { low = omega (arith, ints); high = omega (arith, ints) }))
 
 -- `q = x; p = q; y = p@1; q@@1 = 7; p@@1 = 2;`: p has a past of its own
 abbrev chained : Func

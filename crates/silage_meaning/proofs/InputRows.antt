@@ -1,7 +1,6 @@
 -- A row has a word for each element.
-use Rattle.std.proofs.Common.{◌≡◌, refl, sym, ◌∙◌, ap, ap₂, ℕ, suc, ◌+◌, List, [], ◌∷◌, length, length-append, Option}
+use Rattle.std.proofs.Common.{◌≡◌, refl, sym, ◌∙◌, ap₂, ℕ, ◌+◌, List, [], ◌∷◌, length, length-append, Option}
 use Rattle.std.proofs.Common.{Some, None, ℤ}
-use Rattle.std.specs.List.{AllZip}
 use Rattle.std.proofs.lemmas.List.{length-replicate}
 use Rattle.std.proofs.lemmas.List.FromFn.{length-map-range_with_len}
 use Rattle.lists.proofs.Zips.{zip_length}

@@ -1,5 +1,5 @@
 -- An instance is of one function, and made by one call.
-use Rattle.std.proofs.Common.{◌≡◌, refl, sym, subst, ◌∙◌, ap, ℕ, List, [], Some}
+use Rattle.std.proofs.Common.{◌≡◌, refl, sym, subst, ◌∙◌, ap, ℕ, List, []}
 use Rattle.lists.proofs.Places.{some_once}
 use Rattle.silage_syntax.specs.Tree.{Place, Expr, call, Func, Program}
 use Rattle.silage_syntax.specs.Manifests.{Indices}

@@ -1,5 +1,5 @@
 -- Words that are the same have the same output rows.
-use Rattle.std.proofs.Common.{◌≡◌, refl, sym, subst, ◌∙◌, ap, ap₂, arith, ℕ, zero, suc, ◌+◌, ◌≤◌, ◌<◌, List, [], ◌∷◌}
+use Rattle.std.proofs.Common.{◌≡◌, refl, sym, subst, ◌∙◌, ap, ap₂, arith, ℕ, zero, suc, ◌+◌, List, [], ◌∷◌}
 use Rattle.std.proofs.Common.{◌++◌, map, length, slice_get, Option, Some, None, ℤ, pos}
 use Rattle.std.specs.List.{range_with_len}
 use Rattle.std.proofs.lemmas.Int.{ints}

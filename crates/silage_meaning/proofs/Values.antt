@@ -4,8 +4,7 @@ use Rattle.std.proofs.Common.{Option, Some, None, ℤ, pos, ◌+ℤ◌, ◌-ℤ�
 use Rattle.lists.proofs.Places.{some_once}
 use Rattle.fix_word.specs.Operations.{IsTruth, IsSet, IsChoice}
 use Rattle.fix_word.proofs.Floors.{floor_unique}
-use Rattle.fix_word.proofs.Wraps.{wrap_unique}
-use Rattle.fix_word.proofs.Forms.{form_unique}
+use Rattle.fix_word.proofs.Forms.{fit_unique, form_unique}
 use Rattle.fix_word.specs.declared.types.FixType.{FixType}
 use Rattle.fix_word.specs.declared.types.SigType.{SigType}
 use Rattle.fix_word.specs.declared.types.SigType.TheVariants as sig
@@ -20,7 +19,7 @@ use Rattle.silage_syntax.specs.Manifests.{Indices, HasValue, LooksBack, no_delay
 use Rattle.silage_syntax.specs.Names.{IsOffset}
 use Rattle.silage_meaning.specs.Instances.{Instance, element, Site}
 use Rattle.silage_meaning.specs.Types.{IsRawWord, own_type}
-use Rattle.silage_meaning.specs.Value.{Words, Part, IsWrapped, IsShifted, IsConverted, IsEntry, IsProduct, IsComparison}
+use Rattle.silage_meaning.specs.Value.{Words, Part, IsFitted, IsShifted, IsConverted, IsEntry, IsProduct, IsComparison}
 use Rattle.silage_meaning.specs.Value.{IsCast, IsRead, signal, number, IsValue, IsChosen}
 
 -- a part has one value at most against each type
@@ -79,9 +78,9 @@ choice_once a b c v w (inl x) (inr y) = absurd (x.0 y.0)
 choice_once a b c v w (inr x) (inl y) = absurd (y.0 x.0)
 choice_once a b c v w (inr x) (inr y) = x.1 ∙ sym y.1
 
-pub wrapped_once : (t : FixType) (q r v w : ℤ) → q ≡ r → IsWrapped t q v → IsWrapped t r w → v ≡ w
-wrapped_once t q r v w e x y =
-    wrap_unique r t.shape.w v w y.shape.narrowest (subst (λ z. IsWrapped t z v) e x).wrapped y.wrapped
+pub fitted_once : (t : FixType) (q r v w : ℤ) → q ≡ r → IsFitted t q v → IsFitted t r w → v ≡ w
+fitted_once t q r v w e x y =
+    fit_unique r t.shape.w t.mode v w y.shape.width.narrowest (subst (λ z. IsFitted t z v) e x).fitted y.fitted
 
 pub shifted_once : (t : FixType) (q r : ℤ) (k l : ℕ) (v w : ℤ)
     → q ≡ r
@@ -90,7 +89,7 @@ pub shifted_once : (t : FixType) (q r : ℤ) (k l : ℕ) (v w : ℤ)
     → IsShifted t r l w
     → v ≡ w
 shifted_once t q r k l v w e f x y =
-    form_unique r _ v w y.shape.narrowest (subst (λ z. IsShifted t z l v) e (subst (λ z. IsShifted t q z v) f x)).form
+    form_unique r _ v w y.shape.width (subst (λ z. IsShifted t z l v) e (subst (λ z. IsShifted t q z v) f x)).form
     y.form
 
 pub converted_once : (t : FixType) (q r : ℤ) (places : ℕ) (v w : ℤ)
@@ -99,7 +98,7 @@ pub converted_once : (t : FixType) (q r : ℤ) (places : ℕ) (v w : ℤ)
     → IsConverted t r places w
     → v ≡ w
 converted_once t q r places v w e x y =
-    form_unique r _ v w y.shape.narrowest (subst (λ z. IsConverted t z places v) e x).conv y.conv
+    form_unique r _ v w y.shape.width (subst (λ z. IsConverted t z places v) e x).conv y.conv
 
 pub entry_once : (c : ConstDef) (k : ℕ) (ty : SigType) (v w : ℤ) → IsEntry c k ty v → IsEntry c k ty w → v ≡ w
 entry_once c k ty v w x y =
@@ -174,13 +173,13 @@ module _ (p : Program) (s : Site) (words : Words) (n : ℕ) where
     value_once (literal l) ty v w h k = raw_word_once l ty v w h k
     value_once (read place d) ty v w h k = read_once place d ty v w h k
     value_once (negate at x) (sig.Fix t) v w (a, xa, h) (a', xa', h') =
-        wrapped_once t (neg_ℤ a) (neg_ℤ a') v w (ap neg_ℤ (value_once x _ a a' xa xa')) h h'
+        fitted_once t (neg_ℤ a) (neg_ℤ a') v w (ap neg_ℤ (value_once x _ a a' xa xa')) h h'
     value_once (not at x) sig.Bool v w (a, xa, h) (a', xa', h') =
         truth_once (a' ≡ pos 0) v w (subst (λ z. IsTruth (z ≡ pos 0) v) (value_once x _ a a' xa xa') h) h'
     value_once (binary at op.Add x y) (sig.Fix t) v w (a, b, xa, yb, h) (a', b', xa', yb', h') =
-        wrapped_once t (a +ℤ b) (a' +ℤ b') v w (ap₂ ◌+ℤ◌ (value_once x _ a a' xa xa') (value_once y _ b b' yb yb')) h h'
+        fitted_once t (a +ℤ b) (a' +ℤ b') v w (ap₂ ◌+ℤ◌ (value_once x _ a a' xa xa') (value_once y _ b b' yb yb')) h h'
     value_once (binary at op.Sub x y) (sig.Fix t) v w (a, b, xa, yb, h) (a', b', xa', yb', h') =
-        wrapped_once t (a -ℤ b) (a' -ℤ b') v w (ap₂ ◌-ℤ◌ (value_once x _ a a' xa xa') (value_once y _ b b' yb yb')) h h'
+        fitted_once t (a -ℤ b) (a' -ℤ b') v w (ap₂ ◌-ℤ◌ (value_once x _ a a' xa xa') (value_once y _ b b' yb yb')) h h'
     value_once (binary at op.Mul x y) (sig.Fix t) v w h k = product_once _ _ _ _ t v w (value_once x) (value_once y) h k
     value_once (binary at op.Lt x y) sig.Bool v w h k = comparison_once _ _ _ _ v w (value_once x) (value_once y) h k
     value_once (binary at op.Le x y) sig.Bool v w h k = comparison_once _ _ _ _ v w (value_once x) (value_once y) h k
@@ -193,7 +192,7 @@ module _ (p : Program) (s : Site) (words : Words) (n : ℕ) where
     value_once (binary at op.Or x y) sig.Bool v w h k =
         both_once (λ a b. IsSet a ⊎ IsSet b) _ _ v w (value_once x) (value_once y) h k
     value_once (shift at true x amount) (sig.Fix t) v w (a, i, xa, is, h) (a', j, xa', js, h') =
-        wrapped_once t (a *ℤ pos (2 ^ i)) (a' *ℤ pos (2 ^ j)) v w
+        fitted_once t (a *ℤ pos (2 ^ i)) (a' *ℤ pos (2 ^ j)) v w
         (ap₂ (λ (z : ℤ) (l : ℕ). z *ℤ pos (2 ^ l)) (value_once x _ a a' xa xa')
         (manifest_once s.indices amount i j is.value js.value)) h h'
     value_once (shift at false x amount) (sig.Fix t) v w (a, i, xa, is, h) (a', j, xa', js, h') =

@@ -3,7 +3,7 @@
 use Rattle.std.specs.Prelude.{◌≡◌, ◌≢◌, ◌⊎◌, ℕ, ◌+◌, ◌^◌, true, false, slice_get, Option, Some, None, ℤ, pos, ◌+ℤ◌}
 use Rattle.std.specs.Prelude.{◌-ℤ◌, ◌*ℤ◌, neg_ℤ, ◌≤ℤ◌, ◌<ℤ◌}
 use Rattle.fix_word.specs.Operations.{IsTruth, IsSet, IsChoice}
-use Rattle.fix_word.specs.Words.{IsShape, IsWrap, IsForm, IsConv}
+use Rattle.fix_word.specs.Words.{IsShape, IsFit, IsForm, IsConv}
 use Rattle.fix_word.specs.declared.types.FixType.{FixType}
 use Rattle.fix_word.specs.declared.types.SigType.{SigType}
 use Rattle.fix_word.specs.declared.types.SigType.TheVariants.{Fix, Bool}
@@ -26,10 +26,10 @@ Words = Element → ℤ → ℤ
 abbrev pub Part : Type 1
 Part = SigType → ℤ → Type 0
 
--- v is the exact number q, wrapped to the type's width
-pub record IsWrapped (t : FixType) (q v : ℤ) : Type 0 where
+-- v is the exact number q, brought to the type's width by its mode
+pub record IsFitted (t : FixType) (q v : ℤ) : Type 0 where
   pub shape : IsShape t.shape
-  pub wrapped : IsWrap q t.shape.w v
+  pub fitted : IsFit q t.shape.w t.mode v
 
 -- v is the word q shifted right by k bits in the type
 pub record IsShifted (t : FixType) (q : ℤ) (k : ℕ) (v : ℤ) : Type 0 where
@@ -102,12 +102,12 @@ module _ (p : Program) (s : Site) (words : Words) (n : ℕ) where
     pub IsValue : Expr → SigType → ℤ → Type 0
     IsValue (literal l) ty v = IsRawWord l ty v
     IsValue (read place delay) ty v = IsRead place delay ty v
-    IsValue (negate at x) (Fix t) v = (a : ℤ) × IsValue x (Fix t) a × IsWrapped t (neg_ℤ a) v
+    IsValue (negate at x) (Fix t) v = (a : ℤ) × IsValue x (Fix t) a × IsFitted t (neg_ℤ a) v
     IsValue (not at x) Bool v = (a : ℤ) × IsValue x Bool a × IsTruth (a ≡ pos 0) v
     IsValue (binary at op.Add x y) (Fix t) v =
-        HaveValues (IsValue x) (Fix t) (IsValue y) (Fix t) (λ a b. IsWrapped t (a +ℤ b) v)
+        HaveValues (IsValue x) (Fix t) (IsValue y) (Fix t) (λ a b. IsFitted t (a +ℤ b) v)
     IsValue (binary at op.Sub x y) (Fix t) v =
-        HaveValues (IsValue x) (Fix t) (IsValue y) (Fix t) (λ a b. IsWrapped t (a -ℤ b) v)
+        HaveValues (IsValue x) (Fix t) (IsValue y) (Fix t) (λ a b. IsFitted t (a -ℤ b) v)
     IsValue (binary at op.Mul x y) (Fix t) v = IsProduct (factor x y) (factor y x) (IsValue x) (IsValue y) t v
     IsValue (binary at op.Lt x y) Bool v = IsComparison (common x y) (λ a b. a <ℤ b) (IsValue x) (IsValue y) v
     IsValue (binary at op.Le x y) Bool v = IsComparison (common x y) (λ a b. a ≤ℤ b) (IsValue x) (IsValue y) v
@@ -120,7 +120,7 @@ module _ (p : Program) (s : Site) (words : Words) (n : ℕ) where
     IsValue (binary at op.Or x y) Bool v =
         HaveValues (IsValue x) Bool (IsValue y) Bool (λ a b. IsTruth (IsSet a ⊎ IsSet b) v)
     IsValue (shift at true x amount) (Fix t) v =
-        (a : ℤ) × (k : ℕ) × IsValue x (Fix t) a × IsAmount s.indices amount k × IsWrapped t (a *ℤ pos (2 ^ k)) v
+        (a : ℤ) × (k : ℕ) × IsValue x (Fix t) a × IsAmount s.indices amount k × IsFitted t (a *ℤ pos (2 ^ k)) v
     IsValue (shift at false x amount) (Fix t) v =
         (a : ℤ) × (k : ℕ) × IsValue x (Fix t) a × IsAmount s.indices amount k × IsShifted t a k v
     IsValue (cast at c x) (Fix t) v = (c.shape ≡ t.shape) × IsCast (own x) (IsValue x) c v

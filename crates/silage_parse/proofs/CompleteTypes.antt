@@ -3,6 +3,7 @@
 use Rattle.std.proofs.Common.{◌≡◌, Option, ℕ, ◌+◌, List, [], ◌∷◌, ◌++◌, map, refl, sym, ap, arith, append_assoc}
 use Rattle.std.proofs.Common.{append-nil}
 use Rattle.fix_word.specs.declared.types.FixType.{FixType}
+use Rattle.fix_word.specs.declared.types.Mode.{Mode}
 use Rattle.fix_word.specs.declared.types.SigType.{SigType}
 use Rattle.silage_lex.specs.declared.Token.{Token}
 use Rattle.silage_lex.specs.declared.TokenKind.{TokenKind}
@@ -10,10 +11,10 @@ use Rattle.silage_lex.specs.declared.punctuation.TheConstants as punctuation
 use Rattle.silage_syntax.specs.declared.tree.Lit.{Lit}
 use Rattle.silage_syntax.specs.declared.tree.Decl.{Decl}
 use Rattle.silage_syntax.specs.Grammar.{from_at, IsPunctuation, IsSigned, positive, negative, IsList, last, more}
-use Rattle.silage_syntax.specs.Grammar.{IsDims, scalar, vector, matrix, IsFix, no_mode, with_mode, IsType, fix, bool}
-use Rattle.silage_syntax.specs.Grammar.{Declared, typed, IsDeclared, declared, IsDecl, decl, IsLocals, no_locals}
-use Rattle.silage_syntax.specs.Grammar.{some_locals, IsResults, one_result, results, IsWords, one_word, words}
-use Rattle.silage_syntax.specs.Grammar.{IsInitialValue, signed, truth_value}
+use Rattle.silage_syntax.specs.Grammar.{IsDims, scalar, vector, matrix, IsMode, trunc, round, round_sat, sat, IsFix}
+use Rattle.silage_syntax.specs.Grammar.{no_mode, with_mode, IsType, fix, bool, Declared, typed, IsDeclared, declared}
+use Rattle.silage_syntax.specs.Grammar.{IsDecl, decl, IsLocals, no_locals, some_locals, IsResults, one_result, results}
+use Rattle.silage_syntax.specs.Grammar.{IsWords, one_word, words, IsInitialValue, signed, truth_value}
 use Rattle.silage_parse.specs.Private.ParseTable as the
 use Rattle.silage_parse.specs.Private.ParseTable.{Effect, Nonterminal, Value, Symbol, Match, Act, Expand, Action}
 use Rattle.silage_parse.specs.Private.ParseTable.{productions, punctuation_of}
@@ -22,9 +23,31 @@ use Rattle.silage_parse.specs.Private.CommaLists as lists
 use Rattle.silage_parse.specs.Private.CommaLists.{CommaList}
 use Rattle.silage_parse.proofs.SoundLists.{comma_row}
 use Rattle.silage_parse.proofs.TokenFacts.{mark_there, word_there, name_there, whole_there, kind_moved, known_by}
-use Rattle.silage_parse.proofs.Tables.{mode_table, number_table, truth_table}
+use Rattle.silage_parse.proofs.Tables.{number_table, truth_table}
 use Rattle.silage_parse.proofs.Derivations.{Goes, g_end, g_match, g_expand, g_act, Does, does}
 use Rattle.silage_parse.proofs.CompleteManifests.{makes_to, finish, goes_to, goes_from, does_to, nonterminal}
+
+mode_does : {us : List Token} (e : Effect) {i j : ℕ} {m : Mode}
+    → IsMode us i m j
+    → (vs : List Value)
+    → Does us (the.Mode_ e) i vs j (the.mode m ∷ vs)
+mode_does {us} e (trunc {i = i} a) vs =
+    let k = word_there us i _ a in
+    does here (g_match k.there k.fits (g_act g_end))
+mode_does {us} e (sat {i = i} a) vs =
+    let k = word_there us i _ a in
+    does (there here) (g_match k.there k.fits (g_act g_end))
+mode_does {us} e (round {i = i} a) vs =
+    let k = word_there us i _ a in
+    does (there (there here)) (g_match k.there k.fits (nonterminal (does (there here) (g_act g_end))))
+mode_does {us} e (round_sat {i = i} a b c) vs =
+    let k = word_there us i _ a in
+    let k1 = mark_there us (i + 1) _ b in
+    let k2 = word_there us (i + 1 + 1) _ (kind_moved us c (omega arith)) in
+    does (there (there here))
+    (goes_to (g_match k.there k.fits
+    (nonterminal (does here (g_match k1.there k1.fits (g_match k2.there k2.fits (g_act g_end))))))
+    (omega arith))
 
 pub fix_does : {us : List Token} (e : Effect) {i j : ℕ} {f : FixType}
     → IsFix us i f j
@@ -46,28 +69,23 @@ fix_does {us} e (no_mode {i = i} {w = w} {f = f} a b c d g h) vs =
     (nonterminal
     (does (there here) (g_match k5.there k5.fits (finish (rw (k2.tells, k4.tells, ← k0.from) refl))))))))))
     (omega arith))
-fix_does {us} e (with_mode {i = i} {w = w} {f = f} {m = m} a b c d g h o p) vs =
+fix_does {us} e (with_mode {i = i} {j = j} {w = w} {f = f} a b c d g h o p) vs =
     let k0 = word_there us i _ a in
     let k1 = mark_there us (i + 1) _ b in
     let k2 = whole_there us (i + 1 + 1) w (kind_moved us c (omega arith)) in
     let k3 = mark_there us (i + 1 + 1 + 1) _ (kind_moved us d (omega arith)) in
     let k4 = whole_there us (i + 1 + 1 + 1 + 1) f (kind_moved us g (omega arith)) in
     let k5 = mark_there us (i + 1 + 1 + 1 + 1 + 1) _ (kind_moved us h (omega arith)) in
-    let q : i + 6 ≡ i + 1 + 1 + 1 + 1 + 1 + 1 = omega arith in
-    let k6 = known_by mode_table us (i + 1 + 1 + 1 + 1 + 1 + 1) (rw q at o) in
-    let k7 = mark_there us (i + 1 + 1 + 1 + 1 + 1 + 1 + 1) _ (kind_moved us p (omega arith)) in
+    let k6 = mark_there us j _ p in
+    let mode_on =
+    goes_from (g_expand (mode_does e o _)
+    (g_match k6.there k6.fits (finish (rw (k2.tells, k4.tells, ← k0.from) refl)))) (omega arith) in
     does here
-    (goes_to (g_match k0.there k0.fits
+    (g_match k0.there k0.fits
     (g_match k1.there k1.fits
     (g_match k2.there k2.fits
     (g_match k3.there k3.fits
-    (g_match k4.there k4.fits
-    (nonterminal
-    (does here
-    (g_match k5.there k5.fits
-    (g_match k6.there k6.fits
-    (g_match k7.there k7.fits (finish (rw (k2.tells, k4.tells, k6.tells, ← k0.from) refl))))))))))))
-    (omega arith))
+    (g_match k4.there k4.fits (nonterminal (does here (g_match k5.there k5.fits mode_on))))))))
 
 pub signed_does : {us : List Token} {i j : ℕ} {l : Lit}
     → IsSigned us i l j

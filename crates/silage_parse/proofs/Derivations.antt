@@ -54,7 +54,9 @@ home the.MoreTargets = None
 home the.TargetSubs = None
 home the.SecondTargetSub = None
 home (the.FixIn e) = Some e
-home (the.Mode e) = Some e
+home (the.FixEnd e) = Some e
+home (the.Mode_ e) = Some e
+home (the.AfterRound e) = Some e
 home the.Signed = Some Outside
 home the.Words = Some Outside
 home the.MoreWords = Some Outside
@@ -117,8 +119,12 @@ inside_kept : (p : Nonterminal) → kept Inside p ≡ true
 unfolding kept
 inside_kept (the.FixIn Inside) = refl
 inside_kept (the.FixIn _) = refl
-inside_kept (the.Mode Inside) = refl
-inside_kept (the.Mode _) = refl
+inside_kept (the.FixEnd Inside) = refl
+inside_kept (the.FixEnd _) = refl
+inside_kept (the.Mode_ Inside) = refl
+inside_kept (the.Mode_ _) = refl
+inside_kept (the.AfterRound Inside) = refl
+inside_kept (the.AfterRound _) = refl
 inside_kept (the.Chain Or) = refl
 inside_kept (the.Chain And) = refl
 inside_kept (the.Chain Sum) = refl
@@ -133,8 +139,12 @@ outside_kept : (p : Nonterminal) → kept Outside p ≡ true
 unfolding kept
 outside_kept (the.FixIn Outside) = refl
 outside_kept (the.FixIn _) = refl
-outside_kept (the.Mode Outside) = refl
-outside_kept (the.Mode _) = refl
+outside_kept (the.FixEnd Outside) = refl
+outside_kept (the.FixEnd _) = refl
+outside_kept (the.Mode_ Outside) = refl
+outside_kept (the.Mode_ _) = refl
+outside_kept (the.AfterRound Outside) = refl
+outside_kept (the.AfterRound _) = refl
 outside_kept _ = refl
 
 all_kept : (e : Effect) (p : Nonterminal)

@@ -7,7 +7,8 @@ use Rattle.silage_syntax.specs.Grammar.{Level, Or, And, Sum, Product}
 use Rattle.silage_parse.specs.Private.ParseTable as the
 use Rattle.silage_parse.specs.Private.ParseTable.{Terminal, Punctuation, Keyword, AName, AWhole, APoint, End, Effect}
 use Rattle.silage_parse.specs.Private.ParseTable.{Nonterminal, Source, Tops, Signed, Words, MoreWords, Dims, SecondDim}
-use Rattle.silage_parse.specs.Private.ParseTable.{FixIn, Mode, Type_, Name_, MoreNames, Decl_, MoreDecls, Results}
+use Rattle.silage_parse.specs.Private.ParseTable.{FixIn, FixEnd, Mode_, AfterRound, Type_, Name_, MoreNames, Decl_}
+use Rattle.silage_parse.specs.Private.ParseTable.{MoreDecls, Results}
 use Rattle.silage_parse.specs.Private.ParseTable.{Locals, Manifest_, Terms, Term, Factors, Factor, ManifestPrimary}
 use Rattle.silage_parse.specs.Private.ParseTable.{Subs, SecondSub, Delay, Chain, Rest, Comparison, CompareRest, Shift}
 use Rattle.silage_parse.specs.Private.ParseTable.{Shifts, Unary, OtherUnary, AfterMinus, Primary, OtherPrimary, Arms}
@@ -74,7 +75,9 @@ first_set MoreWords = Punctuation punctuation.COMMA ∷ []
 first_set Dims = Punctuation punctuation.LEFT_BRACKET ∷ []
 first_set SecondDim = Punctuation punctuation.LEFT_BRACKET ∷ []
 first_set (FixIn e) = Keyword keyword.FIX ∷ []
-first_set (Mode e) = Punctuation punctuation.COMMA ∷ Punctuation punctuation.GREATER ∷ []
+first_set (FixEnd e) = Punctuation punctuation.COMMA ∷ Punctuation punctuation.GREATER ∷ []
+first_set (Mode_ e) = Keyword keyword.TRUNC ∷ Keyword keyword.ROUND ∷ Keyword keyword.SAT ∷ []
+first_set (AfterRound e) = Punctuation punctuation.COMMA ∷ []
 first_set Type_ = Keyword keyword.BOOL ∷ Keyword keyword.FIX ∷ []
 first_set Name_ = AName ∷ []
 first_set MoreNames = Punctuation punctuation.COMMA ∷ []
@@ -127,6 +130,7 @@ nullable Tops = true
 nullable MoreWords = true
 nullable Dims = true
 nullable SecondDim = true
+nullable (AfterRound e) = true
 nullable MoreNames = true
 nullable MoreDecls = true
 nullable Locals = true
@@ -158,9 +162,11 @@ follow_set SecondDim = Punctuation punctuation.COLON ∷ Punctuation punctuation
 follow_set (FixIn e) =
     Punctuation punctuation.RIGHT_PAREN ∷ Punctuation punctuation.COMMA ∷ Punctuation punctuation.EQUAL
     ∷ Punctuation punctuation.LEFT_PAREN ∷ Punctuation punctuation.SEMICOLON ∷ []
-follow_set (Mode e) =
+follow_set (FixEnd e) =
     Punctuation punctuation.RIGHT_PAREN ∷ Punctuation punctuation.COMMA ∷ Punctuation punctuation.EQUAL
     ∷ Punctuation punctuation.LEFT_PAREN ∷ Punctuation punctuation.SEMICOLON ∷ []
+follow_set (Mode_ e) = Punctuation punctuation.GREATER ∷ []
+follow_set (AfterRound e) = Punctuation punctuation.GREATER ∷ []
 follow_set Type_ =
     Punctuation punctuation.RIGHT_PAREN ∷ Punctuation punctuation.COMMA ∷ Punctuation punctuation.EQUAL
     ∷ Punctuation punctuation.SEMICOLON ∷ []
@@ -279,7 +285,9 @@ steps Words = 5
 steps Dims = 2
 steps SecondDim = 2
 steps (FixIn e) = 9
-steps (Mode e) = 3
+steps (FixEnd e) = 3
+steps (Mode_ e) = 4
+steps (AfterRound e) = 2
 steps Type_ = 11
 steps Name_ = 5
 steps Decl_ = 19

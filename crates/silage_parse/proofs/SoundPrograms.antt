@@ -23,8 +23,9 @@ use Rattle.silage_parse.proofs.SoundSteps.{Means, Sound, All, a_end, a_take, a_g
 use Rattle.silage_parse.proofs.SoundManifests.{manifest_means, terms_mean, term_means, factors_mean, factor_means}
 use Rattle.silage_parse.proofs.SoundManifests.{amount_means, subs_mean, second_sub_means, delay_means}
 use Rattle.silage_parse.proofs.SoundTypes.{signed_means, words_mean, more_words_mean, dims_mean, second_dim_means}
-use Rattle.silage_parse.proofs.SoundTypes.{fix_means, mode_means, type_means, declared_means, more_names_mean}
-use Rattle.silage_parse.proofs.SoundTypes.{decl_means, more_decls_mean, results_mean, locals_mean, initial_means}
+use Rattle.silage_parse.proofs.SoundTypes.{fix_means, fix_end_means, mode_means, after_round_means, type_means}
+use Rattle.silage_parse.proofs.SoundTypes.{declared_means, more_names_mean, decl_means, more_decls_mean, results_mean}
+use Rattle.silage_parse.proofs.SoundTypes.{locals_mean, initial_means}
 use Rattle.silage_parse.proofs.SoundExpressions.{chain_means, rest_means, comparison_means, compare_rest_means}
 use Rattle.silage_parse.proofs.SoundExpressions.{shift_means, shifts_mean, unary_means, other_unary_means}
 use Rattle.silage_parse.proofs.SoundExpressions.{after_minus_means, primary_means, other_primary_means, arms_mean}
@@ -228,7 +229,9 @@ phrase_means the.MoreWords = more_words_mean
 phrase_means the.Dims = dims_mean
 phrase_means the.SecondDim = second_dim_means
 phrase_means (the.FixIn e) = fix_means e
-phrase_means (the.Mode e) = mode_means e
+phrase_means (the.FixEnd e) = fix_end_means e
+phrase_means (the.Mode_ e) = mode_means e
+phrase_means (the.AfterRound e) = after_round_means e
 phrase_means the.Type_ = type_means
 phrase_means the.Name_ = declared_means
 phrase_means the.MoreNames = more_names_mean

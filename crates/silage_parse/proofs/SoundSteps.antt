@@ -2,6 +2,7 @@
 -- these.
 use Rattle.std.proofs.Common.{◌≡◌, ℕ, ◌+◌, ◌≤◌, true, List, [], ◌∷◌, ◌++◌, Some, slice_get, subst}
 use Rattle.fix_word.specs.declared.types.FixType.{FixType}
+use Rattle.fix_word.specs.declared.types.Mode.{Mode}
 use Rattle.silage_lex.specs.declared.Token.{Token}
 use Rattle.silage_lex.specs.declared.punctuation.TheConstants as punctuation
 use Rattle.silage_lex.specs.declared.keywords.TheConstants as keyword
@@ -10,10 +11,10 @@ use Rattle.silage_syntax.specs.declared.tree.Decl.{Decl}
 use Rattle.silage_syntax.specs.Tree.{Manifest, Place, Expr, choose, Item, items_of}
 use Rattle.silage_syntax.specs.Grammar as g
 use Rattle.silage_syntax.specs.Grammar.{from_at, IsPunctuation, IsKeyword, IsName, IsWhole, IsSigned, IsList, IsDims}
-use Rattle.silage_syntax.specs.Grammar.{IsFix, IsType, Declared, IsDeclared, IsDecl, IsManifest, IsSubscripts, IsDelay}
-use Rattle.silage_syntax.specs.Grammar.{IsExpr, Level, Or, Sum, Role, Plain, Starts, weight_role, weights}
-use Rattle.silage_syntax.specs.Grammar.{IsTargetSubscripts, IsTarget, IsTargets, IsArguments, IsInitialValue, IsItem}
-use Rattle.silage_syntax.specs.Grammar.{IsItems, IsLocals, IsResults, IsWords, IsTop, IsTops}
+use Rattle.silage_syntax.specs.Grammar.{IsMode, IsFix, IsType, Declared, IsDeclared, IsDecl, IsManifest}
+use Rattle.silage_syntax.specs.Grammar.{IsSubscripts, IsDelay, IsExpr, Level, Or, Sum, Role, Plain, Starts}
+use Rattle.silage_syntax.specs.Grammar.{weight_role, weights, IsTargetSubscripts, IsTarget, IsTargets, IsArguments}
+use Rattle.silage_syntax.specs.Grammar.{IsInitialValue, IsItem, IsItems, IsLocals, IsResults, IsWords, IsTop, IsTops}
 use Rattle.silage_parse.specs.Private.ParseTable.{productions, Terminal, is_one, Effect, Nonterminal, Value, Symbol}
 use Rattle.silage_parse.specs.Private.ParseTable.{Match, Expand, Act, Action}
 use Rattle.silage_parse.specs.Private.ParseTable as the
@@ -60,7 +61,7 @@ Means ts the.SecondDim i vs rs j ws =
     → i ≡ a + 3
     → (ds : List ℕ) × (ws ≡ the.dims ds ∷ bs) × IsDims ts a ds j
 Means ts (the.FixIn e) i vs rs j ws = Pushes (the.fix (from_at ts i)) (λ f. IsFix ts i f j) vs ws
-Means ts (the.Mode e) i vs rs j ws =
+Means ts (the.FixEnd e) i vs rs j ws =
     (a : ℕ) (f c w b x : Token) (bs : List Value)
     → vs ≡ the.token f ∷ the.token c ∷ the.token w ∷ the.token b ∷ the.token x ∷ bs
     → from_at ts a ≡ x.from
@@ -71,6 +72,13 @@ Means ts (the.Mode e) i vs rs j ws =
     → IsWhole ts (a + 4) (whole_value f)
     → i ≡ a + 5
     → (y : FixType) × (ws ≡ the.fix (from_at ts a) y ∷ bs) × IsFix ts a y j
+Means ts (the.Mode_ e) i vs rs j ws = Pushes the.mode (λ m. IsMode ts i m j) vs ws
+Means ts (the.AfterRound e) i vs rs j ws =
+    (a : ℕ) (t : Token) (bs : List Value)
+    → vs ≡ the.token t ∷ bs
+    → IsKeyword ts a keyword.ROUND
+    → i ≡ a + 1
+    → (m : Mode) × (ws ≡ the.mode m ∷ bs) × IsMode ts a m j
 Means ts the.Type_ i vs rs j ws = Pushes the.ty (λ y. IsType ts i y j) vs ws
 Means ts the.Name_ i vs rs j ws = Pushes the.name (λ d. IsDeclared ts i d j) vs ws
 Means ts the.MoreNames i vs rs j ws = Grows the.names (λ ys.

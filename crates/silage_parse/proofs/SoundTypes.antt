@@ -2,22 +2,22 @@
 -- table reads.
 use Rattle.std.proofs.Common.{◌≡◌, ◌+◌, true, false, List, [], ◌∷◌, ◌++◌, map, Some, refl, sym, ap, ◌∙◌, arith}
 use Rattle.std.proofs.Common.{append_assoc, append-nil}
-use Rattle.fix_word.specs.declared.types.Mode.TheVariants.{Trunc}
+use Rattle.fix_word.specs.declared.types.Mode.TheVariants.{Trunc, Round, Sat, RoundSat}
 use Rattle.fix_word.specs.declared.types.SigType.TheVariants.{Fix, Bool as Truths}
 use Rattle.fix_word.specs.declared.types.SigType.{SigType}
 use Rattle.silage_lex.specs.declared.Token.{Token}
 use Rattle.silage_syntax.specs.declared.tree.Lit.TheVariants.{Number, Truth}
 use Rattle.silage_syntax.specs.declared.tree.Decl.{Decl}
-use Rattle.silage_syntax.specs.Grammar.{IsSigned, IsDeclared, IsDecl, from_at, dim, mode_of, truth_of, fix_type}
-use Rattle.silage_syntax.specs.Grammar.{positive, negative, scalar, vector, matrix, no_mode, with_mode, fix, bool}
-use Rattle.silage_syntax.specs.Grammar.{Declared, typed, declared, decl, no_locals, some_locals, one_result, results}
-use Rattle.silage_syntax.specs.Grammar.{one_word, words, signed, truth_value}
+use Rattle.silage_syntax.specs.Grammar.{IsSigned, IsDeclared, IsDecl, from_at, dim, truth_of, fix_type, positive}
+use Rattle.silage_syntax.specs.Grammar.{negative, scalar, vector, matrix, trunc, round, round_sat, sat, no_mode}
+use Rattle.silage_syntax.specs.Grammar.{with_mode, fix, bool, Declared, typed, declared, decl, no_locals, some_locals}
+use Rattle.silage_syntax.specs.Grammar.{one_result, results, one_word, words, signed, truth_value}
 use Rattle.silage_parse.specs.Private.ParseTable as the
 use Rattle.silage_parse.specs.Private.ParseTable.{Effect, Nonterminal, Value, Symbol, Act, Expand, Action, productions}
 use Rattle.silage_parse.specs.Private.Machine.{made, here, there, name_text, whole_value, or_else}
 use Rattle.silage_parse.proofs.TokenFacts.{mark_seen, word_seen, name_seen, whole_seen, digits_of, from_seen}
 use Rattle.silage_parse.proofs.TokenFacts.{kind_moved, seen_by}
-use Rattle.silage_parse.proofs.Tables.{mode_table, number_table, truth_table}
+use Rattle.silage_parse.proofs.Tables.{number_table, truth_table}
 use Rattle.silage_parse.specs.Private.CommaLists as lists
 use Rattle.silage_parse.proofs.SoundLists.{more_mean, listing}
 use Rattle.silage_parse.proofs.SoundSteps.{Sound, a_end, a_take, a_go, a_make, settled}
@@ -93,25 +93,45 @@ fix_means k us i vs rs _ _ _ here
     (kind_moved us (whole_seen us (i + 1 + 1 + 1 + 1) s4 h4) (omega arith)) (omega arith))
 fix_means k us i vs rs _ _ _ (there x) h = elim x [ ]
 
-pub mode_means : (k : Effect) → Sound (the.Mode k)
-mode_means k us i vs rs _ _ _ here (a_take s h (a_take {t = t1} s1 h1 (a_take s2 h2 (a_make (a_end q w))))) =
-    settled us (the.Mode k) i vs rs q w (λ a f c l b x bs e r p1 p2 p3 p4 p5 v.
-    let z : i + 1 + 1 + 1 ≡ a + 8 = omega arith in
-    let y : i + 1 ≡ a + 6 = omega arith in
-    let o = seen_by mode_table Trunc us (i + 1) s1 h1 in (
-      fix_type (whole_value l) (whole_value f) (or_else Trunc (mode_of (Some t1.kind))),
-      rw (e, r) refl,
-      rw z (with_mode p1 p2 p3 p4 p5 (kind_moved us (mark_seen us i _ s h) v) (rw y at o)
-          (kind_moved us (mark_seen us (i + 1 + 1) _ s2 h2) (omega arith))),
+pub fix_end_means : (k : Effect) → Sound (the.FixEnd k)
+fix_end_means k us i vs rs _ _ _ here (a_take s h (a_go {j = n} d (a_take s2 h2 (a_make (a_end q w))))) =
+    settled us (the.FixEnd k) i vs rs q w (λ a f c l b x bs e r p1 p2 p3 p4 p5 v.
+    let m = d.means in
+    let y : i + 1 ≡ a + 6 = omega arith in (
+      fix_type (whole_value l) (whole_value f) m.0,
+      rw (m.1, e, r) refl,
+      with_mode p1 p2 p3 p4 p5 (kind_moved us (mark_seen us i _ s h) v) (rw y at m.2) (mark_seen us n _ s2 h2),
     ))
-mode_means k us i vs rs _ _ _ (there here) (a_take s h (a_make (a_end q w))) =
-    settled us (the.Mode k) i vs rs q w (λ a f c l b x bs e r p1 p2 p3 p4 p5 v.
+fix_end_means k us i vs rs _ _ _ (there here) (a_take s h (a_make (a_end q w))) =
+    settled us (the.FixEnd k) i vs rs q w (λ a f c l b x bs e r p1 p2 p3 p4 p5 v.
     let z : i + 1 ≡ a + 6 = omega arith in (
       fix_type (whole_value l) (whole_value f) Trunc,
       rw (e, r) refl,
       rw z (no_mode p1 p2 p3 p4 p5 (kind_moved us (mark_seen us i _ s h) v)),
     ))
-mode_means k us i vs rs _ _ _ (there (there x)) h = elim x [ ]
+fix_end_means k us i vs rs _ _ _ (there (there x)) h = elim x [ ]
+
+pub mode_means : (k : Effect) → Sound (the.Mode_ k)
+mode_means k us i vs rs _ _ _ here (a_take s h (a_make (a_end q w))) =
+    settled us (the.Mode_ k) i vs rs q w ((Trunc, refl, trunc (word_seen us i _ s h)))
+mode_means k us i vs rs _ _ _ (there here) (a_take s h (a_make (a_end q w))) =
+    settled us (the.Mode_ k) i vs rs q w ((Sat, refl, sat (word_seen us i _ s h)))
+mode_means k us i vs rs _ _ _ (there (there here)) (a_take {t = t} s h (a_go r (a_end q w))) =
+    settled us (the.Mode_ k) i vs rs q w (r.means i t vs refl (word_seen us i _ s h) refl)
+mode_means k us i vs rs _ _ _ (there (there (there x))) h = elim x [ ]
+
+pub after_round_means : (k : Effect) → Sound (the.AfterRound k)
+after_round_means k us i vs rs _ _ _ here (a_take s h (a_take s1 h1 (a_make (a_end q w)))) =
+    settled us (the.AfterRound k) i vs rs q w (λ a t bs e x v.
+    let z : i + 1 + 1 ≡ a + 3 = omega arith in (
+      RoundSat,
+      rw e refl,
+      rw z (round_sat x (kind_moved us (mark_seen us i _ s h) v)
+          (kind_moved us (word_seen us (i + 1) _ s1 h1) (omega arith))),
+    ))
+after_round_means k us i vs rs _ _ _ (there here) (a_make (a_end q w)) =
+    settled us (the.AfterRound k) i vs rs q w (λ a t bs e x v. (Round, rw e refl, rw v (round x)))
+after_round_means k us i vs rs _ _ _ (there (there x)) h = elim x [ ]
 
 pub type_means : Sound the.Type_
 type_means us i vs rs _ _ _ here (a_take s h (a_make (a_end q w))) =

@@ -2,17 +2,16 @@
 use Rattle.std.proofs.Common.{◌≡◌, ℕ, List, [], ◌∷◌, map, Option, Some, None, refl, sym, ap, ◌∙◌, true, false, Bool}
 use Rattle.std.specs.Prelude.{nat_eq, ◌||◌, if◌then◌else◌}
 use Rattle.std.proofs.lemmas.Bool.{eqb-true}
-use Rattle.fix_word.specs.declared.types.Mode.TheVariants.{Trunc, Round}
 use Rattle.silage_lex.specs.declared.TokenKind.{TokenKind}
 use Rattle.silage_lex.specs.declared.TokenKind.TheVariants as kind
 use Rattle.silage_lex.specs.declared.punctuation.TheConstants as punctuation
 use Rattle.silage_lex.specs.declared.keywords.TheConstants as keyword
 use Rattle.silage_syntax.specs.declared.tree.BinOp.TheVariants as op
 use Rattle.silage_syntax.specs.declared.tree.MOp.TheVariants as mop
-use Rattle.silage_syntax.specs.Grammar.{row, marked, worded, number_of, mode_of, truth_of, term_operator}
+use Rattle.silage_syntax.specs.Grammar.{row, marked, worded, number_of, truth_of, term_operator}
 use Rattle.silage_syntax.specs.Grammar.{shift_operator, comparison, operator, Level, Or, And, Sum, Product}
 use Rattle.silage_parse.specs.Private.ParseTable.{Terminal, Punctuation, Keyword, is, is_one, number, operators}
-use Rattle.silage_parse.specs.Private.ParseTable.{comparisons, shift_operators, truths, modes}
+use Rattle.silage_parse.specs.Private.ParseTable.{comparisons, shift_operators, truths}
 use Rattle.silage_parse.specs.Private.Machine.{or_else}
 
 pub record IsTable {A : Type 0} (test : Option TokenKind → Option A) (ks : List Terminal) : Type 0 where
@@ -134,9 +133,6 @@ shift_table = marks ((punctuation.LESS_LESS, true) ∷ (punctuation.GREATER_GREA
 
 pub truth_table : IsTable truth_of truths
 truth_table = words ((keyword.TRUE, true) ∷ (keyword.FALSE, false) ∷ [])
-
-pub mode_table : IsTable mode_of modes
-mode_table = words ((keyword.TRUNC, Trunc) ∷ (keyword.ROUND, Round) ∷ [])
 
 number_some : (k : Option TokenKind) {n : ℕ × ℕ} → number_of k ≡ Some n → is_one number k ≡ true
 number_some (Some (kind.Whole n)) h = refl

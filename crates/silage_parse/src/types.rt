@@ -1,15 +1,15 @@
 //! Types of numbers.
 
-ghost use Rattle.std.specs.Prelude.{◌≡◌, min, IsSome, ◌<◌, length};
-ghost use Rattle.silage_syntax.specs.Grammar.{mode_of, size as the_size};
+ghost use Rattle.std.specs.Prelude.{◌≡◌, min};
+ghost use Rattle.silage_syntax.specs.Grammar.{size as the_size};
 ghost use Rattle.silage_parse.specs.Private.ParseTable as the;
-ghost use Rattle.silage_parse.specs.Private.ParseTable.{FixIn};
-ghost use Rattle.silage_parse.specs.Private.Parsed.{next, start_of, effect as effect_of, EndsFix, ReadsMode, IsParsed};
+ghost use Rattle.silage_parse.specs.Private.ParseTable.{FixIn, Mode_};
+ghost use Rattle.silage_parse.specs.Private.Parsed.{start_of, effect as effect_of, EndsFix, EndsMode, IsParsed};
 
 use crate::ParseFault;
 use crate::parser::{Effect, Parser};
 use fix_word::{FixType, Mode, Shape};
-use silage_lex::{TokenKind, keywords, punctuation};
+use silage_lex::{keywords, punctuation};
 
 /// The size in bits that a number of the source stands for. One that no type may have is the greatest of them.
 fn size(n: u64) -> u8
@@ -19,30 +19,35 @@ fn size(n: u64) -> u8
 }
 
 impl Parser<'_> {
-    /// The rounding mode that the next token is.
-    fn next_mode(&self) -> Option<Mode>
-        ensures value { result ≡ mode_of (next self.now) }
-        ensures within { IsSome result → self.now.at < length self.now.tokens.now }
+    /// Reads what comes after the `round` of a mode: `,` and `sat`, or nothing.
+    fn mode_end(&mut self, effect: Effect) -> Result<Mode, ParseFault>
+        ensures { EndsMode (effect_of effect) self.old self.new result }
     {
-        match self.kind() {
-            Some(TokenKind::Reserved(keywords::TRUNC)) => Some(Mode::Trunc),
-            Some(TokenKind::Reserved(keywords::ROUND)) => Some(Mode::Round),
-            _ => None,
+        if !self.is_symbol(punctuation::COMMA) {
+            return Ok(Mode::Round);
         }
-    }
-
-    /// Reads a rounding mode. `Syntax` where another token is next, or none.
-    fn mode(&mut self, effect: Effect) -> Result<Mode, ParseFault>
-        ensures { ReadsMode (effect_of effect) self.old self.new result }
-    {
-        let Some(mode) = self.next_mode() else {
-            return Err(self.syntax());
-        };
         self.advance(effect)?;
-        Ok(mode)
+        self.expect_reserved(keywords::SAT, effect)?;
+        Ok(Mode::RoundSat)
     }
 
-    /// Reads the end of a fix type after its sizes: its rounding mode, if it has one, and `>`.
+    /// Reads a mode.
+    fn mode(&mut self, effect: Effect) -> Result<Mode, ParseFault>
+        ensures { IsParsed (Mode_ (effect_of effect)) self.old (λ m. the.mode m) self.new result }
+    {
+        if self.is_reserved(keywords::TRUNC) {
+            self.advance(effect)?;
+            return Ok(Mode::Trunc);
+        }
+        if self.is_reserved(keywords::SAT) {
+            self.advance(effect)?;
+            return Ok(Mode::Sat);
+        }
+        self.expect_reserved(keywords::ROUND, effect)?;
+        self.mode_end(effect)
+    }
+
+    /// Reads the end of a fix type after its sizes: its mode, if it has one, and `>`.
     fn fix_end(&mut self, effect: Effect) -> Result<Mode, ParseFault>
         ensures { EndsFix (effect_of effect) self.old self.new result }
     {

@@ -4,7 +4,7 @@ use Rattle.std.specs.Prelude.{if◌then◌else◌}
 use Rattle.std.specs.List.{flat_map}
 use Rattle.fix_word.specs.declared.types.FixType.{FixType}
 use Rattle.fix_word.specs.declared.types.Mode.{Mode}
-use Rattle.fix_word.specs.declared.types.Mode.TheVariants.{Trunc, Round}
+use Rattle.fix_word.specs.declared.types.Mode.TheVariants.{Trunc, Round, Sat, RoundSat}
 use Rattle.fix_word.specs.declared.types.SigType.{SigType}
 use Rattle.fix_word.specs.declared.types.SigType.TheVariants.{Fix, Bool as Truths}
 use Rattle.silage_lex.specs.declared.TokenKind.{TokenKind}
@@ -17,7 +17,7 @@ use Rattle.silage_syntax.specs.Tree.{Manifest, whole, counter, minus, both, Plac
 use Rattle.silage_syntax.specs.Tree.{binary, shift, cast, choose, Branches, no_branch, branch, Item, equation, call}
 use Rattle.silage_syntax.specs.Tree.{loop, initial, Items, no_item, item, Top, table, function}
 use Rattle.silage_print.specs.Text.{word, enclosed, listed, after_comma, bracketed, subscript_text, truth_word}
-use Rattle.silage_print.specs.Text.{lit_text, mode_word, fix_text, type_text, dims_text, decl_text, manifest_text}
+use Rattle.silage_print.specs.Text.{lit_text, mode_text, fix_text, type_text, dims_text, decl_text, manifest_text}
 use Rattle.silage_print.specs.Text.{place_text, delay_text, expr_text, branches_text, clause_text, call_text}
 use Rattle.silage_print.specs.Text.{turns_text, items_text, local_text, top_text}
 use Rattle.silage_print.proofs.KindsAt.{Each, no_kind, one_kind, joined}
@@ -32,17 +32,15 @@ is_head _ = false
 abbrev pub heads : TokenKind → ℕ
 heads k = if is_head k then 1 else 0
 
-mode_quiet : (m : Mode) → heads (word (mode_word m)) ≡ 0
-mode_quiet Trunc = refl
-mode_quiet Round = refl
-
 truth_quiet : (b : Bool) → heads (word (truth_word b)) ≡ 0
 truth_quiet true = refl
 truth_quiet false = refl
 
 pub heads_quiet : IsQuiet heads
 heads_quiet = record {
-  free = record { whole = λ n. refl; point = λ d p. refl; truth = truth_quiet; mode = mode_quiet; comma = refl };
+  free = record { whole = λ n. refl; point = λ d p. refl; truth = truth_quiet; trunc = refl; comma = refl };
+  round = refl;
+  sat = refl;
   name = λ n. refl;
   opens = refl;
   closes = refl;
@@ -92,12 +90,18 @@ in_literal (Truth b at) = one_kind (truth_quiet b) no_kind
 in_bracketed : {ks : List TokenKind} → Each IsInner ks → Each IsInner (bracketed ks)
 in_bracketed h = one_kind refl (joined h (one_kind refl no_kind))
 
+in_mode : (m : Mode) → Each IsInner (mode_text m)
+in_mode Trunc = one_kind refl no_kind
+in_mode Round = one_kind refl no_kind
+in_mode Sat = one_kind refl no_kind
+in_mode RoundSat = one_kind refl (one_kind refl (one_kind refl no_kind))
+
 in_fix : (ty : FixType) → Each IsInner (fix_text ty)
 in_fix ty =
     one_kind refl
     (one_kind refl
     (one_kind refl
-    (one_kind refl (one_kind refl (one_kind refl (one_kind (mode_quiet ty.mode) (one_kind refl no_kind)))))))
+    (one_kind refl (one_kind refl (one_kind refl (joined (in_mode ty.mode) (one_kind refl no_kind)))))))
 
 in_type : (ty : SigType) → Each IsInner (type_text ty)
 in_type (Fix ty) = in_fix ty

@@ -7,12 +7,10 @@ use Rattle.std.proofs.lemmas.Bool.{cases_lt}
 use Rattle.std.proofs.lemmas.List.Sums.{fold-append}
 use Rattle.silage_lex.specs.declared.Token.{Token}
 use Rattle.silage_lex.specs.declared.TokenKind.{TokenKind}
-use Rattle.fix_word.specs.declared.types.Mode.{Mode}
-use Rattle.fix_word.specs.declared.types.Mode.TheVariants.{Trunc, Round}
 use Rattle.silage_syntax.specs.Grammar.{weighs, weight_role, weights, plain, Role, Plain, Starts, Weighs, Enters}
 use Rattle.silage_syntax.specs.Grammar.{Leaves}
 use Rattle.silage_syntax.specs.Limits.{weigh, enter, Passes, too_heavy, too_deep, AreWithin}
-use Rattle.silage_print.specs.Text.{word, truth_word, mode_word}
+use Rattle.silage_print.specs.Text.{word, truth_word}
 use Rattle.silage_print.proofs.KindsAt.{AreAt}
 use Rattle.silage_print.proofs.Weights.{IsFree, total, before, counts}
 
@@ -27,16 +25,12 @@ at_most_one false = omega arith
 weight_small : (k : TokenKind) → weight k ≤ 1
 weight_small k = at_most_one (weighs k)
 
-mode_free : (m : Mode) → weight (word (mode_word m)) ≡ 0
-mode_free Trunc = refl
-mode_free Round = refl
-
 truth_free : (b : Bool) → weight (word (truth_word b)) ≡ 0
 truth_free true = refl
 truth_free false = refl
 
 pub weight_free : IsFree weight
-weight_free = record { whole = λ n. refl; point = λ d p. refl; truth = truth_free; mode = mode_free; comma = refl }
+weight_free = record { whole = λ n. refl; point = λ d p. refl; truth = truth_free; trunc = refl; comma = refl }
 
 -- a token with this role may come after tokens with this weight and these open loops
 abbrev pub Allows : ℕ → ℕ → Role → Type 0

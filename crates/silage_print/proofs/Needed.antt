@@ -7,8 +7,6 @@ use Rattle.std.specs.Prelude.{if◌then◌else◌}
 use Rattle.std.proofs.lemmas.Bool.{cases_lt}
 use Rattle.std.proofs.lemmas.List.{length-map}
 use mathlib.Core.List.{append_assoc}
-use Rattle.fix_word.specs.declared.types.Mode.{Mode}
-use Rattle.fix_word.specs.declared.types.Mode.TheVariants.{Trunc, Round}
 use Rattle.silage_lex.specs.declared.Token.{Token}
 use Rattle.silage_lex.specs.declared.TokenKind.{TokenKind}
 use Rattle.silage_lex.specs.declared.TokenKind.TheVariants as kind
@@ -16,7 +14,7 @@ use Rattle.silage_lex.specs.declared.punctuation.TheConstants as punctuation
 use Rattle.silage_syntax.specs.Tree.{Top, table, function, Program}
 use Rattle.silage_syntax.specs.Positions.{unpositioned_top}
 use Rattle.silage_syntax.specs.Grammar.{kind_at, Role, IsTop, is_table, is_function, IsTops, no_tops, one_top}
-use Rattle.silage_print.specs.Text.{symbol, word, truth_word, mode_word, top_text, tops_text}
+use Rattle.silage_print.specs.Text.{symbol, word, truth_word, top_text, tops_text}
 use Rattle.silage_print.specs.Parentheses.{Pair, text_without, HasOneWord, EachPairIsNeeded}
 use Rattle.silage_print.proofs.Weights.{extra, total, total_join, before, counts}
 use Rattle.silage_print.proofs.TopWeights.{IsQuiet, forth, top_total}
@@ -28,17 +26,15 @@ abbrev parens : TokenKind → ℕ
 parens (kind.Symbol n) = if nat_eq n punctuation.LEFT_PAREN then 1 else 0
 parens _ = 0
 
-mode_quiet : (m : Mode) → parens (word (mode_word m)) ≡ 0
-mode_quiet Trunc = refl
-mode_quiet Round = refl
-
 truth_quiet : (b : Bool) → parens (word (truth_word b)) ≡ 0
 truth_quiet true = refl
 truth_quiet false = refl
 
 parens_quiet : IsQuiet parens
 parens_quiet = record {
-  free = record { whole = λ n. refl; point = λ d p. refl; truth = truth_quiet; mode = mode_quiet; comma = refl };
+  free = record { whole = λ n. refl; point = λ d p. refl; truth = truth_quiet; trunc = refl; comma = refl };
+  round = refl;
+  sat = refl;
   name = λ n. refl;
   opens = refl;
   closes = refl;

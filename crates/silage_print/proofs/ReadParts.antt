@@ -1,24 +1,26 @@
 -- The texts of numbers, types and places are read as what they are texts of, up to positions.
-use Rattle.std.proofs.Common.{◌≡◌, ℕ, zero, suc, ◌+◌, ◌≤◌, Bool, true, false, List, [], ◌∷◌, Option, Some, None, map}
-use Rattle.std.proofs.Common.{refl, sym, ap, ◌∙◌, subst, arith, lit≤}
+use Rattle.std.proofs.Common.{◌≡◌, ℕ, zero, suc, ◌+◌, ◌≤◌, Bool, true, false, List, [], ◌∷◌, ◌++◌, Option, Some, None}
+use Rattle.std.proofs.Common.{map, refl, sym, ap, ◌∙◌, subst, arith, lit≤}
 use Rattle.std.specs.Prelude.{nat_eq, if◌then◌else◌}
 use Rattle.std.proofs.lemmas.Bool.Decides.{nat_tests}
 use Rattle.fix_word.specs.declared.types.FixType.{FixType}
 use Rattle.fix_word.specs.declared.types.Mode.{Mode}
-use Rattle.fix_word.specs.declared.types.Mode.TheVariants.{Trunc, Round}
+use Rattle.fix_word.specs.declared.types.Mode.TheVariants.{Trunc, Round, Sat, RoundSat}
 use Rattle.silage_lex.specs.declared.Token.{Token}
 use Rattle.silage_lex.specs.declared.TokenKind.{TokenKind}
 use Rattle.silage_lex.specs.declared.TokenKind.TheVariants as kind
 use Rattle.silage_lex.specs.declared.punctuation.TheConstants as punctuation
+use Rattle.silage_lex.specs.declared.keywords.TheConstants as keyword
 use Rattle.silage_syntax.specs.declared.tree.Lit.{Lit}
 use Rattle.silage_syntax.specs.declared.tree.Lit.TheVariants.{Number}
 use Rattle.silage_syntax.specs.Tree.{Manifest}
 use Rattle.silage_syntax.specs.Positions.{unpositioned_lit, unpositioned_manifest, unpositioned_delay}
 use Rattle.silage_syntax.specs.Grammar.{kind_at, from_at, number_of, IsPunctuation, IsNumber, IsSigned, positive}
-use Rattle.silage_syntax.specs.Grammar.{negative, size, mode_of, fix_type, IsFix, no_mode, with_mode, truth_of}
+use Rattle.silage_syntax.specs.Grammar.{negative, size, fix_type, IsMode, trunc, round, round_sat, sat, IsFix}
+use Rattle.silage_syntax.specs.Grammar.{no_mode, with_mode, truth_of}
 use Rattle.silage_syntax.specs.Grammar.{IsManifest, Manifest_, IsSubscripts, no_sub, one_sub, two_subs, IsDelay}
 use Rattle.silage_syntax.specs.Grammar.{no_delay, delay}
-use Rattle.silage_print.specs.Text.{symbol, word, number, bracketed, lit_text, truth_word, mode_word, fix_text}
+use Rattle.silage_print.specs.Text.{symbol, word, number, bracketed, lit_text, truth_word, mode_text, fix_text}
 use Rattle.silage_print.specs.Text.{manifest_text, subscripts_text, delay_text}
 use Rattle.silage_print.proofs.Numbers.{whole_written, point_has_places}
 use Rattle.silage_print.proofs.KindsAt.{AreAt, split, moved, IsWritten, AreWritten, no_kind, one_kind, joined}
@@ -104,13 +106,23 @@ pub good_fix : {ts : List Token} {i j : ℕ} {ty : FixType} → IsFix ts i ty j 
 good_fix (no_mode {w = w} {f = f} a b c d e g) = good_fix_type w f Trunc
 good_fix (with_mode {w = w} {f = f} {m = m} a b c d e g h k) = good_fix_type w f m
 
-mode_read : {x : Option TokenKind} (m : Mode) → x ≡ Some (word (mode_word m)) → mode_of x ≡ Some m
-mode_read Trunc h = ap mode_of h
-mode_read Round h = ap mode_of h
+mode_end : {us : List Token} {i j k : ℕ} {m : Mode} → j ≡ k → IsMode us i m j → IsMode us i m k
+mode_end {us} {i} {m = m} e h = let P : ℕ → Type 0 = λ l. IsMode us i m l in subst P e h
 
-mode_written : (m : Mode) → IsWritten (word (mode_word m))
-mode_written Trunc = refl
-mode_written Round = refl
+mode_read : (us : List Token) (m : Mode) (i j : ℕ) → AreAt us i (mode_text m) j → IsMode us i m j
+mode_read us Trunc i j s = mode_end s.1 (trunc s.0)
+mode_read us Round i j s = mode_end s.1 (round s.0)
+mode_read us Sat i j s = mode_end s.1 (sat s.0)
+mode_read us RoundSat i j s =
+    let last = moved us (i + 1 + 1) (i + 2) (Some (word keyword.SAT)) (omega arith) s.1.1.0 in
+    let end : i + 3 ≡ j = let e = s.1.1.1 in omega arith in
+    mode_end end (round_sat s.0 s.1.0 last)
+
+mode_written : (m : Mode) → AreWritten (mode_text m)
+mode_written Trunc = one_kind refl no_kind
+mode_written Round = one_kind refl no_kind
+mode_written Sat = one_kind refl no_kind
+mode_written RoundSat = one_kind refl (one_kind refl (one_kind refl no_kind))
 
 pub fix_written : (ty : FixType) → GoodFix ty → AreWritten (fix_text ty)
 fix_written ty good =
@@ -120,7 +132,7 @@ fix_written ty good =
     (one_kind refl
     (one_kind (whole_written ty.shape.w (omega arith))
     (one_kind refl (one_kind (whole_written ty.shape.f (omega arith)) (one_kind refl
-    (one_kind (mode_written ty.mode) (one_kind refl no_kind)))))))
+    (joined (mode_written ty.mode) (one_kind refl no_kind)))))))
 
 same_size : (n : ℕ) → n ≤ 255 → size n ≡ n
 same_size n h = grind arith
@@ -134,18 +146,18 @@ fix_read us ty good i j s =
     ∙ ap (λ n. record { shape = record { w = ty.shape.w; f = n }; mode = ty.mode }) f in
     let P : FixType → Type 0 = λ t. IsFix us i t j in
     let Q : ℕ → Type 0 = λ k. IsFix us i (fix_type ty.shape.w ty.shape.f ty.mode) k in
+    let R : ℕ → Type 0 = λ k. AreAt us k (mode_text ty.mode ++ symbol punctuation.GREATER ∷ []) j in
     let t2 = s.1.1 in
     let t4 = t2.1.1 in
-    let t6 = t4.1.1 in
-    let end : i + 8 ≡ j = let e = t6.1.1 in omega arith in
+    let six : i + 1 + 1 + 1 + 1 + 1 + 1 ≡ i + 6 = omega arith in
+    let t6 = subst R six t4.1.1 in
+    let r = split us (mode_text ty.mode) (symbol punctuation.GREATER ∷ []) (i + 6) j t6 in
     let first = moved us (i + 1 + 1) (i + 2) (Some (kind.Whole ty.shape.w)) (omega arith) t2.0 in
     let comma = moved us (i + 1 + 1 + 1) (i + 3) (Some (symbol punctuation.COMMA)) (omega arith) t2.1.0 in
     let second = moved us (i + 1 + 1 + 1 + 1) (i + 4) (Some (kind.Whole ty.shape.f)) (omega arith) t4.0 in
     let comma_too = moved us (i + 1 + 1 + 1 + 1 + 1) (i + 5) (Some (symbol punctuation.COMMA)) (omega arith) t4.1.0 in
-    let mode = moved us (i + 1 + 1 + 1 + 1 + 1 + 1) (i + 6) (Some (word (mode_word ty.mode))) (omega arith) t6.0 in
-    let close =
-    moved us (i + 1 + 1 + 1 + 1 + 1 + 1 + 1) (i + 7) (Some (symbol punctuation.GREATER)) (omega arith) t6.1.0 in
-    subst P type (subst Q end (with_mode s.0 s.1.0 first comma second comma_too (mode_read ty.mode mode) close))
+    let mode = mode_read us ty.mode (i + 6) r.0 r.1 in
+    subst P type (subst Q r.2.1 (with_mode s.0 s.1.0 first comma second comma_too mode r.2.0))
 
 -- Subscripts, delays.
 pub data GoodSubs : List Manifest → Type 0 where

@@ -4,6 +4,8 @@ use Rattle.std.proofs.Common.{◌≡◌, ℕ, zero, suc, ◌+◌, ◌-◌, ◌�
 use Rattle.std.proofs.Common.{ap, arith, Some, true}
 use Rattle.std.specs.List.{flat_map}
 use Rattle.fix_word.specs.declared.types.FixType.{FixType}
+use Rattle.fix_word.specs.declared.types.Mode.{Mode}
+use Rattle.fix_word.specs.declared.types.Mode.TheVariants.{Trunc, Round, Sat, RoundSat}
 use Rattle.fix_word.specs.declared.types.SigType.{SigType}
 use Rattle.fix_word.specs.declared.types.SigType.TheVariants.{Fix, Bool as Truths}
 use Rattle.silage_lex.specs.declared.Token.{Token}
@@ -15,7 +17,7 @@ use Rattle.silage_syntax.specs.declared.tree.Lit.{Lit}
 use Rattle.silage_syntax.specs.declared.tree.Decl.{Decl}
 use Rattle.silage_syntax.specs.Tree.{Manifest, Place, Expr, Item, Items, Top}
 use Rattle.silage_syntax.specs.Grammar.{IsSigned, positive, negative, IsList, last, more, IsDims, scalar, vector}
-use Rattle.silage_syntax.specs.Grammar.{matrix, IsFix, no_mode, with_mode, IsType, fix, bool, Declared, IsDeclared}
+use Rattle.silage_syntax.specs.Grammar.{matrix, IsType, fix, bool, Declared, IsDeclared}
 use Rattle.silage_syntax.specs.Grammar.{declared, IsDecl, decl, Role, IsTargetSubscripts, no_target_sub, one_target_sub}
 use Rattle.silage_syntax.specs.Grammar.{two_target_subs, IsTarget, target, IsTargets, last_target, more_targets}
 use Rattle.silage_syntax.specs.Grammar.{IsArguments, last_arg, more_args, IsInitialValue, signed, truth_value, IsItem}
@@ -23,8 +25,10 @@ use Rattle.silage_syntax.specs.Grammar.{is_equation, is_call, is_calls, is_loop,
 use Rattle.silage_syntax.specs.Grammar.{one_item, one_sub, two_subs, kind_at, IsLocals, no_locals, some_locals}
 use Rattle.silage_syntax.specs.Grammar.{IsResults, one_result, results, IsWords, one_word, words, IsTop, is_table}
 use Rattle.silage_syntax.specs.Grammar.{is_function}
+use Rattle.silage_syntax.proofs.Rising.{fix_rises}
 use Rattle.silage_print.specs.Text.{symbol, word, subscripts_text, enclosed, listed, after_comma, lit_text, dims_text}
-use Rattle.silage_print.specs.Text.{fix_text, type_text, decl_text, manifest_text, amount_text, place_text, expr_text}
+use Rattle.silage_print.specs.Text.{mode_text, fix_text, type_text, decl_text, manifest_text, amount_text, place_text}
+use Rattle.silage_print.specs.Text.{expr_text}
 use Rattle.silage_print.specs.Text.{several, call_text, turns_text, clause_text, items_text, words_text, local_text}
 use Rattle.silage_print.specs.Text.{body_text, top_text}
 use Rattle.silage_print.specs.Parentheses.{HasOneWord}
@@ -40,6 +44,8 @@ pub record IsQuiet (count : TokenKind → ℕ) : Type 0 where
   pub colon : count (symbol punctuation.COLON) ≡ 0
   pub less : count (symbol punctuation.LESS) ≡ 0
   pub greater : count (symbol punctuation.GREATER) ≡ 0
+  pub round : count (word keyword.ROUND) ≡ 0
+  pub sat : count (word keyword.SAT) ≡ 0
   pub semicolon : count (symbol punctuation.SEMICOLON) ≡ 0
   pub fixed : count (word keyword.FIX) ≡ 0
   pub truths : count (word keyword.BOOL) ≡ 0
@@ -51,12 +57,8 @@ dims_order scalar = omega arith
 dims_order (vector a b c) = omega arith
 dims_order (matrix a b c d e f) = omega arith
 
-fix_order : {ts : List Token} {i j : ℕ} {f : FixType} → IsFix ts i f j → i ≤ j
-fix_order (no_mode a b c d e g) = omega arith
-fix_order (with_mode a b c d e g h k) = omega arith
-
 type_order : {ts : List Token} {i j : ℕ} {ty : SigType} → IsType ts i ty j → i ≤ j
-type_order (fix d) = fix_order d
+type_order (fix d) = fix_rises _ _ _ _ d
 type_order (bool e) = omega arith
 
 declared_order : {ts : List Token} {i j : ℕ} {d : Declared} → IsDeclared ts i d j → i ≤ j
@@ -126,6 +128,13 @@ module _ (count : TokenKind → ℕ) (quiet : IsQuiet count) where
       let rest = dims_none ns in
       omega (arith, a, b, c, rest)
 
+  mode_none : (m : Mode) → total (mode_text m) ≡ 0
+  mode_none Trunc = let a = quiet.free.trunc in omega (arith, a)
+  mode_none Round = let a = quiet.round in omega (arith, a)
+  mode_none Sat = let a = quiet.sat in omega (arith, a)
+  mode_none RoundSat =
+      let a = quiet.round in let b = quiet.free.comma in let c = quiet.sat in omega (arith, a, b, c)
+
   fix_none : (ty : FixType) → total (fix_text ty) ≡ 0
   fix_none ty =
       let a = quiet.fixed in
@@ -133,9 +142,10 @@ module _ (count : TokenKind → ℕ) (quiet : IsQuiet count) where
       let c = quiet.free.whole ty.shape.w in
       let d = quiet.free.comma in
       let e = quiet.free.whole ty.shape.f in
-      let f = quiet.free.mode ty.mode in
+      let f = mode_none ty.mode in
       let g = quiet.greater in
-      omega (arith, a, b, c, d, e, f, g)
+      let end = join (mode_text ty.mode) (symbol punctuation.GREATER ∷ []) in
+      omega (arith, a, b, c, d, e, f, g, end)
 
   type_none : (ty : SigType) → total (type_text ty) ≡ 0
   type_none (Fix ty) = fix_none ty
@@ -400,7 +410,7 @@ module _ (count : TokenKind → ℕ) (quiet : IsQuiet count) where
       let a = counts ts i (i + 1) refl c in
       let b = forth ts (i + 1) j (declared_order n) in
       let g = forth ts j (j + 1) (omega arith) in
-      let h = forth ts (j + 1) k (fix_order ty) in
+      let h = forth ts (j + 1) k (fix_rises _ _ _ _ ty) in
       let l = counts ts k (k + 1) refl e in
       let p = words_total (nat_lt 0 (length d.dims) || nat_lt 1 (length ls)) w alone in
       let q = counts ts m (m + 1) refl s in

@@ -7,7 +7,6 @@ use Rattle.std.specs.Prelude.{nat_eq, if◌then◌else◌}
 use Rattle.std.proofs.lemmas.Bool.Decides.{nat_tests}
 use Rattle.fix_word.specs.declared.types.FixType.{FixType}
 use Rattle.fix_word.specs.declared.types.Mode.{Mode}
-use Rattle.fix_word.specs.declared.types.Mode.TheVariants.{Trunc}
 use Rattle.silage_lex.specs.declared.Token.{Token}
 use Rattle.silage_lex.specs.declared.TokenKind.{TokenKind}
 use Rattle.silage_lex.specs.declared.TokenKind.TheVariants as kind
@@ -20,7 +19,8 @@ use Rattle.silage_syntax.specs.declared.tree.MOp.TheVariants as mop
 use Rattle.silage_syntax.specs.declared.tree.Lit.TheVariants.{Number, Truth}
 use Rattle.silage_syntax.specs.Tree.{Manifest, both, Expr, literal, read, negate, not, binary, shift, cast, choose}
 use Rattle.silage_syntax.specs.Tree.{Branches, branch}
-use Rattle.silage_syntax.specs.Grammar.{kind_at, from_at, number_of, row, marked, size, IsFix, no_mode, with_mode, Or}
+use Rattle.silage_syntax.specs.Grammar.{kind_at, from_at, number_of, row, marked, size, IsMode, trunc, round}
+use Rattle.silage_syntax.specs.Grammar.{round_sat, sat, IsFix, no_mode, with_mode, Or}
 use Rattle.silage_syntax.specs.Grammar.{And, Sum, Product, ExprRule, Chain, Rest, Shifts, Unary, Arms, operator}
 use Rattle.silage_syntax.specs.Grammar.{comparison, shift_operator, IsExpr, chain, no_more, one_more, no_comparison}
 use Rattle.silage_syntax.specs.Grammar.{comparison_of, shifts, no_shift, one_shift, negative_number, negated, denied}
@@ -32,7 +32,7 @@ use Rattle.silage_syntax.specs.Grammar.{paren_primary, IsSubscripts, no_sub, one
 use Rattle.silage_syntax.specs.Grammar.{delay}
 use Rattle.silage_print.specs.Text.{symbol, word, subscripts_text, number, truth_word, enclosed, bracketed}
 use Rattle.silage_print.specs.Text.{manifest_precedence, term_mark, manifest_text, amount_text, delay_text, fix_text}
-use Rattle.silage_print.specs.Text.{mode_word, operator_mark, operator_precedence, left_precedence, right_precedence}
+use Rattle.silage_print.specs.Text.{mode_text, operator_mark, operator_precedence, left_precedence, right_precedence}
 use Rattle.silage_print.specs.Text.{expr_precedence, is_unsigned, is_loose_operand, shift_mark, expr_text}
 use Rattle.silage_print.specs.Text.{branches_text}
 use Rattle.silage_print.proofs.Levels.{chain_level, rule_level}
@@ -157,7 +157,7 @@ pub record IsFree (count : TokenKind → ℕ) : Type 0 where
   pub whole : (n : ℕ) → count (kind.Whole n) ≡ 0
   pub point : (d p : ℕ) → count (kind.Point d p) ≡ 0
   pub truth : (b : Bool) → count (word (truth_word b)) ≡ 0
-  pub mode : (m : Mode) → count (word (mode_word m)) ≡ 0
+  pub trunc : count (word keyword.TRUNC) ≡ 0
   pub comma : count (symbol punctuation.COMMA) ≡ 0
 
 or_false : (b : Bool) → (b || false) ≡ b
@@ -444,6 +444,16 @@ module _ (count : TokenKind → ℕ) where
     delay_total no_delay = omega arith
     delay_total {ts} (delay {i = i} a d) = let x = counts ts i a in let y = amount_total d in omega (arith, x, y)
 
+    mode_total : {ts : List Token} {i j : ℕ} {m : Mode} → IsMode ts i m j → Covers ts i j (total (mode_text m))
+    mode_total {ts} (trunc {i = i} a) = let x = counts ts i a in omega (arith, x)
+    mode_total {ts} (round {i = i} a) = let x = counts ts i a in omega (arith, x)
+    mode_total {ts} (round_sat {i = i} a b c) =
+        let x = counts ts i a in
+        let y = counts_at ts (i + 1) (i + 2) (omega arith) b in
+        let z = counts_at ts (i + 2) (i + 3) (omega arith) c in
+        omega (arith, x, y, z)
+    mode_total {ts} (sat {i = i} a) = let x = counts ts i a in omega (arith, x)
+
     fix_total : {ts : List Token} {i j : ℕ} {f : FixType} → IsFix ts i f j → Covers ts i j (total (fix_text f))
     fix_total {ts} (no_mode {i = i} {w = w} {f = f} a b c d e g) =
         let x = counts ts i a in
@@ -455,21 +465,21 @@ module _ (count : TokenKind → ℕ) where
         let width = free.whole (size w) in
         let places = free.whole (size f) in
         let comma = free.comma in
-        let mode = free.mode Trunc in
+        let mode = free.trunc in
         omega (arith, x, y, z, u, v, t, width, places, comma, mode)
-    fix_total {ts} (with_mode {i = i} {w = w} {f = f} {m = m} a b c d e g h k) =
+    fix_total {ts} (with_mode {i = i} {j = j} {w = w} {f = f} {m = m} a b c d e g h k) =
         let x = counts ts i a in
         let y = counts_at ts (i + 1) (i + 2) (omega arith) b in
         let z = rises ts (i + 2) (i + 3) (omega arith) in
         let u = counts_at ts (i + 3) (i + 4) (omega arith) d in
         let v = rises ts (i + 4) (i + 5) (omega arith) in
         let s = counts_at ts (i + 5) (i + 6) (omega arith) g in
-        let r = rises ts (i + 6) (i + 7) (omega arith) in
-        let t = counts_at ts (i + 7) (i + 8) (omega arith) k in
+        let r = mode_total h in
+        let t = counts ts j k in
+        let end = total_join (mode_text m) (symbol punctuation.GREATER ∷ []) in
         let width = free.whole (size w) in
         let places = free.whole (size f) in
-        let mode = free.mode m in
-        omega (arith, x, y, z, u, v, s, r, t, width, places, mode)
+        omega (arith, x, y, z, u, v, s, r, t, end, width, places)
 
     number_by : (b : Bool) (d p : ℕ) → count (if b then kind.Whole d else kind.Point d p) ≡ 0
     number_by true d p = free.whole d

@@ -5,7 +5,7 @@ use Rattle.std.specs.Prelude.{decimal}
 use Rattle.std.specs.List.{flat_map}
 use Rattle.fix_word.specs.declared.types.FixType.{FixType}
 use Rattle.fix_word.specs.declared.types.Mode.{Mode}
-use Rattle.fix_word.specs.declared.types.Mode.TheVariants.{Trunc, Round}
+use Rattle.fix_word.specs.declared.types.Mode.TheVariants.{Trunc, Round, Sat, RoundSat}
 use Rattle.fix_word.specs.declared.types.SigType.{SigType}
 use Rattle.fix_word.specs.declared.types.SigType.TheVariants.{Fix, Bool as Truths}
 use Rattle.silage_lex.specs.declared.TokenKind.{TokenKind}
@@ -18,7 +18,7 @@ use Rattle.silage_lex.specs.declared.punctuation.TheConstants.{LEFT_BRACKET, RIG
 use Rattle.silage_lex.specs.declared.punctuation.TheConstants.{EQUAL, LESS, GREATER, PLUS, MINUS, STAR, AMPERSAND, PIPE}
 use Rattle.silage_lex.specs.declared.punctuation.TheConstants.{BANG, AT}
 use Rattle.silage_lex.specs.declared.keywords.TheConstants.{FUNC, CONST, VAR, BEGIN, END, FIX, BOOL, TRUNC, ROUND, IF}
-use Rattle.silage_lex.specs.declared.keywords.TheConstants.{FI, TRUE, FALSE}
+use Rattle.silage_lex.specs.declared.keywords.TheConstants.{FI, TRUE, FALSE, SAT}
 use Rattle.silage_print.specs.Precedence as precedence
 use Rattle.silage_syntax.specs.declared.tree.BinOp.{BinOp}
 use Rattle.silage_syntax.specs.declared.tree.BinOp.TheVariants as op
@@ -116,14 +116,16 @@ lit_text (Truth value at) = word (truth_word value) ∷ []
 abbrev pub dims_text : List ℕ → List TokenKind
 dims_text dims = flat_map (λ n. bracketed (kind.Whole n ∷ [])) dims
 
-abbrev pub mode_word : Mode → ℕ
-mode_word Trunc = TRUNC
-mode_word Round = ROUND
+abbrev pub mode_text : Mode → List TokenKind
+mode_text Trunc = word TRUNC ∷ []
+mode_text Round = word ROUND ∷ []
+mode_text Sat = word SAT ∷ []
+mode_text RoundSat = word ROUND ∷ symbol COMMA ∷ word SAT ∷ []
 
 abbrev pub fix_text : FixType → List TokenKind
 fix_text ty =
     word FIX ∷ symbol LESS ∷ kind.Whole ty.shape.w ∷ symbol COMMA ∷ kind.Whole ty.shape.f
-    ∷ symbol COMMA ∷ word (mode_word ty.mode) ∷ symbol GREATER ∷ []
+    ∷ symbol COMMA ∷ mode_text ty.mode ++ symbol GREATER ∷ []
 
 abbrev pub type_text : SigType → List TokenKind
 type_text (Fix ty) = fix_text ty

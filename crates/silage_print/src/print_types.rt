@@ -2,14 +2,14 @@
 
 ghost use Rattle.std.specs.Prelude.{◌≡◌, ◌<◌, ◌++◌, ◌∷◌, [], length, OnOk};
 ghost use Rattle.silage_lex.specs.Texts.{reserved_words};
-ghost use Rattle.silage_print.specs.Text.{truth_word, sign_text, lit_text, dims_text, mode_word, fix_text, type_text, decl_text, after_comma, listed};
+ghost use Rattle.silage_print.specs.Text.{truth_word, sign_text, lit_text, dims_text, mode_text, fix_text, type_text, decl_text, after_comma, listed};
 ghost use Rattle.silage_print.specs.Private.Puts.{Puts};
 ghost use Rattle.std.specs.List.{flat_map};
 
 use crate::print_tokens::{put_name, put_number, put_symbol, put_whole, put_word};
 use fix_word::{FixType, Mode, SigType};
 use lists::{Bytes, List};
-use silage_lex::keywords::{BOOL, FALSE, FIX, ROUND, TRUE, TRUNC};
+use silage_lex::keywords::{BOOL, FALSE, FIX, ROUND, SAT, TRUE, TRUNC};
 use silage_lex::punctuation::{COLON, COMMA, GREATER, LEFT_BRACKET, LESS, MINUS, RIGHT_BRACKET};
 use silage_syntax::{Decl, Lit};
 use std::alloc::AllocError;
@@ -19,16 +19,6 @@ fn truth_word_of(value: bool) -> u8
     ensures reserved { result < length reserved_words }
 {
     if value { TRUE } else { FALSE }
-}
-
-fn mode_word_of(mode: Mode) -> u8
-    ensures word { result ≡ mode_word mode }
-    ensures reserved { result < length reserved_words }
-{
-    match mode {
-        Mode::Trunc => TRUNC,
-        Mode::Round => ROUND,
-    }
 }
 
 /// Adds `-` if it is wanted.
@@ -72,6 +62,22 @@ pub(crate) fn put_dims(out: &mut Bytes, dims: &List<u32>) -> Result<(), AllocErr
     Ok(())
 }
 
+/// Adds a mode: a word, or two with a comma between.
+fn put_mode(out: &mut Bytes, mode: Mode) -> Result<(), AllocError>
+    ensures { OnOk result (Puts out.old (mode_text mode) out.new) }
+{
+    match mode {
+        Mode::Trunc => put_word(out, TRUNC),
+        Mode::Round => put_word(out, ROUND),
+        Mode::Sat => put_word(out, SAT),
+        Mode::RoundSat => {
+            put_word(out, ROUND)?;
+            put_symbol(out, COMMA)?;
+            put_word(out, SAT)
+        }
+    }
+}
+
 pub(crate) fn put_fix(out: &mut Bytes, ty: &FixType) -> Result<(), AllocError>
     ensures { OnOk result (Puts out.old (fix_text ty.now) out.new) }
 {
@@ -81,7 +87,7 @@ pub(crate) fn put_fix(out: &mut Bytes, ty: &FixType) -> Result<(), AllocError>
     put_symbol(out, COMMA)?;
     put_whole(out, u64::from(ty.shape.f))?;
     put_symbol(out, COMMA)?;
-    put_word(out, mode_word_of(ty.mode))?;
+    put_mode(out, ty.mode)?;
     put_symbol(out, GREATER)
 }
 

@@ -3,11 +3,12 @@ use Rattle.std.proofs.Common.{arith, ℕ, ◌+◌, ◌≤◌, List, Option}
 use Rattle.silage_lex.specs.declared.Token.{Token}
 use Rattle.silage_syntax.specs.declared.tree.Lit.{Lit}
 use Rattle.fix_word.specs.declared.types.FixType.{FixType}
+use Rattle.fix_word.specs.declared.types.Mode.{Mode}
 use Rattle.silage_syntax.specs.Tree.{Manifest, Place, Expr, Item, Items}
 use Rattle.silage_syntax.specs.Grammar as g
-use Rattle.silage_syntax.specs.Grammar.{IsSigned, IsManifest, IsFix, IsSubscripts, IsDelay, IsExpr, IsTargetSubscripts}
-use Rattle.silage_syntax.specs.Grammar.{IsTarget, IsTargets, IsArguments, IsInitialValue, IsItem, IsItems, Role}
-use Rattle.silage_syntax.specs.Grammar.{ManifestRule, ExprRule}
+use Rattle.silage_syntax.specs.Grammar.{IsSigned, IsManifest, IsMode, IsFix, IsSubscripts, IsDelay, IsExpr}
+use Rattle.silage_syntax.specs.Grammar.{IsTargetSubscripts, IsTarget, IsTargets, IsArguments, IsInitialValue, IsItem}
+use Rattle.silage_syntax.specs.Grammar.{IsItems, Role, ManifestRule, ExprRule}
 
 module _ (ts : List Token) where
   pub manifest_rises : (r : ManifestRule) (i : ℕ) (m : Manifest) (j : ℕ) → IsManifest ts r i m j → i ≤ j
@@ -23,9 +24,15 @@ module _ (ts : List Token) where
   manifest_rises r i m j (g.name_primary o) = omega arith
   manifest_rises r i m j (g.paren_primary o a c) = omega (arith, manifest_rises _ _ _ _ a)
 
-  fix_rises : (i : ℕ) (f : FixType) (j : ℕ) → IsFix ts i f j → i ≤ j
+  mode_rises : (i : ℕ) (m : Mode) (j : ℕ) → IsMode ts i m j → i ≤ j
+  mode_rises i m j (g.trunc a) = omega arith
+  mode_rises i m j (g.round a) = omega arith
+  mode_rises i m j (g.round_sat a b c) = omega arith
+  mode_rises i m j (g.sat a) = omega arith
+
+  pub fix_rises : (i : ℕ) (f : FixType) (j : ℕ) → IsFix ts i f j → i ≤ j
   fix_rises i f j (g.no_mode a b c d e h) = omega arith
-  fix_rises i f j (g.with_mode a b c d e h k l) = omega arith
+  fix_rises i f j (g.with_mode a b c d e h k l) = omega (arith, mode_rises _ _ _ k)
 
   subs_rise : (i : ℕ) (ms : List Manifest) (j : ℕ) → IsSubscripts ts i ms j → i ≤ j
   subs_rise i ms j g.no_sub = omega arith

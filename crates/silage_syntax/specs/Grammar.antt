@@ -5,7 +5,7 @@ use Rattle.std.specs.Prelude.{◌++◌, map, Option, Some, None, length, slice_g
 use Rattle.std.specs.List.{range_with_len}
 use Rattle.fix_word.specs.declared.types.FixType.{FixType}
 use Rattle.fix_word.specs.declared.types.Mode.{Mode}
-use Rattle.fix_word.specs.declared.types.Mode.TheVariants.{Trunc, Round}
+use Rattle.fix_word.specs.declared.types.Mode.TheVariants.{Trunc, Round, Sat, RoundSat}
 use Rattle.fix_word.specs.declared.types.SigType.{SigType}
 use Rattle.fix_word.specs.declared.types.SigType.TheVariants.{Fix, Bool as Truths}
 use Rattle.silage_lex.specs.declared.Token.{Token}
@@ -18,7 +18,7 @@ use Rattle.silage_lex.specs.declared.punctuation.TheConstants.{LEFT_BRACKET, RIG
 use Rattle.silage_lex.specs.declared.punctuation.TheConstants.{EQUAL, LESS, GREATER, PLUS, MINUS, STAR, AMPERSAND, PIPE}
 use Rattle.silage_lex.specs.declared.punctuation.TheConstants.{BANG, AT}
 use Rattle.silage_lex.specs.declared.keywords.TheConstants.{FUNC, CONST, VAR, BEGIN, END, FIX, BOOL, TRUNC, ROUND, IF}
-use Rattle.silage_lex.specs.declared.keywords.TheConstants.{FI, TRUE, FALSE}
+use Rattle.silage_lex.specs.declared.keywords.TheConstants.{FI, TRUE, FALSE, SAT}
 use Rattle.silage_syntax.specs.declared.tree.BinOp.{BinOp}
 use Rattle.silage_syntax.specs.declared.tree.BinOp.TheVariants as op
 use Rattle.silage_syntax.specs.declared.tree.MOp.{MOp}
@@ -58,10 +58,6 @@ marked xs _ = None
 abbrev pub worded : {A : Type 0} → List (ℕ × A) → Option TokenKind → Option A
 worded xs (Some (kind.Reserved n)) = row xs n
 worded xs _ = None
-
--- "trunc" | "round"
-abbrev pub mode_of : Option TokenKind → Option Mode
-mode_of k = worded ((TRUNC, Trunc) ∷ (ROUND, Round) ∷ []) k
 
 -- "true" | "false"
 abbrev pub truth_of : Option TokenKind → Option Bool
@@ -241,7 +237,24 @@ module _ (ts : List Token) where
         → IsPunctuation (i + 5) RIGHT_BRACKET
         → IsDims i (dim n ∷ dim m ∷ []) (i + 6)
 
-  -- fix = "fix" "<" whole "," whole [ "," ( "trunc" | "round" ) ] ">"
+  -- "trunc" | "round" [ "," "sat" ] | "sat"
+  pub data IsMode : ℕ → Mode → ℕ → Type 0 where
+    trunc : {i : ℕ}
+        → IsKeyword i TRUNC
+        → IsMode i Trunc (i + 1)
+    round : {i : ℕ}
+        → IsKeyword i ROUND
+        → IsMode i Round (i + 1)
+    round_sat : {i : ℕ}
+        → IsKeyword i ROUND
+        → IsPunctuation (i + 1) COMMA
+        → IsKeyword (i + 2) SAT
+        → IsMode i RoundSat (i + 3)
+    sat : {i : ℕ}
+        → IsKeyword i SAT
+        → IsMode i Sat (i + 1)
+
+  -- fix = "fix" "<" whole "," whole [ "," ( "trunc" | "round" [ "," "sat" ] | "sat" ) ] ">"
   pub data IsFix : ℕ → FixType → ℕ → Type 0 where
     no_mode : {i w f : ℕ}
         → IsKeyword i FIX
@@ -251,16 +264,16 @@ module _ (ts : List Token) where
         → IsWhole (i + 4) f
         → IsPunctuation (i + 5) GREATER
         → IsFix i (fix_type w f Trunc) (i + 6)
-    with_mode : {i w f : ℕ} {m : Mode}
+    with_mode : {i j w f : ℕ} {m : Mode}
         → IsKeyword i FIX
         → IsPunctuation (i + 1) LESS
         → IsWhole (i + 2) w
         → IsPunctuation (i + 3) COMMA
         → IsWhole (i + 4) f
         → IsPunctuation (i + 5) COMMA
-        → mode_of (kind_at (i + 6)) ≡ Some m
-        → IsPunctuation (i + 7) GREATER
-        → IsFix i (fix_type w f m) (i + 8)
+        → IsMode (i + 6) m j
+        → IsPunctuation j GREATER
+        → IsFix i (fix_type w f m) (j + 1)
 
   -- type = fix | "bool"
   pub data IsType : ℕ → SigType → ℕ → Type 0 where

@@ -13,9 +13,9 @@ use Rattle.silage_syntax.specs.declared.tree.Lit.TheVariants.{Number, Truth}
 use Rattle.silage_syntax.specs.Tree.{whole, counter, minus, both, Expr, literal, read, negate, not, binary, shift, cast}
 use Rattle.silage_syntax.specs.Tree.{choose, Branches, no_branch, branch, equation, call, loop, initial, items_of}
 use Rattle.silage_syntax.specs.Tree.{table, function}
-use Rattle.silage_syntax.specs.Grammar.{kind_at, Declared, typed, dim, fix_type, mode_of, number_of, term_operator}
-use Rattle.silage_syntax.specs.Grammar.{Level, operator, comparison, shift_operator, truth_of, weighs, weight_role}
-use Rattle.silage_syntax.specs.Grammar.{Role, Plain, Starts}
+use Rattle.silage_syntax.specs.Grammar.{kind_at, Declared, typed, dim, fix_type, number_of, term_operator, Level}
+use Rattle.silage_syntax.specs.Grammar.{operator, comparison, shift_operator, truth_of, weighs, weight_role, Role}
+use Rattle.silage_syntax.specs.Grammar.{Plain, Starts}
 use Rattle.silage_syntax.specs.Grammar as role
 use Rattle.silage_parse.specs.declared.ParseFault.{ParseFault}
 use Rattle.silage_parse.specs.declared.ParseFault.TheVariants.{Syntax, Deep}
@@ -80,13 +80,15 @@ made the.one_dim (the.token close ∷ the.token n ∷ the.token open_ ∷ vs) = 
 made the.two_dims
     (the.token close2 ∷ the.token m ∷ the.token open2 ∷ the.token close ∷ the.token n ∷ the.token open_ ∷ vs) =
     the.dims (dim (whole_value n) ∷ dim (whole_value m) ∷ []) ∷ vs
+made (the.one_word m) (the.token word ∷ vs) = the.mode m ∷ vs
+made (the.three_words m) (the.token second ∷ the.token comma ∷ the.token first ∷ vs) = the.mode m ∷ vs
 made the.fix_plain
     (the.token above ∷ the.token f ∷ the.token comma ∷ the.token w ∷ the.token below ∷ the.token fix ∷ vs) =
     the.fix fix.from (fix_type (whole_value w) (whole_value f) Trunc) ∷ vs
 made the.fix_mode
-    (the.token above ∷ the.token m ∷ the.token comma2 ∷ the.token f ∷ the.token comma ∷ the.token w ∷ the.token below
+    (the.token above ∷ the.mode m ∷ the.token comma2 ∷ the.token f ∷ the.token comma ∷ the.token w ∷ the.token below
     ∷ the.token fix ∷ vs) =
-    the.fix fix.from (fix_type (whole_value w) (whole_value f) (or_else Trunc (mode_of (Some m.kind)))) ∷ vs
+    the.fix fix.from (fix_type (whole_value w) (whole_value f) m) ∷ vs
 made the.type_fix (the.fix at f ∷ vs) = the.ty (Fix f) ∷ vs
 made the.type_bool (the.token t ∷ vs) = the.ty Truths ∷ vs
 made the.declared (the.dims ds ∷ the.token n ∷ vs) =

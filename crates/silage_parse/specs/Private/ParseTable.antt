@@ -2,6 +2,8 @@
 -- them; the semantic actions, and the values on the machine's stack.
 use Rattle.std.specs.Prelude.{ℕ, Bool, true, false, ◌||◌, nat_eq, List, [], ◌∷◌, ◌++◌, Option, Some, None}
 use Rattle.fix_word.specs.declared.types.FixType.{FixType}
+use Rattle.fix_word.specs.declared.types.Mode.{Mode}
+use Rattle.fix_word.specs.declared.types.Mode.TheVariants.{Trunc, Round, Sat, RoundSat}
 use Rattle.fix_word.specs.declared.types.SigType.{SigType}
 use Rattle.silage_lex.specs.declared.Token.{Token}
 use Rattle.silage_lex.specs.declared.TokenKind.{TokenKind}
@@ -56,7 +58,10 @@ pub data Nonterminal : Type 0 where
   SecondDim : Nonterminal
   -- a fix type in a declaration, and in an expression
   FixIn : Effect → Nonterminal
-  Mode : Effect → Nonterminal
+  -- its end after its sizes, its mode, and what comes after the `round` of a mode
+  FixEnd : Effect → Nonterminal
+  Mode_ : Effect → Nonterminal
+  AfterRound : Effect → Nonterminal
   Type_ : Nonterminal
   Name_ : Nonterminal
   MoreNames : Nonterminal
@@ -108,6 +113,7 @@ pub data Value : Type 0 where
   lit : Lit → Value
   lits : List Lit → Value
   dims : List ℕ → Value
+  mode : Mode → Value
   fix : (at : ℕ) → FixType → Value
   ty : SigType → Value
   name : Declared → Value
@@ -140,6 +146,8 @@ pub data Action : Type 0 where
   no_dims : Action
   one_dim : Action
   two_dims : Action
+  one_word : Mode → Action
+  three_words : Mode → Action
   fix_plain : Action
   fix_mode : Action
   type_fix : Action
@@ -236,9 +244,6 @@ shift_operators = Punctuation punctuation.LESS_LESS ∷ Punctuation punctuation.
 abbrev pub truths : List Terminal
 truths = Keyword keyword.TRUE ∷ Keyword keyword.FALSE ∷ []
 
-abbrev pub modes : List Terminal
-modes = Keyword keyword.TRUNC ∷ Keyword keyword.ROUND ∷ []
-
 -- the operands of a level of operators
 abbrev pub operand_of : Level → Nonterminal
 operand_of Or = Chain And
@@ -296,10 +301,20 @@ productions SecondDim = if_punctuation punctuation.LEFT_BRACKET
     (Act one_dim ∷ [])
 productions (FixIn e) = always
     (keyword_of keyword.FIX e ∷ punctuation_of punctuation.LESS e ∷ Match (AWhole ∷ []) e
-    ∷ punctuation_of punctuation.COMMA e ∷ Match (AWhole ∷ []) e ∷ Expand (Mode e) ∷ [])
-productions (Mode e) = if_punctuation punctuation.COMMA
-    (punctuation_of punctuation.COMMA e ∷ Match modes e ∷ punctuation_of punctuation.GREATER e ∷ Act fix_mode ∷ [])
+    ∷ punctuation_of punctuation.COMMA e ∷ Match (AWhole ∷ []) e ∷ Expand (FixEnd e) ∷ [])
+productions (FixEnd e) = if_punctuation punctuation.COMMA
+    (punctuation_of punctuation.COMMA e ∷ Expand (Mode_ e) ∷ punctuation_of punctuation.GREATER e ∷ Act fix_mode ∷ [])
     (punctuation_of punctuation.GREATER e ∷ Act fix_plain ∷ [])
+productions (Mode_ e) = record {
+  by_lookahead =
+      (Keyword keyword.TRUNC ∷ [], keyword_of keyword.TRUNC e ∷ Act (one_word Trunc) ∷ [])
+      ∷ (Keyword keyword.SAT ∷ [], keyword_of keyword.SAT e ∷ Act (one_word Sat) ∷ [])
+      ∷ [];
+  otherwise = keyword_of keyword.ROUND e ∷ Expand (AfterRound e) ∷ [];
+}
+productions (AfterRound e) = if_punctuation punctuation.COMMA
+    (punctuation_of punctuation.COMMA e ∷ keyword_of keyword.SAT e ∷ Act (three_words RoundSat) ∷ [])
+    (Act (one_word Round) ∷ [])
 productions Type_ = if_next (Keyword keyword.BOOL ∷ [])
     (keyword_of keyword.BOOL Outside ∷ Act type_bool ∷ [])
     (Expand (FixIn Outside) ∷ Act type_fix ∷ [])

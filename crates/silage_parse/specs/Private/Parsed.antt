@@ -22,7 +22,7 @@ use Rattle.silage_syntax.specs.declared.tree.Program.{Program}
 use Rattle.silage_syntax.specs.Tree as tree
 use Rattle.silage_syntax.specs.Tree.{Top, table, function, view, view_manifest, view_delay, view_place, view_expr}
 use Rattle.silage_syntax.specs.Tree.{view_item, view_func, view_top}
-use Rattle.silage_syntax.specs.Grammar.{Or, dim, Declared, fix_type, kind_at, from_at, mode_of, number_of}
+use Rattle.silage_syntax.specs.Grammar.{Or, dim, Declared, fix_type, kind_at, from_at, number_of}
 use Rattle.silage_parse.specs.declared.ParseFault.{ParseFault}
 use Rattle.silage_parse.specs.declared.ParseFault.TheVariants.{Syntax, Deep, Memory}
 use Rattle.silage_parse.specs.declared.parser.Counts.{Counts}
@@ -36,7 +36,7 @@ use Rattle.silage_parse.specs.Private.ParseTable.{productions, if_punctuation, n
 use Rattle.silage_parse.specs.Private.ParseTable.{Type_, Chain, shift_operators, add_shift, choose_expr, Terminal}
 use Rattle.silage_parse.specs.Private.ParseTable.{Punctuation, Keyword, AName, AWhole, End, is_one, Effect, Outside}
 use Rattle.silage_parse.specs.Private.ParseTable.{Begins, Inside, Enters, Leaves, Value, Symbol, Match, Expand, Act}
-use Rattle.silage_parse.specs.Private.ParseTable.{modes, punctuation_of, keyword_of, Nonterminal, number, Name_, Locals}
+use Rattle.silage_parse.specs.Private.ParseTable.{punctuation_of, keyword_of, Nonterminal, number, Name_, Locals}
 use Rattle.silage_parse.specs.Private.ParseTable.{no_locals, Args, Manifest_, ManifestPrimary, InitialValue}
 use Rattle.silage_parse.specs.Private.ParseTable.{AfterOpenName, Items_, no_items, FixIn, Words, add_table, Results}
 use Rattle.silage_parse.specs.Private.ParseTable.{add_function, Tops}
@@ -173,9 +173,11 @@ ReadsNumber e from to result = Reads (Match number e ∷ []) from [] (λ n.
 
 -- TYPES
 
-abbrev pub ReadsMode : Effect → Parser → Parser → Result Mode ParseFault → Type 0
-ReadsMode e from to result = Reads (Match modes e ∷ []) from [] (λ m.
-    Matches modes e from to × (mode_of (next from) ≡ Some m)) result
+-- it reads what comes after the `round` of a mode, of which the machine makes the mode
+abbrev pub EndsMode : Effect → Parser → Parser → Result Mode ParseFault → Type 0
+EndsMode e from to result =
+    (word : Token)
+    → IsRead (Expand (the.AfterRound e) ∷ []) from (the.token word ∷ []) (λ m. the.mode m ∷ []) to result
 
 -- what is on the stack where the sizes of a fix type are read
 abbrev pub sizes_read : (fraction comma width below fix : Token) → List Value
@@ -185,7 +187,7 @@ sizes_read fraction comma width below fix =
 -- it reads the end of a fix type after its sizes, of which the machine makes the type
 abbrev pub EndsFix : Effect → Parser → Parser → Result Mode ParseFault → Type 0
 EndsFix e from to result = (fraction comma width below fix : Token)
-    → IsRead (Expand (the.Mode e) ∷ []) from (sizes_read fraction comma width below fix)
+    → IsRead (Expand (the.FixEnd e) ∷ []) from (sizes_read fraction comma width below fix)
     (λ m. the.fix fix.from (fix_type (whole_value width) (whole_value fraction) m) ∷ []) to result
 
 -- MANIFESTS AND PLACES

@@ -9,5 +9,5 @@ returns c =
     (followed c.in_ok-put_symbol.ensures
     (followed c.in_ok-put_whole.ensures
     (followed c.in_ok-put_symbol-2.ensures (followed c.in_ok-put_whole-2.ensures
-    (followed c.in_ok-put_symbol-3.ensures c.in_ok-put_word-2.ensures))))) in
+    (followed c.in_ok-put_symbol-3.ensures c.in_ok-put_mode.ensures))))) in
     ends _ _ c.put_symbol-4.result (λ h. alike (cc) (followed front h)) c.put_symbol-4.ensures

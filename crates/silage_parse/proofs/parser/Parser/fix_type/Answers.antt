@@ -54,7 +54,7 @@ returns-in_err-mode c =
     let fraction = c.in_ok-f.ensures.0 in
     let sizes = sizes_read fraction.token comma.token width.token below.token fix.token in
     rw (fault_is c.from_residual-in_err-mode.result c.from_residual-in_err-mode.ensures.1)
-    (stops (Expand (the.Mode (effect c.args.effect)) ∷ []) _ sizes _ _
+    (stops (Expand (the.FixEnd (effect c.args.effect)) ∷ []) _ sizes _ _
     (matches (matches
     (matches (matches
     (matches (only (start (Expand (FixIn (effect c.args.effect)) ∷ []) c.args.self.now []) refl) fix) below)
@@ -71,7 +71,7 @@ returns c =
     let fraction = c.in_ok-f.ensures in
     let sizes = sizes_read fraction.0.token comma.token width.0.token below.token fix.token in
     giving
-    (reads (Expand (the.Mode (effect c.args.effect)) ∷ []) sizes _
+    (reads (Expand (the.FixEnd (effect c.args.effect)) ∷ []) sizes _
     (matches (matches
     (matches (matches
     (matches (only (start (Expand (FixIn (effect c.args.effect)) ∷ []) c.args.self.now []) refl) fix) below)
