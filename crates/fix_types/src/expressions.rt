@@ -9,7 +9,7 @@ ghost use Rattle.typed_source.specs.Private.Sound.{IsSound, HasType, HasTypedRea
 
 use crate::copies;
 use crate::lookups::type_of;
-use crate::nodes::{NO_FORMAT, chosen, joined, nested, one_bit, rounded, shifted, unary, wrapped};
+use crate::nodes::{NO_FORMAT, chosen, fitted, joined, nested, one_bit, rounded, shifted, unary};
 use crate::operands::{check_name, is_same_shape, literal_word};
 use crate::plans::planned;
 use crate::scope::Scope;
@@ -84,7 +84,7 @@ fn negation(scope: &Scope, at: u32, part: &Expr, wanted: SigType) -> Result<Type
         SigType::Bool => Err(TypeFault::NotBool(at)),
         SigType::Fix(t) => {
             let part = typed(scope, part, wanted)?;
-            Ok(unary(scope.alloc, Op::Neg, wrapped(t), part)?)
+            Ok(unary(scope.alloc, Op::Neg, fitted(t), part)?)
         }
     }
 }

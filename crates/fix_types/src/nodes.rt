@@ -25,21 +25,21 @@ pub(crate) const NO_FORMAT: Format = Format {
     width: 0,
 };
 
-/// An exact result, wrapped to the width of a type.
-pub(crate) fn wrapped(ty: FixType) -> Format
-    ensures { result ≡ typed.wrapped ty }
+/// An exact result, brought to the width of a type by its overflow mode.
+pub(crate) fn fitted(ty: FixType) -> Format
+    ensures { result ≡ typed.fitted ty }
 {
     Format {
         shift: 0,
-        mode: Mode::Trunc,
+        mode: ty.mode.overflow(),
         width: ty.shape.w,
     }
 }
 
 /// A result with `places` fraction bits, in a type.
 pub(crate) fn rounded(ty: FixType, places: u8) -> Format
-    requires places { places ≤ 64 }
-    requires shape { ty.shape.f ≤ 32 }
+    requires places { places ≤ 80 }
+    requires shape { ty.shape.f ≤ 40 }
     ensures { result ≡ typed.rounded ty (pos places -ℤ pos ty.shape.f) }
 {
     Format {
@@ -49,22 +49,19 @@ pub(crate) fn rounded(ty: FixType, places: u8) -> Format
     }
 }
 
-/// A shift by one bit: exact to the left, by the type's mode to the right.
+/// A shift by one bit: exact to the left, and rounded by the type's mode to the right.
 pub(crate) fn one_bit(left: bool, ty: FixType) -> Format
     ensures { result ≡ typed.one_bit left ty }
 {
-    if left {
-        Format {
-            shift: -1,
-            mode: Mode::Trunc,
-            width: ty.shape.w,
-        }
+    let (shift, mode) = if left {
+        (-1, ty.mode.overflow())
     } else {
-        Format {
-            shift: 1,
-            mode: ty.mode,
-            width: ty.shape.w,
-        }
+        (1, ty.mode)
+    };
+    Format {
+        shift,
+        mode,
+        width: ty.shape.w,
     }
 }
 

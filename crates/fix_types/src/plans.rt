@@ -9,7 +9,7 @@ ghost use Rattle.fix_types.specs.Private.Plans.{Plans, plan_of, comparing};
 ghost use Rattle.fix_types.specs.Private.Scopes.{program_of, function_of};
 ghost use Rattle.typed_source.specs.Private.Sound.{IsSound, IsSoundType};
 
-use crate::nodes::{NO_FORMAT, rounded, wrapped};
+use crate::nodes::{NO_FORMAT, fitted, rounded};
 use crate::operands::operand_type;
 use crate::scope::Scope;
 use crate::synthesis::{common_type, factor_type};
@@ -116,8 +116,8 @@ fn number(
         (Fix t) result }
 {
     match op {
-        BinOp::Add => Ok(both(Op::Add, wrapped(t), SigType::Fix(t))),
-        BinOp::Sub => Ok(both(Op::Sub, wrapped(t), SigType::Fix(t))),
+        BinOp::Add => Ok(both(Op::Add, fitted(t), SigType::Fix(t))),
+        BinOp::Sub => Ok(both(Op::Sub, fitted(t), SigType::Fix(t))),
         BinOp::Mul => product(scope, at, left, right, t),
         _ => Err(TypeFault::Mismatch(at)),
     }

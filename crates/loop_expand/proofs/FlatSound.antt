@@ -3,7 +3,8 @@ use Rattle.std.proofs.Common.{◌≡◌, refl, sym, subst, ◌∙◌, ap, arith,
 use Rattle.std.proofs.Common.{Some, inl, inr, ℤ}
 use Rattle.std.specs.Prelude.{bytes_eq}
 use Rattle.std.proofs.lemmas.Option.{slice_get_within, get_or_from_slice_get}
-use Rattle.fix_word.specs.Words.{IsWord}
+use Rattle.fix_word.specs.Words.{IsMachineWord}
+use Rattle.fix_word.proofs.Wraps.{word_wider}
 use Rattle.fix_word.specs.declared.types.SigType.{SigType}
 use Rattle.fix_word.specs.declared.types.SigType.TheVariants.{Fix}
 use Rattle.silage_syntax.specs.declared.tree.ConstDef.{ConstDef}
@@ -36,7 +37,7 @@ use Rattle.source_elements.specs.Numbers.{IsNumberOf}
 use Rattle.loop_expand.specs.FlatOf.{IsTableWord, IsFlatRead, of_signal, of_table, IsFlatExpr, AreFlatParts, IsBodyOf}
 use Rattle.loop_expand.proofs.Items.{has_item, instance_top, site_passes}
 use Rattle.loop_expand.proofs.Shapes.{declared_type, argument_fits, table_entry}
-use Rattle.loop_expand.proofs.TypedSound.{count, IsAllowed, AreAllowed, word_wider, Good, typed_good}
+use Rattle.loop_expand.proofs.TypedSound.{count, IsAllowed, AreAllowed, Good, typed_good}
 
 mutual
   sound_item : (xs : Items) (y : Item) → HasItem xs y → AreSoundItems xs → IsSoundItem y
@@ -63,10 +64,13 @@ module _ (p : Program) (checked : IsChecked p) where
       subst (λ (z : Top). IsTopShort z) (get_or_from_slice_get p.tops k t t e) (checked.numbers k t less) in
       top_sound p checked.names k t e short
 
-  -- a number of a table has at most 32 bits
-  number_word : (l : Lit) (c : ConstDef) (v : ℤ) → IsSoundType (Fix c.ty) → IsRawWord l (Fix c.ty) v → IsWord 32 v
+  -- a number of a table is a machine word
+  number_word : (l : Lit) (c : ConstDef) (v : ℤ)
+      → IsSoundType (Fix c.ty)
+      → IsRawWord l (Fix c.ty) v
+      → IsMachineWord v
   number_word (Number negative digits places at) c v ok is =
-      word_wider c.ty.shape.w v (sound_shape c.ty ok).widest is.word
+      word_wider c.ty.shape.w 40 v (sound_shape c.ty ok).width.widest is.word
   number_word (Truth b at) c v ok is = absurd is
 
   table_type : (name : List ℕ) (c : ConstDef) → table_named p name ≡ Some c → IsSoundType (Fix c.ty)
@@ -77,7 +81,7 @@ module _ (p : Program) (checked : IsChecked p) where
   table_word : (name : List ℕ) (c : ConstDef) (k : ℕ) (v : ℤ)
       → table_named p name ≡ Some c
       → IsTableWord c k v
-      → IsWord 32 v
+      → IsMachineWord v
   table_word name c k v named is =
       let entry = table_entry p checked.names checked.types name c k (Fix c.ty) v named refl is in
       number_word entry.number c v (table_type name c named) entry.word

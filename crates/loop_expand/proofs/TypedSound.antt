@@ -1,13 +1,11 @@
 -- A typed expression that breaks no rule has allowed operations, formats and words, and words of the width of its type.
-use Rattle.std.proofs.Common.{◌≡◌, refl, sym, subst, ap, arith, ℕ, ◌+◌, ◌-◌, ◌^◌, ◌≤◌, Bool, true, false, Option, Some}
-use Rattle.std.proofs.Common.{None, ℤ}
+use Rattle.std.proofs.Common.{◌≡◌, refl, sym, subst, ap, arith, ℕ, ◌+◌, Bool, true, false, Option, Some, None, ℤ}
 use Rattle.std.specs.Prelude.{pos, negsuc, ◌-ℤ◌, ◌*ℤ◌, neg_ℤ, ◌≤ℤ◌}
-use Rattle.std.proofs.Math.Pow.{pow_mono}
 use Rattle.std.proofs.lemmas.Int.{ints}
 use Rattle.ranked_faults.specs.Rules.{parts, none, ◌▸◌, unless}
 use Rattle.ranked_faults.specs.Private.FirstMet.{first}
 use Rattle.ranked_faults.proofs.TableFaults.{then_parts, rule_holds}
-use Rattle.fix_word.specs.Words.{IsWord, IsFormat, IsShape}
+use Rattle.fix_word.specs.Words.{IsWord, IsMachineWord, IsWidth, IsFormat, IsShape}
 use Rattle.fix_word.specs.Values.{bit_of}
 use Rattle.fix_word.specs.declared.types.FixType.{FixType}
 use Rattle.fix_word.specs.declared.types.Format.{Format}
@@ -15,6 +13,7 @@ use Rattle.fix_word.specs.declared.types.SigType.{SigType}
 use Rattle.fix_word.specs.declared.types.SigType.TheVariants.{Fix, Bool as Truths}
 use Rattle.fix_word.specs.declared.operation.Op.{Op}
 use Rattle.fix_word.specs.declared.operation.Op.TheVariants as does
+use Rattle.fix_word.proofs.Wraps.{word_wider}
 use Rattle.silage_syntax.specs.declared.tree.BinOp.TheVariants as op
 use Rattle.silage_syntax.specs.declared.tree.Lit.{Lit}
 use Rattle.silage_syntax.specs.declared.tree.Lit.TheVariants.{Number, Truth}
@@ -27,7 +26,7 @@ use Rattle.typed_source.specs.TypedTree.{TypedExpr}
 use Rattle.typed_source.specs.TypedValue.{HasFormat, as_it_is, by_amount}
 use Rattle.typed_source.specs.TypeRules.{is_same_shape, is_no_truth, part_type, literal_rules, cast_rules}
 use Rattle.typed_source.specs.TypeRules.{product_rules, comparison_rules, expr_rules, branch_rules}
-use Rattle.typed_source.specs.Translation.{word_of, wrapped, rounded, no_format, chosen, one, two, three, one_bit}
+use Rattle.typed_source.specs.Translation.{word_of, fitted, rounded, no_format, chosen, one, two, three, one_bit}
 use Rattle.typed_source.specs.Translation.{typed_against, typed_product, typed_cast, typed_expr, typed_choice}
 use Rattle.typed_source.specs.Translation as typing
 use Rattle.typed_source.specs.declared.fault.TypeFault.TheVariants.{Mismatch}
@@ -54,7 +53,7 @@ HasFormats o fmt amount =
 
 abbrev mutual
   pub IsAllowed : TypedExpr → Type 0
-  IsAllowed (typed.raw z) = IsWord 32 z
+  IsAllowed (typed.raw z) = IsMachineWord z
   IsAllowed (typed.read place delay) = Unit {0}
   IsAllowed (typed.node o fmt row amount) =
       IsCalculation (class_of o) × (count row ≡ operands o) × HasFormats o fmt amount × AreAllowed row
@@ -63,13 +62,6 @@ abbrev mutual
   AreAllowed typed.no_part = Unit {0}
   AreAllowed (typed.part x rest) = IsAllowed x × AreAllowed rest
 
-pub word_wider : (w : ℕ) (z : ℤ) → w ≤ 32 → IsWord w z → IsWord 32 z
-word_wider w z most is =
-    let more : 2 ^ (w - 1) ≤ 2 ^ 31 = pow_mono {j = 31} (omega arith) in
-    let low = is.low in
-    let high = is.high in
-    record { low = omega (arith, ints); high = omega (arith, ints) }
-
 bit_word : (b : Bool) → IsWord 2 (bit_of b)
 bit_word true = record { low = omega (arith, ints); high = omega (arith, ints) }
 bit_word false = record { low = omega (arith, ints); high = omega (arith, ints) }
@@ -77,17 +69,15 @@ bit_word false = record { low = omega (arith, ints); high = omega (arith, ints) 
 plain_format : (o : Op) (fmt : Format) → IsFlatFormat (class_of o) fmt → HasFormats o fmt None
 plain_format o fmt h indices _ as_it_is = (h, refl)
 
-wrapped_format : (t : FixType) → IsShape t.shape → IsFormat (wrapped t)
-wrapped_format t is =
-    record { lowest = omega (arith, ints); highest = omega (arith, ints); narrowest = is.narrowest; widest = is.widest }
+fitted_format : (t : FixType) → IsShape t.shape → IsFormat (fitted t)
+fitted_format t is = record { lowest = omega (arith, ints); highest = omega (arith, ints); width = is.width }
 
 rounded_format : (t : FixType) (bits : ℤ)
     → IsShape t.shape
-    → negsuc 31 ≤ℤ bits
-    → bits ≤ℤ pos 64
+    → negsuc 39 ≤ℤ bits
+    → bits ≤ℤ pos 80
     → IsFormat (rounded t bits)
-rounded_format t bits is low high =
-    record { lowest = low; highest = high; narrowest = is.narrowest; widest = is.widest }
+rounded_format t bits is low high = record { lowest = low; highest = high; width = is.width }
 
 left_shift : (k : ℕ) → negsuc 0 *ℤ pos k ≡ neg_ℤ (pos k)
 left_shift k = omega (arith, ints)
@@ -100,26 +90,12 @@ shift_formats : (left : Bool) (t : FixType) (amount : Manifest)
     → HasFormats does.Pass (one_bit left t) (Some amount)
 shift_formats true t amount is indices _ (by_amount {k = k} m) =
     let e = left_shift k in
-    let most = m.most in (
-      record {
-        lowest = omega (arith, ints);
-        highest = omega (arith, ints);
-        narrowest = is.narrowest;
-        widest = is.widest;
-      },
-      refl,
-    )
+    let most = m.most in
+    (record { lowest = omega (arith, ints); highest = omega (arith, ints); width = is.width }, refl)
 shift_formats false t amount is indices _ (by_amount {k = k} m) =
     let e = right_shift k in
-    let most = m.most in (
-      record {
-        lowest = omega (arith, ints);
-        highest = omega (arith, ints);
-        narrowest = is.narrowest;
-        widest = is.widest;
-      },
-      refl,
-    )
+    let most = m.most in
+    (record { lowest = omega (arith, ints); highest = omega (arith, ints); width = is.width }, refl)
 
 bit_width : (left : Bool) (t : FixType) → (one_bit left t).width ≡ t.shape.w
 bit_width true t = refl
@@ -135,9 +111,9 @@ one_width : (ty : SigType) → typing.width_of ty ≡ width_of ty
 one_width (Fix t) = refl
 one_width Truths = refl
 
-sound_width : (ty : SigType) → IsSoundType ty → (1 ≤ width_of ty) × (width_of ty ≤ 32)
-sound_width (Fix t) ok = let s = sound_shape t ok in (s.narrowest, s.widest)
-sound_width Truths ok = (omega arith, omega arith)
+sound_width : (ty : SigType) → IsSoundType ty → IsWidth (width_of ty)
+sound_width (Fix t) ok = (sound_shape t ok).width
+sound_width Truths ok = record { narrowest = omega arith; widest = omega arith }
 
 module _ (p : Program) (f : Func) where
   -- the words of the typed expression have w bits; for a choice that is so where its choices' have
@@ -167,11 +143,11 @@ module _ (p : Program) (f : Func) where
       let is =
       raw_back (Number negative digits places at) (Fix t) (word_of (Number negative digits places at) (Fix t)) h
       refl in
-      record { allowed = word_wider t.shape.w _ (sound_shape t ok).widest is.word; fits = is.word }
+      record { allowed = word_wider t.shape.w 40 _ (sound_shape t ok).width.widest is.word; fits = is.word }
   literal_good (Number negative digits places at) Truths ok h = absurd (cc h)
   literal_good (Truth value at) (Fix t) ok h = absurd (cc h)
   literal_good (Truth value at) Truths ok h =
-      record { allowed = word_wider 2 _ (omega arith) (bit_word value); fits = bit_word value }
+      record { allowed = word_wider 2 40 _ (omega arith) (bit_word value); fits = bit_word value }
 
   -- operations on one part and on two, quantised and not
   quantised_one : (o : Op)
@@ -280,11 +256,11 @@ module _ (p : Program) (f : Func) where
       let ss = sound_shape s (okr (Fix s) refl) in
       let bits = pos (r.shape.f + s.shape.f) -ℤ pos t.shape.f in
       let rf = rs.places in
-      let rw_ = rs.widest in
+      let rw_ = rs.width.widest in
       let sf = ss.places in
-      let sw = ss.widest in
+      let sw = ss.width.widest in
       let tf = shape.places in
-      let tw = shape.widest in
+      let tw = shape.width.widest in
       quantised_two does.Mul refl refl (rounded t bits) t _ _
       (rounded_format t bits shape (omega (arith, ints)) (omega (arith, ints))) refl
       (gx (Fix r) (okl (Fix r) refl) k.0).allowed (gy (Fix s) (okr (Fix s) refl) k.1).allowed
@@ -309,7 +285,7 @@ module _ (p : Program) (f : Func) where
       let rs = sound_shape r (ok (Fix r) refl) in
       let cs = sound_shape c okc in
       let bits = pos r.shape.f -ℤ pos c.shape.f in
-      let rf = rs.places in let rw_ = rs.widest in let cf = cs.places in let cw = cs.widest in
+      let rf = rs.places in let rw_ = rs.width.widest in let cf = cs.places in let cw = cs.width.widest in
       quantised_one does.Pass refl refl (rounded c bits) None t _
       (plain_format does.Pass (rounded c bits) (rounded_format c bits cs (omega (arith, ints)) (omega (arith, ints))))
       (ap (λ s. s.w) shape)
@@ -339,7 +315,7 @@ module _ (p : Program) (f : Func) where
           tt,
           refl,
           plain_format does.Sel (chosen ty)
-              (record { width = (omega (arith, e, w.0), omega (arith, e, w.1)); plain = refl }),
+              (record { width = subst IsWidth (sym e) w; plain = refl }),
           (a, (gv.allowed, (gr.allowed, tt))),
         );
         fits = (e, (gv.fits, (gr.fits, tt)));
@@ -357,7 +333,7 @@ module _ (p : Program) (f : Func) where
           record { allowed = tt; fits = λ r is. same_width r ty (fits (name_type p f place.name) r ty place.at is h) }
       typed_good (negate at x) (Fix t) sound ok h =
           let s = sound_shape t ok in
-          quantised_one does.Neg refl refl (wrapped t) None t _ (plain_format does.Neg (wrapped t) (wrapped_format t s))
+          quantised_one does.Neg refl refl (fitted t) None t _ (plain_format does.Neg (fitted t) (fitted_format t s))
           refl (typed_good x (Fix t) sound ok h).allowed
       typed_good (negate at x) Truths sound ok h = absurd (cc h)
       typed_good (not at x) (Fix t) sound ok h = absurd (cc h)
@@ -387,11 +363,11 @@ module _ (p : Program) (f : Func) where
           choice_good branches ty sound.0 ok k.0 (typed_expr p f last ty) (typed_good last ty sound.1 ok k.1)
       typed_good (binary at op.Add x y) (Fix t) sound ok h =
           let k = two_pass (expr_rules p f x (Fix t)) (expr_rules p f y (Fix t)) h in
-          quantised_two does.Add refl refl (wrapped t) t _ _ (wrapped_format t (sound_shape t ok)) refl
+          quantised_two does.Add refl refl (fitted t) t _ _ (fitted_format t (sound_shape t ok)) refl
           (typed_good x (Fix t) sound.0 ok k.0).allowed (typed_good y (Fix t) sound.1 ok k.1).allowed
       typed_good (binary at op.Sub x y) (Fix t) sound ok h =
           let k = two_pass (expr_rules p f x (Fix t)) (expr_rules p f y (Fix t)) h in
-          quantised_two does.Sub refl refl (wrapped t) t _ _ (wrapped_format t (sound_shape t ok)) refl
+          quantised_two does.Sub refl refl (fitted t) t _ _ (fitted_format t (sound_shape t ok)) refl
           (typed_good x (Fix t) sound.0 ok k.0).allowed (typed_good y (Fix t) sound.1 ok k.1).allowed
       typed_good (binary at op.Mul x y) (Fix t) sound ok h =
           multiplied x y t at (sound_shape t ok) (factor_type p f x y) (factor_type p f y x)

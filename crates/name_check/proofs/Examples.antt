@@ -118,10 +118,15 @@ index_of_a_signal : met (alone (loop (codes "x") (whole 0 50) (counter (codes "j
     ≡ Err (Twice 45)
 index_of_a_signal = refl
 
--- y = fix<33,0>(z);
-size_of_a_cast : met (alone (equation (place (codes "y") 45 []) (cast 49 (fix_type 33 0) (bare (codes "z") 59)) ∷ []))
+-- y = fix<41,0>(z);
+size_of_a_cast : met (alone (equation (place (codes "y") 45 []) (cast 49 (fix_type 41 0) (bare (codes "z") 59)) ∷ []))
     ≡ Err (Size 49)
 size_of_a_cast = refl
+
+-- y = fix<40,0>(x);
+widest_cast : met (alone (equation (place (codes "y") 45 []) (cast 49 (fix_type 40 0) (bare (codes "x") 59)) ∷ []))
+    ≡ Ok tt
+widest_cast = refl
 
 -- y@@i = 1;
 unknown_amount : met (alone (initial (place (codes "y") 45 []) (counter (codes "i") 48) (number 1 52) ∷ []))
@@ -205,7 +210,7 @@ h w count =
 too_many_words : met (record { tops = h 8 3 ∷ [] }) ≡ Err (Arity 6)
 too_many_words = refl
 
-size_before_arity : met (record { tops = h 33 3 ∷ [] }) ≡ Err (Size 6)
+size_before_arity : met (record { tops = h 41 3 ∷ [] }) ≡ Err (Size 6)
 size_before_arity = refl
 
 -- var y[0] : fix<8,0>;  Size stands before Twice

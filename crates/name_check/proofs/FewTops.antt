@@ -1,16 +1,15 @@
 -- A program has no more tables and functions than tokens, so that each source of a program meets what `check_names`
 -- asks.
 use Rattle.std.proofs.Common.{arith, ℕ, ◌+◌, ◌≤◌, List, length}
-use Rattle.fix_word.specs.declared.types.FixType.{FixType}
 use Rattle.fix_word.specs.declared.types.SigType.{SigType}
 use Rattle.silage_lex.specs.declared.Token.{Token}
 use Rattle.silage_syntax.specs.declared.tree.Decl.{Decl}
 use Rattle.silage_syntax.specs.declared.tree.Lit.{Lit}
 use Rattle.silage_syntax.specs.Grammar as g
-use Rattle.silage_syntax.specs.Grammar.{Declared, IsSigned, IsList, IsDims, IsFix, IsType, IsDeclared, IsDecl, IsLocals}
+use Rattle.silage_syntax.specs.Grammar.{Declared, IsSigned, IsList, IsDims, IsType, IsDeclared, IsDecl, IsLocals}
 use Rattle.silage_syntax.specs.Grammar.{IsResults, IsWords, IsTop, IsTops, Role, Derives}
 use Rattle.silage_syntax.specs.Tree.{Top, Program}
-use Rattle.silage_syntax.proofs.Rising.{items_rise}
+use Rattle.silage_syntax.proofs.Rising.{fix_rises, items_rise}
 
 module _ (ts : List Token) where
   list_rises : {A : Type 0} (One : ℕ → A → ℕ → Type 0)
@@ -26,12 +25,8 @@ module _ (ts : List Token) where
   dims_rise i ds j (g.vector a b c) = omega arith
   dims_rise i ds j (g.matrix a b c d e h) = omega arith
 
-  fix_rises : (i : ℕ) (f : FixType) (j : ℕ) → IsFix ts i f j → i ≤ j
-  fix_rises i f j (g.no_mode a b c d e h) = omega arith
-  fix_rises i f j (g.with_mode a b c d e h k l) = omega arith
-
   type_rises : (i : ℕ) (ty : SigType) (j : ℕ) → IsType ts i ty j → i ≤ j
-  type_rises i ty j (g.fix a) = fix_rises _ _ _ a
+  type_rises i ty j (g.fix a) = fix_rises ts _ _ _ a
   type_rises i ty j (g.bool a) = omega arith
 
   declared_rises : (i : ℕ) (d : Declared) (j : ℕ) → IsDeclared ts i d j → i ≤ j
@@ -59,7 +54,7 @@ module _ (ts : List Token) where
 
   top_rises : (i : ℕ) (t : Top) (rs : List Role) (j : ℕ) → IsTop ts i t rs j → i + 1 ≤ j
   top_rises i t rs j (g.is_table a b c d e h k) =
-      omega (arith, declared_rises _ _ _ b, fix_rises _ _ _ d, words_rise _ _ _ h)
+      omega (arith, declared_rises _ _ _ b, fix_rises ts _ _ _ d, words_rise _ _ _ h)
   top_rises i t rs j (g.is_function a b c d e h k l m n o p) =
       omega (
         arith,

@@ -4,13 +4,10 @@ ghost use Rattle.std.specs.Prelude.{◌≡◌, length, if◌then◌else◌, Some
 ghost use Rattle.silage_syntax.specs.Names as name;
 ghost use Rattle.source_names.specs.Meanings as meaning;
 
-use fix_word::{FixType, SigType};
+use fix_word::{FixType, MOST_BITS, SigType};
 
 /// The most elements of an array, and its greatest dim.
 const MOST_ELEMENTS: u32 = 8192;
-
-/// The most bits of a word.
-const MOST_BITS: u8 = 32;
 
 /// How many elements an array with these dims has, if they are allowed.
 pub(crate) fn element_count(dims: &[u32]) -> Option<u32>

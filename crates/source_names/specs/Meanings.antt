@@ -40,7 +40,7 @@ abbrev pub most_elements : ℕ
 most_elements = 8192
 
 abbrev pub most_bits : ℕ
-most_bits = 32
+most_bits = 40
 
 abbrev pub is_dim : ℕ → Bool
 is_dim dim = nat_le 1 dim && nat_le dim most_elements

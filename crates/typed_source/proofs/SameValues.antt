@@ -25,21 +25,21 @@ use Rattle.silage_syntax.specs.Tree.{Branches, no_branch, branch, Func, Program}
 use Rattle.silage_syntax.specs.Names.{table_named}
 use Rattle.silage_meaning.specs.Instances.{Site}
 use Rattle.silage_meaning.specs.Types.{HasShapeOf, name_type, own_type, factor_type, common_type, table_type}
-use Rattle.silage_meaning.specs.Value.{Words, IsValue, IsChosen, IsRead, signal, number, IsEntry, IsWrapped}
+use Rattle.silage_meaning.specs.Value.{Words, IsValue, IsChosen, IsRead, signal, number, IsEntry, IsFitted}
 use Rattle.silage_meaning.specs.Value.{IsConverted, HaveValues, IsProduct, IsComparison, IsCast}
 use Rattle.typed_source.specs.TypeRules.{is_same_shape, misfit, name_rules, part_type, is_no_truth, cast_rules}
 use Rattle.typed_source.specs.TypeRules.{product_rules, comparison_rules, expr_rules, branch_rules, literal_rules}
 use Rattle.typed_source.specs.TypedTree.{TypedExpr, node}
 use Rattle.typed_source.specs.TypedValue as typed
 use Rattle.typed_source.specs.TypedValue.{HasTypedValue, HasRead}
-use Rattle.typed_source.specs.Translation.{word_of, wrapped, rounded, no_format, chosen, one, two, typed_against}
+use Rattle.typed_source.specs.Translation.{word_of, fitted, rounded, no_format, chosen, one, two, typed_against}
 use Rattle.typed_source.specs.Translation.{typed_product, typed_cast, typed_expr, typed_choice, one_bit, typed_table}
 use Rattle.typed_source.specs.declared.fault.TypeFault.{TypeFault}
 use Rattle.typed_source.specs.declared.fault.TypeFault.TheVariants.{Mismatch}
 use Rattle.typed_source.specs.Private.Sound.{IsSoundType, IsSound, AreSound, HasSoundTypes}
 use Rattle.typed_source.proofs.Literals.{Passes, raw_there, raw_back}
 use Rattle.typed_source.proofs.Tests.{shape_is, sound_shape}
-use Rattle.typed_source.proofs.TypedForms.{wrap_form, form_wrap, left_form, form_left, right_form, form_right}
+use Rattle.typed_source.proofs.TypedForms.{fit_form, form_fit, left_form, form_left, right_form, form_right}
 use Rattle.typed_source.proofs.OwnTypes.{own_sound, factor_sound, common_sound}
 use Rattle.typed_source.proofs.TypedNodes.{one_given, one_taken, two_given, two_taken, three_given, three_taken}
 use Rattle.typed_source.proofs.TypedNodes.{shift_given, shift_taken}
@@ -103,22 +103,22 @@ module _ (p : Program) (s : Site) (words : Words) (n : ℕ) where
     turned_back h =
         let k = two_taken p s words n o fmt u t v h in (k.1, k.0, e.back k.1 k.3, g.back k.0 k.2, from k.1 k.0 v k.4)
 
-  wrapped_to : (t : FixType) (q v : ℤ) → IsWrapped t q v → IsForm q (wrapped t) v
-  wrapped_to t q v h = wrap_form t q v h.wrapped
+  fitted_to : (t : FixType) (q v : ℤ) → IsFitted t q v → IsForm q (fitted t) v
+  fitted_to t q v h = fit_form t q v h.fitted
 
-  wrapped_from : (t : FixType) → IsShape t.shape → (q v : ℤ) → IsForm q (wrapped t) v → IsWrapped t q v
-  wrapped_from t shape q v h = record { shape = shape; wrapped = form_wrap t q v h }
+  fitted_from : (t : FixType) → IsShape t.shape → (q v : ℤ) → IsForm q (fitted t) v → IsFitted t q v
+  fitted_from t shape q v h = record { shape = shape; fitted = form_fit t q v h }
 
   negate_same : (at : ℕ) (x : Expr) (t : FixType) (u : TypedExpr)
       → IsShape t.shape
       → Same x (Fix t) u
-      → Same (negate at x) (Fix t) (node does.Neg (wrapped t) (one u) None)
+      → Same (negate at x) (Fix t) (node does.Neg (fitted t) (one u) None)
   negate_same at x t u shape e = record {
     there = λ v h.
-        one_given p s words n does.Neg (wrapped t) u h.0 v (e.there h.0 h.1) (wrapped_to t (neg_ℤ h.0) v h.2);
+        one_given p s words n does.Neg (fitted t) u h.0 v (e.there h.0 h.1) (fitted_to t (neg_ℤ h.0) v h.2);
     back = λ v h.
-        let k = one_taken p s words n does.Neg (wrapped t) u v h in
-        (k.0, e.back k.0 k.1, wrapped_from t shape (neg_ℤ k.0) v k.2);
+        let k = one_taken p s words n does.Neg (fitted t) u v h in
+        (k.0, e.back k.0 k.1, fitted_from t shape (neg_ℤ k.0) v k.2);
   }
 
   not_same : (at : ℕ) (x : Expr) (u : TypedExpr)
@@ -136,9 +136,9 @@ module _ (p : Program) (s : Site) (words : Words) (n : ℕ) where
   left_same at x amount t u shape e = record {
     there = λ v h.
         shift_given p s words n does.Pass (one_bit true t) u amount h.0 h.1 v (e.there h.0 h.2) h.3
-        (left_form t h.0 h.1 v h.4.wrapped);
+        (left_form t h.0 h.1 v h.4.fitted);
     back = λ v h. let k = shift_taken p s words n does.Pass (one_bit true t) u amount v h in
-        (k.0, k.1, e.back k.0 k.2, k.3, record { shape = shape; wrapped = form_left t k.0 k.1 v k.4 });
+        (k.0, k.1, e.back k.0 k.2, k.3, record { shape = shape; fitted = form_left t k.0 k.1 v k.4 });
   }
 
   right_same : (at : ℕ) (x : Expr) (amount : Manifest) (t : FixType) (u : TypedExpr)
@@ -158,28 +158,28 @@ module _ (p : Program) (s : Site) (words : Words) (n : ℕ) where
       → IsShape t.shape
       → Same x (Fix t) u
       → Same y (Fix t) w
-      → Same (binary at op.Add x y) (Fix t) (node does.Add (wrapped t) (two u w) None)
+      → Same (binary at op.Add x y) (Fix t) (node does.Add (fitted t) (two u w) None)
   add_same at x y t u w shape e g = record {
     there = λ v h.
-        both_there does.Add (wrapped t) (λ a b v. IsWrapped t (a +ℤ b) v) (λ a b v k. wrapped_to t (a +ℤ b) v k)
-        (λ a b v k. wrapped_from t shape (a +ℤ b) v k) x y (Fix t) (Fix t) u w e g v h;
+        both_there does.Add (fitted t) (λ a b v. IsFitted t (a +ℤ b) v) (λ a b v k. fitted_to t (a +ℤ b) v k)
+        (λ a b v k. fitted_from t shape (a +ℤ b) v k) x y (Fix t) (Fix t) u w e g v h;
     back = λ v h.
-        both_back does.Add (wrapped t) (λ a b v. IsWrapped t (a +ℤ b) v) (λ a b v k. wrapped_to t (a +ℤ b) v k)
-        (λ a b v k. wrapped_from t shape (a +ℤ b) v k) x y (Fix t) (Fix t) u w e g v h;
+        both_back does.Add (fitted t) (λ a b v. IsFitted t (a +ℤ b) v) (λ a b v k. fitted_to t (a +ℤ b) v k)
+        (λ a b v k. fitted_from t shape (a +ℤ b) v k) x y (Fix t) (Fix t) u w e g v h;
   }
 
   sub_same : (at : ℕ) (x y : Expr) (t : FixType) (u w : TypedExpr)
       → IsShape t.shape
       → Same x (Fix t) u
       → Same y (Fix t) w
-      → Same (binary at op.Sub x y) (Fix t) (node does.Sub (wrapped t) (two u w) None)
+      → Same (binary at op.Sub x y) (Fix t) (node does.Sub (fitted t) (two u w) None)
   sub_same at x y t u w shape e g = record {
     there = λ v h.
-        both_there does.Sub (wrapped t) (λ a b v. IsWrapped t (a -ℤ b) v) (λ a b v k. wrapped_to t (a -ℤ b) v k)
-        (λ a b v k. wrapped_from t shape (a -ℤ b) v k) x y (Fix t) (Fix t) u w e g v h;
+        both_there does.Sub (fitted t) (λ a b v. IsFitted t (a -ℤ b) v) (λ a b v k. fitted_to t (a -ℤ b) v k)
+        (λ a b v k. fitted_from t shape (a -ℤ b) v k) x y (Fix t) (Fix t) u w e g v h;
     back = λ v h.
-        both_back does.Sub (wrapped t) (λ a b v. IsWrapped t (a -ℤ b) v) (λ a b v k. wrapped_to t (a -ℤ b) v k)
-        (λ a b v k. wrapped_from t shape (a -ℤ b) v k) x y (Fix t) (Fix t) u w e g v h;
+        both_back does.Sub (fitted t) (λ a b v. IsFitted t (a -ℤ b) v) (λ a b v k. fitted_to t (a -ℤ b) v k)
+        (λ a b v k. fitted_from t shape (a -ℤ b) v k) x y (Fix t) (Fix t) u w e g v h;
   }
 
   and_same : (at : ℕ) (x y : Expr) (u w : TypedExpr)

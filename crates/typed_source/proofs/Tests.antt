@@ -9,6 +9,7 @@ use Rattle.fix_word.specs.declared.types.FixType.{FixType}
 use Rattle.fix_word.specs.declared.types.SigType.{SigType}
 use Rattle.fix_word.specs.declared.types.SigType.TheVariants.{Fix, Bool as Truths}
 use Rattle.silage_meaning.specs.Types.{HasShapeOf}
+use Rattle.source_names.specs.Meanings.{most_bits}
 use Rattle.typed_source.specs.TypeRules.{is_word, is_same_shape}
 use Rattle.typed_source.specs.Private.Sound.{IsSoundType}
 
@@ -49,6 +50,9 @@ shape_is Truths Truths e = tt
 
 pub sound_shape : (t : FixType) → IsSoundType (Fix t) → IsShape t.shape
 sound_shape t e =
-    let h = both_true (nat_le 1 t.shape.w) (nat_le t.shape.w 32 && nat_le t.shape.f t.shape.w) e in
-    let k = both_true (nat_le t.shape.w 32) (nat_le t.shape.f t.shape.w) h.1 in
-    record { narrowest = leb-true _ _ h.0; widest = leb-true _ _ k.0; places = leb-true _ _ k.1 }
+    let h = both_true (nat_le 1 t.shape.w) (nat_le t.shape.w most_bits && nat_le t.shape.f t.shape.w) e in
+    let k = both_true (nat_le t.shape.w most_bits) (nat_le t.shape.f t.shape.w) h.1 in
+    record {
+      width = record { narrowest = leb-true _ _ h.0; widest = leb-true _ _ k.0 };
+      places = leb-true _ _ k.1;
+    }

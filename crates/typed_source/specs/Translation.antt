@@ -2,6 +2,7 @@
 -- a fault nothing is said by it.
 use Rattle.std.specs.Prelude.{ℕ, ◌+◌, List, [], ◌∷◌, map, filter_map, Option, Some, None}
 use Rattle.std.specs.Prelude.{ℤ, pos, negsuc, ◌-ℤ◌, Bool, true, false}
+use Rattle.fix_word.specs.Words.{overflow_of}
 use Rattle.fix_word.specs.Values.{nearest_of, bit_of}
 use Rattle.fix_word.specs.declared.types.FixType.{FixType}
 use Rattle.fix_word.specs.declared.types.Format.{Format}
@@ -34,9 +35,9 @@ word_of (Number negative digits places at) (Fix t) = nearest_of negative digits 
 word_of (Truth value at) ty = bit_of value
 word_of (Number negative digits places at) Truths = pos 0
 
--- an exact result that is wrapped to the width of the type
-abbrev pub wrapped : FixType → Format
-wrapped t = record { shift = pos 0; mode = Trunc; width = t.shape.w }
+-- an exact result that is brought to the width of the type by its overflow mode
+abbrev pub fitted : FixType → Format
+fitted t = record { shift = pos 0; mode = overflow_of t.mode; width = t.shape.w }
 
 -- a result with so many more fraction bits than the type, which are dropped by its mode
 abbrev pub rounded : FixType → (bits : ℤ) → Format
@@ -89,8 +90,8 @@ typed_cast None X c = X (Fix c)
 -- a binary operator on these parts, where the fix type t is wanted
 abbrev pub typed_number : BinOp → (left right : Option SigType) → (X Y : SigType → TypedExpr) → FixType
     → TypedExpr
-typed_number op.Add left right X Y t = node does.Add (wrapped t) (two (X (Fix t)) (Y (Fix t))) None
-typed_number op.Sub left right X Y t = node does.Sub (wrapped t) (two (X (Fix t)) (Y (Fix t))) None
+typed_number op.Add left right X Y t = node does.Add (fitted t) (two (X (Fix t)) (Y (Fix t))) None
+typed_number op.Sub left right X Y t = node does.Sub (fitted t) (two (X (Fix t)) (Y (Fix t))) None
 typed_number op.Mul left right X Y t = typed_product left right X Y t
 typed_number _ left right X Y t = untyped
 
@@ -106,9 +107,9 @@ typed_truth op.And X Y x y = node does.And no_format (two (X Truths) (Y Truths))
 typed_truth op.Or X Y x y = node does.Or no_format (two (X Truths) (Y Truths)) None
 typed_truth _ X Y x y = untyped
 
--- a shift by one bit, which an amount multiplies: exact to the left, by the type's mode to the right
+-- a shift by one bit, which an amount multiplies: exact to the left, rounded to the right
 abbrev pub one_bit : (left : Bool) → FixType → Format
-one_bit true t = record { shift = negsuc 0; mode = Trunc; width = t.shape.w }
+one_bit true t = record { shift = negsuc 0; mode = overflow_of t.mode; width = t.shape.w }
 one_bit false t = record { shift = pos 1; mode = t.mode; width = t.shape.w }
 
 -- In a function of the program.
@@ -118,7 +119,7 @@ module _ (p : Program) (f : Func) where
     pub typed_expr : Expr → (wanted : SigType) → TypedExpr
     typed_expr (literal l) ty = raw (word_of l ty)
     typed_expr (read place delay) ty = typed.read place delay
-    typed_expr (negate at x) (Fix t) = node does.Neg (wrapped t) (one (typed_expr x (Fix t))) None
+    typed_expr (negate at x) (Fix t) = node does.Neg (fitted t) (one (typed_expr x (Fix t))) None
     typed_expr (negate at x) Truths = untyped
     typed_expr (not at x) (Fix t) = untyped
     typed_expr (not at x) Truths = node does.Not no_format (one (typed_expr x Truths)) None
