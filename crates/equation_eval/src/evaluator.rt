@@ -31,7 +31,7 @@ pub struct Evaluator {
     inputs: List<SigType>,
     program: List<Instruction>,
     outputs: List<Source>,
-    phase: u16,
+    phase: u32,
     memory: List<Operand>,
     // The graph and the rows that were run: clauses alone read them.
     graph: Snapshot<Graph>,
@@ -70,7 +70,7 @@ impl From<AllocError> for EvalFault {
 }
 
 /// The phase after this one.
-fn next_phase(phase: u16) -> u16
+fn next_phase(phase: u32) -> u32
     requires { phase < PERIOD }
     ensures { result ≡ (phase + 1) % 1024 }
 {

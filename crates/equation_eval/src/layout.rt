@@ -1,7 +1,7 @@
 //! The rings of a graph's nodes, and what they hold before sample 0.
 ghost use Rattle.std.specs.Prelude.{◌≡◌, ℕ, ◌+◌, ◌-◌, ◌*◌, ◌^◌, ◌<◌, ◌≤◌, length, pos, replicate, slice_index_or, IfOk, OnOk};
 ghost use Rattle.std.specs.List.{All};
-ghost use Rattle.fix_word.specs.Words.{IsWord};
+ghost use Rattle.fix_word.specs.Words.{IsMachineWord};
 ghost use Rattle.signal_graph.specs.GraphRules.{IsGraph};
 ghost use Rattle.signal_graph.specs.Rules.{IsWithin, word_before};
 ghost use Rattle.equation_eval.specs.declared.memory.TheConstants.{PERIOD};
@@ -55,9 +55,9 @@ fn rings_of(alloc: Global, longest: &List<u16>) -> Result<(List<Ring>, u32), All
     let mut rings = List::with_capacity(alloc, longest.len())?;
     let mut base: u32 = 0;
     for delay in longest.iter() {
-        let mask = Mask::above(*delay);
+        let mask = Mask::above(u32::from(*delay));
         rings.push(Ring { base, mask })?;
-        base = base + u32::from(mask.get()) + 1;
+        base = base + mask.get() + 1;
     }
     Ok((rings, base))
 }
@@ -73,12 +73,13 @@ fn put_initial(memory: &mut List<Operand>, ring: &Ring, init: &(u16, i64))
     requires ring { ring.now.base + ring.now.mask + 1 ≤ length memory.old }
     requires most { length memory.old ≤ 2 ^ 30 }
     requires sample { 1 ≤ init.now.0 }
-    requires word { IsWord 32 init.now.1 }
+    requires word { IsMachineWord init.now.1 }
     ensures { memory.new ≡ with_initial ring.now init.now memory.old }
 {
     let size = ring.mask.get() + 1;
-    if init.0 < size {
-        memory[ring.base as usize + usize::from(size - init.0)] = Operand::new(init.1);
+    let ago = u32::from(init.0);
+    if ago < size {
+        memory[(ring.base + (size - ago)) as usize] = Operand::new(init.1);
     }
 }
 
@@ -88,7 +89,7 @@ fn put_initials(memory: &mut List<Operand>, ring: &Ring, inits: &List<(u16, i64)
     requires most { length memory.old ≤ 2 ^ 30 }
     requires zeros { HoldsZeros ring.now memory.old }
     requires samples { All (λ init. IsWithin 1 1023 init.0) inits.now }
-    requires words { All (λ init. IsWord 32 init.1) inits.now }
+    requires words { All (λ init. IsMachineWord init.1) inits.now }
     ensures len { length memory.new ≡ length memory.old }
     ensures initials { HoldsWordsBefore inits.now ring.now memory.new }
     ensures others { SameOutside ring.now memory.old memory.new }

@@ -5,12 +5,12 @@ ghost use Rattle.equation_eval.specs.Private.Masks.{IsMask};
 use std::marker::Model;
 
 /// How many samples a phase counts before it begins again at 0: the size of the largest ring.
-pub const PERIOD: u16 = 1024;
+pub const PERIOD: u32 = 1024;
 
 /// One less than the size of a ring, which is a power of two up to `PERIOD`. Contracts see the number.
 #[derive(Clone, Copy)]
 pub struct Mask {
-    bits: u16,
+    bits: u32,
 }
 
 impl Model for Mask {
@@ -28,7 +28,7 @@ impl Model for Mask {
 
 impl Mask {
     /// The least mask of a ring that keeps the word of `delay` samples ago.
-    pub fn above(delay: u16) -> Mask
+    pub fn above(delay: u32) -> Mask
         requires { delay < PERIOD }
         ensures covers { delay ≤ result }
         ensures size { IsMask result }
@@ -40,7 +40,7 @@ impl Mask {
         Mask { bits }
     }
 
-    pub fn get(self) -> u16
+    pub fn get(self) -> u32
         ensures value { result ≡ self }
         ensures most { result < PERIOD }
     {
@@ -49,7 +49,7 @@ impl Mask {
 
     /// A time as a number in the ring.
     #[inline(always)]
-    pub fn wrap(self, time: u16) -> u16
+    pub fn wrap(self, time: u32) -> u32
         ensures value { result ≡ time % (self + 1) }
         ensures within { result ≤ self }
     {
@@ -71,5 +71,5 @@ pub struct Source {
     pub base: u32,
     pub mask: Mask,
     /// A period less the delay.
-    pub later: u16,
+    pub later: u32,
 }

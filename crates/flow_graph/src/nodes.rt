@@ -1,7 +1,7 @@
 //! The nodes that are made at places.
 
 ghost use Rattle.std.specs.Prelude.{◌≡◌, ◌<◌, [], length, map, pos, if◌then◌else◌, option_map, slice_get, IfOk};
-ghost use Rattle.fix_word.specs.Words.{IsWord};
+ghost use Rattle.fix_word.specs.Words.{IsMachineWord};
 ghost use Rattle.fix_word.specs.declared.operation.Op.TheVariants as op;
 ghost use Rattle.signal_graph.specs.Operations.{class_of};
 ghost use Rattle.signal_graph.specs.Rules.{width_of, plain};
@@ -60,7 +60,7 @@ fn node_width(op: Op, fmt: Format) -> u8
 
 /// The node of a raw word.
 fn constant_node(alloc: Global, word: i64) -> Node
-    requires { IsWord 32 word }
+    requires { IsMachineWord word }
     ensures { IsNodeBy 0 [] (edge_by [] [] [] 0) (constant word) result }
 {
     Node {

@@ -82,7 +82,7 @@ module _ (p : Program) (g : Graph) (is : IsGraphOf p g) (sound : IsFlat p) (loop
         let bits = type_bits (element_of p e).ty (sound.elements e no_element el).ty in
         let fits = present_fits p sound loopless stream is_stream words solves e n el lt in
         pass_equal p g is stream node_words node_solves words n lt e x v h passes (its_expr x h).sound
-        (its_reads (value x) h) bits.0
+        (its_reads (value x) h) bits.narrowest
         (subst (λ (m : ℤ). IsWord (its_width p e) m) (its_value (value x) h) fits) number
         ∙ sym (its_value (value x) h)
     by_node t v (own_node {o = o} {fmt = fmt} {parts = parts} h) number =

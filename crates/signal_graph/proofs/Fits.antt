@@ -9,7 +9,7 @@ use Rattle.std.proofs.lemmas.Option.{slice_get-get_or, same_Some}
 use Rattle.std.proofs.lemmas.List.Elements.{All-contains}
 use Rattle.lists.specs.Rows.{Rows}
 use Rattle.recurrences.proofs.Along.{along}
-use Rattle.fix_word.specs.Words.{IsWord, IsFormat}
+use Rattle.fix_word.specs.Words.{IsWord, IsWidth, IsFormat}
 use Rattle.fix_word.specs.Values.{form_of, bit_of, truth_of, choice_of}
 use Rattle.fix_word.specs.declared.operation.Op.{Op}
 use Rattle.fix_word.specs.declared.operation.Op.TheVariants as op
@@ -18,7 +18,7 @@ use Rattle.fix_word.specs.declared.types.SigType.{SigType}
 use Rattle.fix_word.specs.declared.types.SigType.TheVariants as sig
 use Rattle.fix_word.proofs.Forms.{form_word}
 use Rattle.signal_graph.specs.Operations.{class_of, IsCalculation, operands}
-use Rattle.signal_graph.specs.Rules.{IsWithin, IsType, IsInType, width_of, AreInits, word_before, word_or_zero}
+use Rattle.signal_graph.specs.Rules.{IsType, IsInType, width_of, AreInits, word_before, word_or_zero}
 use Rattle.signal_graph.specs.Flat.{Expr, raw, read, calculation, Parts, no_part, part, Body, word, value, Element}
 use Rattle.signal_graph.specs.Flat.{Program, count}
 use Rattle.signal_graph.specs.FlatRules.{IsFlatFormat, GivesWidth, IsExpr, AreExprs, Fits, ChoicesFit, IsBodyOf, IsFlat}
@@ -29,9 +29,9 @@ use Rattle.signal_graph.specs.Values.{PartsRead, BodyReads}
 use Rattle.signal_graph.proofs.OneSolution.{flat_determined, flat_heights}
 use Rattle.signal_graph.proofs.Members.{found_member, zip_at}
 
-pub type_bits : (ty : SigType) → IsType ty → IsWithin 1 32 (width_of ty)
-type_bits (sig.Fix t) h = (h.narrowest, h.widest)
-type_bits sig.Bool h = (omega arith, omega arith)
+pub type_bits : (ty : SigType) → IsType ty → IsWidth (width_of ty)
+type_bits (sig.Fix t) h = h.width
+type_bits sig.Bool h = record { narrowest = omega arith; widest = omega arith }
 
 pub type_word : (ty : SigType) (m : ℤ) → IsInType ty m → IsWord (width_of ty) m
 type_word (sig.Fix t) m h = h
@@ -63,7 +63,7 @@ input_fits inputs stream n j ty is lt h =
     zip_at IsInType inputs (slice_index_or stream n []) j ty (pos 0) (is n [] lt) h
 
 quantised_fits : (q : ℤ) (fmt : Format) (w : ℕ) → IsFormat fmt → fmt.width ≡ w → IsWord w (form_of q fmt)
-quantised_fits q fmt w is h = subst (λ (u : ℕ). IsWord u (form_of q fmt)) h (form_word q fmt is.narrowest)
+quantised_fits q fmt w is h = subst (λ (u : ℕ). IsWord u (form_of q fmt)) h (form_word q fmt is.width)
 
 bit_fits : (b : Bool) (w : ℕ) → w ≡ 2 → IsWord w (bit_of b)
 bit_fits true w h =

@@ -9,7 +9,7 @@ use Rattle.std.proofs.lemmas.Option.{slice_get-get_or}
 use Rattle.std.proofs.lemmas.List.{length-append, length-take, get_or-take, get_or_default}
 use Rattle.std.proofs.lemmas.List.Elements.{All-nil, All-cons, All-head, All-tail, All-from_get_or}
 use Rattle.std.proofs.lemmas.List.Sums.{length-filter, count_by-le-length, sum_by-cons}
-use Rattle.fix_word.specs.Words.{IsWord}
+use Rattle.fix_word.specs.Words.{IsWord, IsWidth}
 use Rattle.fix_word.specs.declared.operation.Op.{Op}
 use Rattle.fix_word.specs.declared.operation.Op.TheVariants as op
 use Rattle.fix_word.specs.declared.types.Format.{Format}
@@ -64,9 +64,9 @@ no_argument g _ is = absurd is
 width_sound : (class : Class) (fmt : Format)
     → IsCalculation class
     → IsFlatFormat class fmt
-    → IsWithin 1 32 (node_width class fmt)
-width_sound quantised fmt is h = (h.narrowest, h.widest)
-width_sound truth fmt is h = (omega arith, omega arith)
+    → IsWidth (node_width class fmt)
+width_sound quantised fmt is h = h.width
+width_sound truth fmt is h = record { narrowest = omega arith; widest = omega arith }
 width_sound choice fmt is h = h.width
 width_sound _ fmt is h = absurd is
 
@@ -205,7 +205,7 @@ module _ (p : Program) (g : Graph) (is : IsGraphOf p g) (sound : IsFlat p) where
   made_sound s nothing node same at fits is_made = absurd is_made
   made_sound s (constant m) node same at fits is_made =
       let least = is_made.0 in
-      let most = least.least 32 (omega arith) fits in
+      let most = least.least 40 (omega arith) fits in
       subst (λ (x : Node). IsNode g x) (sym is_made.1) (record {
         operation = tt {0};
         fmt = refl;
@@ -213,7 +213,7 @@ module _ (p : Program) (g : Graph) (is : IsGraphOf p g) (sound : IsFlat p) where
         edge_count = refl;
         edges = All-nil (IsEdge g);
         inits = no_inits (IsWord node.width);
-        width = (least.bits, most);
+        width = record { narrowest = least.bits; widest = most };
       })
   made_sound s (input j) node same at fits is_made =
       subst (λ (x : Node). IsNode g x) (sym is_made) (record {

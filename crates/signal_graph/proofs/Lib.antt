@@ -35,6 +35,7 @@ pub mod Marks
 mod Examples
 mod GraphExamples
 mod SoundExamples
+mod ModeExamples
 mod PrunedExample
 mod KeepsExample
 mod WideExample

@@ -6,12 +6,12 @@ use Rattle.std.proofs.lemmas.Int.{ints}
 use Rattle.std.proofs.lemmas.Option.{same_Some, slice_get_within}
 use Rattle.std.proofs.lemmas.List.{length-append}
 use Rattle.std.proofs.lemmas.List.Elements.{All-nil, All-cons, All-append, All-push, All-same, All-contains}
-use Rattle.fix_word.specs.Words.{IsWord}
+use Rattle.fix_word.specs.Words.{IsWidth, IsMachineWord}
 use Rattle.fix_word.specs.declared.operation.Op.{Op}
 use Rattle.fix_word.specs.declared.operation.Op.TheVariants as op
 use Rattle.fix_word.specs.declared.types.Format.{Format}
 use Rattle.signal_graph.specs.Operations.{Class, quantised, truth, choice, class_of, operands}
-use Rattle.signal_graph.specs.Rules.{max_delay, IsWithin, plain}
+use Rattle.signal_graph.specs.Rules.{max_delay, plain}
 use Rattle.signal_graph.specs.Flat.{Expr, raw, read, calculation, Parts, no_part, part, Body, word, value, Program}
 use Rattle.signal_graph.specs.Flat.{size, count}
 use Rattle.signal_graph.specs.FlatRules.{IsCalculationOf, GivesWidth, IsExpr, AreExprs, ChoicesFit, IsBodyOf, IsFlat}
@@ -42,16 +42,11 @@ count_operands k no_part = refl
 count_operands k (part x rest) = omega (arith, count_operands (k + size x) rest)
 
 -- a Pass has a format and an operand
-pass_calculation : (w : ℕ) → IsWithin 1 32 w → IsCalculationOf op.Pass (plain w) 1
+pass_calculation : (w : ℕ) → IsWidth w → IsCalculationOf op.Pass (plain w) 1
 pass_calculation w bits = record {
   calculation = tt {0};
   parts = refl;
-  fmt = record {
-    lowest = omega (arith, ints);
-    highest = omega (arith, ints);
-    narrowest = bits.0;
-    widest = bits.1;
-  };
+  fmt = record { lowest = omega (arith, ints); highest = omega (arith, ints); width = bits };
 }
 
 gives_width : (class : Class) (fmt : Format) (C : Type 0) (w : ℕ) → GivesWidth class fmt C w → node_width class fmt ≡ w
@@ -63,7 +58,7 @@ gives_width _ fmt C w h = absurd h
 module _ (p : Program) where
   abbrev pub IsSoundMade : Made → Type 0
   IsSoundMade nothing = Unit {0}
-  IsSoundMade (constant m) = IsWord 32 m
+  IsSoundMade (constant m) = IsMachineWord m
   IsSoundMade (input j) = j < length p.inputs
   IsSoundMade (operation o fmt operands) = IsCalculationOf o fmt (length operands) × All IsOperand operands
 
@@ -100,7 +95,7 @@ module _ (p : Program) where
     its_body : (body : Body) → (element_of p e).body ≡ body → IsBodyOf p (element_of p e).ty body
     its_body body h = subst (λ (b : Body). IsBodyOf p (element_of p e).ty b) h (sound.elements e no_element el).body
 
-    pub its_bits : IsWithin 1 32 (its_width p e)
+    pub its_bits : IsWidth (its_width p e)
     its_bits = type_bits (element_of p e).ty (sound.elements e no_element el).ty
 
     value_sound : (x : Expr) (b : Bool) → IsExpr p x → All IsSoundMade (with_pass p e x b)

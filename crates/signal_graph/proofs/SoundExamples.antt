@@ -3,7 +3,7 @@ use Rattle.std.proofs.Common.{◌≡◌, refl, arith, ℕ, zero, suc, ◌+◌, �
 use Rattle.std.specs.Prelude.{◌≢◌, ℤ, pos, All, IsSomeAnd, slice_get}
 use Rattle.std.proofs.lemmas.Int.{ints}
 use Rattle.std.proofs.lemmas.List.Elements.{All-cons}
-use Rattle.fix_word.specs.Words.{IsWord, IsFormat}
+use Rattle.fix_word.specs.Words.{IsWord, IsWidth, IsFormat}
 use Rattle.fix_word.specs.declared.operation.Op.TheVariants as op
 use Rattle.signal_graph.specs.declared.graph.Node.{Node}
 use Rattle.signal_graph.specs.Rules.{max_delay, IsWithin, plain, IsType, AreInits}
@@ -12,30 +12,28 @@ use Rattle.signal_graph.specs.FlatRules.{IsExpr, Fits, IsElement, IsFlat}
 use Rattle.signal_graph.specs.GraphRules.{IsEdge, IsNode, first_output, IsOutput, IsGraph}
 use Rattle.signal_graph.proofs.Examples.{byte, sum, accumulator, edge, input_node, sum_node, output_node, its_graph}
 
-none : {A : Type 0} (P : A → Type 0) → All P []
+pub none : {A : Type 0} (P : A → Type 0) → All P []
 none P k d lt = absurd (omega arith)
 
-one : {A : Type 0} (P : A → Type 0) (x : A) → P x → All P (x ∷ [])
+pub one : {A : Type 0} (P : A → Type 0) (x : A) → P x → All P (x ∷ [])
 one P x h = All-cons P x [] h (none P)
 
 two : {A : Type 0} (P : A → Type 0) (x y : A) → P x → P y → All P (x ∷ y ∷ [])
 two P x y g h = All-cons P x (y ∷ []) g (one P y h)
 
+eight_bits : IsWidth 8
+eight_bits = record { narrowest = omega arith; widest = omega arith }
+
 shape : IsType byte
-shape = record { narrowest = omega arith; widest = omega arith; places = omega arith }
+shape = record { width = eight_bits; places = omega arith }
 
 format : IsFormat (plain 8)
-format = record {
-  lowest = omega (arith, ints);
-  highest = omega (arith, ints);
-  narrowest = omega arith;
-  widest = omega arith;
-}
+format = record { lowest = omega (arith, ints); highest = omega (arith, ints); width = eight_bits }
 
 five : IsWord 8 (pos 5)
 five = record { low = omega (arith, ints); high = omega (arith, ints) }
 
-no_inits : (P : ℤ → Type 0) → AreInits P []
+pub no_inits : (P : ℤ → Type 0) → AreInits P []
 no_inits P = record { samples = none _; rise = λ k lt. absurd (omega arith); words = none _ }
 
 five_before : (P : ℤ → Type 0) → P (pos 5) → AreInits P ((1, pos 5) ∷ [])
@@ -104,7 +102,7 @@ input_node_sound = record {
   edge_count = refl;
   edges = none _;
   inits = no_inits _;
-  width = (omega arith, omega arith);
+  width = eight_bits;
 }
 
 sum_node_sound : IsNode its_graph sum_node
@@ -115,7 +113,7 @@ sum_node_sound = record {
   edge_count = refl;
   edges = two (IsEdge its_graph) (edge 0 0) (edge 1 1) from_input from_last_sum;
   inits = five_before _ five;
-  width = (omega arith, omega arith);
+  width = eight_bits;
 }
 
 output_node_sound : IsNode its_graph output_node
@@ -126,7 +124,7 @@ output_node_sound = record {
   edge_count = refl;
   edges = one (IsEdge its_graph) (edge 1 0) from_sum;
   inits = no_inits _;
-  width = (omega arith, omega arith);
+  width = eight_bits;
 }
 
 graph_sound : IsGraph its_graph

@@ -1,6 +1,6 @@
 -- A sound flat program, one fact for each rule.
 use Rattle.std.specs.Prelude.{◌≡◌, ℕ, ◌^◌, ◌<◌, ◌≤◌, length, slice_get, All, sum_by, IsSomeAnd, Some}
-use Rattle.fix_word.specs.Words.{IsWord, IsFormat}
+use Rattle.fix_word.specs.Words.{IsWord, IsWidth, IsMachineWord, IsFormat}
 use Rattle.fix_word.specs.declared.operation.Op.{Op}
 use Rattle.fix_word.specs.declared.types.Format.{Format}
 use Rattle.fix_word.specs.declared.types.SigType.{SigType}
@@ -11,7 +11,7 @@ use Rattle.signal_graph.specs.Flat.{Program, count, size_of_body}
 
 -- a choice's format
 pub record IsChoiceFormat (fmt : Format) : Type 0 where
-  pub width : IsWithin 1 32 fmt.width
+  pub width : IsWidth fmt.width
   pub plain : fmt ≡ plain fmt.width
 
 -- the format of a calculation in a flat program
@@ -41,7 +41,7 @@ module _ (p : Program) where
 
   abbrev mutual
     pub IsExpr : Expr → Type 0
-    IsExpr (raw m) = IsWord 32 m
+    IsExpr (raw m) = IsMachineWord m
     IsExpr (read e ago) = IsRead e ago
     IsExpr (calculation o fmt parts) = IsCalculationOf o fmt (count parts) × AreExprs parts
 

@@ -1,6 +1,6 @@
 -- A sound graph, one fact for each rule.
 use Rattle.std.specs.Prelude.{◌≡◌, ◌≢◌, ℕ, ◌+◌, ◌-◌, ◌^◌, ◌<◌, ◌≤◌, length, take, slice_get, All, IsSomeAnd, ℤ, pos}
-use Rattle.fix_word.specs.Words.{IsWord}
+use Rattle.fix_word.specs.Words.{IsWord, IsWidth, IsMachineWord}
 use Rattle.fix_word.specs.declared.types.Format.{Format}
 use Rattle.fix_word.specs.declared.operation.Op.TheVariants as op
 use Rattle.operations.specs.Operations.{is_quantised, IsFormatWhere}
@@ -18,7 +18,7 @@ IsNodeFormat class = IsFormatWhere (is_quantised class)
 abbrev pub IsArgument : Graph → Class → ℤ → Type 0
 IsArgument g input arg = IsBelow (length g.inputs) arg
 IsArgument g output arg = IsBelow g.outs arg
-IsArgument g constant arg = IsWord 32 arg
+IsArgument g constant arg = IsMachineWord arg
 IsArgument g _ arg = arg ≡ pos 0
 
 -- the node that is read is there, and is no output
@@ -33,7 +33,7 @@ pub record IsNode (g : Graph) (node : Node) : Type 0 where
   pub edge_count : length node.edges ≡ operands node.op
   pub edges : All (IsEdge g) node.edges
   pub inits : AreInits (IsWord node.width) node.inits
-  pub width : IsWithin 1 32 node.width
+  pub width : IsWidth node.width
 
 -- the number of the first output node
 abbrev pub first_output : Graph → ℕ

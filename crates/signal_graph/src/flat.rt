@@ -7,7 +7,7 @@ use lists::List;
 /// An expression over elements.
 #[derive(Drop)]
 pub enum FlatExpr {
-    /// A raw word of at most 32 bits.
+    /// A raw word of at most 40 bits.
     Raw(i64),
     /// The word of the element with this number, `delay` samples ago.
     Read {

@@ -2,7 +2,7 @@
 use Rattle.std.specs.Prelude.{◌≡◌, ℕ, ◌==◌, not, Bool, true, false, All, List, [], map, take, slice_get, Option, Some}
 use Rattle.std.specs.Prelude.{None, ℤ, pos}
 use Rattle.std.specs.List.{AllZip}
-use Rattle.fix_word.specs.Words.{IsWord}
+use Rattle.fix_word.specs.Words.{IsMachineWord}
 use Rattle.fix_word.specs.declared.operation.Op.TheVariants as op
 use Rattle.signal_graph.specs.Operations.{class_of}
 use Rattle.signal_graph.specs.Rules.{plain}
@@ -20,7 +20,7 @@ IsSomething _ = Unit {0}
 -- a node can be made: what its operands name has a number
 abbrev pub CanBeMade : (HasNumber : Operand → Type 0) → Made → Type 0
 CanBeMade HasNumber nothing = ⊥
-CanBeMade HasNumber (constant m) = IsWord 32 m
+CanBeMade HasNumber (constant m) = IsMachineWord m
 CanBeMade HasNumber (input j) = Unit {0}
 CanBeMade HasNumber (operation o fmt operands) = All HasNumber operands
 

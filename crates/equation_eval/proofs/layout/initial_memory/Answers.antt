@@ -1,12 +1,12 @@
 use Rattle.std.proofs.Common.{◌∙◌, ◌<◌, arith, ℕ, sym, subst, length}
 use Rattle.std.specs.Prelude.{ℤ, slice_index_or}
-use Rattle.fix_word.specs.Words.{IsWord}
+use Rattle.fix_word.specs.Words.{IsMachineWord}
 use Rattle.signal_graph.specs.GraphSolves.{no_node, node_of}
 use Rattle.signal_graph.specs.declared.graph.Node.{Node}
 use Rattle.equation_eval.specs.declared.memory.Ring.{Ring}
 use Rattle.equation_eval.specs.Private.Rings.{ring_of, HoldsWordsBefore, SameOutside}
 use Rattle.equation_eval.proofs.Layouts.{node_read, ring_read, initials_more, zeros_left}
-use Rattle.equation_eval.proofs.Rows.{in_32}
+use Rattle.equation_eval.proofs.Rows.{machine_word}
 use Rattle.equation_eval.proofs.layout.initial_memory.Goals as goal
 
 pub put_initials-requires-clause-words : goal.put_initials-requires-clause-words
@@ -14,9 +14,10 @@ put_initials-requires-clause-words c k d lt =
     let v : c.loop-v.v < length c.args.graph.now.nodes = omega (arith, c.loop-v-test.true, c.len-v-end.ensures) in
     let is = node_read c.args.graph.now c.loop-v.v c.index-in-loop-v.result.now v c.index-in-loop-v.ensures in
     let node = c.requires.graph.nodes c.loop-v.v no_node v in
-    subst (λ (n : Node). (k : ℕ) (d : ℕ × ℤ) → k < length n.inits → IsWord 32 (slice_index_or n.inits k d).1) (sym is)
-    (λ k d lt. in_32 (node_of c.args.graph.now c.loop-v.v).width
-    (slice_index_or (node_of c.args.graph.now c.loop-v.v).inits k d).1 node.width.1 (node.inits.words k d lt)) k d
+    subst (λ (n : Node). (k : ℕ) (d : ℕ × ℤ) → k < length n.inits → IsMachineWord (slice_index_or n.inits k d).1)
+    (sym is)
+    (λ k d lt. machine_word (node_of c.args.graph.now c.loop-v.v).width
+    (slice_index_or (node_of c.args.graph.now c.loop-v.v).inits k d).1 node.width (node.inits.words k d lt)) k d
     lt
 
 pub loop-v-preserved : goal.loop-v-preserved

@@ -1,8 +1,10 @@
-use Rattle.std.proofs.Common.{◌≡◌, ◌∙◌, sym, ap, subst, List, [], ◌∷◌, ◌++◌, length, ℤ}
+use Rattle.std.proofs.Common.{◌≡◌, ◌∙◌, sym, ap, subst, List, [], ◌∷◌, ◌++◌, length, map, ℤ}
 use Rattle.std.specs.List.{AllZip}
 use Rattle.signal_graph.specs.Rules.{IsInType}
 use Rattle.equation_eval.specs.Evaluation.{Evaluation, IsOutputRow}
-use Rattle.equation_eval.proofs.Evaluations.{row_fits, outs_are, stands_after, put_row}
+use Rattle.equation_eval.specs.Private.Program.{read_of}
+use Rattle.equation_eval.proofs.Evaluations.{returned, returned_value, returned_size, row_fits, outs_are}
+use Rattle.equation_eval.proofs.Evaluations.{stands_after, put_row}
 use Rattle.equation_eval.proofs.evaluator.Evaluator.step.Goals as goal
 
 pub run-requires-clause-row : goal.run-requires-clause-row
@@ -18,12 +20,23 @@ put_outputs-requires-clause-put c =
 pub invariant_of-self : goal.invariant_of-self
 invariant_of-self c =
     stands_after c.self.inside.graph.value c.self.inside.ran c.self.inside c.self.invariant c.args.row.now
-    c.run.new.memory c.run.ensures.value c.run.ensures.len c.next_phase-self-inside.result
-    c.next_phase-self-inside.ensures c.push-2.new.self
+    (returned c.args.row.now c.self.inside.phase c.self.inside.program c.self.inside.memory c.deref_mut.result.now
+    c.run.new.memory c.deref_mut.ensures.value c.run.ensures.value c.run.ensures.len)
+    (returned_value c.args.row.now c.self.inside.phase c.self.inside.program c.self.inside.memory
+    c.deref_mut.result.now c.run.new.memory c.deref_mut.ensures.value c.run.ensures.value c.run.ensures.len)
+    (returned_size c.args.row.now c.self.inside.phase c.self.inside.program c.self.inside.memory
+    c.deref_mut.result.now c.run.new.memory c.deref_mut.ensures.value c.run.ensures.value c.run.ensures.len)
+    c.next_phase-self-inside.result c.next_phase-self-inside.ensures c.push-2.new.self
     (c.push-2.ensures ∙ ap (λ (row : List ℤ). c.self.inside.ran ++ row ∷ []) c.past_of.ensures)
 
 pub returns-clause-puts : goal.returns-clause-puts
 returns-clause-puts c =
     subst (λ (e : Evaluation). IsOutputRow e c.args.row.now c.put_outputs.new.put) c.self.view_is
     (put_row c.self.inside.graph.value c.self.inside.ran c.self.inside c.self.invariant c.args.row.now
-    c.run.new.memory c.run.ensures.value c.put_outputs.new.put c.put_outputs.ensures)
+    (returned c.args.row.now c.self.inside.phase c.self.inside.program c.self.inside.memory c.deref_mut.result.now
+    c.run.new.memory c.deref_mut.ensures.value c.run.ensures.value c.run.ensures.len)
+    (returned_value c.args.row.now c.self.inside.phase c.self.inside.program c.self.inside.memory
+    c.deref_mut.result.now c.run.new.memory c.deref_mut.ensures.value c.run.ensures.value c.run.ensures.len)
+    c.put_outputs.new.put
+    (c.put_outputs.ensures
+    ∙ ap (λ (m : List ℤ). map (read_of m c.self.inside.phase) c.self.inside.outputs) c.deref.ensures))
