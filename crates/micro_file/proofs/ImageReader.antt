@@ -92,15 +92,15 @@ unroll_reader =
     (tested byte_reader (record { sound = λ n e. unroll_sound n e; whole = λ n h. unroll_whole n h }))
 
 abbrev AreInputs : List ℕ → Type 0
-AreInputs inputs = IsWithin 1 16 (length inputs) × All (λ width. width ≤ 32) inputs
+AreInputs inputs = IsWithin 1 16 (length inputs) × All (λ width. width ≤ 40) inputs
 
 inputs_reader : IsReader AreInputs (λ inputs. one_byte (length inputs) ++ inputs) inputs_at
 unfolding inputs_at
 inputs_reader =
     so_spelled (λ inputs. ap (λ (t : List ℕ). one_byte (length inputs) ++ t) (bytes_alone inputs)) (such_reader
-    (λ inputs h. (h.0, λ k d lt. (all_from (IsWithin 0 32) inputs h.1 k d lt).1))
-    (λ inputs h. (h.0, grows_all (IsWithin 0 32) inputs (λ k d lt. (omega arith, h.1 k d lt))))
-    (counted (within_reader 1 16) (λ _. IsWithin 0 32) one_byte (λ _. byte_within 0 32) (λ _. within_reader 0 32)))
+    (λ inputs h. (h.0, λ k d lt. (all_from (IsWithin 0 40) inputs h.1 k d lt).1))
+    (λ inputs h. (h.0, grows_all (IsWithin 0 40) inputs (λ k d lt. (omega arith, h.1 k d lt))))
+    (counted (within_reader 1 16) (λ _. IsWithin 0 40) one_byte (λ _. byte_within 0 40) (λ _. within_reader 0 40)))
 
 -- an image that has no words yet
 record IsHardware (image : Image) : Type 0 where

@@ -22,9 +22,9 @@ unroll_in bytes = tested_in bytes (byte_at bytes) is_unroll (byte_in bytes)
 inputs_in : (bytes : List ℕ) → IsInside (length bytes) (inputs_at bytes)
 unfolding inputs_at
 inputs_in bytes =
-    behind (length bytes) (byte_within 1 16 bytes) (λ count. many_at (λ _. byte_within 0 32) [] count.0 count.1)
+    behind (length bytes) (byte_within 1 16 bytes) (λ count. many_at (λ _. byte_within 0 40) [] count.0 count.1)
     (within_in 1 16 bytes)
-    (λ count. many_in (λ _. byte_within 0 32) (λ _. within_in 0 32) [] count.0 count.1)
+    (λ count. many_in (λ _. byte_within 0 40) (λ _. within_in 0 40) [] count.0 count.1)
 
 hardware_in : (bytes : List ℕ) → IsInside (length bytes) (hardware_at bytes)
 unfolding hardware_at

@@ -22,19 +22,19 @@ use Rattle.micro_file.proofs.Inside.{within_in, below_in, upto_in, number_within
 -- a format, once its shift is read
 abbrev format_behind : ℕ × List ℕ → Reading Format
 format_behind s =
-    entry_at modes s.1 >>= λ mode. byte_within 1 32 mode.1 >>= λ width.
+    entry_at modes s.1 >>= λ mode. byte_within 1 40 mode.1 >>= λ width.
     Ok (record { shift = cast_signed w8 s.0; mode = mode.0; width = width.0 }, width.1)
 
 format_behind_in : (s : ℕ × List ℕ) → IsInside (length s.1) (format_behind s)
 format_behind_in s =
     behind (length s.1) (entry_at modes s.1) _ (entry_in modes s.1) (λ m.
-    behind (length m.1) (byte_within 1 32 m.1) _ (within_in 1 32 m.1) (λ w. omega arith))
+    behind (length m.1) (byte_within 1 40 m.1) _ (within_in 1 40 m.1) (λ w. omega arith))
 
 some_format_in : (bytes : List ℕ) → IsInside (length bytes) (some_format_at bytes)
 unfolding some_format_at
 some_format_in bytes =
     next (length bytes) (byte_at bytes) _ (byte_in bytes) (λ s le.
-    kept_then (length bytes) bytes (int_le (negsuc 31) (cast_signed w8 s.0) && int_le (cast_signed w8 s.0) (pos 64)) s
+    kept_then (length bytes) bytes (int_le (negsuc 39) (cast_signed w8 s.0) && int_le (cast_signed w8 s.0) (pos 80)) s
     format_behind (omega arith)
     (inside_more (length s.1) (length bytes) (format_behind s) le (format_behind_in s)))
 

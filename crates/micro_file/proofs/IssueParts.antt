@@ -39,18 +39,18 @@ byte_fits (b ∷ bytes) fits x e = subst (λ (p : ℕ × List ℕ). p.0 < 256) (
 
 -- a shift that the processor has
 abbrev is_shift : ℤ → Bool
-is_shift shift = int_le (negsuc 31) shift && int_le shift (pos 64)
+is_shift shift = int_le (negsuc 39) shift && int_le shift (pos 80)
 
-shift_low : (z : ℤ) → is_shift z ≡ true → negsuc 31 ≤ℤ z
+shift_low : (z : ℤ) → is_shift z ≡ true → negsuc 39 ≤ℤ z
 shift_low z e = grind (arith, ints)
 
-shift_high : (z : ℤ) → is_shift z ≡ true → z ≤ℤ pos 64
+shift_high : (z : ℤ) → is_shift z ≡ true → z ≤ℤ pos 80
 shift_high z e = grind (arith, ints)
 
-shift_is : (z : ℤ) → negsuc 31 ≤ℤ z → z ≤ℤ pos 64 → is_shift z ≡ true
+shift_is : (z : ℤ) → negsuc 39 ≤ℤ z → z ≤ℤ pos 80 → is_shift z ≡ true
 shift_is z low high = grind (arith, ints)
 
-shift_fits : (z : ℤ) → negsuc 31 ≤ℤ z → z ≤ℤ pos 64 → FitsSigned w8 z
+shift_fits : (z : ℤ) → negsuc 39 ≤ℤ z → z ≤ℤ pos 80 → FitsSigned w8 z
 shift_fits (pos n) low high = record { sfits = omega (arith, ints, high) }
 shift_fits (negsuc n) low high = record { sfits = omega (arith, ints, low) }
 
@@ -61,7 +61,7 @@ abbrev mode_behind : ℕ × List ℕ → ℕ × List ℕ → Reading Mode
 mode_behind b s = entry_at modes s.1
 
 abbrev width_behind : ℕ × List ℕ → ℕ × List ℕ → Mode × List ℕ → Reading ℕ
-width_behind b s m = byte_within 1 32 m.1
+width_behind b s m = byte_within 1 40 m.1
 
 abbrev whole_format : ℕ × List ℕ → ℕ × List ℕ → Mode × List ℕ → ℕ × List ℕ → Reading Format
 whole_format b s m w = Ok (record { shift = cast_signed w8 s.0; mode = m.0; width = w.0 }, w.1)
@@ -82,14 +82,13 @@ some_format_took bytes fits x e =
     subst (λ (p : ℕ × List ℕ). is_shift (cast_signed w8 p.0) ≡ true) k.1 k.0 in
     let small : s.1.0 < 2 ^ 8 = subst (λ (p : ℕ × List ℕ). p.0 < 2 ^ 8) k.1 (byte_fits bytes fits s.0 s.4) in
     let m = mode_reader.took s.1.1 shift.rest_fits s.2 s.6 in
-    let w = (within_reader 1 32).took s.2.1 m.text.rest_fits s.3 s.7 in
+    let w = (within_reader 1 40).took s.2.1 m.text.rest_fits s.3 s.7 in
     let fmt : Format = record { shift = cast_signed w8 s.1.0; mode = s.2.0; width = s.3.0 } in
     subst (λ (p : Format × List ℕ). Took IsFormat spelled_format bytes p) (ok_is (fmt, s.3.1) x s.8) (record {
       allowed = record {
         lowest = shift_low fmt.shift good;
         highest = shift_high fmt.shift good;
-        narrowest = w.allowed.0;
-        widest = w.allowed.1;
+        width = record { narrowest = w.allowed.0; widest = w.allowed.1 };
       };
       text = rw (of_z-to_z w8 s.1.0 small) (shift ⨟ m.text ⨟ w.text);
     })
@@ -111,7 +110,7 @@ some_format_again fmt rest ok =
     refl
     (rw good refl)
     (mode_reader.again fmt.mode (fmt.width ∷ rest) tt)
-    ((within_reader 1 32).again fmt.width rest (ok.narrowest, ok.widest))
+    ((within_reader 1 40).again fmt.width rest (ok.width.narrowest, ok.width.widest))
     ∙ rw back refl
 
 some_format_reader : IsReader IsFormat spelled_format some_format_at

@@ -17,9 +17,9 @@ use Rattle.std.proofs.lemmas.List.{take_at, drop_at, take-append-drop, length-ap
 use Rattle.std.proofs.lemmas.List.{get_or-map}
 use Rattle.std.proofs.lemmas.Nat.{be_bytes_2, be_bytes_4, be_bytes_8, from_be_bytes-to_be_bytes_2}
 use Rattle.std.proofs.lemmas.Nat.{from_be_bytes-to_be_bytes_4, from_be_bytes-to_be_bytes_8}
-use Rattle.fix_word.specs.Words.{IsWord}
+use Rattle.fix_word.specs.Words.{IsMachineWord}
 use Rattle.fix_word.specs.declared.types.Mode.{Mode}
-use Rattle.fix_word.specs.declared.types.Mode.TheVariants.{Trunc, Round}
+use Rattle.fix_word.specs.declared.types.Mode.TheVariants.{Trunc, Round, Sat, RoundSat}
 use Rattle.fix_word.specs.declared.operation.Op.{Op}
 use Rattle.fix_word.specs.declared.operation.Op.TheVariants as op
 use Rattle.operations.specs.declared.units.Kind.{Kind}
@@ -257,23 +257,23 @@ signed_took bytes fits x e =
 pub signed_reader : IsReader (FitsSigned w64) eight_bytes signed_at
 signed_reader = record { took = signed_took; again = signed_again }
 
-raw_sound : (z : ℤ) → is_raw_word z ≡ true → IsWord 32 z
+raw_sound : (z : ℤ) → is_raw_word z ≡ true → IsMachineWord z
 raw_sound z e = record { low = grind (arith, ints); high = grind (arith, ints) }
 
-raw_whole : (z : ℤ) → IsWord 32 z → is_raw_word z ≡ true
+raw_whole : (z : ℤ) → IsMachineWord z → is_raw_word z ≡ true
 raw_whole z h = grind (arith, ints, h.low, h.high)
 
-pub word_fits : (z : ℤ) → IsWord 32 z → FitsSigned w64 z
+pub word_fits : (z : ℤ) → IsMachineWord z → FitsSigned w64 z
 word_fits (pos n) h = record { sfits = omega (arith, ints, h.high) }
 word_fits (negsuc n) h = record { sfits = omega (arith, ints, h.low) }
 
-pub raw_word_test : IsTestOf is_raw_word (IsWord 32)
+pub raw_word_test : IsTestOf is_raw_word IsMachineWord
 raw_word_test = record {
   sound = λ z e. raw_sound z e;
   whole = λ z h. raw_whole z h;
 }
 
-pub raw_word_reader : IsReader (IsWord 32) eight_bytes raw_word_at
+pub raw_word_reader : IsReader IsMachineWord eight_bytes raw_word_at
 unfolding raw_word_at
 raw_word_reader = such_reader (λ z h. h.1) (λ z h. (word_fits z h, h)) (tested signed_reader raw_word_test)
 
@@ -363,13 +363,15 @@ operation_only b x e = place operations opcode 19 operation_places b x e
 mode_there : (x : Mode) → slice_get modes (mode_byte x) ≡ Some x
 mode_there Trunc = refl
 mode_there Round = refl
+mode_there Sat = refl
+mode_there RoundSat = refl
 
 -- the places of the table, one after the other
-mode_places : map mode_byte modes ≡ range_with_len 0 2
+mode_places : map mode_byte modes ≡ range_with_len 0 4
 mode_places = refl
 
 mode_only : (b : ℕ) (x : Mode) → slice_get modes b ≡ Some x → mode_byte x ≡ b
-mode_only b x e = place modes mode_byte 2 mode_places b x e
+mode_only b x e = place modes mode_byte 4 mode_places b x e
 
 pub kind_reader : IsReader (λ _. Unit {0}) (λ k. one_byte (kind_byte k)) (entry_at kinds)
 kind_reader = entry_reader kinds kind_byte (record { there = kind_there; only = kind_only })

@@ -6,7 +6,7 @@ use Rattle.std.specs.Bool.{Decides}
 use Rattle.std.specs.List.{All, flat_map}
 use Rattle.std.proofs.lemmas.List.{append-nil}
 use Rattle.std.proofs.lemmas.List.Elements.{All-nil, All-cons}
-use Rattle.fix_word.specs.Words.{IsWord}
+use Rattle.fix_word.specs.Words.{IsMachineWord}
 use Rattle.operations.specs.declared.units.Kind.{Kind}
 use Rattle.operations.specs.declared.units.Kind.TheVariants as kind
 use Rattle.micro_image.specs.declared.image.UnitDesc.{UnitDesc}
@@ -29,9 +29,10 @@ use Rattle.micro_file.proofs.Steps.{bound2, joined2, bound6, joined6}
 file_reader : IsReader IsFile spelled_file file_at
 unfolding file_at spelled_file
 file_reader =
-    such_reader (λ file h. record { size = h.0; words = all_from (IsWord 32) file h.1 })
-    (λ file h. (h.size, grows_all (IsWord 32) file h.words))
-    (counted (two_reader 1 256 (omega arith)) (λ _. IsWord 32) eight_bytes (λ _. raw_word_at) (λ _. raw_word_reader))
+    such_reader (λ file h. record { size = h.0; words = all_from IsMachineWord file h.1 })
+    (λ file h. (h.size, grows_all IsMachineWord file h.words))
+    (counted (two_reader 1 256 (omega arith)) (λ _. IsMachineWord) eight_bytes (λ _. raw_word_at)
+    (λ _. raw_word_reader))
 
 files_reader : (count : ℕ)
     → IsReader (λ files. (length files ≡ count) × All IsFile files) (flat_map spelled_file)
@@ -43,7 +44,7 @@ files_reader count =
 -- ---- what a ram alone, or an acu alone, has
 
 abbrev AreCells : Kind → List ℤ → Type 0
-AreCells kind.Ram cells = IsWithin 1 65536 (length cells) × All (IsWord 32) cells
+AreCells kind.Ram cells = IsWithin 1 65536 (length cells) × All IsMachineWord cells
 AreCells _ cells = cells ≡ []
 
 abbrev spelled_cells : Kind → List ℤ → List ℕ
@@ -75,8 +76,10 @@ nothing_reader {A} only = record {
 cells_reader : (k : Kind) → IsReader (AreCells k) (spelled_cells k) (cells_at k)
 unfolding cells_at
 cells_reader kind.Ram =
-    such_reader (λ cells h. (h.0, all_from (IsWord 32) cells h.1)) (λ cells h. (h.0, grows_all (IsWord 32) cells h.1))
-    (counted (four_reader 1 65536 (omega arith)) (λ _. IsWord 32) eight_bytes (λ _. raw_word_at) (λ _. raw_word_reader))
+    such_reader (λ cells h. (h.0, all_from IsMachineWord cells h.1))
+    (λ cells h. (h.0, grows_all IsMachineWord cells h.1))
+    (counted (four_reader 1 65536 (omega arith)) (λ _. IsMachineWord) eight_bytes (λ _. raw_word_at)
+    (λ _. raw_word_reader))
 cells_reader _ = nothing_reader []
 
 ram_reader : (k : Kind) → IsReader (IsRamNumber k) (spelled_ram k) (ram_at k)
@@ -230,14 +233,14 @@ none_blamed units (x ∷ xs) (end ∷ ends) len all =
 
 -- the cells, as a unit's facts say it
 record AreUnitCells (k : Kind) (cells : List ℤ) : Type 0 where
-  raw_words : All (IsWord 32) cells
+  raw_words : All IsMachineWord cells
   cell_count : k ≡ kind.Ram → IsWithin 1 65536 (length cells)
   no_cells : k ≢ kind.Ram → cells ≡ []
 
 are_unit_cells : (k : Kind) (cells : List ℤ) → AreCells k cells → AreUnitCells k cells
 are_unit_cells kind.Ram cells h = record { raw_words = h.1; cell_count = λ _. h.0; no_cells = λ ne. absurd (ne refl) }
 are_unit_cells _ cells h = record {
-  raw_words = subst (All (IsWord 32)) (sym h) (All-nil (IsWord 32));
+  raw_words = subst (All IsMachineWord) (sym h) (All-nil IsMachineWord);
   cell_count = λ is. absurd (cc);
   no_cells = λ _. h;
 }

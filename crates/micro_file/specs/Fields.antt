@@ -66,9 +66,9 @@ number_within w low high bytes = number_at w bytes >>= λ n. kept bytes (is_in_r
 abbrev pub signed_at : List ℕ → Reading ℤ
 signed_at bytes = number_at w64 bytes >>= λ n. Ok (cast_signed w64 n.0, n.1)
 
--- a word of 32 bits holds the number
+-- a machine word holds the number
 abbrev pub is_raw_word : ℤ → Bool
-is_raw_word z = int_le (neg_ℤ (pos (2 ^ 31))) z && int_lt z (pos (2 ^ 31))
+is_raw_word z = int_le (neg_ℤ (pos (2 ^ 39))) z && int_lt z (pos (2 ^ 39))
 
 -- a raw word
 unfoldable pub raw_word_at : List ℕ → Reading ℤ

@@ -28,7 +28,7 @@ unroll_at bytes = byte_at bytes >>= λ n. kept bytes (is_unroll n.0) n
 
 -- a count, and this many widths
 unfoldable pub inputs_at : List ℕ → Reading (List ℕ)
-inputs_at bytes = byte_within 1 16 bytes >>= λ count. many_at (λ _. byte_within 0 32) [] count.0 count.1
+inputs_at bytes = byte_within 1 16 bytes >>= λ count. many_at (λ _. byte_within 0 40) [] count.0 count.1
 
 -- all but the words
 unfoldable pub hardware_at : List ℕ → Reading Image

@@ -1,9 +1,9 @@
--- What a byte of a file stands for, by its place: kinds of units, operations, rounding modes.
+-- What a byte of a file stands for, by its place: kinds of units, operations, modes.
 use Rattle.std.specs.Prelude.{List, [], ◌∷◌}
 use Rattle.fix_word.specs.declared.operation.Op.{Op}
 use Rattle.fix_word.specs.declared.operation.Op.TheVariants as op
 use Rattle.fix_word.specs.declared.types.Mode.{Mode}
-use Rattle.fix_word.specs.declared.types.Mode.TheVariants.{Trunc, Round}
+use Rattle.fix_word.specs.declared.types.Mode.TheVariants.{Trunc, Round, Sat, RoundSat}
 use Rattle.operations.specs.declared.units.Kind.{Kind}
 use Rattle.operations.specs.declared.units.Kind.TheVariants as kind
 
@@ -18,4 +18,4 @@ operations =
     ∷ op.Mul ∷ op.Sel ∷ op.Load ∷ op.Store ∷ op.Addr ∷ []
 
 abbrev pub modes : List Mode
-modes = Trunc ∷ Round ∷ []
+modes = Trunc ∷ Round ∷ Sat ∷ RoundSat ∷ []

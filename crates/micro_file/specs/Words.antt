@@ -24,9 +24,9 @@ use Rattle.micro_file.specs.Fields.{number_within, signed_at, is_raw_word, entry
 unfoldable pub some_format_at : List ℕ → Reading Format
 some_format_at bytes = do
   shift ← byte_at bytes
-  shift ← kept bytes (int_le (negsuc 31) (cast_signed w8 shift.0) && int_le (cast_signed w8 shift.0) (pos 64)) shift
+  shift ← kept bytes (int_le (negsuc 39) (cast_signed w8 shift.0) && int_le (cast_signed w8 shift.0) (pos 80)) shift
   mode ← entry_at modes shift.1
-  width ← byte_within 1 32 mode.1
+  width ← byte_within 1 40 mode.1
   Ok (record { shift = cast_signed w8 shift.0; mode = mode.0; width = width.0 }, width.1)
 
 -- three zeros

@@ -14,6 +14,7 @@ use crate::misread::{Misread, Unread, refused};
 use crate::reader::Reader;
 use crate::units::read_units;
 use crate::words::read_words;
+use fix_word::MOST_BITS;
 use lists::List;
 use micro_image::Image;
 use std::alloc::Global;
@@ -26,9 +27,6 @@ const MAX_PERIOD: u16 = 4096;
 
 /// The most input words, and the most output words.
 const MAX_CHANNELS: u8 = 16;
-
-/// The greatest width of an input word.
-const MAX_WIDTH: u8 = 32;
 
 /// The most buses.
 const MAX_BUSES: u8 = 32;
@@ -60,11 +58,11 @@ fn read_unroll(reader: &mut Reader<'_>) -> Result<u8, Unread>
 }
 
 fn read_widths(alloc: Global, count: usize, reader: &mut Reader<'_>) -> Result<List<u8>, Unread>
-    ensures { Reads (many_at (λ _. byte_within 0 32) [] count) reader.old result reader.new }
+    ensures { Reads (many_at (λ _. byte_within 0 40) [] count) reader.old result reader.new }
 {
     let mut widths = List::with_capacity(alloc, count)?;
     for _ in 0..count {
-        let width = reader.byte_in(0, MAX_WIDTH)?;
+        let width = reader.byte_in(0, MOST_BITS)?;
         widths.push(width)?;
     }
     Ok(widths)

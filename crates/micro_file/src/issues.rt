@@ -6,19 +6,16 @@ ghost use Rattle.micro_file.specs.Words.{same_kind, some_format_at, no_format_at
 
 use crate::misread::{Unread, refused};
 use crate::reader::{Reader, is_word};
-use fix_word::{Format, Mode, Op};
+use fix_word::{Format, MOST_BITS, Mode, Op};
 use lists::List;
 use micro_image::{Image, Issue, Kind, PortRegisters, UnitDesc, is_formatted, reads};
 use std::alloc::Global;
 
 /// The least shift of a format, which is to the left.
-const MIN_SHIFT: i8 = -32;
+const MIN_SHIFT: i8 = -40;
 
 /// The greatest shift of a format.
-const MAX_SHIFT: i8 = 64;
-
-/// The greatest width of a format.
-const MAX_WIDTH: u8 = 32;
+const MAX_SHIFT: i8 = 80;
 
 /// How many cells an address can name.
 const ADDRESSES: usize = 65536;
@@ -39,7 +36,7 @@ fn read_some_format(reader: &mut Reader<'_>) -> Result<Format, Unread>
         return Err(refused(left));
     }
     let mode = reader.mode()?;
-    let width = reader.byte_in(1, MAX_WIDTH)?;
+    let width = reader.byte_in(1, MOST_BITS)?;
     Ok(Format { shift, mode, width })
 }
 

@@ -3,7 +3,7 @@ ghost use Rattle.std.specs.Prelude.{◌≡◌};
 ghost use Rattle.micro_file.specs.Fields.{is_raw_word};
 
 use crate::misread::{Misread, Unread, refused};
-use fix_word::{Mode, Op};
+use fix_word::{MOST_BITS, Mode, Op};
 use lists::List;
 use micro_image::Kind;
 use std::alloc::Global;
@@ -44,15 +44,18 @@ pub const OPERATIONS: [Op; 19] = [
     Op::Addr,
 ];
 
-/// The rounding modes in the order of their bytes.
-pub(crate) const MODES: [Mode; 2] = [Mode::Trunc, Mode::Round];
+/// The modes in the order of their bytes.
+pub(crate) const MODES: [Mode; 4] = [Mode::Trunc, Mode::Round, Mode::Sat, Mode::RoundSat];
 
-/// Whether a word of 32 bits holds the number.
+/// One more than the greatest raw word; the least is its negative.
+const HALF_RANGE: i64 = 1 << (MOST_BITS - 1);
+
+/// Whether a machine word holds the number.
 #[inline]
 pub(crate) fn is_word(number: i64) -> bool
     ensures { result ≡ is_raw_word number }
 {
-    -0x8000_0000 <= number && number < 0x8000_0000
+    -HALF_RANGE <= number && number < HALF_RANGE
 }
 
 /// A file of which the front is read. A contract sees the bytes that are left.

@@ -5,7 +5,7 @@ use Rattle.std.proofs.lemmas.List.Elements.{All-replicate}
 use Rattle.std.proofs.lemmas.Int.{ints}
 use Rattle.std.proofs.lemmas.List.{get_or-replicate, length-map, length-replicate}
 use Rattle.std.specs.List.{All}
-use Rattle.fix_word.specs.Words.{IsWord, IsFormat}
+use Rattle.fix_word.specs.Words.{IsMachineWord, IsFormat}
 use Rattle.fix_word.specs.declared.types.Mode.TheVariants.{Trunc}
 use Rattle.operations.specs.declared.units.Kind.{Kind}
 use Rattle.operations.specs.declared.units.Kind.TheVariants as kind
@@ -19,16 +19,16 @@ use Rattle.micro_image.proofs.Each.{Each, none, more, All-from_Each, Each-from_A
 use Rattle.micro_image.proofs.Increment.{increment, fetch, one, sum, put, plain_unit, zeros}
 use Rattle.micro_image.proofs.IncrementFile.{increment_bytes, increment-spelling}
 
-zero_word : IsWord 32 (pos 0)
+zero_word : IsMachineWord (pos 0)
 zero_word = record { low = omega (arith, ints); high = omega (arith, ints) }
 
-one_word : IsWord 32 (pos 1)
+one_word : IsMachineWord (pos 1)
 one_word = record { low = omega (arith, ints); high = omega (arith, ints) }
 
 file_of_zeros : (size : ℕ) → 1 ≤ size → size ≤ 256 → IsFile (zeros size)
 file_of_zeros size low high = record {
   size = (omega (arith, low, length-replicate size (pos 0)), omega (arith, high, length-replicate size (pos 0)));
-  words = All-replicate (IsWord 32) size (pos 0) zero_word;
+  words = All-replicate IsMachineWord size (pos 0) zero_word;
 }
 
 -- a unit that is no memory
@@ -43,7 +43,7 @@ valid_unit k files no_ram no_acu count each = record {
   gap = (omega arith, omega arith);
   file_count = count;
   files = All-from_Each IsFile each;
-  cells = All-from_Each (IsWord 32) none;
+  cells = All-from_Each IsMachineWord none;
   cell_count = λ is. absurd (no_ram is);
   no_cells = λ other. refl;
   ram = λ is. absurd (no_acu is);
@@ -85,8 +85,7 @@ plain_format : IsFormat (record { shift = pos 0; mode = Trunc; width = 8 })
 plain_format = record {
   lowest = omega (arith, ints);
   highest = omega (arith, ints);
-  narrowest = omega arith;
-  widest = omega arith;
+  width = record { narrowest = omega arith; widest = omega arith };
 }
 
 -- a word that has at most one issue, one drive and one take, so that none has another before it
@@ -149,7 +148,7 @@ increment-valid = record {
   period = (omega arith, omega arith);
   unroll = inl refl;
   input_count = (omega arith, omega arith);
-  inputs = All-from_Each (λ width. width ≤ 32) (more (omega arith) none);
+  inputs = All-from_Each (λ width. width ≤ 40) (more (omega arith) none);
   outs = (omega arith, omega arith);
   unit_count = (omega arith, omega arith);
   units = valid_units;

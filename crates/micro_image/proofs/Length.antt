@@ -16,7 +16,7 @@ use Rattle.micro_image.specs.declared.image.Word.{Word}
 use Rattle.micro_image.specs.Spells.{two_bytes, four_bytes, eight_bytes, spelled_file, spelled_memory, spelled_unit}
 use Rattle.micro_image.specs.Spells.{spelled_format, spelled_issue, spelled_enable, spelled_take, spelled_word}
 use Rattle.micro_image.specs.Spells.{spelling}
-use Rattle.micro_image.specs.Valid.{ports, IsFile, IsUnit, IsIssue, IsIssueOn, IsWordOf, IsValid}
+use Rattle.micro_image.specs.Valid.{IsFile, IsUnit, IsIssue, IsIssueOn, IsWordOf, IsValid}
 use Rattle.micro_image.proofs.Counts.{issue_count}
 
 -- at most `count` elements of at most `most` bytes

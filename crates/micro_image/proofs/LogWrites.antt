@@ -1,5 +1,5 @@
 -- What a cycle writes to a place is what the place holds in the next.
-use Rattle.std.proofs.Common.{◌≡◌, ◌≤◌, ⊎_elim, refl, arith, ℕ, suc, Bool, true, false, ◌&&◌, nat_lt, List, ◌++◌}
+use Rattle.std.proofs.Common.{◌≡◌, ◌≤◌, ⊎_elim, arith, ℕ, suc, Bool, true, false, ◌&&◌, nat_lt, List, ◌++◌}
 use Rattle.std.proofs.Common.{Option, ℤ}
 use Rattle.lists.proofs.Bools.{first_true}
 use Rattle.lists.specs.Rows.{Rows}

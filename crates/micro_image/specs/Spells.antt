@@ -5,7 +5,7 @@ use Rattle.std.specs.List.{flat_map}
 use Rattle.std.specs.Int.{w8, w16, w32, w64, to_be_bytes, cast_unsigned}
 use Rattle.fix_word.specs.declared.types.Format.{Format}
 use Rattle.fix_word.specs.declared.types.Mode.{Mode}
-use Rattle.fix_word.specs.declared.types.Mode.TheVariants.{Trunc, Round}
+use Rattle.fix_word.specs.declared.types.Mode.TheVariants.{Trunc, Round, Sat, RoundSat}
 use Rattle.micro_image.specs.declared.image.Enable.{Enable}
 use Rattle.micro_image.specs.declared.image.Image.{Image}
 use Rattle.micro_image.specs.declared.image.Issue.{Issue}
@@ -40,10 +40,12 @@ kind_byte kind.Sel = 5
 kind_byte kind.Ram = 6
 kind_byte kind.Acu = 7
 
--- the number of a rounding mode
+-- the number of a mode
 abbrev pub mode_byte : Mode → ℕ
 mode_byte Trunc = 0
 mode_byte Round = 1
+mode_byte Sat = 2
+mode_byte RoundSat = 3
 
 -- a register file: its size, and the initial words of its registers
 unfoldable pub spelled_file : List ℤ → List ℕ

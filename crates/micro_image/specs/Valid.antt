@@ -2,7 +2,7 @@
 use Rattle.std.specs.Prelude.{◌≡◌, ◌≢◌, ℕ, ◌*◌, ◌<◌, ◌≤◌, ◌⊎◌, List, [], length, ℤ, pos, map, slice_get, IsSomeAnd}
 use Rattle.std.specs.List.{All, AllAdjacentBelow}
 use Rattle.std.specs.List.Sorted.{IsStrictlyIncreasing}
-use Rattle.fix_word.specs.Words.{IsWord}
+use Rattle.fix_word.specs.Words.{IsMachineWord}
 use Rattle.fix_word.specs.declared.types.Format.{Format}
 use Rattle.fix_word.specs.declared.operation.Op.{Op}
 use Rattle.operations.specs.declared.units.Kind.TheVariants as kind
@@ -33,7 +33,7 @@ abbrev pub IsArgumentOf : Argument → (inputs outs : ℕ) → ℤ → Type 0
 IsArgumentOf nothing inputs outs argument = argument ≡ pos 0
 IsArgumentOf input_word inputs outs argument = IsBelow inputs argument
 IsArgumentOf output_word inputs outs argument = IsBelow outs argument
-IsArgumentOf raw_word inputs outs argument = IsWord 32 argument
+IsArgumentOf raw_word inputs outs argument = IsMachineWord argument
 IsArgumentOf offset inputs outs argument = IsBelow offsets argument
 
 abbrev pub IsArgument : Op → (inputs outs : ℕ) → ℤ → Type 0
@@ -42,7 +42,7 @@ IsArgument o = IsArgumentOf (operation o).argument
 -- a register file: 1 to 256 raw words
 pub record IsFile (file : List ℤ) : Type 0 where
   pub size : IsWithin 1 256 (length file)
-  pub words : All (IsWord 32) file
+  pub words : All IsMachineWord file
 
 -- a unit among the units: an operation takes 1 to 8 cycles, the next may begin after 1 to as many, each port has its
 -- register file, only a ram has cells, and only an acu names a ram
@@ -51,7 +51,7 @@ pub record IsUnit (units : List UnitDesc) (unit : UnitDesc) : Type 0 where
   pub gap : IsWithin 1 unit.latency unit.gap
   pub file_count : length unit.files ≡ ports unit.kind
   pub files : All IsFile unit.files
-  pub cells : All (IsWord 32) unit.cells
+  pub cells : All IsMachineWord unit.cells
   pub cell_count : unit.kind ≡ kind.Ram → IsWithin 1 65536 (length unit.cells)
   pub no_cells : unit.kind ≢ kind.Ram → unit.cells ≡ []
   pub ram : unit.kind ≡ kind.Acu → IsSomeAnd (slice_get units unit.ram) (λ other. other.kind ≡ kind.Ram)
@@ -121,7 +121,7 @@ pub record IsValid (image : Image) : Type 0 where
   pub period : IsWithin 1 4096 image.period
   pub unroll : (image.unroll ≡ 1) ⊎ (image.unroll ≡ 2) ⊎ (image.unroll ≡ 4)
   pub input_count : IsWithin 1 16 (length image.inputs)
-  pub inputs : All (λ width. width ≤ 32) image.inputs
+  pub inputs : All (λ width. width ≤ 40) image.inputs
   pub outs : IsWithin 1 16 image.outs
   pub unit_count : IsWithin 1 32 (length image.units)
   pub units : All (IsUnit image.units) image.units
