@@ -1,0 +1,8 @@
+use Rattle.std.proofs.Common.{◌≡◌, ◌++◌, take}
+use Rattle.std.specs.List.{flat_map}
+use Rattle.packed_file.specs.Bits.{in_bits}
+use Rattle.packed_file.specs.Form.{spelled_file}
+use Rattle.packed_file.proofs.encoder.put_files.Given as goal
+
+abbrev pub invariant-loop-file : goal.invariant-loop-file
+invariant-loop-file l = l.out ≡ l.fn.out ++ flat_map (spelled_file in_bits) (take l.file-index l.file-items)

@@ -1,0 +1,8 @@
+use Rattle.std.proofs.Common.{◌≡◌, ◌++◌, take}
+use Rattle.std.specs.List.{flat_map}
+use Rattle.packed_file.specs.Bits.{in_bits}
+use Rattle.packed_file.specs.Form.{spelled_unit}
+use Rattle.packed_file.proofs.encoder.put_units.Given as goal
+
+abbrev pub invariant-loop-unit : goal.invariant-loop-unit
+invariant-loop-unit l = l.out ≡ l.fn.out ++ flat_map (spelled_unit in_bits) (take l.unit-index l.unit-items)

@@ -1,0 +1,5 @@
+pub mod Form
+pub mod Bits
+pub mod Spells
+pub mod Numbers
+pub mod Private
