@@ -8,7 +8,6 @@ ghost use Rattle.bus_alloc.specs.Private.Taking.{IsFirstRoute, IsFirstTransfer, 
 use crate::cycles::MOST_CYCLES;
 use crate::rows::{Rows, file_number};
 use datapath::PortRef;
-use lists::List;
 use plan_core::{Transfer, Transfers};
 use std::alloc::{AllocError, Global};
 
@@ -48,7 +47,7 @@ impl Rows {
         ensures ports { IfOk result (λ transfers. map (λ transfer. transfer.port) transfers ≡ dests.now) }
         ensures buses { IfOk result (λ transfers. All (IsFirstTransfer self.now unit cycle) transfers) }
     {
-        let mut transfers = List::with_capacity(alloc, dests.len())?;
+        let mut transfers = Transfers::with_capacity(alloc, dests.len())?;
         for port in dests {
             let bus = self.first_bus(unit, *port, cycle);
             transfers.push(Transfer { port: *port, bus })?;

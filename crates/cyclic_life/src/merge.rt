@@ -3,11 +3,12 @@
 ghost use Rattle.std.specs.Prelude.{◌≡◌, ◌<◌, ◌≤◌, map, All, IfOk};
 ghost use Rattle.cyclic_life.specs.Private.Reads.{later as later_of, lasts, lasts_from, copies_of, arc_to};
 
+use crate::fault::ArcFault;
 use crate::read::Read;
 use datapath::PortRef;
 use lists::List;
 use plan_core::{Arc, Arcs};
-use std::alloc::{AllocFailed, Global};
+use std::alloc::Global;
 
 /// In how many registers the words of successive samples stand in turn, where each is written at cycle w of its sample
 /// and read up to cycle r: the least of 1, 2 and 4 samples after which it is read no more.
@@ -51,18 +52,13 @@ fn later(x: Read, y: Read) -> Read
 }
 
 /// The lifetimes of a read and of those after it, which are in order.
-fn lifetimes_from(
-    alloc: Global,
-    first: Read,
-    rest: &[Read],
-    period: u16,
-) -> Result<Arcs, AllocFailed<Arc>>
+fn lifetimes_from(alloc: Global, first: Read, rest: &[Read], period: u16) -> Result<Arcs, ArcFault>
     requires period { period ≤ 4096 }
     requires first { first.w < 4096 }
     requires w { All (λ read. read.w < 4096) rest.now }
     ensures { IfOk result (λ arcs. arcs ≡ map (arc_to period) (lasts_from first rest.now)) }
 {
-    let mut arcs = List::new(alloc);
+    let mut arcs = List::with_capacity(alloc, rest.len() + 1)?;
     let mut last = first;
     for read in rest {
         if last.is_alike(*read) {
@@ -77,11 +73,7 @@ fn lifetimes_from(
 }
 
 /// The lifetimes of reads that are in order.
-pub(crate) fn lifetimes(
-    alloc: Global,
-    reads: &[Read],
-    period: u16,
-) -> Result<Arcs, AllocFailed<Arc>>
+pub(crate) fn lifetimes(alloc: Global, reads: &[Read], period: u16) -> Result<Arcs, ArcFault>
     requires period { period ≤ 4096 }
     requires w { All (λ read. read.w < 4096) reads.now }
     ensures { IfOk result (λ arcs. arcs ≡ map (arc_to period) (lasts reads.now)) }

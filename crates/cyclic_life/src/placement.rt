@@ -5,6 +5,7 @@ ghost use Rattle.plan_core.specs.Operands.{node_of, edge_of};
 ghost use Rattle.plan_core.specs.ListSchedule.{cycle_of, ends as ends_in};
 ghost use Rattle.cyclic_life.specs.Private.Placed.{IsPlacement, read_of, AreReadsBefore, AreReads};
 
+use crate::fault::ArcFault;
 use crate::read::Read;
 use datapath::Datapath;
 use plan_core::{Assigned, Schedule};
@@ -72,12 +73,12 @@ impl Placement<'_> {
     }
 
     /// The reads of all nodes.
-    pub(crate) fn reads(&self, alloc: Global) -> Result<Vec<Read>, AllocFailed<Read>>
+    pub(crate) fn reads(&self, alloc: Global) -> Result<Vec<Read>, ArcFault>
         requires { IsPlacement self.now.datapath.now self.now.assigned.now self.now.schedule.now }
         ensures { IfOk result (λ reads.
             AreReads self.now.datapath.now self.now.assigned.now self.now.schedule.now reads.items) }
     {
-        let mut reads = Vec::new(alloc);
+        let mut reads = Vec::with_capacity(alloc, self.assigned.lowered.nodes.len())?;
         for c in 0..self.assigned.lowered.nodes.len() {
             self.push_reads(c, &mut reads)?;
         }

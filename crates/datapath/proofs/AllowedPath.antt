@@ -41,7 +41,7 @@ path_ok t d h =
     subst IsDatapath same (record {
       period = key_ok section.Top t row.period period pe (IsWithin 1 4096) (whole_ok 1 4096)
           (no_default (IsWithin 1 4096));
-      word = key_ok section.Top t row.word word we (IsWithin 8 32) (whole_ok 8 32) (no_default (IsWithin 8 32));
+      word = key_ok section.Top t row.word word we (IsWithin 8 40) (whole_ok 8 40) (no_default (IsWithin 8 40));
       hold = key_ok section.Top t row.hold hold he (λ n. n ≤ 3) (λ d n e. no_more 3 n (whole_ok 0 3 d n e))
           (λ n e. no_more 3 n (omega (arith, some_same 0 n e), omega (arith, some_same 0 n e)));
       unit_count = rw of_units.count_is tables;

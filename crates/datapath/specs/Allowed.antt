@@ -41,7 +41,7 @@ pub record IsBus (units : List of_unit.Unit) (bus : Bus) : Type 0 where
 
 pub record IsDatapath (d : Datapath) : Type 0 where
   pub period : IsWithin 1 4096 d.period
-  pub word : IsWithin 8 32 d.word
+  pub word : IsWithin 8 40 d.word
   pub hold : d.hold ≤ 3
   pub unit_count : IsWithin 1 32 (length d.units)
   pub units : All (IsUnit d.units) d.units

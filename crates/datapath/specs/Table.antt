@@ -25,7 +25,7 @@ abbrev pub period : Row ℕ
 period = row (codes "period") (whole 1 4096) required
 
 abbrev pub word : Row ℕ
-word = row (codes "word") (whole 8 32) required
+word = row (codes "word") (whole 8 40) required
 
 abbrev pub hold : Row ℕ
 hold = row (codes "hold") (whole 0 3) (Some 0)

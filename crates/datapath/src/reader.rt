@@ -15,11 +15,15 @@ use crate::fault::{PathFault, Section};
 use crate::keys::{only_keys, whole_key};
 use crate::types::Datapath;
 use crate::units::units_of;
+use fix_word::MOST_BITS;
 use std::alloc::Global;
 use toml::Table;
 
 /// The most bytes of a datapath file.
 const MOST_BYTES: usize = 1 << 20;
+
+/// The most bits that a datapath may say its widest word has.
+const MOST_WORD: u32 = MOST_BITS as u32;
 
 #[tactic(auto, unfolding(crate::specs::PathOf::path_at))]
 fn path_at(alloc: Global, table: &Table) -> Result<Datapath, PathFault>
@@ -28,7 +32,7 @@ fn path_at(alloc: Global, table: &Table) -> Result<Datapath, PathFault>
     let keys = &["period", "word", "hold", "unit", "bus"];
     only_keys(Section::Top, table, keys)?;
     let period = whole_key(Section::Top, table, "period", None, 1, 4096)?;
-    let word = whole_key(Section::Top, table, "word", None, 8, 32)?;
+    let word = whole_key(Section::Top, table, "word", None, 8, MOST_WORD)?;
     let hold = whole_key(Section::Top, table, "hold", Some(0), 0, 3)?;
     let unit = tables_key(alloc, table, "unit")?;
     let bus = tables_key(alloc, table, "bus")?;

@@ -196,6 +196,14 @@ fn no_node(alloc: Global) -> Node {
     address_node(alloc, 0, 0)
 }
 
+/// How many nodes there are up to the last one of the graph, which mostly has no delay line.
+fn room_for(numbers: &List<u32>) -> usize {
+    match numbers.as_slice().last() {
+        Some(last) => *last as usize + 1,
+        None => 0,
+    }
+}
+
 /// The nodes of the graph, each followed by those of its delay line.
 pub(crate) fn nodes_of(
     alloc: Global,
@@ -210,7 +218,7 @@ pub(crate) fn nodes_of(
         layout.now.delays.now layout.now.lines.now (length graph.nodes)) }
 {
     let mut left = graph.nodes;
-    let mut nodes = List::with_capacity(alloc, left.len())?;
+    let mut nodes = List::with_capacity(alloc, room_for(layout.numbers))?;
     let mut next = 0;
     for v in 0..left.len() {
         let node = left.replace(v, no_node(alloc));

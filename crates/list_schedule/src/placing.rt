@@ -12,7 +12,7 @@ use crate::fault::PeriodFault;
 use bus_alloc::Table;
 use datapath::PortRef;
 use lists::List;
-use plan_core::Slot;
+use plan_core::{Slot, Transfers};
 use schedule_order::{Destinations, Problem};
 use std::alloc::{AllocError, Global};
 
@@ -134,7 +134,7 @@ fn no_slots(alloc: Global, count: usize) -> Result<List<Slot>, AllocError>
     for _ in 0..count {
         slots.push(Slot {
             cycle: 0,
-            transfers: List::new(alloc),
+            transfers: Transfers::new(alloc),
         })?;
     }
     Ok(slots)

@@ -1,11 +1,11 @@
--- The listings of two worked images, which the prover computes.
+-- The listings of three worked images, which the prover computes.
 use Rattle.std.proofs.Common.{◌≡◌, refl, ℕ, List, [], ◌∷◌, ◌++◌, codes}
 use Rattle.std.specs.Prelude.{ℤ, pos, negsuc, replicate}
 use Rattle.std.specs.Fmt.{digits}
 use Rattle.fix_word.specs.declared.operation.Op.{Op}
 use Rattle.fix_word.specs.declared.operation.Op.TheVariants as op
 use Rattle.fix_word.specs.declared.types.Format.{Format}
-use Rattle.fix_word.specs.declared.types.Mode.TheVariants.{Round}
+use Rattle.fix_word.specs.declared.types.Mode.TheVariants.{Trunc, Round, Sat, RoundSat}
 use Rattle.operations.specs.Operations.{plain}
 use Rattle.operations.specs.declared.units.Kind.{Kind}
 use Rattle.operations.specs.declared.units.Kind.TheVariants as kind
@@ -89,3 +89,30 @@ sparse_listing : listing_text sparse_image
     ++ codes "word 2\ntake 2.1 bus 1 reg 15\ntake 3.0 bus 1 reg 1\n" ++ codes "word 3\ndrive 0 0\ndrive 0 1\n"
 unfolding digits listing_text head_line word_lines issue_line enable_line take_line
 sparse_listing = refl
+
+-- The four modes, with the least and the greatest shift and width, and the ends of the range of constants.
+abbrev modes_image : Image
+modes_image =
+    image 4 1 1
+    (word
+    (issue 1 op.Const (plain 0) (negsuc 549755813887) []
+    ∷ issue 2 op.Pass (record { shift = negsuc 39; mode = Trunc; width = 40 }) (pos 0) (0 ∷ 0 ∷ [])
+    ∷ [])
+    [] []
+    ∷ word
+    (issue 1 op.Const (plain 0) (pos 549755813887) []
+    ∷ issue 2 op.Pass (record { shift = pos 80; mode = Round; width = 1 }) (pos 0) (0 ∷ 0 ∷ [])
+    ∷ [])
+    [] []
+    ∷ word (issue 2 op.Neg (record { shift = pos 0; mode = Sat; width = 8 }) (pos 0) (1 ∷ 0 ∷ []) ∷ []) [] []
+    ∷ word (issue 2 op.Pass (record { shift = pos 8; mode = RoundSat; width = 8 }) (pos 0) (1 ∷ 0 ∷ []) ∷ []) [] []
+    ∷ [])
+
+modes_listing : listing_text modes_image
+    ≡ codes "period 4 unroll 1 inputs 1 outputs 1 units 4 buses 1\n"
+    ++ codes "word 0\nissue 1 const -549755813888\nissue 2 pass fmt -40 trunc 40 regs 0 0\n"
+    ++ codes "word 1\nissue 1 const 549755813887\nissue 2 pass fmt 80 round 1 regs 0 0\n"
+    ++ codes "word 2\nissue 2 neg fmt 0 sat 8 regs 1 0\n"
+    ++ codes "word 3\nissue 2 pass fmt 8 round,sat 8 regs 1 0\n"
+unfolding digits listing_text head_line word_lines issue_line enable_line take_line
+modes_listing = refl

@@ -5,7 +5,7 @@ use Rattle.fix_word.specs.declared.operation.Op.{Op}
 use Rattle.fix_word.specs.declared.operation.Op.TheVariants as op
 use Rattle.fix_word.specs.declared.types.Format.{Format}
 use Rattle.fix_word.specs.declared.types.Mode.{Mode}
-use Rattle.fix_word.specs.declared.types.Mode.TheVariants.{Trunc, Round}
+use Rattle.fix_word.specs.declared.types.Mode.TheVariants.{Trunc, Round, Sat, RoundSat}
 use Rattle.operations.specs.Operations.{is_formatted}
 
 abbrev pub line_feed : ℕ
@@ -20,6 +20,8 @@ point = 46
 abbrev pub mode_name : Mode → List ℕ
 mode_name Trunc = codes "trunc"
 mode_name Round = codes "round"
+mode_name Sat = codes "sat"
+mode_name RoundSat = codes "round,sat"
 
 -- whether the operation has an argument: the number of a word, a raw word, or an offset
 abbrev pub has_argument : Op → Bool

@@ -16,6 +16,8 @@ fn mode_name(mode: Mode) -> &'static str
     match mode {
         Mode::Trunc => "trunc",
         Mode::Round => "round",
+        Mode::Sat => "sat",
+        Mode::RoundSat => "round,sat",
     }
 }
 

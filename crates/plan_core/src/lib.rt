@@ -9,5 +9,5 @@ mod schedule;
 
 pub use delay_lines::{Line, Lowered};
 pub use plan::Plan;
-pub use registers::{Arc, Arcs, Registers};
+pub use registers::{Arc, Arcs, CopyRegisters, Registers};
 pub use schedule::{Assigned, Schedule, Slot, Transfer, Transfers};

@@ -2,6 +2,10 @@
 
 use datapath::PortRef;
 use lists::List;
+use short_lists::ShortList;
+
+/// The most copies of a lifetime.
+const COPIES: usize = 4;
 
 /// A cyclic lifetime: how long a node's words stay in the file of one port. On the circle of cycles after which the
 /// microprogram repeats it is an arc.
@@ -20,8 +24,11 @@ pub struct Arc {
 /// Lifetimes by unit, port, `w`, then node.
 pub type Arcs = List<Arc>;
 
+/// The registers of the copies of one lifetime.
+pub type CopyRegisters = ShortList<u8, COPIES>;
+
 /// For each lifetime the registers of its copies.
 #[derive(Drop)]
 pub struct Registers {
-    pub regs: List<List<u8>>,
+    pub regs: List<CopyRegisters>,
 }

@@ -3,6 +3,10 @@
 use crate::delay_lines::Lowered;
 use datapath::PortRef;
 use lists::List;
+use short_lists::ShortList;
+
+/// For how many transfers a slot has room in itself.
+const TRANSFERS: usize = 4;
 
 /// Nodes, each bound to a functional unit.
 #[derive(Drop)]
@@ -20,8 +24,18 @@ pub struct Transfer {
     pub bus: u8,
 }
 
+/// The blank of a list's room.
+impl Default for Transfer {
+    fn default() -> Transfer {
+        Transfer {
+            port: PortRef { unit: 0, port: 0 },
+            bus: 0,
+        }
+    }
+}
+
 /// The transfers of one result, by unit, then port.
-pub type Transfers = List<Transfer>;
+pub type Transfers = ShortList<Transfer, TRANSFERS>;
 
 /// The place of a node in the schedule.
 #[derive(Drop)]

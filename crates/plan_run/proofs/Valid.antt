@@ -7,8 +7,8 @@ use Rattle.std.proofs.lemmas.Int.{ints}
 use Rattle.std.proofs.lemmas.List.{get_or-map, nil_from_length}
 use Rattle.std.proofs.lemmas.Option.{slice_get-get_or}
 use Rattle.std.proofs.Math.Nat.{mod-lt}
-use Rattle.std.proofs.Math.Pow.{pow_mono}
-use Rattle.fix_word.specs.Words.{IsWord}
+use Rattle.fix_word.specs.Words.{IsWord, IsMachineWord}
+use Rattle.fix_word.proofs.Wraps.{word_wider}
 use Rattle.fix_word.specs.declared.types.SigType.{SigType}
 use Rattle.fix_word.specs.declared.types.SigType.TheVariants as sig
 use Rattle.operations.specs.declared.units.Kind.TheVariants as kind
@@ -49,15 +49,8 @@ use Rattle.plan_run.proofs.ValidWords.{most_takes, valid_word, file_count, file_
 
 -- Words.
 
-zero_word : IsWord 32 (pos 0)
+zero_word : IsMachineWord (pos 0)
 zero_word = record { low = omega (arith, ints); high = omega (arith, ints) }
-
-wider : (w : ℕ) (z : ℤ) → w ≤ 32 → IsWord w z → IsWord 32 z
-wider w z most is =
-    let more : 2 ^ (w - 1) ≤ 2 ^ 31 = pow_mono {j = 31} (omega (arith, most)) in
-    let low = is.low in
-    let high = is.high in
-    record { low = omega (arith, ints); high = omega (arith, ints) }
 
 low_cases : (m z : ℤ) → (m ≤ℤ z) ⊎ (m ≤ℤ z → ⊥)
 low_cases m z = by (int_le m z) refl
@@ -73,31 +66,31 @@ high_cases z m = by (int_lt z m) refl
     by true e = inl (grind (arith, ints, e))
     by false e = inr (λ less. grind (arith, ints, e, less))
 
--- a number is a word of 32 bits or not
-word_cases : (z : ℤ) → IsWord 32 z ⊎ (IsWord 32 z → ⊥)
+-- a number is a word of a register or not
+word_cases : (z : ℤ) → IsMachineWord z ⊎ (IsMachineWord z → ⊥)
 word_cases z =
     ⊎_elim
     (λ low.
     ⊎_elim (λ high. inl (record { low = low; high = high })) (λ never. inr (λ is. never is.high))
-    (high_cases z (pos (2 ^ 31))))
+    (high_cases z (pos (2 ^ 39))))
     (λ never. inr (λ is. never is.low))
-    (low_cases (neg_ℤ (pos (2 ^ 31))) z)
+    (low_cases (neg_ℤ (pos (2 ^ 39))) z)
 
 -- initial values are words
 init_word : (inits : List (ℕ × ℤ)) (w k : ℕ)
-    → w ≤ 32
+    → w ≤ 40
     → All (λ (i : ℕ × ℤ). IsWord w i.1) inits
-    → IsWord 32 (word_before inits k)
+    → IsMachineWord (word_before inits k)
 init_word inits w k most all = by (find (λ (i : ℕ × ℤ). i.0 == k) inits) refl
   where
-    by : (o : Option (ℕ × ℤ)) → find (λ (i : ℕ × ℤ). i.0 == k) inits ≡ o → IsWord 32 (word_or_zero o)
+    by : (o : Option (ℕ × ℤ)) → find (λ (i : ℕ × ℤ). i.0 == k) inits ≡ o → IsMachineWord (word_or_zero o)
     by None e = zero_word
     by (Some i) e =
-        wider w i.1 most
+        word_wider w 40 i.1 most
         (all_at (λ (i : ℕ × ℤ). IsWord w i.1) inits i all (found_member (λ (i : ℕ × ℤ). i.0 == k) inits i e))
 
-width_small : (t : SigType) → IsType t → width_of t ≤ 32
-width_small (sig.Fix t) is = is.widest
+width_small : (t : SigType) → IsType t → width_of t ≤ 40
+width_small (sig.Fix t) is = is.width.widest
 width_small sig.Bool is = omega arith
 
 some_is_at : {A : Type 0} (P : A → Type 0) (xs : List A) (k : ℕ) (default : A)
@@ -113,21 +106,21 @@ module _ (g : Graph) (d : Datapath) (p : Plan) (sound : IsGraph g) (machine : Is
   feasible : IsFeasible d p
   feasible = plan.feasible
 
-  no_inits : (inits : List (ℕ × ℤ)) (k : ℕ) → inits ≡ [] → IsWord 32 (word_before inits k)
-  no_inits inits k e = subst (λ inits. IsWord 32 (word_before inits k)) (sym e) zero_word
+  no_inits : (inits : List (ℕ × ℤ)) (k : ℕ) → inits ≡ [] → IsMachineWord (word_before inits k)
+  no_inits inits k e = subst (λ inits. IsMachineWord (word_before inits k)) (sym e) zero_word
 
-  word_of_node : (i k : ℕ) → i < length (nodes_of p) → IsWord 32 (word_before (node_at p i).inits k)
+  word_of_node : (i k : ℕ) → i < length (nodes_of p) → IsMachineWord (word_before (node_at p i).inits k)
   word_of_node i k in-i =
       let at = made_at g d p sound plan.lowered plan.assigned i in-i in by at.origin at.number
     where
-      by : (o : Origin) → IsNumber plan.lowered.delays o i → IsWord 32 (word_before (node_at p i).inits k)
+      by : (o : Origin) → IsNumber plan.lowered.delays o i → IsMachineWord (word_before (node_at p i).inits k)
       by (own v) number =
           let made : IsOwn g d p.assigned.lowered plan.lowered.delays v (node_at p i) =
           made_as g d p sound plan.lowered plan.assigned (own v) i number in
           let node = graph_node g d p sound plan.lowered plan.assigned v
           (own_below g d p sound plan.lowered plan.assigned v i number) in
-          subst (λ inits. IsWord 32 (word_before inits k)) (sym (ap (λ (node : Node). node.inits) made.rest))
-          (init_word (node_of g.nodes v).inits (node_of g.nodes v).width k node.width.1 node.inits.words)
+          subst (λ inits. IsMachineWord (word_before inits k)) (sym (ap (λ (node : Node). node.inits) made.rest))
+          (init_word (node_of g.nodes v).inits (node_of g.nodes v).width k node.width.widest node.inits.words)
       by (address v ago) number =
           let made : IsAddress g d p.assigned.lowered plan.lowered.delays v ago (node_at p i) =
           made_as g d p sound plan.lowered plan.assigned (address v ago) i number in
@@ -143,26 +136,26 @@ module _ (g : Graph) (d : Datapath) (p : Plan) (sound : IsGraph g) (machine : Is
 
   -- registers and cells start with words
   register_word : (port : PortRef) (reg : ℕ)
-      → IsWord 32 (initial (microprogram_of image) (Register port.unit port.port reg))
+      → IsMachineWord (initial (microprogram_of image) (Register port.unit port.port reg))
   register_word port reg =
       ⊎_elim
       (λ word. word)
       (λ never.
-      absurd (never (subst (IsWord 32)
+      absurd (never (subst IsMachineWord
       (sym (is.starts.other_register port reg (λ k i ago (of : IsPreloadOf d p port reg k i ago).
-      never (subst (IsWord 32) (sym (is.starts.register port reg k i ago of))
+      never (subst IsMachineWord (sym (is.starts.register port reg k i ago of))
       (word_of_node (arc_at p k).node ago (feasible.arcs k of.preload.there).node)))))
       zero_word)))
       (word_cases (initial (microprogram_of image) (Register port.unit port.port reg)))
 
-  cell_word : (ram cell : ℕ) → IsWord 32 (initial (microprogram_of image) (Cell ram cell))
+  cell_word : (ram cell : ℕ) → IsMachineWord (initial (microprogram_of image) (Cell ram cell))
   cell_word ram cell =
       ⊎_elim
       (λ word. word)
       (λ never.
-      absurd (never (subst (IsWord 32)
+      absurd (never (subst IsMachineWord
       (sym (is.starts.other_cell ram cell (λ l ago (of : IsCellPreload p ram cell l ago).
-      never (subst (IsWord 32) (sym (is.starts.cell ram cell l ago of))
+      never (subst IsMachineWord (sym (is.starts.cell ram cell l ago of))
       (word_of_node (line_at p l).node ago (feasible.lines l of.there).node)))))
       zero_word)))
       (word_cases (initial (microprogram_of image) (Cell ram cell)))
@@ -180,7 +173,7 @@ module _ (g : Graph) (d : Datapath) (p : Plan) (sound : IsGraph g) (machine : Is
             ∙ unit.file_count ∙ ap valid.ports (sym its.kind);
         files = λ q default in-q. file u below q default in-q;
         cells = λ c default in-c.
-            subst (IsWord 32) (default_any (described image u).cells c (pos 0) default in-c) (cell_word u c);
+            subst IsMachineWord (default_any (described image u).cells c (pos 0) default in-c) (cell_word u c);
         cell_count = λ ram.
             let cells = unit.cells (sym its.kind ∙ ram) in
             (omega (arith, cells.0, its.cells), omega (arith, cells.1, its.cells));
@@ -216,7 +209,7 @@ module _ (g : Graph) (d : Datapath) (p : Plan) (sound : IsGraph g) (machine : Is
           subst valid.IsFile (default_any (described image u).files q [] default in-q) (record {
             size = (omega (arith, long, size.0), omega (arith, long, size.1));
             words = λ r default in-r.
-                subst (IsWord 32) (default_any (nth (described image u).files q []) r (pos 0) default in-r)
+                subst IsMachineWord (default_any (nth (described image u).files q []) r (pos 0) default in-r)
                 (register_word (port_of u q) r);
           })
 
@@ -244,8 +237,8 @@ module _ (g : Graph) (d : Datapath) (p : Plan) (sound : IsGraph g) (machine : Is
     input_count = subst (valid.IsWithin 1 16) (sym (inputs_are g d p sound machine plan image is)) sound.input_count;
     inputs = λ k default below.
         let in-k : k < length g.inputs = omega (arith, below, inputs_are g d p sound machine plan image is) in
-        subst (λ inputs. slice_index_or inputs k default ≤ 32) (sym (is.inputs ∙ ap (map width_of) plan.inputs))
-        (subst (λ w. w ≤ 32) (sym (get_or-map width_of g.inputs k sig.Bool default in-k))
+        subst (λ inputs. slice_index_or inputs k default ≤ 40) (sym (is.inputs ∙ ap (map width_of) plan.inputs))
+        (subst (λ w. w ≤ 40) (sym (get_or-map width_of g.inputs k sig.Bool default in-k))
         (width_small (slice_index_or g.inputs k sig.Bool) (sound.inputs k sig.Bool in-k)));
     outs = subst (valid.IsWithin 1 16) (sym (outs_are g d p sound machine plan image is)) sound.out_count;
     unit_count = subst (valid.IsWithin 1 32) (sym is.unit_count) machine.unit_count;

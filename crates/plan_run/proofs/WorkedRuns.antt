@@ -8,7 +8,7 @@ use Rattle.operations.specs.Operations.{plain}
 use Rattle.operations.specs.Units.{ports}
 use Rattle.datapath.specs.Values.{is_name}
 use Rattle.std.proofs.lemmas.Int.{ints}
-use Rattle.fix_word.specs.Words.{IsWord, IsFormat}
+use Rattle.fix_word.specs.Words.{IsWidth, IsWord, IsFormat}
 use Rattle.fix_word.specs.declared.operation.Op.TheVariants as op
 use Rattle.operations.specs.declared.units.Kind.TheVariants as kind
 use Rattle.datapath.specs.Allowed.{IsUnit}
@@ -48,12 +48,14 @@ five = record {
       (more (record { low = omega (arith, ints); high = omega (arith, ints) }) none);
 }
 
+a_width : IsWidth 8
+a_width = record { narrowest = omega arith; widest = omega arith }
+
 eight_bits : IsFormat (plain 8)
 eight_bits = record {
   lowest = omega (arith, ints);
   highest = omega (arith, ints);
-  narrowest = omega arith;
-  widest = omega arith;
+  width = a_width;
 }
 
 module _ (g : Graph) where
@@ -65,7 +67,7 @@ module _ (g : Graph) where
     edge_count = refl;
     edges = All-from_Each (IsEdge g) none;
     inits = no_inits;
-    width = (omega arith, omega arith);
+    width = a_width;
   }
 
   output_is : (from : Edge) → 1 ≤ g.outs → IsEdge g from → IsNode g (output_node from)
@@ -76,7 +78,7 @@ module _ (g : Graph) where
     edge_count = refl;
     edges = All-from_Each (IsEdge g) (more is none);
     inits = no_inits;
-    width = (omega arith, omega arith);
+    width = a_width;
   }
 
   sum_is : (a b : Edge) (inits : List (ℕ × ℤ))
@@ -92,7 +94,7 @@ module _ (g : Graph) where
       edge_count = refl;
       edges = All-from_Each (IsEdge g) (more is-a (more is-b none));
       inits = are;
-      width = (omega arith, omega arith);
+      width = a_width;
     },
     record {
       operation = tt {0};
@@ -101,7 +103,7 @@ module _ (g : Graph) where
       edge_count = refl;
       edges = All-from_Each (IsEdge g) (more is-a (more is-b none));
       inits = are;
-      width = (omega arith, omega arith);
+      width = a_width;
     },
   )
 
@@ -113,11 +115,11 @@ module _ (g : Graph) where
     edge_count = refl;
     edges = All-from_Each (IsEdge g) (more is none);
     inits = no_inits;
-    width = (omega arith, omega arith);
+    width = a_width;
   }
 
 a_byte : IsType byte
-a_byte = record { narrowest = omega arith; widest = omega arith; places = omega arith }
+a_byte = record { width = a_width; places = omega arith }
 
 accumulator_graph : IsGraph accumulator
 accumulator_graph = record {

@@ -16,7 +16,7 @@ use crate::file::RegisterFile;
 use crate::unrolling::unroll;
 use datapath::{Datapath, PortRef};
 use lists::List;
-use plan_core::{Arc, Arcs, Registers};
+use plan_core::{Arc, Arcs, CopyRegisters, Registers};
 use std::alloc::Global;
 
 /// How many registers the file of the port has.
@@ -35,7 +35,7 @@ fn registers_of(
     arcs: &[Arc],
     datapath: &Datapath,
     circle: Circle,
-) -> Result<List<List<u8>>, FileFault>
+) -> Result<List<CopyRegisters>, FileFault>
     requires datapath { IsDatapath datapath.now }
     requires allottable { AreAllottable datapath.now arcs.now }
     requires period { circle.period ≡ datapath.now.period }
@@ -48,7 +48,7 @@ fn registers_of(
     for arc in arcs {
         file.enter(arc.port);
         let size = file_size(datapath, arc.port);
-        let mut registers = List::with_capacity(alloc, usize::from(arc.copies))?;
+        let mut registers = CopyRegisters::new(alloc);
         for copy in 0..arc.copies {
             registers.push(file.place(circle, *arc, copy, size)?)?;
         }

@@ -1,3 +1,4 @@
+use Rattle.std.proofs.Common.{arith}
 use Rattle.microcode_asm.proofs.SampleSteps.{bus_there, copies_some, copy_room, take_for}
 use Rattle.microcode_asm.proofs.takes.take.Goals as goal
 
@@ -13,9 +14,11 @@ copy_in-requires c =
     c.requires.there c.index-arc.ensures
 
 pub index-requires-2 : goal.index-requires-2
-index-requires-2 c =
-    copy_room c.args.datapath.now c.args.plan.now c.requires.ready c.args.k c.args.n c.copy_in.result
-    c.index-arc.result.now c.index.result.now c.requires.there c.index-arc.ensures c.copy_in.ensures c.index.ensures
+index-requires-2 c = (
+  omega arith,
+  copy_room c.args.datapath.now c.args.plan.now c.requires.ready c.args.k c.args.n c.copy_in.result
+      c.index-arc.result.now c.index.result.now c.requires.there c.index-arc.ensures c.copy_in.ensures c.index.ensures,
+)
 
 pub returns : goal.returns
 returns c =

@@ -25,12 +25,12 @@ loop-copy-init c =
     let port = ap (λ (arc : Arc). arc.port) is in
     let new = c.enter.new.self.registers.items in
     record {
-      count = ap (λ (rs : List ℕ). length rs) c.in_ok-registers.ensures;
+      count = ap (λ (rs : List ℕ). length rs) c.new-registers.ensures;
       port = c.enter.ensures.port;
       allotted = subst
           (λ (last : List ℕ).
           AreAllottedBefore d samples arcs (c.loop-arc.regs ++ last ∷ []) c.enter.new.self.port new k
-          0) (sym c.in_ok-registers.ensures)
+          0) (sym c.new-registers.ensures)
           (subst (λ (p : PortRef). AreAllottedBefore d samples arcs (c.loop-arc.regs ++ [] ∷ []) p new k 0)
           (sym (c.enter.ensures.port ∙ port))
           (entered d samples arcs c.requires.allottable c.loop-arc.regs c.loop-arc.file.port

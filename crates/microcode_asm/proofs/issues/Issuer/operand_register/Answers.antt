@@ -1,4 +1,4 @@
-use Rattle.std.proofs.Common.{◌<◌, subst, length, List}
+use Rattle.std.proofs.Common.{arith, ◌<◌, subst, length, List}
 use Rattle.plan_core.specs.declared.registers.Arc.{Arc}
 use Rattle.microcode_asm.proofs.IssueSteps.{some_arc, register_room, port_register}
 use Rattle.microcode_asm.proofs.issues.Issuer.operand_register.Goals as goal
@@ -10,12 +10,14 @@ lifetime_at-k-requires-clause-there c =
     c.requires.unit c.as_slice-arcs.ensures
 
 pub index-requires-3 : goal.index-requires-3
-index-requires-3 c =
-    register_room c.args.self.now.datapath.now c.args.self.now.plan.now c.requires.issuer.ready c.lifetime_at-k.result
-    c.copy_ago-copy.result c.index.result.now c.index-2.result.now
-    (subst (λ (arcs : List Arc). c.lifetime_at-k.result < length arcs) c.as_slice-arcs.ensures
-    c.lifetime_at-k.ensures.there)
-    c.index.ensures c.index-2.ensures c.copy_ago-copy.ensures.there
+index-requires-3 c = (
+  omega arith,
+  register_room c.args.self.now.datapath.now c.args.self.now.plan.now c.requires.issuer.ready c.lifetime_at-k.result
+      c.copy_ago-copy.result c.index.result.now c.index-2.result.now
+      (subst (λ (arcs : List Arc). c.lifetime_at-k.result < length arcs) c.as_slice-arcs.ensures
+      c.lifetime_at-k.ensures.there)
+      c.index.ensures c.index-2.ensures c.copy_ago-copy.ensures.there,
+)
 
 pub returns : goal.returns
 returns c =
