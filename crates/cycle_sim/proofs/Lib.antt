@@ -21,8 +21,6 @@ pub mod RingLaws
 pub mod RunCycle
 pub mod Initial
 pub mod Addresses
-pub mod IdleRuns
-pub mod IdleCounts
 pub mod Shown
 pub mod Samples
 pub mod Acting
@@ -31,3 +29,6 @@ pub mod Actions
 pub mod Partition
 pub mod NextCycle
 pub mod WholeCycle
+pub mod SampleSteps
+pub mod Leading
+pub mod SampleRuns

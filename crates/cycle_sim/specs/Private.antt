@@ -1,6 +1,7 @@
 pub mod Window
 pub mod Conflicts
 pub mod Values
+pub mod Steps
 pub mod Predecode
 pub mod Sizes
 pub mod Issues
@@ -10,3 +11,4 @@ pub mod Hardware
 pub mod Loading
 pub mod Order
 pub mod Next
+pub mod Ahead

@@ -1,6 +1,7 @@
 //! The simulator: a machine that runs the image of a microprogram cycle by cycle.
 #![tactic(auto)]
 
+mod ahead;
 mod conflicts;
 mod cycle;
 mod hardware;
@@ -10,6 +11,7 @@ mod order;
 mod predecode;
 mod predecoded;
 mod rings;
+mod steps;
 mod values;
 
 pub use machine::{LoadFault, Machine};
