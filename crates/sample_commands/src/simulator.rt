@@ -61,7 +61,7 @@ fn read_machine<D: Desk>(alloc: Global, desk: &mut D, name: &str) -> Result<Mach
 
 /// The channel of each input word.
 fn input_channels(alloc: Global, widths: &[u8]) -> Result<List<Channel>, AllocError>
-    requires { All (λ width. width ≤ 32) widths.now }
+    requires { All (λ width. width ≤ 40) widths.now }
     ensures channels { IfOk result (λ channels. channels ≡ map channel_of widths.now) }
     ensures each { IfOk result (λ channels. All IsChannel channels) }
 {

@@ -16,16 +16,16 @@ in_channel channel (pos n) is h = omega (arith, ints, is.high, h.1)
 in_channel channel (negsuc n) is h = omega (arith, ints, is.low, h.0)
 
 words_fit : (widths : List ℕ) (row : List ℤ)
-    → All (λ width. width ≤ 32) widths
+    → All (λ width. width ≤ 40) widths
     → IsRow (map channel_of widths) row
     → All IsOperand row
 words_fit [] [] all h = All-nil IsOperand
 words_fit [] (word ∷ row) all h = absurd h
 words_fit (width ∷ widths) [] all h = All-nil IsOperand
 words_fit (width ∷ widths) (word ∷ row) all h =
-    let few = All-head (λ w. w ≤ 32) width widths all in
+    let few = All-head (λ w. w ≤ 40) width widths all in
     All-cons IsOperand word row (in_channel (channel_of width) word (channel_is width (omega (arith, few))) h.0)
-    (words_fit widths row (All-tail (λ w. w ≤ 32) width widths all) h.1)
+    (words_fit widths row (All-tail (λ w. w ≤ 40) width widths all) h.1)
 
 -- a row has a word for each input, of magnitude at most 2^39
 pub row_words : (image : Image) (row : List ℤ) → IsValid image → IsRow (channels_of image) row → All IsOperand row

@@ -30,7 +30,7 @@ in_graph_type : (ty : SigType) (word : ℤ)
     → graph.IsType ty
     → IsInChannel (type_channel ty) word
     → graph.IsInType ty word
-in_graph_type (sig.Fix t) word is h = in_width t.shape.w word is.narrowest h
+in_graph_type (sig.Fix t) word is h = in_width t.shape.w word is.width.narrowest h
 in_graph_type sig.Bool word is h = h
 
 pub graph_row : (types : List SigType) (row : List ℤ)

@@ -2,7 +2,7 @@
 use Rattle.std.proofs.Common.{◌≤◌, arith, ℕ, List, [], ◌∷◌, map}
 use Rattle.std.specs.List.{All}
 use Rattle.std.proofs.lemmas.List.{length-map}
-use Rattle.std.proofs.lemmas.List.Elements.{All-head, All-tail, All-cons, All-nil, All-weaker}
+use Rattle.std.proofs.lemmas.List.Elements.{All-head, All-tail, All-cons, All-nil}
 use Rattle.fix_word.specs.declared.types.SigType.{SigType}
 use Rattle.fix_word.specs.declared.types.SigType.TheVariants as sig
 use Rattle.source_faults.specs.Faults.{HasProgram}
@@ -26,13 +26,11 @@ image_channels image valid =
     record {
       some = omega (arith, count, some);
       few = omega (arith, count, few);
-      each = each_channel_is image.inputs
-          (All-weaker (λ width. width ≤ 32) (λ width. width ≤ 40) (λ width few. omega (arith, few)) image.inputs
-          valid.inputs);
+      each = each_channel_is image.inputs valid.inputs;
     }
 
 type_channel_is : (ty : SigType) → IsType ty → IsChannel (type_channel ty)
-type_channel_is (sig.Fix t) is = channel_is t.shape.w (let widest = is.widest in omega (arith, widest))
+type_channel_is (sig.Fix t) is = channel_is t.shape.w is.width.widest
 type_channel_is sig.Bool is = channel_is 0 (omega arith)
 
 type_channels_are : (types : List SigType) → All IsType types → All IsChannel (map type_channel types)

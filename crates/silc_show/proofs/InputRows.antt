@@ -16,16 +16,16 @@ in_channel channel (pos n) is h = omega (arith, ints, is.high, h.1)
 in_channel channel (negsuc n) is h = omega (arith, ints, is.low, h.0)
 
 words_fit : (widths : List ℕ) (row : List ℤ)
-    → All (λ width. width ≤ 32) widths
+    → All (λ width. width ≤ 40) widths
     → IsRow (map channel_of widths) row
     → All IsOperand row
 words_fit [] [] all h = All-nil IsOperand
 words_fit [] (word ∷ row) all h = absurd h
 words_fit (width ∷ widths) [] all h = All-nil IsOperand
 words_fit (width ∷ widths) (word ∷ row) all h =
-    let few = All-head (λ w. w ≤ 32) width widths all in
+    let few = All-head (λ w. w ≤ 40) width widths all in
     All-cons IsOperand word row (in_channel (channel_of width) word (channel_is width (omega (arith, few))) h.0)
-    (words_fit widths row (All-tail (λ w. w ≤ 32) width widths all) h.1)
+    (words_fit widths row (All-tail (λ w. w ≤ 40) width widths all) h.1)
 
 as_many : (widths : List ℕ) (row : List ℤ) → IsRow (map channel_of widths) row → length row ≡ length widths
 as_many [] [] h = refl
@@ -34,13 +34,13 @@ as_many (width ∷ widths) [] h = absurd h
 as_many (width ∷ widths) (word ∷ row) h = let same = as_many widths row h.1 in omega (arith, same)
 
 input_row : (widths : List ℕ) (row : List ℤ)
-    → All (λ width. width ≤ 32) widths
+    → All (λ width. width ≤ 40) widths
     → IsRow (map channel_of widths) row
     → IsInputRow widths row
 input_row widths row all h = record { count = as_many widths row h; words = words_fit widths row all h }
 
 pub input_rows : (widths : List ℕ) (channels : List Channel) (rows : Rows)
-    → All (λ width. width ≤ 32) widths
+    → All (λ width. width ≤ 40) widths
     → channels ≡ map channel_of widths
     → IsStream channels rows
     → AreInputRows widths rows

@@ -36,7 +36,7 @@ in_width (suc n) word some h =
     }
 
 in_type : (ty : SigType) (word : ℤ) → IsType ty → IsInChannel (type_channel ty) word → IsInType ty word
-in_type (sig.Fix t) word is h = in_width t.shape.w word is.narrowest h
+in_type (sig.Fix t) word is h = in_width t.shape.w word is.width.narrowest h
 in_type sig.Bool word is h = h
 
 typed_row : (types : List SigType) (row : List ℤ)

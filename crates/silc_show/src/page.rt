@@ -234,5 +234,7 @@ pub fn mode_text(mode: Mode) -> &'static str {
     match mode {
         Mode::Trunc => "trunc",
         Mode::Round => "round",
+        Mode::Sat => "sat",
+        Mode::RoundSat => "round,sat",
     }
 }

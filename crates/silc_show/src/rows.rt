@@ -191,7 +191,7 @@ pub fn read_typed(
 
 /// The channel of each word of these widths.
 fn width_channels(alloc: Global, widths: &[u8]) -> Result<List<Channel>, AllocError>
-    requires { All (λ width. width ≤ 32) widths.now }
+    requires { All (λ width. width ≤ 40) widths.now }
     ensures channels { IfOk result (λ channels. channels ≡ map channel_of widths.now) }
     ensures each { IfOk result (λ channels. All IsChannel channels) }
 {
@@ -209,7 +209,7 @@ pub fn read_widths(
     widths: &List<u8>,
     samples: &[u8],
 ) -> Result<List<List<i64>>, Refused>
-    requires widths { All (λ width. width ≤ 32) widths.now }
+    requires widths { All (λ width. width ≤ 40) widths.now }
     requires some { 1 ≤ length widths.now }
     requires few { length widths.now ≤ 16 }
     ensures { IfOk result (AreInputRows widths.now) }

@@ -14,7 +14,7 @@ ghost use Rattle.fix_word.specs.Words.{IsFormat, IsShape};
 use crate::operation_names::operation_named;
 use crate::page::{Page, Refused};
 use crate::source::text_of;
-use fix_word::{Format, Mode, Op, Shape, apply, conv, form, literal, wrap};
+use fix_word::{Format, MOST_BITS, Mode, Op, Shape, apply, conv, form, literal, wrap};
 use std::alloc::AllocError;
 
 /// What is said of a row that has no result: the condition that it breaks.
@@ -26,13 +26,13 @@ const ROW: Broken = " refused: row";
 /// A number is below -2^80 or above 2^80.
 const NUMBER: Broken = " refused: number";
 
-/// A width is not 1 to 32.
+/// A width is not 1 to 40.
 const WIDTH: Broken = " refused: width";
 
-/// A width is not 1 to 32, or there are more fraction bits than bits.
+/// A width is not 1 to 40, or there are more fraction bits than bits.
 const SHAPE: Broken = " refused: shape";
 
-/// The fraction bits of a number are not 0 to 64.
+/// The fraction bits of a number are not 0 to 80.
 const FRACTION_BITS: Broken = " refused: fraction bits";
 
 /// A literal has more than 18 digits.
@@ -41,7 +41,7 @@ const DIGITS: Broken = " refused: digits";
 /// A literal has more than 17 digits behind its point.
 const PLACES: Broken = " refused: places";
 
-/// A shift is not -32 to 64, or a width not 1 to 32.
+/// A shift is not -40 to 80, or a width not 1 to 40.
 const FORMAT: Broken = " refused: format";
 
 /// The operation is one that has no result by itself.
@@ -56,7 +56,7 @@ const NUMBER_LIMIT: u128 = 1 << 80;
 const OPERAND_LIMIT: u64 = 1 << 39;
 
 /// The most fraction bits of a number.
-const FRACTION_BITS_LIMIT: i16 = 64;
+const FRACTION_BITS_LIMIT: i16 = 80;
 
 /// The least number with 19 digits.
 const DIGITS_LIMIT: u64 = 1_000_000_000_000_000_000;
@@ -92,6 +92,8 @@ fn mode(word: &str) -> Result<Mode, Broken> {
     match word {
         "trunc" => Ok(Mode::Trunc),
         "round" => Ok(Mode::Round),
+        "sat" => Ok(Mode::Sat),
+        "round,sat" => Ok(Mode::RoundSat),
         _ => Err(ROW),
     }
 }
@@ -110,7 +112,7 @@ fn format(shift: &str, mode_word: &str, width: &str) -> Result<Format, Broken> {
 fn is_format(fmt: &Format) -> bool
     ensures { IsTrue result ↔ IsFormat fmt.now }
 {
-    -32 <= fmt.shift && fmt.shift <= 64 && 1 <= fmt.width && fmt.width <= 32
+    -40 <= fmt.shift && fmt.shift <= 80 && 1 <= fmt.width && fmt.width <= MOST_BITS
 }
 
 fn wrapped(q: &str, width: &str) -> Result<i64, Broken> {
@@ -118,7 +120,7 @@ fn wrapped(q: &str, width: &str) -> Result<i64, Broken> {
         return Err(ROW);
     };
     let q = number(q)?;
-    if w < 1 || w > 32 {
+    if w < 1 || w > MOST_BITS {
         return Err(WIDTH);
     }
     Ok(wrap(q, w))
@@ -138,7 +140,7 @@ fn shape(w: &str, f: &str) -> Result<Shape, Broken>
     let (Ok(w), Ok(f)) = (w.parse::<u8>(), f.parse::<u8>()) else {
         return Err(ROW);
     };
-    if w < 1 || w > 32 || f > w {
+    if w < 1 || w > MOST_BITS || f > w {
         return Err(SHAPE);
     }
     Ok(Shape { w, f })
