@@ -102,7 +102,8 @@ def found(answers):
     return hovers | {"definition": places(answers["definition"]), "definition_of_x": places(answers["definition_of_x"]),
                      "references": places(answers["references"]), "references_of_k": places(answers["references_of_k"]),
                      "outline": outlined(answers["outline"]),
-                     "completion": {name: name in labels(answers["completion"]) for name in ("h", "s", "k", "x", "twice", "round")},
+                     "completion": {name: name in labels(answers["completion"])
+                                    for name in ("h", "s", "k", "x", "twice", "round", "sat")},
                      "no index before": "k" in labels(answers["completion_before"]), **{
                          name: [(line, text) for line, _, _, _, text in answers[name]] for name in ("opened", *EDITS)},
                      "severities": [severity for name in ("opened", *EDITS) for *_, severity, _ in answers[name]]}
@@ -121,7 +122,7 @@ EXPECTED = {
     "references": [(10, 6), (11, 2), (13, 4), (13, 13), (15, 6)],
     "references_of_k": [(12, 3), (13, 6), (13, 15), (13, 22), (13, 29)],
     "outline": {"h": [], "twice": ["x", "y"], "main": ["x", "y", "s", "k"]},
-    "completion": {"h": True, "s": True, "k": True, "x": True, "twice": True, "round": True},
+    "completion": {"h": True, "s": True, "k": True, "x": True, "twice": True, "round": True, "sat": True},
     "no index before": False,
     "opened": [PLANNED],
     "broken": [(15, "no signal of `main` is called `z`")],

@@ -116,6 +116,30 @@ def sliding_addresses(offset):
     return program(3, units, words)
 
 
+def modes():
+    """The outputs are x / 16 in 8 bits, in each mode in turn, of a word of 40 bits."""
+    units = [unit("in"), unit("alu", files=[[0], [0]]), unit("out", files=[[0]])]
+    words = [word([issue(0, "input")], [(0, 0)], [(1, 0, 0, 0)])]
+    for mode in range(4):
+        outputs = [issue(2, "output", [0], argument=mode - 1)] if mode else []
+        words.append(word([issue(1, "pass", [0, 0], width=8, shift=4, mode=mode), *outputs], [(1, 1)], [(2, 0, 1, 0)]))
+    return program(6, units, [*words, word([issue(2, "output", [0], argument=3)])], inputs=(40,), outs=4)
+
+
+def products():
+    """The outputs are -x / 2^39, with the least word of 40 bits as a factor, and x * x. Both saturate in 40 bits."""
+    least = -(1 << 39)
+    units = [unit("in"), unit("mul", 2, files=[[0], [least, 0]]), unit("out", files=[[0]])]
+    words = [
+        word([issue(0, "input")], [(0, 0)], [(1, 0, 0, 0), (1, 1, 0, 1)]),
+        word([issue(1, "mul", [0, 0], width=40, shift=78, mode=3)]),
+        word([issue(1, "mul", [0, 1], width=40, mode=2)], [(1, 1)], [(2, 0, 1, 0)]),
+        word([issue(2, "output", [0])], [(1, 1)], [(2, 0, 1, 0)]),
+        word([issue(2, "output", [0], argument=1)]),
+    ]
+    return program(5, units, words, inputs=(40,), outs=2)
+
+
 # Programs of several samples or channels
 
 
@@ -176,6 +200,8 @@ FILES = {
     "machine/sliding-addresses.mic": sliding_addresses(1),
     "machine/sliding-addresses-above.mic": sliding_addresses(4),
     "machine/sliding-addresses-far-above.mic": sliding_addresses(65533),
+    "machine/modes.mic": modes(),
+    "machine/products.mic": products(),
     "machine/accumulator.mic": accumulator(),
     "machine/difference.mic": difference(),
     "machine/two-channels.mic": two_channels(),

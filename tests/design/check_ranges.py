@@ -30,7 +30,7 @@ FILTERS = (("df1", ["butter", "6", "lowpass", "1000"]), ("df2t", ["cheby1", "2",
            ("lattice", ["ellip", "3", "highpass", "1200", "--ripple", "1", "--attenuation", "40"]))
 SHAPES = ["--rate", "8000", "--shape", "16,13", "--input", "16,15"]
 # All samples are compared at the output, and as many at all elements.
-LOOKED_INTO, WRAP = 10_000, re.compile("wraps|follows")
+LOOKED_INTO, WRAP = 10_000, re.compile("wraps|saturates|follows")
 # The word of a source, a wrap at its second sample, and one that follows from it at the third.
 WRAPPING = """func main(x : fix<8,4>) y : fix<8,4> =
 begin
@@ -40,6 +40,7 @@ begin
 end;
 """
 WRAPPED = {"a": "wraps at sample 2, 1 in all", "y": "follows at sample 3, 1 in all", "x": ""}
+SATURATED = {"a": "saturates at sample 2, 1 in all", "y": "follows at sample 3, 1 in all", "x": ""}
 
 
 def said(*words, room):
@@ -65,7 +66,7 @@ def scaled_faults(room, form, words, rows):
     source = said(TOOLS / "design", "iir", *words, *SHAPES, "--form", form, room=room)
     (room / "filter.sil").write_text(source)
     if evaluated(source, rows) != evaluated(widened(source), rows):
-        yield f"{named}: on noise it is another than with words of 32 bits"
+        yield f"{named}: on noise it is another than with words of 40 bits"
     (room / "noise.txt").write_text(text_of(rows[:LOOKED_INTO]))
     if WRAP.search(said(TOOLS / "ranges", "filter.sil", "noise.txt", room=room)):
         yield f"{named}: an element of it wraps on noise"
@@ -81,13 +82,14 @@ def scaled_faults(room, form, words, rows):
 
 
 def seen_faults(room):
-    """What is seen of a program that wraps."""
-    (room / "wrapping.sil").write_text(WRAPPING)
+    """What is seen of a program that wraps, and of the same that saturates."""
     (room / "samples.txt").write_text("16\n80\n-16\n0\n")
-    lines = said(TOOLS / "ranges", "wrapping.sil", "samples.txt", room=room).splitlines()[1:]
-    got = {line.split()[0]: line.partition("%")[2].strip() for line in lines}
-    if got != WRAPPED:
-        yield f"tools/ranges says {got} in the place of {WRAPPED}"
+    for source, wanted in ((WRAPPING, WRAPPED), (WRAPPING.replace("a : fix<8,4>", "a : fix<8,4,sat>"), SATURATED)):
+        (room / "passing.sil").write_text(source)
+        lines = said(TOOLS / "ranges", "passing.sil", "samples.txt", room=room).splitlines()[1:]
+        got = {line.split()[0]: line.partition("%")[2].strip() for line in lines}
+        if got != wanted:
+            yield f"tools/ranges says {got} in the place of {wanted}"
 
 
 def value_faults():

@@ -1,5 +1,6 @@
 #!/usr/bin/env python3
-"""Whether the pictures of tools/draw show what the texts of schedules say, and the responses of filters that are known.
+"""Whether the pictures of tools/draw show what the texts of schedules say, the responses of filters that are known, and the
+words of rows.
 
 It knows nothing of the layout: columns and axes are found by the numbers beside them, bars and curves by their titles.
 """
@@ -213,6 +214,33 @@ def check_response(picture, known, rate, faults):
     faults.unless(is_inside(picture), "words outside the picture")
 
 
+def check_words(picture, columns, faults):
+    """Each curve has the words of its column, by the numbers at the axes of its panel, but for a hundredth of the scale."""
+    texts = [shape for shape in picture.iter(SVG + "text") if shape.get("font-size") == "10"]
+    levels = [(int(t.text), float(t.get("y")) - 4) for t in texts if t.get("text-anchor") == "end"]
+    samples = {}
+    for text in texts:
+        if text.get("text-anchor") == "middle":
+            samples.setdefault(text.get("y"), []).append((int(text.text), *number(text, "x")))
+    curves = {shape.find(SVG + "title").text: shape.get("d") for shape in picture.iter(SVG + "path")}
+    faults.unless(list(curves) == list(columns), f"curves {list(curves)}")
+    for place, (name, words) in enumerate(columns.items()):
+        across, down = scale(samples[sorted(samples, key=float)[place]]), scale(levels[3 * place : 3 * place + 3])
+        most = max(level for level, _ in levels[3 * place : 3 * place + 3])
+        faults.unless(all(-most <= word < most for word in words), f"{name} passes its axis")
+        points = [tuple(map(float, point.split())) for point in curves[name][1:].split(" L")]
+        shown = [(across(x), down(y)) for x, y in points]
+        faults.unless(len(shown) == len(words) and all(
+            abs(sample - wanted) < 0.1 and abs(level - word) <= most / 100
+            for wanted, (word, (sample, level)) in enumerate(zip(words, shown))), f"{name} has other words")
+    faults.unless(is_inside(picture), "words outside the picture")
+
+
+# Columns of words, each by the names that are given for them.
+COLUMNS = [{"one": [0, 100, -100, 7]}, {"a ramp": list(range(-300, 300)), "its half": [n // 2 for n in range(-300, 300)]},
+           {"the ends": [32767, -32768], "small": [1, -1]}, {"forty bits": [(1 << 39) - 1, -(1 << 39), 0] * 5}]
+
+
 # Filters whose response is known: rows on an impulse, the word for a gain of 1, the design, the magnitude.
 RESPONSES = {
     "sum of two": ("1\n1\n", "1", "1,1", lambda share: 2 * math.cos(math.pi * share)),
@@ -273,6 +301,10 @@ def main():
         for rate in RATES:
             picture = drawn("response", "--rate", str(rate), "-", unit, design, given=rows)
             right.append(judged(f"response {name} at {rate} samples a second", check_response, picture, known, rate))
+    for columns in COLUMNS:
+        rows = "".join(",".join(map(str, row)) + "\n" for row in zip(*columns.values()))
+        picture = drawn("words", "-", ",".join(columns), given=rows)
+        right.append(judged(f"words {', '.join(columns)}", check_words, picture, columns))
     print(f"pictures: {right.count(True)} show what they should, and {right.count(False)} do not")
     return 1 if False in right else 0
 

@@ -4,7 +4,7 @@
 usage: tests/hardware/check_cores.py [--long] [PART ..]
 
 Without --long it takes less than four minutes on a machine with nothing else to do. Each part has more with it:
-  images       images of this folder: 42 directed ones and 30 random ones, or 300; both builds in turn, or each
+  images       images of this folder: 60 directed ones and 30 random ones, or 300; both builds in turn, or each
   hazards      images with structural hazards, 200 or 1000, are refused for the first one of a run without end
   examples     the processors of the examples, on the first 10 rows or on all, without waits, and with waits at both sides
                and a reset; both builds
@@ -46,6 +46,7 @@ KINDS_OF_HAZARDS = ("busy", "two drivers", "file twice", "no driver", "no result
 ICARUS, VERILATOR, YOSYS = ("iverilog", "vvp"), ("verilator", "g++", "make"), ("yosys",)
 FAST = ["biquads/one_multiplier", "mulaw/telephone", "echo/two_multipliers"]
 INCREMENT, BIQUADS, REVERB = "increment/plain", "biquads/one_multiplier", "reverb/one_multiplier"
+OVERFLOW = "overflow/one_multiplier"
 SECONDS_BETWEEN = 10
 NOT_ALL_THERE = 77
 WORDS_AS_NAMES = """
@@ -301,7 +302,7 @@ def check_lint(folder, name, options):
 
 
 def lint_checks(is_long):
-    for name in processors() if is_long else [BIQUADS, REVERB]:
+    for name in processors() if is_long else [BIQUADS, REVERB, OVERFLOW]:
         for options in ([], ["--full"]):
             yield " ".join([name, *options]), lambda folder, one=(name, options): check_lint(folder, *one)
 

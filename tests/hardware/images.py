@@ -13,7 +13,8 @@ SEED = 41
 OF_KIND = {"in": ["input"], "out": ["output"], "rom": ["const"], "mul": ["mul"], "sel": ["sel"], "ram": ["load", "store"],
            "acu": ["addr"], "alu": "add sub neg pass lt le eq ne and or not".split()}
 READS = {"neg": 1, "pass": 1, "not": 1, "load": 1}
-HALF = 1 << 31
+HALF = 1 << 39
+MODES = TRUNC, ROUND, SAT, ROUND_SAT = range(4)
 
 
 class Maker:
@@ -23,7 +24,7 @@ class Maker:
         self.random = random.Random(seed)
         self.period, self.unroll = self.random.choice((1, 2, 3, 5, 8, 13)), self.random.choice((1, 1, 2, 4))
         self.circle = self.period * self.unroll
-        self.inputs = [self.random.choice((0, 1, 8, 16, 32)) for _ in range(self.random.randint(1, 3))]
+        self.inputs = [self.random.choice((0, 1, 8, 16, 32, 40)) for _ in range(self.random.randint(1, 3))]
         self.outs, self.buses = self.random.randint(1, 3), self.random.randint(1, 5)
         self.units = self.some_units()
         self.began = {}
@@ -61,9 +62,9 @@ class Maker:
         registers = [self.random.randrange(len(file)) if port < count else 0 for port, file in enumerate(one["files"])]
         argument = {"input": self.random.randrange(len(self.inputs)), "output": self.random.randrange(self.outs),
                     "const": self.number(), "addr": self.random.choice((0, 1, 5, 65535))}.get(operation, 0)
-        shift = self.random.choice((0, 0, 1, 7, 15, 31, 32, 40, 63, 64, -1, -9, -32))
-        made = issue(number, operation, registers, argument, self.random.choice((1, 2, 8, 16, 24, 31, 32)), shift,
-                     self.random.randint(0, 1))
+        shift = self.random.choice((0, 0, 1, 7, 15, 31, 32, 40, 63, 64, 80, -1, -9, -40))
+        made = issue(number, operation, registers, argument, self.random.choice((1, 2, 8, 16, 24, 32, 39, 40)), shift,
+                     self.random.choice(MODES))
         return operation, made
 
     def may_begin(self, number, cycle):
@@ -219,8 +220,8 @@ def shifted(operation, shift, mode, width, first=0, latency=1):
     words[latency][1].append((1, 1))
     words[latency][2].append((2, 0, 1, 0))
     words[latency + 1][0].append(issue(2, "output", [0]))
-    samples = [[number] for number in (0, 1, -1, HALF - 1, -HALF, 12345, -54321, 1 << 30)]
-    return program(latency + 3, units, [word(*one) for one in words], inputs=(32,)), samples
+    samples = [[number] for number in (0, 1, -1, HALF - 1, -HALF, 12345, -54321, 1 << 38, (1 << 38) - 1, -(1 << 38) - 1)]
+    return program(latency + 3, units, [word(*one) for one in words], inputs=(40,)), samples
 
 
 def first_everywhere():
@@ -267,18 +268,35 @@ def rings(cells, unroll):
     return program(5, units, words, unroll=unroll), RAMP + RAMP
 
 
+def stray_address(cycle):
+    """The input is an output and the address of a load, in this cycle of a sample of four. One is outside of the memory."""
+    units = [unit("in"), unit("ram", files=[[0], [0]], cells=[10, 20]), unit("out", files=[[0]])]
+    words = [[[], [], []] for _ in range(4)]
+    words[0] = [[issue(0, "input")], [(0, 0)], [(1, 0, 0, 0), (2, 0, 0, 0)]]
+    words[1][0].append(issue(2, "output", [0]))
+    words[cycle][0].insert(0, issue(1, "load", [0, 0]))
+    return program(4, units, [word(*one) for one in words]), [[0], [1], [0], [5], [1], [0]]
+
+
 def directed_images():
     """Names, microcode and samples."""
     made = [(f"latch twice {a} {b}", latch_twice(a, b)) for a, b in ((1, 1), (1, 3), (3, 1), (2, 2))]
     made += [(f"memory {latency} {distance}", memory_at(latency, distance)) for latency in (1, 2, 3) for distance in (1, 2, 3, 4)]
     made += [(f"{operation} {shift} {mode} {width}", shifted(operation, shift, mode, width, first, latency))
              for operation, shift, mode, width, first, latency in (
-                 ("add", 33, 0, 32, 1, 1), ("add", 33, 1, 32, HALF - 1, 2), ("add", 64, 1, 32, -HALF, 1),
-                 ("sub", 64, 0, 1, -HALF, 3), ("pass", 32, 1, 8, 0, 1), ("neg", -32, 0, 32, 0, 1), ("neg", 0, 0, 32, 0, 2),
-                 ("mul", 64, 0, 32, -HALF, 1), ("mul", 64, 1, 32, -HALF, 2), ("mul", 63, 1, 1, -HALF, 3),
-                 ("mul", 31, 1, 32, -HALF, 5), ("mul", -32, 0, 32, 3, 4), ("pass", 1, 1, 1, 0, 1), ("add", 1, 1, 32, -1, 1))]
+                 ("add", 41, TRUNC, 40, 1, 1), ("add", 41, ROUND, 40, HALF - 1, 2), ("add", 80, ROUND, 40, -HALF, 1),
+                 ("sub", 80, TRUNC, 1, -HALF, 3), ("pass", 40, ROUND, 8, 0, 1), ("neg", -40, TRUNC, 40, 0, 1),
+                 ("neg", 0, TRUNC, 40, 0, 2), ("mul", 80, TRUNC, 40, -HALF, 1), ("mul", 80, ROUND, 40, -HALF, 2),
+                 ("mul", 79, ROUND, 1, -HALF, 3), ("mul", 39, ROUND, 40, -HALF, 5), ("mul", -40, TRUNC, 40, 3, 4),
+                 ("pass", 1, ROUND, 1, 0, 1), ("add", 1, ROUND, 40, -1, 1),
+                 ("add", 0, SAT, 40, 1, 1), ("sub", 0, SAT, 40, 1, 2), ("neg", 0, SAT, 40, 0, 1), ("pass", -1, SAT, 40, 0, 1),
+                 ("pass", -40, SAT, 40, 0, 2), ("pass", 80, ROUND_SAT, 40, 0, 1), ("pass", 0, SAT, 1, 0, 1),
+                 ("pass", 1, ROUND_SAT, 1, 0, 1), ("pass", 9, ROUND_SAT, 31, 0, 1), ("pass", 32, ROUND_SAT, 8, 0, 3),
+                 ("mul", 39, SAT, 40, -HALF, 1), ("mul", 39, ROUND_SAT, 40, HALF - 1, 2), ("mul", 0, SAT, 40, -3, 1),
+                 ("mul", -40, SAT, 40, -1, 4), ("add", 1, ROUND_SAT, 39, HALF - 1, 1), ("add", 1, ROUND_SAT, 40, HALF - 1, 1))]
     made += [("first words everywhere", first_everywhere())]
     made += [(f"truth input {operation}", truths(operation)) for operation in ("and", "or", "not", "lt", "le", "eq", "ne")]
     made += [(f"ring of {cells}, unroll {unroll}", rings(cells, unroll)) for cells, unroll in ((1, 1), (3, 2), (4, 4), (7, 1))]
+    made += [(f"stray address {cycle}", stray_address(cycle)) for cycle in (1, 3)]
     for name, (microcode, samples) in made:
         yield name, microcode, samples

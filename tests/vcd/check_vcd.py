@@ -188,7 +188,7 @@ def word_of(signal, value):
         return None if value in ("z", "-") else value
     bits = value.rjust(signal.bits, "0" if value[0] == "1" else value[0])
     number = int(bits, 2)
-    return number - (1 << signal.bits) if signal.bits == 32 and bits[0] == "1" else number
+    return number - (1 << signal.bits) if signal.bits == 40 and bits[0] == "1" else number
 
 
 def changes(waves, path):

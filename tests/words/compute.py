@@ -10,6 +10,7 @@ from math import floor
 from pathlib import Path
 
 HERE = Path(__file__).resolve().parent
+ROUNDING, SATURATING = ("round", "round,sat"), ("sat", "round,sat")
 
 
 def wrapped(number, width):
@@ -17,16 +18,21 @@ def wrapped(number, width):
     return (number + half) % (1 << width) - half
 
 
+def fitted(number, width, mode):
+    least, greatest = -(1 << (width - 1)), (1 << (width - 1)) - 1
+    return max(least, min(greatest, number)) if mode in SATURATING else wrapped(number, width)
+
+
 def formed(number, shift, mode, width):
     if shift <= 0:
-        return wrapped(number << -shift, width)
-    half = 1 << (shift - 1) if mode == "round" else 0
-    return wrapped((number + half) >> shift, width)
+        return fitted(number << -shift, width, mode)
+    half = 1 << (shift - 1) if mode in ROUNDING else 0
+    return fitted((number + half) >> shift, width, mode)
 
 
 def converted(number, fraction_bits, width, point, mode):
     exact = Fraction(number, 2**fraction_bits) * 2**point
-    return wrapped(floor(exact + Fraction(1, 2) if mode == "round" else exact), width)
+    return fitted(floor(exact + Fraction(1, 2) if mode in ROUNDING else exact), width, mode)
 
 
 def literal(sign, digits, places, width, point):
@@ -51,7 +57,7 @@ def applied(name, shift, mode, width, a, b, c):
 
 def value(row):
     verb, *words = row.split()
-    words = [word if word.isalpha() or word in "+-" else int(word) for word in words]
+    words = [int(word) if word.lstrip("-").isdigit() else word for word in words]
     return {"wrap": wrapped, "form": formed, "conv": converted, "literal": literal, "apply": applied}[verb](*words)
 
 
