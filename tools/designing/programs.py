@@ -12,7 +12,7 @@ from designing.shapes import Shape
 CRATES = Path(__file__).resolve().parent.parent.parent / "crates"
 PROGRAMS = {"silc": ("SILC", CRATES / "silc_main" / "out" / "silc_main"),
             "silc_show": ("SILC_SHOW", CRATES / "silc_show" / "out" / "silc_show")}
-ELEMENT = re.compile(r"element (\S+) : (?:fix<(\d+),(\d+),(\w+)>|bool)")
+ELEMENT = re.compile(r"element (\S+) : (?:fix<(\d+),(\d+),[\w,]+>|bool)")
 # What `silc_show` prints in the place of a page.
 FAULT = "fault "
 
@@ -88,7 +88,7 @@ class Element:
 
 
 def element_of(line):
-    name, width, places, _ = ELEMENT.fullmatch(line).groups()
+    name, width, places = ELEMENT.fullmatch(line).groups()
     return Element(name, Shape(int(width), int(places)) if width else None, [])
 
 

@@ -6,7 +6,7 @@ from enum import Enum
 from designing import forms
 from designing.filters import Section
 from designing.forms import OUTPUT, Form, run
-from designing.shapes import WIDEST, Shape
+from designing.shapes import Shape
 from designing.spectra import magnitudes
 
 # A response is over where it is this share of its beginning; so many samples are looked at, at least and at most.
@@ -15,6 +15,8 @@ OVER, LEAST_LENGTH, MOST_LENGTH = 1e-7, 64, 60_000
 MARGIN = 1 + 1e-6
 # At how many frequencies a peak is looked for, and how much it may pass the greatest of these.
 PEAK_BINS, PEAK_MARGIN = 2048, 1.001
+# Sums of products have so many bits, or as many as the signals where these have more.
+SUM_BITS = 32
 # How often a section is made a little smaller, since its words are greater than its numbers.
 TRIES = 60
 
@@ -58,7 +60,8 @@ class Shapes:
     @property
     def sum(self):
         """The shape of the sums of products, which has the range of the signals at least."""
-        return Shape(WIDEST, min(self.exact_places(), WIDEST - self.signal.whole_bits, WIDEST - 1))
+        width = max(SUM_BITS, self.signal.width)
+        return Shape(width, min(self.exact_places(), width - self.signal.whole_bits, width - 1))
 
     def is_exact(self):
         """Whether no product is rounded before the sum is."""

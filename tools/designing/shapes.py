@@ -4,7 +4,7 @@ import re
 from dataclasses import dataclass
 from fractions import Fraction
 
-WIDEST = 32
+WIDEST = 40
 # A source's number has this many digits at most.
 MOST_DIGITS = 18
 

@@ -8,6 +8,8 @@ from designing.shapes import WIDEST, Shape
 from designing.sources import COMMENT, shapes_in, with_types
 
 FIRST_LENGTH, MOST_LENGTH = 512, 1 << 15
+# Words of so many bits and more, as sums have, may lose places where that makes room for greater inputs.
+WIDE = 32
 # A response is over where its last quarter adds no more than this share. Bits are left for responses that pass the range.
 OVER, SPARE_BITS = 1e-4, 3
 TABLE_WIDTH = re.compile(r"\bconst\b[^:;]*:\s*fix\s*<\s*(\d+)")
@@ -30,15 +32,16 @@ class Bound:
 
 def headroom(source):
     """By how many bits the words of a program can be made wider."""
-    widths = {shape.width for shape in shapes_in(source)} - {WIDEST}
-    has_wide_table = str(WIDEST) in TABLE_WIDTH.findall(COMMENT.sub(" ", source))
+    widths = {shape.width for shape in shapes_in(source) if shape.width < WIDE}
+    has_wide_table = any(int(width) >= WIDE for width in TABLE_WIDTH.findall(COMMENT.sub(" ", source)))
     return 0 if has_wide_table or not widths else max(0, WIDEST - max(widths) - SPARE_BITS)
 
 
 def roomy(source, bits):
-    """The program with room for inputs that are so many bits greater: wider words, or fewer places in the widest."""
+    """The program with room for inputs that are so many bits greater: wider words, and fewer places where they end there."""
     def changed(shape):
-        return Shape(WIDEST, max(0, shape.places - bits) if shape.width == WIDEST else shape.places)
+        lost = max(0, shape.width + bits - WIDEST)
+        return Shape(WIDEST, max(0, shape.places - lost))
     return with_types(source, changed)
 
 

@@ -206,12 +206,19 @@ class Parser:
         places = int(self.whole("the bits after the point").text)
         mode = ""
         if self.skip(","):
-            if not (self.is_next("trunc") or self.is_next("round")):
-                self.fail("`trunc` or `round`")
-            mode = "," + self.token().text
-            self.at += 1
+            mode = "," + self.mode()
         self.expect(">")
         return Type(width, places, f"fix<{width},{places}{mode}>", start, self.last())
+
+    def mode(self):
+        if not any(self.is_next(word) for word in ("trunc", "round", "sat")):
+            self.fail("`trunc`, `round` or `sat`")
+        word = self.token().text
+        self.at += 1
+        if word != "round" or not self.skip(","):
+            return word
+        self.expect("sat", "`sat`")
+        return "round,sat"
 
     def signed(self):
         start = self.token().start

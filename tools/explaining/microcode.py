@@ -9,7 +9,8 @@ OPERATIONS = {"input": "in", "output": "out", "const": "rom", "add": "alu", "sub
               "sel": "sel", "load": "ram", "store": "ram", "addr": "acu"}
 FORMATTED = ("add", "sub", "neg", "pass", "mul")
 READS = {"input": 0, "output": 1, "const": 0, "neg": 1, "pass": 1, "not": 1, "load": 1, "sel": 3, "addr": 0}
-LEAST, GREATEST = -(2**31), 2**31 - 1
+MOST_BITS, SHIFTS, LAST_MODE = 40, (-40, 80), 3
+LEAST, GREATEST = -(2 ** (MOST_BITS - 1)), 2 ** (MOST_BITS - 1) - 1
 MAGIC, VERSION, END = "the magic", "the version", "the end of the file"
 MOST_ROUTES, WORD = 1024, 8
 
@@ -103,7 +104,7 @@ def image_of(data):
     read.field(1, VERSION, "1", lambda n: n == 1)
     period = read.number(2, "the period", 1, 4096)
     unroll = read.field(1, "the unroll factor", "1, 2 or 4", lambda n: n in (1, 2, 4))
-    inputs = [read.number(1, f"the width of input word {k}", 0, 32)
+    inputs = [read.number(1, f"the width of input word {k}", 0, MOST_BITS)
               for k in range(read.number(1, "the number of input words", 1, 16))]
     outs = read.number(1, "the number of output words", 1, 16)
     units = [unit(read, number) for number in range(read.number(1, "the number of units", 1, 32))]
@@ -178,9 +179,9 @@ def issue(read, image, where, last):
                           lambda n: n < len(names) and OPERATIONS[names[n]] == made.kind)
     op = names[position]
     is_formatted = op in FORMATTED
-    read.number(1, f"the shift of an issue {where}", *((-32, 64) if is_formatted else (0, 0)), True)
-    read.number(1, f"the mode of an issue {where}", 0, 1 if is_formatted else 0)
-    read.number(1, f"the width of an issue {where}", *((1, 32) if is_formatted else (0, 0)))
+    read.number(1, f"the shift of an issue {where}", *(SHIFTS if is_formatted else (0, 0)), True)
+    read.number(1, f"the mode of an issue {where}", 0, LAST_MODE if is_formatted else 0)
+    read.number(1, f"the width of an issue {where}", *((1, MOST_BITS) if is_formatted else (0, 0)))
     least, most = {"input": (0, len(image.inputs) - 1), "output": (0, image.outs - 1), "const": (LEAST, GREATEST),
                    "addr": (0, 65535)}.get(op, (0, 0))
     argument = read.number(8, f"the argument of an issue {where}", least, most, True)

@@ -10,7 +10,7 @@ from explaining.report import Report, counted, listed
 from explaining.toml_places import Places
 
 MOST_BYTES, MOST_TABLES, MOST_ENTRIES = 1 << 20, 32, 256
-TOP = {"period": (1, 4096), "word": (8, 32), "hold": (0, 3), "unit": None, "bus": None}
+TOP = {"period": (1, 4096), "word": (8, 40), "hold": (0, 3), "unit": None, "bus": None}
 UNIT = ("name", "kind", "latency", "gap", "files", "cells", "ram")
 BUS = ("name", "from", "to")
 SECTION = {"top": datapath("The top table"), "unit": datapath("A unit"), "bus": datapath("A bus")}

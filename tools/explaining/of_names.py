@@ -7,6 +7,7 @@ from explaining.grammar import Func
 from explaining.program import WHERE, calls_of
 from explaining.refusals import language
 from explaining.report import Report, counted, listed
+from explaining.typing_rules import MOST_BITS
 
 # How much alike two names are, from 0 to 1, of which one may be meant by the other.
 ALIKE = 0.6
@@ -14,7 +15,7 @@ ALIKE = 0.6
 WRITTEN = {"abs": "if x < 0 -> -x || x fi", "max": "if a < b -> b || a fi", "min": "if a < b -> a || b fi"}
 # The names that are listed at most.
 MOST_NAMES = 30
-MOST_DIM, MOST_BITS = 8192, 32
+MOST_DIM = 8192
 
 
 def near(name, names):

@@ -138,7 +138,7 @@ def bad_number(source, at):
     rest = word[found.end():]
     span = source.text.span(at, at + len(word))
     if sum(char.isdigit() for char in found[0]) > LONGEST_NUMBER:
-        return Report(f"a number has at most {LONGEST_NUMBER} digits", "write fewer digits: a word has at most 32 bits.", TEXT, span)
+        return Report(f"a number has at most {LONGEST_NUMBER} digits", "write fewer digits: a word has at most 40 bits.", TEXT, span)
     cure = f"write a blank or an operator between them, as `{found[0]} * {rest}`."
     if re.fullmatch(r"0[xX][0-9A-Fa-f]+|0[bB][01]+", word):
         return Report("numbers are decimal", f"write `{int(word, 0)}`.", TEXT, span)
@@ -263,6 +263,16 @@ def other_type(stop):
         return Report(f"`{name}` is no type: the types are `fix<W,F>`, words of W bits with F of them after the point, and `bool`",
                       f"write `{TYPES.get(name, 'fix<16,15>')}` in the place of `{name}`.", language("Words and types"))
     return None
+
+
+def two_modes(stop):
+    """Two modes in a type that are not `round,sat`."""
+    if not (stop.is_at(",") and stop.is_after("trunc", "sat") and stop.ahead() in ("trunc", "round", "sat")):
+        return None
+    given = f"{stop.before.text},{stop.ahead()}"
+    right = "round,sat" if given == "sat,round" else "sat" if "sat" in given else stop.ahead()
+    return Report(f"`{given}` is no mode: the modes are `trunc`, `round`, `sat` and `round,sat`",
+                  f"write `{right}` in the place of `{given}`.", language("Words and types"), stop.span(-1, 1))
 
 
 def late_var(stop):
@@ -469,9 +479,9 @@ def assigned(stop):
 
 
 # The mistakes that are likely, the likelier first.
-RULES = (kept_word, other_word, other_type, late_var, table_inside, valued_var, untyped_table, table_words, named_dim, no_parameter,
-         delayed_sum, delayed_target, signed_amount, subscript_in_number, lone_equals, doubled, chained_comparison, updated,
-         choice_as_item, bare_results, bodiless_loop, call_inside, glued, assigned, missing_semicolon)
+RULES = (kept_word, other_word, other_type, two_modes, late_var, table_inside, valued_var, untyped_table, table_words,
+         named_dim, no_parameter, delayed_sum, delayed_target, signed_amount, subscript_in_number, lone_equals, doubled,
+         chained_comparison, updated, choice_as_item, bare_results, bodiless_loop, call_inside, glued, assigned, missing_semicolon)
 
 
 def too_deep(source, position):

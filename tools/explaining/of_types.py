@@ -2,7 +2,7 @@
 from explaining.grammar import Type
 from explaining.refusals import language
 from explaining.report import Report
-from explaining.typing_rules import LITERAL, MISMATCH, NEEDS_CAST, NOT_BOOL, Typing, fits, range_of
+from explaining.typing_rules import LITERAL, MISMATCH, MOST_BITS, NEEDS_CAST, NOT_BOOL, Typing, fits, range_of
 
 
 def type_text(of):
@@ -98,7 +98,7 @@ def numbers_in(node):
 def type_for(numbers):
     """A type of 16 bits that has some numbers."""
     return next((of for places in range(15, -1, -1) if all(fits(number, of := Type(16, places, "", 0, 0)) for number in numbers)),
-                Type(32, 0, "", 0, 0))
+                Type(MOST_BITS, 0, "", 0, 0))
 
 
 def needs_cast(source, fault):

@@ -8,7 +8,7 @@ SYMBOLS = r"->|\.\.|::|\|\||<<|>>|<=|>=|==|!=|@@|[-+*@&|!<>=;:,()\[\]]"
 TOKEN = re.compile(rf"(?P<space>\s+|/\*.*?\*/)|(?P<number>\d+(?:\.\d+)?)|(?P<name>[A-Za-z_]\w*)|(?P<symbol>{SYMBOLS})",
                    re.S | re.A)
 RESERVED = set("func const var begin end fix bool trunc round if fi true false sat down up".split())
-KEPT_FOR_LATER = ("sat", "down", "up")
+KEPT_FOR_LATER = ("down", "up")
 # Characters that take no place, or another, on a screen; a tab stays.
 UNSEEN = re.compile("[\x00-\x08\x0a-\x1f\x7f\ufeff]")
 # A line is shown up to this many characters.

@@ -7,7 +7,8 @@ from fractions import Fraction
 from explaining.grammar import Func, Node, Type
 
 BOOL = Type(None, 0, "bool", 0, 0)
-# The digits of an exact number of 32 bits, and more.
+MOST_BITS = 40
+# The digits of an exact number of 40 bits, and more.
 DIGITS = 60
 MISMATCH, NEEDS_CAST, LITERAL, NOT_BOOL = "Mismatch", "NeedsCast", "Literal", "NotBool"
 

@@ -64,7 +64,7 @@ class Judgement:
 
     def judge(self, silc, room, source):
         """The power of the error beside that of the signal in decibels, and at how many samples a word is another than
-        that of the program with words of 32 bits; nothing where silc refuses the source."""
+        that of the program with words of 40 bits; nothing where silc refuses the source."""
         inputs, outputs = words_of_main(source)
         rows = samples_in(self.samples, inputs)
         made, wide = (evaluated(silc, room, text, rows) for text in (source, widened(source)))

@@ -43,7 +43,7 @@ class Case:
 
 def of_source(room, rng):
     """A program, or one that is damaged, on an ample datapath."""
-    source = sources.Program(rng, rng.choice([8, 16, 16, 32])).source()
+    source = sources.Program(rng, rng.choice([8, 16, 16, 32, 40])).source()
     text = source.text.encode()
     if rng.random() < 0.35:
         text = damage.of_text(rng, text)
@@ -82,7 +82,7 @@ def of_samples(room, rng):
 
 
 def identity(rng):
-    types = [sources.BOOL if rng.random() < 0.2 else sources.Type(rng.randint(1, 32)) for _ in range(rng.randint(1, 5))]
+    types = [sources.BOOL if rng.random() < 0.2 else sources.Type(rng.randint(1, 40)) for _ in range(rng.randint(1, 5))]
     inputs = ", ".join(f"x{number} : {type_.text(rng)}" for number, type_ in enumerate(types))
     outputs = ", ".join(f"y{number} : {type_.text(rng)}" for number, type_ in enumerate(types))
     lines = " ".join(f"y{number} = x{number};" for number in range(len(types)))

@@ -85,7 +85,7 @@ class Maker:
         units = self.units()
         buses = self.buses(units)
         period = rng.choice([256, 512, 1024, 4096] if self.is_ample else [1, 5, 16, 64, 256, 1024, 4096])
-        word = 32 if self.is_ample else rng.choice([8, 16, 24, 32])
+        word = 40 if self.is_ample else rng.choice([8, 16, 24, 32, 40])
         return Datapath(period, word, rng.choice([0, 0, 1, 2, 3]), units, fitting(buses))
 
 

@@ -5,7 +5,7 @@ from fractions import Fraction
 # How tightly the outermost operator of a text binds.
 OR, AND, COMPARISON, SUM, PRODUCT, SHIFT, UNARY, PRIMARY = range(8)
 COMPARISONS = ("<", "<=", "==", "!=", ">", ">=")
-MODES = ("trunc", "round")
+MODES = ("trunc", "round", "sat", "round,sat")
 
 
 @dataclass(frozen=True)
@@ -30,7 +30,7 @@ class Type:
     def text(self, rng):
         if self.width is None:
             return "bool"
-        mode = f" , {self.mode}" if self.mode == "round" or rng.random() < 0.2 else ""
+        mode = f" , {self.mode.replace(',', ' , ')}" if self.mode != MODES[0] or rng.random() < 0.2 else ""
         return f"fix < {self.width} , {self.places}{mode} >"
 
 

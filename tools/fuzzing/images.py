@@ -7,7 +7,7 @@ sys.path.insert(0, str(Path(__file__).resolve().parent.parent.parent / "bench"))
 
 import microcode  # noqa: E402
 
-from fuzzing.expressions import BOOL, Type  # noqa: E402
+from fuzzing.expressions import BOOL, MODES, Type  # noqa: E402
 
 KINDS = list(microcode.KINDS)
 OPERATIONS_OF = {
@@ -16,7 +16,7 @@ OPERATIONS_OF = {
 }
 READ_PORTS = {"neg": 1, "pass": 1, "not": 1, "load": 1}
 WITHOUT_RESULT = {"output", "store"}
-WORD_RANGE = (-2 ** 31, 2 ** 31 - 1)
+WORD_RANGE = (-2 ** 39, 2 ** 39 - 1)
 
 
 @dataclass
@@ -50,7 +50,7 @@ class Image:
     def __init__(self, rng):
         self.rng = rng
         self.period, self.unroll = rng.choice([1, 2, 3, 7, 16, 40]), rng.choice([1, 1, 2, 4])
-        self.inputs = [rng.choice([BOOL] + [Type(width) for width in (1, 8, 16, 32)]) for _ in range(rng.randint(1, 4))]
+        self.inputs = [rng.choice([BOOL] + [Type(width) for width in (1, 8, 16, 32, 40)]) for _ in range(rng.randint(1, 4))]
         self.outs = rng.randint(1, 4)
         self.units = self.random_units()
         self.buses = rng.randint(1, 5)
@@ -97,7 +97,7 @@ class Image:
         rng, operation = self.rng, self.rng.choice(OPERATIONS_OF[unit.kind])
         argument = {"input": rng.randrange(len(self.inputs)), "output": rng.randrange(self.outs),
                     "const": self.random_word(), "addr": rng.choice([0, 1, 5, 65535])}.get(operation, 0)
-        fmt = (rng.choice([0, 0, 1, -3, 12, -32, 64]), rng.randrange(2), rng.choice([1, 8, 16, 32])) \
+        fmt = (rng.choice([0, 0, 1, -3, 12, -40, 80]), rng.randrange(len(MODES)), rng.choice([1, 8, 16, 32, 40])) \
             if operation in microcode.FORMATTED else (0, 0, 0)
         read = READ_PORTS.get(operation, len(unit.files))
         registers = [rng.randrange(len(file)) if port < read else 0 for port, file in enumerate(unit.files)]
@@ -180,7 +180,7 @@ def listed(number, word):
         if issue.operation in ("input", "output", "const", "addr"):
             line += f" {issue.argument}"
         if issue.operation in microcode.FORMATTED:
-            line += f" fmt {issue.fmt[0]} {('trunc', 'round')[issue.fmt[1]]} {issue.fmt[2]}"
+            line += f" fmt {issue.fmt[0]} {MODES[issue.fmt[1]]} {issue.fmt[2]}"
         if issue.registers:
             line += f" regs {' '.join(map(str, issue.registers))}"
         lines.append(line)

@@ -2,12 +2,13 @@
 import re
 import tomllib
 
+from fuzzing.expressions import MODES
 from fuzzing.images import Issue, Word, listed
 from fuzzing.datapaths import PORTS
 
 HEAD = re.compile(r"period (\d+) unroll (\d+) nodes (\d+)")
 NODE = re.compile(r"node (\d+) cycle (\d+) unit (\w+) op (\w+)((?: -?\d+(?:@\d+)?)*)"
-                  r"(?: fmt (-?\d+) (trunc|round) (\d+))?((?: to .*)?)")
+                  r"(?: fmt (-?\d+) ([a-z,]+) (\d+))?((?: to .*)?)")
 TRANSFER = re.compile(r" to (\w+)\.(\d) bus (\w+) regs ([\d,]+)")
 # Operations whose first number is no operand.
 WITH_ARGUMENT = {"input", "output", "const", "addr"}
@@ -22,7 +23,7 @@ class Node:
         numbers = numbers.split()
         self.argument = int(numbers.pop(0)) if self.operation in WITH_ARGUMENT else 0
         self.operands = [(int(operand.partition("@")[0]), int(operand.partition("@")[2] or 0)) for operand in numbers]
-        self.fmt = (int(shift), ("trunc", "round").index(mode), int(width)) if shift else (0, 0, 0)
+        self.fmt = (int(shift), MODES.index(mode), int(width)) if shift else (0, 0, 0)
         self.transfers = {(unit, int(port)): (bus, [int(register) for register in registers.split(",")])
                           for unit, port, bus, registers in TRANSFER.findall(transfers)}
 

@@ -1,10 +1,10 @@
 """The columns of the microprogram: what each field of a row says, and its value for each cycle of the circle."""
 from dataclasses import dataclass
 
-from .image import OPCODE
+from .image import OPCODE, ROUNDING, SATURATING, SHIFTS
 from .words import index_bits
 
-SHIFT_BIAS, SHIFT_BITS, OP_BITS = 32, 7, 4
+SHIFT_BIAS, SHIFT_BITS, OP_BITS = -SHIFTS[0], 7, 4
 AHEAD = 1
 
 
@@ -67,8 +67,9 @@ def code_columns(image, core, number, part, later):
         return
     if part.kind == "alu":
         yield column("op", OP_BITS, lambda issue: OPCODE[issue.operation], f"opcode of {part.name}")
-    yield column("shift", SHIFT_BITS, format_field(lambda form: form.shift + SHIFT_BIAS), f"shift of {part.name}, and 32")
-    yield column("round", 1, format_field(lambda form: int(form.mode == "round")), f"whether {part.name} rounds")
+    yield column("shift", SHIFT_BITS, format_field(lambda form: form.shift + SHIFT_BIAS), f"shift of {part.name}, and {SHIFT_BIAS}")
+    yield column("round", 1, format_field(lambda form: int(form.mode in ROUNDING)), f"whether {part.name} rounds")
+    yield column("sat", 1, format_field(lambda form: int(form.mode in SATURATING)), f"whether {part.name} saturates")
     yield column("width", index_bits(core.word), format_field(lambda form: form.width - 1), f"width of {part.name}, less 1")
 
 

@@ -14,11 +14,12 @@ OF_KIND = {"in": ("input",), "out": ("output",), "rom": ("const",), "alu": (*FOR
            "sel": ("sel",), "ram": ("load", "store"), "acu": ("addr",)}
 ONE_OPERAND = ("neg", "pass", "not", "load")
 
-MOST_PERIOD, UNROLLS, MOST_WORDS, MOST_WIDTH = 4096, (1, 2, 4), 16, 32
+MOST_PERIOD, UNROLLS, MOST_WORDS, MOST_WIDTH = 4096, (1, 2, 4), 16, 40
 MOST_UNITS, MOST_BUSES, MOST_LATENCY, MOST_REGISTERS, MOST_CELLS = 32, 32, 8, 256, 65536
 MOST_MOVES, MOST_OFFSET = 1024, 65535
-SHIFTS, MODES = (-32, 64), ("trunc", "round")
-RAW = (-(1 << 31), (1 << 31) - 1)
+SHIFTS, MODES = (-40, 80), ("trunc", "round", "sat", "round,sat")
+ROUNDING, SATURATING = ("round", "round,sat"), ("sat", "round,sat")
+RAW = (-(1 << 39), (1 << 39) - 1)
 
 
 class BadImage(Exception):
@@ -181,7 +182,7 @@ def read_format(reader, operation):
             reader.number(1, 0, 0)
         return None
     shift = reader.number(1, *SHIFTS, signed=True)
-    mode = MODES[reader.number(1, 0, 1)]
+    mode = MODES[reader.number(1, 0, len(MODES) - 1)]
     return Format(shift, mode, reader.number(1, 1, MOST_WIDTH))
 
 

@@ -80,7 +80,7 @@ def node_of(text):
         node.operands.append((int(operand), int(delay or 0)))
     if node.op in FORMATTED:
         line.number("fmt")
-        line.word("trunc", "round")
+        line.word("trunc", "round", "sat", "round,sat")
         line.word()
     while line.more():
         line.word("to")

@@ -1,8 +1,8 @@
 """The signals of a run of microcode, with the names of its datapath."""
 from dataclasses import dataclass
 
-# Each word fits: inputs, constants and results have at most 32 bits, and addresses fewer.
-WORD_BITS = 32
+# Each word fits: inputs, constants and results have at most 40 bits, and addresses fewer.
+WORD_BITS = 40
 OPCODE_BITS = 5
 SAMPLE_BITS = 48
 # A run has at most 4 times 4096 words.

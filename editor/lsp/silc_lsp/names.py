@@ -4,8 +4,8 @@ import re
 from dataclasses import dataclass, field
 
 TOKEN = re.compile(r"/\*.*?(?:\*/|\Z)|\d+(?:\.\d+)?|[A-Za-z_]\w*|->|\.\.|::|\|\||<<|>>|<=|>=|==|!=|@@|[^\s\w]", re.S)
-KEYWORDS = ("func", "const", "var", "begin", "end", "fix", "bool", "trunc", "round", "if", "fi", "true", "false")
-RESERVED = {*KEYWORDS, "sat", "down", "up"}
+KEYWORDS = ("func", "const", "var", "begin", "end", "fix", "bool", "trunc", "round", "sat", "if", "fi", "true", "false")
+RESERVED = {*KEYWORDS, "down", "up"}
 TABLE, FUNCTION, PARAMETER, RESULT, LOCAL, INDEX = "table", "function", "parameter", "result", "local", "index"
 
 

@@ -6,9 +6,9 @@ endif
 syntax keyword silcStructure func const var
 syntax keyword silcKeyword begin end if fi
 syntax keyword silcType fix bool
-syntax keyword silcMode trunc round
+syntax keyword silcMode trunc round sat
 syntax keyword silcBoolean true false
-syntax keyword silcReserved sat down up
+syntax keyword silcReserved down up
 
 syntax match silcFunction '\<\h\w*\ze\s*('
 syntax match silcNumber '\<\d\+\%(\.\d\+\)\?\>'
