@@ -7,7 +7,7 @@ import sys
 from fractions import Fraction
 from pathlib import Path
 
-TRUNC, ROUND = "trunc", "round"
+TRUNC, ROUND, SAT, ROUND_SAT = "trunc", "round", "sat", "round,sat"
 
 
 def wrap(number, width):
@@ -16,10 +16,21 @@ def wrap(number, width):
     return (number + half) % (2 * half) - half
 
 
+def clip(number, width):
+    """The nearest word of so many bits."""
+    half = 1 << (width - 1)
+    return max(-half, min(half - 1, number))
+
+
+def fit(number, width, mode=TRUNC):
+    """A whole number as a word: clipped where the mode saturates, else wrapped."""
+    return clip(number, width) if mode in (SAT, ROUND_SAT) else wrap(number, width)
+
+
 def quantised(exact, width, places, mode=TRUNC):
-    """The raw word of an exact number in fix<width,places>: cut by the mode, then wrapped."""
+    """The raw word of an exact number in fix<width,places>: cut or rounded by the mode, then fitted."""
     scaled = Fraction(exact) * 2**places
-    return wrap(math.floor(scaled + Fraction(1, 2)) if mode == ROUND else math.floor(scaled), width)
+    return fit(math.floor(scaled + Fraction(1, 2)) if mode in (ROUND, ROUND_SAT) else math.floor(scaled), width, mode)
 
 
 def number(word, places):
