@@ -1,8 +1,9 @@
 -- The image of y = x + 1 is valid, and its file is these 328 bytes.
 use Rattle.std.proofs.Common.{◌≡◌, ◌*◌, refl, ℕ, List, [], ◌∷◌, ◌++◌, length, replicate, take, drop}
-use Rattle.micro_image.specs.Spells.{spelling, two_bytes, four_bytes, eight_bytes, spelled_file, spelled_memory}
-use Rattle.micro_image.specs.Spells.{spelled_unit, spelled_format, spelled_issue, spelled_enable, spelled_take}
-use Rattle.micro_image.specs.Spells.{spelled_word}
+use Rattle.micro_image.specs.Bytes.{two_bytes, four_bytes, eight_bytes, format_bytes, issue_bytes, enable_bytes}
+use Rattle.micro_image.specs.Bytes.{take_bytes, word_bytes, image_bytes}
+use Rattle.micro_image.specs.Form.{spelled_file, spelled_memory, spelled_unit, spelled_operation, spelled_hardware}
+use Rattle.micro_image.specs.Spells.{begun}
 use Rattle.micro_image.specs.declared.image.Image.{Image}
 use Rattle.micro_image.specs.Fields.{no_word}
 use Rattle.micro_image.proofs.Increment.{increment, image_of, fetch, one, sum_driven_by, put, drive}
@@ -52,9 +53,9 @@ increment_bytes =
     ++ empty_words
 
 -- it is what the image is spelled as
-pub increment-spelling : spelling increment ≡ increment_bytes
-unfolding spelling two_bytes four_bytes eight_bytes spelled_file spelled_memory spelled_unit spelled_format
-    spelled_issue spelled_enable spelled_take spelled_word
+pub increment-spelling : begun 1 (image_bytes increment) ≡ increment_bytes
+unfolding image_bytes two_bytes four_bytes eight_bytes spelled_file spelled_memory spelled_unit spelled_operation
+    spelled_hardware format_bytes issue_bytes enable_bytes take_bytes word_bytes
 increment-spelling = refl
 
 -- it has 328 bytes
@@ -66,8 +67,8 @@ abbrev pub two_drivers : Image
 two_drivers = image_of (fetch ∷ one ∷ sum_driven_by (drive 1 ∷ drive 2 ∷ []) ∷ put ∷ replicate 12 no_word)
 
 -- its file has six bytes in the place of four
-pub two_drivers-spelling : spelling two_drivers
+pub two_drivers-spelling : begun 1 (image_bytes two_drivers)
     ≡ take 239 increment_bytes ++ (0 ∷ 2 ∷ 1 ∷ 0 ∷ 2 ∷ 0 ∷ []) ++ drop 243 increment_bytes
-unfolding spelling two_bytes four_bytes eight_bytes spelled_file spelled_memory spelled_unit spelled_format
-    spelled_issue spelled_enable spelled_take spelled_word
+unfolding image_bytes two_bytes four_bytes eight_bytes spelled_file spelled_memory spelled_unit spelled_operation
+    spelled_hardware format_bytes issue_bytes enable_bytes take_bytes word_bytes
 two_drivers-spelling = refl

@@ -14,7 +14,8 @@ use Rattle.micro_image.specs.declared.image.Issue.{Issue}
 use Rattle.micro_image.specs.declared.image.Take.{Take}
 use Rattle.micro_image.specs.Fields.{no_word, nth}
 use Rattle.micro_image.specs.Valid.{ports, IsValid, IsUnit, IsFile, IsWordOf, IsIssue, IsEnable, IsTake, AreRegisters}
-use Rattle.micro_image.specs.Spells.{Spells}
+use Rattle.micro_image.specs.Spells.{SpellsIn}
+use Rattle.micro_image.specs.declared.version.Version.TheVariants.{One}
 use Rattle.micro_image.proofs.Each.{Each, none, more, All-from_Each, Each-from_All}
 use Rattle.micro_image.proofs.Increment.{increment, fetch, one, sum, put, plain_unit, zeros}
 use Rattle.micro_image.proofs.IncrementFile.{increment_bytes, increment-spelling}
@@ -165,5 +166,5 @@ increment-valid = record {
 }
 
 -- the 328 bytes spell the image
-pub increment-spelled : Spells increment_bytes increment
+pub increment-spelled : SpellsIn One increment_bytes increment
 increment-spelled = record { valid = increment-valid; spelled = sym increment-spelling }

@@ -14,4 +14,3 @@ pub mod Echo
 pub mod EchoConflicts
 pub mod IncrementValid
 pub mod Counts
-pub mod Length

@@ -4,5 +4,9 @@ pub mod Fields
 pub mod Log
 pub mod Conflict
 pub mod Run
+pub mod Codes
+pub mod Form
+pub mod Bytes
+pub mod Bits
 pub mod Spells
 pub mod Size

@@ -10,7 +10,7 @@ pub data Argument : Type 0 where
   nothing input_word output_word raw_word offset : Argument
 
 pub record Operation : Type 0 where
-  -- its opcode, the number in a microcode file
+  -- its opcode, its number in a microcode file of version 1
   pub opcode : ℕ
   pub argument : Argument
   -- it gives a result; else it writes a cell or a latch

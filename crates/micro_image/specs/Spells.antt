@@ -1,105 +1,50 @@
--- The microcode file, version 1: the bytes that spell an image. Numbers are big-endian, and signed ones in two's
--- complement.
-use Rattle.std.specs.Prelude.{◌≡◌, ℕ, List, [], ◌∷◌, ◌++◌, length, ℤ, codes}
-use Rattle.std.specs.List.{flat_map}
-use Rattle.std.specs.Int.{w8, w16, w32, w64, to_be_bytes, cast_unsigned}
-use Rattle.fix_word.specs.declared.types.Format.{Format}
-use Rattle.fix_word.specs.declared.types.Mode.{Mode}
-use Rattle.fix_word.specs.declared.types.Mode.TheVariants.{Trunc, Round, Sat, RoundSat}
-use Rattle.micro_image.specs.declared.image.Enable.{Enable}
+-- Which bytes are a microcode file of an image. Version 1 spells its fields in bytes, version 2 in packed bits.
+use Rattle.std.specs.Prelude.{◌≡◌, ℕ, ◌^◌, ◌<◌, List, ◌∷◌, ◌++◌, codes, replicate}
+use Rattle.std.specs.List.{All, flat_map}
 use Rattle.micro_image.specs.declared.image.Image.{Image}
-use Rattle.micro_image.specs.declared.image.Issue.{Issue}
-use Rattle.operations.specs.declared.units.Kind.{Kind}
-use Rattle.operations.specs.declared.units.Kind.TheVariants as kind
-use Rattle.micro_image.specs.declared.image.Take.{Take}
-use Rattle.micro_image.specs.declared.image.UnitDesc.{UnitDesc}
-use Rattle.micro_image.specs.declared.image.Word.{Word}
-use Rattle.micro_image.specs.Operations.{opcode}
+use Rattle.micro_image.specs.declared.version.Version.{Version}
+use Rattle.micro_image.specs.declared.version.Version.TheVariants.{One, Two}
+use Rattle.micro_image.specs.Bits.{bits, image_bits}
+use Rattle.micro_image.specs.Bytes.{image_bytes}
 use Rattle.micro_image.specs.Valid.{IsValid}
 
--- a number in 2 bytes
-unfoldable pub two_bytes : ℕ → List ℕ
-two_bytes n = to_be_bytes w16 n
+-- each is one byte
+abbrev pub AreBytes : List ℕ → Type 0
+AreBytes = All (λ b. b < 2 ^ 8)
 
--- a number in 4 bytes
-unfoldable pub four_bytes : ℕ → List ℕ
-four_bytes n = to_be_bytes w32 n
+-- the bits of bytes, the most significant of each first
+abbrev pub bits_of : List ℕ → List ℕ
+bits_of = flat_map (bits 8)
 
--- a raw word, or an argument, in 8 bytes
-unfoldable pub eight_bytes : ℤ → List ℕ
-eight_bytes z = to_be_bytes w64 (cast_unsigned w64 z)
+-- the bytes hold these bits, then zeros to the end of the last byte
+pub record Holds (bytes spelled : List ℕ) : Type 0 where
+  pub are_bytes : AreBytes bytes
+  pub zeros : ℕ
+  pub fewer : zeros < 8
+  pub packed : bits_of bytes ≡ spelled ++ replicate zeros 0
 
--- the number of a kind
-abbrev pub kind_byte : Kind → ℕ
-kind_byte kind.Input = 0
-kind_byte kind.Output = 1
-kind_byte kind.Rom = 2
-kind_byte kind.Alu = 3
-kind_byte kind.Mul = 4
-kind_byte kind.Sel = 5
-kind_byte kind.Ram = 6
-kind_byte kind.Acu = 7
+-- what the magic bytes, SILM, and the version begin
+abbrev pub begun : (version : ℕ) → List ℕ → List ℕ
+begun version rest = codes "SILM" ++ version ∷ rest
 
--- the number of a mode
-abbrev pub mode_byte : Mode → ℕ
-mode_byte Trunc = 0
-mode_byte Round = 1
-mode_byte Sat = 2
-mode_byte RoundSat = 3
+-- the fields of the image in packed bits stand behind the version
+pub record IsPacked (bytes : List ℕ) (image : Image) : Type 0 where
+  pub rest : List ℕ
+  pub begins : bytes ≡ begun 2 rest
+  pub holds : Holds rest (image_bits image)
 
--- a register file: its size, and the initial words of its registers
-unfoldable pub spelled_file : List ℤ → List ℕ
-spelled_file file = two_bytes (length file) ++ flat_map eight_bytes file
+-- the bytes have the fields of the image in the order and form of a version, and nothing follows them
+abbrev pub IsSpelled : Version → List ℕ → Image → Type 0
+IsSpelled One bytes image = bytes ≡ begun 1 (image_bytes image)
+IsSpelled Two bytes image = IsPacked bytes image
 
--- the cells of a ram, the number of an acu's ram, and nothing of the other kinds
-unfoldable pub spelled_memory : Kind → UnitDesc → List ℕ
-spelled_memory kind.Ram unit = four_bytes (length unit.cells) ++ flat_map eight_bytes unit.cells
-spelled_memory kind.Acu unit = unit.ram ∷ []
-spelled_memory _ unit = []
+-- the bytes are those of the image in this version, and its fields are all allowed
+pub record SpellsIn (version : Version) (bytes : List ℕ) (image : Image) : Type 0 where
+  pub valid : IsValid image
+  pub spelled : IsSpelled version bytes image
 
--- kind, latency, gap, a register file for each port, the memory
-unfoldable pub spelled_unit : UnitDesc → List ℕ
-spelled_unit unit =
-    kind_byte unit.kind ∷ unit.latency ∷ unit.gap ∷ []
-    ++ flat_map spelled_file unit.files ++ spelled_memory unit.kind unit
-
--- the shift, the mode, the width
-unfoldable pub spelled_format : Format → List ℕ
-spelled_format fmt = cast_unsigned w8 fmt.shift ∷ mode_byte fmt.mode ∷ fmt.width ∷ []
-
--- unit, operation, format, argument, a register for each port
-unfoldable pub spelled_issue : Issue → List ℕ
-spelled_issue issue =
-    issue.unit ∷ opcode issue.op ∷ []
-    ++ spelled_format issue.fmt ++ eight_bytes issue.arg ++ issue.regs
-
--- unit, bus
-unfoldable pub spelled_enable : Enable → List ℕ
-spelled_enable enable = enable.unit ∷ enable.bus ∷ []
-
--- unit, port, bus, register
-unfoldable pub spelled_take : Take → List ℕ
-spelled_take take = take.port.unit ∷ take.port.port ∷ take.bus ∷ take.reg ∷ []
-
--- the issues, the enables, the takes, each list after its length
-unfoldable pub spelled_word : Word → List ℕ
-spelled_word word =
-    length word.issues ∷ [] ++ flat_map spelled_issue word.issues
-    ++ two_bytes (length word.enables) ++ flat_map spelled_enable word.enables
-    ++ two_bytes (length word.takes) ++ flat_map spelled_take word.takes
-
--- the fields of an image, in the order of the file
-unfoldable pub spelling : Image → List ℕ
-spelling image =
-    codes "SILM" ++ 1 ∷ []
-    ++ two_bytes image.period ++ image.unroll ∷ []
-    ++ length image.inputs ∷ [] ++ image.inputs
-    ++ image.outs ∷ []
-    ++ length image.units ∷ [] ++ flat_map spelled_unit image.units
-    ++ image.buses ∷ []
-    ++ flat_map spelled_word image.words
-
--- the bytes are those of the image, whose fields are all allowed, and nothing follows them
+-- the same in either version
 pub record Spells (bytes : List ℕ) (image : Image) : Type 0 where
   pub valid : IsValid image
-  pub spelled : bytes ≡ spelling image
+  pub version : Version
+  pub spelled : IsSpelled version bytes image

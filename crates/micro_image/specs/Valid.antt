@@ -1,4 +1,4 @@
--- A valid image: each field is allowed, one fact for each row of the microcode file's table.
+-- A valid image: each field is allowed, one fact for each row of a microcode file's table.
 use Rattle.std.specs.Prelude.{◌≡◌, ◌≢◌, ℕ, ◌*◌, ◌<◌, ◌≤◌, ◌⊎◌, List, [], length, ℤ, pos, map, slice_get, IsSomeAnd}
 use Rattle.std.specs.List.{All, AllAdjacentBelow}
 use Rattle.std.specs.List.Sorted.{IsStrictlyIncreasing}
@@ -24,7 +24,7 @@ use Rattle.micro_image.specs.Operations.{kind_of, reads, is_formatted}
 abbrev pub IsFormatFor : Op → Format → Type 0
 IsFormatFor op = IsFormatWhere (is_formatted op)
 
--- the most that an offset of an address may be, and one
+-- one more than the greatest offset of an address
 abbrev pub offsets : ℕ
 offsets = 65536
 

@@ -7,8 +7,10 @@
 
 mod conflict;
 mod image;
+mod version;
 
 pub use conflict::{Conflict, ConflictKind};
 pub use image::{Enable, Enables, Image, Issue, PortRegisters, Take, Takes, UnitDesc, Word};
 pub use operations::{Kind, PortRef, is_formatted, reads};
 pub use short_lists::ShortList;
+pub use version::Version;
