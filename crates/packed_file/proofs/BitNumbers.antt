@@ -7,8 +7,8 @@ use Rattle.std.proofs.lemmas.Grind.{flat_map-append}
 use Rattle.std.proofs.lemmas.List.{take-replicate, drop-replicate}
 use Rattle.std.proofs.lemmas.Nat.{pow-add, shr_le}
 use Rattle.std.specs.Int.{byte_at, bytes_high_first}
-use Rattle.packed_file.specs.Bits.{bits}
-use Rattle.packed_file.specs.Spells.{bits_of}
+use Rattle.micro_image.specs.Bits.{bits}
+use Rattle.micro_image.specs.Spells.{bits_of}
 use Rattle.packed_file.proofs.Bits.{bits_split, bits_mod}
 
 pub bits_none : (w : ℕ) → bits w 0 ≡ replicate w 0

@@ -1,8 +1,9 @@
 -- The bits that are read through a window of eight bytes.
 use Rattle.std.proofs.Common.{◌≡◌, ℕ, zero, suc, ◌+◌, ◌-◌, ◌*◌, ◌/◌, ◌%◌, ◌^◌, ◌<◌, ◌≤◌, List, [], ◌∷◌, ◌++◌, length}
 use Rattle.std.proofs.Common.{get_or, take, drop, replicate, refl, sym, ap, subst, ◌∙◌, arith, inl, inr, Ok, Err, true}
-use Rattle.std.proofs.Common.{false}
-use Rattle.std.proofs.Math.Nat.{mod-lt, mod-eq_of_lt, div-add-mod'}
+use Rattle.std.proofs.Common.{false, ◌≢◌}
+use Rattle.std.proofs.lemmas.Nat.{pow_pos}
+use Rattle.std.proofs.Math.Nat.{mod-lt, mod-eq_of_lt, div-add-mod', pow-le-pow_right}
 use Rattle.std.proofs.Math.Seq.{drop-append-add, take-append-add, get_or-append_right}
 use Rattle.std.proofs.Math.ListN.{get_or-append}
 use Rattle.std.specs.Prelude.{nat_lt}
@@ -11,14 +12,14 @@ use Rattle.std.proofs.lemmas.List.{length-append, length-drop, length-take-le, t
 use Rattle.std.proofs.lemmas.List.{take-append-le, take-append-drop, drop-append-le, drop-drop, drop-take, take-take}
 use Rattle.std.proofs.lemmas.List.{get_or-drop}
 use Rattle.std.proofs.lemmas.List.{get_or-take, get_or_past, get_or-replicate}
-use Rattle.std.proofs.lemmas.Nat.{shr-shr, shr_below, field_of, shl-shr, be_bytes_8}
+use Rattle.std.proofs.lemmas.Nat.{shr-shr, shr_below, field_of, shl-shr, be_bytes_8, leading_length}
 use Rattle.std.specs.Int.{w64, from_be_bytes}
-use Rattle.packed_file.specs.Bits.{bits}
-use Rattle.packed_file.specs.Spells.{bits_of}
+use Rattle.std.specs.Int.Count.{count_leading_zeros}
+use Rattle.micro_image.specs.Bits.{bits}
+use Rattle.micro_image.specs.Spells.{bits_of}
 use Rattle.packed_file.proofs.Length.{length-bits, length-bits_of}
-use Rattle.packed_file.specs.declared.fault.BitFault.{BitFault}
 use Rattle.packed_file.specs.declared.fault.BitFault.TheVariants.{Short}
-use Rattle.packed_file.specs.Numbers.{number_of, number_at, some_at, bit_at}
+use Rattle.packed_file.specs.Numbers.{number_of, number_at, some_at}
 use Rattle.packed_file.proofs.Bits.{bits_split, bits_mod, number_bits}
 use Rattle.packed_file.proofs.BitNumbers.{bits_of-append, bits_of-bytes, bits_none}
 
@@ -190,18 +191,6 @@ number_read count n left behind less e =
 pub number_missing : (count : ℕ) (left : List ℕ) → some_at count left ≡ Err Short → number_at count left ≡ Err Short
 number_missing count left e = rw e refl
 
--- one bit is the number of one bit
-pub one_read : (left : List ℕ) → number_at 1 left ≡ bit_at left
-unfolding some_at number_of
-one_read [] = refl
-one_read (bit ∷ left) =
-    let enough : nat_lt (length (bit ∷ left)) 1 ≡ false = le-ltb (suc (length left)) 1 (omega arith) in
-    let one : bit * 2 ^ 0 + 0 ≡ bit = omega arith in
-    rw (enough, one) refl
-
-pub one_fails : (left : List ℕ) (e : BitFault) → number_at 1 left ≡ Err e → bit_at left ≡ Err e
-one_fails left e h = sym (one_read left) ∙ h
-
 -- zeros in front
 pub zeros_read : (bytes : List ℕ) (at count n : ℕ) (left : List ℕ)
     → drop at (bits_of bytes) ≡ left
@@ -213,3 +202,32 @@ zeros_read bytes at count n left e front none =
     let behind : drop count left ≡ drop (at + count) (bits_of bytes) =
     ap (drop count) (sym e) ∙ drop-drop count at (bits_of bytes) in
     sym (take-append-drop count left) ∙ rw (zeros, behind) refl
+
+-- a number other than 0 has not only zeros
+pub some_bit : (count n : ℕ) (left : List ℕ)
+    → take count left ≡ bits count n
+    → n < 2 ^ count
+    → n ≢ 0
+    → take count left ≢ replicate count 0
+some_bit count n left front below some zeros =
+    some (sym (mod-eq_of_lt below) ∙ sym (number_bits count n)
+    ∙ ap number_of (sym front ∙ zeros ∙ sym (bits_none count)) ∙ number_bits count 0
+    ∙ mod-eq_of_lt (pow_pos count))
+
+-- in front of a number's first 1 there are zeros
+pub front_none : (n count : ℕ)
+    → n < 2 ^ 64
+    → count < 64
+    → count ≤ count_leading_zeros 64 n
+    → n / 2 / 2 ^ (63 - count) ≡ 0
+front_none n count less few h =
+    let lead = leading_length 64 n less in
+    let powers : 2 ^ lead.0 ≤ 2 ^ (64 - count) =
+    pow-le-pow_right {n = 2} (omega arith) {j = 64 - count} (omega (arith, lead.1, h)) in
+    let below : n < 2 ^ (64 - count) = omega (arith, lead.2, powers) in
+    let whole : 64 - count ≡ 0 + (64 - count) = omega arith in
+    let small : n / 2 ^ (64 - count) < 1 = shr_below n 0 (64 - count) (subst (λ (w : ℕ). n < 2 ^ w) whole below) in
+    let down : 1 + (63 - count) ≡ 64 - count = omega (arith, few) in
+    let same : n / 2 / 2 ^ (63 - count) ≡ n / 2 ^ (64 - count) =
+    shr-shr n 1 (63 - count) ∙ ap (λ (d : ℕ). n / 2 ^ d) down in
+    omega (arith, small, same)

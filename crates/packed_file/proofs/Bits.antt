@@ -3,7 +3,7 @@ use Rattle.std.proofs.Common.{◌≡◌, ℕ, zero, suc, ◌+◌, ◌-◌, ◌*�
 use Rattle.std.proofs.Common.{get_or, refl, sym, ap, ◌∙◌, arith}
 use Rattle.std.proofs.Math.Nat.{div-div-eq-div-mul, mod-one, mod-lt}
 use Rattle.std.proofs.lemmas.Nat.{pow-add, mod-pow-add, pow_pos, div-mul-add, mod-mul-add}
-use Rattle.packed_file.specs.Bits.{bits}
+use Rattle.micro_image.specs.Bits.{bits}
 use Rattle.packed_file.proofs.Length.{length-bits}
 use Rattle.packed_file.specs.Numbers.{number_of}
 

@@ -7,10 +7,11 @@ use Rattle.std.proofs.lemmas.List.Sums.{AllPass-from_list_all}
 use Rattle.micro_image.proofs.Increment.{increment}
 use Rattle.micro_image.proofs.IncrementFile.{two_drivers}
 use Rattle.micro_image.proofs.IncrementValid.{increment-valid}
-use Rattle.packed_file.specs.Bits.{bits, preload_bits, choice_bits, format_bits, issue_bits, enable_bits, take_bits}
-use Rattle.packed_file.specs.Bits.{takes_bits, ports_bits, word_bits, image_bits}
-use Rattle.packed_file.specs.Form.{spelled_file, spelled_memory, spelled_unit, spelled_operation, spelled_hardware}
-use Rattle.packed_file.specs.Spells.{AreBytes, bits_of, begun, SpellsPacked}
+use Rattle.micro_image.specs.Bits.{bits, preload_bits, choice_bits, format_bits, issue_bits, enable_bits, take_bits}
+use Rattle.micro_image.specs.Bits.{takes_bits, ports_bits, word_bits, image_bits}
+use Rattle.micro_image.specs.Form.{spelled_file, spelled_memory, spelled_unit, spelled_operation, spelled_hardware}
+use Rattle.micro_image.specs.Spells.{AreBytes, bits_of, begun, SpellsIn}
+use Rattle.micro_image.specs.declared.version.Version.TheVariants.{Two}
 
 -- what is behind the version: the hardware, the four words that do something, the twelve empty ones
 abbrev pub packed_rest : List ℕ
@@ -22,7 +23,7 @@ packed_rest =
     ++ (0x20 ∷ replicate 19 0)
 
 abbrev pub packed_bytes : List ℕ
-packed_bytes = begun packed_rest
+packed_bytes = begun 2 packed_rest
 
 pub packed-size : length packed_bytes ≡ 57
 packed-size = refl
@@ -50,15 +51,17 @@ unfolding image_bits bits preload_bits choice_bits format_bits issue_bits enable
 two_drivers-packed = refl
 
 -- the 57 bytes spell it
-pub increment-packed-spelled : SpellsPacked packed_bytes increment
+pub increment-packed-spelled : SpellsIn Two packed_bytes increment
 increment-packed-spelled = record {
   valid = increment-valid;
-  rest = packed_rest;
-  spelled = refl;
-  holds = record {
-    are_bytes = packed-are_bytes;
-    zeros = 6;
-    fewer = omega arith;
-    packed = increment-packed;
+  spelled = record {
+    rest = packed_rest;
+    begins = refl;
+    holds = record {
+      are_bytes = packed-are_bytes;
+      zeros = 6;
+      fewer = omega arith;
+      packed = increment-packed;
+    };
   };
 }

@@ -23,15 +23,15 @@ use Rattle.operations.specs.declared.units.Kind.{Kind}
 use Rattle.operations.specs.declared.units.Kind.TheVariants as kind
 use Rattle.micro_image.specs.declared.image.UnitDesc.{UnitDesc}
 use Rattle.micro_image.specs.declared.image.Word.{Word}
-use Rattle.packed_file.specs.Bits.{bits, raw_bits, are_zeros, preload_bits, choice_width, choice_bits, format_bits}
-use Rattle.packed_file.specs.Bits.{argument_bits, in_bits, issue_bits, enable_bit, enable_bits, take_bits, takes_bits}
-use Rattle.packed_file.specs.Bits.{ports_bits, word_bits, image_bits}
+use Rattle.micro_image.specs.Bits.{bits, raw_bits, are_zeros, preload_bits, choice_width, choice_bits, format_bits}
+use Rattle.micro_image.specs.Bits.{argument_bits, in_bits, issue_bits, enable_bit, enable_bits, take_bits, takes_bits}
+use Rattle.micro_image.specs.Bits.{ports_bits, word_bits, image_bits}
 use Rattle.micro_image.specs.Fields.{nth, no_unit}
-use Rattle.packed_file.specs.Form.{Form, spelled_file, spelled_memory, spelled_unit, spelled_operation}
-use Rattle.packed_file.specs.Form.{spelled_hardware}
+use Rattle.micro_image.specs.Form.{Form, spelled_file, spelled_memory, spelled_unit, spelled_operation}
+use Rattle.micro_image.specs.Form.{spelled_hardware}
 use Rattle.micro_image.specs.Operations.{Argument, nothing, input_word, output_word, raw_word, offset, operation}
 use Rattle.micro_image.specs.Operations.{kind_of, reads, is_formatted}
-use Rattle.packed_file.specs.Spells.{bits_of, SpellsPacked}
+use Rattle.micro_image.specs.Spells.{bits_of, IsPacked}
 use Rattle.micro_image.specs.Valid.{IsFile, IsUnit, IsIssue, IsIssueOn, IsWordOf, IsValid}
 
 -- at most `count` elements of at most `most` bits
@@ -423,11 +423,11 @@ length-bits_of (b ∷ bytes) =
 -- ---- the file
 
 -- it is at most 64 MiB long
-pub packed_within : (bytes : List ℕ) (image : Image) → SpellsPacked bytes image → length bytes ≤ 2 ^ 26
-packed_within bytes image h =
+pub packed_within : (bytes : List ℕ) (image : Image) → IsValid image → IsPacked bytes image → length bytes ≤ 2 ^ 26
+packed_within bytes image valid h =
     let zeros : length (replicate {A = ℕ} h.holds.zeros 0) ≡ h.holds.zeros =
     length-replicate {A = ℕ} h.holds.zeros 0 in
     let size : 8 * length h.rest ≡ length (image_bits image) + length (replicate {A = ℕ} h.holds.zeros 0) =
     sym (length-bits_of h.rest) ∙ ap length h.holds.packed
     ∙ length-append (image_bits image) (replicate h.holds.zeros 0) in
-    omega (arith, ap length h.spelled, size, zeros, h.holds.fewer, image_bits_within image h.valid)
+    omega (arith, ap length h.begins, size, zeros, h.holds.fewer, image_bits_within image valid)

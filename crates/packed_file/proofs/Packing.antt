@@ -5,8 +5,9 @@ use Rattle.std.proofs.Math.Nat.{mod-eq_of_lt}
 use Rattle.std.proofs.lemmas.List.{take_at, drop_at, length-append, length-replicate}
 use Rattle.std.proofs.lemmas.List.Concat.{flat_map-cons}
 use Rattle.micro_image.specs.declared.image.Image.{Image}
-use Rattle.packed_file.specs.Bits.{bits, image_bits}
-use Rattle.packed_file.specs.Spells.{AreBytes, bits_of, begun, Holds, SpellsPacked}
+use Rattle.micro_image.specs.Bits.{bits, image_bits}
+use Rattle.micro_image.specs.Spells.{AreBytes, bits_of, begun, Holds, IsPacked, SpellsIn}
+use Rattle.micro_image.specs.declared.version.Version.TheVariants.{Two}
 use Rattle.micro_image.specs.Valid.{IsValid}
 use Rattle.packed_file.proofs.Length.{length-bits, length-bits_of}
 use Rattle.packed_file.specs.Numbers.{number_of}
@@ -88,11 +89,11 @@ same_held xs ys spelled h g =
     (h.packed ∙ ap (λ (n : ℕ). spelled ++ replicate n 0) zeros ∙ sym g.packed)
 
 -- an image has one file
-pub one_spelling : (a b : List ℕ) (image : Image) → SpellsPacked a image → SpellsPacked b image → a ≡ b
-one_spelling a b image h g =
-    h.spelled ∙ ap begun (same_held h.rest g.rest (image_bits image) h.holds g.holds) ∙ sym g.spelled
+pub one_packing : (a b : List ℕ) (image : Image) → IsPacked a image → IsPacked b image → a ≡ b
+one_packing a b image h g =
+    h.begins ∙ ap (begun 2) (same_held h.rest g.rest (image_bits image) h.holds g.holds) ∙ sym g.begins
 
-head_bytes : AreBytes (begun [])
+head_bytes : AreBytes (begun 2 [])
 head_bytes zero d lt = omega arith
 head_bytes (suc zero) d lt = omega arith
 head_bytes (suc (suc zero)) d lt = omega arith
@@ -104,15 +105,17 @@ head_bytes (suc (suc (suc (suc (suc n))))) d lt = absurd (omega (arith, lt))
 pub written_spells : (bytes : List ℕ) (image : Image)
     → IsValid image
     → AreBytes bytes
-    → Padded (bits_of (begun []) ++ image_bits image) bytes
-    → SpellsPacked bytes image
+    → Padded (bits_of (begun 2 []) ++ image_bits image) bytes
+    → SpellsIn Two bytes image
 written_spells bytes image valid are (zeros, fewer, packed) =
     let b =
-    bytes_begin (begun []) bytes (image_bits image ++ replicate zeros 0) head_bytes are
-    (packed ∙ append_assoc (bits_of (begun [])) (image_bits image) (replicate zeros 0)) in
+    bytes_begin (begun 2 []) bytes (image_bits image ++ replicate zeros 0) head_bytes are
+    (packed ∙ append_assoc (bits_of (begun 2 [])) (image_bits image) (replicate zeros 0)) in
     record {
       valid = valid;
-      rest = b.0;
-      spelled = b.1;
-      holds = record { are_bytes = b.3; zeros = zeros; fewer = fewer; packed = b.2 };
+      spelled = record {
+        rest = b.0;
+        begins = b.1;
+        holds = record { are_bytes = b.3; zeros = zeros; fewer = fewer; packed = b.2 };
+      };
     }

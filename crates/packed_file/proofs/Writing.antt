@@ -7,8 +7,8 @@ use Rattle.std.proofs.Math.Pow.{pow-lt}
 use Rattle.std.proofs.Math.Seq.{take-append-add}
 use Rattle.std.proofs.lemmas.List.{take-replicate, append-nil}
 use Rattle.std.proofs.lemmas.Nat.{pow-add, pow_pos}
-use Rattle.packed_file.specs.Bits.{bits}
-use Rattle.packed_file.specs.Spells.{bits_of}
+use Rattle.micro_image.specs.Bits.{bits}
+use Rattle.micro_image.specs.Spells.{bits_of}
 use Rattle.packed_file.proofs.Length.{length-bits}
 use Rattle.packed_file.proofs.Bits.{bits_split, bits_mod, bits_behind}
 use Rattle.packed_file.proofs.BitNumbers.{bits_of-append, bits_of-bytes, bits_none}

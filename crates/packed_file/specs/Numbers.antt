@@ -3,7 +3,7 @@ use Rattle.std.specs.Prelude.{◌≡◌, ℕ, ◌+◌, ◌*◌, ◌^◌, nat_lt,
 use Rattle.std.specs.Prelude.{Ok, Err}
 use Rattle.packed_file.specs.declared.fault.BitFault.{BitFault}
 use Rattle.packed_file.specs.declared.fault.BitFault.TheVariants.{Short}
-use Rattle.packed_file.specs.Bits.{bits}
+use Rattle.micro_image.specs.Bits.{bits}
 
 -- the number that has these bits
 unfoldable pub number_of : List ℕ → ℕ
@@ -27,17 +27,7 @@ numbered (Err fault) = Err fault
 abbrev pub number_at : ℕ → List ℕ → Reading ℕ
 number_at w bits = numbered (some_at w bits)
 
--- one bit
-abbrev pub bit_at : List ℕ → Reading ℕ
-bit_at [] = Err Short
-bit_at (bit ∷ bits) = Ok (bit, bits)
-
 -- what was returned is what is read in front of the bits before, and those after it are left
 abbrev pub Reads : {X : Type 0} → (List ℕ → Reading X) → List ℕ → Result X BitFault → List ℕ → Type 0
 Reads field before (Ok x) after = field before ≡ Ok (x, after)
 Reads field before (Err fault) after = field before ≡ Err fault
-
--- what was returned is the number whose bits are in front
-abbrev pub ReadsFlags : ℕ → List ℕ → Result ℕ BitFault → List ℕ → Type 0
-ReadsFlags count before (Ok n) after = some_at count before ≡ Ok (bits count n, after)
-ReadsFlags count before (Err fault) after = some_at count before ≡ Err fault

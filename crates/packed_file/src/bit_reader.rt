@@ -1,9 +1,9 @@
 //! A reader of bits, the most significant of each byte first.
-ghost use Rattle.std.specs.Prelude.{◌≡◌, ◌*◌, ◌^◌, ◌<◌, ◌≤◌, ◌++◌, length, take, drop, replicate, IfOk, IfErr, IsTrue, IsFalse};
+ghost use Rattle.std.specs.Prelude.{◌≡◌, ◌≢◌, ◌*◌, ◌^◌, ◌<◌, ◌≤◌, ◌++◌, length, take, drop, replicate, IfOk, IfErr, IsTrue, IsFalse};
 ghost use Rattle.std.specs.Int.{w64, from_be_bytes};
-ghost use Rattle.packed_file.specs.Bits.{bits};
-ghost use Rattle.packed_file.specs.Spells.{bits_of};
-ghost use Rattle.packed_file.specs.Numbers.{number_at, bit_at, Reads, ReadsFlags};
+ghost use Rattle.micro_image.specs.Bits.{bits};
+ghost use Rattle.micro_image.specs.Spells.{bits_of};
+ghost use Rattle.packed_file.specs.Numbers.{number_at, Reads};
 
 use crate::fault::BitFault;
 use std::marker::Model;
@@ -17,7 +17,7 @@ const WINDOW: usize = 8;
 /// The bits of the window.
 const WINDOW_BITS: u32 = 64;
 
-/// The number that has the bits of eight bytes from one on; behind the last byte there are zeros.
+/// The number that has the bits of eight bytes, the first of which is this one; behind the last byte there are zeros.
 #[inline]
 fn window(bytes: &[u8], from: usize) -> u64
     requires { from ≤ length bytes.now }
@@ -55,7 +55,7 @@ pub struct BitReader<'a> {
 
 impl<'a> Model for BitReader<'a> {
     ghost use Rattle.std.specs.Prelude.{ℕ, ◌*◌, ◌^◌, ◌<◌, ◌≤◌, List, length, drop};
-    ghost use Rattle.packed_file.specs.Spells.{bits_of};
+    ghost use Rattle.micro_image.specs.Spells.{bits_of};
 
     ghost Value = { List ℕ };
 
@@ -70,6 +70,17 @@ impl<'a> BitReader<'a> {
         ensures { result ≡ bits_of bytes.now }
     {
         BitReader { bytes, at: 0 }
+    }
+
+    /// Another reader of the bits that are left.
+    #[inline]
+    pub fn fork(&self) -> BitReader<'a>
+        ensures { result ≡ self.now }
+    {
+        BitReader {
+            bytes: self.bytes,
+            at: self.at,
+        }
     }
 
     /// How many bits are left.
@@ -94,12 +105,12 @@ impl<'a> BitReader<'a> {
         (window >> 1) >> (WINDOW_BITS - 1 - count)
     }
 
-    /// A number of so many bits.
+    /// A number of so many bits. The window holds 57 wherever they begin: up to 7 bits of its first byte are in front
+    /// of them.
     #[inline]
     pub fn number(&mut self, count: u32) -> Result<u64, BitFault>
         requires few { count ≤ 57 }
         ensures reads { Reads (number_at count) self.old result self.new }
-        ensures flags { ReadsFlags count self.old result self.new }
         ensures bound { IfOk result (λ number. number < 2 ^ count) }
         ensures short { IfErr result (λ _. self.new ≡ self.old) }
     {
@@ -111,23 +122,32 @@ impl<'a> BitReader<'a> {
         Ok(number)
     }
 
-    /// One bit.
+    /// Passes zeros, at most so many, and returns how many. As a rule they are all that stand in front of the next 1,
+    /// and one count of the zeros of the window takes the place of a look at each bit.
     #[inline]
-    pub fn bit(&mut self) -> Result<u8, BitFault>
-        ensures reads { Reads bit_at self.old result self.new }
-        ensures short { IfErr result (λ _. self.new ≡ self.old) }
+    pub fn zeros(&mut self, most: u32) -> u32
+        requires { most ≤ 57 }
+        ensures passed { self.old ≡ replicate result 0 ++ self.new }
+        ensures most { result ≤ most }
     {
-        Ok(self.number(1)? as u8)
+        let window = window(self.bytes, self.at / BYTE) << (self.at % BYTE) as u32;
+        // Behind the last bit the window has zeros too.
+        let zeros = (window.leading_zeros().min(most) as usize).min(self.count());
+        self.at += zeros;
+        zeros as u32
     }
 
-    /// Whether the next bits are there and zeros, which are then read.
+    /// Whether so many bits are left and all zeros, which are then read.
     #[inline]
     pub fn passes_zeros(&mut self, count: u32) -> bool
         requires few { count ≤ 57 }
         ensures passed { IsTrue result → self.old ≡ replicate count 0 ++ self.new }
-        ensures others { IsFalse result → self.new ≡ self.old }
+        ensures others { IsFalse result → (take count self.old ≢ replicate count 0) × (self.new ≡ self.old) }
     {
-        if self.count() < count as usize || self.peek(count) != 0 {
+        if self.count() < count as usize {
+            return false;
+        }
+        if self.peek(count) != 0 {
             return false;
         }
         self.at += count as usize;

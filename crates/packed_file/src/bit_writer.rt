@@ -1,7 +1,8 @@
 //! A writer of bits, the most significant of each byte first.
 ghost use Rattle.std.specs.Prelude.{◌≡◌, ℕ, ◌<◌, ◌≤◌, ◌++◌, OnOk, IfOk};
-ghost use Rattle.packed_file.specs.Bits.{bits};
-ghost use Rattle.packed_file.specs.Spells.{bits_of};
+ghost use Rattle.std.specs.Int.{w64, to_be_bytes};
+ghost use Rattle.micro_image.specs.Bits.{bits};
+ghost use Rattle.micro_image.specs.Spells.{bits_of};
 ghost use Rattle.packed_file.specs.Private.Writes.{Padded};
 
 use lists::Bytes;
@@ -26,8 +27,8 @@ pub(crate) struct BitWriter {
 
 impl Model for BitWriter {
     ghost use Rattle.std.specs.Prelude.{ℕ, ◌<◌, ◌++◌, List};
-    ghost use Rattle.packed_file.specs.Bits.{bits};
-    ghost use Rattle.packed_file.specs.Spells.{bits_of};
+    ghost use Rattle.micro_image.specs.Bits.{bits};
+    ghost use Rattle.micro_image.specs.Spells.{bits_of};
 
     ghost Value = { List ℕ };
 
@@ -63,7 +64,7 @@ impl BitWriter {
         }
         let rest = count - free;
         let full = (self.word << free).wrapping_add(lowest >> rest);
-        self.bytes.extend_from_slice(&full.to_be_bytes())?;
+        put_full(&mut self.bytes, full)?;
         self.word = lowest;
         self.count = rest;
         Ok(())
@@ -81,4 +82,13 @@ impl BitWriter {
         self.bytes.extend_from_slice(&last[..count as usize])?;
         Ok(self.bytes)
     }
+}
+
+/// Puts a full word behind the bytes. It stands alone so that `put`, which mostly finds room, is small enough to be
+/// inlined.
+#[inline(never)]
+fn put_full(bytes: &mut Bytes, full: u64) -> Result<(), AllocError>
+    ensures { OnOk result (bytes.new ≡ bytes.old ++ to_be_bytes w64 full) }
+{
+    bytes.extend_from_slice(&full.to_be_bytes())
 }

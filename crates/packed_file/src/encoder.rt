@@ -1,16 +1,18 @@
 //! An image to its packed file.
 
 ghost use Rattle.std.specs.Prelude.{◌≡◌, ◌==◌, ◌≤◌, ◌-◌, ◌++◌, ◌∷◌, [], length, take, if◌then◌else◌, IfOk, OnOk};
+ghost use Rattle.std.specs.Prelude.{true, replicate};
 ghost use Rattle.std.specs.List.{filter, flat_map, range_with_len};
-ghost use Rattle.micro_image.specs.Spells.{kind_byte, mode_byte};
-ghost use Rattle.packed_file.specs.Bits.{bits, raw_bits, preload_bits, choice_bits, format_bits, argument_bits, in_bits};
-ghost use Rattle.packed_file.specs.Bits.{issue_bits, enable_bit, enable_bits, take_bits, takes_bits, ports_bits};
-ghost use Rattle.packed_file.specs.Bits.{word_bits, image_bits};
+ghost use Rattle.micro_image.specs.Codes.{kind_number, mode_number};
+ghost use Rattle.micro_image.specs.Bits.{bits, raw_bits, preload_bits, choice_bits, format_bits, argument_bits, in_bits};
+ghost use Rattle.micro_image.specs.Bits.{issue_bits, enable_bit, enable_bits, take_bits, takes_bits, ports_bits};
+ghost use Rattle.micro_image.specs.Bits.{word_bits, image_bits};
 ghost use Rattle.micro_image.specs.Fields.{nth, no_unit};
-ghost use Rattle.packed_file.specs.Form.{spelled_file, spelled_memory, spelled_unit, spelled_operation};
-ghost use Rattle.packed_file.specs.Form.{spelled_hardware};
+ghost use Rattle.micro_image.specs.Form.{spelled_file, spelled_memory, spelled_unit, spelled_operation};
+ghost use Rattle.micro_image.specs.Form.{spelled_hardware};
 ghost use Rattle.micro_image.specs.Operations.{opcode, operation, is_formatted};
-ghost use Rattle.packed_file.specs.Spells.{AreBytes, SpellsPacked, begun, bits_of};
+ghost use Rattle.micro_image.specs.Spells.{AreBytes, begun, bits_of, SpellsIn};
+ghost use Rattle.micro_image.specs.declared.version.Version.TheVariants.{Two};
 ghost use Rattle.micro_image.specs.Size.{most_bytes};
 ghost use Rattle.micro_image.specs.Valid.{IsValid};
 ghost use Rattle.packed_file.specs.Private.Writes.{Padded};
@@ -27,11 +29,14 @@ use lists::{Bytes, List};
 use micro_image::{Enables, Image, Issue, Kind, Take, Takes, UnitDesc, Word, is_formatted, reads};
 use std::alloc::{AllocError, Global};
 
+/// As many bits as are put at once.
+const MOST: usize = 57;
+
 /// What is added to a shift.
 const SHIFTED: i64 = 40;
 
-fn kind_byte_of(kind: Kind) -> u8
-    ensures { result ≡ kind_byte kind }
+fn kind_number_of(kind: Kind) -> u8
+    ensures { result ≡ kind_number kind }
 {
     kind as u8
 }
@@ -42,8 +47,8 @@ fn opcode_of(op: Op) -> u8
     op as u8
 }
 
-fn mode_byte_of(mode: Mode) -> u8
-    ensures { result ≡ mode_byte mode }
+fn mode_number_of(mode: Mode) -> u8
+    ensures { result ≡ mode_number mode }
 {
     mode as u8
 }
@@ -71,7 +76,7 @@ fn put_raw_words(out: &mut BitWriter, raw_words: &List<i64>) -> Result<(), Alloc
     Ok(())
 }
 
-#[tactic(auto, unfolding(crate::specs::Bits::preload_bits))]
+#[tactic(auto, unfolding(micro_image::specs::Bits::preload_bits))]
 fn put_preload(out: &mut BitWriter, raw_words: &List<i64>) -> Result<(), AllocError>
     ensures { OnOk result (out.new ≡ out.old ++ preload_bits raw_words.now) }
 {
@@ -89,7 +94,20 @@ fn put_flag(out: &mut BitWriter, flag: bool) -> Result<(), AllocError>
     out.put(FLAG, u64::from(flag))
 }
 
-#[tactic(auto, unfolding(crate::specs::Form::spelled_file))]
+/// So many zeros, as many of them at once as can be.
+#[inline]
+fn put_zeros(out: &mut BitWriter, count: usize) -> Result<(), AllocError>
+    ensures { OnOk result (out.new ≡ out.old ++ replicate count 0) }
+{
+    let mut left = count;
+    while left > MOST {
+        out.put(MOST as u32, 0)?;
+        left -= MOST;
+    }
+    out.put(left as u32, 0)
+}
+
+#[tactic(auto, unfolding(micro_image::specs::Form::spelled_file))]
 fn put_file(out: &mut BitWriter, file: &List<i64>) -> Result<(), AllocError>
     ensures { OnOk result (out.new ≡ out.old ++ spelled_file in_bits file.now) }
 {
@@ -97,7 +115,7 @@ fn put_file(out: &mut BitWriter, file: &List<i64>) -> Result<(), AllocError>
     put_preload(out, file)
 }
 
-#[tactic(auto, unfolding(crate::specs::Form::spelled_memory))]
+#[tactic(auto, unfolding(micro_image::specs::Form::spelled_memory))]
 fn put_memory(out: &mut BitWriter, unit: &UnitDesc) -> Result<(), AllocError>
     ensures { OnOk result (out.new ≡ out.old ++ spelled_memory in_bits unit.now.kind unit.now) }
 {
@@ -120,11 +138,11 @@ fn put_files(out: &mut BitWriter, files: &List<List<i64>>) -> Result<(), AllocEr
     Ok(())
 }
 
-#[tactic(auto, unfolding(crate::specs::Form::spelled_unit))]
+#[tactic(auto, unfolding(micro_image::specs::Form::spelled_unit))]
 fn put_unit(out: &mut BitWriter, unit: &UnitDesc) -> Result<(), AllocError>
     ensures { OnOk result (out.new ≡ out.old ++ spelled_unit in_bits unit.now) }
 {
-    out.put(KIND, u64::from(kind_byte_of(unit.kind)))?;
+    out.put(KIND, u64::from(kind_number_of(unit.kind)))?;
     out.put(CYCLES, less_1(usize::from(unit.latency)))?;
     out.put(CYCLES, less_1(usize::from(unit.gap)))?;
     put_files(out, &unit.files)?;
@@ -150,7 +168,7 @@ fn put_inputs(out: &mut BitWriter, inputs: &List<u8>) -> Result<(), AllocError>
 }
 
 /// All but the words.
-#[tactic(auto, unfolding(crate::specs::Form::spelled_hardware))]
+#[tactic(auto, unfolding(micro_image::specs::Form::spelled_hardware))]
 fn put_hardware(out: &mut BitWriter, image: &Image) -> Result<(), AllocError>
     ensures { OnOk result (out.new ≡ out.old ++ spelled_hardware in_bits image.now) }
 {
@@ -166,7 +184,7 @@ fn put_hardware(out: &mut BitWriter, image: &Image) -> Result<(), AllocError>
 
 /// Which of its kind's operations it is.
 #[inline]
-#[tactic(auto, unfolding(crate::specs::Bits::choice_bits))]
+#[tactic(auto, unfolding(micro_image::specs::Bits::choice_bits))]
 fn put_choice(out: &mut BitWriter, op: Op) -> Result<(), AllocError>
     ensures { OnOk result (out.new ≡ out.old ++ choice_bits op) }
 {
@@ -175,12 +193,12 @@ fn put_choice(out: &mut BitWriter, op: Op) -> Result<(), AllocError>
     out.put(choice_width_of(kind), u64::from(place))
 }
 
-#[tactic(auto, unfolding(crate::specs::Bits::format_bits))]
+#[tactic(auto, unfolding(micro_image::specs::Bits::format_bits))]
 fn put_some_format(out: &mut BitWriter, fmt: &Format) -> Result<(), AllocError>
     ensures { OnOk result (out.new ≡ out.old ++ format_bits fmt.now) }
 {
     out.put(SHIFT, (i64::from(fmt.shift) + SHIFTED).cast_unsigned())?;
-    out.put(MODE, u64::from(mode_byte_of(fmt.mode)))?;
+    out.put(MODE, u64::from(mode_number_of(fmt.mode)))?;
     out.put(WIDTH, less_1(usize::from(fmt.width)))
 }
 
@@ -219,7 +237,7 @@ fn put_registers(out: &mut BitWriter, regs: &[u8], read: usize) -> Result<(), Al
     Ok(())
 }
 
-#[tactic(auto, unfolding(crate::specs::Form::spelled_operation))]
+#[tactic(auto, unfolding(micro_image::specs::Form::spelled_operation))]
 fn put_operation(out: &mut BitWriter, issue: &Issue) -> Result<(), AllocError>
     ensures { OnOk result (out.new ≡ out.old ++ spelled_operation in_bits issue.now) }
 {
@@ -230,7 +248,7 @@ fn put_operation(out: &mut BitWriter, issue: &Issue) -> Result<(), AllocError>
 }
 
 /// The issue of a unit, if it has one.
-#[tactic(auto, unfolding(crate::specs::Bits::issue_bits))]
+#[tactic(auto, unfolding(micro_image::specs::Bits::issue_bits))]
 fn put_slot(out: &mut BitWriter, unit: usize, issues: &List<Issue>) -> Result<(), AllocError>
     ensures { OnOk result (out.new ≡ out.old ++ issue_bits (filter (λ issue. issue.unit == unit) issues.now)) }
 {
@@ -248,14 +266,38 @@ fn put_issues(out: &mut BitWriter, units: usize, issues: &List<Issue>) -> Result
         (out.new ≡ out.old
         ++ flat_map (λ u. issue_bits (filter (λ issue. issue.unit == u) issues.now)) (range_with_len 0 units)) }
 {
+    if issues.is_empty() {
+        return put_zeros(out, units);
+    }
+    // Most units of a word have no issue: their zeros are put together, before the next one that has.
+    let mut none = 0;
     for unit in 0..units {
+        if none < MOST && issues_none(issues, unit) {
+            none += 1;
+            continue;
+        }
+        out.put(none as u32, 0)?;
+        none = 0;
         put_slot(out, unit, issues)?;
     }
-    Ok(())
+    out.put(none as u32, 0)
+}
+
+/// Whether the unit has no issue.
+#[inline]
+fn issues_none(issues: &List<Issue>, unit: usize) -> bool
+    ensures { result ≡ true → filter (λ issue. issue.unit == unit) issues.now ≡ [] }
+{
+    for issue in issues.iter() {
+        if usize::from(issue.unit) == unit {
+            return false;
+        }
+    }
+    true
 }
 
 /// Which buses a unit drives, a flag a bus.
-#[tactic(auto, unfolding(crate::specs::Bits::enable_bits))]
+#[tactic(auto, unfolding(micro_image::specs::Bits::enable_bits))]
 fn put_drives(
     out: &mut BitWriter,
     unit: usize,
@@ -265,13 +307,47 @@ fn put_drives(
     ensures { OnOk result
         (out.new ≡ out.old ++ enable_bits buses (filter (λ enable. enable.unit == unit) enables.now)) }
 {
+    if buses <= MOST {
+        return out.put(buses as u32, drive_flags(enables, unit, buses));
+    }
     for bus in 0..buses {
         put_flag(out, drives(enables, unit, bus))?;
     }
     Ok(())
 }
 
+/// Which buses a unit drives, a bit a bus, as one number, which is put at once.
+#[tactic(auto, unfolding(micro_image::specs::Bits::enable_bits))]
+fn drive_flags(enables: &Enables, unit: usize, buses: usize) -> u64
+    requires { buses ≤ 57 }
+    ensures { bits buses result ≡ enable_bits buses (filter (λ enable. enable.unit == unit) enables.now) }
+{
+    // In most words most units drive none, and each bus would be looked up for nothing.
+    if drives_none(enables, unit) {
+        return 0;
+    }
+    let mut flags: u64 = 0;
+    for bus in 0..buses {
+        flags = (flags << 1).wrapping_add(u64::from(drives(enables, unit, bus)));
+    }
+    flags
+}
+
+/// Whether the unit drives no bus.
+#[inline]
+fn drives_none(enables: &Enables, unit: usize) -> bool
+    ensures { result ≡ true → filter (λ enable. enable.unit == unit) enables.now ≡ [] }
+{
+    for enable in enables.iter() {
+        if usize::from(enable.unit) == unit {
+            return false;
+        }
+    }
+    true
+}
+
 /// Whether the unit drives the bus.
+#[inline]
 fn drives(enables: &Enables, unit: usize, bus: usize) -> bool
     ensures { (if result then 1 else 0)
         ≡ enable_bit (filter (λ enable. enable.bus == bus) (filter (λ enable. enable.unit == unit) enables.now)) }
@@ -295,25 +371,42 @@ fn put_enables(
         ++ flat_map (λ u. enable_bits buses (filter (λ enable. enable.unit == u) enables.now))
         (range_with_len 0 units)) }
 {
+    // Without enables no unit is looked at.
+    if enables.is_empty() {
+        if let Some(count) = units.checked_mul(buses) {
+            return put_zeros(out, count);
+        }
+    }
+    // Zeros of units that drive no bus are put together, as those of units without an issue.
+    let mut none = 0;
     for unit in 0..units {
+        if buses <= MOST - none && drives_none(enables, unit) {
+            none += buses;
+            continue;
+        }
+        out.put(none as u32, 0)?;
+        none = 0;
         put_drives(out, unit, buses, enables)?;
     }
-    Ok(())
+    out.put(none as u32, 0)
 }
 
 /// 1, the bus, the register.
 #[inline]
-#[tactic(auto, unfolding(crate::specs::Bits::take_bits))]
+#[tactic(auto, unfolding(micro_image::specs::Bits::take_bits))]
 fn put_take(out: &mut BitWriter, take: &Take) -> Result<(), AllocError>
     ensures { OnOk result (out.new ≡ out.old ++ take_bits take.now) }
 {
-    put_flag(out, true)?;
-    out.put(BUS, u64::from(take.bus))?;
-    out.put(REGISTER, u64::from(take.reg))
+    // The three as one number, which is put at once: behind the flag a bus has 5 bits, a register 8.
+    let flag_and_bus = 32 + u64::from(take.bus % 32);
+    out.put(
+        FLAG + BUS + REGISTER,
+        flag_and_bus * 256 + u64::from(take.reg),
+    )
 }
 
 /// The takes into a register file, and its end.
-#[tactic(auto, unfolding(crate::specs::Bits::takes_bits))]
+#[tactic(auto, unfolding(micro_image::specs::Bits::takes_bits))]
 fn put_file_takes(
     out: &mut BitWriter,
     unit: usize,
@@ -332,7 +425,7 @@ fn put_file_takes(
     put_flag(out, false)
 }
 
-#[tactic(auto, unfolding(crate::specs::Bits::ports_bits))]
+#[tactic(auto, unfolding(micro_image::specs::Bits::ports_bits))]
 fn put_unit_takes(
     out: &mut BitWriter,
     unit: usize,
@@ -348,18 +441,40 @@ fn put_unit_takes(
     Ok(())
 }
 
+/// Whether nothing is taken into the unit's files.
+#[inline]
+fn takes_none(takes: &Takes, unit: usize) -> bool
+    ensures { result ≡ true → filter (λ take. take.port.unit == unit) takes.now ≡ [] }
+{
+    for take in takes.iter() {
+        if usize::from(take.port.unit) == unit {
+            return false;
+        }
+    }
+    true
+}
+
 fn put_takes(out: &mut BitWriter, units: &List<UnitDesc>, takes: &Takes) -> Result<(), AllocError>
     ensures { OnOk result (out.new ≡ out.old ++ flat_map (λ u.
         ports_bits (length (nth units.now u no_unit).files) (filter (λ take. take.port.unit == u) takes.now))
         (range_with_len 0 (length units.now))) }
 {
+    // Where nothing is taken into a unit's files, only the ends of their takes are put, together with those behind.
+    let mut none = 0;
     for (unit, desc) in units.iter().enumerate() {
-        put_unit_takes(out, unit, desc.files.len(), takes)?;
+        let ports = desc.files.len();
+        if ports <= MOST - none && takes_none(takes, unit) {
+            none += ports;
+            continue;
+        }
+        out.put(none as u32, 0)?;
+        none = 0;
+        put_unit_takes(out, unit, ports, takes)?;
     }
-    Ok(())
+    out.put(none as u32, 0)
 }
 
-#[tactic(auto, unfolding(crate::specs::Bits::word_bits))]
+#[tactic(auto, unfolding(micro_image::specs::Bits::word_bits))]
 fn put_word(out: &mut BitWriter, image: &Image, word: &Word) -> Result<(), AllocError>
     ensures { OnOk result (out.new ≡ out.old ++ word_bits image.now.units image.now.buses word.now) }
 {
@@ -384,16 +499,16 @@ fn put_words(out: &mut BitWriter, image: &Image) -> Result<(), AllocError>
 
 /// The magic bytes and the version.
 fn head(alloc: Global) -> Result<Bytes, AllocError>
-    ensures { IfOk result (λ bytes. bytes ≡ begun []) }
+    ensures { IfOk result (λ bytes. bytes ≡ begun 2 []) }
 {
     let mut bytes = Bytes::new(alloc);
     bytes.extend_from_slice(b"SILM\x02")?;
     Ok(bytes)
 }
 
-#[tactic(auto, unfolding(crate::specs::Bits::image_bits))]
+#[tactic(auto, unfolding(micro_image::specs::Bits::image_bits))]
 fn spelling_of(alloc: Global, image: &Image) -> Result<Bytes, AllocError>
-    ensures { IfOk result (λ bytes. Padded (bits_of (begun []) ++ image_bits image.now) bytes) }
+    ensures { IfOk result (λ bytes. Padded (bits_of (begun 2 []) ++ image_bits image.now) bytes) }
 {
     let mut out = BitWriter::new(head(alloc)?);
     put_hardware(&mut out, image)?;
@@ -404,7 +519,7 @@ fn spelling_of(alloc: Global, image: &Image) -> Result<Bytes, AllocError>
 /// The bytes that spell the image in version 2. An error says that no memory was left.
 pub fn encode(alloc: Global, image: &Image) -> Result<Bytes, CodeFault>
     requires { IsValid image.now }
-    ensures spelled { IfOk result (λ bytes. SpellsPacked bytes image.now) }
+    ensures spelled { IfOk result (λ bytes. SpellsIn Two bytes image.now) }
     ensures short { IfOk result (λ bytes. length bytes ≤ most_bytes) }
 {
     let bytes = spelling_of(alloc, image)?;

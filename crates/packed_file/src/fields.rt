@@ -1,13 +1,13 @@
-//! What the fields of a packed file hang on.
-ghost use Rattle.std.specs.Prelude.{◌≡◌};
-ghost use Rattle.packed_file.specs.Bits.{are_zeros, choice_width, first_opcode};
+//! What the fields of a packed file depend on.
+ghost use Rattle.std.specs.Prelude.{◌≡◌, ◌≤◌};
+ghost use Rattle.micro_image.specs.Bits.{are_zeros, choice_width, first_opcode};
 
 use fix_word::Op;
 use lists::List;
 use micro_image::Kind;
 
 /// Whether all are 0.
-pub(crate) fn are_zeros(words: &List<i64>) -> bool
+pub fn are_zeros(words: &List<i64>) -> bool
     ensures { result ≡ are_zeros words.now }
 {
     words.iter().all(|word| *word == 0)
@@ -15,8 +15,9 @@ pub(crate) fn are_zeros(words: &List<i64>) -> bool
 
 /// How many bits say which of its kind's operations an issue has.
 #[inline]
-pub(crate) fn choice_width_of(kind: Kind) -> u32
-    ensures { result ≡ choice_width kind }
+pub fn choice_width_of(kind: Kind) -> u32
+    ensures width { result ≡ choice_width kind }
+    ensures few { result ≤ 57 }
 {
     match kind {
         Kind::Alu => 4,

@@ -1,5 +1,4 @@
-//! Microcode files, version 2, of packed bits: their definition, an image as the bytes of one, and a reader of the numbers
-//! that they have.
+//! Packed bits: a reader and a writer of them, and an image as the bytes of its microcode file, version 2.
 #![tactic(auto)]
 
 mod bit_reader;
@@ -7,8 +6,9 @@ mod bit_writer;
 mod encoder;
 mod fault;
 mod fields;
-mod widths;
+pub mod widths;
 
 pub use bit_reader::BitReader;
 pub use encoder::encode;
 pub use fault::{BitFault, CodeFault};
+pub use fields::{are_zeros, choice_width_of};

@@ -1,7 +1,7 @@
 use Rattle.std.proofs.Common.{◌==◌, ◌∙◌, ap, sym, refl, arith, get_or}
 use Rattle.std.proofs.lemmas.Bool.{eq-eqb}
 use Rattle.micro_image.specs.declared.image.Enable.{Enable}
-use Rattle.packed_file.specs.Bits.{enable_bit}
+use Rattle.micro_image.specs.Bits.{enable_bit}
 use Rattle.packed_file.proofs.Encoded.{first_passed_both}
 use Rattle.packed_file.proofs.encoder.drives.Goals as goal
 

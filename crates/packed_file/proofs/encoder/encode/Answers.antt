@@ -1,5 +1,5 @@
 use Rattle.std.proofs.Common.{subst}
-use Rattle.packed_file.specs.Spells.{AreBytes}
+use Rattle.micro_image.specs.Spells.{AreBytes}
 use Rattle.packed_file.proofs.Length.{packed_within}
 use Rattle.packed_file.proofs.Packing.{written_spells}
 use Rattle.packed_file.proofs.encoder.encode.Goals as goal
@@ -12,5 +12,5 @@ returns-clause-spelled c =
 pub returns-clause-short : goal.returns-clause-short
 returns-clause-short c =
     let are : AreBytes c.in_ok-bytes.bytes = subst AreBytes c.as_slice.ensures c.see_bytes.ensures in
-    packed_within c.in_ok-bytes.bytes c.args.image.now
-    (written_spells c.in_ok-bytes.bytes c.args.image.now c.requires are c.in_ok-bytes.ensures)
+    packed_within c.in_ok-bytes.bytes c.args.image.now c.requires
+    (written_spells c.in_ok-bytes.bytes c.args.image.now c.requires are c.in_ok-bytes.ensures).spelled

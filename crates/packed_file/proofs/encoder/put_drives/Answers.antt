@@ -1,6 +1,6 @@
 use Rattle.std.proofs.Common.{◌==◌, ◌∙◌, ap, ℕ, List, ◌++◌, ◌∷◌, []}
 use Rattle.std.specs.List.{filter}
-use Rattle.packed_file.specs.Bits.{enable_bit}
+use Rattle.micro_image.specs.Bits.{enable_bit}
 use Rattle.packed_file.proofs.Encoded.{next_put}
 use Rattle.packed_file.proofs.encoder.put_drives.Goals as goal
 

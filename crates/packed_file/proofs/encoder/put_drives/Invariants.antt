@@ -1,6 +1,6 @@
 use Rattle.std.proofs.Common.{◌≡◌, ◌==◌, ◌++◌, ◌∷◌, []}
 use Rattle.std.specs.List.{flat_map, filter, range_with_len}
-use Rattle.packed_file.specs.Bits.{enable_bit}
+use Rattle.micro_image.specs.Bits.{enable_bit}
 use Rattle.packed_file.proofs.encoder.put_drives.Given as goal
 
 abbrev pub invariant-loop-bus : goal.invariant-loop-bus

@@ -1,6 +1,6 @@
 use Rattle.std.proofs.Common.{◌≡◌, ◌==◌, ◌++◌, take}
 use Rattle.std.specs.List.{filter, flat_map}
-use Rattle.packed_file.specs.Bits.{take_bits}
+use Rattle.micro_image.specs.Bits.{take_bits}
 use Rattle.packed_file.proofs.encoder.put_file_takes.Given as goal
 
 abbrev pub invariant-loop-take : goal.invariant-loop-take

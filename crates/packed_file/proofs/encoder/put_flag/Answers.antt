@@ -1,5 +1,5 @@
 use Rattle.std.proofs.Common.{◌≡◌, ◌∙◌, ap, subst, ℕ, List, ◌++◌, OnOk}
-use Rattle.packed_file.specs.Bits.{bits}
+use Rattle.micro_image.specs.Bits.{bits}
 use Rattle.packed_file.proofs.Encoded.{flag_bits}
 use Rattle.packed_file.proofs.encoder.put_flag.Goals as goal
 

@@ -1,6 +1,6 @@
 use Rattle.std.proofs.Common.{◌≡◌, ◌++◌, take}
 use Rattle.std.specs.List.{flat_map}
-use Rattle.packed_file.specs.Bits.{bits}
+use Rattle.micro_image.specs.Bits.{bits}
 use Rattle.packed_file.proofs.encoder.put_inputs.Given as goal
 
 abbrev pub invariant-loop-width : goal.invariant-loop-width

@@ -1,6 +1,6 @@
 use Rattle.std.proofs.Common.{◌≡◌, ◌++◌, take}
 use Rattle.std.specs.List.{flat_map}
-use Rattle.packed_file.specs.Bits.{raw_bits}
+use Rattle.micro_image.specs.Bits.{raw_bits}
 use Rattle.packed_file.proofs.encoder.put_raw_words.Given as goal
 
 abbrev pub invariant-loop-raw_word : goal.invariant-loop-raw_word

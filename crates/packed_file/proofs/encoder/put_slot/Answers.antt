@@ -1,7 +1,7 @@
 use Rattle.std.proofs.Common.{◌≡◌, ◌==◌, ◌∙◌, ap, sym, subst, ℕ, List, ◌++◌, ◌∷◌, [], OnOk, append_assoc, arith}
 use Rattle.std.proofs.lemmas.Bool.{eq-eqb}
-use Rattle.packed_file.specs.Bits.{in_bits, issue_bits}
-use Rattle.packed_file.specs.Form.{spelled_operation}
+use Rattle.micro_image.specs.Bits.{in_bits, issue_bits}
+use Rattle.micro_image.specs.Form.{spelled_operation}
 use Rattle.packed_file.proofs.Encoded.{first_passed}
 use Rattle.packed_file.proofs.encoder.put_slot.Goals as goal
 

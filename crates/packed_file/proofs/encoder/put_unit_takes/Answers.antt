@@ -1,6 +1,6 @@
 use Rattle.std.proofs.Common.{◌==◌, ◌∙◌, ap, ℕ, List, ◌++◌}
 use Rattle.std.specs.List.{filter}
-use Rattle.packed_file.specs.Bits.{takes_bits}
+use Rattle.micro_image.specs.Bits.{takes_bits}
 use Rattle.packed_file.proofs.Encoded.{next_put}
 use Rattle.packed_file.proofs.encoder.put_unit_takes.Goals as goal
 

@@ -1,6 +1,6 @@
 use Rattle.std.proofs.Common.{◌≡◌, ◌==◌, ◌++◌}
 use Rattle.std.specs.List.{flat_map, filter, range_with_len}
-use Rattle.packed_file.specs.Bits.{takes_bits}
+use Rattle.micro_image.specs.Bits.{takes_bits}
 use Rattle.packed_file.proofs.encoder.put_unit_takes.Given as goal
 
 abbrev pub invariant-loop-port : goal.invariant-loop-port

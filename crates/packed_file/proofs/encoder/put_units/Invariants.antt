@@ -1,7 +1,7 @@
 use Rattle.std.proofs.Common.{◌≡◌, ◌++◌, take}
 use Rattle.std.specs.List.{flat_map}
-use Rattle.packed_file.specs.Bits.{in_bits}
-use Rattle.packed_file.specs.Form.{spelled_unit}
+use Rattle.micro_image.specs.Bits.{in_bits}
+use Rattle.micro_image.specs.Form.{spelled_unit}
 use Rattle.packed_file.proofs.encoder.put_units.Given as goal
 
 abbrev pub invariant-loop-unit : goal.invariant-loop-unit

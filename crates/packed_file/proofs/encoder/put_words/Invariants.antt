@@ -1,6 +1,6 @@
 use Rattle.std.proofs.Common.{◌≡◌, ◌++◌, take}
 use Rattle.std.specs.List.{flat_map}
-use Rattle.packed_file.specs.Bits.{word_bits}
+use Rattle.micro_image.specs.Bits.{word_bits}
 use Rattle.packed_file.proofs.encoder.put_words.Given as goal
 
 abbrev pub invariant-loop-word : goal.invariant-loop-word

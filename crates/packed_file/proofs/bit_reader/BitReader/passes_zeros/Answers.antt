@@ -1,5 +1,5 @@
-use Rattle.std.proofs.Common.{◌≡◌, ℕ, ◌-◌, ◌*◌, List, length, arith}
-use Rattle.packed_file.proofs.BitWindow.{bits_left, zeros_read}
+use Rattle.std.proofs.Common.{◌≡◌, refl, ℕ, ◌-◌, ◌*◌, List, length, arith}
+use Rattle.packed_file.proofs.BitWindow.{bits_left, zeros_read, some_bit}
 use Rattle.packed_file.proofs.bit_reader.BitReader.passes_zeros.Goals as goal
 
 pub invariant_of-self : goal.invariant_of-self
@@ -13,3 +13,11 @@ pub returns-clause-passed : goal.returns-clause-passed
 returns-clause-passed c =
     λ _. zeros_read c.self.inside.bytes.now c.self.inside.at c.args.count c.peek.result c.args.self.now c.self.view_is
     c.peek.ensures.number (omega (arith, c.if-peek-ne0.false))
+
+pub returns-then-peek-ne0-clause-others : goal.returns-then-peek-ne0-clause-others
+returns-then-peek-ne0-clause-others c =
+    λ _. (
+      some_bit c.args.count c.peek.result c.args.self.now c.peek.ensures.number c.peek.ensures.bound
+          (λ none. absurd (omega (arith, none, c.if-peek-ne0.true))),
+      refl,
+    )

@@ -1,5 +1,5 @@
 use Rattle.std.proofs.Common.{◌≡◌, ℕ, ◌+◌, ◌-◌, ◌*◌, ◌/◌, ◌<◌, List, [], ◌++◌, ◌≤◌, take, replicate, ap, ◌∙◌, arith}
-use Rattle.packed_file.specs.Spells.{bits_of}
+use Rattle.micro_image.specs.Spells.{bits_of}
 use Rattle.packed_file.proofs.Writing.{last_bits, no_bits}
 use Rattle.packed_file.proofs.bit_writer.BitWriter.finish.Goals as goal
 

@@ -1,6 +1,6 @@
 use Rattle.std.proofs.Common.{ℕ, List, ◌++◌, sym, ap, ◌∙◌}
 use Rattle.std.proofs.lemmas.List.{append-nil}
-use Rattle.packed_file.specs.Spells.{bits_of}
+use Rattle.micro_image.specs.Spells.{bits_of}
 use Rattle.packed_file.proofs.BitNumbers.{no_bits}
 use Rattle.packed_file.proofs.bit_writer.BitWriter.new.Goals as goal
 

@@ -1,7 +1,7 @@
 use Rattle.std.proofs.Common.{◌≡◌, ℕ, ◌+◌, ◌-◌, ◌*◌, ◌/◌, ◌%◌, ◌^◌, ◌≤◌, List, ◌++◌, sym, ap, ◌∙◌, arith}
 use Rattle.std.specs.Int.{w64, to_be_bytes}
-use Rattle.packed_file.specs.Bits.{bits}
-use Rattle.packed_file.specs.Spells.{bits_of}
+use Rattle.micro_image.specs.Bits.{bits}
+use Rattle.micro_image.specs.Spells.{bits_of}
 use Rattle.packed_file.proofs.Writing.{joined_word, put_bits, full_bits, one_shifted}
 use Rattle.packed_file.proofs.bit_writer.BitWriter.put.Goals as goal
 
@@ -28,9 +28,7 @@ returns c =
     let whole : count + free ≡ 64 = omega (arith, c.self.invariant) in
     let power : (1 * 2 ^ n) % 2 ^ 64 ≡ 2 ^ (free + rest) =
     one_shifted n (omega (arith, c.requires.few)) ∙ ap (λ (k : ℕ). 2 ^ k) parts in
-    ap (λ (xs : List ℕ). bits_of xs ++ bits rest (number % ((1 * 2 ^ n) % 2 ^ 64))) c.in_ok-extend_from_slice.ensures.ok
-    ∙ ap (λ (xs : List ℕ). bits_of (c.self.inside.bytes ++ xs) ++ bits rest (number % ((1 * 2 ^ n) % 2 ^ 64)))
-    c.to_be_bytes.ensures
+    ap (λ (xs : List ℕ). bits_of xs ++ bits rest (number % ((1 * 2 ^ n) % 2 ^ 64))) c.in_ok-put_full.ensures
     ∙ ap (λ (p : ℕ). bits_of (c.self.inside.bytes ++ to_be_bytes w64 (joined_word word free ((number % p) / 2 ^ rest)))
     ++ bits rest (number % p)) power
     ∙ full_bits c.self.inside.bytes count free rest word number whole
