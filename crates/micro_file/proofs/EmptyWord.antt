@@ -1,9 +1,10 @@
--- An empty word is five zeros.
+-- Five zeros are an empty word of version 1.
 use Rattle.std.proofs.Common.{◌≡◌, ℕ, List, [], ◌∷◌, ◌++◌, length, Ok, refl, arith}
 use Rattle.std.specs.Int.{w16}
 use Rattle.micro_image.specs.declared.image.Image.{Image}
-use Rattle.micro_image.specs.Spells.{two_bytes, spelled_word}
-use Rattle.micro_file.specs.Fields.{number_within, many_at}
+use Rattle.micro_image.specs.Bytes.{two_bytes}
+use Rattle.micro_file.specs.Bytes.{number_within}
+use Rattle.micro_file.specs.Fields.{many_at}
 use Rattle.micro_file.specs.Words.{issues_at, enables_at, takes_at, word_at}
 use Rattle.micro_file.specs.Private.Empty.{no_word, empty_word}
 use Rattle.micro_file.proofs.Leaves.{upto_reader, two_reader}
@@ -25,13 +26,7 @@ module _ (image : Image) (rest : List ℕ) where
   unfolding takes_at many_at
   no_takes = rw (no_count rest) refl
 
--- they are read as the word
 pub empty_word_at : (image : Image) (rest : List ℕ) → word_at image (empty_word ++ rest) ≡ Ok (no_word, rest)
 unfolding word_at
 empty_word_at image rest =
     rw (no_issues image (0 ∷ 0 ∷ 0 ∷ 0 ∷ rest), no_enables image (0 ∷ 0 ∷ rest), no_takes image rest) refl
-
--- they spell it
-pub spelled_empty : spelled_word no_word ≡ empty_word
-unfolding spelled_word two_bytes
-spelled_empty = refl

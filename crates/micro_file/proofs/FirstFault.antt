@@ -2,15 +2,16 @@
 use Rattle.std.proofs.Common.{◌≡◌, ◌⊎◌, inl, inr, ℕ, List, length, Result, Ok, Err, refl, sym, ap, ◌∙◌}
 use Rattle.micro_image.specs.declared.image.Image.{Image}
 use Rattle.micro_image.specs.Spells.{Spells}
+use Rattle.packed_file.proofs.Bits.{IsDigits}
 use Rattle.micro_file.specs.declared.fault.FormFault.{FormFault}
 use Rattle.micro_file.specs.declared.misread.Misread.{Misread}
 use Rattle.micro_file.specs.File.{whole_at}
 use Rattle.micro_file.specs.Faults.{placed, IsFormFault}
-use Rattle.micro_file.proofs.ImageReader.{whole_spells, spelled_whole}
-use Rattle.micro_file.proofs.Readers.{IsBytes, misread_as, not_both}
+use Rattle.micro_file.proofs.FileReader.{whole_spells, spelled_whole}
+use Rattle.micro_file.proofs.Readers.{byte_values, misread_as, not_both}
 
 pub spelled_or_faulty : (bytes : List ℕ)
-    → IsBytes bytes
+    → IsDigits byte_values bytes
     → ((image : Image) × Spells bytes image) ⊎ ((fault : FormFault) × IsFormFault bytes fault)
 spelled_or_faulty bytes fits = by (whole_at bytes) refl
   where

@@ -1,13 +1,12 @@
--- Fields are misread inside the bytes, and leave no more than there were.
-use Rattle.std.proofs.Common.{ℕ, zero, suc, ◌≤◌, Bool, true, false, cond, ltb, leb, List, [], ◌∷◌, ◌++◌, length, take}
-use Rattle.std.proofs.Common.{drop, Option, Some, None, Ok, Err, arith}
-use Rattle.std.specs.Prelude.{slice_get}
-use Rattle.std.specs.Int.{Width, w64, byte_len, from_be_bytes, cast_signed, is_in_range}
-use Rattle.std.proofs.lemmas.List.{length-drop}
+-- Fields are misread inside what is left, and leave no more than there was.
+use Rattle.std.proofs.Common.{◌≡◌, ℕ, zero, suc, ◌+◌, ◌≤◌, Bool, true, false, List, [], ◌∷◌, ◌++◌, length, Option, Some}
+use Rattle.std.proofs.Common.{None, Ok, Err, ℤ, subst, arith}
+use Rattle.fix_word.specs.declared.operation.Op.{Op}
+use Rattle.operations.specs.declared.units.Kind.{Kind}
 use Rattle.micro_file.specs.declared.misread.Misread.{Misread}
 use Rattle.micro_file.specs.declared.misread.Misread.TheVariants.{Magic, Version, Short, Field, Trailing}
-use Rattle.micro_file.specs.Fields.{Reading, ◌>>=◌, kept, found, byte_at, byte_within, byte_below, byte_upto, number_at}
-use Rattle.micro_file.specs.Fields.{number_within, signed_at, is_raw_word, raw_word_at, entry_at, many_at}
+use Rattle.micro_file.specs.Fields.{Reading, ◌>>=◌, kept, found, many_at, each_at}
+use Rattle.micro_file.specs.FormAt.{FormAt}
 use Rattle.micro_file.specs.Private.Places.{IsIn}
 
 -- no more is left than there was; what was misread has a place in it
@@ -41,82 +40,86 @@ pub behind : {A B : Type 0} (size : ℕ) (r : Reading A) (f : A × List ℕ → 
     → IsInside size (r >>= f)
 behind size r f h g = next size r f h (λ x le. inside_more (length x.1) size (f x) le (g x))
 
-pub keeps : {A : Type 0} (size : ℕ) (bytes : List ℕ) (b : Bool) (x : A × List ℕ)
-    → length bytes ≤ size
+pub keeps : {A : Type 0} (size : ℕ) (left : List ℕ) (b : Bool) (x : A × List ℕ)
+    → length left ≤ size
     → length x.1 ≤ size
-    → IsInside size (kept bytes b x)
-keeps size bytes true x le lt = lt
-keeps size bytes false x le lt = le
+    → IsInside size (kept left b x)
+keeps size left true x le lt = lt
+keeps size left false x le lt = le
 
-pub kept_then : {A B : Type 0} (size : ℕ) (bytes : List ℕ) (b : Bool) (x : A × List ℕ) (f : A × List ℕ → Reading B)
-    → length bytes ≤ size
+pub kept_then : {A B : Type 0} (size : ℕ) (left : List ℕ) (b : Bool) (x : A × List ℕ) (f : A × List ℕ → Reading B)
+    → length left ≤ size
     → IsInside size (f x)
-    → IsInside size (kept bytes b x >>= f)
-kept_then size bytes true x f le h = h
-kept_then size bytes false x f le h = le
+    → IsInside size (kept left b x >>= f)
+kept_then size left true x f le h = h
+kept_then size left false x f le h = le
 
-pub finds : {X B : Type 0} (size : ℕ) (bytes : List ℕ) (o : Option X) (f : X → Reading B)
-    → length bytes ≤ size
+pub finds : {X B : Type 0} (size : ℕ) (left : List ℕ) (o : Option X) (f : X → Reading B)
+    → length left ≤ size
     → ((x : X) → IsInside size (f x))
-    → IsInside size (found bytes o >>= f)
-finds size bytes None f le g = le
-finds size bytes (Some x) f le g = g x
-
--- ---- single fields
-
-pub byte_in : (bytes : List ℕ) → IsInside (length bytes) (byte_at bytes)
-byte_in [] = tt
-byte_in (b ∷ rest) = omega arith
+    → IsInside size (found left o >>= f)
+finds size left None f le g = le
+finds size left (Some x) f le g = g x
 
 -- what is read, if it is allowed
-pub tested_in : {A : Type 0} (bytes : List ℕ) (r : Reading A) (test : A → Bool)
-    → IsInside (length bytes) r
-    → IsInside (length bytes) (r >>= λ x. kept bytes (test x.0) x)
-tested_in bytes r test h =
-    next (length bytes) r (λ x. kept bytes (test x.0) x) h
-    (λ x le. keeps (length bytes) bytes (test x.0) x (omega arith) le)
-
-pub within_in : (low high : ℕ) (bytes : List ℕ) → IsInside (length bytes) (byte_within low high bytes)
-within_in low high bytes = tested_in bytes (byte_at bytes) (is_in_range low high) (byte_in bytes)
-
-pub below_in : (limit : ℕ) (bytes : List ℕ) → IsInside (length bytes) (byte_below limit bytes)
-below_in limit bytes = tested_in bytes (byte_at bytes) (λ b. ltb b limit) (byte_in bytes)
-
-pub upto_in : (limit : ℕ) (bytes : List ℕ) → IsInside (length bytes) (byte_upto limit bytes)
-upto_in limit bytes = tested_in bytes (byte_at bytes) (λ b. leb b limit) (byte_in bytes)
-
-number_in : (w : Width) (bytes : List ℕ) → IsInside (length bytes) (number_at w bytes)
-number_in w bytes = by (ltb (length bytes) (byte_len w))
-  where
-    by : (short : Bool)
-        → IsInside {A = ℕ} (length bytes)
-        (cond short (Err Short) (Ok (from_be_bytes w (take (byte_len w) bytes), drop (byte_len w) bytes)))
-    by true = tt
-    by false = omega (arith, length-drop (byte_len w) bytes)
-
-pub number_within_in : (w : Width) (low high : ℕ) (bytes : List ℕ)
-    → IsInside (length bytes) (number_within w low high bytes)
-number_within_in w low high bytes = tested_in bytes (number_at w bytes) (is_in_range low high) (number_in w bytes)
-
-pub signed_in : (bytes : List ℕ) → IsInside (length bytes) (signed_at bytes)
-signed_in bytes =
-    next (length bytes) (number_at w64 bytes) (λ n. Ok (cast_signed w64 n.0, n.1)) (number_in w64 bytes) (λ x le. le)
-
-pub raw_word_in : (bytes : List ℕ) → IsInside (length bytes) (raw_word_at bytes)
-unfolding raw_word_at
-raw_word_in bytes = tested_in bytes (signed_at bytes) is_raw_word (signed_in bytes)
-
-pub entry_in : {A : Type 0} (table : List A) (bytes : List ℕ) → IsInside (length bytes) (entry_at table bytes)
-entry_in table bytes =
-    next (length bytes) (byte_at bytes) (λ b. found bytes (slice_get table b.0) >>= λ x. Ok (x, b.1)) (byte_in bytes)
-    (λ b le. finds (length bytes) bytes (slice_get table b.0) (λ x. Ok (x, b.1)) (omega arith) (λ x. le))
+pub tested_in : {A : Type 0} (left : List ℕ) (r : Reading A) (test : A → Bool)
+    → IsInside (length left) r
+    → IsInside (length left) (r >>= λ x. kept left (test x.0) x)
+tested_in left r test h =
+    next (length left) r (λ x. kept left (test x.0) x) h
+    (λ x le. keeps (length left) left (test x.0) x (omega arith) le)
 
 pub many_in : {A : Type 0} (one : List A → List ℕ → Reading A)
-    → ((front : List A) (bytes : List ℕ) → IsInside (length bytes) (one front bytes))
-    → (front : List A) (n : ℕ) (bytes : List ℕ)
-    → IsInside (length bytes) (many_at one front n bytes)
+    → ((front : List A) (left : List ℕ) → IsInside (length left) (one front left))
+    → (front : List A) (n : ℕ) (left : List ℕ)
+    → IsInside (length left) (many_at one front n left)
 unfolding many_at
-many_in one each front zero bytes = omega arith
-many_in one each front (suc n) bytes =
-    behind (length bytes) (one front bytes) (λ x. many_at one (front ++ x.0 ∷ []) n x.1) (each front bytes)
+many_in one each front zero left = omega arith
+many_in one each front (suc n) left =
+    behind (length left) (one front left) (λ x. many_at one (front ++ x.0 ∷ []) n x.1) (each front left)
     (λ x. many_in one each (front ++ x.0 ∷ []) n x.1)
+
+pub each_in : {A : Type 0} (one : List A → ℕ → List ℕ → Reading (List A))
+    → ((front : List A) (n : ℕ) (left : List ℕ) → IsInside (length left) (one front n left))
+    → (front : List A) (first count : ℕ) (left : List ℕ)
+    → IsInside (length left) (each_at one front first count left)
+unfolding each_at
+each_in one each front first zero left = omega arith
+each_in one each front first (suc n) left =
+    behind (length left) (one front first left) (λ x. each_at one x.0 (first + 1) n x.1) (each front first left)
+    (λ x. each_in one each x.0 (first + 1) n x.1)
+
+-- what is left of what was read
+pub at_ok : {A : Type 0} (size : ℕ) (r : Reading A) (x : A × List ℕ) → IsInside size r → r ≡ Ok x → length x.1 ≤ size
+at_ok {A} size r x h e = subst (λ (q : Reading A). IsInside size q) e h
+
+-- ---- a form
+
+-- the field is misread inside what is left
+abbrev pub StaysInside : {A : Type 0} → (List ℕ → Reading A) → Type 0
+StaysInside field = (left : List ℕ) → IsInside (length left) (field left)
+
+-- each field is misread inside what is left
+pub record InsideForm (form : FormAt) : Type 0 where
+  pub period : StaysInside form.period
+  pub unroll : StaysInside form.unroll
+  pub channels : StaysInside form.channels
+  pub width : StaysInside form.width
+  pub units : StaysInside form.units
+  pub kind : StaysInside form.kind
+  pub latency : StaysInside form.latency
+  pub gap : (latency : ℕ) → StaysInside (form.gap latency)
+  pub registers : StaysInside form.registers
+  pub cells : StaysInside form.cells
+  pub initial : (count : ℕ) → StaysInside (form.initial count)
+  pub ram : StaysInside form.ram
+  pub buses : StaysInside form.buses
+  pub operation : (k : Kind) → StaysInside (form.operation k)
+  pub format : (op : Op) → StaysInside (form.format op)
+  pub argument : (op : Op) (inputs outs : ℕ) → StaysInside (form.argument op inputs outs)
+  pub named : (files : List (List ℤ)) (reads : ℕ) → StaysInside (form.named files reads)
+  -- a kind and a latency take no less than the number of an acu's ram
+  pub start : (left : List ℕ) (k : Kind × List ℕ) (l : ℕ × List ℕ)
+      → form.kind left ≡ Ok k
+      → form.latency k.1 ≡ Ok l
+      → length l.1 + form.ram_length ≤ length left

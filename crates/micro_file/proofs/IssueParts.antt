@@ -18,24 +18,28 @@ use Rattle.fix_word.specs.declared.operation.Op.{Op}
 use Rattle.fix_word.specs.declared.operation.Op.TheVariants as op
 use Rattle.micro_image.specs.Fields.{nth}
 use Rattle.micro_image.specs.Operations.{is_formatted}
-use Rattle.micro_image.specs.Spells.{eight_bytes, mode_byte, spelled_format}
+use Rattle.micro_image.specs.Bytes.{one_byte, eight_bytes, format_bytes}
+use Rattle.micro_image.specs.Codes.{mode_number}
 use Rattle.micro_image.specs.Valid.{IsWithin, IsBelow, IsNoFormat, IsFormatWhere, IsFormatFor, IsArgument, AreRegisters}
 use Rattle.micro_file.specs.Tables.{modes}
-use Rattle.micro_file.specs.Fields.{Reading, kept, byte_at, byte_within, entry_at, many_at}
-use Rattle.micro_file.specs.Words.{some_format_at, no_format_at, format_at, is_below, is_argument, argument_at}
-use Rattle.micro_file.specs.Words.{register_at}
-use Rattle.micro_file.proofs.Readers.{IsBytes, Takes, ◌⨟◌, Took, IsReader, IsTestOf, tested, such_reader, so_spelled}
-use Rattle.micro_file.proofs.Readers.{ok_is, was_kept}
+use Rattle.micro_file.specs.Fields.{Reading, kept, is_below}
+use Rattle.micro_file.specs.Bytes.{byte_at, byte_within, entry_at, some_format_at, no_format_at, format_at, argument_at}
+use Rattle.micro_file.specs.Bytes.{register_at, registers_at}
+use Rattle.micro_file.specs.Arguments.{is_argument}
+use Rattle.packed_file.proofs.Bits.{IsDigits}
+use Rattle.micro_file.proofs.Readers.{byte_values, Takes, ◌⨟◌, Took, IsReader, IsTestOf, tested, such_reader}
+use Rattle.micro_file.proofs.Readers.{so_spelled, ok_is, was_kept}
+use Rattle.micro_file.proofs.FormReader.{HaveRegisters}
 use Rattle.micro_file.proofs.Several.{Grows, grows_at, grows_from, many_reader}
-use Rattle.micro_file.proofs.Leaves.{one_byte, byte_reader, within_reader, below_reader, signed_reader, raw_word_test}
+use Rattle.micro_file.proofs.Leaves.{byte_reader, within_reader, below_reader, signed_reader, raw_word_test}
 use Rattle.micro_file.proofs.Leaves.{word_fits, mode_reader}
 use Rattle.micro_file.proofs.Steps.{bound3, bound4, joined4}
 
 -- ---- formats
 
-byte_fits : (bytes : List ℕ) → IsBytes bytes → (x : ℕ × List ℕ) → byte_at bytes ≡ Ok x → x.0 < 256
+byte_fits : (bytes : List ℕ) → IsDigits byte_values bytes → (x : ℕ × List ℕ) → byte_at bytes ≡ Ok x → x.0 < 256
 byte_fits [] fits x e = absurd cc
-byte_fits (b ∷ bytes) fits x e = subst (λ (p : ℕ × List ℕ). p.0 < 256) (ok_is (b, bytes) x e) (fits.byte 0)
+byte_fits (b ∷ bytes) fits x e = subst (λ (p : ℕ × List ℕ). p.0 < 256) (ok_is (b, bytes) x e) (fits.digit 0)
 
 -- a shift that the processor has
 abbrev is_shift : ℤ → Bool
@@ -67,24 +71,24 @@ abbrev whole_format : ℕ × List ℕ → ℕ × List ℕ → Mode × List ℕ �
 whole_format b s m w = Ok (record { shift = cast_signed w8 s.0; mode = m.0; width = w.0 }, w.1)
 
 some_format_took : (bytes : List ℕ)
-    → IsBytes bytes
+    → IsDigits byte_values bytes
     → (x : Format × List ℕ)
     → some_format_at bytes ≡ Ok x
-    → Took IsFormat spelled_format bytes x
-unfolding some_format_at spelled_format
+    → Took byte_values IsFormat format_bytes bytes x
+unfolding some_format_at format_bytes
 some_format_took bytes fits x e =
     let s = bound4 (byte_at bytes) (shift_kept bytes) mode_behind width_behind whole_format x e in
     let b = byte_reader.took bytes fits s.0 s.4 in
     let k = was_kept bytes (is_shift (cast_signed w8 s.0.0)) s.0 s.1 s.5 in
-    let shift : Takes bytes (one_byte s.1.0) s.1.1 =
-    subst (λ (p : ℕ × List ℕ). Takes bytes (one_byte p.0) p.1) k.1 b.text in
+    let shift : Takes byte_values bytes (one_byte s.1.0) s.1.1 =
+    subst (λ (p : ℕ × List ℕ). Takes byte_values bytes (one_byte p.0) p.1) k.1 b.text in
     let good : is_shift (cast_signed w8 s.1.0) ≡ true =
     subst (λ (p : ℕ × List ℕ). is_shift (cast_signed w8 p.0) ≡ true) k.1 k.0 in
     let small : s.1.0 < 2 ^ 8 = subst (λ (p : ℕ × List ℕ). p.0 < 2 ^ 8) k.1 (byte_fits bytes fits s.0 s.4) in
     let m = mode_reader.took s.1.1 shift.rest_fits s.2 s.6 in
     let w = (within_reader 1 40).took s.2.1 m.text.rest_fits s.3 s.7 in
     let fmt : Format = record { shift = cast_signed w8 s.1.0; mode = s.2.0; width = s.3.0 } in
-    subst (λ (p : Format × List ℕ). Took IsFormat spelled_format bytes p) (ok_is (fmt, s.3.1) x s.8) (record {
+    subst (λ (p : Format × List ℕ). Took byte_values IsFormat format_bytes bytes p) (ok_is (fmt, s.3.1) x s.8) (record {
       allowed = record {
         lowest = shift_low fmt.shift good;
         highest = shift_high fmt.shift good;
@@ -95,17 +99,17 @@ some_format_took bytes fits x e =
 
 some_format_again : (fmt : Format) (rest : List ℕ)
     → IsFormat fmt
-    → some_format_at (spelled_format fmt ++ rest) ≡ Ok (fmt, rest)
-unfolding some_format_at spelled_format
+    → some_format_at (format_bytes fmt ++ rest) ≡ Ok (fmt, rest)
+unfolding some_format_at format_bytes
 some_format_again fmt rest ok =
     let back : cast_signed w8 (cast_unsigned w8 fmt.shift) ≡ fmt.shift =
     to_z-of_z w8 fmt.shift (shift_fits fmt.shift ok.lowest ok.highest) in
     let good : is_shift (cast_signed w8 (cast_unsigned w8 fmt.shift)) ≡ true =
     rw back (shift_is fmt.shift ok.lowest ok.highest) in
     let byte = cast_unsigned w8 fmt.shift in
-    joined4 (byte_at (byte ∷ mode_byte fmt.mode ∷ fmt.width ∷ rest))
-    (shift_kept (byte ∷ mode_byte fmt.mode ∷ fmt.width ∷ rest)) mode_behind width_behind whole_format
-    (byte, mode_byte fmt.mode ∷ fmt.width ∷ rest) (byte, mode_byte fmt.mode ∷ fmt.width ∷ rest)
+    joined4 (byte_at (byte ∷ mode_number fmt.mode ∷ fmt.width ∷ rest))
+    (shift_kept (byte ∷ mode_number fmt.mode ∷ fmt.width ∷ rest)) mode_behind width_behind whole_format
+    (byte, mode_number fmt.mode ∷ fmt.width ∷ rest) (byte, mode_number fmt.mode ∷ fmt.width ∷ rest)
     (fmt.mode, fmt.width ∷ rest) (fmt.width, rest)
     refl
     (rw good refl)
@@ -113,7 +117,7 @@ some_format_again fmt rest ok =
     ((within_reader 1 40).again fmt.width rest (ok.width.narrowest, ok.width.widest))
     ∙ rw back refl
 
-some_format_reader : IsReader IsFormat spelled_format some_format_at
+some_format_reader : IsReader byte_values IsFormat format_bytes some_format_at
 some_format_reader = record { took = some_format_took; again = some_format_again }
 
 abbrev no_format : Format
@@ -135,16 +139,16 @@ three_zeros : (bytes : List ℕ) (a b c : ℕ) (rest : List ℕ)
     → a ≡ 0
     → b ≡ 0
     → c ≡ 0
-    → Takes bytes (a ∷ b ∷ c ∷ []) rest
-    → Takes bytes (0 ∷ 0 ∷ 0 ∷ []) rest
+    → Takes byte_values bytes (a ∷ b ∷ c ∷ []) rest
+    → Takes byte_values bytes (0 ∷ 0 ∷ 0 ∷ []) rest
 three_zeros bytes a b c rest p q r h = rw (p, q, r) at h
 
 no_format_took : (bytes : List ℕ)
-    → IsBytes bytes
+    → IsDigits byte_values bytes
     → (x : Format × List ℕ)
     → no_format_at bytes ≡ Ok x
-    → Took IsNoFormat spelled_format bytes x
-unfolding no_format_at spelled_format
+    → Took byte_values IsNoFormat format_bytes bytes x
+unfolding no_format_at format_bytes
 no_format_took bytes fits x e =
     let s = bound3 (byte_within 0 0 bytes) zero_behind last_zero format_of_zeros x e in
     let a = (within_reader 0 0).took bytes fits s.0 s.3 in
@@ -153,23 +157,23 @@ no_format_took bytes fits x e =
     let zeros =
     three_zeros bytes s.0.0 s.1.0 s.2.0 s.2.1 (is_zero s.0.0 a.allowed) (is_zero s.1.0 b.allowed)
     (is_zero s.2.0 c.allowed) (a.text ⨟ b.text ⨟ c.text) in
-    subst (λ (p : Format × List ℕ). Took IsNoFormat spelled_format bytes p) (ok_is (no_format, s.2.1) x s.6)
+    subst (λ (p : Format × List ℕ). Took byte_values IsNoFormat format_bytes bytes p) (ok_is (no_format, s.2.1) x s.6)
     (record { allowed = refl; text = zeros })
 
-no_format_reader : IsReader IsNoFormat spelled_format no_format_at
-unfolding no_format_at spelled_format
+no_format_reader : IsReader byte_values IsNoFormat format_bytes no_format_at
+unfolding no_format_at format_bytes
 no_format_reader = record {
   took = no_format_took;
   again = λ fmt rest ok. rw ok refl;
 }
 
 format_where : (formatted : Bool)
-    → IsReader (IsFormatWhere formatted) spelled_format
+    → IsReader byte_values (IsFormatWhere formatted) format_bytes
     (λ bytes. cond formatted (some_format_at bytes) (no_format_at bytes))
 format_where true = some_format_reader
 format_where false = no_format_reader
 
-pub format_reader : (o : Op) → IsReader (IsFormatFor o) spelled_format (format_at o)
+pub format_reader : (o : Op) → IsReader byte_values (IsFormatFor o) format_bytes (format_at o)
 format_reader o = format_where (is_formatted o)
 
 -- ---- arguments
@@ -246,17 +250,13 @@ argument_fits op.Addr inputs outs z few less h = below_fits 65536 z (omega arith
 pub argument_reader : (o : Op) (inputs outs : ℕ)
     → inputs ≤ 65536
     → outs ≤ 65536
-    → IsReader (IsArgument o inputs outs) eight_bytes (argument_at o inputs outs)
+    → IsReader byte_values (IsArgument o inputs outs) eight_bytes (argument_at o inputs outs)
 unfolding argument_at
 argument_reader o inputs outs few less =
     such_reader (λ z h. h.1) (λ z h. (argument_fits o inputs outs z few less h, h))
     (tested signed_reader (argument_test o inputs outs))
 
 -- ---- registers
-
--- each file has a register
-abbrev pub HaveRegisters : List (List ℤ) → Type 0
-HaveRegisters files = (port : ℕ) → port < length files → 0 < length (nth files port [])
 
 -- how many registers a field may name
 abbrev choice : List (List ℤ) → ℕ → ℕ → ℕ
@@ -293,8 +293,12 @@ are_registers files read regs have count g = record {
   there = λ port lt. elim (cases_lt port read) [
     | inl below ↦ rw (← choice_read files read port below) (register_chosen files read regs g port (omega arith))
     | inr past ↦
-        omega
-        (arith, have port lt, choice_unread files read port past, register_chosen files read regs g port (omega arith))
+        omega (
+          arith,
+          (have port lt).0,
+          choice_unread files read port past,
+          register_chosen files read regs g port (omega arith),
+        )
   ];
   unread = λ port le lt.
       omega (arith, choice_unread files read port le, register_chosen files read regs g port (omega arith));
@@ -319,12 +323,12 @@ grown_registers files read regs ok = grows_from (NextRegister files read) [] reg
     subst (λ (p : ℕ). get_or regs port d < choice files read p) (sym (length-take-le port regs (omega arith))) at)
 
 -- bytes, one after another
-pub bytes_alone : (xs : List ℕ) → flat_map one_byte xs ≡ xs
+bytes_alone : (xs : List ℕ) → flat_map one_byte xs ≡ xs
 bytes_alone xs = flat_map_single (λ (x : ℕ). x) xs ∙ map-id xs
 
 pub registers_reader : (files : List (List ℤ)) (read : ℕ)
     → HaveRegisters files
-    → IsReader (AreRegisters files read) (λ regs. regs) (many_at (register_at files read) [] (length files))
+    → IsReader byte_values (AreRegisters files read) (λ regs. regs) (registers_at files read)
 registers_reader files read have =
     so_spelled bytes_alone (such_reader
     (λ regs h. are_registers files read regs have h.0 h.1)

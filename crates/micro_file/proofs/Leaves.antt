@@ -1,5 +1,5 @@
 -- The readers of single fields.
-use Rattle.std.proofs.Common.{◌≡◌, ℕ, suc, ◌+◌, ◌^◌, ◌<◌, ◌≤◌, Bool, true, false, cond, ltb, leb, eqb, List, [], ◌∷◌}
+use Rattle.std.proofs.Common.{◌≡◌, ℕ, suc, ◌+◌, ◌^◌, ◌<◌, ◌≤◌, Bool, true, false, cond, ltb, eqb, List, [], ◌∷◌}
 use Rattle.std.proofs.Common.{◌++◌, length, get_or, take, drop, map, Some, Result, Ok, Err, ℤ, pos, negsuc, refl, sym}
 use Rattle.std.proofs.Common.{ap, subst, arith}
 use Rattle.std.proofs.Math.Facts.{sfits_to_z}
@@ -25,31 +25,31 @@ use Rattle.fix_word.specs.declared.operation.Op.TheVariants as op
 use Rattle.operations.specs.declared.units.Kind.{Kind}
 use Rattle.operations.specs.declared.units.Kind.TheVariants as kind
 use Rattle.micro_image.specs.Operations.{opcode}
-use Rattle.micro_image.specs.Spells.{two_bytes, four_bytes, eight_bytes, kind_byte, mode_byte}
+use Rattle.micro_image.specs.Bytes.{one_byte, two_bytes, four_bytes, eight_bytes}
+use Rattle.micro_image.specs.Codes.{kind_number, mode_number}
 use Rattle.micro_image.specs.Valid.{IsWithin}
 use Rattle.micro_file.specs.Tables.{kinds, operations, modes}
 use Rattle.micro_file.specs.declared.misread.Misread.{Misread}
 use Rattle.micro_file.specs.declared.misread.Misread.TheVariants.{Short}
-use Rattle.micro_file.specs.Fields.{◌>>=◌, found, only_byte, byte_at, byte_within, byte_below, byte_upto, number_at}
-use Rattle.micro_file.specs.Fields.{number_within, signed_at, is_raw_word, raw_word_at, entry_at}
-use Rattle.micro_file.proofs.Readers.{IsBytes, IsBytes-take, IsBytes-drop, Took, IsReader, IsTestOf, tested}
+use Rattle.micro_file.specs.Fields.{◌>>=◌, found, is_raw_word}
+use Rattle.micro_file.specs.Bytes.{only_byte, byte_at, byte_within, byte_below, byte_upto, number_at, number_within}
+use Rattle.micro_file.specs.Bytes.{signed_at, raw_word_at, entry_at}
+use Rattle.packed_file.proofs.Bits.{IsDigits}
+use Rattle.micro_file.proofs.Readers.{byte_values, digits-take, digits-drop, Took, IsReader, IsTestOf, tested}
 use Rattle.micro_file.proofs.Readers.{such_reader, well, bound, ok_is, was_found, joined}
-
--- a field of one byte
-abbrev pub one_byte : ℕ → List ℕ
-one_byte b = b ∷ []
+use Rattle.micro_file.proofs.Tests.{below_test, upto_test}
 
 took_byte : (bytes : List ℕ)
-    → IsBytes bytes
+    → IsDigits byte_values bytes
     → (x : ℕ × List ℕ)
     → byte_at bytes ≡ Ok x
-    → Took (λ _. Unit {0}) one_byte bytes x
+    → Took byte_values (λ _. Unit {0}) one_byte bytes x
 took_byte [] fits x e = absurd cc
 took_byte (b ∷ bytes) fits x e =
-    subst (λ (p : ℕ × List ℕ). Took (λ (_ : ℕ). Unit {0}) one_byte (b ∷ bytes) p) (ok_is (b, bytes) x e)
-    (record { allowed = tt; text = record { parts = refl; rest_fits = record { byte = λ i. fits.byte (suc i) } } })
+    subst (λ (p : ℕ × List ℕ). Took byte_values (λ (_ : ℕ). Unit {0}) one_byte (b ∷ bytes) p) (ok_is (b, bytes) x e)
+    (record { allowed = tt; text = record { parts = refl; rest_fits = record { digit = λ i. fits.digit (suc i) } } })
 
-pub byte_reader : IsReader (λ _. Unit {0}) one_byte byte_at
+pub byte_reader : IsReader byte_values (λ _. Unit {0}) one_byte byte_at
 byte_reader = record {
   took = took_byte;
   again = λ b rest ok. refl;
@@ -63,34 +63,16 @@ in_range low high n e = grind (arith, nat_tests)
 to_range : (low high n : ℕ) → IsWithin low high n → is_in_range low high n ≡ true
 to_range low high n h = grind (arith, nat_tests)
 
-below_limit : (limit n : ℕ) → ltb n limit ≡ true → n < limit
-below_limit limit n e = grind (arith, nat_tests)
-
-to_limit : (limit n : ℕ) → n < limit → ltb n limit ≡ true
-to_limit limit n h = grind (arith, nat_tests)
-
-upto_limit : (limit n : ℕ) → leb n limit ≡ true → n ≤ limit
-upto_limit limit n e = grind (arith, nat_tests)
-
-to_upto : (limit n : ℕ) → n ≤ limit → leb n limit ≡ true
-to_upto limit n h = grind (arith, nat_tests)
-
-pub range_test : (low high : ℕ) → IsTestOf (is_in_range low high) (IsWithin low high)
+range_test : (low high : ℕ) → IsTestOf (is_in_range low high) (IsWithin low high)
 range_test low high = record {
   sound = λ n e. in_range low high n e;
   whole = λ n h. to_range low high n h;
 }
 
-pub below_test : (limit : ℕ) → IsTestOf (λ n. ltb n limit) (λ n. n < limit)
-below_test limit = record {
-  sound = λ n e. below_limit limit n e;
-  whole = λ n h. to_limit limit n h;
-}
-
-pub within_reader : (low high : ℕ) → IsReader (IsWithin low high) one_byte (byte_within low high)
+pub within_reader : (low high : ℕ) → IsReader byte_values (IsWithin low high) one_byte (byte_within low high)
 within_reader low high = such_reader (λ n h. h.1) (λ n h. (tt, h)) (tested byte_reader (range_test low high))
 
-pub below_reader : (limit : ℕ) → IsReader (λ n. n < limit) one_byte (byte_below limit)
+pub below_reader : (limit : ℕ) → IsReader byte_values (λ n. n < limit) one_byte (byte_below limit)
 below_reader limit = such_reader (λ n h. h.1) (λ n h. (tt, h)) (tested byte_reader (below_test limit))
 
 same_byte : (only n : ℕ) → eqb n only ≡ true → n ≡ only
@@ -99,30 +81,25 @@ same_byte only n e = grind (arith, nat_tests)
 byte_same : (only n : ℕ) → n ≡ only → eqb n only ≡ true
 byte_same only n h = grind (arith, nat_tests)
 
-pub or_misread : {A : Type 0} (misread : Misread) (b : Bool) (x y : A)
+or_misread : {A : Type 0} (misread : Misread) (b : Bool) (x y : A)
     → cond b (Ok x) (Err misread) ≡ well y
     → (b ≡ true) × (x ≡ y)
 or_misread misread true x y e = (refl, cc)
 or_misread misread false x y e = absurd cc
 
-pub only_reader : (misread : Misread) (only : ℕ) → IsReader (λ n. n ≡ only) one_byte (only_byte misread only)
+pub only_reader : (misread : Misread) (only : ℕ)
+    → IsReader byte_values (λ n. n ≡ only) one_byte (only_byte misread only)
 only_reader misread only = record {
   took = λ bytes fits x e.
       let s = bound (byte_at bytes) (λ (b : ℕ × List ℕ). cond (eqb b.0 only) (Ok b) (Err misread)) x e in
       let k = or_misread misread (eqb s.0.0 only) s.0 x s.2 in
       let t = byte_reader.took bytes fits s.0 s.1 in
-      subst (λ (a : ℕ × List ℕ). Took (λ (n : ℕ). n ≡ only) one_byte bytes a) k.1
+      subst (λ (a : ℕ × List ℕ). Took byte_values (λ (n : ℕ). n ≡ only) one_byte bytes a) k.1
       (record { allowed = same_byte only s.0.0 k.0; text = t.text });
   again = λ x rest ok. rw (byte_same only x ok) refl;
 }
 
-upto_test : (limit : ℕ) → IsTestOf (λ n. leb n limit) (λ n. n ≤ limit)
-upto_test limit = record {
-  sound = λ n e. upto_limit limit n e;
-  whole = λ n h. to_upto limit n h;
-}
-
-pub upto_reader : (limit : ℕ) → IsReader (λ n. n ≤ limit) one_byte (byte_upto limit)
+pub upto_reader : (limit : ℕ) → IsReader byte_values (λ n. n ≤ limit) one_byte (byte_upto limit)
 upto_reader limit = such_reader (λ n h. h.1) (λ n h. (tt, h)) (tested byte_reader (upto_test limit))
 
 -- ---- numbers of several bytes
@@ -130,34 +107,46 @@ upto_reader limit = such_reader (λ n h. h.1) (λ n h. (tt, h)) (tested byte_rea
 -- the numbers below the limit have the bytes of the width
 record IsWide (w : Width) (limit : ℕ) : Type 0 where
   len : (n : ℕ) → length (to_be_bytes w n) ≡ byte_len w
-  back : (bytes : List ℕ) → length bytes ≡ byte_len w → IsBytes bytes → to_be_bytes w (from_be_bytes w bytes) ≡ bytes
+  back : (bytes : List ℕ)
+      → length bytes ≡ byte_len w
+      → IsDigits byte_values bytes
+      → to_be_bytes w (from_be_bytes w bytes) ≡ bytes
   again : (n : ℕ) → n < limit → from_be_bytes w (to_be_bytes w n) ≡ n
-  below : (bytes : List ℕ) → IsBytes bytes → from_be_bytes w bytes < limit
+  below : (bytes : List ℕ) → IsDigits byte_values bytes → from_be_bytes w bytes < limit
 
 wide16 : IsWide w16 (2 ^ 16)
 wide16 = record {
   len = λ n. refl;
-  back = λ bytes len fits. be_bytes_2 bytes _ len fits.byte refl;
+  back = λ bytes len fits. be_bytes_2 bytes _ len fits.digit refl;
   again = λ n lt. from_be_bytes-to_be_bytes_2 n lt;
-  below = λ bytes fits. omega (arith, fits.byte 0, fits.byte 1);
+  below = λ bytes fits. omega (arith, fits.digit 0, fits.digit 1);
 }
 
 wide32 : IsWide w32 (2 ^ 32)
 wide32 = record {
   len = λ n. refl;
-  back = λ bytes len fits. be_bytes_4 bytes _ len fits.byte refl;
+  back = λ bytes len fits. be_bytes_4 bytes _ len fits.digit refl;
   again = λ n lt. from_be_bytes-to_be_bytes_4 n lt;
-  below = λ bytes fits. omega (arith, fits.byte 0, fits.byte 1, fits.byte 2, fits.byte 3);
+  below = λ bytes fits. omega (arith, fits.digit 0, fits.digit 1, fits.digit 2, fits.digit 3);
 }
 
 wide64 : IsWide w64 (2 ^ 64)
 wide64 = record {
   len = λ n. refl;
-  back = λ bytes len fits. be_bytes_8 bytes _ len fits.byte refl;
+  back = λ bytes len fits. be_bytes_8 bytes _ len fits.digit refl;
   again = λ n lt. from_be_bytes-to_be_bytes_8 n lt;
   below = λ bytes fits.
-      omega
-      (arith, fits.byte 0, fits.byte 1, fits.byte 2, fits.byte 3, fits.byte 4, fits.byte 5, fits.byte 6, fits.byte 7);
+      omega (
+        arith,
+        fits.digit 0,
+        fits.digit 1,
+        fits.digit 2,
+        fits.digit 3,
+        fits.digit 4,
+        fits.digit 5,
+        fits.digit 6,
+        fits.digit 7,
+      );
 }
 
 -- what is read, where there are enough bytes
@@ -171,10 +160,10 @@ guarded false x y e = (refl, cc)
 number_took : (w : Width) (limit : ℕ)
     → IsWide w limit
     → (bytes : List ℕ)
-    → IsBytes bytes
+    → IsDigits byte_values bytes
     → (x : ℕ × List ℕ)
     → number_at w bytes ≡ Ok x
-    → Took (λ n. n < limit) (to_be_bytes w) bytes x
+    → Took byte_values (λ n. n < limit) (to_be_bytes w) bytes x
 number_took w limit wide bytes fits x e =
     let g =
     guarded (ltb (length bytes) (byte_len w)) (from_be_bytes w (take (byte_len w) bytes), drop (byte_len w) bytes) x
@@ -182,12 +171,12 @@ number_took w limit wide bytes fits x e =
     let long : byte_len w ≤ length bytes = ltb-false _ _ g.0 in
     let front : to_be_bytes w (from_be_bytes w (take (byte_len w) bytes)) ≡ take (byte_len w) bytes =
     wide.back (take (byte_len w) bytes) (omega (arith, length-take (byte_len w) bytes))
-    (IsBytes-take (byte_len w) bytes fits) in
-    subst (λ (p : ℕ × List ℕ). Took (λ (n : ℕ). n < limit) (to_be_bytes w) bytes p) g.1 (record {
-      allowed = wide.below (take (byte_len w) bytes) (IsBytes-take (byte_len w) bytes fits);
+    (digits-take (byte_len w) bytes (omega arith) fits) in
+    subst (λ (p : ℕ × List ℕ). Took byte_values (λ (n : ℕ). n < limit) (to_be_bytes w) bytes p) g.1 (record {
+      allowed = wide.below (take (byte_len w) bytes) (digits-take (byte_len w) bytes (omega arith) fits);
       text = record {
         parts = rw front (sym (take-append-drop (byte_len w) bytes));
-        rest_fits = IsBytes-drop (byte_len w) bytes fits;
+        rest_fits = digits-drop (byte_len w) bytes fits;
       };
     })
 
@@ -208,16 +197,22 @@ number_again w limit wide n rest lt =
     )
     refl
 
-number_reader : (w : Width) (limit : ℕ) → IsWide w limit → IsReader (λ n. n < limit) (to_be_bytes w) (number_at w)
+number_reader : (w : Width) (limit : ℕ)
+    → IsWide w limit
+    → IsReader byte_values (λ n. n < limit) (to_be_bytes w) (number_at w)
 number_reader w limit wide = record { took = number_took w limit wide; again = number_again w limit wide }
 
-pub two_reader : (low high : ℕ) → high < 2 ^ 16 → IsReader (IsWithin low high) two_bytes (number_within w16 low high)
+pub two_reader : (low high : ℕ)
+    → high < 2 ^ 16
+    → IsReader byte_values (IsWithin low high) two_bytes (number_within w16 low high)
 unfolding two_bytes
 two_reader low high lt =
     such_reader (λ n h. h.1) (λ n h. (omega arith, h))
     (tested (number_reader w16 (2 ^ 16) wide16) (range_test low high))
 
-pub four_reader : (low high : ℕ) → high < 2 ^ 32 → IsReader (IsWithin low high) four_bytes (number_within w32 low high)
+pub four_reader : (low high : ℕ)
+    → high < 2 ^ 32
+    → IsReader byte_values (IsWithin low high) four_bytes (number_within w32 low high)
 unfolding four_bytes
 four_reader low high lt =
     such_reader (λ n h. h.1) (λ n h. (omega arith, h))
@@ -240,21 +235,21 @@ signed_again z rest fits =
     (number_again w64 (2 ^ 64) wide64 (cast_unsigned w64 z) rest (bits_below z fits)) (rw (to_z-of_z w64 z fits) refl)
 
 signed_took : (bytes : List ℕ)
-    → IsBytes bytes
+    → IsDigits byte_values bytes
     → (x : ℤ × List ℕ)
     → signed_at bytes ≡ Ok x
-    → Took (FitsSigned w64) eight_bytes bytes x
+    → Took byte_values (FitsSigned w64) eight_bytes bytes x
 unfolding eight_bytes
 signed_took bytes fits x e =
     let s = bound (number_at w64 bytes) (λ (n : ℕ × List ℕ). Ok (cast_signed w64 n.0, n.1)) x e in
     let t = number_took w64 (2 ^ 64) wide64 bytes fits s.0 s.1 in
-    subst (λ (p : ℤ × List ℕ). Took (FitsSigned w64) eight_bytes bytes p) (ok_is (cast_signed w64 s.0.0, s.0.1) x s.2)
-    (record {
+    subst (λ (p : ℤ × List ℕ). Took byte_values (FitsSigned w64) eight_bytes bytes p)
+    (ok_is (cast_signed w64 s.0.0, s.0.1) x s.2) (record {
       allowed = bits_fit s.0.0 t.allowed;
       text = rw (of_z-to_z w64 s.0.0 t.allowed) t.text;
     })
 
-pub signed_reader : IsReader (FitsSigned w64) eight_bytes signed_at
+pub signed_reader : IsReader byte_values (FitsSigned w64) eight_bytes signed_at
 signed_reader = record { took = signed_took; again = signed_again }
 
 raw_sound : (z : ℤ) → is_raw_word z ≡ true → IsMachineWord z
@@ -273,7 +268,7 @@ raw_word_test = record {
   whole = λ z h. raw_whole z h;
 }
 
-pub raw_word_reader : IsReader IsMachineWord eight_bytes raw_word_at
+pub raw_word_reader : IsReader byte_values IsMachineWord eight_bytes raw_word_at
 unfolding raw_word_at
 raw_word_reader = such_reader (λ z h. h.1) (λ z h. (word_fits z h, h)) (tested signed_reader raw_word_test)
 
@@ -286,13 +281,13 @@ record IsTable {A : Type 0} (table : List A) (byte : A → ℕ) : Type 0 where
 
 entry_reader : {A : Type 0} (table : List A) (byte : A → ℕ)
     → IsTable table byte
-    → IsReader (λ _. Unit {0}) (λ x. one_byte (byte x)) (entry_at table)
+    → IsReader byte_values (λ _. Unit {0}) (λ x. one_byte (byte x)) (entry_at table)
 entry_reader {A} table byte is = record {
   took = λ bytes fits x e.
       let s = bound (byte_at bytes) (λ (b : ℕ × List ℕ). found bytes (slice_get table b.0) >>= λ x. Ok (x, b.1)) x e in
       let t = byte_reader.took bytes fits s.0 s.1 in
       let u = bound (found bytes (slice_get table s.0.0)) (λ (y : A). Ok (y, s.0.1)) x s.2 in
-      subst (λ (p : A × List ℕ). Took (λ (_ : A). Unit {0}) (λ (y : A). one_byte (byte y)) bytes p)
+      subst (λ (p : A × List ℕ). Took byte_values (λ (_ : A). Unit {0}) (λ (y : A). one_byte (byte y)) bytes p)
       (ok_is (u.0, s.0.1) x u.2)
       (record { allowed = tt; text = rw (is.only s.0.0 u.0 (was_found bytes (slice_get table s.0.0) u.0 u.1)) t.text });
   again = λ x rest ok. rw (is.there x) refl;
@@ -315,7 +310,7 @@ place table byte count e b x h =
     let there : get_or (range_with_len 0 count) b 0 ≡ 0 + b = get_or-range_with_len 0 count b 0 (omega arith) in
     omega arith
 
-pub kind_there : (x : Kind) → slice_get kinds (kind_byte x) ≡ Some x
+pub kind_there : (x : Kind) → slice_get kinds (kind_number x) ≡ Some x
 kind_there kind.Input = refl
 kind_there kind.Output = refl
 kind_there kind.Rom = refl
@@ -326,11 +321,11 @@ kind_there kind.Ram = refl
 kind_there kind.Acu = refl
 
 -- the places of the table, one after the other
-kind_places : map kind_byte kinds ≡ range_with_len 0 8
+kind_places : map kind_number kinds ≡ range_with_len 0 8
 kind_places = refl
 
-kind_only : (b : ℕ) (x : Kind) → slice_get kinds b ≡ Some x → kind_byte x ≡ b
-kind_only b x e = place kinds kind_byte 8 kind_places b x e
+kind_only : (b : ℕ) (x : Kind) → slice_get kinds b ≡ Some x → kind_number x ≡ b
+kind_only b x e = place kinds kind_number 8 kind_places b x e
 
 operation_there : (x : Op) → slice_get operations (opcode x) ≡ Some x
 operation_there op.Input = refl
@@ -360,24 +355,24 @@ operation_places = refl
 operation_only : (b : ℕ) (x : Op) → slice_get operations b ≡ Some x → opcode x ≡ b
 operation_only b x e = place operations opcode 19 operation_places b x e
 
-mode_there : (x : Mode) → slice_get modes (mode_byte x) ≡ Some x
+mode_there : (x : Mode) → slice_get modes (mode_number x) ≡ Some x
 mode_there Trunc = refl
 mode_there Round = refl
 mode_there Sat = refl
 mode_there RoundSat = refl
 
 -- the places of the table, one after the other
-mode_places : map mode_byte modes ≡ range_with_len 0 4
+mode_places : map mode_number modes ≡ range_with_len 0 4
 mode_places = refl
 
-mode_only : (b : ℕ) (x : Mode) → slice_get modes b ≡ Some x → mode_byte x ≡ b
-mode_only b x e = place modes mode_byte 4 mode_places b x e
+mode_only : (b : ℕ) (x : Mode) → slice_get modes b ≡ Some x → mode_number x ≡ b
+mode_only b x e = place modes mode_number 4 mode_places b x e
 
-pub kind_reader : IsReader (λ _. Unit {0}) (λ k. one_byte (kind_byte k)) (entry_at kinds)
-kind_reader = entry_reader kinds kind_byte (record { there = kind_there; only = kind_only })
+pub kind_reader : IsReader byte_values (λ _. Unit {0}) (λ k. one_byte (kind_number k)) (entry_at kinds)
+kind_reader = entry_reader kinds kind_number (record { there = kind_there; only = kind_only })
 
-pub operation_reader : IsReader (λ _. Unit {0}) (λ o. one_byte (opcode o)) (entry_at operations)
+pub operation_reader : IsReader byte_values (λ _. Unit {0}) (λ o. one_byte (opcode o)) (entry_at operations)
 operation_reader = entry_reader operations opcode (record { there = operation_there; only = operation_only })
 
-pub mode_reader : IsReader (λ _. Unit {0}) (λ m. one_byte (mode_byte m)) (entry_at modes)
-mode_reader = entry_reader modes mode_byte (record { there = mode_there; only = mode_only })
+pub mode_reader : IsReader byte_values (λ _. Unit {0}) (λ m. one_byte (mode_number m)) (entry_at modes)
+mode_reader = entry_reader modes mode_number (record { there = mode_there; only = mode_only })

@@ -6,9 +6,9 @@ use Rattle.std.specs.List.{All, AllAdjacentBelow, flat_map}
 use Rattle.std.proofs.lemmas.List.{append-nil, length-take-le, get_or-take}
 use Rattle.std.proofs.lemmas.List.Concat.{flat_map-cons}
 use Rattle.std.proofs.lemmas.Option.{slice_get-get_or}
-use Rattle.micro_file.specs.Fields.{Reading, ◌>>=◌, many_at}
-use Rattle.micro_file.specs.Words.{last_of}
-use Rattle.micro_file.proofs.Readers.{IsBytes, Takes, ◌⨟◌, takes_none, IsReader, bound, ok_is, joined}
+use Rattle.packed_file.proofs.Bits.{IsDigits}
+use Rattle.micro_file.specs.Fields.{Reading, ◌>>=◌, many_at, last_of}
+use Rattle.micro_file.proofs.Readers.{Takes, ◌⨟◌, takes_none, IsReader, bound, ok_is, joined}
 
 -- each value is allowed behind those before it, the first ones being in front
 pub data Grows {A : Type 0} (Next : List A → A → Type 0) : List A → List A → Type 0 where
@@ -39,24 +39,24 @@ module _ {A : Type 0} (Next : List A → A → Type 0) where
 
 -- what was read behind those in front
 pub record Read {A : Type 0}
-    (Next : List A → A → Type 0) (spell : A → List ℕ) (front : List A) (count : ℕ) (bytes : List ℕ)
+    (base : ℕ) (Next : List A → A → Type 0) (spell : A → List ℕ) (front : List A) (count : ℕ) (bytes : List ℕ)
     (x : List A × List ℕ) : Type 0 where
   pub back : List A
   pub whole : x.0 ≡ front ++ back
   pub counted : length back ≡ count
   pub grows : Grows Next front back
-  pub text : Takes bytes (flat_map spell back) x.1
+  pub text : Takes base bytes (flat_map spell back) x.1
 
-module _ {A : Type 0} (Next : List A → A → Type 0) (spell : A → List ℕ) (one : List A → List ℕ → Reading A)
-    (each : (front : List A) → IsReader (Next front) spell (one front)) where
+module _ {base : ℕ} {A : Type 0} (Next : List A → A → Type 0) (spell : A → List ℕ) (one : List A → List ℕ → Reading A)
+    (each : (front : List A) → IsReader base (Next front) spell (one front)) where
   many_took : (front : List A) (count : ℕ) (bytes : List ℕ)
-      → IsBytes bytes
+      → IsDigits base bytes
       → (x : List A × List ℕ)
       → many_at one front count bytes ≡ Ok x
-      → Read Next spell front count bytes x
+      → Read base Next spell front count bytes x
   unfolding many_at
   many_took front zero bytes fits x e =
-      subst (λ (p : List A × List ℕ). Read Next spell front 0 bytes p) (ok_is (front, bytes) x e)
+      subst (λ (p : List A × List ℕ). Read base Next spell front 0 bytes p) (ok_is (front, bytes) x e)
       (record {
         back = [];
         whole = sym (append-nil front);
@@ -68,7 +68,7 @@ module _ {A : Type 0} (Next : List A → A → Type 0) (spell : A → List ℕ) 
       let s = bound (one front bytes) (λ (a : A × List ℕ). many_at one (front ++ a.0 ∷ []) count a.1) x e in
       let t = (each front).took bytes fits s.0 s.1 in
       let more = many_took (front ++ s.0.0 ∷ []) count s.0.1 t.text.rest_fits x s.2 in
-      let text : Takes bytes (spell s.0.0 ++ flat_map spell more.back) x.1 = t.text ⨟ more.text in
+      let text : Takes base bytes (spell s.0.0 ++ flat_map spell more.back) x.1 = t.text ⨟ more.text in
       record {
         back = s.0.0 ∷ more.back;
         whole = more.whole ∙ append_assoc front (s.0.0 ∷ []) more.back;
@@ -93,14 +93,14 @@ module _ {A : Type 0} (Next : List A → A → Type 0) (spell : A → List ℕ) 
       (many_again (front ++ x ∷ []) xs rest g ∙ ap (λ (ys : List A). Ok (ys, rest)) (append_assoc front (x ∷ []) xs))
 
   pub many_reader : (count : ℕ)
-      → IsReader (λ xs. (length xs ≡ count) × Grows Next [] xs) (flat_map spell) (many_at one [] count)
+      → IsReader base (λ xs. (length xs ≡ count) × Grows Next [] xs) (flat_map spell) (many_at one [] count)
   many_reader count = record {
     took = λ bytes fits x e.
         let r = many_took [] count bytes fits x e in
         let same : r.back ≡ x.0 = sym r.whole in
         record {
           allowed = subst (λ (xs : List A). (length xs ≡ count) × Grows Next [] xs) same (r.counted, r.grows);
-          text = subst (λ (xs : List A). Takes bytes (flat_map spell xs) x.1) same r.text;
+          text = subst (λ (xs : List A). Takes base bytes (flat_map spell xs) x.1) same r.text;
         };
     again = λ xs rest ok.
         subst (λ (n : ℕ). many_at one [] n (flat_map spell xs ++ rest) ≡ Ok (xs, rest)) ok.0
@@ -159,21 +159,21 @@ module _ {A : Type 0} (P : A → Type 0) (R : A → A → Type 0) where
 -- ---- a count, and that many values
 
 pub counted_by :
-    {A : Type 0} {P : ℕ → Type 0} {spell_count : ℕ → List ℕ} {count_at : List ℕ → Reading ℕ}
-    (counter : IsReader P spell_count count_at) (Q : List A → Type 0) (spell : A → List ℕ)
+    {base : ℕ} {A : Type 0} {P : ℕ → Type 0} {spell_count : ℕ → List ℕ} {count_at : List ℕ → Reading ℕ}
+    (counter : IsReader base P spell_count count_at) (Q : List A → Type 0) (spell : A → List ℕ)
     (several : ℕ → List ℕ → Reading (List A))
-    (each : (n : ℕ) → IsReader (λ xs. (length xs ≡ n) × Q xs) (flat_map spell) (several n))
-    → IsReader (λ xs. P (length xs) × Q xs) (λ xs. spell_count (length xs) ++ flat_map spell xs)
+    (each : (n : ℕ) → P n → IsReader base (λ xs. (length xs ≡ n) × Q xs) (flat_map spell) (several n))
+    → IsReader base (λ xs. P (length xs) × Q xs) (λ xs. spell_count (length xs) ++ flat_map spell xs)
     (λ bytes. count_at bytes >>= λ n. several n.0 n.1)
-counted_by {A} {P} {spell_count} {count_at} counter Q spell several each = record {
+counted_by {base} {A} {P} {spell_count} {count_at} counter Q spell several each = record {
   took = λ bytes fits x e.
       let s = bound (count_at bytes) (λ (n : ℕ × List ℕ). several n.0 n.1) x e in
       let t = counter.took bytes fits s.0 s.1 in
-      let m = (each s.0.0).took s.0.1 t.text.rest_fits x s.2 in
+      let m = (each s.0.0 t.allowed).took s.0.1 t.text.rest_fits x s.2 in
       record {
         allowed = (subst P (sym m.allowed.0) t.allowed, m.allowed.1);
         text =
-            subst (λ (n : ℕ). Takes bytes (spell_count n ++ flat_map spell x.0) x.1) (sym m.allowed.0)
+            subst (λ (n : ℕ). Takes base bytes (spell_count n ++ flat_map spell x.0) x.1) (sym m.allowed.0)
             (t.text ⨟ m.text);
       };
   again = λ xs rest ok.
@@ -181,14 +181,14 @@ counted_by {A} {P} {spell_count} {count_at} counter Q spell several each = recor
       (length xs, flat_map spell xs ++ rest) (Ok (xs, rest))
       (ap count_at (append_assoc (spell_count (length xs)) (flat_map spell xs) rest)
       ∙ counter.again (length xs) (flat_map spell xs ++ rest) ok.0)
-      ((each (length xs)).again xs rest (refl, ok.1));
+      ((each (length xs) ok.0).again xs rest (refl, ok.1));
 }
 
 pub counted :
-    {A : Type 0} {P : ℕ → Type 0} {spell_count : ℕ → List ℕ} {count_at : List ℕ → Reading ℕ}
-    (counter : IsReader P spell_count count_at) (Next : List A → A → Type 0) (spell : A → List ℕ)
-    (one : List A → List ℕ → Reading A) (each : (front : List A) → IsReader (Next front) spell (one front))
-    → IsReader (λ xs. P (length xs) × Grows Next [] xs) (λ xs. spell_count (length xs) ++ flat_map spell xs)
+    {base : ℕ} {A : Type 0} {P : ℕ → Type 0} {spell_count : ℕ → List ℕ} {count_at : List ℕ → Reading ℕ}
+    (counter : IsReader base P spell_count count_at) (Next : List A → A → Type 0) (spell : A → List ℕ)
+    (one : List A → List ℕ → Reading A) (each : (front : List A) → IsReader base (Next front) spell (one front))
+    → IsReader base (λ xs. P (length xs) × Grows Next [] xs) (λ xs. spell_count (length xs) ++ flat_map spell xs)
     (λ bytes. count_at bytes >>= λ n. many_at one [] n.0 n.1)
 counted counter Next spell one each =
-    counted_by counter (Grows Next []) spell (many_at one []) (many_reader Next spell one each)
+    counted_by counter (Grows Next []) spell (many_at one []) (λ n _. many_reader Next spell one each n)

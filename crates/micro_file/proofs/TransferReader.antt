@@ -1,58 +1,30 @@
--- The readers of enables and takes.
-use Rattle.std.proofs.Common.{◌≡◌, ℕ, ◌<◌, Bool, true, List, ◌∷◌, ◌++◌, length, Option, Some, None, Result, Ok, ℤ, refl}
-use Rattle.std.proofs.Common.{subst, ◌∙◌, arith}
+-- The readers of enables and takes of version 1.
+use Rattle.std.proofs.Common.{◌≡◌, ℕ, ◌<◌, List, ◌∷◌, ◌++◌, length, Result, Ok, ℤ, refl, subst, ◌∙◌, arith}
 use Rattle.std.specs.Prelude.{IsSomeAnd, slice_get}
-use Rattle.std.specs.List.{All, AllAdjacentBelow, flat_map}
-use Rattle.std.proofs.lemmas.Bool.Decides.{nat_tests}
+use Rattle.std.specs.List.{flat_map}
 use Rattle.micro_image.specs.declared.image.Image.{Image}
 use Rattle.micro_image.specs.declared.image.Enable.{Enable}
 use Rattle.micro_image.specs.declared.image.Take.{Take}
 use Rattle.micro_image.specs.declared.image.UnitDesc.{UnitDesc}
-use Rattle.micro_image.specs.Spells.{two_bytes, spelled_enable, spelled_take}
-use Rattle.micro_image.specs.Valid.{IsWithin, IsEnable, IsTake, IsRegister, EnableBefore, TakeBefore}
+use Rattle.micro_image.specs.Bytes.{two_bytes, enable_bytes, take_bytes}
+use Rattle.micro_image.specs.Valid.{IsEnable, IsTake, EnableBefore, TakeBefore}
 use Rattle.micro_file.specs.declared.misread.Misread.{Misread}
-use Rattle.micro_file.specs.Fields.{Reading, kept, found, byte_at, byte_below}
-use Rattle.micro_file.specs.Words.{enable_at, enables_at, take_at, takes_at, enable_before, take_before, is_next}
-use Rattle.micro_file.specs.Words.{last_of}
-use Rattle.micro_file.proofs.Readers.{IsBytes, ◌⨟◌, Took, IsReader, such_reader, was_kept, was_found, found_is}
-use Rattle.micro_file.proofs.Several.{counted, Behind, Rising, risen_all, risen_beside, grows_risen}
+use Rattle.micro_file.specs.Fields.{Reading, kept, found, last_of}
+use Rattle.micro_file.specs.Bytes.{byte_at, byte_below}
+use Rattle.micro_file.specs.Words.{enable_at, enables_at, take_at, takes_at}
+use Rattle.micro_file.specs.Order.{enable_before, take_before, is_next}
+use Rattle.packed_file.proofs.Bits.{IsDigits}
+use Rattle.micro_file.proofs.Readers.{byte_values, ◌⨟◌, Took, IsReader, such_reader, was_kept, was_found, found_is}
+use Rattle.micro_file.proofs.Several.{counted, Rising, risen_all, risen_beside, grows_risen}
 use Rattle.micro_file.proofs.Leaves.{byte_reader, below_reader, two_reader}
-use Rattle.micro_file.proofs.IssueReader.{some_and}
+use Rattle.micro_file.proofs.Issues.{some_and}
+use Rattle.micro_file.proofs.Transfers.{next_sound, next_whole, enable_sound, enable_whole, take_sound, take_whole}
+use Rattle.micro_file.proofs.Transfers.{is_register, AreEnables, AreTakes}
 use Rattle.micro_file.proofs.Steps.{bound2, joined2, bound6, joined6}
-
-next_sound : {A : Type 0} (before : A → A → Bool) (R : A → A → Type 0)
-    → ((a b : A) → before a b ≡ true → R a b)
-    → (o : Option A) (x : A)
-    → is_next before o x ≡ true
-    → Behind R o x
-next_sound before R sound None x e = tt
-next_sound before R sound (Some last) x e = sound last x e
-
-next_whole : {A : Type 0} (before : A → A → Bool) (R : A → A → Type 0)
-    → ((a b : A) → R a b → before a b ≡ true)
-    → (o : Option A) (x : A)
-    → Behind R o x
-    → is_next before o x ≡ true
-next_whole before R whole None x h = refl
-next_whole before R whole (Some last) x h = whole last x h
-
--- ---- enables
-
-enable_sound : (a b : Enable) → enable_before a b ≡ true → EnableBefore a b
-enable_sound a b e = grind (arith, nat_tests)
-
-enable_whole : (a b : Enable) → EnableBefore a b → enable_before a b ≡ true
-enable_whole a b h = grind (arith, nat_tests)
 
 module _ (image : Image) where
   abbrev bus_behind : ℕ × List ℕ → Reading ℕ
   bus_behind u = byte_below image.buses u.1
-
-  abbrev pub AreEnables : List Enable → Type 0
-  AreEnables enables =
-      IsWithin 0 1024 (length enables)
-      × All (IsEnable image) enables
-      × AllAdjacentBelow EnableBefore enables (length enables)
 
   module _ (front : List Enable) where
     abbrev whole_enable : List ℕ → ℕ × List ℕ → ℕ × List ℕ → Reading Enable
@@ -61,19 +33,20 @@ module _ (image : Image) where
         (record { unit = u.0; bus = b.0 }, b.1)
 
     enable_took : (bytes : List ℕ)
-        → IsBytes bytes
+        → IsDigits byte_values bytes
         → (x : Enable × List ℕ)
         → enable_at image front bytes ≡ Ok x
-        → Took (Rising (IsEnable image) EnableBefore front) spelled_enable bytes x
-    unfolding enable_at spelled_enable
+        → Took byte_values (Rising (IsEnable image) EnableBefore front) enable_bytes bytes x
+    unfolding enable_at enable_bytes
     enable_took bytes fits x e =
         let s = bound2 (byte_below (length image.units) bytes) bus_behind (whole_enable bytes) x e in
         let u = (below_reader (length image.units)).took bytes fits s.0 s.2 in
         let b = (below_reader image.buses).took s.0.1 u.text.rest_fits s.1 s.3 in
         let enable : Enable = record { unit = s.0.0; bus = s.1.0 } in
         let k = was_kept bytes (is_next enable_before (last_of front) enable) (enable, s.1.1) x s.4 in
-        subst (λ (p : Enable × List ℕ). Took (Rising (IsEnable image) EnableBefore front) spelled_enable bytes p) k.1
-        (record {
+        subst
+        (λ (p : Enable × List ℕ). Took byte_values (Rising (IsEnable image) EnableBefore front) enable_bytes bytes p)
+        k.1 (record {
           allowed = (
             record { unit = u.allowed; bus = b.allowed },
             next_sound enable_before EnableBefore enable_sound (last_of front) enable k.0,
@@ -83,8 +56,8 @@ module _ (image : Image) where
 
     enable_again : (enable : Enable) (rest : List ℕ)
         → Rising (IsEnable image) EnableBefore front enable
-        → enable_at image front (spelled_enable enable ++ rest) ≡ Ok (enable, rest)
-    unfolding enable_at spelled_enable
+        → enable_at image front (enable_bytes enable ++ rest) ≡ Ok (enable, rest)
+    unfolding enable_at enable_bytes
     enable_again enable rest ok =
         joined2 (byte_below (length image.units) (enable.unit ∷ enable.bus ∷ rest)) bus_behind
         (whole_enable (enable.unit ∷ enable.bus ∷ rest)) (enable.unit, enable.bus ∷ rest) (enable.bus, rest)
@@ -92,11 +65,13 @@ module _ (image : Image) where
         ((below_reader image.buses).again enable.bus _ ok.0.bus)
         ∙ rw (next_whole enable_before EnableBefore enable_whole (last_of front) enable ok.1) refl
 
-    enable_reader : IsReader (Rising (IsEnable image) EnableBefore front) spelled_enable (enable_at image front)
+    enable_reader :
+        IsReader byte_values (Rising (IsEnable image) EnableBefore front) enable_bytes (enable_at image front)
     enable_reader = record { took = enable_took; again = enable_again }
 
   pub enables_reader :
-      IsReader AreEnables (λ enables. two_bytes (length enables) ++ flat_map spelled_enable enables) (enables_at image)
+      IsReader byte_values (AreEnables image) (λ enables. two_bytes (length enables) ++ flat_map enable_bytes enables)
+      (enables_at image)
   unfolding enables_at
   enables_reader =
       such_reader
@@ -106,24 +81,10 @@ module _ (image : Image) where
         risen_beside (IsEnable image) EnableBefore enables h.1,
       ))
       (λ enables h. (h.0, grows_risen (IsEnable image) EnableBefore enables h.1 h.2))
-      (counted (two_reader 0 1024 (omega arith)) (Rising (IsEnable image) EnableBefore) spelled_enable (enable_at image)
+      (counted (two_reader 0 1024 (omega arith)) (Rising (IsEnable image) EnableBefore) enable_bytes (enable_at image)
       enable_reader)
 
 -- ---- takes
-
-take_sound : (a b : Take) → take_before a b ≡ true → TakeBefore a b
-take_sound a b e = grind (arith, nat_tests)
-
-take_whole : (a b : Take) → TakeBefore a b → take_before a b ≡ true
-take_whole a b h = grind (arith, nat_tests)
-
--- the register is there, where its unit and its file are
-is_register : (image : Image) (take : Take) (unit : UnitDesc) (file : List ℤ)
-    → slice_get image.units take.port.unit ≡ Some unit
-    → slice_get unit.files take.port.port ≡ Some file
-    → take.reg < length file
-    → IsRegister image take.port take.reg
-is_register image take unit file there has lt = rw (there, has) lt
 
 module _ (image : Image) where
   abbrev unit_of_take : List ℕ → ℕ × List ℕ → Result UnitDesc Misread
@@ -144,21 +105,17 @@ module _ (image : Image) where
   abbrev made_take : ℕ → ℕ → ℕ → ℕ → Take
   made_take unit port bus reg = record { port = record { unit = unit; port = port }; bus = bus; reg = reg }
 
-  abbrev pub AreTakes : List Take → Type 0
-  AreTakes takes =
-      IsWithin 0 1024 (length takes) × All (IsTake image) takes × AllAdjacentBelow TakeBefore takes (length takes)
-
   module _ (front : List Take) where
     abbrev whole_take : List ℕ → ℕ × List ℕ → UnitDesc → ℕ × List ℕ → List ℤ → ℕ × List ℕ → ℕ × List ℕ → Reading Take
     whole_take bytes n u p f b r =
         kept bytes (is_next take_before (last_of front) (made_take n.0 p.0 b.0 r.0)) (made_take n.0 p.0 b.0 r.0, r.1)
 
     take_took : (bytes : List ℕ)
-        → IsBytes bytes
+        → IsDigits byte_values bytes
         → (x : Take × List ℕ)
         → take_at image front bytes ≡ Ok x
-        → Took (Rising (IsTake image) TakeBefore front) spelled_take bytes x
-    unfolding take_at spelled_take
+        → Took byte_values (Rising (IsTake image) TakeBefore front) take_bytes bytes x
+    unfolding take_at take_bytes
     take_took bytes fits x e =
         let s =
         bound6 (byte_at bytes) (unit_of_take bytes) port_behind file_of_port bus_of_take register_behind
@@ -169,7 +126,8 @@ module _ (image : Image) where
         let r = (below_reader (length s.3)).took s.4.1 b.text.rest_fits s.5 s.11 in
         let take = made_take s.0.0 s.2.0 s.4.0 s.5.0 in
         let k = was_kept bytes (is_next take_before (last_of front) take) (take, s.5.1) x s.12 in
-        subst (λ (q : Take × List ℕ). Took (Rising (IsTake image) TakeBefore front) spelled_take bytes q) k.1 (record {
+        subst (λ (q : Take × List ℕ). Took byte_values (Rising (IsTake image) TakeBefore front) take_bytes bytes q)
+        k.1 (record {
           allowed = (
             record {
               register =
@@ -184,8 +142,8 @@ module _ (image : Image) where
 
     take_again : (take : Take) (rest : List ℕ)
         → Rising (IsTake image) TakeBefore front take
-        → take_at image front (spelled_take take ++ rest) ≡ Ok (take, rest)
-    unfolding take_at spelled_take
+        → take_at image front (take_bytes take ++ rest) ≡ Ok (take, rest)
+    unfolding take_at take_bytes
     take_again take rest ok =
         let bytes = take.port.unit ∷ take.port.port ∷ take.bus ∷ take.reg ∷ rest in
         let unit =
@@ -202,11 +160,12 @@ module _ (image : Image) where
         ((below_reader (length file.0)).again take.reg _ file.2)
         ∙ rw (next_whole take_before TakeBefore take_whole (last_of front) take ok.1) refl
 
-    take_reader : IsReader (Rising (IsTake image) TakeBefore front) spelled_take (take_at image front)
+    take_reader : IsReader byte_values (Rising (IsTake image) TakeBefore front) take_bytes (take_at image front)
     take_reader = record { took = take_took; again = take_again }
 
   pub takes_reader :
-      IsReader AreTakes (λ takes. two_bytes (length takes) ++ flat_map spelled_take takes) (takes_at image)
+      IsReader byte_values (AreTakes image) (λ takes. two_bytes (length takes) ++ flat_map take_bytes takes)
+      (takes_at image)
   unfolding takes_at
   takes_reader =
       such_reader
@@ -216,5 +175,5 @@ module _ (image : Image) where
         risen_beside (IsTake image) TakeBefore takes h.1,
       ))
       (λ takes h. (h.0, grows_risen (IsTake image) TakeBefore takes h.1 h.2))
-      (counted (two_reader 0 1024 (omega arith)) (Rising (IsTake image) TakeBefore) spelled_take (take_at image)
+      (counted (two_reader 0 1024 (omega arith)) (Rising (IsTake image) TakeBefore) take_bytes (take_at image)
       take_reader)

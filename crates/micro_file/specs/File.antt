@@ -1,65 +1,73 @@
--- The whole file.
-use Rattle.std.specs.Prelude.{ℕ, ◌*◌, List, [], length, Result, Ok, Err, Bool, ◌==◌, ◌||◌, if◌then◌else◌}
-use Rattle.std.specs.Int.{w16}
+-- The whole file: the magic bytes, SILM, the version, and what the version has behind them.
+use Rattle.std.specs.Prelude.{ℕ, ◌+◌, ◌/◌, ◌%◌, ◌==◌, if◌then◌else◌, List, length, take, drop, Result, Ok, Err}
+use Rattle.std.specs.List.{list_all}
 use Rattle.micro_image.specs.declared.image.Image.{Image}
+use Rattle.micro_image.specs.declared.version.Version.{Version}
+use Rattle.micro_image.specs.declared.version.Version.TheVariants.{One, Two}
+use Rattle.micro_image.specs.Spells.{bits_of}
 use Rattle.micro_file.specs.declared.misread.Misread.{Misread}
-use Rattle.micro_file.specs.declared.misread.Misread.TheVariants.{Magic, Version, Trailing}
-use Rattle.micro_file.specs.Fields.{Reading, ◌>>=◌, kept, only_byte, byte_at, byte_within, number_within, many_at}
-use Rattle.micro_file.specs.Units.{units_at}
+use Rattle.micro_file.specs.declared.misread.Misread.TheVariants as misread
+use Rattle.micro_file.specs.Bits.{at_bits}
+use Rattle.micro_file.specs.Bytes.{at_bytes, byte_at, only_byte}
+use Rattle.micro_file.specs.Fields.{Reading, ◌>>=◌, refused}
+use Rattle.micro_file.specs.Hardware.{image_at}
+use Rattle.micro_file.specs.PackedWords.{packed_word_at}
 use Rattle.micro_file.specs.Words.{word_at}
 
--- the magic bytes, SILM, and the version
-unfoldable pub head_at : List ℕ → Result (List ℕ) Misread
+-- the version of this number
+abbrev pub numbered : ℕ × List ℕ → Reading Version
+numbered n = if n.0 == 1 then Ok (One, n.1) else if n.0 == 2 then Ok (Two, n.1) else Err misread.Version
+
+-- the magic bytes and the version
+unfoldable pub head_at : List ℕ → Reading Version
 head_at bytes = do
-  s ← only_byte Magic 83 bytes
-  i ← only_byte Magic 73 s.1
-  l ← only_byte Magic 76 i.1
-  m ← only_byte Magic 77 l.1
-  version ← only_byte Version 1 m.1
-  Ok version.1
+  s ← only_byte misread.Magic 83 bytes
+  i ← only_byte misread.Magic 73 s.1
+  l ← only_byte misread.Magic 76 i.1
+  m ← only_byte misread.Magic 77 l.1
+  version ← byte_at m.1
+  numbered version
 
--- 1, 2 or 4
-abbrev pub is_unroll : ℕ → Bool
-is_unroll n = n == 1 || n == 2 || n == 4
+-- nothing is left behind the value
+abbrev pub ended : {A : Type 0} → A × List ℕ → Result A Misread
+ended x = if length x.1 == 0 then Ok x.0 else Err (misread.Trailing (length x.1))
 
--- the unroll factor: after how many samples the words repeat
-abbrev pub unroll_at : List ℕ → Reading ℕ
-unroll_at bytes = byte_at bytes >>= λ n. kept bytes (is_unroll n.0) n
+-- an image in bytes, and no byte behind it
+unfoldable pub bytes_at : List ℕ → Result Image Misread
+bytes_at bytes = image_at at_bytes word_at bytes >>= ended
 
--- a count, and this many widths
-unfoldable pub inputs_at : List ℕ → Reading (List ℕ)
-inputs_at bytes = byte_within 1 16 bytes >>= λ count. many_at (λ _. byte_within 0 40) [] count.0 count.1
+-- what is left behind zeros up to the end of the byte
+abbrev pub padding_at : List ℕ → Result (List ℕ) Misread
+padding_at bits =
+    if list_all (λ bit. bit == 0) (take (length bits % 8) bits) then Ok (drop (length bits % 8) bits) else refused bits
 
--- all but the words
-unfoldable pub hardware_at : List ℕ → Reading Image
-hardware_at bytes = do
-  period ← number_within w16 1 4096 bytes
-  unroll ← unroll_at period.1
-  inputs ← inputs_at unroll.1
-  outs ← byte_within 1 16 inputs.1
-  units ← units_at outs.1
-  buses ← byte_within 1 32 units.1
-  Ok (
-    record {
-      period = period.0;
-      unroll = unroll.0;
-      inputs = inputs.0;
-      outs = outs.0;
-      units = units.0;
-      buses = buses.0;
-      words = [];
-    },
-    buses.1,
-  )
+-- an image in bits, and nothing behind them but zeros to the end of the byte
+unfoldable pub bits_at : List ℕ → Result Image Misread
+bits_at bits = do
+  image ← image_at at_bits packed_word_at bits
+  rest ← padding_at image.1
+  ended (image.0, rest)
 
--- an image
-unfoldable pub image_at : List ℕ → Reading Image
-image_at bytes = do
-  rest ← head_at bytes
-  hardware ← hardware_at rest
-  words ← many_at (λ _. word_at hardware.0) [] (hardware.0.period * hardware.0.unroll) hardware.1
-  Ok (record hardware.0 { words = words.0 }, words.1)
+-- so many bits that are left begin in this many last bytes
+abbrev pub bytes_of : ℕ → ℕ
+bytes_of left = (left + 7) / 8
 
--- an image, and no byte behind it
+-- what was misread in bits, in bytes
+abbrev pub byte_misread : Misread → Misread
+byte_misread (misread.Field left) = misread.Field (bytes_of left)
+byte_misread (misread.Trailing left) = misread.Trailing (bytes_of left)
+byte_misread misread = misread
+
+-- what was read in bits, or why not, in bytes
+abbrev pub byte_placed : {A : Type 0} → Result A Misread → Result A Misread
+byte_placed (Ok x) = Ok x
+byte_placed (Err misread) = Err (byte_misread misread)
+
+-- what stands behind the version
+abbrev pub version_at : Version × List ℕ → Result Image Misread
+version_at (One, rest) = bytes_at rest
+version_at (Two, rest) = byte_placed (bits_at (bits_of rest))
+
+-- an image in either version
 unfoldable pub whole_at : List ℕ → Result Image Misread
-whole_at bytes = image_at bytes >>= λ x. if length x.1 == 0 then Ok x.0 else Err (Trailing (length x.1))
+whole_at bytes = head_at bytes >>= version_at

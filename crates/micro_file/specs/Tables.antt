@@ -1,4 +1,4 @@
--- What a byte of a file stands for, by its place: kinds of units, operations, modes.
+-- What a number of a file stands for, by its place: kinds of units, operations, modes.
 use Rattle.std.specs.Prelude.{List, [], ◌∷◌}
 use Rattle.fix_word.specs.declared.operation.Op.{Op}
 use Rattle.fix_word.specs.declared.operation.Op.TheVariants as op

@@ -1,131 +1,132 @@
 //! A microcode file to its image, or the first byte that is wrong.
 
-ghost use Rattle.std.specs.Prelude.{◌≡◌, ◌≢◌, ◌<◌, ◌^◌, ◌*◌, [], length, IfOk, IfErr, MatchResult};
-ghost use Rattle.micro_image.specs.Spells.{Spells};
+ghost use Rattle.std.specs.Prelude.{◌≡◌, ◌≢◌, ◌<◌, ◌^◌, ℕ, List, length, IfOk, IfErr, MatchResult};
+ghost use Rattle.micro_image.specs.Spells.{bits_of, Spells};
 ghost use Rattle.micro_file.specs.declared.fault.FormFault.TheVariants.{Memory};
-ghost use Rattle.micro_file.specs.Fields.{byte_within, many_at};
 ghost use Rattle.micro_file.specs.Faults.{placed, IsFormFault};
 ghost use Rattle.micro_file.specs.Private.Places.{IsIn};
 ghost use Rattle.micro_file.specs.Private.Reads.{Gives, Reads, Passes};
-ghost use Rattle.micro_file.specs.File.{head_at, unroll_at, inputs_at, hardware_at, image_at, whole_at};
+ghost use Rattle.micro_file.specs.File.{head_at, ended, bytes_at, padding_at, bits_at, bytes_of, byte_misread, byte_placed, whole_at};
 
+use crate::byte_reader::ByteReader;
 use crate::fault::FormFault;
+use crate::hardware::{read_hardware, word_count};
 use crate::misread::{Misread, Unread, refused};
-use crate::reader::Reader;
-use crate::units::read_units;
-use crate::words::read_words;
-use fix_word::MOST_BITS;
-use lists::List;
-use micro_image::Image;
+use crate::{bit_words, byte_words};
+use micro_image::{Image, Version};
+use packed_file::BitReader;
 use std::alloc::Global;
 
-/// The version of the format.
-const VERSION: u8 = 1;
+/// The bits of a byte.
+const BYTE: usize = 8;
 
-/// The longest period, in cycles.
-const MAX_PERIOD: u16 = 4096;
-
-/// The most input words, and the most output words.
-const MAX_CHANNELS: u8 = 16;
-
-/// The most buses.
-const MAX_BUSES: u8 = 32;
-
-/// Passes the magic bytes and the version.
+/// The magic bytes and the version.
 #[tactic(auto, unfolding(crate::specs::File::head_at))]
-fn pass_head(reader: &mut Reader<'_>) -> Result<(), Unread>
-    ensures { Passes head_at reader.old result reader.new }
+fn read_version(reader: &mut ByteReader<'_>) -> Result<Version, Unread>
+    ensures { Reads head_at reader.old result reader.new }
 {
     reader.only(Misread::Magic, b'S')?;
     reader.only(Misread::Magic, b'I')?;
     reader.only(Misread::Magic, b'L')?;
     reader.only(Misread::Magic, b'M')?;
-    reader.only(Misread::Version, VERSION)?;
-    Ok(())
+    match reader.byte()? {
+        1 => Ok(Version::One),
+        2 => Ok(Version::Two),
+        _ => Err(Unread::Misread(Misread::Version)),
+    }
 }
 
-/// The unroll factor.
-fn read_unroll(reader: &mut Reader<'_>) -> Result<u8, Unread>
-    ensures { Reads unroll_at reader.old result reader.new }
+/// The image, if nothing is left behind it.
+fn end(image: Image, left: usize) -> Result<Image, Unread>
+    ensures { (rest : List ℕ) → left ≡ length rest → Gives result (ended (image, rest)) }
 {
-    let left = reader.left();
-    let unroll = reader.byte()?;
-    if unroll == 1 || unroll == 2 || unroll == 4 {
-        Ok(unroll)
+    if left == 0 {
+        Ok(image)
+    } else {
+        Err(Unread::Misread(Misread::Trailing { left }))
+    }
+}
+
+/// An image in bytes, and nothing behind it.
+#[tactic(auto, unfolding(crate::specs::File::bytes_at))]
+fn read_bytes(alloc: Global, reader: &mut ByteReader<'_>) -> Result<Image, Unread>
+    ensures { Gives result (bytes_at reader.old) }
+{
+    let mut image = read_hardware(alloc, reader)?;
+    let words = byte_words::read_words(alloc, &image, word_count(&image), reader)?;
+    image.words = words;
+    end(image, reader.left())
+}
+
+/// Passes the bits up to the end of a byte, which are zeros.
+fn pass_padding(reader: &mut BitReader<'_>) -> Result<(), Unread>
+    ensures { Passes padding_at reader.old result reader.new }
+{
+    let left = reader.count();
+    if reader.passes_zeros((left % BYTE) as u32) {
+        Ok(())
     } else {
         Err(refused(left))
     }
 }
 
-fn read_widths(alloc: Global, count: usize, reader: &mut Reader<'_>) -> Result<List<u8>, Unread>
-    ensures { Reads (many_at (λ _. byte_within 0 40) [] count) reader.old result reader.new }
+/// An image in the packed bits of these bytes, and nothing behind them but zeros to the end of the byte.
+#[tactic(auto, unfolding(crate::specs::File::bits_at))]
+fn read_bits(alloc: Global, bytes: &[u8]) -> Result<Image, Unread>
+    requires { length bytes.now < 2 ^ 32 }
+    ensures { Gives result (bits_at (bits_of bytes.now)) }
 {
-    let mut widths = List::with_capacity(alloc, count)?;
-    for _ in 0..count {
-        let width = reader.byte_in(0, MOST_BITS)?;
-        widths.push(width)?;
-    }
-    Ok(widths)
-}
-
-#[tactic(auto, unfolding(crate::specs::File::inputs_at))]
-fn read_inputs(alloc: Global, reader: &mut Reader<'_>) -> Result<List<u8>, Unread>
-    ensures { Reads inputs_at reader.old result reader.new }
-{
-    let count = reader.byte_in(1, MAX_CHANNELS)?;
-    read_widths(alloc, usize::from(count), reader)
-}
-
-/// All but the words.
-#[tactic(auto, unfolding(crate::specs::File::hardware_at))]
-fn read_hardware(alloc: Global, reader: &mut Reader<'_>) -> Result<Image, Unread>
-    ensures { Reads hardware_at reader.old result reader.new }
-{
-    let period = reader.short_in(1, MAX_PERIOD)?;
-    let unroll = read_unroll(reader)?;
-    let inputs = read_inputs(alloc, reader)?;
-    let outs = reader.byte_in(1, MAX_CHANNELS)?;
-    let units = read_units(alloc, reader)?;
-    let buses = reader.byte_in(1, MAX_BUSES)?;
-    Ok(Image {
-        period,
-        unroll,
-        inputs,
-        outs,
-        units,
-        buses,
-        words: List::new(alloc),
-    })
-}
-
-fn word_count(image: &Image) -> usize
-    ensures { result ≡ image.now.period * image.now.unroll }
-{
-    usize::from(image.period) * usize::from(image.unroll)
-}
-
-#[tactic(auto, unfolding(crate::specs::File::image_at))]
-fn read_image(alloc: Global, reader: &mut Reader<'_>) -> Result<Image, Unread>
-    ensures { Reads image_at reader.old result reader.new }
-{
-    pass_head(reader)?;
-    let mut image = read_hardware(alloc, reader)?;
-    let words = read_words(alloc, &image, word_count(&image), reader)?;
+    let mut reader = BitReader::new(bytes);
+    let mut image = read_hardware(alloc, &mut reader)?;
+    let words = bit_words::read_words(alloc, &image, word_count(&image), &mut reader)?;
     image.words = words;
-    Ok(image)
+    pass_padding(&mut reader)?;
+    end(image, reader.count())
+}
+
+/// How many bytes the bits that are left begin in, if they are the last ones.
+fn bytes_of(left: usize) -> usize
+    ensures { result ≡ bytes_of left }
+{
+    left / BYTE + usize::from(left % BYTE != 0)
+}
+
+/// What was misread in bits, in bytes.
+fn in_bytes(misread: Misread) -> Misread
+    ensures { result ≡ byte_misread misread }
+{
+    match misread {
+        Misread::Field { left } => Misread::Field {
+            left: bytes_of(left),
+        },
+        Misread::Trailing { left } => Misread::Trailing {
+            left: bytes_of(left),
+        },
+        other => other,
+    }
+}
+
+/// An image in the packed bits of these bytes, and what was misread with its place in bytes.
+fn read_packed(alloc: Global, bytes: &[u8]) -> Result<Image, Unread>
+    requires { length bytes.now < 2 ^ 32 }
+    ensures { Gives result (byte_placed (bits_at (bits_of bytes.now))) }
+{
+    match read_bits(alloc, bytes) {
+        Ok(image) => Ok(image),
+        Err(Unread::Misread(misread)) => Err(Unread::Misread(in_bytes(misread))),
+        Err(Unread::Memory) => Err(Unread::Memory),
+    }
 }
 
 #[tactic(auto, unfolding(crate::specs::File::whole_at))]
 fn read_whole(alloc: Global, bytes: &[u8]) -> Result<Image, Unread>
+    requires { length bytes.now < 2 ^ 32 }
     ensures { Gives result (whole_at bytes.now) }
 {
-    let mut reader = Reader::new(bytes);
-    let image = read_image(alloc, &mut reader)?;
-    let left = reader.left();
-    if left == 0 {
-        Ok(image)
-    } else {
-        Err(Unread::Misread(Misread::Trailing { left }))
+    let mut reader = ByteReader::new(bytes);
+    match read_version(&mut reader)? {
+        Version::One => read_bytes(alloc, &mut reader),
+        Version::Two => read_packed(alloc, reader.rest()),
     }
 }
 
@@ -144,7 +145,7 @@ fn fault_at(misread: Misread, size: usize) -> FormFault
     }
 }
 
-/// The image that the bytes spell. Where they spell none, the fault is the first in reading order. `Memory` says that
+/// The image that the bytes spell in either version. Where they spell none, the fault is the first in reading order. `Memory` says that
 /// no memory was left.
 pub fn decode(alloc: Global, bytes: &[u8]) -> Result<Image, FormFault>
     requires { length bytes.now < 2 ^ 32 }

@@ -1,27 +1,6 @@
-//! Why an image has no file, and a file no image.
+//! Why a file is of no image.
 
-ghost use Rattle.std.specs.Prelude.{◌≡◌};
-
-use std::alloc::AllocError;
 use thiserror::Error;
-
-/// Why an image could not be encoded.
-#[derive(Clone, Copy, Debug, PartialEq, Eq, Error)]
-pub enum CodeFault {
-    /// No memory was left.
-    #[error("no memory")]
-    Memory,
-}
-
-impl From<AllocError> for CodeFault {
-    ghost use Rattle.micro_file.specs.declared.fault.CodeFault.TheVariants.{Memory};
-
-    ghost from_gives = { λ _ fault. fault ≡ Memory };
-
-    fn from(_: AllocError) -> CodeFault {
-        CodeFault::Memory
-    }
-}
 
 /// Why bytes could not be decoded: the first field, in reading order, that is not whole or not allowed, or the first
 /// byte behind the last.
@@ -36,7 +15,7 @@ pub enum FormFault {
     /// The bytes, which are this many, end before a field is whole.
     #[error("short at {0}")]
     Short(u32),
-    /// The field that begins at this byte is not allowed.
+    /// The field that begins in this byte is not allowed, or bits of this last byte should be zeros.
     #[error("bad field at {0}")]
     Field(u32),
     /// Bytes follow the last field, from this one on.

@@ -1,17 +1,22 @@
-//! Microcode files, version 1: an image as bytes, and bytes as the image that they spell.
+//! Microcode files: an image as the bytes of version 2, and the bytes of either version as the image that they spell.
 #![tactic(auto)]
 
+mod arguments;
+mod bit_fields;
+mod bit_words;
+mod byte_reader;
+mod byte_transfers;
+mod byte_words;
 mod decoder;
-mod encoder;
 mod fault;
-mod issues;
+mod fields;
+mod hardware;
 mod misread;
-mod reader;
-mod transfers;
+mod order;
+mod tables;
 mod units;
-mod words;
 
 pub use decoder::decode;
-pub use encoder::encode;
-pub use fault::{CodeFault, FormFault};
-pub use reader::OPERATIONS;
+pub use fault::FormFault;
+pub use packed_file::{CodeFault, encode};
+pub use tables::OPERATIONS;

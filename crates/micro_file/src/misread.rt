@@ -5,18 +5,19 @@ ghost use Rattle.micro_file.specs.declared.misread.Unread.TheVariants.{Misread a
 
 use std::alloc::{AllocError, AllocFailed};
 
-/// Why the bytes that are left do not begin with a field. Its place is told by how many bytes are left there.
+/// Why no field is in front of what is left, which is bytes in version 1 and bits in version 2. Its place is told by how
+/// much is left there.
 #[derive(Clone, Copy)]
 pub(crate) enum Misread {
     /// A byte of the magic is another.
     Magic,
     /// The version is another.
     Version,
-    /// The bytes end before the field is whole.
+    /// What is left ends before the field is whole.
     Short,
-    /// The field is not allowed. This many bytes are left from its first on.
+    /// The field is not allowed. So much is left where it begins.
     Field { left: usize },
-    /// Nothing should follow, and this many bytes are left.
+    /// Nothing should follow, and so much is left.
     Trailing { left: usize },
 }
 
@@ -27,7 +28,7 @@ pub(crate) enum Unread {
     Memory,
 }
 
-/// The field that begins where this many bytes are left is not allowed.
+/// The field that begins where so much is left is not allowed.
 // Inlined, it costs words of a thousand transfers 23 per cent more instructions.
 #[inline(never)]
 pub(crate) fn refused(left: usize) -> Unread

@@ -24,3 +24,8 @@ Reads field before (Err unread) after = Fails unread (field before)
 abbrev pub Passes : (List ℕ → Result (List ℕ) Misread) → List ℕ → Result (Unit {0}) Unread → List ℕ → Type 0
 Passes field before (Ok x) after = field before ≡ Ok after
 Passes field before (Err unread) after = Fails unread (field before)
+
+-- the same of a field whose value is what was put together
+abbrev pub Extends : {X : Type 0} → (List ℕ → Reading X) → List ℕ → Result (Unit {0}) Unread → X → List ℕ → Type 0
+Extends field before (Ok _) whole after = field before ≡ Ok (whole, after)
+Extends field before (Err unread) whole after = Fails unread (field before)

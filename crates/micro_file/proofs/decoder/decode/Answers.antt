@@ -2,7 +2,7 @@ use Rattle.std.proofs.Common.{sym, subst, ◌∙◌, arith}
 use Rattle.micro_file.specs.declared.misread.Unread.{Unread}
 use Rattle.micro_file.specs.File.{whole_at}
 use Rattle.micro_file.specs.Private.Reads.{Fails}
-use Rattle.micro_file.proofs.ImageReader.{whole_spells, spelled_whole}
+use Rattle.micro_file.proofs.FileReader.{whole_spells, spelled_whole}
 use Rattle.micro_file.proofs.InsideFile.{stops_inside}
 use Rattle.micro_file.proofs.Readers.{ok_is, not_both}
 use Rattle.micro_file.proofs.decoder.decode.Goals as goal
@@ -16,7 +16,7 @@ fault_at-requires-clause-inside c =
 
 pub returns-in-Ok-clause-spelled : goal.returns-in-Ok-clause-spelled
 returns-in-Ok-clause-spelled c =
-    whole_spells c.args.bytes.now (record { byte = λ i. omega (arith, c.type_inv.bytes i) }) c.in-Ok.image
+    whole_spells c.args.bytes.now (record { digit = λ i. omega (arith, c.type_inv.bytes i) }) c.in-Ok.image
     c.in-Ok.ensures
 
 pub returns-in-Ok-clause-every_spelling : goal.returns-in-Ok-clause-every_spelling

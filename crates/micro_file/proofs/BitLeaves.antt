@@ -1,0 +1,386 @@
+-- The readers of single fields of version 2, in bits.
+use Rattle.std.proofs.Common.{◌≡◌, ℕ, zero, suc, ◌+◌, ◌-◌, ◌/◌, ◌%◌, ◌^◌, ◌<◌, ◌≤◌, Bool, true, false, cond, ltb, List}
+use Rattle.std.proofs.Common.{[], ◌∷◌, ◌++◌, length, take, drop, Some, Ok, Err, ℤ, pos, negsuc, refl, sym, ap, subst}
+use Rattle.std.proofs.Common.{◌∙◌, arith, inl, inr}
+use Rattle.std.proofs.Math.Nat.{mod-eq_of_lt}
+use Rattle.std.proofs.lemmas.Bool.{ltb-false, le-ltb, lt-ltb, cases_lt}
+use Rattle.std.proofs.lemmas.Int.{ints}
+use Rattle.std.proofs.lemmas.List.{take_at, drop_at, take-append-drop, length-append, length-take}
+use Rattle.std.specs.Int.{w64, cast_unsigned}
+use Rattle.std.specs.Prelude.{slice_get}
+use Rattle.fix_word.specs.Words.{IsMachineWord}
+use Rattle.fix_word.specs.declared.operation.Op.{Op}
+use Rattle.fix_word.specs.declared.operation.Op.TheVariants as op
+use Rattle.fix_word.specs.declared.types.Mode.{Mode}
+use Rattle.fix_word.specs.declared.types.Mode.TheVariants.{Trunc, Round, Sat, RoundSat}
+use Rattle.operations.specs.declared.units.Kind.{Kind}
+use Rattle.operations.specs.declared.units.Kind.TheVariants as kind
+use Rattle.micro_image.specs.Bits.{bits, bits_less_1, signed_bits, raw_bits, choice_width, first_opcode, choice_bits}
+use Rattle.micro_image.specs.Codes.{kind_number, mode_number}
+use Rattle.micro_image.specs.Operations.{kind_of, opcode}
+use Rattle.micro_image.specs.Valid.{IsWithin, IsBelow}
+use Rattle.packed_file.proofs.Bits.{IsDigits, bits_back, bits_mod, number_below, number_bits}
+use Rattle.packed_file.proofs.Length.{length-bits}
+use Rattle.packed_file.specs.Numbers.{number_of, some_at, numbered}
+use Rattle.packed_file.specs.declared.fault.BitFault.TheVariants as fault
+use Rattle.micro_file.specs.Bits.{unless_short, number_at, number_less_1_at, number_upto, number_below as below_at}
+use Rattle.micro_file.specs.Bits.{number_less_1_upto, entry_at, as_raw_word, raw_word_at, operations_of, operation_at}
+use Rattle.micro_file.specs.Bits.{as_argument}
+use Rattle.micro_file.specs.Fields.{Reading, ◌>>=◌, found, element}
+use Rattle.micro_file.specs.Tables.{kinds, modes}
+use Rattle.micro_file.proofs.FormReader.{IsUnroll}
+use Rattle.micro_file.proofs.Readers.{bit_values, digits-take, digits-drop, Took, IsReader, bound, ok_is, was_found}
+use Rattle.micro_file.proofs.Readers.{joined, tested, such_reader, so_spelled}
+use Rattle.micro_file.proofs.Tests.{below_test, upto_test}
+
+-- ---- numbers
+
+-- a number is read only where there are enough bits
+enough : (short : Bool) (front behind : List ℕ) (x : ℕ × List ℕ)
+    → unless_short (numbered (cond short (Err fault.Short) (Ok (front, behind)))) ≡ Ok x
+    → (short ≡ false) × ((number_of front, behind) ≡ x)
+enough true front behind x e = absurd cc
+enough false front behind x e = (refl, cc)
+
+-- so many bits in front are those of the number that is read
+number_took : (w : ℕ) (left : List ℕ)
+    → IsDigits bit_values left
+    → (x : ℕ × List ℕ)
+    → number_at w left ≡ Ok x
+    → Took bit_values (λ n. n < 2 ^ w) (bits w) left x
+unfolding number_at some_at
+number_took w left fits x e =
+    let g = enough (ltb (length left) w) (take w left) (drop w left) x e in
+    let long : w ≤ length left = ltb-false _ _ g.0 in
+    let size : length (take w left) ≡ w = omega (arith, length-take w left) in
+    let digits = digits-take w left (omega arith) fits in
+    let back : bits w (number_of (take w left)) ≡ take w left =
+    ap (λ (k : ℕ). bits k (number_of (take w left))) (sym size) ∙ bits_back (take w left) digits in
+    let below : number_of (take w left) < 2 ^ w =
+    subst (λ (k : ℕ). number_of (take w left) < 2 ^ k) size (number_below (take w left) digits) in
+    subst (λ (p : ℕ × List ℕ). Took bit_values (λ (n : ℕ). n < 2 ^ w) (bits w) left p) g.1 (record {
+      allowed = below;
+      text = record { parts = rw back (sym (take-append-drop w left)); rest_fits = digits-drop w left fits };
+    })
+
+-- the bits of a number are read as the number
+number_again : (w n : ℕ) (rest : List ℕ) → n < 2 ^ w → number_at w (bits w n ++ rest) ≡ Ok (n, rest)
+unfolding number_at some_at
+number_again w n rest lt =
+    let size = length-bits w n in
+    let long : ltb (length (bits w n ++ rest)) w ≡ false = le-ltb _ _ (omega (arith, length-append (bits w n) rest)) in
+    let is : number_of (bits w n) ≡ n = number_bits w n ∙ mod-eq_of_lt lt in
+    rw (long, take_at (bits w n) rest w size, drop_at (bits w n) rest w size, is) refl
+
+-- a number of so many bits
+pub number_reader : (w : ℕ) → IsReader bit_values (λ n. n < 2 ^ w) (bits w) (number_at w)
+number_reader w = record { took = number_took w; again = number_again w }
+
+-- a number below a limit
+pub below_reader : (w limit : ℕ) → limit ≤ 2 ^ w → IsReader bit_values (λ n. n < limit) (bits w) (below_at w limit)
+below_reader w limit few =
+    such_reader (λ n h. h.1) (λ n h. (omega (arith, few), h)) (tested (number_reader w) (below_test limit))
+
+-- a number up to a limit
+pub upto_reader : (w limit : ℕ) → limit < 2 ^ w → IsReader bit_values (IsWithin 0 limit) (bits w) (number_upto w limit)
+upto_reader w limit few =
+    such_reader (λ n h. (omega arith, h.1)) (λ n h. (omega (arith, few), h.1))
+    (tested (number_reader w) (upto_test limit))
+
+-- ---- values that numbers stand for
+
+-- a value that another one stands for
+standing :
+    {base : ℕ} {A B : Type 0} {Allowed : A → Type 0} {spell : A → List ℕ} {read : List ℕ → Reading A}
+    (Such : B → Type 0) (to : A → B) (from : B → A)
+    → IsReader base Allowed spell read
+    → ((x : A) → Allowed x → Such (to x) × (from (to x) ≡ x))
+    → ((y : B) → Such y → Allowed (from y) × (to (from y) ≡ y))
+    → IsReader base Such (λ y. spell (from y)) (λ left. read left >>= λ x. Ok (to x.0, x.1))
+standing {base} {A} {B} {Allowed} {spell} {read} Such to from reader there back = record {
+  took = λ left fits y e.
+      let s = bound (read left) (λ (x : A × List ℕ). Ok (to x.0, x.1)) y e in
+      let t = reader.took left fits s.0 s.1 in
+      let h = there s.0.0 t.allowed in
+      subst (λ (p : B × List ℕ). Took base Such (λ (y : B). spell (from y)) left p) (ok_is (to s.0.0, s.0.1) y s.2)
+      (record { allowed = h.0; text = rw h.1 t.text });
+  again = λ y rest ok.
+      let h = back y ok in
+      joined (read (spell (from y) ++ rest)) (λ (x : A × List ℕ). Ok (to x.0, x.1)) (from y, rest) (Ok (y, rest))
+      (reader.again (from y) rest h.0) (rw h.1 refl);
+}
+
+-- a number that is never 0, and stands less 1
+pub less_1_reader : (w : ℕ) → IsReader bit_values (IsWithin 1 (2 ^ w)) (bits_less_1 w) (number_less_1_at w)
+less_1_reader w =
+    standing (IsWithin 1 (2 ^ w)) (λ n. n + 1) (λ n. n - 1) (number_reader w)
+    (λ n h. ((omega arith, omega arith), omega arith)) (λ n h. (omega arith, omega arith))
+
+-- the same up to a limit
+pub less_1_upto_reader : (w limit : ℕ)
+    → limit ≤ 2 ^ w
+    → IsReader bit_values (IsWithin 1 limit) (bits_less_1 w) (number_less_1_upto w limit)
+less_1_upto_reader w limit few =
+    such_reader (λ n h. (h.0.0, h.1)) (λ n h. ((h.0, omega (arith, few)), h.1))
+    (tested (less_1_reader w) (upto_test limit))
+
+-- an argument below a limit is the number that it is spelled by
+below_back : (limit : ℕ) (z : ℤ) → IsBelow limit z → (cast_unsigned w64 z < limit) × (pos (cast_unsigned w64 z) ≡ z)
+below_back limit (pos n) h = (h, refl)
+below_back limit (negsuc n) h = absurd h
+
+-- a number as an argument
+pub argument_of_reader : (w limit : ℕ) (read : List ℕ → Reading ℕ)
+    → IsReader bit_values (λ n. n < limit) (bits w) read
+    → IsReader bit_values (IsBelow limit) (signed_bits w) (λ left. as_argument (read left))
+argument_of_reader w limit read reader =
+    standing (IsBelow limit) (λ n. pos n) (λ z. cast_unsigned w64 z) reader
+    (λ n h. (h, refl)) (λ z h. below_back limit z h)
+
+-- ---- raw words
+
+-- the lowest bits of a raw word
+abbrev raw_number : ℤ → ℕ
+raw_number z = cast_unsigned w64 z % 2 ^ 40
+
+-- they are what spells it
+raw_bits_are : (z : ℤ) → bits 40 (raw_number z) ≡ raw_bits z
+raw_bits_are z = bits_mod 40 40 (cast_unsigned w64 z) (omega arith)
+
+-- the lower half of the numbers stand for themselves
+low_word : (n : ℕ) → n < 2 ^ 39 → as_raw_word n ≡ pos n
+low_word n lt = rw (lt-ltb n (2 ^ 39) lt) refl
+
+-- the upper half of them stand for negative words
+high_word : (n : ℕ) → 2 ^ 39 ≤ n → n < 2 ^ 40 → as_raw_word n ≡ negsuc (2 ^ 40 - 1 - n)
+high_word n le lt = rw (le-ltb n (2 ^ 39) le) (omega (arith, ints))
+
+-- the lowest bits of a word that is not negative
+low_number : (n : ℕ) → n < 2 ^ 40 → raw_number (pos n) ≡ n
+low_number n lt = mod-eq_of_lt lt
+
+-- the lowest bits of a negative word
+high_number : (k : ℕ) → k < 2 ^ 39 → raw_number (negsuc k) ≡ 2 ^ 40 - 1 - k
+high_number k lt = omega arith
+
+-- a number stands for a word whose bits are its own
+raw_there : (n : ℕ) → n < 2 ^ 40 → IsMachineWord (as_raw_word n) × (raw_number (as_raw_word n) ≡ n)
+raw_there n lt = elim (cases_lt n (2 ^ 39)) [
+  | inl less ↦
+      rw (low_word n less)
+      ((record { low = omega (arith, ints); high = omega (arith, ints) }, low_number n lt))
+  | inr le ↦
+      rw (high_word n le lt)
+      ((
+        record { low = omega (arith, ints); high = omega (arith, ints) },
+        omega (arith, high_number (2 ^ 40 - 1 - n) (omega arith)),
+      ))
+]
+
+-- a word is what its lowest bits stand for
+raw_back : (z : ℤ) → IsMachineWord z → (raw_number z < 2 ^ 40) × (as_raw_word (raw_number z) ≡ z)
+raw_back (pos n) h =
+    let lt : n < 2 ^ 39 = omega (arith, ints, h.high) in
+    rw (low_number n (omega arith)) ((omega arith, low_word n lt))
+raw_back (negsuc k) h =
+    let lt : k < 2 ^ 39 = omega (arith, ints, h.low) in
+    rw (high_number k lt)
+    ((omega arith, high_word (2 ^ 40 - 1 - k) (omega arith) (omega arith) ∙ ap (λ (j : ℕ). negsuc j) (omega arith)))
+
+-- a raw word
+pub raw_word_reader : IsReader bit_values IsMachineWord raw_bits raw_word_at
+unfolding raw_word_at
+raw_word_reader =
+    so_spelled raw_bits_are (standing IsMachineWord as_raw_word raw_number (number_reader 40) raw_there raw_back)
+
+-- ---- entries of a table
+
+-- the allowed elements are those of the table, each at its place, and so many bits hold a place
+record IsTable {A : Type 0} (Allowed : A → Type 0) (w : ℕ) (table : List A) (place : A → ℕ) : Type 0 where
+  there : (x : A) → Allowed x → slice_get table (place x) ≡ Some x
+  fits : (x : A) → Allowed x → place x < 2 ^ w
+  only : (k : ℕ) (x : A) → slice_get table k ≡ Some x → (place x ≡ k) × Allowed x
+
+-- an element of a table
+entry_reader : {A : Type 0} (Allowed : A → Type 0) (w : ℕ) (table : List A) (place : A → ℕ)
+    → IsTable Allowed w table place
+    → IsReader bit_values Allowed (λ x. bits w (place x)) (entry_at w table)
+entry_reader {A} Allowed w table place is = record {
+  took = λ left fits x e.
+      let s = bound (number_at w left) (λ (n : ℕ × List ℕ). element table left n) x e in
+      let t = number_took w left fits s.0 s.1 in
+      let u = bound (found left (slice_get table s.0.0)) (λ (y : A). Ok (y, s.0.1)) x s.2 in
+      let h = is.only s.0.0 u.0 (was_found left (slice_get table s.0.0) u.0 u.1) in
+      subst (λ (p : A × List ℕ). Took bit_values Allowed (λ (y : A). bits w (place y)) left p)
+      (ok_is (u.0, s.0.1) x u.2)
+      (record { allowed = h.1; text = rw h.0 t.text });
+  again = λ x rest ok.
+      let left = bits w (place x) ++ rest in
+      joined (number_at w left) (λ (n : ℕ × List ℕ). element table left n) (place x, rest)
+      (Ok (x, rest)) (number_again w (place x) rest (is.fits x ok)) (rw (is.there x ok) refl);
+}
+
+-- each element of a table, from this place on, is allowed and at its place
+abbrev Placed : {A : Type 0} → (A → Type 0) → (A → ℕ) → ℕ → List A → Type 0
+Placed Allowed place first [] = Unit {0}
+Placed Allowed place first (x ∷ xs) = ((place x ≡ first) × Allowed x) × Placed Allowed place (suc first) xs
+
+-- an element of such a table is allowed, and at its place
+placed_only : {A : Type 0} (Allowed : A → Type 0) (place : A → ℕ) (first : ℕ) (table : List A)
+    → Placed Allowed place first table
+    → (k : ℕ) (x : A)
+    → slice_get table k ≡ Some x
+    → (place x ≡ first + k) × Allowed x
+placed_only Allowed place first [] h k x e = absurd cc
+placed_only {A} Allowed place first (y ∷ ys) h zero x e =
+    let same : y ≡ x = cc in
+    subst (λ (z : A). (place z ≡ first + 0) × Allowed z) same ((omega (arith, h.0.0), h.0.1))
+placed_only Allowed place first (y ∷ ys) h (suc k) x e =
+    let more = placed_only Allowed place (suc first) ys h.1 k x e in
+    (omega (arith, more.0), more.1)
+
+-- the same of a whole table
+only_placed : {A : Type 0} (Allowed : A → Type 0) (place : A → ℕ) (table : List A)
+    → Placed Allowed place 0 table
+    → (k : ℕ) (x : A)
+    → slice_get table k ≡ Some x
+    → (place x ≡ k) × Allowed x
+only_placed Allowed place table h k x e =
+    let all = placed_only Allowed place 0 table h k x e in (omega (arith, all.0), all.1)
+
+-- each kind is in the table, and three bits hold its place
+kind_there : (x : Kind) → (slice_get kinds (kind_number x) ≡ Some x) × (kind_number x < 2 ^ 3)
+kind_there kind.Input = (refl, omega arith)
+kind_there kind.Output = (refl, omega arith)
+kind_there kind.Rom = (refl, omega arith)
+kind_there kind.Alu = (refl, omega arith)
+kind_there kind.Mul = (refl, omega arith)
+kind_there kind.Sel = (refl, omega arith)
+kind_there kind.Ram = (refl, omega arith)
+kind_there kind.Acu = (refl, omega arith)
+
+-- at its place
+placed : {n : ℕ} → (n ≡ n) × Unit {0}
+placed = (refl, tt)
+
+kinds_placed : Placed (λ _. Unit {0}) kind_number 0 kinds
+kinds_placed = (placed, (placed, (placed, (placed, (placed, (placed, (placed, (placed, tt))))))))
+
+-- a kind
+pub kind_reader : IsReader bit_values (λ _. Unit {0}) (λ k. bits 3 (kind_number k)) (entry_at 3 kinds)
+kind_reader = entry_reader (λ _. Unit {0}) 3 kinds kind_number (record {
+  there = λ x ok. (kind_there x).0;
+  fits = λ x ok. (kind_there x).1;
+  only = λ k x e. only_placed (λ _. Unit {0}) kind_number kinds kinds_placed k x e;
+})
+
+-- each mode is in the table, and two bits hold its place
+mode_there : (x : Mode) → (slice_get modes (mode_number x) ≡ Some x) × (mode_number x < 2 ^ 2)
+mode_there Trunc = (refl, omega arith)
+mode_there Round = (refl, omega arith)
+mode_there Sat = (refl, omega arith)
+mode_there RoundSat = (refl, omega arith)
+
+modes_placed : Placed (λ _. Unit {0}) mode_number 0 modes
+modes_placed = (placed, (placed, (placed, (placed, tt))))
+
+-- a mode
+pub mode_reader : IsReader bit_values (λ _. Unit {0}) (λ m. bits 2 (mode_number m)) (entry_at 2 modes)
+mode_reader = entry_reader (λ _. Unit {0}) 2 modes mode_number (record {
+  there = λ x ok. (mode_there x).0;
+  fits = λ x ok. (mode_there x).1;
+  only = λ k x e. only_placed (λ _. Unit {0}) mode_number modes modes_placed k x e;
+})
+
+-- the unroll factors
+abbrev factors : List ℕ
+factors = 1 ∷ 2 ∷ 4 ∷ []
+
+-- each unroll factor is in the table, and two bits hold its place
+factor_there : (n : ℕ) → IsUnroll n → (slice_get factors (n / 2) ≡ Some n) × (n / 2 < 2 ^ 2)
+factor_there n (inl is) = rw is ((refl, omega arith))
+factor_there n (inr (inl is)) = rw is ((refl, omega arith))
+factor_there n (inr (inr is)) = rw is ((refl, omega arith))
+
+factors_placed : Placed IsUnroll (λ n. n / 2) 0 factors
+factors_placed = ((refl, inl refl), ((refl, inr (inl refl)), ((refl, inr (inr refl)), tt)))
+
+-- an unroll factor
+pub unroll_reader : IsReader bit_values IsUnroll (λ n. bits 2 (n / 2)) (entry_at 2 factors)
+unroll_reader = entry_reader IsUnroll 2 factors (λ n. n / 2) (record {
+  there = λ x ok. (factor_there x ok).0;
+  fits = λ x ok. (factor_there x ok).1;
+  only = λ k x e. only_placed IsUnroll (λ n. n / 2) factors factors_placed k x e;
+})
+
+-- the place of an operation among its kind's
+abbrev choice_place : Op → ℕ
+choice_place o = opcode o - first_opcode (kind_of o)
+
+-- each operation is in its kind's table, and the bits of a choice hold its place
+operation_there : (o : Op)
+    → (slice_get (operations_of (kind_of o)) (choice_place o) ≡ Some o)
+    × (choice_place o < 2 ^ choice_width (kind_of o))
+operation_there op.Input = (refl, omega arith)
+operation_there op.Output = (refl, omega arith)
+operation_there op.Const = (refl, omega arith)
+operation_there op.Add = (refl, omega arith)
+operation_there op.Sub = (refl, omega arith)
+operation_there op.Neg = (refl, omega arith)
+operation_there op.Pass = (refl, omega arith)
+operation_there op.Lt = (refl, omega arith)
+operation_there op.Le = (refl, omega arith)
+operation_there op.Eq = (refl, omega arith)
+operation_there op.Ne = (refl, omega arith)
+operation_there op.And = (refl, omega arith)
+operation_there op.Or = (refl, omega arith)
+operation_there op.Not = (refl, omega arith)
+operation_there op.Mul = (refl, omega arith)
+operation_there op.Sel = (refl, omega arith)
+operation_there op.Load = (refl, omega arith)
+operation_there op.Store = (refl, omega arith)
+operation_there op.Addr = (refl, omega arith)
+
+-- at its place, and of its kind
+own : {n : ℕ} {k : Kind} → (n ≡ n) × (k ≡ k)
+own = (refl, refl)
+
+operations_placed : (k : Kind) → Placed (λ o. kind_of o ≡ k) choice_place 0 (operations_of k)
+operations_placed kind.Input = (own, tt)
+operations_placed kind.Output = (own, tt)
+operations_placed kind.Rom = (own, tt)
+operations_placed kind.Alu = (own, (own, (own, (own, (own, (own, (own, (own, (own, (own, (own, tt)))))))))))
+operations_placed kind.Mul = (own, tt)
+operations_placed kind.Sel = (own, tt)
+operations_placed kind.Ram = (own, (own, tt))
+operations_placed kind.Acu = (own, tt)
+
+-- the operations of a kind are a table
+operation_table : (k : Kind) → IsTable (λ o. kind_of o ≡ k) (choice_width k) (operations_of k) choice_place
+operation_table k = record {
+  there = λ o is. subst (λ (j : Kind). slice_get (operations_of j) (choice_place o) ≡ Some o) is (operation_there o).0;
+  fits = λ o is. subst (λ (j : Kind). choice_place o < 2 ^ choice_width j) is (operation_there o).1;
+  only = λ n o e. only_placed (λ o. kind_of o ≡ k) choice_place (operations_of k) (operations_placed k) n o e;
+}
+
+-- the same reader, where an allowed value is spelled the same
+spelled_where : {base : ℕ} {A : Type 0} {Allowed : A → Type 0} {spell other : A → List ℕ} {read : List ℕ → Reading A}
+    → ((x : A) → Allowed x → spell x ≡ other x)
+    → IsReader base Allowed spell read
+    → IsReader base Allowed other read
+spelled_where same reader = record {
+  took = λ left fits x e.
+      let t = reader.took left fits x e in record { allowed = t.allowed; text = rw (← same x.0 t.allowed) t.text };
+  again = λ x rest ok. rw (← same x ok) (reader.again x rest ok);
+}
+
+-- an operation of the kind is spelled by its place
+choice_bits_are : (k : Kind) (o : Op) → kind_of o ≡ k → bits (choice_width k) (choice_place o) ≡ choice_bits o
+unfolding choice_bits
+choice_bits_are k o is = ap (λ (j : Kind). bits (choice_width j) (choice_place o)) (sym is)
+
+-- an operation of a kind
+pub operation_reader : (k : Kind) → IsReader bit_values (λ o. kind_of o ≡ k) choice_bits (operation_at k)
+operation_reader k =
+    spelled_where (choice_bits_are k)
+    (entry_reader (λ o. kind_of o ≡ k) (choice_width k) (operations_of k) choice_place (operation_table k))

@@ -1,0 +1,10 @@
+use Rattle.std.proofs.Common.{◌≡◌, ◌-◌, []}
+use Rattle.micro_file.specs.Fields.{many_at}
+use Rattle.micro_file.proofs.hardware.read_widths.Given as goal
+
+abbrev pub invariant-loop : goal.invariant-loop
+invariant-loop g l =
+    let form = g.R.Fields.form in
+    let rest = g.R.Fields.rest in
+    many_at (λ _. form.width) l.widths (l.count - l.counter) (rest l.reader)
+    ≡ many_at (λ _. form.width) [] l.count (rest l.fn.reader)
