@@ -2,11 +2,12 @@
 use Rattle.std.proofs.Common.{sym, subst, List, ℕ}
 use Rattle.desk_core.specs.View.{Name, Content, View}
 use Rattle.loop_expand.proofs.ProgramSystem.{solves_system}
-use Rattle.micro_file.proofs.Unique.{Spells-unique}
+use Rattle.micro_file.proofs.Unique.{Spells-unique, in_either}
 use Rattle.micro_image.specs.Fields.{microprogram_of}
 use Rattle.micro_image.specs.Run.{IsRunOut}
-use Rattle.micro_image.specs.Spells.{Spells}
+use Rattle.micro_image.specs.Spells.{SpellsIn}
 use Rattle.micro_image.specs.declared.image.Image.{Image}
+use Rattle.micro_image.specs.declared.version.Version.TheVariants.{Two}
 use Rattle.plan_run.specs.Run.{RunsSolution}
 use Rattle.signal_graph.specs.declared.graph.Graph.{Graph}
 use Rattle.silage_syntax.specs.Tree.{Program}
@@ -16,8 +17,9 @@ use Rattle.loop_expand.specs.GraphFor.{IsGraphFor}
 use Rattle.plan_commands.specs.Planning.{IsReadPlan}
 use Rattle.plan_commands.specs.declared.planning.Planned.{Planned}
 
-pub spells_only : (bytes : List ℕ) (image : Image) → Spells bytes image → SpellsOnly bytes image
-spells_only bytes image is = record { spells = is; unique = λ other its. sym (Spells-unique bytes image other is its) }
+pub spells_only : (bytes : List ℕ) (image : Image) → SpellsIn Two bytes image → SpellsOnly bytes image
+spells_only bytes image is =
+    record { spells = is; unique = λ other its. sym (Spells-unique bytes image other (in_either is) its) }
 
 -- an image that runs the graph of a program runs the program's one solution
 pub runs_the_solution : (p : Program) (g : Graph) (image : Image)

@@ -5,7 +5,8 @@ use Rattle.datapath.specs.declared.types.Datapath.{Datapath}
 use Rattle.micro_image.specs.declared.image.Image.{Image}
 use Rattle.micro_image.specs.Fields.{microprogram_of}
 use Rattle.micro_image.specs.Run.{IsRunOut}
-use Rattle.micro_image.specs.Spells.{Spells}
+use Rattle.micro_image.specs.declared.version.Version.TheVariants.{Two}
+use Rattle.micro_image.specs.Spells.{SpellsIn, Spells}
 use Rattle.plan_core.specs.declared.plan.Plan.{Plan}
 use Rattle.plan_run.specs.ImageOf.{IsImageOf}
 use Rattle.silage_syntax.specs.Tree.{Program}
@@ -14,9 +15,9 @@ use Rattle.silage_meaning.specs.Solves.{IsStream, IsOneSolution, out}
 use Rattle.silc_files.specs.Limits.{microcode_limit}
 use Rattle.plan_commands.specs.Plans.{IsPlannedOver}
 
--- the bytes spell the image, and no other
+-- the bytes spell the image in version 2, and no other in any version
 pub record SpellsOnly (bytes : List ℕ) (image : Image) : Type 0 where
-  pub spells : Spells bytes image
+  pub spells : SpellsIn Two bytes image
   pub unique : (other : Image) → Spells bytes other → other ≡ image
 
 -- Over each stream of valid rows the program has exactly one solution, and the image, run without a conflict, puts
@@ -27,8 +28,8 @@ RunsTheSolution program image =
     → (words : Words) × IsOneSolution program stream words
     × IsRunOut (microprogram_of image) stream (out program words (length stream))
 
--- The program of the source has a plan over the datapath of the file. The microcode spells the image of that plan and
--- nothing else, and that image runs the program's one solution in the datapath's period.
+-- The program of the source has a plan over the datapath of the file. The microcode spells the image of that plan in
+-- version 2 and nothing else, and that image runs the program's one solution in the datapath's period.
 pub record IsCompiled (source datapath microcode : List ℕ) : Type 0 where
   pub program : Program
   pub path : Datapath

@@ -4,6 +4,7 @@ use Rattle.datapath.specs.declared.types.Datapath.{Datapath}
 use Rattle.desk_core.specs.View.{Name, Content, Files, View}
 use Rattle.desk_core.specs.Desk.{content_of}
 use Rattle.front_end.proofs.SoundGraph.{program_graph_sound, program_graph_loopless}
+use Rattle.micro_file.proofs.Unique.{in_either}
 use Rattle.plan_commands.specs.Compile.{IsCompileDone}
 use Rattle.plan_commands.specs.Headline.{IsCompiled}
 use Rattle.plan_commands.specs.Plans.{HasPlan}
@@ -43,5 +44,5 @@ compiled_plan src datapath out old new h files specified path plan has after tol
       is.image,
       compiled_image (content_of (files src)) (content_of (files datapath)) path plan has h.microcode is,
       subst (λ (bytes : Content). IsMicrocodeOf bytes is.image) here
-          (record { within = is.short; spells = is.spelled.spells }),
+          (record { within = is.short; spells = in_either is.spelled.spells }),
     )

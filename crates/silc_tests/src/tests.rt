@@ -115,7 +115,7 @@ to = [\"mem.0\"]
 ";
 
 /// How many bytes its microcode has.
-const SIZE: usize = 328;
+const SIZE: usize = 57;
 
 const COMPILE: [&str; 4] = ["compile", "SRC", "DP", "OUT"];
 
@@ -150,39 +150,31 @@ fn carry_out<D: Desk>(alloc: Global, words: &[&str], desk: &mut D) -> Result<Sta
     Ok(silc(alloc, &words, desk, &mut Kept::Nothing))
 }
 
-/// What OUT holds after the call of each number failed, with pieces of 100 bytes. SRC is opened and read twice, DP is
-/// opened and read four times, and then OUT is created, written four times and closed.
-const WRITTEN: [Option<usize>; 14] = [
-    None,
-    None,
-    None,
-    None,
-    None,
-    None,
-    None,
-    None,
-    None,
-    Some(0),
-    Some(100),
-    Some(200),
-    Some(300),
-    Some(SIZE),
-];
+/// How many calls read the inputs with pieces of 20 bytes: SRC is opened and read four times, DP is opened and read
+/// 16 times.
+const READING: usize = 22;
+
+/// How much of OUT is there where each of the calls behind them fails: OUT is created, written three times and closed.
+const WRITTEN: [Option<usize>; 5] = [None, Some(0), Some(20), Some(40), Some(SIZE)];
 
 #[test]
 fn a_call_that_fails_is_a_file_fault_and_leaves_a_prefix(rt: HostRuntime) -> Result<(), Fail> {
     let alloc = rt.alloc();
-    let mut whole = desk_with(alloc, 100, SOURCE)?;
+    let mut whole = desk_with(alloc, 20, SOURCE)?;
     assert_eq!(rt; carry_out(alloc, &COMPILE, &mut whole)?, Status::Done);
     let microcode = whole.get("OUT").ok_or("no file")?;
-    for (call, written) in WRITTEN.iter().enumerate() {
-        let mut desk = desk_with(alloc, 100, SOURCE)?;
+    for call in 0..READING + WRITTEN.len() {
+        let mut desk = desk_with(alloc, 20, SOURCE)?;
         desk.fail_at(call as u64)?;
         let status = carry_out(alloc, &COMPILE, &mut desk)?;
         assert_eq!(rt; status, Status::Desk, "call {call}");
         assert_eq!(rt; desk.faults(), 1, "call {call}");
+        let written = match call.checked_sub(READING) {
+            Some(behind) => *WRITTEN.get(behind).ok_or("no row")?,
+            None => None,
+        };
         let found = desk.get("OUT");
-        assert_eq!(rt; found.map(|bytes| bytes.len()), *written, "call {call}");
+        assert_eq!(rt; found.map(|bytes| bytes.len()), written, "call {call}");
         assert!(rt;
             found.is_none_or(|bytes| microcode.starts_with(bytes)),
             "call {call}"
@@ -191,8 +183,8 @@ fn a_call_that_fails_is_a_file_fault_and_leaves_a_prefix(rt: HostRuntime) -> Res
     Ok(())
 }
 
-/// How many bytes are printed where the call of each number fails, with pieces of 100 bytes. Both inputs are read as by
-/// `compile`, and then the plan is printed in three pieces.
+/// How many bytes are printed where the call of each number fails, with pieces of 100 bytes. SRC is opened and read
+/// twice, DP is opened and read four times, and then the plan is printed in three pieces.
 const PRINTED: [usize; 11] = [0, 0, 0, 0, 0, 0, 0, 0, 0, 100, 200];
 
 #[test]
@@ -214,13 +206,13 @@ fn a_call_that_fails_leaves_a_prefix_of_the_plan(rt: HostRuntime) -> Result<(), 
 }
 
 /// The commands, each with how many calls of a desk it takes with pieces of 100 bytes: an input is opened and read to its
-/// end (SRC in 3 calls, DP in 5, MIC in 6, SAMPLES in 3, TAPS in 6, PATH in 15), OUT is created, written in pieces and
+/// end (SRC in 3 calls, DP in 5, MIC in 3, SAMPLES in 3, TAPS in 6, PATH in 15), OUT is created, written in pieces and
 /// closed, a text is printed in pieces.
 const CALLS: [(&[&str], u64); 8] = [
-    (&COMPILE, 14),
+    (&COMPILE, 11),
     (&SCHEDULE, 11),
-    (&["list", "MIC"], 9),
-    (&["sim", "MIC", "SAMPLES", "OUT"], 12),
+    (&["list", "MIC"], 6),
+    (&["sim", "MIC", "SAMPLES", "OUT"], 9),
     (&["eval", "SRC", "SAMPLES", "OUT"], 9),
     (&["run", "SRC", "DP", "SAMPLES", "OUT"], 14),
     (&["run", "TAPS", "PATH", "SAMPLES", "OUT"], 27),
@@ -458,9 +450,9 @@ fn a_bad_row_leaves_the_rows_before_it(rt: HostRuntime) -> Result<(), Fail> {
     Ok(())
 }
 
-/// Which call closes ROWS, with pieces of 100 bytes: OUT is opened and read five times, SAMPLES is opened, ROWS created,
+/// Which call closes ROWS, with pieces of 100 bytes: OUT is opened and read twice, SAMPLES is opened, ROWS created,
 /// SAMPLES read once, and the row before the bad one written.
-const CLOSING: u64 = 10;
+const CLOSING: u64 = 7;
 
 #[test]
 fn a_close_that_fails_does_not_hide_a_bad_row(rt: HostRuntime) -> Result<(), Fail> {
@@ -549,6 +541,9 @@ fn samples_are_too_long_from_their_limit_on(rt: HostRuntime) -> Result<(), Fail>
     Ok(())
 }
 
+/// The byte of the microcode that says which units drive the bus in cycle 2; where it is 0x18, two do.
+const TWO_DRIVERS: usize = 34;
+
 #[test]
 fn a_conflict_comes_before_a_bad_row_behind_it(rt: HostRuntime) -> Result<(), Fail> {
     let alloc = rt.alloc();
@@ -556,9 +551,9 @@ fn a_conflict_comes_before_a_bad_row_behind_it(rt: HostRuntime) -> Result<(), Fa
     carry_out(alloc, &COMPILE, &mut desk)?;
     let compiled = desk.get("OUT").ok_or("no file")?;
     let mut microcode = Bytes::new(alloc);
-    microcode.extend_from_slice(compiled.get(..239).ok_or("short")?)?;
-    microcode.extend_from_slice(&[0, 2, 1, 0, 2, 0])?;
-    microcode.extend_from_slice(compiled.get(243..).ok_or("short")?)?;
+    microcode.extend_from_slice(compiled.get(..TWO_DRIVERS).ok_or("short")?)?;
+    microcode.push(0x18)?;
+    microcode.extend_from_slice(compiled.get(TWO_DRIVERS + 1..).ok_or("short")?)?;
     desk.put("OUT", &microcode)?;
     desk.put("SAMPLES", b"0\nx\n")?;
     let conflict = Conflict {

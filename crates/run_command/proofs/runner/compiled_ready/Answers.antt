@@ -1,5 +1,6 @@
 use Rattle.std.proofs.Common.{ap, inl, ◌∙◌}
 use Rattle.std.proofs.lemmas.Result.{err_from_is_err_and}
+use Rattle.micro_file.proofs.Unique.{in_either}
 use Rattle.statuses.specs.declared.status.Ending.{Ending}
 use Rattle.run_command.proofs.Executing.{compiled_machine, only_memory}
 use Rattle.run_command.proofs.runner.compiled_ready.Goals as goal
@@ -15,7 +16,7 @@ returns-in_err-machine-clause-err g c =
     let p = err_from_is_err_and c.from_residual-in_err-machine.result c.from_residual-in_err-machine.ensures.1 in
     let made = c.in_ok-microcode.ensures.ok in
     let memory =
-    only_memory c.in_ok-microcode.microcode made.image made.spelled.spells c.in_err-machine.field-0.0
+    only_memory c.in_ok-microcode.microcode made.image (in_either made.spelled.spells) c.in_err-machine.field-0.0
     c.in_err-machine.ensures.err in
     rw p.1 (inl (ap (λ (e : Ending). e.status) p.2 ∙ memory, c.in_ok-planned.ensures.reads.unchanged))
 
