@@ -1,10 +1,12 @@
 """Why a file is no microcode, and which parts of microcode are in conflict."""
 from explaining.kinds import other_kind
-from explaining.microcode import END, BadImage, image_of
 from explaining.refusals import CONFLICTS, MICROCODE
 from explaining.report import Report, counted, listed
+from micro_file import FIELD, MAGIC, SHORT, TRAILING, BadImage, image_of
 
 MOST_BYTES = 1 << 26
+# The version, in which fields have bits and no whole bytes. Bit 0 of a byte is its most significant.
+PLACE_OF_VERSION, PACKED, BITS = 4, 2, 8
 PORTS_OF_UNIT = 4
 
 
@@ -30,16 +32,18 @@ def bad_field(text, fault):
     cure = "compile the source again, or write what is allowed there."
     if not text.data:
         return Report("the file is empty", "compile the source again.", MICROCODE, about=text.name)
-    if fault.name == END:
-        return Report(f"the image ends at byte {fault.at}, and {counted(fault.size, 'byte follows', 'bytes follow')}",
+    if fault.kind == TRAILING:
+        return Report(f"the image ends at byte {fault.at}, and {counted(fault.found, 'byte follows', 'bytes follow')}",
                       f"take away what comes from byte {fault.at} on.", MICROCODE, about=text.name)
-    if fault.found is None:
+    if fault.kind == SHORT:
         return Report(f"the file ends at byte {fault.at}, inside {fault.name}",
                       "compile the source again: the file was cut off.", MICROCODE, about=text.name)
-    if isinstance(fault.found, bytes):
+    if fault.kind == MAGIC:
         return Report(f"a microcode file begins with `SILM`, and this one with {shown_bytes(fault.found)}",
                       "give a file that `silc compile` has written.", MICROCODE, about=text.name)
-    return Report(f"byte {fault.at} is {fault.name}, which is {fault.allowed}, and {fault.found} stands there", cure, MICROCODE,
+    is_packed = fault.kind == FIELD and text.data[PLACE_OF_VERSION] == PACKED
+    place = f"bit {fault.bit % BITS} of byte {fault.at} begins" if is_packed else f"byte {fault.at} is"
+    return Report(f"{place} {fault.name}, which is {fault.allowed}, and {fault.found} stands there", cure, MICROCODE,
                   about=text.name)
 
 
@@ -71,7 +75,7 @@ class Conflict:
         """The issue on a unit in a cycle."""
         if cycle < 0:
             return None
-        return next((issue for issue in self.at(cycle).issues if issue.unit == unit), None)
+        return self.at(cycle).issues.get(unit)
 
     def begun(self, unit):
         """The issue whose result a unit has in the cycle of the conflict, or nothing."""
@@ -102,7 +106,7 @@ class Conflict:
         return report.note(f"In cycle {self.cycle} it begins `{self.issue(self.cycle, self.place).text()}`.")
 
     def two_drivers(self):
-        units = [unit for unit, bus in self.at(self.cycle).drives if bus == self.place]
+        units = self.at(self.cycle).drivers(self.place)
         report = Report(f"{listed(map(self.unit, units))} drive bus {self.place} in one cycle",
                         "drive another bus with one of them, or issue one of the two in another cycle.", CONFLICTS)
         for unit in units:
@@ -124,16 +128,16 @@ class Conflict:
         return report
 
     def on_bus(self, bus):
-        unit = next((unit for unit, driven in self.at(self.cycle).drives if driven == bus), None)
+        unit = next(iter(self.at(self.cycle).drivers(bus)), None)
         return "a word that nothing drives" if unit is None else f"{self.result(unit)} on {self.unit(unit)}"
 
     def no_driver(self):
-        takes = [take for take in self.at(self.cycle).takes if take[2] == self.place]
+        takes = [take for take in self.at(self.cycle).takes if take.bus == self.place]
         report = Report(f"nothing drives bus {self.place}, and {counted(len(takes), 'register takes', 'registers take')} from it",
                         f"let a unit drive bus {self.place} in this cycle, or leave the take out.", CONFLICTS)
         for unit, port, _, register in takes:
             report.note(f"Register {register} at {unit}.{port} takes from it.")
-        drives = self.at(self.cycle).drives
+        drives = self.at(self.cycle).enables
         ready = next((unit for unit in range(len(self.image.units)) if self.begun(unit)), None)
         if ready is not None:
             report.cure = f"let unit {ready} drive bus {self.place} in this cycle, or leave the take out."
@@ -144,7 +148,7 @@ class Conflict:
     def no_result(self):
         unit = self.image.units[self.place]
         begun = self.cycle - unit.latency + 1
-        buses = [bus for number, bus in self.at(self.cycle).drives if number == self.place]
+        buses = [bus for number, bus in self.at(self.cycle).enables if number == self.place]
         report = Report(f"{self.unit(self.place)} drives {listed([f'bus {bus}' for bus in buses])}, and has no result in this cycle",
                         f"drive the bus in the cycle of the result, which is there {counted(unit.latency - 1, 'cycle')} after its "
                         f"issue and then no more, or leave the drive out.", CONFLICTS)
@@ -158,10 +162,12 @@ class Conflict:
     def address(self):
         unit, issue = self.image.units[self.place], self.issue(self.cycle, self.place)
         register = issue.registers[0]
-        report = Report(f"`{issue.text()}` on {self.unit(self.place)} has an address that is not 0 to {unit.cells - 1}",
-                        f"write an address from 0 to {unit.cells - 1} into register {register} at {self.place}.0: an acu makes "
+        last = len(unit.cells) - 1
+        report = Report(f"`{issue.text()}` on {self.unit(self.place)} has an address that is not 0 to {last}",
+                        f"write an address from 0 to {last} into register {register} at {self.place}.0: an acu makes "
                         f"no other.", CONFLICTS)
-        report.note(f"The unit has {counted(unit.cells, 'cell')}, and reads the address from register {register} at {self.place}.0.")
+        report.note(f"The unit has {counted(len(unit.cells), 'cell')}, and reads the address from register {register} "
+                    f"at {self.place}.0.")
         written = self.last_write(self.place, 0, register)
         return report.note(written) if written else report.note("Nothing was written there before: it has its first word.")
 

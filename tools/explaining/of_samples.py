@@ -34,7 +34,7 @@ class Channel:
 def channels_of(case):
     """The input words of the command: of the source, or of the microcode."""
     if "MIC" in case.files:
-        from explaining.microcode import image_of
+        from micro_file import image_of
         return [Channel(f"word {k}", width, None) for k, width in enumerate(image_of(case.text("MIC").data).inputs)]
     from explaining.program import Source, element_name
     made = []

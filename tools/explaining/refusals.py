@@ -39,7 +39,7 @@ def planning(section):
 
 
 COMMANDS_PAGE = 'docs/COMMANDS.md, "One by one"'
-MICROCODE = 'docs/MICROCODE.md, "The microcode file, version 1"'
+MICROCODE = 'docs/MICROCODE.md, "What is refused"'
 CONFLICTS = 'docs/MACHINE.md, "Conflicts"'
 ROWS = 'docs/SAMPLES.md, "What a row is"'
 
@@ -103,7 +103,7 @@ REFUSALS = [
     Refusal(9, "file full PORT at node NODE", "A register file has no register left for a word.", planning("Registers")),
     Refusal(10, "microcode too long", "A microcode file has at most 64 MiB.", MICROCODE),
     Refusal(10, "bad magic", "The file does not begin with the letters of microcode.", MICROCODE),
-    Refusal(10, "bad version", "The microcode is of another version of the format.", MICROCODE),
+    Refusal(10, "bad version", "The microcode is of a version that is not known: there are 1 and 2.", MICROCODE),
     Refusal(10, "short at N", "The file ends before it holds an image.", MICROCODE),
     Refusal(10, "bad field at N", "A field has what it cannot have.", MICROCODE),
     Refusal(10, "trailing bytes at N", "Bytes follow the image.", MICROCODE),

@@ -7,17 +7,19 @@ import re
 import tomllib
 from dataclasses import dataclass
 
-from explaining.microcode import BadImage, image_of
 from fuzzing import damage, datapaths, images, plans, samples, sources
 from fuzzing.running import CONFLICT, DONE, SAMPLES
+from micro_file import NEWEST, VERSIONS, BadImage, bytes_of, image_of
 
-KINDS = ("sources", "datapaths", "microcode", "samples")
+KINDS = ("sources", "datapaths", "microcode", "samples", "damaged")
 ALL = "all"
 OLDER = [None, None, b"older\n"]
+PLACE_OF_VERSION = 4
 # Places that a text of the same program may have elsewhere.
 PLACE = re.compile(rb"line \d+: ")
 BAD_ROW = re.compile(rb"silc: samples line (\d+) byte \d+\n")
 AT_CYCLE = re.compile(rb"silc: conflict at cycle (\d+): ")
+PLACE_IN_FILE = re.compile(rb"silc: (short|bad field|trailing bytes) at (\d+)\n")
 HEAD = re.compile(rb"period (\d+) unroll \d+ inputs (\d+) outputs (\d+) ")
 INCREMENT = b"func main(x : fix<8,0>) y : fix<8,0> = begin y = x + 1; end;\n"
 
@@ -35,7 +37,8 @@ class Case:
         """Makes the files of the case in the room, and raises Broken where something does not hold."""
         kind = KINDS[self.number % len(KINDS)] if self.kind == ALL else self.kind
         rng = random.Random(f"{self.kind} {self.seed} {self.number}")
-        {"sources": of_source, "datapaths": of_datapath, "microcode": of_microcode, "samples": of_samples}[kind](room, rng)
+        {"sources": of_source, "datapaths": of_datapath, "microcode": of_microcode, "samples": of_samples,
+         "damaged": of_damaged}[kind](room, rng)
 
 
 # Kinds
@@ -95,10 +98,11 @@ def of_microcode(room, rng):
     is_sound = rng.random() < 0.5
     if not is_sound:
         image.spoil()
-    data, listing = image.encoded(), image.listing()
+    finished = image.finished()
+    data = bytes_of(finished, rng.choice(VERSIONS))
     is_damaged = rng.random() < 0.4
     if is_damaged:
-        data = damage.of_bytes(rng, data)
+        data = damage.of_microcode(rng, data)
     rows = samples.rows_of(rng, image.inputs)
     text = samples.text_of(rng, rows)
     if rng.random() < 0.1:
@@ -107,26 +111,47 @@ def of_microcode(room, rng):
     room.put("MIC", data)
     listed = room.silc("list", "MIC")
     ran = check_rows(room, rng, "SAMPLES", text, "sim", "MIC")
-    room.expect(ran.code == 10 or listed.code == DONE, "sim takes what list refuses")
-    room.expect(ran.code != 10 or ran.said() == listed.said(), "list and sim refuse the microcode in two ways")
-    expected = refusal_of_microcode(data)
-    room.expect(expected == listed.line, f"the microcode is refused otherwise than by the table of its fields: {expected}")
+    check_microcode(room, data, listed, ran)
     if not is_damaged:
         room.expect(listed.code == DONE, f"an image is refused: {listed.line}")
-        room.expect(listed.printed.decode() == listing, "the listing is another than that of the image")
+        room.expect(listed.printed.decode() == finished.listing(), "the listing is another than that of the image")
         room.expect(not is_sound or ran.code == DONE, f"an image without a conflict ends with {ran.line}")
 
 
-def refusal_of_microcode(data):
-    """The line that refuses microcode, or nothing."""
-    try:
-        image_of(data)
-    except BadImage as fault:
-        return f"silc: {fault.refusal()}\n".encode()
-    return b""
+def of_damaged(room, rng):
+    """Microcode with other bytes or bits, in each version as often as in the other, and a few rows."""
+    image = images.Image(rng)
+    data = damage.of_microcode(rng, bytes_of(image.finished(), rng.choice(VERSIONS)))
+    room.put("MIC", data)
+    room.put("SAMPLES", samples.plain(samples.rows_of(rng, image.inputs)))
+    check_microcode(room, data, room.silc("list", "MIC"), room.silc("sim", "MIC", "SAMPLES", "ROWS", out="ROWS"))
 
 
 # What has to hold
+
+
+def check_microcode(room, data, listed, ran):
+    """`list` and `sim` take or refuse bytes alike: what the table of their fields has is taken and listed. The place of
+    a fault is in the file, or at its end where that comes too early. In the other version `list` says and `sim` does
+    the same."""
+    room.expect(ran.code == 10 or listed.code == DONE, "sim takes what list refuses")
+    room.expect(ran.code != 10 or ran.said() == listed.said(), "list and sim refuse the microcode in two ways")
+    place = PLACE_IN_FILE.fullmatch(listed.line)
+    if place:
+        is_short, at = place[1] == b"short", int(place[2])
+        room.expect(at == len(data) if is_short else at < len(data), f"no place of {len(data)} bytes: {listed.line}")
+    try:
+        image = image_of(data)
+    except BadImage as fault:
+        expected = f"silc: {fault.refusal()}\n".encode()
+        room.expect(expected == listed.line, f"it is refused otherwise than by the table of its fields: {expected}")
+        return
+    room.expect(listed.code == DONE, f"what the table of the fields has is refused: {listed.line}")
+    room.expect(listed.printed.decode() == image.listing(), "the listing is another than that of the fields")
+    room.put("OTHER", bytes_of(image, sum(VERSIONS) - data[PLACE_OF_VERSION]))
+    room.expect(room.silc("list", "OTHER") == listed, "in the other version the listing is another")
+    other = room.silc("sim", "OTHER", "SAMPLES", "ROWS", out="ROWS")
+    room.expect((other.said(), other.out) == (ran.said(), ran.out), f"in the other version it ends with {other.line}")
 
 
 def check_program(room, rng, source, path, rows):
@@ -188,10 +213,12 @@ def check_plan(room, plan, path):
     listed = room.silc("list", "MIC")
     inputs, outputs = HEAD.match(listed.printed).groups()[1:]
     try:
-        expected = plans.listing_of(plan, path.decode(), int(inputs), int(outputs))
+        expected = plans.image_of_plan(plan, path.decode(), int(inputs), int(outputs)).listing()
     except (tomllib.TOMLDecodeError, UnicodeDecodeError):
         return
     room.expect(listed.printed.decode() == expected, "list and schedule do not say the same plan")
+    data = room.bytes_of("MIC")
+    room.expect(bytes_of(image_of(data), NEWEST) == data, f"compile does not write version {NEWEST}")
 
 
 def check_text(room, made):

@@ -1,6 +1,8 @@
-"""Damage of files: of bytes, of tokens, of numbers."""
+"""Damage of files: of bytes, of bits, of tokens, of numbers."""
 import re
 
+# The magic and the version of microcode.
+HEAD = 5
 TOKENS = re.compile(rb"\s+|\w+(?:\.\d+)?|[^\w\s]")
 NUMBERS = re.compile(rb"\d+")
 # Numbers that stand at the ends of ranges, or past them.
@@ -34,6 +36,30 @@ def of_bytes(rng, data):
         elif rng.random() < 0.3:
             del data[at:]
     return bytes(data)
+
+
+def of_bits(rng, data):
+    """Bits that are changed, left out, or put in behind the first five bytes, with what follows pushed to and fro."""
+    head, size = data[:HEAD], 8 * max(0, len(data) - HEAD)
+    bits = list(format(int.from_bytes(data[HEAD:], "big"), f"0{size}b")) if size else []
+    for _ in range(rng.choice([1, 1, 1, 2, 5])):
+        at, count = rng.randrange(len(bits) + 1), rng.choice([1, 1, 2, 6, 40])
+        way = rng.randrange(4)
+        if way == 0:
+            bits[at:at + 1] = rng.choice("01")
+        elif way == 1:
+            del bits[at:at + count]
+        elif way == 2:
+            bits[at:at] = [rng.choice("01") for _ in range(count)]
+        else:
+            bits[at:at + count] = rng.choice("01") * count
+    bits = "".join(bits)
+    bits += "0" * (-len(bits) % 8)
+    return head + int(bits or "0", 2).to_bytes(len(bits) // 8, "big")
+
+
+def of_microcode(rng, data):
+    return rng.choice([of_bytes, of_bits])(rng, data)
 
 
 def of_tokens(rng, data):

@@ -1,49 +1,27 @@
 """Random microcode: images of a random datapath whose words meet no conflict, and the same with one."""
-import sys
 from dataclasses import dataclass, field
-from pathlib import Path
 
-sys.path.insert(0, str(Path(__file__).resolve().parent.parent.parent / "bench"))
-
-import microcode  # noqa: E402
-
-from fuzzing.expressions import BOOL, MODES, Type  # noqa: E402
-
-KINDS = list(microcode.KINDS)
-OPERATIONS_OF = {
-    "in": ["input"], "out": ["output"], "rom": ["const"], "alu": "add sub neg pass lt le eq ne and or not".split(),
-    "mul": ["mul"], "sel": ["sel"], "ram": ["load", "store"], "acu": ["addr"],
-}
-READ_PORTS = {"neg": 1, "pass": 1, "not": 1, "load": 1}
-WITHOUT_RESULT = {"output", "store"}
-WORD_RANGE = (-2 ** 39, 2 ** 39 - 1)
+import micro_file
+from fuzzing.expressions import BOOL, MODES, Type
+from micro_file.image import FORMATTED, KINDS, OF_KIND, PORTS, RAW, reads
 
 
 @dataclass
-class Unit:
-    kind: str
-    latency: int
-    gap: int
-    files: list
-    cells: list
-    ram: int = 0
+class Unit(micro_file.Unit):
+    """A unit, and the cycles in which it is issued."""
     issued: list = field(default_factory=list)
 
 
 @dataclass
 class Word:
-    """A microword: operations by unit, pairs of unit and bus, quadruples of unit, port, bus and register."""
+    """A microword that is not finished: issues by unit, (unit, bus) pairs, (unit, port, bus, register) quadruples."""
     issues: dict = field(default_factory=dict)
     enables: set = field(default_factory=set)
     takes: set = field(default_factory=set)
 
-
-@dataclass
-class Issue:
-    operation: str
-    argument: int
-    fmt: tuple
-    registers: list
+    def finished(self):
+        takes = [micro_file.Take(*take) for take in sorted(self.takes)]
+        return micro_file.Word(dict(sorted(self.issues.items())), sorted(self.enables), takes)
 
 
 class Image:
@@ -59,20 +37,24 @@ class Image:
             self.fill(cycle)
 
     def random_word(self):
-        return self.rng.choice([0, 1, -1, self.rng.randint(-200, 200), self.rng.randint(*WORD_RANGE), *WORD_RANGE])
+        return self.rng.choice([0, 1, -1, self.rng.randint(-200, 200), self.rng.randint(*RAW), *RAW])
+
+    def first_words(self, count):
+        """What so many registers or cells start with, often zeros alone."""
+        return [0] * count if self.rng.random() < 0.4 else [self.random_word() for _ in range(count)]
 
     def random_units(self):
         rng = self.rng
         kinds = [rng.choice(KINDS) for _ in range(rng.randint(1, 9))]
         rams = [number for number, kind in enumerate(kinds) if kind == "ram"]
         kinds = [kind if kind != "acu" or rams else "in" for kind in kinds]
-        return [self.random_unit(kind, rng.choice(rams) if kind == "acu" else 0) for kind in kinds]
+        return [self.random_unit(kind, rng.choice(rams) if kind == "acu" else None) for kind in kinds]
 
     def random_unit(self, kind, ram):
         rng = self.rng
         latency = rng.choice([1, 1, 2, 3, 8])
-        cells = [self.random_word() for _ in range(rng.choice([1, 2, 5]))] if kind == "ram" else []
-        files = [[self.random_word() for _ in range(rng.choice([1, 2, 4]))] for _ in range(microcode.PORTS[kind])]
+        cells = self.first_words(rng.choice([1, 2, 5])) if kind == "ram" else []
+        files = [self.first_words(rng.choice([1, 2, 4])) for _ in range(PORTS[kind])]
         if kind == "ram":
             files[0] = [rng.randrange(len(cells)) for _ in files[0]]
         return Unit(kind, latency, rng.randint(1, latency), files, cells, ram)
@@ -82,7 +64,7 @@ class Image:
     def fill(self, cycle):
         for number, unit in enumerate(self.units):
             if self.can_issue(unit, cycle) and self.rng.random() < 0.5:
-                self.words[cycle].issues[number] = self.issue(unit)
+                self.words[cycle].issues[number] = self.issue(number, unit)
                 unit.issued.append(cycle)
         self.drive(cycle)
 
@@ -93,22 +75,23 @@ class Image:
         return not unit.issued or (cycle - unit.issued[-1] >= unit.gap
                                    and unit.issued[0] + len(self.words) - cycle >= unit.gap)
 
-    def issue(self, unit):
-        rng, operation = self.rng, self.rng.choice(OPERATIONS_OF[unit.kind])
+    def issue(self, number, unit):
+        rng, operation = self.rng, self.rng.choice(OF_KIND[unit.kind])
         argument = {"input": rng.randrange(len(self.inputs)), "output": rng.randrange(self.outs),
                     "const": self.random_word(), "addr": rng.choice([0, 1, 5, 65535])}.get(operation, 0)
-        fmt = (rng.choice([0, 0, 1, -3, 12, -40, 80]), rng.randrange(len(MODES)), rng.choice([1, 8, 16, 32, 40])) \
-            if operation in microcode.FORMATTED else (0, 0, 0)
-        read = READ_PORTS.get(operation, len(unit.files))
-        registers = [rng.randrange(len(file)) if port < read else 0 for port, file in enumerate(unit.files)]
-        return Issue(operation, argument, fmt, registers)
+        form = None
+        if operation in FORMATTED:
+            shift, width = rng.choice([0, 0, 1, -3, 12, -40, 80]), rng.choice([1, 8, 16, 32, 40])
+            form = micro_file.Format(shift, rng.choice(MODES), width)
+        registers = [rng.randrange(len(file)) if port < reads(operation) else 0 for port, file in enumerate(unit.files)]
+        return micro_file.Issue(number, operation, form, argument, tuple(registers))
 
     def results(self, cycle):
         """The units that have a result in a cycle of each turn, the first turn too."""
         for number, unit in enumerate(self.units):
             begun = cycle - unit.latency + 1
             issue = self.words[begun].issues.get(number) if begun >= 0 else None
-            if issue and issue.operation not in WITHOUT_RESULT:
+            if issue and issue.gives():
                 yield number
 
     def drive(self, cycle):
@@ -146,44 +129,15 @@ class Image:
                 word.takes.add((number, port, rng.randrange(self.buses), rng.randrange(len(self.units[number].files[port]))))
         elif way == 2:
             number = rng.randrange(len(self.units))
-            word.issues[number] = self.issue(self.units[number])
+            word.issues[number] = self.issue(number, self.units[number])
         else:
             for unit in self.units:
                 if unit.kind == "ram":
-                    unit.files[0][0] = rng.choice([-1, len(unit.cells), WORD_RANGE[0]])
+                    unit.files[0][0] = rng.choice([-1, len(unit.cells), RAW[0]])
 
-    # What it is as bytes and as a text
+    # What it is
 
-    def encoded(self):
-        units = [microcode.unit(unit.kind, unit.latency, unit.gap, unit.files, unit.cells, unit.ram) for unit in self.units]
-        words = [microcode.word([microcode.issue(number, issue.operation, issue.registers, issue.argument,
-                                                 issue.fmt[2], issue.fmt[0], issue.fmt[1])
-                                 for number, issue in sorted(word.issues.items())],
-                                sorted(word.enables), sorted(word.takes)) for word in self.words]
+    def finished(self):
+        words = [word.finished() for word in self.words]
         widths = [type_.width or 0 for type_ in self.inputs]
-        return microcode.image(self.period, self.unroll, widths, self.outs, units, self.buses, words)
-
-    def listing(self):
-        """The text of docs/MICROCODE.md, "The listing"."""
-        lines = [f"period {self.period} unroll {self.unroll} inputs {len(self.inputs)} outputs {self.outs} "
-                 f"units {len(self.units)} buses {self.buses}"]
-        for number, word in enumerate(self.words):
-            lines += listed(number, word)
-        return "\n".join(lines) + "\n"
-
-
-def listed(number, word):
-    """The lines of a word, none where it is empty."""
-    lines = []
-    for unit, issue in sorted(word.issues.items()):
-        line = f"issue {unit} {issue.operation}"
-        if issue.operation in ("input", "output", "const", "addr"):
-            line += f" {issue.argument}"
-        if issue.operation in microcode.FORMATTED:
-            line += f" fmt {issue.fmt[0]} {MODES[issue.fmt[1]]} {issue.fmt[2]}"
-        if issue.registers:
-            line += f" regs {' '.join(map(str, issue.registers))}"
-        lines.append(line)
-    lines += [f"drive {unit} {bus}" for unit, bus in sorted(word.enables)]
-    lines += [f"take {unit}.{port} bus {bus} reg {register}" for unit, port, bus, register in sorted(word.takes)]
-    return [f"word {number}", *lines] if lines else []
+        return micro_file.Image(self.period, self.unroll, widths, self.outs, self.units, self.buses, words)

@@ -1,17 +1,14 @@
-"""The listing that the microcode of a plan has, from the text of the plan and the datapath's units and buses."""
+"""The image of a plan, from its text and the units and buses of its datapath."""
 import re
 import tomllib
 
-from fuzzing.expressions import MODES
-from fuzzing.images import Issue, Word, listed
-from fuzzing.datapaths import PORTS
+import micro_file
+from micro_file.image import KIND_OF, PORTS, WITH_ARGUMENT
 
 HEAD = re.compile(r"period (\d+) unroll (\d+) nodes (\d+)")
 NODE = re.compile(r"node (\d+) cycle (\d+) unit (\w+) op (\w+)((?: -?\d+(?:@\d+)?)*)"
                   r"(?: fmt (-?\d+) ([a-z,]+) (\d+))?((?: to .*)?)")
 TRANSFER = re.compile(r" to (\w+)\.(\d) bus (\w+) regs ([\d,]+)")
-# Operations whose first number is no operand.
-WITH_ARGUMENT = {"input", "output", "const", "addr"}
 
 
 class Node:
@@ -21,41 +18,58 @@ class Node:
         number, cycle, self.unit, self.operation, numbers, shift, mode, width, transfers = NODE.fullmatch(line).groups()
         self.number, self.cycle = int(number), int(cycle)
         numbers = numbers.split()
+        # The first number of some operations is no operand.
         self.argument = int(numbers.pop(0)) if self.operation in WITH_ARGUMENT else 0
         self.operands = [(int(operand.partition("@")[0]), int(operand.partition("@")[2] or 0)) for operand in numbers]
-        self.fmt = (int(shift), MODES.index(mode), int(width)) if shift else (0, 0, 0)
+        self.format = micro_file.Format(int(shift), mode, int(width)) if shift else None
         self.transfers = {(unit, int(port)): (bus, [int(register) for register in registers.split(",")])
                           for unit, port, bus, registers in TRANSFER.findall(transfers)}
 
 
-def issue_of(node, nodes, sample):
+def issue_of(node, number, nodes, sample):
     """The operation of a node in a sample: each operand is in the register of its copy."""
-    registers = [0] * PORTS[node.kind]
+    registers = [0] * PORTS[KIND_OF[node.operation]]
     for port, (operand, delay) in enumerate(node.operands):
         copies = nodes[operand].transfers[node.unit, port][1]
         registers[port] = copies[(sample - delay) % len(copies)]
-    return Issue(node.operation, node.argument, node.fmt, registers)
+    return micro_file.Issue(number, node.operation, node.format, node.argument, tuple(registers))
 
 
-def listing_of(plan, path, inputs, outputs):
-    """The whole listing of a plan over the datapath with this text, for so many input and output words."""
+def unit_of(unit, numbers):
+    """A unit of a datapath, whose registers and cells are 0 at first."""
+    latency = unit.get("latency", 1)
+    files, cells = [[0] * size for size in unit.get("files", [])], [0] * unit.get("cells", 0)
+    return micro_file.Unit(unit["kind"], latency, unit.get("gap", 1), files, cells, numbers.get(unit.get("ram")))
+
+
+def image_of_plan(plan, path, inputs, outputs):
+    """The image of a plan over the datapath with this text, for so many input and output words. It has no first words
+    and no widths: these are not in the plan."""
     path = tomllib.loads(path)
-    units = {unit["name"]: (number, unit) for number, unit in enumerate(path["unit"])}
+    units = {unit["name"]: number for number, unit in enumerate(path["unit"])}
     buses = {bus["name"]: number for number, bus in enumerate(path["bus"])}
     head, *lines = plan.splitlines()
     period, unroll, _ = map(int, HEAD.fullmatch(head).groups())
     nodes = [Node(line) for line in lines]
-    words = [Word() for _ in range(period * unroll)]
+    made, words = [unit_of(unit, units) for unit in path["unit"]], [micro_file.Word() for _ in range(period * unroll)]
+    image = micro_file.Image(period, unroll, [0] * inputs, outputs, made, len(buses), words)
     for node in nodes:
-        number, unit = units[node.unit]
-        node.kind = unit["kind"]
         for sample in range(unroll):
-            words[sample * period + node.cycle].issues[number] = issue_of(node, nodes, sample)
-            last = words[sample * period + node.cycle + unit.get("latency", 1) - 1]
-            for (to, port), (bus, registers) in node.transfers.items():
-                last.enables.add((number, buses[bus]))
-                last.takes.add((units[to][0], port, buses[bus], registers[sample % len(registers)]))
-    text = [f"period {period} unroll {unroll} inputs {inputs} outputs {outputs} units {len(units)} buses {len(buses)}"]
-    for number, word in enumerate(words):
-        text += listed(number, word)
-    return "\n".join(text) + "\n"
+            put_node(image, node, nodes, sample, units, buses)
+    image.words = list(map(in_order, words))
+    return image
+
+
+def in_order(word):
+    """A word whose lists rise."""
+    return micro_file.Word(dict(sorted(word.issues.items())), sorted(set(word.enables)), sorted(set(word.takes)))
+
+
+def put_node(image, node, nodes, sample, units, buses):
+    """Puts the operation of a node in a sample into the words, and the ways of its result."""
+    number, cycle = units[node.unit], sample * image.period + node.cycle
+    image.words[cycle].issues[number] = issue_of(node, number, nodes, sample)
+    last = image.words[cycle + image.units[number].latency - 1]
+    for (to, port), (bus, registers) in node.transfers.items():
+        last.enables.append((number, buses[bus]))
+        last.takes.append(micro_file.Take(units[to], port, buses[bus], registers[sample % len(registers)]))

@@ -1,1 +1,1 @@
-"""What tools/verilog is made of: microcode files, structural hazards, ranges of words, columns of the microprogram, text."""
+"""What tools/verilog is made of: structural hazards, ranges of words, columns of the microprogram, text."""

@@ -3,8 +3,9 @@
 Names: i_J the held input word J, l_J the output latch J, u_UNIT a unit's result, f_UNIT_PORT the register that a port reads,
 n_UNIT_PORT the one that it reads in the next cycle, b_BUS a bus, cu_, cf_ and cb_ the columns of a unit, a file and a bus.
 """
+from micro_file.image import OPCODE, ROUNDING, SATURATING, TRUTHS
+
 from .columns import stages
-from .image import OPCODE, ROUNDING, SATURATING, TRUTHS
 from .words import Range, index_bits
 
 CODE, OP_BITS, FORMAT_BITS = "code", 4, 8

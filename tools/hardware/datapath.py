@@ -3,7 +3,8 @@ import re
 import tomllib
 from dataclasses import dataclass
 
-from .image import PORTS
+from micro_file.image import PORTS
+
 from .shape import NoCore
 
 NAME = re.compile(r"[A-Za-z0-9_]{1,32}")

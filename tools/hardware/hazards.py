@@ -1,7 +1,7 @@
 """The structural hazards that an image has whatever its samples are: all but an address outside of its memory."""
 from collections import Counter
 
-from .image import MOST_LATENCY
+from micro_file.image import MOST_LATENCY
 
 FILES_OF_A_UNIT = 4
 

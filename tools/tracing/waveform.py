@@ -1,7 +1,7 @@
 """A waveform of a run, as a file of value changes (VCD, IEEE 1364, with texts as GTKWave and Surfer have them)."""
 from dataclasses import dataclass, field
 
-from hardware.image import OPCODE
+from micro_file.image import OPCODE
 from tracing.signals import Signals, first_value
 
 # A cycle takes one unit of this.
