@@ -1,5 +1,6 @@
 #!/usr/bin/env python3
 """Writes the microcode files of the cases, field by field as docs/MICROCODE.md has them; no part of the compiler is asked.
+Those of increment/ are of version 2, which `silc compile` writes, but for add-8-1.mic; all others are of version 1.
 
 usage: tests/make_microcode.py [--check]
 
@@ -11,14 +12,14 @@ from pathlib import Path
 HERE = Path(__file__).resolve().parent
 sys.path.insert(0, str(HERE.parent / "bench"))
 
-from microcode import image, issue, unit, word  # noqa: E402
+from microcode import NEWEST, OLDEST, image, issue, unit, word  # noqa: E402
 
 EMPTY = word()
 
 
-def program(period, units, words, inputs=(8,), outs=1, unroll=1, buses=2):
-    """An image whose last words are empty."""
-    return image(period, unroll, inputs, outs, units, buses, words + [EMPTY] * (period * unroll - len(words)))
+def program(period, units, words, inputs=(8,), outs=1, unroll=1, buses=2, version=OLDEST):
+    """The bytes of an image whose last words are empty."""
+    return image(period, unroll, inputs, outs, units, buses, words + [EMPTY] * (period * unroll - len(words)), version)
 
 
 # The programs y = x + n and y = x - n over the datapath of examples/increment
@@ -39,8 +40,8 @@ def plain_words(width, operation, number):
     ]
 
 
-def one_line(width, operation, number):
-    return program(16, plain_units(), plain_words(width, operation, number), inputs=(width,), buses=1)
+def one_line(width, operation, number, version=NEWEST):
+    return program(16, plain_units(), plain_words(width, operation, number), inputs=(width,), buses=1, version=version)
 
 
 # Programs with one fault
@@ -184,7 +185,7 @@ FILES = {
     f"increment/{operation}-{width}-{number}.mic": one_line(width, operation, number)
     for width in (1, 8, 15, 16) for operation in ("add", "sub") for number in sorted({0, 2 ** (width - 1) - 1})
 } | {
-    "increment/add-8-1.mic": one_line(8, "add", 1),
+    "increment/add-8-1.mic": one_line(8, "add", 1, OLDEST),
     "machine/busy.mic": faulty(4, word([issue(3, "output", [0])]), 2),
     "machine/two-drivers.mic": faulty(2, word([issue(2, "add", [0, 0], width=8)], [(1, 0), (2, 0)], [(3, 0, 0, 0)])),
     "machine/file-twice.mic": faulty(0, word([issue(0, "input")], [(0, 0)], [(2, 0, 0, 0), (2, 0, 0, 1)])),

@@ -1,6 +1,7 @@
 """Images for tests of cores: random ones with a fixed seed, and directed ones for what is rare in these.
 
-An image is a list of units and words as bench/microcode.py writes them, beside the samples to run.
+An image is a list of units and words as bench/microcode.py writes them, beside the samples to run. Directed ones are of
+version 1 of the microcode file, the others of both in turn.
 """
 import random
 import sys
@@ -111,12 +112,12 @@ class Maker:
             return True
         return self.units[driver].get("ram") == number or self.random.random() < 0.01
 
-    def image(self):
+    def image(self, version):
         issues = self.choose_issues()
         words = [word(issues[cycle], *self.moves(cycle)) for cycle in range(self.circle)]
         units = [unit(one["kind"], one["latency"], one["gap"], one["files"], one.get("cells", ()), one.get("ram", 0))
                  for one in self.units]
-        return image(self.period, self.unroll, self.inputs, self.outs, units, self.buses, words)
+        return image(self.period, self.unroll, self.inputs, self.outs, units, self.buses, words, version)
 
     def samples(self, count=12):
         return [[word_in(self.random, width) for width in self.inputs] for _ in range(count)]
@@ -133,7 +134,7 @@ def random_images(count):
     """Names, microcode and samples."""
     for number in range(count):
         maker = Maker(SEED * 1000 + number)
-        yield f"random {number}", maker.image(), maker.samples()
+        yield f"random {number}", maker.image(1 + number % 2), maker.samples()
 
 
 class Breaker(Maker):
@@ -168,7 +169,7 @@ def broken_images(count):
     """Names, microcode and samples of images that mostly have a structural hazard."""
     for number in range(count):
         maker = Breaker(SEED * 2000 + number)
-        yield f"broken {number}", maker.image(), maker.samples(16)
+        yield f"broken {number}", maker.image(1 + number % 2), maker.samples(16)
 
 
 # Directed
@@ -190,7 +191,7 @@ def latch_twice(first_latency, second_latency, samples=RAMP):
     words[most - first_latency].append(issue(0, "output", [0]))
     words[most - second_latency].append(issue(2, "output", [0]))
     words[0].append(issue(1, "input"))
-    made = [word(sorted(one), [(1, 0)] if cycle == 0 else [], [(2, 0, 0, 0)] if cycle == 0 else [])
+    made = [word(one, [(1, 0)] if cycle == 0 else [], [(2, 0, 0, 0)] if cycle == 0 else [])
             for cycle, one in enumerate(words)]
     return program(most + 1, units, made), samples
 
