@@ -1,87 +1,90 @@
-"""Microcode files for measurements, written field by field as docs/MICROCODE.md has them."""
-import struct
+"""Microcode files for measurements and tests, of units and words. tools/micro_file writes their bytes."""
+import sys
+from pathlib import Path
 
-KINDS = {"in": 0, "out": 1, "rom": 2, "alu": 3, "mul": 4, "sel": 5, "ram": 6, "acu": 7}
-PORTS = {"in": 0, "out": 1, "rom": 0, "alu": 2, "mul": 2, "sel": 3, "ram": 2, "acu": 0}
-OPERATIONS = ("input output const add sub neg pass lt le eq ne and or not mul sel load store addr").split()
-FORMATTED = {"add", "sub", "neg", "pass", "mul"}
+sys.path.insert(0, str(Path(__file__).resolve().parent.parent / "tools"))
 
+import micro_file  # noqa: E402
+from micro_file.image import FORMATTED, MODES, MOST_PERIOD, PORTS  # noqa: E402
 
-def numbers(values):
-    return b"".join(struct.pack(">q", value) for value in values)
+OLDEST, NEWEST = 1, micro_file.NEWEST
+# What an image takes at most beside its words in version 1.
+HEAD, LARGE_HEAD = 20000, 200000
 
 
 def unit(kind, latency=1, gap=1, files=None, cells=(), ram=0):
-    """A unit by what the registers of each port and the cells start with. Without files it has 16 registers a port, all 0."""
-    fields = bytes([KINDS[kind], latency, gap])
-    for file in files or [[0] * 16] * PORTS[kind]:
-        fields += struct.pack(">H", len(file)) + numbers(file)
-    if kind == "ram":
-        fields += struct.pack(">I", len(cells)) + numbers(cells)
-    if kind == "acu":
-        fields += bytes([ram])
-    return fields
+    """A unit by what the registers of each port and the cells start with. Without files it has 16 registers a port, all
+    0."""
+    files = files or [[0] * 16] * PORTS[kind]
+    return micro_file.Unit(kind, latency, gap, [list(file) for file in files], list(cells) if kind == "ram" else [],
+                           ram if kind == "acu" else None)
 
 
 def issue(number, operation, registers=(), argument=0, width=24, shift=0, mode=0):
     """An issue; the format is that of a formatted operation, and none for the others."""
-    fmt = struct.pack(">bBB", shift, mode, width) if operation in FORMATTED else bytes(3)
-    return (bytes([number, OPERATIONS.index(operation)]) + fmt
-            + struct.pack(">q", argument) + bytes(registers))
+    fmt = micro_file.Format(shift, MODES[mode], width) if operation in FORMATTED else None
+    return micro_file.Issue(number, operation, fmt, argument, tuple(registers))
 
 
 def word(issues=(), enables=(), takes=()):
     """A microword of issues, (unit, bus) pairs and (unit, port, bus, register) quadruples, each in rising order."""
-    return (bytes([len(issues)]) + b"".join(issues)
-            + struct.pack(">H", len(enables)) + b"".join(map(bytes, enables))
-            + struct.pack(">H", len(takes)) + b"".join(map(bytes, takes)))
+    return micro_file.Word({one.unit: one for one in issues}, list(enables), [micro_file.Take(*take) for take in takes])
 
 
-def image(period, unroll, inputs, outs, units, buses, words):
-    return (b"SILM\x01" + struct.pack(">HB", period, unroll)
-            + bytes([len(inputs), *inputs, outs, len(units)]) + b"".join(units)
-            + bytes([buses]) + b"".join(words))
+def image(period, unroll, inputs, outs, units, buses, words, version=OLDEST):
+    """The bytes of an image in a version."""
+    made = micro_file.Image(period, unroll, list(inputs), outs, list(units), buses, list(words))
+    return micro_file.bytes_of(made, version)
 
 
-def wide(size):
-    """A valid image of about so many bytes: words full of enables and takes. It is for reading, not for running."""
+def size_of(one):
+    """How many bytes a word has in version 1."""
+    issues = sum(13 + len(issue.registers) for issue in one.issues.values())
+    return 5 + issues + 2 * len(one.enables) + 4 * len(one.takes)
+
+
+def filled(room, units, full, buses, version):
+    """An image whose words are all the same, as many as there is room for in version 1, and at least four."""
+    count = max(4, min(room // size_of(full) // 4 * 4, 4 * MOST_PERIOD))
+    return image(count // 4, 4, [16], 1, units, buses, [full] * count, version)
+
+
+def wide(size, version=OLDEST):
+    """A valid image of about so many bytes in version 1: words full of enables and takes. It is for reading, not for
+    running."""
     units = [unit("alu", files=[[0] * 8] * 2) for _ in range(32)]
     enables = [(number, bus) for number in range(32) for bus in range(32)]
     takes = [(number, port, bus, 0) for number in range(32) for port in range(2) for bus in range(8)]
-    full = word(enables=enables, takes=takes)
-    count = max(4, (size - 20000) // len(full) // 4 * 4)
-    return image(count // 4, 4, [16], 1, units, 32, [full] * count)
+    return filled(size - HEAD, units, word(enables=enables, takes=takes), 32, version)
 
 
-def crowded(size):
-    """A valid image of at most so many bytes: words full of issues, with no enables or takes. It is for reading, not for running."""
+def crowded(size, version=OLDEST):
+    """A valid image of at most so many bytes in version 1: words full of issues, with no enables or takes. It is for
+    reading, not for running."""
     operations = [("in", "input"), ("rom", "const"), ("alu", "add"), ("mul", "mul"), ("sel", "sel"), ("alu", "lt"),
                   ("ram", "store"), ("out", "output")] * 4
     units = [unit(kind, cells=[0] * 16) for kind, _ in operations]
     full = word([issue(number, operation, [number % 16] * PORTS[kind])
                  for number, (kind, operation) in enumerate(operations)])
-    count = min((size - 20000) // len(full) // 4 * 4, 4 * 4096)
-    return image(count // 4, 4, [16], 1, units, 1, [full] * count)
+    return filled(size - HEAD, units, full, 1, version)
 
 
-def verbose(size):
-    """A valid image of at most so many bytes whose listing is as long as one can be: takes with three digits in each number
-    that may have them."""
+def verbose(size, version=OLDEST):
+    """A valid image of at most so many bytes in version 1 whose listing is as long as one can be: takes with three
+    digits in each number that may have them."""
     units = [unit("alu", files=[[0] * 256] * 2) for _ in range(32)]
     takes = [(number, port, bus, register) for number in range(20, 32) for port in range(2) for bus in range(10, 32)
              for register in range(254, 256)][:1024]
-    full = word(takes=takes)
-    count = min((size - 200000) // len(full) // 4 * 4, 4 * 4096)
-    return image(count // 4, 4, [16], 1, units, 32, [full] * count)
+    return filled(size - LARGE_HEAD, units, word(takes=takes), 32, version)
 
 
-def roomy():
-    """A valid image of 16 MiB that is nearly all cells of memories."""
-    units = [unit("ram", files=[[0], [0]], cells=[0] * 65536) for _ in range(32)]
-    return image(1, 1, [16], 1, units, 1, [word()])
+def roomy(version=OLDEST):
+    """A valid image of 16 MiB in version 1 that is nearly all cells of memories, of which the last ones are not 0."""
+    units = [unit("ram", files=[[0], [0]], cells=[0] * 65535 + [1]) for _ in range(32)]
+    return image(1, 1, [16], 1, units, 1, [word()], version)
 
 
-def busy(period=256):
+def busy(period=256, version=OLDEST):
     """An image that runs without a conflict: eight units, of which seven drive a bus each cycle."""
     units = [unit("in"), unit("rom"), unit("alu"), unit("alu"), unit("alu"), unit("mul", latency=2),
              unit("sel"), unit("out")]
@@ -104,4 +107,4 @@ def busy(period=256):
         into = [files[(cycle + 5 * number) % len(files)] for number in drivers]
         takes = sorted((file, port, number, (cycle + number) % 16) for number, (file, port) in zip(drivers, into))
         words.append(word(issues, [(number, number) for number in drivers], takes))
-    return image(period, 1, [16], 1, units, 7, words)
+    return image(period, 1, [16], 1, units, 7, words, version)
