@@ -1,8 +1,12 @@
 pub mod Bits
 pub mod Length
+pub mod Levels
 pub mod BitNumbers
 pub mod BitWindow
 pub mod Encoded
 pub mod IncrementFile
 pub mod Packing
+pub mod Placed
+pub mod PlacedWord
+pub mod Sizes
 pub mod Writing

@@ -137,6 +137,15 @@ impl<'a> BitReader<'a> {
         zeros as u32
     }
 
+    /// Passes so many bits.
+    #[inline]
+    pub fn skip(&mut self, count: usize)
+        requires { count ≤ length self.old }
+        ensures { self.new ≡ drop count self.old }
+    {
+        self.at += count;
+    }
+
     /// Whether so many bits are left and all zeros, which are then read.
     #[inline]
     pub fn passes_zeros(&mut self, count: u32) -> bool

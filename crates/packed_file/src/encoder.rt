@@ -1,32 +1,36 @@
 //! An image to its packed file.
 
-ghost use Rattle.std.specs.Prelude.{◌≡◌, ◌==◌, ◌≤◌, ◌-◌, ◌++◌, ◌∷◌, [], length, take, if◌then◌else◌, IfOk, OnOk};
-ghost use Rattle.std.specs.Prelude.{true, replicate};
-ghost use Rattle.std.specs.List.{filter, flat_map, range_with_len};
+ghost use Rattle.std.specs.Prelude.{◌≡◌, ◌<◌, ◌≤◌, ◌^◌, ◌-◌, ◌+◌, ◌*◌, ◌++◌, ◌∷◌, [], length, take, get_or, if◌then◌else◌, IfOk, OnOk};
+ghost use Rattle.std.specs.Prelude.{replicate, IsTrue};
+ghost use Rattle.std.specs.List.{flat_map};
 ghost use Rattle.micro_image.specs.Codes.{kind_number, mode_number};
 ghost use Rattle.micro_image.specs.Bits.{bits, raw_bits, preload_bits, choice_bits, format_bits, argument_bits, in_bits};
-ghost use Rattle.micro_image.specs.Bits.{issue_bits, enable_bit, enable_bits, take_bits, takes_bits, ports_bits};
-ghost use Rattle.micro_image.specs.Bits.{word_bits, image_bits};
-ghost use Rattle.micro_image.specs.Fields.{nth, no_unit};
+ghost use Rattle.micro_image.specs.Bits.{take_bits, word_bits, image_bits};
 ghost use Rattle.micro_image.specs.Form.{spelled_file, spelled_memory, spelled_unit, spelled_operation};
 ghost use Rattle.micro_image.specs.Form.{spelled_hardware};
 ghost use Rattle.micro_image.specs.Operations.{opcode, operation, is_formatted};
 ghost use Rattle.micro_image.specs.Spells.{AreBytes, begun, bits_of, SpellsIn};
 ghost use Rattle.micro_image.specs.declared.version.Version.TheVariants.{Two};
 ghost use Rattle.micro_image.specs.Size.{most_bytes};
-ghost use Rattle.micro_image.specs.Valid.{IsValid};
+ghost use Rattle.micro_image.specs.Valid.{IsWordOf, IsValid};
+ghost use Rattle.packed_file.specs.Idle.{sizes, files_of};
+ghost use Rattle.packed_file.specs.Private.Placed.{starts_in};
+ghost use Rattle.packed_file.specs.Private.Placed.{placed_issues, placed_enables, placed_takes};
 ghost use Rattle.packed_file.specs.Private.Writes.{Padded};
 
 use crate::bit_writer::BitWriter;
 use crate::fault::CodeFault;
 use crate::fields::{are_zeros, choice_width_of, first_opcode_of};
+use crate::places::{files_of, idle_bits_of, starts_of};
 use crate::widths::{
     BUS, CELLS, CHANNELS, CYCLES, FLAG, KIND, MODE, OFFSET, PERIOD, RAW_WORD, REGISTER, SHIFT,
     UNIT, UNROLL, WIDTH, WORD_NUMBER,
 };
 use fix_word::{Format, Mode, Op};
 use lists::{Bytes, List};
-use micro_image::{Enables, Image, Issue, Kind, Take, Takes, UnitDesc, Word, is_formatted, reads};
+use micro_image::{
+    Enable, Enables, Image, Issue, Kind, Take, Takes, UnitDesc, Word, is_formatted, reads,
+};
 use std::alloc::{AllocError, Global};
 
 /// As many bits as are put at once.
@@ -34,6 +38,21 @@ const MOST: usize = 57;
 
 /// What is added to a shift.
 const SHIFTED: i64 = 40;
+
+/// As many shifts as their field tells apart.
+const SHIFTS: u64 = 128;
+
+/// The same of modes.
+const MODES: u64 = 4;
+
+/// The same of widths.
+const WIDTHS: u64 = 64;
+
+/// The same of buses.
+const BUSES: u64 = 32;
+
+/// The same of registers.
+const REGISTERS: u64 = 256;
 
 fn kind_number_of(kind: Kind) -> u8
     ensures { result ≡ kind_number kind }
@@ -197,9 +216,13 @@ fn put_choice(out: &mut BitWriter, op: Op) -> Result<(), AllocError>
 fn put_some_format(out: &mut BitWriter, fmt: &Format) -> Result<(), AllocError>
     ensures { OnOk result (out.new ≡ out.old ++ format_bits fmt.now) }
 {
-    out.put(SHIFT, (i64::from(fmt.shift) + SHIFTED).cast_unsigned())?;
-    out.put(MODE, u64::from(mode_number_of(fmt.mode)))?;
-    out.put(WIDTH, less_1(usize::from(fmt.width)))
+    let shift = (i64::from(fmt.shift) + SHIFTED).cast_unsigned();
+    let shift_and_mode = shift % SHIFTS * MODES + u64::from(mode_number_of(fmt.mode));
+    // The three as one number, which is put at once.
+    out.put(
+        SHIFT + MODE + WIDTH,
+        shift_and_mode * WIDTHS + less_1(usize::from(fmt.width)) % WIDTHS,
+    )
 }
 
 #[inline]
@@ -247,252 +270,158 @@ fn put_operation(out: &mut BitWriter, issue: &Issue) -> Result<(), AllocError>
     put_registers(out, issue.regs.as_slice(), reads(issue.op))
 }
 
-/// The issue of a unit, if it has one.
-#[tactic(auto, unfolding(micro_image::specs::Bits::issue_bits))]
-fn put_slot(out: &mut BitWriter, unit: usize, issues: &List<Issue>) -> Result<(), AllocError>
-    ensures { OnOk result (out.new ≡ out.old ++ issue_bits (filter (λ issue. issue.unit == unit) issues.now)) }
+/// So many zeros, and the number behind them.
+#[inline]
+fn put_behind(out: &mut BitWriter, zeros: usize, count: u32, number: u64) -> Result<(), AllocError>
+    requires few { count ≤ 57 }
+    requires small { number < 2 ^ count }
+    ensures { OnOk result (out.new ≡ out.old ++ (replicate zeros 0 ++ bits count number)) }
 {
-    for issue in issues.iter() {
-        if usize::from(issue.unit) == unit {
-            put_flag(out, true)?;
-            return put_operation(out, issue);
-        }
+    if zeros <= MOST - count as usize {
+        return out.put(zeros as u32 + count, number);
     }
-    put_flag(out, false)
+    put_zeros(out, zeros)?;
+    out.put(count, number)
+}
+
+/// The issue behind the flags of units that have none, so many.
+fn put_issue(out: &mut BitWriter, none: usize, issue: &Issue) -> Result<(), AllocError>
+    ensures { OnOk result (out.new ≡ out.old ++ (replicate none 0 ++ 1 ∷ spelled_operation in_bits issue.now)) }
+{
+    put_behind(out, none, FLAG, 1)?;
+    put_operation(out, issue)
 }
 
 fn put_issues(out: &mut BitWriter, units: usize, issues: &List<Issue>) -> Result<(), AllocError>
-    ensures { OnOk result
-        (out.new ≡ out.old
-        ++ flat_map (λ u. issue_bits (filter (λ issue. issue.unit == u) issues.now)) (range_with_len 0 units)) }
+    ensures { OnOk result (out.new ≡ out.old ++ placed_issues units 0 issues.now) }
 {
-    if issues.is_empty() {
-        return put_zeros(out, units);
-    }
-    // Most units of a word have no issue: their zeros are put together, before the next one that has.
-    let mut none = 0;
-    for unit in 0..units {
-        if none < MOST && issues_none(issues, unit) {
-            none += 1;
-            continue;
-        }
-        out.put(none as u32, 0)?;
-        none = 0;
-        put_slot(out, unit, issues)?;
-    }
-    out.put(none as u32, 0)
-}
-
-/// Whether the unit has no issue.
-#[inline]
-fn issues_none(issues: &List<Issue>, unit: usize) -> bool
-    ensures { result ≡ true → filter (λ issue. issue.unit == unit) issues.now ≡ [] }
-{
+    let mut next = 0;
     for issue in issues.iter() {
-        if usize::from(issue.unit) == unit {
-            return false;
-        }
+        let unit = usize::from(issue.unit);
+        put_issue(out, unit.saturating_sub(next), issue)?;
+        next = unit + 1;
     }
-    true
+    put_zeros(out, units.saturating_sub(next))
 }
 
-/// Which buses a unit drives, a flag a bus.
-#[tactic(auto, unfolding(micro_image::specs::Bits::enable_bits))]
-fn put_drives(
-    out: &mut BitWriter,
-    unit: usize,
-    buses: usize,
-    enables: &Enables,
-) -> Result<(), AllocError>
-    ensures { OnOk result
-        (out.new ≡ out.old ++ enable_bits buses (filter (λ enable. enable.unit == unit) enables.now)) }
-{
-    if buses <= MOST {
-        return out.put(buses as u32, drive_flags(enables, unit, buses));
-    }
-    for bus in 0..buses {
-        put_flag(out, drives(enables, unit, bus))?;
-    }
-    Ok(())
-}
-
-/// Which buses a unit drives, a bit a bus, as one number, which is put at once.
-#[tactic(auto, unfolding(micro_image::specs::Bits::enable_bits))]
-fn drive_flags(enables: &Enables, unit: usize, buses: usize) -> u64
-    requires { buses ≤ 57 }
-    ensures { bits buses result ≡ enable_bits buses (filter (λ enable. enable.unit == unit) enables.now) }
-{
-    // In most words most units drive none, and each bus would be looked up for nothing.
-    if drives_none(enables, unit) {
-        return 0;
-    }
-    let mut flags: u64 = 0;
-    for bus in 0..buses {
-        flags = (flags << 1).wrapping_add(u64::from(drives(enables, unit, bus)));
-    }
-    flags
-}
-
-/// Whether the unit drives no bus.
+/// The place of its flag among those of all units and buses.
 #[inline]
-fn drives_none(enables: &Enables, unit: usize) -> bool
-    ensures { result ≡ true → filter (λ enable. enable.unit == unit) enables.now ≡ [] }
+fn flag_place(enable: &Enable, buses: u8) -> usize
+    ensures place { result ≡ enable.now.unit * buses + enable.now.bus }
+    ensures small { result < 2 ^ 16 }
 {
-    for enable in enables.iter() {
-        if usize::from(enable.unit) == unit {
-            return false;
-        }
-    }
-    true
+    usize::from(enable.unit) * usize::from(buses) + usize::from(enable.bus)
 }
 
-/// Whether the unit drives the bus.
-#[inline]
-fn drives(enables: &Enables, unit: usize, bus: usize) -> bool
-    ensures { (if result then 1 else 0)
-        ≡ enable_bit (filter (λ enable. enable.bus == bus) (filter (λ enable. enable.unit == unit) enables.now)) }
-{
-    for enable in enables.iter() {
-        if usize::from(enable.unit) == unit && usize::from(enable.bus) == bus {
-            return true;
-        }
-    }
-    false
-}
-
+/// A flag for each unit and bus, so many.
 fn put_enables(
     out: &mut BitWriter,
-    units: usize,
-    buses: usize,
+    buses: u8,
+    flags: usize,
     enables: &Enables,
 ) -> Result<(), AllocError>
-    ensures { OnOk result
-        (out.new ≡ out.old
-        ++ flat_map (λ u. enable_bits buses (filter (λ enable. enable.unit == u) enables.now))
-        (range_with_len 0 units)) }
+    ensures { OnOk result (out.new ≡ out.old ++ placed_enables buses flags 0 enables.now) }
 {
-    // Without enables no unit is looked at.
-    if enables.is_empty() {
-        if let Some(count) = units.checked_mul(buses) {
-            return put_zeros(out, count);
-        }
+    let mut next = 0;
+    for enable in enables.iter() {
+        let place = flag_place(enable, buses);
+        put_behind(out, place.saturating_sub(next), FLAG, 1)?;
+        next = place + 1;
     }
-    // Zeros of units that drive no bus are put together, as those of units without an issue.
-    let mut none = 0;
-    for unit in 0..units {
-        if buses <= MOST - none && drives_none(enables, unit) {
-            none += buses;
-            continue;
-        }
-        out.put(none as u32, 0)?;
-        none = 0;
-        put_drives(out, unit, buses, enables)?;
-    }
-    out.put(none as u32, 0)
+    put_zeros(out, flags.saturating_sub(next))
 }
 
-/// 1, the bus, the register.
+/// 1, the bus, the register, behind the ends of the takes into so many files.
 #[inline]
-#[tactic(auto, unfolding(micro_image::specs::Bits::take_bits))]
-fn put_take(out: &mut BitWriter, take: &Take) -> Result<(), AllocError>
-    ensures { OnOk result (out.new ≡ out.old ++ take_bits take.now) }
+fn put_take(out: &mut BitWriter, ends: usize, take: &Take) -> Result<(), AllocError>
+    ensures { OnOk result (out.new ≡ out.old ++ (replicate ends 0 ++ take_bits take.now)) }
 {
-    // The three as one number, which is put at once: behind the flag a bus has 5 bits, a register 8.
-    let flag_and_bus = 32 + u64::from(take.bus % 32);
-    out.put(
+    // The three as one number too.
+    let flag_and_bus = BUSES + u64::from(take.bus) % BUSES;
+    put_behind(
+        out,
+        ends,
         FLAG + BUS + REGISTER,
-        flag_and_bus * 256 + u64::from(take.reg),
+        flag_and_bus * REGISTERS + u64::from(take.reg),
     )
 }
 
-/// The takes into a register file, and its end.
-#[tactic(auto, unfolding(micro_image::specs::Bits::takes_bits))]
-fn put_file_takes(
-    out: &mut BitWriter,
-    unit: usize,
-    port: usize,
-    takes: &Takes,
-) -> Result<(), AllocError>
-    ensures { OnOk result
-        (out.new ≡ out.old
-        ++ takes_bits (filter (λ take. take.port.port == port) (filter (λ take. take.port.unit == unit) takes.now))) }
-{
-    for take in takes.iter() {
-        if usize::from(take.port.unit) == unit && usize::from(take.port.port) == port {
-            put_take(out, take)?;
-        }
-    }
-    put_flag(out, false)
-}
-
-#[tactic(auto, unfolding(micro_image::specs::Bits::ports_bits))]
-fn put_unit_takes(
-    out: &mut BitWriter,
-    unit: usize,
-    ports: usize,
-    takes: &Takes,
-) -> Result<(), AllocError>
-    ensures { OnOk result
-        (out.new ≡ out.old ++ ports_bits ports (filter (λ take. take.port.unit == unit) takes.now)) }
-{
-    for port in 0..ports {
-        put_file_takes(out, unit, port, takes)?;
-    }
-    Ok(())
-}
-
-/// Whether nothing is taken into the unit's files.
+/// The place of its file among those of all units, where those of a unit start there.
 #[inline]
-fn takes_none(takes: &Takes, unit: usize) -> bool
-    ensures { result ≡ true → filter (λ take. take.port.unit == unit) takes.now ≡ [] }
+fn file_place(take: &Take, starts: &List<u16>) -> usize
+    ensures { result ≡ get_or starts.now take.now.port.unit 0 + take.now.port.port }
 {
+    let start = match starts.get(usize::from(take.port.unit)) {
+        Some(start) => usize::from(*start),
+        None => 0,
+    };
+    start + usize::from(take.port.port)
+}
+
+/// The ends of the takes into so many files, each behind its takes.
+fn put_takes(
+    out: &mut BitWriter,
+    starts: &List<u16>,
+    files: usize,
+    takes: &Takes,
+) -> Result<(), AllocError>
+    ensures { OnOk result (out.new ≡ out.old ++ placed_takes starts.now files 0 takes.now) }
+{
+    let mut next = 0;
     for take in takes.iter() {
-        if usize::from(take.port.unit) == unit {
-            return false;
-        }
+        let place = file_place(take, starts);
+        put_take(out, place.saturating_sub(next), take)?;
+        next = place;
     }
-    true
+    put_zeros(out, files.saturating_sub(next))
 }
 
-fn put_takes(out: &mut BitWriter, units: &List<UnitDesc>, takes: &Takes) -> Result<(), AllocError>
-    ensures { OnOk result (out.new ≡ out.old ++ flat_map (λ u.
-        ports_bits (length (nth units.now u no_unit).files) (filter (λ take. take.port.unit == u) takes.now))
-        (range_with_len 0 (length units.now))) }
+/// Whether the word does nothing.
+#[inline]
+fn is_idle(word: &Word) -> bool
+    ensures { IsTrue result → (word.now.issues ≡ []) × (word.now.enables ≡ []) × (word.now.takes ≡ []) }
 {
-    // Where nothing is taken into a unit's files, only the ends of their takes are put, together with those behind.
-    let mut none = 0;
-    for (unit, desc) in units.iter().enumerate() {
-        let ports = desc.files.len();
-        if ports <= MOST - none && takes_none(takes, unit) {
-            none += ports;
-            continue;
-        }
-        out.put(none as u32, 0)?;
-        none = 0;
-        put_unit_takes(out, unit, ports, takes)?;
-    }
-    out.put(none as u32, 0)
+    word.issues.is_empty() && word.enables.is_empty() && word.takes.is_empty()
 }
 
-#[tactic(auto, unfolding(micro_image::specs::Bits::word_bits))]
-fn put_word(out: &mut BitWriter, image: &Image, word: &Word) -> Result<(), AllocError>
+fn put_word(
+    out: &mut BitWriter,
+    image: &Image,
+    starts: &List<u16>,
+    files: usize,
+    word: &Word,
+) -> Result<(), AllocError>
+    requires valid { IsValid image.now }
+    requires word { IsWordOf image.now word.now }
+    requires starts { starts.now ≡ starts_in image.now }
+    requires files { files ≡ sizes (files_of image.now) 0 (length image.now.units) }
     ensures { OnOk result (out.new ≡ out.old ++ word_bits image.now.units image.now.buses word.now) }
 {
-    put_issues(out, image.units.len(), &word.issues)?;
+    let units = image.units.len();
+    put_issues(out, units, &word.issues)?;
     put_enables(
         out,
-        image.units.len(),
-        usize::from(image.buses),
+        image.buses,
+        units * usize::from(image.buses),
         &word.enables,
     )?;
-    put_takes(out, &image.units, &word.takes)
+    put_takes(out, starts, files, &word.takes)
 }
 
-fn put_words(out: &mut BitWriter, image: &Image) -> Result<(), AllocError>
+fn put_words(alloc: Global, out: &mut BitWriter, image: &Image) -> Result<(), AllocError>
+    requires { IsValid image.now }
     ensures { OnOk result (out.new ≡ out.old ++ flat_map (word_bits image.now.units image.now.buses) image.now.words) }
 {
+    let starts = starts_of(alloc, image)?;
+    let files = files_of(image);
+    let idle = idle_bits_of(image);
     for word in image.words.iter() {
-        put_word(out, image, word)?;
+        // Many words do nothing.
+        if is_idle(word) {
+            put_zeros(out, idle)?;
+        } else {
+            put_word(out, image, &starts, files, word)?;
+        }
     }
     Ok(())
 }
@@ -508,11 +437,12 @@ fn head(alloc: Global) -> Result<Bytes, AllocError>
 
 #[tactic(auto, unfolding(micro_image::specs::Bits::image_bits))]
 fn spelling_of(alloc: Global, image: &Image) -> Result<Bytes, AllocError>
+    requires { IsValid image.now }
     ensures { IfOk result (λ bytes. Padded (bits_of (begun 2 []) ++ image_bits image.now) bytes) }
 {
     let mut out = BitWriter::new(head(alloc)?);
     put_hardware(&mut out, image)?;
-    put_words(&mut out, image)?;
+    put_words(alloc, &mut out, image)?;
     out.finish()
 }
 

@@ -6,9 +6,11 @@ mod bit_writer;
 mod encoder;
 mod fault;
 mod fields;
+mod places;
 pub mod widths;
 
 pub use bit_reader::BitReader;
 pub use encoder::encode;
 pub use fault::{BitFault, CodeFault};
 pub use fields::{are_zeros, choice_width_of};
+pub use places::idle_bits_of;

@@ -1,38 +1,36 @@
-use Rattle.std.proofs.Common.{◌≡◌, ◌==◌, ◌∙◌, ap, sym, subst, ℕ, List, ◌++◌, replicate, OnOk, arith}
-use Rattle.std.specs.List.{filter}
-use Rattle.micro_image.specs.Bits.{enable_bits}
-use Rattle.packed_file.proofs.BitNumbers.{no_bits}
-use Rattle.packed_file.proofs.Encoded.{next_zeros, next_behind, no_enable_bits, no_enables}
+use Rattle.std.proofs.Common.{◌≡◌, ◌∙◌, ◌+◌, ◌*◌, ◌-◌, ◌++◌, [], ◌∷◌, ap, ap₂, sym, subst, refl, ℕ, List, replicate}
+use Rattle.std.proofs.Common.{get_or, drop}
+use Rattle.std.proofs.Common.{OnOk, arith}
+use Rattle.micro_image.specs.declared.image.Enable.{Enable}
+use Rattle.packed_file.specs.Private.Placed.{placed_enables}
+use Rattle.packed_file.proofs.Placed.{placed_step, placed_end, one_flag}
 use Rattle.packed_file.proofs.encoder.put_enables.Goals as goal
 
-pub returns-in-Some : goal.returns-in-Some
-returns-in-Some c =
-    subst (λ (new : List ℕ). OnOk c.put_zeros.result (c.put_zeros.new.out ≡ c.args.out.now ++ new))
-    (ap (λ (k : ℕ). replicate k 0) c.in-Some.ensures.1
-    ∙ no_enables c.args.units c.args.buses c.args.enables.now (c.is_empty.ensures.0 c.if-is_empty.true))
+abbrev place : (buses : ℕ) → Enable → ℕ
+place buses enable = enable.unit * buses + enable.bus
+
+pub loop-enable-preserved : goal.loop-enable-preserved
+loop-enable-preserved c =
+    let nothing : Enable = record { unit = 0; bus = 0 } in
+    let nothing : Enable = record { unit = 0; bus = 0 } in
+    let items : List Enable = c.deref-enable-items.result.now in
+    let k : ℕ = c.loop-enable.enable-index in
+    let enable : Enable = get_or items k nothing in
+    let out : List ℕ = c.put_behind.new.out in
+    let total : List ℕ = c.args.out.now ++ placed_enables c.args.buses c.args.flags 0 c.args.enables.now in
+    let at : c.flag_place-place.result ≡ place c.args.buses enable = c.flag_place-place.ensures.place in
+    subst (λ (p : ℕ). out ++ placed_enables c.args.buses c.args.flags (p + 1) (drop (k + 1) items) ≡ total) (sym at)
+    (placed_step (place c.args.buses) (λ _. 1 ∷ []) 1 c.args.flags c.loop-enable.out out total items k
+    c.loop-enable.next
+    enable nothing (omega arith) refl c.loop-enable.invariant
+    (c.in_ok-put_behind.ensures
+    ∙ ap₂ (λ (zeros : ℕ) (own : List ℕ). c.loop-enable.out ++ (replicate zeros 0 ++ own))
+    (c.saturating_sub.ensures ∙ ap (λ (p : ℕ). p - c.loop-enable.next) at) one_flag))
+
+pub returns : goal.returns
+returns c =
+    subst (λ (new : List ℕ). OnOk c.put_zeros.result (c.put_zeros.new.out ≡ new))
+    (ap (λ (zeros : ℕ). c.loop-enable.out ++ replicate zeros 0) c.saturating_sub-2.ensures
+    ∙ placed_end (place c.args.buses) (λ _. 1 ∷ []) 1 c.args.flags c.loop-enable.out _ c.deref-enable-items.result.now
+    c.loop-enable.enable-index c.loop-enable.next (omega arith) c.loop-enable.invariant)
     c.put_zeros.ensures
-
-pub loop-unit-init : goal.loop-unit-init
-loop-unit-init c = record { few = omega arith; put = ap (λ (t : List ℕ). c.args.out.now ++ t) (sym (no_bits 0)) }
-
-pub loop-unit-preserved-then-drives_none : goal.loop-unit-preserved-then-drives_none
-loop-unit-preserved-then-drives_none c =
-    let put : ℕ → List ℕ =
-    λ u. enable_bits c.args.buses (filter (λ enable. enable.unit == u) c.args.enables.now) in
-    record {
-      few = omega arith;
-      put = next_zeros put c.args.out.now c.loop-unit.out c.loop-unit.unit c.loop-unit.none c.args.buses
-          c.loop-unit.invariant.put
-          (no_enable_bits c.args.buses
-          ∙ ap (enable_bits c.args.buses) (sym (c.drives_none.ensures c.if-drives_none.true)));
-    }
-
-pub loop-unit-preserved : goal.loop-unit-preserved
-loop-unit-preserved c =
-    let put : ℕ → List ℕ =
-    λ u. enable_bits c.args.buses (filter (λ enable. enable.unit == u) c.args.enables.now) in
-    record {
-      few = omega arith;
-      put = next_behind put c.args.out.now c.loop-unit.out c.put.new.self c.put_drives.new.out c.loop-unit.unit
-          c.loop-unit.none c.loop-unit.invariant.put c.in_ok-put.ensures c.in_ok-put_drives.ensures;
-    }

@@ -1,12 +1,8 @@
-use Rattle.std.proofs.Common.{◌≡◌, ◌==◌, ◌≤◌, ◌++◌}
-use Rattle.std.specs.List.{flat_map, filter, range_with_len}
-use Rattle.micro_image.specs.Bits.{bits, enable_bits}
+use Rattle.std.proofs.Common.{◌≡◌, ◌++◌, drop}
+use Rattle.packed_file.specs.Private.Placed.{placed_enables}
 use Rattle.packed_file.proofs.encoder.put_enables.Given as goal
 
-abbrev pub invariant-loop-unit : goal.invariant-loop-unit
-invariant-loop-unit l = record {
-  few : l.none ≤ 57;
-  put : l.out ++ bits l.none 0
-      ≡ l.fn.out
-      ++ flat_map (λ u. enable_bits l.buses (filter (λ enable. enable.unit == u) l.enables)) (range_with_len 0 l.unit);
-}
+abbrev pub invariant-loop-enable : goal.invariant-loop-enable
+invariant-loop-enable l =
+    l.out ++ placed_enables l.buses l.flags l.next (drop l.enable-index l.enable-items)
+    ≡ l.fn.out ++ placed_enables l.buses l.flags 0 l.enables

@@ -1,33 +1,33 @@
-use Rattle.std.proofs.Common.{◌≡◌, ◌==◌, ◌∙◌, ap, sym, subst, ℕ, List, ◌++◌, OnOk, arith}
-use Rattle.std.specs.List.{filter}
-use Rattle.micro_image.specs.Bits.{issue_bits}
-use Rattle.packed_file.proofs.BitNumbers.{no_bits}
-use Rattle.packed_file.proofs.Encoded.{next_zeros, next_behind, no_issue_bits, no_issues}
+use Rattle.std.proofs.Common.{◌≡◌, ◌∙◌, ◌+◌, ◌-◌, ◌++◌, ◌∷◌, ap, sym, subst, ℕ, List, replicate, drop, OnOk, arith}
+use Rattle.micro_image.specs.declared.image.Issue.{Issue}
+use Rattle.micro_image.specs.Bits.{in_bits}
+use Rattle.micro_image.specs.Form.{spelled_operation}
+use Rattle.packed_file.specs.Private.Placed.{placed_issues}
+use Rattle.packed_file.proofs.Placed.{placed_step, placed_end}
 use Rattle.packed_file.proofs.encoder.put_issues.Goals as goal
 
-pub returns-then-is_empty : goal.returns-then-is_empty
-returns-then-is_empty c =
-    subst (λ (new : List ℕ). OnOk c.put_zeros.result (c.put_zeros.new.out ≡ c.args.out.now ++ new))
-    (no_issues c.args.units c.args.issues.now (c.is_empty.ensures.0 c.if-is_empty.true))
+abbrev put : Issue → List ℕ
+put issue = 1 ∷ spelled_operation in_bits issue
+
+pub loop-issue-preserved : goal.loop-issue-preserved
+loop-issue-preserved c =
+    let units : ℕ = c.args.units in
+    let items : List Issue = c.deref-issue-items.result.now in
+    let k : ℕ = c.loop-issue.issue-index in
+    let out : List ℕ = c.put_issue.new.out in
+    let total : List ℕ = c.args.out.now ++ placed_issues units 0 c.args.issues.now in
+    let at : c.from-unit.result ≡ c.issue-item.result.unit = c.from-unit.ensures in
+    subst (λ (p : ℕ). out ++ placed_issues units (p + 1) (drop (k + 1) items) ≡ total) (sym at)
+    (placed_step (λ issue. issue.unit) put 1 units c.loop-issue.out out total items k c.loop-issue.next
+    c.issue-item.result c.issue-item.result (omega arith) c.issue-item.is c.loop-issue.invariant
+    (c.in_ok-put_issue.ensures
+    ∙ ap (λ (zeros : ℕ). c.loop-issue.out ++ (replicate zeros 0 ++ put c.issue-item.result))
+    (c.saturating_sub.ensures ∙ ap (λ (p : ℕ). p - c.loop-issue.next) at)))
+
+pub returns : goal.returns
+returns c =
+    subst (λ (new : List ℕ). OnOk c.put_zeros.result (c.put_zeros.new.out ≡ new))
+    (ap (λ (zeros : ℕ). c.loop-issue.out ++ replicate zeros 0) c.saturating_sub-2.ensures
+    ∙ placed_end (λ issue. issue.unit) put 1 c.args.units c.loop-issue.out _ c.deref-issue-items.result.now
+    c.loop-issue.issue-index c.loop-issue.next (omega arith) c.loop-issue.invariant)
     c.put_zeros.ensures
-
-pub loop-unit-init : goal.loop-unit-init
-loop-unit-init c = record { few = omega arith; put = ap (λ (t : List ℕ). c.args.out.now ++ t) (sym (no_bits 0)) }
-
-pub loop-unit-preserved-then-issues_none : goal.loop-unit-preserved-then-issues_none
-loop-unit-preserved-then-issues_none c =
-    let put : ℕ → List ℕ = λ u. issue_bits (filter (λ issue. issue.unit == u) c.args.issues.now) in
-    record {
-      few = omega arith;
-      put = next_zeros put c.args.out.now c.loop-unit.out c.loop-unit.unit c.loop-unit.none 1 c.loop-unit.invariant.put
-          (no_issue_bits ∙ ap issue_bits (sym (c.issues_none.ensures c.if-issues_none.true)));
-    }
-
-pub loop-unit-preserved : goal.loop-unit-preserved
-loop-unit-preserved c =
-    let put : ℕ → List ℕ = λ u. issue_bits (filter (λ issue. issue.unit == u) c.args.issues.now) in
-    record {
-      few = omega arith;
-      put = next_behind put c.args.out.now c.loop-unit.out c.put.new.self c.put_slot.new.out c.loop-unit.unit
-          c.loop-unit.none c.loop-unit.invariant.put c.in_ok-put.ensures c.in_ok-put_slot.ensures;
-    }

@@ -1,52 +1,36 @@
-use Rattle.std.proofs.Common.{◌≡◌, ◌==◌, ◌∙◌, ap, sym, ℕ, List, ◌++◌, length, arith}
-use Rattle.std.proofs.lemmas.List.{get_or_default}
-use Rattle.std.specs.List.{filter}
-use Rattle.micro_image.specs.declared.image.UnitDesc.{UnitDesc}
-use Rattle.micro_image.specs.Bits.{ports_bits}
-use Rattle.micro_image.specs.Fields.{nth, no_unit}
-use Rattle.packed_file.proofs.BitNumbers.{no_bits}
-use Rattle.packed_file.proofs.Encoded.{next_zeros, next_behind, no_ports_bits}
+use Rattle.std.proofs.Common.{◌≡◌, ◌∙◌, ◌+◌, ◌-◌, ◌++◌, ap, subst, refl, ℕ, List, replicate, get_or, drop, OnOk, arith}
+use Rattle.micro_image.specs.declared.image.Take.{Take}
+use Rattle.micro_image.specs.Bits.{take_bits}
+use Rattle.packed_file.specs.Private.Placed.{placed_takes}
+use Rattle.packed_file.proofs.Placed.{placed_step, placed_end}
 use Rattle.packed_file.proofs.encoder.put_takes.Goals as goal
 
-pub loop-unit-init : goal.loop-unit-init
-loop-unit-init c = record { few = omega arith; put = ap (λ (t : List ℕ). c.args.out.now ++ t) (sym (no_bits 0)) }
+abbrev place : (starts : List ℕ) → Take → ℕ
+place starts take = get_or starts take.port.unit 0 + take.port.port
 
-pub loop-unit-preserved-then-takes_none : goal.loop-unit-preserved-then-takes_none
-loop-unit-preserved-then-takes_none c =
-    let ports_put : ℕ → ℕ → List ℕ =
-    λ u ports. ports_bits ports (filter (λ take. take.port.unit == u) c.args.takes.now) in
-    let put : ℕ → List ℕ = λ u. ports_put u (length (nth c.args.units.now u no_unit).files) in
-    let items : List UnitDesc = c.deref-desc-items.result.now in
-    let unit : ℕ = c.loop-unit.unit in
-    let desc : c.desc-item.result ≡ nth c.args.units.now unit no_unit =
-    c.desc-item.is ∙ get_or_default items unit c.desc-item.result no_unit (omega arith)
-    ∙ ap (λ (units : List UnitDesc). nth units unit no_unit) c.deref-desc-items.ensures in
-    let ports : c.len-ports.result ≡ length (nth c.args.units.now unit no_unit).files =
-    c.len-ports.ensures ∙ ap (λ (d : UnitDesc). length d.files) desc in
-    record {
-      few = omega arith;
-      put = next_zeros put c.args.out.now c.loop-unit.out unit c.loop-unit.none c.len-ports.result
-          c.loop-unit.invariant.put
-          (no_ports_bits c.len-ports.result
-          ∙ ap (ports_bits c.len-ports.result) (sym (c.takes_none.ensures c.if-takes_none.true))
-          ∙ ap (ports_put unit) ports);
-    }
+pub loop-take-preserved : goal.loop-take-preserved
+loop-take-preserved c =
+    let starts : List ℕ = c.args.starts.now in
+    let files : ℕ = c.args.files in
+    let nothing : Take = record { port = record { unit = 0; port = 0 }; bus = 0; reg = 0 } in
+    let items : List Take = c.deref-take-items.result.now in
+    let k : ℕ = c.loop-take.take-index in
+    let take : Take = get_or items k nothing in
+    let out : List ℕ = c.put_take.new.out in
+    let total : List ℕ = c.args.out.now ++ placed_takes starts files 0 c.args.takes.now in
+    let at : c.file_place-place.result ≡ place starts take = c.file_place-place.ensures in
+    let left : place starts take + 0 ≡ c.file_place-place.result = omega (arith, at) in
+    subst (λ (p : ℕ). out ++ placed_takes starts files p (drop (k + 1) items) ≡ total) left
+    (placed_step (place starts) take_bits 0 files c.loop-take.out out total items k c.loop-take.next
+    take nothing (omega arith) refl c.loop-take.invariant
+    (c.in_ok-put_take.ensures
+    ∙ ap (λ (zeros : ℕ). c.loop-take.out ++ (replicate zeros 0 ++ take_bits take))
+    (c.saturating_sub.ensures ∙ ap (λ (p : ℕ). p - c.loop-take.next) at)))
 
-pub loop-unit-preserved : goal.loop-unit-preserved
-loop-unit-preserved c =
-    let ports_put : ℕ → ℕ → List ℕ =
-    λ u ports. ports_bits ports (filter (λ take. take.port.unit == u) c.args.takes.now) in
-    let put : ℕ → List ℕ = λ u. ports_put u (length (nth c.args.units.now u no_unit).files) in
-    let items : List UnitDesc = c.deref-desc-items.result.now in
-    let unit : ℕ = c.loop-unit.unit in
-    let desc : c.desc-item.result ≡ nth c.args.units.now unit no_unit =
-    c.desc-item.is ∙ get_or_default items unit c.desc-item.result no_unit (omega arith)
-    ∙ ap (λ (units : List UnitDesc). nth units unit no_unit) c.deref-desc-items.ensures in
-    let ports : c.len-ports.result ≡ length (nth c.args.units.now unit no_unit).files =
-    c.len-ports.ensures ∙ ap (λ (d : UnitDesc). length d.files) desc in
-    record {
-      few = omega arith;
-      put = next_behind put c.args.out.now c.loop-unit.out c.put.new.self c.put_unit_takes.new.out unit
-          c.loop-unit.none c.loop-unit.invariant.put c.in_ok-put.ensures
-          (c.in_ok-put_unit_takes.ensures ∙ ap (λ n. c.put.new.self ++ ports_put unit n) ports);
-    }
+pub returns : goal.returns
+returns c =
+    subst (λ (new : List ℕ). OnOk c.put_zeros.result (c.put_zeros.new.out ≡ new))
+    (ap (λ (zeros : ℕ). c.loop-take.out ++ replicate zeros 0) c.saturating_sub-2.ensures
+    ∙ placed_end (place c.args.starts.now) take_bits 0 c.args.files c.loop-take.out _ c.deref-take-items.result.now
+    c.loop-take.take-index c.loop-take.next (omega arith) c.loop-take.invariant)
+    c.put_zeros.ensures

@@ -1,9 +1,0 @@
-use Rattle.std.proofs.Common.{◌≡◌, ◌==◌, [], take}
-use Rattle.std.specs.List.{filter}
-use Rattle.packed_file.proofs.encoder.drives.Given as goal
-
-abbrev pub invariant-loop-enable : goal.invariant-loop-enable
-invariant-loop-enable l =
-    filter (λ enable. enable.bus == l.bus)
-    (filter (λ enable. enable.unit == l.unit) (take l.enable-index l.enable-items))
-    ≡ []
