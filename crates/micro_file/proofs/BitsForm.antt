@@ -21,7 +21,7 @@ use Rattle.micro_image.specs.Codes.{mode_number}
 use Rattle.micro_image.specs.Fields.{nth}
 use Rattle.micro_image.specs.Operations.{Argument, nothing, input_word, output_word, raw_word, offset, operation}
 use Rattle.micro_image.specs.Operations.{is_formatted, reads}
-use Rattle.micro_image.specs.Valid.{IsFormatWhere, IsArgumentOf, AreRegisters}
+use Rattle.micro_image.specs.Valid.{IsFormatWhere, offsets, IsArgumentOf, AreRegisters}
 use Rattle.packed_file.proofs.Bits.{IsDigits}
 use Rattle.micro_file.specs.Bits.{number_at, number_upto, number_less_1_upto, number_below, entry_at, raw_word_at}
 use Rattle.micro_file.specs.Bits.{some_words_at, preload_at, some_format_at, no_format, argument_at}
@@ -276,7 +276,7 @@ argument_reader input_word inputs outs few less =
 argument_reader output_word inputs outs few less =
     argument_of_reader 4 outs (number_below 4 outs) (below_reader 4 outs less)
 argument_reader raw_word inputs outs few less = raw_word_reader
-argument_reader offset inputs outs few less = argument_of_reader 16 65536 (number_at 16) (number_reader 16)
+argument_reader offset inputs outs few less = argument_of_reader 16 offsets (number_at 16) (number_reader 16)
 
 -- ---- registers
 

@@ -21,8 +21,8 @@ use Rattle.micro_file.specs.declared.misread.Misread.TheVariants as misread
 use Rattle.micro_file.specs.Bits.{at_bits}
 use Rattle.micro_file.specs.Bytes.{at_bytes, byte_at, only_byte}
 use Rattle.micro_file.specs.Fields.{Reading, refused}
-use Rattle.micro_file.specs.File.{numbered, head_at, ended, bytes_at, padding_at, bits_at, byte_placed, version_at}
-use Rattle.micro_file.specs.File.{whole_at}
+use Rattle.micro_file.specs.File.{numbered, head_at, ended, byte_image_at, padding_at, bit_image_at, byte_placed}
+use Rattle.micro_file.specs.File.{image_behind, whole_at}
 use Rattle.micro_file.specs.Hardware.{image_at}
 use Rattle.micro_file.specs.PackedWords.{packed_word_at}
 use Rattle.micro_file.specs.Words.{word_at}
@@ -153,9 +153,9 @@ bytes_reader =
 
 bytes_took : (bytes : List ℕ) (image : Image)
     → IsDigits byte_values bytes
-    → bytes_at bytes ≡ Ok image
+    → byte_image_at bytes ≡ Ok image
     → IsValid image × (bytes ≡ image_bytes image)
-unfolding bytes_at
+unfolding byte_image_at
 bytes_took bytes image fits e =
     let s = bound (image_at at_bytes word_at bytes) ended image e in
     let t = bytes_reader.took bytes fits s.0 s.1 in
@@ -165,8 +165,8 @@ bytes_took bytes image fits e =
       t.text.parts ∙ ap (λ (rest : List ℕ). image_bytes s.0.0 ++ rest) end.0 ∙ append-nil (image_bytes s.0.0),
     )
 
-bytes_again : (image : Image) → IsValid image → bytes_at (image_bytes image) ≡ Ok image
-unfolding bytes_at
+bytes_again : (image : Image) → IsValid image → byte_image_at (image_bytes image) ≡ Ok image
+unfolding byte_image_at
 bytes_again image ok =
     let found : image_at at_bytes word_at (image_bytes image) ≡ Ok (image, []) =
     ap (image_at at_bytes word_at) (sym (append-nil (image_bytes image))) ∙ bytes_reader.again image [] ok in
@@ -232,9 +232,9 @@ bits_of_digits (b ∷ bytes) =
 
 bits_took : (bytes : List ℕ) (image : Image)
     → AreBytes bytes
-    → bits_at (bits_of bytes) ≡ Ok image
+    → bit_image_at (bits_of bytes) ≡ Ok image
     → IsValid image × Holds bytes (image_bits image)
-unfolding bits_at
+unfolding bit_image_at
 bits_took bytes image are e =
     let s = bound2 (image_at at_bits packed_word_at (bits_of bytes)) padding_behind ended_behind image e in
     let t = bits_reader.took (bits_of bytes) (bits_of_digits bytes) s.0 s.2 in
@@ -253,8 +253,8 @@ bits_took bytes image are e =
 bits_again : (bytes : List ℕ) (image : Image)
     → IsValid image
     → Holds bytes (image_bits image)
-    → bits_at (bits_of bytes) ≡ Ok image
-unfolding bits_at
+    → bit_image_at (bits_of bytes) ≡ Ok image
+unfolding bit_image_at
 bits_again bytes image ok h =
     let found : image_at at_bits packed_word_at (bits_of bytes) ≡ Ok (image, replicate h.zeros 0) =
     ap (image_at at_bits packed_word_at) h.packed ∙ bits_reader.again image (replicate h.zeros 0) ok in
@@ -274,13 +274,13 @@ bytes_are bytes fits k d lt = subst (λ (b : ℕ). b < 2 ^ 8) (get_or_default by
 
 version_took : (bytes : List ℕ) (v : Version × List ℕ) (image : Image)
     → IsBegun bytes v
-    → version_at v ≡ Ok image
+    → image_behind v ≡ Ok image
     → Spells bytes image
 version_took bytes (One, rest) image is e =
     let t = bytes_took rest image is.rest_fits e in
     record { valid = t.0; version = One; spelled = is.begins ∙ ap (begun 1) t.1 }
 version_took bytes (Two, rest) image is e =
-    let t = bits_took rest image (bytes_are rest is.rest_fits) (was_placed (bits_at (bits_of rest)) image e) in
+    let t = bits_took rest image (bytes_are rest is.rest_fits) (was_placed (bit_image_at (bits_of rest)) image e) in
     record { valid = t.0; version = Two; spelled = record { rest = rest; begins = is.begins; holds = t.1 } }
 
 -- what is read is spelled by exactly these bytes
@@ -291,7 +291,7 @@ pub whole_spells : (bytes : List ℕ)
     → Spells bytes image
 unfolding whole_at
 whole_spells bytes fits image e =
-    let s = bound (head_at bytes) version_at image e in
+    let s = bound (head_at bytes) image_behind image e in
     version_took bytes s.0 image (head_took bytes fits s.0 s.1) s.2
 
 version_again : (bytes : List ℕ) (image : Image) (version : Version)
@@ -302,10 +302,10 @@ unfolding whole_at
 version_again bytes image One ok spelled =
     let head : head_at bytes ≡ Ok (One, image_bytes image) =
     ap head_at spelled ∙ head_again One (image_bytes image) in
-    joined (head_at bytes) version_at (One, image_bytes image) (Ok image) head (bytes_again image ok)
+    joined (head_at bytes) image_behind (One, image_bytes image) (Ok image) head (bytes_again image ok)
 version_again bytes image Two ok h =
     let head : head_at bytes ≡ Ok (Two, h.rest) = ap head_at h.begins ∙ head_again Two h.rest in
-    joined (head_at bytes) version_at (Two, h.rest) (Ok image) head
+    joined (head_at bytes) image_behind (Two, h.rest) (Ok image) head
     (ap byte_placed (bits_again h.rest image ok h.holds))
 
 -- and what is spelled is read

@@ -1,16 +1,23 @@
--- The flags of unit after unit, each bus by bus, as one row of flags.
-use Rattle.std.proofs.Common.{◌≡◌, ℕ, zero, suc, ◌+◌, ◌*◌, ◌/◌, ◌%◌, ◌≤◌, List, [], ◌∷◌, length, Ok, Err}
-use Rattle.std.proofs.Common.{refl, sym, ◌∙◌, arith}
-use Rattle.std.proofs.Math.Nat.{suc-mul, zero-mul}
-use Rattle.std.proofs.lemmas.Nat.{div-mul-add, mod-mul-add}
+-- The flags of unit after unit as one row of flags.
+use Rattle.std.proofs.Common.{◌≡◌, ℕ, zero, suc, ◌+◌, ◌-◌, List, [], ◌∷◌, ◌++◌, length, Ok, Err, refl, sym, ap, ◌∙◌}
+use Rattle.std.specs.List.{flat_map, range_with_len}
+use Rattle.std.proofs.lemmas.List.Concat.{flat_map-cons}
 use Rattle.micro_image.specs.declared.image.Enable.{Enable}
 use Rattle.micro_image.specs.declared.image.Image.{Image}
+use Rattle.micro_image.specs.declared.image.Issue.{Issue}
+use Rattle.micro_image.specs.declared.image.Take.{Take}
+use Rattle.micro_image.specs.declared.image.Word.{Word}
+use Rattle.micro_image.specs.Fields.{nth, no_unit}
+use Rattle.micro_file.specs.declared.word_flags.PortFile.{PortFile}
 use Rattle.micro_file.specs.Fields.{Reading, ◌>>=◌, each_at}
-use Rattle.micro_file.specs.PackedWords.{drive_at, unit_drives_at, drives_at}
-use Rattle.micro_file.proofs.Idle.{no_drive}
+use Rattle.micro_file.specs.PackedWords.{most_takes, slots_at, unit_drives_at, drives_at, file_takes_at, unit_takes_at}
+use Rattle.micro_file.specs.PackedWords.{word_takes_at, packed_word_at}
+use Rattle.micro_file.specs.Private.WordFlags.{drive_of, file_of, every_drive, every_file, on_at, into_at, over_at}
+use Rattle.micro_file.specs.Private.WordFlags.{listed_drives_at, listed_takes_at, listed_word_at}
+use Rattle.micro_file.proofs.Idle.{no_drive, none_taken}
 
-then_same : {A : Type 0} (r : Reading (List A)) (f g : List A × List ℕ → Reading (List A))
-    → ((x : List A × List ℕ) → f x ≡ g x)
+then_same : {A B : Type 0} (r : Reading A) (f g : A × List ℕ → Reading B)
+    → ((x : A × List ℕ) → f x ≡ g x)
     → (r >>= f) ≡ (r >>= g)
 then_same (Ok x) f g e = e x
 then_same (Err misread) f g e = refl
@@ -21,62 +28,87 @@ then_then : {A : Type 0} (r : Reading (List A)) (f g h : List A × List ℕ → 
 then_then (Ok x) f g h e = e x
 then_then (Err misread) f g h e = refl
 
--- what the number k puts in a row of rows of m
-abbrev flat : {A : Type 0} → (ℕ → List A → ℕ → List ℕ → Reading (List A)) → ℕ → List A → ℕ → List ℕ → Reading (List A)
-flat one m front k = one (k / m) front (k % m)
+module _ {A B : Type 0} (one : List A → B → List ℕ → Reading (List A)) where
+  over_parts : (ys zs : List B) (front : List A) (bits : List ℕ)
+      → over_at one front (ys ++ zs) bits ≡ (over_at one front ys bits >>= λ x. over_at one x.0 zs x.1)
+  unfolding over_at
+  over_parts [] zs front bits = refl
+  over_parts (y ∷ ys) zs front bits =
+      then_then (one front y bits) (λ x. over_at one x.0 ys x.1) (λ x. over_at one x.0 zs x.1)
+      (λ x. over_at one x.0 (ys ++ zs) x.1) (λ x. over_parts ys zs x.0 x.1)
 
-module _ {A : Type 0} (one : ℕ → List A → ℕ → List ℕ → Reading (List A)) (m : ℕ) where
-  -- the rest of a row, and more behind it
-  row : (u j c more : ℕ) (front : List A) (bits : List ℕ)
-      → j + c ≤ m
-      → each_at (flat one m) front (u * m + j) (c + more) bits
-      ≡ (each_at (one u) front j c bits >>= λ x. each_at (flat one m) x.0 (u * m + (j + c)) more x.1)
-  unfolding each_at
-  row u j zero more front bits le =
-      let all : 0 + more ≡ more = omega arith in
-      let same : j + 0 ≡ j = omega arith in
-      rw (all, same) refl
-  row u j (suc c) more front bits le =
-      let all : suc c + more ≡ suc (c + more) = omega arith in
-      let quotient : (u * m + j) / m ≡ u = div-mul-add u m j (omega (arith, le)) in
-      let rest : (u * m + j) % m ≡ j = mod-mul-add u m j (omega (arith, le)) in
-      let next : u * m + j + 1 ≡ u * m + (j + 1) = omega arith in
-      let end : j + suc c ≡ (j + 1) + c = omega arith in
-      rw (all, quotient, rest)
-      (then_then (one u front j bits) (λ x. each_at (one u) x.0 (j + 1) c x.1)
-      (λ x. each_at (flat one m) x.0 (u * m + (j + suc c)) more x.1)
-      (λ x. each_at (flat one m) x.0 (u * m + j + 1) (c + more) x.1)
-      (λ x. rw (next, end) (row u (j + 1) c more x.0 x.1 (omega (arith, le)))))
+  -- a row of places
+  row : (place : ℕ → B) (first n : ℕ) (front : List A) (bits : List ℕ)
+      → each_at (λ front k. one front (place k)) front first n bits
+      ≡ over_at one front (flat_map (λ k. place k ∷ []) (range_with_len first n)) bits
+  unfolding each_at over_at
+  row place first zero front bits = refl
+  row place first (suc n) front bits =
+      then_same (one front (place first) bits) (λ x. each_at (λ front k. one front (place k)) x.0 (first + 1) n x.1)
+      (λ x. over_at one x.0 (flat_map (λ k. place k ∷ []) (range_with_len (first + 1) n)) x.1)
+      (λ x. row place (first + 1) n x.0 x.1)
+      ∙ ap (λ (ys : List B). over_at one front ys bits)
+      (sym (flat_map-cons (λ k. place k ∷ []) first (range_with_len (first + 1) n)))
 
   -- row by row
-  flattened : (front : List A) (first n : ℕ) (bits : List ℕ)
-      → each_at (λ front u. each_at (one u) front 0 m) front first n bits
-      ≡ each_at (flat one m) front (first * m) (n * m) bits
-  unfolding each_at
-  flattened front first zero bits = rw (zero-mul m) refl
-  flattened front first (suc n) bits =
-      let all : suc n * m ≡ m + n * m = omega (arith, suc-mul n m) in
-      let start : first * m + 0 ≡ first * m = omega arith in
-      let next : (first + 1) * m ≡ first * m + (0 + m) = omega (arith, suc-mul first m) in
-      let whole : each_at (flat one m) front (first * m + 0) (m + n * m) bits
-      ≡ each_at (flat one m) front (first * m) (suc n * m) bits = rw (all, start) refl in
-      then_same (each_at (one first) front 0 m bits)
-      (λ x. each_at (λ front u. each_at (one u) front 0 m) x.0 (first + 1) n x.1)
-      (λ x. each_at (flat one m) x.0 (first * m + (0 + m)) (n * m) x.1)
-      (λ x. rw next at (flattened x.0 (first + 1) n x.1))
-      ∙ sym (row first 0 m (n * m) front bits (omega arith))
-      ∙ whole
+  rows : (place : ℕ → ℕ → B) (count : ℕ → ℕ) (first n : ℕ) (front : List A) (bits : List ℕ)
+      → each_at (λ front u. each_at (λ front k. one front (place u k)) front 0 (count u)) front first n bits
+      ≡ over_at one front
+      (flat_map (λ u. flat_map (λ k. place u k ∷ []) (range_with_len 0 (count u))) (range_with_len first n))
+      bits
+  unfolding each_at over_at
+  rows place count first zero front bits = refl
+  rows place count first (suc n) front bits =
+      let of : ℕ → List B = λ u. flat_map (λ k. place u k ∷ []) (range_with_len 0 (count u)) in
+      let others : List B = flat_map of (range_with_len (first + 1) n) in
+      let more : List A × List ℕ → Reading (List A) =
+      λ x. each_at (λ front u. each_at (λ front k. one front (place u k)) front 0 (count u)) x.0 (first + 1) n x.1 in
+      ap (λ (r : Reading (List A)). r >>= more) (row (place first) 0 (count first) front bits)
+      ∙ then_same (over_at one front (of first) bits) more (λ x. over_at one x.0 others x.1)
+      (λ x. rows place count (first + 1) n x.0 x.1)
+      ∙ sym (over_parts (of first) others front bits)
+      ∙ ap (λ (ys : List B). over_at one front ys bits) (sym (flat_map-cons of first (range_with_len (first + 1) n)))
 
--- what the flag k says
-abbrev pub flat_drive_at : Image → List Enable → ℕ → List ℕ → Reading (List Enable)
-flat_drive_at image front k = drive_at (k / image.buses) front (k % image.buses)
-
-pub no_flat_drive : (image : Image) (front : List Enable) (k : ℕ) (rest : List ℕ)
-    → flat_drive_at image front k (0 ∷ rest) ≡ Ok (front, rest)
-no_flat_drive image front k rest = no_drive (k / image.buses) front (k % image.buses) rest
-
-pub flat_drives : (image : Image) (bits : List ℕ)
-    → drives_at image bits ≡ each_at (flat_drive_at image) [] 0 (length image.units * image.buses) bits
-unfolding drives_at unit_drives_at
+-- the drives of a word in one row
+flat_drives : (image : Image) (bits : List ℕ) → drives_at image bits ≡ listed_drives_at (every_drive image) bits
+unfolding drives_at unit_drives_at every_drive
 flat_drives image bits =
-    rw (zero-mul image.buses) at (flattened drive_at image.buses [] 0 (length image.units) bits)
+    rows on_at drive_of (λ _. image.buses) 0 (length image.units) [] bits
+
+-- its register files in one row
+flat_takes : (image : Image) (bits : List ℕ) → word_takes_at image bits ≡ listed_takes_at image (every_file image) bits
+unfolding word_takes_at unit_takes_at file_takes_at every_file
+flat_takes image bits =
+    rows (into_at image) (λ number. file_of (nth image.units number no_unit) number)
+    (λ number. length (nth image.units number no_unit).files) 0 (length image.units) [] bits
+
+-- what is made of takes
+abbrev with_takes : List Issue → List Enable → List Take × List ℕ → Reading Word
+with_takes issues enables takes = Ok (record { issues = issues; enables = enables; takes = takes.0 }, takes.1)
+
+-- the whole word
+pub flat_word : (image : Image) (bits : List ℕ)
+    → listed_word_at image (every_drive image) (every_file image) bits ≡ packed_word_at image bits
+unfolding listed_word_at packed_word_at
+flat_word image bits =
+    then_same (slots_at image bits)
+    (λ issues.
+    listed_drives_at (every_drive image) issues.1 >>= λ enables.
+    listed_takes_at image (every_file image) enables.1 >>= with_takes issues.0 enables.0)
+    (λ issues.
+    drives_at image issues.1 >>= λ enables. word_takes_at image enables.1 >>= with_takes issues.0 enables.0)
+    (λ issues.
+    rw (sym (flat_drives image issues.1))
+    (then_same (drives_at image issues.1)
+    (λ enables. listed_takes_at image (every_file image) enables.1 >>= with_takes issues.0 enables.0)
+    (λ enables. word_takes_at image enables.1 >>= with_takes issues.0 enables.0)
+    (λ enables. rw (sym (flat_takes image enables.1)) refl)))
+
+-- no bus is driven so
+pub not_on : (front : List Enable) (drive : Enable) (rest : List ℕ) → on_at front drive (0 ∷ rest) ≡ Ok (front, rest)
+not_on front drive rest = no_drive drive.unit front drive.bus rest
+
+-- nothing is taken into the file
+pub none_into : (image : Image) (front : List Take) (file : PortFile) (rest : List ℕ)
+    → into_at image front file (0 ∷ rest) ≡ Ok (front, rest)
+none_into image front file rest = none_taken image file.port file.size (most_takes - length front) front rest

@@ -1,31 +1,21 @@
 -- A word that does nothing is all zeros.
-use Rattle.std.proofs.Common.{◌≡◌, ℕ, zero, suc, ◌+◌, ◌-◌, ◌*◌, ◌≤◌, ◌<◌, List, [], ◌∷◌, ◌++◌, length, replicate, Ok}
-use Rattle.std.proofs.Common.{◌≢◌, take, drop, subst, refl, sym, ◌∙◌, ap, arith, append_assoc, false, nat_lt}
-use Rattle.std.proofs.Math.Nat.{suc-mul, zero-mul}
-use Rattle.std.proofs.lemmas.Bool.{le-ltb}
-use Rattle.std.proofs.Math.Seq.{drop-append_seam}
-use Rattle.std.proofs.lemmas.List.{replicate-append-replicate, length-replicate, take-take, take-replicate, drop-take}
-use Rattle.std.proofs.lemmas.List.{drop-replicate}
+use Rattle.std.proofs.Common.{◌≡◌, ℕ, zero, suc, ◌+◌, ◌-◌, ◌*◌, ◌≤◌, List, [], ◌∷◌, ◌++◌, length, replicate, Ok}
+use Rattle.std.proofs.Common.{refl, sym, ◌∙◌, ap, arith, append_assoc}
+use Rattle.std.proofs.lemmas.List.{replicate-append-replicate, length-replicate, length-append, take_at}
 use Rattle.micro_image.specs.declared.image.Enable.{Enable}
 use Rattle.micro_image.specs.declared.image.Image.{Image}
 use Rattle.micro_image.specs.declared.image.Issue.{Issue}
 use Rattle.micro_image.specs.declared.image.Take.{Take}
-use Rattle.micro_image.specs.Fields.{nth, no_unit}
-use Rattle.packed_file.specs.Numbers.{some_at, number_of}
-use Rattle.micro_file.specs.Bits.{number_at}
+use Rattle.micro_image.specs.Fields.{nth, no_unit, no_word}
+use Rattle.operations.specs.declared.units.PortRef.{PortRef}
 use Rattle.micro_file.specs.Fields.{Reading, each_at}
 use Rattle.micro_file.specs.PackedWords.{most_takes, slot_at, slots_at, drive_at, unit_drives_at, drives_at}
-use Rattle.micro_file.specs.PackedWords.{file_takes_at, unit_takes_at, word_takes_at, packed_word_at}
-use Rattle.micro_file.specs.Private.Empty.{no_word}
-use Rattle.micro_file.specs.Private.Idle.{sizes, files_of, idle_bits}
+use Rattle.micro_file.specs.PackedWords.{takes_at, file_takes_at, unit_takes_at, word_takes_at, packed_word_at}
+use Rattle.packed_file.proofs.Sizes.{sizes_alike}
+use Rattle.packed_file.specs.Idle.{sizes, files_of, idle_bits}
+use Rattle.micro_file.specs.Private.Zeros.{StartsWithZeros}
+use Rattle.micro_file.proofs.Flags.{no_flag}
 use Rattle.micro_file.proofs.PortTakes.{takes_end}
-
--- a flag that is 0
-no_flag : (rest : List ℕ) → number_at 1 (0 ∷ rest) ≡ Ok (0, rest)
-unfolding number_at some_at number_of
-no_flag rest =
-    let there : nat_lt (length (0 ∷ rest)) 1 ≡ false = le-ltb (length (0 ∷ rest)) 1 (omega arith) in
-    rw there refl
 
 -- so many zeros, and more behind them
 zeros_behind : (m n : ℕ) (rest : List ℕ)
@@ -33,74 +23,21 @@ zeros_behind : (m n : ℕ) (rest : List ℕ)
 zeros_behind m n rest =
     rw (sym (replicate-append-replicate {A = ℕ} m n 0)) (append_assoc (replicate m 0) (replicate n 0) rest)
 
-module _ (count left : ℕ) (bits own : List ℕ) (le : left ≤ count)
-    (so_far : bits ≡ replicate (count - left) 0 ++ own) where
-  -- the step of a loop that passes so many zeros more
-  pub zeros_go_on : (piece : ℕ) (rest : List ℕ)
-      → piece ≤ left
-      → own ≡ replicate piece 0 ++ rest
-      → bits ≡ replicate (count - (left - piece)) 0 ++ rest
-  zeros_go_on piece rest fits h =
-      let k : count - (left - piece) ≡ (count - left) + piece = omega arith in
-      rw (k, zeros_behind (count - left) piece rest)
-      (so_far ∙ ap (λ (xs : List ℕ). replicate (count - left) 0 ++ xs) h)
+-- zeros in front, and more behind them
+pub more_zeros : (m n : ℕ) (bits own rest : List ℕ)
+    → bits ≡ replicate m 0 ++ own
+    → own ≡ replicate n 0 ++ rest
+    → bits ≡ replicate (m + n) 0 ++ rest
+more_zeros m n bits own rest h more =
+    rw (zeros_behind m n rest) (h ∙ ap (λ (xs : List ℕ). replicate m 0 ++ xs) more)
 
-  -- and its end
-  pub zeros_are_done : (rest : List ℕ) → own ≡ replicate left 0 ++ rest → bits ≡ replicate count 0 ++ rest
-  zeros_are_done rest h =
-      let k : count - (left - left) ≡ count = omega arith in
-      rw k at (zeros_go_on left rest (omega arith) h)
+-- how many are left behind them
+pub zeros_left : (n : ℕ) (own rest : List ℕ) → own ≡ replicate n 0 ++ rest → length own ≡ n + length rest
+zeros_left n own rest e =
+    omega (arith, ap length e, length-append (replicate n 0) rest, length-replicate {A = ℕ} n 0)
 
-  -- where the next of them are not zeros, all are not
-  pub zeros_are_over : (piece : ℕ)
-      → piece ≤ left
-      → take piece own ≢ replicate piece 0
-      → take count bits ≢ replicate count 0
-  zeros_are_over piece fits some all =
-      let passed : List ℕ = replicate (count - left) 0 in
-      let size : length passed ≡ count - left = length-replicate {A = ℕ} (count - left) 0 in
-      let behind : drop (count - left) bits ≡ own =
-      rw so_far (subst (λ (n : ℕ). drop n (passed ++ own) ≡ own) size (drop-append_seam passed own)) in
-      let whole : (count - left) + left ≡ count = omega arith in
-      let rest : count - (count - left) ≡ left = omega arith in
-      let next : drop (count - left) (take count bits) ≡ take left own =
-      rw behind at (rw whole at (drop-take (count - left) left bits)) in
-      let zeros : drop (count - left) (replicate count 0) ≡ replicate left 0 =
-      rw rest at (drop-replicate {X = ℕ} (count - left) count 0) in
-      let front : take left own ≡ replicate left 0 =
-      sym next ∙ ap (λ (xs : List ℕ). drop (count - left) xs) all ∙ zeros in
-      some
-      (sym (take-take piece left own fits)
-      ∙ ap (λ (xs : List ℕ). take piece xs) front
-      ∙ take-replicate {X = ℕ} piece left 0 fits)
-
--- as many of one size
-pub sizes_alike : (size first count : ℕ) → sizes (λ _. size) first count ≡ count * size
-unfolding sizes
-sizes_alike size first zero = sym (zero-mul size)
-sizes_alike size first (suc n) =
-    rw (suc-mul n size, sizes_alike size (first + 1) n) (omega arith)
-
-module _ (size : ℕ → ℕ) (sum first count total : ℕ)
-    (so_far : sum + sizes size first (count - first) ≡ total) where
-  -- the step of a loop that adds one more
-  pub sum_goes_on : (more : ℕ)
-      → first < count
-      → more ≡ size first
-      → sum + more + sizes size (first + 1) (count - (first + 1)) ≡ total
-  unfolding sizes
-  sum_goes_on more lt same =
-      let k : count - first ≡ suc (count - (first + 1)) = omega arith in
-      let split : sizes size first (count - first) ≡ size first + sizes size (first + 1) (count - (first + 1)) =
-      rw k refl in
-      omega (arith, split, same, so_far)
-
-  pub sum_is_done : count ≤ first → sum ≡ total
-  unfolding sizes
-  sum_is_done le =
-      let k : count - first ≡ 0 = omega arith in
-      let none : sizes size first (count - first) ≡ 0 = rw k refl in
-      omega (arith, none, so_far)
+pub starts_with : (n : ℕ) (bits rest : List ℕ) → bits ≡ replicate n 0 ++ rest → StartsWithZeros n bits
+starts_with n bits rest e = rw e (take_at (replicate n 0) rest n (length-replicate {A = ℕ} n 0))
 
 -- where zeros are no values of any number, they are none of all
 module _ {A : Type 0} (one : List A → ℕ → List ℕ → Reading (List A)) (size : ℕ → ℕ)
@@ -174,14 +111,17 @@ module _ (image : Image) where
   unfolding unit_drives_at
   no_unit_drives front unit rest = none_of_flags (drive_at unit) (no_drive unit) front 0 image.buses rest
 
-  -- nothing is taken into a file
-  pub no_file_takes : (unit : ℕ) (front : List Take) (port : ℕ) (rest : List ℕ)
+  -- nothing is taken into a register file
+  pub none_taken : (port : PortRef) (size room : ℕ) (front : List Take) (rest : List ℕ)
+      → takes_at image port size room front (0 ∷ rest) ≡ Ok (front, rest)
+  none_taken port size room front rest = takes_end image port size room front (0 ∷ rest) rest (no_flag rest)
+
+  no_file_takes : (unit : ℕ) (front : List Take) (port : ℕ) (rest : List ℕ)
       → file_takes_at image unit front port (0 ∷ rest) ≡ Ok (front, rest)
   unfolding file_takes_at
   no_file_takes unit front port rest =
-      takes_end image (record { unit = unit; port = port })
-      (length (nth (nth image.units unit no_unit).files port [])) (most_takes - length front) front (0 ∷ rest) rest
-      (no_flag rest)
+      none_taken (record { unit = unit; port = port }) (length (nth (nth image.units unit no_unit).files port []))
+      (most_takes - length front) front rest
 
   -- nothing is taken into the unit's files
   pub no_unit_takes : (front : List Take) (unit : ℕ) (rest : List ℕ)

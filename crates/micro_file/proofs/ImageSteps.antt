@@ -7,7 +7,7 @@ use Rattle.micro_file.specs.declared.misread.Unread.{Unread}
 use Rattle.micro_file.specs.Bits.{at_bits}
 use Rattle.micro_file.specs.Bytes.{at_bytes}
 use Rattle.micro_file.specs.Fields.{Reading, many_at}
-use Rattle.micro_file.specs.File.{ended, bytes_at, padding_at, bits_at}
+use Rattle.micro_file.specs.File.{ended, byte_image_at, padding_at, bit_image_at}
 use Rattle.micro_file.specs.FormAt.{FormAt}
 use Rattle.micro_file.specs.Hardware.{hardware_at, image_at}
 use Rattle.micro_file.specs.PackedWords.{packed_word_at}
@@ -42,30 +42,34 @@ module _ (form : FormAt) (one_word : Image → List ℕ → Reading Word) (left 
 
 -- ---- version 1
 
-pub bytes_fail : (e : Unread) (bytes : List ℕ) → Fails e (image_at at_bytes word_at bytes) → Fails e (bytes_at bytes)
-unfolding bytes_at
+pub bytes_fail : (e : Unread) (bytes : List ℕ)
+    → Fails e (image_at at_bytes word_at bytes)
+    → Fails e (byte_image_at bytes)
+unfolding byte_image_at
 bytes_fail e bytes fails = fails_then e (image_at at_bytes word_at bytes) ended fails
 
 pub bytes_end : (bytes : List ℕ) (x : Image × List ℕ)
     → image_at at_bytes word_at bytes ≡ Ok x
-    → bytes_at bytes ≡ ended x
-unfolding bytes_at
+    → byte_image_at bytes ≡ ended x
+unfolding byte_image_at
 bytes_end bytes x read = rw read refl
 
 -- ---- version 2
 
-pub bits_fail : (e : Unread) (bits : List ℕ) → Fails e (image_at at_bits packed_word_at bits) → Fails e (bits_at bits)
-unfolding bits_at
+pub bits_fail : (e : Unread) (bits : List ℕ)
+    → Fails e (image_at at_bits packed_word_at bits)
+    → Fails e (bit_image_at bits)
+unfolding bit_image_at
 bits_fail e bits fails = fails_then e (image_at at_bits packed_word_at bits) _ fails
 
 module _ (bits : List ℕ) (x : Image × List ℕ) (read : image_at at_bits packed_word_at bits ≡ Ok x) where
   abbrev ended_behind : List ℕ → Result Image Misread
   ended_behind rest = ended (x.0, rest)
 
-  pub padding_fails : (e : Unread) → Fails e (padding_at x.1) → Fails e (bits_at bits)
-  unfolding bits_at
+  pub padding_fails : (e : Unread) → Fails e (padding_at x.1) → Fails e (bit_image_at bits)
+  unfolding bit_image_at
   padding_fails e fails = rw read (fails_then e (padding_at x.1) ended_behind fails)
 
-  pub bits_end : (rest : List ℕ) → padding_at x.1 ≡ Ok rest → bits_at bits ≡ ended (x.0, rest)
-  unfolding bits_at
+  pub bits_end : (rest : List ℕ) → padding_at x.1 ≡ Ok rest → bit_image_at bits ≡ ended (x.0, rest)
+  unfolding bit_image_at
   bits_end rest padded = rw (read, padded) refl

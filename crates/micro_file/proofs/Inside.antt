@@ -79,6 +79,14 @@ many_in one each front (suc n) left =
     behind (length left) (one front left) (λ x. many_at one (front ++ x.0 ∷ []) n x.1) (each front left)
     (λ x. many_in one each (front ++ x.0 ∷ []) n x.1)
 
+-- a count, and so many
+pub counted_in : {A : Type 0} (count_at : List ℕ → Reading ℕ) (one : List A → List ℕ → Reading A) (left : List ℕ)
+    → IsInside (length left) (count_at left)
+    → ((front : List A) (left : List ℕ) → IsInside (length left) (one front left))
+    → IsInside (length left) (count_at left >>= λ count. many_at one [] count.0 count.1)
+counted_in count_at one left count each =
+    behind (length left) (count_at left) (λ n. many_at one [] n.0 n.1) count (λ n. many_in one each [] n.0 n.1)
+
 pub each_in : {A : Type 0} (one : List A → ℕ → List ℕ → Reading (List A))
     → ((front : List A) (n : ℕ) (left : List ℕ) → IsInside (length left) (one front n left))
     → (front : List A) (first count : ℕ) (left : List ℕ)

@@ -16,8 +16,8 @@ use Rattle.micro_file.specs.Bytes.{at_bytes, byte_at, only_byte}
 use Rattle.micro_file.specs.Hardware.{image_at}
 use Rattle.micro_file.specs.Words.{word_at}
 use Rattle.micro_file.specs.PackedWords.{packed_word_at}
-use Rattle.micro_file.specs.File.{numbered, head_at, ended, bytes_at, padding_at, bits_at, byte_placed}
-use Rattle.micro_file.specs.File.{version_at, whole_at}
+use Rattle.micro_file.specs.File.{numbered, head_at, ended, byte_image_at, padding_at, bit_image_at, byte_placed}
+use Rattle.micro_file.specs.File.{image_behind, whole_at}
 use Rattle.micro_file.specs.Private.Places.{IsIn}
 use Rattle.micro_file.proofs.Inside.{IsInside, next, behind}
 use Rattle.micro_file.proofs.InsideBytes.{inside_bytes, byte_in}
@@ -78,9 +78,9 @@ ended_in {A} x = by (eqb (length x.1) 0)
     by true = tt
     by false = omega arith
 
-bytes_in : (bytes : List ℕ) → StopsIn (length bytes) (bytes_at bytes)
-unfolding bytes_at
-bytes_in bytes =
+byte_image_in : (bytes : List ℕ) → StopsIn (length bytes) (byte_image_at bytes)
+unfolding byte_image_at
+byte_image_in bytes =
     stops_behind (length bytes) (image_at at_bytes word_at bytes) ended (image_in inside_bytes word_at word_in bytes)
     ended_in
 
@@ -97,9 +97,9 @@ padded_in image bits = by (list_all (λ bit. eqb bit 0) (take (length bits % 8) 
         (ended_in (image, rest))
     by false = omega arith
 
-bits_in : (bits : List ℕ) → StopsIn (length bits) (bits_at bits)
-unfolding bits_at
-bits_in bits =
+bit_image_in : (bits : List ℕ) → StopsIn (length bits) (bit_image_at bits)
+unfolding bit_image_at
+bit_image_in bits =
     stops_behind (length bits) (image_at at_bits packed_word_at bits) _
     (image_in inside_bits packed_word_at packed_word_in bits) (λ image. padded_in image.0 image.1)
 
@@ -112,15 +112,16 @@ placed_in size (Err misread.Short) h = tt
 placed_in size (Err (misread.Field left)) h = omega (arith, h)
 placed_in size (Err (misread.Trailing left)) h = omega (arith, h)
 
-version_in : (v : Version × List ℕ) → StopsIn (length v.1) (version_at v)
-version_in (One, rest) = bytes_in rest
-version_in (Two, rest) =
-    placed_in (length rest) (bits_at (bits_of rest))
-    (subst (λ (size : ℕ). StopsIn size (bits_at (bits_of rest))) (length-bits_of rest) (bits_in (bits_of rest)))
+image_behind_in : (v : Version × List ℕ) → StopsIn (length v.1) (image_behind v)
+image_behind_in (One, rest) = byte_image_in rest
+image_behind_in (Two, rest) =
+    placed_in (length rest) (bit_image_at (bits_of rest))
+    (subst (λ (size : ℕ). StopsIn size (bit_image_at (bits_of rest))) (length-bits_of rest)
+    (bit_image_in (bits_of rest)))
 
 whole_in : (bytes : List ℕ) → StopsIn (length bytes) (whole_at bytes)
 unfolding whole_at
-whole_in bytes = stops_behind (length bytes) (head_at bytes) version_at (head_in bytes) version_in
+whole_in bytes = stops_behind (length bytes) (head_at bytes) image_behind (head_in bytes) image_behind_in
 
 -- what is misread in a file has a place in it
 pub stops_inside : (bytes : List ℕ) (misread : Misread) → whole_at bytes ≡ Err misread → IsIn (length bytes) misread

@@ -16,6 +16,7 @@ use Rattle.micro_file.specs.PackedWords.{packed_word_at}
 use Rattle.micro_file.proofs.Inside.{IsInside, inside_more, next, behind, keeps, each_in}
 use Rattle.micro_file.proofs.InsideBits.{inside_bits, number_in, below_in, flag_in}
 use Rattle.micro_file.proofs.InsideUnits.{issue_on_in}
+use Rattle.micro_file.proofs.WordLists.{lists_in}
 
 put_in : {A : Type 0} (size : ℕ) (front : List A) (r : Reading A) → IsInside size r → IsInside size (put_behind front r)
 put_in size front r h = next size r (λ x. Ok (front ++ x.0 ∷ [], x.1)) h (λ x le. le)
@@ -94,7 +95,6 @@ word_takes_in image bits = each_in (unit_takes_at image) (unit_takes_in image) [
 
 pub packed_word_in : (image : Image) (bits : List ℕ) → IsInside (length bits) (packed_word_at image bits)
 unfolding packed_word_at
-packed_word_in image bits =
-    behind (length bits) (slots_at image bits) _ (slots_in image bits) (λ i.
-    behind (length i.1) (drives_at image i.1) _ (drives_in image i.1) (λ e.
-    behind (length e.1) (word_takes_at image e.1) _ (word_takes_in image e.1) (λ t. omega arith)))
+packed_word_in image =
+    lists_in (slots_at image) (drives_at image) (word_takes_at image) (slots_in image) (drives_in image)
+    (word_takes_in image)

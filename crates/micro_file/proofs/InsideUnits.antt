@@ -18,7 +18,8 @@ use Rattle.micro_file.specs.Units.{units_at}
 use Rattle.micro_file.specs.Hardware.{inputs_at, hardware_at, image_at, issue_on_at}
 use Rattle.micro_file.specs.Private.Places.{IsIn}
 use Rattle.micro_file.proofs.Readers.{bound}
-use Rattle.micro_file.proofs.Inside.{IsInside, in_more, next, behind, many_in, at_ok, StaysInside, InsideForm}
+use Rattle.micro_file.proofs.Inside.{IsInside, in_more, next, behind, many_in, counted_in, at_ok, StaysInside}
+use Rattle.micro_file.proofs.Inside.{InsideForm}
 
 -- it has no place that is outside what is left
 abbrev pub StopsIn : {A : Type 0} → ℕ → Result A Misread → Type 0
@@ -144,9 +145,7 @@ module _ {form : FormAt} (is : InsideForm form) where
 
   inputs_in : StaysInside (inputs_at form)
   unfolding inputs_at
-  inputs_in left =
-      behind (length left) (form.channels left) (λ count. many_at (λ _. form.width) [] count.0 count.1)
-      (is.channels left) (λ count. many_in (λ _. form.width) (λ _. is.width) [] count.0 count.1)
+  inputs_in left = counted_in form.channels (λ _. form.width) left (is.channels left) (λ _. is.width)
 
   hardware_in : StaysInside (hardware_at form)
   unfolding hardware_at

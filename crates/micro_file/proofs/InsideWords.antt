@@ -1,19 +1,20 @@
 -- Microwords of version 1 are misread inside the bytes.
-use Rattle.std.proofs.Common.{ℕ, List, [], length, arith}
+use Rattle.std.proofs.Common.{ℕ, List, length, arith}
 use Rattle.std.specs.Prelude.{slice_get}
 use Rattle.std.specs.Int.{w16}
 use Rattle.micro_image.specs.declared.image.Enable.{Enable}
 use Rattle.micro_image.specs.declared.image.Image.{Image}
 use Rattle.micro_image.specs.declared.image.Issue.{Issue}
 use Rattle.micro_image.specs.declared.image.Take.{Take}
-use Rattle.micro_file.specs.Fields.{many_at, last_of}
+use Rattle.micro_file.specs.Fields.{last_of}
 use Rattle.micro_file.specs.Bytes.{at_bytes, byte_at, byte_below, byte_upto, number_within}
 use Rattle.micro_file.specs.Order.{is_above, is_next, enable_before, take_before}
 use Rattle.micro_file.specs.Hardware.{issue_on_at}
 use Rattle.micro_file.specs.Words.{issue_at, issues_at, enable_at, enables_at, take_at, takes_at, word_at}
-use Rattle.micro_file.proofs.Inside.{IsInside, inside_more, next, behind, keeps, kept_then, finds, many_in}
+use Rattle.micro_file.proofs.Inside.{IsInside, inside_more, next, keeps, kept_then, finds, counted_in}
 use Rattle.micro_file.proofs.InsideBytes.{inside_bytes, byte_in, below_in, upto_in, number_within_in}
 use Rattle.micro_file.proofs.InsideUnits.{issue_on_in}
+use Rattle.micro_file.proofs.WordLists.{lists_in}
 
 issue_in : (image : Image) (front : List Issue) (bytes : List ℕ) → IsInside (length bytes) (issue_at image front bytes)
 unfolding issue_at
@@ -28,9 +29,8 @@ issue_in image front bytes =
 issues_in : (image : Image) (bytes : List ℕ) → IsInside (length bytes) (issues_at image bytes)
 unfolding issues_at
 issues_in image bytes =
-    behind (length bytes) (byte_upto (length image.units) bytes) (λ count. many_at (issue_at image) [] count.0 count.1)
-    (upto_in (length image.units) bytes)
-    (λ count. many_in (issue_at image) (issue_in image) [] count.0 count.1)
+    counted_in (byte_upto (length image.units)) (issue_at image) bytes (upto_in (length image.units) bytes)
+    (issue_in image)
 
 enable_in : (image : Image) (front : List Enable) (bytes : List ℕ)
     → IsInside (length bytes) (enable_at image front bytes)
@@ -45,9 +45,7 @@ enable_in image front bytes =
 enables_in : (image : Image) (bytes : List ℕ) → IsInside (length bytes) (enables_at image bytes)
 unfolding enables_at
 enables_in image bytes =
-    behind (length bytes) (number_within w16 0 1024 bytes) (λ count. many_at (enable_at image) [] count.0 count.1)
-    (number_within_in w16 0 1024 bytes)
-    (λ count. many_in (enable_at image) (enable_in image) [] count.0 count.1)
+    counted_in (number_within w16 0 1024) (enable_at image) bytes (number_within_in w16 0 1024 bytes) (enable_in image)
 
 take_in : (image : Image) (front : List Take) (bytes : List ℕ) → IsInside (length bytes) (take_at image front bytes)
 unfolding take_at
@@ -67,13 +65,9 @@ take_in image front bytes =
 takes_in : (image : Image) (bytes : List ℕ) → IsInside (length bytes) (takes_at image bytes)
 unfolding takes_at
 takes_in image bytes =
-    behind (length bytes) (number_within w16 0 1024 bytes) (λ count. many_at (take_at image) [] count.0 count.1)
-    (number_within_in w16 0 1024 bytes)
-    (λ count. many_in (take_at image) (take_in image) [] count.0 count.1)
+    counted_in (number_within w16 0 1024) (take_at image) bytes (number_within_in w16 0 1024 bytes) (take_in image)
 
 pub word_in : (image : Image) (bytes : List ℕ) → IsInside (length bytes) (word_at image bytes)
 unfolding word_at
-word_in image bytes =
-    behind (length bytes) (issues_at image bytes) _ (issues_in image bytes) (λ i.
-    behind (length i.1) (enables_at image i.1) _ (enables_in image i.1) (λ e.
-    behind (length e.1) (takes_at image e.1) _ (takes_in image e.1) (λ t. omega arith)))
+word_in image =
+    lists_in (issues_at image) (enables_at image) (takes_at image) (issues_in image) (enables_in image) (takes_in image)

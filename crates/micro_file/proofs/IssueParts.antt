@@ -20,7 +20,8 @@ use Rattle.micro_image.specs.Fields.{nth}
 use Rattle.micro_image.specs.Operations.{is_formatted}
 use Rattle.micro_image.specs.Bytes.{one_byte, eight_bytes, format_bytes}
 use Rattle.micro_image.specs.Codes.{mode_number}
-use Rattle.micro_image.specs.Valid.{IsWithin, IsBelow, IsNoFormat, IsFormatWhere, IsFormatFor, IsArgument, AreRegisters}
+use Rattle.micro_image.specs.Valid.{IsWithin, IsBelow, IsNoFormat, IsFormatWhere, IsFormatFor, offsets, IsArgument}
+use Rattle.micro_image.specs.Valid.{AreRegisters}
 use Rattle.micro_file.specs.Tables.{modes}
 use Rattle.micro_file.specs.Fields.{Reading, kept, is_below}
 use Rattle.micro_file.specs.Bytes.{byte_at, byte_within, entry_at, some_format_at, no_format_at, format_at, argument_at}
@@ -216,15 +217,15 @@ argument_test op.Mul inputs outs = zero_int
 argument_test op.Sel inputs outs = zero_int
 argument_test op.Load inputs outs = zero_int
 argument_test op.Store inputs outs = zero_int
-argument_test op.Addr inputs outs = below_int 65536
+argument_test op.Addr inputs outs = below_int offsets
 
-below_fits : (n : ℕ) (z : ℤ) → n ≤ 65536 → IsBelow n z → FitsSigned w64 z
+below_fits : (n : ℕ) (z : ℤ) → n ≤ offsets → IsBelow n z → FitsSigned w64 z
 below_fits n (pos k) le h = record { sfits = omega arith }
 below_fits n (negsuc k) le h = absurd h
 
 argument_fits : (o : Op) (inputs outs : ℕ) (z : ℤ)
-    → inputs ≤ 65536
-    → outs ≤ 65536
+    → inputs ≤ offsets
+    → outs ≤ offsets
     → IsArgument o inputs outs z
     → FitsSigned w64 z
 argument_fits op.Input inputs outs z few less h = below_fits inputs z few h
@@ -245,11 +246,11 @@ argument_fits op.Mul inputs outs z few less h = below_fits 1 z (omega arith) (rw
 argument_fits op.Sel inputs outs z few less h = below_fits 1 z (omega arith) (rw h (omega arith))
 argument_fits op.Load inputs outs z few less h = below_fits 1 z (omega arith) (rw h (omega arith))
 argument_fits op.Store inputs outs z few less h = below_fits 1 z (omega arith) (rw h (omega arith))
-argument_fits op.Addr inputs outs z few less h = below_fits 65536 z (omega arith) h
+argument_fits op.Addr inputs outs z few less h = below_fits offsets z (omega arith) h
 
 pub argument_reader : (o : Op) (inputs outs : ℕ)
-    → inputs ≤ 65536
-    → outs ≤ 65536
+    → inputs ≤ offsets
+    → outs ≤ offsets
     → IsReader byte_values (IsArgument o inputs outs) eight_bytes (argument_at o inputs outs)
 unfolding argument_at
 argument_reader o inputs outs few less =

@@ -9,10 +9,13 @@ pub mod BitsForm
 pub mod Steps
 pub mod Groupwise
 pub mod PortTakes
+pub mod Flags
 pub mod Idle
+pub mod Passing
 pub mod Flat
 pub mod Judgement
 pub mod EmptyWord
+pub mod UnitSteps
 pub mod UnitReader
 pub mod HardwareReader
 pub mod IssueOnReader
@@ -22,6 +25,7 @@ pub mod Issues
 pub mod IssueReader
 pub mod Transfers
 pub mod TransferReader
+pub mod WordLists
 pub mod WordReader
 pub mod ImageReader
 pub mod ImageSteps
@@ -37,7 +41,6 @@ pub mod Padding
 pub mod Unique
 pub mod FirstFault
 pub mod Groups
-pub mod Flags
 pub mod GroupedIssues
 pub mod GroupedEnables
 pub mod GroupedTakes

@@ -1,6 +1,7 @@
 -- The readers of enables and takes of version 1.
-use Rattle.std.proofs.Common.{◌≡◌, ℕ, ◌<◌, List, ◌∷◌, ◌++◌, length, Result, Ok, ℤ, refl, subst, ◌∙◌, arith}
+use Rattle.std.proofs.Common.{◌≡◌, ℕ, ◌<◌, List, [], ◌∷◌, ◌++◌, length, Result, Ok, ℤ, refl, subst, ◌∙◌, arith}
 use Rattle.std.specs.Prelude.{IsSomeAnd, slice_get}
+use Rattle.std.specs.Int.{w16}
 use Rattle.std.specs.List.{flat_map}
 use Rattle.micro_image.specs.declared.image.Image.{Image}
 use Rattle.micro_image.specs.declared.image.Enable.{Enable}
@@ -9,8 +10,8 @@ use Rattle.micro_image.specs.declared.image.UnitDesc.{UnitDesc}
 use Rattle.micro_image.specs.Bytes.{two_bytes, enable_bytes, take_bytes}
 use Rattle.micro_image.specs.Valid.{IsEnable, IsTake, EnableBefore, TakeBefore}
 use Rattle.micro_file.specs.declared.misread.Misread.{Misread}
-use Rattle.micro_file.specs.Fields.{Reading, kept, found, last_of}
-use Rattle.micro_file.specs.Bytes.{byte_at, byte_below}
+use Rattle.micro_file.specs.Fields.{Reading, ◌>>=◌, kept, found, last_of, many_at}
+use Rattle.micro_file.specs.Bytes.{byte_at, byte_below, number_within}
 use Rattle.micro_file.specs.Words.{enable_at, enables_at, take_at, takes_at}
 use Rattle.micro_file.specs.Order.{enable_before, take_before, is_next}
 use Rattle.packed_file.proofs.Bits.{IsDigits}
@@ -19,8 +20,23 @@ use Rattle.micro_file.proofs.Several.{counted, Rising, risen_all, risen_beside, 
 use Rattle.micro_file.proofs.Leaves.{byte_reader, below_reader, two_reader}
 use Rattle.micro_file.proofs.Issues.{some_and}
 use Rattle.micro_file.proofs.Transfers.{next_sound, next_whole, enable_sound, enable_whole, take_sound, take_whole}
-use Rattle.micro_file.proofs.Transfers.{is_register, AreEnables, AreTakes}
+use Rattle.micro_file.proofs.Transfers.{is_register, AreTransfers, AreEnables, AreTakes}
 use Rattle.micro_file.proofs.Steps.{bound2, joined2, bound6, joined6}
+
+-- a count, and so many transfers, of which each comes after the one before
+transfers_reader :
+    {A : Type 0} (Is : A → Type 0) (Before : A → A → Type 0) (spell : A → List ℕ) (one : List A → List ℕ → Reading A)
+    (each : (front : List A) → IsReader byte_values (Rising Is Before front) spell (one front))
+    → IsReader byte_values (AreTransfers Is Before)
+    (λ transfers. two_bytes (length transfers) ++ flat_map spell transfers)
+    (λ bytes. number_within w16 0 1024 bytes >>= λ count. many_at one [] count.0 count.1)
+transfers_reader Is Before spell one each =
+    such_reader
+    (λ transfers h. (h.0, risen_all Is Before transfers h.1, risen_beside Is Before transfers h.1))
+    (λ transfers h. (h.0, grows_risen Is Before transfers h.1 h.2))
+    (counted (two_reader 0 1024 (omega arith)) (Rising Is Before) spell one each)
+
+-- ---- enables
 
 module _ (image : Image) where
   abbrev bus_behind : ℕ × List ℕ → Reading ℕ
@@ -73,16 +89,7 @@ module _ (image : Image) where
       IsReader byte_values (AreEnables image) (λ enables. two_bytes (length enables) ++ flat_map enable_bytes enables)
       (enables_at image)
   unfolding enables_at
-  enables_reader =
-      such_reader
-      (λ enables h. (
-        h.0,
-        risen_all (IsEnable image) EnableBefore enables h.1,
-        risen_beside (IsEnable image) EnableBefore enables h.1,
-      ))
-      (λ enables h. (h.0, grows_risen (IsEnable image) EnableBefore enables h.1 h.2))
-      (counted (two_reader 0 1024 (omega arith)) (Rising (IsEnable image) EnableBefore) enable_bytes (enable_at image)
-      enable_reader)
+  enables_reader = transfers_reader (IsEnable image) EnableBefore enable_bytes (enable_at image) enable_reader
 
 -- ---- takes
 
@@ -167,13 +174,4 @@ module _ (image : Image) where
       IsReader byte_values (AreTakes image) (λ takes. two_bytes (length takes) ++ flat_map take_bytes takes)
       (takes_at image)
   unfolding takes_at
-  takes_reader =
-      such_reader
-      (λ takes h. (
-        h.0,
-        risen_all (IsTake image) TakeBefore takes h.1,
-        risen_beside (IsTake image) TakeBefore takes h.1,
-      ))
-      (λ takes h. (h.0, grows_risen (IsTake image) TakeBefore takes h.1 h.2))
-      (counted (two_reader 0 1024 (omega arith)) (Rising (IsTake image) TakeBefore) take_bytes (take_at image)
-      take_reader)
+  takes_reader = transfers_reader (IsTake image) TakeBefore take_bytes (take_at image) take_reader

@@ -46,14 +46,15 @@ pub is_register : (image : Image) (take : Take) (unit : UnitDesc) (file : List �
     → IsRegister image take.port take.reg
 is_register image take unit file there has lt = rw (there, has) lt
 
+-- the transfers that a word may have, of which each comes after the one before
+abbrev pub AreTransfers : {A : Type 0} → (A → Type 0) → (A → A → Type 0) → List A → Type 0
+AreTransfers Is Before transfers =
+    IsWithin 0 1024 (length transfers) × All Is transfers × AllAdjacentBelow Before transfers (length transfers)
+
 -- the enables that a word may have
 abbrev pub AreEnables : Image → List Enable → Type 0
-AreEnables image enables =
-    IsWithin 0 1024 (length enables)
-    × All (IsEnable image) enables
-    × AllAdjacentBelow EnableBefore enables (length enables)
+AreEnables image = AreTransfers (IsEnable image) EnableBefore
 
 -- the takes that a word may have
 abbrev pub AreTakes : Image → List Take → Type 0
-AreTakes image takes =
-    IsWithin 0 1024 (length takes) × All (IsTake image) takes × AllAdjacentBelow TakeBefore takes (length takes)
+AreTakes image = AreTransfers (IsTake image) TakeBefore

@@ -33,8 +33,8 @@ abbrev pub ended : {A : Type 0} → A × List ℕ → Result A Misread
 ended x = if length x.1 == 0 then Ok x.0 else Err (misread.Trailing (length x.1))
 
 -- an image in bytes, and no byte behind it
-unfoldable pub bytes_at : List ℕ → Result Image Misread
-bytes_at bytes = image_at at_bytes word_at bytes >>= ended
+unfoldable pub byte_image_at : List ℕ → Result Image Misread
+byte_image_at bytes = image_at at_bytes word_at bytes >>= ended
 
 -- what is left behind zeros up to the end of the byte
 abbrev pub padding_at : List ℕ → Result (List ℕ) Misread
@@ -42,8 +42,8 @@ padding_at bits =
     if list_all (λ bit. bit == 0) (take (length bits % 8) bits) then Ok (drop (length bits % 8) bits) else refused bits
 
 -- an image in bits, and nothing behind them but zeros to the end of the byte
-unfoldable pub bits_at : List ℕ → Result Image Misread
-bits_at bits = do
+unfoldable pub bit_image_at : List ℕ → Result Image Misread
+bit_image_at bits = do
   image ← image_at at_bits packed_word_at bits
   rest ← padding_at image.1
   ended (image.0, rest)
@@ -63,11 +63,11 @@ abbrev pub byte_placed : {A : Type 0} → Result A Misread → Result A Misread
 byte_placed (Ok x) = Ok x
 byte_placed (Err misread) = Err (byte_misread misread)
 
--- what stands behind the version
-abbrev pub version_at : Version × List ℕ → Result Image Misread
-version_at (One, rest) = bytes_at rest
-version_at (Two, rest) = byte_placed (bits_at (bits_of rest))
+-- the image behind the version
+abbrev pub image_behind : Version × List ℕ → Result Image Misread
+image_behind (One, rest) = byte_image_at rest
+image_behind (Two, rest) = byte_placed (bit_image_at (bits_of rest))
 
 -- an image in either version
 unfoldable pub whole_at : List ℕ → Result Image Misread
-whole_at bytes = head_at bytes >>= version_at
+whole_at bytes = head_at bytes >>= image_behind

@@ -2,5 +2,6 @@ pub mod Reads
 pub mod Ends
 pub mod Places
 pub mod Empty
-pub mod Idle
 pub mod Sizes
+pub mod WordFlags
+pub mod Zeros

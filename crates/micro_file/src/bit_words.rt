@@ -2,20 +2,23 @@
 ghost use Rattle.std.specs.Prelude.{◌≡◌, ◌≢◌, ◌-◌, ◌≤◌, ◌^◌, ◌++◌, ℕ, List, [], length, take, replicate, IsTrue, IsFalse};
 ghost use Rattle.micro_image.specs.Fields.{nth, no_unit};
 ghost use Rattle.micro_file.specs.Fields.{many_at, each_at};
-ghost use Rattle.micro_file.specs.PackedWords.{most_takes, slot_at, slots_at, drive_at, drives_at, taken_at, takes_at, file_takes_at, unit_takes_at, word_takes_at, packed_word_at};
-ghost use Rattle.micro_file.specs.Private.Idle.{idle_bits};
+ghost use Rattle.micro_file.specs.PackedWords.{most_takes, slot_at, slots_at, drive_at, taken_at, takes_at};
+ghost use Rattle.micro_file.specs.PackedWords.{packed_word_at};
+ghost use Rattle.micro_file.specs.Private.WordFlags.{listed_drives_at, listed_takes_at, listed_word_at};
 ghost use Rattle.micro_file.specs.Private.Reads.{Reads, Extends};
 ghost use Rattle.micro_file.specs.Private.Sizes.{IsNumbered};
+ghost use Rattle.micro_file.specs.Private.Zeros.{StartsWithZeros};
 
 use crate::bit_fields::{number, number_under};
 use crate::byte_words::empty_word;
 use crate::hardware::read_issue_on;
 use crate::misread::{Unread, refused};
 use crate::order::is_next_take;
+use crate::word_flags::{Flags, PortFile, flags_of};
 use lists::List;
 use micro_image::{Enable, Enables, Image, Issue, PortRef, Take, Takes, UnitDesc, Word};
-use packed_file::BitReader;
 use packed_file::widths::{BUS, FLAG, REGISTER};
+use packed_file::{BitReader, idle_bits_of};
 use std::alloc::Global;
 
 /// The most takes of a microword.
@@ -24,42 +27,6 @@ const MAX_TAKES: usize = 1024;
 /// The most bits that are passed at once.
 const MAX_PASSED: usize = 57;
 
-/// Whether so many bits are left and all zeros, which are then read. Where they are few, one look tells, and no reader is
-/// kept to go back to.
-#[inline]
-fn passes_zeros(reader: &mut BitReader<'_>, count: usize) -> bool
-    ensures passed { IsTrue result → reader.old ≡ replicate count 0 ++ reader.new }
-    ensures others { IsFalse result
-        → (take count reader.old ≢ replicate count 0) × (reader.new ≡ reader.old) }
-{
-    if count <= MAX_PASSED {
-        return reader.passes_zeros(count as u32);
-    }
-    passes_many_zeros(reader, count)
-}
-
-/// The same of more bits than are passed at once.
-#[inline(never)]
-fn passes_many_zeros(reader: &mut BitReader<'_>, count: usize) -> bool
-    ensures passed { IsTrue result → reader.old ≡ replicate count 0 ++ reader.new }
-    ensures others { IsFalse result
-        → (take count reader.old ≢ replicate count 0) × (reader.new ≡ reader.old) }
-{
-    let mut own = reader.fork();
-    let mut left = count;
-    while MAX_PASSED < left {
-        if !own.passes_zeros(MAX_PASSED as u32) {
-            return false;
-        }
-        left -= MAX_PASSED;
-    }
-    if !own.passes_zeros(left as u32) {
-        return false;
-    }
-    *reader = own;
-    true
-}
-
 /// Passes flags that are 0 and gives how many: of so many, as a rule all those in front of the next that is 1.
 #[inline]
 fn pass(reader: &mut BitReader<'_>, left: usize) -> usize
@@ -67,6 +34,39 @@ fn pass(reader: &mut BitReader<'_>, left: usize) -> usize
     ensures most { result ≤ left }
 {
     reader.zeros(left.min(MAX_PASSED) as u32) as usize
+}
+
+/// How many zeros stand in front.
+fn zeros_in_front(reader: &BitReader<'_>) -> usize
+    ensures { StartsWithZeros result reader.now }
+{
+    let left = reader.count();
+    let mut own = reader.fork();
+    let mut zeros = 0;
+    while own.passes_zeros(MAX_PASSED as u32) {
+        zeros += MAX_PASSED;
+    }
+    zeros + pass(&mut own, left - zeros)
+}
+
+/// Whether so many zeros stand in front, which are then passed. Some are known to stand there; where they are too few,
+/// all of them are counted, so that those of many words are counted once.
+fn passes_zeros(reader: &mut BitReader<'_>, count: usize, known: &mut usize) -> bool
+    requires known { StartsWithZeros known.old reader.old }
+    ensures known { StartsWithZeros known.new reader.new }
+    ensures passed { IsTrue result → reader.old ≡ replicate count 0 ++ reader.new }
+    ensures others { IsFalse result → (known.new ≡ 0) × (reader.new ≡ reader.old) }
+{
+    if *known < count {
+        *known = zeros_in_front(reader);
+    }
+    if *known < count {
+        *known = 0;
+        return false;
+    }
+    reader.skip(count);
+    *known -= count;
+    true
 }
 
 /// A flag, and the unit's issue where it is 1.
@@ -90,6 +90,9 @@ fn read_slot(
 }
 
 /// The issues, unit by unit.
+// The three lists are read by functions of their own: inlined into one, they leave each other too few registers, and a
+// long chain takes 4 per cent longer.
+#[inline(never)]
 #[tactic(auto, unfolding(crate::specs::PackedWords::slots_at))]
 fn read_slots(
     alloc: Global,
@@ -112,39 +115,39 @@ fn read_slots(
     }
 }
 
-/// A flag, which is 1 where the unit drives the bus.
+/// A flag, which is 1 where the bus is driven so.
 #[tactic(auto, unfolding(crate::specs::PackedWords::drive_at))]
 fn read_drive(
-    unit: u8,
-    bus: u8,
+    drive: Enable,
     enables: &mut Enables,
     reader: &mut BitReader<'_>,
 ) -> Result<(), Unread>
-    ensures { Extends (drive_at unit enables.old bus) reader.old result enables.new reader.new }
+    ensures { Extends (drive_at drive.unit enables.old drive.bus) reader.old result enables.new reader.new }
 {
     if number(reader, FLAG)? == 0 {
         return Ok(());
     }
-    Ok(enables.push(Enable { unit, bus })?)
+    Ok(enables.push(drive)?)
 }
 
-/// The enables: the flags of a unit stand bus by bus, behind those of the unit before.
-#[tactic(auto, unfolding(crate::specs::PackedWords::drives_at))]
-fn read_drives(alloc: Global, image: &Image, reader: &mut BitReader<'_>) -> Result<Enables, Unread>
-    requires { IsNumbered image.now }
-    ensures { Reads (drives_at image.now) reader.old result reader.new }
+/// The enables, a flag for each of the drives.
+#[inline(never)]
+fn read_drives(
+    alloc: Global,
+    drives: &List<Enable>,
+    reader: &mut BitReader<'_>,
+) -> Result<Enables, Unread>
+    ensures { Reads (listed_drives_at drives.now) reader.old result reader.new }
 {
-    let buses = usize::from(image.buses);
-    let flags = image.units.len() * buses;
     let mut enables = Enables::new(alloc);
     let mut k = 0;
     loop {
-        // Most units of most words drive no bus, and the others one, so zeros are passed from unit to unit.
-        k += pass(reader, flags - k);
-        if k == flags {
+        // Most units of most words drive no bus, and the others one.
+        k += pass(reader, drives.len() - k);
+        if k == drives.len() {
             return Ok(enables);
         }
-        read_drive((k / buses) as u8, (k % buses) as u8, &mut enables, reader)?;
+        read_drive(drives[k], &mut enables, reader)?;
         k += 1;
     }
 }
@@ -197,74 +200,48 @@ fn read_port_takes(
     }
 }
 
-/// The takes into a unit's files, file by file.
-#[tactic(auto, unfolding(crate::specs::PackedWords::unit_takes_at, crate::specs::PackedWords::file_takes_at))]
-fn read_unit_takes(
+/// The takes, file by file.
+#[inline(never)]
+fn read_takes(
+    alloc: Global,
     image: &Image,
-    number_of_unit: u8,
-    unit: &UnitDesc,
-    takes: &mut Takes,
+    files: &List<PortFile>,
     reader: &mut BitReader<'_>,
-) -> Result<(), Unread>
-    requires unit { unit.now ≡ nth image.now.units number_of_unit no_unit }
-    requires ports { length unit.now.files ≤ 2 ^ 8 }
-    ensures { Extends (unit_takes_at image.now takes.old number_of_unit) reader.old result takes.new reader.new }
+) -> Result<Takes, Unread>
+    ensures { Reads (listed_takes_at image.now files.now) reader.old result reader.new }
 {
+    let mut takes = Takes::new(alloc);
     let mut k = 0;
     loop {
         // Into most files of most words nothing is taken.
-        k += pass(reader, unit.files.len() - k);
-        if k == unit.files.len() {
-            return Ok(());
+        k += pass(reader, files.len() - k);
+        if k == files.len() {
+            return Ok(takes);
         }
-        let port = PortRef {
-            unit: number_of_unit,
-            port: k as u8,
-        };
-        read_port_takes(image, port, unit.files[k].len(), takes, reader)?;
+        let file = files[k];
+        read_port_takes(image, file.port, file.size, &mut takes, reader)?;
         k += 1;
     }
 }
 
-/// The takes, unit by unit.
-#[tactic(auto, unfolding(crate::specs::PackedWords::word_takes_at))]
-fn read_takes(alloc: Global, image: &Image, reader: &mut BitReader<'_>) -> Result<Takes, Unread>
+#[tactic(auto, unfolding(crate::specs::Private::WordFlags::listed_word_at))]
+fn read_word(
+    alloc: Global,
+    image: &Image,
+    flags: &Flags,
+    reader: &mut BitReader<'_>,
+) -> Result<Word, Unread>
     requires { IsNumbered image.now }
-    ensures { Reads (word_takes_at image.now) reader.old result reader.new }
-{
-    let mut takes = Takes::new(alloc);
-    for (k, unit) in image.units.iter().enumerate() {
-        read_unit_takes(image, k as u8, unit, &mut takes, reader)?;
-    }
-    Ok(takes)
-}
-
-#[tactic(auto, unfolding(crate::specs::PackedWords::packed_word_at))]
-fn read_word(alloc: Global, image: &Image, reader: &mut BitReader<'_>) -> Result<Word, Unread>
-    requires { IsNumbered image.now }
-    ensures { Reads (packed_word_at image.now) reader.old result reader.new }
+    ensures { Reads (listed_word_at image.now flags.now.drives flags.now.files) reader.old result reader.new }
 {
     let issues = read_slots(alloc, image, reader)?;
-    let enables = read_drives(alloc, image, reader)?;
-    let takes = read_takes(alloc, image, reader)?;
+    let enables = read_drives(alloc, &flags.drives, reader)?;
+    let takes = read_takes(alloc, image, &flags.files, reader)?;
     Ok(Word {
         issues,
         enables,
         takes,
     })
-}
-
-/// How many bits a word that does nothing has.
-fn idle_bits_of(image: &Image) -> usize
-    requires { IsNumbered image.now }
-    ensures { result ≡ idle_bits image.now }
-{
-    let units = image.units.len();
-    let mut files = 0;
-    for unit in image.units.iter() {
-        files += unit.files.len();
-    }
-    units + units * usize::from(image.buses) + files
 }
 
 pub(crate) fn read_words(
@@ -277,13 +254,15 @@ pub(crate) fn read_words(
     ensures { Reads (many_at (λ _. packed_word_at image.now) [] count) reader.old result reader.new }
 {
     let idle = idle_bits_of(image);
+    let flags = flags_of(alloc, image)?;
     let mut words = List::with_capacity(alloc, count)?;
+    let mut zeros = 0;
     for _ in 0..count {
         // Many words do nothing.
-        if passes_zeros(reader, idle) {
+        if passes_zeros(reader, idle, &mut zeros) {
             words.push(empty_word(alloc))?;
         } else {
-            let word = read_word(alloc, image, reader)?;
+            let word = read_word(alloc, image, &flags, reader)?;
             words.push(word)?;
         }
     }

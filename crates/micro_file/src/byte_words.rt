@@ -1,7 +1,7 @@
 //! The microwords of a file of version 1.
 ghost use Rattle.std.specs.Prelude.{◌≡◌, []};
+ghost use Rattle.micro_image.specs.Fields.{no_word};
 ghost use Rattle.micro_file.specs.Fields.{many_at};
-ghost use Rattle.micro_file.specs.Private.Empty.{no_word};
 ghost use Rattle.micro_file.specs.Private.Reads.{Reads};
 ghost use Rattle.micro_file.specs.Words.{issue_at, issues_at, word_at};
 

@@ -6,7 +6,7 @@ ghost use Rattle.micro_file.specs.declared.fault.FormFault.TheVariants.{Memory};
 ghost use Rattle.micro_file.specs.Faults.{placed, IsFormFault};
 ghost use Rattle.micro_file.specs.Private.Places.{IsIn};
 ghost use Rattle.micro_file.specs.Private.Reads.{Gives, Reads, Passes};
-ghost use Rattle.micro_file.specs.File.{head_at, ended, bytes_at, padding_at, bits_at, bytes_of, byte_misread, byte_placed, whole_at};
+ghost use Rattle.micro_file.specs.File.{head_at, ended, byte_image_at, padding_at, bit_image_at, bytes_of, byte_misread, byte_placed, whole_at};
 
 use crate::byte_reader::ByteReader;
 use crate::fault::FormFault;
@@ -48,9 +48,9 @@ fn end(image: Image, left: usize) -> Result<Image, Unread>
 }
 
 /// An image in bytes, and nothing behind it.
-#[tactic(auto, unfolding(crate::specs::File::bytes_at))]
+#[tactic(auto, unfolding(crate::specs::File::byte_image_at))]
 fn read_bytes(alloc: Global, reader: &mut ByteReader<'_>) -> Result<Image, Unread>
-    ensures { Gives result (bytes_at reader.old) }
+    ensures { Gives result (byte_image_at reader.old) }
 {
     let mut image = read_hardware(alloc, reader)?;
     let words = byte_words::read_words(alloc, &image, word_count(&image), reader)?;
@@ -71,10 +71,10 @@ fn pass_padding(reader: &mut BitReader<'_>) -> Result<(), Unread>
 }
 
 /// An image in the packed bits of these bytes, and nothing behind them but zeros to the end of the byte.
-#[tactic(auto, unfolding(crate::specs::File::bits_at))]
+#[tactic(auto, unfolding(crate::specs::File::bit_image_at))]
 fn read_bits(alloc: Global, bytes: &[u8]) -> Result<Image, Unread>
     requires { length bytes.now < 2 ^ 32 }
-    ensures { Gives result (bits_at (bits_of bytes.now)) }
+    ensures { Gives result (bit_image_at (bits_of bytes.now)) }
 {
     let mut reader = BitReader::new(bytes);
     let mut image = read_hardware(alloc, &mut reader)?;
@@ -109,7 +109,7 @@ fn in_bytes(misread: Misread) -> Misread
 /// An image in the packed bits of these bytes, and what was misread with its place in bytes.
 fn read_packed(alloc: Global, bytes: &[u8]) -> Result<Image, Unread>
     requires { length bytes.now < 2 ^ 32 }
-    ensures { Gives result (byte_placed (bits_at (bits_of bytes.now))) }
+    ensures { Gives result (byte_placed (bit_image_at (bits_of bytes.now))) }
 {
     match read_bits(alloc, bytes) {
         Ok(image) => Ok(image),

@@ -15,6 +15,7 @@ mod misread;
 mod order;
 mod tables;
 mod units;
+mod word_flags;
 
 pub use decoder::decode;
 pub use fault::FormFault;

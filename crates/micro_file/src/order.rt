@@ -4,7 +4,7 @@ ghost use Rattle.micro_file.specs.Fields.{last_of};
 ghost use Rattle.micro_file.specs.Order.{is_above, is_next, enable_before, take_before};
 
 use lists::List;
-use micro_image::{Enable, Enables, Issue, Take, Takes};
+use micro_image::{Enable, Issue, Take};
 
 /// Whether the number is above that of the last issue's unit.
 pub(crate) fn rises(issues: &List<Issue>, number: u8) -> bool
@@ -23,7 +23,7 @@ fn is_before(a: &Enable, b: &Enable) -> bool
 }
 
 /// Whether the enable comes after the last one.
-pub(crate) fn is_next_enable(enables: &Enables, enable: &Enable) -> bool
+pub(crate) fn is_next_enable(enables: &[Enable], enable: &Enable) -> bool
     ensures { result ≡ is_next enable_before (last_of enables.now) enable.now }
 {
     match enables.last() {
@@ -45,7 +45,7 @@ fn is_take_before(a: &Take, b: &Take) -> bool
 }
 
 /// Whether the take comes after the last one.
-pub(crate) fn is_next_take(takes: &Takes, take: &Take) -> bool
+pub(crate) fn is_next_take(takes: &[Take], take: &Take) -> bool
     ensures { result ≡ is_next take_before (last_of takes.now) take.now }
 {
     match takes.last() {
