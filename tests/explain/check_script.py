@@ -1,5 +1,6 @@
 #!/usr/bin/env python3
-"""Whether `./silc` keeps an input from being written over, and says on a terminal alone who tells more of a refusal.
+"""Whether `./silc` keeps an input from being written over, makes an OUT that is a file whole or not at all, says which file or
+place a refusal is of, and says on a terminal alone who tells more of it.
 
 usage: tests/explain/check_script.py
 
@@ -7,10 +8,13 @@ It runs the script on a copy, beside the built `silc` or the one that `SILC` nam
 """
 import os
 import pty
+import resource
 import shutil
+import signal
 import subprocess
 import sys
 import tempfile
+import time
 from pathlib import Path
 
 ROOT = Path(__file__).resolve().parent.parent.parent
@@ -18,6 +22,8 @@ SILC = Path(os.environ.get("SILC", ROOT / "crates" / "silc_main" / "out" / "silc
 SOURCE = "func main(x : fix<8,0>) y : fix<8,0> = begin y = x + 1; end;\n"
 WORDS = {"compile": ("SRC", "DP"), "eval": ("SRC", "SAMPLES"), "run": ("SRC", "DP", "SAMPLES"), "sim": ("MIC", "SAMPLES")}
 MORE = "tells more"
+USAGE = "silc compiles equations"
+SECONDS = 20
 
 
 def prepare(room):
@@ -41,8 +47,9 @@ def prepare(room):
     return room / "top" / "silc", inputs
 
 
-def run(script, inputs, words):
-    return subprocess.run([script, *words], cwd=inputs, stdin=subprocess.DEVNULL, capture_output=True, text=True)
+def run(script, inputs, words, **more):
+    given = {"stdin": subprocess.DEVNULL} if "input" not in more else {}
+    return subprocess.run([script, *words], cwd=inputs, capture_output=True, text=True, **given, **more)
 
 
 def on_terminal(script, inputs, words):
@@ -100,13 +107,111 @@ def terminal_faults(script, inputs):
         yield f"a command that is done, on a terminal: {status} {said!r}"
 
 
+def whole_faults(script, inputs):
+    """An OUT that is a file is replaced where the command is done, or has the rows before a fault, and else is as it was."""
+    out = inputs / "OUT"
+
+    def expect(what, words, status, content, **more):
+        out.write_text("before\n")
+        out.chmod(0o640)
+        done = run(script, inputs, words, **more)
+        got = out.read_text(errors="replace"), out.stat().st_mode & 0o777
+        if done.returncode != status or got != (content, 0o640):
+            yield f"{what}: {done.returncode} {done.stderr!r}, {got}"
+        left = [path.name for path in inputs.iterdir() if path.name.startswith(".silc")]
+        if left:
+            yield f"{what}: it leaves {left}"
+
+    yield from expect("rows", ["eval", "SRC", "SAMPLES", "OUT"], 0, "2\n3\n")
+    (inputs / "BAD").write_text("1\nx\n")
+    yield from expect("rows before a bad line", ["eval", "SRC", "BAD", "OUT"], 11, "2\n")
+    yield from expect("a refused source", ["eval", "DP", "SAMPLES", "OUT"], 4, "before\n")
+    yield from expect("microcode for which there is no room", ["compile", "SRC", "DP", "OUT"], 3, "before\n",
+                      preexec_fn=no_room)
+    link = inputs / "out-link"
+    link.symlink_to("OUT")
+    yield from expect("rows through a link", ["eval", "SRC", "SAMPLES", "out-link"], 0, "2\n3\n")
+    if not link.is_symlink():
+        yield "a link as OUT is no link any more"
+    link.unlink()
+    out.unlink()
+
+
+def no_room():
+    """No file takes a byte, and a write past its end is a fault and no signal."""
+    signal.signal(signal.SIGXFSZ, signal.SIG_IGN)
+    resource.setrlimit(resource.RLIMIT_FSIZE, (0, 0))
+
+
+def stream_faults(script, inputs):
+    """Standard streams go through, and a descriptor's file is not opened anew."""
+    done = run(script, inputs, ["eval", "SRC", "/dev/stdin", "/dev/stdout"], input="5\n")
+    if (done.returncode, done.stdout) != (0, "6\n"):
+        yield f"rows through a pipe: {done.returncode} {done.stdout!r} {done.stderr!r}"
+    for name in ("/dev/fd/1", "/dev/stderr"):
+        log = inputs / "log"
+        log.write_text("before\n")
+        with open(log, "a") as end:
+            done = subprocess.run([script, "eval", "SRC", "SAMPLES", name], cwd=inputs, stdin=subprocess.DEVNULL,
+                                  stdout=end, stderr=end)
+        if done.returncode != 2 or not log.read_text().startswith("before\n"):
+            yield f"{name} as OUT: {done.returncode}, and the log holds {log.read_text()!r}"
+        log.unlink()
+
+
+def stop_faults(script, inputs):
+    """A run that is stopped leaves OUT as it was, and its rows under a name that it tells."""
+    out, pipe = inputs / "OUT", inputs / "pipe"
+    out.write_text("before\n")
+    os.mkfifo(pipe)
+    with subprocess.Popen([script, "eval", "SRC", "pipe", "OUT"], cwd=inputs, stdin=subprocess.DEVNULL,
+                          stderr=subprocess.PIPE, text=True) as process, open(pipe, "w") as rows:
+        rows.write("1\n")
+        rows.flush()
+        parts, end = [], time.monotonic() + SECONDS
+        while not (parts and parts[0].read_text()) and time.monotonic() < end:
+            time.sleep(0.02)
+            parts = list(inputs.glob(".silc.*.part"))
+        process.terminate()
+        said = process.communicate(timeout=SECONDS)[1]
+    if process.returncode != -signal.SIGTERM or out.read_text() != "before\n":
+        yield f"stopped: {process.returncode}, and OUT holds {out.read_text()!r}"
+    if not parts or f"{parts[0].name}\n" not in said or parts[0].read_text() != "2\n":
+        yield f"stopped: the rows so far are not told: {said!r}, {parts}"
+    for path in (*parts, out, pipe):
+        path.unlink(missing_ok=True)
+
+
+def telling_faults(script, inputs):
+    """What a second line says of a refusal."""
+    (inputs / "TWICE").write_bytes((ROOT / "tests" / "machine" / "file-twice.mic").read_bytes())
+    for words, status, wanted in (
+            (["sim", "TWICE", "SAMPLES", "OUT"], 12, "silc: file 8 is port 0 of unit 2, both from 0"),
+            (["sim", "MIC", "none", "OUT"], 3, "silc: none: there is no such file"),
+            (["list", "none"], 3, "silc: none: there is no such file"),
+            (["eval", "SRC", ".", "OUT"], 3, "silc: .: it is a folder"),
+            (["eval", "SRC", "SAMPLES", "no/OUT"], 3, "silc: no/OUT: there is no folder no/"),
+            (["eval", b"\xff", "SAMPLES", "OUT"], 2, "silc: a word is no UTF-8, and names no file here: \udcff")):
+        done = subprocess.run([script, *words], cwd=inputs, stdin=subprocess.DEVNULL, capture_output=True)
+        lines = done.stderr.decode(errors="surrogateescape").splitlines()
+        if done.returncode != status or len(lines) != 2 or lines[1] != wanted:
+            yield f"{words}: {done.returncode} {lines}"
+    (inputs / "TWICE").unlink()
+    (inputs / "OUT").unlink(missing_ok=True)
+    for words, status in (([], 2), (["-h"], 0), (["help"], 0), (["--help"], 0)):
+        done = run(script, inputs, words)
+        if done.returncode != status or not (done.stderr if status else done.stdout).startswith(USAGE):
+            yield f"the words {words}: {done.returncode} {done.stdout!r} {done.stderr!r}"
+
+
 def main():
     if not os.access(SILC, os.X_OK):
         print(f"silc: there is no program {SILC}; `tools/build silc_main` builds it")
         return 1
     with tempfile.TemporaryDirectory(prefix="silc-script-") as folder:
         script, inputs = prepare(Path(folder))
-        faults = [*guard_faults(script, inputs), *terminal_faults(script, inputs)]
+        checks = (guard_faults, whole_faults, stream_faults, stop_faults, telling_faults, terminal_faults)
+        faults = [fault for check in checks for fault in check(script, inputs)]
     for fault in faults:
         print(fault)
     print(f"./silc: {len(faults)} faults")
