@@ -6,7 +6,7 @@ from pathlib import Path
 
 from explaining.outputs import named
 from explaining.refusals import refusal_of
-from explaining.report import lines_of
+from explaining.report import edit_line, lines_of
 from explaining.text import Text
 
 ROOT = Path(__file__).resolve().parent.parent.parent
@@ -18,10 +18,10 @@ BUILD = "`tools/build silc_show` builds the program that tells the place"
 
 
 class Case:
-    """A refused command: its words by what they are, its refusal, and the programs."""
+    """A refused command: its words by what they are, its refusal, the programs, and the datapath file that a user names."""
 
-    def __init__(self, words, status, said, silc):
-        self.words, self.status, self.silc = words, status, silc
+    def __init__(self, words, status, said, silc, datapath=None):
+        self.words, self.status, self.silc, self.datapath = words, status, silc, datapath
         self.files = named(words) or {}
         self.refusal, self.values = next(filter(None, map(refusal_of, said.splitlines())), (None, {}))
         self.said = said
@@ -96,10 +96,10 @@ def without_place(case, text):
     return report if case.has_show() else report.note(f"{BUILD}.")
 
 
-def explain(words, status, said, silc):
+def explain(words, status, said, silc, datapath=None, is_edited=False):
     """Says more of a refused command, on standard error."""
     sys.setrecursionlimit(DEPTH)
-    case = Case(words, status, said, silc)
+    case = Case(words, status, said, silc, datapath)
     try:
         report = report_of(case)
     except Exception as fault:
@@ -109,4 +109,4 @@ def explain(words, status, said, silc):
     if report is None and case.refusal:
         report = case.refusal.report(about="silc")
     if report:
-        print("\n".join(lines_of(report)), file=sys.stderr, flush=True)
+        print("\n".join([*lines_of(report), *(map(edit_line, report.edits) if is_edited else ())]), file=sys.stderr, flush=True)

@@ -1,6 +1,8 @@
 """Why the bytes of a source are no tokens, or its tokens no program: the mistake that is likely, or else what was wanted."""
+import difflib
 import re
 from dataclasses import dataclass
+from decimal import Decimal
 
 from explaining.edits import edit_for
 from explaining.grammar import COMPARISONS, Unexpected
@@ -19,6 +21,9 @@ OTHERS = {"then": ("a condition is followed by `->`", "write `->`"), "else": ("t
 # Names of types elsewhere, with the type that is likely to be meant.
 TYPES = {"int": "fix<16,0>", "integer": "fix<16,0>", "short": "fix<16,0>", "float": "fix<16,15>", "double": "fix<16,15>",
          "real": "fix<16,15>", "fixed": "fix<16,15>", "boolean": "bool", "bit": "bool"}
+# Names of modes elsewhere.
+MODES = {"rnd": "round", "rounding": "round", "nearest": "round", "half_up": "round", "saturate": "sat", "saturated": "sat",
+         "clip": "sat", "clamp": "sat", "wrap": "trunc", "floor": "trunc", "truncate": "trunc", "none": "trunc"}
 OPERATORS = ("+", "-", "*", "<<", ">>", "&", "|", *COMPARISONS)
 # Characters that look like others, with what is written here.
 LOOKALIKES = {"\u2212": "-", "\u2013": "-", "\u2014": "-", "\u00d7": "*", "\u00b7": "*", "\u22c5": "*", "\u2264": "<=",
@@ -29,11 +34,14 @@ CURES = {
           "`x * 0.5`.", "Equations"),
     "%": ("there is no remainder", "write a subtraction or a shift.", "Equations"),
     "^": ("there is no power", "write a product.", "Equations"),
-    "#": ("a comment begins with `/*`", "write `/* .. */`.", "Text"),
+    "#": ("a comment begins with `/*` and ends with `*/`", "write `/* .. */`.", "Text"),
     "{": ("a body stands between `begin` and `end;`", "write `begin`.", "Grammar"),
     "}": ("a body stands between `begin` and `end;`", "write `end;`.", "Grammar"),
     "?": ("a choice is `if .. -> .. || .. fi`", "write `if condition -> value || other fi`.", "Conditionals"),
 }
+
+
+WRITTEN = {"{": "begin", "}": "end;"}
 
 
 def report_of(source, kind, at):
@@ -53,9 +61,7 @@ def bad_byte(source, at):
     text, chars = source.text, source.text.chars
     char, after = chars[at], chars[at + 1:at + 2]
     if char == "/" and after == "/":
-        end = chars.find("\n", at)
-        return Report("a comment begins with `/*` and ends with `*/`", "write `/* .. */` in the place of `// ..`.", TEXT,
-                      text.span(at, len(chars) if end < 0 else end))
+        return line_comment(text, at, "//", "a comment begins with `/*` and ends with `*/`")
     if char == ".":
         return bad_point(source, at)
     before = source.tokens
@@ -63,10 +69,22 @@ def bad_byte(source, at):
         return words_of_table(char, text.span(at))
     if char == "/":
         return division(source, at)
+    if char == "#":
+        return line_comment(text, at, "#", CURES[char][0])
     if char in CURES:
         short, cure, section = CURES[char]
-        return Report(short, cure, language(section), text.span(at))
+        report = Report(short, cure, language(section), text.span(at))
+        return report.by(text.edit(at, at + 1, WRITTEN[char])) if char in WRITTEN else report
     return other_character(source, at)
+
+
+def line_comment(text, at, mark, short):
+    """The report on a comment that goes to the end of its line in another language."""
+    end = text.chars.find("\n", at)
+    end = len(text.chars.rstrip("\n")) if end < 0 else end
+    said = text.data[at + len(mark):end].decode(errors="replace").strip()
+    report = Report(short, f"write `/* .. */` in the place of `{mark} ..`.", TEXT, text.span(at, end))
+    return report if "*/" in said else report.by(text.edit(at, end, f"/* {said} */"))
 
 
 def other_character(source, at):
@@ -76,9 +94,10 @@ def other_character(source, at):
     span = text.span(at, end)
     if char in LOOKALIKES:
         return Report(f"{byte_name(text, at)} looks like `{LOOKALIKES[char]}`, and is another character",
-                      f"write `{LOOKALIKES[char]}`.", TEXT, span)
+                      f"write `{LOOKALIKES[char]}`.", TEXT, span).by(text.edit(at, end, LOOKALIKES[char]))
     if char == BYTE_ORDER_MARK:
-        return Report("the file begins with a byte order mark, which is no blank", "save it as UTF-8 without one.", TEXT, span)
+        return Report("the file begins with a byte order mark, which is no blank", "save it as UTF-8 without one.", TEXT, span) \
+            .by(text.edit(at, end, ""))
     if char.isalpha():
         return Report(f"a name has the letters `a` to `z` and `A` to `Z`, digits and `_`, and no `{char}`",
                       "take another name, or put the text into a comment `/* .. */`.", TEXT, span)
@@ -94,9 +113,9 @@ def division(source, at):
         short, cure, section = CURES["/"]
         return Report(short, cure, language(section), source.text.span(at))
     power = int(by).bit_length() - 1
-    cure = f"write `>> {power}` for `/ {found[1]}`." if by == 2**power else \
-        f"write `* {1 / by:.10f}".rstrip("0") + f"` for `/ {found[1]}`."
-    return Report("there is no division", cure, language("Equations"), source.text.span(at, at + found.end()))
+    written = f">> {power}" if by == 2**power else f"* {1 / by:.10f}".rstrip("0")
+    return Report("there is no division", f"write `{written}` for `/ {found[1]}`.", language("Equations"),
+                  source.text.span(at, at + found.end())).by(source.text.edit(at, at + found.end(), written))
 
 
 def bad_point(source, at):
@@ -105,10 +124,12 @@ def bad_point(source, at):
     if before:
         number = before[0]
         return Report(f"a number has digits on both sides of its point, and `{number}.` has none after it",
-                      f"write `{number}.0`, or `{number}` for a whole number.", TEXT, source.text.span(before.start(), at + 1))
+                      f"write `{number}.0`, or `{number}` for a whole number.", TEXT, source.text.span(before.start(), at + 1)) \
+            .by(source.text.edit(at, at + 1, ".0"))
     if after:
         return Report(f"a number has digits on both sides of its point, and `.{after[0]}` has none before it",
-                      f"write `0.{after[0]}`.", TEXT, source.text.span(at, at + 1 + after.end()))
+                      f"write `0.{after[0]}`.", TEXT, source.text.span(at, at + 1 + after.end())) \
+            .by(source.text.edit(at, at, "0"))
     return Report("a point stands in numbers only", "take it out, or write `..` for a range.", TEXT, source.text.span(at))
 
 
@@ -139,18 +160,32 @@ def bad_number(source, at):
     span = source.text.span(at, at + len(word))
     if sum(char.isdigit() for char in found[0]) > LONGEST_NUMBER:
         return Report(f"a number has at most {LONGEST_NUMBER} digits", "write fewer digits: a word has at most 40 bits.", TEXT, span)
-    cure = f"write a blank or an operator between them, as `{found[0]} * {rest}`."
     if re.fullmatch(r"0[xX][0-9A-Fa-f]+|0[bB][01]+", word):
-        return Report("numbers are decimal", f"write `{int(word, 0)}`.", TEXT, span)
-    if re.fullmatch(r"[eE]\d*", rest):
-        cure = "write all digits, as `0.001` for `1e-3`."
-    return Report(f"the letter `{rest[:1]}` follows directly on the number {found[0]}", cure, TEXT, span)
+        return Report("numbers are decimal", f"write `{int(word, 0)}`.", TEXT, span).by(source.text.edit(at, at + len(word), f"{int(word, 0)}"))
+    short = f"the letter `{rest[:1]}` follows directly on the number {found[0]}"
+    power = re.match(r"\d+(\.\d+)?[eE][-+]?\d{1,2}(?!\w)", source.text.chars[at:at + 60], re.A)
+    if power:
+        return with_power(source, at, power[0], short)
+    if re.fullmatch(r"[fFlLuU]+|[A-Za-z_]\w*\..*", rest):
+        return Report(short, f"write `{found[0]}`." if len(rest) < 4 else "write a blank or an operator between them.", TEXT, span)
+    cure = f"write a blank or an operator between them, as `{found[0]} * {rest}`."
+    return Report(short, cure, TEXT, span).by(source.text.edit(at, at + len(word), f"{found[0]} * {rest}"))
+
+
+def with_power(source, at, word, short):
+    """The report on a number with a power of ten, as 1e-3."""
+    digits = format(Decimal(word), "f")
+    span = source.text.span(at, at + len(word))
+    if sum(map(str.isdigit, digits)) > LONGEST_NUMBER:
+        return Report(short, "write all digits, as `0.001` for `1e-3`: 18 of them at most.", TEXT, span)
+    return Report(short, f"write all digits: `{digits}`.", TEXT, span).by(source.text.edit(at, at + len(word), digits))
 
 
 def open_comment(source, at):
     end = source.text.chars.find("\n", at)
-    return Report("this comment has no end", "write `*/` at its end.", TEXT,
-                  source.text.span(at, len(source.text.chars) if end < 0 else end))
+    end = len(source.text.chars.rstrip("\n")) if end < 0 else end
+    return Report("this comment has no end", "write `*/` at its end.", TEXT, source.text.span(at, end)) \
+        .by(source.text.edit(end, end, " */"))
 
 
 # Tokens
@@ -190,6 +225,11 @@ class Stop:
         tokens = self.source.tokens
         return self.source.text.span(tokens[self.position + first].start, tokens[self.position + last].end)
 
+    def edit(self, first, last, text):
+        """The replacement of the tokens from one to another one, by how far they are from this."""
+        tokens = self.source.tokens
+        return self.source.text.edit(tokens[self.position + first].start, tokens[self.position + last].end, text)
+
     def is_joined(self):
         """Whether the next token follows directly on this one."""
         tokens, position = self.source.tokens, self.position
@@ -216,7 +256,8 @@ def syntax(source, position):
             return report
     there = f"`{token.text}` stands there" if token else "the source ends"
     what = stop.wanted or "something else"
-    return Report(f"{what} is wanted here, and {there}", edit_for(source, position, stop.wanted) or f"write {what}.", GRAMMAR, span)
+    cure, edits = edit_for(source, position, stop.wanted) or (f"write {what}.", [])
+    return Report(f"{what} is wanted here, and {there}", cure, GRAMMAR, span).by(*edits)
 
 
 def wanted_at(source, position):
@@ -232,7 +273,8 @@ def missing_semicolon(stop):
     if stop.token and not stop.is_at("end") and line(stop.token.start) == line(stop.before.end - 1):
         return None
     return Report(f"a `;` is missing after `{stop.before.text}`", f"write `;` after `{stop.before.text}`.", GRAMMAR,
-                  stop.source.text.span(stop.before.end, stop.before.end + 1))
+                  stop.source.text.span(stop.before.end, stop.before.end + 1)) \
+        .by(stop.source.text.edit(stop.before.end, stop.before.end, ";"))
 
 
 def kept_word(stop):
@@ -252,16 +294,19 @@ def other_word(stop):
     for token, by in ((stop.token, 0), (stop.before, -1)):
         if token and token.text in OTHERS and token.kind == "name" and (by == 0 or stop.is_equals()):
             short, cure = OTHERS[token.text]
-            return Report(short, f"{cure} in the place of `{token.text}`.",
-                          CONDITIONALS if token.text in ("then", "else") else GRAMMAR, stop.span(by, by))
+            report = Report(short, f"{cure} in the place of `{token.text}`.",
+                            CONDITIONALS if token.text in ("then", "else") else GRAMMAR, stop.span(by, by))
+            written = cure.removeprefix("write `").removesuffix("`")
+            return report if ".." in written else report.by(stop.edit(by, by, written))
     return None
 
 
 def other_type(stop):
     if stop.token and stop.token.kind == "name" and stop.wanted == "a type":
         name = stop.token.text
+        written = TYPES.get(name.lower(), "fix<16,15>")
         return Report(f"`{name}` is no type: the types are `fix<W,F>`, words of W bits with F of them after the point, and `bool`",
-                      f"write `{TYPES.get(name, 'fix<16,15>')}` in the place of `{name}`.", language("Words and types"))
+                      f"write `{written}` in the place of `{name}`.", language("Words and types")).by(stop.edit(0, 0, written))
     return None
 
 
@@ -272,7 +317,29 @@ def two_modes(stop):
     given = f"{stop.before.text},{stop.ahead()}"
     right = "round,sat" if given == "sat,round" else "sat" if "sat" in given else stop.ahead()
     return Report(f"`{given}` is no mode: the modes are `trunc`, `round`, `sat` and `round,sat`",
-                  f"write `{right}` in the place of `{given}`.", language("Words and types"), stop.span(-1, 1))
+                  f"write `{right}` in the place of `{given}`.", language("Words and types"), stop.span(-1, 1)) \
+        .by(stop.edit(-1, 1, right))
+
+
+def other_mode(stop):
+    """A mode by another name, or after `round` one that is none beside it."""
+    if not stop.wanted.endswith("`sat`") or stop.token is None or stop.ahead(-1) != ",":
+        return None
+    word, modes = stop.token.text, "the modes are `trunc`, `round`, `sat` and `round,sat`"
+    if stop.ahead(-2) == "round":
+        if word in ("round", "trunc"):
+            return Report(f"`round,{word}` is no mode: {modes}", "write `round` alone." if word == "round" else
+                          "write `round` or `trunc`.", language("Words and types"), stop.span(-2, 0)) \
+                .by(*[stop.edit(-2, 0, "round")] if word == "round" else [])
+        return None
+    if stop.token.kind != "name":
+        return None
+    like = MODES.get(word.lower()) or next(iter(difflib.get_close_matches(word.lower(), ("round", "sat", "trunc"), 1, 0.6)), None)
+    if like is None:
+        return Report(f"`{word}` is no mode: {modes}", "write one of these, or the type without a mode.",
+                      language("Words and types"))
+    return Report(f"`{word}` is no mode: {modes}", f"write `{like}` in the place of `{word}`.", language("Words and types")) \
+        .by(stop.edit(0, 0, like))
 
 
 def late_var(stop):
@@ -377,11 +444,11 @@ def signed_amount(stop):
     if stop.is_after("@"):
         return Report("a delay is how many samples ago, 0 or more",
                       f"write `@{number}` for the word of {counted(int(number), 'sample')} ago.", DELAYS,
-                      stop.span(0, 1))
+                      stop.span(0, 1)).by(stop.edit(0, 1, number))
     if stop.is_after("<<", ">>"):
         other = "<<" if stop.before.text == ">>" else ">>"
         return Report("a shift is by 0 or more bits", f"write the other shift, `{other} {number}`.", language("Equations"),
-                      stop.span(-1, 1))
+                      stop.span(-1, 1)).by(stop.edit(-1, 1, f"{other} {number}"))
     return None
 
 
@@ -395,12 +462,13 @@ def subscript_in_number(stop):
 def lone_equals(stop):
     if stop.is_at("=") and "operator" in stop.wanted:
         if stop.ahead() == ">" and stop.is_joined():
-            return Report("at least is `>=`", "write `>=` in the place of `=>`.", GRAMMAR, stop.span(0, 1))
-        return Report("`=` defines a signal, and `==` compares", "write `==`.", GRAMMAR)
+            return Report("at least is `>=`", "write `>=` in the place of `=>`.", GRAMMAR, stop.span(0, 1)).by(stop.edit(0, 1, ">="))
+        return Report("`=` defines a signal, and `==` compares", "write `==`.", GRAMMAR).by(stop.edit(0, 0, "=="))
     if stop.is_at(">") and stop.is_after("<") and stop.wanted == "an expression":
-        return Report("unequal is `!=`", "write `!=` in the place of `<>`.", GRAMMAR, stop.span(-1, 0))
+        return Report("unequal is `!=`", "write `!=` in the place of `<>`.", GRAMMAR, stop.span(-1, 0)).by(stop.edit(-1, 0, "!="))
     if stop.is_at("=") and stop.ahead(-2) == "(" and stop.wanted == "`,` or `)`":
-        return Report("the index of a loop is followed by `:`", "write `:` in the place of `=`.", language("Loops"))
+        return Report("the index of a loop is followed by `:`", "write `:` in the place of `=`.", language("Loops")) \
+            .by(stop.edit(0, 0, " :"))
     return None
 
 
@@ -412,13 +480,14 @@ def chained_comparison(stop):
 
 def doubled(stop):
     if stop.is_at("&") and stop.is_after("&"):
-        return Report("`and` is `&`", "write `&` in the place of `&&`.", GRAMMAR, stop.span(-1, 0))
+        return Report("`and` is `&`", "write `&` in the place of `&&`.", GRAMMAR, stop.span(-1, 0)).by(stop.edit(-1, 0, "&"))
     if stop.is_at("*") and stop.is_after("*"):
         return Report("there is no power", "write a product, as `x * x`.", language("Equations"), stop.span(-1, 0))
     if stop.is_at("||") and "`||`" not in stop.wanted and "operator" in stop.wanted:
-        return Report("`or` is `|`, and `||` begins the next case of `if`", "write `|` in the place of `||`.", GRAMMAR)
+        return Report("`or` is `|`, and `||` begins the next case of `if`", "write `|` in the place of `||`.", GRAMMAR) \
+            .by(stop.edit(0, 0, "|"))
     if stop.is_at("-") and stop.ahead() == "-" and stop.is_item():
-        return Report("a comment begins with `/*` and ends with `*/`", "write `/* .. */` in the place of `-- ..`.", TEXT, stop.span(0, 1))
+        return line_comment(stop.source.text, stop.token.start, "--", "a comment begins with `/*` and ends with `*/`")
     return None
 
 
@@ -468,18 +537,19 @@ def call_inside(stop):
 
 def glued(stop):
     if stop.is_at(">=") and "`>`" in stop.wanted:
-        return Report("`>=` is one symbol, and `>` ends the type", "write a blank between them, as `> =`.", TEXT)
+        return Report("`>=` is one symbol, and `>` ends the type", "write a blank between them, as `> =`.", TEXT) \
+            .by(stop.edit(0, 0, "> ="))
     return None
 
 
 def assigned(stop):
     if stop.is_at(":") and stop.ahead() == "=":
-        return Report("an equation has `=`", "write `=` in the place of `:=`.", GRAMMAR, stop.span(0, 1))
+        return Report("an equation has `=`", "write `=` in the place of `:=`.", GRAMMAR, stop.span(0, 1)).by(stop.edit(0, 1, "="))
     return None
 
 
 # The mistakes that are likely, the likelier first.
-RULES = (kept_word, other_word, other_type, two_modes, late_var, table_inside, valued_var, untyped_table, table_words,
+RULES = (kept_word, other_word, other_type, two_modes, other_mode, late_var, table_inside, valued_var, untyped_table, table_words,
          named_dim, no_parameter, delayed_sum, delayed_target, signed_amount, subscript_in_number, lone_equals, doubled,
          chained_comparison, updated, choice_as_item, bare_results, bodiless_loop, call_inside, glued, assigned, missing_semicolon)
 

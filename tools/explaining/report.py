@@ -1,8 +1,9 @@
 """What is said of a refusal, and how it is put."""
+import json
 import re
 from dataclasses import dataclass, field
 
-from explaining.text import Span
+from explaining.text import Edit, Span
 
 WIDTH = 100
 
@@ -24,9 +25,16 @@ class Report:
     notes: list = field(default_factory=list)
     # What the report is about where it has no place: a file, or the command.
     about: str = ""
+    # The cure as edits of files, all of which are applied together; none where it is a choice, or asks for something new.
+    edits: list = field(default_factory=list)
 
     def note(self, text, span=None):
         self.notes.append(Note(text, span))
+        return self
+
+    def by(self, *edits: Edit):
+        """The report with the cure as edits."""
+        self.edits += edits
         return self
 
 
@@ -58,6 +66,11 @@ def lines_of(report):
             made += folded(note.text, "", "  ")
     made += folded(report.cure, "cure: ", "  ")
     return [*made, f"rule: {report.rule}"]
+
+
+def edit_line(edit):
+    """An edit as a line for a program to read: its place, and the new text as JSON."""
+    return f"edit: {edit.file}:{edit.line}:{edit.column}-{edit.column + edit.length}: {json.dumps(edit.text)}"
 
 
 def listed(words, last="and"):

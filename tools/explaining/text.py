@@ -52,6 +52,10 @@ class Text:
         length = len(self.data[start:end].decode(errors="replace"))
         return Span(self.name, line, self.column_of(start), max(length, 1), self.line(line).decode(errors="replace"))
 
+    def edit(self, start, end, text):
+        """The replacement of what stands between two places by a text."""
+        return Edit(self.name, self.line_of(start), self.column_of(start), len(self.data[start:end].decode(errors="replace")), text)
+
     def line_span(self, number):
         """A whole line, without the blanks around it."""
         number = min(max(number, 1), len(self.starts))
@@ -76,6 +80,17 @@ class Span:
         lead = re.sub(r"[^\t]", " ", shown[:self.column - 1 - start])
         length = max(1, min(self.length, len(shown) - len(lead)))
         return [f"{self.line:>{width}} | {shown}", f"{'':>{width}} | {lead}{'^' * length}"]
+
+
+@dataclass(frozen=True)
+class Edit:
+    """A part of a cure: from a column of a line of a file on, so many characters are replaced by a text. The end of a line is
+    one of the characters."""
+    file: str
+    line: int
+    column: int
+    length: int
+    text: str
 
 
 def tokens_of(chars):
