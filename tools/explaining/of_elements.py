@@ -105,19 +105,29 @@ def bad_delay(source, at):
     context = source.at(at, "delay", "initial")
     if context.role == "delay" and context.parent.name in source.tables:
         table = source.tables[context.parent.name]
-        return Report(f"`{table.name}` is a table, and has no past", f"take the delay away: write `{plain(source, context.parent)}`.",
+        written = plain(source, context.parent)
+        return Report(f"`{table.name}` is a table, and has no past", f"take the delay away: write `{written}`.",
                       language("Delays and initial values"), source.node_span(context.parent)) \
-            .note("This is the table.", source.name_span(table))
+            .note("This is the table.", source.name_span(table)) \
+            .by(source.text.edit(context.parent.start, context.parent.end, written))
     least = 1 if context.role == "initial" else 0
     indices, value, context = first_turn(source, func, at, lambda c, v: c.role in ("delay", "initial")
                                          and not least <= v <= MOST_DELAY)
     what = "an initial value is 1 to 1023 samples before the first" if least else "a delay is 0 to 1023 samples"
     cure = f"write a number from {least} to {MOST_DELAY}."
     if value is not None and value > MOST_DELAY and not least:
-        cure = f"write a number from 0 to {MOST_DELAY}; a longer delay is made of several, by a signal of its own: " \
-               f"`t = {context.parent.name}@{MOST_DELAY};` and then `t@{value - MOST_DELAY}`."
+        cure = f"write a number from 0 to {MOST_DELAY}; {longer_delay(plain(source, context.parent), value)}"
     report = Report(f"{what}, and this is {value}", cure, language("Delays and initial values"), source.node_span(context.node))
     return turn_note(report, indices, value, source, context.node)
+
+
+def longer_delay(shown, value):
+    """How a delay is made that is longer than one may be."""
+    if value <= 2 * MOST_DELAY:
+        return f"a longer delay is made of two, by a signal of its own: `t = {shown}@{MOST_DELAY};` and then " \
+               f"`t@{value - MOST_DELAY}`."
+    return f"a longer delay is made of several, each by a signal of its own: `t = {shown}@{MOST_DELAY};`, `u = t@{MOST_DELAY};` " \
+           f"and so on."
 
 
 def plain(source, read):
@@ -272,9 +282,9 @@ def delayless_loop(source, element):
     names = [full_name(e) for e in elements]
     way = " reads ".join(f"`{name}`" for name in [*names, names[0]]) if len(names) < 8 else \
         f"`{names[0]}` reads itself by way of {counted(len(names) - 1, 'element')}"
-    report = Report(f"`{names[0]}` depends on itself in the same sample: {way}",
-                    late_read(source, elements),
-                    language("Delays and initial values"), source.name_span(first.decl))
+    cure, edits = late_read(source, elements)
+    report = Report(f"`{names[0]}` depends on itself in the same sample: {way}", cure,
+                    language("Delays and initial values"), source.name_span(first.decl)).by(*edits)
     if len(elements) > MOST_SHOWN:
         return report.note("The elements of the loop, each of which reads the next one: "
                            + ", ".join(f"`{full_name(e)}` in line {source.line(e.at)}" for e in elements) + ".")
@@ -284,11 +294,17 @@ def delayless_loop(source, element):
 
 
 def late_read(source, elements):
-    """The cure of a loop: a read of it that may be one of an earlier sample."""
+    """The cure of a loop: a read of it that may be one of an earlier sample, in words and as edits."""
     for element, read in zip(elements, [*elements[1:], elements[0]]):
         if element.can_wait:
-            return f"read `{read.name()}` one sample ago in line {source.line(element.at)}, as `{read.name()}@1`."
-    return "read one of them one sample ago."
+            nodes = [context.node for context in source.contexts(element.func) if context.role == "expression"
+                     and context.node.kind == "read" and context.node.name == read.decl.name
+                     and element.at in (context.item.at, *(target.at for target in targets_of(context.item)))]
+            same = {source.shown(node) for node in nodes if node.amount is None}
+            shown = same.pop() if len(same) == 1 else read.name()
+            edits = [source.text.edit(node.end, node.end, "@1") for node in nodes if node.amount is None and not same]
+            return f"read `{shown}` one sample ago in line {source.line(element.at)}, as `{shown}@1`.", edits
+    return "read one of them one sample ago.", []
 
 
 def full_name(element):

@@ -80,11 +80,17 @@ def unwritten(name):
     if os.statvfs(folder).f_flag & os.ST_RDONLY:
         return no_output(name, os.strerror(errno.EROFS), "give a name on a disk that may be written.")
     if not os.path.exists(name) and not os.access(folder, os.W_OK):
-        return no_output(name, os.strerror(errno.EACCES), f"give a name in another folder, or ask for the right to write in {folder}.")
+        return no_output(name, os.strerror(errno.EACCES), f"give a name in another folder, or ask for the right to make files in "
+                         f"{place_of(folder)}.")
     fault = no_room(name, folder)
     if fault:
         return no_output(name, *fault)
     return no_output(name, "the system has not said why", "give another name.")
+
+
+def place_of(folder):
+    """A folder in words that name it: one that is told by its way from here has its whole name too."""
+    return f"`{folder}`" if folder.strip("./") else f"`{os.path.abspath(folder)}`"
 
 
 def stat_fault(name):
@@ -106,7 +112,7 @@ def no_room(name, folder):
         return fault.strerror, "give a name on a disk with room."
     room = os.statvfs(folder)
     if room.f_blocks > 0 and room.f_bavail == 0 or room.f_files > 0 and room.f_favail == 0:
-        return os.strerror(errno.ENOSPC), f"make room on the disk of {folder}, or give a name on another one."
+        return os.strerror(errno.ENOSPC), f"make room on the disk of {place_of(folder)}, or give a name on another one."
     most, _ = resource.getrlimit(resource.RLIMIT_FSIZE)
     if most != resource.RLIM_INFINITY:
         return f"{os.strerror(errno.EFBIG)}; a file has at most {most} bytes here", "raise the limit by `ulimit -f`."

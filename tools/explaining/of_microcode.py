@@ -1,13 +1,19 @@
 """Why a file is no microcode, and which parts of microcode are in conflict."""
+import sys
+import tomllib
+from pathlib import Path
+
 from explaining.kinds import other_kind
-from explaining.refusals import CONFLICTS, MICROCODE
+from explaining.refusals import CONFLICTS, MICROCODE, refusal_of
 from explaining.report import Report, counted, listed
+from hardware.datapath import called, unit_faults
 from micro_file import FIELD, MAGIC, SHORT, TRAILING, BadImage, image_of
 
 MOST_BYTES = 1 << 26
 # The version, in which fields have bits and no whole bytes. Bit 0 of a byte is its most significant.
 PLACE_OF_VERSION, PACKED, BITS = 4, 2, 8
 PORTS_OF_UNIT = 4
+CONFLICT, BAD_WORDS = 12, 2
 
 
 def report_of(case):
@@ -47,10 +53,72 @@ def bad_field(text, fault):
                   about=text.name)
 
 
+def at_start(clause):
+    """A clause at the beginning of a sentence; a name keeps its letters."""
+    return clause if clause.startswith("`") else clause.capitalize()
+
+
 def shown_bytes(data):
     """Bytes as letters where they are some, or else as numbers."""
     text = data.decode("latin-1")
     return f"`{text}`" if text.isascii() and text.isprintable() else "the bytes " + data.hex(" ")
+
+
+class Called:
+    """What units, ports and buses of an image are called: by their numbers, or by the names in its datapath file."""
+
+    def __init__(self, kinds=(), units=(), buses=()):
+        self.kinds, self.units, self.buses = kinds, units, buses
+
+    def unit(self, number):
+        kind = f" ({self.kinds[number]})" if number < len(self.kinds) else ""
+        return f"`{self.units[number]}`" + kind if number < len(self.units) else f"unit {number}{kind}"
+
+    def port(self, unit, port):
+        return f"`{self.units[unit]}.{port}`" if unit < len(self.units) else f"unit {unit}, port {port}"
+
+    def bus(self, number):
+        return f"`{self.buses[number]}`" if number < len(self.buses) else f"bus {number}"
+
+
+def names_in(file, image):
+    """The names of units and of buses in a datapath file, or why they are not those of an image."""
+    try:
+        tree = tomllib.loads(Path(file).read_text(encoding="utf-8-sig"))
+        units, buses = called(tree["unit"]), called(tree["bus"])
+        fault = next(unit_faults(image, tree["unit"], units), None) if image else None
+    except OSError as why:
+        return (), (), f"{file} can't be read: {why.strerror}"
+    except (KeyError, TypeError, AttributeError, ValueError) as why:
+        return (), (), f"{file} is no datapath file: {why}"
+    if image and not fault and (tree.get("period"), len(buses)) != (image.period, image.buses):
+        fault = f"it has a period of {tree.get('period')} and {counted(len(buses), 'bus', 'buses')}, and the microcode " \
+                f"{image.period} and {image.buses}"
+    return ((), (), f"{file} is not the datapath of the microcode: {fault}") if fault else (units, buses, None)
+
+
+def told_place(line, datapath=None):
+    """Prints in a line which unit, port or bus the place of a conflict is. Gives the exit status."""
+    found = refusal_of(line)
+    if not found or found[0].code != CONFLICT:
+        print("explain: the line is no conflict", file=sys.stderr)
+        return BAD_WORDS
+    units, buses, fault = names_in(datapath, None) if datapath else ((), (), None)
+    if fault:
+        print(f"explain: {fault}", file=sys.stderr)
+        return BAD_WORDS
+    told, place, kind = Called((), units, buses), int(found[1]["place"]), kind_of(found[0])
+    if kind == "file twice":
+        name = told.port(*divmod(place, PORTS_OF_UNIT))
+    else:
+        name = told.bus(place) if kind in ("two drivers", "no driver") else told.unit(place)
+    print(f"silc: the place {place} is {name.replace('`', '')}")
+    return 0
+
+
+def kind_of(refusal):
+    """Which conflict a refusal is."""
+    return refusal.text.partition(": ")[2].removesuffix(" PLACE")
 
 
 class Conflict:
@@ -59,8 +127,10 @@ class Conflict:
     def __init__(self, image, case):
         self.image, self.name = image, case.files["MIC"]
         self.cycle, self.place = int(case.values["cycle"]), int(case.values["place"])
-        self.kind = case.refusal.text.partition(": ")[2].removesuffix(" PLACE")
+        self.kind = kind_of(case.refusal)
         self.word = self.number(self.cycle)
+        units, buses, self.unnamed = names_in(case.datapath, image) if case.datapath else ((), (), None)
+        self.called = Called([unit.kind for unit in image.units], units, buses)
 
     def number(self, cycle):
         return cycle % len(self.image.words)
@@ -69,7 +139,7 @@ class Conflict:
         return self.image.words[self.number(cycle)]
 
     def unit(self, number):
-        return f"unit {number} ({self.image.units[number].kind})"
+        return self.called.unit(number)
 
     def issue(self, cycle, unit):
         """The issue on a unit in a cycle."""
@@ -94,6 +164,8 @@ class Conflict:
         sample = self.cycle // self.image.period
         report.notes.insert(0, type(report)("", "", "").note(
             f"Cycle {self.cycle} is in sample {sample}, and obeys word {self.word} (`silc list {self.name}`).").notes[0])
+        if self.unnamed:
+            report.note(f"The names are not known: {self.unnamed}.")
         return report
 
     def busy(self):
@@ -107,22 +179,23 @@ class Conflict:
 
     def two_drivers(self):
         units = self.at(self.cycle).drivers(self.place)
-        report = Report(f"{listed(map(self.unit, units))} drive bus {self.place} in one cycle",
+        report = Report(f"{listed(map(self.unit, units))} drive {self.called.bus(self.place)} in one cycle",
                         "drive another bus with one of them, or issue one of the two in another cycle.", CONFLICTS)
         for unit in units:
-            report.note(f"{self.unit(unit).capitalize()} drives it with {self.result(unit)}.")
+            report.note(f"{at_start(self.unit(unit))} drives it with {self.result(unit)}.")
         idle = [unit for unit in units if not self.begun(unit)]
         if idle:
-            report.cure = f"leave the drive of unit {idle[0]} out."
+            report.cure = f"leave the drive of {self.unit(idle[0])} out."
         return report
 
     def file_twice(self):
         unit, port = divmod(self.place, PORTS_OF_UNIT)
         takes = [(bus, register) for u, p, bus, register in self.at(self.cycle).takes if (u, p) == (unit, port)]
-        report = Report(f"the register file at {unit}.{port} takes {counted(len(takes), 'word')} in one cycle, and one is the most",
+        report = Report(f"the register file of {self.called.port(unit, port)} takes {counted(len(takes), 'word')} in one cycle, and "
+                        "one is the most",
                         "issue one of the operations in another cycle.", CONFLICTS)
         for bus, register in takes:
-            report.note(f"Register {register} takes from bus {bus} {self.on_bus(bus)}.")
+            report.note(f"Register {register} takes from {self.called.bus(bus)} {self.on_bus(bus)}.")
         if len({bus for bus, _ in takes}) == 1:
             report.cure = "leave one of the two takes out: both take the same word."
         return report
@@ -133,23 +206,24 @@ class Conflict:
 
     def no_driver(self):
         takes = [take for take in self.at(self.cycle).takes if take.bus == self.place]
-        report = Report(f"nothing drives bus {self.place}, and {counted(len(takes), 'register takes', 'registers take')} from it",
-                        f"let a unit drive bus {self.place} in this cycle, or leave the take out.", CONFLICTS)
+        bus = self.called.bus(self.place)
+        report = Report(f"nothing drives {bus}, and {counted(len(takes), 'register takes', 'registers take')} from it",
+                        f"let a unit drive {bus} in this cycle, or leave the take out.", CONFLICTS)
         for unit, port, _, register in takes:
-            report.note(f"Register {register} at {unit}.{port} takes from it.")
+            report.note(f"Register {register} of {self.called.port(unit, port)} takes from it.")
         drives = self.at(self.cycle).enables
         ready = next((unit for unit in range(len(self.image.units)) if self.begun(unit)), None)
         if ready is not None:
-            report.cure = f"let unit {ready} drive bus {self.place} in this cycle, or leave the take out."
-            report.note(f"{self.unit(ready).capitalize()} has a result in this cycle: {self.result(ready)}.")
-        return report.note("In this cycle " + (listed([f"unit {unit} drives bus {bus}" for unit, bus in drives]) if drives
-                                               else "no bus is driven") + ".")
+            report.cure = f"let {self.unit(ready)} drive {bus} in this cycle, or leave the take out."
+            report.note(f"{at_start(self.unit(ready))} has a result in this cycle: {self.result(ready)}.")
+        return report.note("In this cycle " + (listed([f"{self.unit(unit)} drives {self.called.bus(bus)}" for unit, bus in drives])
+                                               if drives else "no bus is driven") + ".")
 
     def no_result(self):
         unit = self.image.units[self.place]
         begun = self.cycle - unit.latency + 1
         buses = [bus for number, bus in self.at(self.cycle).enables if number == self.place]
-        report = Report(f"{self.unit(self.place)} drives {listed([f'bus {bus}' for bus in buses])}, and has no result in this cycle",
+        report = Report(f"{self.unit(self.place)} drives {listed(map(self.called.bus, buses))}, and has no result in this cycle",
                         f"drive the bus in the cycle of the result, which is there {counted(unit.latency - 1, 'cycle')} after its "
                         f"issue and then no more, or leave the drive out.", CONFLICTS)
         report.note(f"Its latency is {unit.latency}, so the operation would have to begin in cycle {begun}, and none does.")
@@ -163,11 +237,10 @@ class Conflict:
         unit, issue = self.image.units[self.place], self.issue(self.cycle, self.place)
         register = issue.registers[0]
         last = len(unit.cells) - 1
+        port = self.called.port(self.place, 0)
         report = Report(f"`{issue.text()}` on {self.unit(self.place)} has an address that is not 0 to {last}",
-                        f"write an address from 0 to {last} into register {register} at {self.place}.0: an acu makes "
-                        f"no other.", CONFLICTS)
-        report.note(f"The unit has {counted(len(unit.cells), 'cell')}, and reads the address from register {register} "
-                    f"at {self.place}.0.")
+                        f"write an address from 0 to {last} into register {register} of {port}: an acu makes no other.", CONFLICTS)
+        report.note(f"The unit has {counted(len(unit.cells), 'cell')}, and reads the address from register {register} of {port}.")
         written = self.last_write(self.place, 0, register)
         return report.note(written) if written else report.note("Nothing was written there before: it has its first word.")
 
@@ -176,6 +249,6 @@ class Conflict:
             for u, p, bus, r in self.at(cycle).takes:
                 if (u, p, r) == (unit, port, register):
                     other = Conflict.__new__(Conflict)
-                    other.image, other.cycle = self.image, cycle
+                    other.image, other.cycle, other.called = self.image, cycle, self.called
                     return f"That register was written in cycle {cycle}, with {other.on_bus(bus)}."
         return None

@@ -7,15 +7,15 @@ from explaining.grammar import Func
 from explaining.program import WHERE, calls_of
 from explaining.refusals import language
 from explaining.report import Report, counted, listed
-from explaining.typing_rules import MOST_BITS
+from explaining.typing_rules import MOST_BITS, Typing
 
 # How much alike two names are, from 0 to 1, of which one may be meant by the other.
 ALIKE = 0.6
 # What is written for functions that other languages have.
-WRITTEN = {"abs": "if x < 0 -> -x || x fi", "max": "if a < b -> b || a fi", "min": "if a < b -> a || b fi"}
+WRITTEN = {"abs": ("x", "if x < 0 -> -x || x fi"), "max": ("ab", "if a < b -> b || a fi"), "min": ("ab", "if a < b -> a || b fi")}
 # The names that are listed at most.
 MOST_NAMES = 30
-MOST_DIM = 8192
+MOST_DIM, MOST_DELAY = 8192, 1023
 
 
 def near(name, names):
@@ -37,11 +37,7 @@ def unknown_index(source, context):
     loops = {loop.name: loop for loop in context.loops}
     decl = source.decl(func, name)
     if decl and decl.role == "table":
-        word = source.tables[name].words[0].value if not decl.dims else None
-        number = f", {word}," if word else ""
-        return Report(f"the table `{name}` can't be {where}, which is a number that is written there",
-                      f"write the number{number} in the place of `{name}`.", rule) \
-            .note(f"`{name}` is declared here. Tables are for the words of signals.", source.name_span(decl))
+        return table_as_index(source, node, decl, where)
     if decl:
         cure = {"subscript": f"write a whole number or the index of a loop around it; to choose by a signal, write "
                              f"`if .. -> .. || .. fi`.",
@@ -60,7 +56,18 @@ def unknown_index(source, context):
     like = near(name, loops)
     cure = f"write `{like}`, the index of the loop around it." if like else \
         f"write a whole number{' or ' + listed([f'`{k}`' for k in loops], 'or') if loops else ''}."
-    return Report(f"nothing that can be {where} is called `{name}`", cure, rule)
+    return Report(f"nothing that can be {where} is called `{name}`", cure, rule) \
+        .by(*[source.text.edit(node.start, node.end, like)] if like else [])
+
+
+def table_as_index(source, node, decl, where):
+    """The report on a table in the place of a manifest number."""
+    word = source.tables[decl.name].words[0].value if not decl.dims else ""
+    cure = f"write the number, {word}, in the place of `{decl.name}`." if word.isdecimal() else \
+        f"write a whole number in the place of `{decl.name}`."
+    return Report(f"the table `{decl.name}` can't be {where}, which is a number that is written there", cure, language("Loops")) \
+        .note(f"`{decl.name}` is declared here. Tables are for the words of signals.", source.name_span(decl)) \
+        .by(*[source.text.edit(node.start, node.end, word)] if word.isdecimal() else [])
 
 
 def unknown_read(source, context):
@@ -78,51 +85,133 @@ def unknown_read(source, context):
                       f"define a signal by the call, as `t = {name}(..);`, and write `t` here.", language("Functions")) \
             .note("This is the function.", source.name_span(source.funcs[name]))
     known = [decl.name for decl in func.decls()] + list(source.tables)
-    return misspelt(source, func, name, known, f"nothing here is called `{name}`")
+    return misspelt(source, context, known, f"nothing here is called `{name}`")
 
 
-def numbered(source, func, name):
+def numbered(source, context):
     """The report on a name that is another one with a number after it, as `x1` for `x@1`."""
-    found = re.fullmatch(r"(\w*?[A-Za-z_])(\d+)", name)
+    node, func = context.node, context.func
+    found = re.fullmatch(r"(\w*?[A-Za-z_])(\d+)", node.name)
     decl = source.decl(func, found[1]) if found else None
     if decl is None or decl.role == "table" and not decl.dims:
         return None
     number = int(found[2])
-    cure = f"write `{decl.name}[{number}]` for the element." if decl.dims else \
-        f"write `{decl.name}@{number}` for the word of {counted(number, 'sample')} ago."
-    return Report(f"nothing here is called `{name}`", cure, language("Delays and initial values")) \
-        .note(f"`{decl.name}` is declared here.", source.name_span(decl))
+    written = f"{decl.name}[{number}]" if decl.dims else f"{decl.name}@{number}"
+    cure = f"write `{written}` for the element." if decl.dims else \
+        f"write `{written}` for the word of {counted(number, 'sample')} ago."
+    is_sure = not node.subs and not (node.amount and not decl.dims) and number < (decl.dims or [MOST_DELAY + 1])[0]
+    return Report(f"nothing here is called `{node.name}`", cure if is_sure else f"{cure[:-1]}, or declare `{node.name}`.",
+                  language("Delays and initial values")) \
+        .note(f"`{decl.name}` is declared here.", source.name_span(decl)) \
+        .by(*[source.text.edit(node.at, node.at + len(node.name), written)] if is_sure else [])
 
 
-def misspelt(source, func, name, known, short):
-    report = numbered(source, func, name)
+def uses_of(source, func, name):
+    """The targets that a name is in a function, and the expressions that read it."""
+    nodes = [(context.role, context.node) for context in source.contexts(func) if context.node.name == name]
+    return [node for role, node in nodes if role == "target"], [node for role, node in nodes if role == "expression"]
+
+
+def misspelt(source, context, known, short):
+    node, func, name = context.node, context.func, context.node.name
+    targets, reads = uses_of(source, func, name)
+    report = numbered(source, context) if not targets else None
     if report:
         return report
-    like = near(name, known)
+    # What defines something by a name that is nowhere read may mean a signal that has no definition.
+    free = [decl.name for decl in (*func.results, *func.locals) if not uses_of(source, func, decl.name)[0]]
+    like = near(name, known if not targets else [] if reads else free)
     if like:
         decl = source.decl(func, like)
         return Report(short, f"write `{like}`.", language("Declarations")) \
-            .note(f"`{like}` is declared here.", source.name_span(decl))
+            .note(f"`{like}` is declared here.", source.name_span(decl)) \
+            .by(source.text.edit(node.at, node.at + len(name), like))
     for other in source.funcs.values():
         for decl in other.decls() if other is not func else []:
-            if decl.name == name:
+            if decl.name == name and not targets:
                 return Report(short, f"hand it on to `{func.name}` as a parameter.", language("Functions")) \
                     .note(f"The signal `{name}` of the function `{other.name}` is declared here.", source.name_span(decl))
-    report = Report(short, f"declare it, as `var {name} : {func.results[0].type.text};` after `begin`.", language("Declarations"))
+    return undeclared(source, context, targets, Report(short, "", language("Declarations")).note(names_of(func, known)))
+
+
+def names_of(func, known):
+    """A sentence that lists the names that are known in a function."""
     shown = [f"`{word}`" for word in known[:MOST_NAMES]]
     if len(known) > MOST_NAMES:
         shown.append(f"{len(known) - MOST_NAMES} more")
-    return report.note(f"In `{func.name}` there {'is' if len(known) == 1 else 'are'} {listed(shown)}.")
+    return f"In `{func.name}` there {'is' if len(known) == 1 else 'are'} {listed(shown)}."
+
+
+def undeclared(source, context, targets, report):
+    """The report with the declaration that a name lacks as its cure."""
+    func, name = context.func, context.node.name
+    dims = dims_of(source, func, targets or [context.node])
+    line = f"var {name}{''.join(f'[{dim}]' for dim in dims)} : {likely_type(source, context, targets)};"
+    report.cure = f"declare it, as `{line}` after `begin`."
+    if not targets:
+        report.cure = f"{report.cure[:-1]}, and define it by an equation."
+    elif ".." not in line:
+        begin = next(token.end for token in source.tokens if token.text == "begin" and token.start > func.results[-1].type.end)
+        report.by(source.text.edit(begin, begin, f"\n  {line}"))
+    return report
+
+
+def dims_of(source, func, nodes):
+    """The dims with which an array has the elements that some nodes name, each a number, or `..` where it is not known."""
+    count = max(len(node.subs) for node in nodes)
+    return [max_of([greatest(source, func, node, node.subs[k]) for node in nodes if len(node.subs) == count]) for k in range(count)]
+
+
+def max_of(values):
+    return ".." if None in values or max(values) >= MOST_DIM else max(values) + 1
+
+
+def greatest(source, func, node, sub):
+    """The greatest value of a subscript, or nothing where it depends on more than one number."""
+    if sub.kind == "whole":
+        return sub.value
+    owner = next(context for context in source.contexts(func) if context.node is node)
+    loop = next((loop for loop in owner.loops if sub.kind == "index" and loop.name == sub.name), None)
+    return loop.subs[1].value if loop and loop.subs[1].kind == "whole" else None
+
+
+def likely_type(source, context, targets):
+    """The type that a signal may have which is not declared: of what defines it, or else of what stands around it."""
+    func, parent = context.func, context.parent
+    equation = next((other.item for other in source.contexts(func) if other.node in targets[:1] and other.item.kind == "equation"), None)
+    own = own_type(source, func, equation.parts[1]) if equation else None
+    if own:
+        return own.text
+    is_truth = not equation and parent is not None and (
+        parent.kind in ("logic", "not") or parent.kind == "choice" and context.node in parent.parts[:-1:2])
+    numbers = [decl.type.text for decl in (*func.results, *func.params) if decl.type.width]
+    return "bool" if is_truth or not numbers else numbers[0]
+
+
+def own_type(source, func, node):
+    """The type that an expression has by itself, as far as its names are known."""
+    typing = Typing(source)
+    typing.func = func
+    try:
+        return typing.own(node)
+    except AttributeError:
+        return None
 
 
 def unknown_target(source, context):
-    node, func, name = context.node, context.func, context.node.name
+    func, name = context.func, context.node.name
     if name in source.tables:
         return Report(f"`{name}` is a table, whose numbers are those that it is declared with",
                       "define a signal: a result, or one that is declared by `var`.", language("Declarations")) \
             .note("This is the table.", source.name_span(source.tables[name]))
+    taken = next((loop.value for other in source.contexts(func) if other.role == "loop" and (loop := other.node).name == name), None)
+    if name in source.funcs or taken:
+        span = source.text.span(taken.start, taken.end) if taken else source.name_span(source.funcs[name])
+        what = "the index of a loop" if taken else "a function"
+        return Report(f"`{name}` is {what}, and no signal", "give the signal another name, and declare it by `var`.",
+                      language("Declarations")).note(f"`{name}` is declared here.", span)
     known = [decl.name for decl in func.decls()]
-    return misspelt(source, func, name, known, f"no signal of `{func.name}` is called `{name}`")
+    return misspelt(source, context, known, f"no signal of `{func.name}` is called `{name}`")
 
 
 def unknown_function(source, context):
@@ -134,12 +223,25 @@ def unknown_function(source, context):
                       language("Functions")).note(f"`{name}` is declared here.", source.name_span(decl))
     like = near(name, source.funcs.keys() - {"main", func.name})
     if name in WRITTEN and not like:
-        return Report(f"no function is called `{name}`", f"write `{WRITTEN[name]}` with your signals.", language("Conditionals"))
+        return written_function(source, context.node)
     if like:
         return Report(f"no function is called `{name}`", f"write `{like}`.", language("Functions")) \
-            .note("This function is there.", source.name_span(source.funcs[like]))
+            .note("This function is there.", source.name_span(source.funcs[like])) \
+            .by(source.text.edit(context.node.at, context.node.at + len(name), like))
     return Report(f"no function is called `{name}`", f"write a function `func {name}(..) .. = begin .. end;`.",
                   language("Functions"))
+
+
+def written_function(source, call):
+    """The report on a function of other languages, which is written here by a choice."""
+    names, text = WRITTEN[call.name]
+    report = Report(f"no function is called `{call.name}`", f"write `{text}` with your signals.", language("Conditionals"))
+    if len(call.parts) != len(names) or any(part.kind != "read" for part in call.parts):
+        return report
+    given = dict(zip(names, map(source.shown, call.parts)))
+    written = re.sub(r"\b[abx]\b", lambda found: given[found[0]], text)
+    report.cure = f"write `{written}`."
+    return report.by(source.text.edit(call.at, call.end - 1, written))
 
 
 def declared_twice(source, at):
@@ -206,9 +308,11 @@ def wrong_count(source, at):
         cure = f"write `{decl.name}` for the word of this sample, and `{decl.name}@1` for that of one sample ago."
     elif context.role == "target" and not subs:
         cure += " All elements are defined by a loop, or by a call."
-    return Report(f"`{decl.name}` {has}, and here {counted(subs, 'stands', 'stand') if subs else 'none stands'}", cure,
-                  language("Declarations"), source.node_span(context.node)) \
+    report = Report(f"`{decl.name}` {has}, and here {counted(subs, 'stands', 'stand') if subs else 'none stands'}", cure,
+                    language("Declarations"), source.node_span(context.node)) \
         .note(f"`{decl.name}` is declared here.", source.name_span(decl))
+    is_sure = cure == f"write `{decl.name}`."
+    return report.by(*[source.text.edit(context.node.start, context.node.end, decl.name)] if is_sure else [])
 
 
 def wrong_words(source, table):
@@ -280,10 +384,13 @@ def bad_type(source, of, span):
 
 
 def no_main(source, _):
-    like = near("main", source.funcs) or next(iter(reversed(source.funcs)), None)
+    called = {call.name for func in source.funcs.values() for call in calls_of(func)}
+    free = [func.name for func in source.tops if isinstance(func, Func) and func.name not in called]
+    like = near("main", free) or next(iter(reversed(free)), None)
     if like:
+        func = source.funcs[like]
         return Report("no function is called `main`, and that is the one that is run", f"write `main` in the place of `{like}`.",
-                      language("Declarations"), source.name_span(source.funcs[like]))
+                      language("Declarations"), source.name_span(func)).by(source.text.edit(func.at, func.end, "main"))
     return Report("there is no function, and `main` is the one that is run",
                   "write `func main(x : fix<16,15>) y : fix<16,15> = begin .. end;`.", language("Declarations"),
                   about=source.text.name)

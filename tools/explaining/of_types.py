@@ -5,6 +5,9 @@ from explaining.report import Report
 from explaining.typing_rules import LITERAL, MISMATCH, MOST_BITS, NEEDS_CAST, NOT_BOOL, Typing, fits, range_of
 
 
+WIDEST = Type(MOST_BITS, 0, "", 0, 0)
+
+
 def type_text(of):
     return "a truth value" if of is None or of.width is None else f"`{of.text}`"
 
@@ -35,45 +38,117 @@ def mismatch(source, fault):
     rule = language("The typing table")
     if fault.wanted is None:
         return truth_operands(source, fault, shown)
-    if fault.node.kind == "cast" and (fault.found is None or fault.found.width is None):
-        inner = fault.node.parts[0]
-        return Report(f"`{source.shown(inner)}` is a truth value, and a cast is of a number",
-                      f"write `{number_for(source.shown(inner), fault.wanted.type)}`.", rule, source.node_span(inner))
-    if fault.found is None or fault.found.width is None:
-        number = f"{some_number(fault.wanted.type) if shown == 'true' else 0}" if fault.node.kind == "truth" else \
-            number_for(shown, fault.wanted.type)
-        return Report(f"`{shown}` is a truth value, and a number of {type_text(fault.wanted.type)} is wanted", f"write `{number}`.", rule)
-    bare = bare_type(fault.wanted.type)
     if fault.node.kind == "target":
-        own = bare_type(fault.found)
-        return Report(f"`{shown}` is {type_text(fault.found)}, and the result has {type_text(fault.wanted.type)}",
-                      f"declare `{fault.node.name}` as `{bare}`; or declare a signal of this type, as `t`, write it here, and below "
-                      f"`{shown} = {own}(t);`.", rule)
+        return other_result(source, fault, shown)
+    is_truth = fault.found is None or fault.found.width is None
+    if is_truth and fault.node.kind == "cast":
+        inner = fault.node.parts[0]
+        written = choice_for(source, inner, fault.wanted.type)
+        return Report(f"`{source.shown(inner)}` is a truth value, and a cast is of a number",
+                      f"write `{written}` in the place of `{source.shown(inner)}`.", rule, source.node_span(inner)) \
+            .by(source.text.edit(inner.start, inner.end, written))
+    if is_truth:
+        return truth_for_number(source, fault, shown)
+    bare = bare_type(fault.wanted.type)
     if fault.node.kind == "cast":
+        of = fault.node.type
+        written = bare[:-1] + of.text[len(bare_type(of)) - 1:]
         return Report(f"the cast gives {type_text(fault.found)}, and {type_text(fault.wanted.type)} is wanted",
-                      f"write `{bare}` in the place of `{fault.found.text}`.", rule)
+                      f"write `{written}` in the place of `{fault.found.text}`.", rule).by(source.text.edit(of.start, of.end, written))
     report = Report(f"`{shown}` is {type_text(fault.found)}, and {type_text(fault.wanted.type)} is wanted",
-                    f"write the cast `{bare}({shown})`.", rule)
+                    f"write the cast `{bare}({shown})`.", rule) \
+        .by(source.text.edit(fault.node.start, fault.node.end, f"{bare}({shown})"))
     decl = source.decl(source.function_at(fault.node.at), fault.node.name) if fault.node.kind == "read" else None
     return report.note(f"`{decl.name}` is declared `{decl.type.text}` here.", source.name_span(decl)) if decl else report
 
 
+def other_result(source, fault, shown):
+    """The report on a place of a call's result that has another type."""
+    own, wanted = (of.text if of.width is None else bare_type(of) for of in (fault.found, fault.wanted.type))
+    decl = source.decl(source.function_at(fault.node.at), fault.node.name)
+    below = f"{own}(t)" if fault.found.width and fault.wanted.type.width else \
+        "t != 0" if fault.found.width is None else number_for("t", fault.found)
+    return Report(f"`{shown}` is {type_text(fault.found)}, and the result has {type_text(fault.wanted.type)}",
+                  f"declare `{fault.node.name}` as `{wanted}`; or declare a signal of this type, as `t`, write it here, and below "
+                  f"`{shown} = {below};`.", language("The typing table")) \
+        .note(f"`{decl.name}` is declared `{decl.type.text}` here.", source.name_span(decl))
+
+
+def truth_for_number(source, fault, shown):
+    """The report on a truth value where a number is wanted."""
+    of, node, rule = fault.wanted.type, fault.node, language("The typing table")
+    short = f"`{shown}` is a truth value, and a number of {type_text(of)} is wanted"
+    if node.kind == "logic" and any(is_number(source, part) for part in node.parts):
+        return Report(f"`{node.name}` joins truth values, and there are no operations on the bits of a word",
+                      "compare, as `if x < 0 -> .. || .. fi`; the lowest K bits of `x`, where it does not round, are "
+                      "`x - (x >> K << K)`.", rule)
+    written = choice_for(source, node, of)
+    if node.kind == "truth":
+        written = some_number(of) if shown == "true" else "0"
+    return Report(short, f"write `{written}`.", rule).by(source.text.edit(node.start, node.end, written))
+
+
+def is_number(source, node):
+    """Whether an expression is a number by itself."""
+    own = typing_at(source, node).own(node)
+    return own is None or own.width is not None
+
+
+def typing_at(source, node):
+    typing = Typing(source)
+    typing.func = source.function_at(node.at)
+    return typing
+
+
+def choice_for(source, truth, of):
+    """The choice that makes a number of an expression that is a truth value."""
+    shown = source.shown(truth)
+    if truth.kind == "not" and is_number(source, truth.parts[0]):
+        return number_for(f"{source.shown(truth.parts[0])} == 0", of)
+    return number_for(shown, of)
+
+
+def is_alone(source, node):
+    """Whether no operator stands beside an expression, so that any other may take its place."""
+    before, after = source.text.chars[:node.start].rstrip(), source.text.chars[node.end:].lstrip()
+    return before.endswith(("=", "(", "->", "||", ",")) and not before.endswith(("<=", ">=", "==", "!=")) \
+        and after.startswith((";", ")", "->", "||", ","))
+
+
 def truth_operands(source, fault, shown):
     """The report on a product or a comparison of truth values."""
-    left, right = (source.shown(part) for part in fault.node.parts)
-    cure = "write numbers on both sides."
-    same = f"({left} & {right}) | (!({left}) & !({right}))"
+    node = fault.node
+    report = Report(f"`{shown}` has truth values where numbers are wanted", "write numbers on both sides.",
+                    language("The typing table"))
+    written = numbers_of(source, node) if node.kind == "product" else truths_of(source, node)
+    if not written:
+        if node.kind == "product":
+            report.cure = "choose by a truth value, as `if condition -> value || 0 fi`."
+        return report
+    if node.kind != "product" and "&" in written and not is_alone(source, node):
+        written = f"({written})"
+    report.cure = f"write `{written}`."
+    return report.by(source.text.edit(node.start, node.end, written))
+
+
+def truths_of(source, node):
+    """What is written for a comparison of truth values, where it asks whether they are equal."""
+    if node.name not in ("==", "!=") or any(is_number(source, part) for part in node.parts):
+        return None
+    left, right = map(source.shown, node.parts)
     for truth, other in ((left, right), (right, left)):
         if truth in ("true", "false"):
-            is_bare = (truth == "true") == (fault.node.name == "==")
-            cure = f"write `{other if is_bare else f'!({other})'}`."
-            break
-    else:
-        if fault.node.name in ("==", "!="):
-            cure = f"write `{same if fault.node.name == '==' else f'!({same})'}`."
-        elif fault.node.kind == "product":
-            cure = "choose by a truth value, as `if condition -> value || 0 fi`."
-    return Report(f"`{shown}` has truth values where numbers are wanted", cure, language("The typing table"))
+            return other if (truth == "true") == (node.name == "==") else f"!({other})"
+    same = f"({left} & {right}) | (!({left}) & !({right}))"
+    return same if node.name == "==" else f"!({same})"
+
+
+def numbers_of(source, node):
+    """What is written for a product of a truth value and a number."""
+    for truth, other in (node.parts, node.parts[::-1]):
+        if not is_number(source, truth) and is_number(source, other):
+            return f"if {source.shown(truth)} -> {source.shown(other)} || 0 fi"
+    return None
 
 
 def some_number(of):
@@ -96,26 +171,34 @@ def numbers_in(node):
 
 
 def type_for(numbers):
-    """A type of 16 bits that has some numbers."""
-    return next((of for places in range(15, -1, -1) if all(fits(number, of := Type(16, places, "", 0, 0)) for number in numbers)),
-                Type(MOST_BITS, 0, "", 0, 0))
+    """A type of 16 bits that has some numbers, or one of 40; nothing where these are too great for any."""
+    shapes = [*((16, places) for places in range(15, -1, -1)), (MOST_BITS, 0)]
+    return next((of for shape in shapes if all(fits(number, of := Type(*shape, "", 0, 0)) for number in numbers)), None)
+
+
+def without_brackets(text):
+    """A text without the brackets that are around all of it."""
+    depth = 0
+    for place, char in enumerate(text):
+        depth += {"(": 1, ")": -1}.get(char, 0)
+        if depth == 0 and place < len(text) - 1:
+            return text
+    return text[1:-1].strip() if text.startswith("(") else text
 
 
 def needs_cast(source, fault):
     node = fault.node
-    typing = Typing(source)
-    typing.func = source.function_at(node.at)
+    typing = typing_at(source, node)
     bare = next((part for part in node.parts if typing.own(part) is None), node.parts[0])
-    inner = source.shown(bare)
-    inner = inner[1:-1] if inner.startswith("(") and inner.endswith(")") else inner
+    inner = without_brackets(source.shown(bare))
     of = next((found for part in [*node.parts, *bare.parts] if (found := typing.own(part)) and found.width), None)
-    name = bare_type(of or type_for(numbers_in(node)))
+    name = bare_type(of or type_for(numbers_in(node)) or WIDEST)
     what = "a factor" if node.kind == "product" else "a side of a comparison"
     both = "" if node.kind == "product" or typing.own(node.parts[0]) or typing.own(node.parts[1]) else ", nor does the other side"
     kind = "a product" if bare.kind == "product" else "a number"
     return Report(f"`{inner}` has no type of its own{both}, and {what} needs one",
                   f"say by a cast which type it is to have, as `{name}({inner})`.", language("Products and casts"),
-                  source.node_span(bare)) \
+                  source.node_span(bare)).by(source.text.edit(bare.start, bare.end, f"{name}({inner})")) \
         .note(f"{kind[0].upper() + kind[1:]} takes the type that is wanted, and nothing says here which that is.")
 
 
@@ -124,20 +207,31 @@ def literal(source, fault):
     least, most = range_of(of)
     value = float(fault.node.value)
     nearest = most if value > 0 else least
-    wider = bare_type(type_for([fault.node.value]))
+    wider = type_for([fault.node.value])
+    short = f"{fault.node.value} is out of range: `{of.text}` has {least} to {most}"
+    if wider is None:
+        return Report(short, f"write a number in this range: no type has {fault.node.value}, since a word has at most {MOST_BITS} bits.",
+                      language("Words and types"))
+    wider = bare_type(wider)
     more = f"as a factor it may be `{wider}({fault.node.value})`." if fault.wanted.why.startswith("the factors of") else \
         f"declare a type with more bits before the point, as `{wider}`."
-    return Report(f"{fault.node.value} is out of range: `{of.text}` has {least} to {most}", f"write {nearest}; or {more}",
-                  language("Words and types"))
+    return Report(short, f"write {nearest}; or {more}", language("Words and types"))
 
 
 def not_truth(source, fault):
-    shown = source.shown(fault.node)
-    # A `!` before it is tighter than a comparison.
-    is_tight = source.text.chars[:fault.node.start].rstrip().endswith("!")
-    zero = f"write a comparison, as `{'(' if is_tight else ''}{shown} != 0{')' if is_tight else ''}`."
-    if fault.node.kind == "number":
-        zero = f"write `{'false' if float(fault.node.value) == 0 else 'true'}`."
+    node, shown = fault.node, source.shown(fault.node)
+    if node.kind == "target":
+        return other_result(source, fault, shown)
     own = fault.found
     what = f"is {type_text(own)}" if own and own.width is not None else "is a number"
-    return Report(f"`{shown}` {what}, and a truth value is wanted", zero, language("The typing table"))
+    short, rule = f"`{shown}` {what}, and a truth value is wanted", language("The typing table")
+    if node.kind == "number":
+        written = "false" if float(node.value) == 0 else "true"
+        return Report(short, f"write `{written}`.", rule).by(source.text.edit(node.start, node.end, written))
+    if own is None:
+        # A product has no type of its own, which a side of a comparison needs.
+        of = next((of for part in node.parts if (of := typing_at(source, node).own(part)) and of.width), WIDEST)
+        shown = f"{bare_type(of)}({without_brackets(shown)})"
+    # A `!` before it is tighter than a comparison.
+    written = f"({shown} != 0)" if source.text.chars[:node.start].rstrip().endswith("!") else f"{shown} != 0"
+    return Report(short, f"write a comparison, as `{written}`.", rule).by(source.text.edit(node.start, node.end, written))
