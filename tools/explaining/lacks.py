@@ -3,12 +3,13 @@ import tempfile
 import tomllib
 from pathlib import Path
 
+from explaining.changes import Key
 from exploring.template import text_of
 from exploring.trades import cells_of, cycles_of
 from pictures.plan import plan_of
 
 LONGEST, MOST_REGISTERS, MOST_CELLS = 4096, 256, 65536
-PLANNED, NO_PERIOD = 0, 8
+PLANNED, BAD_DATAPATH, NO_PERIOD, FULL = 0, 5, 8, 9
 
 
 class Trial:
@@ -27,14 +28,9 @@ class Trial:
     def at_period(self, period):
         return self.answer(self.tree | {"period": period})
 
-    def roomy(self):
-        """The datapath with as many registers in each file as there can be."""
-        return self.tree | {"unit": [unit | {"files": [MOST_REGISTERS] * len(unit["files"])} if "files" in unit else unit
-                                     for unit in self.tree["unit"]]}
-
     def cells(self):
         """How many cells there are, and how many the delay lines take in all; nothing where there is no plan with more."""
-        units = [unit | {"cells": MOST_CELLS} if unit["kind"] == "ram" else unit for unit in self.roomy()["unit"]]
+        units = [unit | {"cells": MOST_CELLS} if unit["kind"] == "ram" else unit for unit in roomy(self.tree)["unit"]]
         status, said = self.answer(self.tree | {"unit": units, "period": LONGEST})
         if status != PLANNED:
             return None
@@ -45,15 +41,14 @@ class Trial:
         given = self.tree["period"]
         self.say(f"looking for the least period, above {given} and up to {LONGEST}")
         # With large files there is a plan where all nodes have their cycles, and its length says where to look.
-        status, said = self.answer(self.roomy() | {"period": LONGEST})
+        status, said = self.answer(roomy(self.tree) | {"period": LONGEST})
         if status == NO_PERIOD:
             return None
         low, high, answer = given, LONGEST, (status, said)
         if status == PLANNED:
-            # A node's cycle does not depend on the period but by its end, so the plan's length is the first to try.
+            # A node's cycle does not depend on the period but by its end, so the plan's length is the least period.
             high = cycles_of(plan_of(said, self.tree))
-            answer = self.at_period(high)
-            low = max(given, high - 2)
+            return high, *self.at_period(high)
         while low + 1 < high:
             middle = (low + high) // 2
             tried = self.at_period(middle)
@@ -66,17 +61,37 @@ class Trial:
 
     def registers_for(self, port):
         """How many registers a full file needs, and those of the other files that are full too; each file is filled by itself."""
-        status, said = self.answer(self.roomy())
+        needs = self.registers(self.tree)
+        return needs if needs and port in needs else None
+
+    def registers(self, tree):
+        """How many registers the full files of a datapath need, by their ports; nothing where no file can have as many."""
+        status, said = self.answer(roomy(tree))
         if status != PLANNED:
             return None
-        plan, needs = plan_of(said, self.tree), {}
-        for unit in self.tree["unit"]:
+        plan, needs = plan_of(said, tree), {}
+        for unit in tree["unit"]:
             for number, size in enumerate(unit.get("files", [])):
                 name = f"{unit['name']}.{number}"
                 needed = registers_in(plan, name)
                 if needed > size:
                     needs[name] = needed
-        return needs if port in needs else None
+        return needs
+
+
+def roomy(tree):
+    """A datapath with as many registers in each file as there can be."""
+    return tree | {"unit": [unit | {"files": [MOST_REGISTERS] * len(unit["files"])} if "files" in unit else unit
+                            for unit in tree["unit"]]}
+
+
+def wider_files(tree, needs):
+    """The changes by which files have as many registers as are needed."""
+    for number, unit in enumerate(tree["unit"]):
+        files = unit.get("files", [])
+        wanted = [needs.get(f"{unit['name']}.{port}", size) for port, size in enumerate(files)]
+        if wanted != files:
+            yield Key("unit", number, "files", wanted)
 
 
 def registers_in(plan, port):

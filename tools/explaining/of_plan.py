@@ -1,14 +1,19 @@
 """Why a source has no plan over a datapath: the node in the source, and what is lacking, in numbers."""
+import tempfile
 import tomllib
+from pathlib import Path
 
 from explaining import lacks
+from explaining.changes import TOP, Key, Table, edits_of, made, merged, told
 from explaining.command import BUILD, say
 from explaining.hardware import DONE_BY, KIND_OF, PORTS, Hardware, nodes_of, readers_of, words_of
 from explaining.refusals import planning
 from explaining.report import Report, counted, listed
+from explaining.routing import free_name, route_for, routes_for
 from explaining.toml_places import Places
+from exploring.template import text_of
 
-MOST_SHOWN, MOST_HOLD = 8, 3
+MOST_SHOWN, MOST_HOLD, REGISTERS = 8, 3, 4
 
 
 def report_of(case):
@@ -22,6 +27,19 @@ def report_of(case):
 def quoted(tables):
     """The names of units or buses in a row."""
     return listed([f"`{table['name']}`" for table in tables])
+
+
+def answer_of(said):
+    """What silc has said, without its name."""
+    return said.strip().removeprefix("silc: ")
+
+
+def buses_of(name, kind):
+    """The buses that a new unit needs, in words."""
+    ports = [f"`{name}.{port}`" for port in range(PORTS[kind])]
+    ways = [f"to {listed(ports)}"] if ports else []
+    ways += ["from it"] if kind != "out" else []
+    return f"{'a bus' if len(ports) < 2 and len(ways) < 2 else 'buses'} lead {listed(ways)}"
 
 
 class Refused:
@@ -67,25 +85,44 @@ class Refused:
         """How many nodes are done by units of a kind."""
         return sum(KIND_OF[node.op] == kind for node in self.nodes)
 
+    def nodes_on(self, tree):
+        """The nodes of the source on another datapath."""
+        with tempfile.TemporaryDirectory(prefix="silc-explain-") as folder:
+            file = Path(folder, "datapath.toml")
+            file.write_text(text_of(tree))
+            return nodes_of(self.case.show("origins", self.case.files["SRC"], file) or "")
+
+    def wired(self, changes):
+        """Changes, and with them the ends of buses that the words of the source need then."""
+        return [*changes, *routes_for(made(changes, self.tree), self.nodes_on(made(changes, self.tree)))]
+
+    def with_cure(self, report, changes):
+        """The report with changes of the datapath as its cure, and with the fault that comes then, where one does."""
+        changes = merged(list(changes), self.tree)
+        clause = told(changes, self.tree)
+        is_added = any(isinstance(change, Table) for change in changes)
+        report.cure = f"in {self.path.name}, {clause}." if is_added else f"{clause}."
+        status, said = self.trial().answer(made(changes, self.tree))
+        if status != lacks.PLANNED:
+            report.note(f"With this cure there is no plan yet, and then: {answer_of(said)}.")
+        return report.by(*edits_of(changes, self.tree, self.path, self.places))
+
+    def unit_of(self, kind, **keys):
+        """A unit that is added, with a name of its own and some registers at its ports."""
+        files = {"files": (REGISTERS,) * PORTS[kind]} if PORTS[kind] else {}
+        return Table("unit", tuple(({"name": free_name(self.tree["unit"], kind), "kind": kind} | files | keys).items()))
+
     def no_unit(self):
         kind = self.case.values["kind"]
-        files = f", `files = [{', '.join(['4'] * PORTS[kind])}]`" if PORTS[kind] else ""
+        unit = self.unit_of(kind)
+        name = dict(unit.keys)["name"]
         short = f"{self.what()} needs a unit of the kind `{kind}`, and the datapath has none"
-        name = self.free_name(kind)
-        ports = [f"`{name}.{port}`" for port in range(PORTS[kind])]
-        ways = [f"to {listed(ports)}"] if ports else []
-        ways += ["from it"] if kind != "out" else []
-        report = Report(short, f"add a unit to {self.path.name}: `[[unit]]`, `name = \"{name}\"`, `kind = \"{kind}\"`{files}; "
-                        f"and let {'a bus' if len(ports) < 2 and len(ways) < 2 else 'buses'} lead {listed(ways)}.", planning("Units"))
+        report = Report(short, f"in {self.path.name}, {told([unit], self.tree)}; and let {buses_of(name, kind)}.", planning("Units"))
         if self.nodes:
+            self.with_cure(report, self.wired([unit]))
             count = counted(self.count_of(kind), "operation")
             report.note(f"Units of this kind do {DONE_BY[kind]}: in all {count} a sample here.")
         return report
-
-    def free_name(self, kind):
-        """A name for a unit that no other one has."""
-        names = {unit["name"] for unit in self.tree["unit"]}
-        return next(name for name in (kind, *(f"{kind}{number}" for number in range(1, len(names) + 2))) if name not in names)
 
     def no_route(self):
         port = self.case.values["port"]
@@ -96,23 +133,18 @@ class Refused:
                           f"add `\"{port}\"` to `to` of a bus that this unit drives.", planning("Units"))
         _, (word, unit, _) = found
         name = self.tree["unit"][unit]["name"]
-        short = f"{words_of(self.nodes, word)} comes from `{name}`, and no bus leads from there to `{port}`"
+        report = Report(f"{words_of(self.nodes, word)} comes from `{name}`, and no bus leads from there to `{port}`", "",
+                        planning("Units"))
         driven = [bus for bus in self.tree["bus"] if name in bus["from"]]
         to_port = [bus for bus in self.tree["bus"] if port in bus["to"]]
         if driven:
-            bus = driven[0]
-            report = Report(short, f"add `\"{port}\"` to `to` of the bus `{bus['name']}`.", planning("Units"))
-            report.note(f"`{name}` drives {quoted(driven)}.", self.bus_place(bus, "to"))
+            report.note(f"`{name}` drives {quoted(driven)}.", self.bus_place(driven[0], "to"))
         elif to_port:
-            bus = to_port[0]
-            report = Report(short, f"add `\"{name}\"` to `from` of the bus `{bus['name']}`.", planning("Units"))
             report.note(f"`{name}` drives no bus, and `{port}` can be written from "
-                        f"{quoted(to_port)}.", self.bus_place(bus, "from"))
+                        f"{quoted(to_port)}.", self.bus_place(to_port[0], "from"))
         else:
-            report = Report(short, f"add a bus: `[[bus]]`, `name = \"b\"`, `from = [\"{name}\"]`, `to = [\"{port}\"]`.",
-                            planning("Units"))
             report.note(f"`{name}` drives no bus, and `{port}` can be written from none.")
-        return report
+        return self.with_cure(report, self.wired([route_for(self.tree, name, port)]))
 
     def bus_place(self, bus, key):
         number = next(n for n, other in enumerate(self.tree["bus"]) if other is bus)
@@ -124,10 +156,13 @@ class Refused:
         short = f"{self.what()} has {bits or 'more'} bits, and a word of the datapath has {word}" if bits else \
             f"{self.what()} has more bits than a word of the datapath, which has {word}"
         widest = max((node.bits for node in self.nodes), default=None)
-        cure = f"write `word = {widest}` in {self.path.name}, or declare a narrower type." if widest else \
-            f"write a greater `word` in {self.path.name}, or declare a narrower type."
-        place = self.dp_span(self.places.value(("top", 0), "word"))
-        return Report(short, cure, planning("Units")).note(f"`word` is {word} here.", place)
+        place = self.dp_span(self.places.value((TOP, 0), "word"))
+        report = Report(short, f"write a greater `word` in {self.path.name}, or declare a narrower type.", planning("Units")) \
+            .note(f"`word` is {word} here.", place)
+        if widest:
+            self.with_cure(report, [Key(TOP, 0, "word", widest)])
+            report.cure = f"{report.cure[:-1]} in {self.path.name}, or declare a narrower type."
+        return report
 
     def lines(self):
         """The nodes of the graph that get a delay line, each with the cells that it takes."""
@@ -144,13 +179,26 @@ class Refused:
         return f"`{self.node.element}` is read {counted(cells - 1, 'sample')} ago" if self.node and cells else \
             f"node {self.number} is read some samples ago"
 
-    def or_hold(self, cure):
-        """The cure of a delay line, and the value of `hold` by which it and all others are no lines."""
+    def or_hold(self, report):
+        """The report with the value of `hold` too by which all delays are kept in registers, where that is a plan."""
         longest = max((cells - 1 for cells in self.lines().values()), default=MOST_HOLD + 1)
-        if longest > MOST_HOLD:
-            return cure
-        return f"{cure.removesuffix('.')}; or write `hold = {longest}` at the top, and words of up to {counted(longest, 'sample')} ago " \
-               f"stay in registers."
+        changes = self.with_registers([Key(TOP, 0, "hold", longest)]) if longest <= MOST_HOLD else None
+        if changes:
+            top, *files = changes
+            words = [f"{top.words(self.tree)} at the top", *(file.words(self.tree) for file in files)]
+            report.cure = f"{report.cure.removesuffix('.')}; or write {listed(words)}, and words of up to " \
+                          f"{counted(longest, 'sample')} ago stay in registers."
+        return report
+
+    def with_registers(self, changes):
+        """Changes, and with them the registers that files lack then; nothing where there is no plan with both."""
+        tree = made(changes, self.tree)
+        status, _ = self.trial().answer(tree)
+        if status == lacks.FULL:
+            needs = self.trial().registers(tree)
+            changes = [*changes, *lacks.wider_files(tree, needs or {})]
+            status, _ = self.trial().answer(made(changes, self.tree))
+        return changes if status == lacks.PLANNED else None
 
     def delay_note(self, report):
         lines = self.lines()
@@ -162,22 +210,28 @@ class Refused:
         return report
 
     def no_ram(self):
-        cells = sum(self.lines().values()) or 64
-        ram, acu = self.free_name("ram"), self.free_name("acu")
-        return self.delay_note(Report(
-            f"{self.longest()}, which goes through memory, and the datapath has none",
-            self.or_hold(
-                f"add a memory to {self.path.name}: `[[unit]]`, `name = \"{ram}\"`, `kind = \"ram\"`, `files = [4, 4]`, "
-                f"`cells = {cells}`; and a unit for its addresses: `[[unit]]`, `name = \"{acu}\"`, `kind = \"acu\"`, "
-                f"`ram = \"{ram}\"`; and let buses lead to the ports `{ram}.0` and `{ram}.1`, and from both."),
-            planning("Delay lines")))
+        cells = min(sum(self.lines().values()) or 64, lacks.MOST_CELLS)
+        ram = self.unit_of("ram", cells=cells)
+        name = dict(ram.keys)["name"]
+        changes = [ram, self.unit_of("acu", ram=name)]
+        report = Report(f"{self.longest()}, which goes through memory, and the datapath has none",
+                        f"in {self.path.name}, {told(changes, self.tree)}; and let buses lead to the ports `{name}.0` and `{name}.1`, "
+                        f"and from both.", planning("Delay lines"))
+        return self.added(report, changes)
 
     def no_acu(self):
         ram = self.case.values["unit"]
-        return self.delay_note(Report(
-            f"{self.longest()}, which goes through the memory `{ram}`, and no unit makes addresses for it",
-            self.or_hold(f"add one to {self.path.name}: `[[unit]]`, `name = \"{self.free_name('acu')}\"`, `kind = \"acu\"`, "
-                         f"`ram = \"{ram}\"`; and let a bus lead from it to `{ram}.0`."), planning("Delay lines")))
+        acu = self.unit_of("acu", ram=ram)
+        report = Report(f"{self.longest()}, which goes through the memory `{ram}`, and no unit makes addresses for it",
+                        f"in {self.path.name}, {told([acu], self.tree)}; and let a bus lead from it to `{ram}.0`.",
+                        planning("Delay lines"))
+        return self.added(report, [acu])
+
+    def added(self, report, changes):
+        """The report with units for delay lines as its cure."""
+        if self.nodes:
+            self.with_cure(report, self.wired(changes))
+        return self.delay_note(self.or_hold(report))
 
     def no_cells(self):
         lines = self.lines()
@@ -192,8 +246,10 @@ class Refused:
         more = self.cells_of_last(lines, rams)
         report = Report(f"{self.longest()}, and no memory has {counted(wanted, 'cell')} left for it" if wanted else
                         "no memory has as many cells left as this delay line needs",
-                        self.or_hold(f"write `cells = {more}` for `{rams[-1]['name']}`." if more else
-                                     "write more cells for one of the memories."), planning("Delay lines"))
+                        "write more cells for one of the memories, or add one.", planning("Delay lines"))
+        if more and more <= lacks.MOST_CELLS:
+            self.with_cure(report, [Key("unit", self.tree["unit"].index(rams[-1]), "cells", more)])
+        self.or_hold(report)
         for ram, room in zip(rams, left):
             report.note(f"`{ram['name']}` has {counted(ram['cells'], 'cell')}, of which {room} are left when this line comes.",
                         self.unit_place(ram["name"], "cells"))
@@ -220,16 +276,28 @@ class Refused:
         given = self.tree["period"]
         short = f"{self.what()} has no cycle left in a period of {given}"
         found = self.trial().least_period()
-        place = self.dp_span(self.places.value(("top", 0), "period"))
+        place = self.dp_span(self.places.value((TOP, 0), "period"))
         if found is None:
             return Report(short, f"use more units and buses: not even {lacks.LONGEST} cycles suffice.", planning("Cycles"))
         least, status, said = found
-        report = Report(short, f"write `period = {least}`, the least that fits, or give more of what is full.", planning("Cycles"))
+        report = Report(short, "", planning("Cycles"))
+        changes = self.with_registers([Key(TOP, 0, "period", least)])
         if status != lacks.PLANNED:
-            then = said.strip().removeprefix("silc: ")
-            return report.note(f"From a period of {least} on each operation has its cycle, and then: {then}.", place)
-        report.note(f"The least period in which this source has a plan is {least}.", place)
-        return self.full_parts(report, lacks.plan_of(said, self.tree), given, least)
+            report.note(f"From a period of {least} on each operation has its cycle; alone it leads to: {answer_of(said)}.", place)
+        if not changes:
+            report.cure = "use more units and buses, or fewer words that are kept from one sample to the next."
+            return report.note(f"There is no plan in a period of {least} with {lacks.MOST_REGISTERS} registers in each file.")
+        self.with_cure(report, changes)
+        files = listed(change.words(self.tree) for change in changes[1:])
+        report.cure = f"write `period = {least}`, the least that fits, and with it {files}; or give more of what is full." if files else \
+            f"write `period = {least}`, the least that fits, or give more of what is full."
+        if not files:
+            report.note(f"The least period in which this source has a plan is {least}.", place)
+        return self.full_parts(report, self.plan_with(changes), given, least)
+
+    def plan_with(self, changes):
+        tree = made(changes, self.tree)
+        return lacks.plan_of(self.trial().answer(tree)[1], tree)
 
     def full_parts(self, report, plan, given, least):
         """What takes the cycles: buses and units that are full, or else the longest chain of operations."""
@@ -256,28 +324,18 @@ class Refused:
             return ", ".join(shown[:half]) + f", .. ({len(shown) - MOST_SHOWN} more) .., " + ", ".join(shown[-half:])
         return ", ".join(shown)
 
-    def wider_files(self, needs):
-        """The files with as many registers as are needed, for each unit that has too few."""
-        for unit in self.tree["unit"]:
-            files = unit.get("files", [])
-            wanted = [needs.get(f"{unit['name']}.{number}", size) for number, size in enumerate(files)]
-            if wanted != files:
-                yield f"`files = {wanted}` for `{unit['name']}`"
-
     def file_full(self):
         port = self.case.values["port"]
         unit, _, number = port.rpartition(".")
         index = next(n for n, other in enumerate(self.tree["unit"]) if other["name"] == unit)
-        files = self.tree["unit"][index]["files"]
-        size = files[int(number)]
+        size = self.tree["unit"][index]["files"][int(number)]
         say(f"looking for the registers that {port} needs")
         needs = self.trial().registers_for(port)
-        short = f"{self.what()} is read at `{port}`, whose file of {counted(size, 'register')} is full when its word comes"
-        report = Report(short, "write more registers there.", planning("Registers"))
-        if needs:
-            report.cure = f"write {listed(self.wider_files(needs))}."
-            others = [f"`{name}` {counted(count, 'register')}" for name, count in needs.items() if name != port]
-            report.note(f"`{port}` needs {counted(needs[port], 'register')}" + (f", and then {listed(others)}" if others else "")
-                        + ": words whose lifetimes overlap need one each.",
-                        self.unit_place(unit, "files"))
-        return report
+        report = Report(f"{self.what()} is read at `{port}`, whose file of {counted(size, 'register')} is full when its word comes",
+                        "use more units and buses, or fewer words that are kept from one sample to the next.", planning("Registers"))
+        if not needs:
+            return report.note(f"There is no plan with {lacks.MOST_REGISTERS} registers in each file.")
+        others = [f"`{name}` {counted(count, 'register')}" for name, count in needs.items() if name != port]
+        report.note(f"`{port}` needs {counted(needs[port], 'register')}" + (f", and then {listed(others)}" if others else "")
+                    + ": words whose lifetimes overlap need one each.", self.unit_place(unit, "files"))
+        return self.with_cure(report, lacks.wider_files(self.tree, needs))

@@ -20,7 +20,8 @@ class Places:
 
     def __init__(self, chars):
         self.chars, self.entries, self.headers = chars, {}, {}
-        starts = [len(BYTE_ORDER_MARK) if chars.startswith(BYTE_ORDER_MARK) else 0, *(found.end() for found in re.finditer("\n", chars))]
+        self.start = len(BYTE_ORDER_MARK) if chars.startswith(BYTE_ORDER_MARK) else 0
+        starts = [self.start, *(found.end() for found in re.finditer("\n", chars))]
         table, counts, marks = ("top", 0), {}, []
         for start in starts:
             header, entry = HEADER.match(chars, start), ENTRY.match(chars, start)

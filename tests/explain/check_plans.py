@@ -1,0 +1,242 @@
+#!/usr/bin/env python3
+"""Whether the cures that tools/explain tells for a source without a plan are right, by applying each as it is told.
+
+usage: tests/explain/check_plans.py [COUNT [FIRST]]
+
+It makes COUNT datapaths, from number FIRST on, over which one of the sources below has no plan: an ample one with fewer cycles,
+registers, cells, buses or units. The words of each cure are applied to the datapath, `; or ..` as a cure of its own, and the
+edits to the text of its file. Then there has to be a plan, or the answer is the fault that the text has named. Without `COUNT`
+it tries 32 of them in a few seconds. It runs the built `silc` and `silc_show`, or those that `SILC` and `SILC_SHOW` name.
+"""
+import copy
+import os
+import random
+import re
+import subprocess
+import sys
+import tempfile
+import tomllib
+from concurrent.futures import ThreadPoolExecutor
+from pathlib import Path
+
+ROOT = Path(__file__).resolve().parent.parent.parent
+SILC = Path(os.environ.get("SILC", ROOT / "crates" / "silc_main" / "out" / "silc_main")).resolve()
+os.environ["SILC_SHOW"] = str(Path(os.environ.get("SILC_SHOW", ROOT / "crates" / "silc_show" / "out" / "silc_show")).resolve())
+sys.path.insert(0, str(ROOT / "tools"))
+from explaining import command  # noqa: E402
+from exploring.template import text_of  # noqa: E402
+
+SOURCES = {
+    "sum": ("x : fix<16,15>", "y = 0.25 * x + 0.5 * x@1 + 0.25 * x@2;"),
+    "leak": ("x : fix<16,15>", "y = y@1 + (x - y@1 >> 3);"),
+    "cubic": ("x : fix<16,15>", "y = fix<16,15>(x * x) * x + 0.5 * x;"),
+    "gate": ("x : fix<16,15>, on : bool", "y = if on & x > 0.5 | !on & x@1 < -0.25 -> x || x@1 fi;"),
+    "late": ("x : fix<16,15>", "y = x@5 + 0.5 * x@3 - y@4;"),
+    "wide": ("x : fix<24,23>", "y = fix<16,15>(x) + fix<16,15>(x@1 * 0.5);"),
+    "many": ("a : fix<16,15>, b : fix<16,15>", "y = a * b + 0.5 * a@1 + 0.25 * b@2 + 0.125 * a@3 - y@1 * 0.5;"),
+    "held": ("x : fix<16,15>", "y = x + x@1 + x@2 + x@3;"),
+}
+AMPLE = """
+period = 40
+word = 24
+hold = {hold}
+[[unit]]
+name = "inp"
+kind = "in"
+[[unit]]
+name = "rom"
+kind = "rom"
+[[unit]]
+name = "add"
+kind = "alu"
+files = [16, 16]
+[[unit]]
+name = "mul"
+kind = "mul"
+latency = 2
+files = [16, 16]
+[[unit]]
+name = "sel"
+kind = "sel"
+files = [8, 8, 8]
+[[unit]]
+name = "outp"
+kind = "out"
+files = [4]
+[[unit]]
+name = "mem"
+kind = "ram"
+files = [8, 8]
+cells = 64
+[[unit]]
+name = "adr"
+kind = "acu"
+ram = "mem"
+"""
+DRIVERS = ("inp", "rom", "add", "mul", "sel", "mem", "adr")
+ENDS = ("add.0", "add.1", "mul.0", "mul.1", "sel.0", "sel.1", "sel.2", "outp.0", "mem.0", "mem.1")
+FEWER = ("period", "files", "files", "cells", "unit", "route", "bus", "word", "two")
+PLANNED, UNIT = 0, re.compile(r"`([^`]*)`")
+
+
+def say(text):
+    print(f"explain: {text}", file=sys.stderr, flush=True)
+
+
+# Datapaths
+
+
+def ample(rng):
+    """A datapath over which each source has a plan, with one to three buses that lead everywhere."""
+    tree = tomllib.loads(AMPLE.format(hold=rng.choice((0, 0, 1, 3))))
+    tree["bus"] = [{"name": f"b{number}", "from": list(DRIVERS), "to": list(ENDS)} for number in range(rng.choice((1, 1, 2, 3)))]
+    return tree
+
+
+def lessen(tree, what, rng):
+    """Takes something away from a datapath."""
+    units = tree["unit"]
+    if what == "period":
+        tree["period"] = rng.randint(1, 14)
+    elif what == "word":
+        tree["word"] = rng.randint(8, 20)
+    elif what == "files":
+        tree["unit"] = [unit | {"files": [rng.randint(1, 2) for _ in unit["files"]]} if "files" in unit else unit for unit in units]
+    elif what == "cells":
+        next(unit for unit in units if unit["kind"] == "ram")["cells"] = rng.randint(1, 6)
+    elif what == "unit":
+        leave_out(tree, rng.choice(("rom", "mul", "sel", "adr", "mem", "outp", "add", "inp")))
+    elif what == "route":
+        for bus in tree["bus"]:
+            for key in ("from", "to"):
+                kept = [end for end in bus[key] if rng.random() < 0.7]
+                bus[key] = kept or bus[key][:1]
+    elif what == "bus":
+        tree["bus"] = [{"name": "only", "from": ["inp"], "to": ["add.0"]}]
+    else:
+        for one in rng.sample(("period", "files", "route", "word"), 2):
+            lessen(tree, one, rng)
+
+
+def leave_out(tree, name):
+    """Takes a unit away, what addresses it, and their ends of buses."""
+    gone = {unit["name"] for unit in tree["unit"] if name in (unit["name"], unit.get("ram"))}
+    tree["unit"] = [unit for unit in tree["unit"] if unit["name"] not in gone]
+    for bus in tree["bus"]:
+        bus["from"] = [end for end in bus["from"] if end not in gone]
+        bus["to"] = [end for end in bus["to"] if end.partition(".")[0] not in gone]
+    tree["bus"] = [bus for bus in tree["bus"] if bus["from"] and bus["to"]]
+
+
+def made(number):
+    """The source and the datapath of a number."""
+    rng = random.Random(number)
+    name = rng.choice(list(SOURCES))
+    tree = ample(rng)
+    lessen(tree, FEWER[number % len(FEWER)], rng)
+    if rng.random() < 0.3:
+        lessen(tree, rng.choice(("period", "files")), rng)
+    return name, tree
+
+
+# Cures
+
+
+def applied(cure, tree):
+    """A datapath with the changes that the words of a cure tell."""
+    tree, table, ends, key, last = copy.deepcopy(tree), None, [], None, 0
+    for found in UNIT.finditer(cure):
+        word, between, after = found[1], cure[last:found.start()], cure[found.end():]
+        last = found.end()
+        name, sign, value = word.partition(" = ")
+        if word.startswith("[["):
+            table = {}
+            tree[word.strip("[]")].append(table)
+        elif sign and table is not None and between == ", ":
+            table |= tomllib.loads(word)
+        elif sign:
+            table = None
+            owner = re.match(r" for `(\w+)`", after)
+            target = next(unit for unit in tree["unit"] if unit["name"] == owner[1]) if owner else tree
+            target |= tomllib.loads(word)
+        elif word.startswith('"'):
+            table = None
+            ends.append(word.strip('"'))
+        elif between == " to ":
+            key, ends = [*(key or []), (word, ends)], []
+        elif between == " of the bus ":
+            bus = next(bus for bus in tree["bus"] if bus["name"] == word)
+            for list_, added in key:
+                bus[list_] = bus[list_] + added
+            key = None
+    return tree
+
+
+def edited(text, edits):
+    """A text with edits by their lines and columns."""
+    starts = [0, *(found.end() for found in re.finditer("\n", text))]
+    for edit in sorted(edits, key=lambda edit: (edit.line, edit.column), reverse=True):
+        place = starts[edit.line - 1] + edit.column - 1
+        text = text[:place] + edit.text + text[place + edit.length:]
+    return text
+
+
+def planned(source, file, text):
+    """What silc says of a datapath: nothing where there is a plan."""
+    file.write_text(text)
+    done = subprocess.run([SILC, "schedule", source, file], stdin=subprocess.DEVNULL, capture_output=True, text=True)
+    return done.stderr.strip().removeprefix("silc: ") if done.returncode else "", done
+
+
+def judged(number, folder):
+    """The datapath of a number: nothing where there is a plan, or else the refusal and what is wrong with its cures."""
+    name, tree = made(number)
+    parameters, equation = SOURCES[name]
+    source, file = Path(folder, f"{name}.sil"), Path(folder, f"{number}.toml")
+    source.write_text(f"func main({parameters}) y : fix<16,15> =\nbegin\n  {equation}\nend;\n")
+    said, done = planned(source, file, text_of(tree))
+    if not said:
+        return None
+    case = command.Case(["schedule", str(source), str(file)], done.returncode, done.stderr, SILC)
+    report = command.report_of(case)
+    named = [found[1] for note in report.notes if (found := re.search(r"and then: (.*)\.$", note.text))]
+    faults, other = [], Path(folder, f"{number}-cured.toml")
+    for which, cure in enumerate(report.cure.split("; or ")):
+        then = named[-1:] if which == 0 else []
+        if "`" not in cure:
+            # Advice without a number, which is no cure that can be tried.
+            continue
+        text = text_of(applied(cure, tree))
+        answer, _ = planned(source, other, text)
+        if text == text_of(tree) or answer != "".join(then):
+            faults.append(f"{number} ({name}): {said}\n  cure: {cure}\n  then: {answer or 'a plan'}, named: {then}")
+    if report.edits:
+        answer, _ = planned(source, other, edited(file.read_text(), report.edits))
+        if answer != "".join(named[-1:]):
+            faults.append(f"{number} ({name}): {said}\n  edits: {report.edits}\n  then: {answer or 'a plan'}")
+    return re.sub(r"\d+|\S+\.\d", "N", said), faults, bool(report.edits)
+
+
+def main(words):
+    count, first = (int(word) for word in [*words, "32", "0"][:2]) if len(words) < 2 else map(int, words)
+    if not os.access(SILC, os.X_OK) or not os.access(os.environ["SILC_SHOW"], os.X_OK):
+        say("there is no silc or no silc_show; `tools/build silc_main silc_show` builds them")
+        return 1
+    # What is said while a search goes on is of no use here.
+    command.say = lambda text: None
+    sys.setrecursionlimit(command.DEPTH)
+    with tempfile.TemporaryDirectory(prefix="silc-plans-") as folder, ThreadPoolExecutor(2) as pool:
+        outcomes = [made for made in pool.map(lambda number: judged(number, folder), range(first, first + count)) if made]
+    kinds = {}
+    for kind, faults, has_edits in outcomes:
+        kinds[kind] = kinds.get(kind, 0) + 1
+        print("\n".join(faults), end="\n" if faults else "")
+    wrong = sum(bool(faults) for _, faults, _ in outcomes)
+    for kind, times in sorted(kinds.items()):
+        say(f"{times} by {kind}")
+    say(f"{len(outcomes)} of {count} datapaths are refused, {sum(edits for *_, edits in outcomes)} cures are edits, {wrong} are wrong")
+    return 1 if wrong or not outcomes else 0
+
+
+if __name__ == "__main__":
+    sys.exit(main(sys.argv[1:]))
