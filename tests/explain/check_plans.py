@@ -192,7 +192,7 @@ def judged(number, folder):
     """The datapath of a number: nothing where there is a plan, or else the refusal and what is wrong with its cures."""
     name, tree = made(number)
     parameters, equation = SOURCES[name]
-    source, file = Path(folder, f"{name}.sil"), Path(folder, f"{number}.toml")
+    source, file = Path(folder, f"{number}.sil"), Path(folder, f"{number}.toml")
     source.write_text(f"func main({parameters}) y : fix<16,15> =\nbegin\n  {equation}\nend;\n")
     said, done = planned(source, file, text_of(tree))
     if not said:

@@ -59,9 +59,10 @@ def toml_fault(text, said, rule):
     start = text.starts[text.line_of(at) - 1]
     line = text.chars[start:].partition("\n")[0]
     if what == "Invalid value":
-        word = re.match(r"[^\s,\]#]+", text.chars[at:])
+        word = re.match(r"[^\s,\]#\"']+(?=[\s,\]#]|$)", text.chars[at:])
         cure = f"write texts in quotes, as `\"{word[0]}\"`." if word else "write a value after `=`."
-        return Report("TOML: this is no value", cure, rule, text.span(at, at + len(word[0]) if word else at + 1))
+        return Report("TOML: this is no value", cure, rule, text.span(at, at + len(word[0]) if word else at + 1)) \
+            .by(*[text.edit(at, at + len(word[0]), f'"{word[0]}"')] if word else [])
     if what.startswith("Expected '='"):
         return Report("TOML: a key is followed by `=`", "write `=` between the key and its value.", rule, text.span(at))
     if what.startswith("Expected newline"):
@@ -70,13 +71,21 @@ def toml_fault(text, said, rule):
         return twice(text, start, line, rule)
     if what.startswith("Illegal character '\\n'"):
         quote = text.chars[start:at].find('"')
-        return Report("TOML: a text has no end", "write `\"` at its end.", rule, text.span(start + max(quote, 0), at))
+        return Report("TOML: a text has no end", "write `\"` at its end.", rule, text.span(start + max(quote, 0), at)) \
+            .by(*text_end(text, start + max(quote, 0), at))
     if "Unclosed array" in what:
         opened = text.chars.rfind("[", 0, text.chars.rfind("=", 0, at) + 3)
         return Report("TOML: a list has no end", "write `]` at its end.", rule, text.span(max(opened, 0), at))
     cure = "write what ends it: `]` for a list, `\"` for a text." if "Unterminated" in what or not (found and found[2]) else \
         "write `KEY = VALUE`, a key a line, with texts in quotes."
     return Report(f"TOML: {what[0].lower() + what[1:]}", cure, rule, text.span(at))
+
+
+def text_end(text, start, end):
+    """The `"` at the end of a text that is all of a value, or of a list's last item; nothing where its end is not sure."""
+    said = text.chars[start:end].rstrip()
+    word = re.fullmatch(r'"([\w.]+)', said, re.A)
+    return [text.edit(start + word.end(), start + word.end(), '"')] if word else []
 
 
 def place_of(text, line, column):
@@ -91,9 +100,10 @@ def after_value(text, at, rule):
         return Report("TOML: a line ends with LF or CR LF, and here is a CR alone", "save the file with the ends of lines of Unix.",
                       rule, text.span(at))
     rest = text.chars[at:].partition("\n")[0].rstrip()
-    cure = "write `#` before it: a comment begins with `#`." if rest.startswith(("/", ";", "--", "%")) and len(rest) > 1 else \
-        f"take `{rest}` away, or write it in a line of its own."
-    return Report("TOML: a line has one key and its value, and more stands here", cure, rule, text.span(at, at + len(rest)))
+    is_comment = rest.startswith(("/", ";", "--", "%")) and len(rest) > 1
+    cure = "write `#` before it: a comment begins with `#`." if is_comment else f"take `{rest}` away, or write it in a line of its own."
+    return Report("TOML: a line has one key and its value, and more stands here", cure, rule, text.span(at, at + len(rest))) \
+        .by(*[text.edit(at, at, "# ")] if is_comment else [])
 
 
 def twice(text, start, line, rule):
@@ -102,8 +112,9 @@ def twice(text, start, line, rule):
     if table:
         single = re.search(rf"(?m)^[ \t]*\[{table[1]}\]", text.chars)
         place = single.start() if single else start
-        return Report(f"TOML: `{table[1]}` is a list of tables", f"write `[[{table[1]}]]` with two brackets.", rule,
-                      text.span(place, place + len(single[0]) if single else start + len(line)))
+        report = Report(f"TOML: `{table[1]}` is a list of tables", f"write `[[{table[1]}]]` with two brackets.", rule,
+                        text.span(place, place + len(single[0]) if single else start + len(line)))
+        return report.by(*[text.edit(place, place + len(single[0]), f"[[{table[1]}]]")] if single else [])
     key = (re.match(r"\s*([\w.-]+)\s*=", line) or [None, "this key"])[1]
     return Report(f"TOML: `{key}` is there twice", "take one of the two away.", rule, text.span(start, start + len(line.rstrip())))
 
@@ -142,6 +153,23 @@ class Judge:
         report = Report(short, cure, SECTION[self.place[0]], self.span(place), about=self.text.name)
         return report
 
+    def edits(self, place, text):
+        """The edit of what stands at a place, where that is known to be the whole of it."""
+        return [self.text.edit(*place, text)] if place and text is not None else []
+
+    def exact(self, key, item=None):
+        """The place of a value, or of one text in it; nothing where the table is written in another way than a key a line."""
+        return self.places.value(self.place, key, item) if (self.place, key) in self.places.entries else None
+
+    def without(self, key):
+        """The edit by which the line of a key goes, where it has one to itself."""
+        entry = self.places.entries.get((self.place, key))
+        if entry is None:
+            return []
+        start, end = entry.key[0], entry.value[1]
+        is_alone = self.text.chars[:start].endswith("\n") and self.text.chars[end:end + 1] == "\n"
+        return [self.text.edit(start, end + 1, "")] if is_alone else []
+
     def report(self):
         return {"unknown key": self.unknown_key, "missing key": self.missing_key, "wrong kind": self.wrong_kind,
                 "out of range": self.out_of_range, "unknown unit": self.unknown_unit, "unknown port": self.unknown_port,
@@ -163,15 +191,19 @@ class Judge:
         place = self.places.key(self.place, key)
         own = kind_of(self.table)
         if key in UNIT and self.place[0] == "unit":
-            return self.made(f"{self.title()} is of the kind `{own}`, which has no `{key}`", f"take `{key}` away.", place)
+            return self.made(f"{self.title()} is of the kind `{own}`, which has no `{key}`", f"take `{key}` away.", place) \
+                .by(*self.without(key))
         if self.place[0] == "top" and key in (*UNIT, *BUS):
             return self.made(f"`{key}` belongs to a unit or a bus", "write it after `[[unit]]` or `[[bus]]`.", place)
         if self.place[0] != "top" and key in TOP:
             return self.made(f"`{key}` belongs to the top table, and stands in {self.title()}",
                              "write it before the first `[[unit]]`.", place)
-        near = difflib.get_close_matches(key, known, 1, 0.5)
+        # A key that is there already can't be the one that was meant.
+        near = difflib.get_close_matches(key, [word for word in known if word not in self.table], 1, 0.5)
+        entry = self.places.entries.get((self.place, key))
         return self.made(f"{self.title()} has no key `{key}`", f"write `{near[0]}`." if near else "take it away.", place) \
-            .note(f"The keys are {listed([f'`{word}`' for word in known])}.")
+            .note(f"The keys are {listed([f'`{word}`' for word in known])}.") \
+            .by(*(self.edits(entry and entry.key, near[0]) if near else self.without(key)))
 
     def required(self):
         kind = self.place[0]
@@ -192,7 +224,8 @@ class Judge:
         if key == "ram" and self.unit_names("ram"):
             return f'ram = "{self.unit_names("ram")[0]}"'
         if key == "name":
-            return f'name = "{self.place[0]}{self.place[1]}"'
+            taken = {table.get("name") for table in self.tree[self.place[0]] if isinstance(table, dict)}
+            return next(f'name = "{name}"' for number in range(self.place[1], 99) if (name := f"{self.place[0]}{number}") not in taken)
         if key == "from" and self.unit_names():
             return f'from = ["{self.unit_names()[0]}"]'
         ports = [name for name in self.unit_names() if PORTS.get(kind_of(self.units[name]), 0)]
@@ -201,7 +234,12 @@ class Judge:
     def missing_key(self):
         key = next(key for key in self.required() if key not in self.table)
         why = f", the registers at its {counted(PORTS[self.table['kind']], 'port')}" if key == "files" else ""
-        report = self.made(f"{self.title()} has no `{key}`{why}", f"write `{self.example(key)}`.", self.places.headers.get(self.place))
+        header = self.places.headers.get(self.place)
+        report = self.made(f"{self.title()} has no `{key}`{why}", f"write `{self.example(key)}`.", header)
+        if key in ("files", "ram", "name") and header:
+            end = (self.text.chars.find("\n", header[1]) + 1) or len(self.text.chars)
+            lead = "" if self.text.chars[:end].endswith("\n") else "\n"
+            report.by(self.text.edit(end, end, f"{lead}{self.example(key)}\n"))
         if key == "kind":
             report.cure = f"write `{self.example(key)}`, or another one of {listed([f'`{kind}`' for kind in PORTS])}."
         elif key in ("unit", "bus"):
@@ -248,20 +286,27 @@ class Judge:
 
     def wrong_kind(self):
         key = next(key for key in self.keys() if key in self.table and not self.is_of_kind(key, self.table[key]))
-        value = self.table[key]
-        cure = f"write {self.wanted(key)}."
-        if isinstance(value, str) and value.isdecimal():
-            cure = f"write {value} without quotes."
-        elif isinstance(value, float) and value == int(value):
-            cure = f"write {int(value)}, a whole number."
-        elif key in ("from", "to", "files") and not isinstance(value, list):
-            cure = f"write a list, as `{key} = [{self.shown(key)}]`."
-        elif isinstance(value, list) and len(value) == 1 and self.is_of_kind(key, value[0]):
-            cure = f"write {self.shown(key).strip('[] ')} without brackets."
-        elif isinstance(value, dict) and key in ("unit", "bus"):
-            cure = f"write `[[{key}]]` with two brackets."
+        cure, written = self.right_kind(key, self.table[key])
         return self.made(f"`{key}` of {self.title()} is {self.wanted(key)}, and not {self.shown(key) or 'this'}", cure,
-                         self.places.value(self.place, key) or self.places.headers.get((key, 0)))
+                         self.places.value(self.place, key) or self.places.headers.get((key, 0))) \
+            .by(*self.edits(self.exact(key), written))
+
+    def right_kind(self, key, value):
+        """The cure for a value of another kind, in words, and what is written in its place, where that is sure."""
+        shown = self.shown(key)
+        if isinstance(value, str) and value.isdecimal() and self.is_of_kind(key, int(value)):
+            return f"write {value} without quotes.", value
+        if isinstance(value, float) and value % 1 == 0 and self.is_of_kind(key, int(value)):
+            return f"write {int(value)}, a whole number.", str(int(value))
+        if key in ("from", "to", "files") and self.is_of_kind(key, [value]):
+            return f"write a list, as `{key} = [{shown}]`.", f"[{shown}]"
+        if isinstance(value, list) and len(value) == 1 and self.is_of_kind(key, value[0]) and "#" not in shown:
+            return f"write {shown.strip('[] ,')} without brackets.", shown.strip("[] ,")
+        if isinstance(value, dict) and key in ("unit", "bus"):
+            return f"write `[[{key}]]` with two brackets.", None
+        if isinstance(value, int) and key in ("name", "ram"):
+            return f"write it in quotes, as `{key} = \"{shown}\"`.", f'"{shown}"'
+        return f"write {self.wanted(key)}.", None
 
     def is_in_range(self, key, value):
         if key in ("unit", "bus"):
@@ -316,17 +361,18 @@ class Judge:
                     "selector": "sel", "mux": "sel", "constant": "rom", "const": "rom", "agu": "acu"}
         kind = synonyms.get(value.lower()) or (near[0] if near else None)
         cure = f'write `kind = "{kind}"`, which does {DONE_BY[kind]}.' if kind else f"write {self.wanted('kind')}."
-        return self.made(f"no kind is called `{value}`", cure, place) \
+        return self.made(f"no kind is called `{value}`", cure, place).by(*self.edits(self.exact("kind") if kind else None, f'"{kind}"')) \
             .note("The kinds are " + listed([f"`{name}` ({what})" for name, what in DONE_BY.items()]) + ".")
 
     def bad_files(self, value, place):
         ports = PORTS[self.table["kind"]]
         if not ports:
             return self.made(f"{self.title()} is of the kind `{self.table['kind']}`, which has no ports, and `files` has "
-                             f"{counted(len(value), 'number')}", "take `files` away.", place)
+                             f"{counted(len(value), 'number')}", "take `files` away.", place).by(*self.without("files"))
         if len(value) != ports:
+            written = f"[{', '.join(map(str, (value + [4] * ports)[:ports]))}]"
             return self.made(f"{self.title()} has {counted(ports, 'port')}, and `files` {counted(len(value), 'number')}",
-                             f"write one number for each port: `files = [{', '.join(map(str, (value + [4] * ports)[:ports]))}]`.", place)
+                             f"write one number for each port: `files = {written}`.", place).by(*self.edits(self.exact("files"), written))
         size = next(size for size in value if not 1 <= size <= 256)
         return self.made(f"a file has 1 to 256 registers, and not {size}", "write a number from 1 to 256.", place)
 
@@ -343,7 +389,8 @@ class Judge:
             else:
                 short = f"no unit is called `{name}`"
             return self.made(short, f"write the name of a ram: {listed([f'`{ram}`' for ram in rams], 'or')}." if rams
-                             else "add a unit of the kind `ram`.", place)
+                             else "add a unit of the kind `ram`.", place) \
+                .by(*self.edits(self.exact("ram"), f'"{rams[0]}"') if len(rams) == 1 else [])
         for key in ("from", "to"):
             for number, end in enumerate(self.table[key]):
                 name = end.rpartition(".")[0] if key == "to" else end
@@ -351,11 +398,21 @@ class Judge:
                     return self.no_unit(key, number, end, name)
         return None
 
+    def ports(self):
+        """The ports of all units, as `add.0`."""
+        return [f"{name}.{port}" for name, unit in self.units.items() for port in range(PORTS.get(kind_of(unit), 0))]
+
     def no_unit(self, key, number, end, name):
-        place = self.places.value(self.place, key, (self.table[key][:number].count(end), end))
-        near = difflib.get_close_matches(name, self.unit_names(), 1, 0.4)
-        return self.made(f"no unit is called `{name}`", f"write `{near[0]}`." if near else "write the name of a unit.", place) \
-            .note("The units are " + listed([f"`{unit}`" for unit in self.unit_names()]) + ".")
+        item = (self.table[key][:number].count(end), end)
+        rest = end[len(name):] if key == "to" else ""
+        ends = self.ports() if key == "to" else self.unit_names()
+        # An end that the bus has already would be there twice.
+        fit = [unit for unit in self.unit_names() if unit + rest in ends and unit + rest not in self.table[key]]
+        near = difflib.get_close_matches(name, fit, 1, 0.4)
+        return self.made(f"no unit is called `{name}`", f"write `{near[0]}`." if near else "write the name of a unit, or take it away.",
+                         self.places.value(self.place, key, item)) \
+            .note("The units are " + listed([f"`{unit}`" for unit in self.unit_names()]) + ".") \
+            .by(*self.edits(self.exact(key, item), f'"{near[0]}{rest}"') if near else [])
 
     def unknown_port(self):
         for number, end in enumerate(self.table["to"]):

@@ -70,11 +70,13 @@ def broken(text, line, byte, channels):
     span = text.span(start + left, start + left + max(len(word), 1))
     wanted = f"a row has {counted(len(channels), 'word')}"
     if line == 1 and text.data.startswith(codecs.BOM_UTF8):
-        return Report("the file begins with a byte order mark, which is no number", "save it without one.", ROWS, span)
+        return Report("the file begins with a byte order mark, which is no number", "save it without one.", ROWS, span) \
+            .by(text.edit(0, len(codecs.BOM_UTF8), ""))
     if row.endswith(",") and row.count(",") == len(channels):
-        return Report("a comma ends the line", "take it away.", ROWS, text.span(start + len(row) - 1))
+        last = start + len(row) - 1
+        return Report("a comma ends the line", "take it away.", ROWS, text.span(last)).by(text.edit(last, last + 1, ""))
     if not row.strip():
-        return Report(f"the line is empty, and {wanted}", "take the line away.", ROWS, span)
+        return Report(f"the line is empty, and {wanted}", "take the line away.", ROWS, span).by(*without_line(text, line))
     if number >= len(channels) or byte < len(row) and row[byte] == "," and number + 1 >= len(channels):
         count = row.count(",") + 1
         return Report(f"the line has {counted(count, 'word')}, and {wanted}: {names}",
@@ -92,10 +94,18 @@ def broken(text, line, byte, channels):
                       ROWS, span)
     if line == 1 and is_header(row):
         return Report(f"`{decoded(row.strip())}` is no row: a sample file has rows only, without a header", "take the line away.", ROWS,
-                      text.span(start, start + len(row)))
-    report = bad_word(decoded(word), channel, len(channels))
+                      text.span(start, start + len(row))).by(*without_line(text, line))
+    report, written = bad_word(decoded(word), channel, len(channels) - row.count(",") - 1)
     report.span = span
+    if written is not None:
+        report.by(text.edit(start + left, start + left + len(word), written))
     return report.note(f"`{channel.name}` has the raw words {channel.words()}.") if channel.name not in report.short else report
+
+
+def without_line(text, line):
+    """The edit by which a line goes, with its end."""
+    end = text.starts[line] if line < len(text.starts) else len(text.data)
+    return [text.edit(text.starts[line - 1], end, "")]
 
 
 def decoded(text):
@@ -120,32 +130,53 @@ def number_of(text):
     return Fraction(text) if EXPONENT.fullmatch(text) else None
 
 
-def bad_word(word, channel, count):
+def bad_word(word, channel, lacking):
+    """The report on a word that is none of its channel's, and what is written in its place, where that is sure. Its row lacks
+    some words."""
     stripped = word.strip()
     if re.fullmatch(r"-?\d+", word):
-        least, most = channel.range()
-        return Report(f"{word} is out of range: the raw words of `{channel.name}` are {channel.words()}",
-                      f"write a number from {least} to {most}, as {min(max(int(word), least), most)}.", ROWS)
-    if re.fullmatch(r"-?\d+(\s+-?\d+)+", stripped):
-        words = stripped.split()
-        cure = f"write `{','.join(words)}`." if count == len(words) else "write a comma between two words, and no blank." \
-            if count > 1 else "write one word a line."
-        return Report(f"`{stripped}` is {counted(len(stripped.split()), 'word')}, with a blank between them", cure, ROWS)
+        return out_of_range(word, int(word), channel), None
+    if re.fullmatch(r"-?\d+((\s+|\s*[;:|]\s*)-?\d+)+", stripped):
+        return several(stripped, lacking)
     if re.fullmatch(r"-?\d+", stripped):
-        return Report(f"a blank stands beside {stripped}, and a row has none", f"write `{stripped}` without the blank.", ROWS)
+        return Report(f"a blank stands beside {stripped}, and a row has none", f"write `{stripped}` without the blank.", ROWS), stripped
     if NUMBER.fullmatch(stripped):
-        if channel.places is None:
-            return Report(f"{stripped} is no whole number", "write a raw word, which is a whole number.", ROWS)
-        raw = math.floor(Fraction(stripped) * 2**channel.places + Fraction(1, 2))
-        least, most = channel.range()
-        return Report(f"{stripped} is no whole number: samples are raw words, and `{channel.name}` has {channel.places} of its bits "
-                      f"after the point", f"write {min(max(raw, least), most)} for {stripped}.", ROWS)
-    if stripped.startswith("+"):
-        return Report("a number has no plus sign here", f"write `{stripped[1:]}`.", ROWS)
+        return fraction(stripped, channel)
+    if stripped.startswith("+") and stripped[1:].isdecimal():
+        return Report("a number has no plus sign here", f"write `{stripped[1:]}`.", ROWS), stripped[1:]
     number = number_of(stripped.replace("\u2212", "-").strip("\"'"))
     if number is not None and number == int(number):
-        return Report(f"`{stripped}` is no word of a row, which has an optional `-` and digits", f"write {int(number)}.", ROWS)
-    if re.fullmatch(r"-?\d+([;:|]-?\d+)+", stripped):
-        return Report(f"two words have a comma between them, and `{stripped}` another sign", f"write `{re.sub('[;:|]', ',', stripped)}`.",
-                      ROWS)
-    return Report(f"`{stripped}` is no whole number", "write a raw word, which is a whole number.", ROWS)
+        least, most = channel.range()
+        if not least <= number <= most:
+            return out_of_range(stripped, int(number), channel), None
+        return Report(f"`{stripped}` is no word of a row, which has an optional `-` and digits", f"write {int(number)}.", ROWS), \
+            str(int(number))
+    return Report(f"`{stripped}` is no whole number", "write a raw word, which is a whole number.", ROWS), None
+
+
+def out_of_range(word, number, channel):
+    least, most = channel.range()
+    return Report(f"{word} is out of range: the raw words of `{channel.name}` are {channel.words()}",
+                  f"write a number from {least} to {most}, as {min(max(number, least), most)}.", ROWS)
+
+
+def several(piece, lacking):
+    """The report on several words between two commas, and the row's words where these are as many as it lacks."""
+    words = re.split(r"\s*[;:|]\s*|\s+", piece)
+    short = f"`{piece}` is {counted(len(words), 'word')}, with a blank between them" if not re.search("[;:|]", piece) else \
+        f"two words have a comma between them, and `{piece}` another sign"
+    if len(words) == lacking + 1:
+        return Report(short, f"write `{','.join(words)}`.", ROWS), ",".join(words)
+    cure = "write one word a line." if lacking == 0 else "write a comma between two words, and no blank."
+    return Report(short, cure, ROWS), None
+
+
+def fraction(word, channel):
+    """The report on a number with a point, and the raw word that it stands for."""
+    if channel.places is None:
+        return Report(f"{word} is no whole number", "write a raw word, which is a whole number.", ROWS), None
+    raw = math.floor(Fraction(word) * 2**channel.places + Fraction(1, 2))
+    least, most = channel.range()
+    raw = min(max(raw, least), most)
+    return Report(f"{word} is no whole number: samples are raw words, and `{channel.name}` has {channel.places} of its bits "
+                  f"after the point", f"write {raw} for {word}.", ROWS), str(raw)
