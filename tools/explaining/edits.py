@@ -1,9 +1,10 @@
 """The smallest edit with which a program goes on after a token that it can't have there, found by trying."""
+import difflib
 import re
 from dataclasses import dataclass
 
 from explaining.grammar import Unexpected, parsed
-from explaining.text import tokens_of
+from explaining.text import KEPT_FOR_LATER, RESERVED, tokens_of
 
 # The end of a body, as its tokens. What closes something stands directly after what is before it.
 END, CLOSING = "end ;", (";", ",", ")", "]", ">", ");")
@@ -12,6 +13,7 @@ FILLS = {"`||` and the value in the other case": "|| 0", "`->` and the value": "
          "`,` and the bits after the point": ", 15", "an expression": "0", "a number": "0", "the number of elements": "1",
          "a whole number": "1", "the bits of a word": "16", "a type": "fix<16,15>", "an equation, a loop or `end`": END,
          "name": "t", "the index": "i"}
+WORDS, ALIKE = sorted(RESERVED - set(KEPT_FOR_LATER)), 0.6
 QUOTED = re.compile(r"`([^`]+)`")
 # A token of a place farther from the beginning of its function is not tried, and no program is tried farther than this.
 FAR, AHEAD = 20_000, 500
@@ -20,41 +22,41 @@ EVERYTHING = 1 << 30
 
 @dataclass(frozen=True)
 class Trial:
-    """An edit that is tried at a token: its words, the tokens after it, and what is written for how many of them."""
+    """An edit that is tried at a token: its words, the tokens with it, what is written for how many of them, and whether it
+    is the token before that is replaced. It may be one of several that are as likely."""
     cure: str
     tokens: list
     text: str
     removed: int
     added: int
-
-    def is_exact(self):
-        """Whether the words have the whole text that is written."""
-        return not self.added or f"`{self.text.replace(' ;', ';')}`" in self.cure
+    is_before: bool = False
+    is_sure: bool = True
 
 
 def edit_for(source, position, wanted):
-    """The cure for a token where something else is wanted, in words and as edits, or nothing where no edit helps."""
+    """The cure for a token where something else is wanted, in words and as edits, or nothing where no edit is good enough."""
     tokens = source.tokens
     first = next((k for k in range(position - 1, -1, -1) if tokens[k].text in ("func", "const")), None)
     if first is None or position - first > FAR:
         return None
     window = tokens[first:position + AHEAD]
     at, is_all = position - first, position + AHEAD >= len(tokens)
-    token = tokens[position].text if position < len(tokens) else None
-    best, reached = None, at
-    is_first = token is None or position > 0 and source.line(tokens[position].start) > source.line(tokens[position - 1].start)
-    for trial in trials(window, at, token, wanted, is_first):
+    is_first = position == len(tokens) or source.line(tokens[position].start) > source.line(tokens[position - 1].start)
+    # An edit that does not bring the program to the end of this equation says nothing.
+    best, reached = None, next((k for k in range(at, len(window)) if window[k].text == ";"), len(window)) - 1
+    for trial in trials(window, at, wanted, is_first):
         goes = goes_to(trial.tokens, is_all) + trial.removed - trial.added
-        # An insertion has to be followed by the token, and what takes a token's place by the next one.
-        if goes > max(reached, at + trial.removed):
+        if goes > reached:
             best, reached = trial, goes
-    return best and (best.cure, [made_edit(source, position, best)] if best.is_exact() else [])
+    return best and (best.cure, [made_edit(source, position, best)] if best.is_sure else [])
 
 
-def trials(window, at, token, wanted, is_first):
+def trials(window, at, wanted, is_first):
     """The edits at a place, the likeliest first. The token may be the first one of its line."""
+    token = window[at].text if at < len(window) else None
     rest = window[at + 1:]
-    out = [Trial(f"take `{token}` away.", window[:at] + rest, "", 1, 0)] if token else []
+    yield from misspelt(window, at)
+    out = [removal(window, at, wanted)] if token else []
     if token in ("+", "*"):
         yield from out
     tries = [*fills(wanted)]
@@ -62,18 +64,45 @@ def trials(window, at, token, wanted, is_first):
     tries += [(f"`{text};`", f"{text} ;") for _, text in tries if text in (")", "fi") and is_first]
     for shown, text in tries:
         made, _ = tokens_of(text)
-        yield Trial(f"write {shown}" + (f" before `{token}`." if token else "."), window[:at] + made + window[at:], text, 0, len(made))
+        is_exact = shown == f"`{text.replace(' ;', ';')}`"
+        yield Trial(f"write {shown}" + (f" before `{token}`." if token else "."), window[:at] + made + window[at:], text, 0, len(made),
+                    is_sure=is_exact)
         if token:
-            yield Trial(f"write {shown} in the place of `{token}`.", window[:at] + made + rest, text, 1, len(made))
+            yield Trial(f"write {shown} in the place of `{token}`.", window[:at] + made + rest, text, 1, len(made), is_sure=is_exact)
     yield from out
 
 
+def misspelt(window, at):
+    """The words of the language that a name there, or the one before it, is like."""
+    for place in (at - 1, at):
+        token = window[place] if 0 <= place < len(window) else None
+        words = difflib.get_close_matches(token.text.lower(), WORDS, 4, ALIKE) if token and token.kind in ("name", "reserved") else ()
+        for word in words:
+            made, _ = tokens_of(word)
+            yield Trial(f"write `{word}` in the place of `{token.text}`.", window[:place] + made + window[place + 1:], word, 1, 1,
+                        is_before=place < at)
+
+
+def removal(window, at, wanted):
+    """The edit by which a token goes. It is sure where the token is there twice."""
+    token, kind = window[at].text, window[at].kind
+    beside = [window[place].text for place in (at - 1, at + 1) if 0 <= place < len(window)]
+    is_sure = token in beside or token == ";"
+    cure = f"take `{token}` away."
+    if not is_sure:
+        lacking = "`(` where it opens" if token == ")" else "`[` where it opens" if token == "]" else \
+            "`,` before it" if "`,`" in wanted and kind in ("name", "number") else \
+            "an operator before it" if kind in ("name", "number") else "what is missing before it"
+        cure = f"take `{token}` away, or write {lacking}."
+    return Trial(cure, window[:at] + window[at + 1:], "", 1, 0, is_sure=is_sure)
+
+
 def made_edit(source, position, trial):
-    """The edit of the text: in the place of the token, or else directly after the one before it."""
-    tokens = source.tokens
-    text = trial.text.replace(" ;", ";")
+    """The edit of the text: in the place of a token, or else directly after the one before it."""
+    tokens, text = source.tokens, trial.text.replace(" ;", ";")
     if trial.removed:
-        return source.text.edit(tokens[position].start, tokens[position].end, text)
+        token = tokens[position - trial.is_before]
+        return source.text.edit(token.start, token.end, text)
     place = tokens[position - 1].end
     is_joined = position < len(tokens) and tokens[position].start == place
     lead = "" if text in CLOSING else "\n" if text == "end;" else " "
@@ -85,9 +114,9 @@ def fills(wanted):
     for words, text in FILLS.items():
         if words in wanted:
             yield "`end;`" if text == END else wanted.removeprefix("an operator or "), text
-            return
     for text in QUOTED.findall(wanted):
-        yield f"`{text}`", text
+        if text != "end":
+            yield f"`{text}`", text
 
 
 def goes_to(tokens, is_all):

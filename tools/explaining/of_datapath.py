@@ -59,7 +59,7 @@ def toml_fault(text, said, rule):
     start = text.starts[text.line_of(at) - 1]
     line = text.chars[start:].partition("\n")[0]
     if what == "Invalid value":
-        word = re.match(r"[^\s,\]#\"']+(?=[\s,\]#]|$)", text.chars[at:])
+        word = re.match(r"[\w./-]+(?=[\s,\]#]|$)", text.chars[at:], re.A)
         cure = f"write texts in quotes, as `\"{word[0]}\"`." if word else "write a value after `=`."
         return Report("TOML: this is no value", cure, rule, text.span(at, at + len(word[0]) if word else at + 1)) \
             .by(*[text.edit(at, at + len(word[0]), f'"{word[0]}"')] if word else [])
@@ -199,11 +199,25 @@ class Judge:
             return self.made(f"`{key}` belongs to the top table, and stands in {self.title()}",
                              "write it before the first `[[unit]]`.", place)
         # A key that is there already can't be the one that was meant.
-        near = difflib.get_close_matches(key, [word for word in known if word not in self.table], 1, 0.5)
+        if isinstance(self.table[key], list) and self.place[0] == "top":
+            return self.other_table(key)
+        near = difflib.get_close_matches(key.lower(), [word for word in known if word not in self.table], 1, 0.5)
+        lacking = [word for word in self.required() if word not in self.table]
+        if not near and len(lacking) == 1 and self.is_of_kind(lacking[0], self.table[key]):
+            near = lacking
         entry = self.places.entries.get((self.place, key))
         return self.made(f"{self.title()} has no key `{key}`", f"write `{near[0]}`." if near else "take it away.", place) \
             .note(f"The keys are {listed([f'`{word}`' for word in known])}.") \
             .by(*(self.edits(entry and entry.key, near[0]) if near else self.without(key)))
+
+    def other_table(self, key):
+        """The report on tables that are neither units nor buses."""
+        near = difflib.get_close_matches(key.lower(), ("unit", "bus"), 1, 0.5)
+        headers = [place for (kind, _), place in self.places.headers.items() if kind == key]
+        return self.made(f"the tables are `[[unit]]` and `[[bus]]`, and `{key}` is none of them",
+                         f"write `[[{near[0]}]]` in the place of `[[{key}]]`." if near else "take it away.",
+                         headers[0] if headers else None) \
+            .by(*[self.text.edit(*place, f"[[{near[0]}]]") for place in headers] if near else [])
 
     def required(self):
         kind = self.place[0]
@@ -302,6 +316,9 @@ class Judge:
             return f"write a list, as `{key} = [{shown}]`.", f"[{shown}]"
         if isinstance(value, list) and len(value) == 1 and self.is_of_kind(key, value[0]) and "#" not in shown:
             return f"write {shown.strip('[] ,')} without brackets.", shown.strip("[] ,")
+        if key == "files" and isinstance(value, list) and all(str(size).isdecimal() for size in value):
+            written = f"[{', '.join(map(str, value))}]"
+            return f"write `files = {written}`.", written
         if isinstance(value, dict) and key in ("unit", "bus"):
             return f"write `[[{key}]]` with two brackets.", None
         if isinstance(value, int) and key in ("name", "ram"):
@@ -388,6 +405,8 @@ class Judge:
                 short = f"`{name}` is of the kind `{self.units[name].get('kind')}`, and an acu addresses a ram"
             else:
                 short = f"no unit is called `{name}`"
+            if len(rams) == 1 and name not in self.units and self.is_misspelt(rams[0], name):
+                return self.other_name(rams[0], name)
             return self.made(short, f"write the name of a ram: {listed([f'`{ram}`' for ram in rams], 'or')}." if rams
                              else "add a unit of the kind `ram`.", place) \
                 .by(*self.edits(self.exact("ram"), f'"{rams[0]}"') if len(rams) == 1 else [])
@@ -397,6 +416,19 @@ class Judge:
                 if name not in self.units and (key == "from" or "." in end):
                     return self.no_unit(key, number, end, name)
         return None
+
+    def is_misspelt(self, unit, name):
+        """Whether it is rather the unit's own name that is wrong: nothing names it, and several ends have the other name."""
+        ends = [end for bus in self.tree["bus"] for key in ("from", "to") for end in bus[key]]
+        named = [end.partition(".")[0] for end in ends] + [other.get("ram") for other in self.units.values()]
+        return unit not in named and named.count(name) > 1
+
+    def other_name(self, unit, name):
+        """The report on the name of a unit that nothing names, where another one is named that is not there."""
+        place = ("unit", next(number for number, other in enumerate(self.tree["unit"]) if other.get("name") == unit))
+        span = self.places.value(place, "name") if (place, "name") in self.places.entries else None
+        return self.made(f"no unit is called `{name}`, and none of the buses names the unit `{unit}`",
+                         f"write `name = \"{name}\"` in the place of `name = \"{unit}\"`.", span).by(*self.edits(span, f'"{name}"'))
 
     def ports(self):
         """The ports of all units, as `add.0`."""
@@ -408,7 +440,10 @@ class Judge:
         ends = self.ports() if key == "to" else self.unit_names()
         # An end that the bus has already would be there twice.
         fit = [unit for unit in self.unit_names() if unit + rest in ends and unit + rest not in self.table[key]]
-        near = difflib.get_close_matches(name, fit, 1, 0.4)
+        lower = {unit.lower(): unit for unit in fit}
+        near = [lower[unit] for unit in difflib.get_close_matches(name.lower(), lower, 1, 0.4)]
+        if near and self.is_misspelt(near[0], name):
+            return self.other_name(near[0], name)
         return self.made(f"no unit is called `{name}`", f"write `{near[0]}`." if near else "write the name of a unit, or take it away.",
                          self.places.value(self.place, key, item)) \
             .note("The units are " + listed([f"`{unit}`" for unit in self.unit_names()]) + ".") \

@@ -118,6 +118,10 @@ def misspelt(source, context, known, short):
     report = numbered(source, context) if not targets else None
     if report:
         return report
+    unused = [decl for decl in func.decls() if uses_of(source, func, decl.name) == ([], []) and not (targets and decl in func.params)]
+    like = near(name, [decl.name for decl in unused])
+    if like and len(targets) + len(reads) > 1:
+        return misdeclared(source, func, like, name, short)
     # What defines something by a name that is nowhere read may mean a signal that has no definition.
     free = [decl.name for decl in (*func.results, *func.locals) if not uses_of(source, func, decl.name)[0]]
     like = near(name, known if not targets else [] if reads else free)
@@ -132,6 +136,13 @@ def misspelt(source, context, known, short):
                 return Report(short, f"hand it on to `{func.name}` as a parameter.", language("Functions")) \
                     .note(f"The signal `{name}` of the function `{other.name}` is declared here.", source.name_span(decl))
     return undeclared(source, context, targets, Report(short, "", language("Declarations")).note(names_of(func, known)))
+
+
+def misdeclared(source, func, like, name, short):
+    """The report on a name that is declared by another one, which nothing uses."""
+    decl = source.decl(func, like)
+    return Report(f"{short}, and nothing uses `{like}`", f"write `{name}` where `{like}` is declared.", language("Declarations")) \
+        .note(f"`{like}` is declared here.", source.name_span(decl)).by(source.text.edit(decl.at, decl.end, name))
 
 
 def names_of(func, known):
@@ -305,7 +316,10 @@ def wrong_count(source, at):
     if not decl.dims and context.role == "target" or decl.role == "table" and not decl.dims:
         cure = f"write `{decl.name}`."
     elif not decl.dims:
+        past = past_of(context)
         cure = f"write `{decl.name}` for the word of this sample, and `{decl.name}@1` for that of one sample ago."
+        if past is not None:
+            return as_delay(source, context.node, decl, f"`{decl.name}` {has}, and here 1 stands", past)
     elif context.role == "target" and not subs:
         cure += " All elements are defined by a loop, or by a call."
     report = Report(f"`{decl.name}` {has}, and here {counted(subs, 'stands', 'stand') if subs else 'none stands'}", cure,
@@ -313,6 +327,26 @@ def wrong_count(source, at):
         .note(f"`{decl.name}` is declared here.", source.name_span(decl))
     is_sure = cure == f"write `{decl.name}`."
     return report.by(*[source.text.edit(context.node.start, context.node.end, decl.name)] if is_sure else [])
+
+
+def past_of(context):
+    """How many samples ago a signal is read whose subscript is `n` or `n - 1`, where `n` is no loop's index; else nothing."""
+    sub, loops = context.node.subs[0], [loop.name for loop in context.loops]
+    if len(context.node.subs) > 1 or context.node.amount:
+        return None
+    if sub.kind == "index" and sub.name not in loops:
+        return 0
+    if sub.kind != "manifest" or sub.name != "-" or [part.kind for part in sub.parts] != ["index", "whole"]:
+        return None
+    return sub.parts[1].value if sub.parts[0].name not in loops and sub.parts[1].value <= MOST_DELAY else None
+
+
+def as_delay(source, node, decl, short, past):
+    """The report on a subscript that stands for a sample."""
+    written = f"{decl.name}@{past}" if past else decl.name
+    return Report(short, f"write `{written}` for the word of " + (f"{counted(past, 'sample')} ago." if past else "this sample."),
+                  language("Delays and initial values"), source.node_span(node)) \
+        .note(f"`{decl.name}` is declared here.", source.name_span(decl)).by(source.text.edit(node.start, node.end, written))
 
 
 def wrong_words(source, table):

@@ -83,15 +83,17 @@ def broken(text, line, byte, channels):
                       f"write {counted(len(channels), 'word')} a line.", ROWS, text.span(start, start + len(row)))
     channel = channels[number]
     if byte == len(row) and not word.strip():
-        return Report(f"the line ends where {channel.name} has to come", f"write a word for `{channel.name}`.", ROWS,
+        return Report(f"the line ends where `{channel.name}` has to come", f"write a word for `{channel.name}`.", ROWS,
                       text.span(start + len(row), start + len(row) + 1))
     if byte >= len(row.rstrip("\r")) and re.fullmatch(r"-?\d+", word) and number + 1 < len(channels):
         return Report(f"the line has {counted(number + 1, 'word')}, and {wanted}: {names}",
                       f"write {counted(len(channels), 'word')} a line, with a comma between two.", ROWS,
                       text.span(start, start + len(row)))
-    if not word:
-        return Report(f"no word stands before the comma, where `{channel.name}` has to come", f"write a word for `{channel.name}`.",
-                      ROWS, span)
+    if not word.strip():
+        short = f"no word stands before the comma, where `{channel.name}` has to come"
+        if row.count(",") < len(channels):
+            return Report(short, f"write a word for `{channel.name}`.", ROWS, span)
+        return Report(short, "take one comma away.", ROWS, span).by(text.edit(start + left, start + left + len(word) + 1, ""))
     if line == 1 and is_header(row):
         return Report(f"`{decoded(row.strip())}` is no row: a sample file has rows only, without a header", "take the line away.", ROWS,
                       text.span(start, start + len(row))).by(*without_line(text, line))

@@ -8,7 +8,7 @@ from explaining.edits import edit_for
 from explaining.grammar import COMPARISONS, Unexpected
 from explaining.refusals import language
 from explaining.report import Report, counted
-from explaining.text import KEPT_FOR_LATER
+from explaining.text import KEPT_FOR_LATER, RESERVED
 
 TEXT, GRAMMAR, DECLARATIONS = language("Text"), language("Grammar"), language("Declarations")
 DELAYS, CONDITIONALS = language("Delays and initial values"), language("Conditionals")
@@ -24,6 +24,7 @@ TYPES = {"int": "fix<16,0>", "integer": "fix<16,0>", "short": "fix<16,0>", "floa
 # Names of modes elsewhere.
 MODES = {"rnd": "round", "rounding": "round", "nearest": "round", "half_up": "round", "saturate": "sat", "saturated": "sat",
          "clip": "sat", "clamp": "sat", "wrap": "trunc", "floor": "trunc", "truncate": "trunc", "none": "trunc"}
+MISSPELT_FIX = ("fix", "fixx", "ffix", "fiix", "ifx", "fxi", "ix", "fx", "fixed", "sfix", "ufix")
 OPERATORS = ("+", "-", "*", "<<", ">>", "&", "|", *COMPARISONS)
 # Characters that look like others, with what is written here.
 LOOKALIKES = {"\u2212": "-", "\u2013": "-", "\u2014": "-", "\u00d7": "*", "\u00b7": "*", "\u22c5": "*", "\u2264": "<=",
@@ -124,8 +125,8 @@ def bad_point(source, at):
     if before:
         number = before[0]
         return Report(f"a number has digits on both sides of its point, and `{number}.` has none after it",
-                      f"write `{number}.0`, or `{number}` for a whole number.", TEXT, source.text.span(before.start(), at + 1)) \
-            .by(source.text.edit(at, at + 1, ".0"))
+                      f"write `{number}`, or `{number}.0`.", TEXT, source.text.span(before.start(), at + 1)) \
+            .by(source.text.edit(at, at + 1, ""))
     if after:
         return Report(f"a number has digits on both sides of its point, and `.{after[0]}` has none before it",
                       f"write `0.{after[0]}`.", TEXT, source.text.span(at, at + 1 + after.end())) \
@@ -168,6 +169,8 @@ def bad_number(source, at):
         return with_power(source, at, power[0], short)
     if re.fullmatch(r"[fFlLuU]+|[A-Za-z_]\w*\..*", rest):
         return Report(short, f"write `{found[0]}`." if len(rest) < 4 else "write a blank or an operator between them.", TEXT, span)
+    if rest in RESERVED:
+        return Report(short, f"write a blank between them, as `{found[0]} {rest}`.", TEXT, span)
     cure = f"write a blank or an operator between them, as `{found[0]} * {rest}`."
     return Report(short, cure, TEXT, span).by(source.text.edit(at, at + len(word), f"{found[0]} * {rest}"))
 
@@ -292,7 +295,8 @@ def kept_word(stop):
 def other_word(stop):
     """A word of another language, which is a name here."""
     for token, by in ((stop.token, 0), (stop.before, -1)):
-        if token and token.text in OTHERS and token.kind == "name" and (by == 0 or stop.is_equals()):
+        is_there = by == 0 or stop.is_equals() or token and token.text == "not"
+        if token and token.text in OTHERS and token.kind == "name" and is_there:
             short, cure = OTHERS[token.text]
             report = Report(short, f"{cure} in the place of `{token.text}`.",
                             CONDITIONALS if token.text in ("then", "else") else GRAMMAR, stop.span(by, by))
@@ -302,8 +306,15 @@ def other_word(stop):
 
 
 def other_type(stop):
+    if stop.is_at(",") and stop.ahead(-2) == "<" and stop.ahead(-3).lower() in MISSPELT_FIX:
+        return Report(f"`{stop.ahead(-3)}` is no type: the types are `fix<W,F>` and `bool`",
+                      f"write `fix` in the place of `{stop.ahead(-3)}`.", language("Words and types"), stop.span(-3, -3)) \
+            .by(stop.edit(-3, -3, "fix"))
     if stop.token and stop.token.kind == "name" and stop.wanted == "a type":
         name = stop.token.text
+        if stop.ahead() == "<":
+            return Report(f"`{name}` is no type: the types are `fix<W,F>` and `bool`", f"write `fix` in the place of `{name}`.",
+                          language("Words and types")).by(stop.edit(0, 0, "fix"))
         written = TYPES.get(name.lower(), "fix<16,15>")
         return Report(f"`{name}` is no type: the types are `fix<W,F>`, words of W bits with F of them after the point, and `bool`",
                       f"write `{written}` in the place of `{name}`.", language("Words and types")).by(stop.edit(0, 0, written))
@@ -355,6 +366,18 @@ def late_var(stop):
                   and tokens[k + 1].text != "var"), begin)
     return Report("`var` stands before the first equation", "move this line up, to after `begin`.", GRAMMAR) \
         .note("This is the first equation.", stop.source.text.span(tokens[first + 1].start, tokens[first + 1].end))
+
+
+def other_declaration(stop):
+    """A declaration that begins with the type of another language: `int t : ..`."""
+    token, before = stop.token, stop.before
+    if not (stop.is_equals() and token and token.kind == "name" and before.kind == "name" and stop.ahead(-2) in (";", "begin")):
+        return None
+    end = next((k for k in range(1, 64) if stop.ahead(k) in (";", "=", ":", "")), 64)
+    if stop.ahead(end) != ":":
+        return None
+    return Report("a declaration begins with `var`", f"write `var` in the place of `{before.text}`.", DECLARATIONS, stop.span(-1, -1)) \
+        .by(stop.edit(-1, -1, "var"))
 
 
 def table_inside(stop):
@@ -439,6 +462,8 @@ def delayed_target(stop):
 def signed_amount(stop):
     """A delay or a shift by less than 0."""
     number = stop.ahead()
+    if stop.is_at("-") and stop.is_after("@") and not number.isdecimal():
+        return Report("a delay is how many samples ago, 0 or more", "take `-` away.", DELAYS).by(stop.edit(0, 0, ""))
     if not stop.is_at("-") or not number.isdecimal():
         return None
     if stop.is_after("@"):
@@ -493,12 +518,14 @@ def doubled(stop):
 
 def updated(stop):
     """An equation as an assignment: `y += x`."""
-    if stop.token and stop.token.text in OPERATORS and stop.ahead() == "=" and stop.is_equals():
-        name, sign = stop.before.text, stop.token.text
-        return Report(f"there is no `{sign}=`: an equation says what a signal is in each sample",
-                      f"write `{name} = {name}@1 {sign} ..;` for the word of one sample ago and more.", language("Equations"),
-                      stop.span(0, 1))
-    return None
+    if not (stop.token and stop.token.text in OPERATORS and stop.ahead() == "=" and stop.is_equals()):
+        return None
+    first = next(k for k in range(-1, -stop.position - 1, -1) if stop.ahead(k - 1) in (";", "begin", ""))
+    name, sign = " ".join(stop.source.text.chars[stop.tokens()[stop.position + first].start:stop.before.end].split()), stop.token.text
+    report = Report(f"there is no `{sign}=`: an equation says what a signal is in each sample",
+                    f"write `{name} = {name}@1 {sign} ..;` for the word of one sample ago and more.", language("Equations"),
+                    stop.span(0, 1))
+    return report.by(stop.edit(0, 1, f"= {name}@1 +")) if sign == "+" else report
 
 
 def choice_as_item(stop):
@@ -522,8 +549,17 @@ def bodiless_loop(stop):
     return None
 
 
+def is_function(tokens, name):
+    """Whether a source declares a function of a name."""
+    return any(token.text == "func" and after.text == name for token, after in zip(tokens, tokens[1:]))
+
+
 def call_inside(stop):
     token, before = stop.token, stop.before
+    if stop.is_at("(") and before and before.kind == "name" and not is_function(stop.tokens(), before.text):
+        return Report(f"`{before.text}(..)` would be a call, and no function is called `{before.text}`",
+                      f"write `{before.text}@..` for the word of some samples ago, or `{before.text} * (..)` for a product.",
+                      language("Functions"), stop.span(-1, 0))
     if stop.is_at("(") and before and before.kind == "name":
         return Report(f"a call stands by itself on the right of `=`, and `{before.text}(..)` is inside an expression",
                       f"define a signal by the call, as `t = {before.text}(..);`, and write `t` here. Where no call is meant, "
@@ -549,7 +585,7 @@ def assigned(stop):
 
 
 # The mistakes that are likely, the likelier first.
-RULES = (kept_word, other_word, other_type, two_modes, other_mode, late_var, table_inside, valued_var, untyped_table, table_words,
+RULES = (kept_word, other_word, other_type, two_modes, other_mode, late_var, other_declaration, table_inside, valued_var, untyped_table, table_words,
          named_dim, no_parameter, delayed_sum, delayed_target, signed_amount, subscript_in_number, lone_equals, doubled,
          chained_comparison, updated, choice_as_item, bare_results, bodiless_loop, call_inside, glued, assigned, missing_semicolon)
 

@@ -147,7 +147,7 @@ def numbers_of(source, node):
     """What is written for a product of a truth value and a number."""
     for truth, other in (node.parts, node.parts[::-1]):
         if not is_number(source, truth) and is_number(source, other):
-            return f"if {source.shown(truth)} -> {source.shown(other)} || 0 fi"
+            return f"if {without_brackets(source.shown(truth))} -> {source.shown(other)} || 0 fi"
     return None
 
 
@@ -190,6 +190,10 @@ def needs_cast(source, fault):
     node = fault.node
     typing = typing_at(source, node)
     bare = next((part for part in node.parts if typing.own(part) is None), node.parts[0])
+    choice = numbers_of(source, bare) if bare.kind == "product" else None
+    if choice:
+        return Report(f"`{source.shown(bare)}` has truth values where numbers are wanted", f"write `{choice}`.",
+                      language("The typing table"), source.node_span(bare)).by(source.text.edit(bare.start, bare.end, choice))
     inner = without_brackets(source.shown(bare))
     of = next((found for part in [*node.parts, *bare.parts] if (found := typing.own(part)) and found.width), None)
     name = bare_type(of or type_for(numbers_in(node)) or WIDEST)

@@ -80,7 +80,7 @@ class Source:
     def at(self, place, *roles):
         """What stands at a place of the source, in one of these roles."""
         for context in self.contexts(self.function_at(place)):
-            if context.node.at == place and context.role in roles:
+            if context.node.at == place and context.role in roles and context.node.kind != "initial":
                 return context
         return None
 
