@@ -6,13 +6,17 @@ usage: tests/explain/check_cases.py [NAME ..]             the cases with these w
 
 A case is a folder with the files of a command, `case.toml` and `stderr.txt`, the whole text that is expected. In
 `case.toml` are `words`, the `code` with which the command ends, and `cure`: edits of files, each with `file`, `old` and
-`new`, or other `words`. After the cure the command is done, or it ends with the line `then`. Further keys: `large`, files
-that are filled up with a text to a size; `links` and `folders`; `closed`, names that no one has a right to; `before`,
-commands of silc that run first; `without_show`, where it is tried as if `silc_show` were not built; `example`, at the case of
-a refusal that docs/ERRORS.md shows whole.
+`new`, a command to `run`, or other `words`. After the cure the command is done, or it ends with the line `then`. Where the tool tells the cure
+as edits, these are applied too, to the files as they were: the command is then done, or meets another fault. Further keys:
+`options` of the tool; `large`, files that are filled up with a text to a size; `links` and `folders`; `closed`, names that no
+one has a right to, and `kept`, folders in which no one may make files; `before`, commands of silc that run first;
+`without_show`, where it is tried as if `silc_show` were not built; `example`, at the case of a refusal that docs/ERRORS.md
+shows whole. ROOM in the text stands for the folder in which the command runs, and a name in the words with `\\x` in it for
+one with such bytes.
 
 Without a name it compares docs/ERRORS.md too. It runs the built `silc` and `silc_show`, or those that `SILC` and `SILC_SHOW` name.
 """
+import json
 import os
 import re
 import shutil
@@ -31,7 +35,9 @@ SILC = Path(os.environ.get("SILC", ROOT / "crates" / "silc_main" / "out" / "silc
 SHOW = Path(os.environ.get("SILC_SHOW", ROOT / "crates" / "silc_show" / "out" / "silc_show")).resolve()
 EXPLAIN = ROOT / "tools" / "explain"
 SAID, EXPECTED = "case.toml", "stderr.txt"
-KEYS = {"words", "code", "cure", "then", "large", "links", "folders", "closed", "before", "without_show", "example"}
+KEYS = {"words", "code", "cure", "then", "options", "large", "links", "folders", "closed", "kept", "before", "without_show",
+        "example"}
+EDIT = re.compile(r'edit: (.*):(\d+):(\d+)-(\d+): (".*")')
 SECONDS = 600
 NOWHERE = Path("/nowhere/silc_show")
 # What takes from root the right to read and write what the mode of a file forbids.
@@ -58,21 +64,28 @@ def prepare(case, said, room):
     for name in said.get("folders", []):
         (room / name).mkdir()
     for name, to in said.get("links", {}).items():
-        (room / name).symlink_to(to)
+        (room / os.fsdecode(named(name))).symlink_to(to)
     for words in said.get("before", []):
         subprocess.run([SILC, *words], cwd=room, check=True, timeout=SECONDS)
     for name in said.get("closed", []):
         (room / name).chmod(0)
+    for name in said.get("kept", []):
+        (room / name).chmod(0o555)
+
+
+def named(word):
+    """A word of a case as bytes."""
+    return re.sub(rb"\\x([0-9a-f]{2})", lambda byte: bytes.fromhex(byte[1].decode()), word.encode())
 
 
 def ran(program, words, room, lead=(), show=SHOW):
-    return subprocess.run([*lead, program, *words], cwd=room, stdin=subprocess.DEVNULL, capture_output=True, text=True,
+    return subprocess.run([*lead, program, *map(named, words)], cwd=room, stdin=subprocess.DEVNULL, capture_output=True, text=True,
                           timeout=SECONDS, env=os.environ | {"SILC": str(SILC), "SILC_SHOW": str(show), "LANG": "C.UTF-8"})
 
 
 def lead_of(said):
     """The command before the program by which root has no more rights than others."""
-    if not said.get("closed") or os.geteuid() != 0:
+    if not (said.get("closed") or said.get("kept")) or os.geteuid() != 0:
         return []
     if not shutil.which(WITHOUT_RIGHTS[0]):
         raise Skipped("it needs setpriv (apt-get install util-linux) where root runs it")
@@ -85,6 +98,8 @@ def cured(said, room):
     for cure in said["cure"]:
         if "words" in cure:
             words = cure["words"]
+        elif "run" in cure:
+            subprocess.run(["bash", "-c", cure["run"]], cwd=room, check=True, timeout=SECONDS)
         elif "open" in cure:
             (room / cure["open"]).chmod(0o755)
         elif "resize" in cure:
@@ -113,16 +128,49 @@ def judged(case, writes):
         room = Path(folder)
         prepare(case, said, room)
         lead = lead_of(said)
-        done = ran(EXPLAIN, said["words"], room, lead, NOWHERE if said.get("without_show") else SHOW)
+        done = ran(EXPLAIN, ["--edits", *said.get("options", []), *said["words"]], room, lead,
+                   NOWHERE if said.get("without_show") else SHOW)
+        told = [line for line in done.stderr.splitlines(True) if not EDIT.match(line)]
+        edits = [EDIT.match(line) for line in done.stderr.splitlines() if EDIT.match(line)]
+        done.stderr = "".join(told).replace(os.path.realpath(room), "ROOM")
         if writes:
             (case / EXPECTED).write_text(done.stderr)
-        return [*compared(case, said, done), *cure_compared(said, room, lead)]
+        faults = [*compared(case, said, done), *cure_compared(said, room, lead)]
+        for name in said.get("kept", []):
+            (room / name).chmod(0o755)
+    return faults + (edits_compared(case, said, edits, told) if edits else [])
+
+
+def edits_compared(case, said, edits, told):
+    """Where the edits that are told lead to the fault that was there before."""
+    with tempfile.TemporaryDirectory(prefix="silc-explain-") as folder:
+        room = Path(folder)
+        prepare(case, said, room)
+        for name in {edit[1] for edit in edits}:
+            (room / name).write_bytes(edited((room / name).read_bytes().decode(), [edit for edit in edits if edit[1] == name]).encode())
+        done = ran(SILC, said["words"], room)
+    first = next(line for line in told if line.startswith("silc: ")).strip()
+    if done.returncode and done.stderr.strip() in (first, ""):
+        return [f"after the edits {[edit[0] for edit in edits]}: {done.stderr.strip() or done.returncode}"]
+    return []
+
+
+def edited(text, edits):
+    """A text with the edits of the tool's lines."""
+    starts = [0, *(found.end() for found in re.finditer("\n", text))]
+    for edit in sorted(edits, key=lambda edit: (int(edit[2]), int(edit[3])), reverse=True):
+        place = starts[int(edit[2]) - 1] + int(edit[3]) - 1
+        text = text[:place] + json.loads(edit[5]) + text[place + int(edit[4]) - int(edit[3]):]
+    return text
 
 
 def compared(case, said, done):
     faults = [] if done.returncode == said["code"] else [f"exit code: expected {said['code']}, got {done.returncode}"]
-    if done.stderr != (case / EXPECTED).read_text():
-        faults.append(f"it says\n{done.stderr}in the place of\n{(case / EXPECTED).read_text()}")
+    expected = (case / EXPECTED).read_text()
+    # Where a line with the folder's name is folded depends on the name.
+    is_same = done.stderr.split() == expected.split() if "ROOM" in expected else done.stderr == expected
+    if not is_same:
+        faults.append(f"it says\n{done.stderr}in the place of\n{expected}")
     return faults
 
 

@@ -188,6 +188,15 @@ def planned(source, file, text):
     return done.stderr.strip().removeprefix("silc: ") if done.returncode else "", done
 
 
+def is_longer(source, file, tree, cure):
+    """Whether a period that is told as the least one is not."""
+    found = re.match(r"write `period = (\d+)`, the least that fits", cure)
+    if not found:
+        return False
+    shorter = applied(cure.partition("; or ")[0], tree) | {"period": int(found[1]) - 1}
+    return not planned(source, file, text_of(shorter))[0].startswith("period exceeded")
+
+
 def judged(number, folder):
     """The datapath of a number: nothing where there is a plan, or else the refusal and what is wrong with its cures."""
     name, tree = made(number)
@@ -210,6 +219,8 @@ def judged(number, folder):
         answer, _ = planned(source, other, text)
         if text == text_of(tree) or answer != "".join(then):
             faults.append(f"{number} ({name}): {said}\n  cure: {cure}\n  then: {answer or 'a plan'}, named: {then}")
+    faults += [f"{number} ({name}): {said}\n  cure: {report.cure}\n  and a shorter period is long enough" for _ in
+               filter(None, [is_longer(source, other, tree, report.cure)])]
     if report.edits:
         answer, _ = planned(source, other, edited(file.read_text(), report.edits))
         if answer != "".join(named[-1:]):

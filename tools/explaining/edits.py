@@ -84,10 +84,10 @@ def misspelt(window, at):
 
 
 def removal(window, at, wanted):
-    """The edit by which a token goes. It is sure where the token is there twice."""
+    """The edit by which a token goes. It is sure where the token is there twice, and no operator may be missing."""
     token, kind = window[at].text, window[at].kind
     beside = [window[place].text for place in (at - 1, at + 1) if 0 <= place < len(window)]
-    is_sure = token in beside or token == ";"
+    is_sure = token in beside and not (kind in ("name", "number") and "operator" in wanted) or token == ";"
     cure = f"take `{token}` away."
     if not is_sure:
         lacking = "`(` where it opens" if token == ")" else "`[` where it opens" if token == "]" else \

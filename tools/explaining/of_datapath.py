@@ -260,10 +260,20 @@ class Judge:
             report.cure = f"write a table `[[{key}]]` with its keys."
         elif self.place[0] == "top":
             report.cure = f"write `{self.example(key)}` at the top, with a number from {TOP[key][0]} to {TOP[key][1]}."
-            for (kind, _), place in self.places.elsewhere(key, self.place)[:1]:
+            for table, place in self.places.elsewhere(key, self.place)[:1]:
                 report.cure = f"move `{key}` up, to before the first `[[..]]`."
-                report.note(f"`{key}` stands here, among the keys of a `[[{kind}]]`.", self.span(place))
+                report.note(f"`{key}` stands here, among the keys of a `[[{table[0]}]]`.", self.span(place))
+                report.by(*self.moved_up(table, key))
         return report
+
+    def moved_up(self, table, key):
+        """The edits by which the line of a key of another table comes to the beginning of the file."""
+        own, self.place = self.place, table
+        out = self.without(key)
+        self.place = own
+        start, end = self.places.entries[table, key].value
+        line = f"{key} = {self.text.chars[start:end]}\n"
+        return [self.text.edit(self.places.start, self.places.start, line), *out] if out and line.isascii() else []
 
     def number_range(self, key):
         if self.place[0] == "top":

@@ -89,7 +89,9 @@ def names_in(file, image):
         fault = next(unit_faults(image, tree["unit"], units), None) if image else None
     except OSError as why:
         return (), (), f"{file} can't be read: {why.strerror}"
-    except (KeyError, TypeError, AttributeError, ValueError) as why:
+    except KeyError as key:
+        return (), (), f"{file} is no datapath file: it has no `{key.args[0]}`"
+    except (TypeError, AttributeError, ValueError) as why:
         return (), (), f"{file} is no datapath file: {why}"
     if image and not fault and (tree.get("period"), len(buses)) != (image.period, image.buses):
         fault = f"it has a period of {tree.get('period')} and {counted(len(buses), 'bus', 'buses')}, and the microcode " \

@@ -123,7 +123,8 @@ def misspelt(source, context, known, short):
     if like and len(targets) + len(reads) > 1:
         return misdeclared(source, func, like, name, short)
     # What defines something by a name that is nowhere read may mean a signal that has no definition.
-    free = [decl.name for decl in (*func.results, *func.locals) if not uses_of(source, func, decl.name)[0]]
+    free = [decl.name for decl in (*func.results, *func.locals)
+            if context.item.kind == "initial" or not uses_of(source, func, decl.name)[0]]
     like = near(name, known if not targets else [] if reads else free)
     if like:
         decl = source.decl(func, like)

@@ -46,7 +46,7 @@ class Refused:
     """A source without a plan, its nodes, and the datapath."""
 
     def __init__(self, case, tree):
-        self.case, self.tree = case, tree
+        self.case, self.tree, self.then = case, tree, None
         self.source, self.path = case.text("SRC"), case.text("DP")
         self.places = Places(self.path.chars)
         answer = case.show("origins", case.files["SRC"], case.files["DP"])
@@ -72,7 +72,7 @@ class Refused:
                 f"Node {self.number} is {self.what()}, in line {self.node.line}.").notes[0])
         elif not self.case.has_show():
             report.note(f"{BUILD}.")
-        return report
+        return report.note(self.then) if self.then else report
 
     def dp_span(self, place):
         return self.path.span(*place) if place else None
@@ -104,7 +104,7 @@ class Refused:
         report.cure = f"in {self.path.name}, {clause}." if is_added else f"{clause}."
         status, said = self.trial().answer(made(changes, self.tree))
         if status != lacks.PLANNED:
-            report.note(f"With this cure there is no plan yet, and then: {answer_of(said)}.")
+            self.then = f"With this cure there is no plan yet, and then: {answer_of(said)}."
         return report.by(*edits_of(changes, self.tree, self.path, self.places))
 
     def unit_of(self, kind, **keys):
@@ -188,6 +188,7 @@ class Refused:
             words = [f"{top.words(self.tree)} at the top", *(file.words(self.tree) for file in files)]
             report.cure = f"{report.cure.removesuffix('.')}; or write {listed(words)}, and words of up to " \
                           f"{counted(longest, 'sample')} ago stay in registers."
+            self.then = self.then and self.then.replace("this cure", "the first cure")
         return report
 
     def with_registers(self, changes):

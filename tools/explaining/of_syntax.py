@@ -358,14 +358,35 @@ def late_var(stop):
         return None
     tokens, position = stop.tokens(), stop.position
     if stop.wanted == "`begin`":
-        return Report("`var` stands after `begin`", "move `begin` up, to before this line.", GRAMMAR)
+        return Report("`var` stands after `begin`", "move `begin` up, to before this line.", GRAMMAR) \
+            .by(*moved_begin(stop))
     begin = next((k for k in range(position - 1, -1, -1) if tokens[k].text == "begin"), None)
     if begin is None:
         return None
     first = next((k for k in range(begin + 1, position) if tokens[k].text == ";" and k + 1 < position
                   and tokens[k + 1].text != "var"), begin)
     return Report("`var` stands before the first equation", "move this line up, to after `begin`.", GRAMMAR) \
-        .note("This is the first equation.", stop.source.text.span(tokens[first + 1].start, tokens[first + 1].end))
+        .note("This is the first equation.", stop.source.text.span(tokens[first + 1].start, tokens[first + 1].end)) \
+        .by(*moved(stop, tokens[begin].end, "\n  {}"))
+
+
+def moved_begin(stop):
+    """The edits by which the next `begin` comes before a token."""
+    begin = next((token for token in stop.tokens()[stop.position:] if token.text in ("begin", "func")), None)
+    if begin is None or begin.text != "begin":
+        return []
+    text = stop.source.text
+    return [text.edit(stop.token.start, stop.token.start, "begin\n"), text.edit(begin.start, begin.end, "")]
+
+
+def moved(stop, to, shape):
+    """The edits by which what begins with a token and ends with `;` stands elsewhere; none where it has no end."""
+    end = next((token.end for token in stop.tokens()[stop.position:] if token.text in (";", "end")), None)
+    said = stop.source.text.chars[stop.token.start:end]
+    if end is None or not said.endswith(";"):
+        return []
+    text = stop.source.text
+    return [text.edit(to, to, shape.format(text.data[stop.token.start:end].decode(errors="replace"))), text.edit(stop.token.start, end, "")]
 
 
 def other_declaration(stop):
@@ -382,7 +403,9 @@ def other_declaration(stop):
 
 def table_inside(stop):
     if stop.is_at("const") and stop.is_item():
-        return Report("a table is declared outside of the functions", "move this line up, to before `func`.", DECLARATIONS)
+        func = next(token for token in reversed(stop.tokens()[:stop.position]) if token.text == "func")
+        return Report("a table is declared outside of the functions", "move this line up, to before `func`.", DECLARATIONS) \
+            .by(*moved(stop, func.start, "{}\n"))
     return None
 
 
@@ -549,6 +572,12 @@ def bodiless_loop(stop):
     return None
 
 
+def no_call(stop, name, span):
+    """The report on brackets after a name that is no function's."""
+    return Report(f"`{name}(..)` would be a call, and no function is called `{name}`",
+                  f"write `{name}@..` for the word of some samples ago, or `{name} * (..)` for a product.", language("Functions"), span)
+
+
 def is_function(tokens, name):
     """Whether a source declares a function of a name."""
     return any(token.text == "func" and after.text == name for token, after in zip(tokens, tokens[1:]))
@@ -557,14 +586,15 @@ def is_function(tokens, name):
 def call_inside(stop):
     token, before = stop.token, stop.before
     if stop.is_at("(") and before and before.kind == "name" and not is_function(stop.tokens(), before.text):
-        return Report(f"`{before.text}(..)` would be a call, and no function is called `{before.text}`",
-                      f"write `{before.text}@..` for the word of some samples ago, or `{before.text} * (..)` for a product.",
-                      language("Functions"), stop.span(-1, 0))
+        return no_call(stop, before.text, stop.span(-1, 0))
     if stop.is_at("(") and before and before.kind == "name":
         return Report(f"a call stands by itself on the right of `=`, and `{before.text}(..)` is inside an expression",
                       f"define a signal by the call, as `t = {before.text}(..);`, and write `t` here. Where no call is meant, "
                       f"write `*` for a product.", language("Functions"), stop.span(-1, 0))
     if token and stop.is_after(")") and stop.wanted == "`;`" and token.text in OPERATORS:
+        first = next((k for k in range(-1, -stop.position - 1, -1) if stop.ahead(k) == "="), -1) + 1
+        if first < -1 and not is_function(stop.tokens(), stop.ahead(first)):
+            return no_call(stop, stop.ahead(first), stop.span(first, -1))
         return Report("a call stands by itself on the right of `=`, and an operator follows it",
                       "define a signal by the call, as `t = ..;`, and write the expression with `t` in an equation of its own.",
                       language("Functions"))

@@ -68,7 +68,8 @@ def other_result(source, fault, shown):
     decl = source.decl(source.function_at(fault.node.at), fault.node.name)
     below = f"{own}(t)" if fault.found.width and fault.wanted.type.width else \
         "t != 0" if fault.found.width is None else number_for("t", fault.found)
-    return Report(f"`{shown}` is {type_text(fault.found)}, and the result has {type_text(fault.wanted.type)}",
+    verb = "is" if fault.wanted.type.width is None else "has"
+    return Report(f"`{shown}` is {type_text(fault.found)}, and the result {verb} {type_text(fault.wanted.type)}",
                   f"declare `{fault.node.name}` as `{wanted}`; or declare a signal of this type, as `t`, write it here, and below "
                   f"`{shown} = {below};`.", language("The typing table")) \
         .note(f"`{decl.name}` is declared `{decl.type.text}` here.", source.name_span(decl))

@@ -56,7 +56,9 @@ def cure_of(said):
     """The edits of a cure in words."""
     words = []
     for cure in said["cure"]:
-        if "words" in cure:
+        if "run" in cure:
+            words.append(f"`{cure['run']}`")
+        elif "words" in cure:
             words.append(f"`silc {' '.join(cure['words'])}`")
         elif "old" in cure:
             words.append(f"in `{cure['file']}`, {quoted(cure['new'])} in the place of {quoted(cure['old'])}" if cure["new"].strip()
