@@ -8,6 +8,8 @@ from explaining.text import KEPT_FOR_LATER, RESERVED, tokens_of
 
 # The end of a body, as its tokens. What closes something stands directly after what is before it.
 END, CLOSING = "end ;", (";", ",", ")", "]", ">", ");")
+# Symbols that may be one with what follows them.
+GLUED = ("->", "<", ">", ":", "=", "|", "||", "-")
 # The tokens that are tried for what the grammar wants, where it is not a token; the first that is in the words.
 FILLS = {"`||` and the value in the other case": "|| 0", "`->` and the value": "-> 0", "`:` and the type": ": fix<16,15>",
          "`,` and the bits after the point": ", 15", "an expression": "0", "a number": "0", "the number of elements": "1",
@@ -37,16 +39,19 @@ def edit_for(source, position, wanted):
     """The cure for a token where something else is wanted, in words and as edits, or nothing where no edit is good enough."""
     tokens = source.tokens
     first = next((k for k in range(position - 1, -1, -1) if tokens[k].text in ("func", "const")), None)
-    if first is None or position - first > FAR:
+    first = 0 if first is None else first
+    if position - first > FAR:
         return None
     window = tokens[first:position + AHEAD]
     at, is_all = position - first, position + AHEAD >= len(tokens)
-    is_first = position == len(tokens) or source.line(tokens[position].start) > source.line(tokens[position - 1].start)
+    is_first = position in (0, len(tokens)) or source.line(tokens[position].start) > source.line(tokens[position - 1].start)
     # An edit that does not bring the program to the end of this equation says nothing.
-    best, reached = None, next((k for k in range(at, len(window)) if window[k].text == ";"), len(window)) - 1
+    best, reached = None, at
     for trial in trials(window, at, wanted, is_first):
         goes = goes_to(trial.tokens, is_all) + trial.removed - trial.added
-        if goes > reached:
+        first_kept = at + (trial.removed and not trial.is_before)
+        end = next((k for k in range(first_kept, len(window)) if window[k].text == ";"), len(window) - 1)
+        if goes > max(reached, end):
             best, reached = trial, goes
     return best and (best.cure, [made_edit(source, position, best)] if best.is_sure else [])
 
@@ -103,10 +108,11 @@ def made_edit(source, position, trial):
     if trial.removed:
         token = tokens[position - trial.is_before]
         return source.text.edit(token.start, token.end, text)
-    place = tokens[position - 1].end
-    is_joined = position < len(tokens) and tokens[position].start == place
-    lead = "" if text in CLOSING else "\n" if text == "end;" else " "
-    return source.text.edit(place, place, lead + text + (" " if is_joined else ""))
+    place = tokens[position - 1].end if position else 0
+    rest = source.text.chars[place:place + 1]
+    lead = "" if text in CLOSING or not position else "\n" if text == "end;" else " "
+    # What follows directly may be one token with it.
+    return source.text.edit(place, place, lead + text + (" " if rest.isalnum() or rest == "_" or text in GLUED else ""))
 
 
 def fills(wanted):

@@ -238,12 +238,21 @@ class Judge:
         if key == "ram" and self.unit_names("ram"):
             return f'ram = "{self.unit_names("ram")[0]}"'
         if key == "name":
+            if self.place[0] == "unit" and (lacking := self.lacking_name()):
+                return f'name = "{lacking}"'
             taken = {table.get("name") for table in self.tree[self.place[0]] if isinstance(table, dict)}
             return next(f'name = "{name}"' for number in range(self.place[1], 99) if (name := f"{self.place[0]}{number}") not in taken)
         if key == "from" and self.unit_names():
             return f'from = ["{self.unit_names()[0]}"]'
         ports = [name for name in self.unit_names() if PORTS.get(kind_of(self.units[name]), 0)]
         return f'to = ["{ports[0]}.0"]' if key == "to" and ports else EXAMPLE[key]
+
+    def lacking_name(self):
+        """The one name that buses have and that no unit has; nothing where there are several or none."""
+        buses = [bus for bus in self.tree.get("bus", []) if isinstance(bus, dict)]
+        ends = [str(end).partition(".")[0] for bus in buses for key in ("from", "to") for end in bus.get(key, [])]
+        lacking = {name for name in ends if name not in self.units and NAME.fullmatch(name)}
+        return lacking.pop() if len(lacking) == 1 else None
 
     def missing_key(self):
         key = next(key for key in self.required() if key not in self.table)

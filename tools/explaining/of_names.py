@@ -248,7 +248,8 @@ def written_function(source, call):
     """The report on a function of other languages, which is written here by a choice."""
     names, text = WRITTEN[call.name]
     report = Report(f"no function is called `{call.name}`", f"write `{text}` with your signals.", language("Conditionals"))
-    if len(call.parts) != len(names) or any(part.kind != "read" for part in call.parts):
+    kinds = {part.kind for part in call.parts}
+    if len(call.parts) != len(names) or "read" not in kinds or not kinds <= {"read", "number"}:
         return report
     given = dict(zip(names, map(source.shown, call.parts)))
     written = re.sub(r"\b[abx]\b", lambda found: given[found[0]], text)

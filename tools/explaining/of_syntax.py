@@ -17,6 +17,7 @@ LONGEST_NUMBER, DEEPEST = 18, 256
 OTHERS = {"then": ("a condition is followed by `->`", "write `->`"), "else": ("the other case begins with `||`", "write `||`"),
           "and": ("`and` is no operator", "write `&`"), "or": ("`or` is no operator", "write `|`"),
           "not": ("`not` is no operator", "write `!`"), "for": ("there is no `for`", "write `(i : 0 .. 3) :: begin .. end;`"),
+          "while": ("there is no `while`", "write `(i : 0 .. 3) :: begin .. end;`"),
           "return": ("nothing is returned", "define the result by an equation, as `y = ..;`")}
 # Names of types elsewhere, with the type that is likely to be meant.
 TYPES = {"int": "fix<16,0>", "integer": "fix<16,0>", "short": "fix<16,0>", "float": "fix<16,15>", "double": "fix<16,15>",
@@ -38,11 +39,12 @@ CURES = {
     "#": ("a comment begins with `/*` and ends with `*/`", "write `/* .. */`.", "Text"),
     "{": ("a body stands between `begin` and `end;`", "write `begin`.", "Grammar"),
     "}": ("a body stands between `begin` and `end;`", "write `end;`.", "Grammar"),
+    "~": ("`not` is `!`, and there are no operations on the bits of a word", "write `!`.", "Equations"),
     "?": ("a choice is `if .. -> .. || .. fi`", "write `if condition -> value || other fi`.", "Conditionals"),
 }
 
 
-WRITTEN = {"{": "begin", "}": "end;"}
+WRITTEN = {"{": "begin", "}": "end;", "~": "!"}
 
 
 def report_of(source, kind, at):
@@ -70,6 +72,10 @@ def bad_byte(source, at):
         return words_of_table(char, text.span(at))
     if char == "/":
         return division(source, at)
+    if char == "?":
+        return question_mark(text, at)
+    if char == "%" and (not before or before[-1].text in (";", "begin")):
+        return line_comment(text, at, "%", "a comment begins with `/*` and ends with `*/`")
     if char == "#":
         return line_comment(text, at, "#", CURES[char][0])
     if char in CURES:
@@ -77,6 +83,20 @@ def bad_byte(source, at):
         report = Report(short, cure, language(section), text.span(at))
         return report.by(text.edit(at, at + 1, WRITTEN[char])) if char in WRITTEN else report
     return other_character(source, at)
+
+
+def question_mark(text, at):
+    """The report on a choice `condition ? value : other`, which is written as a choice of this language where it is simple."""
+    short, cure, section = CURES["?"]
+    line = text.starts[text.line_of(at) - 1]
+    before = re.search(r"(?<![=<>!])=(?!=)\s*([^?;:]+)$", text.chars[line:at])
+    after = re.match(r"\?([^?;:]+):([^?;:]+);", text.chars[at:])
+    if not (before and after):
+        return Report(short, cure, language(section), text.span(at))
+    condition, value, other = (" ".join(part.split()) for part in (before[1], after[1], after[2]))
+    written = f"if {condition} -> {value} || {other} fi"
+    return Report(short, f"write `{written}`.", language(section), text.span(at)) \
+        .by(text.edit(line + before.start(1), at + after.end() - 1, written))
 
 
 def line_comment(text, at, mark, short):
@@ -169,6 +189,10 @@ def bad_number(source, at):
         return with_power(source, at, power[0], short)
     if re.fullmatch(r"[fFlLuU]+|[A-Za-z_]\w*\..*", rest):
         return Report(short, f"write `{found[0]}`." if len(rest) < 4 else "write a blank or an operator between them.", TEXT, span)
+    if re.fullmatch(r"(_\d+)+", rest):
+        written = word.replace("_", "")
+        return Report("a number has digits, and no `_` between them", f"write `{written}`.", TEXT, span) \
+            .by(source.text.edit(at, at + len(word), written))
     if rest in RESERVED:
         return Report(short, f"write a blank between them, as `{found[0]} {rest}`.", TEXT, span)
     cure = f"write a blank or an operator between them, as `{found[0]} * {rest}`."
@@ -280,6 +304,20 @@ def missing_semicolon(stop):
         .by(stop.source.text.edit(stop.before.end, stop.before.end, ";"))
 
 
+def type_first(stop):
+    """A type before the name that it is for: `fix<16,15> x`."""
+    if not (stop.is_at("fix", "bool") and stop.wanted == "a name"):
+        return None
+    last = 0 if stop.is_at("bool") else next((k for k in range(1, 9) if stop.ahead(k) == ">"), None)
+    position = stop.position + (last or 0) + 1
+    if last is None or position >= len(stop.tokens()) or stop.tokens()[position].kind != "name":
+        return None
+    of = stop.source.text.chars[stop.token.start:stop.tokens()[position - 1].end]
+    written = f"{stop.tokens()[position].text} : {of}"
+    return Report("a name comes before its type", f"write `{written}`.", DECLARATIONS, stop.span(0, last + 1)) \
+        .by(stop.edit(0, last + 1, written))
+
+
 def kept_word(stop):
     token = stop.token
     if stop.is_at("=") and stop.is_after("end"):
@@ -296,6 +334,9 @@ def other_word(stop):
     """A word of another language, which is a name here."""
     for token, by in ((stop.token, 0), (stop.before, -1)):
         is_there = by == 0 or stop.is_equals() or token and token.text == "not"
+        if stop.is_at("else") and stop.ahead() == "if":
+            return Report("the next case begins with `||`", "write `||` in the place of `else if`.", CONDITIONALS, stop.span(0, 1)) \
+                .by(stop.edit(0, 1, "||"))
         if token and token.text in OTHERS and token.kind == "name" and is_there:
             short, cure = OTHERS[token.text]
             report = Report(short, f"{cure} in the place of `{token.text}`.",
@@ -390,10 +431,18 @@ def moved(stop, to, shape):
 
 
 def other_declaration(stop):
-    """A declaration that begins with the type of another language: `int t : ..`."""
+    """A declaration without `var`, or with the type of another language: `int t : ..`; an equation after a word too many."""
     token, before = stop.token, stop.before
-    if not (stop.is_equals() and token and token.kind == "name" and before.kind == "name" and stop.ahead(-2) in (";", "begin")):
+    if not (stop.is_equals() and token and before.kind == "name" and stop.ahead(-2) in (";", "begin")):
         return None
+    if stop.is_at(":") and stop.ahead() in ("fix", "bool"):
+        return Report("a declaration begins with `var`", f"write `var` before `{before.text}`.", DECLARATIONS, stop.span(-1, -1)) \
+            .by(stop.source.text.edit(before.start, before.start, "var "))
+    if token.kind != "name":
+        return None
+    if stop.ahead() in ("=", "@@"):
+        return Report("an equation begins with the signal that it defines", f"take `{before.text}` away.", language("Equations"),
+                      stop.span(-1, -1)).by(stop.source.text.edit(before.start, token.start, ""))
     end = next((k for k in range(1, 64) if stop.ahead(k) in (";", "=", ":", "")), 64)
     if stop.ahead(end) != ":":
         return None
@@ -413,8 +462,11 @@ def valued_var(stop):
     """A value where a signal is declared."""
     tokens = stop.tokens()
     head = next((k for k in range(stop.position - 1, -1, -1) if tokens[k].text in (";", "begin")), None)
-    if not stop.is_at("=") or stop.wanted != "`;`" or head is None or tokens[head + 1].text != "var":
+    if not stop.is_at("=") or head is None or tokens[head + 1].text != "var":
         return None
+    if stop.wanted != "`;`":
+        return Report("`var` declares signals with their type, and an equation defines one",
+                      f"write `: fix<16,15>;` here, and below the declarations the equation `{stop.before.text} = ..;`.", DECLARATIONS)
     name = tokens[head + 2].text
     return Report("`var` declares signals, and an equation defines one",
                   f"write `;` here, and below the declarations the equation `{name} = ..;`.", DECLARATIONS)
@@ -466,6 +518,53 @@ def no_parameter(stop):
         return Report("a function has one parameter or more", "write one, as `x : fix<16,15>`.", language("Functions"))
     if stop.wanted == "an expression" and stop.ahead(-2) not in ("(", "="):
         return Report("a call has an argument for each parameter", "write the arguments.", language("Functions"))
+    return None
+
+
+def other_type_part(stop):
+    """What is wrong inside a type, or in a cast."""
+    token, before = stop.token, stop.before
+    rule = language("Words and types")
+    if stop.wanted.startswith("a type `fix"):
+        return Report("a table has numbers, and no truth values", "take the table away, and write `true` or `false` where it is read.",
+                      DECLARATIONS)
+    found = re.fullmatch(r"(\d+)\.(\d+)", token.text) if token else None
+    if found and stop.wanted == "the bits of a word" and stop.ahead() == ">":
+        written = f"{found[1]},{found[2]}"
+        return Report("the two numbers of a type have a comma between them", f"write `{written}`.", rule).by(stop.edit(0, 0, written))
+    if stop.is_at("-") and stop.wanted in ("the bits of a word", "the bits after the point"):
+        return Report("the numbers of a type have no sign", "write a number from 0 to the bits of the word.", rule)
+    if stop.is_at("round", "sat", "trunc") and stop.wanted == "an expression":
+        return Report(f"`{token.text}` is a mode, and stands in a type", f"write a cast, as `fix<16,15,{token.text}>(x)`.", rule)
+    if stop.wanted != "`(`" or not stop.is_after(">") or token is None:
+        return None
+    short = "the expression of a cast stands in parentheses"
+    if token.kind in ("name", "number") and stop.ahead() in (";", ")", "||", "->", "fi", *OPERATORS):
+        return Report(short, f"write `({token.text})`.", language("Products and casts")).by(stop.edit(0, 0, f"({token.text})"))
+    return Report(short, "write them around it, as `fix<16,15>(x)`.", language("Products and casts"))
+
+
+def decimal_comma(stop):
+    """A number with a comma for its point."""
+    if not (stop.is_at(",") and "operator" in stop.wanted and stop.before and stop.before.text.isdecimal()):
+        return None
+    position = stop.position + 1
+    after = stop.tokens()[position] if position < len(stop.tokens()) else None
+    if after is None or not after.text.isdecimal() or (stop.before.end, stop.token.end) != (stop.token.start, after.start):
+        return None
+    written = f"{stop.before.text}.{after.text}"
+    return Report("a number has a point, and no comma", f"write `{written}`.", TEXT, stop.span(-1, 1)).by(stop.edit(-1, 1, written))
+
+
+def other_head(stop):
+    """The head of a function in another language."""
+    if stop.wanted == "a name" and stop.is_at("->") and stop.is_after(")"):
+        return Report("the results follow the parameters directly", "take `->` away.", language("Functions")).by(stop.edit(0, 0, ""))
+    is_head = stop.wanted == "`const` or `func`" and stop.token and stop.token.kind == "name"
+    position = stop.position + 1
+    if is_head and stop.ahead(2) == "(" and stop.tokens()[position].kind == "name":
+        return Report("a function begins with `func`", f"write `func` in the place of `{stop.token.text}`.", language("Functions")) \
+            .by(stop.edit(0, 0, "func"))
     return None
 
 
@@ -529,6 +628,10 @@ def chained_comparison(stop):
 def doubled(stop):
     if stop.is_at("&") and stop.is_after("&"):
         return Report("`and` is `&`", "write `&` in the place of `&&`.", GRAMMAR, stop.span(-1, 0)).by(stop.edit(-1, 0, "&"))
+    if stop.is_at(">", "<") and stop.is_after(stop.token.text * 2) and "whole number" in stop.wanted:
+        shift = stop.before.text
+        return Report(f"a shift is `{shift}`, which keeps the sign" if shift == ">>" else f"a shift is `{shift}`", f"write `{shift}`.",
+                      language("Equations"), stop.span(-1, 0)).by(stop.edit(-1, 0, shift))
     if stop.is_at("*") and stop.is_after("*"):
         return Report("there is no power", "write a product, as `x * x`.", language("Equations"), stop.span(-1, 0))
     if stop.is_at("||") and "`||`" not in stop.wanted and "operator" in stop.wanted:
@@ -551,6 +654,14 @@ def updated(stop):
     return report.by(stop.edit(0, 1, f"= {name}@1 +")) if sign == "+" else report
 
 
+def no_target(stop):
+    """An expression that defines nothing."""
+    if stop.token and stop.token.text in ("+", "-", "*", "<<", ">>", "&", "|") and stop.is_equals():
+        return Report("an equation begins with the signal that it defines, and with `=`",
+                      "write the signal and `=` before it, as `y = ..;`, or take it away.", language("Equations"))
+    return None
+
+
 def choice_as_item(stop):
     if stop.is_at("if") and stop.is_item():
         return Report("an `if` gives a word, and stands on the right of `=`", "write `y = if condition -> value || other fi;`.",
@@ -559,6 +670,12 @@ def choice_as_item(stop):
 
 
 def bare_results(stop):
+    if stop.wanted == "`(`" and [stop.ahead(k) for k in (-3, -2)] == [")", "="] and stop.before.kind == "name":
+        return Report("several places are defined by a call", "write `(p, q) = f(..);`, or an equation for each, as `p = ..;`.",
+                      language("Functions"))
+    if stop.is_at(",") and stop.is_equals() and stop.is_after(">", "bool"):
+        return Report("several results stand in parentheses", "write `( .. )` around them, as `(p : fix<16,15>, q : bool)`.",
+                      language("Functions"))
     if stop.is_at(",") and stop.is_equals():
         return Report("the places of several results stand in parentheses", "write `( .. )` around them, as `(p, q) = f(..);`.",
                       language("Functions"))
@@ -574,6 +691,9 @@ def bodiless_loop(stop):
 
 def no_call(stop, name, span):
     """The report on brackets after a name that is no function's."""
+    if stop.is_equals():
+        return Report(f"`{name}(..)` is no signal", f"write `{name}` alone: an equation defines the word of this sample.",
+                      language("Equations"), span)
     return Report(f"`{name}(..)` would be a call, and no function is called `{name}`",
                   f"write `{name}@..` for the word of some samples ago, or `{name} * (..)` for a product.", language("Functions"), span)
 
@@ -615,9 +735,10 @@ def assigned(stop):
 
 
 # The mistakes that are likely, the likelier first.
-RULES = (kept_word, other_word, other_type, two_modes, other_mode, late_var, other_declaration, table_inside, valued_var, untyped_table, table_words,
+RULES = (type_first, kept_word, other_word, other_type, other_type_part, two_modes, other_mode, late_var, other_declaration,
+         other_head, decimal_comma, table_inside, valued_var, untyped_table, table_words,
          named_dim, no_parameter, delayed_sum, delayed_target, signed_amount, subscript_in_number, lone_equals, doubled,
-         chained_comparison, updated, choice_as_item, bare_results, bodiless_loop, call_inside, glued, assigned, missing_semicolon)
+         chained_comparison, updated, no_target, choice_as_item, bare_results, bodiless_loop, call_inside, glued, assigned, missing_semicolon)
 
 
 def too_deep(source, position):

@@ -1,10 +1,13 @@
 """Why the type of an expression is refused."""
+from decimal import Decimal
+
 from explaining.grammar import Type
 from explaining.refusals import language
 from explaining.report import Report
 from explaining.typing_rules import LITERAL, MISMATCH, MOST_BITS, NEEDS_CAST, NOT_BOOL, Typing, fits, range_of
 
 
+MOST_DIGITS = 18
 WIDEST = Type(MOST_BITS, 0, "", 0, 0)
 
 
@@ -177,6 +180,15 @@ def type_for(numbers):
     return next((of for shape in shapes if all(fits(number, of := Type(*shape, "", 0, 0)) for number in numbers)), None)
 
 
+def product_of(node):
+    """The product of two numbers, as a number that may be written; nothing for another expression."""
+    if node.kind != "product" or any(part.kind != "number" for part in node.parts):
+        return None
+    text = format(Decimal(node.parts[0].value) * Decimal(node.parts[1].value), "f")
+    text = text.rstrip("0").rstrip(".") if "." in text else text
+    return text if sum(map(str.isdigit, text)) <= MOST_DIGITS else None
+
+
 def without_brackets(text):
     """A text without the brackets that are around all of it."""
     depth = 0
@@ -195,6 +207,11 @@ def needs_cast(source, fault):
     if choice:
         return Report(f"`{source.shown(bare)}` has truth values where numbers are wanted", f"write `{choice}`.",
                       language("The typing table"), source.node_span(bare)).by(source.text.edit(bare.start, bare.end, choice))
+    number = product_of(bare) if node.kind == "product" else None
+    if number:
+        return Report(f"`{source.shown(bare)}` has no type of its own, and a factor needs one",
+                      f"write `{number}`, which is a number and takes the type of the other factor.", language("Products and casts"),
+                      source.node_span(bare)).by(source.text.edit(bare.start, bare.end, number))
     inner = without_brackets(source.shown(bare))
     of = next((found for part in [*node.parts, *bare.parts] if (found := typing.own(part)) and found.width), None)
     name = bare_type(of or type_for(numbers_in(node)) or WIDEST)
