@@ -17,7 +17,9 @@ TITLES = {1: "Memory", 2: "Words", 3: "Files", 4: "Sources", 5: "Datapath files"
           10: "Microcode", 11: "Samples", 12: "Conflicts"}
 # A line of a file as it is shown, and the place before what is wrong.
 SHOWN = re.compile(r" *\d* \| ")
-PLACED = r"(?:[\w./-]+(?::\d+)*: )?"
+PLACED = r"(?:[\w./\\-]+(?::\d+)*: )?"
+# What stands for the folder of a case in its text, and the folder that the page shows.
+ROOM, SHOWN_ROOM = "ROOM", "/home/user/filters"
 UNSHOWN = {"no memory": "how much memory there is depends on the machine", "samples too long": "its file would have 4 GiB"}
 
 
@@ -25,7 +27,7 @@ class Example:
     """A case: what it is and what is said of it."""
 
     def __init__(self, folder):
-        self.name, self.text = folder.name, (folder / "stderr.txt").read_text()
+        self.name, self.text = folder.name, (folder / "stderr.txt").read_text().replace(ROOM, SHOWN_ROOM)
         self.said = tomllib.loads((folder / "case.toml").read_text())
         lines = self.text.splitlines()
         said = next((number for number, line in enumerate(lines) if refusal_of(line)), 0)
