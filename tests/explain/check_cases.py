@@ -6,13 +6,13 @@ usage: tests/explain/check_cases.py [NAME ..]             the cases with these w
 
 A case is a folder with the files of a command, `case.toml` and `stderr.txt`, the whole text that is expected. In
 `case.toml` are `words`, the `code` with which the command ends, and `cure`: edits of files, each with `file`, `old` and
-`new`, a command to `run`, or other `words`. After the cure the command is done, or it ends with the line `then`. Where the tool tells the cure
-as edits, these are applied too, to the files as they were: the command is then done, or meets another fault. Further keys:
-`options` of the tool; `large`, files that are filled up with a text to a size; `links` and `folders`; `closed`, names that no
-one has a right to, and `kept`, folders in which no one may make files; `before`, commands of silc that run first;
-`without_show`, where it is tried as if `silc_show` were not built; `example`, at the case of a refusal that docs/ERRORS.md
-shows whole. ROOM in the text stands for the folder in which the command runs, and a name in the words with `\\x` in it for
-one with such bytes.
+`new`, a command to `run`, or other `words`. After the cure the command is done, or it ends with the line `then`. Where the
+tool tells the cure as edits, these are applied too, to the files as they were: the command is then done, or meets another
+fault. Further keys: `options` of the tool; `large`, files that are filled up with a text to a size; `links` and `folders`;
+`closed`, names that no one has a right to, and `kept`, folders in which no one may make files; `before`, commands of silc
+that run first; `without_show`, where it is tried as if `silc_show` were not built; `example`, at the case of a refusal that
+docs/ERRORS.md shows whole. ROOM in the text stands for the folder in which the command runs, and a name in the words with
+`\\x` in it for one with such bytes.
 
 Without a name it compares docs/ERRORS.md too. It runs the built `silc` and `silc_show`, or those that `SILC` and `SILC_SHOW` name.
 """
@@ -79,7 +79,8 @@ def named(word):
 
 
 def ran(program, words, room, lead=(), show=SHOW):
-    return subprocess.run([*lead, program, *map(named, words)], cwd=room, stdin=subprocess.DEVNULL, capture_output=True, text=True,
+    return subprocess.run([*lead, program, *map(named, words)], cwd=room, stdin=subprocess.DEVNULL, capture_output=True,
+                          text=True,
                           timeout=SECONDS, env=os.environ | {"SILC": str(SILC), "SILC_SHOW": str(show), "LANG": "C.UTF-8"})
 
 
@@ -147,7 +148,8 @@ def edits_compared(case, said, edits, told):
         room = Path(folder)
         prepare(case, said, room)
         for name in {edit[1] for edit in edits}:
-            (room / name).write_bytes(edited((room / name).read_bytes().decode(), [edit for edit in edits if edit[1] == name]).encode())
+            (room / name).write_bytes(edited((room / name).read_bytes().decode(),
+                                             [edit for edit in edits if edit[1] == name]).encode())
         done = ran(SILC, said["words"], room)
     first = next(line for line in told if line.startswith("silc: ")).strip()
     if done.returncode and done.stderr.strip() in (first, ""):
@@ -222,7 +224,8 @@ def main(words):
             if faults:
                 print("\n".join([f"{case.name}:", *faults]), flush=True)
     print(f"explain: {len(cases) - failed - skipped} of {len(cases)} cases as expected, {failed} failed, {skipped} left out")
-    if not names and subprocess.run([EXPLAIN, "--page"], capture_output=True, text=True, check=True).stdout != PAGE.read_text():
+    if not names and subprocess.run([EXPLAIN, "--page"], capture_output=True, text=True,
+                                    check=True).stdout != PAGE.read_text():
         failed += 1
         print("docs/ERRORS.md is not what `tools/explain --page` prints; write it anew: tools/explain --page > docs/ERRORS.md")
     for fault in lost_rules() if not names else ():

@@ -106,28 +106,48 @@ SAMPLES = "1,2,0\n-5,300,1\n32767,-32768,0\n"
 FILES = {"SRC": SOURCE, "DP": DATAPATH, "SAMPLES": SAMPLES}
 # What is written elsewhere, as a pattern and what stands in its place.
 ELSEWHERE = {
-    "SRC": [("->", "then"), (r"\|\|", "else"), ("==", "="), (" & ", " && "), (r" \| ", " || "), ("!", "not "), (";", ""), (":", "="),
+    "SRC": [("->", "then"), (r"\|\|", "else"), ("==", "="), (" & ", " && "), (r" \| ", " || "), ("!", "not "), (";", ""),
+            (":", "="),
             ("@", "@-"), (r"@(\d)", r"[n-\1]"), ("= ", ":= "), ("= ", "== "), ("fix<16,15>", "int"), ("fix<16,15>", "float"),
-            ("bool", "boolean"), (r"0\.25", ".25"), (r"0\.5", "5e-1"), ("1", "0x1"), ("1", "1."), ("0.25", "2.5"), ("/\\*", "//"),
-            (r"\*/", ""), (">> 1", "/ 2"), (r"\* gain", "/ 4"), ("begin", "{"), ("end;", "}"), ("end;", "end"), ("round", "rnd"),
-            ("sat", "saturate"), ("round", "round,trunc"), ("round", "sat,round"), (" > ", " => "), (" < ", " <> "), (" - ", " \u2212 "),
-            (r"(\w+)@1", r"\g<1>1"), (r"x@", "x"), ("fi;", ";"), ("var", "int"), ("func", "def"), ("main", "Main"), ("begin", ""),
-            (r"\.\.", "to"), ("::", ":"), ("::", ""), ("@@", "@"), ("true", "1"), ("loud ->", "x ->"), ("y = ", "y += "), (r"\(i", "for (i"),
+            ("bool", "boolean"), (r"0\.25", ".25"), (r"0\.5", "5e-1"), ("1", "0x1"), ("1", "1."), ("0.25", "2.5"),
+            ("/\\*", "//"),
+            (r"\*/", ""), (">> 1", "/ 2"), (r"\* gain", "/ 4"), ("begin", "{"), ("end;", "}"), ("end;", "end"),
+            ("round", "rnd"),
+            ("sat", "saturate"), ("round", "round,trunc"), ("round", "sat,round"), (" > ", " => "), (" < ", " <> "),
+            (" - ", " \u2212 "),
+            (r"(\w+)@1", r"\g<1>1"), (r"x@", "x"), ("fi;", ";"), ("var", "int"), ("func", "def"), ("main", "Main"),
+            ("begin", ""),
+            (r"\.\.", "to"), ("::", ":"), ("::", ""), ("@@", "@"), ("true", "1"), ("loud ->", "x ->"), ("y = ", "y += "),
+            (r"\(i", "for (i"),
             ("fix<16,15>", "fix<16,17>"), ("fix<16,15>", "fix<48,15>"), ("fix<24,20>", "fix<8,7>"), ("fix<16,15>", "bool"),
-            ("const gain", "const gain[1]"), (r"taps\[3\]", "taps[4]"), (r"\[0\]", "[3]"), (r"\[i\]", ""), ("gain;", "gain[0];"),
-            ("state@1", "state"), ("half\\(state\\)", "half(state, x)"), ("half\\(state\\)", "abs(state)"), ("> level", "> on"),
-            ("loud = on", "loud = x"), ("on &", "on *"), ("x \\* state", "x * on"), ("state > level", "state * level"), ("1\\.5", "9000"),
-            ("i \\+ 1", "i + 1000000000 * 9"), ("@1", "@2000"), (">> 1", ">> 40"), ("line\\[i\\] =", "line[0] ="), ("slow =", "state =")],
-    "DP": [("= ", ": "), ("= ", ""), ('"alu"', '"adder"'), ('"alu"', '"ALU"'), ('"', ""), ("\\[\\[", "["), ("\\]\\]", "]"), ("\n", " "),
-           ("files = \\[(\\d+), ", r"files = [\1] #"), ("files = \\[32, 32\\]", "files = 32"), ("(\\d+)", r'"\1"'), ("(\\d+)", r"\1.0"),
-           ("40", "5000"), ("24", "64"), ("hold = 1", "hold = 4"), ("gap = 1", "gap = 3"), ("gap", "gab"), ("latency", "Latency"),
-           ('"mem"', '"men"'), ("add\\.0", "add.7"), ("add\\.0", "add"), ("add\\.1", "add.0"), ('"add\\.', '"adder.'), ("rom", "add"),
-           ("cells = 64\n", ""), ("ram = \"mem\"\n", ""), ("ram = \"mem\"", "ram = \"add\""), ("name = \"mul\"\n", ""), ("\n", "\r"),
-           ("files", "file"), ("\\[4\\]", "4"), ("\\[8, 8, 8\\]", "[8, 8]"), ("kind = \"rom\"", "kind = \"rom\"\nfiles = [4]"), ("#", "//"),
-           ("period = 40\n", ""), ("\\]\n\n\\[\\[unit", "] // files\n\n[[unit"), ('", "', '" "'), ("cells", "size"), ("word", "width")],
-    "SAMPLES": [(",", ";"), (",", " "), (", ?", ", "), ("\n", ",\n"), ("\n", "\n\n"), ("^", "x,level,on\n"), ("1", "0x1"), ("300", "0.5"),
-                ("300", "1e2"), ("300", "70000"), ("300", "+300"), ("-", "\u2212"), ("^", "\ufeff"), ("\n", "\r"), (",0", ",false"),
-                (",0", ",2"), ("5", "five"), (",1", ""), (",1", ",1,1"), ("300", '"300"'), ("300", ""), ("300", "3_00"), ("\n", " \n")],
+            ("const gain", "const gain[1]"), (r"taps\[3\]", "taps[4]"), (r"\[0\]", "[3]"), (r"\[i\]", ""),
+            ("gain;", "gain[0];"),
+            ("state@1", "state"), ("half\\(state\\)", "half(state, x)"), ("half\\(state\\)", "abs(state)"),
+            ("> level", "> on"),
+            ("loud = on", "loud = x"), ("on &", "on *"), ("x \\* state", "x * on"), ("state > level", "state * level"),
+            ("1\\.5", "9000"),
+            ("i \\+ 1", "i + 1000000000 * 9"), ("@1", "@2000"), (">> 1", ">> 40"), ("line\\[i\\] =", "line[0] ="),
+            ("slow =", "state =")],
+    "DP": [("= ", ": "), ("= ", ""), ('"alu"', '"adder"'), ('"alu"', '"ALU"'), ('"', ""), ("\\[\\[", "["), ("\\]\\]", "]"),
+           ("\n", " "),
+           ("files = \\[(\\d+), ", r"files = [\1] #"), ("files = \\[32, 32\\]", "files = 32"), ("(\\d+)", r'"\1"'),
+           ("(\\d+)", r"\1.0"),
+           ("40", "5000"), ("24", "64"), ("hold = 1", "hold = 4"), ("gap = 1", "gap = 3"), ("gap", "gab"),
+           ("latency", "Latency"),
+           ('"mem"', '"men"'), ("add\\.0", "add.7"), ("add\\.0", "add"), ("add\\.1", "add.0"), ('"add\\.', '"adder.'),
+           ("rom", "add"),
+           ("cells = 64\n", ""), ("ram = \"mem\"\n", ""), ("ram = \"mem\"", "ram = \"add\""), ("name = \"mul\"\n", ""),
+           ("\n", "\r"),
+           ("files", "file"), ("\\[4\\]", "4"), ("\\[8, 8, 8\\]", "[8, 8]"), ("kind = \"rom\"", "kind = \"rom\"\nfiles = [4]"),
+           ("#", "//"),
+           ("period = 40\n", ""), ("\\]\n\n\\[\\[unit", "] // files\n\n[[unit"), ('", "', '" "'), ("cells", "size"),
+           ("word", "width")],
+    "SAMPLES": [(",", ";"), (",", " "), (", ?", ", "), ("\n", ",\n"), ("\n", "\n\n"), ("^", "x,level,on\n"), ("1", "0x1"),
+                ("300", "0.5"),
+                ("300", "1e2"), ("300", "70000"), ("300", "+300"), ("-", "\u2212"), ("^", "\ufeff"), ("\n", "\r"),
+                (",0", ",false"),
+                (",0", ",2"), ("5", "five"), (",1", ""), (",1", ",1,1"), ("300", '"300"'), ("300", ""), ("300", "3_00"),
+                ("\n", " \n")],
 }
 TOKEN = re.compile(r"\w+|\.\.|[-=<>@|:&!]+|\S", re.A)
 
@@ -154,7 +174,8 @@ class Mutant:
     def lines(self):
         """What is told, and what comes then."""
         report = self.report
-        told = [report.short, f"cure: {report.cure}", *(f"{edit.line}:{edit.column}+{edit.length} {edit.text!r}" for edit in report.edits),
+        told = [report.short, f"cure: {report.cure}",
+                *(f"{edit.line}:{edit.column}+{edit.length} {edit.text!r}" for edit in report.edits),
                 self.wrong or (self.then or "taken") * self.is_edited()] if report else [self.wrong]
         return "\n  ".join([f"{self.number} {self.kind}, {self.what}: {self.said}", *told])
 
@@ -163,7 +184,8 @@ def misspelt(rng, word):
     """A name with a letter left out, written twice, in another case, or in the next one's place."""
     place = rng.randrange(len(word))
     swapped = word[:place] + word[place + 1:place + 2] + word[place] + word[place + 2:]
-    return rng.choice([word[:place] + word[place + 1:] or word * 2, word[:place] + word[place] + word[place:], word.upper(), swapped])
+    return rng.choice([word[:place] + word[place + 1:] or word * 2, word[:place] + word[place] + word[place:], word.upper(),
+                       swapped])
 
 
 def mutant(number):
@@ -232,7 +254,8 @@ def tried(made, folder):
     said, then = run(made.kind, folder)
     made.then = said
     kind = re.sub(r"line \d+|byte \d+", "", said)
-    if said and (place is None or tail(folder, made.kind, then) == place) and kind == re.sub(r"line \d+|byte \d+", "", made.said):
+    if said and (place is None or tail(folder, made.kind, then) == place) and kind == re.sub(r"line \d+|byte \d+", "",
+                                                                                             made.said):
         made.wrong = said
     return made
 
@@ -263,7 +286,8 @@ def main(words):
     for made in refused if is_listed else wrong:
         print(made.lines())
     cured = [made for made in refused if made.is_edited()]
-    say(f"{len(refused)} of {count} files are refused, {len(cured)} cures are edits, {sum(not made.then for made in cured)} of the files "
+    whole = sum(not made.then for made in cured)
+    say(f"{len(refused)} of {count} files are refused, {len(cured)} cures are edits, {whole} of the files "
         f"are taken then, and {len(wrong)} cures are wrong")
     return 1 if wrong or not refused else 0
 

@@ -3,10 +3,10 @@
 
 usage: tests/explain/check_plans.py [COUNT [FIRST]]
 
-It makes COUNT datapaths, from number FIRST on, over which one of the sources below has no plan: an ample one with fewer cycles,
-registers, cells, buses or units. The words of each cure are applied to the datapath, `; or ..` as a cure of its own, and the
-edits to the text of its file. Then there has to be a plan, or the answer is the fault that the text has named. Without `COUNT`
-it tries 32 of them in a few seconds. It runs the built `silc` and `silc_show`, or those that `SILC` and `SILC_SHOW` name.
+It makes COUNT datapaths, from number FIRST on, over most of which one of the sources below has no plan: an ample one with
+fewer cycles, registers, cells, buses or units. The words of each cure are applied to the datapath, `; or ..` as a cure of its
+own, and the edits to the text of its file. Then there has to be a plan, or the answer is the fault that the text has named.
+Without `COUNT` it tries 32 of them. It runs the built `silc` and `silc_show`, or those that `SILC` and `SILC_SHOW` name.
 """
 import copy
 import os
@@ -89,7 +89,8 @@ def say(text):
 def ample(rng):
     """A datapath over which each source has a plan, with one to three buses that lead everywhere."""
     tree = tomllib.loads(AMPLE.format(hold=rng.choice((0, 0, 1, 3))))
-    tree["bus"] = [{"name": f"b{number}", "from": list(DRIVERS), "to": list(ENDS)} for number in range(rng.choice((1, 1, 2, 3)))]
+    tree["bus"] = [{"name": f"b{number}", "from": list(DRIVERS), "to": list(ENDS)}
+                   for number in range(rng.choice((1, 1, 2, 3)))]
     return tree
 
 
@@ -101,7 +102,8 @@ def lessen(tree, what, rng):
     elif what == "word":
         tree["word"] = rng.randint(8, 20)
     elif what == "files":
-        tree["unit"] = [unit | {"files": [rng.randint(1, 2) for _ in unit["files"]]} if "files" in unit else unit for unit in units]
+        tree["unit"] = [unit | {"files": [rng.randint(1, 2) for _ in unit["files"]]} if "files" in unit else unit
+                        for unit in units]
     elif what == "cells":
         next(unit for unit in units if unit["kind"] == "ram")["cells"] = rng.randint(1, 6)
     elif what == "unit":
@@ -245,7 +247,8 @@ def main(words):
     wrong = sum(bool(faults) for _, faults, _ in outcomes)
     for kind, times in sorted(kinds.items()):
         say(f"{times} by {kind}")
-    say(f"{len(outcomes)} of {count} datapaths are refused, {sum(edits for *_, edits in outcomes)} cures are edits, {wrong} are wrong")
+    cured = sum(has_edits for *_, has_edits in outcomes)
+    say(f"{len(outcomes)} of {count} datapaths are refused, {cured} cures are edits, {wrong} are wrong")
     return 1 if wrong or not outcomes else 0
 
 

@@ -109,4 +109,5 @@ def explain(words, status, said, silc, datapath=None, is_edited=False):
     if report is None and case.refusal:
         report = case.refusal.report(about="silc")
     if report:
-        print("\n".join([*lines_of(report), *(map(edit_line, report.edits) if is_edited else ())]), file=sys.stderr, flush=True)
+        print("\n".join([*lines_of(report), *(map(edit_line, report.edits) if is_edited else ())]), file=sys.stderr,
+              flush=True)

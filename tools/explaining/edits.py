@@ -70,10 +70,12 @@ def trials(window, at, wanted, is_first):
     for shown, text in tries:
         made, _ = tokens_of(text)
         is_exact = shown == f"`{text.replace(' ;', ';')}`"
-        yield Trial(f"write {shown}" + (f" before `{token}`." if token else "."), window[:at] + made + window[at:], text, 0, len(made),
+        yield Trial(f"write {shown}" + (f" before `{token}`." if token else "."), window[:at] + made + window[at:], text, 0,
+                    len(made),
                     is_sure=is_exact)
         if token:
-            yield Trial(f"write {shown} in the place of `{token}`.", window[:at] + made + rest, text, 1, len(made), is_sure=is_exact)
+            yield Trial(f"write {shown} in the place of `{token}`.", window[:at] + made + rest, text, 1, len(made),
+                        is_sure=is_exact)
     yield from out
 
 
@@ -81,10 +83,12 @@ def misspelt(window, at):
     """The words of the language that a name there, or the one before it, is like."""
     for place in (at - 1, at):
         token = window[place] if 0 <= place < len(window) else None
-        words = difflib.get_close_matches(token.text.lower(), WORDS, 4, ALIKE) if token and token.kind in ("name", "reserved") else ()
+        words = difflib.get_close_matches(token.text.lower(), WORDS, 4,
+                                          ALIKE) if token and token.kind in ("name", "reserved") else ()
         for word in words:
             made, _ = tokens_of(word)
-            yield Trial(f"write `{word}` in the place of `{token.text}`.", window[:place] + made + window[place + 1:], word, 1, 1,
+            yield Trial(f"write `{word}` in the place of `{token.text}`.", window[:place] + made + window[place + 1:], word, 1,
+                        1,
                         is_before=place < at)
 
 

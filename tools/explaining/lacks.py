@@ -60,7 +60,7 @@ class Trial:
         return high, *answer
 
     def registers_for(self, port):
-        """How many registers a full file needs, and those of the other files that are full too; each file is filled by itself."""
+        """How many registers a full file needs, and those of the other files that are full too: each is filled by itself."""
         needs = self.registers(self.tree)
         return needs if needs and port in needs else None
 
@@ -96,7 +96,8 @@ def wider_files(tree, needs):
 
 def registers_in(plan, port):
     """How many registers a plan takes at a port."""
-    return max((1 + max(transfer.registers) for node in plan.nodes for transfer in node.transfers if transfer.file == port), default=0)
+    return max((1 + max(transfer.registers) for node in plan.nodes for transfer in node.transfers if transfer.file == port),
+               default=0)
 
 
 def loads_of(plan, tree):

@@ -15,7 +15,8 @@ UNIT = ("name", "kind", "latency", "gap", "files", "cells", "ram")
 BUS = ("name", "from", "to")
 SECTION = {"top": datapath("The top table"), "unit": datapath("A unit"), "bus": datapath("A bus")}
 NAME = re.compile(r"[A-Za-z0-9_]{1,32}", re.A)
-EXAMPLE = {"period": "period = 16", "word": "word = 16", "name": 'name = "add"', "kind": 'kind = "alu"', "files": "files = [4, 4]",
+EXAMPLE = {"period": "period = 16", "word": "word = 16", "name": 'name = "add"', "kind": 'kind = "alu"',
+           "files": "files = [4, 4]",
            "cells": "cells = 64", "ram": 'ram = "mem"', "from": 'from = ["add"]', "to": 'to = ["add.0"]', "unit": "[[unit]]",
            "bus": "[[bus]]"}
 
@@ -48,7 +49,8 @@ def no_toml(text):
     big = re.search(r"\d[\d_]{18,}", text.chars)
     if big:
         return Report("TOML: a whole number has at most 64 bits", "write a smaller number.", rule, text.span(*big.span()))
-    return Report("the file is no TOML", "look for a CR without LF, or a number of another form than digits.", rule, about=text.name)
+    return Report("the file is no TOML", "look for a CR without LF, or a number of another form than digits.", rule,
+                  about=text.name)
 
 
 def toml_fault(text, said, rule):
@@ -97,11 +99,13 @@ def place_of(text, line, column):
 def after_value(text, at, rule):
     """The report on what follows a value in its line."""
     if text.chars[at] == "\r":
-        return Report("TOML: a line ends with LF or CR LF, and here is a CR alone", "save the file with the ends of lines of Unix.",
+        return Report("TOML: a line ends with LF or CR LF, and here is a CR alone",
+                      "save the file with the ends of lines of Unix.",
                       rule, text.span(at))
     rest = text.chars[at:].partition("\n")[0].rstrip()
     is_comment = rest.startswith(("/", ";", "--", "%")) and len(rest) > 1
-    cure = "write `#` before it: a comment begins with `#`." if is_comment else f"take `{rest}` away, or write it in a line of its own."
+    cure = "write `#` before it: a comment begins with `#`." if is_comment else \
+        f"take `{rest}` away, or write it in a line of its own."
     return Report("TOML: a line has one key and its value, and more stands here", cure, rule, text.span(at, at + len(rest))) \
         .by(*[text.edit(at, at, "# ")] if is_comment else [])
 
@@ -116,7 +120,8 @@ def twice(text, start, line, rule):
                         text.span(place, place + len(single[0]) if single else start + len(line)))
         return report.by(*[text.edit(place, place + len(single[0]), f"[[{table[1]}]]")] if single else [])
     key = (re.match(r"\s*([\w.-]+)\s*=", line) or [None, "this key"])[1]
-    return Report(f"TOML: `{key}` is there twice", "take one of the two away.", rule, text.span(start, start + len(line.rstrip())))
+    return Report(f"TOML: `{key}` is there twice", "take one of the two away.", rule,
+                  text.span(start, start + len(line.rstrip())))
 
 
 def kind_of(unit):
@@ -241,7 +246,8 @@ class Judge:
             if self.place[0] == "unit" and (lacking := self.lacking_name()):
                 return f'name = "{lacking}"'
             taken = {table.get("name") for table in self.tree[self.place[0]] if isinstance(table, dict)}
-            return next(f'name = "{name}"' for number in range(self.place[1], 99) if (name := f"{self.place[0]}{number}") not in taken)
+            return next(f'name = "{name}"' for number in range(self.place[1], 99)
+                        if (name := f"{self.place[0]}{number}") not in taken)
         if key == "from" and self.unit_names():
             return f'from = ["{self.unit_names()[0]}"]'
         ports = [name for name in self.unit_names() if PORTS.get(kind_of(self.units[name]), 0)]
@@ -393,11 +399,13 @@ class Judge:
 
     def bad_kind(self, value, place):
         near = difflib.get_close_matches(value.lower(), PORTS, 1, 0.5)
-        synonyms = {"adder": "alu", "add": "alu", "multiplier": "mul", "mult": "mul", "input": "in", "output": "out", "memory": "ram",
+        synonyms = {"adder": "alu", "add": "alu", "multiplier": "mul", "mult": "mul", "input": "in", "output": "out",
+                    "memory": "ram",
                     "selector": "sel", "mux": "sel", "constant": "rom", "const": "rom", "agu": "acu"}
         kind = synonyms.get(value.lower()) or (near[0] if near else None)
         cure = f'write `kind = "{kind}"`, which does {DONE_BY[kind]}.' if kind else f"write {self.wanted('kind')}."
-        return self.made(f"no kind is called `{value}`", cure, place).by(*self.edits(self.exact("kind") if kind else None, f'"{kind}"')) \
+        return self.made(f"no kind is called `{value}`", cure,
+                         place).by(*self.edits(self.exact("kind") if kind else None, f'"{kind}"')) \
             .note("The kinds are " + listed([f"`{name}` ({what})" for name, what in DONE_BY.items()]) + ".")
 
     def bad_files(self, value, place):
@@ -408,7 +416,8 @@ class Judge:
         if len(value) != ports:
             written = f"[{', '.join(map(str, (value + [4] * ports)[:ports]))}]"
             return self.made(f"{self.title()} has {counted(ports, 'port')}, and `files` {counted(len(value), 'number')}",
-                             f"write one number for each port: `files = {written}`.", place).by(*self.edits(self.exact("files"), written))
+                             f"write one number for each port: `files = {written}`.",
+                             place).by(*self.edits(self.exact("files"), written))
         size = next(size for size in value if not 1 <= size <= 256)
         return self.made(f"a file has 1 to 256 registers, and not {size}", "write a number from 1 to 256.", place)
 
@@ -447,7 +456,8 @@ class Judge:
         place = ("unit", next(number for number, other in enumerate(self.tree["unit"]) if other.get("name") == unit))
         span = self.places.value(place, "name") if (place, "name") in self.places.entries else None
         return self.made(f"no unit is called `{name}`, and none of the buses names the unit `{unit}`",
-                         f"write `name = \"{name}\"` in the place of `name = \"{unit}\"`.", span).by(*self.edits(span, f'"{name}"'))
+                         f"write `name = \"{name}\"` in the place of `name = \"{unit}\"`.",
+                         span).by(*self.edits(span, f'"{name}"'))
 
     def ports(self):
         """The ports of all units, as `add.0`."""
@@ -463,7 +473,8 @@ class Judge:
         near = [lower[unit] for unit in difflib.get_close_matches(name.lower(), lower, 1, 0.4)]
         if near and self.is_misspelt(near[0], name):
             return self.other_name(near[0], name)
-        return self.made(f"no unit is called `{name}`", f"write `{near[0]}`." if near else "write the name of a unit, or take it away.",
+        return self.made(f"no unit is called `{name}`",
+                         f"write `{near[0]}`." if near else "write the name of a unit, or take it away.",
                          self.places.value(self.place, key, item)) \
             .note("The units are " + listed([f"`{unit}`" for unit in self.unit_names()]) + ".") \
             .by(*self.edits(self.exact(key, item), f'"{near[0]}{rest}"') if near else [])
@@ -501,7 +512,8 @@ class Judge:
                                  self.places.value(self.place, key, (1, ends[twice])))
         name = self.table["name"]
         first = next(n for n, other in enumerate(self.tree[kind]) if other.get("name") == name)
-        report = self.made(f"two {'units' if kind == 'unit' else 'buses'} are called `{name}`", "give one of them another name.",
+        report = self.made(f"two {'units' if kind == 'unit' else 'buses'} are called `{name}`",
+                           "give one of them another name.",
                            self.places.value(self.place, "name"))
         span = self.span(self.places.value((kind, first), "name"))
         return report.note("This is the other one.", span) if span else report

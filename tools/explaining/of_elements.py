@@ -49,7 +49,8 @@ def bad_index(source, at):
         value = "out of range"
     shown = source.shown(context.node)
     what = f"`{shown}` is out of range" if context.node.kind == "whole" else f"on the way to `{shown}` there is {value}"
-    report = Report(f"{what}, and a manifest number is -2147483648 to 2147483647", f"write {WHERE[context.role]} in its range.",
+    report = Report(f"{what}, and a manifest number is -2147483648 to 2147483647",
+                    f"write {WHERE[context.role]} in its range.",
                     language("Loops"), source.node_span(context.node))
     return report.note(f"This is the turn with {with_indices(indices)}.") if indices else report
 
@@ -117,7 +118,8 @@ def bad_delay(source, at):
     cure = f"write a number from {least} to {MOST_DELAY}."
     if value is not None and value > MOST_DELAY and not least:
         cure = f"write a number from 0 to {MOST_DELAY}; {longer_delay(plain(source, context.parent), value)}"
-    report = Report(f"{what}, and this is {value}", cure, language("Delays and initial values"), source.node_span(context.node))
+    report = Report(f"{what}, and this is {value}", cure, language("Delays and initial values"),
+                    source.node_span(context.node))
     return turn_note(report, indices, value, source, context.node)
 
 
@@ -126,8 +128,8 @@ def longer_delay(shown, value):
     if value <= 2 * MOST_DELAY:
         return f"a longer delay is made of two, by a signal of its own: `t = {shown}@{MOST_DELAY};` and then " \
                f"`t@{value - MOST_DELAY}`."
-    return f"a longer delay is made of several, each by a signal of its own: `t = {shown}@{MOST_DELAY};`, `u = t@{MOST_DELAY};` " \
-           f"and so on."
+    return f"a longer delay is made of several, each by a signal of its own: `t = {shown}@{MOST_DELAY};`, " \
+           f"`u = t@{MOST_DELAY};` and so on."
 
 
 def plain(source, read):

@@ -13,7 +13,8 @@ INPUTS = ("SRC", "DP", "MIC", "SAMPLES")
 
 def report_of(case):
     if case.status == 1:
-        return Report("there is no memory left", "run it where there is more, or with a smaller source.", COMMANDS_PAGE, about="silc")
+        return Report("there is no memory left", "run it where there is more, or with a smaller source.", COMMANDS_PAGE,
+                      about="silc")
     for what in INPUTS:
         if what in case.files:
             fault = unread(case.files[what])
@@ -80,7 +81,8 @@ def unwritten(name):
     if os.statvfs(folder).f_flag & os.ST_RDONLY:
         return no_output(name, os.strerror(errno.EROFS), "give a name on a disk that may be written.")
     if not os.path.exists(name) and not os.access(folder, os.W_OK):
-        return no_output(name, os.strerror(errno.EACCES), f"give a name in another folder, or ask for the right to make files in "
+        return no_output(name, os.strerror(errno.EACCES),
+                         f"give a name in another folder, or ask for the right to make files in "
                          f"{place_of(folder)}.")
     fault = no_room(name, folder)
     if fault:

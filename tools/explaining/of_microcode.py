@@ -193,8 +193,8 @@ class Conflict:
     def file_twice(self):
         unit, port = divmod(self.place, PORTS_OF_UNIT)
         takes = [(bus, register) for u, p, bus, register in self.at(self.cycle).takes if (u, p) == (unit, port)]
-        report = Report(f"the register file of {self.called.port(unit, port)} takes {counted(len(takes), 'word')} in one cycle, and "
-                        "one is the most",
+        report = Report(f"the register file of {self.called.port(unit, port)} takes {counted(len(takes), 'word')} in one "
+                        "cycle, and one is the most",
                         "issue one of the operations in another cycle.", CONFLICTS)
         for bus, register in takes:
             report.note(f"Register {register} takes from {self.called.bus(bus)} {self.on_bus(bus)}.")
@@ -218,7 +218,8 @@ class Conflict:
         if ready is not None:
             report.cure = f"let {self.unit(ready)} drive {bus} in this cycle, or leave the take out."
             report.note(f"{at_start(self.unit(ready))} has a result in this cycle: {self.result(ready)}.")
-        return report.note("In this cycle " + (listed([f"{self.unit(unit)} drives {self.called.bus(bus)}" for unit, bus in drives])
+        return report.note("In this cycle " + (listed([f"{self.unit(unit)} drives {self.called.bus(bus)}" for unit,
+                                                       bus in drives])
                                                if drives else "no bus is driven") + ".")
 
     def no_result(self):
@@ -229,7 +230,8 @@ class Conflict:
                         f"drive the bus in the cycle of the result, which is there {counted(unit.latency - 1, 'cycle')} after its "
                         f"issue and then no more, or leave the drive out.", CONFLICTS)
         report.note(f"Its latency is {unit.latency}, so the operation would have to begin in cycle {begun}, and none does.")
-        near = [cycle for cycle in range(max(0, self.cycle - self.image.period), self.cycle + 1) if self.issue(cycle, self.place)]
+        near = [cycle for cycle in range(max(0, self.cycle - self.image.period), self.cycle + 1)
+                if self.issue(cycle, self.place)]
         if near:
             report.note(f"It begins `{self.issue(near[-1], self.place).text()}` in cycle {near[-1]}, with the result in cycle "
                         f"{near[-1] + unit.latency - 1}.")
@@ -241,8 +243,10 @@ class Conflict:
         last = len(unit.cells) - 1
         port = self.called.port(self.place, 0)
         report = Report(f"`{issue.text()}` on {self.unit(self.place)} has an address that is not 0 to {last}",
-                        f"write an address from 0 to {last} into register {register} of {port}: an acu makes no other.", CONFLICTS)
-        report.note(f"The unit has {counted(len(unit.cells), 'cell')}, and reads the address from register {register} of {port}.")
+                        f"write an address from 0 to {last} into register {register} of {port}: an acu makes no other.",
+                        CONFLICTS)
+        report.note(f"The unit has {counted(len(unit.cells), 'cell')}, and reads the address from register {register} "
+                    f"of {port}.")
         written = self.last_write(self.place, 0, register)
         return report.note(written) if written else report.note("Nothing was written there before: it has its first word.")
 

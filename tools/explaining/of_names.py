@@ -12,7 +12,8 @@ from explaining.typing_rules import MOST_BITS, Typing
 # How much alike two names are, from 0 to 1, of which one may be meant by the other.
 ALIKE = 0.6
 # What is written for functions that other languages have.
-WRITTEN = {"abs": ("x", "if x < 0 -> -x || x fi"), "max": ("ab", "if a < b -> b || a fi"), "min": ("ab", "if a < b -> a || b fi")}
+WRITTEN = {"abs": ("x", "if x < 0 -> -x || x fi"), "max": ("ab", "if a < b -> b || a fi"),
+           "min": ("ab", "if a < b -> a || b fi")}
 # The names that are listed at most.
 MOST_NAMES = 30
 MOST_DIM, MOST_DELAY = 8192, 1023
@@ -65,7 +66,8 @@ def table_as_index(source, node, decl, where):
     word = source.tables[decl.name].words[0].value if not decl.dims else ""
     cure = f"write the number, {word}, in the place of `{decl.name}`." if word.isdecimal() else \
         f"write a whole number in the place of `{decl.name}`."
-    return Report(f"the table `{decl.name}` can't be {where}, which is a number that is written there", cure, language("Loops")) \
+    return Report(f"the table `{decl.name}` can't be {where}, which is a number that is written there", cure,
+                  language("Loops")) \
         .note(f"`{decl.name}` is declared here. Tables are for the words of signals.", source.name_span(decl)) \
         .by(*[source.text.edit(node.start, node.end, word)] if word.isdecimal() else [])
 
@@ -118,7 +120,8 @@ def misspelt(source, context, known, short):
     report = numbered(source, context) if not targets else None
     if report:
         return report
-    unused = [decl for decl in func.decls() if uses_of(source, func, decl.name) == ([], []) and not (targets and decl in func.params)]
+    unused = [decl for decl in func.decls() if uses_of(source, func, decl.name) == ([], [])
+              and not (targets and decl in func.params)]
     like = near(name, [decl.name for decl in unused])
     if like and len(targets) + len(reads) > 1:
         return misdeclared(source, func, like, name, short)
@@ -142,7 +145,8 @@ def misspelt(source, context, known, short):
 def misdeclared(source, func, like, name, short):
     """The report on a name that is declared by another one, which nothing uses."""
     decl = source.decl(func, like)
-    return Report(f"{short}, and nothing uses `{like}`", f"write `{name}` where `{like}` is declared.", language("Declarations")) \
+    return Report(f"{short}, and nothing uses `{like}`", f"write `{name}` where `{like}` is declared.",
+                  language("Declarations")) \
         .note(f"`{like}` is declared here.", source.name_span(decl)).by(source.text.edit(decl.at, decl.end, name))
 
 
@@ -171,7 +175,8 @@ def undeclared(source, context, targets, report):
 def dims_of(source, func, nodes):
     """The dims with which an array has the elements that some nodes name, each a number, or `..` where it is not known."""
     count = max(len(node.subs) for node in nodes)
-    return [max_of([greatest(source, func, node, node.subs[k]) for node in nodes if len(node.subs) == count]) for k in range(count)]
+    return [max_of([greatest(source, func, node, node.subs[k]) for node in nodes if len(node.subs) == count])
+            for k in range(count)]
 
 
 def max_of(values):
@@ -190,7 +195,8 @@ def greatest(source, func, node, sub):
 def likely_type(source, context, targets):
     """The type that a signal may have which is not declared: of what defines it, or else of what stands around it."""
     func, parent = context.func, context.parent
-    equation = next((other.item for other in source.contexts(func) if other.node in targets[:1] and other.item.kind == "equation"), None)
+    equation = next((other.item for other in source.contexts(func) if other.node in targets[:1]
+                     and other.item.kind == "equation"), None)
     own = own_type(source, func, equation.parts[1]) if equation else None
     if own:
         return own.text
@@ -216,7 +222,8 @@ def unknown_target(source, context):
         return Report(f"`{name}` is a table, whose numbers are those that it is declared with",
                       "define a signal: a result, or one that is declared by `var`.", language("Declarations")) \
             .note("This is the table.", source.name_span(source.tables[name]))
-    taken = next((loop.value for other in source.contexts(func) if other.role == "loop" and (loop := other.node).name == name), None)
+    taken = next((loop.value for other in source.contexts(func) if other.role == "loop" and (loop := other.node).name == name),
+                 None)
     if name in source.funcs or taken:
         span = source.text.span(taken.start, taken.end) if taken else source.name_span(source.funcs[name])
         what = "the index of a loop" if taken else "a function"
@@ -231,7 +238,8 @@ def unknown_function(source, context):
     decl = source.decl(func, name)
     if decl:
         past = f"write `{name}@1` for the word of one sample ago, " if not decl.dims else f"write `{name}[..]` for an element, "
-        return Report(f"`{name}` is no function, and `{name}(..)` would be a call", past + f"or `{name} * (..)` for a product.",
+        return Report(f"`{name}` is no function, and `{name}(..)` would be a call",
+                      past + f"or `{name} * (..)` for a product.",
                       language("Functions")).note(f"`{name}` is declared here.", source.name_span(decl))
     like = near(name, source.funcs.keys() - {"main", func.name})
     if name in WRITTEN and not like:
@@ -346,7 +354,8 @@ def past_of(context):
 def as_delay(source, node, decl, short, past):
     """The report on a subscript that stands for a sample."""
     written = f"{decl.name}@{past}" if past else decl.name
-    return Report(short, f"write `{written}` for the word of " + (f"{counted(past, 'sample')} ago." if past else "this sample."),
+    return Report(short, f"write `{written}` for the word of " + (f"{counted(past, 'sample')} ago." if past
+                                                                  else "this sample."),
                   language("Delays and initial values"), source.node_span(node)) \
         .note(f"`{decl.name}` is declared here.", source.name_span(decl)).by(source.text.edit(node.start, node.end, written))
 
@@ -383,12 +392,14 @@ def not_bare(source, context):
     size = "".join(f"[{dim}]" for dim in decl.dims) if decl else ""
     if decl and not decl.dims:
         return Report(f"`{decl.name}` of `{callee.name}` is one word, and here stands an array",
-                      f"write one element, as `{context.node.name}[0]`.", language("Functions"), source.node_span(context.node)) \
+                      f"write one element, as `{context.node.name}[0]`.", language("Functions"),
+                      source.node_span(context.node)) \
             .note(f"`{decl.name}` is declared here.", source.name_span(decl))
     fit = [f"`{other.name}`" for other in [*context.func.decls(), *(table.decl for table in source.tables.values())]
            if decl and other.dims == decl.dims][:MOST_NAMES]
     cure = f"write {listed(fit, 'or')}." if fit else f"declare an array with {size}, define its elements, and write its name."
-    return Report(f"an array `{size}` is handed on as its bare name, and this is none of this size", cure, language("Functions"),
+    return Report(f"an array `{size}` is handed on as its bare name, and this is none of this size", cure,
+                  language("Functions"),
                   source.node_span(context.node)) \
         .note(f"`{decl.name}` of `{callee.name}` is declared here.", source.name_span(decl))
 
@@ -425,7 +436,8 @@ def no_main(source, _):
     like = near("main", free) or next(iter(reversed(free)), None)
     if like:
         func = source.funcs[like]
-        return Report("no function is called `main`, and that is the one that is run", f"write `main` in the place of `{like}`.",
+        return Report("no function is called `main`, and that is the one that is run",
+                      f"write `main` in the place of `{like}`.",
                       language("Declarations"), source.name_span(func)).by(source.text.edit(func.at, func.end, "main"))
     return Report("there is no function, and `main` is the one that is run",
                   "write `func main(x : fix<16,15>) y : fix<16,15> = begin .. end;`.", language("Declarations"),

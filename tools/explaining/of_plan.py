@@ -117,7 +117,8 @@ class Refused:
         unit = self.unit_of(kind)
         name = dict(unit.keys)["name"]
         short = f"{self.what()} needs a unit of the kind `{kind}`, and the datapath has none"
-        report = Report(short, f"in {self.path.name}, {told([unit], self.tree)}; and let {buses_of(name, kind)}.", planning("Units"))
+        report = Report(short, f"in {self.path.name}, {told([unit], self.tree)}; and let {buses_of(name, kind)}.",
+                        planning("Units"))
         if self.nodes:
             self.with_cure(report, self.wired([unit]))
             count = counted(self.count_of(kind), "operation")
@@ -216,8 +217,8 @@ class Refused:
         name = dict(ram.keys)["name"]
         changes = [ram, self.unit_of("acu", ram=name)]
         report = Report(f"{self.longest()}, which goes through memory, and the datapath has none",
-                        f"in {self.path.name}, {told(changes, self.tree)}; and let buses lead to the ports `{name}.0` and `{name}.1`, "
-                        f"and from both.", planning("Delay lines"))
+                        f"in {self.path.name}, {told(changes, self.tree)}; and let buses lead to the ports `{name}.0` and "
+                        f"`{name}.1`, and from both.", planning("Delay lines"))
         return self.added(report, changes)
 
     def no_acu(self):
@@ -284,14 +285,15 @@ class Refused:
         report = Report(short, "", planning("Cycles"))
         changes = self.with_registers([Key(TOP, 0, "period", least)])
         if status != lacks.PLANNED:
-            report.note(f"From a period of {least} on each operation has its cycle; alone it leads to: {answer_of(said)}.", place)
+            report.note(f"From a period of {least} on each operation has its cycle; alone it leads to: {answer_of(said)}.",
+                        place)
         if not changes:
             report.cure = "use more units and buses, or fewer words that are kept from one sample to the next."
             return report.note(f"There is no plan in a period of {least} with {lacks.MOST_REGISTERS} registers in each file.")
         self.with_cure(report, changes)
         files = listed(change.words(self.tree) for change in changes[1:])
-        report.cure = f"write `period = {least}`, the least that fits, and with it {files}; or give more of what is full." if files else \
-            f"write `period = {least}`, the least that fits, or give more of what is full."
+        report.cure = f"write `period = {least}`, the least that fits" \
+            + (f", and with it {files}; or give more of what is full." if files else ", or give more of what is full.")
         if not files:
             report.note(f"The least period in which this source has a plan is {least}.", place)
         return self.full_parts(report, self.plan_with(changes), given, least)
@@ -304,7 +306,8 @@ class Refused:
         """What takes the cycles: buses and units that are full, or else the longest chain of operations."""
         buses, units = lacks.loads_of(plan, self.tree)
         full = [f"the bus `{name}` carries {counted(count, 'word')}" for name, count in buses.items() if count >= given]
-        full += [f"the unit `{name}` is taken for {counted(count, 'cycle')}" for name, count in units.items() if count >= given]
+        full += [f"the unit `{name}` is taken for {counted(count, 'cycle')}" for name,
+                 count in units.items() if count >= given]
         chain, length = lacks.longest_chain(plan)
         if full:
             text = f"{listed(full)} in each sample, and the sample has {counted(given, 'cycle')}."
@@ -333,7 +336,8 @@ class Refused:
         say(f"looking for the registers that {port} needs")
         needs = self.trial().registers_for(port)
         report = Report(f"{self.what()} is read at `{port}`, whose file of {counted(size, 'register')} is full when its word comes",
-                        "use more units and buses, or fewer words that are kept from one sample to the next.", planning("Registers"))
+                        "use more units and buses, or fewer words that are kept from one sample to the next.",
+                        planning("Registers"))
         if not needs:
             return report.note(f"There is no plan with {lacks.MOST_REGISTERS} registers in each file.")
         others = [f"`{name}` {counted(count, 'register')}" for name, count in needs.items() if name != port]

@@ -48,20 +48,31 @@ def report_of(case):
     if "l" not in case.values:
         name = case.files["SAMPLES"]
         has = f"the file has {os.path.getsize(name)} bytes" if os.path.isfile(name) else "more came"
-        return Report(f"{has}, and fewer than {END} are read", "run the samples in several files.", case.refusal.rule, about=name)
+        return Report(f"{has}, and fewer than {END} are read", "run the samples in several files.", case.refusal.rule,
+                      about=name)
     text = case.text("SAMPLES")
     other = other_kind(case, "SAMPLES")
     if other:
         return other
     line, byte = int(case.values["l"]), int(case.values["b"])
-    return broken(text, line, byte, channels_of(case))
+    return unlike_text(text, line) or broken(text, line, byte, channels_of(case))
+
+
+def unlike_text(text, line):
+    """The report on a line that is no line of a sample file at all, or nothing."""
+    row, start = text.line(line).decode("latin-1"), text.starts[line - 1]
+    if "\r" in row:
+        return Report("a line ends with LF or CR LF, and here is a CR alone", "save the file with the ends of lines of Unix.",
+                      ROWS, text.span(start, start + row.index("\r")))
+    if line == 1 and text.data.startswith(codecs.BOM_UTF8):
+        mark = len(codecs.BOM_UTF8)
+        return Report("the file begins with a byte order mark, which is no number", "save it without one.", ROWS,
+                      text.span(start, start + mark)).by(text.edit(0, mark, ""))
+    return None
 
 
 def broken(text, line, byte, channels):
     row = text.line(line).decode("latin-1")
-    if "\r" in row:
-        return Report("a line ends with LF or CR LF, and here is a CR alone", "save the file with the ends of lines of Unix.", ROWS,
-                      text.span(text.starts[line - 1], text.starts[line - 1] + row.index("\r")))
     start = text.starts[line - 1]
     names = listed([f"`{channel.name}`" for channel in channels])
     number = row[:byte].count(",")
@@ -69,9 +80,6 @@ def broken(text, line, byte, channels):
     word = row[left:].partition(",")[0]
     span = text.span(start + left, start + left + max(len(word), 1))
     wanted = f"a row has {counted(len(channels), 'word')}"
-    if line == 1 and text.data.startswith(codecs.BOM_UTF8):
-        return Report("the file begins with a byte order mark, which is no number", "save it without one.", ROWS, span) \
-            .by(text.edit(0, len(codecs.BOM_UTF8), ""))
     if row.endswith(",") and row.count(",") == len(channels):
         last = start + len(row) - 1
         return Report("a comma ends the line", "take it away.", ROWS, text.span(last)).by(text.edit(last, last + 1, ""))
@@ -95,7 +103,8 @@ def broken(text, line, byte, channels):
             return Report(short, f"write a word for `{channel.name}`.", ROWS, span)
         return Report(short, "take one comma away.", ROWS, span).by(text.edit(start + left, start + left + len(word) + 1, ""))
     if line == 1 and is_header(row):
-        return Report(f"`{decoded(row.strip())}` is no row: a sample file has rows only, without a header", "take the line away.", ROWS,
+        return Report(f"`{decoded(row.strip())}` is no row: a sample file has rows only, without a header",
+                      "take the line away.", ROWS,
                       text.span(start, start + len(row))).by(*without_line(text, line))
     report, written = bad_word(decoded(word), channel, len(channels) - row.count(",") - 1)
     report.span = span
@@ -141,7 +150,8 @@ def bad_word(word, channel, lacking):
     if re.fullmatch(r"-?\d+((\s+|\s*[;:|]\s*)-?\d+)+", stripped):
         return several(stripped, lacking)
     if re.fullmatch(r"-?\d+", stripped):
-        return Report(f"a blank stands beside {stripped}, and a row has none", f"write `{stripped}` without the blank.", ROWS), stripped
+        return Report(f"a blank stands beside {stripped}, and a row has none", f"write `{stripped}` without the blank.",
+                      ROWS), stripped
     if NUMBER.fullmatch(stripped):
         return fraction(stripped, channel)
     if stripped.startswith("+") and stripped[1:].isdecimal():
@@ -151,7 +161,8 @@ def bad_word(word, channel, lacking):
         least, most = channel.range()
         if not least <= number <= most:
             return out_of_range(stripped, int(number), channel), None
-        return Report(f"`{stripped}` is no word of a row, which has an optional `-` and digits", f"write {int(number)}.", ROWS), \
+        return Report(f"`{stripped}` is no word of a row, which has an optional `-` and digits", f"write {int(number)}.",
+                      ROWS), \
             str(int(number))
     return Report(f"`{stripped}` is no whole number", "write a raw word, which is a whole number.", ROWS), None
 

@@ -1,18 +1,19 @@
-"""Why the bytes of a source are no tokens, or its tokens no program: the mistake that is likely, or else what was wanted."""
+"""Why the tokens of a source are no program: the mistake that is likely, or else what was wanted."""
 import difflib
 import re
 from dataclasses import dataclass
-from decimal import Decimal
 
 from explaining.edits import edit_for
 from explaining.grammar import COMPARISONS, Unexpected
+from explaining.of_bytes import bad_byte, bad_number, line_comment, open_comment
 from explaining.refusals import language
 from explaining.report import Report, counted
-from explaining.text import KEPT_FOR_LATER, RESERVED
+from explaining.table_words import in_words, words_of_table
+from explaining.text import KEPT_FOR_LATER
 
 TEXT, GRAMMAR, DECLARATIONS = language("Text"), language("Grammar"), language("Declarations")
 DELAYS, CONDITIONALS = language("Delays and initial values"), language("Conditionals")
-LONGEST_NUMBER, DEEPEST = 18, 256
+DEEPEST = 256
 # Words and symbols of other languages, with what is written here.
 OTHERS = {"then": ("a condition is followed by `->`", "write `->`"), "else": ("the other case begins with `||`", "write `||`"),
           "and": ("`and` is no operator", "write `&`"), "or": ("`or` is no operator", "write `|`"),
@@ -27,24 +28,6 @@ MODES = {"rnd": "round", "rounding": "round", "nearest": "round", "half_up": "ro
          "clip": "sat", "clamp": "sat", "wrap": "trunc", "floor": "trunc", "truncate": "trunc", "none": "trunc"}
 MISSPELT_FIX = ("fix", "fixx", "ffix", "fiix", "ifx", "fxi", "ix", "fx", "fixed", "sfix", "ufix")
 OPERATORS = ("+", "-", "*", "<<", ">>", "&", "|", *COMPARISONS)
-# Characters that look like others, with what is written here.
-LOOKALIKES = {"\u2212": "-", "\u2013": "-", "\u2014": "-", "\u00d7": "*", "\u00b7": "*", "\u22c5": "*", "\u2264": "<=",
-              "\u2265": ">=", "\u2260": "!=", "\u00a0": " ", "\uff1b": ";", "\u2026": ".."}
-BYTE_ORDER_MARK = "\ufeff"
-CURES = {
-    "/": ("there is no division", "divide by a power of two by a shift, as `x >> 1`, and else multiply by the inverse, as "
-          "`x * 0.5`.", "Equations"),
-    "%": ("there is no remainder", "write a subtraction or a shift.", "Equations"),
-    "^": ("there is no power", "write a product.", "Equations"),
-    "#": ("a comment begins with `/*` and ends with `*/`", "write `/* .. */`.", "Text"),
-    "{": ("a body stands between `begin` and `end;`", "write `begin`.", "Grammar"),
-    "}": ("a body stands between `begin` and `end;`", "write `end;`.", "Grammar"),
-    "~": ("`not` is `!`, and there are no operations on the bits of a word", "write `!`.", "Equations"),
-    "?": ("a choice is `if .. -> .. || .. fi`", "write `if condition -> value || other fi`.", "Conditionals"),
-}
-
-
-WRITTEN = {"{": "begin", "}": "end;", "~": "!"}
 
 
 def report_of(source, kind, at):
@@ -55,167 +38,6 @@ def report_of(source, kind, at):
     if kind == "OpenComment":
         return open_comment(source, at)
     return syntax(source, at) if kind == "Syntax" else too_deep(source, at)
-
-
-# Bytes
-
-
-def bad_byte(source, at):
-    text, chars = source.text, source.text.chars
-    char, after = chars[at], chars[at + 1:at + 2]
-    if char == "/" and after == "/":
-        return line_comment(text, at, "//", "a comment begins with `/*` and ends with `*/`")
-    if char == ".":
-        return bad_point(source, at)
-    before = source.tokens
-    if char in "/%^{" and in_words(before, len(before)):
-        return words_of_table(char, text.span(at))
-    if char == "/":
-        return division(source, at)
-    if char == "?":
-        return question_mark(text, at)
-    if char == "%" and (not before or before[-1].text in (";", "begin")):
-        return line_comment(text, at, "%", "a comment begins with `/*` and ends with `*/`")
-    if char == "#":
-        return line_comment(text, at, "#", CURES[char][0])
-    if char in CURES:
-        short, cure, section = CURES[char]
-        report = Report(short, cure, language(section), text.span(at))
-        return report.by(text.edit(at, at + 1, WRITTEN[char])) if char in WRITTEN else report
-    return other_character(source, at)
-
-
-def question_mark(text, at):
-    """The report on a choice `condition ? value : other`, which is written as a choice of this language where it is simple."""
-    short, cure, section = CURES["?"]
-    line = text.starts[text.line_of(at) - 1]
-    before = re.search(r"(?<![=<>!])=(?!=)\s*([^?;:]+)$", text.chars[line:at])
-    after = re.match(r"\?([^?;:]+):([^?;:]+);", text.chars[at:])
-    if not (before and after):
-        return Report(short, cure, language(section), text.span(at))
-    condition, value, other = (" ".join(part.split()) for part in (before[1], after[1], after[2]))
-    written = f"if {condition} -> {value} || {other} fi"
-    return Report(short, f"write `{written}`.", language(section), text.span(at)) \
-        .by(text.edit(line + before.start(1), at + after.end() - 1, written))
-
-
-def line_comment(text, at, mark, short):
-    """The report on a comment that goes to the end of its line in another language."""
-    end = text.chars.find("\n", at)
-    end = len(text.chars.rstrip("\n")) if end < 0 else end
-    said = text.data[at + len(mark):end].decode(errors="replace").strip()
-    report = Report(short, f"write `/* .. */` in the place of `{mark} ..`.", TEXT, text.span(at, end))
-    return report if "*/" in said else report.by(text.edit(at, end, f"/* {said} */"))
-
-
-def other_character(source, at):
-    """The report on a character that is none of the language's."""
-    text, end = source.text, at + width_of(source.text, at)
-    char = text.data[at:end].decode(errors="replace")
-    span = text.span(at, end)
-    if char in LOOKALIKES:
-        return Report(f"{byte_name(text, at)} looks like `{LOOKALIKES[char]}`, and is another character",
-                      f"write `{LOOKALIKES[char]}`.", TEXT, span).by(text.edit(at, end, LOOKALIKES[char]))
-    if char == BYTE_ORDER_MARK:
-        return Report("the file begins with a byte order mark, which is no blank", "save it as UTF-8 without one.", TEXT, span) \
-            .by(text.edit(at, end, ""))
-    if char.isalpha():
-        return Report(f"a name has the letters `a` to `z` and `A` to `Z`, digits and `_`, and no `{char}`",
-                      "take another name, or put the text into a comment `/* .. */`.", TEXT, span)
-    return Report(f"{byte_name(text, at)} is no part of the language, which has letters, digits, `_` and the operators of its "
-                  f"table", "take it out, or put it into a comment `/* .. */`.", TEXT, span)
-
-
-def division(source, at):
-    """A division, with the shift or the product that does it where the divisor is a number."""
-    found = re.match(r"/\s*(\d{1,6}(?:\.\d{1,6})?)(?![\w.])", source.text.chars[at:at + 40])
-    by = float(found[1]) if found else 0
-    if by <= 1:
-        short, cure, section = CURES["/"]
-        return Report(short, cure, language(section), source.text.span(at))
-    power = int(by).bit_length() - 1
-    written = f">> {power}" if by == 2**power else f"* {1 / by:.10f}".rstrip("0")
-    return Report("there is no division", f"write `{written}` for `/ {found[1]}`.", language("Equations"),
-                  source.text.span(at, at + found.end())).by(source.text.edit(at, at + found.end(), written))
-
-
-def bad_point(source, at):
-    before = re.search(r"\d+$", source.text.chars[:at])
-    after = re.match(r"\d+", source.text.chars[at + 1:])
-    if before:
-        number = before[0]
-        return Report(f"a number has digits on both sides of its point, and `{number}.` has none after it",
-                      f"write `{number}`, or `{number}.0`.", TEXT, source.text.span(before.start(), at + 1)) \
-            .by(source.text.edit(at, at + 1, ""))
-    if after:
-        return Report(f"a number has digits on both sides of its point, and `.{after[0]}` has none before it",
-                      f"write `0.{after[0]}`.", TEXT, source.text.span(at, at + 1 + after.end())) \
-            .by(source.text.edit(at, at, "0"))
-    return Report("a point stands in numbers only", "take it out, or write `..` for a range.", TEXT, source.text.span(at))
-
-
-def width_of(text, at):
-    """How many bytes the character has that begins there."""
-    for count in range(1, 5):
-        try:
-            text.data[at:at + count].decode()
-            return count
-        except UnicodeDecodeError:
-            continue
-    return 1
-
-
-def byte_name(text, at):
-    data = text.data[at:at + width_of(text, at)]
-    try:
-        char = data.decode()
-        return f"`{char}`" if char.isprintable() else f"the byte 0x{data[0]:02x}"
-    except UnicodeDecodeError:
-        return f"the byte 0x{data[0]:02x}"
-
-
-def bad_number(source, at):
-    found = re.match(r"\d+(\.\d+)?", source.text.chars[at:])
-    word = re.match(r"[\w.]+", source.text.chars[at:], re.A)[0]
-    rest = word[found.end():]
-    span = source.text.span(at, at + len(word))
-    if sum(char.isdigit() for char in found[0]) > LONGEST_NUMBER:
-        return Report(f"a number has at most {LONGEST_NUMBER} digits", "write fewer digits: a word has at most 40 bits.", TEXT, span)
-    if re.fullmatch(r"0[xX][0-9A-Fa-f]+|0[bB][01]+", word):
-        return Report("numbers are decimal", f"write `{int(word, 0)}`.", TEXT, span).by(source.text.edit(at, at + len(word), f"{int(word, 0)}"))
-    short = f"the letter `{rest[:1]}` follows directly on the number {found[0]}"
-    power = re.match(r"\d+(\.\d+)?[eE][-+]?\d{1,2}(?!\w)", source.text.chars[at:at + 60], re.A)
-    if power:
-        return with_power(source, at, power[0], short)
-    if re.fullmatch(r"[fFlLuU]+|[A-Za-z_]\w*\..*", rest):
-        return Report(short, f"write `{found[0]}`." if len(rest) < 4 else "write a blank or an operator between them.", TEXT, span)
-    if re.fullmatch(r"(_\d+)+", rest):
-        written = word.replace("_", "")
-        return Report("a number has digits, and no `_` between them", f"write `{written}`.", TEXT, span) \
-            .by(source.text.edit(at, at + len(word), written))
-    if rest in RESERVED:
-        return Report(short, f"write a blank between them, as `{found[0]} {rest}`.", TEXT, span)
-    cure = f"write a blank or an operator between them, as `{found[0]} * {rest}`."
-    return Report(short, cure, TEXT, span).by(source.text.edit(at, at + len(word), f"{found[0]} * {rest}"))
-
-
-def with_power(source, at, word, short):
-    """The report on a number with a power of ten, as 1e-3."""
-    digits = format(Decimal(word), "f")
-    span = source.text.span(at, at + len(word))
-    if sum(map(str.isdigit, digits)) > LONGEST_NUMBER:
-        return Report(short, "write all digits, as `0.001` for `1e-3`: 18 of them at most.", TEXT, span)
-    return Report(short, f"write all digits: `{digits}`.", TEXT, span).by(source.text.edit(at, at + len(word), digits))
-
-
-def open_comment(source, at):
-    end = source.text.chars.find("\n", at)
-    end = len(source.text.chars.rstrip("\n")) if end < 0 else end
-    return Report("this comment has no end", "write `*/` at its end.", TEXT, source.text.span(at, end)) \
-        .by(source.text.edit(end, end, " */"))
-
-
-# Tokens
 
 
 def end_of_last(source):
@@ -335,7 +157,8 @@ def other_word(stop):
     for token, by in ((stop.token, 0), (stop.before, -1)):
         is_there = by == 0 or stop.is_equals() or token and token.text == "not"
         if stop.is_at("else") and stop.ahead() == "if":
-            return Report("the next case begins with `||`", "write `||` in the place of `else if`.", CONDITIONALS, stop.span(0, 1)) \
+            return Report("the next case begins with `||`", "write `||` in the place of `else if`.", CONDITIONALS,
+                          stop.span(0, 1)) \
                 .by(stop.edit(0, 1, "||"))
         if token and token.text in OTHERS and token.kind == "name" and is_there:
             short, cure = OTHERS[token.text]
@@ -354,7 +177,8 @@ def other_type(stop):
     if stop.token and stop.token.kind == "name" and stop.wanted == "a type":
         name = stop.token.text
         if stop.ahead() == "<":
-            return Report(f"`{name}` is no type: the types are `fix<W,F>` and `bool`", f"write `fix` in the place of `{name}`.",
+            return Report(f"`{name}` is no type: the types are `fix<W,F>` and `bool`",
+                          f"write `fix` in the place of `{name}`.",
                           language("Words and types")).by(stop.edit(0, 0, "fix"))
         written = TYPES.get(name.lower(), "fix<16,15>")
         return Report(f"`{name}` is no type: the types are `fix<W,F>`, words of W bits with F of them after the point, and `bool`",
@@ -386,7 +210,8 @@ def other_mode(stop):
         return None
     if stop.token.kind != "name":
         return None
-    like = MODES.get(word.lower()) or next(iter(difflib.get_close_matches(word.lower(), ("round", "sat", "trunc"), 1, 0.6)), None)
+    like = MODES.get(word.lower()) or next(iter(difflib.get_close_matches(word.lower(), ("round", "sat", "trunc"), 1, 0.6)),
+                                           None)
     if like is None:
         return Report(f"`{word}` is no mode: {modes}", "write one of these, or the type without a mode.",
                       language("Words and types"))
@@ -427,7 +252,8 @@ def moved(stop, to, shape):
     if end is None or not said.endswith(";"):
         return []
     text = stop.source.text
-    return [text.edit(to, to, shape.format(text.data[stop.token.start:end].decode(errors="replace"))), text.edit(stop.token.start, end, "")]
+    return [text.edit(to, to, shape.format(text.data[stop.token.start:end].decode(errors="replace"))),
+            text.edit(stop.token.start, end, "")]
 
 
 def other_declaration(stop):
@@ -436,17 +262,20 @@ def other_declaration(stop):
     if not (stop.is_equals() and token and before.kind == "name" and stop.ahead(-2) in (";", "begin")):
         return None
     if stop.is_at(":") and stop.ahead() in ("fix", "bool"):
-        return Report("a declaration begins with `var`", f"write `var` before `{before.text}`.", DECLARATIONS, stop.span(-1, -1)) \
+        return Report("a declaration begins with `var`", f"write `var` before `{before.text}`.", DECLARATIONS,
+                      stop.span(-1, -1)) \
             .by(stop.source.text.edit(before.start, before.start, "var "))
     if token.kind != "name":
         return None
     if stop.ahead() in ("=", "@@"):
-        return Report("an equation begins with the signal that it defines", f"take `{before.text}` away.", language("Equations"),
+        return Report("an equation begins with the signal that it defines", f"take `{before.text}` away.",
+                      language("Equations"),
                       stop.span(-1, -1)).by(stop.source.text.edit(before.start, token.start, ""))
     end = next((k for k in range(1, 64) if stop.ahead(k) in (";", "=", ":", "")), 64)
     if stop.ahead(end) != ":":
         return None
-    return Report("a declaration begins with `var`", f"write `var` in the place of `{before.text}`.", DECLARATIONS, stop.span(-1, -1)) \
+    return Report("a declaration begins with `var`", f"write `var` in the place of `{before.text}`.", DECLARATIONS,
+                  stop.span(-1, -1)) \
         .by(stop.edit(-1, -1, "var"))
 
 
@@ -466,32 +295,16 @@ def valued_var(stop):
         return None
     if stop.wanted != "`;`":
         return Report("`var` declares signals with their type, and an equation defines one",
-                      f"write `: fix<16,15>;` here, and below the declarations the equation `{stop.before.text} = ..;`.", DECLARATIONS)
+                      f"write `: fix<16,15>;` here, and below the declarations the equation `{stop.before.text} = ..;`.",
+                      DECLARATIONS)
     name = tokens[head + 2].text
     return Report("`var` declares signals, and an equation defines one",
                   f"write `;` here, and below the declarations the equation `{name} = ..;`.", DECLARATIONS)
 
 
-def in_words(tokens, position):
-    """Whether a token is among the words of a table."""
-    for k in range(position - 1, -1, -1):
-        if tokens[k].text in (";", "func", "begin"):
-            return False
-        if tokens[k].text == "const":
-            return any(token.text == "=" for token in tokens[k:position])
-    return False
-
-
-def words_of_table(char, span=None):
-    """What is wrong among the words of a table, by the character that can't stand there."""
-    if char in ("[", "{", ","):
-        return Report("the numbers of a table stand in parentheses", "write `( .. )` around them, as `(0.5, 0.25)`.", DECLARATIONS, span)
-    return Report("a table has numbers, and no expressions", "write the number that it gives, as `0.25` for `0.5 * 0.5`.",
-                  DECLARATIONS, span)
-
-
 def table_words(stop):
-    if stop.token and in_words(stop.tokens(), stop.position) and (stop.is_at("[", ",", *OPERATORS) or stop.token.kind == "name"):
+    if stop.token and in_words(stop.tokens(), stop.position) and (stop.is_at("[", ",", *OPERATORS)
+                                                                  or stop.token.kind == "name"):
         return words_of_table(stop.token.text)
     return None
 
@@ -499,7 +312,8 @@ def table_words(stop):
 def untyped_table(stop):
     if stop.is_at("=") and stop.wanted == "`:`" and stop.ahead(-2) == "const":
         name = stop.before.text
-        return Report(f"a table has a type, and `{name}` has none", f"write it after the name, as `{name} : fix<16,15> = ..;`.",
+        return Report(f"a table has a type, and `{name}` has none",
+                      f"write it after the name, as `{name} : fix<16,15> = ..;`.",
                       DECLARATIONS)
     return None
 
@@ -526,16 +340,19 @@ def other_type_part(stop):
     token, before = stop.token, stop.before
     rule = language("Words and types")
     if stop.wanted.startswith("a type `fix"):
-        return Report("a table has numbers, and no truth values", "take the table away, and write `true` or `false` where it is read.",
+        return Report("a table has numbers, and no truth values",
+                      "take the table away, and write `true` or `false` where it is read.",
                       DECLARATIONS)
     found = re.fullmatch(r"(\d+)\.(\d+)", token.text) if token else None
     if found and stop.wanted == "the bits of a word" and stop.ahead() == ">":
         written = f"{found[1]},{found[2]}"
-        return Report("the two numbers of a type have a comma between them", f"write `{written}`.", rule).by(stop.edit(0, 0, written))
+        return Report("the two numbers of a type have a comma between them", f"write `{written}`.",
+                      rule).by(stop.edit(0, 0, written))
     if stop.is_at("-") and stop.wanted in ("the bits of a word", "the bits after the point"):
         return Report("the numbers of a type have no sign", "write a number from 0 to the bits of the word.", rule)
     if stop.is_at("round", "sat", "trunc") and stop.wanted == "an expression":
-        return Report(f"`{token.text}` is a mode, and stands in a type", f"write a cast, as `fix<16,15,{token.text}>(x)`.", rule)
+        return Report(f"`{token.text}` is a mode, and stands in a type", f"write a cast, as `fix<16,15,{token.text}>(x)`.",
+                      rule)
     if stop.wanted != "`(`" or not stop.is_after(">") or token is None:
         return None
     short = "the expression of a cast stands in parentheses"
@@ -553,17 +370,20 @@ def decimal_comma(stop):
     if after is None or not after.text.isdecimal() or (stop.before.end, stop.token.end) != (stop.token.start, after.start):
         return None
     written = f"{stop.before.text}.{after.text}"
-    return Report("a number has a point, and no comma", f"write `{written}`.", TEXT, stop.span(-1, 1)).by(stop.edit(-1, 1, written))
+    return Report("a number has a point, and no comma", f"write `{written}`.", TEXT,
+                  stop.span(-1, 1)).by(stop.edit(-1, 1, written))
 
 
 def other_head(stop):
     """The head of a function in another language."""
     if stop.wanted == "a name" and stop.is_at("->") and stop.is_after(")"):
-        return Report("the results follow the parameters directly", "take `->` away.", language("Functions")).by(stop.edit(0, 0, ""))
+        return Report("the results follow the parameters directly", "take `->` away.",
+                      language("Functions")).by(stop.edit(0, 0, ""))
     is_head = stop.wanted == "`const` or `func`" and stop.token and stop.token.kind == "name"
     position = stop.position + 1
     if is_head and stop.ahead(2) == "(" and stop.tokens()[position].kind == "name":
-        return Report("a function begins with `func`", f"write `func` in the place of `{stop.token.text}`.", language("Functions")) \
+        return Report("a function begins with `func`", f"write `func` in the place of `{stop.token.text}`.",
+                      language("Functions")) \
             .by(stop.edit(0, 0, "func"))
     return None
 
@@ -571,7 +391,8 @@ def other_head(stop):
 def delayed_sum(stop):
     if not stop.is_at("@") or not stop.is_after(")", "fi"):
         return None
-    return Report("a delay stands after a name", "define a signal by the expression, as `t = ..;`, and write `t@..` here.", DELAYS)
+    return Report("a delay stands after a name", "define a signal by the expression, as `t = ..;`, and write `t@..` here.",
+                  DELAYS)
 
 
 def delayed_target(stop):
@@ -609,10 +430,12 @@ def subscript_in_number(stop):
 def lone_equals(stop):
     if stop.is_at("=") and "operator" in stop.wanted:
         if stop.ahead() == ">" and stop.is_joined():
-            return Report("at least is `>=`", "write `>=` in the place of `=>`.", GRAMMAR, stop.span(0, 1)).by(stop.edit(0, 1, ">="))
+            return Report("at least is `>=`", "write `>=` in the place of `=>`.", GRAMMAR,
+                          stop.span(0, 1)).by(stop.edit(0, 1, ">="))
         return Report("`=` defines a signal, and `==` compares", "write `==`.", GRAMMAR).by(stop.edit(0, 0, "=="))
     if stop.is_at(">") and stop.is_after("<") and stop.wanted == "an expression":
-        return Report("unequal is `!=`", "write `!=` in the place of `<>`.", GRAMMAR, stop.span(-1, 0)).by(stop.edit(-1, 0, "!="))
+        return Report("unequal is `!=`", "write `!=` in the place of `<>`.", GRAMMAR,
+                      stop.span(-1, 0)).by(stop.edit(-1, 0, "!="))
     if stop.is_at("=") and stop.ahead(-2) == "(" and stop.wanted == "`,` or `)`":
         return Report("the index of a loop is followed by `:`", "write `:` in the place of `=`.", language("Loops")) \
             .by(stop.edit(0, 0, " :"))
@@ -630,7 +453,8 @@ def doubled(stop):
         return Report("`and` is `&`", "write `&` in the place of `&&`.", GRAMMAR, stop.span(-1, 0)).by(stop.edit(-1, 0, "&"))
     if stop.is_at(">", "<") and stop.is_after(stop.token.text * 2) and "whole number" in stop.wanted:
         shift = stop.before.text
-        return Report(f"a shift is `{shift}`, which keeps the sign" if shift == ">>" else f"a shift is `{shift}`", f"write `{shift}`.",
+        return Report(f"a shift is `{shift}`, which keeps the sign" if shift == ">>" else f"a shift is `{shift}`",
+                      f"write `{shift}`.",
                       language("Equations"), stop.span(-1, 0)).by(stop.edit(-1, 0, shift))
     if stop.is_at("*") and stop.is_after("*"):
         return Report("there is no power", "write a product, as `x * x`.", language("Equations"), stop.span(-1, 0))
@@ -647,7 +471,8 @@ def updated(stop):
     if not (stop.token and stop.token.text in OPERATORS and stop.ahead() == "=" and stop.is_equals()):
         return None
     first = next(k for k in range(-1, -stop.position - 1, -1) if stop.ahead(k - 1) in (";", "begin", ""))
-    name, sign = " ".join(stop.source.text.chars[stop.tokens()[stop.position + first].start:stop.before.end].split()), stop.token.text
+    start = stop.tokens()[stop.position + first].start
+    name, sign = " ".join(stop.source.text.chars[start:stop.before.end].split()), stop.token.text
     report = Report(f"there is no `{sign}=`: an equation says what a signal is in each sample",
                     f"write `{name} = {name}@1 {sign} ..;` for the word of one sample ago and more.", language("Equations"),
                     stop.span(0, 1))
@@ -664,20 +489,23 @@ def no_target(stop):
 
 def choice_as_item(stop):
     if stop.is_at("if") and stop.is_item():
-        return Report("an `if` gives a word, and stands on the right of `=`", "write `y = if condition -> value || other fi;`.",
+        return Report("an `if` gives a word, and stands on the right of `=`",
+                      "write `y = if condition -> value || other fi;`.",
                       CONDITIONALS)
     return None
 
 
 def bare_results(stop):
     if stop.wanted == "`(`" and [stop.ahead(k) for k in (-3, -2)] == [")", "="] and stop.before.kind == "name":
-        return Report("several places are defined by a call", "write `(p, q) = f(..);`, or an equation for each, as `p = ..;`.",
+        return Report("several places are defined by a call",
+                      "write `(p, q) = f(..);`, or an equation for each, as `p = ..;`.",
                       language("Functions"))
     if stop.is_at(",") and stop.is_equals() and stop.is_after(">", "bool"):
         return Report("several results stand in parentheses", "write `( .. )` around them, as `(p : fix<16,15>, q : bool)`.",
                       language("Functions"))
     if stop.is_at(",") and stop.is_equals():
-        return Report("the places of several results stand in parentheses", "write `( .. )` around them, as `(p, q) = f(..);`.",
+        return Report("the places of several results stand in parentheses",
+                      "write `( .. )` around them, as `(p, q) = f(..);`.",
                       language("Functions"))
     return None
 
@@ -695,7 +523,8 @@ def no_call(stop, name, span):
         return Report(f"`{name}(..)` is no signal", f"write `{name}` alone: an equation defines the word of this sample.",
                       language("Equations"), span)
     return Report(f"`{name}(..)` would be a call, and no function is called `{name}`",
-                  f"write `{name}@..` for the word of some samples ago, or `{name} * (..)` for a product.", language("Functions"), span)
+                  f"write `{name}@..` for the word of some samples ago, or `{name} * (..)` for a product.",
+                  language("Functions"), span)
 
 
 def is_function(tokens, name):
@@ -730,7 +559,8 @@ def glued(stop):
 
 def assigned(stop):
     if stop.is_at(":") and stop.ahead() == "=":
-        return Report("an equation has `=`", "write `=` in the place of `:=`.", GRAMMAR, stop.span(0, 1)).by(stop.edit(0, 1, "="))
+        return Report("an equation has `=`", "write `=` in the place of `:=`.", GRAMMAR,
+                      stop.span(0, 1)).by(stop.edit(0, 1, "="))
     return None
 
 
@@ -738,7 +568,8 @@ def assigned(stop):
 RULES = (type_first, kept_word, other_word, other_type, other_type_part, two_modes, other_mode, late_var, other_declaration,
          other_head, decimal_comma, table_inside, valued_var, untyped_table, table_words,
          named_dim, no_parameter, delayed_sum, delayed_target, signed_amount, subscript_in_number, lone_equals, doubled,
-         chained_comparison, updated, no_target, choice_as_item, bare_results, bodiless_loop, call_inside, glued, assigned, missing_semicolon)
+         chained_comparison, updated, no_target, choice_as_item, bare_results, bodiless_loop, call_inside, glued, assigned,
+         missing_semicolon)
 
 
 def too_deep(source, position):

@@ -18,7 +18,8 @@ def type_text(of):
 def of_types(source, at, kind):
     fault = Typing(source).first()
     if fault is None or fault.node.at != at or fault.kind != kind:
-        return Report({MISMATCH: "the types differ", NEEDS_CAST: "a type is needed here", LITERAL: "the number is out of range",
+        return Report({MISMATCH: "the types differ", NEEDS_CAST: "a type is needed here",
+                       LITERAL: "the number is out of range",
                        NOT_BOOL: "a truth value is wanted here"}[kind], "change the type here.", language("The typing table"),
                       source.at_span(at))
     report = {MISMATCH: mismatch, NEEDS_CAST: needs_cast, LITERAL: literal, NOT_BOOL: not_truth}[kind](source, fault)
@@ -57,7 +58,8 @@ def mismatch(source, fault):
         of = fault.node.type
         written = bare[:-1] + of.text[len(bare_type(of)) - 1:]
         return Report(f"the cast gives {type_text(fault.found)}, and {type_text(fault.wanted.type)} is wanted",
-                      f"write `{written}` in the place of `{fault.found.text}`.", rule).by(source.text.edit(of.start, of.end, written))
+                      f"write `{written}` in the place of `{fault.found.text}`.",
+                      rule).by(source.text.edit(of.start, of.end, written))
     report = Report(f"`{shown}` is {type_text(fault.found)}, and {type_text(fault.wanted.type)} is wanted",
                     f"write the cast `{bare}({shown})`.", rule) \
         .by(source.text.edit(fault.node.start, fault.node.end, f"{bare}({shown})"))
@@ -210,7 +212,8 @@ def needs_cast(source, fault):
     number = product_of(bare) if node.kind == "product" else None
     if number:
         return Report(f"`{source.shown(bare)}` has no type of its own, and a factor needs one",
-                      f"write `{number}`, which is a number and takes the type of the other factor.", language("Products and casts"),
+                      f"write `{number}`, which is a number and takes the type of the other factor.",
+                      language("Products and casts"),
                       source.node_span(bare)).by(source.text.edit(bare.start, bare.end, number))
     inner = without_brackets(source.shown(bare))
     of = next((found for part in [*node.parts, *bare.parts] if (found := typing.own(part)) and found.width), None)
@@ -232,8 +235,8 @@ def literal(source, fault):
     wider = type_for([fault.node.value])
     short = f"{fault.node.value} is out of range: `{of.text}` has {least} to {most}"
     if wider is None:
-        return Report(short, f"write a number in this range: no type has {fault.node.value}, since a word has at most {MOST_BITS} bits.",
-                      language("Words and types"))
+        return Report(short, f"write a number in this range: no type has {fault.node.value}, since a word has at most "
+                      f"{MOST_BITS} bits.", language("Words and types"))
     wider = bare_type(wider)
     more = f"as a factor it may be `{wider}({fault.node.value})`." if fault.wanted.why.startswith("the factors of") else \
         f"declare a type with more bits before the point, as `{wider}`."

@@ -22,7 +22,8 @@ def report_of(case):
         return no_utf8(words, strange)
     if command not in COMMANDS:
         near = ["--help"] if command in HELP else difflib.get_close_matches(command.lower(), COMMANDS, 1, 0.5)
-        report = Report(f"`{command}` is no command", f"write `{near[0]}`." if near else "write one of these commands.", COMMANDS_PAGE,
+        report = Report(f"`{command}` is no command", f"write `{near[0]}`." if near else "write one of these commands.",
+                        COMMANDS_PAGE,
                         about="silc")
         return report.note(f"The commands are {listed([f'`{name}`' for name in COMMANDS])}; `silc --help` shows their words.")
     files = named(words)
@@ -34,7 +35,8 @@ def report_of(case):
         return bad_number(files)
     other = next((what for what in files if what != "OUT" and files[what] == files.get("OUT")), None)
     if other:
-        return Report(f"OUT is {files['OUT']}, which is {other} too, and would be written over", "give OUT another name.", COMMANDS_PAGE,
+        return Report(f"OUT is {files['OUT']}, which is {other} too, and would be written over", "give OUT another name.",
+                      COMMANDS_PAGE,
                       about="silc")
     name = same_input(files)
     return Report(f"OUT is {files['OUT']}, and this is the file {name}, which would be written over", "give OUT another name.",

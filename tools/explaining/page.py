@@ -13,7 +13,8 @@ What `silc` prints when it refuses a command, by its exit code, each with an exa
 
 `tools/explain --page` makes this page, of the table in `tools/explaining/refusals.py` and of the cases in `tests/explain/cases`, which have the files of each example and more mistakes. `tests/explain/check_cases.py` runs them all and applies their cures.
 """
-TITLES = {1: "Memory", 2: "Words", 3: "Files", 4: "Sources", 5: "Datapath files", 6: "Units", 7: "Cells", 8: "Cycles", 9: "Registers",
+TITLES = {1: "Memory", 2: "Words", 3: "Files", 4: "Sources", 5: "Datapath files", 6: "Units", 7: "Cells", 8: "Cycles",
+          9: "Registers",
           10: "Microcode", 11: "Samples", 12: "Conflicts"}
 # A line of a file as it is shown, and the place before what is wrong.
 SHOWN = re.compile(r" *\d* \| ")
@@ -40,7 +41,8 @@ class Example:
         for number, line in enumerate(self.lines):
             found = re.match(begin, line)
             if found:
-                rest = itertools.takewhile(lambda more: more.startswith("  ") and not SHOWN.match(more), self.lines[number + 1:])
+                rest = itertools.takewhile(lambda more: more.startswith("  ") and not SHOWN.match(more),
+                                           self.lines[number + 1:])
                 return " ".join([line[found.end():], *map(str.strip, rest)])
         return ""
 
@@ -63,7 +65,8 @@ def cure_of(said):
         elif "words" in cure:
             words.append(f"`silc {' '.join(cure['words'])}`")
         elif "old" in cure:
-            words.append(f"in `{cure['file']}`, {quoted(cure['new'])} in the place of {quoted(cure['old'])}" if cure["new"].strip()
+            words.append(f"in `{cure['file']}`, {quoted(cure['new'])} in the place of {quoted(cure['old'])}"
+                         if cure["new"].strip()
                          else f"in `{cure['file']}`, without {quoted(cure['old'])}")
         elif "at" in cure:
             words.append(f"in `{cure['file']}`, from byte {cure['at']} on, other bytes")

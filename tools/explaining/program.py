@@ -70,7 +70,8 @@ class Source:
 
     def function_at(self, place):
         """The function in whose text a place is; nothing before the first one."""
-        return max((top for top in self.tops if isinstance(top, Func) and top.at <= place), key=lambda func: func.at, default=None)
+        return max((top for top in self.tops if isinstance(top, Func) and top.at <= place), key=lambda func: func.at,
+                   default=None)
 
     def contexts(self, func):
         """All nodes of a function, each before its parts."""

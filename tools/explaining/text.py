@@ -54,7 +54,8 @@ class Text:
 
     def edit(self, start, end, text):
         """The replacement of what stands between two places by a text."""
-        return Edit(self.name, self.line_of(start), self.column_of(start), len(self.data[start:end].decode(errors="replace")), text)
+        return Edit(self.name, self.line_of(start), self.column_of(start), len(self.data[start:end].decode(errors="replace")),
+                    text)
 
     def line_span(self, number):
         """A whole line, without the blanks around it."""

@@ -36,7 +36,8 @@ class Places:
         for (_, made), (end, _) in zip(marks, [*marks[1:], (len(chars), None)]):
             if made:
                 table, entry = made
-                value = re.sub(r"\s+$", "", re.sub(r"(?m)[ \t]*#[^\"'\n]*$", lambda c: " " * len(c[0]), chars[entry.end():end]))
+                value = re.sub(r"\s+$", "", re.sub(r"(?m)[ \t]*#[^\"'\n]*$", lambda c: " " * len(c[0]),
+                                                   chars[entry.end():end]))
                 self.entries[table, entry[1].strip("\"'")] = Place(entry.span(1), (entry.end(), entry.end() + len(value)))
 
     def key(self, table, key):
@@ -54,7 +55,8 @@ class Places:
             return self.headers.get(table)
         if item is not None:
             number, text = item
-            found = [m.span() for m in re.finditer(re.escape(f'"{text}"') + "|" + re.escape(f"'{text}'"), self.chars[:place.value[1]])
+            found = [m.span() for m in re.finditer(re.escape(f'"{text}"') + "|" + re.escape(f"'{text}'"),
+                                                   self.chars[:place.value[1]])
                      if m.start() >= place.value[0]]
             if found:
                 return found[min(number, len(found) - 1)]
