@@ -1,0 +1,1 @@
+"""What is wrong in a source, and what is doubtful in one that has no fault."""

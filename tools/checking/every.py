@@ -1,0 +1,117 @@
+"""All faults of a source that can be told: the first one, and those that are found where items with faults are left out. A
+fault that may come from what was left out is none."""
+import time
+from array import array
+from collections.abc import Callable
+
+from explaining.found import is_unknown
+from explaining.of_names import unknown_name
+from explaining.program import Source
+from explaining.text import Span, Text
+
+from checking.findings import Finding, finding_of
+from checking.first import Fault, first_fault
+from checking.left_out import IN_TEXT, Omission, omission
+
+MOST_FAULTS, MOST_SECONDS, MOST_BYTES = 20, 3.0, 1 << 16
+NOWHERE = -1
+
+
+class Edited(Text):
+    """A source in which something is left out, whose places are told as those of the source. Its lines are the same."""
+
+    def __init__(self, original: Text, data: bytes, origins: array):
+        super().__init__(original.name, data)
+        self.original, self.origins = original, origins
+
+    def origin(self, place: int) -> int:
+        """The place of a byte in the source, or of the next one that is there."""
+        return next((origin for origin in self.origins[place:] if origin != NOWHERE), len(self.original.data))
+
+    def is_there(self, place: int) -> bool:
+        """Whether what stands at a place stands in the source."""
+        return place >= len(self.origins) or self.origins[place] != NOWHERE
+
+    def span(self, start: int, end: int | None = None) -> Span:
+        first = self.origin(start)
+        return self.original.span(first, None if end is None else first + end - start)
+
+    def edit(self, start: int, end: int, text: str):
+        first = self.origin(start)
+        return self.original.edit(first, first + end - start, text)
+
+    def without(self, left: Omission) -> "Edited":
+        """The source with something more left out, with as many ends of lines as before."""
+        lines = self.data[left.start:left.end].count(b"\n")
+        text = left.text.encode("latin-1") + b"\n" * lines
+        data = self.data[:left.start] + text + self.data[left.end:]
+        origins = self.origins[:left.start] + array("q", [NOWHERE]) * len(text) + self.origins[left.end:]
+        return Edited(self.original, data, origins)
+
+
+class Search:
+    """The faults that are found one after another, and the names that lack what was left out."""
+
+    def __init__(self, text: Text):
+        self.text = Edited(text, text.data, array("q", range(len(text.data))))
+        self.found, self.undefined, self.undeclared, self.unknown = [], set(), set(), set()
+
+    def take(self, fault: Fault) -> bool:
+        """Keeps a fault, and leaves out what has it. Whether there may be another."""
+        source = Source(self.text)
+        if fault.kind == "Unknown":
+            self.found += self.unknowns(source, fault)
+        elif not self.is_consequence(source, fault):
+            self.found.append(fault.finding())
+        left = omission(source, fault.kind, fault.place)
+        if left is None or left.start == left.end and not left.text:
+            return False
+        self.undefined |= left.undefined
+        self.undeclared |= left.undeclared
+        self.text = self.text.without(left)
+        return True
+
+    def is_consequence(self, source: Source, fault: Fault) -> bool:
+        """Whether a fault may come from what was left out."""
+        if fault.kind == "NoMain":
+            return "main" in self.undeclared
+        if fault.kind in IN_TEXT or fault.kind == "Loop" or fault.place is None:
+            return False
+        token = source.token_at(fault.place)
+        lost = self.undeclared | (self.undefined if fault.kind == "NotDefined" else set())
+        return not self.text.is_there(fault.place) or token is not None and token.text in lost
+
+    def unknowns(self, source: Source, fault: Fault) -> list[Finding]:
+        """The unknown names of an item, each once in its function."""
+        func = source.function_at(fault.place)
+        places = {context.node.at for context in source.contexts(func) if is_unknown(source, context)
+                  and any(other.node.at == fault.place and other.item is context.item for other in source.contexts(func))}
+        made = []
+        for place in sorted(places | {fault.place}):
+            name = source.token_at(place).text
+            if (func.name, name) not in self.unknown and name not in self.undeclared and self.text.is_there(place):
+                report = unknown_name(source, place)
+                report.span = report.span or source.at_span(place)
+                made.append(finding_of(report))
+            self.unknown.add((func.name, name))
+        return made
+
+
+def every_fault(text: Text, is_stale: Callable[[], bool] = lambda: False) -> list[Finding]:
+    """The faults of a source by their places. It ends early where nobody wants them any more."""
+    fault = first_fault(text)
+    if fault is None:
+        return []
+    if len(text.data) > MOST_BYTES or fault.kind is None:
+        return [fault.finding()]
+    search, until = Search(text), time.monotonic() + MOST_SECONDS
+    while fault and search.take(fault) and len(search.found) < MOST_FAULTS and time.monotonic() < until and not is_stale():
+        fault = next_fault(search.text)
+    found = search.found or [fault.finding()]
+    return sorted(dict.fromkeys(found), key=lambda one: (one.line, one.column))[:MOST_FAULTS]
+
+
+def next_fault(text: Text) -> Fault | None:
+    """The first fault of a source in which something is left out, or nothing where its place is not known."""
+    fault = first_fault(text)
+    return fault if fault and fault.kind else None
