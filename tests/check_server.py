@@ -110,6 +110,9 @@ def found(answers):
 
 
 PLANNED = (8, "over plain.toml: a period of 22 cycles, 13 nodes")
+# Of x = -1.0: -2.0 of `twice`, and 0.5 and 0.25 times x.
+WRAPPING = (13, "`s[k] + h[k] * x@k` reaches -2.75 with inputs at the ends of their ranges, where `k` = 1, and `fix<16,15>` wraps "
+                "below -1")
 EXPECTED = {
     "hover_table": "h[2] : fix<16,15> (table, 2 elements)",
     "hover_local": "s[3] : fix<16,15> (local of main, 3 elements)",
@@ -124,11 +127,11 @@ EXPECTED = {
     "outline": {"h": [], "twice": ["x", "y"], "main": ["x", "y", "s", "k"]},
     "completion": {"h": True, "s": True, "k": True, "x": True, "twice": True, "round": True, "sat": True},
     "no index before": False,
-    "opened": [PLANNED],
+    "opened": [WRAPPING, PLANNED],
     "broken": [(15, "no signal of `main` is called `z`")],
-    "mended": [PLANNED],
+    "mended": [WRAPPING, PLANNED],
     "undefined": [(8, "no equation defines `y`")],
-    "severities": [4, 1, 4, 1],
+    "severities": [2, 4, 1, 2, 4, 1],
 }
 
 

@@ -137,10 +137,12 @@ def of_item(source: Source, kind: str, place: int) -> Omission | None:
         return Omission(item.start, item.end)
     if kind != "Loop" and any(target.start <= place < target.end for target in targets):
         lost = names - {source.token_at(place).text} if kind == "DefinedTwice" else names
+        lost = lost if kind != "Unknown" else {decl.name for decl in func.decls()}
         return Omission(item.start, item.end, undefined=frozenset(lost))
     given = [constants(source, func, target) for target in targets]
     if None in given:
-        return Omission(item.start, item.end, undefined=frozenset(names))
+        # A target that is none may be meant for any of them.
+        return Omission(item.start, item.end, undefined=frozenset(decl.name for decl in func.decls()))
     return Omission(item.start, item.end, " ".join(given))
 
 
