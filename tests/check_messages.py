@@ -77,11 +77,15 @@ class Client:
     def wait(self, is_it) -> tuple[float, dict]:
         """The next message that is meant, with when it came. All that come before it are kept."""
         until = time.monotonic() + SECONDS
-        while True:
-            at, message = self.came.get(timeout=max(until - time.monotonic(), 0.01))
+        while time.monotonic() < until and (self.process.poll() is None or not self.came.empty()):
+            try:
+                at, message = self.came.get(timeout=0.1)
+            except queue.Empty:
+                continue
             self.told.append((at, message))
             if is_it(message):
                 return at, message
+        sys.exit("messages: the server has ended" if self.process.poll() is not None else "messages: the server does not answer")
 
     def ask(self, method: str, **params):
         self.number += 1

@@ -1,5 +1,6 @@
 -- A session of Neovim with the language server: it writes what the server answers as JSON, by the names of the questions.
--- ASKED names a JSON file: the command of the server, the source, and for each question its method, line and column.
+-- ASKED names a JSON file: the command of the server, or none where a configuration starts it, the source, and for each
+-- question its method, line and column.
 local asked = vim.fn.json_decode(vim.fn.readfile(os.getenv('ASKED')))
 local seconds = 1000
 
@@ -11,15 +12,20 @@ local function diagnostics()
   return found
 end
 
-vim.cmd('edit ' .. asked.source)
 local heard = 0
 local handler = vim.lsp.handlers['textDocument/publishDiagnostics']
 vim.lsp.handlers['textDocument/publishDiagnostics'] = function(...)
   heard = heard + 1
   return handler(...)
 end
-local id = vim.lsp.start_client({ cmd = asked.command, root_dir = vim.fn.getcwd(), init_options = asked.options })
-vim.lsp.buf_attach_client(0, id)
+vim.cmd('edit ' .. asked.source)
+local id
+if asked.command then
+  id = vim.lsp.start_client({ cmd = asked.command, root_dir = vim.fn.getcwd(), init_options = asked.options })
+  vim.lsp.buf_attach_client(0, id)
+else
+  for number, _ in pairs(vim.lsp.buf_get_clients(0)) do id = number end
+end
 vim.wait(60 * seconds, function() return heard > 0 end)
 local answers = { opened = diagnostics() }
 
@@ -40,6 +46,18 @@ for _, edit in ipairs(asked.edits) do
   answers[edit.name] = diagnostics()
 end
 
+if asked.layout then
+  vim.lsp.buf.formatting_sync(nil, 60 * seconds)
+  answers.layout = vim.api.nvim_buf_get_lines(0, 0, -1, false)
+end
+if asked.make then
+  vim.cmd('compiler silc | silent make!')
+  answers.make = {}
+  for _, one in ipairs(vim.fn.getqflist()) do
+    table.insert(answers.make, { one.lnum, one.col, one.type, one.text })
+  end
+end
+
 vim.fn.writefile({ vim.fn.json_encode(answers) }, os.getenv('ANSWERS'))
-vim.lsp.stop_client(id)
+if id then vim.lsp.stop_client(id) end
 vim.cmd('qall!')

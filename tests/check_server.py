@@ -1,5 +1,6 @@
 #!/usr/bin/env python3
-"""Whether the language server answers a real client: headless Neovim opens a source, asks about its names, and changes it.
+"""Whether the language server answers a real client: headless Neovim opens a source, asks about its names, and changes it;
+and whether the lines for Neovim 0.7 in editor/README.md start it, and Vim's compiler takes the lines of tools/check apart.
 
 usage: tests/check_server.py
 
@@ -7,6 +8,7 @@ It runs the built `silc`, or the one that `SILC` names. Without Neovim it is ski
 """
 import json
 import os
+import re
 import shutil
 import subprocess
 import sys
@@ -16,6 +18,7 @@ from pathlib import Path
 HERE = Path(__file__).resolve().parent
 ROOT = HERE.parent
 SERVER = ROOT / "editor" / "lsp" / "silc-lsp"
+README = ROOT / "editor" / "README.md"
 SECONDS, SKIPPED = 240, 77
 # A comment with a letter that has two units in UTF-16, so that columns after it are those of the protocol.
 SOURCE = """/* 𝄞 datapath */ const h[2] : fix<16,15> = (0.5, 0.25);
@@ -64,18 +67,32 @@ def asked(room):
             "edits": edits}
 
 
-def answered(room):
-    """What the server answers in Neovim."""
-    (room / "some.sil").write_text(SOURCE)
+def answered(room, text, asked_for, configuration="NONE"):
+    """What the server answers in Neovim about a text."""
+    (room / "some.sil").write_text(text)
     shutil.copy(DATAPATH, room / "plain.toml")
-    (room / "asked.json").write_text(json.dumps(asked(room)))
+    (room / "asked.json").write_text(json.dumps(asked_for))
+    (room / "answers.json").unlink(missing_ok=True)
     environment = os.environ | {"ASKED": str(room / "asked.json"), "ANSWERS": str(room / "answers.json"), "HOME": str(room),
                                 "XDG_STATE_HOME": str(room), "XDG_DATA_HOME": str(room), "XDG_CONFIG_HOME": str(room)}
-    done = subprocess.run(["nvim", "--headless", "-u", "NONE", "-i", "NONE", "-n", "-c", f"luafile {HERE / 'check_server.lua'}"], cwd=room,
-                          env=environment, stdin=subprocess.DEVNULL, capture_output=True, text=True, timeout=SECONDS)
+    words = ["nvim", "--headless", "-u", configuration, "-i", "NONE", "-n", "-c", f"luafile {HERE / 'check_server.lua'}"]
+    done = subprocess.run(words, cwd=room, env=environment, stdin=subprocess.DEVNULL, capture_output=True, text=True, timeout=SECONDS)
     if not (room / "answers.json").is_file():
         sys.exit(f"lsp: Neovim gave no answers: {done.stderr.strip()[-400:]}")
     return json.loads((room / "answers.json").read_text())
+
+
+def by_readme(room):
+    """What Neovim 0.7 answers with the lines of editor/README.md and the package for Vim."""
+    (block,) = re.findall(r"```lua\n( *-- 0\.7\n.*?)```", README.read_text(), re.S)
+    lines = block.replace("REPOSITORY", str(ROOT)).replace("one_multiplier.toml", "plain.toml")
+    (room / "init.lua").write_text(f"vim.opt.runtimepath:prepend('{ROOT / 'editor' / 'vim'}')\n{lines}")
+    text = SOURCE.replace("  y = x + x;", "  var t : fix<16,15>;\n  t = x;\n     y = x   +  x;").replace("/* datapath: plain.toml */\n", "")
+    answers = answered(room, text, {"source": str(room / "some.sil"), "questions": [], "edits": [], "layout": True, "make": True},
+                       room / "init.lua")
+    return {"by README": sorted((line, text) for line, _, _, _, text in answers["opened"]),
+            "laid out": answers["layout"] == text.replace("     y = x   +  x;", "  y = x + x;").splitlines(),
+            "make": answers["make"]}
 
 
 def told(answer):
@@ -132,6 +149,9 @@ EXPECTED = {
     "mended": [WRAPPING, PLANNED],
     "undefined": [(8, "no equation defines `y`")],
     "severities": [2, 4, 1, 2, 4, 1],
+    "by README": [(4, "`t` is never read"), (PLANNED[0] + 1, PLANNED[1]), (WRAPPING[0] + 1, WRAPPING[1])],
+    "laid out": True,
+    "make": [[5, 7, "w", "`t` is never read"], [WRAPPING[0] + 2, 14, "w", WRAPPING[1]]],
 }
 
 
@@ -140,7 +160,8 @@ def main():
         print("lsp: Neovim is not there (apt-get install neovim): 1 session skipped")
         return SKIPPED
     with tempfile.TemporaryDirectory(prefix="silc-lsp-test-") as folder:
-        got = found(answered(Path(folder).resolve()))
+        room = Path(folder).resolve()
+        got = found(answered(room, SOURCE, asked(room))) | by_readme(room)
     wrong = [name for name, value in EXPECTED.items() if got[name] != value]
     for name in wrong:
         print(f"lsp: {name} is {got[name]} in the place of {EXPECTED[name]}")
