@@ -67,14 +67,17 @@ def matcher_faults():
     if task["problemMatcher"] != f"${matcher['name']}":
         yield f"the task has another problem matcher than {matcher['name']}"
     pattern = matcher["pattern"]
-    places = [pattern[part] for part in ("file", "line", "column", "endColumn", "message")]
-    cases = tomllib.loads(CHECK_CASES.read_text())["case"]
-    for fault in [row["fault"] for case in cases for row in case.get("rows", [])]:
-        line, column, end, message = re.fullmatch(r"(\d+):(\d+)-(\d+): (.*)", fault).groups()
+    places = [pattern[part] for part in ("file", "line", "column", "endColumn", "severity", "message")]
+    rows = [row for case in tomllib.loads(CHECK_CASES.read_text())["case"] for row in case.get("rows", [])]
+    said = [(None, row["fault"]) for row in rows if "fault" in row]
+    said += [("warning", f"{row['place']}: {row['warning']}") for row in rows if "warning" in row]
+    for severity, text in said:
+        line, column, end, message = re.fullmatch(r"(\d+):(\d+)-(\d+): (.*)", text).groups()
+        text = f"{line}:{column}-{end}: {'warning: ' if severity else ''}{message}"
         for file in ("SRC", "/a folder/one:two.sil"):
-            found = re.search(pattern["regexp"], f"{file}:{fault}")
-            if not found or [found[place] for place in places] != [file, line, column, end, message]:
-                yield f"the problem matcher does not take {file}:{fault} apart"
+            found = re.search(pattern["regexp"], f"{file}:{text}")
+            if not found or [found[place] for place in places] != [file, line, column, end, severity, message]:
+                yield f"the problem matcher does not take {file}:{text} apart"
 
 
 def main():

@@ -50,46 +50,74 @@ class Edited(Text):
 
 
 class Search:
-    """The faults that are found one after another, and the names that lack what was left out."""
+    """The faults that are found one after another, and what else than the source may be the cause of the next one."""
 
     def __init__(self, text: Text):
         self.text = Edited(text, text.data, array("q", range(len(text.data))))
-        self.found, self.undefined, self.undeclared, self.unknown = [], set(), set(), set()
+        self.found, self.unknown = [], set()
+        # The functions that may lack definitions, the words that begin what is left out whole, and where the last of it that
+        # could not be read ends.
+        self.open, self.tops, self.last = set(), set(), NOWHERE
+        # The names in what could not be read, and its lines.
+        self.names, self.lines = set(), set()
 
     def take(self, fault: Fault) -> bool:
         """Keeps a fault, and leaves out what has it. Whether there may be another."""
         source = Source(self.text)
+        left = omission(source, fault.kind, fault.place)
         if fault.kind == "Unknown":
             self.found += self.unknowns(source, fault)
-        elif not self.is_consequence(source, fault):
+        elif not self.is_consequence(source, fault, left):
             self.found.append(fault.finding())
-        left = omission(source, fault.kind, fault.place)
         if left is None or left.start == left.end and not left.text:
             return False
-        self.undefined |= left.undefined
-        self.undeclared |= left.undeclared
+        if left.func is not None:
+            self.open.add(self.text.origin(left.func))
+        if left.top:
+            self.tops.add(left.top)
+        if fault.kind in IN_TEXT:
+            self.last = self.text.origin(left.end)
+            self.names |= left.names
+            self.lines |= {*range(self.text.line_of(left.start), self.text.line_of(left.end) + 1)} if not left.top else set()
         self.text = self.text.without(left)
         return True
 
-    def is_consequence(self, source: Source, fault: Fault) -> bool:
+    def is_consequence(self, source: Source, fault: Fault, left: Omission | None) -> bool:
         """Whether a fault may come from what was left out."""
         if fault.kind == "NoMain":
-            return "main" in self.undeclared
-        if fault.kind in IN_TEXT or fault.kind == "Loop" or fault.place is None:
+            return bool(self.tops)
+        if fault.kind in IN_TEXT:
+            return self.is_torn(left)
+        if fault.kind == "Loop":
+            # Of two definitions the one that is kept may be the wrong one.
+            return bool(self.open)
+        if fault.place is None:
             return False
-        token = source.token_at(fault.place)
-        lost = self.undeclared | (self.undefined if fault.kind == "NotDefined" else set())
-        return not self.text.is_there(fault.place) or token is not None and token.text in lost
+        if fault.kind == "NotDefined":
+            return self.text.origin(source.function_at(fault.place).at) in self.open
+        return not self.text.is_there(fault.place) or source.line(fault.place) in self.lines
+
+    def is_torn(self, left: Omission | None) -> bool:
+        """Whether a function can't be read for what was left out in it, or in front of it."""
+        if left is None:
+            return False
+        places = range(self.text.origin(left.start), self.text.origin(left.end))
+        between = self.text.original.chars[self.last:places.start] if NOWHERE < self.last <= places.start else "something"
+        is_next = not between.strip() and (bool(left.top) or "\n" not in between)
+        return is_next or bool(left.top) and any(place in places for place in self.open)
 
     def unknowns(self, source: Source, fault: Fault) -> list[Finding]:
         """The unknown names of an item, each once in its function."""
         func = source.function_at(fault.place)
-        places = {context.node.at for context in source.contexts(func) if is_unknown(source, context)
-                  and any(other.node.at == fault.place and other.item is context.item for other in source.contexts(func))}
+        contexts = {context.node.at: context for context in source.contexts(func) if is_unknown(source, context)
+                    and any(other.node.at == fault.place and other.item is context.item for other in source.contexts(func))}
         made = []
-        for place in sorted(places | {fault.place}):
+        for place in sorted({*contexts, fault.place}):
             name = source.token_at(place).text
-            if (func.name, name) not in self.unknown and name not in self.undeclared and self.text.is_there(place):
+            is_call = place in contexts and contexts[place].role == "call"
+            # What is left out may have declared it.
+            is_lost = not self.text.is_there(place) or ("func" if is_call else "const") in self.tops or name in self.names
+            if (func.name, name) not in self.unknown and not is_lost:
                 report = unknown_name(source, place)
                 report.span = report.span or source.at_span(place)
                 made.append(finding_of(report))

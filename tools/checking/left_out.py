@@ -16,13 +16,15 @@ MOST_BAD = 50
 
 @dataclass(frozen=True)
 class Omission:
-    """What is left out, from a place to another one, what stands there then, the signals that may lack a definition from
-    there, and the names that may lack their declaration."""
+    """What is left out, from a place to another one, and what stands there then. Of a whole function or table it is the word
+    that begins it; of a part of a function the place of its name, where what is left out may define something, and the names
+    that it may declare, where it could not be read."""
     start: int
     end: int
     text: str = ""
-    undefined: frozenset = frozenset()
-    undeclared: frozenset = frozenset()
+    top: str = ""
+    func: int | None = None
+    names: frozenset = frozenset()
 
 
 def omission(source: Source, kind: str | None, place: int | None) -> Omission | None:
@@ -67,23 +69,11 @@ def of_tokens(source: Source, kind: str, place: int) -> Omission | None:
         return None
     first, last = item or top
     start, end = tokens[first].start, tokens[last - 1].end
-    if item:
-        return Omission(start, end, undefined=targets_in(tokens[first:last]))
-    return Omission(start, end, undeclared=frozenset(token.text for token in tokens[first + 1:first + 2]))
-
-
-def targets_in(tokens: list[Token]) -> frozenset:
-    """The names that the tokens of an item with a fault may define: those before a `=`, or all where there is none."""
-    found = set()
-    for at in [k for k, token in enumerate(tokens) if token.text == "="]:
-        depth = 0
-        for token in reversed(tokens[:at]):
-            depth += (token.text in ("]", ")")) - (token.text in ("[", "("))
-            if token.kind == "name":
-                found.add(token.text)
-                if depth <= 0:
-                    break
-    return frozenset(found or {token.text for token in tokens if token.kind == "name"})
+    if not item:
+        return Omission(start, end, top=tokens[first].text)
+    heads = [k for k, token in enumerate(tokens[:first]) if token.text in TOPS]
+    names = frozenset(token.text for token in tokens[first:last] if token.kind == "name")
+    return Omission(start, end, func=tokens[heads[-1] + 1].start, names=names)
 
 
 def item_at(tokens: list[Token], at: int) -> tuple[int, int] | None:
@@ -132,17 +122,13 @@ def of_item(source: Source, kind: str, place: int) -> Omission | None:
         return None
     item = items[-1]
     targets = targets_of(item)
-    names = {target.name for target in targets}
     if item.kind == "initial":
         return Omission(item.start, item.end)
-    if kind != "Loop" and any(target.start <= place < target.end for target in targets):
-        lost = names - {source.token_at(place).text} if kind == "DefinedTwice" else names
-        lost = lost if kind != "Unknown" else {decl.name for decl in func.decls()}
-        return Omission(item.start, item.end, undefined=frozenset(lost))
+    is_target = kind != "Loop" and any(target.start <= place < target.end for target in targets)
     given = [constants(source, func, target) for target in targets]
-    if None in given:
-        # A target that is none may be meant for any of them.
-        return Omission(item.start, item.end, undefined=frozenset(decl.name for decl in func.decls()))
+    if is_target or None in given:
+        # The target may be meant for another one.
+        return Omission(item.start, item.end, func=func.at)
     return Omission(item.start, item.end, " ".join(given))
 
 
