@@ -85,7 +85,7 @@ class Client:
             self.told.append((at, message))
             if is_it(message):
                 return at, message
-        sys.exit("messages: the server has ended" if self.process.poll() is not None else "messages: the server does not answer")
+        sys.exit(f"messages: the server {'does not answer' if self.process.poll() is None else 'has ended'}")
 
     def ask(self, method: str, **params):
         self.number += 1
@@ -114,13 +114,13 @@ def place(text: str, words: str, after: int = 0) -> dict:
 
 
 def shown(marks: list[dict]) -> list[tuple]:
-    return [(mark["range"]["start"]["line"], mark["range"]["start"]["character"], mark["severity"], mark["message"]) for mark in marks]
+    return [(*mark["range"]["start"].values(), mark["severity"], mark["message"]) for mark in marks]
 
 
 def edited(text: str, edits: list[dict]) -> str:
     """A text after the edits of the protocol. Its lines have no letters of two units."""
     starts = [0, *(found.end() for found in re.finditer("\n", text))]
-    for edit in sorted(edits, key=lambda one: (one["range"]["start"]["line"], one["range"]["start"]["character"]), reverse=True):
+    for edit in sorted(edits, key=lambda one: [*one["range"]["start"].values()], reverse=True):
         start, end = (starts[min(edit["range"][which]["line"], len(starts) - 1)] + edit["range"][which]["character"]
                       for which in ("start", "end"))
         text = text[:start] + edit["newText"] + text[end:]
@@ -194,7 +194,7 @@ def questions(client: Client, uri: str):
         (3, 6, 1, "nothing here is called `a`"), (4, 6 + 5, 1, "a `;` is missing after `b`"), ]
     yield "a fault has no layout", client.ask("textDocument/formatting", textDocument=document, options={}).get("code"), -32803
     at = place(FAULTS, "\nend")
-    actions = client.ask("textDocument/codeAction", textDocument=document, range={"start": at, "end": at}, context={"diagnostics": []})
+    actions = client.ask("textDocument/codeAction", textDocument=document, range={"start": at, "end": at}, context={})
     yield "the cure", [(one["title"], edited(FAULTS, one["edit"]["changes"][uri])) for one in actions], [
         ("write `;` after `b`", FAULTS.replace("+ b\n", "+ b;\n"))]
     doubtful = f"{WORD} begin var t : fix<8,0>; t = 1; y = x + x@1; end;"
@@ -203,7 +203,7 @@ def questions(client: Client, uri: str):
     yield "warnings", shown(marks), [(0, 49, 2, "`t` is never read"), (0, 74, 2, (
         "`x + x@1` reaches -256 with inputs at the ends of their ranges, and `fix<8,0>` wraps below -128"))]
     yield "what may be taken away", [mark.get("tags") for mark in marks], [[1], None]
-    actions = client.ask("textDocument/codeAction", textDocument=document, range=marks[1]["range"], context={"diagnostics": []})
+    actions = client.ask("textDocument/codeAction", textDocument=document, range=marks[1]["range"], context={})
     yield "a wrap that is meant", [edited(doubtful, one["edit"]["changes"][uri]) for one in actions], [
         doubtful.replace("x@1;", "x@1; /* wraps */")]
 

@@ -41,11 +41,13 @@ end;
 """
 DATAPATH = ROOT / "examples" / "lowpass16" / "one_multiplier.toml"
 # Of each question its method and where it is asked: a line from 0, and a text there with the place in it.
-QUESTIONS = {"hover_table": ("hover", 13, "h[k] *"), "hover_local": ("hover", 15, "s[2]"), "hover_index": ("hover", 13, "k] +"),
-             "hover_function": ("hover", 11, "twice"), "hover_other_x": ("hover", 5, "x;"), "hover_nothing": ("hover", 4, "begin"),
+QUESTIONS = {"hover_table": ("hover", 13, "h[k] *"), "hover_local": ("hover", 15, "s[2]"),
+             "hover_index": ("hover", 13, "k] +"), "hover_function": ("hover", 11, "twice"),
+             "hover_other_x": ("hover", 5, "x;"), "hover_nothing": ("hover", 4, "begin"),
              "definition": ("definition", 13, "h[k] *"), "definition_of_x": ("definition", 13, "x@k"),
              "references": ("references", 10, "s[3]"), "references_of_k": ("references", 12, "k :"),
-             "outline": ("documentSymbol", 0, ""), "completion": ("completion", 13, "s[k] +"), "completion_before": ("completion", 5, "y")}
+             "outline": ("documentSymbol", 0, ""), "completion": ("completion", 13, "s[k] +"),
+             "completion_before": ("completion", 5, "y")}
 # Edits one after another: the line, the old text in it and the new one.
 EDITS = {"broken": (15, "y", "z"), "mended": (15, "z", "y"), "undefined": (15, "y = s[2];", "")}
 
@@ -76,7 +78,8 @@ def answered(room, text, asked_for, configuration="NONE"):
     environment = os.environ | {"ASKED": str(room / "asked.json"), "ANSWERS": str(room / "answers.json"), "HOME": str(room),
                                 "XDG_STATE_HOME": str(room), "XDG_DATA_HOME": str(room), "XDG_CONFIG_HOME": str(room)}
     words = ["nvim", "--headless", "-u", configuration, "-i", "NONE", "-n", "-c", f"luafile {HERE / 'check_server.lua'}"]
-    done = subprocess.run(words, cwd=room, env=environment, stdin=subprocess.DEVNULL, capture_output=True, text=True, timeout=SECONDS)
+    done = subprocess.run(words, cwd=room, env=environment, stdin=subprocess.DEVNULL, capture_output=True, text=True,
+                          timeout=SECONDS)
     if not (room / "answers.json").is_file():
         sys.exit(f"lsp: Neovim gave no answers: {done.stderr.strip()[-400:]}")
     return json.loads((room / "answers.json").read_text())
@@ -87,9 +90,10 @@ def by_readme(room):
     (block,) = re.findall(r"```lua\n( *-- 0\.7\n.*?)```", README.read_text(), re.S)
     lines = block.replace("REPOSITORY", str(ROOT)).replace("one_multiplier.toml", "plain.toml")
     (room / "init.lua").write_text(f"vim.opt.runtimepath:prepend('{ROOT / 'editor' / 'vim'}')\n{lines}")
-    text = SOURCE.replace("  y = x + x;", "  var t : fix<16,15>;\n  t = x;\n     y = x   +  x;").replace("/* datapath: plain.toml */\n", "")
-    answers = answered(room, text, {"source": str(room / "some.sil"), "questions": [], "edits": [], "layout": True, "make": True},
-                       room / "init.lua")
+    text = SOURCE.replace("  y = x + x;", "  var t : fix<16,15>;\n  t = x;\n     y = x   +  x;")
+    text = text.replace("/* datapath: plain.toml */\n", "")
+    session = {"source": str(room / "some.sil"), "questions": [], "edits": [], "layout": True, "make": True}
+    answers = answered(room, text, session, room / "init.lua")
     return {"by README": sorted((line, text) for line, _, _, _, text in answers["opened"]),
             "laid out": answers["layout"] == text.replace("     y = x   +  x;", "  y = x + x;").splitlines(),
             "make": answers["make"]}
@@ -128,8 +132,8 @@ def found(answers):
 
 PLANNED = (8, "over plain.toml: a period of 22 cycles, 13 nodes")
 # Of x = -1.0: -2.0 of `twice`, and 0.5 and 0.25 times x.
-WRAPPING = (13, "`s[k] + h[k] * x@k` reaches -2.75 with inputs at the ends of their ranges, where `k` = 1, and `fix<16,15>` wraps "
-                "below -1")
+WRAPPING = (13, "`s[k] + h[k] * x@k` reaches -2.75 with inputs at the ends of their ranges, where `k` = 1, and `fix<16,15>` "
+                "wraps below -1")
 EXPECTED = {
     "hover_table": "h[2] : fix<16,15> (table, 2 elements)",
     "hover_local": "s[3] : fix<16,15> (local of main, 3 elements)",

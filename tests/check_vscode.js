@@ -52,10 +52,12 @@ function collection() {
 }
 
 const vscode = {
-  Position: kept('Position', 'line', 'character'), Range: kept('Range', 'start', 'end'), Location: kept('Location', 'uri', 'range'),
+  Position: kept('Position', 'line', 'character'), Range: kept('Range', 'start', 'end'),
+  Location: kept('Location', 'uri', 'range'),
   Diagnostic: kept('Diagnostic', 'range', 'message', 'severity'), TextEdit: kept('TextEdit', 'range', 'newText'),
   Hover: kept('Hover', 'contents', 'range'), MarkdownString: kept('MarkdownString', 'value'),
-  CompletionItem: kept('CompletionItem', 'label', 'kind'), DocumentSymbol: kept('DocumentSymbol', 'name', 'detail', 'kind', 'range', 'own'),
+  CompletionItem: kept('CompletionItem', 'label', 'kind'),
+  DocumentSymbol: kept('DocumentSymbol', 'name', 'detail', 'kind', 'range', 'own'),
   SignatureHelp: kept('SignatureHelp'), SignatureInformation: kept('SignatureInformation', 'label'),
   ParameterInformation: kept('ParameterInformation', 'label'), CodeAction: kept('CodeAction', 'title', 'kind'),
   CodeActionKind: { QuickFix: 'quickfix' }, Uri, WorkspaceEdit,
@@ -80,7 +82,8 @@ const load = Module._load;
 Module._load = (name, ...rest) => (name === 'vscode' ? vscode : load(name, ...rest));
 
 const text = fs.readFileSync(file, 'utf8');
-const document = { uri: Uri.parse(`file://${encodeURI(file)}`), languageId: 'silc', version: 1, text, getText() { return this.text; } };
+const uri = Uri.parse(`file://${encodeURI(file)}`);
+const document = { uri, languageId: 'silc', version: 1, text, getText() { return this.text; } };
 
 // The position of a text in the source, some characters after its beginning.
 function place(words, after = 0) {
@@ -102,7 +105,8 @@ function marked() {
 }
 
 async function session() {
-  const { activate, deactivate } = require(path.join(extension, JSON.parse(fs.readFileSync(path.join(extension, 'package.json'))).main));
+  const { main } = JSON.parse(fs.readFileSync(path.join(extension, 'package.json')));
+  const { activate, deactivate } = require(path.join(extension, main));
   vscode.workspace.textDocuments.push(document);
   const first = marked();
   await activate({ subscriptions: [] });

@@ -6,7 +6,6 @@ usage: tests/check_vscode.py
 It runs the built `silc`, or the one that `SILC` names. Without Node.js it is skipped, and ends with 77.
 """
 import json
-import os
 import shutil
 import subprocess
 import sys
@@ -39,7 +38,8 @@ def mark(place_: dict, message: str, severity: int) -> dict:
 
 
 # The editor counts severities from 0: a fault, a warning, information, a hint.
-DOUBT = mark(place(6, 6, 11), "`t + s` reaches -384 with inputs at the ends of their ranges, and `fix<8,0>` wraps below -128", 1)
+DOUBT = mark(place(6, 6, 11), "`t + s` reaches -384 with inputs at the ends of their ranges, and `fix<8,0>` wraps below -128",
+             1)
 MEANT = {"range": place(6, 12, 12), "newText": " /* wraps */"}
 EXPECTED = {
     # An input, two sums and an output.
@@ -53,8 +53,8 @@ EXPECTED = {
     "signature": {"signatures": [{"label": "func same(x : fix<8,0>) y : fix<8,0>", "parameters": [{"label": "x : fix<8,0>"}]}],
                   "activeSignature": 0, "activeParameter": 0},
     "layout": [{"range": {"start": {"line": 0, "character": 0}, "end": {"line": 8, "character": 0}}, "newText": LAID_OUT}],
-    "actions": [{"title": "write `/* wraps */` behind it where that is meant; or give it a type with more bits before the point, "
-                          "or one that saturates", "kind": "quickfix", "edit": {"edits": {"some.sil": [MEANT]}},
+    "actions": [{"title": "write `/* wraps */` behind it where that is meant; or give it a type with more bits before the "
+                          "point, or one that saturates", "kind": "quickfix", "edit": {"edits": {"some.sil": [MEANT]}},
                  "diagnostics": [DOUBT], "isPreferred": False}],
     "changed": [mark(place(6, 6, 7), "nothing here is called `u`", 0)],
     "said": ["silc: the source has a fault of its grammar, and its layout stays as it is",
@@ -69,7 +69,7 @@ def answered(room: Path) -> dict:
     shutil.copy(DATAPATH, room / "plain.toml")
     (room / "extension").symlink_to(EXTENSION)
     words = ["node", HERE / "check_vscode.js", room / "extension", room / "some.sil"]
-    done = subprocess.run(words, cwd=room, stdin=subprocess.DEVNULL, capture_output=True, text=True, timeout=SECONDS, env=os.environ)
+    done = subprocess.run(words, cwd=room, stdin=subprocess.DEVNULL, capture_output=True, text=True, timeout=SECONDS)
     if done.returncode or not done.stdout:
         sys.exit(f"vscode: the session did not end well: {done.stderr.strip()[-600:]}")
     got = json.loads(done.stdout)

@@ -338,6 +338,6 @@ class Elements:
 def truth(node: Node, values: list[Value]) -> Value:
     """The value of a comparison or of logic."""
     left, right = values[0].word, values[-1].word
-    word = {"<": left < right, "<=": left <= right, "==": left == right, "!=": left != right, ">": left > right, ">=": left >= right,
-            "&": left & right, "|": left | right, "!": 1 - left}[node.name]
+    word = {"<": left < right, "<=": left <= right, "==": left == right, "!=": left != right, ">": left > right,
+            ">=": left >= right, "&": left & right, "|": left | right, "!": 1 - left}[node.name]
     return Value(int(word), int(word), any(value.taken() for value in values))

@@ -59,7 +59,7 @@ class Search:
         # could not be read ends.
         self.open, self.tops, self.last = set(), set(), NOWHERE
         # The names in what could not be read, and its lines.
-        self.names, self.lines = set(), set()
+        self.names, self.lines, self.is_doubled = set(), set(), False
 
     def take(self, fault: Fault) -> bool:
         """Keeps a fault, and leaves out what has it. Whether there may be another."""
@@ -71,6 +71,7 @@ class Search:
             self.found.append(fault.finding())
         if left is None or left.start == left.end and not left.text:
             return False
+        self.is_doubled = self.is_doubled or fault.kind == "DefinedTwice"
         if left.func is not None:
             self.open.add(self.text.origin(left.func))
         if left.top:
@@ -90,7 +91,7 @@ class Search:
             return self.is_torn(left)
         if fault.kind == "Loop":
             # Of two definitions the one that is kept may be the wrong one.
-            return bool(self.open)
+            return self.is_doubled
         if fault.place is None:
             return False
         if fault.kind == "NotDefined":

@@ -61,7 +61,8 @@ def lenient_tokens(chars: str) -> list[Token]:
 def of_tokens(source: Source, kind: str, place: int) -> Omission | None:
     """The item around a token with which no program goes on, or the whole function or table."""
     tokens = lenient_tokens(source.text.chars)
-    at = place if kind in ("Syntax", "Deep") else next((k for k, token in enumerate(tokens) if token.start == place), len(tokens))
+    starts = {token.start: at for at, token in enumerate(tokens)}
+    at = place if kind in ("Syntax", "Deep") else starts.get(place, len(tokens))
     if at < len(tokens) and tokens[at].text.startswith("//"):
         return Omission(tokens[at].start, tokens[at].end)
     item, top = item_at(tokens, at), top_at(tokens, at)

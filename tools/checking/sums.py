@@ -92,7 +92,8 @@ class Sums:
         inputs = {(number, age): ends_of(self.elements.elements[number].type) for number, ages in cone for age in ages
                   if self.elements.elements[number].kind == INPUT}
         seen = []
-        for choice in (lambda key: weights.get(key, 0) > 0, lambda key: weights.get(key, 0) <= 0, lambda _: True, lambda _: False):
+        ups = {key for key, weight in weights.items() if weight > 0}
+        for choice in (lambda key: key in ups, lambda key: key not in ups, lambda _: True, lambda _: False):
             words = {key: ends[choice(key)] for key, ends in inputs.items()}
             if words not in seen:
                 seen.append(words)
@@ -159,8 +160,8 @@ class Sums:
         end = f"above {most}" if exact > 0 else f"below {least}"
         return Report(f"`{shown}` reaches {decimal(exact, wanted.places)} with inputs at the ends of their ranges{turn}, and "
                       f"`{wanted.text}` wraps {end}",
-                      "write `/* wraps */` behind it where that is meant; or give it a type with more bits before the point, or "
-                      "one that saturates.", language("Widths, points and rounding"), self.source.node_span(node)) \
+                      "write `/* wraps */` behind it where that is meant; or give it a type with more bits before the "
+                      "point, or one that saturates.", language("Widths, points and rounding"), self.source.node_span(node)) \
             .by(self.source.text.edit(item.end, item.end, " /* wraps */"))
 
 

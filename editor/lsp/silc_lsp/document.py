@@ -30,7 +30,8 @@ class Document:
 
     def position(self, offset: int) -> dict:
         line = bisect.bisect_right(self.starts, offset) - 1
-        return {"line": line, "character": len(self.text[self.starts[line]: offset].encode("utf-16-le", "surrogatepass")) // UNIT}
+        before = self.text[self.starts[line]: offset].encode("utf-16-le", "surrogatepass")
+        return {"line": line, "character": len(before) // UNIT}
 
     def line(self, number: int) -> str:
         """A line by its number from 0, without its end."""

@@ -99,7 +99,7 @@ def bounds(tokens: list[Piece]):
 def is_joined(left: Piece, right: Piece) -> bool:
     """Whether two neighbours in a line have no blank between them."""
     if COMMENT in (left.kind, right.kind):
-        return False
+        return right.text in (";", ",")
     if left.is_sign and right.is_sign:
         return False
     if right.text in NEVER_BEFORE or left.text in NEVER_AFTER or left.is_sign:
@@ -147,11 +147,10 @@ class Layout:
         is_ended = self.last_token() in (";", "begin")
         if piece.kind == COMMENT:
             return piece.lines > 0 or is_ended and self.leads(at)
-        if last.kind == COMMENT:
-            return piece.lines > 0 or is_ended
-        if piece.text == ";" or piece.text == "begin" and last.text == "::":
+        is_body = piece.text == "end" or piece.text == "begin" and self.last_token() != "::"
+        if last.kind != COMMENT and (piece.text == ";" or piece.text == "begin" and not is_body):
             return False
-        return piece.lines > 0 or is_ended or piece.text in ("begin", "end")
+        return piece.lines > 0 or is_ended or is_body
 
     def leads(self, at: int) -> bool:
         """Whether a comment stands before something in its line."""

@@ -27,7 +27,8 @@ COMPLETION_KINDS = {kinds.FUNCTION: 3, kinds.TABLE: 21}
 VARIABLE, KEYWORD = 6, 14
 CAPABILITIES = {"textDocumentSync": FULL_TEXT, "hoverProvider": True, "definitionProvider": True, "referencesProvider": True,
                 "documentSymbolProvider": True, "completionProvider": {}, "documentFormattingProvider": True,
-                "signatureHelpProvider": {"triggerCharacters": ["(", ","]}, "codeActionProvider": {"codeActionKinds": [QUICK_FIX]}}
+                "signatureHelpProvider": {"triggerCharacters": ["(", ","]},
+                "codeActionProvider": {"codeActionKinds": [QUICK_FIX]}}
 
 
 class Failed(Exception):
@@ -165,7 +166,7 @@ class Server:
         return [*(marked(document, found) for found in document.findings), *self.plans(uri, document, has_fault)]
 
     def plans(self, uri: str, document: Document, has_fault: bool) -> list[dict]:
-        """What the plan over the datapath of a source is, at its `main`. The fault of the datapath file is told at its place."""
+        """What the plan over the datapath of a source is, at its `main`. The fault of that file is told at its place."""
         datapath = datapath_of(document.text, self.datapath, path_of(uri).parent)
         if datapath is None:
             self.named.pop(uri, None)

@@ -50,4 +50,4 @@ function action(from) {
   return made;
 }
 
-module.exports = { position, range, toPosition, toRange, location, textEdit, diagnostic, symbol, completion, signatureHelp, action };
+module.exports = { range, toPosition, toRange, location, textEdit, diagnostic, symbol, completion, signatureHelp, action };

@@ -24,7 +24,8 @@ function settings() {
 function opened(document) {
   if (!isOurs(document)) return;
   const { languageId, version } = document;
-  connection.tell('textDocument/didOpen', { textDocument: { ...named(document), languageId, version, text: document.getText() } });
+  const text = document.getText();
+  connection.tell('textDocument/didOpen', { textDocument: { ...named(document), languageId, version, text } });
 }
 
 function changed({ document }) {
@@ -68,7 +69,8 @@ function providers() {
     }, '(', ','),
     languages.registerDocumentFormattingEditProvider(LANGUAGE, {
       provideDocumentFormattingEdits: (document, options) => ask('formatting', { textDocument: named(document), options },
-        (found) => found.map(convert.textEdit)).catch((why) => { vscode.window.showInformationMessage(`silc: ${why.message}`); }),
+        (found) => found.map(convert.textEdit))
+        .catch((why) => { vscode.window.showInformationMessage(`silc: ${why.message}`); }),
     }),
     languages.registerCodeActionsProvider(LANGUAGE, {
       provideCodeActions: (document, range) => ask('codeAction',
