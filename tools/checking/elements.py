@@ -81,9 +81,9 @@ class Elements:
         self.source, self.typing, self.steps = source, Typing(source), most_steps
         self.elements, self.raws = [], {}
         main = source.funcs["main"]
-        signals = self.enter(main)
-        self.results = [number for decl in main.results for number in signals[decl.name]]
-        self.expand(main, signals)
+        self.main = Scope(main, self.enter(main))
+        self.results = [number for decl in main.results for number in self.main.signals[decl.name]]
+        self.expand(main, self.main.signals)
         for element in self.elements:
             if element.kind == VALUE:
                 element.reads = [*self.reads(element.node, element.scope)]
