@@ -1,5 +1,6 @@
 """All faults of a source that can be told: the first one, and those that are found where items with faults are left out. A
 fault that may come from what was left out is none."""
+import re
 import time
 from array import array
 from collections.abc import Callable
@@ -60,6 +61,8 @@ class Search:
         self.open, self.tops, self.last = set(), set(), NOWHERE
         # The names in what could not be read, and its lines.
         self.names, self.lines, self.is_doubled = set(), set(), False
+        # What it declares that is left out whole.
+        self.declared = set()
 
     def take(self, fault: Fault) -> bool:
         """Keeps a fault, and leaves out what has it. Whether there may be another."""
@@ -67,7 +70,7 @@ class Search:
         left = omission(source, fault.kind, fault.place)
         if fault.kind == "Unknown":
             self.found += self.unknowns(source, fault)
-        elif not self.is_consequence(source, fault, left):
+        elif not self.is_consequence(source, fault, left) and not self.is_about(fault.finding().text):
             self.found.append(fault.finding())
         if left is None or left.start == left.end and not left.text:
             return False
@@ -76,6 +79,7 @@ class Search:
             self.open.add(self.text.origin(left.func))
         if left.top:
             self.tops.add(left.top)
+            self.declared |= left.names
         if fault.kind in IN_TEXT:
             self.last = self.text.origin(left.end)
             self.names |= left.names
@@ -97,6 +101,10 @@ class Search:
         if fault.kind == "NotDefined":
             return self.text.origin(source.function_at(fault.place).at) in self.open
         return not self.text.is_there(fault.place) or source.line(fault.place) in self.lines
+
+    def is_about(self, text: str) -> bool:
+        """Whether what is said of a fault is about a function or table that was left out."""
+        return not self.declared.isdisjoint(re.findall(r"\w+", text))
 
     def is_torn(self, left: Omission | None) -> bool:
         """Whether a function can't be read for what was left out in it, or in front of it."""

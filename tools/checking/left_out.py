@@ -71,7 +71,7 @@ def of_tokens(source: Source, kind: str, place: int) -> Omission | None:
     first, last = item or top
     start, end = tokens[first].start, tokens[last - 1].end
     if not item:
-        return Omission(start, end, top=tokens[first].text)
+        return Omission(start, end, top=tokens[first].text, names=frozenset(token.text for token in tokens[first + 1:first + 2]))
     heads = [k for k, token in enumerate(tokens[:first]) if token.text in TOPS]
     names = frozenset(token.text for token in tokens[first:last] if token.kind == "name")
     return Omission(start, end, func=tokens[heads[-1] + 1].start, names=names)
