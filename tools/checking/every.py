@@ -12,7 +12,7 @@ from explaining.text import Span, Text
 
 from checking.findings import Finding, finding_of
 from checking.first import Fault, first_fault
-from checking.left_out import IN_TEXT, Omission, omission
+from checking.left_out import IN_TEXT, TOPS, Omission, omission
 
 MOST_FAULTS, MOST_SECONDS, MOST_BYTES = 20, 3.0, 1 << 16
 NOWHERE = -1
@@ -78,7 +78,7 @@ class Search:
         if left.func is not None:
             self.open.add(self.text.origin(left.func))
         if left.top:
-            self.tops.add(left.top)
+            self.tops |= {left.top} if left.top in TOPS else {*TOPS}
             self.declared |= left.names
         if fault.kind in IN_TEXT:
             self.last = self.text.origin(left.end)

@@ -16,7 +16,7 @@ MOST_BAD = 50
 
 @dataclass(frozen=True)
 class Omission:
-    """What is left out, from a place to another one, and what stands there then. Of a whole function or table it is the word
+    """What is left out, from a place to another one, and what stands there then. Of a whole function or table it is the token
     that begins it; of a part of a function the place of its name, where what is left out may define something, and the names
     that it may declare, where it could not be read."""
     start: int
@@ -104,6 +104,9 @@ def depth_at(tokens: list[Token], at: int) -> int:
 def top_at(tokens: list[Token], at: int) -> tuple[int, int] | None:
     """The positions of the tokens of the function or table around one, or of the one before where it does not end."""
     tops = [k for k, token in enumerate(tokens) if token.text in TOPS]
+    if 0 < at < len(tokens) and at not in tops and tokens[at - 1].text == ";" and depth_at(tokens, at) == 0:
+        # What stands between them.
+        return at, min((k for k in tops if k > at), default=len(tokens))
     first = max((k for k in tops if k < at), default=0 if tops and at < tops[0] else None)
     if first is None and at in tops:
         first = at
