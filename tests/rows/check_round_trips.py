@@ -1,38 +1,75 @@
 #!/usr/bin/env python3
-"""Whether each word of 16 bits comes back from a sound, and each sound from its rows, in one and in two channels."""
+"""Whether each word of 16 bits comes back from a sound, and each sound from its rows, in one and in two channels and in
+sounds of 16, 24 and 32 bits, which Python's own reader reads as well; and how long a million samples take.
+"""
+import os
+import resource
 import subprocess
 import sys
 import tempfile
+import wave
 from pathlib import Path
 
 TOOL = Path(__file__).resolve().parent.parent.parent / "tools" / "rows"
 WORDS = range(-(1 << 15), 1 << 15)
-# Shapes that have each word of fix<16,15>, what such a word is times there, and numbers of channels.
-SHAPES = [("16,15", 1, 1), ("32,30", 1 << 15, 2)]
+# Shapes that have each word of fix<16,15>, what such a word is times there, numbers of channels, and of bits in the sound.
+SHAPES = [("16,15", 1, 1, 16), ("32,30", 1 << 15, 2, 16), ("16,15", 1, 1, 24), ("24,22", 1 << 7, 2, 24), ("17,15", 1, 2, 32)]
+# A million samples, and in how many seconds of the processor each tool is to be done with them: a third of what one sample
+# after another takes.
+MANY, SECONDS = 1_000_000, 1.2
 
 
 def rows(*words, given=b""):
     return subprocess.run([TOOL, *words], input=given, capture_output=True, check=True).stdout.decode()
 
 
-def comes_back(room, shape, factor, channels):
+def is_sound(file, channels, bits):
+    """Whether Python's reader finds the words in the file."""
+    with wave.open(str(file)) as sound:
+        data, size = sound.readframes(len(WORDS)), bits // 8
+        form = (sound.getnchannels(), sound.getsampwidth(), sound.getframerate(), sound.getnframes())
+    words = [int.from_bytes(data[at : at + size], "little", signed=True) for at in range(0, len(data), size)]
+    return form == (channels, size, 48000, len(WORDS) // channels) and words == [word << (bits - 16) for word in WORDS]
+
+
+def comes_back(room, shape, factor, channels, bits):
     words = [str(word * factor) for word in WORDS]
     text = "".join(",".join(words[k : k + channels]) + "\n" for k in range(0, len(words), channels))
     (room / "rows").write_text(text)
-    rows("to-wav", room / "rows", shape, "48000", room / "first.wav")
+    making = ["to-wav", "--bits", str(bits)]
+    rows(*making, room / "rows", shape, "48000", room / "first.wav")
     back = rows("from-wav", room / "first.wav", shape)
-    (room / "back").write_text(back)
-    rows("to-wav", "-", shape, "48000", room / "second.wav", given=back.encode())
+    rows(*making, "-", shape, "48000", room / "second.wav", given=back.encode())
     sound = (room / "first.wav").read_bytes()
-    return back == text and sound == (room / "second.wav").read_bytes() and rows("from-wav", "-", shape, given=sound) == text
+    return (is_sound(room / "first.wav", channels, bits) and back == text and sound == (room / "second.wav").read_bytes()
+            and rows("from-wav", "-", shape, given=sound) == text)
+
+
+def seconds(*words):
+    """How long a call keeps the processor busy."""
+    before = resource.getrusage(resource.RUSAGE_CHILDREN).ru_utime
+    rows(*words)
+    return resource.getrusage(resource.RUSAGE_CHILDREN).ru_utime - before
+
+
+def slow(room):
+    """Which of the two takes too long."""
+    (room / "many").write_text("".join(f"{word * 40503 % 65536 - 32768}\n" for word in range(MANY)))
+    for words in (["to-wav", room / "many", "16,15", "48000", room / "many.wav"], ["from-wav", room / "many.wav", "16,15"]):
+        took = seconds(*words)
+        if took > SECONDS and (took := min(took, seconds(*words))) > SECONDS:
+            yield f"{words[0]} of {MANY} samples takes {took:.1f} s, and not {SECONDS} s at most"
 
 
 def main():
     with tempfile.TemporaryDirectory(prefix="silc-rows-") as folder:
-        failed = [shape for shape, *more in SHAPES if not comes_back(Path(folder), shape, *more)]
-    for shape in failed:
-        print(f"the words of fix<{shape}> do not come back")
-    return 1 if failed else 0
+        os.environ["XDG_STATE_HOME"] = folder
+        faults = [f"the words of fix<{shape}> do not come back from {bits} bits"
+                  for shape, *more, bits in SHAPES if not comes_back(Path(folder), shape, *more, bits)]
+        faults += slow(Path(folder))
+    for fault in faults:
+        print(fault)
+    return 1 if faults else 0
 
 
 if __name__ == "__main__":
