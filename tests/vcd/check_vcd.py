@@ -8,6 +8,7 @@ It runs the built `silc` and `silc_show`, or those that `SILC` and `SILC_SHOW` n
 """
 import os
 import re
+import resource
 import subprocess
 import sys
 import tempfile
@@ -387,6 +388,65 @@ def example_faults(room):
     yield from shown_faults(Shown(waves, units, buses), facts, expected)
 
 
+# Some cycles of the example, against the whole run, and how long many take
+
+
+WINDOW = 205, 290
+TIMES, MANY_SECONDS = 500, 2.0
+
+
+def waves_of(room, *more):
+    """The waveform of the example that `example_faults` left there, or of a part of it."""
+    datapath, out = ROOT / "examples" / EXAMPLE / DATAPATH, room / "part.vcd"
+    subprocess.run([ROOT / "tools" / "vcd", room / "example.mic", datapath, room / "rows", out, *more], check=True,
+                   stdout=subprocess.DEVNULL, env=os.environ | {"SILC_SHOW": str(SHOW)})
+    return read(out.read_text())
+
+
+def window_faults(room):
+    """A waveform of some cycles shows in each of them, and after the last, what that of the whole run shows."""
+    whole, part = waves_of(room), waves_of(room, *map(str, WINDOW))
+    for path, signal in part.signals.items():
+        for time in range(*WINDOW):
+            if signal.at(time) != whole.signals[path].at(time):
+                yield f"from {WINDOW[0]} on: {path} is {signal.at(time)} at {time}, and not {whole.signals[path].at(time)}"
+        if min(time for time, _ in signal.values) < WINDOW[0]:
+            yield f"from {WINDOW[0]} on: {path} has a value before"
+    missing = [path for path, signal in whole.signals.items()
+               if path not in part.signals and any(time <= WINDOW[1] for time, _ in signal.changes()[1:])]
+    if missing or part.end != WINDOW[1]:
+        yield f"from {WINDOW[0]} on: no {missing}, and the end is {part.end}"
+
+
+def long_trace(trace):
+    """The cycles from the last word 0 of a trace on, again and again, and how many these are."""
+    last = trace[trace.rindex("\ncycle", 0, trace.rindex(" word 0\n")) + 1:]
+    heads = [tuple(map(int, found)) for found in re.findall(r"^cycle (\d+) sample (\d+)", last, re.M)]
+    (cycle, sample), samples = heads[0], heads[-1][1] - heads[0][1] + 1
+    parts = re.split(r"^cycle \d+ sample \d+", last, flags=re.M)[1:]
+    return "".join(f"cycle {turn * len(parts) + at - cycle} sample {turn * samples + of - sample}{part}"
+                   for turn in range(TIMES) for (at, of), part in zip(heads, parts)), TIMES * len(parts)
+
+
+def speed_faults(room):
+    """A waveform of many cycles takes no longer than it should, but for what the program takes that traces them."""
+    trace = subprocess.run([SHOW, "trace", room / "example.mic", room / "rows"], check=True, capture_output=True, text=True)
+    text, count = long_trace(trace.stdout)
+    (room / "trace").write_text(text)
+    show = room / "show"
+    show.write_text(f"#!/bin/sh\nexec cat '{room / 'trace'}'\n")
+    show.chmod(0o755)
+    datapath = ROOT / "examples" / EXAMPLE / DATAPATH
+    words = [ROOT / "tools" / "vcd", room / "example.mic", datapath, room / "rows", room / "long.vcd"]
+    took = []
+    while len(took) < 2 and min(took, default=MANY_SECONDS + 1) > MANY_SECONDS:
+        before = resource.getrusage(resource.RUSAGE_CHILDREN).ru_utime
+        done = subprocess.run(words, check=True, capture_output=True, text=True, env=os.environ | {"SILC_SHOW": str(show)})
+        took.append(resource.getrusage(resource.RUSAGE_CHILDREN).ru_utime - before)
+    if min(took) > MANY_SECONDS or not done.stdout.startswith(f"{count} cycles"):
+        yield f"{count} cycles take {min(took):.1f} s, and not {MANY_SECONDS} s at most: {done.stdout}"
+
+
 def main(words):
     if words:
         print(__doc__, file=sys.stderr)
@@ -397,7 +457,9 @@ def main(words):
             return NOT_BUILT
     with tempfile.TemporaryDirectory(prefix="silc-vcd-") as folder:
         room = Path(folder)
-        faults = [*reader_faults(), *increment_faults(room), *conflict_faults(room), *example_faults(room)]
+        os.environ["XDG_STATE_HOME"] = folder
+        faults = [*reader_faults(), *increment_faults(room), *conflict_faults(room), *example_faults(room),
+                  *window_faults(room), *speed_faults(room)]
     for fault in faults[:20]:
         print(fault)
     print(f"{len(faults)} faults in the waveforms" if faults else "the waveforms are right")

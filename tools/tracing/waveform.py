@@ -1,67 +1,179 @@
 """A waveform of a run, as a file of value changes (VCD, IEEE 1364, with texts as GTKWave and Surfer have them)."""
+from collections.abc import Iterable, Iterator
 from dataclasses import dataclass, field
+from typing import TextIO
 
-from micro_file.image import OPCODE
-from tracing.signals import Signals, first_value
+from hardware.datapath import Names
+from micro_file.image import OPCODE, Image
+from tracing.signals import WORD_BITS, Signal, Signals, digits_of, first_value
+from tracing.trace import BECOMES, Cycle, Layout
 
 # A cycle takes one unit of this.
 UNIT_OF_TIME = "1 ns"
 TOP = "silc"
+CELL = "cell"
+# Of how many words the digits are kept.
+MOST_KEPT = 1 << 17
+
+
+class Digits(dict):
+    """The beginning of the line by which a signal has a word, by the text of the word."""
+
+    def __missing__(self, word: str) -> str:
+        if len(self) > MOST_KEPT:
+            self.clear()
+        self[word] = f"b{digits_of(int(word), WORD_BITS)} "
+        return self[word]
+
+
+class Step:
+    """What changes from a cycle to the next one, by their layouts. None stands for the time before the first cycle and for
+    that after the last one."""
+
+    def __init__(self, image: Image, signals: Signals, before: Layout | None, now: Layout | None):
+        self.signals, self.texts = signals, []
+        # Texts, each with a word after it: its line in this cycle, that of the cycle before, where there was one, and what
+        # ends its line. Where both are one word, there is nothing but the text.
+        self.words = []
+        self.put("strobe", *(int(layout is not None and layout.word % image.period == 0) for layout in (before, now)))
+        self.strobe = self.text()
+        if now:
+            self.put("word", before.word if before else 0, now.word)
+            self.put("conflict", None, now.conflict and now.conflict.replace(" ", "_"))
+        issues, carried, results = zip(*map(said_by, (before, now)))
+        for unit in range(len(image.units)):
+            operations = [of.get(unit) for of in issues]
+            self.put(("operation", unit), *operations)
+            self.put(("opcode", unit), *map(OPCODE.get, operations))
+            self.put_word(("result", unit), *(of.get(unit) for of in results))
+        for bus in range(image.buses):
+            self.put_word(("bus", bus), *(of.get(bus) for of in carried))
+        self.rest = self.text()
+
+    def put(self, key, before, now) -> None:
+        """A signal that has another value from now on, or the same."""
+        if before != now:
+            self.texts.append(self.signals.of(key).change(now) + "\n")
+
+    def put_word(self, key: tuple, before: int | None, now: int | None) -> None:
+        """A signal that has the word of a line from now on, or none."""
+        if now is None:
+            self.put(key, before, None)
+        else:
+            self.words.append((self.text(), now, before, self.signals.of(key).code + "\n"))
+
+    def text(self) -> str:
+        """What was put since this was asked for."""
+        made, self.texts = "".join(self.texts), []
+        return made
+
+
+def said_by(layout: Layout | None) -> tuple[dict, dict, dict]:
+    """The operation of each unit, and the lines of the words of buses and of the units that drive them."""
+    if layout is None:
+        return {}, {}, {}
+    return (layout.issues, {bus: line for bus, (_, line) in layout.buses.items()}, dict(layout.buses.values()))
 
 
 class Waveform:
     """The changes of the signals of a run, written to a file as the cycles come."""
 
-    def __init__(self, image, names, changes):
-        self.image, self.signals, self.changes = image, Signals(image, names), changes
-        self.shown = {key: first_value(image, key) for key in self.signals.by_key}
-        self.sample, self.time, self.marked = None, 0, 0
+    def __init__(self, image: Image, names: Names, changes: TextIO):
+        self.image, self.signals, self.file = image, Signals(image, names), changes
+        self.digits, self.steps, self.stores = Digits(), {}, {}
+        # What registers, cells and latches hold, as texts by the codes of their signals, and what they held before the
+        # first cycle that is shown.
+        self.held, self.first = {}, {}
+        self.layout, self.words, self.sample, self.written = None, [], "0", []
+        self.began = self.last = None
 
-    def show(self, key, value):
-        """Lets a signal have a value from now on."""
-        signal = self.signals.of(key)
-        if self.shown.setdefault(key, first_value(self.image, key)) == value:
-            return
-        if self.marked != self.time:
-            self.mark()
-        self.shown[key] = value
-        self.changes.write(signal.change(value) + "\n")
+    def pass_by(self, cycles: Iterable[Cycle]) -> None:
+        """Writes what cycles write that are not shown."""
+        for _, _, layout, words in cycles:
+            self.write(layout, words)
 
-    def mark(self):
-        self.changes.write(f"#{self.time}\n")
-        self.marked = self.time
+    def add(self, cycles: Iterable[Cycle]) -> None:
+        """Shows cycles, one after another; what one writes is there from the next one on."""
+        shown, digits, steps, before, made = [], self.digits, self.steps, self.words, self.written
+        number, is_first = self.last, self.last is None
+        for number, sample, layout, words in cycles:
+            step = steps.get((self.layout, layout)) or self.step(layout)
+            made.append(step.strobe)
+            if sample != self.sample:
+                made.append(self.of_sample(sample))
+            for text, line, was, end in step.words:
+                word = words[line]
+                if was is None or before[was] != word:
+                    made += text, digits[word], end
+                else:
+                    made.append(text)
+            made.append(step.rest)
+            if text := "".join(made):
+                shown += f"#{number}\n", text
+            self.layout, before = layout, words
+            made = self.write(layout, words)
+        self.words, self.written, self.last = before, made, number
+        # The time of the first one is in the head.
+        self.file.write("".join(shown[is_first:]))
 
-    def show_units(self, cycle):
-        results = dict(cycle.buses.values())
-        for unit in range(len(self.image.units)):
-            operation = cycle.issues.get(unit)
-            self.show(("operation", unit), operation)
-            self.show(("opcode", unit), None if operation is None else OPCODE[operation])
-            self.show(("result", unit), results.get(unit))
-        for bus in range(self.image.buses):
-            _, carried = cycle.buses.get(bus, (None, None))
-            self.show(("bus", bus), carried)
+    def begin(self, number: int) -> None:
+        """Begins to show cycles, with that of this number."""
+        self.began, self.first = number, dict(self.held)
 
-    def add(self, cycle):
-        """Shows a cycle; what it writes is there from the next one on."""
-        self.time = cycle.number
-        self.show("strobe", int(cycle.number % self.image.period == 0))
-        self.show("sample", cycle.sample)
-        self.show("word", cycle.word)
-        self.show("conflict", cycle.conflict and cycle.conflict.replace(" ", "_"))
-        self.show_units(cycle)
-        self.time += 1
-        for place, word in cycle.writes:
-            self.show(place, word)
+    def of_sample(self, sample: str) -> str:
+        self.sample = sample
+        return self.signals.of("sample").change(int(sample)) + "\n"
 
-    def end(self):
+    def end(self) -> None:
         """Ends the last cycle."""
-        self.show("strobe", 0)
-        for key in self.signals.by_key:
-            if key[0] in ("operation", "opcode", "result", "bus"):
-                self.show(key, None)
-        if self.marked != self.time:
-            self.mark()
+        if self.last is not None:
+            step = self.step(None)
+            text = "".join([*self.written, step.strobe, step.rest])
+            self.file.write(f"#{self.last + 1}\n{text}")
+
+    def step(self, now: Layout | None) -> Step:
+        found = self.steps.get((self.layout, now))
+        if found is None:
+            found = self.steps[self.layout, now] = Step(self.image, self.signals, self.layout, now)
+        return found
+
+    # What is written
+
+    def write(self, layout: Layout, words: list[str]) -> list[str]:
+        """Writes what a cycle writes. Gives the lines of what is another word by that, in parts."""
+        stores = self.stores.get(layout)
+        if stores is None:
+            stores = self.stores[layout] = [self.store(*write) for write in layout.writes]
+        made, held = [], self.held
+        for line, code, end, ram in stores:
+            word = words[line]
+            if ram is not None:
+                cell, _, word = word.partition(BECOMES)
+                code = self.code_of((CELL, ram, int(cell)))
+                end = f"{code}\n"
+            if held[code] != word:
+                held[code] = word
+                made += self.digits[word], end
+        return made
+
+    def store(self, key: tuple, line: int) -> tuple[int, str, str, int | None]:
+        """The line of a word that is written, its signal's code, and the end of the line there; or else the ram, whose cell
+        stands in the line."""
+        if key[0] == CELL:
+            return line, "", "", key[1]
+        return line, self.code_of(key), f"{self.code_of(key)}\n", None
+
+    def code_of(self, key: tuple) -> str:
+        """The code of the signal of what is written. It holds its first word when it is first asked for."""
+        code = self.signals.of(key).code
+        if code not in self.held:
+            self.held[code] = str(first_value(self.image, key))
+        return code
+
+    def first_of(self, key, signal: Signal) -> str:
+        """The line of what a signal shows before the first cycle that is shown."""
+        held = self.first.get(signal.code)
+        return signal.change(first_value(self.image, key) if held is None else int(held))
 
 
 @dataclass
@@ -85,7 +197,7 @@ class Scope:
         yield "$upscope $end"
 
 
-def head_of(waveform):
+def head_of(waveform: Waveform) -> Iterator[str]:
     """The lines before the changes: the signals in their scopes, and what they show before the first cycle."""
     signals = waveform.signals.by_key
     top = Scope()
@@ -95,8 +207,8 @@ def head_of(waveform):
     yield f"$timescale {UNIT_OF_TIME} $end"
     yield from top.lines(TOP)
     yield "$enddefinitions $end"
-    yield "#0"
+    yield f"#{waveform.began or 0}"
     yield "$dumpvars"
     for key, signal in signals.items():
-        yield signal.change(first_value(waveform.image, key))
+        yield waveform.first_of(key, signal)
     yield "$end"
