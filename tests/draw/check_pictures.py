@@ -196,49 +196,102 @@ def scale(marks):
     return lambda place: one + (place - at) * (two - one) / (to - at)
 
 
-def check_response(picture, known, rate, faults):
-    """Each point of each curve is on the one that is known, but for a tenth of a decibel and what is below the axis."""
+def points_of(curve):
+    """The points of a curve, part by part."""
+    return [[tuple(map(float, point.split())) for point in part.split(" L")] for part in curve[1:].split(" M") if part]
+
+
+def check_ends(levels, least, most, faults):
+    """The numbers at an axis are in equal steps, of 1, 2 or 5 times a power of ten, and no step of them is for nothing."""
+    levels = sorted(levels)
+    step = levels[1] - levels[0]
+    faults.unless(all(abs(two - one - step) < step / 1000 for one, two in zip(levels, levels[1:])), f"uneven numbers {levels}")
+    faults.unless(f"{step:.0e}"[0] in "125" and len(levels) <= 12, f"steps of {step}")
+    faults.unless(levels[0] - step / 40 <= least < levels[1] or len(levels) == 2, f"from {levels[0]}, and {least} is the least")
+    faults.unless(levels[-2] < most <= levels[-1] + step / 40 or len(levels) == 2, f"to {levels[-1]}, and {most} is the most")
+
+
+def decibels(known, share):
+    return 20 * math.log10(max(known(share), 1e-9))
+
+
+def check_response(picture, known, rate, asked, faults):
+    """Each point of each curve is on the one that is known, but for a tenth of a decibel, and the curve is there where that is
+    between the ends of the axis. These are as they are asked for, or as the curve has them."""
     texts = [shape for shape in picture.iter(SVG + "text") if shape.get("font-size") == "10"]
-    across = scale([(math.log(float(t.text)), *number(t, "x")) for t in texts if t.get("text-anchor") == "middle"])
-    levels = [(int(t.text), float(t.get("y")) - 4) for t in texts if t.get("text-anchor") == "end"]
-    down, lowest = scale(levels), min(levels)[0]
+    frequencies = [(math.log(float(t.text)), *number(t, "x")) for t in texts if t.get("text-anchor") == "middle"]
+    levels = [(float(t.text), float(t.get("y")) - 4) for t in texts if t.get("text-anchor") == "end"]
+    across, down = scale(frequencies), scale(levels)
+    left, right = sorted({number(line, "x1")[0] for line in picture.iter(SVG + "line")})[0], 84 + 760
+    shares = [math.exp(across(x)) / rate for x in range(round(left), right + 1)]
+    wanted = [decibels(known, share) for share in shares]
+    low, high = asked or (min(levels)[0], max(levels)[0])
+    if not asked:
+        least, most = max(min(wanted), max(wanted) - 100), max(wanted)
+        short = max(0, 1 - (most - least)) / 2
+        check_ends([level for level, _ in levels], least - short, most + short, faults)
     curves = [shape.get("d") for shape in picture.iter(SVG + "path") if shape.find(SVG + "title") is not None]
     faults.unless(len(curves) == 2, f"{len(curves)} curves")
-    for curve in curves:
-        points = [tuple(map(float, point.split())) for point in curve[1:].split(" L")]
-        for x, y in points:
-            wanted = max(20 * math.log10(max(known(math.exp(across(x)) / rate), 1e-9)), lowest)
-            if abs(down(y) - wanted) > 0.1 + (0.02 * abs(wanted) if wanted < -20 else 0):
-                faults.append(f"{down(y):.2f} dB in the place of {wanted:.2f}")
+    for parts in map(points_of, curves):
+        for x, y in sum(parts, []):
+            there = [decibels(known, min(math.exp(across(near)) / rate, 0.5)) for near in (x - 1.5, x, x + 1.5)]
+            if not min(there) - 0.1 <= down(y) <= max(there) + 0.1:
+                faults.append(f"{down(y):.2f} dB in the place of {there[1]:.2f}")
                 break
+        lacking = [x for x, level in enumerate(wanted, round(left)) if low < level < high
+                   and not any(part[0][0] - 2 <= x <= part[-1][0] + 2 for part in parts)]
+        faults.unless(not lacking, f"no curve at {lacking}")
     faults.unless(is_inside(picture), "words outside the picture")
 
 
-def check_words(picture, columns, faults):
+def group_of(name, columns):
+    """The least and the greatest word of the columns that have one axis with that of a name: of those that have most bits, and
+    no more than three fewer, and so on."""
+    bits = {one: max(max(words), -1 - min(words)).bit_length() for one, words in columns.items()}
+    left = set(bits)
+    while left:
+        most = max(bits[one] for one in left)
+        group = {one for one in left if bits[one] >= most - 3}
+        if name in group:
+            return min(min(columns[one]) for one in group), max(max(columns[one]) for one in group)
+        left -= group
+
+
+def check_words(picture, columns, asked, faults):
     """Each curve has the words of its column, by the numbers at the axes of its panel, but for a hundredth of the scale."""
     texts = [shape for shape in picture.iter(SVG + "text") if shape.get("font-size") == "10"]
-    levels = [(int(t.text), float(t.get("y")) - 4) for t in texts if t.get("text-anchor") == "end"]
     samples = {}
     for text in texts:
         if text.get("text-anchor") == "middle":
-            samples.setdefault(text.get("y"), []).append((int(text.text), *number(text, "x")))
+            samples.setdefault(float(text.get("y")), []).append((int(text.text), *number(text, "x")))
     curves = {shape.find(SVG + "title").text: shape.get("d") for shape in picture.iter(SVG + "path")}
     faults.unless(list(curves) == list(columns), f"curves {list(curves)}")
-    for place, (name, words) in enumerate(columns.items()):
-        across, down = scale(samples[sorted(samples, key=float)[place]]), scale(levels[3 * place : 3 * place + 3])
-        most = max(level for level, _ in levels[3 * place : 3 * place + 3])
-        faults.unless(all(-most <= word < most for word in words), f"{name} passes its axis")
-        points = [tuple(map(float, point.split())) for point in curves[name][1:].split(" L")]
-        shown = [(across(x), down(y)) for x, y in points]
-        faults.unless(len(shown) == len(words) and all(
-            abs(sample - wanted) < 0.1 and abs(level - word) <= most / 100
-            for wanted, (word, (sample, level)) in enumerate(zip(words, shown))), f"{name} has other words")
+    bottoms = sorted(samples)
+    for (name, words), above, bottom in zip(columns.items(), [0, *bottoms], bottoms):
+        levels = [(int(t.text), float(t.get("y")) - 4) for t in texts
+                  if t.get("text-anchor") == "end" and above < float(t.get("y")) < bottom]
+        across, down = scale(samples[bottom]), scale(levels)
+        low, high = asked or (min(levels)[0], max(levels)[0])
+        if not asked:
+            check_ends([level for level, _ in levels], *group_of(name, columns), faults)
+        shown = [(across(x), down(y)) for part in points_of(curves[name]) for x, y in part]
+        inside = {sample: word for sample, word in enumerate(words) if low <= word <= high}
+        near = {round(sample): level for sample, level in shown if abs(sample - round(sample)) < 0.1}
+        faults.unless(all(abs(near.get(sample, math.inf) - word) <= (high - low) / 100 for sample, word in inside.items()),
+                      f"{name} has other words")
+        faults.unless(all(low - (high - low) / 50 <= level <= high + (high - low) / 50 for _, level in shown),
+                      f"{name} passes its axis")
     faults.unless(is_inside(picture), "words outside the picture")
 
 
-# Columns of words, each by the names that are given for them.
-COLUMNS = [{"one": [0, 100, -100, 7]}, {"a ramp": list(range(-300, 300)), "its half": [n // 2 for n in range(-300, 300)]},
-           {"the ends": [32767, -32768], "small": [1, -1]}, {"forty bits": [(1 << 39) - 1, -(1 << 39), 0] * 5}]
+# Columns of words, each by the names that are given for them, and the ends of an axis that is asked for.
+COLUMNS = [({"one": [0, 100, -100, 7]}, None),
+           ({"a ramp": list(range(-300, 300)), "its half": [n // 2 for n in range(-300, 300)]}, None),
+           ({"the ends": [32767, -32768], "small": [1, -1]}, None), ({"forty bits": [(1 << 39) - 1, -(1 << 39), 0] * 5}, None),
+           # A truth value beside a word of 24 bits, and a signal that is small beside where it is.
+           ({"is loud": [0, 1, 1, 0], "the signal": [-8388608, 8388607, 5, 6000000], "level": [5000010, 5000020, 5000013, 5000011]},
+            None),
+           ({"still": [7, 7, 7]}, None), ({"beyond": [0, 50, 90, -80, 20, 100]}, (-50, 60))]
 
 
 # Filters whose response is known: rows on an impulse, the word for a gain of 1, the design, the magnitude.
@@ -247,7 +300,11 @@ RESPONSES = {
     "one pole": ("".join(f"{2**30 >> k},0\n" for k in range(31)), str(2**30), "1;-0.5",
                  lambda share: 1 / math.sqrt(1.25 - math.cos(2 * math.pi * share))),
     "delay": ("0\n0\n-5\n", "10", "0,0,-0.5", lambda share: 0.5),
+    # From -2.5 to 1.9 decibels.
+    "a shelf": ("4\n-1\n", "4", "1,-0.25", lambda share: math.sqrt(1.0625 - 0.5 * math.cos(2 * math.pi * share))),
 }
+# The ends of the axes that are asked for, of decibels and of frequencies.
+ASKED = [(-3, 1), ("0.02", "0.4")]
 # The samples a second at which each is drawn again, with an axis in hertz.
 RATES = (8000, 44100)
 
@@ -297,14 +354,21 @@ def main():
             right.append(judged(f"{subject} {name}", check, file.read_text(), latency if datapath else {}, picture))
     for name, (rows, unit, design, known) in RESPONSES.items():
         picture = drawn("response", "-", unit, design, given=rows)
-        right.append(judged(f"response {name}", check_response, picture, known, 1))
+        right.append(judged(f"response {name}", check_response, picture, known, 1, None))
+        db, frequencies = ASKED
+        picture = drawn("response", "--db", ",".join(map(str, db)), f"--frequencies={','.join(frequencies)}", "-", unit, design,
+                        given=rows)
+        right.append(judged(f"response {name} between {db}", check_response, picture, known, 1, db))
+        labels = [float(text.text) for text in picture.iter(SVG + "text") if text.get("font-size") == "10"]
+        right.append(labels[0] == 0.02 and 0.2 in labels and max(labels) <= 1)
         for rate in RATES:
             picture = drawn("response", "--rate", str(rate), "-", unit, design, given=rows)
-            right.append(judged(f"response {name} at {rate} samples a second", check_response, picture, known, rate))
-    for columns in COLUMNS:
+            right.append(judged(f"response {name} at {rate} samples a second", check_response, picture, known, rate, None))
+    for columns, asked in COLUMNS:
         rows = "".join(",".join(map(str, row)) + "\n" for row in zip(*columns.values()))
-        picture = drawn("words", "-", ",".join(columns), given=rows)
-        right.append(judged(f"words {', '.join(columns)}", check_words, picture, columns))
+        options = [f"--range={asked[0]},{asked[1]}"] if asked else []
+        picture = drawn("words", *options, "-", ",".join(columns), given=rows)
+        right.append(judged(f"words {', '.join(columns)}", check_words, picture, columns, asked))
     print(f"pictures: {right.count(True)} show what they should, and {right.count(False)} do not")
     return 1 if False in right else 0
 

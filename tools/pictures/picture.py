@@ -44,9 +44,13 @@ class Picture:
                           f"stroke-width='{width}'/>")
 
     def curve(self, points, colour, width, dashes="", title=""):
-        path = " L".join(f"{x:.1f} {y:.1f}" for x, y in points)
+        self.curves([points], colour, width, dashes, title)
+
+    def curves(self, runs, colour, width, dashes="", title=""):
+        """A curve in parts, with nothing between them."""
+        path = " ".join("M" + " L".join(f"{x:.1f} {y:.1f}" for x, y in points) for points in runs)
         named = f"><title>{escape(title)}</title></path>" if title else "/>"
-        self.lines.append(f"<path d='M{path}' fill='none' stroke='{colour}' stroke-width='{width}' "
+        self.lines.append(f"<path d='{path}' fill='none' stroke='{colour}' stroke-width='{width}' "
                           f"stroke-dasharray='{dashes or 'none'}'{named}")
 
     def dot(self, x, y, colour, radius=4, title=""):
