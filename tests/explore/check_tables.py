@@ -29,9 +29,12 @@ from exploring.template import Template, text_of  # noqa: E402
 BUILT = ROOT / "crates" / "silc_main" / "out" / "silc_main"
 TEMPLATE = HERE / "small.ranges"
 SOURCE = "func main(x : fix<8,0>) y : fix<8,0> = begin y = (x + 1) + (x + 2); end;\n"
-HEAD = "period,adders,add.latency,size,b.times,units,buses,registers,taken,cells,cycles,answer,front,made_from".split(",")
+HEAD = ("period,adders,add.latency,size,b.times,units,buses,registers,register_bits,cell_bits,taken,cells,cycles,answer,front,"
+        "made_from").split(",")
 RANGES = {"period": (6, 10, 14), "adders": (1, 2), "add.latency": (1, 2), "size": (2, 4), "b.times": (1, 2)}
-COSTS = ("period", "units", "buses", "registers")
+COSTS = ("period", "units", "buses", "register_bits", "cell_bits")
+# What the title of a point on the front says, in order.
+SAID = ("period", "units", "buses", "registers", "register_bits", "cell_bits")
 SVG = "{http://www.w3.org/2000/svg}"
 # The calls by which explore finds what combinations lack, at most.
 MOST_TRIALS = 40
@@ -53,6 +56,26 @@ bus = [
     { name = "c", from = ["adr"], to = ["mem.0"] },
 ]
 """
+# A source in three word lengths, and a datapath for it, whose files are to fit.
+LENGTHS = """func main(x : fix<16,15>) y : fix<{W: 8, 12, 16},{F: 7, 11, 15},round> = begin
+  y = fix<{W},{F},round>(0.3 * x) + fix<{W},{F},round>(0.2 * x@1);
+end;
+"""
+LENGTHS_DATAPATH = """
+period = 16
+word = 32
+hold = 1
+unit = [
+    { name = "inp", kind = "in" },
+    { name = "rom", kind = "rom" },
+    { name = "add", kind = "alu", files = [{fit}, {fit}] },
+    { name = "mul", kind = "mul", files = [{fit}, {fit}] },
+    { name = "outp", kind = "out", files = [{fit}] },
+]
+bus = [{ name = "b", from = ["inp", "rom", "add", "mul"], to = ["add.0", "add.1", "mul.0", "mul.1", "outp.0"] }]
+"""
+# A program in the place of Yosys that keeps its script, and counts a multiplier.
+YOSYS = '#!/bin/sh\necho "$*" >"{log}"\nprintf "Number of cells: 1\\n  SB_MAC16  1\\n" >stat.txt\n'
 # A program in the place of silc that keeps count of its calls.
 COUNTING = '#!/bin/sh\necho >>"{count}"\nexec "{silc}" "$@"\n'
 
@@ -78,6 +101,18 @@ def measured(text, latency):
     return sum(register + 1 for register in last.values()), max(ends)
 
 
+def bits_of(text, sizes):
+    """The bits of the registers of a schedule's text: in each file those of the words that come into it, and of the 0 that is
+    there first. A sum and an input have 8 bits, a constant as many as it needs."""
+    held = {}
+    for op, number, transfers in re.findall(r" op (\S+) (\d+).*?((?: to \S+ bus \S+ regs \S+)+)$", text, re.M):
+        ends = (int(number), int(number)) if op == "const" else (-128, 127)
+        for file in re.findall(r" to (\S+)", transfers):
+            low, high = held.get(file, (0, 0))
+            held[file] = min(low, ends[0]), max(high, ends[1])
+    return sum(sizes[file] * (8 if low < 0 else max(1, high.bit_length())) for file, (low, high) in held.items())
+
+
 def expected(room, silc):
     """Each combination with what it has and takes, or with the refusal, and whether it is on the front."""
     (room / "source").write_text(SOURCE)
@@ -91,7 +126,9 @@ def expected(room, silc):
             rows[choice] = row | {"answer": done.stderr.strip().removeprefix("silc: ")}
         else:
             taken, cycles = measured(done.stdout, latency)
-            rows[choice] = row | {"answer": "fits", "taken": taken, "cells": 0, "cycles": cycles}
+            sizes = {f"{name}.{port}": size for name in ("add", "add_2") for port in (0, 1)} | {"outp.0": 1}
+            rows[choice] = row | {"answer": "fits", "register_bits": bits_of(done.stdout, sizes), "cell_bits": 0, "taken": taken,
+                                  "cells": 0, "cycles": cycles}
     costs = {choice: [row[cost] for cost in COSTS] for choice, row in rows.items() if row["answer"] == "fits"}
     for choice, own in costs.items():
         is_bettered = any(other != own and all(a <= b for a, b in zip(other, own)) for other in costs.values())
@@ -124,17 +161,17 @@ def faults_of(text, rows):
 
 
 def picture_faults(room, rows):
-    """The picture has a large point for each place on the front, further right and lower for more cycles and fewer registers."""
+    """The picture has a large point for each place on the front, further right and lower for more cycles and fewer bits."""
     picture = Xml.parse(room / "made.svg").getroot()
     titles = {shape.find(SVG + "title").text: (float(shape.get("cx")), float(shape.get("cy")))
               for shape in picture.iter(SVG + "circle") if shape.find(SVG + "title") is not None}
-    places = {tuple(int(row[cost]) for cost in COSTS) for row in rows if row["front"]}
+    places = {tuple(int(row[cost]) for cost in SAID) for row in rows if row["front"]}
     shown = {tuple(map(int, re.findall(r"(\d+)", title.partition(":")[0]))): place for title, place in titles.items()}
     if set(shown) != places:
         yield f"the picture has {set(shown)} on the front, and not {places}"
     for (one, at), (other, to) in itertools.combinations(shown.items(), 2):
         is_one_panel = one[1] == other[1]
-        if is_one_panel and ((one[0] < other[0]) != (at[0] < to[0]) or (one[3] < other[3]) != (at[1] > to[1])):
+        if is_one_panel and ((one[0] < other[0]) != (at[0] < to[0]) or (one[4] < other[4]) != (at[1] > to[1])):
             yield f"the points of {one} and {other} are in another order"
 
 
@@ -197,11 +234,12 @@ def best_faults(room, silc, rows):
     _, done = explored(room, silc, "--pool", "--best", "1")
     row, *costs = map(int, done.stdout.splitlines()[1].split()[:1 + len(COSTS)])
     made = tomllib.loads((room / "made.toml").read_text())
-    registers = sum(size for unit in made["unit"] for size in unit.get("files", []))
-    if [row, *costs] != [1, made["period"], len(made["unit"]), len(made["bus"]), registers]:
-        yield f"row 1 has {costs}, and made.toml another datapath"
-    if subprocess.run([silc, "schedule", "source", "made.toml"], cwd=room, capture_output=True).returncode:
+    text = subprocess.run([silc, "schedule", "source", "made.toml"], cwd=room, capture_output=True, text=True).stdout
+    if not text:
         yield "there is no plan on made.toml"
+    sizes = {f"{unit['name']}.{port}": size for unit in made["unit"] for port, size in enumerate(unit.get("files", []))}
+    if [row, *costs] != [1, made["period"], len(made["unit"]), len(made["bus"]), bits_of(text, sizes), 0]:
+        yield f"row 1 has {costs}, and made.toml another datapath"
     (room / "made.toml").unlink()
     done = tried(room, silc, "--pool", "--best", "99")
     if done.returncode != 1 or (room / "made.toml").exists():
@@ -233,6 +271,71 @@ def fit_faults(room, silc, rows):
         yield "there is no plan on fit.toml"
 
 
+def core_faults(room, silc):
+    """The bits of each row of the biquads' front are those of the core that tools/verilog makes of it. Their template has no range
+    but for sizes that fit: it is one row a period."""
+    text = (BIQUADS / "processors.ranges").read_text()
+    for hold in (0, 2):
+        plain = re.sub(r"\{(\d+)[^{}]*\}", r"\1", text.replace("{24, 26, 27, 32, 48, 60}", "60")).replace("hold = 0", f"hold = {hold}")
+        (room / "core.ranges").write_text(plain)
+        done = tried(room, silc, "--pool", "--best", "1", "--force", source=BIQUADS / "biquads.sil", template="core.ranges", out="core")
+        lines = done.stdout.splitlines()
+        if done.returncode or len(lines) != 2 or len((room / "core.csv").read_text().splitlines()) != 2:
+            yield f"a template with {{fit}} alone: {done.returncode} {done.stdout} {done.stderr}"
+            return
+        subprocess.run([silc, "compile", BIQUADS / "biquads.sil", "core.toml", "core.mic"], cwd=room, check=True)
+        subprocess.run([ROOT / "tools" / "verilog", "core.mic", ".", "--datapath", "core.toml", "--name", "core"],
+                       cwd=room, check=True, capture_output=True)
+        held = {name: int(count) * int(bits) for name, count, bits in re.findall(
+            r"^file (\w+): (\d+) words, .* in (\d+) bits", (room / "core.map").read_text(), re.M)}
+        bits = [sum(of for name, of in held.items() if name.endswith("cells") == is_cells) for is_cells in (False, True)]
+        if list(map(int, lines[1].split()[4:6])) != bits:
+            yield f"with hold = {hold} the core has {bits} bits, and the table {lines[1]}"
+        for name in ("core.csv", "core.mic"):
+            (room / name).unlink()
+
+
+def length_faults(room, silc):
+    """Of word lengths no one betters another: the shorter has fewer bits, and the longer less noise."""
+    (room / "lengths.silt").write_text(LENGTHS)
+    (room / "exact.sil").write_text(re.sub(r"\{W[^}]*\}", "32", re.sub(r"\{F[^}]*\}", "31", LENGTHS)))
+    (room / "noise.txt").write_text("".join(f"{word * 7919 % 65536 - 32768}\n" for word in range(200)))
+    (room / "lengths.ranges").write_text(LENGTHS_DATAPATH)
+    done = tried(room, silc, "--pool", "--samples", "noise.txt", "--against", "exact.sil", source="lengths.silt",
+                 template="lengths.ranges", out="lengths")
+    rows = [line.split() for line in done.stdout.splitlines()]
+    front = [(int(row[4]), float(row[6]), int(row[7])) for row in rows[1:]]
+    if [width for *_, width in sorted(front)] != [8, 12, 16] or len({bits for bits, *_ in front}) != 3:
+        yield f"of word lengths the front is {done.stdout}{done.stderr}"
+
+
+def dsp_faults(room, silc):
+    """--dsp has Yosys take multipliers, and the table of the front counts them. A script plays Yosys."""
+    folder = room / "bin"
+    folder.mkdir()
+    (folder / "yosys").write_text(YOSYS.format(log=room / "yosys.log"))
+    (folder / "yosys").chmod(0o755)
+    (room / "dsp.ranges").write_text(LENGTHS_DATAPATH)
+    (room / "dsp.sil").write_text((room / "exact.sil").read_text())
+    os.environ["PATH"] = f"{folder}:{os.environ['PATH']}"
+    for options, is_dsp in ((["--dsp"], True), ([], False)):
+        done = tried(room, silc, "--pool", "--area", "ice40", *options, source="dsp.sil", template="dsp.ranges", out="dsp")
+        script = (room / "yosys.log").read_text() if done.returncode == 0 else ""
+        if ("synth_ice40 -dsp" in script) != is_dsp or ",multipliers\n" not in (room / "dsp.area.csv").read_text():
+            yield f"--area ice40 {options}: {done.returncode} {done.stderr} {script}"
+
+
+def kept_faults(room, silc, whole):
+    """A run that was stopped leaves a table that goes on, and one that is another is written over by --force alone."""
+    (room / "made.csv").write_text("a table of mine\n")
+    done = tried(room, silc, "--pool")
+    if done.returncode != 1 or (room / "made.csv").read_text() != "a table of mine\n":
+        yield f"a table of mine: {done.returncode} {done.stderr}"
+    text, _ = explored(room, silc, "--pool", "--force")
+    if text != whole:
+        yield "a table over another one is not that of the template"
+
+
 def unfit_faults(room, silc):
     """Where no combination fits, the exit status is 1, and the period that would be needed is told."""
     (room / "short.ranges").write_text(TEMPLATE.read_text().replace("{6..14 step 4}", "{3..4}"))
@@ -249,11 +352,13 @@ def main(words):
     silc = Path(words[1] if words else BUILT).resolve()
     with tempfile.TemporaryDirectory(prefix="silc-explore-test-") as folder:
         room = Path(folder)
+        os.environ["XDG_STATE_HOME"] = str(room / "state")
         rows = expected(room, silc)
         text, done = explored(room, silc, "--pool")
         faults = [*faults_of(text, rows), *picture_faults(room, rows), *resumed_faults(room, silc, text), *copies_faults(),
                   *reason_faults(rows, done.stderr), *best_faults(room, silc, rows),
-                  *fit_faults(room, silc, rows), *unfit_faults(room, silc)]
+                  *fit_faults(room, silc, rows), *unfit_faults(room, silc), *core_faults(room, silc),
+                  *length_faults(room, silc), *dsp_faults(room, silc), *kept_faults(room, silc, text)]
         front = done.stdout.splitlines()[1:]
         if len(front) != sum(row["front"] == "yes" for row in rows):
             faults.append(f"standard output has {len(front)} rows of the front")

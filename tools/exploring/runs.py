@@ -13,10 +13,10 @@ SCHEDULE = f"./{PROGRAM} schedule {{}}{SOURCE} {{}}"
 SYNTHESIZE = Path(__file__).resolve().parent.parent / "synthesize"
 
 
-def area(family):
-    """The command that says what the core of a datapath takes of an FPGA."""
+def area(family, has_dsp=False):
+    """The command that says what the core of a datapath takes of an FPGA, with its multipliers in blocks or not."""
     return (f"./{PROGRAM} compile {{}}{SOURCE} {{}} {{}}.mic && "
-            f"'{SYNTHESIZE}' {{}}.mic --datapath {{}} --for {family} --json")
+            f"'{SYNTHESIZE}' {{}}.mic --datapath {{}} --for {family}{' --dsp' * has_dsp} --json")
 
 
 def is_there():

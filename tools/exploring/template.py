@@ -77,7 +77,7 @@ class Template:
         if len(self.ranges) < len(self.found):
             raise ValueError("two ranges have one name")
         self.count = math.prod(map(len, self.ranges.values()))
-        if not self.found and not is_plain_allowed or self.count > MOST:
+        if not self.found and not self.is_fitting and not is_plain_allowed or self.count > MOST:
             raise ValueError(f"it has {self.count} combinations, and {MOST} is the most" if self.found else
                              "it has no range, such as {1, 2} or {32..256 step 8}")
 
@@ -111,6 +111,7 @@ class Template:
         parts += [(value, [key]) for key, value in self.tree.items() if key not in TABLES]
         marks = [mark for part in parts for mark in marks_in(*part)]
         places = dict(marks)
+        self.is_fitting = FIT in places
         named = [name for name, _ in self.found if name]
         if any(".files." not in place for mark, place in marks if mark == FIT) or FIT in named:
             raise ValueError(f"{{{FIT}}} is the size of a file alone")

@@ -1,21 +1,22 @@
 """The table of an exploration: what each combination costs, or why it does not fit, and which are on the Pareto front."""
 import csv
 import io
-import os
 from dataclasses import dataclass
 from pathlib import Path
 
+from exploring.bits import Held
 from exploring.template import Fitting, fitted
 from pictures.plan import plan_of
 
 PERIOD = "period"
-COSTS = (PERIOD, "units", "buses", "registers")
-MEASURES = ("units", "buses", "registers", "taken", "cells", "cycles")
+COSTS = (PERIOD, "units", "buses", "register_bits", "cell_bits")
+MEASURES = ("units", "buses", "registers", "register_bits", "cell_bits", "taken", "cells", "cycles")
 VERDICT = ("answer", "front", "made_from")
 LAST = [*MEASURES, *VERDICT]
 # What a table has too where sources are judged on samples.
 JUDGED = ("noise", "wraps")
 FITS, ON_FRONT = "fits", "yes"
+OTHERWISE = "name another one by --out, or write over it by --force"
 
 
 @dataclass
@@ -26,6 +27,8 @@ class Trade:
     units: int
     buses: int
     registers: int | None
+    register_bits: int | None = None
+    cell_bits: int | None = None
     taken: int | None = None
     cells: int | None = None
     cycles: int | None = None
@@ -84,14 +87,17 @@ def cycles_of(plan):
     return max((plan.written(node) + 1 for node in plan.nodes), default=0)
 
 
-def trade_of(choice, datapath, status, said):
-    """What silc says of a combination, as a row of the table."""
+def trade_of(choice, datapath, status, said, inputs=()):
+    """What silc says of a combination, as a row of the table. The words of the program's inputs are those of the datapath where
+    they are not given."""
     trade = Trade(choice, datapath[PERIOD], len(datapath["unit"]), len(datapath["bus"]), registers_in(datapath))
     if status:
         trade.answer = said.strip().removeprefix("silc: ")
         return trade
     plan = plan_of(said, datapath)
-    trade.registers = registers_in(fitted(datapath, registers_by_file(plan)))
+    fitting = fitted(datapath, registers_by_file(plan))
+    held = Held(plan, fitting, inputs)
+    trade.registers, trade.register_bits, trade.cell_bits = registers_in(fitting), held.register_bits(), held.cell_bits()
     trade.taken, trade.cells, trade.cycles = registers_of(plan), cells_of(plan), cycles_of(plan)
     return trade
 
@@ -167,13 +173,11 @@ class Table:
             return []
         names, rows = rows_of(self.file.read_text())
         if names != self.head:
-            raise ValueError("it is not the table of this template; remove it, or name another one by --out")
+            raise ValueError(f"it is not the table of this template; {OTHERWISE}")
         if any(row[-1] != self.made_from for row in rows):
-            raise ValueError("its rows are of another source or template; remove it, or name another one by --out")
+            raise ValueError(f"its rows are of another source or template; {OTHERWISE}")
         return [trade_in(names, row) for row in rows]
 
-    def write(self, trades):
-        """Writes the whole file anew, at once."""
-        beside = self.file.with_name(self.file.name + ".new")
-        beside.write_text(line_of(self.head) + "".join(map(self.line, trades)))
-        os.replace(beside, self.file)
+    def text(self, trades):
+        """What the whole file has."""
+        return line_of(self.head) + "".join(map(self.line, trades))

@@ -24,6 +24,8 @@ class Node:
     argument: int | None = None
     operands: list = field(default_factory=list)
     transfers: list = field(default_factory=list)
+    # The bits of its word, where it has a format.
+    width: int | None = None
 
     def words(self):
         """What the node does, as the text has it: the operation, its argument and its operands."""
@@ -81,7 +83,7 @@ def node_of(text):
     if node.op in FORMATTED:
         line.number("fmt")
         line.word("trunc", "round", "sat", "round,sat")
-        line.word()
+        node.width = int(line.word())
     while line.more():
         line.word("to")
         file = line.word()

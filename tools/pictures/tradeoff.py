@@ -1,11 +1,12 @@
-"""The trade-off of an exploration: registers over the period, a panel for each number of units, a colour for each of buses."""
+"""The trade-off of an exploration: bits of registers over the period, a panel for each number of units, a colour for each
+number of buses."""
 import math
 
+from pictures.axes import numbers_over
 from pictures.picture import BLACK, BLUE, FAINT, GREY, MARGIN, ORANGE, Picture
 
 PANEL, TALL, LEFT, BETWEEN, HEAD, FOOT, ACROSS = 300, 230, 44, 70, 96, 50, 3
 COLOURS = (BLUE, ORANGE, "#009e73", "#cc79a7", "#e69f00", "#56b4e9", BLACK)
-STEPS = (1, 2, 5)
 MARKS = 6
 DOT, FRONT_DOT = 1.6, 4.5
 KEY = 92
@@ -14,8 +15,7 @@ NOISE_WIDE = 560
 
 def marks_of(low, high):
     """Round numbers over an axis, a few of them."""
-    step = next(step * 10**places for places in range(9) for step in STEPS if (high - low) / (step * 10**places) <= MARKS)
-    return range(low // step * step, -(-high // step) * step + 1, step)
+    return numbers_over(low, high, MARKS, 1)
 
 
 class Panel:
@@ -34,7 +34,7 @@ class Panel:
 
     def draw(self, picture, title):
         picture.text(self.left, self.top - 28, title, 12, BLACK, "start")
-        picture.text(self.left - 8, self.top - 10, "registers", 10, BLACK, "start")
+        picture.text(self.left - 8, self.top - 10, "bits of registers", 10, BLACK, "start")
         picture.text(self.left + PANEL, self.top + TALL + 30, "cycles of a period", 10, BLACK, "end")
         for period in self.periods:
             picture.line(self.x(period), self.top, self.x(period), self.top + TALL, FAINT, 1)
@@ -45,12 +45,12 @@ class Panel:
 
 
 def staircase(panel, trades):
-    """The line below which no combination is: the least registers that are enough in each period."""
+    """The line below which no combination is: the least bits of registers that are enough in each period."""
     least, points = None, []
-    for trade in sorted(trades, key=lambda trade: (trade.period, trade.registers)):
-        if least is None or trade.registers < least:
+    for trade in sorted(trades, key=lambda trade: (trade.period, trade.register_bits)):
+        if least is None or trade.register_bits < least:
             points += [] if least is None else [(panel.x(trade.period), panel.y(least))]
-            least = trade.registers
+            least = trade.register_bits
             points.append((panel.x(trade.period), panel.y(least)))
     return [*points, (panel.left + PANEL, panel.y(least))]
 
@@ -58,7 +58,8 @@ def staircase(panel, trades):
 def said_of(trade):
     """A combination in words: its costs and the number of each range."""
     ranges = ", ".join(f"{name} {number}" for name, number in trade.choice.items() if name != "period")
-    return (f"period {trade.period}, {trade.units} units, {trade.buses} buses, {trade.registers} registers"
+    return (f"period {trade.period}, {trade.units} units, {trade.buses} buses, {trade.registers} registers "
+            f"of {trade.register_bits} bits, memories of {trade.cell_bits} bits"
             + (f": {ranges}" if ranges else ""))
 
 
@@ -68,10 +69,10 @@ def draw_panel(picture, panel, trades, colours):
         picture.curve(staircase(panel, [trade for trade in trades if trade.buses == buses]), colours[buses], 1.5)
     shown = {}
     for trade in sorted(trades, key=lambda trade: (trade.is_on_front, -trade.buses)):
-        shown[trade.period, trade.registers, trade.buses, trade.is_on_front] = trade
+        shown[trade.period, trade.register_bits, trade.buses, trade.is_on_front] = trade
     for trade in shown.values():
         is_large = trade.is_on_front
-        picture.dot(panel.x(trade.period), panel.y(trade.registers), colours[trade.buses],
+        picture.dot(panel.x(trade.period), panel.y(trade.register_bits), colours[trade.buses],
                     FRONT_DOT if is_large else DOT, said_of(trade) if is_large else "")
 
 
@@ -80,7 +81,8 @@ def draw_tradeoff(trades):
     said = f"{len(trades)} combinations, of which {len(fit)} fit"
     numbers = sorted({trade.units for trade in trades})
     periods = marks_of(min((trade.period for trade in fit), default=0), max((trade.period for trade in fit), default=1))
-    registers = marks_of(min((trade.registers for trade in fit), default=0), max((trade.registers for trade in fit), default=1))
+    registers = marks_of(min((trade.register_bits for trade in fit), default=0),
+                         max((trade.register_bits for trade in fit), default=1))
     lines = -(-len(numbers) // ACROSS)
     colours = {buses: COLOURS[k % len(COLOURS)] for k, buses in enumerate(sorted({trade.buses for trade in trades}))}
     width = 2 * MARGIN + LEFT + min(len(numbers), ACROSS) * (PANEL + BETWEEN) - BETWEEN
@@ -102,15 +104,16 @@ def draw_key(picture, colours, y):
         picture.text(MARGIN + 16 + number * KEY, y, f"{buses} buses", 11, BLACK, "start")
     picture.text(MARGIN + 16 + len(colours) * KEY, y, "(the fewest that fit at a place)", 11, BLACK, "start")
     picture.dot(MARGIN + 6, y + 16, GREY, FRONT_DOT)
-    words = "on the Pareto front: no other has less of one of period, units, buses, registers and no more of the rest"
+    words = "on the Pareto front: no other has less of period, units, buses or bits and no more of the rest"
     picture.text(MARGIN + 16, y + 20, words, 11, BLACK, "start")
 
 
 def draw_noise(trades):
-    """The noise of the combinations that fit over the registers of their hardware, a colour for each number of buses."""
+    """The noise of the combinations that fit over the bits of their registers, a colour for each number of buses."""
     fit = [trade for trade in trades if trade.fits() and trade.noise is not None]
-    said = f"{len(trades)} combinations, of which {len(fit)} fit: noise beside the signal in dB, over registers"
-    registers = marks_of(min((trade.registers for trade in fit), default=0), max((trade.registers for trade in fit), default=1))
+    said = f"{len(trades)} combinations, of which {len(fit)} fit: noise beside the signal in dB, over bits of registers"
+    registers = marks_of(min((trade.register_bits for trade in fit), default=0),
+                         max((trade.register_bits for trade in fit), default=1))
     levels = marks_of(math.floor(min((trade.noise for trade in fit), default=-1)),
                       math.ceil(max((trade.noise for trade in fit), default=0)))
     picture = Picture(2 * MARGIN + LEFT + NOISE_WIDE, HEAD + TALL + FOOT, said)
@@ -119,7 +122,7 @@ def draw_noise(trades):
     place = noise_axes(picture, registers, levels)
     for trade in sorted(fit, key=lambda trade: trade.is_on_front):
         words = f"{trade.noise:.1f} dB, {said_of(trade)}" if trade.is_on_front else ""
-        picture.dot(*place(trade.registers, trade.noise), colours[trade.buses], FRONT_DOT if trade.is_on_front else DOT, words)
+        picture.dot(*place(trade.register_bits, trade.noise), colours[trade.buses], FRONT_DOT if trade.is_on_front else DOT, words)
     for number, (buses, colour) in enumerate(colours.items()):
         picture.dot(MARGIN + 6 + number * KEY, 48, colour)
         picture.text(MARGIN + 16 + number * KEY, 52, f"{buses} buses", 11, BLACK, "start")
@@ -127,7 +130,7 @@ def draw_noise(trades):
 
 
 def noise_axes(picture, registers, levels):
-    """The axes of a picture of noise, and where a number of registers and a level stand."""
+    """The axes of a picture of noise, and where a number of bits and a level stand."""
     left, top = MARGIN + LEFT, HEAD
 
     def place(number, level):
