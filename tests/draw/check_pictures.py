@@ -207,8 +207,9 @@ def check_ends(levels, least, most, faults):
     step = levels[1] - levels[0]
     faults.unless(all(abs(two - one - step) < step / 1000 for one, two in zip(levels, levels[1:])), f"uneven numbers {levels}")
     faults.unless(f"{step:.0e}"[0] in "125" and len(levels) <= 12, f"steps of {step}")
-    faults.unless(levels[0] - step / 40 <= least < levels[1] or len(levels) == 2, f"from {levels[0]}, and {least} is the least")
-    faults.unless(levels[-2] < most <= levels[-1] + step / 40 or len(levels) == 2, f"to {levels[-1]}, and {most} is the most")
+    near = step / 40
+    faults.unless(levels[0] - near <= least < levels[1] or len(levels) == 2, f"from {levels[0]}, and {least} is the least")
+    faults.unless(levels[-2] < most <= levels[-1] + near or len(levels) == 2, f"to {levels[-1]}, and {most} is the most")
 
 
 def decibels(known, share):
@@ -289,8 +290,8 @@ COLUMNS = [({"one": [0, 100, -100, 7]}, None),
            ({"a ramp": list(range(-300, 300)), "its half": [n // 2 for n in range(-300, 300)]}, None),
            ({"the ends": [32767, -32768], "small": [1, -1]}, None), ({"forty bits": [(1 << 39) - 1, -(1 << 39), 0] * 5}, None),
            # A truth value beside a word of 24 bits, and a signal that is small beside where it is.
-           ({"is loud": [0, 1, 1, 0], "the signal": [-8388608, 8388607, 5, 6000000], "level": [5000010, 5000020, 5000013, 5000011]},
-            None),
+           ({"is loud": [0, 1, 1, 0], "the signal": [-8388608, 8388607, 5, 6000000]}, None),
+           ({"is loud": [0, 1, 1, 0], "level": [5000010, 5000020, 5000013, 5000011]}, None),
            ({"still": [7, 7, 7]}, None), ({"beyond": [0, 50, 90, -80, 20, 100]}, (-50, 60))]
 
 
@@ -356,8 +357,8 @@ def main():
         picture = drawn("response", "-", unit, design, given=rows)
         right.append(judged(f"response {name}", check_response, picture, known, 1, None))
         db, frequencies = ASKED
-        picture = drawn("response", "--db", ",".join(map(str, db)), f"--frequencies={','.join(frequencies)}", "-", unit, design,
-                        given=rows)
+        options = ["--db", ",".join(map(str, db)), f"--frequencies={','.join(frequencies)}"]
+        picture = drawn("response", *options, "-", unit, design, given=rows)
         right.append(judged(f"response {name} between {db}", check_response, picture, known, 1, db))
         labels = [float(text.text) for text in picture.iter(SVG + "text") if text.get("font-size") == "10"]
         right.append(labels[0] == 0.02 and 0.2 in labels and max(labels) <= 1)

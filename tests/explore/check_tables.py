@@ -127,8 +127,8 @@ def expected(room, silc):
         else:
             taken, cycles = measured(done.stdout, latency)
             sizes = {f"{name}.{port}": size for name in ("add", "add_2") for port in (0, 1)} | {"outp.0": 1}
-            rows[choice] = row | {"answer": "fits", "register_bits": bits_of(done.stdout, sizes), "cell_bits": 0, "taken": taken,
-                                  "cells": 0, "cycles": cycles}
+            rows[choice] = row | {"answer": "fits", "register_bits": bits_of(done.stdout, sizes), "cell_bits": 0,
+                                  "taken": taken, "cells": 0, "cycles": cycles}
     costs = {choice: [row[cost] for cost in COSTS] for choice, row in rows.items() if row["answer"] == "fits"}
     for choice, own in costs.items():
         is_bettered = any(other != own and all(a <= b for a, b in zip(other, own)) for other in costs.values())
@@ -272,13 +272,14 @@ def fit_faults(room, silc, rows):
 
 
 def core_faults(room, silc):
-    """The bits of each row of the biquads' front are those of the core that tools/verilog makes of it. Their template has no range
-    but for sizes that fit: it is one row a period."""
-    text = (BIQUADS / "processors.ranges").read_text()
+    """The biquads with delays in memory and in registers have the bits of the cores that tools/verilog makes of them. Their
+    templates have no range but for sizes that fit, so each table has one row."""
+    text = (BIQUADS / "processors.ranges").read_text().replace("{24, 26, 27, 32, 48, 60}", "60")
     for hold in (0, 2):
-        plain = re.sub(r"\{(\d+)[^{}]*\}", r"\1", text.replace("{24, 26, 27, 32, 48, 60}", "60")).replace("hold = 0", f"hold = {hold}")
+        plain = re.sub(r"\{(\d+)[^{}]*\}", r"\1", text).replace("hold = 0", f"hold = {hold}")
         (room / "core.ranges").write_text(plain)
-        done = tried(room, silc, "--pool", "--best", "1", "--force", source=BIQUADS / "biquads.sil", template="core.ranges", out="core")
+        done = tried(room, silc, "--pool", "--best", "1", "--force", source=BIQUADS / "biquads.sil", template="core.ranges",
+                     out="core")
         lines = done.stdout.splitlines()
         if done.returncode or len(lines) != 2 or len((room / "core.csv").read_text().splitlines()) != 2:
             yield f"a template with {{fit}} alone: {done.returncode} {done.stdout} {done.stderr}"

@@ -4,9 +4,11 @@ sounds of 16, 24 and 32 bits, which Python's own reader reads as well; and how l
 """
 import os
 import resource
+import signal
 import subprocess
 import sys
 import tempfile
+import time
 import wave
 from pathlib import Path
 
@@ -17,6 +19,8 @@ SHAPES = [("16,15", 1, 1, 16), ("32,30", 1 << 15, 2, 16), ("16,15", 1, 1, 24), (
 # A million samples, and in how many seconds of the processor each tool is to be done with them: a third of what one sample
 # after another takes.
 MANY, SECONDS = 1_000_000, 1.2
+# How many seconds a tool may take to do what it is waited for.
+PATIENCE = 20
 
 
 def rows(*words, given=b""):
@@ -61,11 +65,30 @@ def slow(room):
             yield f"{words[0]} of {MANY} samples takes {took:.1f} s, and not {SECONDS} s at most"
 
 
+def is_kept(room):
+    """Whether a sound that is made of standard input is whole up to where a signal stops it."""
+    with subprocess.Popen([TOOL, "to-wav", "-", "16,15", "48000", room / "kept.wav"], stdin=subprocess.PIPE) as making:
+        making.stdin.write(b"1\n2\n3\n")
+        making.stdin.flush()
+        wait_for(lambda: any(part.stat().st_size > 44 for part in room.glob(".kept.wav.*")))
+        making.send_signal(signal.SIGTERM)
+        making.wait(timeout=PATIENCE)
+    with wave.open(str(room / "kept.wav")) as sound:
+        return sound.getnframes() == 3 and sound.readframes(3) == bytes([1, 0, 2, 0, 3, 0]) and not list(room.glob(".kept*"))
+
+
+def wait_for(is_so):
+    end = time.monotonic() + PATIENCE
+    while not is_so() and time.monotonic() < end:
+        time.sleep(0.02)
+
+
 def main():
     with tempfile.TemporaryDirectory(prefix="silc-rows-") as folder:
         os.environ["XDG_STATE_HOME"] = folder
         faults = [f"the words of fix<{shape}> do not come back from {bits} bits"
                   for shape, *more, bits in SHAPES if not comes_back(Path(folder), shape, *more, bits)]
+        faults += [] if is_kept(Path(folder)) else ["a sound that was stopped is not whole up to there"]
         faults += slow(Path(folder))
     for fault in faults:
         print(fault)

@@ -88,8 +88,8 @@ def cycles_of(plan):
 
 
 def trade_of(choice, datapath, status, said, inputs=()):
-    """What silc says of a combination, as a row of the table. The words of the program's inputs are those of the datapath where
-    they are not given."""
+    """What silc says of a combination, as a row of the table. The words of the program's inputs are those of the datapath
+    where they are not given."""
     trade = Trade(choice, datapath[PERIOD], len(datapath["unit"]), len(datapath["bus"]), registers_in(datapath))
     if status:
         trade.answer = said.strip().removeprefix("silc: ")

@@ -138,8 +138,8 @@ def shares_of(frequencies, rate):
 
 
 def draw_response(text, unit, *sections, rate=None, frequencies=None, db=None):
-    """A picture of the rows on an impulse, and of the design by its sections, between the frequencies and the levels in decibels
-    that are asked for, or those that the curves have."""
+    """A picture of the rows on an impulse, and of the design by its sections, between the frequencies and the levels in
+    decibels that are asked for, or those that the curves have."""
     impulse = words_of(text, float(unit))
     filters = [section_of(place, words) for place, words in enumerate(sections, 1)]
     drawn = [(lambda share: decibels(value(impulse, share)), ORANGE, 3, "", f"the {len(impulse)} rows on an impulse")]

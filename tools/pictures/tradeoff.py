@@ -122,7 +122,8 @@ def draw_noise(trades):
     place = noise_axes(picture, registers, levels)
     for trade in sorted(fit, key=lambda trade: trade.is_on_front):
         words = f"{trade.noise:.1f} dB, {said_of(trade)}" if trade.is_on_front else ""
-        picture.dot(*place(trade.register_bits, trade.noise), colours[trade.buses], FRONT_DOT if trade.is_on_front else DOT, words)
+        radius = FRONT_DOT if trade.is_on_front else DOT
+        picture.dot(*place(trade.register_bits, trade.noise), colours[trade.buses], radius, words)
     for number, (buses, colour) in enumerate(colours.items()):
         picture.dot(MARGIN + 6 + number * KEY, 48, colour)
         picture.text(MARGIN + 16 + number * KEY, 52, f"{buses} buses", 11, BLACK, "start")

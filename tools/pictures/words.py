@@ -40,7 +40,7 @@ def groups_of(columns):
 
 
 def axes_of(columns):
-    """The numbers at the axis of each column: those of a group have one axis, from the least to the greatest of their words."""
+    """The numbers at the axis of each column: those of a group have one axis, from their least to their greatest word."""
     made = {}
     for group in groups_of(columns):
         words = [word for number in group for word in columns[number][1]]
