@@ -13,11 +13,6 @@ NO_TEXT = "-"
 FIRST_CODE, LAST_CODE = 33, 126
 
 
-def digits_of(value, bits):
-    """A value in two's complement. None stands for no value."""
-    return NOTHING if value is None else format(value % (1 << bits), "b")
-
-
 @dataclass(frozen=True)
 class Signal:
     """A signal: the scopes that it stands in, its name, its bits (None: it is a text), and its code in the file."""
@@ -30,7 +25,7 @@ class Signal:
         """The line by which it has a value from now on. None stands for no value."""
         if self.bits is None:
             return f"s{value or NO_TEXT} {self.code}"
-        digits = digits_of(value, self.bits)
+        digits = NOTHING if value is None else format(value % (1 << self.bits), "b")
         return f"{digits}{self.code}" if self.bits == 1 else f"b{digits} {self.code}"
 
     def declared(self):

@@ -5,7 +5,7 @@ from typing import TextIO
 
 from hardware.datapath import Names
 from micro_file.image import OPCODE, Image
-from tracing.signals import WORD_BITS, Signal, Signals, digits_of, first_value
+from tracing.signals import WORD_BITS, Signal, Signals, first_value
 from tracing.trace import BECOMES, Cycle, Layout
 
 # A cycle takes one unit of this.
@@ -14,6 +14,7 @@ TOP = "silc"
 CELL = "cell"
 # Of how many words the digits are kept.
 MOST_KEPT = 1 << 17
+ALL_BITS = (1 << WORD_BITS) - 1
 
 
 class Digits(dict):
@@ -22,8 +23,8 @@ class Digits(dict):
     def __missing__(self, word: str) -> str:
         if len(self) > MOST_KEPT:
             self.clear()
-        self[word] = f"b{digits_of(int(word), WORD_BITS)} "
-        return self[word]
+        self[word] = made = f"b{int(word) & ALL_BITS:b} "
+        return made
 
 
 class Step:
@@ -31,10 +32,7 @@ class Step:
     that after the last one."""
 
     def __init__(self, image: Image, signals: Signals, before: Layout | None, now: Layout | None):
-        self.signals, self.texts = signals, []
-        # Texts, each with a word after it: its line in this cycle, that of the cycle before, where there was one, and what
-        # ends its line. Where both are one word, there is nothing but the text.
-        self.words = []
+        self.signals, self.texts, places = signals, [], []
         self.put("strobe", *(int(layout is not None and layout.word % image.period == 0) for layout in (before, now)))
         self.strobe = self.text()
         if now:
@@ -45,22 +43,30 @@ class Step:
             operations = [of.get(unit) for of in issues]
             self.put(("operation", unit), *operations)
             self.put(("opcode", unit), *map(OPCODE.get, operations))
-            self.put_word(("result", unit), *(of.get(unit) for of in results))
+            self.put_word(("result", unit), *(of.get(unit) for of in results), places)
         for bus in range(image.buses):
-            self.put_word(("bus", bus), *(of.get(bus) for of in carried))
-        self.rest = self.text()
+            self.put_word(("bus", bus), *(of.get(bus) for of in carried), places)
+        self.set_words(places)
+
+    def set_words(self, places: list) -> None:
+        """Sets the text before the first word, and of each word its line in this cycle, that of the cycle before, where there
+        was one, and what comes after the word; or after no word, where both are one."""
+        texts = [text for *_, text in places] + [self.text()]
+        self.first, self.words = texts[0], []
+        for (key, now, before, _), text in zip(places, texts[1:]):
+            self.words.append((now, before, f"{self.signals.of(key).code}\n{text}", text))
 
     def put(self, key, before, now) -> None:
         """A signal that has another value from now on, or the same."""
         if before != now:
             self.texts.append(self.signals.of(key).change(now) + "\n")
 
-    def put_word(self, key: tuple, before: int | None, now: int | None) -> None:
+    def put_word(self, key: tuple, before: int | None, now: int | None, places: list) -> None:
         """A signal that has the word of a line from now on, or none."""
         if now is None:
             self.put(key, before, None)
         else:
-            self.words.append((self.text(), now, before, self.signals.of(key).code + "\n"))
+            places.append((key, now, before, self.text()))
 
     def text(self) -> str:
         """What was put since this was asked for."""
@@ -94,25 +100,26 @@ class Waveform:
 
     def add(self, cycles: Iterable[Cycle]) -> None:
         """Shows cycles, one after another; what one writes is there from the next one on."""
-        shown, digits, steps, before, made = [], self.digits, self.steps, self.words, self.written
+        shown, digits, steps, last, before, made = [], self.digits, self.steps, self.layout, self.words, self.written
         number, is_first = self.last, self.last is None
         for number, sample, layout, words in cycles:
-            step = steps.get((self.layout, layout)) or self.step(layout)
+            step = steps.get((last, layout)) or self.step(last, layout)
             made.append(step.strobe)
             if sample != self.sample:
                 made.append(self.of_sample(sample))
-            for text, line, was, end in step.words:
+            made.append(step.first)
+            for line, was, end, without in step.words:
                 word = words[line]
                 if was is None or before[was] != word:
-                    made += text, digits[word], end
+                    made += digits[word], end
                 else:
-                    made.append(text)
-            made.append(step.rest)
-            if text := "".join(made):
-                shown += f"#{number}\n", text
-            self.layout, before = layout, words
+                    made.append(without)
+            if any(made):
+                shown.append(f"#{number}\n")
+                shown += made
+            last, before = layout, words
             made = self.write(layout, words)
-        self.words, self.written, self.last = before, made, number
+        self.layout, self.words, self.written, self.last = last, before, made, number
         # The time of the first one is in the head.
         self.file.write("".join(shown[is_first:]))
 
@@ -127,15 +134,13 @@ class Waveform:
     def end(self) -> None:
         """Ends the last cycle."""
         if self.last is not None:
-            step = self.step(None)
-            text = "".join([*self.written, step.strobe, step.rest])
+            step = self.step(self.layout, None)
+            text = "".join([*self.written, step.strobe, step.first])
             self.file.write(f"#{self.last + 1}\n{text}")
 
-    def step(self, now: Layout | None) -> Step:
-        found = self.steps.get((self.layout, now))
-        if found is None:
-            found = self.steps[self.layout, now] = Step(self.image, self.signals, self.layout, now)
-        return found
+    def step(self, before: Layout | None, now: Layout | None) -> Step:
+        made = self.steps[before, now] = Step(self.image, self.signals, before, now)
+        return made
 
     # What is written
 
@@ -144,7 +149,7 @@ class Waveform:
         stores = self.stores.get(layout)
         if stores is None:
             stores = self.stores[layout] = [self.store(*write) for write in layout.writes]
-        made, held = [], self.held
+        made, held, digits = [], self.held, self.digits
         for line, code, end, ram in stores:
             word = words[line]
             if ram is not None:
@@ -153,7 +158,7 @@ class Waveform:
                 end = f"{code}\n"
             if held[code] != word:
                 held[code] = word
-                made += self.digits[word], end
+                made += digits[word], end
         return made
 
     def store(self, key: tuple, line: int) -> tuple[int, str, str, int | None]:
