@@ -1,5 +1,5 @@
-"""How many bits the registers and the memories of a plan's hardware have: as many for each word of a file or of a memory as the
-words that come into it need, as in the cores of `tools/verilog`."""
+"""How many bits the registers and the memories of a plan's hardware have: for each word of a file or of a memory as many as
+the words that come into it need, as in the cores of `tools/verilog`."""
 from collections.abc import Sequence
 
 from designing.sources import words_of_main
@@ -59,8 +59,11 @@ class Held:
 
     def register_bits(self) -> int:
         """The bits of all registers. A file that nothing comes into has none."""
-        sizes = {f"{name}.{port}": size for name, unit in self.units.items() for port, size in enumerate(unit.get("files", []))}
-        return sum(sizes[file] * words.bits() for file, words in self.files.items())
+        return sum(self.size(*file.rsplit(".", 1)) * words.bits() for file, words in self.files.items())
+
+    def size(self, name: str, port: str) -> int:
+        """How many registers a file has."""
+        return self.units[name]["files"][int(port)]
 
     def cell_bits(self) -> int:
         """The bits of all cells. A memory that nothing is stored in has none."""
