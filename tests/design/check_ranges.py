@@ -1,7 +1,7 @@
 #!/usr/bin/env python3
 """Whether filters that are scaled by l1 never wrap: on 100,000 samples of noise at full scale, and on the worst input itself,
-which is made of the impulse response. And whether tools/ranges sees where one wraps that is not scaled, as an evaluator in
-Python does, and finds the same words.
+which is made of the impulse response. And whether tools/ranges sees where one wraps that is not scaled, and finds the same
+words as an evaluator in Python, also where nothing brings them to a width: on the examples and on random programs.
 
 usage: tests/design/check_ranges.py
 
@@ -22,15 +22,20 @@ TOOLS = ROOT / "tools"
 sys.path[:0] = [str(TOOLS), str(ROOT / "tests")]
 import reference  # noqa: E402
 from designing import scipy_designs  # noqa: E402
+from designing.flat import flat_of  # noqa: E402
 from designing.programs import evaluated, rows_of, text_of, valued  # noqa: E402
 from designing.sources import widened  # noqa: E402
+from designing.unbounded import Passed, own_run, unbounded_run  # noqa: E402
+from fuzzing import samples, sources  # noqa: E402
 
 SAMPLES, LEAST, GREATEST, SKIPPED = 100_000, -32768, 32767, 77
 FILTERS = (("df1", ["butter", "6", "lowpass", "1000"]), ("df2t", ["cheby1", "2", "bandpass", "800", "1600", "--ripple", "1"]),
            ("lattice", ["ellip", "3", "highpass", "1200", "--ripple", "1", "--attenuation", "40"]))
 SHAPES = ["--rate", "8000", "--shape", "16,13", "--input", "16,15"]
+# As many random programs are looked into, with words of so many bits in turn.
+PROGRAMS, WIDTHS = 24, (8, 16, 32, 40)
 # All samples are compared at the output, and as many at all elements.
-LOOKED_INTO, WRAP = 10_000, re.compile("wraps|saturates|follows")
+LOOKED_INTO, WRAP = 10_000, re.compile("wraps|saturates|follows|overflows")
 # The word of a source, a wrap at its second sample, and one that follows from it at the third.
 WRAPPING = """func main(x : fix<8,4>) y : fix<8,4> =
 begin
@@ -103,6 +108,47 @@ def value_faults():
             yield f"{name}: the words of its elements are others"
 
 
+def programs():
+    """Sources with samples: the examples, and random ones."""
+    for file in sorted((ROOT / "examples").glob("*/*.sil")):
+        yield file.stem, file.read_text(), rows_of(file.with_name("samples.txt").read_text())[:40]
+    for seed in range(PROGRAMS):
+        dice = random.Random(seed)
+        made = sources.Program(dice, WIDTHS[seed % len(WIDTHS)]).source()
+        yield f"random program {seed}", made.text, [tuple(row) for row in samples.rows_of(dice, made.inputs)]
+
+
+def words_by(run, rows):
+    """The words of a run over the rows, in two blocks."""
+    made = [[] for _ in run.elements]
+    for block in (rows[:5], rows[5:]):
+        run.over(block)
+        for number, words in enumerate(made):
+            words += run.block(number)
+    return made
+
+
+def exact_faults():
+    """How the words of programs, and those that nothing brings to a width, differ from those of an evaluator in Python."""
+    fit = reference.fit
+    for name, source, rows in programs():
+        flat, program = flat_of(source), reference.Program(source)
+        if [each.name for each in flat.elements] != [each.instance + each.text() for each in program.elements]:
+            yield f"{name}: its elements have other names"
+        if words_by(own_run(flat.elements), rows) != program.words(rows):
+            yield f"{name}: its own words are others"
+        try:
+            words = words_by(unbounded_run(flat.elements, frozenset()), rows)
+        except Passed:
+            continue
+        reference.fit = lambda number, of: number
+        try:
+            if words != reference.Program(source).words(rows):
+                yield f"{name}: its words without a width are others"
+        finally:
+            reference.fit = fit
+
+
 def main():
     sys.setrecursionlimit(100_000)
     try:
@@ -113,7 +159,7 @@ def main():
         filters = ()
     rows = noise()
     with tempfile.TemporaryDirectory(prefix="silc-ranges-test-") as folder:
-        faults = [*seen_faults(Path(folder)), *value_faults()]
+        faults = [*seen_faults(Path(folder)), *value_faults(), *exact_faults()]
     with ProcessPoolExecutor() as pool:
         for found in pool.map(judged, *zip(*filters), itertools.repeat(rows)) if filters else ():
             faults += found
