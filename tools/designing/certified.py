@@ -1,0 +1,218 @@
+"""Certified sums of the magnitudes of responses: of each node of a linear system, to what is put into others.
+
+    system = System([[(1, 1, Fraction(-1, 2))], [(0, 0, Fraction(3, 4)), (1, 1, Fraction(9, 16))]])
+    of_input, of_error = norms(system, [[(0, 0, 1)], [(1, 0, 1)]], seconds=2.0)
+    of_input[1].positive, of_input[1].negative, of_input[1].either, of_input[1].is_bound
+
+A system is made of the terms of each node, (node, delay, factor), with binary fractions as factors. A source is a list of
+kicks (node, sample, amount): what is put in there, and at what sample. Of each source `norms` gives the `Norm` of each node
+that it reaches; a node that is missing is not reached, and has the norm 0. Where `is_bound` holds, the sum of all positive
+words is at most `positive` and that of the magnitudes of all negative ones `negative`, but for `either`, which belongs to
+one of them or to both in parts. So inputs from `least` to `greatest` bring the node between the two numbers of
+`reach(least, greatest)`. `summed` is a sum of magnitudes that the truth is not below, so it says how tight the bound is. Where
+`is_bound` does not hold, no bound was found in the time, and the other numbers are sums so far.
+
+Feed-forward systems are exact. Of others the response is summed up to some sample, and what comes after is bounded: see
+`loops`, and `ellipsoids`. No bound rests on what seems to be over. More time makes it tighter; it ends before where what comes
+after is below 2^-TIGHT of the whole, or where more time would not help.
+"""
+"""Certified sums of the magnitudes of responses: of each node of a linear system, to what is put into others.
+
+    system = System([[(1, 1, Fraction(-1, 2))], [(0, 0, Fraction(3, 4)), (1, 1, Fraction(9, 10))]])   # of binary fractions
+    of_input, of_error = norms(system, [[(0, 0, 1)], [(1, 0, 1)]], seconds=2.0)
+    of_input[1].positive, of_input[1].negative, of_input[1].either, of_input[1].is_bound
+
+A system is made of the terms of each node, (node, delay, factor). A source is a list of kicks: (node, sample, amount), what is
+put in there, and at what sample. Of each source `norms` gives the `Norm` of each node that it reaches. Where `is_bound` holds,
+the sum of all positive words is at most `positive`, that of the magnitudes of all negative ones `negative`, but for `either`,
+which is to be added to one of them or shared between them. So inputs from `least` to `greatest` bring the node between
+the two numbers of `reach(least, greatest)`. `summed` is the sum of magnitudes so far, which the truth is not below. Where
+`is_bound` does not hold, no bound was found in the time, and there is this sum alone.
+
+Feed-forward systems are exact. Of others the response is summed up to some sample, and what comes after is bounded: see
+`loops`, and `ellipsoids`. More time makes it tighter: it ends before where the rest is below 2^-TIGHT of the whole.
+"""
+import math
+from collections.abc import Iterable, Sequence
+from dataclasses import dataclass
+from fractions import Fraction
+
+from designing.ellipsoids import MOST_STATES, Ellipsoid, NoBound, States
+from designing.impulses import Kick, Response
+from designing.loops import NOTHING, PLACES, WORD_PLACES, Clock, Passing, Sums, advanced, amount_of, cuts_of, in_flight, sums_of
+from designing.systems import NoSystem, System
+
+__all__ = ["Norm", "NoSystem", "System", "norms"]
+
+SECONDS = 3.0
+# What comes after is little where it is below 2^-TIGHT of the whole, and is worth the time where it may come below 2^-LITTLE.
+TIGHT, LITTLE = 20, 10
+# A response is summed to lengths that grow by STEP. Whether it is worth the time is asked after as many longest delays.
+FIRST_LENGTH, STEP, DELAYS = 64, 2, 16
+# Words have so many places where nothing may be cut.
+EXACT_PLACES, LEAST_SECONDS = 1 << 14, 0.05
+
+
+@dataclass(frozen=True)
+class Norm:
+    """A bound of the sum of magnitudes of a response, or what is known of it."""
+    positive: Fraction
+    negative: Fraction
+    either: Fraction
+    summed: Fraction
+    is_bound: bool
+
+    @property
+    def total(self) -> Fraction:
+        return self.positive + self.negative + self.either
+
+    def reach(self, least: Fraction, greatest: Fraction) -> tuple[Fraction, Fraction]:
+        """The least and the greatest word that inputs from `least` to `greatest` make, with least <= 0 <= greatest."""
+        more = self.either * max(-least, greatest)
+        return (self.positive * least - self.negative * greatest - more,
+                self.positive * greatest - self.negative * least + more)
+
+
+class Source:
+    """The response to one source, as far as it is, and what comes after it at most."""
+
+    def __init__(self, system: System, kicks: Iterable[Kick], passing: Passing):
+        ranked = [(system.rank[node], sample, Fraction(amount)) for node, sample, amount in kicks]
+        most = max([amount.denominator for _, _, amount in ranked], default=1).bit_length() - 1
+        self.kicks = ranked
+        self.response = Response(system, ranked, max(WORD_PLACES, most))
+        self.system, self.passing = system, passing
+        self.rest: dict[int, Sums] = {}
+        self.unbounded: set[int] = set()
+        self.is_done = False
+
+    def bring(self, end: int, clock: Clock) -> bool:
+        """Whether the response was summed up to a sample in time. What comes after it is bounded in both cases."""
+        is_in_time = advanced(self.response, end, clock)
+        self.rest, self.unbounded = self.passing.passed(in_flight(self.response))
+        return is_in_time
+
+    def whole(self, rank: int) -> int:
+        return sums_of(self.response, rank).total + self.rest.get(rank, NOTHING).total
+
+    def share(self) -> float:
+        """The greatest share of the whole, of all nodes, that is only bounded."""
+        return max((rest.total / self.whole(rank) for rank, rest in self.rest.items() if rest.total), default=0.0)
+
+    def sum_up(self, clock: Clock) -> None:
+        """Sums until what comes after is little, or no longer gets less, or as long as there is time."""
+        delays = DELAYS * self.system.longest_delay
+        length = max(FIRST_LENGTH, self.response.time * STEP)
+        while not self.is_done:
+            began, left, share = self.response.time, clock.left, self.share()
+            before = {rank: self.whole(rank) for rank in self.rest}
+            if not self.bring(length, clock):
+                return
+            self.is_done = self.response.is_over or self.share() < 2.0**-TIGHT
+            if length >= delays and before:
+                is_settled = all(abs(self.whole(rank) - whole) <= whole >> TIGHT for rank, whole in before.items())
+                pace = (left - clock.left) / (length - began)
+                trend = math.log(share / self.share()) / (length - began) if share else 0.0
+                self.is_done |= is_settled or pace * self.samples_until_little(trend) > clock.left
+            length *= STEP
+
+    def samples_until_little(self, trend: float) -> float:
+        """After about how many samples more what comes after is little, or as little as is wanted where it is that already."""
+        decay = max(trend, min((self.passing.decay(rank) for rank in self.rest), default=math.inf))
+        share = max(self.share(), 2.0**-TIGHT)
+        return (math.log(share) + math.log(2) * (LITTLE if share > 2.0**-LITTLE else TIGHT)) / decay
+
+    def sharpen(self) -> None:
+        """Bounds what comes after by an ellipsoid, where it is made of few states."""
+        flying = self.response.in_flight()
+        if not flying or self.unbounded or self.share() < 2.0**-TIGHT:
+            return
+        states = States(self.system, self.reached(flying), flying)
+        if len(states.names) > MOST_STATES:
+            return
+        try:
+            tails = Ellipsoid(states).tails(flying)
+        except NoBound:
+            return
+        errors, _ = self.passing.passed(cuts_of(self.response))
+        for rank, rest in self.rest.items():
+            tail = errors.get(rank, NOTHING).plus(Sums(0, 0, amount_of(tails.get(rank, Fraction(0)))))
+            if tail.total < rest.total * (1 - 2.0**-TIGHT):
+                self.rest[rank] = tail
+
+    def reached(self, flying: Iterable[tuple[int, int]]) -> set[int]:
+        """The nodes that something comes to later."""
+        found = {rank for rank, _ in flying}
+        queue = list(found)
+        for rank in queue:
+            for edge in self.system.edges[rank]:
+                if edge.target not in found:
+                    found.add(edge.target)
+                    queue.append(edge.target)
+        return found
+
+    def norms(self, clock: Clock) -> dict[int, Norm]:
+        """What is known of all nodes that are reached. The response that was summed is that of the cuts too."""
+        errors, _ = self.passing.passed(cuts_of(self.response))
+        exact = exact_sums(self.system, self.kicks, clock) if self.unbounded else []
+        made = {}
+        for rank, node in enumerate(self.system.order):
+            if rank in self.unbounded:
+                made[node] = Norm(*exact[rank], Fraction(0), sum(exact[rank]), False)
+                continue
+            so_far, rest = sums_of(self.response, rank), self.rest.get(rank, NOTHING)
+            if so_far.total or rest.total:
+                least = max(0, so_far.total - errors.get(rank, NOTHING).total)
+                made[node] = Norm(*map(value_of, so_far.plus(rest)), value_of(least), True)
+        return made
+
+
+def exact_sums(system: System, kicks: Iterable[Kick], clock: Clock) -> list[tuple[Fraction, Fraction]]:
+    """The sums of what is above 0 and of what is below of a response in which nothing is cut, to a length that allows it."""
+    response, length, made = Response(system, kicks, EXACT_PLACES), 1, [[0] * len(system)] * 2
+    while advanced(response, length, clock) and not any(response.cuts):
+        made = [list(response.positive), list(response.negative)]
+        length *= 2
+    return [(Fraction(above, 1 << EXACT_PLACES), Fraction(below, 1 << EXACT_PLACES)) for above, below in zip(*made)]
+
+
+def value_of(amount: int) -> Fraction:
+    return Fraction(amount, 1 << PLACES)
+
+
+def norms(self) -> dict[int, Norm]:
+        """What is known of all nodes that are reached. The response that was summed is that of the cuts too."""
+        errors, _ = self.passing.passed(cuts_of(self.response))
+        made = {}
+        for rank, node in enumerate(self.system.order):
+            so_far, rest, error = sums_of(self.response, rank), self.rest.get(rank, NOTHING), errors.get(rank, NOTHING)
+            is_bound = rank not in self.unbounded
+            if so_far.total or rest.total or not is_bound:
+                whole = so_far.plus(rest) if is_bound else so_far
+                made[node] = Norm(*map(value_of, whole), value_of(max(0, so_far.total - error.total)), is_bound)
+        return made
+
+
+def value_of(amount: int) -> Fraction:
+    return Fraction(amount, 1 << PLACES)
+
+
+def samples_until_little(before: float, now: float, samples: int) -> float:
+    """After how many samples more a share is little, that fell by so much in so many."""
+    if now >= before:
+        return math.inf
+    return max(0.0, samples * (math.log(now) + LITTLE * math.log(2)) / math.log(before / now)) if now else 0.0
+
+
+def norms(system: System, sources: Sequence[Iterable[Kick]], seconds: float = SECONDS) -> list[dict[int, Norm]]:
+    """The norms of all nodes by each source; see above."""
+    clock = Clock(seconds)
+    passing = Passing(system, clock)
+    made = [Source(system, kicks, passing) for kicks in sources]
+    for share in (2, 1):
+        rest = [source for source in made if not source.is_done]
+        for number, source in enumerate(rest):
+            source.sum_up(Clock(clock.left / share / (len(rest) - number)))
+    for source in made:
+        source.sharpen()
+    return [source.norms(Clock(max(LEAST_SECONDS, clock.left / len(made)))) for source in made]
