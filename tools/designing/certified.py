@@ -39,10 +39,11 @@ from fractions import Fraction
 
 from designing.ellipsoids import MOST_STATES, Ellipsoid, NoBound, States
 from designing.impulses import Kick, Response
-from designing.loops import NOTHING, PLACES, WORD_PLACES, Clock, Passing, Sums, advanced, amount_of, cuts_of, in_flight, sums_of
+from designing.loops import (NOTHING, PLACES, WORD_PLACES, Clock, Passing, Sums, advanced, amount_of, cuts_of, in_flight,
+                             sums_of)
 from designing.systems import NoSystem, System
 
-__all__ = ["Norm", "NoSystem", "System", "norms"]
+__all__ = ["Certified", "Norm", "NoSystem", "Offset", "System", "norms"]
 
 SECONDS = 3.0
 # What comes after is little where it is below 2^-TIGHT of the whole, and is worth the time where it may come below 2^-LITTLE.
@@ -73,14 +74,37 @@ class Norm:
                 self.positive * greatest - self.negative * least + more)
 
 
+@dataclass(frozen=True)
+class Offset:
+    """Between which numbers something stays, or was so far."""
+    least: Fraction
+    greatest: Fraction
+    is_bound: bool
+
+
+class Running(Response):
+    """A response with the least and the greatest of what its words come to from sample to sample."""
+
+    def __init__(self, system: System, kicks: Iterable[Kick], places: int):
+        super().__init__(system, kicks, places)
+        self.least, self.greatest = [0] * len(system), [0] * len(system)
+
+    def step(self, n: int, words: list[int]) -> None:
+        super().step(n, words)
+        for rank, word in enumerate(words):
+            if word:
+                total = self.positive[rank] - self.negative[rank]
+                self.least[rank], self.greatest[rank] = min(self.least[rank], total), max(self.greatest[rank], total)
+
+
 class Source:
     """The response to one source, as far as it is, and what comes after it at most."""
 
-    def __init__(self, system: System, kicks: Iterable[Kick], passing: Passing):
+    def __init__(self, system: System, kicks: Iterable[Kick], passing: Passing, kind: type[Response] = Response):
         ranked = [(system.rank[node], sample, Fraction(amount)) for node, sample, amount in kicks]
         most = max([amount.denominator for _, _, amount in ranked], default=1).bit_length() - 1
         self.kicks = ranked
-        self.response = Response(system, ranked, max(WORD_PLACES, most))
+        self.response = kind(system, ranked, max(WORD_PLACES, most))
         self.system, self.passing = system, passing
         self.rest: dict[int, Sums] = {}
         self.unbounded: set[int] = set()
@@ -99,28 +123,30 @@ class Source:
         """The greatest share of the whole, of all nodes, that is only bounded."""
         return max((rest.total / self.whole(rank) for rank, rest in self.rest.items() if rest.total), default=0.0)
 
-    def sum_up(self, clock: Clock) -> None:
-        """Sums until what comes after is little, or no longer gets less, or as long as there is time."""
-        delays = DELAYS * self.system.longest_delay
+    def sum_up(self, clock: Clock, tight: int, is_last: bool) -> None:
+        """Sums until what comes after is below 2^-tight of the whole, or no longer gets less, or as long as there is time."""
         length = max(FIRST_LENGTH, self.response.time * STEP)
         while not self.is_done:
             began, left, share = self.response.time, clock.left, self.share()
             before = {rank: self.whole(rank) for rank in self.rest}
             if not self.bring(length, clock):
                 return
-            self.is_done = self.response.is_over or self.share() < 2.0**-TIGHT
-            if length >= delays and before:
-                is_settled = all(abs(self.whole(rank) - whole) <= whole >> TIGHT for rank, whole in before.items())
-                pace = (left - clock.left) / (length - began)
+            self.is_done = self.response.is_over or self.share() < 2.0**-tight
+            if length >= DELAYS * self.system.longest_delay and before:
+                self.is_done |= all(abs(self.whole(rank) - whole) <= whole >> TIGHT for rank, whole in before.items())
                 trend = math.log(share / self.share()) / (length - began) if share else 0.0
-                self.is_done |= is_settled or pace * self.samples_until_little(trend) > clock.left
+                pace = (left - clock.left) / (length - began)
+                if pace * self.samples_wanted(trend, tight, is_last) > clock.left:
+                    return
             length *= STEP
 
-    def samples_until_little(self, trend: float) -> float:
-        """After about how many samples more what comes after is little, or as little as is wanted where it is that already."""
+    def samples_wanted(self, trend: float, tight: int, is_last: bool) -> float:
+        """After about how many samples more what comes after is little, or as little as is wanted where it is that already;
+        with the last time that there is, a little less helps too."""
         decay = max(trend, min((self.passing.decay(rank) for rank in self.rest), default=math.inf))
-        share = max(self.share(), 2.0**-TIGHT)
-        return (math.log(share) + math.log(2) * (LITTLE if share > 2.0**-LITTLE else TIGHT)) / decay
+        share, little = max(self.share(), 2.0**-tight), min(LITTLE, tight)
+        wanted = math.log(share) + math.log(2) * (little if share > 2.0**-little else tight)
+        return (min(wanted, 1.0) if is_last else wanted) / decay
 
     def sharpen(self) -> None:
         """Bounds what comes after by an ellipsoid, where it is made of few states."""
@@ -167,6 +193,21 @@ class Source:
         return made
 
 
+    def offsets(self) -> dict[int, Offset]:
+        """Between which numbers the sum of the words is in each node that is reached."""
+        errors, _ = self.passing.passed(cuts_of(self.response))
+        response, made = self.response, {}
+        for rank, node in enumerate(self.system.order):
+            rest, error = self.rest.get(rank, NOTHING), errors.get(rank, NOTHING).total
+            now = sums_of(response, rank)[0] - sums_of(response, rank)[1]
+            ends = [amount << PLACES - response.places for amount in (response.least[rank], response.greatest[rank])]
+            least = min(ends[0], now - rest.negative - rest.either) - error
+            greatest = max(ends[1], now + rest.positive + rest.either) + error
+            if least or greatest or rank in self.unbounded:
+                made[node] = Offset(value_of(least), value_of(greatest), rank not in self.unbounded)
+        return made
+
+
 def exact_sums(system: System, kicks: Iterable[Kick], clock: Clock) -> list[tuple[Fraction, Fraction]]:
     """The sums of what is above 0 and of what is below of a response in which nothing is cut, to a length that allows it."""
     response, length, made = Response(system, kicks, EXACT_PLACES), 1, [[0] * len(system)] * 2
@@ -204,15 +245,48 @@ def samples_until_little(before: float, now: float, samples: int) -> float:
     return max(0.0, samples * (math.log(now) + LITTLE * math.log(2)) / math.log(before / now)) if now else 0.0
 
 
+class Certified:
+    """A system with the bounds of its loops, and the time that there is."""
+
+    def __init__(self, system: System, seconds: float = SECONDS):
+        self.system, self.clock = system, Clock(seconds)
+        self.passing = Passing(system, self.clock)
+
+    def norms(self, sources: Sequence[Iterable[Kick]], share: float = 1.0, tight: int = TIGHT) -> list[dict[int, Norm]]:
+        """The norms of all nodes by each source, in a share of the time that is left. It ends before where what comes after
+        the sums is below 2^-tight of them."""
+        clock = Clock(self.clock.left * share)
+        made = [Source(self.system, kicks, self.passing) for kicks in sources]
+        for is_last in (False, True):
+            rest = [source for source in made if not source.is_done]
+            for number, source in enumerate(rest):
+                source.sum_up(Clock(clock.left / (1 if is_last else 2) / (len(rest) - number)), tight, is_last)
+        for source in made:
+            source.sharpen()
+        return [source.norms(Clock(max(LEAST_SECONDS, clock.left / len(made)))) for source in made]
+
+    def offsets(self, kicks: Iterable[Kick], share: float = 1.0) -> dict[int, Offset]:
+        """Between which numbers the sums of all words so far are, of each node that the kicks reach: so what a constant
+        brings about that is put in from a sample on."""
+        source = Source(self.system, kicks, self.passing, Running)
+        source.sum_up(Clock(self.clock.left * share), TIGHT, True)
+        source.sharpen()
+        return source.offsets()
+
+    def length(self, sources: Sequence[Iterable[Kick]], weights: Sequence[Fraction], node: int,
+               most: Fraction) -> tuple[int, Fraction | None]:
+        """A length of the responses after which they bring a node no further than `most`, if there is time for it, each
+        with a weight; and how far they do, or nothing where that has no bound."""
+        made, rank, length = [Source(self.system, kicks, self.passing) for kicks in sources], self.system.rank[node], 1
+        while True:
+            in_time = all([source.bring(length, self.clock) for source in made])
+            rests = [None if rank in source.unbounded else value_of(source.rest.get(rank, NOTHING).total) for source in made]
+            left = None if None in rests else sum(rest * weight for rest, weight in zip(rests, weights))
+            if not in_time or left is not None and left <= most:
+                return length, left
+            length *= STEP
+
+
 def norms(system: System, sources: Sequence[Iterable[Kick]], seconds: float = SECONDS) -> list[dict[int, Norm]]:
     """The norms of all nodes by each source; see above."""
-    clock = Clock(seconds)
-    passing = Passing(system, clock)
-    made = [Source(system, kicks, passing) for kicks in sources]
-    for share in (2, 1):
-        rest = [source for source in made if not source.is_done]
-        for number, source in enumerate(rest):
-            source.sum_up(Clock(clock.left / share / (len(rest) - number)))
-    for source in made:
-        source.sharpen()
-    return [source.norms(Clock(max(LEAST_SECONDS, clock.left / len(made)))) for source in made]
+    return Certified(system, seconds).norms(sources)

@@ -1,10 +1,10 @@
 """A bound of what a short loop still answers, from the state in which it is: by the sum of squares with a weight.
 
 With a weight w > 1, sum |c A^t x| is at most the root of sum w^-2t times that of sum (c A'^t x)^2 (Cauchy and Schwarz), where
-A' = w A. The second sum is c X c' for the X with X = A' X A'' + x x' (a stroke at the end transposes). Such an X is found by
-doubling, without proof, and then checked in whole numbers: where X - A' X A'' - x x' is positive semidefinite and A' is stable,
-c X c' is no less than the sum. A' is stable where Y - A' Y A'' is positive definite for a positive definite Y. So nothing rests
-on how X, Y and the weight were found. For one real pole the bound is exact, for two complex ones it is 11 % too great.
+A' = w A. The second sum is c X c* for the X with X = A' X A'* + x x* (a star transposes). Such an X is found by doubling,
+without proof, and then checked in whole numbers: where X - A' X A'* - x x* is positive semidefinite and A' is stable, c X c* is
+no less than the sum. A' is stable where Y - A' Y A'* is positive definite for a positive definite Y. So nothing rests on how X,
+Y and the weight were found. For one real pole the bound is exact, for two complex ones it is 11 % too great.
 """
 import math
 from collections.abc import Iterable
@@ -33,7 +33,7 @@ def times(a: Matrix, b: Matrix, places: int = 0) -> Matrix:
 
 
 def around(a: Matrix, x: Matrix, places: int = 0) -> Matrix:
-    """a x a'."""
+    """a x a*."""
     return times(times(a, x, places), [list(column) for column in zip(*a)], places)
 
 
@@ -154,13 +154,13 @@ class Ellipsoid:
         return each(lambda x: x << PLACES - places if places < PLACES else x >> places - PLACES, a)
 
     def summed(self, x: Matrix) -> Matrix:
-        """The sum of A'^t x A''^t over all t, nearly."""
+        """The sum of A'^t x A'*^t over all t, nearly."""
         for power in self.powers:
             x = each(int.__add__, x, around(power, x, PLACES))
         return x
 
     def rest(self, x: Matrix) -> Matrix:
-        """x - A' x A'', exactly, with twice the places of A' behind those of x."""
+        """x - A' x A'*, exactly, with twice the places of A' behind those of x."""
         return each(lambda a, b: (a << 2 * self.places) - b, x, around(self.exact, x))
 
     def tails(self, pending: Pending) -> dict[int, Fraction]:
@@ -190,7 +190,7 @@ class Ellipsoid:
         return square / (square - 1)
 
     def squares(self, x: Matrix) -> dict[int, Fraction]:
-        """c x c' of each node."""
+        """c x c* of each node."""
         rows: dict[int, list[tuple[int, Fraction]]] = {}
         for number, words in enumerate(self.gives):
             for rank, word in words.items():

@@ -84,6 +84,16 @@ class Response:
         self.time = end
         return made
 
+    def flying(self) -> dict[int, tuple[int, int]]:
+        """What comes into each node after the last sample above 0 and below it, in units of 2^-places over its denominator."""
+        made: dict[int, tuple[int, int]] = {}
+        for words in self.coming.values():
+            for rank, total in enumerate(words):
+                if total:
+                    above, below = made.get(rank, (0, 0))
+                    made[rank] = (above + total, below) if total > 0 else (above, below - total)
+        return made
+
     def in_flight(self) -> dict[tuple[int, int], Fraction]:
         """What comes into each node after the last sample, by the node and how many samples after it."""
         made = {}

@@ -64,13 +64,16 @@ def amount_of(value: Fraction) -> int:
 
 def in_flight(response: Response) -> dict[int, Sums]:
     """What is in flight to each node, and what was cut there, which is one more input."""
-    made: dict[int, Sums] = {}
-    for (rank, _), value in response.in_flight().items():
-        amount = amount_of(abs(value))
-        made[rank] = made.get(rank, NOTHING).plus(Sums(amount, 0, 0) if value > 0 else Sums(0, amount, 0))
+    made = {rank: Sums(to_amount(response, rank, above), to_amount(response, rank, below), 0)
+            for rank, (above, below) in response.flying().items()}
     for rank, amount in cuts_of(response).items():
         made[rank] = made.get(rank, NOTHING).plus(amount)
     return made
+
+
+def to_amount(response: Response, rank: int, total: int) -> int:
+    """What comes into a node, in its own units, as an amount."""
+    return -(-total << PLACES - response.places >> response.system.shift[rank])
 
 
 def cuts_of(response: Response) -> dict[int, Sums]:
@@ -138,14 +141,14 @@ def are_gains(made: Gains, sums: Gains, left: Gains) -> bool:
 
 
 class Clock:
-    """When the time is over that there is."""
+    """When the time is over that there is: that of the processor, so that bounds do not depend on what else it does."""
 
     def __init__(self, seconds: float):
-        self.end = time.monotonic() + seconds
+        self.end = time.process_time() + seconds
 
     @property
     def left(self) -> float:
-        return self.end - time.monotonic()
+        return self.end - time.process_time()
 
 
 def advanced(response: Response, end: int, clock: Clock) -> bool:

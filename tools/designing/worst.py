@@ -1,94 +1,304 @@
-"""The worst case of a linear program: how great each element gets by any input, by the sum of the magnitudes of its impulse
-response. The responses are rows of the same program with wider words, on an impulse that is as great as they allow."""
-import re
+"""The worst case of a program: between which words each element stays by any input, as long as nothing wraps.
+
+The inputs, the errors of rounding and what is not linear are sources, whose words lie between two numbers. Each adds to an
+element what the sums of its response allow (`certified`), and constants and initial values add what they do.
+"""
+import math
 from dataclasses import dataclass
+from fractions import Fraction
 
-from designing.programs import valued
-from designing.shapes import WIDEST, Shape
-from designing.sources import COMMENT, shapes_in, with_types
+from designing.certified import Certified, Norm, System
+from designing.flat import Flat
+from designing.impulses import Response
+from designing.linear import LINEAR, Check, Choice, Linear, Range, fitted, range_of, shifted
+from designing.loops import WORD_PLACES
+from designing.shapes import Shape
+from designing.unbounded import Passed, order_of, unbounded_run
 
-FIRST_LENGTH, MOST_LENGTH = 512, 1 << 15
-# Words of so many bits and more, as sums have, may lose places where that makes room for greater inputs.
-WIDE = 32
-# A response is over where its last quarter adds no more than this share. Bits are left for responses that pass the range.
-OVER, SPARE_BITS = 1e-4, 3
-TABLE_WIDTH = re.compile(r"\bconst\b[^:;]*:\s*fix\s*<\s*(\d+)")
+# How often the ranges of what is not linear are made smaller by those of what goes in.
+PASSES = 4
+# In which share of the time the responses to the inputs are summed, and those to the errors, of which 2^-ROUGH may be bounded.
+INPUT_SHARE, ERROR_SHARE, ROUGH = 0.5, 0.7, 7
+TRUTH = 0, 1
+# So much time there is where none is given, and of the last bit so much is left out of the worst input.
+SECONDS, LEFT_OUT = 4.0, Fraction(1, 2)
+# Of an element without a bound inputs of so many samples are tried.
+TRIED_LENGTH = 2048
+PASSES_RANGE, SATURATES, INSIDE, FOLLOWS = "may pass its range", "may saturate", "may overflow inside", "follows"
+AT_LEAST, UNLINEAR = "at least", "not linear"
 
 
 @dataclass
 class Bound:
-    """An element with its response to each input, as shares of the full scale there, and between which words it stays."""
+    """Between which words an element stays, or, where that is not known, which words an input brings it to."""
     name: str
     shape: Shape
-    responses: list
     least: int
     greatest: int
-    is_over: bool
+    said: str
+    is_bound: bool
+    is_moved: bool
+    number: int
+    is_linear: bool
 
-    def share(self):
+    def share(self) -> float:
         """How much of the range may be used."""
         return max(self.greatest / max(self.shape.greatest, 1), self.least / self.shape.least)
 
 
-def headroom(source):
-    """By how many bits the words of a program can be made wider."""
-    widths = {shape.width for shape in shapes_in(source) if shape.width < WIDE}
-    has_wide_table = any(int(width) >= WIDE for width in TABLE_WIDTH.findall(COMMENT.sub(" ", source)))
-    return 0 if has_wide_table or not widths else max(0, WIDEST - max(widths) - SPARE_BITS)
+class Reaches:
+    """The linear system of a program, with the sums of its responses, and how far each of its nodes gets."""
+
+    def __init__(self, linear: Linear, seconds: float):
+        self.linear = linear
+        self.certified = Certified(System(linear.terms()), seconds)
+        self.ranges = {node: self.input_range(node) for node in linear.inputs}
+        self.ranges |= {node: range_of(linear.widths[node]) if linear.widths[node] else TRUTH for node in linear.choices}
+        self.norms = dict(zip(self.ranges, self.certified.norms([unit(node) for node in self.ranges], INPUT_SHARE)))
+        self.fixed = [(Fraction(0), Fraction(0))] * len(linear.forms)
+        self.unbounded: set[int] = set()
+        self.add_errors()
+        self.add_offsets()
+        self.unbounded |= {node for made in self.norms.values() for node, norm in made.items() if not norm.is_bound}
+        self.narrow()
+
+    def input_range(self, node: int) -> Range:
+        width = self.linear.widths[node]
+        return range_of(width) if width else TRUTH
+
+    def widen(self, node: int, least: Fraction, greatest: Fraction) -> None:
+        self.fixed[node] = self.fixed[node][0] + least, self.fixed[node][1] + greatest
+
+    def add_errors(self) -> None:
+        """What all errors of rounding together may come to."""
+        errors = {node: form for node, form in enumerate(self.linear.forms) if form.least or form.greatest}
+        found = self.certified.norms([unit(node) for node in errors], ERROR_SHARE, ROUGH)
+        for form, made in zip(errors.values(), found):
+            for node, norm in made.items():
+                self.widen(node, *norm.reach(min(form.least, Fraction(0)), max(form.greatest, Fraction(0))))
+            self.unbounded |= {node for node, norm in made.items() if not norm.is_bound}
+
+    def add_offsets(self) -> None:
+        """What constants and initial values come to."""
+        kicks = [(node, 0, form.constant) for node, form in enumerate(self.linear.forms) if form.constant]
+        for target, terms in enumerate(self.linear.terms()):
+            for node, delay, factor in terms:
+                initials = self.linear.elements[node].initials if node < len(self.linear.elements) else {}
+                for back, word in initials.items():
+                    if back <= delay and word:
+                        kicks += [(target, delay - back, factor * word), (target, delay - back + 1, -factor * word)]
+        for node, offset in (self.certified.offsets(kicks) if kicks else {}).items():
+            self.widen(node, offset.least, offset.greatest)
+            if not offset.is_bound:
+                self.unbounded.add(node)
+
+    def narrow(self) -> None:
+        """Makes the ranges of what is not linear as small as what goes in allows."""
+        for _ in range(PASSES):
+            before = dict(self.ranges)
+            self.reaches = [self.reach(node) for node in range(len(self.linear.forms))]
+            for node, choice in self.linear.choices.items():
+                self.ranges[node] = self.chosen(choice)[0]
+            if before == self.ranges:
+                return
+        self.reaches = [self.reach(node) for node in range(len(self.linear.forms))]
+
+    def reach(self, node: int) -> Range | None:
+        """The least and the greatest word of a node, or nothing where it has no bound."""
+        if node in self.unbounded:
+            return None
+        least, greatest = self.fixed[node]
+        for source, made in self.norms.items():
+            if node in made:
+                ends = made[node].reach(*(Fraction(end) for end in with_zero(self.ranges[source])))
+                least, greatest = least + ends[0], greatest + ends[1]
+        return math.ceil(least), math.floor(greatest)
+
+    def word_range(self, node: int) -> Range:
+        """What the words of a node are between, also where it wraps."""
+        width, reach = self.linear.widths[node], self.reaches[self.canonical(node)]
+        whole = range_of(width) if width else TRUTH
+        return reach if reach and is_within(reach, whole) else whole
+
+    def canonical(self, node: int) -> int:
+        """The node that has the words of an element."""
+        return self.linear.node_of[node] if node < len(self.linear.elements) else node
+
+    def chosen(self, choice: Choice) -> tuple[Range, Range | None]:
+        """The range of what is not linear, and what it would be without an end of its words."""
+        operation, width = choice.operation, choice.operation.width
+        if operation.name not in (*LINEAR, "sel"):
+            return TRUTH, TRUTH
+        parts = [(word, word) if is_constant else self.word_range(word) for is_constant, word in choice.operands]
+        if operation.name == "sel":
+            made = min(parts[1][0], parts[2][0]), max(parts[1][1], parts[2][1])
+            return made, made
+        if operation.name == "mul":
+            ends = [shifted(a * b, operation) for a in parts[0] for b in parts[1]]
+            free = min(ends), max(ends)
+        else:
+            free = self.reaches[self.canonical(choice.operands[0][1])]
+        if "sat" in operation.mode and free:
+            return (fitted(free[0], operation), fitted(free[1], operation)), free
+        return free if free and is_within(free, range_of(width)) else range_of(width), free
+
+    def passes(self, check: Check) -> bool:
+        reach = self.reaches[check.node]
+        return reach is None or not is_within(reach, range_of(check.width))
 
 
-def roomy(source, bits):
-    """The program with room for inputs that are so many bits greater: wider words, and fewer places where they end there."""
-    def changed(shape):
-        lost = max(0, shape.width + bits - WIDEST)
-        return Shape(WIDEST, max(0, shape.places - lost))
-    return with_types(source, changed)
+def unit(node: int) -> list[tuple[int, int, Fraction]]:
+    return [(node, 0, Fraction(1))]
 
 
-def responses(source, inputs, length):
-    """Of each element the responses to an impulse of full scale at each input, in values, with the shapes of its words."""
-    bits = headroom(source)
-    program = roomy(source, bits)
-    zeros = [0] * len(inputs)
-    still = valued(program, [zeros] * length)
-    made = [[] for _ in still]
-    for number, shape in enumerate(inputs):
-        full = -shape.least if bits else shape.greatest
-        impulse = [full << bits if k == number else 0 for k in range(len(inputs))]
-        scale = -shape.least / (full << bits)
-        for rows, element, rest in zip(made, valued(program, [impulse, *[zeros] * (length - 1)]), still):
-            step = element.shape.step if element.shape else 1.0
-            rows.append([(word - zero) * step * scale for word, zero in zip(element.words, rest.words)])
-    return made
+def with_zero(ends: Range) -> Range:
+    return min(ends[0], 0), max(ends[1], 0)
 
 
-def bounds_of(source, elements, inputs):
-    """The bounds of all elements but the inputs."""
-    length = FIRST_LENGTH
-    while True:
-        found = list(zip(elements, responses(source, inputs, length)))[len(inputs):]
-        made = [bound_of(element, rows, inputs) for element, rows in found if element.shape]
-        if length >= MOST_LENGTH or all(bound.is_over for bound in made):
-            return made
-        length *= 4
+def is_within(inner: Range, outer: Range) -> bool:
+    return outer[0] <= inner[0] and inner[1] <= outer[1]
 
 
-def reached(row, shape, sign):
-    """How great a response gets, or how small, by words of the shape."""
-    most = shape.greatest / -shape.least
-    return sum(abs(x) * (most if x * sign > 0 else 1.0) for x in row)
+class Worst:
+    """The bounds of a program, in so much time."""
+
+    def __init__(self, flat: Flat, seconds: float):
+        self.flat, self.order, self.seconds = flat, order_of(flat.elements), seconds
+        bent: frozenset = frozenset()
+        while True:
+            self.linear = Linear(flat, self.order, bent)
+            self.reaches = Reaches(self.linear, seconds)
+            passed = {name for name, check in self.linear.saturating.items() if self.reaches.passes(check)}
+            if passed <= bent:
+                break
+            bent |= passed
+        self.said = self.kinds()
+        # Of a node without a bound the length of the inputs that were tried.
+        self.lengths: dict[int, int] = {}
+
+    def kinds(self) -> dict[int, str]:
+        """What is to be said of nodes that may pass their ranges."""
+        made: dict[int, str] = {}
+        nodes = self.linear.node_of
+        for check in self.linear.checks:
+            if self.reaches.passes(check):
+                own = SATURATES if check.is_saturating else PASSES_RANGE
+                node = nodes[check.element]
+                made[node] = own if check.is_last else made.get(node, INSIDE)
+        for node, choice in self.linear.choices.items():
+            free = self.reaches.chosen(choice)[1]
+            if choice.operation.name == "mul" and not (free and is_within(free, range_of(choice.operation.width))):
+                own = SATURATES if "sat" in choice.operation.mode else PASSES_RANGE
+                made[nodes[choice.element]] = own if node == choice.element else made.get(nodes[choice.element], INSIDE)
+        return made
+
+    def followers(self) -> set[int]:
+        """The elements behind one that may wrap."""
+        readers: list[list[int]] = [[] for _ in self.flat.elements]
+        for number, element in enumerate(self.flat.elements):
+            for read, _ in element.reads():
+                readers[read].append(number)
+        queue = [number for number, node in enumerate(self.linear.node_of) if self.said.get(node, SATURATES) != SATURATES]
+        found: set[int] = set()
+        for number in queue:
+            for reader in readers[number]:
+                if reader not in found:
+                    found.add(reader)
+                    queue.append(reader)
+        return found
+
+    def bounds(self) -> list[Bound]:
+        """Those of all elements but the inputs and the truth values."""
+        followers, inputs = self.followers(), set(self.flat.inputs)
+        tried = self.tried() if self.reaches.unbounded else {}
+        return [self.bound(number, followers, tried) for number, element in enumerate(self.flat.elements)
+                if element.shape and number not in inputs]
+
+    def bound(self, number: int, followers: set[int], tried: dict[int, Range]) -> Bound:
+        element, node = self.flat.elements[number], self.linear.node_of[number]
+        reach, choice = self.reaches.reaches[node], self.linear.choices.get(node)
+        if choice and choice.operation.name in LINEAR:
+            reach = self.reaches.chosen(choice)[1]
+        is_bound = reach is not None
+        least, greatest = reach if is_bound else tried[number]
+        said = self.said.get(node, "")
+        if not is_bound and said in (PASSES_RANGE, ""):
+            is_passed = not is_within((least, greatest), range_of(element.shape.width))
+            said = "passes its range" if is_passed else ""
+        said = said or (FOLLOWS if number in followers else "")
+        is_linear = not any(node in self.reaches.norms[source] for source in self.linear.choices)
+        marks = [AT_LEAST] * (not is_bound) + [said] * bool(said) + [UNLINEAR] * (not is_linear)
+        return Bound(element.name, element.shape, least, greatest, ", ".join(marks), is_bound,
+                     self.linear.constants[number] is None, number, is_linear)
+
+    # Inputs
+
+    def words_of(self, node: int, length: int) -> list[list[int]]:
+        """The responses of a node to the inputs, in units of no meaning."""
+        system, made = self.reaches.certified.system, []
+        for source in self.linear.inputs:
+            response = Response(system, [(system.rank[source], 0, Fraction(1))], WORD_PLACES)
+            made.append(response.run(length, system.rank[node]))
+        return made
+
+    def rows(self, node: int, length: int, sign: int) -> list[tuple[int, ...]]:
+        """The rows of samples of such a length that bring a node up most at the last of them, or down."""
+        ends = [self.reaches.ranges[source] for source in self.linear.inputs]
+        columns = [[0 if not word else greatest if word * sign > 0 else least for word in reversed(words)]
+                   for words, (least, greatest) in zip(self.words_of(node, length), ends)]
+        return list(zip(*columns))
+
+    def input_of(self, bound: Bound) -> tuple[list[tuple[int, ...]], str]:
+        """The rows of samples that bring an element nearest to its bound at the last of them, and what to say of them."""
+        node = self.linear.node_of[bound.number]
+        if not any(node in self.reaches.norms[source] for source in self.linear.inputs):
+            raise ValueError(f"no input reaches {bound.name}")
+        sign, said = 1 if bound.greatest >= -bound.least else -1, f"the worst input of {bound.name} has"
+        if node in self.reaches.unbounded:
+            length = self.lengths[node]
+            return self.rows(node, length, sign), f"{said} {length} samples; a longer one may bring it further"
+        certified = Certified(self.reaches.certified.system, self.seconds)
+        weights = [max(map(abs, self.reaches.ranges[source])) for source in self.linear.inputs]
+        length, left = certified.length([unit(source) for source in self.linear.inputs], weights, node, LEFT_OUT)
+        said += f" {length} samples"
+        if left is None or left > LEFT_OUT:
+            further = f"at most {math.ceil(left)} words" if left is not None else "it is not known how far"
+            said += f", for which there was time; a longer one may bring it further, {further}"
+        return self.rows(node, length, sign), said
+
+    def tried(self) -> dict[int, Range]:
+        """Which words elements without a bound have on inputs of some length."""
+        elements = self.flat.elements
+        made = {number: (0, 0) for number in range(len(elements))}
+        nodes = {self.linear.node_of[number] for number in made} & self.reaches.unbounded
+        for node in sorted(nodes):
+            for sign in (1, -1):
+                length = TRIED_LENGTH
+                while length:
+                    run = unbounded_run(elements, frozenset())
+                    try:
+                        run.over(self.rows(node, length, sign))
+                    except Passed:
+                        length //= 4
+                        continue
+                    for number, (least, greatest) in made.items():
+                        words = run.block(number)
+                        made[number] = min(least, *words), max(greatest, *words)
+                    self.lengths[node] = length
+                    break
+        return made
 
 
-def bound_of(element, rows, inputs):
-    greatest, least = (sum(reached(row, shape, sign) for row, shape in zip(rows, inputs)) for sign in (1, -1))
-    last = sum(sum(map(abs, row[-len(row) // 4:])) for row in rows)
-    step = element.shape.step
-    return Bound(element.name, element.shape, rows, -int(least / step), int(greatest / step),
-                 last <= max(OVER * greatest, step))
-
-
-def worst_input(bound, inputs):
-    """The rows of samples by which an element gets as great as its bound at the last of them, but for rounding."""
-    columns = [[shape.least if x < 0 else shape.greatest for x in reversed(row)]
-               for row, shape in zip(bound.responses, inputs)]
-    return list(zip(*columns))
+def chosen(bounds: list[Bound], name: str | None) -> Bound:
+    """The bound of an element, or the tightest one of what is linear and no constant."""
+    if name is None:
+        fit = [bound for bound in bounds if bound.is_linear and bound.is_moved]
+        if not fit:
+            raise ValueError("no element is linear")
+        return max(fit, key=lambda bound: bound.share())
+    named = [bound for bound in bounds if bound.name == name]
+    if not named:
+        raise ValueError(f"there is no element {name}")
+    if not named[0].is_linear:
+        raise ValueError(f"{name} is behind what is not linear, so its worst input is not known")
+    return named[0]
