@@ -25,7 +25,7 @@ SECONDS, LEFT_OUT = 4.0, Fraction(1, 2)
 # Of an element without a bound inputs of so many samples are tried.
 TRIED_LENGTH = 2048
 PASSES_RANGE, SATURATES, INSIDE, FOLLOWS = "may pass its range", "may saturate", "may overflow inside", "follows"
-AT_LEAST, UNLINEAR = "at least", "not linear"
+AT_LEAST, PASSED, UNLINEAR = "at least", "passes its range", "not linear"
 
 
 @dataclass
@@ -167,7 +167,7 @@ class Worst:
         bent: frozenset = frozenset()
         while True:
             self.linear = Linear(flat, self.order, bent)
-            self.reaches = Reaches(self.linear, seconds)
+            self.reaches = Reaches(self.linear, seconds / 2 if self.linear.saturating else seconds)
             passed = {name for name, check in self.linear.saturating.items() if self.reaches.passes(check)}
             if passed <= bent:
                 break
@@ -214,17 +214,24 @@ class Worst:
         return [self.bound(number, followers, tried) for number, element in enumerate(self.flat.elements)
                 if element.shape and number not in inputs]
 
+    def shown(self, number: int) -> int:
+        """The node whose reach is told of an element: that of what goes in where it saturates."""
+        node = self.linear.node_of[number]
+        choice = self.linear.choices.get(node)
+        if choice and choice.operation.name == "pass":
+            return self.reaches.canonical(choice.operands[0][1])
+        return node
+
     def bound(self, number: int, followers: set[int], tried: dict[int, Range]) -> Bound:
-        element, node = self.flat.elements[number], self.linear.node_of[number]
+        element, node = self.flat.elements[number], self.shown(number)
         reach, choice = self.reaches.reaches[node], self.linear.choices.get(node)
-        if choice and choice.operation.name in LINEAR:
+        if choice and choice.operation.name == "mul":
             reach = self.reaches.chosen(choice)[1]
         is_bound = reach is not None
         least, greatest = reach if is_bound else tried[number]
-        said = self.said.get(node, "")
+        said = self.said.get(self.linear.node_of[number], "")
         if not is_bound and said in (PASSES_RANGE, ""):
-            is_passed = not is_within((least, greatest), range_of(element.shape.width))
-            said = "passes its range" if is_passed else ""
+            said = "" if is_within((least, greatest), range_of(element.shape.width)) else PASSED
         said = said or (FOLLOWS if number in followers else "")
         is_linear = not any(node in self.reaches.norms[source] for source in self.linear.choices)
         marks = [AT_LEAST] * (not is_bound) + [said] * bool(said) + [UNLINEAR] * (not is_linear)
@@ -250,7 +257,7 @@ class Worst:
 
     def input_of(self, bound: Bound) -> tuple[list[tuple[int, ...]], str]:
         """The rows of samples that bring an element nearest to its bound at the last of them, and what to say of them."""
-        node = self.linear.node_of[bound.number]
+        node = self.shown(bound.number)
         if not any(node in self.reaches.norms[source] for source in self.linear.inputs):
             raise ValueError(f"no input reaches {bound.name}")
         sign, said = 1 if bound.greatest >= -bound.least else -1, f"the worst input of {bound.name} has"
@@ -270,7 +277,7 @@ class Worst:
         """Which words elements without a bound have on inputs of some length."""
         elements = self.flat.elements
         made = {number: (0, 0) for number in range(len(elements))}
-        nodes = {self.linear.node_of[number] for number in made} & self.reaches.unbounded
+        nodes = {self.shown(number) for number in made} & self.reaches.unbounded
         for node in sorted(nodes):
             for sign in (1, -1):
                 length = TRIED_LENGTH
