@@ -8,12 +8,13 @@ one after another or beside each other, with one input or more, that truncate, r
 equations, and these are evaluated here, in whole numbers that do not wrap, and in real numbers for the responses from which
 the inputs are made that bring an element furthest. No element may pass its bound on them. Where the responses die out
 within the samples that are tried, it is also seen how much too great a bound is. Some programs are compared with reference.py,
-so that the equations are those of the source. It runs the built `silc_show`, or the one that `SILC_SHOW` names.
+so that the equations are those of the source. The words of the examples, on their samples, are compared with their bounds too, and those
+of the reverberator on its worst input. It runs the built `silc_show`, or the one that `SILC_SHOW` names.
 """
 import itertools
 import random
+import re
 import sys
-import tempfile
 import time
 from concurrent.futures import ProcessPoolExecutor
 from dataclasses import dataclass
@@ -23,7 +24,9 @@ ROOT = Path(__file__).resolve().parent.parent.parent
 sys.path[:0] = [str(ROOT / "tools"), str(ROOT / "tests")]
 import reference  # noqa: E402
 from designing.flat import flat_of  # noqa: E402
+from designing.programs import rows_of  # noqa: E402
 from designing.shapes import Shape  # noqa: E402
+from designing.unbounded import own_run  # noqa: E402
 from designing.worst import Worst  # noqa: E402
 
 COUNT, SEED, SECONDS = 200, 1, 0.5
@@ -31,6 +34,8 @@ COUNT, SEED, SECONDS = 200, 1, 0.5
 LENGTH, OVER = 8_000, 1e-4
 # A bound that is certified may be so many times what is reached there.
 MOST_LOOSE = 1.25
+# As many rows of an example are tried, and to such a share of its bound the reverberator is to come.
+EXAMPLE_ROWS, NEAR, MAY_WRAP = 300, 0.9999, re.compile("may pass|saturate|inside|follows")
 
 
 @dataclass(frozen=True)
@@ -304,12 +309,46 @@ def reference_faults(seed, numbers):
             yield f"the equations are others than those of the source: {program.source()}"
 
 
+def bounds_passed(name, source, bounds, rows):
+    """Which elements of an example pass a bound on rows of samples, where nothing wraps."""
+    for element, words in words_of(source, rows).items():
+        bound = bounds.get(element)
+        if bound and not MAY_WRAP.search(bound.said) and not (bound.least <= min(words) and max(words) <= bound.greatest):
+            yield f"{name}: {element} goes from {min(words)} to {max(words)}, and its bound is {bound}"
+
+
+def words_of(source, rows):
+    """The words of all elements by their names, as the program has them."""
+    elements = flat_of(source).elements
+    run = own_run(elements)
+    run.over(rows)
+    return {element.name: run.block(number) for number, element in enumerate(elements)}
+
+
+def example_faults(folder):
+    """The same of an example on its samples, and of the reverberator whether its worst input comes near to the bound."""
+    name = folder.name
+    source, rows = (folder / f"{name}.sil").read_text(), rows_of((folder / "samples.txt").read_text())[:EXAMPLE_ROWS]
+    worst = Worst(flat_of(source), SECONDS)
+    bounds = {bound.name: bound for bound in worst.bounds()}
+    faults = list(bounds_passed(name, source, bounds, rows))
+    if name == "reverb":
+        rows, _ = worst.input_of(bounds["v[3]"])
+        faults += bounds_passed(name, source, bounds, rows)
+        words = words_of(source, rows)["v[3]"]
+        if max(max(words) / bounds["v[3]"].greatest, min(words) / bounds["v[3]"].least) < NEAR:
+            faults.append(f"{name}: v[3] goes from {min(words)} to {max(words)} on its worst input")
+    return faults
+
+
 def main(words):
     sys.setrecursionlimit(100_000)
     count, seed = (int(words[0]) if words else COUNT), (int(words[1]) if len(words) > 1 else SEED)
     began, made = time.monotonic(), []
     faults = list(reference_faults(seed, range(0, count, 10)))
+    examples = sorted(folder for folder in (ROOT / "examples").iterdir() if (folder / "samples.txt").is_file())
     with ProcessPoolExecutor() as pool:
+        faults += itertools.chain(*pool.map(example_faults, examples))
         for number, one in enumerate(pool.map(judged, itertools.repeat(seed), range(count)), 1):
             made.append(one)
             faults += one.faults
@@ -320,7 +359,7 @@ def main(words):
         faults.append(f"a bound is {max(loose)} times what is reached, where {MOST_LOOSE} may be")
     for fault in faults:
         print(fault)
-    print(f"bounds: {count} programs, {sum(one.bounds for one in made)} elements, {sum(one.open_ones for one in made)} without a "
+    print(f"bounds: {len(examples)} examples and {count} programs, {sum(one.bounds for one in made)} elements, {sum(one.open_ones for one in made)} without a "
           f"bound; {len(loose)} with a response that died out, whose bounds are at most {max(loose, default=1):.4f} times what is "
           f"reached; {len(faults)} faults")
     return 1 if faults else 0

@@ -54,6 +54,9 @@ FIRST_LENGTH, STEP, DELAYS = 64, 2, 16
 EXACT_PLACES, LEAST_SECONDS = 1 << 14, 0.05
 
 
+Ends = tuple[Fraction, Fraction]
+
+
 @dataclass(frozen=True)
 class Norm:
     """A bound of the sum of magnitudes of a response, or what is known of it."""
@@ -67,7 +70,7 @@ class Norm:
     def total(self) -> Fraction:
         return self.positive + self.negative + self.either
 
-    def reach(self, least: Fraction, greatest: Fraction) -> tuple[Fraction, Fraction]:
+    def reach(self, least: Fraction, greatest: Fraction) -> Ends:
         """The least and the greatest word that inputs from `least` to `greatest` make, with least <= 0 <= greatest."""
         more = self.either * max(-least, greatest)
         return (self.positive * least - self.negative * greatest - more,
@@ -177,13 +180,16 @@ class Source:
                     queue.append(edge.target)
         return found
 
-    def norms(self, clock: Clock) -> dict[int, Norm]:
-        """What is known of all nodes that are reached. The response that was summed is that of the cuts too."""
+    def norms(self, clock: Clock | None) -> dict[int, Norm]:
+        """What is known of all nodes that are reached. The response that was summed is that of the cuts too. Nodes without a
+        bound are left out where there is no time for what is known of them."""
         errors, _ = self.passing.passed(cuts_of(self.response))
-        exact = exact_sums(self.system, self.kicks, clock) if self.unbounded else []
+        exact = exact_sums(self.system, self.kicks, clock) if self.unbounded and clock else []
         made = {}
         for rank, node in enumerate(self.system.order):
             if rank in self.unbounded:
+                if not clock:
+                    continue
                 made[node] = Norm(*exact[rank], Fraction(0), sum(exact[rank]), False)
                 continue
             so_far, rest = sums_of(self.response, rank), self.rest.get(rank, NOTHING)
@@ -265,6 +271,33 @@ class Certified:
             source.sharpen()
         return [source.norms(Clock(max(LEAST_SECONDS, clock.left / len(made)))) for source in made]
 
+    def spread(self, ends: dict[int, Ends], share: float, tight: int, few: dict[int, Fraction]) -> tuple[dict[int, Ends], set[int]]:
+        """How far numbers between two ends, one for each sample, bring the nodes when they are put into some of them, and the
+        nodes without a bound. Where they bring none further than `few` by the gains of the loops alone, nothing is summed;
+        else each response is, in a share of the time."""
+        clock = Clock(self.clock.left * share)
+        made, unbounded = self.roughly(ends)
+        if all(max(-least, greatest) <= few.get(node, 0) for node, (least, greatest) in made.items()):
+            return made, unbounded
+        rest, made = dict(ends), {}
+        while rest and clock.left > 0:
+            node, (least, greatest) = rest.popitem()
+            source = Source(self.system, [(node, 0, Fraction(1))], self.passing)
+            source.sum_up(Clock(clock.left / (len(rest) + 1)), tight, True)
+            if source.share() > 2.0**-tight:
+                source.sharpen()
+            add_ends(made, {other: norm.reach(least, greatest) for other, norm in source.norms(None).items()})
+        add_ends(made, self.roughly(rest)[0])
+        return made, unbounded
+
+    def roughly(self, ends: dict[int, Ends]) -> tuple[dict[int, Ends], set[int]]:
+        """The same by the gains of the loops alone."""
+        found, unbounded = self.passing.passed({self.system.rank[node]: Sums(amount_of(greatest), amount_of(-least), 0)
+                                                for node, (least, greatest) in ends.items()})
+        order = self.system.order
+        return ({order[rank]: (value_of(-sums.negative - sums.either), value_of(sums.positive + sums.either))
+                 for rank, sums in found.items()}, {order[rank] for rank in unbounded})
+
     def offsets(self, kicks: Iterable[Kick], share: float = 1.0) -> dict[int, Offset]:
         """Between which numbers the sums of all words so far are, of each node that the kicks reach: so what a constant
         brings about that is put in from a sample on."""
@@ -283,8 +316,14 @@ class Certified:
             rests = [None if rank in source.unbounded else value_of(source.rest.get(rank, NOTHING).total) for source in made]
             left = None if None in rests else sum(rest * weight for rest, weight in zip(rests, weights))
             if not in_time or left is not None and left <= most:
-                return length, left
-            length *= STEP
+                return max(source.response.time for source in made), left
+            length += 1 + length // 4
+
+
+def add_ends(made: dict[int, Ends], more: dict[int, Ends]) -> None:
+    for node, (least, greatest) in more.items():
+        before = made.get(node, (Fraction(0), Fraction(0)))
+        made[node] = before[0] + least, before[1] + greatest
 
 
 def norms(system: System, sources: Sequence[Iterable[Kick]], seconds: float = SECONDS) -> list[dict[int, Norm]]:

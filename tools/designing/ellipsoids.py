@@ -10,7 +10,7 @@ import math
 from collections.abc import Iterable
 from fractions import Fraction
 
-from designing.systems import Edge, System
+from designing.systems import System
 
 # The places of the numbers by which X and Y are found, of those of Y, and of the share of Y that is added to X.
 PLACES, Y_PLACES, ROOM = 256, 64, 120
@@ -104,16 +104,13 @@ class States:
             lengths[rank] = max(lengths.get(rank, 0), offset + 1)
         self.names = [(rank, offset) for rank, length in sorted(lengths.items()) for offset in range(length)]
 
-    def factor(self, edge: Edge) -> Fraction:
-        return Fraction(edge.number, 1 << self.system.shift[edge.target])
-
     def words(self, kicked: int) -> dict[int, Fraction]:
         """The words of all nodes in the sample in which 1 comes into one of them."""
         made = {kicked: Fraction(1)}
         for rank, edges in self.edges.items():
             for edge in edges if rank in made else ():
                 if not edge.delay:
-                    made[edge.target] = made.get(edge.target, Fraction(0)) + made[rank] * self.factor(edge)
+                    made[edge.target] = made.get(edge.target, Fraction(0)) + made[rank] * self.system.factor(edge)
         return made
 
     def change(self, name: tuple[int, int], words: dict[int, Fraction]) -> dict[tuple[int, int], Fraction]:
@@ -124,7 +121,7 @@ class States:
             for edge in self.edges[other]:
                 if edge.delay:
                     place = edge.target, edge.delay - 1
-                    made[place] = made.get(place, Fraction(0)) + word * self.factor(edge)
+                    made[place] = made.get(place, Fraction(0)) + word * self.system.factor(edge)
         return made
 
 
@@ -154,10 +151,10 @@ class Ellipsoid:
         return each(lambda x: x << PLACES - places if places < PLACES else x >> places - PLACES, a)
 
     def summed(self, x: Matrix) -> Matrix:
-        """The sum of A'^t x A'*^t over all t, nearly."""
+        """The sum of A'^t x A'*^t over all t, nearly; symmetric, as the checks need it."""
         for power in self.powers:
             x = each(int.__add__, x, around(power, x, PLACES))
-        return x
+        return each(lambda a, b: a + b >> 1, x, list(zip(*x)))
 
     def rest(self, x: Matrix) -> Matrix:
         """x - A' x A'*, exactly, with twice the places of A' behind those of x."""

@@ -16,22 +16,16 @@ Kick = tuple[int, int, Fraction]
 class Response:
     """The response to kicks (rank, sample, amount) up to a sample, as sums of its positive words and of its negative ones."""
 
-    def __init__(self, system: System, kicks: Iterable[Kick], places: int, inside: frozenset | None = None):
+    def __init__(self, system: System, kicks: Iterable[Kick], places: int):
         self.system, self.places, self.time = system, places, 0
         size = len(system)
         self.positive, self.negative, self.cuts = [0] * size, [0] * size, [0] * size
-        self.masks = [(1 << places) - 1 for places in system.shift]
         self.coming: dict[int, list[int]] = {}
         for rank, sample, amount in kicks:
             number = amount * (1 << places + system.shift[rank])
             if number.denominator > 1:
                 raise ValueError("a kick has more places than the words")
             self.coming.setdefault(sample, [0] * size)[rank] += int(number)
-        self.now, self.later = [], []
-        for edges in system.edges:
-            kept = [edge for edge in edges if inside is None or edge.target in inside]
-            self.now.append(tuple((edge.target, edge.number) for edge in kept if not edge.delay))
-            self.later.append(tuple((edge.delay, edge.target, edge.number) for edge in kept if edge.delay))
 
     @property
     def is_over(self) -> bool:
@@ -51,7 +45,8 @@ class Response:
 
     def step(self, n: int, words: list[int]) -> None:
         """Evaluates the nodes at a sample, of which `words` has what comes into them."""
-        coming, now, later, shift, masks = self.coming, self.now, self.later, self.system.shift, self.masks
+        coming, system = self.coming, self.system
+        now, later, shift, masks = system.now, system.later, system.shift, system.masks
         for rank, total in enumerate(words):
             if not total:
                 continue

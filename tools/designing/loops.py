@@ -21,8 +21,8 @@ from designing.systems import System
 PLACES, WORD_PLACES = 192, 128
 # The equations of a loop are solved with more places, and for sums that are greater by 2^-SLACK.
 SOLVED_PLACES, SLACK = 320, 64
-# A loop with no more states is bounded by an ellipsoid, after so many samples.
-FEW_STATES, FIRST_SAMPLES, CHUNK = 24, 16, 1024
+# A loop with no more states is bounded by an ellipsoid, after so many samples. The time is looked at after so many words.
+FEW_STATES, FIRST_SAMPLES, CHUNK = 24, 16, 1 << 14
 
 
 class Sums(NamedTuple):
@@ -156,7 +156,7 @@ def advanced(response: Response, end: int, clock: Clock) -> bool:
     while response.time < end and not response.is_over:
         if clock.left <= 0:
             return False
-        response.advance(min(end, response.time + CHUNK))
+        response.advance(min(end, response.time + max(1, CHUNK // len(response.system))))
     response.time = max(response.time, end)
     return True
 
@@ -171,18 +171,26 @@ class Loop:
 
 def loop_of(system: System, part: int, clock: Clock) -> Loop | None:
     """The gains of a loop, or nothing where none were found in the time that there is."""
-    ranks = system.ranks_of(part)
-    inside = frozenset(ranks)
-    responses = {h: Response(system, [(h, 0, Fraction(1))], WORD_PLACES, inside) for h in ranks}
-    length, is_short = 1, None
+    inner, ranks = system.inner(part), system.ranks_of(part)
+    found = inner_loop(inner, clock)
+    if found is None:
+        return None
+    names = [ranks[node] for node in inner.order]
+    return Loop({names[h]: {names[k]: gain for k, gain in row.items()} for h, row in found.gains.items()}, found.decay)
+
+
+def inner_loop(system: System, clock: Clock) -> Loop | None:
+    """The same of a system that is one loop."""
+    ranks = list(range(len(system)))
+    responses = {h: Response(system, [(h, 0, Fraction(1))], WORD_PLACES) for h in ranks}
+    length, is_tried = 1, False
     while all(advanced(response, length, clock) for response in responses.values()):
         sums = {h: {k: sums_of(response, k) for k in ranks} for h, response in responses.items()}
         made = gains_of(ranks, sums, {h: in_flight(response) for h, response in responses.items()})
         if made is not None:
             return Loop(made, decay_of(sums, made) / (length + system.longest_delay))
-        if length >= FIRST_SAMPLES and is_short is None:
-            loop = short_loop(system, responses, sums)
-            is_short = loop is not None
+        if length >= FIRST_SAMPLES and not is_tried:
+            is_tried, loop = True, short_loop(system, responses, sums)
             if loop is not None:
                 return loop
         length *= 4

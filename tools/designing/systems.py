@@ -41,18 +41,35 @@ class System:
         for rank, node in enumerate(order):
             for (other, delay), factor in merged[node].items():
                 self.edges[self.rank[other]].append(Edge(rank, delay, int(factor * (1 << self.shift[rank]))))
-
         self.longest_delay = max((edge.delay for edges in self.edges for edge in edges), default=0)
+        self.ranks = [sorted(self.rank[node] for node in part) for part in self.parts]
+        # What a step needs: the edges without a delay and those with one, and what a word loses of its places.
+        self.now = [tuple((edge.target, edge.number) for edge in edges if not edge.delay) for edges in self.edges]
+        self.later = [tuple((edge.delay, edge.target, edge.number) for edge in edges if edge.delay) for edges in self.edges]
+        self.masks = [(1 << places) - 1 for places in self.shift]
 
     def __len__(self) -> int:
         return len(self.order)
 
     def ranks_of(self, part: int) -> list[int]:
-        return sorted(self.rank[node] for node in self.parts[part])
+        return self.ranks[part]
+
+    def inner(self, part: int) -> "System":
+        """The nodes of a part as a system of their own, numbered from 0 in the order of their ranks."""
+        place = {rank: number for number, rank in enumerate(self.ranks[part])}
+        terms: list[list[Term]] = [[] for _ in place]
+        for rank, number in place.items():
+            for edge in self.edges[rank]:
+                if edge.target in place:
+                    terms[place[edge.target]].append((number, edge.delay, self.factor(edge)))
+        return System(terms)
+
+    def factor(self, edge: Edge) -> Fraction:
+        return Fraction(edge.number, 1 << self.shift[edge.target])
 
     def is_loop(self, part: int) -> bool:
         """Whether a part has a node that reads itself by way of some delays, and is no single node without."""
-        first = self.rank[self.parts[part][0]]
+        first = self.ranks[part][0]
         return len(self.parts[part]) > 1 or any(edge.target == first for edge in self.edges[first])
 
 
@@ -66,9 +83,11 @@ def merge(terms: Iterable[Term]) -> dict[tuple[int, int], Fraction]:
 
 def places_of(factors: Iterable[Fraction]) -> int:
     """So many places after the point are in all factors."""
-    most = max((factor.denominator for factor in factors), default=1)
-    if most & (most - 1):
-        raise NoSystem(f"a factor has the denominator {most}, which is no power of two")
+    most = 1
+    for factor in factors:
+        if factor.denominator & (factor.denominator - 1):
+            raise NoSystem(f"a factor has the denominator {factor.denominator}, which is no power of two")
+        most = max(most, factor.denominator)
     return most.bit_length() - 1
 
 
@@ -84,10 +103,11 @@ def parts_of(reads: Sequence[Sequence[int]]) -> list[list[int]]:
 
     def leave(node: int) -> None:
         if low[node] == number[node]:
-            place = stack.index(node) if len(stack) < 64 else len(stack) - 1 - stack[::-1].index(node)
-            parts.append(stack[place:])
-            del stack[place:]
-            on_stack.difference_update(parts[-1])
+            part = [stack.pop()]
+            while part[-1] != node:
+                part.append(stack.pop())
+            on_stack.difference_update(part)
+            parts.append(part)
 
     for start in range(len(reads)):
         path = [] if start in number else [enter(start)]

@@ -11,14 +11,15 @@ from designing.certified import Certified, Norm, System
 from designing.flat import Flat
 from designing.impulses import Response
 from designing.linear import LINEAR, Check, Choice, Linear, Range, fitted, range_of, shifted
-from designing.loops import WORD_PLACES
+from designing.loops import WORD_PLACES, Clock
 from designing.shapes import Shape
-from designing.unbounded import Passed, order_of, unbounded_run
+from designing.unbounded import Passed, Run, order_of, unbounded_run
 
 # How often the ranges of what is not linear are made smaller by those of what goes in.
 PASSES = 4
 # In which share of the time the responses to the inputs are summed, and those to the errors, of which 2^-ROUGH may be bounded.
-INPUT_SHARE, ERROR_SHARE, ROUGH = 0.5, 0.7, 7
+# Nothing of them is summed where they come to such a share of what the inputs do anyway.
+INPUT_SHARE, ERROR_SHARE, ROUGH, FEW = 0.5, 0.7, 7, Fraction(1, 1 << 12)
 TRUTH = 0, 1
 # So much time there is where none is given, and of the last bit so much is left out of the worst input.
 SECONDS, LEFT_OUT = 4.0, Fraction(1, 2)
@@ -71,12 +72,18 @@ class Reaches:
 
     def add_errors(self) -> None:
         """What all errors of rounding together may come to."""
-        errors = {node: form for node, form in enumerate(self.linear.forms) if form.least or form.greatest}
-        found = self.certified.norms([unit(node) for node in errors], ERROR_SHARE, ROUGH)
-        for form, made in zip(errors.values(), found):
-            for node, norm in made.items():
-                self.widen(node, *norm.reach(min(form.least, Fraction(0)), max(form.greatest, Fraction(0))))
-            self.unbounded |= {node for node, norm in made.items() if not norm.is_bound}
+        zero = Fraction(0)
+        errors = {node: (min(form.least, zero), max(form.greatest, zero)) for node, form in enumerate(self.linear.forms)
+                  if form.least or form.greatest}
+        few: dict[int, Fraction] = {}
+        for source in self.linear.inputs:
+            most = max(map(abs, self.ranges[source])) * FEW
+            for node, norm in self.norms[source].items():
+                few[node] = few.get(node, zero) + norm.summed * most
+        found, unbounded = self.certified.spread(errors, ERROR_SHARE, ROUGH, few)
+        for node, ends in found.items():
+            self.widen(node, *ends)
+        self.unbounded |= unbounded
 
     def add_offsets(self) -> None:
         """What constants and initial values come to."""
@@ -274,26 +281,31 @@ class Worst:
         return self.rows(node, length, sign), said
 
     def tried(self) -> dict[int, Range]:
-        """Which words elements without a bound have on inputs of some length."""
-        elements = self.flat.elements
-        made = {number: (0, 0) for number in range(len(elements))}
-        nodes = {self.shown(number) for number in made} & self.reaches.unbounded
-        for node in sorted(nodes):
-            for sign in (1, -1):
-                length = TRIED_LENGTH
-                while length:
-                    run = unbounded_run(elements, frozenset())
-                    try:
-                        run.over(self.rows(node, length, sign))
-                    except Passed:
-                        length //= 4
-                        continue
-                    for number, (least, greatest) in made.items():
-                        words = run.block(number)
-                        made[number] = min(least, *words), max(greatest, *words)
-                    self.lengths[node] = length
-                    break
+        """Which words elements without a bound have on inputs of some length, as long as there is time, the last first."""
+        clock, nodes = Clock(self.seconds), {self.shown(number) for number in range(len(self.flat.elements))}
+        made = {number: (0, 0) for number in range(len(self.flat.elements))}
+        rank = self.reaches.certified.system.rank
+        for node in sorted(nodes & self.reaches.unbounded, key=lambda node: -rank[node]):
+            self.lengths[node] = 0
+            for sign in (1, -1) if clock.left > 0 else ():
+                run = self.run_on(node, sign)
+                for number, (least, greatest) in made.items() if run else ():
+                    words = run.block(number)
+                    made[number] = min(least, *words), max(greatest, *words)
         return made
+
+    def run_on(self, node: int, sign: int) -> Run | None:
+        """A run on the input that brings a node furthest, of as many samples as its words are not too great for."""
+        saturating, length = frozenset(element for element, _ in self.linear.bent), TRIED_LENGTH
+        while length:
+            run = unbounded_run(self.flat.elements, saturating)
+            try:
+                run.over(self.rows(node, length, sign))
+                self.lengths[node] = length
+                return run
+            except Passed:
+                length //= 4
+        return None
 
 
 def chosen(bounds: list[Bound], name: str | None) -> Bound:
