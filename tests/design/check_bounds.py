@@ -3,13 +3,13 @@
 
 usage: tests/design/check_bounds.py [COUNT [SEED]]
 
-A program has sections in four forms with poles up to 1 - 2^-20, combs, allpasses, coupled loops and taps with delays up to 1,023,
-one after another or beside each other, with one input or more, that truncate, round or saturate. It is made as a list of
-equations, and these are evaluated here, in whole numbers that do not wrap, and in real numbers for the responses from which
-the inputs are made that bring an element furthest. No element may pass its bound on them. Where the responses die out
-within the samples that are tried, it is also seen how much too great a bound is. Some programs are compared with reference.py,
-so that the equations are those of the source. The words of the examples, on their samples, are compared with their bounds too, and those
-of the reverberator on its worst input. It runs the built `silc_show`, or the one that `SILC_SHOW` names.
+A program has sections in four forms with poles up to 1 - 2^-20, combs, allpasses, coupled loops and taps with delays up to
+1,023, one after another or beside each other, with one input or more, that truncate, round or saturate. It is made as a list
+of equations, and these are evaluated here, in whole numbers that do not wrap, and in real numbers for the responses from which
+the inputs are made that bring an element furthest. No element may pass its bound on them. Where the responses die out within
+the samples that are tried, it is also seen how much too great a bound is. Some programs are compared with reference.py, so
+that the equations are those of the source. The words of the examples, on their samples, are compared with their bounds too,
+and those of the reverberator on its worst input. It runs the built `silc_show`, or the one that `SILC_SHOW` names.
 """
 import itertools
 import random
@@ -72,7 +72,8 @@ class Program:
         for _ in range(dice.randint(1, 3)):
             ends = [self.block(end) if dice.random() < 0.8 else end for end in ends]
         if len(ends) > 1 or dice.random() < 0.3:
-            ends = [self.equation([Term(end, dice.choice((0, 0, dice.randint(1, 1023))), dice.choice((1, -1))) for end in ends])]
+            ends = [self.equation([Term(end, dice.choice((0, 0, dice.randint(1, 1023))), dice.choice((1, -1)))
+                                   for end in ends])]
         self.output = ends[0] if ends[0] not in self.inputs else self.signal_of(ends[0])
 
     def equation(self, terms, name=None, shape=None, mode=None):
@@ -96,8 +97,8 @@ class Program:
         return {"word": max(shape.least, min(shape.greatest, shape.nearest(value))), "of": shape}
 
     def block(self, end):
-        kind = self.dice.choice((self.direct, self.direct, self.transposed, self.one_pole, self.lattice, self.comb, self.allpass,
-                                 self.damped, self.taps, self.coupled))
+        kind = self.dice.choice((self.direct, self.direct, self.transposed, self.one_pole, self.lattice, self.comb,
+                                 self.allpass, self.damped, self.taps, self.coupled))
         return kind(end)
 
     def poles(self):
@@ -283,8 +284,9 @@ def judged(seed, number):
                                        f"{bound.greatest}: {source}")
             reached = [min(reached[0], *words[name]), max(reached[1], *words[name])]
         bound = bounds[name]
-        if bound.is_bound and all(map(has_died_out, responses)) and "sat" not in program.mode and reached[1] - reached[0] > 1000:
-            made.looseness.append((bound.greatest - bound.least) / (reached[1] - reached[0]))
+        span = reached[1] - reached[0]
+        if bound.is_bound and all(map(has_died_out, responses)) and "sat" not in program.mode and span > 1000:
+            made.looseness.append((bound.greatest - bound.least) / span)
     return made
 
 
@@ -359,9 +361,9 @@ def main(words):
         faults.append(f"a bound is {max(loose)} times what is reached, where {MOST_LOOSE} may be")
     for fault in faults:
         print(fault)
-    print(f"bounds: {len(examples)} examples and {count} programs, {sum(one.bounds for one in made)} elements, {sum(one.open_ones for one in made)} without a "
-          f"bound; {len(loose)} with a response that died out, whose bounds are at most {max(loose, default=1):.4f} times what is "
-          f"reached; {len(faults)} faults")
+    print(f"bounds: {len(examples)} examples and {count} programs, {sum(one.bounds for one in made)} elements of these, "
+          f"{sum(one.open_ones for one in made)} without a bound; {len(loose)} with a response that died out, whose bounds are at "
+          f"most {max(loose, default=1):.4f} times what is reached; {len(faults)} faults")
     return 1 if faults else 0
 
 

@@ -227,30 +227,6 @@ def value_of(amount: int) -> Fraction:
     return Fraction(amount, 1 << PLACES)
 
 
-def norms(self) -> dict[int, Norm]:
-        """What is known of all nodes that are reached. The response that was summed is that of the cuts too."""
-        errors, _ = self.passing.passed(cuts_of(self.response))
-        made = {}
-        for rank, node in enumerate(self.system.order):
-            so_far, rest, error = sums_of(self.response, rank), self.rest.get(rank, NOTHING), errors.get(rank, NOTHING)
-            is_bound = rank not in self.unbounded
-            if so_far.total or rest.total or not is_bound:
-                whole = so_far.plus(rest) if is_bound else so_far
-                made[node] = Norm(*map(value_of, whole), value_of(max(0, so_far.total - error.total)), is_bound)
-        return made
-
-
-def value_of(amount: int) -> Fraction:
-    return Fraction(amount, 1 << PLACES)
-
-
-def samples_until_little(before: float, now: float, samples: int) -> float:
-    """After how many samples more a share is little, that fell by so much in so many."""
-    if now >= before:
-        return math.inf
-    return max(0.0, samples * (math.log(now) + LITTLE * math.log(2)) / math.log(before / now)) if now else 0.0
-
-
 class Certified:
     """A system with the bounds of its loops, and the time that there is."""
 
@@ -271,14 +247,15 @@ class Certified:
             source.sharpen()
         return [source.norms(Clock(max(LEAST_SECONDS, clock.left / len(made)))) for source in made]
 
-    def spread(self, ends: dict[int, Ends], share: float, tight: int, few: dict[int, Fraction]) -> tuple[dict[int, Ends], set[int]]:
+    def spread(self, ends: dict[int, Ends], share: float, tight: int,
+               few: dict[int, Fraction]) -> tuple[dict[int, Ends], set[int]]:
         """How far numbers between two ends, one for each sample, bring the nodes when they are put into some of them, and the
         nodes without a bound. Where they bring none further than `few` by the gains of the loops alone, nothing is summed;
         else each response is, in a share of the time."""
         clock = Clock(self.clock.left * share)
-        made, unbounded = self.roughly(ends)
-        if all(max(-least, greatest) <= few.get(node, 0) for node, (least, greatest) in made.items()):
-            return made, unbounded
+        rough, unbounded = self.roughly(ends)
+        if all(max(-least, greatest) <= few.get(node, 0) for node, (least, greatest) in rough.items()):
+            return rough, unbounded
         rest, made = dict(ends), {}
         while rest and clock.left > 0:
             node, (least, greatest) = rest.popitem()
@@ -288,7 +265,8 @@ class Certified:
                 source.sharpen()
             add_ends(made, {other: norm.reach(least, greatest) for other, norm in source.norms(None).items()})
         add_ends(made, self.roughly(rest)[0])
-        return made, unbounded
+        return {node: (max(ends[0], rough[node][0]), min(ends[1], rough[node][1])) for node, ends in made.items()
+                if node in rough}, unbounded
 
     def roughly(self, ends: dict[int, Ends]) -> tuple[dict[int, Ends], set[int]]:
         """The same by the gains of the loops alone."""

@@ -1,10 +1,11 @@
 """A bound of what a short loop still answers, from the state in which it is: by the sum of squares with a weight.
 
-With a weight w > 1, sum |c A^t x| is at most the root of sum w^-2t times that of sum (c A'^t x)^2 (Cauchy and Schwarz), where
-A' = w A. The second sum is c X c* for the X with X = A' X A'* + x x* (a star transposes). Such an X is found by doubling,
-without proof, and then checked in whole numbers: where X - A' X A'* - x x* is positive semidefinite and A' is stable, c X c* is
-no less than the sum. A' is stable where Y - A' Y A'* is positive definite for a positive definite Y. So nothing rests on how X,
-Y and the weight were found. For one real pole the bound is exact, for two complex ones it is 11 % too great.
+With a weight w > 1, sum |c A^t x| is at most the root of sum w^-2t times that of sum (c A'^t x)^2 (Cauchy and Schwarz),
+where A' = w A. The second sum is c X c* for the X with X = A' X A'* + x x* (a star transposes). Such an X is found by
+doubling, without proof, and then checked in whole numbers: where X - A' X A'* - x x* is positive semidefinite and A' is
+stable, c X c* is no less than the sum. A' is stable where Y - A' Y A'* is positive definite for a positive definite Y. So
+nothing rests on how X, Y and the weight were found. For one real pole the bound is exact, for two complex ones it is 11 % too
+great.
 """
 import math
 from collections.abc import Iterable

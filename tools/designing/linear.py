@@ -49,8 +49,8 @@ def computed(operation: Operation, words: list[int]) -> int:
 
 @dataclass(frozen=True)
 class Form:
-    """The word of an expression: terms, a constant, and an error that lies between two numbers. `width` is that of an operation
-    whose word nothing has yet, and is none for what is read."""
+    """The word of an expression: terms, a constant, and an error that lies between two numbers. `width` is that of an
+    operation whose word nothing has yet, and is none for what is read."""
     terms: dict[Read, Fraction] = field(default_factory=dict)
     constant: Fraction = Fraction(0)
     least: Fraction = Fraction(0)
@@ -215,7 +215,8 @@ class Linear:
         self.checks.append(check)
         if name not in self.bent:
             return Form({(node, 0): Fraction(1)})
-        return self.chosen(element, replace(operation, name="pass", shift=0, parts=1), [Form({(node, 0): Fraction(1)})], is_last)
+        clip = replace(operation, name="pass", shift=0, parts=1)
+        return self.chosen(element, clip, [Form({(node, 0): Fraction(1)})], is_last)
 
     def chosen(self, element: int, operation: Operation, parts: list[Form], is_last: bool) -> Form:
         """The node of an operation that is not linear."""

@@ -7,7 +7,7 @@ import math
 from dataclasses import dataclass
 from fractions import Fraction
 
-from designing.certified import Certified, Norm, System
+from designing.certified import Certified, System
 from designing.flat import Flat
 from designing.impulses import Response
 from designing.linear import LINEAR, Check, Choice, Linear, Range, fitted, range_of, shifted
