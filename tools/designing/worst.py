@@ -4,16 +4,19 @@ The inputs, the errors of rounding and what is not linear are sources, whose wor
 element what the sums of its response allow (`certified`), and constants and initial values add what they do.
 """
 import math
+import random
 from dataclasses import dataclass
 from fractions import Fraction
 
 from designing.certified import Certified, System
-from designing.flat import Flat
+from designing.flat import Flat, flat_of
 from designing.impulses import Response
 from designing.linear import LINEAR, Check, Choice, Linear, Range, fitted, range_of, shifted
 from designing.loops import WORD_PLACES, Clock
+from designing.programs import Unrun, evaluated
 from designing.shapes import Shape
-from designing.unbounded import Passed, Run, order_of, unbounded_run
+from designing.sources import words_of_main
+from designing.unbounded import Passed, Run, order_of, own_run, unbounded_run
 
 # How often the ranges of what is not linear are made smaller by those of what goes in.
 PASSES = 4
@@ -23,8 +26,8 @@ INPUT_SHARE, ERROR_SHARE, ROUGH, FEW = 0.5, 0.7, 7, Fraction(1, 1 << 12)
 TRUTH = 0, 1
 # So much time there is where none is given, and of the last bit so much is left out of the worst input.
 SECONDS, LEFT_OUT = 4.0, Fraction(1, 2)
-# Of an element without a bound inputs of so many samples are tried.
-TRIED_LENGTH = 2048
+# Of an element without a bound inputs of so many samples are tried, and so many rows are compared with those of `silc eval`.
+TRIED_LENGTH, COMPARED = 2048, 16
 PASSES_RANGE, SATURATES, INSIDE, FOLLOWS = "may pass its range", "may saturate", "may overflow inside", "follows"
 AT_LEAST, PASSED, UNLINEAR = "at least", "passes its range", "not linear"
 
@@ -306,6 +309,20 @@ class Worst:
             except Passed:
                 length //= 4
         return None
+
+
+def worst_of(source: str, seconds: float) -> Worst:
+    """The bounds of a source, once its elements were tried against the program."""
+    dice = random.Random(0)
+    inputs, _ = words_of_main(source)
+    rows = [tuple(dice.randint(*(TRUTH if shape is None else (shape.least, shape.greatest))) for shape in inputs)
+            for _ in range(COMPARED)]
+    put, flat = evaluated(source, rows), flat_of(source)
+    run = own_run(flat.elements)
+    run.over(rows)
+    if list(zip(*map(run.block, flat.outputs))) != put:
+        raise Unrun("its words are not the rows of silc eval, which is a fault of this tool")
+    return Worst(flat, seconds)
 
 
 def chosen(bounds: list[Bound], name: str | None) -> Bound:
