@@ -362,8 +362,8 @@ def main(words):
     for fault in faults:
         print(fault)
     print(f"bounds: {len(examples)} examples and {count} programs, {sum(one.bounds for one in made)} elements of these, "
-          f"{sum(one.open_ones for one in made)} without a bound; {len(loose)} with a response that died out, whose bounds are "
-          f"at most {max(loose, default=1):.4f} times what is reached; {len(faults)} faults")
+          f"{sum(one.open_ones for one in made)} without a bound; {len(loose)} with a response that died out, whose bounds "
+          f"are at most {max(loose, default=1):.4f} times what is reached; {len(faults)} faults")
     return 1 if faults else 0
 
 
