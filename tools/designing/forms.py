@@ -14,10 +14,12 @@ class Form(Enum):
 
 @dataclass(frozen=True)
 class Term:
-    """A coefficient times a signal some samples ago."""
+    """A coefficient times a signal some samples ago. One that is taken off has a factor with the other sign than the product
+    in the source."""
     factor: float
     signal: str
     delay: int = 0
+    is_taken_off: bool = False
 
 
 @dataclass(frozen=True)
@@ -31,7 +33,7 @@ class Equation:
 def direct(b, a):
     """Direct form I. The transposed direct form II rounds at the same place and has the same words."""
     feed = [Term(factor, INPUT, delay) for delay, factor in enumerate(b)]
-    back = [Term(-factor, OUTPUT, delay) for delay, factor in enumerate(a, 1)]
+    back = [Term(-factor, OUTPUT, delay, True) for delay, factor in enumerate(a, 1)]
     return [Equation(OUTPUT, tuple(feed + back))]
 
 
@@ -41,7 +43,7 @@ def lattice(gain, k, v):
     made = []
     for m in range(top, 0, -1):
         before = Term(gain, INPUT) if m == top else Term(1.0, f"f{m}")
-        made.append(Equation(f"f{m - 1}", (before, Term(-k[m - 1], back(m - 1), 1))))
+        made.append(Equation(f"f{m - 1}", (before, Term(-k[m - 1], back(m - 1), 1, True))))
     made += [Equation(f"g{m}", (Term(k[m - 1], f"f{m - 1}"), Term(1.0, back(m - 1), 1))) for m in range(1, top + 1)]
     return [*made, Equation(OUTPUT, tuple(Term(factor, back(m)) for m, factor in enumerate(v)))]
 

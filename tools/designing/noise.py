@@ -19,7 +19,10 @@ def reference_rows(file, rows, inputs, outputs):
         return made
     with open(file, encoding="latin-1") as text:
         source = text.read()
-    own_inputs, own_outputs = words_of_main(source)
+    try:
+        own_inputs, own_outputs = words_of_main(source)
+    except ValueError as why:
+        raise BadSamples(f"{file}: {why}") from why
     if len(own_inputs) != len(inputs) or len(own_outputs) != len(outputs):
         raise BadSamples(f"{file}: it has {len(own_inputs)} inputs and {len(own_outputs)} outputs, and the source "
                          f"{len(inputs)} and {len(outputs)}")
@@ -59,6 +62,11 @@ class Noise:
             return math.inf
         return 10 * math.log10(self.signal / self.error) if self.signal else -math.inf
 
+    def level(self):
+        """The power of the error in decibels of the full scale: of the least word, squared."""
+        full = (self.shape.step * -self.shape.least) ** 2
+        return 10 * math.log10(self.error / full) if self.error else -math.inf
+
     def bands(self):
         """The power of the error in bands of equal width, in decibels of the full scale."""
         full = (self.shape.step * -self.shape.least) ** 2
@@ -86,11 +94,13 @@ def noises(source, rows, file):
 
 @dataclass
 class Silence:
-    """What the output does after an impulse: since when the program's state repeats, how often, and the words then."""
+    """What the output does after an impulse: since when the program's state repeats, how often, and the words then; the
+    last sample at which it is not 0; and whether there is a state."""
     start: int | None
     period: int | None
     words: list
     last: int
+    has_state: bool
 
     def dies_out(self):
         return self.period is not None and not any(map(any, self.words))
@@ -116,10 +126,11 @@ def silence_after(source, word, length):
     elements = valued(source, [(word, *zeros[1:]), *[zeros] * length])
     columns = list(zip(*(element.words for element in elements)))
     put = [element.words for element in elements[len(inputs) : len(inputs) + len(outputs)]]
-    # The first sample is the impulse, and a state reaches back over the longest delay.
-    delay = max(longest_delay(graph_of(source)), 1)
-    start, period = repetition(columns[1:], delay)
-    rows = list(zip(*put))
+    rows, longest = list(zip(*put)), longest_delay(graph_of(source))
     last = max((n for n, row in enumerate(rows) if any(row)), default=-1)
+    if not longest:
+        return Silence(0, 1, rows[1:2], last, False)
+    # The first sample is the impulse, and a state reaches back over the longest delay.
+    start, period = repetition(columns[1:], longest)
     words = rows[start + 2 : start + 2 + period] if period else []
-    return Silence(start, period, words, last)
+    return Silence(start, period, words, last, True)

@@ -1,9 +1,13 @@
-"""Scaling of a cascade: the gain of each section by a norm, with room for the sum of all quantisation errors."""
+"""Scaling of a cascade: the gain of each section by a norm, with room for the sum of all quantisation errors. The scale is
+found by responses in floating point, up to some length; what is said of it is certified from the words that it leaves."""
 import math
+import time
 from dataclasses import dataclass, replace
 from enum import Enum
+from fractions import Fraction
 
 from designing import forms
+from designing.certificates import Certificate, certified
 from designing.filters import Section
 from designing.forms import OUTPUT, Form, run
 from designing.shapes import Shape
@@ -11,14 +15,15 @@ from designing.spectra import magnitudes
 
 # A response is over where it is this share of its beginning; so many samples are looked at, at least and at most.
 OVER, LEAST_LENGTH, MOST_LENGTH = 1e-7, 64, 60_000
-# What is added to a norm for what is left out of it.
+# What is added to a norm for what is left out of it, as far as it is looked at.
 MARGIN = 1 + 1e-6
 # At how many frequencies a peak is looked for, and how much it may pass the greatest of these.
 PEAK_BINS, PEAK_MARGIN = 2048, 1.001
 # Sums of products have so many bits, or as many as the signals where these have more.
 SUM_BITS = 32
-# How often a section is made a little smaller, since its words are greater than its numbers.
-TRIES = 60
+# How often a section is made a little smaller, since its words are greater than its numbers; and how often all are, since
+# their responses are longer than what was looked at, each time with so much room beside what is certified.
+TRIES, ROUNDS, ROOM = 60, 6, 1 + 1e-6
 
 
 class Norm(Enum):
@@ -58,6 +63,16 @@ class Shapes:
         return (self.input if self.is_of_input else self.signal).places + self.coefficient.places
 
     @property
+    def of_products(self):
+        """How a product is rounded that has no place in the sum."""
+        is_down = self.is_one_word() and self.rounding is Rounding.DOWN
+        return Rounding.DOWN if is_down else Rounding.NEAREST
+
+    def is_one_word(self):
+        """Whether a sum is a word of the signals itself, so that nothing is rounded after it."""
+        return self.sum == self.signal
+
+    @property
     def sum(self):
         """The shape of the sums of products, which has the range of the signals at least."""
         width = max(SUM_BITS, self.signal.width)
@@ -70,7 +85,13 @@ class Shapes:
     def error(self, products):
         """The greatest error of a signal that is made of so many products."""
         cut = self.rounding.error() * self.signal.step if self.sum.places > self.signal.places else 0.0
-        return cut + (0.0 if self.is_exact() else products * Rounding.NEAREST.error() * self.sum.step)
+        return cut + (0.0 if self.is_exact() else products * self.of_products.error() * self.sum.step)
+
+    def check(self):
+        """Raises what can't be done in these shapes."""
+        if self.rounding is Rounding.ZERO and self.is_one_word() and not self.is_exact():
+            raise Unscaled(f"--rounding zero is that of a sum which is wider than the signals, and with signals of "
+                           f"{self.signal.width} bits each product is rounded by itself: nearest and down do that")
 
     def input_error(self):
         """The greatest error of the input as a signal."""
@@ -85,6 +106,19 @@ class Shapes:
     def limit(self):
         """The greatest value that a signal may have."""
         return self.signal.value(self.signal.greatest)
+
+
+@dataclass
+class Allowance:
+    """How many seconds are left in which bounds may be looked for."""
+    seconds: float
+
+    def spent_on(self, work):
+        """What a work gives that takes a part of them."""
+        began = time.monotonic()
+        made = work(max(0.0, self.seconds))
+        self.seconds -= time.monotonic() - began
+        return made
 
 
 @dataclass(frozen=True)
@@ -181,10 +215,13 @@ class Measure:
 
 
 class Cascade:
-    """The sections that are scaled so far, and what goes on from the last of them."""
+    """The sections that are scaled so far, and what goes on from the last of them. `tighter` says for each section by how
+    much less than its range it may use."""
 
-    def __init__(self, shapes, norm, length):
-        self.shapes, self.norm, self.length = shapes, norm, length
+    certificate: Certificate
+
+    def __init__(self, shapes, norm, length, tighter):
+        self.shapes, self.norm, self.length, self.tighter = shapes, norm, length, tighter
         full = shapes.input.value(-shapes.input.least)
         self.made, self.used = [], []
         self.sources = [Source(full, [1.0], True)]
@@ -216,9 +253,23 @@ class Cascade:
         self.sources = measure.sources
         self.made.append((words, words.section(self.shapes.coefficient, place)))
 
-    def rounding_bound(self):
-        """The greatest sum of all quantisation errors in the output."""
-        return sum(source.weight * norm_of(Norm.SUM, source.response) for source in self.sources if not source.is_signal)
+    def limit(self):
+        """The greatest value that a signal of the next section may have."""
+        return self.shapes.limit() / self.tighter[len(self.made)]
+
+    def certify(self, allowance):
+        """Certifies what the sections use; says whether none passes its range, or where that is not asked for."""
+        self.certificate = allowance.spent_on(lambda seconds: certified(self, seconds))
+        return self.norm is not Norm.SUM or max(self.certificate.uses) <= 1
+
+    def tightened(self):
+        """By how much less than their range the sections may use, since these were longer than what was looked at."""
+        return [tight * max(1.0, float(use) / own * ROOM) if use > 1 else tight
+                for tight, use, own in zip(self.tighter, self.certificate.uses, self.used)]
+
+    def share(self):
+        """The share of their range that the signals use at most, by the norm."""
+        return max(self.certificate.uses if self.norm is Norm.SUM else self.used)
 
 
 # Sections, one after another
@@ -238,7 +289,7 @@ class Scaler:
         top = self.shape.value(self.shape.greatest) / max(map(abs, numbers))
         if self.cascade.norm is Norm.NONE:
             return min(1.0, top)
-        most = self.cascade.measure(equations).most(self.cascade.shapes.limit(), names)
+        most = self.cascade.measure(equations).most(self.cascade.limit(), names)
         if most <= 0:
             raise Unscaled(f"{section.place}: the errors of rounding alone fill the range of the signals")
         return min(most, top)
@@ -268,7 +319,7 @@ class Scaler:
             words = words_of(self.form, section, gain, scale, self.shape, named)
             check_poles(words.section(self.shape, section.place), named)
             measure = self.cascade.measure(words.equations(self.shape))
-            if measure.use(self.cascade.shapes.limit()) <= 1 or self.cascade.norm is Norm.NONE:
+            if measure.use(self.cascade.limit()) <= 1 or self.cascade.norm is Norm.NONE:
                 self.cascade.add(words, section.place, measure)
                 return scale * gain
             if rest is not None:
@@ -287,15 +338,22 @@ class Overflowing(Unscaled):
     """The signals need a greater range."""
 
 
-def check_poles(section, named):
-    if not section.is_stable():
-        raise Unscaled(f"{named}: the poles of its rounded coefficients leave the unit circle, {section.radius():.6f} from its centre")
+def cascade_of(gain, sections, shapes, norm, form, allowance):
+    """The sections as words, scaled, over signals of these shapes, with a certificate of what they use."""
+    shapes.check()
+    if norm is not Norm.NONE and shapes.signal.whole_bits < shapes.input.whole_bits:
+        raise Unscaled(f"the input has a greater range than {shapes.signal}")
+    length, tighter = min(max(map(length_for, sections)), MOST_LENGTH), [1.0] * len(sections)
+    for _ in range(ROUNDS):
+        cascade = scaled(gain, sections, Cascade(shapes, norm, length, tighter), form)
+        if cascade.certify(allowance):
+            return cascade
+        tighter = cascade.tightened()
+    raise Unscaled(f"no scale was found that keeps the signals in {shapes.signal}")
 
 
-def cascade_of(gain, sections, shapes, norm, form):
-    """The sections as words, scaled, over signals of these shapes."""
-    length = min(max(map(length_for, sections)), MOST_LENGTH)
-    cascade = Cascade(shapes, norm, length)
+def scaled(gain, sections, cascade, form):
+    """The cascade with all sections."""
     scaler, rest = Scaler(cascade, form), gain
     for number, section in enumerate(sections, 1):
         named = f"{section.place}: section {number}"
@@ -321,12 +379,13 @@ def most_places(gain, sections, shapes, norm):
     return min(most, width - 1 - math.ceil(math.log2(reached)))
 
 
-def fitting_cascade(gain, sections, shapes, norm, form):
+def fitting_cascade(gain, sections, shapes, norm, form, allowance):
     """The same, over signals with as many places as keep them in their range."""
     last = Unscaled(f"the output has no place in {shapes.signal.width} bits")
     for places in range(most_places(gain, sections, shapes, norm), -1, -1):
         try:
-            return cascade_of(gain, sections, replace(shapes, signal=Shape(shapes.signal.width, places)), norm, form)
+            fitted = replace(shapes, signal=Shape(shapes.signal.width, places))
+            return cascade_of(gain, sections, fitted, norm, form, allowance)
         except Overflowing as why:
             last = why
     raise last
@@ -339,16 +398,25 @@ def fitting_taps(taps, shapes, norm, is_open):
     """The taps as words, the shapes, and how much of its range the output may use. Where they are open, it has as many
     places as the norm allows."""
     words = words_in(taps, shapes.coefficient)
-    real = [shapes.coefficient.value(word) for word in words]
-    full = shapes.input.value(-shapes.input.least)
-    reached = 0.0 if norm is Norm.NONE else norm_of(norm, real) * full
+    reached = size_of(words, shapes, norm)
     for places in range(shapes.signal.width - 1, -1, -1) if is_open else [shapes.signal.places]:
         fitted = replace(shapes, signal=Shape(shapes.signal.width, places), is_of_input=True)
-        if reached + fitted.error(len(words)) <= fitted.limit() and (norm is not Norm.NONE or not is_open
-                                                                    or places <= shapes.input.places):
-            return words, fitted, (reached + fitted.error(len(words))) / fitted.limit()
-    raise Unscaled(f"the output may reach {reached:.6g}, which has no place in "
+        most, limit = reached + Fraction(fitted.error(len(words))), Fraction(fitted.limit())
+        if most <= limit and (norm is not Norm.NONE or not is_open or places <= shapes.input.places):
+            fitted.check()
+            return words, fitted, most / limit
+    raise Unscaled(f"the output may reach {float(reached):.6g}, which has no place in "
                    f"{f'{shapes.signal.width} bits' if is_open else shapes.signal}")
+
+
+def size_of(words, shapes, norm):
+    """How great the output of taps gets by a norm: by the sum of magnitudes just so much."""
+    full = Fraction(shapes.input.value(-shapes.input.least))
+    if norm is Norm.NONE:
+        return Fraction(0)
+    if norm is Norm.SUM:
+        return sum(map(abs, words)) * Fraction(shapes.coefficient.step) * full
+    return Fraction(norm_of(norm, [shapes.coefficient.value(word) for word in words])) * full
 
 
 def words_in(taps, shape):

@@ -52,23 +52,37 @@ def rounded(shapes, sum_name):
 
 
 def sum_type(shapes):
-    """The type of the sums: a product that has no place in it is rounded."""
-    return str(shapes.sum) if shapes.is_exact() else f"fix<{shapes.sum.width},{shapes.sum.places},round>"
+    """The type of the sums: a product that has no place in it is rounded, or cut."""
+    if shapes.is_exact() or shapes.of_products is Rounding.DOWN:
+        return str(shapes.sum)
+    return f"fix<{shapes.sum.width},{shapes.sum.places},round>"
+
+
+def brought(shapes):
+    """What happens to a product that has no place in the sum."""
+    return "cut" if shapes.of_products is Rounding.DOWN else "rounded"
 
 
 def said_of_rounding(shapes, products):
     if not shapes.is_exact():
-        said = f"The {counted(products, 'product')} are rounded to {shapes.sum.places} bits after the point"
-        return said if shapes.sum == shapes.signal else f"{said}, and their sum to a word"
-    return f"The {counted(products, 'product')} are exact, and their sum is rounded once"
+        said = f"The {counted(products, 'product')} are {brought(shapes)} to {shapes.sum.places} bits after the point"
+        return said if is_one_word(shapes) else f"{said}, and their sum to a word"
+    said = f"The {counted(products, 'product')} are exact, and their sum is"
+    return f"{said} the word" if is_one_word(shapes) else f"{said} rounded once"
+
+
+def said_of_sums(shapes):
+    if shapes.is_exact():
+        return "Each sum is a word" if is_one_word(shapes) else "Each sum is rounded once"
+    said = f"Each product is {brought(shapes)} to {shapes.sum.places} bits after the point"
+    return said if is_one_word(shapes) else f"{said}, and each sum to a word"
 
 
 # Sections
 
 
 def is_one_word(shapes):
-    """Whether a sum is a word of the signals itself, so that nothing is rounded after it."""
-    return shapes.sum == shapes.signal
+    return shapes.is_one_word()
 
 
 def result_type(shapes):
@@ -143,7 +157,7 @@ def lattice_function(name, order, shapes):
         lines += rounded_lines(f"u{k}", own, terms, shapes)
     head = (f"func {name}(x : {signal}, gain : {coefficient}, k[{order}] : {coefficient}, v[{order + 1}] : {coefficient}) "
             f"y : {result_type(shapes)}")
-    return function("One section: a lattice with the reflection coefficients k, and its ladder v. Each sum is rounded once",
+    return function(f"One section: a lattice with the reflection coefficients k, and its ladder v. {said_of_sums(shapes)}",
                     head, [(words, result_type(shapes)), (sums, sum_type(shapes))], lines)
 
 
@@ -197,10 +211,11 @@ def cascade_source(said, cascade, form):
 def fir_source(said, shapes, words):
     """The source of a FIR filter, after the comment."""
     last = len(words)
-    exact = "exact here" if shapes.is_exact() else f"rounded to {shapes.sum.places} bits after the point"
+    exact = "exact here" if shapes.is_exact() else f"{brought(shapes)} to {shapes.sum.places} bits after the point"
+    once = "is the word" if is_one_word(shapes) else "is rounded once"
     return (f"{comment(said)}{array('h', shapes.coefficient, words)}\n"
             f"func main(x : {shapes.input}) y : {shapes.signal} =\nbegin\n"
-            f"  /* The products are {exact}, and the sum of all {last} is rounded once. */\n"
+            f"  /* The products are {exact}, and the sum of all {last} {once}. */\n"
             f"  var s[{last + 1}] : {sum_type(shapes)};\n  s[0] = 0.0;\n"
             f"  (k : 0 .. {last - 1}) :: begin\n    s[k+1] = s[k] + h[k] * x@k;\n  end;\n"
             f"  y = {f's[{last}]' if is_one_word(shapes) else rounded(shapes, f's[{last}]')};\nend;\n")
