@@ -18,7 +18,8 @@ from pathlib import Path
 
 ROOT = Path(__file__).resolve().parent.parent.parent
 DESIGN, NOISE = ROOT / "tools" / "design", ROOT / "tools" / "noise"
-# Sections b0 a1 a2: a real pole at 0.99998, and a resonator at 50 Hz with the radius 0.99995. Random ones go up to 1 - 2^-NEAREST.
+# Sections b0 a1 a2: a real pole at 0.99998, and a resonator at 50 Hz with the radius 0.99995.
+# Random ones have radii up to 1 - 2^-NEAREST.
 SLOW = [(0.000026, -0.99998, 0.0), (3.2725e-7, -1.99985717, 0.9999000025)]
 RANDOM, NEAREST, PLACES = 6, 15, 30
 # A bound is no more than this above the sum, and a sum is over where so little of a response is left.
@@ -97,7 +98,8 @@ def time_faults():
     said = " ".join(done.stdout.split())
     if done.stderr != "design: no bound was found within 1e-09 s; --seconds gives more time\n":
         yield f"without time it says {done.stderr}"
-    wanted, unwanted = ("by some input at least", "No bound was found of all errors of rounding"), ("no input", "up to", "together are")
+    wanted = ("by some input at least", "No bound was found of all errors of rounding")
+    unwanted = ("no input", "up to", "together are")
     if any(text not in said for text in wanted) or any(text in said for text in unwanted):
         yield f"without time the comment is {said}"
 
