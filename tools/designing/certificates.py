@@ -41,11 +41,16 @@ def nodes_of(cascade):
     return nodes
 
 
+def errors_of(shapes, nodes):
+    """The greatest error that comes in at each signal, the input among them."""
+    return {0: shapes.input_error()} | {number: shapes.error(len(node.terms)) for number, node in enumerate(nodes)
+                                        if node.is_rounded}
+
+
 def certified(cascade, seconds):
     """The certificate of a cascade, or the best that is known of it after so many seconds."""
     shapes, nodes = cascade.shapes, nodes_of(cascade)
-    rounded = [number for number, node in enumerate(nodes) if node.is_rounded]
-    errors = {0: shapes.input_error()} | {number: shapes.error(len(nodes[number].terms)) for number in rounded}
+    errors = errors_of(shapes, nodes)
     sources = [number for number, error in errors.items() if error or not number]
     made = norms(System([node.terms for node in nodes]), [[(number, 0, 1)] for number in sources], seconds)
     is_bound = all(norm.is_bound for reached in made for norm in reached.values())
@@ -57,7 +62,22 @@ def certified(cascade, seconds):
     def error(number):
         return sum(Fraction(errors[source]) * reached.get(number, 0) for source, reached in zip(sources, sums))
     uses = [Fraction(0)] * len(cascade.made)
-    for number in rounded:
-        use = (full * sums[0].get(number, 0) + error(number)) / limit
-        uses[nodes[number].section] = max(uses[nodes[number].section], use)
-    return Certificate(tuple(uses), error(rounded[-1]), is_bound)
+    for number, node in enumerate(nodes):
+        if node.is_rounded:
+            uses[node.section] = max(uses[node.section], (full * sums[0].get(number, 0) + error(number)) / limit)
+    return Certificate(tuple(uses), error(len(nodes) - 1), is_bound)
+
+
+def certified_rounding(cascade, seconds):
+    """The same where signals may pass their range: a certificate of the errors of rounding alone. The response to each of them
+    in the output is that to the output in the system whose terms go the other way."""
+    nodes = nodes_of(cascade)
+    turned = [[] for _ in nodes]
+    for number, node in enumerate(nodes):
+        for other, delay, factor in node.terms:
+            turned[other].append((number, delay, factor))
+    reached, = norms(System(turned), [[(len(nodes) - 1, 0, 1)]], seconds)
+    errors = errors_of(cascade.shapes, nodes)
+    is_bound = all(norm.is_bound for norm in reached.values())
+    rounding = sum(Fraction(error) * reached[number].total for number, error in errors.items() if error and number in reached)
+    return Certificate((), rounding if is_bound else Fraction(0), is_bound)

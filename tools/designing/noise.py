@@ -2,7 +2,7 @@
 import math
 from dataclasses import dataclass
 
-from designing.programs import evaluated, graph_of, longest_delay, valued
+from designing.programs import Unrun, evaluated, graph_of, longest_delay, valued
 from designing.samples import BadSamples, reals_in
 from designing.sources import words_of_main
 from designing.spectra import welch
@@ -26,7 +26,11 @@ def reference_rows(file, rows, inputs, outputs):
     if len(own_inputs) != len(inputs) or len(own_outputs) != len(outputs):
         raise BadSamples(f"{file}: it has {len(own_inputs)} inputs and {len(own_outputs)} outputs, and the source "
                          f"{len(inputs)} and {len(outputs)}")
-    return values(evaluated(source, [scaled(row, inputs, own_inputs, file) for row in rows]), own_outputs)
+    try:
+        put = evaluated(source, [scaled(row, inputs, own_inputs, file) for row in rows])
+    except Unrun as why:
+        raise BadSamples(f"{file}: {why}") from why
+    return values(put, own_outputs)
 
 
 def scaled(row, shapes, others, file):

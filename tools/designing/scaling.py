@@ -7,7 +7,7 @@ from enum import Enum
 from fractions import Fraction
 
 from designing import forms
-from designing.certificates import Certificate, certified
+from designing.certificates import Certificate, certified, certified_rounding
 from designing.filters import Section
 from designing.forms import OUTPUT, Form, run
 from designing.shapes import Shape
@@ -259,7 +259,8 @@ class Cascade:
 
     def certify(self, allowance):
         """Certifies what the sections use; says whether none passes its range, or where that is not asked for."""
-        self.certificate = allowance.spent_on(lambda seconds: certified(self, seconds))
+        certify = certified if self.norm is Norm.SUM else certified_rounding
+        self.certificate = allowance.spent_on(lambda seconds: certify(self, seconds))
         return self.norm is not Norm.SUM or max(self.certificate.uses) <= 1
 
     def tightened(self):

@@ -23,14 +23,15 @@ def magnitudes(response, least):
 
 
 def welch(samples, size):
-    """The power in each of size / 2 + 1 bins, whose sum is the mean square: windows of Hann that overlap by half."""
-    window = [0.5 - 0.5 * math.cos(2 * math.pi * n / size) for n in range(size)]
+    """The power in each of size / 2 + 1 bins, whose sum is about the mean square: windows of Hann that overlap by half, or one
+    over all samples where these are fewer."""
+    length = min(size, len(samples))
+    window = [0.5 - 0.5 * math.cos(2 * math.pi * (n + 0.5) / length) for n in range(length)]
     scale = 1 / (size * sum(w * w for w in window))
-    starts = range(0, max(len(samples) - size, 0) + 1, size // HALF)
+    starts = range(0, len(samples) - length + 1, size // HALF)
     powers = [0.0] * (size // 2 + 1)
     for start in starts:
-        part = samples[start : start + size]
-        part = [w * x for w, x in zip(window, [*part, *[0.0] * (size - len(part))])]
-        for k, x in enumerate(fft(part)[: size // 2 + 1]):
+        part = [w * x for w, x in zip(window, samples[start : start + length])]
+        for k, x in enumerate(fft([*part, *[0.0] * (size - length)])[: size // 2 + 1]):
             powers[k] += abs(x) ** 2 * scale * (1 if k in (0, size // 2) else 2)
     return [power / len(starts) for power in powers]
