@@ -13,6 +13,7 @@ import re
 import subprocess
 import sys
 import tempfile
+from collections.abc import Iterator
 from concurrent.futures import ThreadPoolExecutor
 from pathlib import Path
 
@@ -45,14 +46,14 @@ SAMPLES, LOUDNESS, DECIBEL = 6000, 5000, 1.0
 AT_A_TIME = 2
 
 
-def ran(*words, room, status=0):
+def ran(*words: str | Path, room: str, status: int = 0) -> subprocess.CompletedProcess:
     done = subprocess.run(words, cwd=room, capture_output=True, text=True, stdin=subprocess.DEVNULL)
     if done.returncode != status:
         raise ValueError(f"{' '.join(map(str, words))}: it ended with {done.returncode}: {done.stderr.strip()}")
     return done
 
 
-def slow_sections():
+def slow_sections() -> Iterator[tuple[float, float, float]]:
     dice = random.Random(1)
     yield from SLOW
     for _ in range(RANDOM):
@@ -60,7 +61,7 @@ def slow_sections():
         yield (1 - radius) * math.sin(angle), -2 * radius * math.cos(angle), radius * radius
 
 
-def magnitudes(b0, a1, a2):
+def magnitudes(b0: float, a1: float, a2: float) -> tuple[float, float]:
     """The sum of magnitudes of 1 / (1 + a1 z^-1 + a2 z^-2), and b0, from words of the coefficients."""
     b0, a1, a2 = (math.floor(x * 2**PLACES + 0.5) / 2**PLACES for x in (b0, a1, a2))
     total, y, before = 0.0, 1.0, 0.0
@@ -71,7 +72,7 @@ def magnitudes(b0, a1, a2):
     return total, b0
 
 
-def bound_faults(section):
+def bound_faults(section: tuple[float, float, float]) -> list[str]:
     """How the bounds of a section are not those of its words."""
     total, b0 = magnitudes(*section)
     with tempfile.TemporaryDirectory(prefix="silc-levels-test-") as folder:
@@ -90,7 +91,7 @@ def bound_faults(section):
     return faults
 
 
-def time_faults():
+def time_faults() -> Iterator[str]:
     """Whether it is told that no bound was found in the time."""
     with tempfile.TemporaryDirectory(prefix="silc-levels-test-") as folder:
         Path(folder, "slow").write_text("{} 0 0 1 {} {}\n".format(*SLOW[0]))
@@ -104,7 +105,7 @@ def time_faults():
         yield f"without time the comment is {said}"
 
 
-def finer(source):
+def finer(source: str) -> str:
     """The same source with signals of 36 bits at least and sums of 40, in which each product is rounded."""
     body = source[source.index("*/") + 2:]
     signal = re.search(r"func main\(.*?\) y : fix<(\d+),(\d+)", body)
@@ -114,7 +115,7 @@ def finer(source):
     return re.sub(rf"fix<{width},{places}(,round)?>", f"fix<{wide},{wide - width + places},round>", body)
 
 
-def noise_faults(sections, words):
+def noise_faults(sections: str, words: list[str]) -> list[str]:
     named = " ".join(words)
     dice = random.Random(named)
     with tempfile.TemporaryDirectory(prefix="silc-levels-test-") as folder:
@@ -131,7 +132,7 @@ def noise_faults(sections, words):
     return [f"{named}: {expected} dB are expected, and {measured} dB measured"] if abs(expected - measured) > DECIBEL else []
 
 
-def main():
+def main() -> int:
     with ThreadPoolExecutor(AT_A_TIME) as pool:
         faults = [fault for found in pool.map(bound_faults, slow_sections()) for fault in found]
         faults += [fault for found in pool.map(noise_faults, *zip(*NOISES)) for fault in found]

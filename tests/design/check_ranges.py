@@ -14,6 +14,7 @@ import re
 import subprocess
 import sys
 import tempfile
+from collections.abc import Iterator
 from concurrent.futures import ProcessPoolExecutor
 from pathlib import Path
 
@@ -25,7 +26,7 @@ from designing import scipy_designs  # noqa: E402
 from designing.flat import flat_of  # noqa: E402
 from designing.programs import evaluated, rows_of, text_of, valued  # noqa: E402
 from designing.sources import widened  # noqa: E402
-from designing.unbounded import Passed, own_run, unbounded_run  # noqa: E402
+from designing.unbounded import Passed, Run, own_run, unbounded_run  # noqa: E402
 from fuzzing import samples, sources  # noqa: E402
 
 SAMPLES, LEAST, GREATEST, SKIPPED = 100_000, -32768, 32767, 77
@@ -108,7 +109,7 @@ def value_faults():
             yield f"{name}: the words of its elements are others"
 
 
-def programs():
+def programs() -> Iterator[tuple[str, str, list]]:
     """Sources with samples: the examples, and random ones."""
     for file in sorted((ROOT / "examples").glob("*/*.sil")):
         yield file.stem, file.read_text(), rows_of(file.with_name("samples.txt").read_text())[:40]
@@ -118,7 +119,7 @@ def programs():
         yield f"random program {seed}", made.text, [tuple(row) for row in samples.rows_of(dice, made.inputs)]
 
 
-def words_by(run, rows):
+def words_by(run: Run, rows: list) -> list[list[int]]:
     """The words of a run over the rows, in two blocks."""
     made = [[] for _ in run.elements]
     for block in (rows[:5], rows[5:]):
@@ -128,7 +129,7 @@ def words_by(run, rows):
     return made
 
 
-def exact_faults():
+def exact_faults() -> Iterator[str]:
     """How the words of programs, and those that nothing brings to a width, differ from those of an evaluator in Python."""
     fit = reference.fit
     for name, source, rows in programs():

@@ -1,9 +1,13 @@
 """What no input and no rounding can pass in a cascade, by certified sums of magnitudes of its responses, from its words."""
 from dataclasses import dataclass
 from fractions import Fraction
+from typing import TYPE_CHECKING
 
 from designing.certified import System, norms
 from designing.forms import INPUT, OUTPUT
+
+if TYPE_CHECKING:
+    from designing.scaling import Cascade, Shapes
 
 
 @dataclass(frozen=True)
@@ -25,7 +29,7 @@ class Node:
     is_rounded: bool
 
 
-def nodes_of(cascade):
+def nodes_of(cascade: "Cascade") -> list[Node]:
     """The signals of a cascade in the order of their evaluation, behind its input, which is the first."""
     nodes, before = [Node(-1, (), (), False)], 0
     for number, (words, _) in enumerate(cascade.made):
@@ -41,13 +45,13 @@ def nodes_of(cascade):
     return nodes
 
 
-def errors_of(shapes, nodes):
+def errors_of(shapes: "Shapes", nodes: list[Node]) -> dict[int, float]:
     """The greatest error that comes in at each signal, the input among them."""
     return {0: shapes.input_error()} | {number: shapes.error(len(node.terms)) for number, node in enumerate(nodes)
                                         if node.is_rounded}
 
 
-def certified(cascade, seconds):
+def certified(cascade: "Cascade", seconds: float) -> Certificate:
     """The certificate of a cascade, or the best that is known of it after so many seconds."""
     shapes, nodes = cascade.shapes, nodes_of(cascade)
     errors = errors_of(shapes, nodes)
@@ -59,7 +63,7 @@ def certified(cascade, seconds):
     if not is_bound:
         full, errors = Fraction(shapes.input.value(shapes.input.greatest)), dict.fromkeys(errors, 0)
 
-    def error(number):
+    def error(number: int) -> Fraction:
         return sum(Fraction(errors[source]) * reached.get(number, 0) for source, reached in zip(sources, sums))
     uses = [Fraction(0)] * len(cascade.made)
     for number, node in enumerate(nodes):
@@ -68,7 +72,7 @@ def certified(cascade, seconds):
     return Certificate(tuple(uses), error(len(nodes) - 1), is_bound)
 
 
-def certified_rounding(cascade, seconds):
+def certified_rounding(cascade: "Cascade", seconds: float) -> Certificate:
     """The same where signals may pass their range: a certificate of the errors of rounding alone. The response to each of them
     in the output is that to the output in the system whose terms go the other way."""
     nodes = nodes_of(cascade)

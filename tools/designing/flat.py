@@ -14,11 +14,16 @@ FORMAT_END = re.compile(r",((?:round,)?\w+),(\d+)>\(")
 RAW, NAME = re.compile(r"-?\d+"), re.compile(r"\w+")
 WHOLE_OR_INDEX = re.compile(r"\d+|\w+")
 
+# A number as a tree, the indices of the loops around it, and the declarations of an instance, each with its first element.
+Manifest = int | str | tuple
+Indices = dict[str, int]
+Signals = dict[str, tuple["Declared", int]]
+
 
 # Numbers that are known when a program is expanded: whole numbers, indices of loops, and what is made of them
 
 
-def manifest_at(text, place):
+def manifest_at(text: str, place: int) -> tuple[Manifest, int]:
     """A number as a tree, and the place behind it."""
     if text[place] == "-":
         inside, place = manifest_at(text, place + 1)
@@ -31,7 +36,7 @@ def manifest_at(text, place):
     return (text[place], left, right), end + 1
 
 
-def number_of(manifest, indices):
+def number_of(manifest: Manifest, indices: Indices) -> int:
     """A number in a turn of the loops."""
     if isinstance(manifest, int):
         return manifest
@@ -64,7 +69,7 @@ class Operation:
     parts: int = 0
 
 
-def place_at(text, place):
+def place_at(text: str, place: int) -> tuple[str, tuple, int]:
     """A name with its subscripts, and the place behind it."""
     name, subscripts = NAME.match(text, place), []
     place = name.end()
@@ -75,7 +80,7 @@ def place_at(text, place):
     return name[0], tuple(subscripts), place
 
 
-def leaf_at(text, place):
+def leaf_at(text: str, place: int) -> tuple[int | Read, int]:
     """A raw word or a read, and the place behind it."""
     if raw := RAW.match(text, place):
         return int(raw[0]), raw.end()
@@ -86,7 +91,7 @@ def leaf_at(text, place):
     return Read(name, subscripts, delay), place
 
 
-def operation_at(text, place):
+def operation_at(text: str, place: int) -> tuple[Operation | None, int]:
     """The beginning of an operation, up to its first part, and the place there; or nothing."""
     found, amount = OPERATION.match(text, place), 1
     if not found:
@@ -98,7 +103,7 @@ def operation_at(text, place):
     return Operation(found[1], int(found[2]), amount, ended[1], int(ended[2])), ended.end()
 
 
-def expressions_in(text):
+def expressions_in(text: str) -> list[list]:
     """The expressions of a text with commas between them, each as its parts and then what is made of them."""
     made, own, open_ones, place = [], [], [], 0
     while place < len(text):
@@ -133,7 +138,7 @@ class Declared:
     shape: Shape | None
     mode: str
 
-    def count(self):
+    def count(self) -> int:
         made = 1
         for dim in self.dims:
             made *= dim
@@ -146,15 +151,15 @@ class Function:
     declared: list = field(default_factory=list)
     items: list = field(default_factory=list)
 
-    def of(self, kind):
+    def of(self, kind: str) -> list[Declared]:
         return [one for one in self.declared if one.kind == kind]
 
 
-def dims_of(text):
+def dims_of(text: str) -> tuple[int, ...]:
     return tuple(map(int, re.findall(r"\d+", text)))
 
 
-def item_of(text):
+def item_of(text: str) -> tuple:
     """An equation, a call, an initial value, or the head of a loop, whose items are to come."""
     if text.startswith("loop "):
         index, bounds = text[5:].split(" ", 1)
@@ -170,7 +175,7 @@ def item_of(text):
     return "equation", (name, subscripts), expressions_in(text[place + len(" = "):])[0]
 
 
-def typed_of(text):
+def typed_of(text: str) -> tuple[dict, dict[int, Function]]:
     """The tables, and the functions by their numbers, of what `silc_show types` prints."""
     tables, functions, open_items = {}, {}, []
     for line in text.splitlines():
@@ -205,7 +210,7 @@ class FlatElement:
     body: object = None
     initials: dict = field(default_factory=dict)
 
-    def reads(self):
+    def reads(self) -> list[tuple[int, int]]:
         """The elements that it reads, each with the delay."""
         return [part for part in self.body if isinstance(part, tuple)] if isinstance(self.body, list) else []
 
@@ -213,7 +218,7 @@ class FlatElement:
 class Flat:
     """The elements of a program, in the order of `silc_show values`, and those of the output words."""
 
-    def __init__(self, text, names):
+    def __init__(self, text: str, names: str):
         self.tables, self.functions = typed_of(text)
         tops = {int(words[1]): words[2] for words in map(str.split, names.splitlines()) if words[0] == "top"}
         self.names, self.entered, self.elements = tops, {}, []
@@ -225,7 +230,7 @@ class Flat:
         self.inputs = self.own(main, signals, "parameter")
         self.expand(main, signals, self.functions[main].items, {})
 
-    def enter(self, number, instance):
+    def enter(self, number: int, instance: str) -> Signals:
         """Numbers the elements of an instance; gives them by the names of its declarations."""
         signals = {}
         for one in self.functions[number].declared:
@@ -234,11 +239,11 @@ class Flat:
                 self.elements.append(FlatElement(f"{instance}{one.name}{subscripts_of(place, one.dims)}", one.shape))
         return signals
 
-    def own(self, number, signals, kind):
+    def own(self, number: int, signals: Signals, kind: str) -> list[int]:
         """The elements of an instance that are parameters, or results."""
         return [signals[one.name][1] + place for one in self.functions[number].of(kind) for place in range(one.count())]
 
-    def element_at(self, signals, target, indices):
+    def element_at(self, signals: Signals, target: tuple, indices: Indices) -> int:
         """The element of a place, as the dims are counted row by row."""
         (name, subscripts), place = target, 0
         one, first = signals[name]
@@ -246,7 +251,7 @@ class Flat:
             place = place * dim + number_of(subscript, indices)
         return first + place
 
-    def expand(self, number, signals, items, indices):
+    def expand(self, number: int, signals: Signals, items: list, indices: Indices) -> None:
         for kind, *parts in items:
             if kind == "loop":
                 index, low, high, inner = parts
@@ -261,10 +266,10 @@ class Flat:
                 target, body = parts
                 self.elements[self.element_at(signals, target, indices)].body = self.body(signals, body, indices)
 
-    def body(self, signals, parts, indices):
+    def body(self, signals: Signals, parts: list, indices: Indices) -> list:
         return [self.part(signals, part, indices) for part in parts]
 
-    def part(self, signals, part, indices):
+    def part(self, signals: Signals, part: int | Read | Operation, indices: Indices) -> int | tuple[int, int] | Operation:
         """A part of an expression in a turn of the loops."""
         if isinstance(part, int):
             return part
@@ -275,14 +280,14 @@ class Flat:
             return self.element_at(signals, (part.name, part.subscripts), indices), number_of(part.delay, indices)
         return self.word_at(part, indices)
 
-    def word_at(self, read, indices):
+    def word_at(self, read: Read, indices: Indices) -> int:
         """A number of a table."""
         (dims, words), place = self.tables[read.name], 0
         for dim, subscript in zip(dims, read.subscripts):
             place = place * dim + number_of(subscript, indices)
         return words[place]
 
-    def call(self, signals, indices, targets, number, arguments):
+    def call(self, signals: Signals, indices: Indices, targets: list, number: int, arguments: list) -> None:
         """The elements of a call: its parameters are its arguments, and the places of its results read these."""
         name = self.names[number]
         self.entered[name] = self.entered.get(name, 0) + 1
@@ -298,7 +303,7 @@ class Flat:
                 self.elements[to + place].body = [(first + place, 0)]
         self.expand(number, inner, function.items, {})
 
-    def argument(self, signals, one, argument, place, indices):
+    def argument(self, signals: Signals, one: Declared, argument: list, place: int, indices: Indices) -> list:
         """The body of a parameter; of an array that of the element at the same place."""
         if not one.dims:
             return self.body(signals, argument, indices)
@@ -306,7 +311,7 @@ class Flat:
         return [(signals[name][1] + place, 0)] if name in signals else [self.tables[name][1][place]]
 
 
-def subscripts_of(place, dims):
+def subscripts_of(place: int, dims: tuple[int, ...]) -> str:
     made = ""
     for dim in reversed(dims):
         place, subscript = divmod(place, dim)
@@ -314,7 +319,7 @@ def subscripts_of(place, dims):
     return made
 
 
-def flat_of(source):
+def flat_of(source: str) -> Flat:
     """The elements of a source that has no fault."""
     return Flat(*(in_room(source, [], lambda room, what=what: ran("silc_show", what, "source", room=room))
                   for what in ("types", "names")))

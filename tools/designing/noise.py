@@ -66,7 +66,7 @@ class Noise:
             return math.inf
         return 10 * math.log10(self.signal / self.error) if self.signal else -math.inf
 
-    def level(self):
+    def level(self) -> float:
         """The power of the error in decibels of the full scale: of the least word, squared."""
         full = (self.shape.step * -self.shape.least) ** 2
         return 10 * math.log10(self.error / full) if self.error else -math.inf

@@ -3,10 +3,11 @@ to a width, beside those that it has."""
 import re
 import sys
 import time
+from collections.abc import Iterable, Sequence
 
-from designing.flat import flat_of
+from designing.flat import FlatElement, flat_of
 from designing.programs import Unrun, evaluated
-from designing.unbounded import own_run, unbounded_run
+from designing.unbounded import Run, own_run, unbounded_run
 
 WRAPS, SATURATES, FOLLOWS, INSIDE, MEANT = "wraps", "saturates", "follows", "overflows inside", "meant to wrap"
 # As many samples are gone over at a time.
@@ -14,13 +15,13 @@ BLOCK = 4096
 SECONDS_BETWEEN = 5
 
 
-def is_named(name, pattern):
+def is_named(name: str, pattern: str) -> bool:
     """Whether a pattern names an element, or the array that it is in. `*` in it stands for anything."""
     wanted = ".*".join(map(re.escape, pattern.split("*")))
     return re.fullmatch(rf"{wanted}(\[\d+\])*", name) is not None
 
 
-def numbers_named(elements, patterns):
+def numbers_named(elements: Sequence[FlatElement], patterns: Iterable[str]) -> frozenset[int]:
     """The elements that are meant to wrap. `ValueError` tells a pattern that names none."""
     made = set()
     for pattern in patterns:
@@ -37,25 +38,25 @@ class Places:
     def __init__(self):
         self.first, self.count = None, 0
 
-    def add(self, start, places):
+    def add(self, start: int, places: list[int]) -> None:
         if places and self.first is None:
             self.first = start + places[0] + 1
         self.count += len(places)
 
-    def said(self, kind, is_counted):
+    def said(self, kind: str, is_counted: bool) -> str:
         return f"{kind} at sample {self.first}" + (f", {self.count} in all" if is_counted else "")
 
 
 class Tally:
     """What became of an element so far, by its own words and the exact ones."""
 
-    def __init__(self, number, each):
+    def __init__(self, number: int, each: FlatElement):
         self.number, self.name, self.shape, self.reads = number, each.name, each.shape, each.reads()
         self.least = self.greatest = self.own = None
         self.is_changing, self.kind = False, WRAPS
         self.passing, self.inside, self.others, self.meant = Places(), Places(), Places(), Places()
 
-    def add(self, own, exact, start):
+    def add(self, own: Run, exact: Run, start: int) -> None:
         """Adds a block of samples of a run of the program and of one with exact words."""
         words, others = exact.block(self.number), own.block(self.number)
         self.least = min(words) if self.least is None else min(self.least, *words)
@@ -67,7 +68,7 @@ class Tally:
         if before := exact.exact.get(self.number):
             self.meant.add(start, [n for n, word in enumerate(before) if not self.shape.has(word)])
 
-    def differ(self, words, others, own, exact, start):
+    def differ(self, words: list[int], others: list[int], own: Run, exact: Run, start: int) -> None:
         places = [n for n, (word, other) in enumerate(zip(words, others)) if word != other]
         passing = [n for n in places if self.shape and not self.shape.has(words[n])]
         if passing and self.passing.first is None:
@@ -77,17 +78,17 @@ class Tally:
         self.others.add(start, places)
         self.inside.add(start, [n for n in places if self.is_from_itself(own, exact, n)])
 
-    def is_from_itself(self, own, exact, n):
+    def is_from_itself(self, own: Run, exact: Run, n: int) -> bool:
         """Whether all that the element reads for a sample is exact."""
         return all(own.words[read][n + own.before[read] - delay] == exact.words[read][n + exact.before[read] - delay]
                    for read, delay in self.reads)
 
-    def said(self, is_counted):
+    def said(self, is_counted: bool) -> str:
         kinds = {self.kind: self.passing, INSIDE: self.inside, FOLLOWS: self.others, MEANT: self.meant}
         return next((places.said(kind, is_counted or kind is MEANT) for kind, places in kinds.items() if places.count), "")
 
 
-def among_loops(elements):
+def among_loops(elements: Sequence[FlatElement]) -> set[int]:
     """The elements that depend on themselves by some delays, and those on the way from one such loop to another."""
     left = set(range(len(elements)))
     reads = {number: {read for read, _ in each.reads()} for number, each in enumerate(elements)}
@@ -99,7 +100,7 @@ def among_loops(elements):
         left = kept
 
 
-def levels_of(source, rows, patterns):
+def levels_of(source: str, rows: Sequence[tuple[int, ...]], patterns: Iterable[str]) -> tuple[list[Tally], bool]:
     """The tallies of all elements of a program, and whether an overflow may have come back by feedback."""
     put, flat = evaluated(source, rows), flat_of(source)
     elements = flat.elements
@@ -116,7 +117,7 @@ def levels_of(source, rows, patterns):
     return tallies, any(tallies[number].others.count for number in among_loops(elements))
 
 
-def tell(began, start, count):
+def tell(began: float, start: int, count: int) -> float:
     """Says how far it is, where it was not said for some seconds; gives the time of the last that was said."""
     if time.monotonic() < began + SECONDS_BETWEEN:
         return began

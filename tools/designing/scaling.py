@@ -2,6 +2,7 @@
 found by responses in floating point, up to some length; what is said of it is certified from the words that it leaves."""
 import math
 import time
+from collections.abc import Callable
 from dataclasses import dataclass, replace
 from enum import Enum
 from fractions import Fraction
@@ -63,12 +64,12 @@ class Shapes:
         return (self.input if self.is_of_input else self.signal).places + self.coefficient.places
 
     @property
-    def of_products(self):
+    def of_products(self) -> Rounding:
         """How a product is rounded that has no place in the sum."""
         is_down = self.is_one_word() and self.rounding is Rounding.DOWN
         return Rounding.DOWN if is_down else Rounding.NEAREST
 
-    def is_one_word(self):
+    def is_one_word(self) -> bool:
         """Whether a sum is a word of the signals itself, so that nothing is rounded after it."""
         return self.sum == self.signal
 
@@ -87,7 +88,7 @@ class Shapes:
         cut = self.rounding.error() * self.signal.step if self.sum.places > self.signal.places else 0.0
         return cut + (0.0 if self.is_exact() else products * self.of_products.error() * self.sum.step)
 
-    def check(self):
+    def check(self) -> None:
         """Raises what can't be done in these shapes."""
         if self.rounding is Rounding.ZERO and self.is_one_word() and not self.is_exact():
             raise Unscaled(f"--rounding zero is that of a sum which is wider than the signals, and with signals of "
@@ -113,7 +114,7 @@ class Allowance:
     """How many seconds are left in which bounds may be looked for."""
     seconds: float
 
-    def spent_on(self, work):
+    def spent_on(self, work: Callable[[float], Certificate]) -> Certificate:
         """What a work gives that takes a part of them."""
         began = time.monotonic()
         made = work(max(0.0, self.seconds))
@@ -220,7 +221,7 @@ class Cascade:
 
     certificate: Certificate
 
-    def __init__(self, shapes, norm, length, tighter):
+    def __init__(self, shapes: Shapes, norm: Norm, length: int, tighter: list[float]):
         self.shapes, self.norm, self.length, self.tighter = shapes, norm, length, tighter
         full = shapes.input.value(-shapes.input.least)
         self.made, self.used = [], []
@@ -257,18 +258,18 @@ class Cascade:
         """The greatest value that a signal of the next section may have."""
         return self.shapes.limit() / self.tighter[len(self.made)]
 
-    def certify(self, allowance):
+    def certify(self, allowance: Allowance) -> bool:
         """Certifies what the sections use; says whether none passes its range, or where that is not asked for."""
         certify = certified if self.norm is Norm.SUM else certified_rounding
         self.certificate = allowance.spent_on(lambda seconds: certify(self, seconds))
         return self.norm is not Norm.SUM or max(self.certificate.uses) <= 1
 
-    def tightened(self):
+    def tightened(self) -> list[float]:
         """By how much less than their range the sections may use, since these were longer than what was looked at."""
         return [tight * max(1.0, float(use) / own * ROOM) if use > 1 else tight
                 for tight, use, own in zip(self.tighter, self.certificate.uses, self.used)]
 
-    def share(self):
+    def share(self) -> float | Fraction:
         """The share of their range that the signals use at most, by the norm."""
         return max(self.certificate.uses if self.norm is Norm.SUM else self.used)
 
@@ -339,7 +340,7 @@ class Overflowing(Unscaled):
     """The signals need a greater range."""
 
 
-def cascade_of(gain, sections, shapes, norm, form, allowance):
+def cascade_of(gain: float, sections: list[Section], shapes: Shapes, norm: Norm, form: Form, allowance: Allowance) -> Cascade:
     """The sections as words, scaled, over signals of these shapes, with a certificate of what they use."""
     shapes.check()
     if norm is not Norm.NONE and shapes.signal.whole_bits < shapes.input.whole_bits:
@@ -353,7 +354,7 @@ def cascade_of(gain, sections, shapes, norm, form, allowance):
     raise Unscaled(f"no scale was found that keeps the signals in {shapes.signal}")
 
 
-def scaled(gain, sections, cascade, form):
+def scaled(gain: float, sections: list[Section], cascade: Cascade, form: Form) -> Cascade:
     """The cascade with all sections."""
     scaler, rest = Scaler(cascade, form), gain
     for number, section in enumerate(sections, 1):
@@ -410,7 +411,7 @@ def fitting_taps(taps, shapes, norm, is_open):
                    f"{f'{shapes.signal.width} bits' if is_open else shapes.signal}")
 
 
-def size_of(words, shapes, norm):
+def size_of(words: list[int], shapes: Shapes, norm: Norm) -> Fraction:
     """How great the output of taps gets by a norm: by the sum of magnitudes just so much."""
     full = Fraction(shapes.input.value(-shapes.input.least))
     if norm is Norm.NONE:

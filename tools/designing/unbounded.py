@@ -1,6 +1,8 @@
 """The words of a program over samples: as it has them, and as they are where none wraps or saturates, in whole numbers
 without bounds."""
-from designing.flat import Operation
+from collections.abc import Sequence, Set
+
+from designing.flat import FlatElement, Operation
 
 # An expression of a line is at most so deep, since Python has a limit.
 DEEPEST = 40
@@ -12,7 +14,7 @@ BINARY = {"add": "+", "sub": "-", "mul": "*", "lt": "<", "le": "<=", "eq": "==",
 FORMATTED = ("add", "sub", "mul", "neg", "pass")
 
 
-def order_of(elements):
+def order_of(elements: Sequence[FlatElement]) -> list[int]:
     """The elements, each behind those that it reads without a delay."""
     done, made = [False] * len(elements), []
     for start in range(len(elements)):
@@ -30,7 +32,7 @@ def order_of(elements):
     return made
 
 
-def quantised(text, operation, is_bounded):
+def quantised(text: str, operation: Operation, is_bounded: bool) -> str:
     """An exact result without the bits that fall off, and in its width where that is asked for."""
     shift, width = operation.shift, operation.width
     if shift > 0 and "round" in operation.mode:
@@ -40,14 +42,14 @@ def quantised(text, operation, is_bounded):
     return bounded(text, width, "sat" in operation.mode) if is_bounded else text
 
 
-def bounded(text, width, is_saturating):
+def bounded(text: str, width: int, is_saturating: bool) -> str:
     half = 1 << (width - 1)
     if is_saturating:
         return f"max({-half}, min({half - 1}, {text}))"
     return f"(({text} + {half} & {2 * half - 1}) - {half})"
 
 
-def made_of(operation, parts, is_bounded):
+def made_of(operation: Operation, parts: list[str], is_bounded: bool) -> str:
     """What an operation makes of the texts of its parts."""
     if operation.name == "sel":
         return "({1} if {0} else {2})".format(*parts)
@@ -67,7 +69,7 @@ class Writer:
     elements in `bounded_ones` are brought to their widths, as the program does it, in all of their operations; those in
     `told_ones` have their words before that beside them."""
 
-    def __init__(self, elements, bounded_ones, told_ones):
+    def __init__(self, elements: Sequence[FlatElement], bounded_ones: Set[int], told_ones: Set[int]):
         self.elements, self.bounded_ones, self.told_ones = elements, bounded_ones, told_ones
         self.before = [max(each.initials, default=0) for each in elements]
         for each in elements:
@@ -75,7 +77,7 @@ class Writer:
                 self.before[read] = max(self.before[read], delay)
         self.lines = []
 
-    def read(self, part):
+    def read(self, part: int | tuple[int, int]) -> str:
         """The text of a raw word or a read."""
         if isinstance(part, int):
             return f"({part})" if part < 0 else str(part)
@@ -85,7 +87,7 @@ class Writer:
         place = self.before[number] - delay
         return f"h{number}[n + {place}]" if place else f"h{number}[n]"
 
-    def value(self, number, is_bounded):
+    def value(self, number: int, is_bounded: bool) -> str:
         """The text of an element's word, behind lines for what is too deep in it."""
         body, stack = self.elements[number].body, []
         if isinstance(body, int):
@@ -104,7 +106,7 @@ class Writer:
             stack.append((text, depth))
         return stack[0][0]
 
-    def element(self, number):
+    def element(self, number: int) -> None:
         """The lines of an element."""
         each, is_bounded = self.elements[number], number in self.bounded_ones
         if number in self.told_ones:
@@ -117,7 +119,7 @@ class Writer:
             self.lines.append(f"if not {-LARGEST} < v{number} < {LARGEST}: passed({number}, n)")
         self.lines.append(f"a{number}(v{number})")
 
-    def whole(self):
+    def whole(self) -> str:
         for number in order_of(self.elements):
             self.element(number)
         head = [f"h{k} = words[{k}]; a{k} = h{k}.append" for k in range(len(self.elements))]
@@ -130,7 +132,7 @@ class Run:
     """A program on its way over samples. `words` has for each element its last words before a block of samples, as many as
     are read with delays, and then those of the block; `exact` has those before they are brought to a width, by number."""
 
-    def __init__(self, elements, bounded_ones, told_ones=frozenset()):
+    def __init__(self, elements: Sequence[FlatElement], bounded_ones: Set[int], told_ones: Set[int] = frozenset()):
         writer, names = Writer(elements, bounded_ones, told_ones), {}
         exec(compile(writer.whole(), "elements", "exec"), names)
         self.elements, self.function, self.before, self.count = elements, names["run"], writer.before, 0
@@ -138,7 +140,7 @@ class Run:
                       for each, before in zip(elements, self.before)]
         self.exact = {number: [] for number in told_ones}
 
-    def over(self, rows):
+    def over(self, rows: Sequence[Sequence[int]]) -> None:
         """Goes over a block of samples."""
         for words, before in zip(self.words, self.before):
             del words[: len(words) - before]
@@ -147,21 +149,21 @@ class Run:
         self.function(self.words, self.exact, enumerate(rows), self.passed)
         self.count += len(rows)
 
-    def passed(self, number, n):
+    def passed(self, number: int, n: int) -> None:
         name = self.elements[number].name
         raise Passed(f"without a wrap {name} has more than {BITS} bits at sample {self.count + n + 1}; where it is meant to "
                      f"wrap, --wraps {name} says so")
 
-    def block(self, number):
+    def block(self, number: int) -> list[int]:
         """The words of an element over the block."""
         return self.words[number][self.before[number]:]
 
 
-def own_run(elements):
+def own_run(elements: Sequence[FlatElement]) -> Run:
     """The words that a program has."""
     return Run(elements, frozenset(range(len(elements))))
 
 
-def unbounded_run(elements, meant):
+def unbounded_run(elements: Sequence[FlatElement], meant: Set[int]) -> Run:
     """The words of a program of which only the elements in `meant` wrap."""
     return Run(elements, meant, meant)

@@ -1,6 +1,6 @@
 """Sources of filters, as one would write them by hand."""
 from designing.forms import Form
-from designing.scaling import Rounding
+from designing.scaling import Rounding, Shapes
 
 COLUMNS = 100
 FORM_NAMES = {Form.DIRECT: "direct form I", Form.TRANSPOSED: "transposed direct form II",
@@ -58,7 +58,7 @@ def sum_type(shapes):
     return f"fix<{shapes.sum.width},{shapes.sum.places},round>"
 
 
-def brought(shapes):
+def brought(shapes: Shapes) -> str:
     """What happens to a product that has no place in the sum."""
     return "cut" if shapes.of_products is Rounding.DOWN else "rounded"
 
@@ -71,7 +71,7 @@ def said_of_rounding(shapes, products):
     return f"{said} the word" if is_one_word(shapes) else f"{said} rounded once"
 
 
-def said_of_sums(shapes):
+def said_of_sums(shapes: Shapes) -> str:
     if shapes.is_exact():
         return "Each sum is a word" if is_one_word(shapes) else "Each sum is rounded once"
     said = f"Each product is {brought(shapes)} to {shapes.sum.places} bits after the point"
