@@ -48,7 +48,7 @@ def prepare(room):
 
 
 def run(script, inputs, words, **more):
-    given = {"stdin": subprocess.DEVNULL} if "input" not in more else {}
+    given = {} if {"input", "preexec_fn"} & {*more} else {"stdin": subprocess.DEVNULL}
     return subprocess.run([script, *words], cwd=inputs, capture_output=True, text=True, **given, **more)
 
 
@@ -159,6 +159,65 @@ def stream_faults(script, inputs):
         log.unlink()
 
 
+def descriptor_faults(script, inputs):
+    """A standard input that is closed is an empty one, and a descriptor of the user's goes through."""
+    done = run(script, inputs, ["eval", "SRC", "SAMPLES", "/dev/stdout"], preexec_fn=lambda: os.close(0))
+    if (done.returncode, done.stdout, done.stderr) != (0, "2\n3\n", ""):
+        yield f"without a standard input: {done.returncode} {done.stdout!r} {done.stderr!r}"
+    with open(inputs / "SAMPLES") as samples:
+        done = run(script, inputs, ["eval", "SRC", "/dev/fd/3", "/dev/stdout"], preexec_fn=lambda: as_third(samples),
+                   close_fds=False)
+    if (done.returncode, done.stdout, done.stderr) != (0, "2\n3\n", ""):
+        yield f"samples by a descriptor: {done.returncode} {done.stdout!r} {done.stderr!r}"
+
+
+def as_third(file):
+    os.dup2(file.fileno(), 3)
+    os.set_inheritable(3, True)
+
+
+def name_faults(script, inputs):
+    """A blank line at the end of OUT's name is of the name; and no word is told as strange where nothing can tell."""
+    (inputs / "kept").write_text("before\n")
+    done = run(script, inputs, ["eval", "SRC", "SAMPLES", "kept\n"])
+    if done.returncode or (inputs / "kept").read_text() != "before\n" or (inputs / "kept\n").read_text() != "2\n3\n":
+        yield f"a name that ends with a blank line: {done.returncode} {done.stderr!r}"
+    for name in ("kept", "kept\n"):
+        (inputs / name).unlink(missing_ok=True)
+    with tempfile.TemporaryDirectory() as folder:
+        for name in ("sh", "find", "readlink", "rm"):
+            Path(folder, name).symlink_to(shutil.which(name))
+        done = run(script, inputs, ["eval", "SRC"], env=os.environ | {"PATH": folder})
+    if (done.returncode, done.stderr) != (2, "silc: bad command words\n"):
+        yield f"without iconv: {done.returncode} {done.stderr!r}"
+
+
+def right_faults(script, inputs):
+    """What is said and done without the rights of root, in a folder of one's own and in one such as /tmp."""
+    lead = ["setpriv", "--reuid=65534", "--regid=65534", "--clear-groups"]
+    if os.geteuid() != 0 or not shutil.which(lead[0]):
+        return
+    for path in (inputs, *inputs.parents):
+        if path != Path(tempfile.gettempdir()) and path != Path("/"):
+            path.chmod(0o755)
+    for what, mode, owner, rights, status, said, rows in (
+            ("a file that may not be written", 0o755, 65534, 0o444, 3, "silc: file fault\nsilc: {out}: it may not be written\n",
+             "before\n"),
+            ("another's file in a folder for all", 0o1777, 0, 0o666, 0, "", "2\n3\n")):
+        folder = inputs / "folder"
+        folder.mkdir()
+        out = folder / "OUT"
+        out.write_text("before\n")
+        for path, own in ((folder, mode), (out, rights)):
+            os.chown(path, owner, owner)
+            path.chmod(own)
+        done = subprocess.run([*lead, script, "eval", "SRC", "SAMPLES", out], cwd=inputs, stdin=subprocess.DEVNULL,
+                              capture_output=True, text=True)
+        if (done.returncode, done.stderr, out.read_text()) != (status, said.format(out=out), rows):
+            yield f"{what}: {done.returncode} {done.stderr!r}, {out.read_text()!r}"
+        shutil.rmtree(folder)
+
+
 def stop_faults(script, inputs):
     """A run that is stopped leaves OUT as it was, and its rows under a name that it tells."""
     out, pipe = inputs / "OUT", inputs / "pipe"
@@ -196,6 +255,12 @@ def telling_faults(script, inputs):
         lines = done.stderr.decode(errors="surrogateescape").splitlines()
         if done.returncode != status or len(lines) != 2 or lines[1] != wanted:
             yield f"{words}: {done.returncode} {lines}"
+    if os.path.exists("/dev/full"):
+        with open("/dev/full", "w") as full:
+            done = subprocess.run([script, "demo", "1", "3"], cwd=inputs, stdin=subprocess.DEVNULL, stdout=full,
+                                  stderr=subprocess.PIPE, text=True)
+        if (done.returncode, done.stderr) != (3, "silc: file fault\n"):
+            yield f"words that are no files: {done.returncode} {done.stderr!r}"
     (inputs / "TWICE").unlink()
     (inputs / "OUT").unlink(missing_ok=True)
     for words, status in (([], 2), (["-h"], 0), (["help"], 0), (["--help"], 0)):
@@ -210,7 +275,8 @@ def main():
         return 1
     with tempfile.TemporaryDirectory(prefix="silc-script-") as folder:
         script, inputs = prepare(Path(folder))
-        checks = (guard_faults, whole_faults, stream_faults, stop_faults, telling_faults, terminal_faults)
+        checks = (guard_faults, whole_faults, stream_faults, descriptor_faults, name_faults, right_faults, stop_faults,
+                  telling_faults, terminal_faults)
         faults = [fault for check in checks for fault in check(script, inputs)]
     for fault in faults:
         print(fault)
