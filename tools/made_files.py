@@ -31,7 +31,8 @@ class NotMade(ValueError):
 
 def record_file():
     """Where the sums are of what tools made."""
-    states = os.environ.get("XDG_STATE_HOME") or os.path.join(os.path.expanduser("~"), ".local", "state")
+    states = os.environ.get("XDG_STATE_HOME", "")
+    states = states if os.path.isabs(states) else os.path.join(os.path.expanduser("~"), ".local", "state")
     return Path(states) / "silc" / "made"
 
 
@@ -50,7 +51,8 @@ def record(file):
     try:
         sums.parent.mkdir(parents=True, exist_ok=True)
         if sums.exists() and sums.stat().st_size > CUT_AT:
-            put_whole(sums, "".join(f"{line}\n" for line in sums.read_text().splitlines()[-MOST_SUMS:]).encode())
+            newest = sums.read_text("ascii", "replace").splitlines()[-MOST_SUMS:]
+            put_whole(sums, "".join(f"{line}\n" for line in newest).encode())
         with open(sums, "a", encoding="ascii") as rows:
             rows.write(f"{sum_of(file)}\n")
     except OSError:
@@ -60,17 +62,17 @@ def record(file):
 def is_recorded(file):
     """Whether a tool made this file, and nobody changed it since."""
     try:
-        with open(record_file(), encoding="ascii") as rows:
+        with open(record_file(), encoding="ascii", errors="replace") as rows:
             wanted = sum_of(file)
             return any(row.rstrip("\n") == wanted for row in rows)
-    except (OSError, UnicodeDecodeError):
+    except OSError:
         return False
 
 
 @contextmanager
 def whole(target):
     """A file under a name of its own beside the target, which takes the target's place where all went well."""
-    made = tempfile.NamedTemporaryFile(dir=target.parent, prefix=f".{target.name[:100]}.", suffix=".part", delete=False)
+    made = tempfile.NamedTemporaryFile(dir=target.parent, prefix=f".{target.name[:40]}.", suffix=".part", delete=False)
     try:
         with made:
             yield made
