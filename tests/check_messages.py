@@ -138,6 +138,8 @@ def wrong_messages(client: Client):
             ("a length that is none", b"Content-Length: five\r\n\r\n{\"id\": 1}", -32700),
             ("a header without a length", b"Content-Type: text\r\n\r\n", -32700),
             ("a length that is too great", b"Content-Length: 99999999999\r\n\r\n", -32700),
+            ("a length of many digits", b"Content-Length: " + b"9" * 5000 + b"\r\n\r\n", -32700),
+            ("nothing as a body", b"Content-Length: 4\r\n\r\nnull", -32700),
             ("a list", b"Content-Length: 2\r\n\r\n[]", -32600)):
         client.bytes(data)
         yield name, code(client.wait(lambda one: code(one) is not None)[1]), expected

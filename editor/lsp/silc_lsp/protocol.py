@@ -8,7 +8,7 @@ from typing import BinaryIO
 PARSE_ERROR, INVALID_REQUEST, METHOD_NOT_FOUND, INVALID_PARAMS, INTERNAL_ERROR = -32700, -32600, -32601, -32602, -32603
 REQUEST_FAILED = -32803
 # The length of a message may stand behind the rest of a message whose own header was bad.
-LENGTH = re.compile(rb"content-length:[ \t]*(\d+)[ \t]*\r?\n?$", re.I)
+LENGTH = re.compile(rb"content-length:[ \t]*(\d{1,18})[ \t]*\r?\n?$", re.I)
 MOST_BYTES = 1 << 26
 CHANGE = "textDocument/didChange"
 
@@ -35,6 +35,9 @@ class Connection:
             message = json.loads(body)
         except (ValueError, RecursionError) as fault:
             raise BadMessage(f"a message is no JSON: {fault}") from fault
+        # Nothing is the end of the stream.
+        if message is None:
+            raise BadMessage("a message is an object")
         return message
 
     def length(self) -> int | None:
@@ -94,7 +97,7 @@ class Inbox:
 
 def changed(message) -> str | None:
     """The document that a message changes, or nothing."""
-    if not isinstance(message, dict) or message.get("method") != CHANGE:
+    if not isinstance(message, dict) or message.get("method") != CHANGE or "id" in message:
         return None
     params = message.get("params")
     document = params.get("textDocument") if isinstance(params, dict) else None
