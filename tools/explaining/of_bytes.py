@@ -58,14 +58,24 @@ def question_mark(text, at):
     """The report on a choice `condition ? value : other`, which is written as a choice of this language where it is simple."""
     short, cure, section = CURES["?"]
     line = text.starts[text.line_of(at) - 1]
-    before = re.search(r"(?<![=<>!])=(?!=)\s*([^?;:]+)$", text.chars[line:at])
+    before = re.search(r"(?<![=<>!])=(?!=)\s*((?:[^?;:=<>!]|[=<>!]=|[<>!])+)$", text.chars[line:at])
     after = re.match(r"\?([^?;:]+):([^?;:]+);", text.chars[at:])
-    if not (before and after):
+    if not (before and after and all(map(is_balanced, (before[1], after[1], after[2])))):
         return Report(short, cure, language(section), text.span(at))
     condition, value, other = (" ".join(part.split()) for part in (before[1], after[1], after[2]))
     written = f"if {condition} -> {value} || {other} fi"
     return Report(short, f"write `{written}`.", language(section), text.span(at)) \
         .by(text.edit(line + before.start(1), at + after.end() - 1, written))
+
+
+def is_balanced(part):
+    """Whether a part of an expression closes what it opens, and nothing else."""
+    depth = 0
+    for char in part:
+        depth += (char in "([") - (char in ")]")
+        if depth < 0:
+            return False
+    return depth == 0
 
 
 def line_comment(text, at, mark, short):
