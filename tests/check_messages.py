@@ -210,8 +210,29 @@ def questions(client: Client, uri: str):
         doubtful.replace("x@1;", "x@1; /* wraps */")]
 
 
+def in_the_midst(client: Client, room: Path):
+    """A document that is closed before it is looked at, and one whose cures are asked for directly after a change."""
+    uri, other = (room / "closed.sil").as_uri(), (room / "asked.sil").as_uri()
+    first = len(client.told)
+    client.open(uri, f"{WORD} begin y = z; end;")
+    client.tell("textDocument/didClose", textDocument={"uri": uri})
+    client.open(other, FAULTS)
+    client.marks(other)
+    marks = [message["params"]["diagnostics"] for _, message in client.told[first:]
+             if message.get("method") == DIAGNOSTICS and message["params"]["uri"] == uri]
+    yield "closed before it is looked at", marks[-1:], [[]]
+    text = f"{WORD} begin y = x end;"
+    client.change(other, text, 2)
+    at = place(text, " end")
+    actions = client.ask("textDocument/codeAction", textDocument={"uri": other}, range={"start": at, "end": at}, context={})
+    yield "the cure of the newest", [edited(text, one["edit"]["changes"][other]) for one in actions], [
+        text.replace("x end", "x; end")]
+
+
 def datapaths(client: Client, room: Path):
     """The fault of a datapath file that a source names, saved or open, and of one that is open by itself."""
+    room = room / "a b"
+    room.mkdir()
     file, other = room / "some.toml", room / "other.toml"
     uri, source, alone = file.as_uri(), (room / "named.sil").as_uri(), other.as_uri()
     file.write_text(DATAPATH)
@@ -234,7 +255,7 @@ def main():
         client = Client()
         client.ask("initialize", capabilities={})
         for part in (wrong_messages(client), many_changes(client, (room / "many.sil").as_uri()),
-                     questions(client, (room / "some.sil").as_uri()), datapaths(client, room)):
+                     questions(client, (room / "some.sil").as_uri()), in_the_midst(client, room), datapaths(client, room)):
             answers += part
         client.ask("shutdown")
         client.tell("exit")

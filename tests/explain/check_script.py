@@ -201,8 +201,8 @@ def right_faults(script, inputs):
         if path != Path(tempfile.gettempdir()) and path != Path("/"):
             path.chmod(0o755)
     for what, mode, owner, rights, status, said, rows in (
-            ("a file that may not be written", 0o755, 65534, 0o444, 3, "silc: file fault\nsilc: {out}: it may not be written\n",
-             "before\n"),
+            ("a file that may not be written", 0o755, 65534, 0o444, 3,
+             "silc: file fault\nsilc: {out}: it may not be written\n", "before\n"),
             ("another's file in a folder for all", 0o1777, 0, 0o666, 0, "", "2\n3\n")):
         folder = inputs / "folder"
         folder.mkdir()
