@@ -261,6 +261,9 @@ def telling_faults(script, inputs):
                                   stderr=subprocess.PIPE, text=True)
         if (done.returncode, done.stderr) != (3, "silc: file fault\n"):
             yield f"words that are no files: {done.returncode} {done.stderr!r}"
+    done = run(script, inputs, ["sim", "TWICE", "SAMPLES", "/dev/stdout"], preexec_fn=no_room)
+    if done.returncode != 12 or not done.stderr.startswith("silc: refused with 12: "):
+        yield f"no room for the line of a refusal: {done.returncode} {done.stderr!r}"
     (inputs / "TWICE").unlink()
     (inputs / "OUT").unlink(missing_ok=True)
     for words, status in (([], 2), (["-h"], 0), (["help"], 0), (["--help"], 0)):
