@@ -140,15 +140,22 @@ class MadeFiles:
         return self.is_forced or is_recorded(name)
 
     def check(self, name):
-        """Raises `NotMade` where an output is an input, another output or a folder."""
+        """Raises `NotMade` where an output is an input, another output, a folder or a file that nobody may write."""
         if os.path.isdir(name):
             raise NotMade(f"{name} is a folder")
         for other in filter(os.path.exists, self.inputs):
             if os.path.exists(name) and os.path.samefile(other, name):
                 raise NotMade(f"{name} is the input {other}" + ("" if os.fspath(name) == other else " by another name"))
+        if os.path.exists(name) and not may_be_written(name):
+            raise NotMade(f"{name} may not be written")
         first = self.outputs.setdefault(os.path.realpath(name), os.fspath(name))
         if first != os.fspath(name):
             raise NotMade(f"{name} and {first} are one output")
+
+
+def may_be_written(name):
+    """Whether a file is one to write to: not one from which the right was taken, whoever this is."""
+    return os.access(name, os.W_OK) and os.stat(name).st_mode & 0o222 != 0
 
 
 def is_other(fault, target):

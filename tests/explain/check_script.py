@@ -148,7 +148,7 @@ def stream_faults(script, inputs):
     done = run(script, inputs, ["eval", "SRC", "/dev/stdin", "/dev/stdout"], input="5\n")
     if (done.returncode, done.stdout) != (0, "6\n"):
         yield f"rows through a pipe: {done.returncode} {done.stdout!r} {done.stderr!r}"
-    for name in ("/dev/fd/1", "/dev/stderr", "/proc/self/fd/1"):
+    for name in ("/dev/fd/1", "/dev/stderr", "/proc/self/fd/1", "//dev/fd/1", "/dev/./fd/2", "log"):
         log = inputs / "log"
         log.write_text("before\n")
         with open(log, "a") as end:

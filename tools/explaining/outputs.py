@@ -1,6 +1,7 @@
-"""Commands whose OUT is one of their inputs by another name, as `./silc` refuses them."""
+"""Commands whose OUT is one of their inputs by another name, or a log of their own, as `./silc` refuses them."""
 import os
 import sys
+from contextlib import suppress
 
 COMMANDS = {"compile": ("SRC", "DP", "OUT"), "schedule": ("SRC", "DP"), "sim": ("MIC", "SAMPLES", "OUT"),
             "eval": ("SRC", "SAMPLES", "OUT"), "run": ("SRC", "DP", "SAMPLES", "OUT"), "list": ("MIC",), "demo": ("K", "N")}
@@ -24,13 +25,28 @@ def same_input(files):
     return None
 
 
+def own_stream(out):
+    """Whether OUT is a file that a standard stream of this process writes to, but by the name by which the program goes on in
+    it: it would be opened anew, and emptied."""
+    if out is None or out == "/dev/stdout" or not os.path.isfile(out):
+        return False
+    for number in (1, 2):
+        with suppress(OSError):
+            if os.path.samestat(os.stat(out), os.fstat(number)):
+                return True
+    return False
+
+
 def guarded(words):
-    """The status and the line for a command that would write over an input of its own; nothing for any other."""
-    files = named(words)
-    name = same_input(files) if files else None
-    if name is None:
+    """The status and the line for a command that would write over an input of its own, or a log; nothing for any other."""
+    files = named(words) or {}
+    name, out = same_input(files), files.get("OUT")
+    if name is not None:
+        line = f"silc: {out} is the input {name} by another name\n"
+    elif own_stream(out):
+        line = f"silc: {out} would be opened anew, and the file behind it emptied; name another file, or /dev/stdout\n"
+    else:
         return None
-    line = f"silc: {files['OUT']} is the input {name} by another name\n"
     sys.stderr.write(line)
     sys.stderr.flush()
     return BAD_WORDS, line
