@@ -19,7 +19,7 @@ HERE = Path(__file__).resolve().parent
 ROOT = HERE.parent.parent
 sys.path[:0] = [str(ROOT / "tools"), str(ROOT / "bench"), str(ROOT / "tests" / "hardware")]
 import micro_file  # noqa: E402
-from micro_file.image import KINDS  # noqa: E402
+from micro_file.operations import KINDS  # noqa: E402
 from images import directed_images, random_images  # noqa: E402
 from microcode import busy, crowded, image, issue, unit, verbose, wide, word  # noqa: E402
 

@@ -3,7 +3,8 @@ from dataclasses import dataclass, field
 
 import micro_file
 from fuzzing.expressions import BOOL, MODES, Type
-from micro_file.image import FORMATTED, KINDS, OF_KIND, PORTS, RAW, reads
+from micro_file.image import RAW
+from micro_file.operations import FORMATTED, KINDS, OF_KIND, PORTS, reads
 
 
 @dataclass

@@ -3,7 +3,7 @@ import re
 import tomllib
 
 import micro_file
-from micro_file.image import KIND_OF, PORTS, WITH_ARGUMENT
+from micro_file.operations import KIND_OF, PORTS, WITH_ARGUMENT
 
 HEAD = re.compile(r"period (\d+) unroll (\d+) nodes (\d+)")
 NODE = re.compile(r"node (\d+) cycle (\d+) unit (\w+) op (\w+)((?: -?\d+(?:@\d+)?)*)"

@@ -1,7 +1,8 @@
 """The columns of the microprogram: what each field of a row says, and its value for each cycle of the circle."""
 from dataclasses import dataclass
 
-from micro_file.image import OPCODE, ROUNDING, SATURATING, SHIFTS
+from micro_file.image import ROUNDING, SATURATING, SHIFTS
+from micro_file.operations import OPCODE
 
 from .words import index_bits
 

@@ -3,7 +3,8 @@
 Names: i_J the held input word J, l_J the output latch J, u_UNIT a unit's result, f_UNIT_PORT the register that a port reads,
 n_UNIT_PORT the one that it reads in the next cycle, b_BUS a bus, cu_, cf_ and cb_ the columns of a unit, a file and a bus.
 """
-from micro_file.image import OPCODE, ROUNDING, SATURATING, TRUTHS
+from micro_file.image import ROUNDING, SATURATING
+from micro_file.operations import OPCODE, TRUTHS
 
 from .columns import stages
 from .words import Range, index_bits

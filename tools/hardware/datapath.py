@@ -3,7 +3,7 @@ import re
 import tomllib
 from dataclasses import dataclass
 
-from micro_file.image import PORTS
+from micro_file.operations import PORTS
 
 from .shape import NoCore
 

@@ -4,11 +4,7 @@ There are two ways to it: what one image needs, or what any image over a datapat
 """
 from dataclasses import dataclass, field
 
-from micro_file.image import FORMATTED, TRUTHS
-
 from .words import TRUTH, Range, index_bits, of_width, of_words
-
-NUMBERED_BY_OPCODE = FORMATTED[:4] + TRUTHS
 
 
 class NoCore(Exception):

@@ -2,32 +2,15 @@
 from dataclasses import dataclass, field
 from typing import NamedTuple
 
-MAGIC, VERSIONS = b"SILM", (1, 2)
-KINDS = ("in", "out", "rom", "alu", "mul", "sel", "ram", "acu")
-PORTS = {"in": 0, "out": 1, "rom": 0, "alu": 2, "mul": 2, "sel": 3, "ram": 2, "acu": 0}
-OPERATIONS = ("input", "output", "const", "add", "sub", "neg", "pass", "lt", "le", "eq", "ne", "and", "or", "not",
-              "mul", "sel", "load", "store", "addr")
-OPCODE = {name: number for number, name in enumerate(OPERATIONS)}
-FORMATTED = ("add", "sub", "neg", "pass", "mul")
-TRUTHS = ("lt", "le", "eq", "ne", "and", "or", "not")
-WITHOUT_RESULT = ("output", "store")
-OF_KIND = {"in": ("input",), "out": ("output",), "rom": ("const",), "alu": (*FORMATTED[:4], *TRUTHS), "mul": ("mul",),
-           "sel": ("sel",), "ram": ("load", "store"), "acu": ("addr",)}
-KIND_OF = {operation: kind for kind, operations in OF_KIND.items() for operation in operations}
-ONE_OPERAND = ("neg", "pass", "not", "load")
-WITH_ARGUMENT = ("input", "output", "const", "addr")
+from .operations import WITH_ARGUMENT, WITHOUT_RESULT, reads
 
+MAGIC, VERSIONS = b"SILM", (1, 2)
 MOST_PERIOD, UNROLLS, MOST_WORDS, MOST_WIDTH = 4096, (1, 2, 4), 16, 40
 MOST_UNITS, MOST_BUSES, MOST_LATENCY, MOST_REGISTERS, MOST_CELLS = 32, 32, 8, 256, 65536
 MOST_MOVES, MOST_OFFSET = 1024, 65535
 SHIFTS, MODES = (-40, 80), ("trunc", "round", "sat", "round,sat")
 ROUNDING, SATURATING = ("round", "round,sat"), ("sat", "round,sat")
 RAW = (-(1 << 39), (1 << 39) - 1)
-
-
-def reads(operation):
-    """How many operands an operation reads: those of the first ports of its unit."""
-    return 1 if operation in ONE_OPERAND else PORTS[KIND_OF[operation]]
 
 
 class Format(NamedTuple):

@@ -1,8 +1,8 @@
 """Version 1 of the microcode file: fields of whole bytes, and a count before each list."""
 from .bits import Field
-from .image import (FORMATTED, KINDS, MODES, MOST_BUSES, MOST_CELLS, MOST_LATENCY, MOST_MOVES, MOST_PERIOD,
-                    MOST_REGISTERS, MOST_UNITS, MOST_WIDTH, MOST_WORDS, OF_KIND, OPCODE, OPERATIONS, PORTS, RAW, SHIFTS,
-                    UNROLLS, Format, Image, Issue, Take, Unit, Word, argument_range, reads)
+from .image import (MODES, MOST_BUSES, MOST_CELLS, MOST_LATENCY, MOST_MOVES, MOST_PERIOD, MOST_REGISTERS, MOST_UNITS,
+                    MOST_WIDTH, MOST_WORDS, RAW, SHIFTS, UNROLLS, Format, Image, Issue, Take, Unit, Word, argument_range)
+from .operations import FORMATTED, KINDS, OF_KIND, OPCODE, OPERATIONS, PORTS, reads
 
 BYTE, TWO, FOUR, EIGHT = 8, 16, 32, 64
 RAM = "the number of a ram"

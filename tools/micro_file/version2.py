@@ -1,10 +1,10 @@
 """Version 2 of the microcode file: fields of as many bits as they need, and a flag before what may be left out."""
 from .bits import Field
-from .image import (FORMATTED, KINDS, MODES, MOST_MOVES, MOST_WIDTH, OF_KIND, PORTS, SHIFTS, UNROLLS, Format, Image,
-                    Issue, Take, Unit, Word, argument_range, reads)
+from .image import (MODES, MOST_MOVES, MOST_WIDTH, SHIFTS, UNROLLS, Format, Image, Issue, Take, Unit, Word,
+                    argument_range)
+from .operations import FORMATTED, KINDS, OF_KIND, PORTS, number_bits, number_of, reads
 
 RAW_BITS = 40
-OPERATION_BITS = {"alu": 4, "ram": 1}
 ARGUMENT_BITS = {"input": 4, "output": 4, "const": RAW_BITS, "addr": 16}
 RAM = "the number of a ram"
 
@@ -82,7 +82,7 @@ def read_word(reader, image, where):
 def read_issue(reader, image, number, unit, where):
     names = OF_KIND[unit.kind]
     what = f"of the issue of unit {number} {where}"
-    operation = names[reader.number(OPERATION_BITS.get(unit.kind, 0), f"the operation {what}", 0, len(names) - 1)]
+    operation = names[reader.number(number_bits(unit.kind), f"the operation {what}", 0, len(names) - 1)]
     form = read_format(reader, what) if operation in FORMATTED else None
     argument = read_argument(reader, image, operation, what)
     count = reads(operation)
@@ -171,7 +171,7 @@ def write_word(put, image, word):
 
 
 def write_issue(put, unit, issue):
-    put(OPERATION_BITS.get(unit.kind, 0), OF_KIND[unit.kind].index(issue.operation))
+    put(number_bits(unit.kind), number_of(issue.operation))
     if issue.format:
         put(7, issue.format.shift - SHIFTS[0])
         put(2, MODES.index(issue.format.mode))

@@ -4,7 +4,8 @@ from dataclasses import dataclass, field
 from typing import TextIO
 
 from hardware.datapath import Names
-from micro_file.image import OPCODE, Image
+from micro_file.image import Image
+from micro_file.operations import OPCODE
 from tracing.signals import WORD_BITS, Signal, Signals, first_value
 from tracing.trace import BECOMES, Cycle, Layout
 
