@@ -1,0 +1,133 @@
+#!/usr/bin/env python3
+"""Whether a listing of `tools/assemble` and the microcode that it makes of one are each other's inverse.
+
+usage: tests/assemble/check_assemble.py [--silc PROGRAM]
+
+It takes the microcode of all examples on each of their datapaths, the microcode files of tests/, and random images, with
+structural conflicts in some. In both versions the microcode of the listing is the file that was listed, byte for byte, and
+the listing of that microcode is the same text. Of the examples and of tests/ `silc list` prints the listing's own lines, from
+`period` on. The sum of docs/MICROCODE.md is assembled, run, and compared with rows by hand. What needs `silc`, where that is
+not built, is skipped with 77. The last line is 'N passed, M failed'.
+"""
+import os
+import random
+import subprocess
+import sys
+import tempfile
+from pathlib import Path
+
+HERE = Path(__file__).resolve().parent
+ROOT = HERE.parent.parent
+sys.path[:0] = [str(ROOT / "tools")]
+import micro_file  # noqa: E402
+from fuzzing.images import Image  # noqa: E402
+from micro_file.listing import image_of_listing, listing_of  # noqa: E402
+
+TOOL, PAGE = ROOT / "tools" / "assemble", ROOT / "docs" / "MICROCODE.md"
+SILC = ROOT / "crates" / "silc_main" / "out" / "silc_main"
+RANDOM, SKIPPED = 120, 77
+# y = y@1 + x by hand, clipped to -128 .. 127, from 5 on.
+SAMPLES = [10, 20, 100, -7, -128, -127, -1, 127]
+SUMS = [15, 35, 127, 120, -8, -128, -128, -1]
+
+
+class Wrong(Exception):
+    """What is otherwise than it has to be."""
+
+
+def said(folder: Path, *words) -> str:
+    """What a program prints, which is done without a word on standard error."""
+    done = subprocess.run([*map(str, words)], cwd=folder, stdin=subprocess.DEVNULL, capture_output=True, text=True,
+                          env=os.environ | {"XDG_STATE_HOME": str(folder / "states")})
+    if done.returncode or done.stderr:
+        raise Wrong(f"{Path(words[0]).name} {' '.join(map(str, words[1:]))} ended with {done.returncode}: {done.stderr}")
+    return done.stdout
+
+
+def check_image(data: bytes):
+    """In each version the microcode of the listing is that of the image, and its listing the same text."""
+    image = micro_file.image_of(data)
+    text = listing_of(image)
+    again = image_of_listing(text)
+    if listing_of(again) != text:
+        raise Wrong("the listing of what is assembled is another")
+    for version in micro_file.VERSIONS:
+        if micro_file.bytes_of(again, version) != micro_file.bytes_of(image, version):
+            raise Wrong(f"in version {version} the microcode of the listing is another")
+
+
+def check_file(silc: Path, folder: Path, file: Path):
+    """The same through the tool, and `silc list` prints the end of the listing."""
+    data = file.read_bytes()
+    check_image(data)
+    text = said(folder, TOOL, "--listing", file)
+    (folder / "listing").write_text(text)
+    said(folder, TOOL, "listing", "made.mic", "--version", data[4])
+    if (folder / "made.mic").read_bytes() != data:
+        raise Wrong("the microcode of the listing is another")
+    if text[text.index("period "):] != said(folder, silc, "list", "made.mic"):
+        raise Wrong("`silc list` prints other lines")
+
+
+def check_example(silc: Path, folder: Path, datapath: Path):
+    said(folder, silc, "compile", next(datapath.parent.glob("*.sil")), datapath, "example.mic")
+    check_file(silc, folder, folder / "example.mic")
+
+
+def check_random(seed: int):
+    image = Image(random.Random(seed))
+    if seed % 3 == 0:
+        image.spoil()
+    check_image(micro_file.bytes_of(image.finished()))
+
+
+def check_by_hand(silc: Path, folder: Path):
+    """The listing on the page is assembled and run."""
+    block = PAGE.read_text().partition("## Written by hand")[2].partition("```\n")[2].partition("```")[0]
+    if block != (HERE / "sum.listing").read_text():
+        raise Wrong("docs/MICROCODE.md shows another listing than tests/assemble/sum.listing")
+    (folder / "sum.listing").write_text(block)
+    (folder / "samples").write_text("".join(f"{word}\n" for word in SAMPLES))
+    for version in micro_file.VERSIONS:
+        said(folder, TOOL, "sum.listing", "sum.mic", "--version", version)
+        said(folder, silc, "sim", "sum.mic", "samples", "rows")
+        if (folder / "rows").read_text() != "".join(f"{word}\n" for word in SUMS):
+            raise Wrong("the rows are others")
+
+
+def checks(silc: Path):
+    """Each check by its name, and whether it needs `silc`."""
+    yield "the sum by hand", True, lambda folder: check_by_hand(silc, folder)
+    for seed in range(RANDOM):
+        yield f"random {seed}", False, lambda _, seed=seed: check_random(seed)
+    for file in sorted((ROOT / "tests").glob("*/*.mic")):
+        yield str(file.relative_to(ROOT)), True, lambda folder, file=file: check_file(silc, folder, file)
+    for datapath in sorted((ROOT / "examples").glob("*/*.toml")):
+        yield str(datapath.relative_to(ROOT)), True, lambda folder, one=datapath: check_example(silc, folder, one)
+
+
+def main(words: list) -> int:
+    if words and (len(words) != 2 or words[0] != "--silc"):
+        print(__doc__, file=sys.stderr)
+        return 2
+    silc = Path(words[1] if words else os.environ.get("SILC", SILC)).resolve()
+    is_built = os.access(silc, os.X_OK)
+    passed = failed = 0
+    for name, needs_silc, check in checks(silc):
+        if needs_silc and not is_built:
+            continue
+        with tempfile.TemporaryDirectory(prefix="silc-assemble-") as folder:
+            try:
+                check(Path(folder))
+                passed += 1
+            except (Wrong, micro_file.listing.BadListing) as why:
+                failed += 1
+                print(f"{name}: {why}", flush=True)
+    if not is_built:
+        print(f"check_assemble: skipped: there is no program {silc}; `tools/build silc_main` builds it")
+    print(f"{passed} passed, {failed} failed")
+    return 1 if failed or not passed else 0 if is_built else SKIPPED
+
+
+if __name__ == "__main__":
+    sys.exit(main(sys.argv[1:]))
