@@ -118,6 +118,17 @@ class MadeFiles:
         with self.opened(name, is_same=lambda: holds(name, content)) as file:
             file.write(content)
 
+    def write_folder(self, folder, contents):
+        """Makes the files of a folder by their names, and the folder: none of them, where one may not be written."""
+        names = {os.path.join(folder, name): content.encode() if isinstance(content, str) else content
+                 for name, content in contents.items()}
+        for name, content in names.items():
+            if not (os.path.isfile(name) and holds(name, content)):
+                self.look_at(name)
+        os.makedirs(folder, exist_ok=True)
+        for name, content in names.items():
+            self.write(name, content)
+
     @contextmanager
     def opened(self, name, is_same=lambda: False):
         """A file of bytes that is there, under its name, once the block is left without a fault."""
