@@ -57,6 +57,9 @@ def text_of(rows):
 def answer(bench, folder, **options):
     """The rows that a bench prints, those before and after a reset apart, and the cycle of a fault."""
     said = ran([*bench, *(f"+{key}={value}" for key, value in options.items())], folder).splitlines()
+    warnings = [line for line in said if "warning" in line.lower()]
+    if warnings:
+        raise Fault(f"the simulator says {warnings[0]}")
     runs, fault = [[]], None
     for line in said:
         word, _, rest = line.partition(" ")

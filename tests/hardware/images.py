@@ -10,6 +10,8 @@ from pathlib import Path
 sys.path.insert(0, str(Path(__file__).resolve().parent.parent.parent / "bench"))
 from microcode import FORMATTED, PORTS, image, issue, unit, word  # noqa: E402
 
+from micro_file import image_of  # noqa: E402
+
 SEED = 41
 OF_KIND = {"in": ["input"], "out": ["output"], "rom": ["const"], "mul": ["mul"], "sel": ["sel"], "ram": ["load", "store"],
            "acu": ["addr"], "alu": "add sub neg pass lt le eq ne and or not".split()}
@@ -176,6 +178,7 @@ def broken_images(count):
 
 
 EMPTY = word()
+FEW, TRUTHS = [[number] for number in (0, 1, 2, 1, 3, 0, 7, -1, 5)], [[number] for number in (0, 1, 1, 0)]
 RAMP = [[number] for number in (5, -7, 100, -128, 127, 0, 1, -1, 64, 33)]
 
 
@@ -279,6 +282,31 @@ def stray_address(cycle):
     return program(4, units, [word(*one) for one in words]), [[0], [1], [0], [5], [1], [0]]
 
 
+def load_and_store(first, cells, operation, inputs=(8,), latency=1):
+    """The input is an output, and the address of a load or a store whose memory gives nothing. Its file starts with `first`."""
+    units = [unit("in"), unit("ram", latency, files=[[first], [0]], cells=cells), unit("out", files=[[0]])]
+    words = [word([issue(0, "input")], [(0, 0)], [(1, 0, 0, 0), (1, 1, 0, 0), (2, 0, 0, 0)]),
+             word([issue(1, operation, [0, 0]), issue(2, "output", [0])])]
+    return program(3, units, words, inputs)
+
+
+def without_effect():
+    """Names and images in which much has no effect, or nothing is done at all, or only where an address is outside."""
+    yield "nothing", program(1, [unit("in")], [EMPTY])
+    yield "nothing in four cycles", program(4, [unit("in"), unit("out", files=[[0]])], [EMPTY], outs=3)
+    yield "a first word", program(2, [unit("out", files=[[7, 3]])], [word([issue(0, "output", [1])])])
+    for operation in ("load", "store"):
+        yield f"{operation}, three cells", load_and_store(0, [1, 2, 3], operation)
+        yield f"{operation}, 16 cells and a truth value", load_and_store(-1, [1] * 16, operation, (0,), 2)
+        yield f"{operation}, inside", load_and_store(1, [1] * 16, operation, (0,))
+        yield f"{operation}, words of 4 bits", load_and_store(0, [1] * 4, operation, (4,))
+    units = [unit("rom"), unit("alu", files=[[0], [0]]), unit("out", files=[[0]]), unit("out", files=[[0]])]
+    signs = [word([issue(0, "const", argument=255), issue(1, "add", [0, 0])], [(0, 0)], [(1, 0, 0, 0), (2, 0, 0, 0)]),
+             word([issue(0, "const", argument=-1), issue(1, "lt", [0, 0])], [(0, 0)], [(3, 0, 0, 0)]),
+             word([issue(2, "output", [0]), issue(3, "output", [0], 1)])]
+    yield "a byte and a sign", program(4, units, signs, outs=2)
+
+
 def directed_images():
     """Names, microcode and samples."""
     made = [(f"latch twice {a} {b}", latch_twice(a, b)) for a, b in ((1, 1), (1, 3), (3, 1), (2, 2))]
@@ -299,5 +327,7 @@ def directed_images():
     made += [(f"truth input {operation}", truths(operation)) for operation in ("and", "or", "not", "lt", "le", "eq", "ne")]
     made += [(f"ring of {cells}, unroll {unroll}", rings(cells, unroll)) for cells, unroll in ((1, 1), (3, 2), (4, 4), (7, 1))]
     made += [(f"stray address {cycle}", stray_address(cycle)) for cycle in (1, 3)]
+    made += [(f"idle: {name}", (microcode, FEW if image_of(microcode).inputs[0] else TRUTHS))
+             for name, microcode in without_effect()]
     for name, (microcode, samples) in made:
         yield name, microcode, samples

@@ -2,11 +2,11 @@
 from dataclasses import dataclass
 
 from micro_file.image import ROUNDING, SATURATING, SHIFTS
-from micro_file.operations import OPCODE
+from micro_file.operations import number_bits, number_of
 
 from .words import index_bits
 
-SHIFT_BIAS, SHIFT_BITS, OP_BITS = -SHIFTS[0], 7, 4
+SHIFT_BIAS, SHIFT_BITS, OP_BITS = -SHIFTS[0], 7, number_bits("alu")
 AHEAD = 1
 
 
@@ -62,13 +62,15 @@ def code_columns(image, core, number, part, later):
 
     if not core.is_full:
         codes = part.operations if part.kind == "alu" else part.formats
+        if len(codes) == 1:
+            return
         listed = ", ".join(f"{code} {shown(one)}" for code, one in enumerate(codes))
         value = (lambda issue: codes.index(code_of(issue))) if part.kind == "alu" else \
                 (lambda issue: codes.index(code_of(issue)[1]))
         yield column("code", index_bits(len(codes)), value, f"operation of {part.name}: {listed}")
         return
     if part.kind == "alu":
-        yield column("op", OP_BITS, lambda issue: OPCODE[issue.operation], f"opcode of {part.name}")
+        yield column("op", OP_BITS, lambda issue: number_of(issue.operation), f"operation of {part.name}")
     yield column("shift", SHIFT_BITS, format_field(lambda form: form.shift + SHIFT_BIAS), f"shift of {part.name}, and {SHIFT_BIAS}")
     yield column("round", 1, format_field(lambda form: int(form.mode in ROUNDING)), f"whether {part.name} rounds")
     yield column("sat", 1, format_field(lambda form: int(form.mode in SATURATING)), f"whether {part.name} saturates")
@@ -89,14 +91,16 @@ def shown(code):
 def unit_columns(image, core, number, part):
     """What a unit does."""
     name, what = f"cu_{part.name}", part.name
-    if part.kind == "in":
+    if part.kind == "in" and len(part.inputs) > 1:
         yield Column(f"{name}_word", index_bits(len(part.inputs)),
                      by_cycle(image, number, lambda issue: part.inputs.index(issue.argument)),
                      f"input word of {what}" + ("" if core.is_full else f", of {part.inputs}"))
     elif part.kind == "out":
         yield Column(f"{name}_does", 1, flags(image, number, "output"), f"whether {what} begins an output")
-        yield Column(f"{name}_word", index_bits(len(core.outputs)),
-                     by_cycle(image, number, lambda issue: issue.argument, part.latency - 1), f"output word that {what} ends")
+        if len(core.outputs) > 1:
+            yield Column(f"{name}_word", index_bits(len(core.outputs)),
+                         by_cycle(image, number, lambda issue: issue.argument, part.latency - 1),
+                         f"output word that {what} ends")
     elif part.kind == "rom":
         yield Column(f"{name}_value", part.result.bits(),
                      by_cycle(image, number, lambda issue: issue.argument, part.latency - 1), f"constant that {what} gives")
@@ -106,7 +110,8 @@ def unit_columns(image, core, number, part):
         before, after, _ = stages(part.latency)
         yield from code_columns(image, core, number, part, before + after)
     elif part.kind == "ram":
-        yield Column(f"{name}_loads", 1, flags(image, number, "load"), f"whether {what} begins a load")
+        if part.can_stray():
+            yield Column(f"{name}_loads", 1, flags(image, number, "load"), f"whether {what} begins a load")
         yield Column(f"{name}_stores", 1, flags(image, number, "store"), f"whether {what} begins a store")
     elif part.kind == "acu":
         cells = len(image.units[part.ram].cells)
@@ -124,13 +129,16 @@ def file_columns(image, number, part, port, file):
                 for word in image.words]
 
     name, what, bits = f"cf_{part.name}_{port}", f"{part.name}.{port}", file.address_bits()
-    yield Column(f"{name}_read", bits, by_cycle(image, number, read), f"register that {what} reads in the next cycle", AHEAD)
+    if file.size > 1:
+        yield Column(f"{name}_read", bits, by_cycle(image, number, read), f"register that {what} reads in the next cycle", AHEAD)
     if file.sources:
         yield Column(f"{name}_take", 1, [int(value is not None) for value in taken(lambda take: take.bus)],
                      f"whether {what} takes")
-        yield Column(f"{name}_from", index_bits(len(file.sources)), taken(lambda take: file.sources.index(take.bus)),
-                     f"bus that {what} takes from, of {file.sources}")
-        yield Column(f"{name}_into", bits, taken(lambda take: take.register), f"register of {what} that takes")
+        if len(file.sources) > 1:
+            yield Column(f"{name}_from", index_bits(len(file.sources)), taken(lambda take: file.sources.index(take.bus)),
+                         f"bus that {what} takes from, of {file.sources}")
+        if file.size > 1:
+            yield Column(f"{name}_into", bits, taken(lambda take: take.register), f"register of {what} that takes")
 
 
 def bus_column(image, number, bus):
@@ -151,27 +159,27 @@ def columns_of(image, core):
         for port, file in part.files.items():
             yield from file_columns(image, number, part, port, file)
     for number, bus in core.buses.items():
-        if bus.drivers:
+        if len(bus.drivers) > 1:
             yield bus_column(image, number, bus)
 
 
 class Program:
-    """The microprogram: columns with the lowest bit of each, and those that are the same in each row."""
+    """The microprogram: columns with the lowest bit of each, and those that are the same in each row. A row has one bit at
+    least, which is that of its first column."""
 
     def __init__(self, image, core):
         self.core, self.columns, self.places, self.constants, self.width = core, list(columns_of(image, core)), {}, {}, 0
         rows = {column.name: column.rows() for column in self.columns}
+        if not core.is_full:
+            self.constants = {name: values[0] for name, values in rows.items() if len(set(values)) == 1}
+        if len(self.constants) == len(self.columns):
+            del self.constants[self.columns[0].name]
         for column in self.columns:
-            if not core.is_full and len(set(rows[column.name])) == 1:
-                self.constants[column.name] = rows[column.name][0]
-            else:
+            if column.name not in self.constants:
                 self.places[column.name] = self.width
                 self.width += column.bits
         self.rows = [sum(rows[name][row] << place for name, place in self.places.items())
                      for row in range(image.circle())]
-
-    def has(self, name):
-        return name in self.places or name in self.constants
 
     def lines(self):
         """The rows for $readmemh. Where the core runs any program, those that are not used are 0, and the last of the
@@ -179,5 +187,5 @@ class Program:
         rows = self.rows
         if self.core.is_full:
             rows = rows + [0] * (self.core.rows - 1 - len(rows)) + [rows[-1]]
-        digits = (max(1, self.width) + 3) // 4
+        digits = (self.width + 3) // 4
         return "".join(f"{row:0{digits}x}\n" for row in rows)

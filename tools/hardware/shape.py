@@ -4,6 +4,7 @@ There are two ways to it: what one image needs, or what any image over a datapat
 """
 from dataclasses import dataclass, field
 
+from .idle import keep_needed, without_idle, without_units
 from .words import TRUTH, Range, index_bits, of_width, of_words
 
 
@@ -39,8 +40,19 @@ class Part:
     formats: list = field(default_factory=list)
     cells: File | None = None
     ram: int | None = None
-    loads: bool = True
     stores: bool = True
+
+    def can_stray(self):
+        """Whether an address may be outside of the memory."""
+        return self.cells is not None and not Range(0, self.cells.size - 1).covers(self.files[0].words)
+
+    def has_memory(self):
+        """Whether what is loaded is used. Of a memory that nothing loads from, addresses alone matter."""
+        return self.cells is not None and self.result is not None
+
+    def is_ahead(self, port):
+        """Whether a memory reads the address in the file at this port a clock ahead."""
+        return self.has_memory() and self.latency == 1 and port == 0
 
 
 @dataclass
@@ -69,7 +81,7 @@ class Core:
         for part in self.parts.values():
             for port, file in part.files.items():
                 yield f"{part.name}_{port}", file
-            if part.cells:
+            if part.has_memory():
                 yield f"{part.name}_cells", part.cells
 
 
@@ -111,7 +123,7 @@ def part_needed(image, issues, name):
     part.inputs = sorted({issue.argument for issue in issues if issue.operation == "input"})
     part.operations = sorted({(name, format_of(issue)) for issue, name in zip(issues, operations)}, key=str)
     part.formats = sorted({form for _, form in part.operations if form}, key=lambda form: (-form[2], form))
-    part.loads, part.stores = "load" in operations, "store" in operations
+    part.stores = "store" in operations
     if unit.cells:
         part.cells = File(of_words(unit.cells), unit.cells)
     return part
@@ -166,29 +178,58 @@ def needed_buses(image, core, transfers, names):
         if take.bus not in file.sources:
             file.sources.append(take.bus)
     core.buses = dict(sorted(core.buses.items()))
-    for made in (*(bus.drivers for bus in core.buses.values()), *(file.sources for _, file in core.memories())):
+    files = [file for part in core.parts.values() for file in part.files.values()]
+    for made in (*(bus.drivers for bus in core.buses.values()), *(file.sources for file in files)):
         made.sort()
 
 
+def fit(core):
+    """Cuts each bus to the bits that files take from it, and each result to those that buses carry."""
+    taken, carried = {}, {}
+    for part in core.parts.values():
+        for file in part.files.values():
+            for bus in file.sources:
+                taken[bus] = max(taken.get(bus, 0), file.words.bits())
+    for number, bus in core.buses.items():
+        bus.words = bus.words.cut(taken[number])
+        for unit in bus.drivers:
+            carried[unit] = max(carried.get(unit, 0), bus.words.bits())
+    for unit, bits in carried.items():
+        core.parts[unit].result = core.parts[unit].result.cut(bits)
+
+
 def core_for_image(image, name, names):
-    """The core that runs this image alone: what never occurs in it is not there."""
+    """The core that runs this image alone, behind the image without what has no effect: what never occurs is not there."""
+    while True:
+        image = without_idle(image)
+        core = whole_core(image, name, names)
+        idle = [unit for unit, part in core.parts.items()
+                if part.kind == "ram" and not part.result and not part.can_stray()]
+        if not idle:
+            fit(core)
+            return image, core
+        image = without_units(image, idle)
+
+
+def whole_core(image, name, names):
+    """The core that has what occurs in an image."""
     circle = image.circle()
     core = Core(name, False, None, image.period, circle, circle - 1, [of_width(width) for width in image.inputs], [])
     for number in range(len(image.units)):
         issues = issues_of(image, number)
         if issues:
             core.parts[number] = part_needed(image, issues, names.units[number])
-    transfers = [(issue, take) for issue, take in transfers_of(image)
-                 if take.unit in core.parts and take.port in core.parts[take.unit].files]
+    transfers = list(transfers_of(image))
     while widen(image, core, transfers):
         pass
     needed_buses(image, core, transfers, names)
+    for issue, _ in transfers:
+        part = core.parts[issue.unit]
+        part.result = result_of(image, core, issue).with_(part.result)
     core.outputs = [Range(0, 0)] * image.outputs
     for number, part in core.parts.items():
         for issue in issues_of(image, number):
-            if issue.gives():
-                part.result = result_of(image, core, issue).with_(part.result)
-            elif issue.operation == "output":
+            if issue.operation == "output":
                 core.outputs[issue.argument] = core.outputs[issue.argument].with_(part.files[0].words)
     return core
 
@@ -229,7 +270,7 @@ def core_for_datapath(image, name, datapath, inputs, outputs):
     core = Core(name, True, datapath.word, image.period, most + 1, most, [word] * inputs, [])
     for number, unit in enumerate(image.units):
         part = core.parts[number] = any_part(unit, datapath.units[number], word)
-        part.inputs = list(range(inputs))
+        part.inputs = list(range(inputs)) if unit.kind == "in" else []
         if unit.kind == "acu":
             part.result = Range(0, len(image.units[unit.ram].cells) - 1)
     for number, bus in enumerate(datapath.ends):
@@ -241,6 +282,7 @@ def core_for_datapath(image, name, datapath, inputs, outputs):
     made = [part.files[0].words for part in core.parts.values() if part.kind == "out"]
     core.outputs = [Range(min([word.low, *(one.low for one in made)]), max([word.high, *(one.high for one in made)]))] * outputs
     check_fits(image, core)
+    keep_needed(core)
     return core
 
 

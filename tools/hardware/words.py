@@ -26,6 +26,10 @@ class Range:
         most = max(self.high, ~self.low if self.low < 0 else 0)
         return max(1, most.bit_length() + self.is_signed())
 
+    def cut(self, bits):
+        """These words, or where they have more bits than so many, what is left of them in these."""
+        return self if self.bits() <= bits else of_width(bits)
+
     def signed_bits(self):
         """How many bits hold each of the words in two's complement."""
         return self.bits() + (not self.is_signed())
