@@ -12,6 +12,7 @@ Without --long it takes less than four minutes on a machine with nothing else to
   full         two programs in one module; datapaths whose names are words of Verilog, or of the core's own files
   restart      cores whose memories hold nothing before a reset, and cores that a reset fills with nothing
   missing      what the tools say where a program is not there
+  files        a core over files that its user made, and over an older core; a waveform of rows that differ
   board        two channels over the I2S lines of examples/biquads/board
   lint         Verilator with -Wall says nothing of the examples' cores, of those of directed images, and of 10 random ones, or
                200; both builds. No pragma is in a core but of what nothing can read, with its reason
@@ -293,6 +294,51 @@ def missing_checks(_):
         yield f"{text} without {package[0]}", lambda folder, one=(text.split(), others, package): check_missing(folder, *one)
 
 
+def snapshot(folder):
+    return {file.name: file.read_bytes() for file in folder.iterdir()}
+
+
+def check_core_over(folder):
+    """A file of the user's stays but with --force, and with it all others; an older core is made anew."""
+    older, newer = (ROOT / "tests" / "increment" / f"{name}.mic" for name in ("add-8-1", "add-8-127"))
+    core = folder / "core"
+    core.mkdir()
+    (core / "core_code.hex").write_text("mine\n")
+    why = made(older, core, "--name", "core")
+    if why != f"verilog: {core}/core_code.hex is there, and not as a tool made it; --force writes over it":
+        raise Fault(f"over a file of the user's it says {why}")
+    if snapshot(core) != {"core_code.hex": b"mine\n"}:
+        raise Fault("files are made beside one of the user's")
+    texts = []
+    for microcode, options in ((older, ["--force"]), (newer, []), (older, [])):
+        if made(microcode, core, "--name", "core", *options):
+            raise Fault("a core that the tool made is in its way")
+        texts.append(snapshot(core))
+    if texts[0] != texts[2] or texts[0] == texts[1]:
+        raise Fault("the core is not that of its microcode")
+
+
+def check_waveform(folder):
+    """The waveform goes to the end of the run also where rows differ from those of `silc sim`, which a script plays."""
+    need(*ICARUS)
+    (folder / "silc").write_text("#!/bin/sh\nprintf '1\\n2\\n4\\n' > $4\n")
+    (folder / "silc").chmod(0o755)
+    (folder / "samples").write_text("0\n1\n2\n")
+    microcode = ROOT / "tests" / "increment" / "add-8-1.mic"
+    done = subprocess.run([ROOT / "tools" / "cosimulate", microcode, "samples", "--vcd", "waves.vcd"], cwd=folder,
+                          capture_output=True, text=True, env=os.environ | {"SILC": str(folder / "silc")})
+    if done.returncode != 1 or "sample 2: expected 4, the core put 3" not in done.stderr:
+        raise Fault(f"it ended with {done.returncode}: {done.stderr}")
+    text = (folder / "waves.vcd").read_text()
+    if "$enddefinitions" not in text or text.count("#") < 3 * 16 or sorted(os.listdir(folder)) != ["samples", "silc", "waves.vcd"]:
+        raise Fault("the waveform is not whole")
+
+
+def files_checks(_):
+    yield "a core over files", check_core_over
+    yield "a waveform of rows that differ", check_waveform
+
+
 def check_lint(core):
     done = subprocess.run(["verilator", "--lint-only", "-Wall", "silc_parts.v", "core.v", "--top-module", "core"], cwd=core,
                           capture_output=True, text=True)
@@ -399,7 +445,7 @@ def synthesis_checks(is_long):
 
 
 PARTS = {"images": image_checks, "hazards": hazard_checks, "examples": example_checks, "planted": planted_checks,
-         "full": full_checks, "restart": restart_checks, "missing": missing_checks, "board": board_checks,
+         "full": full_checks, "restart": restart_checks, "missing": missing_checks, "files": files_checks, "board": board_checks,
          "lint": lint_checks, "verilator": verilator_checks, "synthesis": synthesis_checks}
 
 
