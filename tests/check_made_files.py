@@ -91,6 +91,25 @@ def whole() -> Iterator[tuple]:
     yield "a folder", refused(lambda: MadeFiles(is_forced=True).look_at(".")), ". is a folder"
 
 
+def folders() -> Iterator[tuple]:
+    """Of a folder all files are made, or none where one is not the tool's. One that holds what is to be written may stay."""
+    contents = {"first": "1", "second": b"2"}
+    os.makedirs("there")
+    Path("there", "second").write_text("of the user")
+    yield "one of the user's", refused(lambda: MadeFiles().write_folder("there", contents)), \
+        "there/second is there, and not as a tool made it; --force writes over it"
+    yield "none is made", sorted(os.listdir("there")), ["second"]
+    Path("there", "second").write_text("2")
+    MadeFiles().write_folder("there", contents)
+    MadeFiles().write_folder("new/folder", contents)
+    for name in ("there", "new/folder"):
+        yield name, [Path(name, one).read_text() for one in sorted(os.listdir(name))], ["1", "2"]
+    Path("in").write_text("kept")
+    yield "over an input", refused(lambda: MadeFiles(["in"], True).write_folder(".", contents | {"in": "3"})), \
+        "./in is the input in by another name"
+    yield "beside an input", [os.path.exists("first"), Path("in").read_text()], [False, "kept"]
+
+
 def streams() -> Iterator[tuple]:
     """A descriptor goes on where it is, and no name of it is opened anew."""
     with open("log", "wb+") as log:
@@ -105,7 +124,7 @@ def main() -> int:
     faults, count = [], 0
     with tempfile.TemporaryDirectory(prefix="silc-made-") as folder:
         os.environ["XDG_STATE_HOME"] = os.path.join(folder, "states")
-        for part in (inputs, strangers, whole, streams):
+        for part in (inputs, strangers, whole, folders, streams):
             room = Path(folder, part.__name__)
             room.mkdir()
             os.chdir(room)

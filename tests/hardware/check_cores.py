@@ -330,7 +330,8 @@ def check_waveform(folder):
     if done.returncode != 1 or "sample 2: expected 4, the core put 3" not in done.stderr:
         raise Fault(f"it ended with {done.returncode}: {done.stderr}")
     text = (folder / "waves.vcd").read_text()
-    if "$enddefinitions" not in text or text.count("#") < 3 * 16 or sorted(os.listdir(folder)) != ["samples", "silc", "waves.vcd"]:
+    names = sorted(os.listdir(folder))
+    if "$enddefinitions" not in text or text.count("#") < 3 * 16 or names != ["samples", "silc", "waves.vcd"]:
         raise Fault("the waveform is not whole")
 
 
@@ -365,7 +366,8 @@ def lint_checks(is_long):
     images = [*directed_images(), *islice(random_images(LONG_LINTED), LONG_LINTED if is_long else SHORT_LINTED)]
     for name, microcode, _ in images if is_long else images[::DIRECTED_STEP] + images[-SHORT_LINTED:]:
         for is_full in (False, True):
-            yield f"{name}{', full' if is_full else ''}", lambda folder, one=(microcode, is_full): check_image_lint(folder, *one)
+            yield f"{name}{', full' if is_full else ''}", lambda folder, one=(microcode, is_full): (
+                check_image_lint(folder, *one))
 
 
 def check_verilator(folder, name):
@@ -445,8 +447,8 @@ def synthesis_checks(is_long):
 
 
 PARTS = {"images": image_checks, "hazards": hazard_checks, "examples": example_checks, "planted": planted_checks,
-         "full": full_checks, "restart": restart_checks, "missing": missing_checks, "files": files_checks, "board": board_checks,
-         "lint": lint_checks, "verilator": verilator_checks, "synthesis": synthesis_checks}
+         "full": full_checks, "restart": restart_checks, "missing": missing_checks, "files": files_checks,
+         "board": board_checks, "lint": lint_checks, "verilator": verilator_checks, "synthesis": synthesis_checks}
 
 
 def judged(check):

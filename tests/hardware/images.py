@@ -283,7 +283,7 @@ def stray_address(cycle):
 
 
 def load_and_store(first, cells, operation, inputs=(8,), latency=1):
-    """The input is an output, and the address of a load or a store whose memory gives nothing. Its file starts with `first`."""
+    """The input is an output and the address of a load or a store, whose memory gives nothing; its file starts so."""
     units = [unit("in"), unit("ram", latency, files=[[first], [0]], cells=cells), unit("out", files=[[0]])]
     words = [word([issue(0, "input")], [(0, 0)], [(1, 0, 0, 0), (1, 1, 0, 0), (2, 0, 0, 0)]),
              word([issue(1, operation, [0, 0]), issue(2, "output", [0])])]
