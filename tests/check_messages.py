@@ -18,8 +18,8 @@ from pathlib import Path
 ROOT = Path(__file__).resolve().parent.parent
 SERVER = ROOT / "editor" / "lsp" / "silc-lsp"
 SECONDS, CHANGES = 60, 50
-# So many of the changes at most are looked at, and so long after the last one its faults are there at the latest.
-MOST_LOOKS, MOST_LATE = 10, 8.0
+# So many of the changes at most are looked at.
+MOST_LOOKS = 10
 DIAGNOSTICS = "textDocument/publishDiagnostics"
 # A comment with a letter of two units in UTF-16 and four bytes, so that all places after it are told apart.
 SOURCE = """/* 𝄞 */ func low(x : fix<16,15>, gain : fix<16,15>) y : fix<16,15> =
@@ -158,16 +158,13 @@ def many_changes(client: Client, uri: str):
         client.change(uri, f"func main(v{version} : fix<8,0>) y : fix<8,0> = begin y = z{version}; end;", version)
         if version == CHANGES // 2:
             client.send(id=number, method="textDocument/documentSymbol", params={"textDocument": {"uri": uri}})
-    last = time.monotonic()
     client.number = number
     marks = client.marks(uri, CHANGES + 1)
-    late = client.told[-1][0] - last
     came = [message for _, message in client.told[first:]]
     looks = [message for message in came if message.get("method") == DIAGNOSTICS]
     answers = [message for message in came if message.get("id") == number]
     yield "the newest is looked at", [mark["message"] for mark in marks], [f"nothing here is called `z{CHANGES + 1}`"]
     yield f"{CHANGES} changes are {len(looks)} looks", len(looks) <= MOST_LOOKS, True
-    yield f"the last is {late:.1f} s late", late <= MOST_LATE, True
     inner = [symbol["name"] for symbol in answers[0]["result"][0]["children"]] if answers else []
     yield "a question in between", inner, [f"v{CHANGES // 2}", "y"]
 

@@ -1,9 +1,8 @@
 #!/usr/bin/env python3
 """Whether each word of 16 bits comes back from a sound, and each sound from its rows, in one and in two channels and in
-sounds of 16, 24 and 32 bits, which Python's own reader reads as well; and how long a million samples take.
+sounds of 16, 24 and 32 bits, which Python's own reader reads as well.
 """
 import os
-import resource
 import signal
 import subprocess
 import sys
@@ -16,9 +15,6 @@ TOOL = Path(__file__).resolve().parent.parent.parent / "tools" / "rows"
 WORDS = range(-(1 << 15), 1 << 15)
 # Shapes that have each word of fix<16,15>, what such a word is times there, numbers of channels, and of bits in the sound.
 SHAPES = [("16,15", 1, 1, 16), ("32,30", 1 << 15, 2, 16), ("16,15", 1, 1, 24), ("24,22", 1 << 7, 2, 24), ("17,15", 1, 2, 32)]
-# A million samples, and in how many seconds of the processor each tool is to be done with them: a third of what one sample
-# after another takes.
-MANY, SECONDS = 1_000_000, 1.2
 # How many seconds a tool may take to do what it is waited for.
 PATIENCE = 20
 
@@ -49,22 +45,6 @@ def comes_back(room, shape, factor, channels, bits):
             and rows("from-wav", "-", shape, given=sound) == text)
 
 
-def seconds(*words):
-    """How long a call keeps the processor busy."""
-    before = resource.getrusage(resource.RUSAGE_CHILDREN).ru_utime
-    rows(*words)
-    return resource.getrusage(resource.RUSAGE_CHILDREN).ru_utime - before
-
-
-def slow(room):
-    """Which of the two takes too long."""
-    (room / "many").write_text("".join(f"{word * 40503 % 65536 - 32768}\n" for word in range(MANY)))
-    for words in (["to-wav", room / "many", "16,15", "48000", room / "many.wav"], ["from-wav", room / "many.wav", "16,15"]):
-        took = seconds(*words)
-        if took > SECONDS and (took := min(took, seconds(*words))) > SECONDS:
-            yield f"{words[0]} of {MANY} samples takes {took:.1f} s, and not {SECONDS} s at most"
-
-
 def is_kept(room):
     """Whether a sound that is made of standard input is whole up to where a signal stops it."""
     with subprocess.Popen([TOOL, "to-wav", "-", "16,15", "48000", room / "kept.wav"], stdin=subprocess.PIPE) as making:
@@ -89,7 +69,6 @@ def main():
         faults = [f"the words of fix<{shape}> do not come back from {bits} bits"
                   for shape, *more, bits in SHAPES if not comes_back(Path(folder), shape, *more, bits)]
         faults += [] if is_kept(Path(folder)) else ["a sound that was stopped is not whole up to there"]
-        faults += slow(Path(folder))
     for fault in faults:
         print(fault)
     return 1 if faults else 0

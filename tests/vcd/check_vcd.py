@@ -8,7 +8,6 @@ It runs the built `silc` and `silc_show`, or those that `SILC` and `SILC_SHOW` n
 """
 import os
 import re
-import resource
 import subprocess
 import sys
 import tempfile
@@ -388,11 +387,10 @@ def example_faults(room):
     yield from shown_faults(Shown(waves, units, buses), facts, expected)
 
 
-# Some cycles of the example, against the whole run, and how long many take
+# Some cycles of the example, against the whole run
 
 
 WINDOW = 205, 290
-TIMES, MANY_SECONDS = 500, 2.0
 
 
 def waves_of(room, *more):
@@ -418,35 +416,6 @@ def window_faults(room):
         yield f"from {WINDOW[0]} on: no {missing}, and the end is {part.end}"
 
 
-def long_trace(trace):
-    """The cycles from the last word 0 of a trace on, again and again, and how many these are."""
-    last = trace[trace.rindex("\ncycle", 0, trace.rindex(" word 0\n")) + 1:]
-    heads = [tuple(map(int, found)) for found in re.findall(r"^cycle (\d+) sample (\d+)", last, re.M)]
-    (cycle, sample), samples = heads[0], heads[-1][1] - heads[0][1] + 1
-    parts = re.split(r"^cycle \d+ sample \d+", last, flags=re.M)[1:]
-    return "".join(f"cycle {turn * len(parts) + at - cycle} sample {turn * samples + of - sample}{part}"
-                   for turn in range(TIMES) for (at, of), part in zip(heads, parts)), TIMES * len(parts)
-
-
-def speed_faults(room):
-    """A waveform of many cycles takes no longer than it should, but for what the program takes that traces them."""
-    trace = subprocess.run([SHOW, "trace", room / "example.mic", room / "rows"], check=True, capture_output=True, text=True)
-    text, count = long_trace(trace.stdout)
-    (room / "trace").write_text(text)
-    show = room / "show"
-    show.write_text(f"#!/bin/sh\nexec cat '{room / 'trace'}'\n")
-    show.chmod(0o755)
-    datapath = ROOT / "examples" / EXAMPLE / DATAPATH
-    words = [ROOT / "tools" / "vcd", room / "example.mic", datapath, room / "rows", room / "long.vcd"]
-    took = []
-    while len(took) < 2 and min(took, default=MANY_SECONDS + 1) > MANY_SECONDS:
-        before = resource.getrusage(resource.RUSAGE_CHILDREN).ru_utime
-        done = subprocess.run(words, check=True, capture_output=True, text=True, env=os.environ | {"SILC_SHOW": str(show)})
-        took.append(resource.getrusage(resource.RUSAGE_CHILDREN).ru_utime - before)
-    if min(took) > MANY_SECONDS or not done.stdout.startswith(f"{count} cycles"):
-        yield f"{count} cycles take {min(took):.1f} s, and not {MANY_SECONDS} s at most: {done.stdout}"
-
-
 def main(words):
     if words:
         print(__doc__, file=sys.stderr)
@@ -459,7 +428,7 @@ def main(words):
         room = Path(folder)
         os.environ["XDG_STATE_HOME"] = folder
         faults = [*reader_faults(), *increment_faults(room), *conflict_faults(room), *example_faults(room),
-                  *window_faults(room), *speed_faults(room)]
+                  *window_faults(room)]
     for fault in faults[:20]:
         print(fault)
     print(f"{len(faults)} faults in the waveforms" if faults else "the waveforms are right")
