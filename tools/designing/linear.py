@@ -144,7 +144,7 @@ class Linear:
             self.constants[number] = int(form.constant)
         if number in self.choices:
             return
-        if form.width is None and not self.elements[number].initials and self.is_node(form):
+        if form.width is None and not self.elements[number].initials and self.is_node(form) and not self.is_element(form):
             self.node_of[number] = next(iter(form.terms))[0]
             return
         self.forms[number] = form
@@ -234,6 +234,10 @@ class Linear:
     def is_node(self, form: Form) -> bool:
         """Whether a form is the word of a node."""
         return bool(form.terms) and form == Form({(next(iter(form.terms))[0], 0): Fraction(1)})
+
+    def is_element(self, form: Form) -> bool:
+        """Whether the node of a form is an element, which may have had other words before the first sample."""
+        return next(iter(form.terms))[0] < len(self.elements)
 
     def terms(self) -> list[list[tuple[int, int, Fraction]]]:
         """The terms of all nodes, as a system has them."""
