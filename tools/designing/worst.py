@@ -187,20 +187,22 @@ class Worst:
         self.lengths: dict[int, int] = {}
 
     def kinds(self) -> dict[int, str]:
-        """What is to be said of nodes that may pass their ranges."""
+        """What is to be said of nodes that may pass their ranges. What saturates may have a part that wraps."""
         made: dict[int, str] = {}
-        nodes = self.linear.node_of
+        nodes, wrapping = self.linear.node_of, set()
         for check in self.linear.checks:
             if self.reaches.passes(check):
                 own = SATURATES if check.is_saturating else PASSES_RANGE
                 node = nodes[check.element]
                 made[node] = own if check.is_last else made.get(node, INSIDE)
+                wrapping |= set() if check.is_saturating else {node}
         for node, choice in self.linear.choices.items():
             free = self.reaches.chosen(choice)[1]
             if choice.operation.name == "mul" and not (free and is_within(free, range_of(choice.operation.width))):
-                own = SATURATES if "sat" in choice.operation.mode else PASSES_RANGE
-                made[nodes[choice.element]] = own if node == choice.element else made.get(nodes[choice.element], INSIDE)
-        return made
+                own, owner = SATURATES if "sat" in choice.operation.mode else PASSES_RANGE, nodes[choice.element]
+                made[owner] = own if node == choice.element else made.get(owner, INSIDE)
+                wrapping |= {owner} if own is PASSES_RANGE else set()
+        return made | {node: f"{SATURATES}, {INSIDE}" for node in wrapping if made[node] == SATURATES}
 
     def followers(self) -> set[int]:
         """The elements behind one that may wrap."""
