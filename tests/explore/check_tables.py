@@ -310,6 +310,20 @@ def length_faults(room, silc):
         yield f"of word lengths the front is {done.stdout}{done.stderr}"
 
 
+def wrap_faults(room, silc):
+    """A word of 36 bits that is 64 times too great wraps by a multiple of 2^40, and is counted; no other sample is."""
+    source = "func main(x : fix<36,35>) y : fix<{W: 36},35> = begin y = fix<{W},35>(x) << 6; end;\n"
+    (room / "wraps.silt").write_text(source)
+    (room / "plain.sil").write_text(source.replace("{W: 36}", "36").replace("{W}", "36"))
+    (room / "wraps.txt").write_text(f"{-1 << 35}\n1\n2\n")
+    (room / "wraps.ranges").write_text(LENGTHS_DATAPATH.replace("word = 32", "word = 40"))
+    done = tried(room, silc, "--pool", "--samples", "wraps.txt", "--against", "plain.sil", source="wraps.silt",
+                 template="wraps.ranges", out="wraps")
+    row, = csv.DictReader((room / "wraps.csv").read_text().splitlines()) if done.returncode == 0 else [{}]
+    if row.get("wraps") != "1":
+        yield f"of a word that wraps by 2^40 the row is {row} {done.stderr}"
+
+
 def dsp_faults(room, silc):
     """--dsp has Yosys take multipliers, and the table of the front counts them. A script plays Yosys."""
     folder = room / "bin"
@@ -359,7 +373,7 @@ def main(words):
         faults = [*faults_of(text, rows), *picture_faults(room, rows), *resumed_faults(room, silc, text), *copies_faults(),
                   *reason_faults(rows, done.stderr), *best_faults(room, silc, rows),
                   *fit_faults(room, silc, rows), *unfit_faults(room, silc), *core_faults(room, silc),
-                  *length_faults(room, silc), *dsp_faults(room, silc), *kept_faults(room, silc, text)]
+                  *length_faults(room, silc), *wrap_faults(room, silc), *dsp_faults(room, silc), *kept_faults(room, silc, text)]
         front = done.stdout.splitlines()[1:]
         if len(front) != sum(row["front"] == "yes" for row in rows):
             faults.append(f"standard output has {len(front)} rows of the front")

@@ -7,7 +7,7 @@ from collections.abc import Iterable, Sequence
 
 from designing.flat import FlatElement, flat_of
 from designing.programs import Unrun, evaluated
-from designing.unbounded import Run, own_run, unbounded_run
+from designing.unbounded import Passed, Run, own_run, unbounded_run
 
 WRAPS, SATURATES, FOLLOWS, INSIDE, MEANT = "wraps", "saturates", "follows", "overflows inside", "meant to wrap"
 # As many samples are gone over at a time.
@@ -115,6 +115,21 @@ def levels_of(source: str, rows: Sequence[tuple[int, ...]], patterns: Iterable[s
             tally.add(own, exact, start)
         began = tell(began, start, len(rows))
     return tallies, any(tallies[number].others.count for number in among_loops(elements))
+
+
+def passing_samples(source: str, rows: Sequence[tuple[int, ...]], put: Sequence[tuple[int, ...]]) -> int | None:
+    """At how many samples the rows of a program are others than without wraps and saturation; nothing where a word without
+    them grows too large."""
+    flat, count = flat_of(source), 0
+    exact = unbounded_run(flat.elements, frozenset())
+    try:
+        for start in range(0, len(rows), BLOCK):
+            exact.over(rows[start : start + BLOCK])
+            columns = zip(*map(exact.block, flat.outputs))
+            count += sum(row != other for row, other in zip(put[start : start + BLOCK], columns))
+    except Passed:
+        return None
+    return count
 
 
 def tell(began: float, start: int, count: int) -> float:

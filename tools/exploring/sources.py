@@ -6,9 +6,10 @@ import subprocess
 from hashlib import sha256
 
 from designing.noise import noise_of, reference_rows, values
+from designing.overflows import passing_samples
 from designing.programs import rows_of, text_of
 from designing.samples import samples_in
-from designing.sources import outside_comments, widened, words_of_main
+from designing.sources import outside_comments, words_of_main
 from exploring.template import DIGITS, RANGE, numbers_of
 
 UNNAMED = "source"
@@ -64,17 +65,16 @@ class Judgement:
 
     def judge(self, silc, room, source):
         """The power of the error beside that of the signal in decibels, and at how many samples a word is another than
-        that of the program with words of 40 bits; nothing where silc refuses the source."""
+        that of the program in which nothing wraps or saturates; nothing where silc refuses the source."""
         inputs, outputs = words_of_main(source)
         rows = samples_in(self.samples, inputs)
-        made, wide = (evaluated(silc, room, text, rows) for text in (source, widened(source)))
+        made = evaluated(silc, room, source, rows)
         if made is None:
             return None, None
         reference = reference_rows(self.against, rows, inputs, outputs)
         own = values(made, outputs)
         ratios = [noise_of(*columns, shape).ratio() for *columns, shape in zip(zip(*own), zip(*reference), outputs) if shape]
-        wraps = sum(row != other for row, other in zip(made, wide)) if wide else None
-        return max(-min(ratios, default=math.inf), NO_ERROR) + 0.0, wraps
+        return max(-min(ratios, default=math.inf), NO_ERROR) + 0.0, passing_samples(source, rows, made)
 
 
 def evaluated(silc, room, source, rows):
