@@ -49,6 +49,10 @@ class Bound:
         """How much of the range may be used."""
         return max(self.greatest / max(self.shape.greatest, 1), self.least / self.shape.least)
 
+    def is_nothing(self) -> bool:
+        """Whether the element is known to be 0 always."""
+        return self.is_bound and FOLLOWS not in self.said and not self.least and not self.greatest
+
 
 class Reaches:
     """The linear system of a program, with the sums of its responses, and how far each of its nodes gets."""
