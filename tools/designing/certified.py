@@ -16,22 +16,6 @@ Feed-forward systems are exact. Of others the response is summed up to some samp
 `loops`, and `ellipsoids`. No bound rests on what seems to be over. More time makes it tighter; it ends before where what comes
 after is below 2^-TIGHT of the whole, or where more time would not help.
 """
-"""Certified sums of the magnitudes of responses: of each node of a linear system, to what is put into others.
-
-    system = System([[(1, 1, Fraction(-1, 2))], [(0, 0, Fraction(3, 4)), (1, 1, Fraction(9, 10))]])   # of binary fractions
-    of_input, of_error = norms(system, [[(0, 0, 1)], [(1, 0, 1)]], seconds=2.0)
-    of_input[1].positive, of_input[1].negative, of_input[1].either, of_input[1].is_bound
-
-A system is made of the terms of each node, (node, delay, factor). A source is a list of kicks: (node, sample, amount), what is
-put in there, and at what sample. Of each source `norms` gives the `Norm` of each node that it reaches. Where `is_bound` holds,
-the sum of all positive words is at most `positive`, that of the magnitudes of all negative ones `negative`, but for `either`,
-which is to be added to one of them or shared between them. So inputs from `least` to `greatest` bring the node between
-the two numbers of `reach(least, greatest)`. `summed` is the sum of magnitudes so far, which the truth is not below. Where
-`is_bound` does not hold, no bound was found in the time, and there is this sum alone.
-
-Feed-forward systems are exact. Of others the response is summed up to some sample, and what comes after is bounded: see
-`loops`, and `ellipsoids`. More time makes it tighter: it ends before where the rest is below 2^-TIGHT of the whole.
-"""
 import math
 from collections.abc import Iterable, Sequence
 from dataclasses import dataclass
