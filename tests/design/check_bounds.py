@@ -18,14 +18,18 @@ import sys
 import time
 from concurrent.futures import ProcessPoolExecutor
 from dataclasses import dataclass
+from fractions import Fraction
 from pathlib import Path
 
 ROOT = Path(__file__).resolve().parent.parent.parent
 sys.path[:0] = [str(ROOT / "tools"), str(ROOT / "tests")]
 import reference  # noqa: E402
+from designing.ellipsoids import Ellipsoid, NoBound, States, each  # noqa: E402
 from designing.flat import flat_of  # noqa: E402
+from designing.loops import ONE, Sums, are_gains  # noqa: E402
 from designing.programs import rows_of  # noqa: E402
 from designing.shapes import Shape  # noqa: E402
+from designing.systems import System  # noqa: E402
 from designing.unbounded import own_run  # noqa: E402
 from designing.worst import Worst  # noqa: E402
 
@@ -343,11 +347,29 @@ def example_faults(folder):
     return faults
 
 
+def inequality_faults():
+    """Whether what all bounds rest on is refused where it does not hold: of y = x + y@1 / 2 the sum is 2, and a little less is
+    none; and an ellipsoid for it whose sum of squares is wrong gives no tail."""
+    half, two = Sums(*(amount // 2 for amount in ONE)), Sums(*(amount * 2 for amount in ONE))
+    for gain, is_bound in ((two, True), (two._replace(positive=two.positive - 1), False), (two._replace(either=-1), False)):
+        if are_gains({0: {0: gain}}, {0: {0: ONE}}, {0: {0: half}}) != is_bound:
+            yield f"the gain {gain} is {'no bound' if is_bound else 'a bound'}"
+    flying = {(0, 0): Fraction(1, 2)}
+    ellipsoid = Ellipsoid(States(System([[(0, 1, Fraction(1, 2))]]), {0}, flying))
+    if not 1 <= ellipsoid.tails(flying)[0]:
+        yield "an ellipsoid bounds what comes after by less than it is"
+    ellipsoid.summed, ellipsoid.room = (lambda x: each(lambda a: 0 * a, x)), each(lambda a: 0 * a, ellipsoid.room)
+    try:
+        yield f"an ellipsoid with no sum of squares bounds what comes after by {ellipsoid.tails(flying)}"
+    except NoBound:
+        pass
+
+
 def main(words):
     sys.setrecursionlimit(100_000)
     count, seed = (int(words[0]) if words else COUNT), (int(words[1]) if len(words) > 1 else SEED)
     began, made = time.monotonic(), []
-    faults = list(reference_faults(seed, range(0, count, 10)))
+    faults = [*inequality_faults(), *reference_faults(seed, range(0, count, 10))]
     examples = sorted(folder for folder in (ROOT / "examples").iterdir() if (folder / "samples.txt").is_file())
     with ProcessPoolExecutor() as pool:
         faults += itertools.chain(*pool.map(example_faults, examples))
