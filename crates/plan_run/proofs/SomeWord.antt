@@ -1,5 +1,5 @@
 -- Each cycle of a sample has a microword by the plan.
-use Rattle.std.proofs.Common.{◌≡◌, ℕ, zero, suc, ◌+◌, ◌-◌, ◌%◌, ◌<◌, ◌≤◌, ◌⊎◌, inl, inr, ⊎_elim, refl, sym, ap, ap₂}
+use Rattle.std.proofs.Common.{◌≡◌, ℕ, ◌+◌, ◌-◌, ◌%◌, ◌<◌, ◌≤◌, ◌⊎◌, inl, inr, ⊎_elim, refl, sym, ap, ap₂}
 use Rattle.std.proofs.Common.{◌∙◌, subst, arith, Bool, true, List, [], ◌∷◌, length, slice_index_or, map, filter}
 use Rattle.std.proofs.Common.{Contains}
 use Rattle.std.specs.List.{AllPairs}

@@ -1,5 +1,5 @@
 -- The image of a plan is a valid image.
-use Rattle.std.proofs.Common.{◌≡◌, ℕ, zero, suc, ◌+◌, ◌-◌, ◌*◌, ◌/◌, ◌%◌, ◌^◌, ◌<◌, ◌≤◌, ◌==◌, ◌⊎◌, inl, inr, ⊎_elim}
+use Rattle.std.proofs.Common.{◌≡◌, ℕ, zero, suc, ◌+◌, ◌*◌, ◌/◌, ◌%◌, ◌^◌, ◌<◌, ◌≤◌, ◌==◌, ◌⊎◌, inl, inr, ⊎_elim}
 use Rattle.std.proofs.Common.{refl, sym, ap, ◌∙◌, subst, arith, Bool, true, false, List, [], ◌∷◌, length}
 use Rattle.std.proofs.Common.{slice_index_or, map, All, Option, Some, None, ℤ, pos}
 use Rattle.std.specs.Prelude.{slice_get, find, IsSomeAnd, neg_ℤ, ◌≤ℤ◌, ◌<ℤ◌, int_le, int_lt}
