@@ -1,12 +1,12 @@
 pub mod Readers
-mod Tests
-mod OperandTests
-mod AssignedTests
-mod ScheduleTests
-mod RegisterTests
-mod LoweredTests
+pub mod Tests
+pub mod OperandTests
+pub mod AssignedTests
+pub mod ScheduleTests
+pub mod RegisterTests
+pub mod LoweredTests
 pub mod Rows
-mod PlanTests
+pub mod PlanTests
 pub mod WorkedPlans
 mod WorkedRefusals
 mod WrongPlans
