@@ -20,11 +20,11 @@ use Rattle.plan_core.proofs.RegisterTests.{are_apart}
 use Rattle.micro_image.specs.Operations.{gives}
 use Rattle.plan_run.specs.Parts.{nodes_of, lines_of, node_at, edge_at, unit_at, cycle_at, transfers_at, arc_at, line_at}
 use Rattle.plan_run.specs.Parts.{register_at, ReadsThrough, IsTransferOf, ends_at}
-use Rattle.plan_run.specs.Private.Samples.{past}
-use Rattle.plan_run.specs.Private.Overlap.{Overlap, shift_of}
-use Rattle.plan_run.specs.Private.Circle.{IsLifetime}
-use Rattle.plan_run.specs.Private.Memory.{store_of, LoadsFrom}
-use Rattle.plan_run.specs.Private.Feasible.{IsFeasibleOver}
+use Rattle.plan_run.specs.Samples.{past}
+use Rattle.plan_run.specs.Overlap.{Overlap, shift_of}
+use Rattle.plan_run.specs.Lifetimes.{IsLifetime}
+use Rattle.plan_run.specs.Memory.{store_of, LoadsFrom}
+use Rattle.plan_run.specs.Feasible.{IsFeasibleOver}
 use Rattle.plan_run.proofs.Around.{IsGapAround, apart_around, own_apart, same_around}
 use Rattle.plan_run.proofs.Elements.{nth_past, default_any}
 use Rattle.plan_run.proofs.FromRules.{all_at}

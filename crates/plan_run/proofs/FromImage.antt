@@ -26,10 +26,10 @@ use Rattle.signal_graph.specs.Rules.{word_before}
 use Rattle.plan_run.specs.Parts.{nodes_of, node_at, edge_at, unit_at, cycle_at, arc_at, line_at, register_at}
 use Rattle.plan_run.specs.Parts.{IsTransferOf, ends_at, IsCopy}
 use Rattle.plan_run.specs.ImageOf.{IsIssueOf, IsWordOf, IsImageOf, enable_of, take_of}
-use Rattle.plan_run.specs.Private.Samples.{past}
-use Rattle.plan_run.specs.Private.Overlap.{shift_of}
-use Rattle.plan_run.specs.Private.Feasible.{IsFeasible}
-use Rattle.plan_run.specs.Private.Executes.{Executes, IsIssueIn, IsTakeIn, IsEnableOf, register_in}
+use Rattle.plan_run.specs.Samples.{past}
+use Rattle.plan_run.specs.Overlap.{shift_of}
+use Rattle.plan_run.specs.Feasible.{IsFeasible}
+use Rattle.plan_run.specs.Executes.{Executes, IsIssueIn, IsTakeIn, IsEnableOf, register_in}
 use Rattle.plan_run.proofs.Ordinary as ordinary
 use Rattle.plan_run.proofs.Elements.{Contains-from_In, nth_past, found, find_among}
 use Rattle.plan_run.proofs.Samples.{split, one_more}

@@ -25,8 +25,8 @@ use Rattle.plan_core.specs.Lowered.{Origin, own, address, store, load, origins, 
 use Rattle.plan_core.specs.Lowered.{IsAddress, IsStore, IsLoad, IsLoweredOver}
 use Rattle.plan_core.specs.declared.plan.Plan.{Plan}
 use Rattle.plan_run.specs.Parts.{nodes_of, node_at, edge_at, unit_at, line_at}
-use Rattle.plan_run.specs.Private.Samples.{past}
-use Rattle.plan_run.specs.Private.Memory.{LoadsFrom}
+use Rattle.plan_run.specs.Samples.{past}
+use Rattle.plan_run.specs.Memory.{LoadsFrom}
 use Rattle.plan_run.specs.Private.Solution.{Counted, LoweredSolves, IsOfGraph, meaning, meaning_by, operand_in}
 use Rattle.plan_run.proofs.FromLowered.{made_at, made_as, own_below, own_op, own_count, own_edge, graph_node}
 use Rattle.plan_run.proofs.FromLowered.{graph_edge, edge_node, same_operands, address_op, load_op, store_op, load_of}

@@ -8,9 +8,9 @@ use Rattle.signal_graph.specs.declared.graph.Graph.{Graph}
 use Rattle.plan_core.specs.Lowered.{IsLoweredOver}
 use Rattle.plan_core.specs.declared.plan.Plan.{Plan}
 use Rattle.plan_run.specs.Parts.{nodes_of, node_at, edge_at, arc_at, ends_at}
-use Rattle.plan_run.specs.Private.Samples.{past}
-use Rattle.plan_run.specs.Private.Overlap.{Overlap}
-use Rattle.plan_run.specs.Private.Feasible.{IsFeasibleLine, IsFeasibleOver, IsFeasiblePlanOver, IsFeasiblePlan}
+use Rattle.plan_run.specs.Samples.{past}
+use Rattle.plan_run.specs.Overlap.{Overlap}
+use Rattle.plan_run.specs.Feasible.{IsFeasibleLine, IsFeasibleOver, IsFeasiblePlanOver, IsFeasiblePlan}
 use Rattle.plan_run.proofs.FromLowered.{edges_held}
 use Rattle.plan_run.proofs.Samples.{one_more}
 
@@ -38,10 +38,7 @@ module _ (stages a b : ℕ) (d : Datapath) (p : Plan) where
   -- from which sample on lifetimes keep words is said in three places
   pub kept_from : IsFeasibleOver old d p
       → b ≤ past
-      → ((v q : ℕ)
-      → v < length (nodes_of p)
-      → q < length (node_at p v).edges
-      → b + (edge_at p v q).delay ≤ past)
+      → ((v q : ℕ) → v < length (nodes_of p) → q < length (node_at p v).edges → b + (edge_at p v q).delay ≤ past)
       → ((k s : ℕ)
       → k < length p.arcs
       → b ≤ s

@@ -22,9 +22,9 @@ use Rattle.plan_core.proofs.LoweredTests.{are_all_long, has_room, held_edge, loa
 use Rattle.plan_core.proofs.PlanTests.{are_in_files}
 use Rattle.plan_core.proofs.Rows.{filter_path, byte, edge, input_node, sum_node, output_node, at, over, life}
 use Rattle.micro_image.proofs.Each.{none, more, All-from_Each}
-use Rattle.plan_run.specs.Private.Samples.{past}
-use Rattle.plan_run.specs.Private.Overlap.{Overlap}
-use Rattle.plan_run.specs.Private.Feasible.{IsFeasiblePlanOver}
+use Rattle.plan_run.specs.Samples.{past}
+use Rattle.plan_run.specs.Overlap.{Overlap}
+use Rattle.plan_run.specs.Feasible.{IsFeasiblePlanOver}
 use Rattle.plan_run.proofs.FeasibleTests.{feasible_by}
 use Rattle.plan_run.proofs.FromLowered.{sound_lowered, sound_lines}
 use Rattle.plan_run.proofs.WorkedRuns.{a_byte, no_inits, five, input_is, output_is, sum_is, pass_is}

@@ -21,8 +21,9 @@ use Rattle.micro_image.specs.declared.image.Word.{Word}
 use Rattle.micro_image.specs.Fields.{Microprogram, nth}
 use Rattle.micro_image.specs.Log.{entries_by, value}
 use Rattle.micro_image.specs.Run.{row_of}
-use Rattle.plan_run.specs.Parts.{nodes_of, node_at, edge_at, unit_at, cycle_at, transfers_at, arc_at, register_at, ends_at}
-use Rattle.plan_run.specs.Private.Overlap.{shift_of}
+use Rattle.plan_run.specs.Parts.{nodes_of, node_at, edge_at, unit_at, cycle_at, transfers_at, arc_at, register_at}
+use Rattle.plan_run.specs.Parts.{ends_at}
+use Rattle.plan_run.specs.Overlap.{shift_of}
 use Rattle.plan_run.proofs.StagedPlans.{sums_path, sums_plan, held_path, delayed_plan}
 
 -- a word of which each part is obeyed from its stage on
@@ -148,7 +149,8 @@ sums_micro =
 
 abbrev pub delayed_micro : Microprogram
 delayed_micro =
-    micro_of held_path delayed_plan (units_with held_path (pos 0 ∷ pos 0 ∷ pos 0 ∷ [])) (words_of held_path delayed_plan)
+    micro_of held_path delayed_plan (units_with held_path (pos 0 ∷ pos 0 ∷ pos 0 ∷ []))
+    (words_of held_path delayed_plan)
 
 -- for the samples 5, 6, 7 and 8 the latch holds 0 and 0, and then 5 and 6
 pub delayed_rows :

@@ -36,7 +36,7 @@ use Rattle.micro_image.specs.Valid as valid
 use Rattle.plan_run.specs.Parts.{nodes_of, node_at, arc_at, line_at}
 use Rattle.plan_run.specs.Machine.{IsMachine}
 use Rattle.plan_run.specs.ImageOf.{IsUnitOf, IsWordOf, IsImageOf, IsPreloadOf, IsCellPreload, width_of}
-use Rattle.plan_run.specs.Private.Feasible.{IsFeasible, IsFeasiblePlan}
+use Rattle.plan_run.specs.Feasible.{IsFeasible, IsFeasiblePlan}
 use Rattle.plan_run.proofs.Elements.{default_any}
 use Rattle.plan_run.proofs.FromImage.{described}
 use Rattle.plan_run.proofs.FromLowered.{made_at, made_as, own_below, graph_node}

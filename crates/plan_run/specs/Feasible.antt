@@ -16,11 +16,11 @@ use Rattle.plan_core.specs.declared.plan.Plan.{Plan}
 use Rattle.micro_image.specs.Operations.{gives}
 use Rattle.plan_run.specs.Parts.{nodes_of, lines_of, node_at, edge_at, unit_at, cycle_at, transfers_at, arc_at, line_at}
 use Rattle.plan_run.specs.Parts.{register_at, ReadsThrough, IsTransferOf, ends_at}
-use Rattle.plan_run.specs.Private.Samples.{past}
-use Rattle.plan_run.specs.Private.Overlap.{Overlap, one_by_one, shift_of, reach}
-use Rattle.plan_run.specs.Private.Circle.{IsLifetime}
-use Rattle.plan_run.specs.Private.Cells.{AreDisjoint}
-use Rattle.plan_run.specs.Private.Memory.{LoadsFrom, StoresTo, store_of}
+use Rattle.plan_run.specs.Samples.{past}
+use Rattle.plan_run.specs.Overlap.{Overlap, one_by_one, shift_of, reach}
+use Rattle.plan_run.specs.Lifetimes.{IsLifetime}
+use Rattle.plan_run.specs.Overlap.{AreDisjoint}
+use Rattle.plan_run.specs.Memory.{LoadsFrom, StoresTo, store_of}
 
 -- lifetime k, of the words of a node
 pub record IsFeasibleArc (d : Datapath) (p : Plan) (k : ℕ) : Type 0 where
