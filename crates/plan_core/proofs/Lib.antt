@@ -7,7 +7,9 @@ pub mod RegisterTests
 pub mod LoweredTests
 pub mod Rows
 pub mod PlanTests
+pub mod StagedRules
 pub mod WorkedPlans
+pub mod WorkedStages
 mod WorkedRefusals
 mod WrongPlans
 pub mod Samples

@@ -1,9 +1,8 @@
 -- Tests of what a feasible plan needs beside its lowered list, over samples that overlap. With these, a worked plan is
 -- checked by computing.
 use Rattle.std.proofs.Common.{◌≡◌, ap, arith, ℕ, ◌+◌, ◌-◌, ◌*◌, ◌%◌, ◌<◌, ◌≤◌, ◌⊎◌, ⊎_elim}
-use Rattle.std.proofs.Common.{length, slice_index_or, All, Contains, Bool, true, false}
+use Rattle.std.proofs.Common.{length, slice_index_or, All, Contains, true}
 use Rattle.std.proofs.lemmas.Bool.{cases_lt}
-use Rattle.fix_word.specs.declared.operation.Op.{Op}
 use Rattle.fix_word.specs.declared.operation.Op.TheVariants as op
 use Rattle.operations.specs.Ranges.{to_nat}
 use Rattle.datapath.specs.declared.types.Datapath.{Datapath}
@@ -13,10 +12,11 @@ use Rattle.plan_core.specs.Operands.{Reads}
 use Rattle.plan_core.specs.Circle.{AreApart}
 use Rattle.plan_core.specs.declared.schedule.Transfer.{Transfer}
 use Rattle.plan_core.specs.declared.plan.Plan.{Plan}
-use Rattle.plan_core.proofs.Tests.{Test, passed, test_of, lt, le, eq, like, both, either, implies, below, some_below}
+use Rattle.plan_core.proofs.Tests.{Test, passed, lt, le, eq, like, both, either, implies, below, some_below}
 use Rattle.plan_core.proofs.Tests.{each_of}
 use Rattle.plan_core.proofs.OperandTests.{same_port, reads}
 use Rattle.plan_core.proofs.RegisterTests.{are_apart}
+use Rattle.plan_core.proofs.StagedRules.{IsGapAround, gap_around, is_input, is_output, is_load, holds}
 use Rattle.micro_image.specs.Operations.{gives}
 use Rattle.plan_run.specs.Parts.{nodes_of, lines_of, node_at, edge_at, unit_at, cycle_at, transfers_at, arc_at, line_at}
 use Rattle.plan_run.specs.Parts.{register_at, ReadsThrough, IsTransferOf, ends_at}
@@ -25,26 +25,10 @@ use Rattle.plan_run.specs.Overlap.{Overlap, shift_of}
 use Rattle.plan_run.specs.Lifetimes.{IsLifetime}
 use Rattle.plan_run.specs.Memory.{store_of, LoadsFrom}
 use Rattle.plan_run.specs.Feasible.{IsFeasibleOver}
-use Rattle.plan_run.proofs.Around.{IsGapAround, apart_around, own_apart, same_around}
+use Rattle.plan_run.proofs.Around.{apart_around, own_apart, same_around}
 use Rattle.plan_run.proofs.Elements.{nth_past, default_any}
 use Rattle.plan_run.proofs.FromRules.{all_at}
 use Rattle.plan_run.proofs.SoundLowered.{IsSoundLowered, AreSoundLines}
-
--- a truth value that is true
-abbrev yes : (b : Bool) → Test (b ≡ true)
-yes b = test_of b (λ e. e, λ e. e)
-
-abbrev is_input : Op → Bool
-is_input op.Input = true
-is_input _ = false
-
-abbrev is_output : Op → Bool
-is_output op.Output = true
-is_output _ = false
-
-abbrev is_load : Op → Bool
-is_load op.Load = true
-is_load _ = false
 
 -- each unit has a gap, no longer than its latency
 abbrev HasGap : FunctionalUnit → Type 0
@@ -72,16 +56,10 @@ module _ (o : Overlap) (d : Datapath) (p : Plan) where
   abbrev around : ℕ → ℕ
   around t = t % d.period
 
-  abbrev is_gap_around : (gap a b : ℕ) → Test (IsGapAround d.period gap a b)
-  is_gap_around gap a b =
-      like {P = (a ≤ b → a + gap ≤ b) × (b < a → a + gap ≤ b + d.period)} (λ h. record { on = h.0; back = h.1 })
-      (λ h. (h.on, h.back))
-      (both (implies (le a b) (λ z. le (a + gap) b)) (implies (lt b a) (λ z. le (a + gap) (b + d.period))))
-
   -- What holds of each node: its edges have no delay, it ends in its stages, and its transfers go over buses that are
   -- there.
-  abbrev IsNode : ℕ → Type 0
-  IsNode v =
+  abbrev IsStagedNode : ℕ → Type 0
+  IsStagedNode v =
       ((q : ℕ) → q < length (node_at p v).edges → o.first + (edge_at p v q).delay ≤ past)
       × ((unit_at p v < length d.units)
       × ((gap_on d (unit_at p v) ≤ d.period)
@@ -90,28 +68,28 @@ module _ (o : Overlap) (d : Datapath) (p : Plan) where
       × ((is_output (node_at p v).op ≡ true → (o.stages - 1) * d.period ≤ ends_at d p v)
       × All (λ (t : Transfer). (t.bus < length d.buses) × (gives (node_at p v).op ≡ true)) (transfers_at p v))))))
 
-  abbrev are_nodes : Test ((v : ℕ) → v < count → IsNode v)
+  abbrev are_nodes : Test ((v : ℕ) → v < count → IsStagedNode v)
   are_nodes =
       below count (λ v.
       both (below (length (node_at p v).edges) (λ q. le (o.first + (edge_at p v q).delay) past))
       (both (lt (unit_at p v) (length d.units))
       (both (le (gap_on d (unit_at p v)) d.period)
       (both (lt (ends_at d p v) (o.stages * d.period))
-      (both (implies (yes (is_input (node_at p v).op)) (λ z. lt (cycle_at p v) d.period))
-      (both (implies (yes (is_output (node_at p v).op)) (λ z. le ((o.stages - 1) * d.period) (ends_at d p v)))
+      (both (implies (holds (is_input (node_at p v).op)) (λ z. lt (cycle_at p v) d.period))
+      (both (implies (holds (is_output (node_at p v).op)) (λ z. le ((o.stages - 1) * d.period) (ends_at d p v)))
       (each_of (transfers_at p v) (λ (t : Transfer). both (lt t.bus (length d.buses))
-      (yes (gives (node_at p v).op))))))))))
+      (holds (gives (node_at p v).op))))))))))
 
   -- two nodes on one unit are its gap apart on the circle
   abbrev AreUnitsFree : Type 0
   AreUnitsFree =
       (u : ℕ) → u < count → (v : ℕ) → v < count → unit_at p u ≡ unit_at p v
-      → (u ≡ v) ⊎ IsGapAround d.period (gap_on d (unit_at p u)) (around (cycle_at p u)) (around (cycle_at p v))
+      → (u ≡ v) ⊎ IsGapAround d.period (gap_on d (unit_at p u)) (cycle_at p u) (cycle_at p v)
 
   abbrev are_units_free : Test AreUnitsFree
   are_units_free =
       below count (λ u. below count (λ v. implies (eq (unit_at p u) (unit_at p v)) (λ z.
-      either (eq u v) (is_gap_around (gap_on d (unit_at p u)) (around (cycle_at p u)) (around (cycle_at p v))))))
+      either (eq u v) (gap_around d.period (gap_on d (unit_at p u)) (cycle_at p u) (cycle_at p v)))))
 
   -- a bus has the result of one node in a cycle of the circle, and a file one transfer of a result
   abbrev AreBusesFree : Type 0
@@ -173,7 +151,7 @@ module _ (o : Overlap) (d : Datapath) (p : Plan) where
       both (is_lifetime k)
       (both (eq ((arc_at p k).w + shift_of d p k * d.period) (ends_at d p (arc_at p k).node))
       (both (lt (arc_at p k).node count)
-      (both (yes (gives (node_at p (arc_at p k).node).op))
+      (both (holds (gives (node_at p (arc_at p k).node).op))
       (both (lt (arc_at p k).port.port 4)
       (some_below (length (transfers_at p (arc_at p k).node)) (λ i. same_port (transfer_of k i).port
       (arc_at p k).port)))))))
@@ -239,7 +217,7 @@ module _ (o : Overlap) (d : Datapath) (p : Plan) where
 
   abbrev are_loads_in : Test AreLoadsIn
   are_loads_in =
-      below count (λ v. implies (yes (is_load (node_at p v).op)) (λ z.
+      below count (λ v. implies (holds (is_load (node_at p v).op)) (λ z.
       below (length (lines_of p)) (λ l. below ((line_at p l).depth + 1) (λ ago.
       implies (eq (to_nat (node_at p (edge_at p v 0).node).arg) ((line_at p l).offset + ago)) (λ y.
       implies (lt 0 ago) (λ x. lt (ends_at d p (store_of (line_at p l))) (cycle_at p v + ago * d.period)))))))

@@ -13,6 +13,7 @@ use Rattle.plan_core.specs.Hardware.{unit_of, cells_on, tie_of, port_of}
 use Rattle.plan_core.specs.declared.schedule.Transfer.{Transfer}
 use Rattle.plan_core.specs.declared.registers.Arc.{Arc}
 use Rattle.plan_core.specs.declared.plan.Plan.{Plan}
+use Rattle.plan_core.proofs.WorkedStages.{sums_path, sums_plan, held_path, delayed_plan}
 use Rattle.micro_image.specs.declared.image.Enable.{Enable}
 use Rattle.micro_image.specs.declared.image.Issue.{Issue}
 use Rattle.micro_image.specs.declared.image.Take.{Take}
@@ -24,7 +25,6 @@ use Rattle.micro_image.specs.Run.{row_of}
 use Rattle.plan_run.specs.Parts.{nodes_of, node_at, edge_at, unit_at, cycle_at, transfers_at, arc_at, register_at}
 use Rattle.plan_run.specs.Parts.{ends_at}
 use Rattle.plan_run.specs.Overlap.{shift_of}
-use Rattle.plan_run.proofs.StagedPlans.{sums_path, sums_plan, held_path, delayed_plan}
 
 -- a word of which each part is obeyed from its stage on
 pub record StagedWord : Type 0 where
@@ -45,7 +45,7 @@ obeyed stage word =
     record { issues = due stage word.issues; enables = due stage word.enables; takes = due stage word.takes }
 
 -- the staged words come round
-abbrev micro_of : Datapath → Plan → List UnitDesc → List StagedWord → Microprogram
+abbrev pub micro_of : Datapath → Plan → List UnitDesc → List StagedWord → Microprogram
 micro_of d p units words = record {
   period = d.period;
   units = units;
@@ -126,7 +126,7 @@ module _ (d : Datapath) (p : Plan) where
   words_of = flat_map (λ m. map (λ c. word_of m c) (range_with_len 0 d.period)) (range_with_len 0 p.unroll)
 
 -- a unit of the path, with these registers and cells
-abbrev described : Datapath → (u : ℕ) → (cells : List ℤ) → UnitDesc
+abbrev pub described : Datapath → (u : ℕ) → (cells : List ℤ) → UnitDesc
 described d u cells = record {
   kind = (unit_of d u).kind;
   latency = (unit_of d u).latency;
@@ -136,7 +136,7 @@ described d u cells = record {
   ram = (unit_of d u).ram;
 }
 
-abbrev units_with : Datapath → (cells : List ℤ) → List UnitDesc
+abbrev pub units_with : Datapath → (cells : List ℤ) → List UnitDesc
 units_with d cells =
     described d 0 [] ∷ described d 1 [] ∷ described d 2 [] ∷ described d 3 [] ∷ described d 4 [] ∷ described d 5 cells
     ∷ described d 6 [] ∷ described d 7 [] ∷ []
