@@ -318,7 +318,7 @@ module _ (d : Datapath) (p : Plan) (ready : IsReady d p) where
 
         of-it : IsPreloadOf d p arc.port reg k i ago
         of-it = record {
-          preload = record { there = in-k; before = before; lives = lives; copy = copy' };
+          preload = record { there = in-k; before = before; kept = omega arith; lives = lives; copy = copy' };
           port_is = ap (λ (a : Arc). a.port) (sym at);
           reg_is = sym register;
         }

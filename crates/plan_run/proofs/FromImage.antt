@@ -342,6 +342,7 @@ module _ (d : Datapath) (p : Plan) (plan : IsFeasible d p) (image : Image) (is :
         preload = record {
           there = in-k;
           before = omega arith;
+          kept = omega arith;
           lives = lives_before s (arc_at p k).r d.period early upto';
           copy = copy_before s p.unroll (arc_at p k).copies life.some life.turns plan.turns early;
         };

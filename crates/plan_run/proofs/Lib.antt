@@ -32,3 +32,4 @@ mod Around
 mod FeasibleTests
 mod StagedPlans
 mod StagedRuns
+mod StagedStarts

@@ -127,6 +127,7 @@ module _ (g : Graph) (d : Datapath) (p : Plan) (machine : IsMachine d) (plan : I
           preload = record {
             there = in-k;
             before = omega (arith, before);
+            kept = omega arith;
             lives = lives;
             copy = its_copy k ago in-k (omega (arith, before)) (few_ago k ago in-k lives);
           };
