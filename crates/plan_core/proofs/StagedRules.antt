@@ -1,6 +1,6 @@
 -- Rules for worked plans whose samples overlap: what is placed takes its place in each period, so cycles count by their
 -- remainders.
-use Rattle.std.proofs.Common.{◌≡◌, ℕ, ◌+◌, ◌-◌, ◌*◌, ◌%◌, ◌<◌, ◌≤◌, Bool, true, false, List, length}
+use Rattle.std.proofs.Common.{◌≡◌, arith, ℕ, ◌+◌, ◌-◌, ◌*◌, ◌%◌, ◌<◌, ◌≤◌, Bool, true, false, List, length}
 use Rattle.fix_word.specs.declared.operation.Op.{Op}
 use Rattle.fix_word.specs.declared.operation.Op.TheVariants as op
 use Rattle.operations.specs.Ranges.{to_nat}
@@ -10,13 +10,15 @@ use Rattle.plan_core.specs.Operands.{node_of, edge_of}
 use Rattle.plan_core.specs.Assigned.{unit_in}
 use Rattle.plan_core.specs.Heights.{latency_of, IsPlacedBefore}
 use Rattle.plan_core.specs.Lowered.{line_of}
-use Rattle.plan_core.specs.ListSchedule.{cycle_of, ends, IsPlacedOver, IsListScheduleOver}
+use Rattle.plan_core.specs.ListSchedule.{cycle_of, ends, CanIssueOver, IsPlacedOver, IsListScheduleOver}
 use Rattle.plan_core.specs.Arcs.{read_cycle, IsArcsOver}
+use Rattle.plan_core.specs.Refusals.{IsWithoutCycleOver}
 use Rattle.plan_core.specs.declared.schedule.Assigned.{Assigned}
 use Rattle.plan_core.specs.declared.schedule.Schedule.{Schedule}
 use Rattle.plan_core.specs.declared.registers.Arc.{Arc}
-use Rattle.plan_core.proofs.Tests.{Test, test_of, lt, le, eq, both, implies, below}
-use Rattle.plan_core.proofs.ScheduleTests.{placed_before, are_heights, are_placed_over, scheduled_over}
+use Rattle.plan_core.proofs.Tests.{Test, passed, test_of, lt, le, eq, nay, both, implies, below}
+use Rattle.plan_core.proofs.ScheduleTests.{placed_before, are_heights, can_issue_over, is_placed_over, are_placed_over}
+use Rattle.plan_core.proofs.ScheduleTests.{scheduled_over}
 use Rattle.plan_core.proofs.RegisterTests.{are_arcs_over}
 
 -- from cycle t on, cycle u is so far around the period, and so is t from u on
@@ -95,7 +97,8 @@ module _ (stages : ℕ) (d : Datapath) (a : Assigned) where
       IsListScheduleOver (IsGapAround d.period) (IsSameAround d.period) (stages * d.period) IsInStage d a s
 
   abbrev pub are_staged : (s : Schedule) (height : ℕ → ℕ)
-      → Test ((v : ℕ) → v < length a.lowered.nodes
+      → Test ((v : ℕ)
+      → v < length a.lowered.nodes
       → IsPlacedOver (IsGapAround d.period) (IsSameAround d.period) (stages * d.period) IsInStage d a s height v)
   are_staged s height =
       are_placed_over (gap_around d.period) (same_around d.period) (stages * d.period) is_in_stage d a s height
@@ -107,6 +110,45 @@ module _ (stages : ℕ) (d : Datapath) (a : Assigned) where
       → IsStageSchedule s
   staged s height e count f =
       scheduled_over (gap_around d.period) (same_around d.period) (stages * d.period) is_in_stage d a s height e count f
+
+  -- node v has no cycle
+  abbrev pub IsWithoutStage : ℕ → Type 0
+  IsWithoutStage v =
+      IsWithoutCycleOver (IsGapAround d.period) (IsSameAround d.period) (stages * d.period) IsInStage d a v
+
+  abbrev pub are_staged_before : (s : Schedule) (height : ℕ → ℕ) (v : ℕ)
+      → Test ((u : ℕ)
+      → u < length a.lowered.nodes
+      → IsPlacedBefore height u v
+      → IsPlacedOver (IsGapAround d.period) (IsSameAround d.period) (stages * d.period) IsInStage d a s height u)
+  are_staged_before s height v =
+      below (length a.lowered.nodes) (λ u. implies (placed_before height u v) (λ z.
+      is_placed_over (gap_around d.period) (same_around d.period) (stages * d.period) is_in_stage d a s height u))
+
+  abbrev pub is_shut : (s : Schedule) (height : ℕ → ℕ) (v : ℕ)
+      → Test ((t : ℕ)
+      → t < stages * d.period
+      → CanIssueOver (IsGapAround d.period) (IsSameAround d.period) (stages * d.period) IsInStage d a s height v t
+      → ⊥)
+  is_shut s height v =
+      below (stages * d.period) (λ t. nay
+      (can_issue_over (gap_around d.period) (same_around d.period) (stages * d.period) is_in_stage d a s height v t))
+
+  pub without_stage : (s : Schedule) (height : ℕ → ℕ) (v : ℕ)
+      → v < length a.lowered.nodes
+      → 0 < latency_of d a v
+      → (are_heights d a height).passes ≡ true
+      → (are_staged_before s height v).passes ≡ true
+      → (is_shut s height v).passes ≡ true
+      → IsWithoutStage v
+  without_stage s height v there some e before shut = record {
+    height = height;
+    heights = passed (are_heights d a height) e;
+    there = there;
+    schedule = s;
+    before = λ u r. passed (are_staged_before s height v) before u r.node r.before;
+    none = λ t can. passed (is_shut s height v) shut t (omega (arith, can.fits.period, some)) can;
+  }
 
 -- a lifetime begins in the period, and is as long as it is in the sample
 module _ (d : Datapath) (a : Assigned) (s : Schedule) where

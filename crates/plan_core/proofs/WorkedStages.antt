@@ -18,7 +18,9 @@ use Rattle.plan_core.proofs.OperandTests.{is_acu_of}
 use Rattle.plan_core.proofs.AssignedTests.{is_assigned}
 use Rattle.plan_core.proofs.LoweredTests.{are_all_long, has_room, held_edge, loaded_edge}
 use Rattle.plan_core.proofs.RegisterTests.{is_unroll, is_first_fit}
-use Rattle.plan_core.proofs.StagedRules.{IsStageSchedule, staged, AreStageArcs, are_stage_arcs}
+use Rattle.plan_core.proofs.StagedRules.{IsStageSchedule, staged, IsWithoutStage, without_stage, AreStageArcs}
+use Rattle.plan_core.proofs.StagedRules.{are_stage_arcs}
+use Rattle.plan_core.proofs.Rows.{plain_path, increment_plan}
 use Rattle.plan_core.proofs.Rows.{filter_path, byte, edge, heights, input_node, sum_node, output_node, at, over, life}
 
 -- v = x@1 + v@1 with v@@1 = 5, u = v + v, y = u + x
@@ -371,4 +373,28 @@ pub delayed_unrolled : IsUnroll delayed_plan.arcs delayed_plan.unroll
 delayed_unrolled = passed (is_unroll delayed_plan.arcs delayed_plan.unroll) refl
 
 pub delayed_fitted : IsFirstFit held_path.period delayed_plan.unroll delayed_plan.arcs delayed_plan.registers.regs
-delayed_fitted = passed (is_first_fit held_path.period delayed_plan.unroll delayed_plan.arcs delayed_plan.registers.regs) refl
+delayed_fitted =
+    passed (is_first_fit held_path.period delayed_plan.unroll delayed_plan.arcs delayed_plan.registers.regs) refl
+
+-- y = x + 1 in samples of three cycles: in two stages its four nodes keep their cycles, and in one the output has none
+
+abbrev three_cycles : Datapath
+three_cycles = record (plain_path 0) { period = 3 }
+
+pub increment_scheduled : IsStageSchedule 2 three_cycles increment_plan.assigned increment_plan.schedule
+increment_scheduled =
+    staged 2 three_cycles increment_plan.assigned increment_plan.schedule (heights (3 ∷ 3 ∷ 2 ∷ 1 ∷ [])) refl refl refl
+
+one_stage_short : IsWithoutStage 1 three_cycles increment_plan.assigned 3
+one_stage_short =
+    without_stage 1 three_cycles increment_plan.assigned increment_plan.schedule (heights (3 ∷ 3 ∷ 2 ∷ 1 ∷ [])) 3
+    (omega arith) (omega arith) refl refl refl
+
+-- in samples of two cycles the one bus has two cycles for three transfers, however many stages there are
+abbrev two_cycles : Datapath
+two_cycles = record (plain_path 0) { period = 2 }
+
+bus_bound : IsWithoutStage 4 two_cycles increment_plan.assigned 2
+bus_bound =
+    without_stage 4 two_cycles increment_plan.assigned increment_plan.schedule (heights (3 ∷ 3 ∷ 2 ∷ 1 ∷ [])) 2
+    (omega arith) (omega arith) refl refl refl
