@@ -33,3 +33,4 @@ mod FeasibleTests
 mod StagedPlans
 mod StagedRuns
 mod StagedStarts
+mod StagedExecutes

@@ -14,9 +14,8 @@ use Rattle.micro_image.specs.Fields.{Microprogram}
 use Rattle.micro_image.specs.Log.{Place, Register, Latch, Cell, initial, Content}
 use Rattle.plan_run.specs.Parts.{nodes_of, lines_of, node_at, arc_at, line_at, register_at, ends_at}
 use Rattle.plan_run.specs.Samples.{past}
-use Rattle.plan_run.specs.Overlap.{Overlap, shift_of, reach}
+use Rattle.plan_run.specs.Overlap.{Overlap, shift_of, reach, AreDisjoint}
 use Rattle.plan_run.specs.Lifetimes.{IsLifetime}
-use Rattle.plan_run.specs.Overlap.{AreDisjoint}
 use Rattle.plan_run.specs.Private.Cells.{cell_in}
 use Rattle.plan_run.specs.Memory.{store_of}
 use Rattle.plan_run.specs.Private.Solution.{Counted, LoweredSolves}

@@ -24,13 +24,12 @@ use Rattle.micro_image.specs.declared.image.Image.{Image}
 use Rattle.micro_image.proofs.Lists.{map-same, In-range}
 use Rattle.plan_run.specs.Parts.{node_at}
 use Rattle.plan_run.specs.ImageOf.{IsImageOf}
-use Rattle.plan_run.specs.Run.{RunsSolution}
+use Rattle.plan_run.specs.Run.{RunsSolution, late_words, RunsSolutionLate}
 use Rattle.plan_run.specs.Samples.{past}
 use Rattle.plan_run.specs.Overlap.{Overlap, one_by_one}
 use Rattle.plan_run.specs.Private.Solution.{Counted}
 use Rattle.plan_run.specs.Feasible.{IsFeasiblePlanOver, IsFeasiblePlan}
 use Rattle.plan_run.specs.Executes.{ExecutesOver}
-use Rattle.plan_run.specs.Run.{late_words, RunsSolutionLate}
 use Rattle.plan_run.proofs.FromImage.{executes}
 use Rattle.plan_run.proofs.FromLowered.{sound_lowered, sound_lines, made_as, number_below, some_is, none_past}
 use Rattle.plan_run.proofs.FromRules.{feasible, gaps_of, count_of_unroll, first_fit_apart}

@@ -9,8 +9,7 @@ use Rattle.plan_core.specs.declared.plan.Plan.{Plan}
 use Rattle.micro_image.specs.Operations.{gives}
 use Rattle.plan_run.specs.Parts.{nodes_of, lines_of, node_at, edge_at, line_at}
 use Rattle.plan_run.specs.Samples.{past}
-use Rattle.plan_run.specs.Overlap.{Overlap}
-use Rattle.plan_run.specs.Overlap.{AreDisjoint}
+use Rattle.plan_run.specs.Overlap.{Overlap, AreDisjoint}
 use Rattle.plan_run.specs.Memory.{LoadsFrom, StoresTo}
 use Rattle.plan_run.specs.Feasible.{IsFeasibleLine}
 

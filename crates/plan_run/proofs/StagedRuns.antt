@@ -1,7 +1,7 @@
 -- The worked plans of two stages run: a processor that obeys their words, each issue, enable and take from its stage
 -- on, puts the words of the solution one sample late. The machine alone computes these rows.
-use Rattle.std.proofs.Common.{◌≡◌, ℕ, suc, ◌+◌, ◌-◌, ◌*◌, ◌/◌, ◌%◌, ◌==◌, nat_le, ◌&&◌, ◌||◌, if◌then◌else◌, refl, List}
-use Rattle.std.proofs.Common.{[], ◌∷◌, length, replicate, map, Bool, false, ℤ, pos}
+use Rattle.std.proofs.Common.{◌≡◌, ℕ, zero, suc, ◌+◌, ◌-◌, ◌*◌, ◌/◌, ◌%◌, ◌==◌, ◌&&◌, ◌||◌, if◌then◌else◌, refl, List}
+use Rattle.std.proofs.Common.{[], ◌∷◌, length, replicate, map, nat_le, Bool, true, false, ℤ, pos}
 use Rattle.std.specs.List.{flat_map, range_with_len}
 use Rattle.fix_word.specs.Values.{wrap_of}
 use Rattle.fix_word.specs.declared.operation.Op.{Op}
@@ -32,15 +32,21 @@ pub record StagedWord : Type 0 where
   pub enables : List (Enable × ℕ)
   pub takes : List (Take × ℕ)
 
-abbrev no_staged : StagedWord
+abbrev pub no_staged : StagedWord
 no_staged = record { issues = []; enables = []; takes = [] }
 
--- what has a stage of at most this one
-abbrev due : {A : Type 0} → (stage : ℕ) → List (A × ℕ) → List A
-due stage [] = []
-due stage (x ∷ xs) = if nat_le x.1 stage then x.0 ∷ due stage xs else due stage xs
+-- a stage of a sample, by the stages that have begun
+abbrev has_begun : (s stage : ℕ) → Bool
+has_begun zero stage = true
+has_begun (suc s) zero = false
+has_begun (suc s) (suc stage) = has_begun s stage
 
-abbrev obeyed : (stage : ℕ) → StagedWord → Word
+-- what has a stage of at most this one
+abbrev pub due : {A : Type 0} → (stage : ℕ) → List (A × ℕ) → List A
+due stage [] = []
+due stage (x ∷ xs) = if has_begun x.1 stage then x.0 ∷ due stage xs else due stage xs
+
+abbrev pub obeyed : (stage : ℕ) → StagedWord → Word
 obeyed stage word =
     record { issues = due stage word.issues; enables = due stage word.enables; takes = due stage word.takes }
 
@@ -83,7 +89,7 @@ module _ (d : Datapath) (p : Plan) where
       pos ((to_nat (node_at p v).arg + stage (cycle_at p v)) % cells_on d (tie_of d (unit_at p v)))
   arg_of _ v = (node_at p v).arg
 
-  abbrev issue_of : (v m : ℕ) → Issue
+  abbrev pub issue_of : (v m : ℕ) → Issue
   issue_of v m = record {
     unit = unit_at p v;
     op = (node_at p v).op;

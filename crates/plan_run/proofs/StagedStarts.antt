@@ -68,8 +68,10 @@ module _ (d : Datapath) (p : Plan) (cells : List ℤ) (words : List StagedWord) 
 sums_cells : (ram cell l ago : ℕ)
     → IsCellPreload sums_plan ram cell l ago
     → initial sums_micro (Cell ram cell) ≡ word_before (node_at sums_plan (line_at sums_plan l).node).inits ago
-sums_cells ram cell zero ago of = cell_start sums_path sums_plan _ (words_of sums_path sums_plan) ram cell 0 ago refl of refl
-sums_cells ram cell (suc zero) ago of = cell_start sums_path sums_plan _ (words_of sums_path sums_plan) ram cell 1 ago refl of refl
+sums_cells ram cell zero ago of =
+    cell_start sums_path sums_plan _ (words_of sums_path sums_plan) ram cell 0 ago refl of refl
+sums_cells ram cell (suc zero) ago of =
+    cell_start sums_path sums_plan _ (words_of sums_path sums_plan) ram cell 1 ago refl of refl
 sums_cells ram cell (suc (suc l)) ago of = absurd (omega (arith, of.there))
 
 sums_no_cell : (cell : ℕ)
@@ -86,9 +88,11 @@ sums_no_cell (suc (suc (suc (suc (suc (suc cell)))))) other = refl
 pub sums_starts : StartsWithOver two_stages sums_path sums_plan sums_micro
 sums_starts = record {
   register = λ port reg k i ago of. absurd (omega (arith, of.preload.kept, of.preload.before));
-  other_register = λ port reg none. registers_zero sums_path sums_plan _ (words_of sums_path sums_plan) port.unit port.port reg;
+  other_register = λ port reg none.
+      registers_zero sums_path sums_plan _ (words_of sums_path sums_plan) port.unit port.port reg;
   cell = sums_cells;
-  other_cell = λ ram cell none. cells_of sums_path sums_plan _ (words_of sums_path sums_plan) ram cell (λ is-ram. sums_no_cell cell (λ is-cell.
+  other_cell = λ ram cell none.
+      cells_of sums_path sums_plan _ (words_of sums_path sums_plan) ram cell (λ is-ram. sums_no_cell cell (λ is-cell.
       none 1 1 (record {
         there = omega arith;
         before = omega arith;
@@ -100,15 +104,17 @@ sums_starts = record {
 
 delayed_cells : (ram cell l ago : ℕ)
     → IsCellPreload delayed_plan ram cell l ago
-    → initial delayed_micro (Cell ram cell)
-    ≡ word_before (node_at delayed_plan (line_at delayed_plan l).node).inits ago
-delayed_cells ram cell zero ago of = cell_start held_path delayed_plan _ (words_of held_path delayed_plan) ram cell 0 ago refl of refl
+    → initial delayed_micro (Cell ram cell) ≡ word_before (node_at delayed_plan (line_at delayed_plan l).node).inits ago
+delayed_cells ram cell zero ago of =
+    cell_start held_path delayed_plan _ (words_of held_path delayed_plan) ram cell 0 ago refl of refl
 delayed_cells ram cell (suc l) ago of = absurd (omega (arith, of.there))
 
 pub delayed_starts : StartsWithOver two_stages held_path delayed_plan delayed_micro
 delayed_starts = record {
   register = λ port reg k i ago of. absurd (omega (arith, of.preload.kept, of.preload.before));
-  other_register = λ port reg none. registers_zero held_path delayed_plan _ (words_of held_path delayed_plan) port.unit port.port reg;
+  other_register = λ port reg none.
+      registers_zero held_path delayed_plan _ (words_of held_path delayed_plan) port.unit port.port reg;
   cell = delayed_cells;
-  other_cell = λ ram cell none. cells_of held_path delayed_plan _ (words_of held_path delayed_plan) ram cell (λ is-ram. nth_same 3 cell (pos 0));
+  other_cell = λ ram cell none.
+      cells_of held_path delayed_plan _ (words_of held_path delayed_plan) ram cell (λ is-ram. nth_same 3 cell (pos 0));
 }

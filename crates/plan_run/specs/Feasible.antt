@@ -17,9 +17,8 @@ use Rattle.micro_image.specs.Operations.{gives}
 use Rattle.plan_run.specs.Parts.{nodes_of, lines_of, node_at, edge_at, unit_at, cycle_at, transfers_at, arc_at, line_at}
 use Rattle.plan_run.specs.Parts.{register_at, ReadsThrough, IsTransferOf, ends_at}
 use Rattle.plan_run.specs.Samples.{past}
-use Rattle.plan_run.specs.Overlap.{Overlap, one_by_one, shift_of, reach}
+use Rattle.plan_run.specs.Overlap.{Overlap, one_by_one, shift_of, reach, AreDisjoint}
 use Rattle.plan_run.specs.Lifetimes.{IsLifetime}
-use Rattle.plan_run.specs.Overlap.{AreDisjoint}
 use Rattle.plan_run.specs.Memory.{LoadsFrom, StoresTo, store_of}
 
 -- lifetime k, of the words of a node
