@@ -124,7 +124,7 @@ is_issue v unit n regs on count zeros = record {
   unread = λ q past. zeros q;
 }
 
-one_in : {A : Type 0} (x : A) → Contains (x ∷ []) x
+pub one_in : {A : Type 0} (x : A) → Contains (x ∷ []) x
 one_in x = (0, omega arith, refl)
 
 no_pairs : {A : Type 0} (R : A → A → Type 0) → AllPairs R []

@@ -43,7 +43,7 @@ described image u = unit_of (microprogram_of image) u
 same_number : (n : ℕ) → (n == n) ≡ true
 same_number n = grind arith
 
-is_number : (n m : ℕ) → (n == m) ≡ true → n ≡ m
+pub is_number : (n m : ℕ) → (n == m) ≡ true → n ≡ m
 is_number n m h = grind (arith, h)
 
 pairs_then : {A : Type 0} {R S : A → A → Type 0} (xs : List A)

@@ -24,6 +24,8 @@ use Rattle.plan_run.specs.Run.{RunsSolutionLate}
 use Rattle.plan_run.specs.Samples.{past}
 use Rattle.plan_run.specs.Overlap.{shift_of}
 use Rattle.plan_run.specs.Executes.{register_in, IsIssueIn, IsTakeIn, IsEnableOf, ExecutesOver}
+use Rattle.plan_run.proofs.Accumulator.{one_in}
+use Rattle.plan_run.proofs.FromImage.{is_number}
 use Rattle.plan_run.proofs.Elements.{find_among}
 use Rattle.plan_run.proofs.RunsSolution.{executed_runs}
 use Rattle.plan_run.proofs.Samples.{split}
@@ -54,9 +56,6 @@ cycle_is m c less = ap (λ t. t % 2) (turned m c) ∙ add-mul-mod_self_left c 2 
 word_is : (t m c : ℕ) → c < 2 → t ≡ m * 2 + c → delayed_micro.word_at t ≡ word_in m c
 word_is t m c less e =
     ap₂ (λ m c. word_in m c) (ap (λ t. t / 2) e ∙ sample_is m c less) (ap (λ t. t % 2) e ∙ cycle_is m c less)
-
-one_in : {A : Type 0} (a : A) → Contains (a ∷ []) a
-one_in a = (0, omega arith, refl)
 
 first_of : {A : Type 0} (a b : A) → Contains (a ∷ b ∷ []) a
 first_of a b = (0, omega arith, refl)
@@ -93,9 +92,6 @@ even_later m = omega arith
 
 odd_later : (m : ℕ) → suc m * 2 + 1 ≡ m * 2 + 3
 odd_later m = omega arith
-
-equal : (a b : ℕ) → (a == b) ≡ true → a ≡ b
-equal a b e = grind (arith, e)
 
 -- what is so in each machine sample and each of its two cycles is so at all times
 at_all : (P : Word → ℕ → Type 0)
@@ -255,20 +251,21 @@ IssuesNode t u =
 first_issues : (m u : ℕ) (x : Issue) → In x (word_in m 0).issues → (x.unit == u) ≡ true → IssuesNode (m * 2 + 0) u
 first_issues zero u x among =
     of_two (λ (x : Issue). (x.unit == u) ≡ true → IssuesNode 0 u) (issue 0) (issue 3) x among
-    (λ e. (0, 0, omega arith, equal 0 u e, refl)) (λ e. (3, 0, omega arith, equal 6 u e, refl))
+    (λ e. (0, 0, omega arith, is_number 0 u e, refl)) (λ e. (3, 0, omega arith, is_number 6 u e, refl))
 first_issues (suc m) u x among =
     of_four (λ (x : Issue). (x.unit == u) ≡ true → IssuesNode (suc m * 2 + 0) u) (issue 0) (issue 2) (issue 3) (issue 5)
-    x among (λ e. (0, suc m, omega arith, equal 0 u e, refl)) (λ e. (2, m, omega arith, equal 5 u e, even_later m))
-    (λ e. (3, suc m, omega arith, equal 6 u e, refl)) (λ e. (5, m, omega arith, equal 2 u e, even_later m))
+    x among (λ e. (0, suc m, omega arith, is_number 0 u e, refl))
+    (λ e. (2, m, omega arith, is_number 5 u e, even_later m))
+    (λ e. (3, suc m, omega arith, is_number 6 u e, refl)) (λ e. (5, m, omega arith, is_number 2 u e, even_later m))
 
 second_issues : (m u : ℕ) (x : Issue) → In x (word_in m 1).issues → (x.unit == u) ≡ true → IssuesNode (m * 2 + 1) u
 second_issues zero u x among =
     of_two (λ (x : Issue). (x.unit == u) ≡ true → IssuesNode 1 u) (issue 1) (issue 4) x among
-    (λ e. (1, 0, omega arith, equal 6 u e, refl)) (λ e. (4, 0, omega arith, equal 5 u e, refl))
+    (λ e. (1, 0, omega arith, is_number 6 u e, refl)) (λ e. (4, 0, omega arith, is_number 5 u e, refl))
 second_issues (suc m) u x among =
     of_three (λ (x : Issue). (x.unit == u) ≡ true → IssuesNode (suc m * 2 + 1) u) (issue 1) (issue 4) (issue 6) x among
-    (λ e. (1, suc m, omega arith, equal 6 u e, refl)) (λ e. (4, suc m, omega arith, equal 5 u e, refl))
-    (λ e. (6, m, omega arith, equal 7 u e, odd_later m))
+    (λ e. (1, suc m, omega arith, is_number 6 u e, refl)) (λ e. (4, suc m, omega arith, is_number 5 u e, refl))
+    (λ e. (6, m, omega arith, is_number 7 u e, odd_later m))
 
 issue_only : (t u : ℕ) (x : Issue) → issue_at delayed_micro t u ≡ Some x → IssuesNode t u
 issue_only t u x =
