@@ -12,4 +12,4 @@ mod numbers;
 mod target;
 
 pub use fault::LineFault;
-pub use lowering::{lower, lower_owned};
+pub use lowering::{lower, lower_over, lower_owned};

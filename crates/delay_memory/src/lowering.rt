@@ -81,6 +81,34 @@ pub fn lower_owned(alloc: Global, graph: Graph, datapath: &Datapath) -> Result<L
     lower_to(alloc, graph, &target)
 }
 
+/// Puts the delays of a graph that are longer than this hold into memory, on a copy of the graph. Each line has so many
+/// cells beyond its longest delay: as many as there are samples in flight at a time. Else it does what `lower_owned`
+/// does.
+///
+/// # Errors
+///
+/// Those of `lower_owned`.
+pub fn lower_over(alloc: Global, graph: &Graph, datapath: &Datapath, hold: u8, spare: u8) -> Result<Lowered, LineFault>
+    requires datapath { IsDatapath datapath.now }
+    requires sound { IsGraph graph.now }
+    ensures lowered { IfOk result (IsLoweredOver hold spare graph.now datapath.now) }
+    ensures fault { IfErr result (λ fault. (fault ≡ Memory) ⊎ IsLineFaultOver hold spare graph.now datapath.now fault) }
+    // The one lowered list is always found, unless memory runs out.
+    ensures found { (l : of_lowered.Lowered) → IsLoweredOver hold spare graph.now datapath.now l
+        → (result ≡ Ok l) ⊎ (result ≡ Err Memory) }
+    // So is the first node without a line.
+    ensures refused { (fault : of_fault.LineFault) → IsLineFaultOver hold spare graph.now datapath.now fault
+        → (result ≡ Err fault) ⊎ (result ≡ Err Memory) }
+{
+    let graph = graph_copy(alloc, graph)?;
+    let target = Target {
+        datapath,
+        hold,
+        spare,
+    };
+    lower_to(alloc, graph, &target)
+}
+
 /// Does what `lower_owned` does, on a copy of the graph.
 ///
 /// # Errors
@@ -98,5 +126,5 @@ pub fn lower(alloc: Global, graph: &Graph, datapath: &Datapath) -> Result<Lowere
     ensures refused { (fault : of_fault.LineFault) → IsLineFault graph.now datapath.now fault
         → (result ≡ Err fault) ⊎ (result ≡ Err Memory) }
 {
-    lower_owned(alloc, graph_copy(alloc, graph)?, datapath)
+    lower_over(alloc, graph, datapath, datapath.hold, SPARE_CELLS)
 }

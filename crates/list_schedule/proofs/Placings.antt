@@ -256,6 +256,7 @@ module _ (d : Datapath) (a : Assigned) (is : IsProblem d a) where
             operands = λ q x r.
                 subst (λ (slot : Slot). slot.cycle + latency_of d a x ≤ t) (operand_same q x r) (o.ready q x r);
             fits = fits_from (unit_in a.units v) t o.fits;
+            allows = tt {0};
           }
 
           cannot : (t : ℕ) → IsShutAt d a p.slots p.table v ports t → CanIssue d a z b.height v t → ⊥

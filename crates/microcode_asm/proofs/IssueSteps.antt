@@ -17,7 +17,7 @@ use Rattle.plan_core.specs.declared.plan.Plan.{Plan}
 use Rattle.plan_run.proofs.SomeWord.{enough_ports}
 use Rattle.plan_run.specs.Parts.{nodes_of, node_at, edge_at, unit_at, arc_at, register_at, ReadsThrough, IsCopy}
 use Rattle.plan_run.specs.ImageOf.{IsIssueOf}
-use Rattle.plan_run.specs.Private.Feasible.{IsFeasible}
+use Rattle.plan_run.specs.Feasible.{IsFeasible}
 use Rattle.plan_run.proofs.Elements.{nth_past}
 use Rattle.plan_run.proofs.Samples.{split, one_more}
 use Rattle.plan_run.proofs.SomeWord.{copy_once}

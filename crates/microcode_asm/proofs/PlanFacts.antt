@@ -5,7 +5,7 @@ use Rattle.datapath.specs.declared.types.Datapath.{Datapath}
 use Rattle.plan_core.specs.Hardware.{latency_on, gap_on}
 use Rattle.plan_core.specs.declared.plan.Plan.{Plan}
 use Rattle.plan_run.specs.Parts.{nodes_of, unit_at, cycle_at, arc_at, ReadsThrough, ends_at}
-use Rattle.plan_run.specs.Private.Feasible.{IsFeasible}
+use Rattle.plan_run.specs.Feasible.{IsFeasible}
 use Rattle.plan_run.proofs.Ordinary as ordinary
 use Rattle.microcode_asm.specs.Private.Ready.{IsReady}
 

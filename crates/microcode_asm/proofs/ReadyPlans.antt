@@ -15,7 +15,7 @@ use Rattle.plan_run.specs.ImageOf.{IsImageOf}
 use Rattle.plan_run.specs.Machine.{IsMachine}
 use Rattle.plan_run.specs.Parts.{nodes_of, node_at}
 use Rattle.plan_run.specs.Run.{RunsSolution}
-use Rattle.plan_run.specs.Private.Feasible.{IsFeasiblePlan}
+use Rattle.plan_run.specs.Feasible.{IsFeasiblePlan}
 use Rattle.plan_run.proofs.FromLowered.{made_at, made_as, own_below, graph_node}
 use Rattle.plan_run.proofs.RunsSolution.{plan_feasible, image_runs_solution}
 use Rattle.plan_run.proofs.Valid.{image_valid}

@@ -23,7 +23,7 @@ use Rattle.micro_image.specs.declared.image.Take.{Take}
 use Rattle.micro_image.specs.Valid.{EnableBefore, TakeBefore}
 use Rattle.plan_run.specs.Parts.{nodes_of, unit_at, cycle_at, transfers_at, arc_at, register_at, IsTransferOf, ends_at}
 use Rattle.plan_run.specs.ImageOf.{IsIssueOf, enable_of, take_of}
-use Rattle.plan_run.specs.Private.Feasible.{IsFeasible}
+use Rattle.plan_run.specs.Feasible.{IsFeasible}
 use Rattle.microcode_asm.specs.Private.Ready.{IsReady}
 use Rattle.microcode_asm.specs.Private.Buses.{IsBusTo, Drives, drive_of}
 use Rattle.microcode_asm.specs.Private.Order.{IsUnitOrder}

@@ -23,7 +23,7 @@ use Rattle.micro_image.specs.Fields.{nth, no_unit}
 use Rattle.micro_image.specs.Log.{Place, Register, Cell, Latch}
 use Rattle.plan_run.specs.Parts.{nodes_of, lines_of, node_at, arc_at, line_at, register_at, IsCopy}
 use Rattle.plan_run.specs.ImageOf.{IsImageOf, IsUnitOf, IsPreloadOf, IsCellPreload}
-use Rattle.plan_run.specs.Private.Feasible.{IsFeasible}
+use Rattle.plan_run.specs.Feasible.{IsFeasible}
 use Rattle.plan_run.proofs.Ordinary.{room as line_room}
 use Rattle.plan_run.proofs.Elements.{nth_past}
 use Rattle.plan_run.proofs.SomeWord.{copy_once}
@@ -318,7 +318,7 @@ module _ (d : Datapath) (p : Plan) (ready : IsReady d p) where
 
         of-it : IsPreloadOf d p arc.port reg k i ago
         of-it = record {
-          preload = record { there = in-k; before = before; lives = lives; copy = copy' };
+          preload = record { there = in-k; before = before; kept = omega arith; lives = lives; copy = copy' };
           port_is = ap (λ (a : Arc). a.port) (sym at);
           reg_is = sym register;
         }

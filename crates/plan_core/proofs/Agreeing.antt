@@ -159,6 +159,7 @@ module _ (d : Datapath) (a : Assigned) (live : (u : ℕ) → 1 ≤ latency_on d 
           subst (λ (slot : Slot). slot.cycle + latency_of d a x ≤ t)
           (agree x (operand_earlier h hs v q x (inside v q x r.reads) r)) (c.operands q x r);
       fits = fits-same (unit_in a.units v) t c.fits;
+      allows = c.allows;
     }
 
   -- a node keeps its place in a schedule that agrees up to it

@@ -1,13 +1,15 @@
 pub mod Readers
-mod Tests
-mod OperandTests
-mod AssignedTests
-mod ScheduleTests
-mod RegisterTests
-mod LoweredTests
+pub mod Tests
+pub mod OperandTests
+pub mod AssignedTests
+pub mod ScheduleTests
+pub mod RegisterTests
+pub mod LoweredTests
 pub mod Rows
-mod PlanTests
+pub mod PlanTests
+pub mod StagedRules
 pub mod WorkedPlans
+pub mod WorkedStages
 mod WorkedRefusals
 mod WrongPlans
 pub mod Samples

@@ -8,8 +8,8 @@ use Rattle.plan_core.specs.Hardware.{port_of, file_size}
 use Rattle.plan_core.specs.Operands.{Reads}
 use Rattle.plan_core.specs.Assigned.{unit_in}
 use Rattle.plan_core.specs.ListSchedule.{ends}
-use Rattle.plan_core.specs.Arcs.{arc_of, ReadsArc, read_cycle, IsCount, IsCovered, IsArc, IsWrittenBefore, IsArcBefore}
-use Rattle.plan_core.specs.Arcs.{IsArcFor, IsArcs, IsUnroll}
+use Rattle.plan_core.specs.Arcs.{arc_of, ReadsArc, read_cycle, IsCount, IsCovered, IsArcOver, IsArc, IsWrittenBefore}
+use Rattle.plan_core.specs.Arcs.{IsArcBefore, IsArcFor, IsArcsOver, IsArcs, IsUnroll}
 use Rattle.plan_core.specs.Circle.{AreApart}
 use Rattle.plan_core.specs.FirstFit.{register_of, IsCopyBefore, IsFree, IsFirstFree, IsFirstFit}
 use Rattle.plan_core.specs.Refusals.{HasRegister}
@@ -38,7 +38,7 @@ written_before a b = either (lt a.w b.w) (both (eq a.w b.w) (lt a.node b.node))
 abbrev arc_before : (a b : Arc) → Test (IsArcBefore a b)
 arc_before a b = either (port_before a.port b.port) (both (same_port a.port b.port) (written_before a b))
 
-module _ (d : Datapath) (a : Assigned) (s : Schedule) where
+module _ (written_at : (v : ℕ) → ℕ) (read_at : (v c q : ℕ) → ℕ) (d : Datapath) (a : Assigned) where
   abbrev reads_arc : (arc : Arc) (c : ℕ) → Test (ReadsArc a arc c)
   reads_arc arc c =
       like {P = Reads a.lowered.nodes c arc.port.port arc.node × (unit_in a.units c ≡ arc.port.unit)}
@@ -46,10 +46,10 @@ module _ (d : Datapath) (a : Assigned) (s : Schedule) where
       (both (reads a.lowered.nodes c arc.port.port arc.node) (eq (unit_in a.units c) arc.port.unit))
 
   abbrev Last : Arc → Type 0
-  Last arc = (c : ℕ) → c < length a.lowered.nodes → ReadsArc a arc c → read_cycle d a s c arc.port.port ≤ arc.r
+  Last arc = (c : ℕ) → c < length a.lowered.nodes → ReadsArc a arc c → read_at arc.node c arc.port.port ≤ arc.r
 
   abbrev Read : Arc → Type 0
-  Read arc = (c : ℕ) × (c < length a.lowered.nodes) × (ReadsArc a arc c × (arc.r ≡ read_cycle d a s c arc.port.port))
+  Read arc = (c : ℕ) × (c < length a.lowered.nodes) × (ReadsArc a arc c × (arc.r ≡ read_at arc.node c arc.port.port))
 
   abbrev Least : Arc → Type 0
   Least arc =
@@ -69,9 +69,9 @@ module _ (d : Datapath) (a : Assigned) (s : Schedule) where
       both (implies (covered arc 1) (λ z. le arc.copies 1))
       (both (implies (covered arc 2) (λ z. le arc.copies 2)) (implies (covered arc 4) (λ z. le arc.copies 4)))
 
-  abbrev pub is_arc : (arc : Arc) → Test (IsArc d a s arc)
-  is_arc arc =
-      like {P = (arc.w ≡ ends d a s arc.node) × (Last arc × (Read arc × (IsCount arc.copies
+  abbrev pub is_arc_over : (arc : Arc) → Test (IsArcOver written_at read_at d a arc)
+  is_arc_over arc =
+      like {P = (arc.w ≡ written_at arc.node) × (Last arc × (Read arc × (IsCount arc.copies
       × (IsCovered d arc arc.copies × Least arc))))}
       (λ h. record {
         written = h.0;
@@ -95,11 +95,11 @@ module _ (d : Datapath) (a : Assigned) (s : Schedule) where
           ),
         ),
       ))
-      (both (eq arc.w (ends d a s arc.node))
+      (both (eq arc.w (written_at arc.node))
       (both (below (length a.lowered.nodes) (λ c. implies (reads_arc arc c)
-      (λ z. le (read_cycle d a s c arc.port.port) arc.r)))
+      (λ z. le (read_at arc.node c arc.port.port) arc.r)))
       (both (some_below (length a.lowered.nodes) (λ c. both (reads_arc arc c)
-      (eq arc.r (read_cycle d a s c arc.port.port))))
+      (eq arc.r (read_at arc.node c arc.port.port))))
       (both (is_count arc.copies)
       (both (covered arc arc.copies) (least arc))))))
 
@@ -113,9 +113,11 @@ module _ (d : Datapath) (a : Assigned) (s : Schedule) where
       (λ h. (h.node, h.port_is))
       (both (eq arc.node v) (same_port arc.port port))
 
-  abbrev pub are_arcs : (arcs : List Arc) → Test (IsArcs d a s arcs)
-  are_arcs arcs =
-      like {P = AllPairs IsArcBefore arcs × (All (IsArc d a s) arcs × ((c : ℕ) → c < length a.lowered.nodes
+  abbrev pub are_arcs_over : (arcs : List Arc) → Test (IsArcsOver written_at read_at d a arcs)
+  are_arcs_over arcs =
+      like {P =
+      AllPairs IsArcBefore arcs
+      × (All (IsArcOver written_at read_at d a) arcs × ((c : ℕ) → c < length a.lowered.nodes
       → (q v : ℕ) → Reads a.lowered.nodes c q v → Has arcs c q v))}
       (λ h. record {
         order = h.0;
@@ -124,9 +126,16 @@ module _ (d : Datapath) (a : Assigned) (s : Schedule) where
       })
       (λ h. (h.order, (h.each, λ c less q v r. h.every c q v r)))
       (both (all_pairs arcs arc_before)
-      (both (each_of arcs is_arc)
+      (both (each_of arcs is_arc_over)
       (below (length a.lowered.nodes) (λ c. each_operand a.lowered.nodes c (λ q v.
       some_below (length arcs) (λ k. is_arc_for v (port_of (unit_in a.units c) q) (arc_of arcs k)))))))
+
+-- the same in cycles of one sample
+abbrev pub is_arc : (d : Datapath) (a : Assigned) (s : Schedule) (arc : Arc) → Test (IsArc d a s arc)
+is_arc d a s arc = is_arc_over (ends d a s) (λ (v c q : ℕ). read_cycle d a s c q) d a arc
+
+abbrev pub are_arcs : (d : Datapath) (a : Assigned) (s : Schedule) (arcs : List Arc) → Test (IsArcs d a s arcs)
+are_arcs d a s arcs = are_arcs_over (ends d a s) (λ (v c q : ℕ). read_cycle d a s c q) d a arcs
 
 abbrev pub is_unroll : (arcs : List Arc) (unroll : ℕ) → Test (IsUnroll arcs unroll)
 is_unroll arcs unroll =

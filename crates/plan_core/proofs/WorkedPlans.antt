@@ -1,6 +1,5 @@
 -- The worked plans are plans.
-use Rattle.std.proofs.Common.{◌≡◌, refl, subst, arith, ℕ, zero, suc, List, [], ◌∷◌}
-use Rattle.std.specs.Prelude.{Some}
+use Rattle.std.proofs.Common.{refl, subst, arith, ℕ, zero, suc, List, [], ◌∷◌}
 use Rattle.lists.proofs.Places.{some_is}
 use Rattle.plan_core.specs.Lowered.{AreLines, IsNextLine, IsLineOf, IsLowered}
 use Rattle.plan_core.specs.Hardware.{IsAcuOf}

@@ -37,14 +37,20 @@ IsCount n = (n ≡ 1) ⊎ (n ≡ 2) ⊎ (n ≡ 4)
 abbrev pub IsCovered : Datapath → Arc → (copies : ℕ) → Type 0
 IsCovered d arc copies = arc.r ≤ arc.w + copies * d.period
 
--- the lifetime of a node's words at a port
-pub record IsArc (d : Datapath) (a : Assigned) (s : Schedule) (arc : Arc) : Type 0 where
-  pub written : arc.w ≡ ends d a s arc.node
-  pub last : (c : ℕ) → ReadsArc a arc c → read_cycle d a s c arc.port.port ≤ arc.r
-  pub read : (c : ℕ) × ReadsArc a arc c × (arc.r ≡ read_cycle d a s c arc.port.port)
-  pub count : IsCount arc.copies
-  pub covered : IsCovered d arc arc.copies
-  pub least : (copies : ℕ) → IsCount copies → IsCovered d arc copies → arc.copies ≤ copies
+-- The lifetime of a node's words at a port. The one number says in which cycle the words of a node are written, the
+-- other in which cycle node c reads them at port q.
+module _ (written_at : (v : ℕ) → ℕ) (read_at : (v c q : ℕ) → ℕ) (d : Datapath) (a : Assigned) where
+  pub record IsArcOver (arc : Arc) : Type 0 where
+    pub written : arc.w ≡ written_at arc.node
+    pub last : (c : ℕ) → ReadsArc a arc c → read_at arc.node c arc.port.port ≤ arc.r
+    pub read : (c : ℕ) × ReadsArc a arc c × (arc.r ≡ read_at arc.node c arc.port.port)
+    pub count : IsCount arc.copies
+    pub covered : IsCovered d arc arc.copies
+    pub least : (copies : ℕ) → IsCount copies → IsCovered d arc copies → arc.copies ≤ copies
+
+-- the same in cycles of one sample
+abbrev pub IsArc : Datapath → Assigned → Schedule → Arc → Type 0
+IsArc d a s arc = IsArcOver (ends d a s) (λ (v c q : ℕ). read_cycle d a s c q) d a arc
 
 -- by w, then node
 abbrev pub IsWrittenBefore : Arc → Arc → Type 0
@@ -60,12 +66,17 @@ pub record IsArcFor (v : ℕ) (port : PortRef) (arc : Arc) : Type 0 where
   pub port_is : arc.port ≡ port
 
 -- one lifetime for each node and each port that reads it, in order
-pub record IsArcs (d : Datapath) (a : Assigned) (s : Schedule) (arcs : List Arc) : Type 0 where
-  pub order : AllPairs IsArcBefore arcs
-  pub each : All (IsArc d a s) arcs
-  pub every : (c q v : ℕ)
-      → Reads a.lowered.nodes c q v
-      → (k : ℕ) × (k < length arcs) × IsArcFor v (port_of (unit_in a.units c) q) (arc_of arcs k)
+module _ (written_at : (v : ℕ) → ℕ) (read_at : (v c q : ℕ) → ℕ) (d : Datapath) (a : Assigned) where
+  pub record IsArcsOver (arcs : List Arc) : Type 0 where
+    pub order : AllPairs IsArcBefore arcs
+    pub each : All (IsArcOver written_at read_at d a) arcs
+    pub every : (c q v : ℕ)
+        → Reads a.lowered.nodes c q v
+        → (k : ℕ) × (k < length arcs) × IsArcFor v (port_of (unit_in a.units c) q) (arc_of arcs k)
+
+-- the same in cycles of one sample
+abbrev pub IsArcs : Datapath → Assigned → Schedule → List Arc → Type 0
+IsArcs d a s arcs = IsArcsOver (ends d a s) (λ (v c q : ℕ). read_cycle d a s c q) d a arcs
 
 -- the unroll factor: the greatest count of copies, and at least 1
 pub record IsUnroll (arcs : List Arc) (unroll : ℕ) : Type 0 where

@@ -8,7 +8,7 @@ use Rattle.plan_core.specs.Hardware.{port_of}
 use Rattle.plan_core.specs.Operands.{Reads}
 use Rattle.plan_core.specs.Assigned.{unit_in}
 use Rattle.plan_core.specs.Heights.{ReadsNow, latency_of, AreHeights, IsPlacedBefore}
-use Rattle.plan_core.specs.Reservations.{result_on, Fits, IsFirstBus}
+use Rattle.plan_core.specs.Reservations.{result_on, FitsOver, IsFirstBusOver, IsGapApart, IsOneCycle}
 use Rattle.plan_core.specs.declared.schedule.Assigned.{Assigned}
 use Rattle.plan_core.specs.declared.schedule.Transfer.{Transfer}
 use Rattle.plan_core.specs.declared.schedule.Slot.{Slot}
@@ -58,28 +58,49 @@ pub record IsTakenBefore (a : Assigned) (s : Schedule) (height : ℕ → ℕ) (v
   pub unit : unit_in a.units x ≡ u
   pub its_slot : slot_of s x ≡ slot
 
-module _ (d : Datapath) (a : Assigned) (s : Schedule) (height : ℕ → ℕ) where
-  -- the operands of node v of the same sample are there at cycle t
-  abbrev pub AreOperandsThere : (v t : ℕ) → Type 0
-  AreOperandsThere v t =
-      (q x : ℕ) → ReadsNow a.lowered.nodes v q x → cycle_of s x + latency_of d a x ≤ t
+-- the operands of node v of the same sample are there at cycle t
+abbrev pub AreOperandsThere : Datapath → Assigned → Schedule → (v t : ℕ) → Type 0
+AreOperandsThere d a s v t =
+    (q x : ℕ) → ReadsNow a.lowered.nodes v q x → cycle_of s x + latency_of d a x ≤ t
 
-  -- node v can be issued at cycle t
-  pub record CanIssue (v t : ℕ) : Type 0 where
-    pub operands : AreOperandsThere v t
-    pub fits : Fits d (IsTakenBefore a s height v) (IsDestination a v) (unit_in a.units v) t
+-- The rules of the reservation table; the cycle before which operations end; and what else a node asks of its cycle,
+-- where these are the places and the heights of the nodes.
+module _ (IsAway : (gap t u : ℕ) → Type 0) (IsSame : (w x : ℕ) → Type 0) (end : ℕ)
+    (Allows : Schedule → (height : ℕ → ℕ) → (v t : ℕ) → Type 0) (d : Datapath) (a : Assigned) where
+  module _ (s : Schedule) (height : ℕ → ℕ) where
+    -- node v can be issued at cycle t
+    pub record CanIssueOver (v t : ℕ) : Type 0 where
+      pub operands : AreOperandsThere d a s v t
+      pub fits :
+          FitsOver IsAway IsSame d (IsTakenBefore a s height v) end (IsDestination a v) (unit_in a.units v) t
+      pub allows : Allows s height v t
 
-  -- node v is issued at the least cycle, and its result is transferred to each port that reads it
-  pub record IsPlaced (v : ℕ) : Type 0 where
-    pub can : CanIssue v (cycle_of s v)
-    pub least : (t : ℕ) → t < cycle_of s v → CanIssue v t → ⊥
-    pub destinations : AreDestinations a v (map (λ (transfer : Transfer). transfer.port) (slot_of s v).transfers)
-    pub buses :
-        All (IsFirstBus d (IsTakenBefore a s height v) (unit_in a.units v) (ends d a s v)) (slot_of s v).transfers
+    -- node v is issued at the least cycle, and its result is transferred to each port that reads it
+    pub record IsPlacedOver (v : ℕ) : Type 0 where
+      pub can : CanIssueOver v (cycle_of s v)
+      pub least : (t : ℕ) → t < cycle_of s v → CanIssueOver v t → ⊥
+      pub destinations : AreDestinations a v (map (λ (transfer : Transfer). transfer.port) (slot_of s v).transfers)
+      pub buses :
+          All (IsFirstBusOver IsAway IsSame d (IsTakenBefore a s height v) (unit_in a.units v) (ends d a s v))
+          (slot_of s v).transfers
 
--- each node has its place
-pub record IsListSchedule (d : Datapath) (a : Assigned) (s : Schedule) : Type 0 where
-  pub height : ℕ → ℕ
-  pub heights : AreHeights d a height
-  pub count : length s.slots ≡ length a.lowered.nodes
-  pub placed : (v : ℕ) → v < length a.lowered.nodes → IsPlaced d a s height v
+  -- each node has its place
+  pub record IsListScheduleOver (s : Schedule) : Type 0 where
+    pub height : ℕ → ℕ
+    pub heights : AreHeights d a height
+    pub count : length s.slots ≡ length a.lowered.nodes
+    pub placed : (v : ℕ) → v < length a.lowered.nodes → IsPlacedOver s height v
+
+-- nothing else is asked of a cycle
+abbrev pub AnyCycle : Schedule → (height : ℕ → ℕ) → (v t : ℕ) → Type 0
+AnyCycle s height v t = Unit {0}
+
+-- the same where one sample is in flight at a time: operations end in the period
+abbrev pub CanIssue : Datapath → Assigned → Schedule → (height : ℕ → ℕ) → (v t : ℕ) → Type 0
+CanIssue d a s height v t = CanIssueOver IsGapApart IsOneCycle d.period AnyCycle d a s height v t
+
+abbrev pub IsPlaced : Datapath → Assigned → Schedule → (height : ℕ → ℕ) → (v : ℕ) → Type 0
+IsPlaced d a s height v = IsPlacedOver IsGapApart IsOneCycle d.period AnyCycle d a s height v
+
+abbrev pub IsListSchedule : Datapath → Assigned → Schedule → Type 0
+IsListSchedule d a s = IsListScheduleOver IsGapApart IsOneCycle d.period AnyCycle d a s

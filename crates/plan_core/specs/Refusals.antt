@@ -11,7 +11,8 @@ use Rattle.plan_core.specs.Operands.{node_of, Reads}
 use Rattle.plan_core.specs.Lowered.{AreLongDelays, AreLines, HasRoom, stored}
 use Rattle.plan_core.specs.Assigned.{unit_in, IsRightUnit, IsCandidate, AreUnits}
 use Rattle.plan_core.specs.Heights.{AreHeights}
-use Rattle.plan_core.specs.ListSchedule.{IsEarlier, CanIssue, IsPlaced}
+use Rattle.plan_core.specs.ListSchedule.{IsEarlier, CanIssueOver, IsPlacedOver, AnyCycle}
+use Rattle.plan_core.specs.Reservations.{IsGapApart, IsOneCycle}
 use Rattle.plan_core.specs.Arcs.{arc_of}
 use Rattle.plan_core.specs.FirstFit.{register_of, IsListedBefore, IsFree, IsFirstFree}
 use Rattle.plan_core.specs.declared.delay_lines.Line.{Line}
@@ -121,14 +122,20 @@ module _ (d : Datapath) (l : Lowered) where
     pub first : (w : ℕ) → w < u → IsRightUnit d (node_of l.nodes v) w → ⊥
     pub missing : IsOperandWithout units v u port ⊎ IsConsumerWithout units v u port
 
--- the nodes that are placed before node v have their places, and no cycle of the period is left for it
-pub record IsWithoutCycle (d : Datapath) (a : Assigned) (v : ℕ) : Type 0 where
-  pub height : ℕ → ℕ
-  pub heights : AreHeights d a height
-  pub there : v < length a.lowered.nodes
-  pub schedule : Schedule
-  pub before : (u : ℕ) → IsEarlier a height v u → IsPlaced d a schedule height u
-  pub none : (t : ℕ) → CanIssue d a schedule height v t → ⊥
+-- the nodes that are placed before node v have their places, and no cycle is left for it
+module _ (IsAway : (gap t u : ℕ) → Type 0) (IsSame : (w x : ℕ) → Type 0) (end : ℕ)
+    (Allows : Schedule → (height : ℕ → ℕ) → (v t : ℕ) → Type 0) (d : Datapath) (a : Assigned) where
+  pub record IsWithoutCycleOver (v : ℕ) : Type 0 where
+    pub height : ℕ → ℕ
+    pub heights : AreHeights d a height
+    pub there : v < length a.lowered.nodes
+    pub schedule : Schedule
+    pub before : (u : ℕ) → IsEarlier a height v u → IsPlacedOver IsAway IsSame end Allows d a schedule height u
+    pub none : (t : ℕ) → CanIssueOver IsAway IsSame end Allows d a schedule height v t → ⊥
+
+-- the same where one sample is in flight at a time: no cycle of the period is left
+abbrev pub IsWithoutCycle : Datapath → Assigned → (v : ℕ) → Type 0
+IsWithoutCycle d a v = IsWithoutCycleOver IsGapApart IsOneCycle d.period AnyCycle d a v
 
 module _ (d : Datapath) (unroll : ℕ) (arcs : List Arc) (regs : List (List ℕ)) where
   -- copy i of arc k has its register by first fit, in its file

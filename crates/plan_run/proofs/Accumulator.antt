@@ -91,7 +91,7 @@ image = record {
   words = fetch ∷ sum ∷ put ∷ replicate 13 no_word;
 }
 
-nth_same : {A : Type 0} (k c : ℕ) (x : A) → nth (replicate k x) c x ≡ x
+pub nth_same : {A : Type 0} (k c : ℕ) (x : A) → nth (replicate k x) c x ≡ x
 nth_same zero c x = refl
 nth_same (suc k) zero x = refl
 nth_same (suc k) (suc c) x = nth_same k c x
@@ -124,7 +124,7 @@ is_issue v unit n regs on count zeros = record {
   unread = λ q past. zeros q;
 }
 
-one_in : {A : Type 0} (x : A) → Contains (x ∷ []) x
+pub one_in : {A : Type 0} (x : A) → Contains (x ∷ []) x
 one_in x = (0, omega arith, refl)
 
 no_pairs : {A : Type 0} (R : A → A → Type 0) → AllPairs R []
@@ -324,6 +324,7 @@ sum_preload = record {
   preload = record {
     there = omega arith;
     before = omega arith;
+    kept = omega arith;
     lives = omega arith;
     copy = record { there = omega arith; in_turn = refl };
   };

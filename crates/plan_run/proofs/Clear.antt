@@ -22,13 +22,13 @@ use Rattle.micro_image.specs.Fields.{Microprogram, nth, unit_of, issue_at}
 use Rattle.micro_image.specs.Log.{Log, Result, result_by, operand}
 use Rattle.micro_image.proofs.Each.{In}
 use Rattle.plan_run.specs.Parts.{nodes_of, node_at, unit_at, cycle_at, arc_at, line_at, ends_at, IsTransferOf}
-use Rattle.plan_run.specs.Private.Samples.{past}
-use Rattle.plan_run.specs.Private.Overlap.{Overlap, shift_of}
+use Rattle.plan_run.specs.Samples.{past}
+use Rattle.plan_run.specs.Overlap.{Overlap, shift_of}
 use Rattle.plan_run.specs.Private.Cells.{cell_in}
-use Rattle.plan_run.specs.Private.Memory.{HasAddress, LoadsFrom, StoresTo}
+use Rattle.plan_run.specs.Memory.{HasAddress, LoadsFrom, StoresTo}
 use Rattle.plan_run.specs.Private.Solution.{Counted, LoweredSolves}
-use Rattle.plan_run.specs.Private.Feasible.{IsFeasibleOver}
-use Rattle.plan_run.specs.Private.Executes.{ExecutesOver, IsIssueIn, IsTakeIn, IsEnableOf, register_in}
+use Rattle.plan_run.specs.Feasible.{IsFeasibleOver}
+use Rattle.plan_run.specs.Executes.{ExecutesOver, IsIssueIn, IsTakeIn, IsEnableOf, register_in}
 use Rattle.plan_run.proofs.Elements.{Contains-from_In, passing, two, two_related, find_count}
 use Rattle.plan_run.proofs.Samples.{one_place, below_count}
 use Rattle.plan_run.proofs.LiveWords.{port_eq}

@@ -20,13 +20,13 @@ use Rattle.micro_image.proofs.Each.{In, In-append_left, In-append_right, In-flat
 use Rattle.micro_image.proofs.LogLaws.{content-unwritten}
 use Rattle.micro_image.proofs.LogWrites.{content-written}
 use Rattle.plan_run.specs.Parts.{nodes_of, lines_of, node_at, unit_at, cycle_at, arc_at, line_at, ends_at}
-use Rattle.plan_run.specs.Private.Samples.{past}
-use Rattle.plan_run.specs.Private.Overlap.{Overlap, shift_of}
+use Rattle.plan_run.specs.Samples.{past}
+use Rattle.plan_run.specs.Overlap.{Overlap, shift_of}
 use Rattle.plan_run.specs.Private.Cells.{cell_in}
-use Rattle.plan_run.specs.Private.Memory.{store_of}
+use Rattle.plan_run.specs.Memory.{store_of}
 use Rattle.plan_run.specs.Private.Solution.{Counted, LoweredSolves}
-use Rattle.plan_run.specs.Private.Feasible.{IsFeasibleOver, IsFeasibleLine}
-use Rattle.plan_run.specs.Private.Executes.{ExecutesOver, IsIssueIn, IsTakeIn, register_in}
+use Rattle.plan_run.specs.Feasible.{IsFeasibleOver, IsFeasibleLine}
+use Rattle.plan_run.specs.Executes.{ExecutesOver, IsIssueIn, IsTakeIn, register_in}
 use Rattle.plan_run.proofs.Elements.{In-range_of}
 use Rattle.plan_run.proofs.Samples.{one_more, below_count}
 use Rattle.plan_run.proofs.Slots.{Keeps, right}

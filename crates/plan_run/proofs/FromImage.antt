@@ -26,10 +26,10 @@ use Rattle.signal_graph.specs.Rules.{word_before}
 use Rattle.plan_run.specs.Parts.{nodes_of, node_at, edge_at, unit_at, cycle_at, arc_at, line_at, register_at}
 use Rattle.plan_run.specs.Parts.{IsTransferOf, ends_at, IsCopy}
 use Rattle.plan_run.specs.ImageOf.{IsIssueOf, IsWordOf, IsImageOf, enable_of, take_of}
-use Rattle.plan_run.specs.Private.Samples.{past}
-use Rattle.plan_run.specs.Private.Overlap.{shift_of}
-use Rattle.plan_run.specs.Private.Feasible.{IsFeasible}
-use Rattle.plan_run.specs.Private.Executes.{Executes, IsIssueIn, IsTakeIn, IsEnableOf, register_in}
+use Rattle.plan_run.specs.Samples.{past}
+use Rattle.plan_run.specs.Overlap.{shift_of}
+use Rattle.plan_run.specs.Feasible.{IsFeasible}
+use Rattle.plan_run.specs.Executes.{Executes, IsIssueIn, IsTakeIn, IsEnableOf, register_in}
 use Rattle.plan_run.proofs.Ordinary as ordinary
 use Rattle.plan_run.proofs.Elements.{Contains-from_In, nth_past, found, find_among}
 use Rattle.plan_run.proofs.Samples.{split, one_more}
@@ -43,7 +43,7 @@ described image u = unit_of (microprogram_of image) u
 same_number : (n : ℕ) → (n == n) ≡ true
 same_number n = grind arith
 
-is_number : (n m : ℕ) → (n == m) ≡ true → n ≡ m
+pub is_number : (n m : ℕ) → (n == m) ≡ true → n ≡ m
 is_number n m h = grind (arith, h)
 
 pairs_then : {A : Type 0} {R S : A → A → Type 0} (xs : List A)
@@ -342,6 +342,7 @@ module _ (d : Datapath) (p : Plan) (plan : IsFeasible d p) (image : Image) (is :
         preload = record {
           there = in-k;
           before = omega arith;
+          kept = omega arith;
           lives = lives_before s (arc_at p k).r d.period early upto';
           copy = copy_before s p.unroll (arc_at p k).copies life.some life.turns plan.turns early;
         };

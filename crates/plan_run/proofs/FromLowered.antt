@@ -23,17 +23,16 @@ use Rattle.plan_core.specs.Hardware.{tie_of}
 use Rattle.plan_core.specs.Operands.{node_of, edge_of, no_edge}
 use Rattle.plan_core.specs.Assigned.{IsAssigned, IsForRam}
 use Rattle.plan_core.specs.Lowered.{Origin, own, address, store, load, origins, stored, used, line_of, no_line}
-use Rattle.plan_core.specs.Lowered.{IsNumber, IsReadAgo, AreLongDelays, IsNextLine, IsLoweredEdge, IsLineOf, IsOwn}
-use Rattle.plan_core.specs.Lowered.{IsAddress, IsStore, IsLoad, IsMade, IsLowered, edge_now}
+use Rattle.plan_core.specs.Lowered.{IsNumber, IsReadAgo, AreLongDelays, IsNextLine, IsLoweredEdge, IsLineOf, IsOwnOver}
+use Rattle.plan_core.specs.Lowered.{IsAddress, IsStore, IsLoad, IsMadeOver, IsLoweredOver, edge_now}
 use Rattle.plan_core.specs.declared.delay_lines.Line.{Line}
 use Rattle.plan_core.specs.declared.plan.Plan.{Plan}
 use Rattle.micro_image.specs.Operations.{gives}
 use Rattle.plan_run.specs.Parts.{nodes_of, lines_of, node_at, edge_at, unit_at, line_at}
-use Rattle.plan_run.specs.Private.Samples.{past}
-use Rattle.plan_run.specs.Private.Overlap.{one_by_one}
-use Rattle.plan_run.specs.Private.Cells.{AreDisjoint}
-use Rattle.plan_run.specs.Private.Memory.{store_of, HasAddress, LoadsFrom, StoresTo}
-use Rattle.plan_run.specs.Private.Feasible.{IsFeasibleLine}
+use Rattle.plan_run.specs.Samples.{past}
+use Rattle.plan_run.specs.Overlap.{Overlap, AreDisjoint}
+use Rattle.plan_run.specs.Memory.{store_of, HasAddress, LoadsFrom, StoresTo}
+use Rattle.plan_run.specs.Feasible.{IsFeasibleLine}
 use Rattle.plan_run.proofs.Elements.{nth_past, default_any}
 use Rattle.plan_run.proofs.FromRules.{all_at}
 use Rattle.plan_run.proofs.Origins.{IsNumbered, first_of, numbered, own_once, store_number, store_once}
@@ -73,30 +72,31 @@ pub zip_edge : {A B : Type 0} (R : A → B → Type 0) (xs : List A) (ys : List 
     → R (slice_index_or xs q x) (slice_index_or ys q y)
 zip_edge R xs ys q x y zip below = zip_at R xs ys q (slice_index_or xs q x) y zip (slice_get-get_or xs q x below)
 
-used_first : (x : Line) (xs : List Line) (m ram : ℕ)
-    → used 1 (take (suc m) (x ∷ xs)) ram ≡ cond (x.ram == ram) (x.depth + 1) 0 + used 1 (take m xs) ram
-used_first x xs m ram = sum_by-cons (λ (line : Line). cond (line.ram == ram) (line.depth + 1) 0) x (take m xs)
+used_first : (spare : ℕ) (x : Line) (xs : List Line) (m ram : ℕ)
+    → used spare (take (suc m) (x ∷ xs)) ram ≡ cond (x.ram == ram) (x.depth + spare) 0 + used spare (take m xs) ram
+used_first spare x xs m ram =
+    sum_by-cons (λ (line : Line). cond (line.ram == ram) (line.depth + spare) 0) x (take m xs)
 
 -- a line ends where those behind it in its ram begin, or before
-used_above : (lines : List Line) (l m ram : ℕ)
+used_above : (spare : ℕ) (lines : List Line) (l m ram : ℕ)
     → l < m
     → l < length lines
     → (line_of lines l).ram ≡ ram
-    → used 1 (take l lines) ram + ((line_of lines l).depth + 1) ≤ used 1 (take m lines) ram
-used_above [] l m ram less below is = absurd (omega (arith, below))
-used_above (x ∷ xs) l zero ram less below is = absurd (omega (arith, less))
-used_above (x ∷ xs) zero (suc m) ram less below is =
-    let here : cond (x.ram == ram) (x.depth + 1) 0 ≡ x.depth + 1 = own_cells x.ram ram (x.depth + 1) is in
+    → used spare (take l lines) ram + ((line_of lines l).depth + spare) ≤ used spare (take m lines) ram
+used_above spare [] l m ram less below is = absurd (omega (arith, below))
+used_above spare (x ∷ xs) l zero ram less below is = absurd (omega (arith, less))
+used_above spare (x ∷ xs) zero (suc m) ram less below is =
+    let here : cond (x.ram == ram) (x.depth + spare) 0 ≡ x.depth + spare = own_cells x.ram ram (x.depth + spare) is in
     let first : (line_of (x ∷ xs) 0).depth ≡ x.depth = refl in
-    let none : used 1 (take 0 (x ∷ xs)) ram ≡ 0 = refl in
-    omega (arith, here, first, none, used_first x xs m ram)
+    let none : used spare (take 0 (x ∷ xs)) ram ≡ 0 = refl in
+    omega (arith, here, first, none, used_first spare x xs m ram)
   where
     own_cells : (a b k : ℕ) → a ≡ b → cond (a == b) k 0 ≡ k
     own_cells a b k e = grind (arith, e)
-used_above (x ∷ xs) (suc l) (suc m) ram less below is =
-    let rest = used_above xs l m ram (omega (arith, less)) (omega (arith, below)) is in
+used_above spare (x ∷ xs) (suc l) (suc m) ram less below is =
+    let rest = used_above spare xs l m ram (omega (arith, less)) (omega (arith, below)) is in
     let same : (line_of (x ∷ xs) (suc l)).depth ≡ (line_of xs l).depth = refl in
-    omega (arith, rest, same, used_first x xs l ram, used_first x xs m ram)
+    omega (arith, rest, same, used_first spare x xs l ram, used_first spare x xs m ram)
 
 pub some_is : {A : Type 0} (P : A → Type 0) (o : Option A) (x : A) → o ≡ Some x → IsSomeAnd o P → P x
 some_is P o x e h = subst (λ o. IsSomeAnd o P) e h
@@ -176,23 +176,25 @@ stored_once : (delays : List (List ℕ)) (j k : ℕ) (x y : ℕ × List ℕ)
     → j ≡ k
 stored_once delays j k x y is is' same = filtered_once 0 delays j k x y is is' same
 
-module _ (g : Graph) (d : Datapath) (p : Plan) (sound : IsGraph g) (lowered : IsLowered g d p.assigned.lowered)
-    (assigned : IsAssigned d p.assigned) where
+module _ {hold spare : ℕ} (g : Graph) (d : Datapath) (p : Plan) (sound : IsGraph g)
+    (lowered : IsLoweredOver hold spare g d p.assigned.lowered) (assigned : IsAssigned d p.assigned) where
   -- each node of the lowered list is made
   pub record IsMadeAt (i : ℕ) : Type 0 where
     pub origin : Origin
     pub number : IsNumber lowered.delays origin i
-    pub made : IsMade g d p.assigned.lowered lowered.delays origin (node_at p i)
+    pub made : IsMadeOver g d p.assigned.lowered lowered.delays hold origin (node_at p i)
 
   origin_count : length (origins lowered.delays) ≡ length (nodes_of p)
   origin_count =
-      zip_length (IsMade g d p.assigned.lowered lowered.delays) (origins lowered.delays) (nodes_of p) lowered.nodes
+      zip_length (IsMadeOver g d p.assigned.lowered lowered.delays hold) (origins lowered.delays) (nodes_of p)
+      lowered.nodes
 
   pub made_as : (o : Origin) (i : ℕ)
       → IsNumber lowered.delays o i
-      → IsMade g d p.assigned.lowered lowered.delays o (node_at p i)
+      → IsMadeOver g d p.assigned.lowered lowered.delays hold o (node_at p i)
   made_as o i number =
-      zip_at (IsMade g d p.assigned.lowered lowered.delays) (origins lowered.delays) (nodes_of p) i o _ lowered.nodes
+      zip_at (IsMadeOver g d p.assigned.lowered lowered.delays hold) (origins lowered.delays) (nodes_of p) i o _
+      lowered.nodes
       number
 
   pub number_below : (o : Origin) (i : ℕ) → IsNumber lowered.delays o i → i < length (nodes_of p)
@@ -220,9 +222,9 @@ module _ (g : Graph) (d : Datapath) (p : Plan) (sound : IsGraph g) (lowered : Is
       let same : v ≡ at.v = at.belongs.node in
       omega (arith, node_below (own v) i at, same)
 
-  are_long : (v : ℕ) (long : List ℕ) → slice_get lowered.delays v ≡ Some long → AreLongDelays g d.hold v long
+  are_long : (v : ℕ) (long : List ℕ) → slice_get lowered.delays v ≡ Some long → AreLongDelays g hold v long
   are_long v long is =
-      subst (AreLongDelays g d.hold v) (get_or_from_slice_get lowered.delays v long [] is)
+      subst (AreLongDelays g hold v) (get_or_from_slice_get lowered.delays v long [] is)
       (lowered.long v (omega (arith, slice_get_within lowered.delays v long is, lowered.delay_count)))
 
   pub graph_node : (v : ℕ) → v < length g.nodes → IsNode g (node_of g.nodes v)
@@ -265,7 +267,7 @@ module _ (g : Graph) (d : Datapath) (p : Plan) (sound : IsGraph g) (lowered : Is
       → (node_of g.nodes v).op ≢ op.Output
       → gives (node_at p i).op ≡ true
   own_result v i number other =
-      let made : IsOwn g d p.assigned.lowered lowered.delays v (node_at p i) = made_as (own v) i number in
+      let made : IsOwnOver g d p.assigned.lowered lowered.delays hold v (node_at p i) = made_as (own v) i number in
       ap (λ (node : Node). gives node.op) made.rest
       ∙ gives_result (node_of g.nodes v).op (graph_node v (own_below v i number)).operation other
 
@@ -294,7 +296,7 @@ module _ (g : Graph) (d : Datapath) (p : Plan) (sound : IsGraph g) (lowered : Is
     pub stored_at : slice_get (stored lowered.delays) l ≡ Some (v, long)
     pub delays_are : slice_get lowered.delays v ≡ Some long
     pub some : 0 < length long
-    pub next : IsNextLine 1 d lowered.delays (take l (lines_of p)) v long (line_at p l)
+    pub next : IsNextLine spare d lowered.delays (take l (lines_of p)) v long (line_at p l)
 
   pub line_for : (l : ℕ) → l < length (lines_of p) → IsLineFor l
   line_for l in-l =
@@ -342,22 +344,22 @@ module _ (g : Graph) (d : Datapath) (p : Plan) (sound : IsGraph g) (lowered : Is
 
   pub own_edge : (v i q : ℕ) (number : IsNumber lowered.delays (own v) i)
       → q < length (node_at p i).edges
-      → IsLoweredEdge d.hold lowered.delays (edge_at p i q) (edge_of (node_of g.nodes v) q)
+      → IsLoweredEdge hold lowered.delays (edge_at p i q) (edge_of (node_of g.nodes v) q)
   own_edge v i q number in-q =
-      let made : IsOwn g d p.assigned.lowered lowered.delays v (node_at p i) = made_as (own v) i number in
-      zip_edge (IsLoweredEdge d.hold lowered.delays) (node_at p i).edges (node_of g.nodes v).edges q no_edge no_edge
+      let made : IsOwnOver g d p.assigned.lowered lowered.delays hold v (node_at p i) = made_as (own v) i number in
+      zip_edge (IsLoweredEdge hold lowered.delays) (node_at p i).edges (node_of g.nodes v).edges q no_edge no_edge
       made.edges in-q
 
   pub own_count : (v i : ℕ)
       → IsNumber lowered.delays (own v) i
       → length (node_at p i).edges ≡ length (node_of g.nodes v).edges
   own_count v i number =
-      let made : IsOwn g d p.assigned.lowered lowered.delays v (node_at p i) = made_as (own v) i number in
-      zip_length (IsLoweredEdge d.hold lowered.delays) (node_at p i).edges (node_of g.nodes v).edges made.edges
+      let made : IsOwnOver g d p.assigned.lowered lowered.delays hold v (node_at p i) = made_as (own v) i number in
+      zip_length (IsLoweredEdge hold lowered.delays) (node_at p i).edges (node_of g.nodes v).edges made.edges
 
   pub own_op : (v i : ℕ) → IsNumber lowered.delays (own v) i → (node_at p i).op ≡ (node_of g.nodes v).op
   own_op v i number =
-      let made : IsOwn g d p.assigned.lowered lowered.delays v (node_at p i) = made_as (own v) i number in
+      let made : IsOwnOver g d p.assigned.lowered lowered.delays hold v (node_at p i) = made_as (own v) i number in
       ap (λ (node : Node). node.op) made.rest
 
   address_edges : (v ago i : ℕ) → IsNumber lowered.delays (address v ago) i → (node_at p i).edges ≡ []
@@ -386,6 +388,7 @@ module _ (g : Graph) (d : Datapath) (p : Plan) (sound : IsGraph g) (lowered : Is
   pub record LeadsTo (edge : Edge) : Type 0 where
     pub there : edge.node < length (nodes_of p)
     pub delay : edge.delay < past
+    pub held : edge.delay ≤ hold
     pub result : gives (node_at p edge.node).op ≡ true
 
   addr_gives : (o : Op) → o ≡ op.Addr → gives o ≡ true
@@ -398,7 +401,12 @@ module _ (g : Graph) (d : Datapath) (p : Plan) (sound : IsGraph g) (lowered : Is
       → IsNumber lowered.delays o node
       → gives (node_at p node).op ≡ true
       → LeadsTo (record { node = node; delay = 0 })
-  now_leads node o number result = record { there = number_below o node number; delay = omega arith; result = result }
+  now_leads node o number result = record {
+    there = number_below o node number;
+    delay = omega arith;
+    held = omega arith;
+    result = result;
+  }
 
   -- a node with a delay line is read
   line_result : (l : ℕ) → (is : IsLineFor l) → gives (node_at p (line_at p l).node).op ≡ true
@@ -426,23 +434,25 @@ module _ (g : Graph) (d : Datapath) (p : Plan) (sound : IsGraph g) (lowered : Is
       let in-v : v < length g.nodes = own_below v i number in
       let in-old : q < length (node_of g.nodes v).edges = omega (arith, in-q, own_count v i number) in
       let leads = edge_node v q in-v in-old in
-      let is : IsLoweredEdge d.hold lowered.delays (edge_at p i q) old = own_edge v i q number in-q in
+      let is : IsLoweredEdge hold lowered.delays (edge_at p i q) old = own_edge v i q number in-q in
       ⊎_elim
-      (λ (long : d.hold < old.delay).
+      (λ (long : hold < old.delay).
       let to = is.loaded long in
       record {
         there = number_below (load old.node old.delay) (edge_at p i q).node to.0;
         delay = omega (arith, to.1);
+        held = omega (arith, to.1);
         result = load_gives _ (load_op old.node old.delay (edge_at p i q).node to.0);
       })
-      (λ (short : old.delay ≤ d.hold).
+      (λ (short : old.delay ≤ hold).
       let to = is.held short in
       record {
         there = number_below (own old.node) (edge_at p i q).node to.0;
         delay = omega (arith, to.1, (graph_edge v q in-v in-old).delay);
+        held = omega (arith, to.1, short);
         result = own_result old.node (edge_at p i q).node to.0 leads.1;
       })
-      (cases_lt d.hold old.delay)
+      (cases_lt hold old.delay)
 
   edge_is : (i q : ℕ) (edges : List Edge) (edge : Edge)
       → (node_at p i).edges ≡ edges
@@ -514,7 +524,7 @@ module _ (g : Graph) (d : Datapath) (p : Plan) (sound : IsGraph g) (lowered : Is
     where
       by : (o : Origin) → IsNumber lowered.delays o i → IsOutputOf i
       by (own v) number =
-          let made : IsOwn g d p.assigned.lowered lowered.delays v (node_at p i) = made_as (own v) i number in
+          let made : IsOwnOver g d p.assigned.lowered lowered.delays hold v (node_at p i) = made_as (own v) i number in
           record {
             v = v;
             number = number;
@@ -573,6 +583,10 @@ module _ (g : Graph) (d : Datapath) (p : Plan) (sound : IsGraph g) (lowered : Is
     result = λ c q v in-c reads.
         subst (λ v. gives (node_at p v).op ≡ true) reads.node (leads_to c q in-c reads.port).result;
   }
+
+  -- no delay of the lowered list is above the hold
+  pub edges_held : (i q : ℕ) → i < length (nodes_of p) → q < length (node_at p i).edges → (edge_at p i q).delay ≤ hold
+  edges_held i q in-i in-q = (leads_to i q in-i in-q).held
 
   -- Memory.
 
@@ -669,14 +683,14 @@ module _ (g : Graph) (d : Datapath) (p : Plan) (sound : IsGraph g) (lowered : Is
   its_node l for is =
       ap (λ (x : ℕ × List ℕ). x.0) (same_Some (is.v, is.long) (for.v, for.long) (sym is.stored_at ∙ for.stored_at))
 
-  feasible_line : (l : ℕ) → l < length (lines_of p) → IsFeasibleLine one_by_one d p l
-  feasible_line l in-l =
+  feasible_line : (o : Overlap) → o.stages - 1 < spare → (l : ℕ) → l < length (lines_of p) → IsFeasibleLine o d p l
+  feasible_line o enough l in-l =
       let for = line_for l in-l in
       let long = are_long for.v for.long for.delays_are in
       let depth = for.next.depth in
       let reads = all_at (λ k. IsReadAgo g for.v k) for.long (line_at p l).depth long.read depth in
-      let above : d.hold < (line_at p l).depth =
-      all_at (λ k. d.hold < k) for.long (line_at p l).depth long.long depth in
+      let above : hold < (line_at p l).depth =
+      all_at (λ k. hold < k) for.long (line_at p l).depth long.long depth in
       let c : ℕ = reads.consumer in
       let in-c : c < length g.nodes = graph_reader g c reads.port reads.reads.port in
       let number = stored_node l in-l for in
@@ -684,38 +698,41 @@ module _ (g : Graph) (d : Datapath) (p : Plan) (sound : IsGraph g) (lowered : Is
         node = number_below (own for.v) (line_at p l).node for.next.node;
         store = number_below (store for.v) (store_of (line_at p l)) number;
         stores = stores_to for.v (store_of (line_at p l)) l number in-l (λ is. its_node l for is);
-        room = omega (arith, for.next.room.room, for.next.offset);
+        room = omega (arith, for.next.room.room, for.next.offset, enough);
         some = omega (arith, above);
         depth = omega (arith, reads.delay, (graph_edge c reads.port in-c reads.reads.port).delay);
       }
 
+  -- a line ends, with its spare cells, where those behind it in its ram begin, or before
   line_ends : (l m : ℕ)
       → l < m
       → l < length (lines_of p)
       → m < length (lines_of p)
       → (line_at p l).ram ≡ (line_at p m).ram
-      → (line_at p l).offset + (line_at p l).depth < (line_at p m).offset
+      → (line_at p l).offset + ((line_at p l).depth + spare) ≤ (line_at p m).offset
   line_ends l m less in-l in-m ram =
       omega (
         arith,
-        used_above (lines_of p) l m (line_at p l).ram less in-l refl,
+        used_above spare (lines_of p) l m (line_at p l).ram less in-l refl,
         (line_for l in-l).next.offset,
         (line_for m in-m).next.offset,
-        ap (used 1 (take m (lines_of p))) ram,
+        ap (used spare (take m (lines_of p))) ram,
       )
 
-  lines_apart : (l m : ℕ)
+  lines_apart : (o : Overlap)
+      → o.stages - 1 < spare
+      → (l m : ℕ)
       → l < length (lines_of p)
       → m < length (lines_of p)
       → (line_at p l).ram ≡ (line_at p m).ram
-      → (l ≡ m) ⊎ AreDisjoint one_by_one (line_at p l) (line_at p m)
-  lines_apart l m in-l in-m ram =
+      → (l ≡ m) ⊎ AreDisjoint o (line_at p l) (line_at p m)
+  lines_apart o enough l m in-l in-m ram =
       ⊎_elim
       (λ same. inl same)
       (λ other.
       inr (⊎_elim
-      (λ (less : l < m). inl (omega (arith, line_ends l m less in-l in-m ram)))
-      (λ (less : m < l). inr (omega (arith, line_ends m l less in-m in-l (sym ram))))
+      (λ (less : l < m). inl (omega (arith, line_ends l m less in-l in-m ram, enough)))
+      (λ (less : m < l). inr (omega (arith, line_ends m l less in-m in-l (sym ram), enough)))
       other))
       (cases_order l m)
 
@@ -735,8 +752,8 @@ module _ (g : Graph) (d : Datapath) (p : Plan) (sound : IsGraph g) (lowered : Is
       same_Some at.long for.long
       (sym at.delays_are ∙ ap (slice_get lowered.delays) (sym node ∙ sym its) ∙ for.delays_are) in
       let among : Contains for.long ago = subst (λ long. Contains long ago) long at.belongs.is_in in
-      let above : d.hold < ago =
-      all_at (λ k. d.hold < k) for.long ago (are_long for.v for.long for.delays_are).long among in (
+      let above : hold < ago =
+      all_at (λ k. hold < k) for.long ago (are_long for.v for.long for.delays_are).long among in (
         l,
         record {
           there = is.1;
@@ -802,11 +819,11 @@ module _ (g : Graph) (d : Datapath) (p : Plan) (sound : IsGraph g) (lowered : Is
       let is = line_is of.0 made.line made.its_line in
       (is.0, stores_to of.0 i is.0 of.1 is.1 is.3)
 
-  -- and its delay lines
-  pub sound_lines : AreSoundLines one_by_one d p
-  sound_lines = record {
-    lines = feasible_line;
-    lines_apart = lines_apart;
+  -- And its delay lines are, where each has so many spare cells as a sample has stages, or more.
+  pub sound_lines : (o : Overlap) → o.stages - 1 < spare → AreSoundLines o d p
+  sound_lines o enough = record {
+    lines = feasible_line o enough;
+    lines_apart = lines_apart o enough;
     loads = λ i in-i e.
         let of = load_of i in-i e in
         let from = loads_from of.0 of.1 i of.2 in

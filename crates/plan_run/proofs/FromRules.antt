@@ -24,10 +24,10 @@ use Rattle.plan_core.proofs.Readers.{operands_few, reader_there}
 use Rattle.micro_image.specs.Operations.{gives}
 use Rattle.plan_run.specs.Parts.{nodes_of, node_at, edge_at, unit_at, cycle_at, transfers_at, arc_at, ReadsThrough}
 use Rattle.plan_run.specs.Parts.{IsTransferOf, ends_at}
-use Rattle.plan_run.specs.Private.Samples.{past}
-use Rattle.plan_run.specs.Private.Overlap.{one_by_one}
-use Rattle.plan_run.specs.Private.Circle.{IsLifetime}
-use Rattle.plan_run.specs.Private.Feasible.{IsFeasible, IsFeasibleArc, AreRegistersApart}
+use Rattle.plan_run.specs.Samples.{past}
+use Rattle.plan_run.specs.Overlap.{one_by_one}
+use Rattle.plan_run.specs.Lifetimes.{IsLifetime}
+use Rattle.plan_run.specs.Feasible.{IsFeasible, IsFeasibleArc, AreRegistersApart}
 use Rattle.plan_run.proofs.Elements.{nth_past, default_any}
 use Rattle.plan_run.proofs.Ordinary.{no_shift, end_below, unit_free_in_all, ends_same, ends_early, ends_before}
 use Rattle.plan_run.proofs.SoundLowered.{IsSoundLowered, AreSoundLines}

@@ -21,11 +21,11 @@ use Rattle.plan_run.specs.Parts.{nodes_of, node_at, edge_at, unit_at, cycle_at, 
 use Rattle.plan_run.specs.Machine.{IsMachine}
 use Rattle.plan_run.specs.ImageOf.{IsImageOf}
 use Rattle.plan_run.specs.Instances.{found_write, IsInstance, FindsInstances}
-use Rattle.plan_run.specs.Private.Samples.{past}
-use Rattle.plan_run.specs.Private.Overlap.{Overlap, shift_of}
+use Rattle.plan_run.specs.Samples.{past}
+use Rattle.plan_run.specs.Overlap.{Overlap, shift_of}
 use Rattle.plan_run.specs.Private.Solution.{Counted, LoweredSolves}
-use Rattle.plan_run.specs.Private.Feasible.{IsFeasibleOver, IsFeasiblePlan}
-use Rattle.plan_run.specs.Private.Executes.{ExecutesOver, IsIssueIn}
+use Rattle.plan_run.specs.Feasible.{IsFeasibleOver, IsFeasiblePlan}
+use Rattle.plan_run.specs.Executes.{ExecutesOver, IsIssueIn}
 use Rattle.plan_run.proofs.Contents.{all_right, is_written}
 use Rattle.plan_run.proofs.FromImage.{executes}
 use Rattle.plan_run.proofs.LiveWords.{LiveWord, in_register, place_of, written_at, wanted_to, words_apart, lives}

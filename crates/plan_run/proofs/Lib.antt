@@ -27,3 +27,10 @@ pub mod SomeWord
 pub mod SomeImage
 pub mod Accumulator
 pub mod WorkedRuns
+pub mod OneStage
+mod Around
+mod FeasibleTests
+mod StagedPlans
+mod StagedRuns
+mod StagedStarts
+mod StagedExecutes

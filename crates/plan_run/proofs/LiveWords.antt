@@ -13,14 +13,14 @@ use Rattle.plan_core.specs.declared.plan.Plan.{Plan}
 use Rattle.micro_image.specs.Fields.{Microprogram}
 use Rattle.micro_image.specs.Log.{Place, Register, Latch, Cell, initial, Content}
 use Rattle.plan_run.specs.Parts.{nodes_of, lines_of, node_at, arc_at, line_at, register_at, ends_at}
-use Rattle.plan_run.specs.Private.Samples.{past}
-use Rattle.plan_run.specs.Private.Overlap.{Overlap, shift_of, reach}
-use Rattle.plan_run.specs.Private.Circle.{IsLifetime}
-use Rattle.plan_run.specs.Private.Cells.{cell_in, AreDisjoint}
-use Rattle.plan_run.specs.Private.Memory.{store_of}
+use Rattle.plan_run.specs.Samples.{past}
+use Rattle.plan_run.specs.Overlap.{Overlap, shift_of, reach, AreDisjoint}
+use Rattle.plan_run.specs.Lifetimes.{IsLifetime}
+use Rattle.plan_run.specs.Private.Cells.{cell_in}
+use Rattle.plan_run.specs.Memory.{store_of}
 use Rattle.plan_run.specs.Private.Solution.{Counted, LoweredSolves}
-use Rattle.plan_run.specs.Private.Feasible.{IsFeasibleOver, IsFeasibleLine}
-use Rattle.plan_run.specs.Private.Executes.{ExecutesOver, register_in}
+use Rattle.plan_run.specs.Feasible.{IsFeasibleOver, IsFeasibleLine}
+use Rattle.plan_run.specs.Executes.{ExecutesOver, register_in}
 use Rattle.plan_run.proofs.Lines.{cells-apart, past-cell, line_end}
 use Rattle.plan_run.proofs.Samples.{one_more, sample_below}
 use Rattle.plan_run.proofs.Spans.{never-both, same-copy}

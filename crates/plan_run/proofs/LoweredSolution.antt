@@ -21,12 +21,12 @@ use Rattle.signal_graph.specs.declared.graph.Graph.{Graph}
 use Rattle.plan_core.specs.Hardware.{cells_on, tie_of}
 use Rattle.plan_core.specs.Operands.{node_of, edge_of, no_edge}
 use Rattle.plan_core.specs.Assigned.{IsAssigned}
-use Rattle.plan_core.specs.Lowered.{Origin, own, address, store, load, origins, IsNumber, IsLoweredEdge, IsOwn}
-use Rattle.plan_core.specs.Lowered.{IsAddress, IsStore, IsLoad, IsLowered}
+use Rattle.plan_core.specs.Lowered.{Origin, own, address, store, load, origins, IsNumber, IsLoweredEdge, IsOwnOver}
+use Rattle.plan_core.specs.Lowered.{IsAddress, IsStore, IsLoad, IsLoweredOver}
 use Rattle.plan_core.specs.declared.plan.Plan.{Plan}
 use Rattle.plan_run.specs.Parts.{nodes_of, node_at, edge_at, unit_at, line_at}
-use Rattle.plan_run.specs.Private.Samples.{past}
-use Rattle.plan_run.specs.Private.Memory.{LoadsFrom}
+use Rattle.plan_run.specs.Samples.{past}
+use Rattle.plan_run.specs.Memory.{LoadsFrom}
 use Rattle.plan_run.specs.Private.Solution.{Counted, LoweredSolves, IsOfGraph, meaning, meaning_by, operand_in}
 use Rattle.plan_run.proofs.FromLowered.{made_at, made_as, own_below, own_op, own_count, own_edge, graph_node}
 use Rattle.plan_run.proofs.FromLowered.{graph_edge, edge_node, same_operands, address_op, load_op, store_op, load_of}
@@ -111,8 +111,9 @@ module _ (g : Graph) (stream : Rows) (words : Words) (sound : IsGraph g) (solves
       from : (n ago : ℕ) → ago ≤ n → past + n - ago ≡ past + (n - ago)
       from n ago le = omega (arith, le)
 
-module _ (g : Graph) (d : Datapath) (p : Plan) (sound : IsGraph g) (lowered : IsLowered g d p.assigned.lowered)
-    (assigned : IsAssigned d p.assigned) (stream : Rows) (words : Words) (solves : GraphSolves g stream words) where
+module _ {hold spare : ℕ} (g : Graph) (d : Datapath) (p : Plan) (sound : IsGraph g)
+    (lowered : IsLoweredOver hold spare g d p.assigned.lowered) (assigned : IsAssigned d p.assigned) (stream : Rows)
+    (words : Words) (solves : GraphSolves g stream words) where
   -- the words of the nodes of the lowered list
   abbrev pub lowered_words : Counted
   lowered_words i s = word_by g d p words (slice_get (origins lowered.delays) i) i s
@@ -124,7 +125,7 @@ module _ (g : Graph) (d : Datapath) (p : Plan) (sound : IsGraph g) (lowered : Is
 
   own_inits : (v i : ℕ) → IsNumber lowered.delays (own v) i → (node_at p i).inits ≡ (node_of g.nodes v).inits
   own_inits v i number =
-      let made : IsOwn g d p.assigned.lowered lowered.delays v (node_at p i) =
+      let made : IsOwnOver g d p.assigned.lowered lowered.delays hold v (node_at p i) =
       made_as g d p sound lowered assigned (own v) i number in
       ap (λ (node : Node). node.inits) made.rest
 
@@ -172,20 +173,20 @@ module _ (g : Graph) (d : Datapath) (p : Plan) (sound : IsGraph g) (lowered : Is
       let there : old.node < length g.nodes = (edge_node g d p sound lowered assigned v q in-v in-q).0 in
       let in-new : q < length (node_at p i).edges =
       omega (arith, in-q, own_count g d p sound lowered assigned v i number) in
-      let is : IsLoweredEdge d.hold lowered.delays (edge_at p i q) old =
+      let is : IsLoweredEdge hold lowered.delays (edge_at p i q) old =
       own_edge g d p sound lowered assigned v i q number in-new in
       ⊎_elim
-      (λ (long : d.hold < old.delay).
+      (λ (long : hold < old.delay).
       let to = is.loaded long in
       word_is (load old.node old.delay) (edge_at p i q).node (past + n - (edge_at p i q).delay) to.0
       ∙ ap (λ s. if nat_lt s past then pos 0 else counted g words old.node (s - old.delay))
       (same_number n (edge_at p i q).delay to.1)
       ∙ late _ _ n)
-      (λ (short : old.delay ≤ d.hold).
+      (λ (short : old.delay ≤ hold).
       let to = is.held short in
       word_is (own old.node) (edge_at p i q).node (past + n - (edge_at p i q).delay) to.0
       ∙ ap (λ ago. counted g words old.node (past + n - ago)) to.1)
-      (cases_lt d.hold old.delay)
+      (cases_lt hold old.delay)
       ∙ counted_back g stream words sound solves old.node n old.delay there small
       ∙ sym (get_or-map (λ (edge : Edge). words edge.node (pos n -ℤ pos edge.delay)) (node_of g.nodes v).edges q no_edge
       (pos 0) in-q)
@@ -207,7 +208,7 @@ module _ (g : Graph) (d : Datapath) (p : Plan) (sound : IsGraph g) (lowered : Is
           → word_by g d p words (Some o) i (past + n)
           ≡ meaning (node_at p i) stream n (operand_in lowered_words (node_at p i) n)
       by (own v) number =
-          let made : IsOwn g d p.assigned.lowered lowered.delays v (node_at p i) =
+          let made : IsOwnOver g d p.assigned.lowered lowered.delays hold v (node_at p i) =
           made_as g d p sound lowered assigned (own v) i number in
           let in-v : v < length g.nodes = own_below g d p sound lowered assigned v i number in
           let node : Node = node_of g.nodes v in

@@ -26,8 +26,8 @@ use Rattle.micro_image.specs.Log.{Register, Cell, initial}
 use Rattle.micro_image.specs.Valid.{EnableBefore, TakeBefore}
 use Rattle.plan_run.specs.Parts.{nodes_of, node_at, edge_at, arc_at, IsCopy}
 use Rattle.plan_run.specs.ImageOf.{IsUnitOf, IsIssueOf, IsWordOf, IsImageOf, IsPreloadOf, IsCellPreload, StartsWith}
-use Rattle.plan_run.specs.Private.Samples.{past}
-use Rattle.plan_run.specs.Private.Feasible.{IsFeasible}
+use Rattle.plan_run.specs.Samples.{past}
+use Rattle.plan_run.specs.Feasible.{IsFeasible}
 use Rattle.plan_run.proofs.Ordinary.{delay_in}
 use Rattle.plan_run.proofs.FromImage.{described, copy_read}
 use Rattle.plan_run.proofs.Samples.{below_count, split}

@@ -8,10 +8,10 @@ use Rattle.plan_core.specs.declared.schedule.Transfer.{Transfer}
 use Rattle.plan_core.specs.declared.plan.Plan.{Plan}
 use Rattle.plan_run.specs.Parts.{nodes_of, lines_of, edge_at, node_at, unit_at, cycle_at, transfers_at, arc_at, line_at}
 use Rattle.plan_run.specs.Parts.{register_at, ends_at}
-use Rattle.plan_run.specs.Private.Samples.{past}
-use Rattle.plan_run.specs.Private.Overlap.{shift_of}
-use Rattle.plan_run.specs.Private.Feasible.{IsFeasible}
-use Rattle.plan_run.specs.Private.Executes.{register_in}
+use Rattle.plan_run.specs.Samples.{past}
+use Rattle.plan_run.specs.Overlap.{shift_of}
+use Rattle.plan_run.specs.Feasible.{IsFeasible}
+use Rattle.plan_run.specs.Executes.{register_in}
 use Rattle.plan_run.proofs.Samples.{one_more, one_place}
 
 -- Within a period.

@@ -20,13 +20,13 @@ use Rattle.micro_image.specs.Log.{result_by}
 use Rattle.micro_image.specs.Operations.{gives}
 use Rattle.micro_image.proofs.LogLaws.{content-old}
 use Rattle.plan_run.specs.Parts.{nodes_of, node_at, edge_at, unit_at, cycle_at, arc_at, line_at, ReadsThrough, ends_at}
-use Rattle.plan_run.specs.Private.Samples.{past}
-use Rattle.plan_run.specs.Private.Overlap.{Overlap, shift_of, reach}
+use Rattle.plan_run.specs.Samples.{past}
+use Rattle.plan_run.specs.Overlap.{Overlap, shift_of, reach}
 use Rattle.plan_run.specs.Private.Cells.{cell_in}
-use Rattle.plan_run.specs.Private.Memory.{store_of, HasAddress, LoadsFrom, StoresTo}
+use Rattle.plan_run.specs.Memory.{store_of, HasAddress, LoadsFrom, StoresTo}
 use Rattle.plan_run.specs.Private.Solution.{Counted, LoweredSolves, IsOfGraph, meaning_by, operand_in}
-use Rattle.plan_run.specs.Private.Feasible.{IsFeasibleOver, IsFeasibleLine}
-use Rattle.plan_run.specs.Private.Executes.{ExecutesOver, IsIssueIn, register_in}
+use Rattle.plan_run.specs.Feasible.{IsFeasibleOver, IsFeasibleLine}
+use Rattle.plan_run.specs.Executes.{ExecutesOver, IsIssueIn, register_in}
 use Rattle.plan_run.proofs.Lines.{addr-cell, cell-from, load-cell, line_end}
 use Rattle.plan_run.proofs.LiveWords.{LiveWord, in_register, in_cell, place_of, written_at, wanted_to, word_of}
 use Rattle.plan_run.proofs.LiveWords.{stored_most}

@@ -16,7 +16,7 @@ use Rattle.signal_graph.specs.declared.graph.Node.{Node}
 use Rattle.signal_graph.specs.declared.graph.Graph.{Graph}
 use Rattle.plan_core.specs.IsPlan.{IsPlan}
 use Rattle.plan_core.specs.Operands.{node_of}
-use Rattle.plan_core.specs.Lowered.{own, IsNumber, IsOwn}
+use Rattle.plan_core.specs.Lowered.{own, IsNumber, IsOwnOver}
 use Rattle.plan_core.specs.declared.plan.Plan.{Plan}
 use Rattle.micro_image.specs.Fields.{Microprogram, microprogram_of}
 use Rattle.micro_image.specs.Run.{IsRunOut}
@@ -24,13 +24,12 @@ use Rattle.micro_image.specs.declared.image.Image.{Image}
 use Rattle.micro_image.proofs.Lists.{map-same, In-range}
 use Rattle.plan_run.specs.Parts.{node_at}
 use Rattle.plan_run.specs.ImageOf.{IsImageOf}
-use Rattle.plan_run.specs.Run.{RunsSolution}
-use Rattle.plan_run.specs.Private.Samples.{past}
-use Rattle.plan_run.specs.Private.Overlap.{Overlap}
+use Rattle.plan_run.specs.Run.{RunsSolution, late_words, RunsSolutionLate}
+use Rattle.plan_run.specs.Samples.{past}
+use Rattle.plan_run.specs.Overlap.{Overlap, one_by_one}
 use Rattle.plan_run.specs.Private.Solution.{Counted}
-use Rattle.plan_run.specs.Private.Feasible.{IsFeasiblePlanOver, IsFeasiblePlan}
-use Rattle.plan_run.specs.Private.Executes.{ExecutesOver}
-use Rattle.plan_run.specs.Private.LateRun.{late_words, RunsSolutionLate}
+use Rattle.plan_run.specs.Feasible.{IsFeasiblePlanOver, IsFeasiblePlan}
+use Rattle.plan_run.specs.Executes.{ExecutesOver}
 use Rattle.plan_run.proofs.FromImage.{executes}
 use Rattle.plan_run.proofs.FromLowered.{sound_lowered, sound_lines, made_as, number_below, some_is, none_past}
 use Rattle.plan_run.proofs.FromRules.{feasible, gaps_of, count_of_unroll, first_fit_apart}
@@ -72,7 +71,7 @@ plan_feasible g d p sound machine plan = record {
   lowered = plan.lowered;
   assigned = plan.assigned;
   feasible = feasible d p rules (gaps_of d machine.units) plan.assigned plan.schedule plan.arcs plan.unroll
-      (omega (arith, machine.period.0)) (sound_lines g d p sound plan.lowered plan.assigned)
+      (omega (arith, machine.period.0)) (sound_lines g d p sound plan.lowered plan.assigned one_by_one (omega arith))
       (first_fit_apart d p rules (gaps_of d machine.units) plan.assigned plan.schedule plan.arcs plan.unroll
       plan.registers);
   unroll = count_of_unroll d p plan.arcs plan.unroll;
@@ -84,8 +83,8 @@ plan_feasible g d p sound machine plan = record {
     rules : IsSoundLowered d p
     rules = sound_lowered g d p sound plan.lowered plan.assigned
 
-module _ {o : Overlap} (g : Graph) (d : Datapath) (p : Plan) (sound : IsGraph g)
-    (plan : IsFeasiblePlanOver o g d p) where
+module _ {o : Overlap} {hold spare : ℕ} (g : Graph) (d : Datapath) (p : Plan) (sound : IsGraph g)
+    (plan : IsFeasiblePlanOver o hold spare g d p) where
   -- the node of output word j in the graph, and in the lowered list
   output_in : (j : ℕ) → j < g.outs → first_output g + j < length g.nodes
   output_in j in-j =
@@ -116,7 +115,8 @@ module _ {o : Overlap} (g : Graph) (d : Datapath) (p : Plan) (sound : IsGraph g)
   output_node j in-j =
       let number = out_number j in-j in
       let out = output_at j in-j in
-      let made : IsOwn g d p.assigned.lowered plan.lowered.delays (first_output g + j) (node_at p (out_node j)) =
+      let made : IsOwnOver g d p.assigned.lowered plan.lowered.delays hold (first_output g + j)
+      (node_at p (out_node j)) =
       made_as g d p sound plan.lowered plan.assigned (own (first_output g + j)) (out_node j) number in
       record {
         there = number_below g d p sound plan.lowered plan.assigned (own (first_output g + j)) (out_node j) number;

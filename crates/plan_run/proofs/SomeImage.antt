@@ -21,10 +21,10 @@ use Rattle.micro_image.specs.Fields.{nth, no_word, no_unit as no_desc}
 use Rattle.plan_run.specs.Parts.{lines_of, node_at, arc_at, line_at, register_at, IsCopy}
 use Rattle.plan_run.specs.Machine.{IsMachine}
 use Rattle.plan_run.specs.ImageOf.{IsUnitOf, IsWordOf, IsPreloadOf, IsCellPreload, IsImageOf, width_of}
-use Rattle.plan_run.specs.Private.Samples.{past}
-use Rattle.plan_run.specs.Private.Circle.{IsLifetime}
-use Rattle.plan_run.specs.Private.Overlap.{one_by_one, reach}
-use Rattle.plan_run.specs.Private.Feasible.{IsFeasible, IsFeasiblePlan}
+use Rattle.plan_run.specs.Samples.{past}
+use Rattle.plan_run.specs.Lifetimes.{IsLifetime}
+use Rattle.plan_run.specs.Overlap.{one_by_one, reach}
+use Rattle.plan_run.specs.Feasible.{IsFeasible, IsFeasiblePlan}
 use Rattle.plan_run.proofs.Ordinary.{room}
 use Rattle.plan_run.proofs.Choices.{choose}
 use Rattle.plan_run.proofs.Elements.{nth_past}
@@ -127,6 +127,7 @@ module _ (g : Graph) (d : Datapath) (p : Plan) (machine : IsMachine d) (plan : I
           preload = record {
             there = in-k;
             before = omega (arith, before);
+            kept = omega arith;
             lives = lives;
             copy = its_copy k ago in-k (omega (arith, before)) (few_ago k ago in-k lives);
           };

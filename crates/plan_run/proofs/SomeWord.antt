@@ -1,5 +1,5 @@
 -- Each cycle of a sample has a microword by the plan.
-use Rattle.std.proofs.Common.{◌≡◌, ℕ, zero, suc, ◌+◌, ◌-◌, ◌%◌, ◌<◌, ◌≤◌, ◌⊎◌, inl, inr, ⊎_elim, refl, sym, ap, ap₂}
+use Rattle.std.proofs.Common.{◌≡◌, ℕ, ◌+◌, ◌-◌, ◌%◌, ◌<◌, ◌≤◌, ◌⊎◌, inl, inr, ⊎_elim, refl, sym, ap, ap₂}
 use Rattle.std.proofs.Common.{◌∙◌, subst, arith, Bool, true, List, [], ◌∷◌, length, slice_index_or, map, filter}
 use Rattle.std.proofs.Common.{Contains}
 use Rattle.std.specs.List.{AllPairs}
@@ -28,8 +28,8 @@ use Rattle.plan_run.specs.Parts.{nodes_of, node_at, edge_at, unit_at, cycle_at, 
 use Rattle.plan_run.specs.Parts.{ReadsThrough, IsTransferOf, ends_at, IsCopy}
 use Rattle.plan_run.specs.Machine.{IsMachine}
 use Rattle.plan_run.specs.ImageOf.{IsIssueOf, IsWordOf, enable_of, take_of}
-use Rattle.plan_run.specs.Private.Samples.{past}
-use Rattle.plan_run.specs.Private.Feasible.{IsFeasible, IsFeasiblePlan}
+use Rattle.plan_run.specs.Samples.{past}
+use Rattle.plan_run.specs.Feasible.{IsFeasible, IsFeasiblePlan}
 use Rattle.plan_run.proofs.Ordinary.{unit_free, written, delay_in}
 use Rattle.plan_run.proofs.Choices.{choose, gather, in_order}
 use Rattle.plan_run.proofs.Elements.{nth_past}

@@ -8,11 +8,10 @@ use Rattle.plan_core.specs.Operands.{Reads}
 use Rattle.plan_core.specs.declared.plan.Plan.{Plan}
 use Rattle.micro_image.specs.Operations.{gives}
 use Rattle.plan_run.specs.Parts.{nodes_of, lines_of, node_at, edge_at, line_at}
-use Rattle.plan_run.specs.Private.Samples.{past}
-use Rattle.plan_run.specs.Private.Overlap.{Overlap}
-use Rattle.plan_run.specs.Private.Cells.{AreDisjoint}
-use Rattle.plan_run.specs.Private.Memory.{LoadsFrom, StoresTo}
-use Rattle.plan_run.specs.Private.Feasible.{IsFeasibleLine}
+use Rattle.plan_run.specs.Samples.{past}
+use Rattle.plan_run.specs.Overlap.{Overlap, AreDisjoint}
+use Rattle.plan_run.specs.Memory.{LoadsFrom, StoresTo}
+use Rattle.plan_run.specs.Feasible.{IsFeasibleLine}
 
 pub record IsSoundLowered (d : Datapath) (p : Plan) : Type 0 where
   pub operand_count : (v : ℕ) → v < length (nodes_of p) → length (node_at p v).edges ≡ operands (node_at p v).op

@@ -5,7 +5,7 @@ use Rattle.std.proofs.Math.Nat.{div-add-mod', add-mul, mul_assoc, add-mul-mod_se
 use Rattle.std.proofs.Math.Nat.{dvd_of_mod-eq-zero, mod-lt, mul-le-mul_right}
 use Rattle.plan_core.specs.Circle.{Occupies, AreApart}
 use Rattle.plan_core.specs.declared.registers.Arc.{Arc}
-use Rattle.plan_run.specs.Private.Circle.{IsLifetime}
+use Rattle.plan_run.specs.Lifetimes.{IsLifetime}
 use Rattle.plan_core.proofs.Samples.{step_of_same}
 
 -- a sample begins after whole turns of the circle of u samples, and the rest

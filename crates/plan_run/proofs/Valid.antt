@@ -1,5 +1,5 @@
 -- The image of a plan is a valid image.
-use Rattle.std.proofs.Common.{◌≡◌, ℕ, zero, suc, ◌+◌, ◌-◌, ◌*◌, ◌/◌, ◌%◌, ◌^◌, ◌<◌, ◌≤◌, ◌==◌, ◌⊎◌, inl, inr, ⊎_elim}
+use Rattle.std.proofs.Common.{◌≡◌, ℕ, zero, suc, ◌+◌, ◌*◌, ◌/◌, ◌%◌, ◌^◌, ◌<◌, ◌≤◌, ◌==◌, ◌⊎◌, inl, inr, ⊎_elim}
 use Rattle.std.proofs.Common.{refl, sym, ap, ◌∙◌, subst, arith, Bool, true, false, List, [], ◌∷◌, length}
 use Rattle.std.proofs.Common.{slice_index_or, map, All, Option, Some, None, ℤ, pos}
 use Rattle.std.specs.Prelude.{slice_get, find, IsSomeAnd, neg_ℤ, ◌≤ℤ◌, ◌<ℤ◌, int_le, int_lt}
@@ -36,7 +36,7 @@ use Rattle.micro_image.specs.Valid as valid
 use Rattle.plan_run.specs.Parts.{nodes_of, node_at, arc_at, line_at}
 use Rattle.plan_run.specs.Machine.{IsMachine}
 use Rattle.plan_run.specs.ImageOf.{IsUnitOf, IsWordOf, IsImageOf, IsPreloadOf, IsCellPreload, width_of}
-use Rattle.plan_run.specs.Private.Feasible.{IsFeasible, IsFeasiblePlan}
+use Rattle.plan_run.specs.Feasible.{IsFeasible, IsFeasiblePlan}
 use Rattle.plan_run.proofs.Elements.{default_any}
 use Rattle.plan_run.proofs.FromImage.{described}
 use Rattle.plan_run.proofs.FromLowered.{made_at, made_as, own_below, graph_node}

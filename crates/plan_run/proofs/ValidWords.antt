@@ -37,8 +37,8 @@ use Rattle.plan_run.specs.Parts.{nodes_of, lines_of, node_at, edge_at, unit_at, 
 use Rattle.plan_run.specs.Parts.{IsTransferOf, IsCopy}
 use Rattle.plan_run.specs.Machine.{IsMachine}
 use Rattle.plan_run.specs.ImageOf.{IsUnitOf, IsIssueOf, IsWordOf, IsImageOf, take_of}
-use Rattle.plan_run.specs.Private.Samples.{past}
-use Rattle.plan_run.specs.Private.Feasible.{IsFeasible, IsFeasiblePlan}
+use Rattle.plan_run.specs.Samples.{past}
+use Rattle.plan_run.specs.Feasible.{IsFeasible, IsFeasiblePlan}
 use Rattle.plan_run.proofs.Ordinary.{delay_in, room}
 use Rattle.plan_run.proofs.Elements.{default_any, nth_past}
 use Rattle.plan_run.proofs.FromImage.{described, copy_read}

@@ -14,11 +14,11 @@ use Rattle.micro_image.specs.Run.{IsRunOut, spread}
 use Rattle.micro_image.proofs.Lists.{map-same, In-range}
 use Rattle.micro_image.proofs.Streams.{nth-spread, length-spread}
 use Rattle.plan_run.specs.Parts.{nodes_of, node_at}
-use Rattle.plan_run.specs.Private.Samples.{past}
-use Rattle.plan_run.specs.Private.Overlap.{Overlap}
+use Rattle.plan_run.specs.Samples.{past}
+use Rattle.plan_run.specs.Overlap.{Overlap}
 use Rattle.plan_run.specs.Private.Solution.{Counted, LoweredSolves}
-use Rattle.plan_run.specs.Private.Feasible.{IsFeasibleOver}
-use Rattle.plan_run.specs.Private.Executes.{ExecutesOver}
+use Rattle.plan_run.specs.Feasible.{IsFeasibleOver}
+use Rattle.plan_run.specs.Executes.{ExecutesOver}
 use Rattle.std.proofs.Math.Nat.{mul-le-mul_right}
 use Rattle.plan_run.proofs.Elements.{nth_past}
 use Rattle.plan_run.proofs.Contents.{latch_right, latch_first}

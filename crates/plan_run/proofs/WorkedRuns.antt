@@ -33,14 +33,14 @@ use Rattle.plan_run.proofs.RunsSolution.{image_runs_solution}
 use Rattle.plan_run.proofs.SomeImage.{plan_image}
 use Rattle.plan_run.proofs.Valid.{image_valid}
 
-no_inits : AreInits (IsWord 8) []
+pub no_inits : AreInits (IsWord 8) []
 no_inits = record {
   samples = All-from_Each _ none;
   rise = λ k below. absurd (omega (arith, below));
   words = All-from_Each _ none;
 }
 
-five : AreInits (IsWord 8) ((1, pos 5) ∷ [])
+pub five : AreInits (IsWord 8) ((1, pos 5) ∷ [])
 five = record {
   samples = All-from_Each (λ (i : ℕ × ℤ). IsWithin 1 1023 i.0) (more (omega arith, omega arith) none);
   rise = λ k below. absurd (omega (arith, below));
@@ -59,7 +59,7 @@ eight_bits = record {
 }
 
 module _ (g : Graph) where
-  input_is : 1 ≤ length g.inputs → IsNode g input_node
+  pub input_is : 1 ≤ length g.inputs → IsNode g input_node
   input_is some = record {
     operation = tt {0};
     fmt = refl;
@@ -70,7 +70,7 @@ module _ (g : Graph) where
     width = a_width;
   }
 
-  output_is : (from : Edge) → 1 ≤ g.outs → IsEdge g from → IsNode g (output_node from)
+  pub output_is : (from : Edge) → 1 ≤ g.outs → IsEdge g from → IsNode g (output_node from)
   output_is from some is = record {
     operation = tt {0};
     fmt = refl;
@@ -81,7 +81,7 @@ module _ (g : Graph) where
     width = a_width;
   }
 
-  sum_is : (a b : Edge) (inits : List (ℕ × ℤ))
+  pub sum_is : (a b : Edge) (inits : List (ℕ × ℤ))
       → IsEdge g a
       → IsEdge g b
       → AreInits (IsWord 8) inits
@@ -107,7 +107,7 @@ module _ (g : Graph) where
     },
   )
 
-  pass_is : (a : Edge) → IsEdge g a → IsNode g (sum_node op.Pass (a ∷ []) [])
+  pub pass_is : (a : Edge) → IsEdge g a → IsNode g (sum_node op.Pass (a ∷ []) [])
   pass_is a is = record {
     operation = tt {0};
     fmt = eight_bits;
@@ -118,7 +118,7 @@ module _ (g : Graph) where
     width = a_width;
   }
 
-a_byte : IsType byte
+pub a_byte : IsType byte
 a_byte = record { width = a_width; places = omega arith }
 
 accumulator_graph : IsGraph accumulator

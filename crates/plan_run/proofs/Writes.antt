@@ -19,12 +19,12 @@ use Rattle.micro_image.specs.Log.{Place, Register, Latch, Cell, Entry, same_plac
 use Rattle.micro_image.specs.Log.{entry_of, taken, taken_from, written, written_of, written_by, result_by}
 use Rattle.micro_image.proofs.Each.{In, here, Each, none, more, Each-append, Each-flat_map}
 use Rattle.plan_run.specs.Parts.{nodes_of, node_at, unit_at, cycle_at, arc_at, line_at, register_at, ends_at}
-use Rattle.plan_run.specs.Private.Samples.{past}
-use Rattle.plan_run.specs.Private.Overlap.{Overlap, shift_of}
-use Rattle.plan_run.specs.Private.Memory.{store_of, StoresTo}
+use Rattle.plan_run.specs.Samples.{past}
+use Rattle.plan_run.specs.Overlap.{Overlap, shift_of}
+use Rattle.plan_run.specs.Memory.{store_of, StoresTo}
 use Rattle.plan_run.specs.Private.Solution.{Counted, LoweredSolves}
-use Rattle.plan_run.specs.Private.Feasible.{IsFeasibleOver, IsFeasibleArc}
-use Rattle.plan_run.specs.Private.Executes.{ExecutesOver, IsIssueIn, IsTakeIn, register_in}
+use Rattle.plan_run.specs.Feasible.{IsFeasibleOver, IsFeasibleArc}
+use Rattle.plan_run.specs.Executes.{ExecutesOver, IsIssueIn, IsTakeIn, register_in}
 use Rattle.plan_run.proofs.Elements.{Contains-from_In}
 use Rattle.plan_run.proofs.Samples.{below_count}
 use Rattle.plan_run.proofs.Slots.{right}

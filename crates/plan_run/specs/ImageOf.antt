@@ -1,5 +1,5 @@
 -- The image of a plan: what each microword holds, and what registers and cells hold at the start.
-use Rattle.std.specs.Prelude.{◌≡◌, ℕ, ◌+◌, ◌*◌, ◌%◌, ◌<◌, ◌≤◌, length, map, Contains, pos}
+use Rattle.std.specs.Prelude.{◌≡◌, ℕ, ◌+◌, ◌-◌, ◌*◌, ◌%◌, ◌<◌, ◌≤◌, length, map, Contains, pos}
 use Rattle.std.specs.List.{AllPairs}
 use Rattle.fix_word.specs.declared.types.SigType.{SigType}
 use Rattle.fix_word.specs.declared.types.SigType.TheVariants.{Fix, Bool}
@@ -20,6 +20,8 @@ use Rattle.micro_image.specs.Log.{Register, Cell, initial}
 use Rattle.micro_image.specs.Valid.{EnableBefore, TakeBefore}
 use Rattle.plan_run.specs.Parts.{nodes_of, lines_of, node_at, edge_at, unit_at, cycle_at, transfers_at, arc_at, line_at}
 use Rattle.plan_run.specs.Parts.{register_at, ReadsThrough, IsTransferOf, ends_at, IsCopy}
+use Rattle.plan_run.specs.Samples.{past}
+use Rattle.plan_run.specs.Overlap.{Overlap, one_by_one}
 
 -- the unit of the image is unit u of the datapath; what its registers and cells hold is said apart
 pub record IsUnitOf (d : Datapath) (u : ℕ) (unit : UnitDesc) : Type 0 where
@@ -94,16 +96,18 @@ pub record IsWordOf (d : Datapath) (p : Plan) (n c : ℕ) (word : Word) : Type 0
   pub enables_rise : AllPairs EnableBefore word.enables
   pub takes_rise : AllPairs TakeBefore word.takes
 
--- Copy i of lifetime k is read in the run for its word of this many samples before sample 0.
-pub record IsPreload (d : Datapath) (p : Plan) (k i ago : ℕ) : Type 0 where
+-- Copy i of lifetime k is read in the run for its word of this many samples before sample 0, where lifetimes keep words
+-- of that sample.
+pub record IsPreloadOver (o : Overlap) (d : Datapath) (p : Plan) (k i ago : ℕ) : Type 0 where
   pub there : k < length p.arcs
   pub before : 1 ≤ ago
+  pub kept : o.first ≤ past - ago
   pub lives : ago * d.period ≤ (arc_at p k).r
   pub copy : IsCopy (arc_at p k).copies 0 ago i
 
 -- and its register is this one
-pub record IsPreloadOf (d : Datapath) (p : Plan) (port : PortRef) (reg k i ago : ℕ) : Type 0 where
-  pub preload : IsPreload d p k i ago
+pub record IsPreloadOfOver (o : Overlap) (d : Datapath) (p : Plan) (port : PortRef) (reg k i ago : ℕ) : Type 0 where
+  pub preload : IsPreloadOver o d p k i ago
   pub port_is : (arc_at p k).port ≡ port
   pub reg_is : register_at p k i ≡ reg
 
@@ -116,12 +120,12 @@ pub record IsCellPreload (p : Plan) (ram cell l ago : ℕ) : Type 0 where
   pub cell_is : (line_at p l).offset + ago ≡ cell
 
 -- Each register and cell that is read for a word of a sample before sample 0 starts with it. All others start with 0.
-pub record StartsWith (d : Datapath) (p : Plan) (micro : Microprogram) : Type 0 where
+pub record StartsWithOver (o : Overlap) (d : Datapath) (p : Plan) (micro : Microprogram) : Type 0 where
   pub register : (port : PortRef) (reg k i ago : ℕ)
-      → IsPreloadOf d p port reg k i ago
+      → IsPreloadOfOver o d p port reg k i ago
       → initial micro (Register port.unit port.port reg) ≡ word_before (node_at p (arc_at p k).node).inits ago
   pub other_register : (port : PortRef) (reg : ℕ)
-      → ((k i ago : ℕ) → IsPreloadOf d p port reg k i ago → ⊥)
+      → ((k i ago : ℕ) → IsPreloadOfOver o d p port reg k i ago → ⊥)
       → initial micro (Register port.unit port.port reg) ≡ pos 0
   pub cell : (ram cell l ago : ℕ)
       → IsCellPreload p ram cell l ago
@@ -129,6 +133,16 @@ pub record StartsWith (d : Datapath) (p : Plan) (micro : Microprogram) : Type 0 
   pub other_cell : (ram cell : ℕ)
       → ((l ago : ℕ) → IsCellPreload p ram cell l ago → ⊥)
       → initial micro (Cell ram cell) ≡ pos 0
+
+-- the same where samples do not overlap: lifetimes keep words of every sample
+abbrev pub IsPreload : Datapath → Plan → (k i ago : ℕ) → Type 0
+IsPreload d p k i ago = IsPreloadOver one_by_one d p k i ago
+
+abbrev pub IsPreloadOf : Datapath → Plan → PortRef → (reg k i ago : ℕ) → Type 0
+IsPreloadOf d p port reg k i ago = IsPreloadOfOver one_by_one d p port reg k i ago
+
+abbrev pub StartsWith : Datapath → Plan → Microprogram → Type 0
+StartsWith d p micro = StartsWithOver one_by_one d p micro
 
 -- the width of a word of the type in a microcode file
 abbrev pub width_of : SigType → ℕ

@@ -3,4 +3,10 @@ pub mod Machine
 pub mod ImageOf
 pub mod Run
 pub mod Instances
+pub mod Samples
+pub mod Overlap
+pub mod Lifetimes
+pub mod Memory
+pub mod Feasible
+pub mod Executes
 pub mod Private

@@ -1,9 +1,2 @@
-pub mod Samples
-pub mod Overlap
-pub mod Circle
 pub mod Cells
-pub mod Memory
 pub mod Solution
-pub mod Feasible
-pub mod Executes
-pub mod LateRun

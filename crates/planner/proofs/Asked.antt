@@ -1,11 +1,11 @@
 -- What the passes ask of the lowered list of a sound graph without a delay-free loop.
-use Rattle.std.proofs.Common.{List, arith}
+use Rattle.std.proofs.Common.{ℕ, ◌≤◌, List, arith}
 use Rattle.datapath.specs.Allowed.{IsDatapath}
 use Rattle.datapath.specs.declared.types.Datapath.{Datapath}
 use Rattle.signal_graph.specs.GraphSolves.{IsGraphLoopless}
 use Rattle.signal_graph.specs.GraphRules.{IsGraph}
 use Rattle.signal_graph.specs.declared.graph.Graph.{Graph}
-use Rattle.plan_core.specs.Lowered.{IsLowered}
+use Rattle.plan_core.specs.Lowered.{IsLoweredOver}
 use Rattle.plan_core.specs.Assigned.{IsAssigned}
 use Rattle.plan_core.specs.ListSchedule.{IsListSchedule}
 use Rattle.plan_core.specs.Arcs.{IsArcs}
@@ -21,15 +21,15 @@ use Rattle.reg_alloc.proofs.FromArcs as of_arcs
 use Rattle.delay_memory.proofs.LoweredNodes as of_list
 use Rattle.planner.proofs.LongestPaths.{path_of, are_heights}
 
-module _ (g : Graph) (d : Datapath) (sound : IsGraph g) where
-  pub wired : (l : Lowered) → IsLowered g d l → IsWired l
+module _ (g : Graph) (d : Datapath) (sound : IsGraph g) {hold spare : ℕ} where
+  pub wired : (l : Lowered) → IsLoweredOver hold spare g d l → IsWired l
   wired l low = record {
     node_count = of_list.node_count g d l sound low;
     edge_count = of_list.edge_count g d l sound low;
     edges = of_list.edges_there g d l sound low;
   }
 
-  module _ (a : Assigned) (low : IsLowered g d a.lowered) where
+  module _ (a : Assigned) (low : IsLoweredOver hold spare g d a.lowered) where
     pub schedulable : IsGraphLoopless g → IsAssigned d a → IsSchedulable d a
     schedulable loopless bound =
         let falls = of_list.rank_falls g d a.lowered sound low loopless in
@@ -42,25 +42,25 @@ module _ (g : Graph) (d : Datapath) (sound : IsGraph g) where
           heights = are_heights d a (of_list.rank g d a.lowered sound low) falls;
         }
 
-    module _ (allowed : IsDatapath d) where
-      pub held : IsAssigned d a → IsHeld d a
-      held bound = record {
-        node_count = of_list.node_count g d a.lowered sound low;
-        edge_count = of_list.edge_count g d a.lowered sound low;
-        edges = of_list.edges_there g d a.lowered sound low;
-        delays = λ v node there q edge port.
-            let short = of_list.edges_short g d a.lowered sound low v node there q edge port in
-            let hold = allowed.hold in
-            omega (arith, short, hold);
-        assigned = bound;
-      }
+    -- no lifetime is longer than three samples and a period
+    pub held : hold ≤ 3 → IsAssigned d a → IsHeld d a
+    held most bound = record {
+      node_count = of_list.node_count g d a.lowered sound low;
+      edge_count = of_list.edge_count g d a.lowered sound low;
+      edges = of_list.edges_there g d a.lowered sound low;
+      delays = λ v node there q edge port.
+          let short = of_list.edges_short g d a.lowered sound low v node there q edge port in
+          omega (arith, short, most);
+      assigned = bound;
+    }
 
-      pub allottable : IsAssigned d a
-          → (s : Schedule)
-          → IsListSchedule d a s
-          → (arcs : List Arc)
-          → IsArcs d a s arcs
-          → AreAllottable d arcs
-      allottable bound s scheduled arcs are =
-          of_arcs.allottable d a s allowed (of_list.edge_count g d a.lowered sound low)
-          (of_list.edges_there g d a.lowered sound low) bound scheduled arcs are
+    pub allottable : IsDatapath d
+        → IsAssigned d a
+        → (s : Schedule)
+        → IsListSchedule d a s
+        → (arcs : List Arc)
+        → IsArcs d a s arcs
+        → AreAllottable d arcs
+    allottable allowed bound s scheduled arcs are =
+        of_arcs.allottable d a s allowed (of_list.edge_count g d a.lowered sound low)
+        (of_list.edges_there g d a.lowered sound low) bound scheduled arcs are

@@ -14,8 +14,8 @@ use Rattle.plan_core.specs.Hardware.{cells_on, tie_of}
 use Rattle.plan_core.specs.Operands.{edge_of}
 use Rattle.plan_core.specs.declared.plan.Plan.{Plan}
 use Rattle.plan_run.specs.Parts.{nodes_of, node_at, unit_at, line_at}
-use Rattle.plan_run.specs.Private.Samples.{past}
-use Rattle.plan_run.specs.Private.Memory.{LoadsFrom}
+use Rattle.plan_run.specs.Samples.{past}
+use Rattle.plan_run.specs.Memory.{LoadsFrom}
 
 -- what an operation gives in sample n, by its operands
 abbrev pub meaning_by : Op → Node → Rows → (n : ℕ) → (operand : ℕ → ℤ) → ℤ

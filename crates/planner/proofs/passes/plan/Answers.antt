@@ -1,4 +1,4 @@
-use Rattle.std.proofs.Common.{◌∙◌}
+use Rattle.std.proofs.Common.{◌∙◌, arith}
 use Rattle.planner.proofs.Asked.{wired, schedulable, held, allottable}
 use Rattle.planner.proofs.Answers.{bound}
 use Rattle.planner.proofs.Exits.{unrolled, at_lines, at_units, at_cycles, at_registers, at_end}
@@ -16,7 +16,7 @@ schedule-requires-clause-schedulable c =
 pub arcs-requires-clause-held : goal.arcs-requires-clause-held
 arcs-requires-clause-held c =
     held c.args.graph c.args.datapath.now c.requires.sound (bound c.in_ok-lowered.lowered c.in_ok-units.units)
-    c.in_ok-lowered.ensures.lowered c.requires.datapath c.in_ok-units.ensures.units
+    c.in_ok-lowered.ensures.lowered (omega (arith, c.requires.datapath.hold)) c.in_ok-units.ensures.units
 
 pub allot-requires-clause-allottable : goal.allot-requires-clause-allottable
 allot-requires-clause-allottable c =

@@ -15,8 +15,8 @@ use Rattle.micro_image.specs.Fields.{Microprogram, nth, unit_of, sample_of, issu
 use Rattle.micro_image.specs.Log.{Register, Cell, initial}
 use Rattle.plan_run.specs.Parts.{nodes_of, lines_of, node_at, edge_at, unit_at, cycle_at, transfers_at, arc_at, line_at}
 use Rattle.plan_run.specs.Parts.{register_at, ReadsThrough, IsTransferOf, ends_at}
-use Rattle.plan_run.specs.Private.Samples.{past}
-use Rattle.plan_run.specs.Private.Overlap.{Overlap, one_by_one, shift_of}
+use Rattle.plan_run.specs.Samples.{past}
+use Rattle.plan_run.specs.Overlap.{Overlap, one_by_one, shift_of}
 
 -- the register that has the word of lifetime k of sample number s
 abbrev pub register_in : Datapath → Plan → (k s : ℕ) → ℕ

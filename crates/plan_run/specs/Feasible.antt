@@ -7,7 +7,7 @@ use Rattle.operations.specs.Ranges.{to_nat}
 use Rattle.datapath.specs.declared.types.Datapath.{Datapath}
 use Rattle.signal_graph.specs.declared.graph.Graph.{Graph}
 use Rattle.plan_core.specs.Hardware.{latency_on, gap_on, cells_on, file_size}
-use Rattle.plan_core.specs.Lowered.{IsLowered}
+use Rattle.plan_core.specs.Lowered.{IsLoweredOver}
 use Rattle.plan_core.specs.Assigned.{IsAssigned}
 use Rattle.plan_core.specs.Arcs.{IsCount}
 use Rattle.plan_core.specs.Circle.{AreApart}
@@ -16,11 +16,10 @@ use Rattle.plan_core.specs.declared.plan.Plan.{Plan}
 use Rattle.micro_image.specs.Operations.{gives}
 use Rattle.plan_run.specs.Parts.{nodes_of, lines_of, node_at, edge_at, unit_at, cycle_at, transfers_at, arc_at, line_at}
 use Rattle.plan_run.specs.Parts.{register_at, ReadsThrough, IsTransferOf, ends_at}
-use Rattle.plan_run.specs.Private.Samples.{past}
-use Rattle.plan_run.specs.Private.Overlap.{Overlap, one_by_one, shift_of, reach}
-use Rattle.plan_run.specs.Private.Circle.{IsLifetime}
-use Rattle.plan_run.specs.Private.Cells.{AreDisjoint}
-use Rattle.plan_run.specs.Private.Memory.{LoadsFrom, StoresTo, store_of}
+use Rattle.plan_run.specs.Samples.{past}
+use Rattle.plan_run.specs.Overlap.{Overlap, one_by_one, shift_of, reach, AreDisjoint}
+use Rattle.plan_run.specs.Lifetimes.{IsLifetime}
+use Rattle.plan_run.specs.Memory.{LoadsFrom, StoresTo, store_of}
 
 -- lifetime k, of the words of a node
 pub record IsFeasibleArc (d : Datapath) (p : Plan) (k : ℕ) : Type 0 where
@@ -153,9 +152,10 @@ pub record IsFeasibleOver (o : Overlap) (d : Datapath) (p : Plan) : Type 0 where
       → v < length (nodes_of p) → (node_at p v).op ≡ op.Store
       → (l : ℕ) × StoresTo d p v l
 
--- a feasible plan of the graph, whose registers are in their files
-pub record IsFeasiblePlanOver (o : Overlap) (g : Graph) (d : Datapath) (p : Plan) : Type 0 where
-  pub lowered : IsLowered g d p.assigned.lowered
+-- A feasible plan of the graph, whose registers are in their files. Delays above the hold are in delay lines, each with
+-- so many spare cells.
+pub record IsFeasiblePlanOver (o : Overlap) (hold spare : ℕ) (g : Graph) (d : Datapath) (p : Plan) : Type 0 where
+  pub lowered : IsLoweredOver hold spare g d p.assigned.lowered
   pub assigned : IsAssigned d p.assigned
   pub feasible : IsFeasibleOver o d p
   pub unroll : IsCount p.unroll
@@ -166,9 +166,10 @@ pub record IsFeasiblePlanOver (o : Overlap) (g : Graph) (d : Datapath) (p : Plan
   pub inputs : p.inputs ≡ g.inputs
   pub outs : p.outs ≡ g.outs
 
--- A feasible plan whose samples do not overlap, and one of the graph.
+-- A feasible plan whose samples do not overlap, and one of the graph: the hold is that of the datapath, and a line has
+-- one spare cell.
 abbrev pub IsFeasible : Datapath → Plan → Type 0
 IsFeasible d p = IsFeasibleOver one_by_one d p
 
 abbrev pub IsFeasiblePlan : Graph → Datapath → Plan → Type 0
-IsFeasiblePlan g d p = IsFeasiblePlanOver one_by_one g d p
+IsFeasiblePlan g d p = IsFeasiblePlanOver one_by_one d.hold 1 g d p

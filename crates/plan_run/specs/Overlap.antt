@@ -1,5 +1,5 @@
--- Samples that overlap.
-use Rattle.std.specs.Prelude.{ℕ, ◌+◌, ◌-◌, ◌/◌}
+-- Samples that overlap (software pipelining).
+use Rattle.std.specs.Prelude.{ℕ, ◌+◌, ◌-◌, ◌/◌, ◌<◌, ◌⊎◌}
 use Rattle.datapath.specs.declared.types.Datapath.{Datapath}
 use Rattle.plan_core.specs.declared.delay_lines.Line.{Line}
 use Rattle.plan_core.specs.declared.plan.Plan.{Plan}
@@ -22,3 +22,7 @@ shift_of d p k = ends_at d p (arc_at p k).node / d.period
 -- in how many samples behind its own a cell of the line may be wanted
 abbrev pub reach : Overlap → Line → ℕ
 reach o line = line.depth + (o.stages - 1)
+
+-- no cell is one of both lines
+abbrev pub AreDisjoint : Overlap → Line → Line → Type 0
+AreDisjoint o a b = (a.offset + reach o a < b.offset) ⊎ (b.offset + reach o b < a.offset)
