@@ -88,7 +88,13 @@ pub fn lower_owned(alloc: Global, graph: Graph, datapath: &Datapath) -> Result<L
 /// # Errors
 ///
 /// Those of `lower_owned`.
-pub fn lower_over(alloc: Global, graph: &Graph, datapath: &Datapath, hold: u8, spare: u8) -> Result<Lowered, LineFault>
+pub fn lower_over(
+    alloc: Global,
+    graph: &Graph,
+    datapath: &Datapath,
+    hold: u8,
+    spare: u8,
+) -> Result<Lowered, LineFault>
     requires datapath { IsDatapath datapath.now }
     requires sound { IsGraph graph.now }
     ensures lowered { IfOk result (IsLoweredOver hold spare graph.now datapath.now) }
