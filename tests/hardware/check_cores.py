@@ -335,9 +335,23 @@ def check_waveform(folder):
         raise Fault("the waveform is not whole")
 
 
+def check_long_wait(folder):
+    """A wait of many periods is no fault of the core. A script plays `silc sim`."""
+    need(*ICARUS)
+    (folder / "silc").write_text("#!/bin/sh\nprintf '1\\n2\\n3\\n' > $4\n")
+    (folder / "silc").chmod(0o755)
+    (folder / "samples").write_text("0\n1\n2\n")
+    microcode = ROOT / "tests" / "increment" / "add-8-1.mic"
+    done = subprocess.run([ROOT / "tools" / "cosimulate", microcode, "samples", "--wait", "5000"], cwd=folder,
+                          capture_output=True, text=True, env=os.environ | {"SILC": str(folder / "silc")})
+    if done.returncode or done.stdout != "3 rows are equal\n":
+        raise Fault(f"it ended with {done.returncode}: {done.stdout}{done.stderr}")
+
+
 def files_checks(_):
     yield "a core over files", check_core_over
     yield "a waveform of rows that differ", check_waveform
+    yield "a wait of many periods", check_long_wait
 
 
 def check_lint(core):

@@ -165,9 +165,9 @@ module {name}_tb;
                 rst = 1'b1;
                 in_valid = 1'b0;
                 out_ready = 1'b0;
-            end else if (is_over && put == taken || quiet > PATIENCE) begin
+            end else if (is_over && put == taken || quiet > PATIENCE + in_wait + out_wait) begin
                 if (put != taken && !fault) begin
-                    $display("no row came in %0d clocks", PATIENCE);
+                    $display("no row came in %0d clocks", PATIENCE + in_wait + out_wait);
                     failures = failures + 1;
                 end
                 stop;
