@@ -6,8 +6,9 @@ usage: tests/assemble/check_assemble.py [--silc PROGRAM]
 It takes the microcode of all examples on each of their datapaths, the microcode files of tests/, and random images, with
 structural conflicts in some. In both versions the microcode of the listing is the file that was listed, byte for byte, and
 the listing of that microcode is the same text. Of the examples and of tests/ `silc list` prints the listing's own lines, from
-`period` on. The sum of docs/MICROCODE.md is assembled, run, and compared with rows by hand. What needs `silc`, where that is
-not built, is skipped with 77. The last line is 'N passed, M failed'.
+`period` on. The most of what is counted is assembled, and one more refused. The sum of docs/MICROCODE.md is assembled, run,
+and compared with rows by hand. What needs `silc`, where that is not built, is skipped with 77. The last line is 'N passed, M
+failed'.
 """
 import os
 import random
@@ -81,6 +82,46 @@ def check_random(seed: int):
     check_image(micro_file.bytes_of(image.finished()))
 
 
+def at_bounds():
+    """What is counted up to which number, a listing with so many, and what is refused of one more."""
+    head, alu = "input 0 width 8\n", "unit 0 alu latency 1 gap 1 files 32 1\n"
+    one, ram = "in latency 1 gap 1\n", "unit 1 ram latency 1 gap 1 files 1 1 cells 1\n"
+
+    def whole(hardware: str, inputs=1, outputs=1, units=1) -> str:
+        return f"{hardware}period 1 unroll 1 inputs {inputs} outputs {outputs} units {units} buses 32\nword 0\n"
+
+    def takes(count: int) -> str:
+        return "".join(f"take 0.{at >> 10} bus {at >> 5 & 31} reg {at & 31}\n" for at in range(count))
+
+    yield "inputs", 16, lambda count: whole("".join(f"input {at} width 8\n" for at in range(count)) + f"unit 0 {one}",
+                                            inputs=count), \
+        "17:7: there are 16 input words at most"
+    yield "outputs", 16, lambda count: whole(f"{head}unit 0 {one}", outputs=count), \
+        "3:36: the number of output words is 17, and may be 1 to 16"
+    yield "units", 32, lambda count: whole(head + "".join(f"unit {at} {one}" for at in range(count)), units=count), \
+        "34:6: there are 32 units at most"
+    yield "cells", 65536, lambda count: whole(f"{head}unit 0 ram latency 1 gap 1 files 1 1 cells {count}\n"), \
+        "2:44: the number of cells is 65537, and may be 1 to 65536"
+    yield "addr", 65535, lambda offset: whole(f"{head}unit 0 acu latency 1 gap 1 ram 1\n{ram}", units=2) \
+        + f"issue 0 addr {offset}\n", \
+        "6:14: the argument of addr is 65536, and may be 0 to 65535"
+    yield "takes", 1024, lambda count: whole(head + alu) + takes(count), "1029:1: a word has 1024 takes at most"
+
+
+def check_bound(text_for, most: int, fault: str):
+    """The most is assembled and one more refused."""
+    image = image_of_listing(text_for(most))
+    for version in micro_file.VERSIONS:
+        micro_file.image_of(micro_file.bytes_of(image, version))
+    try:
+        image_of_listing(text_for(most + 1))
+    except micro_file.listing.BadListing as why:
+        if str(why) != fault:
+            raise Wrong(f"one more is refused as {why}") from why
+        return
+    raise Wrong("one more is not refused")
+
+
 def check_by_hand(silc: Path, folder: Path):
     """The listing on the page is assembled and run."""
     block = PAGE.read_text().partition("## Written by hand")[2].partition("```\n")[2].partition("```")[0]
@@ -98,6 +139,8 @@ def check_by_hand(silc: Path, folder: Path):
 def checks(silc: Path):
     """Each check by its name, and whether it needs `silc`."""
     yield "the sum by hand", True, lambda folder: check_by_hand(silc, folder)
+    for what, most, text_for, fault in at_bounds():
+        yield f"the most of {what}", False, lambda _, one=(text_for, most, fault): check_bound(*one)
     for seed in range(RANDOM):
         yield f"random {seed}", False, lambda _, seed=seed: check_random(seed)
     for file in sorted((ROOT / "tests").glob("*/*.mic")):

@@ -10,9 +10,9 @@ from .operations import FORMATTED, KINDS, OF_KIND, PORTS, WITH_ARGUMENT, reads
 
 # How many first words stand in a line.
 A_ROW = 8
-TOKEN, NUMBER, PLACE = re.compile(r"[^\s#]+"), re.compile(r"0|-?[1-9][0-9]*"), re.compile(r"(0|[1-9]\d?)\.(0|[1-9]\d?)", re.A)
-# No number of a listing has so many digits, and none of so many is read.
-MANY, LINES_BETWEEN = 20, 20_000
+TOKEN, NUMBER, PLACE = re.compile(r"[^ \t]+"), re.compile(r"0|-?[1-9][0-9]*"), re.compile(r"(0|[1-9]\d?)\.(0|[1-9]\d?)", re.A)
+# No number of a listing has so many digits, and none of so many is read. So much of a word is shown where it is refused.
+MANY, SHOWN, LINES_BETWEEN = 20, 40, 20_000
 HEADING, WORDS = ("input", "unit", "first", "period"), ("word", "issue", "drive", "take")
 NO_HEADING = "the heading is missing: a line for each input word and each unit, as `tools/assemble --listing` prints them"
 
@@ -70,14 +70,19 @@ class Token:
     def refuse(self, what: str):
         raise BadListing(self.line, self.column, what)
 
+    def __str__(self) -> str:
+        """The word for a message: its beginning, and what can't be seen in it by its code."""
+        text = self.text if len(self.text) <= SHOWN else f"{self.text[:SHOWN]}.."
+        return text if text.isprintable() else repr(text)[1:-1]
+
 
 class Line:
     """The words of a line, which are taken one after the other."""
 
     def __init__(self, number: int, text: str):
-        content = text.partition("#")[0]
+        content = text.removesuffix("\r").partition("#")[0]
         self.tokens = [Token(number, found.start() + 1, found[0]) for found in TOKEN.finditer(content)]
-        self.end = Token(number, len(content.rstrip()) + 1, "")
+        self.end = Token(number, len(content.rstrip(" \t")) + 1, "")
         self.at = 0
 
     def take(self, what: str) -> Token:
@@ -92,28 +97,33 @@ class Line:
         for key in keys:
             token = self.take(f"`{key}`")
             if token.text != key:
-                token.refuse(f"`{key}` is wanted in the place of `{token.text}`")
+                token.refuse(f"`{key}` is wanted in the place of `{token}`")
 
     def number(self, what: str, low: int, high: int) -> int:
         token = self.take(what)
         return within(token, decimal(token, what), what, low, high)
 
+    def member(self, what: str, name: str, count: int) -> int:
+        """The number of one of so many things that a name is for."""
+        token = self.take(what)
+        return member(token, decimal(token, what), name, count)
+
     def chosen(self, what: str, names: tuple) -> str:
         token = self.take(what)
         if token.text not in names:
-            token.refuse(f"`{token.text}` is no {what}; there {'are' if names[1:] else 'is'} {', '.join(names)}")
+            token.refuse(f"`{token}` is no {what}; there {'are' if names[1:] else 'is'} {', '.join(names)}")
         return token.text
 
     def close(self):
         """Nothing more stands in the line."""
         if self.at < len(self.tokens):
             token = self.tokens[self.at]
-            token.refuse(f"`{token.text}` is more than this line has")
+            token.refuse(f"`{token}` is more than this line has")
 
 
 def decimal(token: Token, what: str) -> int:
     if not NUMBER.fullmatch(token.text):
-        token.refuse(f"{what} is a decimal number, and `{token.text}` is none")
+        token.refuse(f"{what} is a decimal number, and `{token}` is none")
     if len(token.text) > MANY:
         token.refuse(f"{what} has too many digits")
     return int(token.text)
@@ -150,8 +160,8 @@ class Reading:
         allowed = WORDS if self.image else HEADING
         if token.text not in allowed:
             if token.text in WORDS:
-                token.refuse(NO_HEADING if not self.units else f"`{token.text}` comes before the line `period ..`")
-            token.refuse(f"`{token.text}` begins no line here; {', '.join(allowed)} do")
+                token.refuse(NO_HEADING if not self.units else f"`{token}` comes before the line `period ..`")
+            token.refuse(f"`{token}` begins no line here; {', '.join(allowed)} do")
         getattr(self, f"{token.text}_line")(token, line)
         line.close()
 
@@ -161,7 +171,7 @@ class Reading:
         """The number of an input word or a unit, which are numbered in order."""
         token = line.take(f"the number of the {what}")
         if token.text != str(count):
-            token.refuse(f"{what} {count} is next, and not `{token.text}`")
+            token.refuse(f"{what} {count} is next, and not `{token}`")
         if count == most:
             token.refuse(f"there are {most} {what}s at most")
 
@@ -237,7 +247,7 @@ class Reading:
         line.key(what)
         token = line.take(f"the number of {what}")
         if token.text != str(count):
-            token.refuse(f"the heading has {count} {what}, and not `{token.text}`")
+            token.refuse(f"the heading has {count} {what}, and not `{token}`")
 
     # Places
 
@@ -249,26 +259,23 @@ class Reading:
         """The unit and the port that a word of a line names."""
         found = PLACE.fullmatch(token.text)
         if not found:
-            token.refuse(f"a file is UNIT.PORT, and `{token.text}` is none")
+            token.refuse(f"a file is UNIT.PORT, and `{token}` is none")
         unit = member(token, int(found[1]), "unit", len(self.units))
         behind = Token(token.line, token.column + found.start(2), found[2])
         return unit, member(behind, int(found[2]), f"port of unit {unit} with the number", len(self.units[unit].files))
 
     def bus_in(self, line: Line) -> int:
-        bus = line.number("a bus", 0, MOST_BUSES)
-        return member(line.tokens[line.at - 1], bus, "bus", self.image.buses)
+        return line.member("a bus", "bus", self.image.buses)
 
     def register_in(self, line: Line, unit: int, port: int) -> int:
-        register = line.number(f"a register at {unit}.{port}", 0, MOST_REGISTERS)
-        return member(line.tokens[line.at - 1], register, f"register at {unit}.{port} with the number",
-                      len(self.units[unit].files[port]))
+        return line.member(f"a register at {unit}.{port}", f"register at {unit}.{port} with the number",
+                           len(self.units[unit].files[port]))
 
     # Microwords
 
     def word_line(self, token: Token, line: Line):
-        number = line.number("the number of a microword", 0, MOST_PERIOD * UNROLLS[-1])
+        number = line.member("the number of a microword", "microword", self.image.circle())
         place = line.tokens[line.at - 1]
-        member(place, number, "microword", self.image.circle())
         if self.number is not None and number <= self.number:
             place.refuse(f"word {number} comes behind word {self.number}; words rise")
         self.number, self.seen = number, set()
@@ -276,12 +283,12 @@ class Reading:
     def add(self, token: Token, line: Line, *what):
         """Notes what a line of a microword says, which it says once."""
         if what in self.seen:
-            token.refuse(f"word {self.number} has `{' '.join(one.text for one in line.tokens)}` already")
+            token.refuse(f"word {self.number} has `{' '.join(one.text for one in line.tokens[:line.at])}` already")
         self.seen.add(what)
 
     def word_of(self, token: Token) -> Word:
         if self.number is None:
-            token.refuse(f"`{token.text}` comes before the first line `word ..`")
+            token.refuse(f"`{token}` comes before the first line `word ..`")
         return self.image.words[self.number]
 
     def issue_line(self, token: Token, line: Line):
