@@ -32,3 +32,4 @@ pub mod WholeCycle
 pub mod SampleSteps
 pub mod Leading
 pub mod SampleRuns
+mod Pipelined

@@ -1,3 +1,4 @@
+pub mod Microcode
 pub mod Storage
 pub mod InFlight
 pub mod Machine

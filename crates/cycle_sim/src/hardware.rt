@@ -2,8 +2,8 @@
 ghost use Rattle.std.specs.Prelude.{◌≡◌, ◌+◌, ◌*◌, ◌%◌, ◌<◌, ◌≤◌, ◌^◌, true, false, length};
 ghost use Rattle.cycle_sim.specs.declared.hardware.TheConstants.{SLOTS};
 
+use crate::microcode::Microcode;
 use lists::List;
-use micro_image::Image;
 use operations::Operand;
 
 /// The most units that an image has.
@@ -49,27 +49,27 @@ fn go_round(number: usize, steps: usize, count: usize) -> usize
 }
 
 impl Time {
-    ghost use Rattle.micro_image.specs.Valid.{IsValid};
+    ghost use Rattle.cycle_sim.specs.Microcode.{IsSound};
     ghost use Rattle.cycle_sim.specs.Private.Hardware.{IsTime};
 
     /// Goes on by so many cycles of the sample, and says whether that ends it.
-    pub fn advance(&mut self, image: &Image, cycles: usize) -> bool
-        requires valid { IsValid image.now }
-        requires time { IsTime image.now self.old }
+    pub fn advance(&mut self, code: &Microcode, cycles: usize) -> bool
+        requires valid { IsSound code.now }
+        requires time { IsTime code.now self.old }
         requires young { self.old.cycle < 2 ^ 60 }
-        requires within { self.old.phase + cycles ≤ image.now.period }
-        ensures time { IsTime image.now self.new }
+        requires within { self.old.phase + cycles ≤ code.now.image.period }
+        ensures time { IsTime code.now self.new }
         ensures cycle { self.new.cycle ≡ self.old.cycle + cycles }
         ensures same { result ≡ false → self.new.sample ≡ self.old.sample }
         ensures next { result ≡ true → self.new.sample ≡ self.old.sample + 1 }
     {
         self.cycle += cycles as u64;
         self.phase += cycles;
-        if self.phase < usize::from(image.period) {
+        if self.phase < usize::from(code.image.period) {
             self.word += cycles;
             return false;
         }
-        self.word = go_round(self.word, cycles, image.words.len());
+        self.word = go_round(self.word, cycles, code.image.words.len());
         self.phase = 0;
         self.sample += 1;
         true

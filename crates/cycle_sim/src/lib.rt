@@ -1,4 +1,4 @@
-//! The simulator: a machine that runs the image of a microprogram cycle by cycle.
+//! The simulator: a machine that runs a microprogram cycle by cycle.
 #![tactic(auto)]
 
 mod ahead;
@@ -7,6 +7,7 @@ mod cycle;
 mod hardware;
 mod load;
 mod machine;
+mod microcode;
 mod order;
 mod predecode;
 mod predecoded;

@@ -1,12 +1,13 @@
 //! Rings: rams whose offsets slide by one cell a sample. Where each stands is carried along, so that an address takes
 //! no division.
 ghost use Rattle.std.specs.Prelude.{◌≡◌, ℕ, ◌<◌, ◌+◌, length, IfOk};
-ghost use Rattle.micro_image.specs.Fields.{microprogram_of, unit_of};
+ghost use Rattle.micro_image.specs.Fields.{unit_of};
 ghost use Rattle.micro_image.specs.Log.{modulus_of};
 ghost use Rattle.cycle_sim.specs.Private.Rings.{IsRing, AreRings, AreTurned};
+ghost use Rattle.cycle_sim.specs.Microcode.{micro_of};
 
+use crate::microcode::Microcode;
 use lists::List;
-use micro_image::Image;
 use std::alloc::{AllocError, Global};
 
 /// The ram that a unit addresses, as a ring of cells.
@@ -42,23 +43,23 @@ pub fn turn_all(rings: &mut List<Ring>)
 }
 
 /// How many cells the ram of a unit has.
-fn cells_of(image: &Image, ram: u8) -> usize
-    ensures { result ≡ length (unit_of (microprogram_of image.now) ram).cells }
+fn cells_of(code: &Microcode, ram: u8) -> usize
+    ensures { result ≡ length (unit_of (micro_of code.now) ram).cells }
 {
     let ram = ram as usize;
-    if ram < image.units.len() {
-        image.units[ram].cells.len()
+    if ram < code.image.units.len() {
+        code.image.units[ram].cells.len()
     } else {
         0
     }
 }
 
 /// The ring of a unit before the first sample.
-fn initial_ring(image: &Image, unit: usize) -> Ring
-    requires { unit < length image.now.units }
-    ensures { IsRing (modulus_of (microprogram_of image.now) unit) 0 result }
+fn initial_ring(code: &Microcode, unit: usize) -> Ring
+    requires { unit < length code.now.image.units }
+    ensures { IsRing (modulus_of (micro_of code.now) unit) 0 result }
 {
-    let cells = cells_of(image, image.units[unit].ram);
+    let cells = cells_of(code, code.image.units[unit].ram);
     Ring {
         cells: cells as u64,
         turned: 0,
@@ -66,12 +67,12 @@ fn initial_ring(image: &Image, unit: usize) -> Ring
 }
 
 /// The rings of all units before the first sample.
-pub fn initial_rings(alloc: Global, image: &Image) -> Result<List<Ring>, AllocError>
-    ensures { IfOk result (AreRings (microprogram_of image.now) 0) }
+pub fn initial_rings(alloc: Global, code: &Microcode) -> Result<List<Ring>, AllocError>
+    ensures { IfOk result (AreRings (micro_of code.now) 0) }
 {
     let mut rings = List::new(alloc);
-    for unit in 0..image.units.len() {
-        rings.push(initial_ring(image, unit))?;
+    for unit in 0..code.image.units.len() {
+        rings.push(initial_ring(code, unit))?;
     }
     Ok(rings)
 }

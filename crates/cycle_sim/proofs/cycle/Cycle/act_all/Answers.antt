@@ -12,7 +12,7 @@ bounds-order-place c =
       arith,
       c.loop-place-test.true,
       c.len-place-end.ensures,
-      ap (λ cycle. length cycle.image.units) c.self.view_is,
+      ap (λ cycle. length cycle.code.image.units) c.self.view_is,
       places_order c.args.self.now (subst IsCycle c.self.view_is c.self.invariant.0) c.args.order.now
           c.requires.order,
     )
@@ -25,7 +25,7 @@ act-filled-requires-clause-unit c =
       arith,
       c.loop-place-test.true,
       c.len-place-end.ensures,
-      ap (λ cycle. length cycle.image.units) c.self.view_is,
+      ap (λ cycle. length cycle.code.image.units) c.self.view_is,
       places_order c.args.self.now (subst IsCycle c.self.view_is c.self.invariant.0) c.args.order.now
           c.requires.order,
     ))
@@ -38,7 +38,7 @@ loop-place-preserved c =
       arith,
       c.loop-place-test.true,
       c.len-place-end.ensures,
-      ap (λ cycle. length cycle.image.units) c.self.view_is,
+      ap (λ cycle. length cycle.code.image.units) c.self.view_is,
       places_order c.args.self.now is c.args.order.now c.requires.order,
     ) in
     record {
@@ -63,7 +63,7 @@ returns-clause-issues c =
       arith,
       c.loop-place-test.false,
       c.len-place-end.ensures,
-      ap (λ cycle. length cycle.image.units) c.self.view_is,
+      ap (λ cycle. length cycle.code.image.units) c.self.view_is,
       places_order c.args.self.now is c.args.order.now c.requires.order,
     ) in
     issued_in_order c.args.self.now is c.args.order.now c.requires.order c.args.storage.now c.requires.places
@@ -80,7 +80,7 @@ returns-clause-log c =
       arith,
       c.loop-place-test.false,
       c.len-place-end.ensures,
-      ap (λ cycle. length cycle.image.units) c.self.view_is,
+      ap (λ cycle. length cycle.code.image.units) c.self.view_is,
       places_order c.args.self.now is c.args.order.now c.requires.order,
     ) in
     let same = take_all c.loop-place.place c.args.order.now done in

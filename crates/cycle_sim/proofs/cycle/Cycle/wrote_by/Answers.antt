@@ -1,9 +1,10 @@
 use Rattle.std.proofs.Common.{◌≡◌, ◌==◌, ◌∙◌, arith, sym, subst, ap, find, w64}
 use Rattle.std.proofs.lemmas.Int.{to_z-of_z}
-use Rattle.micro_image.specs.Fields.{microprogram_of, word_at, driver_at}
+use Rattle.micro_image.specs.Fields.{driver_at}
 use Rattle.cycle_sim.specs.InFlight.{slot_of}
 use Rattle.cycle_sim.specs.Machine.{IsOperand}
 use Rattle.cycle_sim.specs.Order.{spot_of}
+use Rattle.cycle_sim.specs.Microcode.{micro_of}
 use Rattle.cycle_sim.specs.Private.Execution.{IsCycle, register_of, value_after}
 use Rattle.cycle_sim.specs.Private.Predecode.{driver_of}
 use Rattle.cycle_sim.proofs.Acting.{driver_small}
@@ -12,8 +13,8 @@ use Rattle.cycle_sim.proofs.cycle.Cycle.wrote_by.Goals as goal
 pub result-requires-clause-unit : goal.result-requires-clause-unit
 result-requires-clause-unit c =
     let is = subst IsCycle c.self.view_is c.self.invariant.0 in
-    let word : c.word_at.result.now ≡ word_at c.args.self.now.image c.args.self.now.number =
-    c.word_at.ensures ∙ ap (λ cycle. word_at cycle.image cycle.number) c.self.view_is in
+    let word : c.word_at.result.now ≡ (micro_of c.args.self.now.code).word_at c.args.self.now.number =
+    c.word_at.ensures ∙ ap (λ cycle. (micro_of cycle.code).word_at cycle.number) c.self.view_is in
     omega (
       arith,
       c.driver_of-driver.ensures,
@@ -23,10 +24,10 @@ result-requires-clause-unit c =
 
 pub returns-clause-wrote : goal.returns-clause-wrote
 returns-clause-wrote c =
-    let word : c.word_at.result.now ≡ word_at c.args.self.now.image c.args.self.now.number =
-    c.word_at.ensures ∙ ap (λ cycle. word_at cycle.image cycle.number) c.self.view_is in
+    let word : c.word_at.result.now ≡ (micro_of c.args.self.now.code).word_at c.args.self.now.number =
+    c.word_at.ensures ∙ ap (λ cycle. (micro_of cycle.code).word_at cycle.number) c.self.view_is in
     let driver : c.driver_of-driver.result
-    ≡ driver_of (driver_at (microprogram_of c.args.self.now.image) c.args.self.now.number c.args.take.now.bus) =
+    ≡ driver_of (driver_at (micro_of c.args.self.now.code) c.args.self.now.number c.args.take.now.bus) =
     c.driver_of-driver.ensures
     ∙ ap (λ word. driver_of (find (λ enable. enable.bus == c.args.take.now.bus) word.enables)) word in
     ap (λ value. record { spot = spot_of (register_of c.args.take.now); value = value })
