@@ -197,6 +197,24 @@ run_through end channels ran waits start mid now later r added closed =
       grown_closed (h.written ++ waits) start now later (grown_more h.written waits start mid now h.grown added) closed,
     )
 
+-- so it is where of the rows that ran less is said
+pub run_through_less : (end : ℕ) (channels : List Channel) (ran less : Rows → Rows → Type 0) (start later : View)
+    → ((rows puts : Rows) → ran rows puts → less rows puts)
+    → IsRunThrough end channels ran start later
+    → IsRunThrough end channels less start later
+run_through_less end channels ran less start later weaker through =
+    let run = through.run in
+    record {
+      run = record {
+        bytes = run.bytes;
+        rows = run.rows;
+        read = run.read;
+        rows_of = run.rows_of;
+        put = record { puts = run.put.puts; given = weaker run.rows run.put.puts run.put.given; put = run.put.put };
+      };
+      closed = through.closed;
+    }
+
 -- all rows of the input ran, and the rest could not be written
 pub input_cut : (end : ℕ) (channels : List Channel) (ran gives : Rows → Rows → Type 0) (waits : Content)
     → (start mid now : View)

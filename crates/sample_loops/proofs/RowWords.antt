@@ -3,8 +3,6 @@ use Rattle.std.proofs.Common.{◌≡◌, ◌≤◌, refl, arith, ℕ, List, [], 
 use Rattle.std.specs.List.{All}
 use Rattle.std.proofs.lemmas.Int.{ints}
 use Rattle.std.proofs.lemmas.List.Elements.{All-head, All-tail, All-cons, All-nil}
-use Rattle.micro_image.specs.declared.image.Image.{Image}
-use Rattle.micro_image.specs.Valid.{IsValid}
 use Rattle.operations.specs.Operations.{IsOperand}
 use Rattle.sample_io.specs.declared.channel.Channel.{Channel}
 use Rattle.sample_io.specs.Channels.{IsInChannel, IsChannel, IsRow, channel_of}
@@ -28,8 +26,11 @@ words_fit (width ∷ widths) (word ∷ row) all h =
     (words_fit widths row (All-tail (λ w. w ≤ 40) width widths all) h.1)
 
 -- a row has a word for each input, of magnitude at most 2^39
-pub row_words : (image : Image) (row : List ℤ) → IsValid image → IsRow (channels_of image) row → All IsOperand row
-row_words image row valid = words_fit image.inputs row valid.inputs
+pub row_words : (inputs : List ℕ) (row : List ℤ)
+    → All (λ width. width ≤ 40) inputs
+    → IsRow (channels_of inputs) row
+    → All IsOperand row
+row_words = words_fit
 
 as_many : (widths : List ℕ) (row : List ℤ) → IsRow (map channel_of widths) row → length row ≡ length widths
 as_many [] [] h = refl
@@ -37,5 +38,5 @@ as_many [] (word ∷ row) h = absurd h
 as_many (width ∷ widths) [] h = absurd h
 as_many (width ∷ widths) (word ∷ row) h = let same = as_many widths row h.1 in omega (arith, same)
 
-pub row_count : (image : Image) (row : List ℤ) → IsRow (channels_of image) row → length row ≡ length image.inputs
-row_count image row = as_many image.inputs row
+pub row_count : (inputs : List ℕ) (row : List ℤ) → IsRow (channels_of inputs) row → length row ≡ length inputs
+row_count = as_many

@@ -4,14 +4,16 @@ use Rattle.std.proofs.Common.{List, [], ◌∷◌, ◌++◌, length, replicate, 
 use Rattle.std.proofs.Math.Nat.{add-div_right, add-mod_right, div-lt_iff_lt-mul}
 use Rattle.std.proofs.lemmas.List.{append-nil, length-append, length-replicate}
 use Rattle.lists.specs.Rows.{Rows}
-use Rattle.cycle_sim.specs.Machine.{Snapshot, micro_of, state_of, sample_rows, RanRows, IsOutputRow}
+use Rattle.cycle_sim.specs.Machine.{Snapshot, state_of, sample_rows, RanRows, IsOutputRow}
 use Rattle.cycle_sim.specs.Machine.{MeetsConflictInSample}
+use Rattle.cycle_sim.specs.Microcode.{micro_of}
+use Rattle.cycle_sim.specs.declared.microcode.Microcode.{Microcode}
 use Rattle.micro_image.specs.declared.conflict.Conflict.{Conflict}
-use Rattle.micro_image.specs.declared.image.Image.{Image}
 use Rattle.micro_image.specs.Conflict.{IsConflict, IsClearBelow}
 use Rattle.micro_image.specs.Fields.{Microprogram}
 use Rattle.micro_image.specs.Run.{Stands, latches}
-use Rattle.sample_loops.specs.Machines.{cycles_with, IsReady, RunsRows, StopsInLast}
+use Rattle.sample_loops.specs.Machines.{cycles_with, IsReady}
+use Rattle.sample_loops.specs.Private.MachineLaws.{MachineRuns, MachineStops}
 
 -- the cycles of one row
 cycles_of_row : (micro : Microprogram) (cycles : Rows) (row : List ℤ)
@@ -26,30 +28,31 @@ length-row micro cycles row =
 
 -- a sample
 pub runs_row : (old new : Snapshot) (row put : List ℤ)
-    → new.image ≡ old.image
-    → RanRows old new (sample_rows (micro_of old) row)
+    → new.code ≡ old.code
+    → RanRows old new (sample_rows (micro_of old.code) row)
     → IsOutputRow old row put
-    → RunsRows old (row ∷ []) (put ∷ []) new
+    → MachineRuns old (row ∷ []) (put ∷ []) new
 runs_row old new row put same ran puts =
-    let micro = micro_of old in
-    record {
-      image = same;
-      stands = λ cycles stands.
-          subst (Stands (state_of new) micro) (cycles_of_row micro cycles row) (ran cycles stands);
-      put = λ cycles stands.
-          ap (λ words. words ∷ [])
-          (puts cycles stands
-          ∙ ap₂ (latches micro) (cycles_of_row micro cycles row)
-          (let e : length cycles + micro.period ≡ length cycles + (0 + 1) * micro.period = omega arith in e));
-    }
+    let micro = micro_of old.code in (
+      same,
+      record {
+        stands = λ cycles stands.
+            subst (Stands (state_of new) micro) (cycles_of_row micro cycles row) (ran cycles stands);
+        put = λ cycles stands.
+            ap (λ words. words ∷ [])
+            (puts cycles stands
+            ∙ ap₂ (latches micro) (cycles_of_row micro cycles row)
+            (let e : length cycles + micro.period ≡ length cycles + (0 + 1) * micro.period = omega arith in e));
+      },
+    )
 
 -- its first conflict
 pub meets_in_row : (old new : Snapshot) (row : List ℤ) (conflict : Conflict)
     → MeetsConflictInSample old row conflict
     → new.conflict ≡ Some conflict
-    → StopsInLast old (row ∷ []) conflict new
+    → MachineStops old (row ∷ []) conflict new
 meets_in_row old new row conflict meets kept =
-    let micro = micro_of old in
+    let micro = micro_of old.code in
     record {
       met = λ cycles stands.
           let found = meets cycles stands in
@@ -68,13 +71,16 @@ meets_in_row old new row conflict meets kept =
 
 -- a sample later the machine is at the start of the next
 pub ready_after : (old new : Snapshot)
-    → IsReady old
-    → new.image ≡ old.image
-    → new.cycle ≡ old.cycle + old.image.period
+    → IsReady (micro_of old.code) (state_of old)
+    → new.code ≡ old.code
+    → new.cycle ≡ old.cycle + (micro_of old.code).period
     → new.conflict ≡ None
-    → IsReady new
+    → IsReady (micro_of new.code) (state_of new)
 ready_after old new ready same cycle running = record {
-  whole = ap₂ ◌%◌ cycle (ap (λ (i : Image). i.period) same) ∙ add-mod_right old.cycle old.image.period ∙ ready.whole;
+  whole =
+      ap₂ ◌%◌ cycle (ap (λ (code : Microcode). (micro_of code).period) same)
+      ∙ add-mod_right old.cycle (micro_of old.code).period
+      ∙ ready.whole;
   running = running;
 }
 
@@ -85,10 +91,11 @@ samples_below cycle samples (suc n) young = (div-lt_iff_lt-mul (omega arith)).1 
 
 -- a sample later
 pub sample_later : (old new : Snapshot)
-    → 0 < old.image.period
-    → new.image ≡ old.image
-    → new.cycle ≡ old.cycle + old.image.period
-    → new.cycle / new.image.period ≤ old.cycle / old.image.period + 1
+    → 0 < (micro_of old.code).period
+    → new.code ≡ old.code
+    → new.cycle ≡ old.cycle + (micro_of old.code).period
+    → new.cycle / (micro_of new.code).period ≤ old.cycle / (micro_of old.code).period + 1
 sample_later old new some same cycle =
-    let one_more = ap₂ ◌/◌ cycle (ap (λ (i : Image). i.period) same) ∙ add-div_right old.cycle some in
+    let one_more =
+    ap₂ ◌/◌ cycle (ap (λ (code : Microcode). (micro_of code).period) same) ∙ add-div_right old.cycle some in
     omega (arith, one_more)

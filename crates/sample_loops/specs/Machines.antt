@@ -1,19 +1,18 @@
--- A machine over a stream of samples: it runs each row of the stream for a whole period, after whatever cycles it ran.
-use Rattle.std.specs.Prelude.{◌≡◌, ◌+◌, ◌*◌, ◌%◌, ◌<◌, ◌≤◌, List, ◌++◌, length, map, Some, None}
+-- A machine over a stream of samples, by its microprogram and its state: it runs each row of the stream for a whole
+-- period, after whatever cycles it ran.
+use Rattle.std.specs.Prelude.{◌≡◌, ℕ, ◌+◌, ◌*◌, ◌%◌, ◌<◌, ◌≤◌, List, ◌++◌, length, map, Some, None}
 use Rattle.std.specs.List.{range_with_len}
 use Rattle.lists.specs.Rows.{Rows}
-use Rattle.cycle_sim.specs.Machine.{Snapshot, RanRows, micro_of, state_of}
 use Rattle.micro_image.specs.declared.conflict.Conflict.{Conflict}
-use Rattle.micro_image.specs.declared.image.Image.{Image}
 use Rattle.micro_image.specs.Conflict.{IsConflict, IsClearBelow}
 use Rattle.micro_image.specs.Fields.{Microprogram}
-use Rattle.micro_image.specs.Run.{Stands, spread, latches}
+use Rattle.micro_image.specs.Run.{State, Stands, spread, latches}
 use Rattle.sample_io.specs.declared.channel.Channel.{Channel}
 use Rattle.sample_io.specs.Channels.{channel_of}
 
--- a channel for each input word
-abbrev pub channels_of : Image → List Channel
-channels_of image = map channel_of image.inputs
+-- a channel for each input word, by their widths
+abbrev pub channels_of : List ℕ → List Channel
+channels_of inputs = map channel_of inputs
 
 -- these cycles, and then each of the rows for a whole period
 abbrev pub cycles_with : Microprogram → (cycles rows : Rows) → Rows
@@ -42,34 +41,28 @@ pub record IsConflictInLast (micro : Microprogram) (cycles rows : Rows) (conflic
   pub last : length (cycles_with micro cycles rows) ≤ conflict.cycle + micro.period
 
 -- the machine is at the start of a sample, and has no conflict
-pub record IsReady (machine : Snapshot) : Type 0 where
-  pub whole : machine.cycle % machine.image.period ≡ 0
-  pub running : machine.conflict ≡ None
+pub record IsReady (micro : Microprogram) (state : State) : Type 0 where
+  pub whole : state.cycle % micro.period ≡ 0
+  pub running : state.conflict ≡ None
 
--- From the first the machine becomes the second by running these rows, and puts these. Where it stood after some
+-- From the first state the machine comes to the second by running these rows, and puts these. Where it stood after some
 -- cycles, it stands after those and the samples of the rows.
-pub record RunsRows (old : Snapshot) (rows puts : Rows) (new : Snapshot) : Type 0 where
-  pub image : new.image ≡ old.image
-  pub stands : RanRows old new (spread old.image.period rows)
-  pub put : (cycles : Rows)
-      → Stands (state_of old) (micro_of old) cycles → puts ≡ rows_put (micro_of old) cycles rows
+pub record RunsRows (micro : Microprogram) (old : State) (rows puts : Rows) (new : State) : Type 0 where
+  pub stands : (cycles : Rows) → Stands old micro cycles → Stands new micro (cycles_with micro cycles rows)
+  pub put : (cycles : Rows) → Stands old micro cycles → puts ≡ rows_put micro cycles rows
 
 -- over these rows the machine meets no conflict and puts these
-pub record PutsRows (machine : Snapshot) (rows puts : Rows) : Type 0 where
-  pub clear : (cycles : Rows)
-      → Stands (state_of machine) (micro_of machine) cycles
-      → IsClearOver (micro_of machine) cycles rows
-  pub put : (cycles : Rows)
-      → Stands (state_of machine) (micro_of machine) cycles
-      → puts ≡ rows_put (micro_of machine) cycles rows
+pub record PutsRows (micro : Microprogram) (state : State) (rows puts : Rows) : Type 0 where
+  pub clear : (cycles : Rows) → Stands state micro cycles → IsClearOver micro cycles rows
+  pub put : (cycles : Rows) → Stands state micro cycles → puts ≡ rows_put micro cycles rows
 
 -- in the last of these rows the machine meets the conflict first
-abbrev pub MeetsInLast : Snapshot → Rows → Conflict → Type 0
-MeetsInLast machine rows conflict =
-    (cycles : Rows) → Stands (state_of machine) (micro_of machine) cycles
-    → IsConflictInLast (micro_of machine) cycles rows conflict
+abbrev pub MeetsInLast : Microprogram → State → Rows → Conflict → Type 0
+MeetsInLast micro state rows conflict =
+    (cycles : Rows) → Stands state micro cycles → IsConflictInLast micro cycles rows conflict
 
--- and from the first it becomes the second, which keeps the conflict and answers it from then on
-pub record StopsInLast (old : Snapshot) (rows : Rows) (conflict : Conflict) (new : Snapshot) : Type 0 where
-  pub met : MeetsInLast old rows conflict
+-- and from the first state it comes to the second, which keeps the conflict: it answers it from then on
+pub record StopsInLast (micro : Microprogram) (old : State) (rows : Rows) (conflict : Conflict) (new : State)
+    : Type 0 where
+  pub met : MeetsInLast micro old rows conflict
   pub kept : new.conflict ≡ Some conflict

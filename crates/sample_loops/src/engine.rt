@@ -6,7 +6,7 @@ ghost use Rattle.micro_image.specs.declared.conflict.Conflict.{Conflict as Confl
 use micro_image::Conflict;
 
 /// A machine or an evaluator: it takes a row of input words and puts a row of output words, or meets a conflict.
-pub(crate) trait Engine {
+pub trait Engine {
     /// The row is one of its input rows.
     ghost accepts: { Self → List ℤ → Type 0 };
 
@@ -19,7 +19,7 @@ pub(crate) trait Engine {
     /// It has no conflict, and is at the start of a sample.
     ghost ready: { Self → Type 0 };
 
-    /// They have the same image or graph.
+    /// They run the same microprogram or graph.
     ghost same: { Self → Self → Type 0 };
 
     /// From the first it becomes the second by running these rows, and it puts these.

@@ -8,6 +8,7 @@ mod output;
 mod stream;
 mod writing;
 
+pub use engine::Engine;
 pub use evaluator::eval_stream;
 pub use machine::run_stream;
-pub use stream::StreamFault;
+pub use stream::{StreamFault, run_all};

@@ -1,8 +1,10 @@
-//! The machine of an image over a stream of samples.
+//! A machine over a stream of samples.
 ghost use Rattle.std.specs.Prelude.{◌≡◌, ◌*◌, ◌/◌, ◌<◌, ◌≤◌, ◌^◌, [], IfErr, OnOk};
 ghost use Rattle.desk_core.specs.Desk.{FaultsNeverFall};
 ghost use Rattle.sample_io.specs.Channels.{IsRow};
 ghost use Rattle.sample_io.specs.Pieces.{HasTaken};
+ghost use Rattle.cycle_sim.specs.Machine.{state_of};
+ghost use Rattle.cycle_sim.specs.Microcode.{micro_of, inputs_of};
 ghost use Rattle.sample_loops.specs.Machines.{channels_of, IsReady, RunsRows, PutsRows, StopsInLast};
 ghost use Rattle.sample_loops.specs.Streams.{IsRunThrough, IsStopped, IsKept, ChangesOutputAlone};
 
@@ -14,23 +16,23 @@ use micro_image::Conflict;
 use sample_io::Rows;
 
 impl Engine for Machine {
-    ghost use Rattle.sample_loops.specs.Private.MachineLaws.{same_image, same_on, runs_none, runs_more, runs_clear, meets_after};
+    ghost use Rattle.sample_loops.specs.Private.MachineLaws.{MachineRuns, MachinePuts, MachineStops, same_code, same_on, machine_none, machine_more, machine_clear, machine_stops};
 
-    ghost accepts = { λ machine row. IsRow (channels_of machine.image) row };
+    ghost accepts = { λ machine row. IsRow (channels_of (inputs_of machine.code)) row };
 
-    ghost width = { λ machine. machine.image.outs };
+    ghost width = { λ machine. (micro_of machine.code).outs };
 
-    ghost age = { λ machine. machine.cycle / machine.image.period };
+    ghost age = { λ machine. machine.cycle / (micro_of machine.code).period };
 
-    ghost ready = { IsReady };
+    ghost ready = { λ machine. IsReady (micro_of machine.code) (state_of machine) };
 
-    ghost same = { λ old new. new.image ≡ old.image };
+    ghost same = { λ old new. new.code ≡ old.code };
 
-    ghost ran = { RunsRows };
+    ghost ran = { MachineRuns };
 
-    ghost gives = { PutsRows };
+    ghost gives = { MachinePuts };
 
-    ghost meets = { StopsInLast };
+    ghost meets = { MachineStops };
 
     fn outs(&self) -> usize {
         self.outs()
@@ -41,17 +43,17 @@ impl Engine for Machine {
         self.sample(row, put)
     }
 
-    ghost same_self = { same_image };
+    ghost same_self = { same_code };
 
     ghost same_on = { same_on };
 
-    ghost none_ran = { runs_none };
+    ghost none_ran = { machine_none };
 
-    ghost ran_on = { runs_more };
+    ghost ran_on = { machine_more };
 
-    ghost ran_gives = { runs_clear };
+    ghost ran_gives = { machine_clear };
 
-    ghost meets_later = { meets_after };
+    ghost meets_later = { machine_stops };
 }
 
 /// Runs the machine over the rows of the desk's current input, from its start to its end, writes the rows that it puts
@@ -68,21 +70,24 @@ pub fn run_stream<D: Desk>(
     desk: &mut D,
     limit: u64,
 ) -> Result<(), StreamFault>
-    requires ready { IsReady machine.old }
-    requires young { machine.old.cycle < 2 ^ 47 * machine.old.image.period }
-    requires channels { rows.old.channels ≡ channels_of machine.old.image }
+    requires ready { IsReady (micro_of machine.old.code) (state_of machine.old) }
+    requires young { machine.old.cycle < 2 ^ 47 * (micro_of machine.old.code).period }
+    requires channels { rows.old.channels ≡ channels_of (inputs_of machine.old.code) }
     requires fresh { HasTaken rows.old [] [] }
     requires start { (D.view desk.old).place ≡ 0 }
     requires limit { limit ≤ 2 ^ 32 }
     ensures never_fall { FaultsNeverFall (D.view desk.old) (D.view desk.new) }
     ensures only { ChangesOutputAlone (D.view desk.old) (D.view desk.new) }
-    ensures image { machine.new.image ≡ machine.old.image }
+    ensures code { machine.new.code ≡ machine.old.code }
     ensures channels { rows.new.channels ≡ rows.old.channels }
     ensures kept { IfErr result (IsKept rows.new) }
-    ensures ok { OnOk result (IsRunThrough limit (channels_of machine.old.image)
-        (λ ran puts. RunsRows machine.old ran puts machine.new) (D.view desk.old) (D.view desk.new)) }
-    ensures err { IfErr result (IsStopped limit (channels_of machine.old.image) (PutsRows machine.old)
-        (λ ran conflict. StopsInLast machine.old ran conflict machine.new) (D.view desk.old) (D.view desk.new)) }
+    ensures ok { OnOk result (IsRunThrough limit (channels_of (inputs_of machine.old.code))
+        (λ ran puts. RunsRows (micro_of machine.old.code) (state_of machine.old) ran puts (state_of machine.new))
+        (D.view desk.old) (D.view desk.new)) }
+    ensures err { IfErr result (IsStopped limit (channels_of (inputs_of machine.old.code))
+        (PutsRows (micro_of machine.old.code) (state_of machine.old))
+        (λ ran conflict. StopsInLast (micro_of machine.old.code) (state_of machine.old) ran conflict (state_of machine.new))
+        (D.view desk.old) (D.view desk.new)) }
 {
     run_all(machine, rows, desk, limit)
 }

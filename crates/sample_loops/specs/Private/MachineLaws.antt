@@ -4,23 +4,18 @@ use Rattle.std.proofs.Common.{ℕ, List, [], ◌++◌, length, map, append_assoc
 use Rattle.std.proofs.lemmas.List.{append-nil, length-append}
 use Rattle.std.specs.List.{range_with_len}
 use Rattle.lists.specs.Rows.{Rows}
-use Rattle.cycle_sim.specs.Machine.{Snapshot, micro_of, state_of}
+use Rattle.cycle_sim.specs.declared.microcode.Microcode.{Microcode}
+use Rattle.cycle_sim.specs.Machine.{Snapshot, state_of}
+use Rattle.cycle_sim.specs.Microcode.{micro_of}
 use Rattle.micro_image.specs.declared.conflict.Conflict.{Conflict}
-use Rattle.micro_image.specs.declared.image.Image.{Image}
-use Rattle.micro_image.specs.Fields.{Microprogram, microprogram_of}
-use Rattle.micro_image.specs.Run.{Stands, spread, latches}
+use Rattle.micro_image.specs.Fields.{Microprogram}
+use Rattle.micro_image.specs.Run.{State, Stands, spread, latches}
 use Rattle.micro_image.proofs.Lists.{In-range, map-same}
 use Rattle.micro_image.proofs.Prefix.{latches-prefix}
 use Rattle.micro_image.proofs.Streams.{length-spread, spread-append}
 use Rattle.sample_loops.specs.Private.Ranges.{range_more, range_from}
 use Rattle.sample_loops.specs.Machines.{cycles_with, rows_put, IsFirstConflict, IsConflictInLast}
 use Rattle.sample_loops.specs.Machines.{RunsRows, PutsRows, StopsInLast}
-
-pub same_image : (machine : Snapshot) → machine.image ≡ machine.image
-same_image machine = refl
-
-pub same_on : (old mid new : Snapshot) → mid.image ≡ old.image → new.image ≡ mid.image → new.image ≡ old.image
-same_on old mid new first second = second ∙ first
 
 -- the samples of rows and then of more
 pub cycles_more : (micro : Microprogram) (cycles rows more : Rows)
@@ -75,63 +70,95 @@ put_more micro cycles rows more =
     ∙ sym (range_more put 0 (length rows) (length more))
     ∙ ap (λ n. map put (range_with_len 0 n)) (sym (length-append rows more))
 
--- no rows
-pub runs_none : (machine : Snapshot) → RunsRows machine [] [] machine
-runs_none machine = record {
-  image = refl;
-  stands = λ cycles stands. subst (Stands (state_of machine) (micro_of machine)) (sym (append-nil cycles)) stands;
-  put = λ cycles stands. refl;
-}
+module _ (micro : Microprogram) where
+  -- no rows
+  pub runs_none : (state : State) → RunsRows micro state [] [] state
+  runs_none state = record {
+    stands = λ cycles stands. subst (Stands state micro) (sym (append-nil cycles)) stands;
+    put = λ cycles stands. refl;
+  }
 
--- the machine stands after rows that ran
-ran_to : (old mid : Snapshot) (rows puts cycles : Rows)
-    → RunsRows old rows puts mid
-    → Stands (state_of old) (micro_of old) cycles
-    → Stands (state_of mid) (micro_of mid) (cycles_with (micro_of old) cycles rows)
-ran_to old mid rows puts cycles ran stands =
-    subst (λ (image : Image). Stands (state_of mid) (microprogram_of image) (cycles_with (micro_of old) cycles rows))
-    (sym ran.image) (ran.stands cycles stands)
+  -- rows and then more
+  pub runs_more : (old mid new : State) (rows puts more others : Rows)
+      → RunsRows micro old rows puts mid
+      → RunsRows micro mid more others new
+      → RunsRows micro old (rows ++ more) (puts ++ others) new
+  runs_more old mid new rows puts more others first second = record {
+    stands = λ cycles stands.
+        subst (Stands new micro) (cycles_more micro cycles rows more)
+        (second.stands (cycles_with micro cycles rows) (first.stands cycles stands));
+    put = λ cycles stands.
+        ap₂ ◌++◌ (first.put cycles stands)
+        (second.put (cycles_with micro cycles rows) (first.stands cycles stands))
+        ∙ put_more micro cycles rows more;
+  }
 
--- rows and then more
-pub runs_more : (old mid new : Snapshot) (rows puts more others : Rows)
-    → RunsRows old rows puts mid
-    → RunsRows mid more others new
-    → RunsRows old (rows ++ more) (puts ++ others) new
-runs_more old mid new rows puts more others first second = record {
-  image = second.image ∙ first.image;
-  stands = λ cycles stands.
-      let then = cycles_with (micro_of old) cycles rows in
-      subst (Stands (state_of new) (micro_of old)) (cycles_more (micro_of old) cycles rows more)
-      (subst (λ (image : Image). Stands (state_of new) (microprogram_of image)
-      (cycles_with (microprogram_of image) then more)) first.image
-      (second.stands then (ran_to old mid rows puts cycles first stands)));
-  put = λ cycles stands.
-      let then = cycles_with (micro_of old) cycles rows in
-      ap₂ ◌++◌ (first.put cycles stands)
-      (second.put then (ran_to old mid rows puts cycles first stands)
-      ∙ ap (λ (image : Image). rows_put (microprogram_of image) then more) first.image)
-      ∙ put_more (micro_of old) cycles rows more;
-}
+  -- a machine that ran met no conflict
+  pub runs_clear : (old new : State) (rows puts : Rows)
+      → RunsRows micro old rows puts new
+      → PutsRows micro old rows puts
+  runs_clear old new rows puts ran = record {
+    clear = λ cycles stands. (ran.stands cycles stands).clear;
+    put = ran.put;
+  }
 
--- a machine that ran met no conflict
-pub runs_clear : (old new : Snapshot) (rows puts : Rows) → RunsRows old rows puts new → PutsRows old rows puts
-runs_clear old new rows puts ran = record { clear = λ cycles stands. (ran.stands cycles stands).clear; put = ran.put }
+  -- a conflict after rows that ran
+  pub meets_after : (old mid new : State) (rows puts more : Rows) (conflict : Conflict)
+      → RunsRows micro old rows puts mid
+      → StopsInLast micro mid more conflict new
+      → StopsInLast micro old (rows ++ more) conflict new
+  meets_after old mid new rows puts more conflict ran stops = record {
+    met = λ cycles stands.
+        let same = cycles_more micro cycles rows more in
+        let found : IsConflictInLast micro (cycles_with micro cycles rows) more conflict =
+        stops.met (cycles_with micro cycles rows) (ran.stands cycles stands) in
+        record {
+          first = subst (λ z. IsFirstConflict micro z conflict) same found.first;
+          last = subst (λ (z : Rows). length z ≤ conflict.cycle + micro.period) same found.last;
+        };
+    kept = stops.kept;
+  }
 
--- a conflict after rows that ran
-pub meets_after : (old mid new : Snapshot) (rows puts more : Rows) (conflict : Conflict)
-    → RunsRows old rows puts mid
-    → StopsInLast mid more conflict new
-    → StopsInLast old (rows ++ more) conflict new
-meets_after old mid new rows puts more conflict ran stops = record {
-  met = λ cycles stands.
-      let same = cycles_more (micro_of old) cycles rows more in
-      let found : IsConflictInLast (micro_of old) (cycles_with (micro_of old) cycles rows) more conflict =
-      subst (λ (image : Image).
-      IsConflictInLast (microprogram_of image) (cycles_with (micro_of old) cycles rows) more conflict) ran.image
-      (stops.met (cycles_with (micro_of old) cycles rows) (ran_to old mid rows puts cycles ran stands)) in
-      record {
-        first = subst (λ z. IsFirstConflict (micro_of old) z conflict) same found.first;
-        last = subst (λ (z : Rows). length z ≤ conflict.cycle + old.image.period) same found.last;
-      };
-  kept = stops.kept;
-}
+-- The same of a machine as callers see it.
+pub same_code : (machine : Snapshot) → machine.code ≡ machine.code
+same_code machine = refl
+
+pub same_on : (old mid new : Snapshot) → mid.code ≡ old.code → new.code ≡ mid.code → new.code ≡ old.code
+same_on old mid new first second = second ∙ first
+
+-- it obeys what it obeyed, and ran rows of it
+abbrev pub MachineRuns : Snapshot → Rows → Rows → Snapshot → Type 0
+MachineRuns old rows puts new =
+    (new.code ≡ old.code) × RunsRows (micro_of old.code) (state_of old) rows puts (state_of new)
+
+abbrev pub MachinePuts : Snapshot → Rows → Rows → Type 0
+MachinePuts machine = PutsRows (micro_of machine.code) (state_of machine)
+
+abbrev pub MachineStops : Snapshot → Rows → Conflict → Snapshot → Type 0
+MachineStops old rows conflict new = StopsInLast (micro_of old.code) (state_of old) rows conflict (state_of new)
+
+pub machine_none : (machine : Snapshot) → MachineRuns machine [] [] machine
+machine_none machine = (refl, runs_none (micro_of machine.code) (state_of machine))
+
+pub machine_more : (old mid new : Snapshot) (rows puts more others : Rows)
+    → MachineRuns old rows puts mid
+    → MachineRuns mid more others new
+    → MachineRuns old (rows ++ more) (puts ++ others) new
+machine_more old mid new rows puts more others first second = (
+  second.0 ∙ first.0,
+  runs_more (micro_of old.code) (state_of old) (state_of mid) (state_of new) rows puts more others first.1
+      (subst (λ (code : Microcode). RunsRows (micro_of code) (state_of mid) more others (state_of new)) first.0
+      second.1),
+)
+
+pub machine_clear : (old new : Snapshot) (rows puts : Rows) → MachineRuns old rows puts new → MachinePuts old rows puts
+machine_clear old new rows puts ran =
+    runs_clear (micro_of old.code) (state_of old) (state_of new) rows puts ran.1
+
+pub machine_stops : (old mid new : Snapshot) (rows puts more : Rows) (conflict : Conflict)
+    → MachineRuns old rows puts mid
+    → MachineStops mid more conflict new
+    → MachineStops old (rows ++ more) conflict new
+machine_stops old mid new rows puts more conflict ran stops =
+    meets_after (micro_of old.code) (state_of old) (state_of mid) (state_of new) rows puts more conflict ran.1
+    (subst (λ (code : Microcode). StopsInLast (micro_of code) (state_of mid) more conflict (state_of new)) ran.0 stops)
