@@ -2,7 +2,8 @@
 use Rattle.std.proofs.Common.{◌≡◌, refl, sym, ap, ap₂, subst, ◌∙◌, arith, inl, inr, ⊎_elim, ◌+◌, List, [], ◌∷◌, map}
 use Rattle.std.proofs.Common.{Bool}
 use Rattle.lists.specs.Rows.{Rows}
-use Rattle.cycle_sim.specs.Machine.{Snapshot}
+use Rattle.cycle_sim.specs.Machine.{Snapshot, state_of}
+use Rattle.cycle_sim.specs.Microcode.{micro_of, inputs_of}
 use Rattle.desk_core.specs.View.{Name, Content, View}
 use Rattle.desk_core.specs.Desk.{WhereSpecified, FaultsNeverFall, IsUnchanged, content_of}
 use Rattle.desk_core.proofs.DeskLemmas.{never_fall_trans, specified_from}
@@ -10,13 +11,16 @@ use Rattle.fix_word.specs.declared.types.SigType.{SigType}
 use Rattle.fix_word.specs.declared.types.SigType.TheVariants as sig
 use Rattle.micro_file.proofs.FirstFault.{spelled_no_fault}
 use Rattle.micro_image.specs.declared.image.Image.{Image as MicroImage}
+use Rattle.micro_image.specs.Fields.{Microprogram, microprogram_of}
+use Rattle.micro_image.specs.Run.{State, IsRunOut}
 use Rattle.micro_image.specs.Spells.{Spells}
 use Rattle.micro_image.specs.declared.conflict.Conflict.{Conflict as ConflictValue}
 use Rattle.micro_image.proofs.Streams.{length-spread}
 use Rattle.plan_run.specs.ImageOf.{IsImageOf, width_of}
+use Rattle.sample_io.specs.declared.channel.Channel.{Channel}
 use Rattle.sample_io.specs.Channels.{IsStream, channel_of}
 use Rattle.sample_io.specs.Samples.{printed}
-use Rattle.sample_loops.specs.Machines.{channels_of, RunsRows, PutsRows, StopsInLast}
+use Rattle.sample_loops.specs.Machines.{channels_of, RunsRows, PutsRows, StopsInLast, IsConflictInLast}
 use Rattle.sample_loops.specs.Private.MachineLaws.{runs_clear}
 use Rattle.sample_loops.specs.Streams.{IsRunThrough}
 use Rattle.sample_loops.specs.declared.stream.StreamFault.{StreamFault}
@@ -88,12 +92,14 @@ module _ (src datapath : Name) (old new : View) (planned : Planned) (plan : IsRe
       → IsMachineOf microcode machine
       → IsCompiledMachine src datapath old new machine
   compiled_machine machine is =
-      let same : made.image ≡ machine.image = sym (made.spelled.unique machine.image is.spells) in
-      let image_of : IsImageOf planned.path planned.plan machine.image =
+      let same : made.image ≡ is.image = sym (made.spelled.unique is.image is.spells) in
+      let image_of : IsImageOf planned.path planned.plan is.image =
       subst (IsImageOf planned.path planned.plan) same made.image_of in
       record {
         read = plan.read;
         fresh = is.fresh;
+        image = is.image;
+        code = is.code;
         program = plan.program;
         graph = plan.graph;
         keeps = plan.keeps;
@@ -127,29 +133,48 @@ module _ (src datapath samples out : Name) (old mid new : View) (machine : Snaps
     solved = λ stream valid. let (words, one, run) = compiled.runs stream valid in (words, one);
   }
 
-  its_stream : (rows : Rows) → IsStream (channels_of machine.image) rows → program.IsStream compiled.program rows
+  abbrev image : MicroImage
+  image = compiled.image
+
+  abbrev micro : Microprogram
+  micro = micro_of machine.code
+
+  abbrev channels : List Channel
+  channels = channels_of (inputs_of machine.code)
+
+  -- the machine obeys the image, and its rows are those of the program
+  micro_is : micro ≡ microprogram_of image
+  micro_is = ap micro_of compiled.code
+
+  channels_are : channels ≡ program_channels compiled.program
+  channels_are = ap (λ code. channels_of (inputs_of code)) compiled.code ∙ compiled.channels
+
+  its_stream : (rows : Rows) → IsStream channels rows → program.IsStream compiled.program rows
   its_stream rows is =
       program_stream compiled.program compiled.graph compiled.keeps rows
-      (subst (λ cs. IsStream cs rows) (compiled.channels ∙ sym (ap (map type_channel) compiled.keeps.keeps.inputs)) is)
+      (subst (λ cs. IsStream cs rows) (channels_are ∙ sym (ap (map type_channel) compiled.keeps.keeps.inputs)) is)
 
   -- the rows of the run are those of the program's one solution
   solution_rows : (rows puts : Rows)
-      → IsStream (channels_of machine.image) rows
-      → PutsRows machine rows puts
+      → IsStream channels rows
+      → PutsRows micro (state_of machine) rows puts
       → IsSolutionRows compiled.program rows puts
   solution_rows rows puts is h =
       let (words, one, run) = compiled.runs rows (its_stream rows is) in
-      record { words = words; one = one; puts_are = (fresh_puts machine compiled.fresh rows puts h).put ∙ sym run.put }
+      let put =
+      subst (λ (m : Microprogram). IsRunOut m rows puts) micro_is (fresh_puts machine compiled.fresh rows puts h) in
+      record { words = words; one = one; puts_are = put.put ∙ sym run.put }
 
   -- and it has no conflict
-  no_conflict : (after : Snapshot) (rows : Rows) (conflict : ConflictValue)
-      → IsStream (channels_of machine.image) rows
-      → StopsInLast machine rows conflict after
+  no_conflict : (after : State) (rows : Rows) (conflict : ConflictValue)
+      → IsStream channels rows
+      → StopsInLast micro (state_of machine) rows conflict after
       → ⊥
   no_conflict after rows conflict is h =
       let (words, one, run) = compiled.runs rows (its_stream rows is) in
-      let met = (fresh_meets machine compiled.fresh after rows conflict h).first in
-      run.clear conflict.cycle (omega (arith, met.within, length-spread machine.image.period rows)) conflict.kind
+      let met = (subst (λ (m : Microprogram). IsConflictInLast m [] rows conflict) micro_is
+      (fresh_meets machine compiled.fresh after rows conflict h)).first in
+      run.clear conflict.cycle (omega (arith, met.within, length-spread image.period rows)) conflict.kind
       conflict.place
       met.there.there
 
@@ -182,8 +207,7 @@ module _ (src datapath samples out : Name) (old mid new : View) (machine : Snaps
     opened = opened_from samples out old mid ran.mid first.unchanged.files ran.opened
 
     stopped_run : (fault : StreamFault)
-        → IsEndedEarly samples out (channels_of machine.image) (IsSolutionRows compiled.program) (λ rows conflict. ⊥)
-        old new fault
+        → IsEndedEarly samples out channels (IsSolutionRows compiled.program) (λ rows conflict. ⊥) old new fault
         → IsRunStopped src datapath samples out old new fault
     stopped_run fault h = record {
       program = compiled.program;
@@ -192,12 +216,11 @@ module _ (src datapath samples out : Name) (old mid new : View) (machine : Snaps
       planned = compiled.planned;
       ended =
           subst (λ cs. IsEndedEarly samples out cs (IsSolutionRows compiled.program) (λ rows conflict. ⊥) old new fault)
-          compiled.channels h;
+          channels_are h;
     }
 
     run_stopped : (fault : StreamFault)
-        → IsEndedEarly samples out (channels_of machine.image) (IsSolutionRows compiled.program) (λ rows conflict. ⊥)
-        old new fault
+        → IsEndedEarly samples out channels (IsSolutionRows compiled.program) (λ rows conflict. ⊥) old new fault
         → IsRunAnswer src datapath samples out old new kept (status_of fault)
     run_stopped stream.Desk h = inr (stopped_run stream.Desk h)
     run_stopped (stream.Row fault) h = stopped_run (stream.Row fault) h
@@ -205,36 +228,38 @@ module _ (src datapath samples out : Name) (old mid new : View) (machine : Snaps
     run_stopped (stream.Conflict conflict) h = absurd h.met
 
     run_done : kept ≡ One after
-        → IsRunThrough (samples_limit + 1) (channels_of machine.image) (λ rows puts. RunsRows machine rows puts after)
-        ran.mid new
+        → IsRunThrough (samples_limit + 1) channels
+        (λ rows puts. RunsRows micro (state_of machine) rows puts (state_of after)) ran.mid new
         → IsRunDone src datapath samples out old new kept
     run_done keeps h =
-        let is = run_stream_is samples out old ran.mid new fall opened ran.only (channels_of machine.image) _ h in
+        let is = run_stream_is samples out old ran.mid new fall opened ran.only channels _ h in
         let rows =
         solution_rows h.run.rows h.run.put.puts is
-        (runs_clear machine after h.run.rows h.run.put.puts h.run.put.given) in
+        (runs_clear micro (state_of machine) (state_of after) h.run.rows h.run.put.puts h.run.put.given) in
         record {
           solved = record {
-            finished = run_finished samples out old ran.mid new fall opened ran.only (channels_of machine.image) _ h;
+            finished = run_finished samples out old ran.mid new fall opened ran.only channels _ h;
             program = compiled.program;
             stream = h.run.rows;
             text = printed h.run.put.puts;
             solution = record { words = rows.words; one = rows.one; text_is = ap printed rows.puts_are };
             specified = λ files is. record {
               source = program_in files is;
-              samples_are = subst (λ cs. AreSamples cs (content_of (files samples)) h.run.rows) compiled.channels
-                  (run_samples_are samples out old ran.mid new fall opened ran.only (channels_of machine.image) _ h
+              samples_are = subst (λ cs. AreSamples cs (content_of (files samples)) h.run.rows) channels_are
+                  (run_samples_are samples out old ran.mid new fall opened ran.only channels _ h
                   files is);
             };
-            put = run_put samples out old ran.mid new fall opened ran.only (channels_of machine.image) _ h;
+            put = run_put samples out old ran.mid new fall opened ran.only channels _ h;
           };
           path = compiled.path;
           plan = compiled.plan;
           planned = compiled.planned;
-          image = machine.image;
+          image = image;
           image_of = compiled.image_of;
           machine = after;
-          ran = fresh_run machine compiled.fresh h.run.rows h.run.put.puts after h.run.put.given;
+          ran =
+              fresh_run image machine after h.run.rows h.run.put.puts compiled.fresh compiled.code ran.code
+              h.run.put.given;
           kept_is = keeps;
         }
 
@@ -245,10 +270,10 @@ module _ (src datapath samples out : Name) (old mid new : View) (machine : Snaps
         (λ stopped.
         subst (IsRunAnswer src datapath samples out old new kept) (sym stopped.1)
         (run_stopped stopped.0
-        (ended_early samples out old ran.mid new fall opened ran.only (channels_of machine.image) (PutsRows machine)
+        (ended_early samples out old ran.mid new fall opened ran.only channels (PutsRows micro (state_of machine))
         (IsSolutionRows compiled.program)
-        (λ rows conflict. StopsInLast machine rows conflict after) (λ rows conflict. ⊥) solution_rows
-        (no_conflict after) stopped.0 stopped.2)))
+        (λ rows conflict. StopsInLast micro (state_of machine) rows conflict (state_of after))
+        (λ rows conflict. ⊥) solution_rows (no_conflict (state_of after)) stopped.0 stopped.2)))
         ran.ends
 
   pub run_answer : (kept : Kept) (ending : Status)

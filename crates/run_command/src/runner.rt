@@ -1,5 +1,6 @@
 //! `run SRC DP SAMPLES OUT`: from the bytes of a source and a datapath to microcode, and on to the rows that it puts.
 ghost use Rattle.std.specs.Prelude.{◌≡◌, ◌≢◌, IfOk, IfErr};
+ghost use Rattle.cycle_sim.specs.Microcode.{inputs_of};
 ghost use Rattle.desk_core.specs.Desk.{FaultsNeverFall};
 ghost use Rattle.plan_commands.specs.Refusals.{IsPlanError};
 ghost use Rattle.silc_files.specs.Reading.{OnlyReads};
@@ -25,7 +26,7 @@ fn compiled_ready<D: Desk>(
     ensures reads { OnlyReads source.now datapath.now (D.view desk.old) (D.view desk.new) }
     ensures machine { IfOk result (λ ready.
         IsCompiledMachine source.now datapath.now (D.view desk.old) (D.view desk.new) ready.machine) }
-    ensures rows { IfOk result (λ ready. AreFreshRows ready.machine.image ready.rows) }
+    ensures rows { IfOk result (λ ready. AreFreshRows (inputs_of ready.machine.code) ready.rows) }
     ensures err { IfErr result (λ ending.
         IsPlanError source.now datapath.now (D.view desk.old) (D.view desk.new) ending.status) }
 {

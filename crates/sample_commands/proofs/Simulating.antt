@@ -4,14 +4,17 @@ use Rattle.std.proofs.Common.{length, Bool}
 use Rattle.std.proofs.Math.Nat.{zero-mod}
 use Rattle.std.specs.List.{range_with_len}
 use Rattle.lists.specs.Rows.{Rows}
-use Rattle.cycle_sim.specs.Machine.{Snapshot, micro_of}
+use Rattle.cycle_sim.specs.declared.microcode.Microcode.{Microcode}
+use Rattle.cycle_sim.specs.Machine.{Snapshot, state_of}
+use Rattle.cycle_sim.specs.Microcode.{micro_of, inputs_of, code_of}
 use Rattle.desk_core.specs.View.{Name, View}
-use Rattle.desk_core.specs.Desk.{FaultsNeverFall, IsUnchanged, IsPut}
+use Rattle.desk_core.specs.Desk.{FaultsNeverFall, IsUnchanged, IsPut, content_of}
 use Rattle.desk_core.proofs.DeskLemmas.{rose_earlier, never_fall_trans, specified_from}
 use Rattle.micro_image.specs.declared.conflict.Conflict.{Conflict as ConflictValue}
 use Rattle.micro_image.specs.Conflict.{IsClearBelow}
-use Rattle.micro_image.specs.Fields.{microprogram_of}
-use Rattle.micro_image.specs.Run.{IsRunOut, latches, spread}
+use Rattle.micro_image.specs.declared.image.Image.{Image}
+use Rattle.micro_image.specs.Fields.{Microprogram, microprogram_of}
+use Rattle.micro_image.specs.Run.{State, Stands, IsRunOut, latches, spread}
 use Rattle.micro_image.proofs.Lists.{map-same}
 use Rattle.micro_image.proofs.Streams.{length-spread}
 use Rattle.sample_io.specs.Samples.{printed}
@@ -23,7 +26,7 @@ use Rattle.silc_files.specs.Endings.{ChangesOnly, UsesOnly}
 use Rattle.silc_files.specs.Limits.{microcode_limit, samples_limit}
 use Rattle.silc_files.specs.Reading.{OnlyReads}
 use Rattle.silc_files.proofs.Endings.{unchanged_still, specified_still, rejected_still, finished_still}
-use Rattle.sample_commands.specs.Samples.{IsEndedEarly}
+use Rattle.sample_commands.specs.Samples.{AreSamples, IsEndedEarly}
 use Rattle.sample_commands.specs.Sim.{HasRun, IsSimUnread, IsSimStopped, IsSimAnswer, HasSomeImage}
 use Rattle.sample_commands.specs.StreamEnds.{status_of}
 use Rattle.sample_commands.specs.Loaded.{IsFresh}
@@ -43,43 +46,51 @@ use Rattle.sample_commands.proofs.EarlyEnds.{unopened_from, not_created_from, un
 
 -- a fresh machine, and what it is over rows
 module _ (machine : Snapshot) (fresh : IsFresh machine) where
-  pub fresh_ready : IsReady machine
+  abbrev micro : Microprogram
+  micro = micro_of machine.code
+
+  pub fresh_ready : IsReady micro (state_of machine)
   fresh_ready = record {
-    whole = ap (λ n. n % machine.image.period) fresh.stands.cycle ∙ zero-mod machine.image.period;
+    whole = ap (λ n. n % micro.period) fresh.stands.cycle ∙ zero-mod micro.period;
     running = fresh.stands.conflict;
   }
 
-  pub fresh_young : machine.cycle < 2 ^ 47 * machine.image.period
-  fresh_young = omega (arith, fresh.stands.cycle, fresh.valid.period.0)
+  pub fresh_young : machine.cycle < 2 ^ 47 * micro.period
+  fresh_young = omega (arith, fresh.stands.cycle, fresh.sound.image.period.0)
 
-  pub fresh_puts : (rows puts : Rows) → PutsRows machine rows puts → IsRunOut (micro_of machine) rows puts
+  pub fresh_puts : (rows puts : Rows) → PutsRows micro (state_of machine) rows puts → IsRunOut micro rows puts
   fresh_puts rows puts h = record {
     clear =
-        subst (IsClearBelow (micro_of machine) (spread machine.image.period rows))
-        (length-spread machine.image.period rows)
+        subst (IsClearBelow micro (spread micro.period rows)) (length-spread micro.period rows)
         (h.clear [] fresh.stands);
     put = h.put [] fresh.stands
         ∙ map-same _ _ (range_with_len 0 (length rows)) (λ k is.
-        let period = machine.image.period in
-        ap (latches (micro_of machine) (spread period rows))
-        (let e : 0 + (k + 1) * period ≡ (k + 1) * period = omega arith in e));
+        ap (latches micro (spread micro.period rows))
+        (let e : 0 + (k + 1) * micro.period ≡ (k + 1) * micro.period = omega arith in e));
   }
 
-  pub fresh_meets : (after : Snapshot) (rows : Rows) (conflict : ConflictValue)
-      → StopsInLast machine rows conflict after
-      → IsConflictInLast (micro_of machine) [] rows conflict
+  pub fresh_meets : (after : State) (rows : Rows) (conflict : ConflictValue)
+      → StopsInLast micro (state_of machine) rows conflict after
+      → IsConflictInLast micro [] rows conflict
   fresh_meets after rows conflict h = h.met [] fresh.stands
 
-  pub fresh_run : (rows puts : Rows) (after : Snapshot)
-      → RunsRows machine rows puts after
-      → HasRun machine.image rows after (printed puts)
-  fresh_run rows puts after h = record {
-    image_is = h.image;
-    stands = h.stands [] fresh.stands;
-    rows = puts;
-    run = fresh_puts rows puts (runs_clear machine after rows puts h);
-    text_is = refl;
-  }
+-- the machine of an image, before its first cycle, and then over rows
+pub fresh_run : (image : Image) (machine after : Snapshot) (rows puts : Rows)
+    → IsFresh machine
+    → machine.code ≡ code_of image
+    → after.code ≡ machine.code
+    → RunsRows (micro_of machine.code) (state_of machine) rows puts (state_of after)
+    → HasRun image rows after (printed puts)
+fresh_run image machine after rows puts fresh code same ran = record {
+  code_is = same ∙ code;
+  stands = subst (λ (code : Microcode). Stands (state_of after) (micro_of code) (spread (micro_of code).period rows))
+      code (ran.stands [] fresh.stands);
+  rows = puts;
+  run = subst (λ (code : Microcode). IsRunOut (micro_of code) rows puts) code
+      (fresh_puts machine fresh rows puts
+      (runs_clear (micro_of machine.code) (state_of machine) (state_of after) rows puts ran));
+  text_is = refl;
+}
 
 -- the files were opened and the machine ran over them, and it is kept where it came to the end
 pub kept_over : (samples out : Name) (old new : View) (machine after : Snapshot) (kept : Kept) (ending : Status)
@@ -107,10 +118,10 @@ module _ (mic samples out : Name) (old mid new : View) (machine : Snapshot) (fir
         unchanged = unchanged_still old mid new unread.0 first.unchanged;
         rose =
             inr (unopened_from samples mic microcode_limit (HasSomeImage mic) old mid new first.never_fall loaded.read
-            (λ files is. (machine.image, loaded.specified files is)) unread.0 unread.1);
+            (λ files is. (loaded.image, loaded.specified files is)) unread.0 unread.1);
       }))
       (λ not. inr (record {
-        image = machine.image;
+        image = loaded.image;
         specified = loaded.specified;
         ended = inl (not_created_from samples out old mid new first.unchanged.files first.never_fall not);
       }))
@@ -124,46 +135,57 @@ module _ (mic samples out : Name) (old mid new : View) (machine : Snapshot) (fir
     opened = opened_from samples out old mid ran.mid first.unchanged.files ran.opened
 
     sim_stopped : (fault : StreamFault)
-        → IsEndedEarly samples out (channels_of machine.image) (IsRunOut (micro_of machine))
-        (IsConflictInLast (micro_of machine) []) old new fault
+        → IsEndedEarly samples out (channels_of loaded.image.inputs) (IsRunOut (microprogram_of loaded.image))
+        (IsConflictInLast (microprogram_of loaded.image) []) old new fault
         → IsSimAnswer mic samples out old new kept (status_of fault)
-    sim_stopped stream.Desk h = inr (record { image = machine.image; specified = loaded.specified; ended = h })
-    sim_stopped (stream.Row fault) h = record { image = machine.image; specified = loaded.specified; ended = h }
-    sim_stopped stream.TooLong h = record { image = machine.image; specified = loaded.specified; ended = h }
-    sim_stopped (stream.Conflict conflict) h = record { image = machine.image; specified = loaded.specified; ended = h }
+    sim_stopped stream.Desk h = inr (record { image = loaded.image; specified = loaded.specified; ended = h })
+    sim_stopped (stream.Row fault) h = record { image = loaded.image; specified = loaded.specified; ended = h }
+    sim_stopped stream.TooLong h = record { image = loaded.image; specified = loaded.specified; ended = h }
+    sim_stopped (stream.Conflict conflict) h = record { image = loaded.image; specified = loaded.specified; ended = h }
 
     sim_ran : (ending ≡ Done → kept ≡ One after) → IsSimAnswer mic samples out old new kept ending
     sim_ran keeps =
+        let image = loaded.image in
         let fresh = loaded.fresh in
+        let micro = micro_of machine.code in
+        let channels = channels_of (inputs_of machine.code) in
         ⊎_elim
         (λ done.
         subst (IsSimAnswer mic samples out old new kept) (sym done.0) (
           after,
           keeps done.0,
           record {
-            finished =
-                run_finished samples out old ran.mid new fall opened ran.only (channels_of machine.image) _ done.1;
-            image = machine.image;
+            finished = run_finished samples out old ran.mid new fall opened ran.only channels _ done.1;
+            image = image;
             stream = done.1.run.rows;
             text = printed done.1.run.put.puts;
-            ran = fresh_run machine fresh done.1.run.rows done.1.run.put.puts after done.1.run.put.given;
+            ran =
+                fresh_run image machine after done.1.run.rows done.1.run.put.puts fresh loaded.code ran.code
+                done.1.run.put.given;
             specified = λ files is. record {
               microcode = loaded.specified files is;
               samples_are =
-                  run_samples_are samples out old ran.mid new fall opened ran.only (channels_of machine.image) _ done.1
-                  files is;
+                  subst (λ (code : Microcode).
+                  AreSamples (channels_of (inputs_of code)) (content_of (files samples)) done.1.run.rows)
+                  loaded.code
+                  (run_samples_are samples out old ran.mid new fall opened ran.only channels _ done.1 files is);
             };
-            put = run_put samples out old ran.mid new fall opened ran.only (channels_of machine.image) _ done.1;
+            put = run_put samples out old ran.mid new fall opened ran.only channels _ done.1;
           },
         ))
         (λ stopped.
         subst (IsSimAnswer mic samples out old new kept) (sym stopped.1)
         (sim_stopped stopped.0
-        (ended_early samples out old ran.mid new fall opened ran.only (channels_of machine.image) (PutsRows machine)
-        (IsRunOut (micro_of machine))
-        (λ rows conflict. StopsInLast machine rows conflict after) (IsConflictInLast (micro_of machine) [])
+        (subst (λ (code : Microcode).
+        IsEndedEarly samples out (channels_of (inputs_of code)) (IsRunOut (micro_of code))
+        (IsConflictInLast (micro_of code) []) old new stopped.0)
+        loaded.code
+        (ended_early samples out old ran.mid new fall opened ran.only channels (PutsRows micro (state_of machine))
+        (IsRunOut micro)
+        (λ rows conflict. StopsInLast micro (state_of machine) rows conflict (state_of after))
+        (IsConflictInLast micro [])
         (λ rows puts is. fresh_puts machine fresh rows puts)
-        (λ rows conflict is. fresh_meets machine fresh after rows conflict) stopped.0 stopped.2)))
+        (λ rows conflict is. fresh_meets machine fresh (state_of after) rows conflict) stopped.0 stopped.2))))
         ran.ends
 
   pub sim_answer : (kept : Kept) (ending : Status)
@@ -202,7 +224,8 @@ module _ (mic samples out : Name) (old mid new : View) (same : IsUnchanged mid n
     image = h.image;
     specified = h.specified;
     ended =
-        ended_still samples out old mid new same later before (channels_of h.image) (IsRunOut (microprogram_of h.image))
+        ended_still samples out old mid new same later before (channels_of h.image.inputs)
+        (IsRunOut (microprogram_of h.image))
         (IsConflictInLast (microprogram_of h.image) []) fault h.ended;
   }
 

@@ -2,6 +2,7 @@
 use Rattle.std.specs.Prelude.{◌≡◌, ◌⊎◌, ◌<◌, ◌≤◌, [], length}
 use Rattle.lists.specs.Rows.{Rows}
 use Rattle.cycle_sim.specs.Machine.{Snapshot, state_of}
+use Rattle.cycle_sim.specs.Microcode.{code_of}
 use Rattle.desk_core.specs.View.{Name, Content, Files, View}
 use Rattle.desk_core.specs.Desk.{IfSpecified, WhereSpecified, ReadFaultsRose, IsPut, content_of}
 use Rattle.desk_core.specs.Whole.{IsUnchangedButInput}
@@ -34,7 +35,7 @@ pub record IsMicrocodeOf (content : Content) (image : Image) : Type 0 where
 -- The image ran the stream without a conflict; the machine is in the image's state after it, with each row for a whole
 -- period, and the text is the rows that the run put.
 pub record HasRun (image : Image) (stream : Rows) (machine : Snapshot) (text : Content) : Type 0 where
-  pub image_is : machine.image ≡ image
+  pub code_is : machine.code ≡ code_of image
   pub stands : Stands (state_of machine) (microprogram_of image) (spread image.period stream)
   pub rows : Rows
   pub run : IsRunOut (microprogram_of image) stream rows
@@ -61,7 +62,7 @@ HasSomeImage mic files = (image : Image) × HasImage mic files image
 -- MIC has the image, and SAMPLES the stream for it
 pub record HasStream (mic samples : Name) (image : Image) (stream : Rows) (files : Files) : Type 0 where
   pub microcode : HasImage mic files image
-  pub samples_are : AreSamples (channels_of image) (content_of (files samples)) stream
+  pub samples_are : AreSamples (channels_of image.inputs) (content_of (files samples)) stream
 
 -- MIC is no microcode
 abbrev pub HasImageFault : Name → ImageFault → Files → Type 0
@@ -77,7 +78,7 @@ pub record IsSimStopped (mic samples out : Name) (old new : View) (fault : Strea
   pub image : Image
   pub specified : WhereSpecified old (λ files. HasImage mic files image)
   pub ended :
-      IsEndedEarly samples out (channels_of image) (IsRunOut (microprogram_of image))
+      IsEndedEarly samples out (channels_of image.inputs) (IsRunOut (microprogram_of image))
       (IsConflictInLast (microprogram_of image) []) old new fault
 
 -- MIC's image ran the stream of SAMPLES, as the files were at the start, to its end; OUT has the rows of the run, and

@@ -1,6 +1,7 @@
 -- SAMPLES run as a stream: what opening the files does, and what a run of a machine over them comes to.
 use Rattle.std.specs.Prelude.{◌≡◌, ◌⊎◌, ◌+◌, [], Some, true}
-use Rattle.cycle_sim.specs.Machine.{Snapshot}
+use Rattle.cycle_sim.specs.Machine.{Snapshot, state_of}
+use Rattle.cycle_sim.specs.Microcode.{micro_of, inputs_of}
 use Rattle.desk_core.specs.View.{Name, View}
 use Rattle.desk_core.specs.Desk.{IfSpecified, ReadFaultsRose, FaultsNeverFall, IsUnchanged, HasInput, HasOutput}
 use Rattle.desk_core.specs.Desk.{NoOtherBegins, IsPut}
@@ -38,13 +39,17 @@ pub record StreamsOnly (samples out : Name) (old new : View) : Type 0 where
 
 -- the files were opened, and then the stream of the one was run into the other
 pub record RunsFiles (samples out : Name) (machine after : Snapshot) (old new : View) (ending : Status) : Type 0 where
+  pub code : after.code ≡ machine.code
   pub mid : View
   pub never_fall : FaultsNeverFall old mid
   pub opened : IsOpened samples out old mid
   pub only : ChangesOutputAlone mid new
   pub ends :
-      EndsStream (samples_limit + 1) (channels_of machine.image) (λ ran puts. RunsRows machine ran puts after)
-      (PutsRows machine) (λ ran conflict. StopsInLast machine ran conflict after) mid new ending
+      EndsStream (samples_limit + 1) (channels_of (inputs_of machine.code))
+      (λ ran puts. RunsRows (micro_of machine.code) (state_of machine) ran puts (state_of after))
+      (PutsRows (micro_of machine.code) (state_of machine))
+      (λ ran conflict. StopsInLast (micro_of machine.code) (state_of machine) ran conflict (state_of after)) mid new
+      ending
 
 -- the files could not be opened; or the stream of the one was run into the other
 abbrev pub AreRunOver : Name → Name → Snapshot → Snapshot → View → View → Status → Type 0

@@ -1,6 +1,7 @@
 //! `sim MIC SAMPLES OUT`: from the bytes of microcode and samples to the rows that the microcode puts.
 ghost use Rattle.std.specs.Prelude.{◌≡◌, ◌≢◌, ◌<◌, ◌≤◌, ◌^◌, length, map, IfOk, IfErr};
 ghost use Rattle.std.specs.List.{All};
+ghost use Rattle.cycle_sim.specs.Microcode.{inputs_of};
 ghost use Rattle.desk_core.specs.Desk.{FaultsNeverFall};
 ghost use Rattle.sample_io.specs.Channels.{IsChannel, channel_of};
 ghost use Rattle.silc_files.specs.Endings.{UsesOnly};
@@ -74,7 +75,7 @@ fn input_channels(alloc: Global, widths: &[u8]) -> Result<List<Channel>, AllocEr
 
 /// The rows that samples of the machine are read into, of which no byte was taken. `Memory` where no memory is left.
 pub fn machine_rows(alloc: Global, machine: &Machine) -> Result<Rows, Status>
-    ensures ok { IfOk result (AreFreshRows machine.now.image) }
+    ensures ok { IfOk result (AreFreshRows (inputs_of machine.now.code)) }
     ensures err { IfErr result (λ status. status ≡ Memory) }
 {
     let channels = input_channels(alloc, machine.inputs())?;
@@ -86,7 +87,7 @@ fn read_ready<D: Desk>(alloc: Global, desk: &mut D, microcode: &str) -> Result<R
     ensures reads { OnlyReads microcode.now microcode.now (D.view desk.old) (D.view desk.new) }
     ensures machine { IfOk result (λ ready.
         IsLoaded microcode.now (D.view desk.old) (D.view desk.new) ready.machine) }
-    ensures rows { IfOk result (λ ready. AreFreshRows ready.machine.image ready.rows) }
+    ensures rows { IfOk result (λ ready. AreFreshRows (inputs_of ready.machine.code) ready.rows) }
     ensures err { IfErr result (IsLoadError microcode.now (D.view desk.old) (D.view desk.new)) }
 {
     let machine = read_machine(alloc, desk, microcode)?;
@@ -104,7 +105,7 @@ fn run_files<D: Desk>(
 ) -> Status
     requires apart { output.now ≢ samples.now }
     requires fresh { IsFresh machine.old }
-    requires rows { AreFreshRows machine.old.image rows.old }
+    requires rows { AreFreshRows (inputs_of machine.old.code) rows.old }
     ensures faults { FaultsNeverFall (D.view desk.old) (D.view desk.new) }
     ensures only { StreamsOnly samples.now output.now (D.view desk.old) (D.view desk.new) }
     ensures over { AreRunOver samples.now output.now machine.old machine.new (D.view desk.old) (D.view desk.new) result }
@@ -126,7 +127,7 @@ pub fn run_ready<D: Desk>(
     requires empty { kept.old ≡ Nothing }
     requires apart { output.now ≢ samples.now }
     requires fresh { IsFresh ready.machine }
-    requires rows { AreFreshRows ready.machine.image ready.rows }
+    requires rows { AreFreshRows (inputs_of ready.machine.code) ready.rows }
     ensures faults { FaultsNeverFall (D.view desk.old) (D.view desk.new) }
     ensures only { StreamsOnly samples.now output.now (D.view desk.old) (D.view desk.new) }
     ensures over { IsRunOver samples.now output.now ready.machine (D.view desk.old) (D.view desk.new) kept.new result }

@@ -1,5 +1,7 @@
 //! Samples as a stream: SAMPLES is opened, OUT is created, and the rows of the one are run into the other.
 ghost use Rattle.std.specs.Prelude.{◌≡◌, ◌≢◌, ◌*◌, ◌<◌, ◌≤◌, ◌^◌, [], OnOk, OnErr};
+ghost use Rattle.cycle_sim.specs.Machine.{state_of};
+ghost use Rattle.cycle_sim.specs.Microcode.{micro_of, inputs_of};
 ghost use Rattle.desk_core.specs.Desk.{FaultsNeverFall};
 ghost use Rattle.sample_io.specs.Pieces.{HasTaken};
 ghost use Rattle.sample_loops.specs.Machines.{channels_of, IsReady, RunsRows, PutsRows, StopsInLast};
@@ -56,20 +58,23 @@ pub fn run_samples<D: Desk>(
     desk: &mut D,
     limit: u64,
 ) -> Status
-    requires ready { IsReady machine.old }
-    requires young { machine.old.cycle < 2 ^ 47 * machine.old.image.period }
-    requires channels { rows.old.channels ≡ channels_of machine.old.image }
+    requires ready { IsReady (micro_of machine.old.code) (state_of machine.old) }
+    requires young { machine.old.cycle < 2 ^ 47 * (micro_of machine.old.code).period }
+    requires channels { rows.old.channels ≡ channels_of (inputs_of machine.old.code) }
     requires fresh { HasTaken rows.old [] [] }
     requires start { (D.view desk.old).place ≡ 0 }
     requires limit { limit ≤ 2 ^ 32 }
     ensures never_fall { FaultsNeverFall (D.view desk.old) (D.view desk.new) }
     ensures only { ChangesOutputAlone (D.view desk.old) (D.view desk.new) }
-    ensures image { machine.new.image ≡ machine.old.image }
+    ensures code { machine.new.code ≡ machine.old.code }
     ensures channels { rows.new.channels ≡ rows.old.channels }
     ensures kept { (fault : _) → result ≡ status_of fault → IsKept rows.new fault }
-    ensures ends { EndsStream limit (channels_of machine.old.image)
-        (λ ran puts. RunsRows machine.old ran puts machine.new) (PutsRows machine.old)
-        (λ ran conflict. StopsInLast machine.old ran conflict machine.new) (D.view desk.old) (D.view desk.new) result }
+    ensures ends { EndsStream limit (channels_of (inputs_of machine.old.code))
+        (λ ran puts. RunsRows (micro_of machine.old.code) (state_of machine.old) ran puts (state_of machine.new))
+        (PutsRows (micro_of machine.old.code) (state_of machine.old))
+        (λ ran conflict.
+        StopsInLast (micro_of machine.old.code) (state_of machine.old) ran conflict (state_of machine.new))
+        (D.view desk.old) (D.view desk.new) result }
 {
     match run_stream(machine, rows, desk, limit) {
         Ok(()) => Status::Done,

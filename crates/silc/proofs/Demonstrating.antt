@@ -11,19 +11,19 @@ use Rattle.std.proofs.lemmas.List.Elements.{All-nil, All-push}
 use Rattle.std.proofs.lemmas.List.FromFn.{length-map-range_with_len, take-map-range_with_len, map-range_with_len_more}
 use Rattle.std.proofs.lemmas.List.Sums.{fold-append}
 use Rattle.lists.specs.Rows.{Rows}
+use Rattle.cycle_sim.specs.declared.microcode.Microcode.{Microcode}
 use Rattle.cycle_sim.specs.Machine.{Snapshot, state_of, IsAtSample, IsFirstOfSample}
+use Rattle.cycle_sim.specs.Microcode.{micro_of, inputs_of}
 use Rattle.desk_core.specs.View.{Content, View}
 use Rattle.desk_core.specs.Desk.{FaultsNeverFall, IfSpecified, IsUnchanged}
 use Rattle.desk_core.proofs.DeskLemmas.{rose_earlier, same_input_trans}
 use Rattle.fix_word.specs.Words.{IsWord}
 use Rattle.source_faults.specs.Faults.{HasProgram}
 use Rattle.micro_image.specs.declared.conflict.Conflict.{Conflict}
-use Rattle.micro_image.specs.declared.image.Image.{Image}
-use Rattle.micro_image.specs.Fields.{microprogram_of}
+use Rattle.micro_image.specs.Fields.{Microprogram, microprogram_of}
 use Rattle.micro_image.specs.Run.{Stands, IsRunOut, latches, spread}
 use Rattle.micro_image.proofs.Streams.{length-spread, IsRunOut-fewer, IsRunOut-more}
 use Rattle.plan_run.specs.ImageOf.{IsImageOf, width_of}
-use Rattle.sample_io.specs.Samples.{printed}
 use Rattle.silage_meaning.specs.Solves.{IsRow, IsStream, out}
 use Rattle.silage_meaning.specs.Types.{IsInType}
 use Rattle.silage_syntax.specs.Tree.{Program}
@@ -34,7 +34,6 @@ use Rattle.plan_commands.specs.Refusals.{IsRefusal}
 use Rattle.plan_commands.specs.Headline.{RunsTheSolution}
 use Rattle.silc_files.specs.Printing.{PrintsOnly}
 use Rattle.sample_loops.specs.Machines.{IsFirstConflict}
-use Rattle.sample_commands.specs.Sim.{HasRun}
 use Rattle.plan_commands.specs.Compiling.{IsMicrocodeOf}
 use Rattle.silc.specs.Private.Demonstrating.{IsCascadePlan, IsCascadeMachine, RunsCascade, HasPutWords, HasTotals}
 use Rattle.plan_commands.specs.Planning.{IsInputPlan}
@@ -57,84 +56,79 @@ rows_more n = map-range_with_len_more (λ k. cascade_word k ∷ []) 0 n n (omega
 rows_count : (n : ℕ) → length (cascade_rows n) ≡ n
 rows_count n = length-map-range_with_len (λ k. cascade_word k ∷ []) 0 n
 
--- an image that runs samples runs the first of them
-pub runs_fewer : (image : Image) (n samples : ℕ) → n ≤ samples → RunsCascade image samples → RunsCascade image n
-runs_fewer image n samples le runs =
+-- a microprogram that runs samples runs the first of them
+pub runs_fewer : (micro : Microprogram) (n samples : ℕ) → n ≤ samples → RunsCascade micro samples → RunsCascade micro n
+runs_fewer micro n samples le runs =
     let first : take n (cascade_rows samples) ≡ cascade_rows n =
     take-map-range_with_len (λ k. cascade_word k ∷ []) 0 samples n le in
     let parts : cascade_rows samples ≡ cascade_rows n ++ drop n (cascade_rows samples) =
     sym (take-append-drop n (cascade_rows samples)) ∙ ap (λ front. front ++ drop n (cascade_rows samples)) first in (
       _,
-      IsRunOut-fewer (microprogram_of image) (cascade_rows n) (drop n (cascade_rows samples)) runs.0
-          (subst (λ stream. IsRunOut (microprogram_of image) stream runs.0) parts runs.1),
+      IsRunOut-fewer micro (cascade_rows n) (drop n (cascade_rows samples)) runs.0
+          (subst (λ stream. IsRunOut micro stream runs.0) parts runs.1),
     )
 
--- the run of `sim` over the same rows
-as_run : (image : Image) (n : ℕ) (machine : Snapshot) (words : List ℤ)
-    → (put : HasPutWords image n machine words)
-    → HasRun image (cascade_rows n) machine (printed put.rows)
-as_run image n machine words put =
-    record { image_is = put.image_is; stands = put.stands; rows = put.rows; run = put.run; text_is = refl }
-
 pub ready : (machine : Snapshot) (n : ℕ) (words : List ℤ)
-    → 1 ≤ machine.image.period
+    → 1 ≤ (micro_of machine.code).period
     → n < 2 ^ 32
-    → HasPutWords machine.image n machine words
+    → HasPutWords machine.code n machine words
     → IsAtSample machine
 ready machine n words some few put =
-    at_sample machine (cascade_rows n) (printed put.rows) some (omega (arith, few, rows_count n))
-    (as_run machine.image n machine words put)
+    at_sample machine (cascade_rows n) some (omega (arith, few, rows_count n)) put.stands
 
 -- the next sample has no conflict
-pub no_conflict : (image : Image) (n : ℕ) (row : List ℤ) (conflict : Conflict)
+pub no_conflict : (micro : Microprogram) (n : ℕ) (row : List ℤ) (conflict : Conflict)
     → row ≡ cascade_word n ∷ []
-    → RunsCascade image (n + 1)
-    → IsFirstOfSample (microprogram_of image) (spread image.period (cascade_rows n)) row conflict
+    → RunsCascade micro (n + 1)
+    → IsFirstOfSample micro (spread micro.period (cascade_rows n)) row conflict
     → ⊥
-no_conflict image n row conflict is runs first =
+no_conflict micro n row conflict is runs first =
     let all : cascade_rows n ++ row ∷ [] ≡ cascade_rows (n + 1) =
     ap (λ r. cascade_rows n ++ r ∷ []) is ∙ sym (rows_more n) in
-    let met : IsFirstConflict (microprogram_of image) (spread image.period (cascade_rows (n + 1))) conflict =
-    subst (λ stream. IsFirstConflict (microprogram_of image) (spread image.period stream) conflict) all
-    (conflict_in_row (microprogram_of image) (cascade_rows n) row conflict first) in
-    runs.1.clear conflict.cycle (omega (arith, met.within, length-spread image.period (cascade_rows (n + 1))))
+    let met : IsFirstConflict micro (spread micro.period (cascade_rows (n + 1))) conflict =
+    subst (λ stream. IsFirstConflict micro (spread micro.period stream) conflict) all
+    (conflict_in_row micro (cascade_rows n) row conflict first) in
+    runs.1.clear conflict.cycle (omega (arith, met.within, length-spread micro.period (cascade_rows (n + 1))))
     conflict.kind conflict.place
     met.there.there
 
 -- the next sample was run
-pub put_more : (image : Image) (n : ℕ) (row put : List ℤ) (word : ℤ) (old new : Snapshot) (words : List ℤ)
-    → HasPutWords image n old words
-    → new.image ≡ image
+pub put_more : (code : Microcode) (n : ℕ) (row put : List ℤ) (word : ℤ) (old new : Snapshot) (words : List ℤ)
+    → HasPutWords code n old words
+    → new.code ≡ code
     → row ≡ cascade_word n ∷ []
     → put ≡ word ∷ []
-    → Stands (state_of new) (microprogram_of image) (spread image.period (cascade_rows n) ++ replicate image.period row)
+    → Stands (state_of new) (micro_of code)
+    (spread (micro_of code).period (cascade_rows n) ++ replicate (micro_of code).period row)
     → put
-    ≡ latches (microprogram_of image) (spread image.period (cascade_rows n) ++ replicate image.period row)
-    (length (spread image.period (cascade_rows n)) + image.period)
-    → HasPutWords image (n + 1) new (words ++ word ∷ [])
-put_more image n row put word old new words before same row_is put_is stands puts =
+    ≡ latches (micro_of code)
+    (spread (micro_of code).period (cascade_rows n) ++ replicate (micro_of code).period row)
+    (length (spread (micro_of code).period (cascade_rows n)) + (micro_of code).period)
+    → HasPutWords code (n + 1) new (words ++ word ∷ [])
+put_more code n row put word old new words before same row_is put_is stands puts =
+    let micro : Microprogram = micro_of code in
     let stream : Rows = cascade_rows n in
     let more : stream ++ row ∷ [] ≡ cascade_rows (n + 1) = ap (λ r. stream ++ r ∷ []) row_is ∙ sym (rows_more n) in
-    let cycles = sym (spread_row image.period stream row) in
-    let after : Stands (state_of new) (microprogram_of image) (spread image.period (stream ++ row ∷ [])) =
-    subst (λ z. Stands (state_of new) (microprogram_of image) z) cycles stands in
-    let size : length (spread image.period (stream ++ row ∷ [])) ≡ (length stream + 1) * image.period =
-    length-spread image.period (stream ++ row ∷ [])
-    ∙ ap (λ k. k * image.period) (length-append stream (row ∷ [])) in
+    let cycles = sym (spread_row micro.period stream row) in
+    let after : Stands (state_of new) micro (spread micro.period (stream ++ row ∷ [])) =
+    subst (λ z. Stands (state_of new) micro z) cycles stands in
+    let size : length (spread micro.period (stream ++ row ∷ [])) ≡ (length stream + 1) * micro.period =
+    length-spread micro.period (stream ++ row ∷ [])
+    ∙ ap (λ k. k * micro.period) (length-append stream (row ∷ [])) in
     let last : put
-    ≡ latches (microprogram_of image) (spread image.period (stream ++ row ∷ []))
-    ((length stream + 1) * image.period) =
-    puts ∙ ap₂ (latches (microprogram_of image)) cycles (one_more image.period stream) in
+    ≡ latches micro (spread micro.period (stream ++ row ∷ []))
+    ((length stream + 1) * micro.period) =
+    puts ∙ ap₂ (latches micro) cycles (one_more micro.period stream) in
     let run =
-    IsRunOut-more (microprogram_of image) stream before.rows row before.run
+    IsRunOut-more micro stream before.rows row before.run
     (λ t late below. after.clear t (omega (arith, below, size))) in
     record {
-      image_is = same;
-      stands = subst (λ rows. Stands (state_of new) (microprogram_of image) (spread image.period rows)) more after;
+      code_is = same;
+      stands = subst (λ rows. Stands (state_of new) micro (spread micro.period rows)) more after;
       rows = before.rows ++ put ∷ [];
       run =
-          subst (λ rows. IsRunOut (microprogram_of image) rows (before.rows ++ put ∷ [])) more
-          (subst (λ r. IsRunOut (microprogram_of image) (stream ++ row ∷ []) (before.rows ++ r ∷ [])) (sym last) run);
+          subst (λ rows. IsRunOut micro rows (before.rows ++ put ∷ [])) more
+          (subst (λ r. IsRunOut micro (stream ++ row ∷ []) (before.rows ++ r ∷ [])) (sym last) run);
       words_are = ap₂ ◌++◌ before.words_are (sym put_is) ∙ sym (words_push before.rows put);
     }
   where
@@ -142,9 +136,9 @@ put_more image n row put word old new words before same row_is put_is stands put
     words_push rows r = flat_map-append (λ row. row) rows (r ∷ []) ∙ ap (λ words. words_of rows ++ words) (append-nil r)
 
 -- before the first sample
-pub none_put : (machine : Snapshot) → IsFresh machine → HasPutWords machine.image 0 machine []
+pub none_put : (machine : Snapshot) → IsFresh machine → HasPutWords machine.code 0 machine []
 none_put machine fresh = record {
-  image_is = refl;
+  code_is = refl;
   stands = fresh.stands;
   rows = [];
   run = record { clear = λ t below. absurd (omega (arith, below)); put = refl };
@@ -211,11 +205,13 @@ module _ (sections : ℕ) (few : sections ≤ 32) (planned : Planned) (plan : Is
   pub cascade_machine : (machine : Snapshot) → IsMachineOf microcode machine → IsCascadeMachine sections machine
   cascade_machine machine is =
       let has = one_word_read sections few plan.program plan.over.has.read in
-      let same : made.image ≡ machine.image = sym (made.spelled.unique machine.image is.spells) in
-      let image_of : IsImageOf planned.path planned.plan machine.image =
+      let same : made.image ≡ is.image = sym (made.spelled.unique is.image is.spells) in
+      let image_of : IsImageOf planned.path planned.plan is.image =
       subst (IsImageOf planned.path planned.plan) same made.image_of in
       record {
         fresh = is.fresh;
+        image = is.image;
+        code = is.code;
         program = plan.program;
         path = planned.path;
         plan = planned.plan;
@@ -225,8 +221,12 @@ module _ (sections : ℕ) (few : sections ≤ 32) (planned : Planned) (plan : Is
             (runs_the_solution plan.program plan.graph made.image plan.keeps
             (made.runs plan.graph plan.keeps.sound plan.plan));
         one_word = record {
-          inputs = image_of.inputs ∙ ap (map width_of) (plan.plan.inputs ∙ plan.keeps.keeps.inputs ∙ has.inputs);
-          outs = image_of.outs ∙ plan.plan.outs ∙ plan.keeps.keeps.outs ∙ ap length has.outputs;
+          inputs =
+              ap inputs_of is.code ∙ image_of.inputs
+              ∙ ap (map width_of) (plan.plan.inputs ∙ plan.keeps.keeps.inputs ∙ has.inputs);
+          outs =
+              ap (λ (code : Microcode). (micro_of code).outs) is.code ∙ image_of.outs ∙ plan.plan.outs
+              ∙ plan.keeps.keeps.outs ∙ ap length has.outputs;
         };
       }
 
@@ -236,30 +236,40 @@ module _ (sections samples : ℕ) (few : sections ≤ 32) (machine : Snapshot)
   valid : IsStream is.program (cascade_rows samples)
   valid = rows_valid is.program (one_word_read sections few is.program is.over.has.read) samples
 
+  abbrev micro : Microprogram
+  micro = micro_of machine.code
+
+  micro_is : micro ≡ microprogram_of is.image
+  micro_is = ap micro_of is.code
+
   -- it has no conflict
-  pub runs_cascade : RunsCascade machine.image samples
-  runs_cascade = let run = is.runs (cascade_rows samples) valid in (_, run.2)
+  pub runs_cascade : RunsCascade micro samples
+  runs_cascade =
+      let run = is.runs (cascade_rows samples) valid in
+      subst (λ (m : Microprogram). RunsCascade m samples) (sym micro_is) (_, run.2)
 
   -- and its words are those of the program's solution
   pub cascade_run : (after : Snapshot) (totals : Totals)
-      → (has : HasTotals machine.image samples after totals)
+      → (has : HasTotals machine.code samples after totals)
       → (line : Content)
       → line ≡ cascade_line sections samples has.words
       → IsCascadeRun sections samples after line
   cascade_run after totals has line line_is =
       let run = is.runs (cascade_rows samples) valid in
+      let put = subst (λ (m : Microprogram). IsRunOut m (cascade_rows samples) has.put.rows) micro_is has.put.run in
       let rows : has.put.rows ≡ out is.program run.0 samples =
-      has.put.run.put ∙ sym run.2.put ∙ ap (out is.program run.0) (rows_count samples) in
+      put.put ∙ sym run.2.put ∙ ap (out is.program run.0) (rows_count samples) in
       record {
         program = is.program;
         path = is.path;
         plan = is.plan;
         planned = is.over;
-        image_of = subst (IsImageOf is.path is.plan) (sym has.put.image_is) is.image_of;
+        image = is.image;
+        image_of = is.image_of;
+        code_is = has.put.code_is ∙ is.code;
         stands =
-            subst (λ (image : Image).
-            Stands (state_of after) (microprogram_of image) (spread image.period (cascade_rows samples)))
-            (sym has.put.image_is) has.put.stands;
+            subst (λ (m : Microprogram). Stands (state_of after) m (spread m.period (cascade_rows samples))) micro_is
+            has.put.stands;
         words = run.0;
         one = run.1;
         line_is = line_is ∙ ap (cascade_line sections samples) (has.put.words_are ∙ ap words_of rows);

@@ -4,15 +4,14 @@ use Rattle.std.proofs.Common.{length, replicate, ℤ, length-append}
 use Rattle.std.proofs.Math.Nat.{mul-mod_left, mul-lt-mul_of_pos_right}
 use Rattle.std.proofs.lemmas.List.{append-nil}
 use Rattle.lists.specs.Rows.{Rows}
-use Rattle.cycle_sim.specs.Machine.{Snapshot, IsAtSample, IsFirstOfSample}
-use Rattle.desk_core.specs.View.{Content}
+use Rattle.cycle_sim.specs.Machine.{Snapshot, state_of, IsAtSample, IsFirstOfSample}
+use Rattle.cycle_sim.specs.Microcode.{micro_of}
 use Rattle.micro_image.specs.declared.conflict.Conflict.{Conflict}
 use Rattle.micro_image.specs.Conflict.{IsConflict, IsClearBelow}
 use Rattle.micro_image.specs.Fields.{Microprogram}
-use Rattle.micro_image.specs.Run.{spread}
+use Rattle.micro_image.specs.Run.{Stands, spread}
 use Rattle.micro_image.proofs.Streams.{length-spread, spread-append}
 use Rattle.sample_loops.specs.Machines.{IsFirstConflict}
-use Rattle.sample_commands.specs.Sim.{HasRun}
 
 -- one more row, for a whole period
 pub spread_row : (period : ℕ) (stream : Rows) (row : List ℤ)
@@ -25,17 +24,17 @@ pub one_more : (period : ℕ) (stream : Rows) → length (spread period stream) 
 one_more period stream = omega (arith, length-spread period stream)
 
 -- a machine after whole samples is ready for the next one
-pub at_sample : (machine : Snapshot) (stream : Rows) (text : Content)
-    → 1 ≤ machine.image.period
+pub at_sample : (machine : Snapshot) (stream : Rows)
+    → 1 ≤ (micro_of machine.code).period
     → length stream < 2 ^ 48
-    → HasRun machine.image stream machine text
+    → Stands (state_of machine) (micro_of machine.code) (spread (micro_of machine.code).period stream)
     → IsAtSample machine
-at_sample machine stream text some few ran =
-    let cycle : machine.cycle ≡ length stream * machine.image.period =
-    ran.stands.cycle ∙ length-spread machine.image.period stream in
+at_sample machine stream some few stands =
+    let period : ℕ = (micro_of machine.code).period in
+    let cycle : machine.cycle ≡ length stream * period = stands.cycle ∙ length-spread period stream in
     record {
-      whole = ap (λ n. n % machine.image.period) cycle ∙ mul-mod_left (length stream) machine.image.period;
-      young = subst (λ n. n < 2 ^ 48 * machine.image.period) (sym cycle) (mul-lt-mul_of_pos_right few some);
+      whole = ap (λ n. n % period) cycle ∙ mul-mod_left (length stream) period;
+      young = subst (λ n. n < 2 ^ 48 * period) (sym cycle) (mul-lt-mul_of_pos_right few some);
     }
 
 -- the first conflict in one more sample is the first of all

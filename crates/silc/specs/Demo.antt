@@ -1,9 +1,12 @@
 -- When each status comes of `demo K N`, and what it prints and keeps.
 use Rattle.std.specs.Prelude.{◌≡◌, ◌⊎◌, ℕ}
-use Rattle.cycle_sim.specs.Machine.{Snapshot, micro_of, state_of}
+use Rattle.cycle_sim.specs.Machine.{Snapshot, state_of}
+use Rattle.cycle_sim.specs.Microcode.{code_of}
 use Rattle.datapath.specs.declared.types.Datapath.{Datapath}
 use Rattle.desk_core.specs.View.{Content, View}
 use Rattle.desk_core.specs.Desk.{IfSpecified, IsUnchanged, PrintFaultsRose}
+use Rattle.micro_image.specs.declared.image.Image.{Image}
+use Rattle.micro_image.specs.Fields.{microprogram_of}
 use Rattle.micro_image.specs.Run.{Stands, spread}
 use Rattle.plan_core.specs.declared.plan.Plan.{Plan}
 use Rattle.plan_run.specs.ImageOf.{IsImageOf}
@@ -27,8 +30,10 @@ pub record IsCascadeRun (sections samples : ℕ) (machine : Snapshot) (line : Co
   pub path : Datapath
   pub plan : Plan
   pub planned : IsPlannedOver (cascade_source sections) (cascade_datapath sections) program path plan
-  pub image_of : IsImageOf path plan machine.image
-  pub stands : Stands (state_of machine) (micro_of machine) (spread machine.image.period (cascade_rows samples))
+  pub image : Image
+  pub image_of : IsImageOf path plan image
+  pub code_is : machine.code ≡ code_of image
+  pub stands : Stands (state_of machine) (microprogram_of image) (spread image.period (cascade_rows samples))
   pub words : Words
   pub one : IsOneSolution program (cascade_rows samples) words
   pub line_is : line ≡ cascade_line sections samples (words_of (out program words samples))

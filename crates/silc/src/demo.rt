@@ -1,7 +1,7 @@
 //! `demo K N`: compiles a cascade of biquad sections, runs it, and prints what its output words come to.
 ghost use Rattle.std.specs.Prelude.{◌≡◌, ◌≢◌, length, ◌+◌, ◌<◌, ◌≤◌, ◌^◌, ℤ, List, [], ◌∷◌, ◌++◌, IfOk, IfErr, IsOk, IsOkAnd};
+ghost use Rattle.cycle_sim.specs.Microcode.{micro_of, IsSound};
 ghost use Rattle.desk_core.specs.Desk.{FaultsNeverFall};
-ghost use Rattle.micro_image.specs.Valid.{IsValid};
 ghost use Rattle.cascade.specs.Cascade as spec;
 ghost use Rattle.silc.specs.Demo.{IsCascadeRun, IsDemoAnswer};
 ghost use Rattle.plan_commands.specs.Refusals.{IsNoPlan};
@@ -55,13 +55,13 @@ fn only_word(row: &[i64]) -> i64
 /// Runs sample n, and gives the word that it puts.
 fn run_sample(machine: &mut Machine, n: u64) -> Result<i64, Status>
     requires few { n < 2 ^ 32 }
-    requires valid { IsValid machine.old.image }
-    requires one_word { HasOneWord machine.old.image }
-    requires stands { (words : List ℤ) × HasPutWords machine.old.image n machine.old words }
-    requires runs { RunsCascade machine.old.image (n + 1) }
+    requires sound { IsSound machine.old.code }
+    requires one_word { HasOneWord machine.old.code }
+    requires stands { (words : List ℤ) × HasPutWords machine.old.code n machine.old words }
+    requires runs { RunsCascade (micro_of machine.old.code) (n + 1) }
     ensures runs { IsOk result }
-    ensures put { (words : List ℤ) → HasPutWords machine.old.image n machine.old words
-        → IfOk result (λ word. HasPutWords machine.old.image (n + 1) machine.new (words ++ word ∷ [])) }
+    ensures put { (words : List ℤ) → HasPutWords machine.old.code n machine.old words
+        → IfOk result (λ word. HasPutWords machine.old.code (n + 1) machine.new (words ++ word ∷ [])) }
 {
     let mut put = [0i64; 1];
     machine.sample(&[cascade_word(n)], &mut put)?;
@@ -79,9 +79,9 @@ struct Run {
 fn run_samples(mut machine: Machine, samples: u64) -> Result<Run, Status>
     requires few { samples ≤ 100000 }
     requires fresh { IsFresh machine }
-    requires one_word { HasOneWord machine.image }
-    requires runs { RunsCascade machine.image samples }
-    ensures { IsOkAnd result (λ run. HasTotals machine.image samples run.machine run.totals) }
+    requires one_word { HasOneWord machine.code }
+    requires runs { RunsCascade (micro_of machine.code) samples }
+    ensures { IsOkAnd result (λ run. HasTotals machine.code samples run.machine run.totals) }
 {
     let mut totals = Totals { sum: 0, last: 0 };
     for n in 0..samples {

@@ -19,7 +19,7 @@ use Rattle.signal_graph.specs.Rules.{IsType}
 use Rattle.silage_meaning.specs.Solves.{input_types}
 use Rattle.silage_syntax.specs.Tree.{Program}
 
-pub image_channels : (image : Image) → IsValid image → AreChannels (channels_of image)
+pub image_channels : (image : Image) → IsValid image → AreChannels (channels_of image.inputs)
 image_channels image valid =
     let count = length-map image.inputs channel_of in
     let (some, few) = valid.input_count in

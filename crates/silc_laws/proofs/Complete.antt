@@ -146,7 +146,8 @@ module _ (words : List (String Global)) (old new : View) (kept : Kept) (status :
         → IsThisOrMemory (status_at end) status
     sim_so end its =
         ends_so (RunsImage (content_of (files samples)) image)
-        (one_end samples_end (channels_of image) (image_channels image has.spells.valid) (content_of (files samples)) _
+        (one_end samples_end (channels_of image.inputs) (image_channels image has.spells.valid)
+        (content_of (files samples)) _
         _
         (clear_apart (microprogram_of image) []) (meets_once (microprogram_of image) [])) end its status
         (sim_ends mic samples out old new kept files specified none image has status
@@ -154,7 +155,7 @@ module _ (words : List (String Global)) (old new : View) (kept : Kept) (status :
 
     sim_ended : IsEndedByRun status
     sim_ended =
-        by_run samples_end (channels_of image) _ _ (content_of (files samples)) status
+        by_run samples_end (channels_of image.inputs) _ _ (content_of (files samples)) status
         (sim_ends mic samples out old new kept files specified none image has status
         (sim_law words old new kept status ending mic samples out form))
 

@@ -2,10 +2,10 @@
 use Rattle.std.proofs.Common.{◌≡◌, ◌∙◌, sym, ap, subst, arith, inl, inr, ⊎_elim, ℕ, ◌<◌, List, [], ◌∷◌, ◌++◌, length}
 use Rattle.std.proofs.Common.{Option, Some, None}
 use Rattle.lists.specs.Rows.{Rows}
-use Rattle.cycle_sim.specs.Machine.{Snapshot, micro_of, state_of}
 use Rattle.desk_core.specs.View.{Content, View}
 use Rattle.desk_core.specs.Desk.{ReadFailed, WriteFailed}
-use Rattle.micro_image.specs.Run.{Stands}
+use Rattle.micro_image.specs.Fields.{Microprogram}
+use Rattle.micro_image.specs.Run.{State, Stands}
 use Rattle.micro_image.specs.declared.conflict.Conflict.{Conflict as ConflictValue}
 use Rattle.equation_eval.specs.Evaluation.{Evaluation}
 use Rattle.sample_commands.specs.StreamEnds.{EndsStream}
@@ -16,7 +16,7 @@ use Rattle.sample_loops.specs.Streams.{IsRunThrough, IsStopped}
 use Rattle.sample_loops.specs.declared.stream.StreamFault.{StreamFault}
 use Rattle.sample_loops.specs.declared.stream.StreamFault.TheVariants.{Desk, Row, TooLong, Conflict}
 use Rattle.sample_loops.specs.Evaluators.{graph_channels, EvaluatesRows, SolvesRows}
-use Rattle.sample_loops.specs.Machines.{channels_of, IsClearOver, IsConflictInLast, RunsRows, PutsRows, StopsInLast}
+use Rattle.sample_loops.specs.Machines.{IsClearOver, IsConflictInLast, RunsRows, PutsRows, StopsInLast}
 use Rattle.sample_loops.specs.Private.MachineLaws.{runs_clear}
 use Rattle.silc_laws.specs.Samples.{RunsThrough, StopsRun, IsAlwaysClear, MeetsNone, ReadsWithoutFault}
 use Rattle.silc_laws.proofs.Conflicts.{clear_apart, meets_once}
@@ -102,25 +102,25 @@ module _ (end : ℕ) (channels : List Channel) (old new : View) (bytes : Content
         same other is = one_end end channels are bytes clear meets apart once other one is its
 
 -- a machine over the input, after the cycles that it ran before
-pub run_law : (limit : ℕ) (machine after : Snapshot) (cycles : Rows) (old new : View) (bytes : Content)
-    → Stands (state_of machine) (micro_of machine) cycles
+pub run_law : (limit : ℕ) (micro : Microprogram) (channels : List Channel) (state after : State) (cycles : Rows)
+    → (old new : View) (bytes : Content)
+    → Stands state micro cycles
     → ReadsWithoutFault bytes old new
-    → AreChannels (channels_of machine.image)
+    → AreChannels channels
     → (status : Status)
-    → EndsStream limit (channels_of machine.image) (λ rows puts. RunsRows machine rows puts after) (PutsRows machine)
-    (λ rows conflict. StopsInLast machine rows conflict after) old new status
+    → EndsStream limit channels (λ rows puts. RunsRows micro state rows puts after) (PutsRows micro state)
+    (λ rows conflict. StopsInLast micro state rows conflict after) old new status
     → (end : Option StreamFault)
-    → IsEnd limit (channels_of machine.image) (IsClearOver (micro_of machine) cycles)
-    (IsConflictInLast (micro_of machine) cycles) bytes end
+    → IsEnd limit channels (IsClearOver micro cycles) (IsConflictInLast micro cycles) bytes end
     → status ≡ status_at end
-run_law limit machine after cycles old new bytes stands reads are status ends end its =
-    ends_so limit (channels_of machine.image) old new bytes reads.input (IsClearOver (micro_of machine) cycles)
-    (IsConflictInLast (micro_of machine) cycles) are (λ rows puts. RunsRows machine rows puts after) (PutsRows machine)
-    (λ rows conflict. StopsInLast machine rows conflict after)
-    (λ rows puts ran. (runs_clear machine after rows puts ran).clear cycles stands)
+run_law limit micro channels state after cycles old new bytes stands reads are status ends end its =
+    ends_so limit channels old new bytes reads.input (IsClearOver micro cycles) (IsConflictInLast micro cycles) are
+    (λ rows puts. RunsRows micro state rows puts after) (PutsRows micro state)
+    (λ rows conflict. StopsInLast micro state rows conflict after)
+    (λ rows puts ran. (runs_clear micro state after rows puts ran).clear cycles stands)
     (λ rows puts h. h.clear cycles stands) (λ rows conflict h. h.met cycles stands)
-    (clear_apart (micro_of machine) cycles)
-    (meets_once (micro_of machine) cycles) reads.no_read reads.no_write status ends end its
+    (clear_apart micro cycles)
+    (meets_once micro cycles) reads.no_read reads.no_write status ends end its
 
 -- an evaluator over the input
 pub evaluation_law : (limit : ℕ) (evaluator after : Evaluation) (old new : View) (bytes : Content)

@@ -56,7 +56,7 @@ samples_end = samples_limit + 1
 -- a run of the image, and one of the program, over the bytes comes to this end
 abbrev pub RunsImage : Content → MicroImage → Option StreamFault → Type 0
 RunsImage bytes image =
-    IsEnd samples_end (channels_of image) (IsClearOver (microprogram_of image) [])
+    IsEnd samples_end (channels_of image.inputs) (IsClearOver (microprogram_of image) [])
     (IsConflictInLast (microprogram_of image) []) bytes
 
 abbrev pub RunsProgram : Content → Program → Option StreamFault → Type 0
@@ -154,17 +154,17 @@ module _ (mic samples out : Name) (old new : View) (kept : Kept) (files : Files)
   sim_ends (Samples (sample_fault.Row line at)) h =
       let fault : RowFault = record { line = line; at = at } in
       of_image h.image (h.specified files specified) (Some (stream.Row fault))
-      (row_stops samples out (channels_of h.image) old new files specified _
+      (row_stops samples out (channels_of h.image.inputs) old new files specified _
       (IsConflictInLast (microprogram_of h.image) [])
       (IsClearOver (microprogram_of h.image) []) (run_clear h.image) fault h.ended)
   sim_ends (Samples sample_fault.TooLong) h =
       of_image h.image (h.specified files specified) (Some stream.TooLong)
-      (long_stops samples out (channels_of h.image) old new files specified _
+      (long_stops samples out (channels_of h.image.inputs) old new files specified _
       (IsConflictInLast (microprogram_of h.image) [])
       (IsClearOver (microprogram_of h.image) []) (run_clear h.image) h.ended)
   sim_ends (Conflict conflict) h =
       of_image h.image (h.specified files specified) (Some (stream.Conflict conflict))
-      (conflict_stops samples out (channels_of h.image) old new files specified _
+      (conflict_stops samples out (channels_of h.image.inputs) old new files specified _
       (IsConflictInLast (microprogram_of h.image) [])
       (IsClearOver (microprogram_of h.image) []) (run_clear h.image) conflict h.ended)
   sim_ends Words h = absurd h

@@ -80,7 +80,7 @@ pub record HasPlannedStream (src datapath samples : Name) (files : Files) : Type
 abbrev pub StopsSim : Name → Name → StreamFault → Files → Type 0
 StopsSim mic samples fault files =
     (image : Image) × HasImage mic files image
-    × StopsRun (samples_limit + 1) (channels_of image) (IsClearOver (microprogram_of image) [])
+    × StopsRun (samples_limit + 1) (channels_of image.inputs) (IsClearOver (microprogram_of image) [])
     (IsConflictInLast (microprogram_of image) []) (content_of (files samples)) fault
 
 -- a run of the program over the bytes stops so; it meets no conflict

@@ -1,6 +1,7 @@
 //! How a run and an evaluation over the current input end, and what they answer where no fault of the desk rose.
 ghost use Rattle.std.specs.Prelude.{◌≡◌, ◌*◌, ◌<◌, ◌≤◌, ◌^◌, []};
-ghost use Rattle.cycle_sim.specs.Machine.{micro_of, state_of};
+ghost use Rattle.cycle_sim.specs.Machine.{state_of};
+ghost use Rattle.cycle_sim.specs.Microcode.{micro_of, inputs_of};
 ghost use Rattle.desk_core.specs.Desk.{FaultsNeverFall};
 ghost use Rattle.desk_core.specs.View.{Content};
 ghost use Rattle.lists.specs.Rows.{Rows as Stream};
@@ -29,32 +30,37 @@ pub fn run_completes<D: Desk>(
     desk: &mut D,
     limit: u64,
 ) -> Status
-    requires ready { IsReady machine.old }
-    requires young { machine.old.cycle < 2 ^ 47 * machine.old.image.period }
-    requires channels { rows.old.channels ≡ channels_of machine.old.image }
+    requires ready { IsReady (micro_of machine.old.code) (state_of machine.old) }
+    requires young { machine.old.cycle < 2 ^ 47 * (micro_of machine.old.code).period }
+    requires channels { rows.old.channels ≡ channels_of (inputs_of machine.old.code) }
     requires fresh { HasTaken rows.old [] [] }
     requires start { (D.view desk.old).place ≡ 0 }
     requires limit { limit ≤ 2 ^ 32 }
     ensures never_fall { FaultsNeverFall (D.view desk.old) (D.view desk.new) }
     ensures only { ChangesOutputAlone (D.view desk.old) (D.view desk.new) }
-    ensures image { machine.new.image ≡ machine.old.image }
+    ensures code { machine.new.code ≡ machine.old.code }
     ensures channels { rows.new.channels ≡ rows.old.channels }
     ensures kept { (fault : _) → result ≡ status_of fault → IsKept rows.new fault }
-    ensures ends { EndsStream limit (channels_of machine.old.image)
-        (λ ran puts. RunsRows machine.old ran puts machine.new) (PutsRows machine.old)
-        (λ ran conflict. StopsInLast machine.old ran conflict machine.new) (D.view desk.old) (D.view desk.new) result }
+    ensures ends { EndsStream limit (channels_of (inputs_of machine.old.code))
+        (λ ran puts. RunsRows (micro_of machine.old.code) (state_of machine.old) ran puts (state_of machine.new))
+        (PutsRows (micro_of machine.old.code) (state_of machine.old))
+        (λ ran conflict.
+        StopsInLast (micro_of machine.old.code) (state_of machine.old) ran conflict (state_of machine.new))
+        (D.view desk.old) (D.view desk.new) result }
 
     // Where no fault of the desk rose, it comes to the end that the input has.
     ensures completes { (cycles : Stream) (bytes : Content)
-        → Stands (state_of machine.old) (micro_of machine.old) cycles
+        → Stands (state_of machine.old) (micro_of machine.old.code) cycles
         → ReadsWithoutFault bytes (D.view desk.old) (D.view desk.new)
-        → RunsThrough limit (channels_of machine.old.image) (IsClearOver (micro_of machine.old) cycles) bytes
+        → RunsThrough limit (channels_of (inputs_of machine.old.code))
+        (IsClearOver (micro_of machine.old.code) cycles) bytes
         → result ≡ Status.Done }
     ensures stops { (cycles : Stream) (bytes : Content)
-        → Stands (state_of machine.old) (micro_of machine.old) cycles
+        → Stands (state_of machine.old) (micro_of machine.old.code) cycles
         → ReadsWithoutFault bytes (D.view desk.old) (D.view desk.new)
-        → (fault : StreamFault) → StopsRun limit (channels_of machine.old.image)
-        (IsClearOver (micro_of machine.old) cycles) (IsConflictInLast (micro_of machine.old) cycles) bytes fault
+        → (fault : StreamFault) → StopsRun limit (channels_of (inputs_of machine.old.code))
+        (IsClearOver (micro_of machine.old.code) cycles) (IsConflictInLast (micro_of machine.old.code) cycles) bytes
+        fault
         → result ≡ status_of fault }
 {
     run_samples(machine, rows, desk, limit)

@@ -3,10 +3,11 @@
 ghost use Rattle.std.specs.Prelude.{◌≡◌, ◌<◌, ◌^◌, ℤ, pos, length, All, IfOk};
 ghost use Rattle.std.specs.List.{AllZip};
 ghost use Rattle.cycle_sim.specs.Machine.{IsOperand};
-ghost use Rattle.micro_image.specs.Spells.{Spells};
+ghost use Rattle.cycle_sim.specs.Microcode.{inputs_of};
 ghost use Rattle.micro_image.specs.Valid.{IsValid};
 ghost use Rattle.ranked_faults.specs.Ranked.{IsClear};
 ghost use Rattle.signal_graph.specs.Rules.{IsInType};
+ghost use Rattle.silc_show.specs.Trace.{IsMachineOf};
 ghost use Rattle.silage_syntax.specs.Tree.{view};
 ghost use Rattle.source_names.specs.NameFaults.{name_faults, IsMain};
 ghost use Rattle.source_names.specs.TopNames.{top_names};
@@ -128,7 +129,7 @@ fn encode_image(page: &mut Page, turns: u32, bytes: &[u8]) -> Result<u64, Refuse
 
 /// The machine before its first cycle.
 pub fn machine_of(page: &mut Page, bytes: &[u8]) -> Result<Machine, Refused>
-    ensures image { IfOk result (λ machine. Spells bytes.now machine.image) }
+    ensures image { IfOk result (IsMachineOf bytes.now) }
     ensures cycle { IfOk result (λ machine. machine.cycle ≡ 0) }
 {
     match Machine::load(page.alloc, image_of(page, bytes)?) {
@@ -139,13 +140,13 @@ pub fn machine_of(page: &mut Page, bytes: &[u8]) -> Result<Machine, Refused>
 
 /// A row of input words.
 fn row(alloc: Global, machine: &Machine) -> Result<Vec<i64>, AllocError>
-    ensures { IfOk result (λ row. (length row.items ≡ length machine.now.image.inputs) × All IsOperand row.items) }
+    ensures { IfOk result (λ row. (length row.items ≡ length (inputs_of machine.now.code)) × All IsOperand row.items) }
 {
     vec![in alloc; 1i64; machine.inputs().len()]
 }
 
 fn clock_again(machine: &mut Machine, cycles: u32, row: &[i64]) -> Result<(), Conflict>
-    requires row { length row.now ≡ length machine.old.image.inputs }
+    requires row { length row.now ≡ length (inputs_of machine.old.code) }
     requires words { All IsOperand row.now }
     requires start { machine.old.cycle ≡ 0 }
 {

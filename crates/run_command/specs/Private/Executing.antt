@@ -1,10 +1,12 @@
 -- The machine of compiled microcode.
 use Rattle.std.specs.Prelude.{◌≡◌}
 use Rattle.cycle_sim.specs.Machine.{Snapshot}
+use Rattle.cycle_sim.specs.Microcode.{code_of}
 use Rattle.datapath.specs.declared.types.Datapath.{Datapath}
 use Rattle.desk_core.specs.View.{Name, View}
 use Rattle.desk_core.specs.Desk.{WhereSpecified}
 use Rattle.desk_core.specs.Whole.{IsReadThrough}
+use Rattle.micro_image.specs.declared.image.Image.{Image}
 use Rattle.plan_core.specs.declared.plan.Plan.{Plan}
 use Rattle.plan_run.specs.ImageOf.{IsImageOf}
 use Rattle.signal_graph.specs.declared.graph.Graph.{Graph}
@@ -22,12 +24,14 @@ use Rattle.run_command.specs.Run.{HasPlanIn}
 pub record IsCompiledMachine (src datapath : Name) (old new : View) (machine : Snapshot) : Type 0 where
   pub read : IsReadThrough datapath text_limit old new
   pub fresh : IsFresh machine
+  pub image : Image
+  pub code : machine.code ≡ code_of image
   pub program : Program
   pub graph : Graph
   pub keeps : IsGraphFor program graph
   pub path : Datapath
   pub plan : Plan
   pub planned : WhereSpecified old (HasPlanIn src datapath program path plan)
-  pub image_of : IsImageOf path plan machine.image
-  pub runs : RunsTheSolution program machine.image
-  pub channels : channels_of machine.image ≡ program_channels program
+  pub image_of : IsImageOf path plan image
+  pub runs : RunsTheSolution program image
+  pub channels : channels_of image.inputs ≡ program_channels program

@@ -1,9 +1,11 @@
 -- The machine of MIC's image.
 use Rattle.std.specs.Prelude.{◌≡◌, ◌⊎◌}
 use Rattle.cycle_sim.specs.Machine.{Snapshot}
+use Rattle.cycle_sim.specs.Microcode.{code_of}
 use Rattle.desk_core.specs.View.{Name, View}
 use Rattle.desk_core.specs.Desk.{WhereSpecified, ReadFaultsRose}
 use Rattle.desk_core.specs.Whole.{IsReadThrough}
+use Rattle.micro_image.specs.declared.image.Image.{Image}
 use Rattle.silc_files.specs.Limits.{microcode_limit}
 use Rattle.sample_commands.specs.Loaded.{IsFresh}
 use Rattle.sample_commands.specs.Sim.{IsOfMicrocode, HasImage, HasImageFault}
@@ -16,7 +18,9 @@ use Rattle.statuses.specs.declared.status.Status.TheVariants as status
 pub record IsLoaded (mic : Name) (old new : View) (machine : Snapshot) : Type 0 where
   pub read : IsReadThrough mic microcode_limit old new
   pub fresh : IsFresh machine
-  pub specified : WhereSpecified old (λ files. HasImage mic files machine.image)
+  pub image : Image
+  pub code : machine.code ≡ code_of image
+  pub specified : WhereSpecified old (λ files. HasImage mic files image)
 
 -- MIC was read through, and is no microcode
 pub record IsBadMicrocode (mic : Name) (fault : ImageFault) (old new : View) : Type 0 where

@@ -1,11 +1,13 @@
 -- What the steps of `demo` give: a plan, and the run of its image over the rows of the cascade.
 use Rattle.std.specs.Prelude.{◌≡◌, ◌*◌, ◌^◌, ℕ, List, [], ◌∷◌, ℤ, pos, neg_ℤ, ◌≤ℤ◌}
 use Rattle.lists.specs.Rows.{Rows}
+use Rattle.cycle_sim.specs.declared.microcode.Microcode.{Microcode}
 use Rattle.cycle_sim.specs.Machine.{Snapshot, state_of}
+use Rattle.cycle_sim.specs.Microcode.{micro_of, inputs_of, code_of}
 use Rattle.datapath.specs.Allowed.{IsDatapath}
 use Rattle.datapath.specs.declared.types.Datapath.{Datapath}
 use Rattle.micro_image.specs.declared.image.Image.{Image}
-use Rattle.micro_image.specs.Fields.{microprogram_of}
+use Rattle.micro_image.specs.Fields.{Microprogram}
 use Rattle.micro_image.specs.Run.{Stands, IsRunOut, spread}
 use Rattle.plan_core.specs.declared.plan.Plan.{Plan}
 use Rattle.plan_run.specs.ImageOf.{IsImageOf}
@@ -29,38 +31,41 @@ pub record IsCascadePlan (sections : ℕ) (planned : Planned) : Type 0 where
   pub plan : IsPlan graph planned.path planned.plan
   pub over : IsPlannedOver (cascade_source sections) (cascade_datapath sections) program planned.path planned.plan
 
--- the image takes one word of 16 bits a sample, and puts one word
-pub record HasOneWord (image : Image) : Type 0 where
-  pub inputs : image.inputs ≡ 16 ∷ []
-  pub outs : image.outs ≡ 1
+-- it takes one word of 16 bits a sample, and puts one word
+pub record HasOneWord (code : Microcode) : Type 0 where
+  pub inputs : inputs_of code ≡ 16 ∷ []
+  pub outs : (micro_of code).outs ≡ 1
 
 -- the machine of the plan's image, before its first cycle
 pub record IsCascadeMachine (sections : ℕ) (machine : Snapshot) : Type 0 where
   pub fresh : IsFresh machine
+  pub image : Image
+  pub code : machine.code ≡ code_of image
   pub program : Program
   pub path : Datapath
   pub plan : Plan
   pub over : IsPlannedOver (cascade_source sections) (cascade_datapath sections) program path plan
-  pub image_of : IsImageOf path plan machine.image
-  pub runs : RunsTheSolution program machine.image
-  pub one_word : HasOneWord machine.image
+  pub image_of : IsImageOf path plan image
+  pub runs : RunsTheSolution program image
+  pub one_word : HasOneWord machine.code
 
--- the image runs so many samples of the cascade without a conflict
-abbrev pub RunsCascade : Image → (samples : ℕ) → Type 0
-RunsCascade image samples = (rows : Rows) × IsRunOut (microprogram_of image) (cascade_rows samples) rows
+-- the microprogram runs so many samples of the cascade without a conflict
+abbrev pub RunsCascade : Microprogram → (samples : ℕ) → Type 0
+RunsCascade micro samples = (rows : Rows) × IsRunOut micro (cascade_rows samples) rows
 
--- the image ran so many samples: the machine is in its state after them, and these are the words that it put
-pub record HasPutWords (image : Image) (samples : ℕ) (machine : Snapshot) (words : List ℤ) : Type 0 where
-  pub image_is : machine.image ≡ image
-  pub stands : Stands (state_of machine) (microprogram_of image) (spread image.period (cascade_rows samples))
+-- the microcode ran so many samples: the machine is in its state after them, and these are the words that it put
+pub record HasPutWords (code : Microcode) (samples : ℕ) (machine : Snapshot) (words : List ℤ) : Type 0 where
+  pub code_is : machine.code ≡ code
+  pub stands :
+      Stands (state_of machine) (micro_of code) (spread (micro_of code).period (cascade_rows samples))
   pub rows : Rows
-  pub run : IsRunOut (microprogram_of image) (cascade_rows samples) rows
+  pub run : IsRunOut (micro_of code) (cascade_rows samples) rows
   pub words_are : words ≡ words_of rows
 
 -- and this is what the words come to
-pub record HasTotals (image : Image) (samples : ℕ) (machine : Snapshot) (totals : Totals) : Type 0 where
+pub record HasTotals (code : Microcode) (samples : ℕ) (machine : Snapshot) (totals : Totals) : Type 0 where
   pub words : List ℤ
-  pub put : HasPutWords image samples machine words
+  pub put : HasPutWords code samples machine words
   pub sum_is : totals.sum ≡ sum_of words
   pub last_is : totals.last ≡ last_of words
 

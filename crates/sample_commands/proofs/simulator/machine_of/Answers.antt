@@ -1,24 +1,26 @@
 use Rattle.std.proofs.Common.{◌≡◌, [], sym, subst}
+use Rattle.cycle_sim.specs.declared.microcode.Microcode.{Microcode}
 use Rattle.cycle_sim.specs.Machine.{state_of}
-use Rattle.micro_image.specs.declared.image.Image.{Image}
-use Rattle.micro_image.specs.Fields.{microprogram_of}
+use Rattle.cycle_sim.specs.Microcode.{micro_of, code_of, IsSound}
 use Rattle.micro_image.specs.Run.{Stands}
 use Rattle.micro_image.specs.Spells.{Spells}
-use Rattle.micro_image.specs.Valid.{IsValid}
+use Rattle.cycle_sim.proofs.ValidImage.{image_sound}
 use Rattle.sample_commands.proofs.simulator.machine_of.Goals as goal
 
 pub returns-clause-ok : goal.returns-clause-ok
 returns-clause-ok c =
     let machine = c.in_ok-load.field-0 in
-    let image : machine.image ≡ c.in_ok-image.image = c.in_ok-load.ensures.image in
-    let spelled : Spells c.args.microcode.now c.in_ok-image.image =
-    rw (← c.deref.ensures) c.in_ok-image.ensures.spelled in
+    let image = c.in_ok-image.image in
+    let code : machine.code ≡ code_of image = c.in_ok-load.ensures.code in
+    let spelled : Spells c.args.microcode.now image = rw (← c.deref.ensures) c.in_ok-image.ensures.spelled in
     record {
       fresh = record {
-        valid = subst IsValid (sym image) spelled.valid;
+        sound = subst IsSound (sym code) (image_sound image spelled.valid);
         stands =
-            subst (λ (i : Image). Stands (state_of machine) (microprogram_of i) []) (sym image)
+            subst (λ (code : Microcode). Stands (state_of machine) (micro_of code) []) (sym code)
             c.in_ok-load.ensures.stands;
       };
-      spells = subst (Spells c.args.microcode.now) (sym image) spelled;
+      image = image;
+      code = code;
+      spells = spelled;
     }

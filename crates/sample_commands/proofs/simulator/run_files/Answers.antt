@@ -17,6 +17,7 @@ returns-in-Ok-clause-only g c =
 
 pub returns-in-Ok-clause-over : goal.returns-in-Ok-clause-over
 returns-in-Ok-clause-over g c = inr (record {
+  code = c.run_samples.ensures.code;
   mid = g.D.Desk.view c.open_files.new.desk;
   never_fall = c.in-Ok.ensures.never_fall;
   opened = c.in-Ok.ensures.ok;

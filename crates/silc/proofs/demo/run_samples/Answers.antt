@@ -1,28 +1,28 @@
 use Rattle.std.proofs.Common.{arith, ◌≡◌, refl, sym, ap, subst, ◌∙◌, ◌+◌, [], ◌∷◌, ◌++◌, ℤ, ◌+ℤ◌, to_z, of_z}
 use Rattle.std.specs.Int.{w64, w128}
 use Rattle.std.proofs.lemmas.Int.{ints}
-use Rattle.micro_image.specs.Valid.{IsValid}
+use Rattle.cycle_sim.specs.Microcode.{micro_of, IsSound}
 use Rattle.silc.specs.Private.Demonstrating.{HasOneWord, HasPutWords, RunsCascade}
 use Rattle.silc.proofs.Demonstrating.{runs_fewer, none_put, sum_push, last_push}
 use Rattle.silc.proofs.demo.run_samples.Goals as goal
 
-pub run_sample-requires-clause-valid : goal.run_sample-requires-clause-valid
-run_sample-requires-clause-valid c = subst IsValid (sym c.loop-n.invariant.state.put.image_is) c.requires.fresh.valid
+pub run_sample-requires-clause-sound : goal.run_sample-requires-clause-sound
+run_sample-requires-clause-sound c = subst IsSound (sym c.loop-n.invariant.state.put.code_is) c.requires.fresh.sound
 
 pub run_sample-requires-clause-one_word : goal.run_sample-requires-clause-one_word
-run_sample-requires-clause-one_word c = subst HasOneWord (sym c.loop-n.invariant.state.put.image_is) c.requires.one_word
+run_sample-requires-clause-one_word c = subst HasOneWord (sym c.loop-n.invariant.state.put.code_is) c.requires.one_word
 
 pub run_sample-requires-clause-stands : goal.run_sample-requires-clause-stands
 run_sample-requires-clause-stands c =
     let state = c.loop-n.invariant.state in (
       state.words,
-      subst (λ image. HasPutWords image c.loop-n.n c.loop-n.machine state.words) (sym state.put.image_is) state.put,
+      subst (λ code. HasPutWords code c.loop-n.n c.loop-n.machine state.words) (sym state.put.code_is) state.put,
     )
 
 pub run_sample-requires-clause-runs : goal.run_sample-requires-clause-runs
 run_sample-requires-clause-runs c =
-    subst (λ image. RunsCascade image (c.loop-n.n + 1)) (sym c.loop-n.invariant.state.put.image_is)
-    (runs_fewer c.args.machine.image (c.loop-n.n + 1) c.args.samples
+    subst (λ code. RunsCascade (micro_of code) (c.loop-n.n + 1)) (sym c.loop-n.invariant.state.put.code_is)
+    (runs_fewer (micro_of c.args.machine.code) (c.loop-n.n + 1) c.args.samples
     (omega (arith, c.loop-n-test.true, c.loop-n.auto.n-end)) c.requires.runs)
 
 pub loop-n-init : goal.loop-n-init
@@ -45,13 +45,13 @@ loop-n-preserved c =
     ≡ c.loop-n.totals.sum +ℤ c.in_ok-word.word =
     omega (arith, ints, low, high, few, before, end, c.from.ensures) in
     let own =
-    subst (λ image. HasPutWords image c.loop-n.n c.loop-n.machine state.words) (sym state.put.image_is) state.put in
+    subst (λ code. HasPutWords code c.loop-n.n c.loop-n.machine state.words) (sym state.put.code_is) state.put in
     record {
       state = record {
         words = state.words ++ word ∷ [];
         put =
-            subst (λ image. HasPutWords image (c.loop-n.n + 1) c.run_sample.new.machine (state.words ++ word ∷ []))
-            state.put.image_is (c.in_ok-word.ensures.put state.words own);
+            subst (λ code. HasPutWords code (c.loop-n.n + 1) c.run_sample.new.machine (state.words ++ word ∷ []))
+            state.put.code_is (c.in_ok-word.ensures.put state.words own);
         sum_is = sum ∙ ap (λ s. s +ℤ word) state.sum_is ∙ sym (sum_push state.words word);
         last_is = last ∙ sym (last_push state.words word);
       };

@@ -3,6 +3,6 @@ use Rattle.silc.proofs.demo.run_samples.Given as goal
 
 abbrev pub invariant-loop-n : goal.invariant-loop-n
 invariant-loop-n l = record {
-  state : HasTotals l.fn.machine.image l.n l.machine l.totals;
+  state : HasTotals l.fn.machine.code l.n l.machine l.totals;
   bound : IsSumOf l.n l.totals.sum;
 }
