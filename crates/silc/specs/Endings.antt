@@ -2,7 +2,6 @@
 use Rattle.std.specs.Prelude.{◌≡◌, ◌≢◌}
 use Rattle.command_words.specs.Command.{Command, compile, schedule, list, sim, eval, run, demo}
 use Rattle.desk_core.specs.View.{View}
-use Rattle.desk_core.specs.Desk.{FaultsNeverFall, IsUnchanged}
 use Rattle.plan_commands.specs.Compile.{IsAnswer}
 use Rattle.plan_commands.specs.Schedule.{IsScheduleAnswer}
 use Rattle.sample_commands.specs.Eval.{IsEvalAnswer}
@@ -38,13 +37,3 @@ IsEnding (run src datapath samples out) old new kept status =
     × KeepsAtMost kept status
 IsEnding (demo sections samples) old new kept status =
     IsDemoAnswer sections samples old new kept status × PrintsOnly old new × KeepsAtMost kept status
-
--- So it was before an error was reported. The report changes nothing but counts of faults, which do not fall. Where the
--- command is done, nothing changes after that.
-pub record Reported (P : View → Type 0) (status : Status) (old new : View) : Type 0 where
-  pub mid : View
-  pub holds : P mid
-  pub before : FaultsNeverFall old mid
-  pub unchanged : IsUnchanged mid new
-  pub later : FaultsNeverFall mid new
-  pub silent : status ≡ Done → new ≡ mid

@@ -3,11 +3,11 @@ ghost use Rattle.std.specs.Prelude.{◌≡◌, ◌≢◌};
 ghost use Rattle.command_words.specs.Command as spec;
 ghost use Rattle.command_words.specs.Command.{IsCommand, IsCommandIn, IsCompile};
 ghost use Rattle.command_words.specs.Named.{named};
-ghost use Rattle.desk_core.specs.View.{Name, View};
+ghost use Rattle.desk_core.specs.View.{Name};
 ghost use Rattle.desk_core.specs.Desk.{FaultsNeverFall, IsUnchanged, IfSpecified};
 ghost use Rattle.plan_commands.specs.Compile.{IsDone};
 ghost use Rattle.sample_commands.specs.declared.simulator.Kept.TheVariants.{Nothing};
-ghost use Rattle.silc.specs.Endings.{IsEnding, Reported};
+ghost use Rattle.silc.specs.Endings.{IsEnding};
 
 use crate::demo::demo;
 use crate::list::list;
@@ -97,11 +97,11 @@ pub fn silc<D: Desk>(alloc: Global, words: &[String], desk: &mut D, kept: &mut K
 
     // Which words are a command, and how each command ends.
     ensures words { result ≢ Status.Words → IsCommand words.now }
+    ensures command { IsCommand words.now → result ≢ Status.Words }
     ensures nothing { result ≡ Status.Words → IsUnchanged (D.view desk.old) (D.view desk.new) }
     ensures nothing_kept { result ≢ Status.Done → kept.new ≡ Nothing }
     ensures ending { (command : spec.Command) → IsCommandIn words.now command
-        → Reported (λ (mid : View). IsEnding command (D.view desk.old) mid kept.new result) result
-        (D.view desk.old) (D.view desk.new) }
+        → IsEnding command (D.view desk.old) (D.view desk.new) kept.new result }
 {
     let ending = carry_out_words(alloc, words, desk, kept);
     if ending.status == Status::Done {

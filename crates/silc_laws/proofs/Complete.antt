@@ -28,7 +28,7 @@ use Rattle.sample_loops.specs.declared.stream.StreamFault.{StreamFault}
 use Rattle.sample_loops.specs.declared.stream.StreamFault.TheVariants as stream
 use Rattle.silage_syntax.specs.Tree.{Program}
 use Rattle.silc.specs.Demo.{IsCascadePlannable}
-use Rattle.silc.specs.Endings.{IsEnding, Reported}
+use Rattle.silc.specs.Endings.{IsEnding}
 use Rattle.silc.proofs.Complete.{list_complete, demo_complete}
 use Rattle.silc_laws.specs.Complete.{Specifies, ArePlannable, HavePlan, HasImageOf, HasClearStream, HasProgramStream}
 use Rattle.silc_laws.specs.Complete.{HasPlannedStream, StopsSim, StopsEval, StopsPlanned, IsAccepted, IsThisOrMemory}
@@ -85,7 +85,7 @@ by_samples bytes program status (inr (Some (stream.Conflict conflict), is, ends)
 module _ (words : List (String Global)) (old new : View) (kept : Kept) (status : Status)
     (ending : (command : Command)
     → IsCommandIn words command
-    → Reported (λ (mid : View). IsEnding command old mid kept status) status old new) where
+    → IsEnding command old new kept status) where
   pub compile_law : (src datapath out : Name)
       → IsCompile words src datapath out
       → HasNoFaultRisen (compile src datapath out) old new

@@ -16,7 +16,7 @@ use Rattle.sample_commands.specs.Sim.{IsSimAnswer}
 use Rattle.sample_commands.specs.declared.simulator.Kept.{Kept}
 use Rattle.sample_commands.proofs.EarlyEnds.{cut_rose}
 use Rattle.silc.specs.Demo.{IsDemoAnswer}
-use Rattle.silc.specs.Endings.{IsEnding, Reported}
+use Rattle.silc.specs.Endings.{IsEnding}
 use Rattle.silc.specs.Listing.{IsListAnswer}
 use Rattle.silc_laws.specs.Faults.{HasFaultRisen}
 use Rattle.silc_laws.proofs.Laws.{answer_law, schedule_law, list_law, demo_law, sim_law, eval_law, run_law}
@@ -84,7 +84,7 @@ module _ (old new : View) (kept : Kept) where
 module _ (words : List (String Global)) (old new : View) (kept : Kept) (status : Status)
     (ending : (command : Command)
     → IsCommandIn words command
-    → Reported (λ (mid : View). IsEnding command old mid kept status) status old new)
+    → IsEnding command old new kept status)
     (fault : status ≡ Desk) where
   pub fault_law : (command : Command) → IsCommandIn words command → HasFaultRisen command old new
   fault_law (compile src datapath out) form =

@@ -8,103 +8,69 @@ use Rattle.desk_core.specs.View.{Name, View}
 use Rattle.desk_core.specs.Desk.{HasOutput}
 use Rattle.plan_commands.specs.Compile.{IsAnswer}
 use Rattle.plan_commands.specs.Schedule.{IsScheduled, IsScheduleAnswer}
-use Rattle.plan_commands.proofs.Making.{reported}
-use Rattle.plan_commands.proofs.Scheduling.{schedule_reported, changes_still}
 use Rattle.sample_commands.specs.Eval.{IsEvalDone, IsEvalAnswer}
 use Rattle.run_command.specs.Run.{IsRunDone, IsRunAnswer, RunUsesOnly}
 use Rattle.sample_commands.specs.Sim.{IsSimDone, IsSimAnswer}
 use Rattle.sample_commands.specs.declared.simulator.Kept.{Kept}
-use Rattle.run_command.proofs.Executing.{run_reported, run_uses_still}
-use Rattle.sample_commands.proofs.Simulating.{sim_reported}
-use Rattle.sample_commands.proofs.Solving.{eval_reported}
 use Rattle.silc.specs.Demo.{IsDemoDone, IsDemoAnswer}
-use Rattle.silc.specs.Endings.{IsEnding, Reported}
+use Rattle.silc.specs.Endings.{IsEnding}
 use Rattle.silc.specs.Listing.{IsListed, IsListAnswer}
-use Rattle.silc.proofs.Demonstrating.{demo_done, demo_reported, prints_still}
-use Rattle.silc.proofs.Listing.{list_done, list_reported}
+use Rattle.silc.proofs.Demonstrating.{demo_done}
+use Rattle.silc.proofs.Listing.{list_done}
 use Rattle.silc_files.specs.Endings.{UsesOnly}
 use Rattle.silc_files.specs.Printing.{ChangesNoFile, PrintsOnly}
-use Rattle.silc_files.proofs.Endings.{uses_still}
 use Rattle.silc_laws.specs.Forms.{IsCommandOn, IsCommandTo}
 use Rattle.silc_laws.proofs.Closed.{done_closed}
 use Rattle.statuses.specs.declared.status.Status.{Status}
 use Rattle.statuses.specs.declared.status.Status.TheVariants.{Done}
 
 module _ (words : List (String Global)) (old new : View) (kept : Kept) (status : Status)
-    (ending : (command : Command)
-    → IsCommandIn words command
-    → Reported (λ (mid : View). IsEnding command old mid kept status) status old new) where
-  pub answer_law : (src datapath out : Name)
-      → IsCompile words src datapath out
-      → IsAnswer src datapath out old new status
-  answer_law src datapath out form =
-      let r = ending (compile src datapath out) form in
-      reported src datapath out old r.mid new r.unchanged r.later r.before status r.holds.0
+    (ending : (command : Command) → IsCommandIn words command → IsEnding command old new kept status) where
+  pub answer_law : (src datapath out : Name) → IsCompile words src datapath out → IsAnswer src datapath out old new status
+  answer_law src datapath out form = (ending (compile src datapath out) form).0
 
   pub schedule_law : (src datapath : Name)
       → IsSchedule words src datapath
       → IsScheduleAnswer src datapath old new status
-  schedule_law src datapath form =
-      let r = ending (schedule src datapath) form in
-      schedule_reported src datapath old r.mid new r.unchanged r.later r.before status r.holds.0
+  schedule_law src datapath form = (ending (schedule src datapath) form).0
 
   pub list_law : (mic : Name) → IsList words mic → IsListAnswer mic old new status
-  list_law mic form =
-      let r = ending (list mic) form in
-      list_reported mic old r.mid new r.unchanged r.later r.before status r.holds.0
+  list_law mic form = (ending (list mic) form).0
 
   pub demo_law : (sections samples : ℕ)
       → IsDemo words sections samples
       → IsDemoAnswer sections samples old new kept status
-  demo_law sections samples form =
-      let r = ending (demo sections samples) form in
-      demo_reported sections samples old r.mid new r.unchanged r.later r.before kept status r.holds.0
+  demo_law sections samples form = (ending (demo sections samples) form).0
 
   pub sim_law : (mic samples out : Name) → IsSim words mic samples out → IsSimAnswer mic samples out old new kept status
-  sim_law mic samples out form =
-      let r = ending (sim mic samples out) form in
-      sim_reported mic samples out old r.mid new r.unchanged r.later r.before kept status r.holds.0
+  sim_law mic samples out form = (ending (sim mic samples out) form).0
 
   pub eval_law : (src samples out : Name) → IsEval words src samples out → IsEvalAnswer src samples out old new status
-  eval_law src samples out form =
-      let r = ending (eval src samples out) form in
-      eval_reported src samples out old r.mid new r.unchanged r.later r.before status r.holds.0
+  eval_law src samples out form = (ending (eval src samples out) form).0
 
   pub run_law : (src datapath samples out : Name)
       → IsRun words src datapath samples out
       → IsRunAnswer src datapath samples out old new kept status
-  run_law src datapath samples out form =
-      let r = ending (run src datapath samples out) form in
-      run_reported src datapath samples out old r.mid new r.unchanged r.later r.before kept status r.holds.0
+  run_law src datapath samples out form = (ending (run src datapath samples out) form).0
 
   pub only_law : (first second out : Name) → IsCommandOn words first second out → UsesOnly first second out old new
-  only_law first second out (inl form) =
-      let r = ending (compile first second out) form in uses_still old r.mid new r.unchanged first second out r.holds.1
-  only_law first second out (inr (inl form)) =
-      let r = ending (sim first second out) form in uses_still old r.mid new r.unchanged first second out r.holds.1
-  only_law first second out (inr (inr form)) =
-      let r = ending (eval first second out) form in uses_still old r.mid new r.unchanged first second out r.holds.1
+  only_law first second out (inl form) = (ending (compile first second out) form).1
+  only_law first second out (inr (inl form)) = (ending (sim first second out) form).1
+  only_law first second out (inr (inr form)) = (ending (eval first second out) form).1
 
   pub run_only_law : (src datapath samples out : Name)
       → IsRun words src datapath samples out
       → RunUsesOnly src datapath samples out old new
-  run_only_law src datapath samples out form =
-      let r = ending (run src datapath samples out) form in
-      run_uses_still src datapath samples out old r.mid new r.unchanged r.later r.before r.holds.1
+  run_only_law src datapath samples out form = (ending (run src datapath samples out) form).1
 
   pub schedule_only_law : (src datapath : Name) → IsSchedule words src datapath → ChangesNoFile src datapath old new
-  schedule_only_law src datapath form =
-      let r = ending (schedule src datapath) form in
-      changes_still src datapath old r.mid new r.unchanged r.later r.before r.holds.1
+  schedule_only_law src datapath form = (ending (schedule src datapath) form).1
 
   pub list_only_law : (mic : Name) → IsList words mic → ChangesNoFile mic mic old new
-  list_only_law mic form =
-      let r = ending (list mic) form in
-      changes_still mic mic old r.mid new r.unchanged r.later r.before r.holds.1
+  list_only_law mic form = (ending (list mic) form).1
 
   pub demo_only_law : (sections samples : ℕ) → IsDemo words sections samples → PrintsOnly old new
-  demo_only_law sections samples form =
-      let r = ending (demo sections samples) form in prints_still old r.mid new r.unchanged r.holds.1
+  demo_only_law sections samples form = (ending (demo sections samples) form).1
 
   module _ (done : status ≡ Done) where
     pub printed_law : (src datapath : Name) → IsSchedule words src datapath → IsScheduled src datapath old new

@@ -27,7 +27,7 @@ use Rattle.sample_commands.specs.declared.simulator.Kept.{Kept}
 use Rattle.sample_commands.specs.declared.simulator.Kept.TheVariants.{Nothing}
 use Rattle.silage_syntax.specs.Tree.{Program}
 use Rattle.silc.specs.Demo.{IsDemoAnswer}
-use Rattle.silc.specs.Endings.{IsEnding, Reported}
+use Rattle.silc.specs.Endings.{IsEnding}
 use Rattle.silc.specs.Listing.{IsListAnswer}
 use Rattle.silc.proofs.Complete.{image_or_not}
 use Rattle.silc_laws.specs.Complete.{Specifies, IsCascadeRefused, IsThisOrMemory}
@@ -222,7 +222,7 @@ demo_refuses sections samples old new kept none why is refused answer (inr (inr 
 
 module _ (words : List (String Global)) (old new : View) (kept : Kept) (status : Status)
     (ending : (command : Command) → IsCommandIn words command
-    → Reported (λ (mid : View). IsEnding command old mid kept status) status old new) where
+    → IsEnding command old new kept status) where
   pub compile_refusal_law : (src datapath out : Name)
       → IsCompile words src datapath out
       → HasNoFaultRisen (compile src datapath out) old new

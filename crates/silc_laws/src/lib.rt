@@ -24,7 +24,7 @@ ghost use Rattle.sample_commands.specs.StreamEnds.{status_of};
 ghost use Rattle.sample_commands.specs.declared.simulator.Kept.TheVariants.{Nothing};
 ghost use Rattle.sample_loops.specs.declared.stream.StreamFault.{StreamFault};
 ghost use Rattle.silc.specs.Demo.{IsCascadePlannable, IsDemoDone, IsDemoAnswer};
-ghost use Rattle.silc.specs.Endings.{IsEnding, Reported};
+ghost use Rattle.silc.specs.Endings.{IsEnding};
 ghost use Rattle.silc.specs.Listing.{IsListed, IsListAnswer};
 ghost use Rattle.silc_files.specs.Endings.{UsesOnly};
 ghost use Rattle.silc_files.specs.Printing.{ChangesNoFile, PrintsOnly};
@@ -47,8 +47,7 @@ pub fn silc_done<D: Desk>(alloc: Global, words: &[String], desk: &mut D, kept: &
     requires { kept.old ≡ Nothing }
     ensures words { result ≢ Status.Words → IsCommand words.now }
     ensures ending { (command : Command) → IsCommandIn words.now command
-        → Reported (λ (mid : View). IsEnding command (D.view desk.old) mid kept.new result) result
-        (D.view desk.old) (D.view desk.new) }
+        → IsEnding command (D.view desk.old) (D.view desk.new) kept.new result }
 
     ensures printed { result ≡ Status.Done → (src datapath : Name) → IsSchedule words.now src datapath
         → IsScheduled src datapath (D.view desk.old) (D.view desk.new) }
@@ -79,8 +78,7 @@ pub fn silc_answers<D: Desk>(
     requires { kept.old ≡ Nothing }
     ensures words { result ≢ Status.Words → IsCommand words.now }
     ensures ending { (command : Command) → IsCommandIn words.now command
-        → Reported (λ (mid : View). IsEnding command (D.view desk.old) mid kept.new result) result
-        (D.view desk.old) (D.view desk.new) }
+        → IsEnding command (D.view desk.old) (D.view desk.new) kept.new result }
 
     ensures answer { (src datapath out : Name) → IsCompile words.now src datapath out
         → IsAnswer src datapath out (D.view desk.old) (D.view desk.new) result }
@@ -110,8 +108,7 @@ pub fn silc_leaves<D: Desk>(
     requires { kept.old ≡ Nothing }
     ensures words { result ≢ Status.Words → IsCommand words.now }
     ensures ending { (command : Command) → IsCommandIn words.now command
-        → Reported (λ (mid : View). IsEnding command (D.view desk.old) mid kept.new result) result
-        (D.view desk.old) (D.view desk.new) }
+        → IsEnding command (D.view desk.old) (D.view desk.new) kept.new result }
 
     ensures only { (first second out : Name) → IsCommandOn words.now first second out
         → UsesOnly first second out (D.view desk.old) (D.view desk.new) }
@@ -166,8 +163,7 @@ pub fn silc_completes<D: Desk>(
     requires { kept.old ≡ Nothing }
     ensures words { result ≢ Status.Words → IsCommand words.now }
     ensures ending { (command : Command) → IsCommandIn words.now command
-        → Reported (λ (mid : View). IsEnding command (D.view desk.old) mid kept.new result) result
-        (D.view desk.old) (D.view desk.new) }
+        → IsEnding command (D.view desk.old) (D.view desk.new) kept.new result }
     ensures compiles { (src datapath out : Name) → IsCompile words.now src datapath out
         → HasNoFaultRisen (spec.compile src datapath out) (D.view desk.old) (D.view desk.new)
         → Specifies (ArePlannable src datapath) (D.view desk.old) → IsDoneOrMemory result }
@@ -207,8 +203,7 @@ pub fn silc_refuses<D: Desk>(
     requires { kept.old ≡ Nothing }
     ensures words { result ≢ Status.Words → IsCommand words.now }
     ensures ending { (command : Command) → IsCommandIn words.now command
-        → Reported (λ (mid : View). IsEnding command (D.view desk.old) mid kept.new result) result
-        (D.view desk.old) (D.view desk.new) }
+        → IsEnding command (D.view desk.old) (D.view desk.new) kept.new result }
     ensures compile_refuses { (src datapath out : Name) → IsCompile words.now src datapath out
         → HasNoFaultRisen (spec.compile src datapath out) (D.view desk.old) (D.view desk.new)
         → (why : of_status.Status) → IsRefusal why
@@ -246,8 +241,7 @@ pub fn silc_stops<D: Desk>(alloc: Global, words: &[String], desk: &mut D, kept: 
     requires { kept.old ≡ Nothing }
     ensures words { result ≢ Status.Words → IsCommand words.now }
     ensures ending { (command : Command) → IsCommandIn words.now command
-        → Reported (λ (mid : View). IsEnding command (D.view desk.old) mid kept.new result) result
-        (D.view desk.old) (D.view desk.new) }
+        → IsEnding command (D.view desk.old) (D.view desk.new) kept.new result }
     ensures sim_ends { (mic samples out : Name) → IsSim words.now mic samples out
         → HasNoFaultRisen (spec.sim mic samples out) (D.view desk.old) (D.view desk.new)
         → Specifies (HasSomeImage mic) (D.view desk.old) → IsEndedByRun result }

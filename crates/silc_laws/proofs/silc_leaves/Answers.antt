@@ -29,15 +29,15 @@ returns-clause-demo_only g c =
 
 pub returns-clause-compile_keeps_nothing : goal.returns-clause-compile_keeps_nothing
 returns-clause-compile_keeps_nothing g c = λ src datapath out form. (c.silc.ensures.ending (compile src datapath out)
-    form).holds.2
+    form).2
 
 pub returns-clause-eval_keeps_nothing : goal.returns-clause-eval_keeps_nothing
 returns-clause-eval_keeps_nothing g c = λ src samples out form. (c.silc.ensures.ending (eval src samples out)
-    form).holds.2
+    form).2
 
 pub returns-clause-schedule_keeps_nothing : goal.returns-clause-schedule_keeps_nothing
 returns-clause-schedule_keeps_nothing g c = λ src datapath form. (c.silc.ensures.ending (schedule src datapath)
-    form).holds.2
+    form).2
 
 pub returns-clause-list_keeps_nothing : goal.returns-clause-list_keeps_nothing
-returns-clause-list_keeps_nothing g c = λ mic form. (c.silc.ensures.ending (list mic) form).holds.2
+returns-clause-list_keeps_nothing g c = λ mic form. (c.silc.ensures.ending (list mic) form).2
